@@ -1,7 +1,8 @@
 #!/usr/bin/env python3
 """imports.py CRATE: gives each folder of the crate's proofs a file Imports.antt, which passes on what three or more of its
-files import from elsewhere, and shortens their heads by it. What is the toolchain's stays imported from there, since the gate
-lets nobody pass on its operators. Run at the top of the repository; then `rt fmt` and `rt check` in the crate's folder."""
+files import from elsewhere, and shortens their heads by it. A crate that has one for all its proofs stays as it is. What is
+the toolchain's stays imported from there, since the gate lets nobody pass on its operators. Run at the top of the repository;
+then `rt fmt` and `rt check` in the crate's folder."""
 import collections
 import pathlib
 import re
@@ -103,7 +104,8 @@ def main():
         texts = {it: it.read_text() for it in files}
         chosen = chosen_words(texts, own, unfoldable)
         parent = folder / "Lib.antt" if (folder / "Lib.antt").exists() else folder.with_suffix(".antt")
-        if len(files) < 5 or len(chosen) < 8 or not parent.exists() or (folder / "Imports.antt").exists():
+        has_one = any((it / "Imports.antt").exists() for it in (root, folder))
+        if len(files) < 5 or len(chosen) < 8 or not parent.exists() or has_one:
             continue
         (folder / "Imports.antt").write_text(text_of(chosen, unfoldable))
         parent.write_text(parent.read_text().rstrip("\n") + "\npub mod Imports\n")

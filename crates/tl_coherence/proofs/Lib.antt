@@ -1,3 +1,4 @@
+pub mod Imports
 pub mod bound
 pub mod client
 pub mod deliveries

@@ -1,13 +1,10 @@
 pub mod Beginnings
 pub mod DeliveriesDecrease
 pub mod EventDecreases
-pub mod Imports
 pub mod PartialMessages
 pub mod RankAfter
 pub mod RankByKind
 pub mod RankOfLog
-pub mod RankOfReports
-pub mod RankOfRequests
 pub mod ReportDecreases
 pub mod RequestDecreases
 pub mod ResponseDecreases

@@ -14,7 +14,6 @@ pub mod ClientTaken
 pub mod ClientTakes
 pub mod DeliverD
 pub mod GrantMatchesAcquire
-pub mod Imports
 pub mod KnownProbed
 pub mod ManagerStep
 pub mod ProbeDelivered

@@ -8,7 +8,6 @@ pub mod DeliverDAfter
 pub mod DeliverDUnmoved
 pub mod DeliverDWhole
 pub mod FirstRequest
-pub mod Imports
 pub mod InvariantKept
 pub mod LandedReports
 pub mod LastReportDelivered

@@ -4,6 +4,5 @@ pub mod Checks
 pub mod FollowChecks
 pub mod Following
 pub mod Holding
-pub mod Imports
 pub mod Play
 pub mod Rows

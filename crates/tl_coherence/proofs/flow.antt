@@ -36,7 +36,6 @@ pub mod FlowTraces
 pub mod Flows
 pub mod GivenAlone
 pub mod HiddenStore
-pub mod Imports
 pub mod NextOnD
 pub mod Renewed
 pub mod TrueGrant

@@ -4,5 +4,4 @@ pub mod FifoSteps
 pub mod FromInvariant
 pub mod Granting
 pub mod HeadsOfLinks
-pub mod Imports
 pub mod Stalling

@@ -5,7 +5,6 @@ pub mod AtRequests
 pub mod BlockAccounts
 pub mod Choices
 pub mod GivenGrants
-pub mod Imports
 pub mod ManagedAcks
 pub mod ManagedEndings
 pub mod ManagedGrants

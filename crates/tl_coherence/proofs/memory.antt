@@ -6,6 +6,5 @@ pub mod BesideResponses
 pub mod BesideTaken
 pub mod Bytes
 pub mod Coherence
-pub mod Imports
 pub mod OneMemory
 pub mod Runs

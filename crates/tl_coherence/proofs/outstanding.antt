@@ -1,5 +1,4 @@
 pub mod Counted
-pub mod Imports
 pub mod Movement
 pub mod Moving
 pub mod OpenAsks

@@ -9,12 +9,14 @@ pub mod Blocks
 pub mod BothParts
 pub mod Capacities
 pub mod Ended
+pub mod Events
+pub mod FirstTokens
 pub mod FollowKept
 pub mod Granted
 pub mod GrantedAll
 pub mod HeadOfD
 pub mod Heads
-pub mod Imports
+pub mod NeverIdle
 pub mod OpenCounts
 pub mod Probed
 pub mod QuiescentBlock

@@ -7,7 +7,6 @@ pub mod Distinct
 pub mod Ends
 pub mod Facts
 pub mod FirstToken
-pub mod Imports
 pub mod KindMoves
 pub mod Landed
 pub mod Limits

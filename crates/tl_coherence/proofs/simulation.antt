@@ -7,7 +7,6 @@ pub mod CarriedProbes
 pub mod CarriedResponses
 pub mod FollowCases
 pub mod Fresh
-pub mod Imports
 pub mod InvariantAtClients
 pub mod Moved
 pub mod Owned

@@ -1,7 +1,6 @@
 pub mod AccessEnds
 pub mod Allowing
 pub mod Continuing
-pub mod Imports
 pub mod LoneAcquireEnds
 pub mod LoneAcquireSteps
 pub mod Machined

@@ -1,30 +1,24 @@
 -- What is owed falls as a beat is taken that isn't the last of its message.
-use Rattle.tl_coherence.proofs.bound.Imports.{Beat, Channel, beats_of, Config, IsInvariant, channel_for, ClientBlock}
-use Rattle.tl_coherence.proofs.bound.Imports.{Own, Granting, ProbePhase, ProbeAnswered, ReleaseSent, is_unprobed, Left}
-use Rattle.tl_coherence.proofs.bound.Imports.{probing_weight, pair_weight, probes_weight, acquire_weight}
-use Rattle.tl_coherence.proofs.bound.Imports.{letting_weight, rank, Waits, State, SourceFree, Asked, InService, Replied}
-use Rattle.tl_coherence.proofs.bound.Imports.{Acquires, packet, view, is_unserved, is_wanting, is_answered, packets_on}
-use Rattle.tl_coherence.proofs.bound.Imports.{AccessMessages, message_of_kind, System, Kind, Request, Acquire, ProbeAck}
-use Rattle.tl_coherence.proofs.bound.Imports.{Release, Answer, Grant}
 use Rattle.std.proofs.Common.{◌≡◌, ℕ, ◌+◌, ◌<◌, ◌≤◌, Bool, true, false, List, ◌∷◌, refl, sym, ◌∙◌, arith, ◌⊎◌, inl, inr}
-use Rattle.std.specs.Prelude.{if◌then◌else◌, Option, Some, None, length}
-use Rattle.std.proofs.lemmas.Bool.{cases_eq}
-use Rattle.tl_coherence.specs.{protocol.Invariant.is_asked, protocol.Invariant.is_replied, protocol.Phase.View}
-use Rattle.tl_coherence.specs.{protocol.Phase.ReleasePhase, bound.Rank.let_weight}
-use Rattle.tl_coherence.specs.protocol.Tokens.{is_granting, is_releasing, shown}
-use Rattle.tl_coherence.proofs.protocol.Capacities.{request_named, answer_named, acquire_named, grant_named}
-use Rattle.tl_coherence.proofs.protocol.Capacities.{release_named}
-use Rattle.tl_coherence.proofs.{protocol.TokenNames.shown_there, protocol.TokenNames.shows_it}
-use Rattle.tl_coherence.proofs.{queues.Distinct.first-there, queues.FirstToken.IsFirst, rank.Frames.unserved-weight}
-use Rattle.tl_coherence.proofs.{queues.Phases.and_right, protocol.Room.is_light, protocol.Room.light-one}
-use Rattle.tl_coherence.proofs.{queues.Rendered.same_kind_again, queues.Tokens.same_number}
-use Rattle.tl_coherence.proofs.{protocol.BothParts.not-answered}
-use Rattle.tl_coherence.proofs.rank.RankDecreases.{IsNoMore, owed_use, owed_use', use-falls, let-falls, use-no-more}
-use Rattle.tl_coherence.proofs.rank.RankDecreases.{probes-no-more, acquire-no-more, total-falls}
-use Rattle.tl_coherence.proofs.protocol.BeatsRemaining.{beats_left, taken_of, is_front, same_channels}
-use Rattle.tl_coherence.proofs.rank.Frames.{AreClients}
-use Rattle.tl_coherence.proofs.rank.RankParts.{IsAsking, asking, IsWaited, waited-probing, open_use}
-use Rattle.tl_coherence.proofs.simulation.Popped.{unfinished_at, first-left, kind_channel}
+use Rattle.std.proofs.Common.{Option, Some, None, length, if◌then◌else◌}
+use Rattle.tl_coherence.proofs
+use proofs.Imports.{cases_eq, Beat, Channel, beats_of, Config, Left, probing_weight, pair_weight, probes_weight}
+use proofs.Imports.{acquire_weight, letting_weight, rank, let_weight, IsInvariant, is_asked, is_replied, Kind, Request}
+use proofs.Imports.{Acquire, ProbeAck, Release, Answer, Grant, ClientBlock, Own, Granting, ProbePhase, ProbeAnswered}
+use proofs.Imports.{ReleaseSent, is_unprobed, View, ReleasePhase, Waits, State, SourceFree, Asked, InService, Replied}
+use proofs.Imports.{Acquires, packet, view, packets_on, is_unserved, is_wanting, is_answered, is_granting, is_releasing}
+use proofs.Imports.{shown, channel_for, AccessMessages, message_of_kind, System}
+use proofs.protocol.Capacities.{request_named, answer_named, acquire_named, grant_named, release_named}
+use proofs.protocol.{TokenNames.shown_there, TokenNames.shows_it, Room.is_light, Room.light-one, BothParts.not-answered}
+use proofs.protocol.{BeatsRemaining.beats_left, BeatsRemaining.taken_of, BeatsRemaining.is_front}
+use proofs.protocol.{BeatsRemaining.same_channels}
+use proofs.queues.{Distinct.first-there, FirstToken.IsFirst, Phases.and_right, Rendered.same_kind_again}
+use proofs.queues.{Tokens.same_number, KindMoves.kind_channel}
+use proofs.rank.{Frames.unserved-weight, Frames.AreClients, RankParts.IsAsking, RankParts.asking, RankParts.IsWaited}
+use proofs.rank.{RankParts.waited-probing, RankParts.open_use}
+use proofs.rank.RankDecreases.{IsNoMore, owed_use, owed_use', use-falls, let-falls, use-no-more, probes-no-more}
+use proofs.rank.RankDecreases.{acquire-no-more, total-falls}
+use proofs.simulation.Popped.{unfinished_at, first-left}
 
 -- The receiver of channel ch of client c's link has one beat more, and the others have what they had.
 pub record IsBegun {w : ℕ} (c : ℕ) (ch : Channel) (x : Beat w) (rest rest' : ℕ → Channel → List (Beat w)) : Type 0 where

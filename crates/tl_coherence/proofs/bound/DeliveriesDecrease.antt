@@ -1,28 +1,21 @@
 -- What is owed in a world falls at every delivery that moves a beat, and rises at none.
-use Rattle.tl_coherence.proofs.bound.Imports.{IsWidth, Beat, Link, Channel, completes, Config, Deliver, is_moving}
-use Rattle.tl_coherence.proofs.bound.Imports.{AbstractState, kind_taken, Log, system_after, channel_for, packet}
-use Rattle.tl_coherence.proofs.bound.Imports.{packets_on, stepped, System, Kind, Request, Acquire, Probe, ProbeAck}
-use Rattle.tl_coherence.proofs.bound.Imports.{Release, Answer, Grant, ReleaseAck, GrantAck, Packet, SimulationRelation}
-use Rattle.tl_coherence.proofs.bound.Imports.{is_caching}
-use Rattle.std.proofs.Common.{◌≡◌, ℕ, ◌+◌, ◌<◌, ◌≤◌, Bool, true, false, List, ◌∷◌, refl, sym, subst, arith}
-use Rattle.std.specs.Prelude.{◌/◌, length, Some}
-use Rattle.tl_client.specs.statement.Endpoint.{EndConfig}
-use Rattle.tl_coherence.specs.{refinement.AbstractStep.abstract_step, statement.System.terms_at}
-use Rattle.tl_coherence.proofs.{bound.Beginnings.none-more, rank.RankDecreases.stays, simulation.FollowCases.IsDelivery}
-use Rattle.tl_coherence.proofs.{protocol.FollowKept.IsReady, queues.FirstToken.first-token}
-use Rattle.tl_coherence.proofs.{deliveries.InvariantKept.ready-delivered, deliveries.Matching.matched-event}
-use Rattle.tl_coherence.proofs.{outstanding.Outstanding.first-moved, bound.RankOfLog.owed, bound.RankOfLog.owed-begun}
-use Rattle.tl_coherence.proofs.{bound.RankAfter.IsKeptAfter, bound.RankAfter.kept-matched}
-use Rattle.tl_coherence.proofs.{bound.RankOfReports.report-owed, bound.RankOfRequests.request-owed}
-use Rattle.tl_coherence.proofs.{rank.BeatsRemainingSums.answer_to, manager.UnwaitedRequests.next_tracker}
-use Rattle.tl_coherence.proofs.{queues.QuiescentQueues.client_below}
-use Rattle.tl_coherence.proofs.bound.PartialMessages.{grown-moved, grown-received, grown-begun}
-use Rattle.tl_coherence.proofs.deliveries.DeliverDAfter.{followed-moving, followed-still}
-use Rattle.tl_coherence.proofs.deliveries.DeliverDUnmoved.{IsUnmoved, unmoved}
-use Rattle.tl_coherence.proofs.protocol.BeatsRemaining.{beats_left}
-use Rattle.tl_coherence.proofs.bound.RankByKind.{probe-owed, release-owed, answer-owed, release_ack-owed}
-use Rattle.tl_coherence.proofs.bound.RankByKind.{grant_ack-owed, grant-owed, acquire-owed}
-use Rattle.tl_coherence.proofs.simulation.Popped.{unfinished_at, IsReceived, kind_channel}
+use Rattle.std.proofs.Common.{◌≡◌, ℕ, ◌+◌, ◌<◌, ◌≤◌, Bool, true, false, List, ◌∷◌, refl, sym, subst, arith, ◌∙◌, ◌/◌}
+use Rattle.std.proofs.Common.{length, Some}
+use Rattle.tl_coherence.proofs
+use proofs.Imports.{Beat, Link, Channel, IsWidth, completes, Config, EndConfig, Deliver, Kind, AbstractState}
+use proofs.Imports.{kind_taken, abstract_step, channel_for, SimulationRelation, is_caching, is_moving, Log}
+use proofs.Imports.{system_after, stepped, System, terms_at}
+use proofs.bound.{Beginnings.none-more, RankOfLog.owed, RankOfLog.owed-begun, RankAfter.IsKeptAfter}
+use proofs.bound.{RankAfter.kept-matched, PartialMessages.grown-moved, PartialMessages.grown-received}
+use proofs.bound.{PartialMessages.grown-begun, RankByKind.kind-owed}
+use proofs.rank.{RankDecreases.stays, BeatsRemainingSums.answer_to}
+use proofs.simulation.{FollowCases.IsDelivery, Popped.unfinished_at, Popped.IsReceived}
+use proofs.queues.{FirstToken.first-token, QuiescentQueues.client_below, KindMoves.on_same, KindMoves.kind_channel}
+use proofs.deliveries.{InvariantKept.ready-delivered, Matching.matched-event, DeliverDAfter.followed-moving}
+use proofs.deliveries.{DeliverDAfter.followed-still, DeliverDUnmoved.IsUnmoved, DeliverDUnmoved.unmoved}
+use proofs.outstanding.Outstanding.{first-moved}
+use proofs.manager.UnwaitedRequests.{next_tracker}
+use proofs.protocol.BeatsRemaining.{beats_left}
 
 module _ {w : ℕ} {config : Config} {log : Log w} (h : AbstractState w) (width : IsWidth w)
     (matched : SimulationRelation config log h.mail h.request h.state (system_after config log)) where
@@ -35,30 +28,6 @@ module _ {w : ℕ} {config : Config} {log : Log w} (h : AbstractState w) (width 
 
   -- ---- the last beat of a message
 
-  by-kind : (tracker c : ℕ) (k : Kind) (i : ℕ) (rest : List Packet) (sys' : System w) → c < length config.clients.items
-      → length config.clients.items ≤ 16 → packets_on (channel_for k) (h.state.link c) ≡ packet k i ∷ rest
-      → IsReceived c (channel_for k) (system_after config log) sys' → IsReady tracker c k i h
-      → Kept (kind_taken config tracker c k i rest h) → IsLess (kind_taken config tracker c k i rest h) sys'
-  by-kind tracker c Request i rest sys' lt sixteen first received ready kept =
-      request-owed h sys' tracker ready.0 width matched lt sixteen first ready.1 ready.2 ready.3
-      received kept
-  by-kind tracker c Acquire i rest sys' lt sixteen first received ready kept =
-      acquire-owed h sys' width matched tracker c i rest lt sixteen first ready.0 received kept
-  by-kind tracker c Probe i rest sys' lt sixteen first received ready kept =
-      probe-owed h sys' width matched tracker c i rest lt first received kept
-  by-kind tracker c ProbeAck i rest sys' lt sixteen first received ready kept =
-      report-owed h sys' tracker width matched lt first received kept
-  by-kind tracker c Release i rest sys' lt sixteen first received ready kept =
-      release-owed h sys' width matched tracker c i rest lt first received kept
-  by-kind tracker c Answer i rest sys' lt sixteen first received ready kept =
-      answer-owed h sys' width matched tracker c i rest lt first received kept
-  by-kind tracker c Grant i rest sys' lt sixteen first received ready kept =
-      grant-owed h sys' width matched tracker c i rest lt first received kept
-  by-kind tracker c ReleaseAck i rest sys' lt sixteen first received ready kept =
-      release_ack-owed h sys' width matched tracker c i rest lt first received kept
-  by-kind tracker c GrantAck i rest sys' lt sixteen first received ready kept =
-      grant_ack-owed h sys' width matched tracker c i rest lt first received kept
-
   by-first : {link : Link} {ch : Channel} {x : Beat w} {queue : List (Beat w)} (sys' : System w)
       (d : IsDelivery config h.mail h.state (system_after config log) link ch x queue)
       → link.0 < length config.clients.items → length config.clients.items ≤ 16
@@ -66,14 +35,13 @@ module _ {w : ℕ} {config : Config} {log : Log w} (h : AbstractState w) (width 
       → Kept (kind_taken config (next_tracker (system_after config log)) link.0 d.first.kind d.first.number d.first.rest
       h) → IsLess (kind_taken config (next_tracker (system_after config log)) link.0 d.first.kind d.first.number
       d.first.rest h) sys'
-  by-first {link} {ch} {x} {queue} sys' d lt sixteen received kept =
-      let on : channel_for d.first.kind ≡ ch = kind_channel ch d.first.kind d.first.own in
-      by-kind (next_tracker (system_after config log)) link.0 d.first.kind d.first.number d.first.rest sys' lt sixteen
-      (subst (λ (i : Channel). packets_on i (h.state.link link.0) ≡ packet d.first.kind d.first.number ∷ d.first.rest)
-      (sym on) d.first.tokens)
-      (subst (λ (i : Channel). IsReceived link.0 i (system_after config log) sys') (sym on) received)
-      (ready-delivered ch width matched d)
-      kept
+  by-first {link} {ch} sys' d lt sixteen received kept = kind-owed h sys' width matched
+      (next_tracker (system_after config log)) link.0 d.first.rest lt d.first.kind d.first.number sixteen (
+        on_same ch d.first.kind (h.state.link link.0) d.first.own ∙ d.first.tokens,
+        subst (λ (i : Channel). IsReceived link.0 i (system_after config log) sys') (sym (kind_channel ch d.first.kind
+            d.first.own)) received,
+        ready-delivered ch width matched d,
+      ) kept
 
   -- ---- a delivery
 

@@ -1,24 +1,19 @@
 -- What an event at which the last beat of a message is taken finds, and what it leaves as it was.
-use Rattle.tl_coherence.proofs.bound.Imports.{Channel, Cap, Prune, Report, IsInvariant, channel_for, ProbePhase}
-use Rattle.tl_coherence.proofs.bound.Imports.{ProbeAnswered, ReleaseSent, Block, State, packet, packets_on, is_answered}
-use Rattle.tl_coherence.proofs.bound.Imports.{is_probed, AccessMessages, message_of_kind, System, Kind, Grant, Packet}
-use Rattle.tl_coherence.proofs.bound.Imports.{set}
 use Rattle.std.proofs.Common.{◌≡◌, ℕ, ◌≤◌, Bool, true, false, List, ◌∷◌, ◌++◌, refl, sym, ◌∙◌, ap, subst, arith, ◌⊎◌}
-use Rattle.std.proofs.Common.{inl, inr, []}
-use Rattle.std.specs.Prelude.{◌==◌, if◌then◌else◌, length, map}
-use Rattle.std.{proofs.lemmas.Bool.cases_eq}
-use Rattle.tl_burst.proofs.Begun.{length-begun}
-use Rattle.tl_coherence.specs.{refinement.Carried.IsCarried, refinement.ChannelRelation.ChannelRelation}
-use Rattle.tl_coherence.specs.{protocol.Phase.ReleasePhase, protocol.Tokens.is_releasing}
-use Rattle.tl_coherence.specs.{refinement.PacketMessages.message_of, protocol.Packet.set_at}
-use Rattle.tl_coherence.specs.protocol.Protocol.{Link, is_on, with_d, with_probe, popped_link, ended_link, granted_link}
-use Rattle.tl_coherence.specs.protocol.Protocol.{served_link}
-use Rattle.tl_coherence.proofs.{client.Aside.set_at-other, client.Aside.set_at-else, protocol.TokenNames.shown_there}
-use Rattle.tl_coherence.proofs.{protocol.TokenNames.shows_it, queues.Distinct.first-there}
-use Rattle.tl_coherence.proofs.{queues.Rendered.same_kind_again}
-use Rattle.tl_coherence.proofs.protocol.BeatsRemaining.{beats_left, taken_of, is_front}
-use Rattle.tl_coherence.proofs.simulation.Popped.{unfinished_at, kind_channel}
-use Rattle.tl_coherence.proofs.queues.Tokens.{same_number, set-part}
+use Rattle.std.proofs.Common.{inl, inr, [], length, ◌==◌, if◌then◌else◌, map}
+use Rattle.tl_coherence.proofs
+use proofs.Imports.{cases_eq, Channel, length-begun, Cap, Prune, Report, IsInvariant, Kind, Grant, Packet, set, set_at}
+use proofs.Imports.{ProbePhase, ProbeAnswered, ReleaseSent, ReleasePhase, Block, State, packet, packets_on, is_probed}
+use proofs.Imports.{is_on, with_d, with_probe, popped_link, ended_link, granted_link, served_link, is_answered}
+use proofs.Imports.{is_releasing, IsCarried, ChannelRelation, channel_for, AccessMessages, message_of_kind, message_of}
+use proofs.Imports.{System}
+use Rattle.tl_coherence.specs.protocol.Protocol.{Link}
+use proofs.client.Aside.{set_at-other, set_at-else}
+use proofs.protocol.{TokenNames.shown_there, TokenNames.shows_it, BeatsRemaining.beats_left, BeatsRemaining.taken_of}
+use proofs.protocol.{BeatsRemaining.is_front}
+use proofs.queues.{Distinct.first-there, Rendered.same_kind_again, Tokens.same_number, Tokens.set-part}
+use proofs.queues.{KindMoves.kind_channel}
+use proofs.simulation.Popped.{unfinished_at}
 
 -- ---- the token that is taken
 

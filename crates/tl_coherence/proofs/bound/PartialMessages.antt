@@ -1,21 +1,19 @@
 -- What the receiver of each channel has of the message that comes first there, after a delivery that moves a beat.
-use Rattle.tl_coherence.proofs.bound.Imports.{IsWidth, Beat, Link, Channel, completes, Config, Deliver, is_moving}
-use Rattle.tl_coherence.proofs.bound.Imports.{AbstractState, Log, system_after, stepped, System, SimulationRelation}
-use Rattle.std.proofs.Common.{◌≡◌, ℕ, ◌&&◌, Bool, true, false, List, ◌∷◌, Some, refl, sym, ◌∙◌, subst}
-use Rattle.std.specs.Prelude.{◌==◌, if◌then◌else◌}
-use Rattle.tl_burst.specs.statement.Messages.{grown}
-use Rattle.tl_client.specs.statement.Endpoint.{EndConfig}
+use Rattle.std.proofs.Common.{◌≡◌, ℕ, ◌&&◌, Bool, true, false, List, ◌∷◌, Some, refl, sym, ◌∙◌, subst, ◌==◌}
+use Rattle.std.proofs.Common.{if◌then◌else◌}
+use Rattle.tl_coherence.proofs
+use proofs.Imports.{Beat, Link, Channel, IsWidth, grown, completes, Config, EndConfig, reaction, Deliver, AbstractState}
+use proofs.Imports.{SimulationRelation, is_moving, Log, system_after, stepped, Step, is_to_client, System, same_channel}
+use proofs.Imports.{terms_at}
 use Rattle.tl_client.specs.statement.Offer as offer
 use Rattle.tl_manager.specs.statement.Offer as manager_offer
-use Rattle.tl_manager.specs.statement.Reaction.{reaction}
-use Rattle.tl_coherence.specs.statement.Step.{Step, is_to_client}
-use Rattle.tl_coherence.specs.statement.System.{same_channel, terms_at}
-use Rattle.tl_coherence.proofs.{bound.Beginnings.IsBegun, links.FifoOfChannels.on_it, links.HeadsOfLinks.first-of}
-use Rattle.tl_coherence.proofs.{queues.Tokens.same_number, queues.Steps.same_channel-refl}
-use Rattle.tl_coherence.proofs.queues.Landed.{IsOn, landed-client, rests-manager, rests-ended}
-use Rattle.tl_coherence.proofs.deliveries.ManagersAfter.{at-manager}
-use Rattle.tl_coherence.proofs.simulation.Moved.{client-moves, client-heard}
-use Rattle.tl_coherence.proofs.simulation.Popped.{unfinished_at, IsReceived, elsewhere}
+use proofs.bound.Beginnings.{IsBegun}
+use proofs.links.HeadsOfLinks.{first-of}
+use proofs.queues.{Tokens.same_number, Steps.same_channel-refl, Landed.IsOn, Landed.landed-client, Landed.rests-manager}
+use proofs.queues.{Landed.rests-ended, Landed.on_own_channel}
+use proofs.deliveries.ManagersAfter.{at-manager}
+use proofs.simulation.{Moved.client-moves, Moved.client-heard, Popped.unfinished_at, Popped.IsReceived}
+use proofs.simulation.{Popped.elsewhere}
 
 -- The receiver of channel ch of client c's link has this beat too, and the others have what they had.
 abbrev pub IsGrown : {w : ℕ} → ℕ → Channel → Beat w → System w → System w → Type 0
@@ -35,7 +33,7 @@ grown-moved {w} {config} {log} h link ch terms x queue width is known beats movi
     sys = system_after config log
 
     on_ch : IsOn ch x
-    on_ch = rw (← (first-of config log h link.0 terms ch x queue width is known beats).on) (on_it x)
+    on_ch = rw (← (first-of config log h link.0 terms ch x queue width is known beats).on) (on_own_channel x)
 
     go : (b : Bool) → is_to_client ch ≡ b → IsGrown link.0 ch x sys (stepped config (Deliver link ch) sys).after
     go true up =

@@ -1,51 +1,41 @@
 -- What is owed in a world falls as the last beat of a message is taken.
-use Rattle.tl_coherence.specs.protocol.Protocol.{Link, probe_taken, report_answers, report_grants, access_answered}
-use Rattle.tl_coherence.specs.protocol.Protocol.{access_served, release_taken, answer_taken, release_ack_taken}
-use Rattle.tl_coherence.specs.protocol.Protocol.{grant_ack_taken, answered_link, freed_block, is_on, let_go_block}
-use Rattle.tl_coherence.specs.protocol.Protocol.{let_link, performed_block, probed_link, reported_block, served_block}
-use Rattle.tl_coherence.specs.protocol.Protocol.{taken_link}
-use Rattle.tl_coherence.proofs.{rank.Frames.Taking, queues.Shown.IsShown, protocol.BothParts.acked-is}
-use Rattle.tl_coherence.proofs.{queues.Tokens.set-other, queues.Tokens.set-same, protocol.TokenNames.shows_it}
-use Rattle.tl_coherence.proofs.{protocol.BeatsRemaining.beats_left, bound.RankOfLog.owed, bound.RankOfLog.narrow-block}
-use Rattle.tl_coherence.proofs.{queues.Showing.carries, rank.Weights.IsLeft, queues.Tokens.set_at-same}
-use Rattle.tl_coherence.proofs.bound.EventDecreases.{left-first, set_at-unlike, acks_as, acks_set, acks_ended}
-use Rattle.tl_coherence.proofs.bound.EventDecreases.{acks_granted, acks_served, answered_with, releasing_with}
-use Rattle.tl_coherence.proofs.bound.EventDecreases.{shown-first}
-use Rattle.tl_coherence.proofs.bound.ReportDecreases.{report-falls, answering-falls, granting-falls, probe-falls}
-use Rattle.tl_coherence.proofs.bound.RequestDecreases.{answered-falls, acquire-granted-falls, acquire-served-falls}
-use Rattle.tl_coherence.proofs.bound.RequestDecreases.{granted-letting, served-letting, serving-falls}
-use Rattle.tl_coherence.proofs.bound.ResponseDecreases.{answer-falls, grant-taken-falls, release-taken-falls}
-use Rattle.tl_coherence.proofs.bound.ResponseDecreases.{release-ack-falls, grant-ack-falls}
-use Rattle.tl_coherence.proofs.protocol.Capacities.{acquire_named, answer_named, grant_named, release_ack_named}
-use Rattle.tl_coherence.proofs.protocol.Capacities.{release_named, request_named}
-use Rattle.tl_coherence.proofs.simulation.Popped.{are-clients, unfinished_at, IsReceived, popped-received}
-use Rattle.tl_coherence.proofs.bound.Imports.{IsWidth, Message, MessageA, Config, Cap, Prune, Report, Perm, IsInvariant}
-use Rattle.tl_coherence.proofs.bound.Imports.{Log, system_after, ProbeSent, Free, Waits, GrantSent, GrantTaken, Block}
-use Rattle.tl_coherence.proofs.bound.Imports.{State, Asked, Replied, packet, probed_block, report_taken, ended_block}
-use Rattle.tl_coherence.proofs.bound.Imports.{granted_block, granted_at_once, acquire_granted, acquire_served}
-use Rattle.tl_coherence.proofs.bound.Imports.{let_block, taken_block, grant_taken, AccessMessages, System, Kind}
-use Rattle.tl_coherence.proofs.bound.Imports.{Request, Acquire, Probe, ProbeAck, Release, Answer, Grant, ReleaseAck}
-use Rattle.tl_coherence.proofs.bound.Imports.{GrantAck, Packet, SimulationRelation, is_caching, Channel, Acquires}
-use Rattle.tl_coherence.proofs.bound.Imports.{InService, ProbeAnswered, SourceFree, packets_on, set}
 use Rattle.std.proofs.Common.{◌≡◌, ℕ, ◌+◌, ◌/◌, ◌<◌, ◌≤◌, Bool, true, false, List, ◌∷◌, refl, arith, ◌⊎◌, inl, inr, ap}
-use Rattle.std.proofs.Common.{[]}
-use Rattle.std.{specs.Prelude.None, specs.Prelude.length, specs.Prelude.Option, proofs.lemmas.Bool.cases_eq}
-use Rattle.std.{proofs.lemmas.List.length-append}
-use Rattle.tl_beat.specs.declared.opcode.OpB.{OpB}
-use Rattle.tl_client.specs.statement.Send.{probe_ack}
-use Rattle.tl_coherence.specs.{protocol.Invariant.is_replied, protocol.Tokens.shown}
-use Rattle.tl_coherence.specs.{refinement.PacketMessages.block_message, statement.System.channel_of_message}
-use Rattle.tl_coherence.specs.{protocol.Packet.set_at}
-use Rattle.tl_coherence.specs.refinement.SimulationRelation.{IsSourced, IsAnswered}
-use Rattle.tl_coherence.proofs.simulation.CarriedEvents.{probe_taken-shown, report_taken-shown, access_answered-shown}
-use Rattle.tl_coherence.proofs.simulation.CarriedEvents.{acquire_granted-shown, release_taken-shown}
-use Rattle.tl_coherence.proofs.simulation.CarriedResponses.{answer_taken-shown, release_ack_taken-shown}
-use Rattle.tl_coherence.proofs.simulation.CarriedResponses.{grant_taken-shown, grant_ack_taken-shown}
-use Rattle.tl_coherence.proofs.simulation.CarriedProbes.{access_served-shown, acquire_served-shown}
-use Rattle.tl_coherence.proofs.simulation.CarriedLastReports.{report_answers-shown, report_grants-shown}
-use Rattle.tl_coherence.proofs.rank.BeatsRemainingSums.{answer_to, is-left, answer-left, wide-block}
-use Rattle.tl_coherence.proofs.rank.RankParts.{IsAsking, asking, serving-use}
-use Rattle.tl_coherence.specs.refinement.PacketMessages.{message_of}
+use Rattle.std.proofs.Common.{[], None, length, Option, length-append}
+use Rattle.tl_coherence.proofs
+use proofs.Imports.{cases_eq, Channel, OpB, IsWidth, Message, MessageA, Config, Cap, Prune, Report, Perm, probe_ack}
+use proofs.Imports.{IsInvariant, is_replied, Kind, Request, Acquire, Probe, ProbeAck, Release, Answer, Grant}
+use proofs.Imports.{ReleaseAck, GrantAck, Packet, set, set_at, ProbeSent, ProbeAnswered, probe_taken, report_answers}
+use proofs.Imports.{report_grants, access_answered, access_served, release_taken, answer_taken, release_ack_taken}
+use proofs.Imports.{grant_ack_taken, answered_link, freed_block, is_on, let_go_block, let_link, performed_block}
+use proofs.Imports.{probed_link, reported_block, served_block, taken_link, Free, Waits, GrantSent, GrantTaken, Block}
+use proofs.Imports.{State, Asked, Replied, packet, probed_block, report_taken, ended_block, granted_block}
+use proofs.Imports.{granted_at_once, acquire_granted, acquire_served, let_block, taken_block, grant_taken, Acquires}
+use proofs.Imports.{InService, SourceFree, packets_on, shown, AccessMessages, block_message, message_of}
+use proofs.Imports.{SimulationRelation, is_caching, IsSourced, IsAnswered, Log, system_after, System}
+use proofs.Imports.{channel_of_message}
+use Rattle.tl_coherence.specs.protocol.Protocol.{Link}
+use proofs.rank.{Frames.Taking, Weights.IsLeft, BeatsRemainingSums.answer_to, BeatsRemainingSums.is-left}
+use proofs.rank.{BeatsRemainingSums.answer-left, BeatsRemainingSums.wide-block, RankParts.IsAsking, RankParts.asking}
+use proofs.rank.{RankParts.serving-use}
+use proofs.queues.{Shown.IsShown, Tokens.set-other, Tokens.set-same, Tokens.set_at-same, Showing.carries}
+use proofs.protocol.{BothParts.acked-is, TokenNames.shows_it, BeatsRemaining.beats_left}
+use proofs.bound.{RankOfLog.owed, RankOfLog.narrow-block, ReportDecreases.report-falls, ReportDecreases.answering-falls}
+use proofs.bound.{ReportDecreases.granting-falls, ReportDecreases.probe-falls}
+use proofs.bound.EventDecreases.{left-first, set_at-unlike, acks_as, acks_set, acks_ended, acks_granted, acks_served}
+use proofs.bound.EventDecreases.{answered_with, releasing_with, shown-first}
+use proofs.bound.RequestDecreases.{answered-falls, acquire-granted-falls, acquire-served-falls, granted-letting}
+use proofs.bound.RequestDecreases.{served-letting, serving-falls}
+use proofs.bound.ResponseDecreases.{answer-falls, grant-taken-falls, release-taken-falls, release-ack-falls}
+use proofs.bound.ResponseDecreases.{grant-ack-falls}
+use proofs.protocol.Capacities.{acquire_named, answer_named, grant_named, release_ack_named, release_named}
+use proofs.protocol.Capacities.{request_named}
+use proofs.simulation.{Popped.are-clients, Popped.unfinished_at, Popped.IsReceived, Popped.popped-received}
+use proofs.simulation.{CarriedProbes.access_served-shown, CarriedProbes.acquire_served-shown}
+use proofs.simulation.{CarriedLastReports.report_answers-shown, CarriedLastReports.report_grants-shown}
+use proofs.simulation.CarriedEvents.{probe_taken-shown, report_taken-shown, access_answered-shown}
+use proofs.simulation.CarriedEvents.{acquire_granted-shown, release_taken-shown}
+use proofs.simulation.CarriedResponses.{answer_taken-shown, release_ack_taken-shown, grant_taken-shown}
+use proofs.simulation.CarriedResponses.{grant_ack_taken-shown}
 
 -- ---- the channels of what is handed out
 

@@ -1,114 +1,98 @@
--- What is owed in a world falls as the last beat of a message on channels B, D and E, or of a Release, is taken.
-use Rattle.tl_coherence.proofs.bound.Imports.{IsWidth, Config, AbstractState, kind_taken, Log, system_after, Service}
-use Rattle.tl_coherence.proofs.bound.Imports.{Free, Block, State, packet, is_wanting, is_probed, acquire_served}
-use Rattle.tl_coherence.proofs.bound.Imports.{acquire_granted, grant_taken, System, Kind, Acquire, Probe, Release}
-use Rattle.tl_coherence.proofs.bound.Imports.{Answer, Grant, ReleaseAck, GrantAck, Packet, SimulationRelation}
-use Rattle.tl_coherence.proofs.bound.Imports.{is_caching, Channel}
-use Rattle.std.proofs.Common.{◌≡◌, ℕ, ◌+◌, ◌<◌, ◌≤◌, Bool, true, false, List, ◌∷◌, refl, ◌∙◌, ap, subst}
-use Rattle.std.specs.Prelude.{if◌then◌else◌, length}
-use Rattle.tl_params.specs.declared.param.Grow.{Grow}
-use Rattle.tl_coherence.specs.refinement.AbstractStep.{taken_by_client, acquire_taken, some_below, gift, is_unheld}
-use Rattle.tl_coherence.specs.{protocol.Invariant.cap_asked, protocol.PhaseSteps.is_granted_data}
-use Rattle.tl_coherence.specs.protocol.Phase.{AcquirePhase, NoAcquire, AcquireOpen, is_whole}
-use Rattle.tl_coherence.specs.refinement.PacketMessages.{cap_sent, prune_told}
-use Rattle.tl_coherence.proofs.{bound.EventDecreases.shown-first, bound.RankOfLog.owed, protocol.HeadOfD.IsGrantDue}
-use Rattle.tl_coherence.proofs.{protocol.HeadOfD.grant-due, deliveries.DeliverDUnmoved.bare, queues.Phases.and_left}
-use Rattle.tl_coherence.proofs.{simulation.Popped.IsReceived, protocol.BothParts.sent-is}
-use Rattle.tl_coherence.proofs.{protocol.BothParts.acknowledging-is}
-use Rattle.tl_coherence.proofs.bound.RankAfter.{IsKeptAfter, grant_taken-owed, acquire_served-owed}
-use Rattle.tl_coherence.proofs.bound.RankAfter.{acquire_granted-owed, probe_taken-owed, release_taken-owed}
-use Rattle.tl_coherence.proofs.bound.RankAfter.{answer_taken-owed, release_ack_taken-owed, grant_ack_taken-owed}
+-- What is owed in a world falls as the last beat of a message is taken.
+use Rattle.std.proofs.Common.{◌≡◌, ℕ, ◌+◌, ◌<◌, ◌≤◌, true, false, List, ◌∷◌, refl, ◌∙◌, ap, subst, sym, length}
+use Rattle.tl_coherence.proofs
+use proofs.Imports.{IsWidth, MessageA, Config, Cap, Report, IsInvariant, IsWell, Kind, ProbeAck, Grant, Packet}
+use proofs.Imports.{AcquirePhase, is_whole, Service, Block, packet, ended_block, grant_taken, Waits, view, on}
+use proofs.Imports.{AbstractState, kind_taken, last_taken, performs, answers, taken_by_client, channel_for}
+use proofs.Imports.{SimulationRelation, is_caching, IsFor, Log, system_after, System}
+use Rattle.tl_coherence.specs.protocol.Protocol as protocol
+use proofs.bound.RankAfter.{IsKeptAfter, access_answered-owed, access_served-owed, acquire_granted-owed}
+use proofs.bound.RankAfter.{acquire_served-owed, probe_taken-owed, report_taken-owed, report_answers-owed}
+use proofs.bound.RankAfter.{report_grants-owed, release_taken-owed, answer_taken-owed, grant_taken-owed}
+use proofs.bound.RankAfter.{release_ack_taken-owed, grant_ack_taken-owed}
+use proofs.bound.RankOfLog.{owed}
+use proofs.rank.RankParts.{serving-use}
+use proofs.simulation.Popped.{IsReceived}
+use proofs.deliveries.{CarriedRequests.unread-bytes, LandedReports.answer_on_d, LandedReports.ended-bytes}
+use proofs.deliveries.{DeliverDUnmoved.bare, LastReportDelivered.seen_apart}
+use proofs.manager.Choices.{plain-past}
+use proofs.queues.{Facts.answered_other, Tokens.set-same}
+use proofs.protocol.{HeadOfD.IsGrantDue, HeadOfD.grant-due, NeverIdle.never-idle, RequestsKept.settled_all}
+use proofs.protocol.{Events.IsReady, Events.ready-access, Events.waits_for_others, Events.told, Events.true-taken}
+use proofs.protocol.{FirstTokens.first-request, FirstTokens.first-probe, FirstTokens.first-report}
+use proofs.protocol.{FirstTokens.first-grant_ack}
 
 module _ {w : ℕ} {config : Config} {log : Log w} (h : AbstractState w) (sys' : System w) (width : IsWidth w)
-    (matched : SimulationRelation config log h.mail h.request h.state (system_after config log)) (tracker c n : ℕ)
+    (matched : SimulationRelation config log h.mail h.request h.state (system_after config log)) (tracker c : ℕ)
     (rest : List Packet) (lt : c < length config.clients.items) where
-  -- less is owed than before, where this token was taken
-  abbrev pub TakenFalls : Kind → Type 0
-  TakenFalls k = owed config (kind_taken config tracker c k n rest h).mail
-      (kind_taken config tracker c k n rest h).state sys' + 1 ≤ owed config h.mail h.state (system_after config log)
+  -- the protocol is kept, and less is owed than before
+  abbrev pub Falls : AbstractState w → Type 0
+  Falls z = IsKeptAfter config z.mail z.state
+      → owed config z.mail z.state sys' + 1 ≤ owed config h.mail h.state (system_after config log)
 
-  -- the protocol is kept
-  abbrev pub Kept : Kind → Type 0
-  Kept k = IsKeptAfter config (kind_taken config tracker c k n rest h).mail
-      (kind_taken config tracker c k n rest h).state
+  -- the last beat of the message of this token is taken
+  abbrev pub IsEnding : Kind → ℕ → Type 0
+  IsEnding k i = (on k (h.state.link c) ≡ packet k i ∷ rest)
+      × IsReceived c (channel_for k) (system_after config log) sys' × IsReady tracker c k i h
 
-  pub probe-owed : (h.state.link c).b ≡ packet Probe n ∷ rest → IsReceived c Channel.B (system_after config log) sys'
-      → Kept Probe → TakenFalls Probe
-  probe-owed first received kept = probe_taken-owed sys' width matched c n rest lt
-      (cap_sent ((h.state.block n).pair c).probing) first
-      (sent-is ((h.state.block n).pair c).probing (shown-first Channel.B c Probe n rest
-      matched.invariant refl first)) received kept
+  report-answered : (n q source : ℕ) (k : Cap) → IsEnding ProbeAck n → waits_for_others config c h n ≡ false
+      → (h.state.block n).service ≡ Waits q false source k
+      → Falls (last_taken (length config.clients.items) config.profile c n (told config c h n) (Waits q false source k)
+      rest h)
+  report-answered n q source k known last waits is =
+      let b : Block (List ℕ) = h.state.block n in
+      let r : Report = told config c h n in
+      let v : MessageA w = h.request n in
+      let inv : IsInvariant (is_caching config) h.state = matched.invariant in
+      let for : IsFor (Waits q false source k) n v = rw waits at (matched.served.requests n) in
+      report_answers-owed sys' width matched c n rest lt q source r k (performs v)
+      (answers v (protocol.written r b.truth b.memory)) known.0 waits (rw (serving-use n q source k inv waits) refl)
+      (ended-bytes c q source r k v (inv.blocks n)
+      (subst (IsWell (is_caching config)) (set-same n (ended_block c r (performs v) b) h.state.block)
+      (is.invariant.blocks n)) waits (first-report inv known.0)
+      (settled_all (length config.clients.items) (is_caching config) c b.pair (plain-past config)
+      (inv.blocks n).outside last) for.0 for.3 (matched.sized n).truth) (answer_on_d v _) known.1 is
 
-  pub release-owed : (h.state.link c).c ≡ packet Release n ∷ rest → IsReceived c Channel.C (system_after config log)
-      sys' → Kept Release → TakenFalls Release
-  release-owed first received kept =
-      release_taken-owed sys' width matched c n rest lt (prune_told ((h.state.block n).pair c).letting) first received
-      kept
-
-  pub answer-owed : (h.state.link c).d ≡ packet Answer n ∷ rest → IsReceived c Channel.D (system_after config log) sys'
-      → Kept Answer → TakenFalls Answer
-  answer-owed first received kept = answer_taken-owed sys' width matched c n rest lt first received kept
-
-  pub release_ack-owed : (h.state.link c).d ≡ packet ReleaseAck n ∷ rest
-      → IsReceived c Channel.D (system_after config log) sys' → Kept ReleaseAck → TakenFalls ReleaseAck
-  release_ack-owed first received kept = release_ack_taken-owed sys' width matched c n rest lt first received kept
-
-  pub grant_ack-owed : (h.state.link c).e ≡ packet GrantAck n ∷ rest → IsReceived c Channel.E (system_after config log)
-      sys' → Kept GrantAck → TakenFalls GrantAck
-  grant_ack-owed first received kept = grant_ack_taken-owed sys' width matched c n rest lt first
-      (acknowledging-is (h.state.block n).service c (shown-first Channel.E c GrantAck
-      n rest matched.invariant refl first)) received kept
-
-  -- a Grant
-  pub grant-owed : (h.state.link c).d ≡ packet Grant n ∷ rest → IsReceived c Channel.D (system_after config log) sys'
-      → Kept Grant → TakenFalls Grant
-  grant-owed first received kept =
-      rw same (grant_taken-owed sys' width matched c n rest lt due.whole
-      due.data_too due.k first due.service (bare h due matched.invariant) received
-      (subst (λ (z : AbstractState w). IsKeptAfter config z.mail z.state) same kept))
+  granted : (n : ℕ) → IsEnding Grant n → Falls (kind_taken config tracker c Grant n rest h)
+  granted n known = subst Falls same (grant_taken-owed sys' width matched c n rest lt due.whole due.data_too due.k known.0
+      due.service (bare h due matched.invariant) known.1)
     where
       due : IsGrantDue c n h.state
-      due = grant-due (is_caching config) c n rest h.state matched.invariant first
+      due = grant-due (is_caching config) c n rest h.state matched.invariant known.0
 
-      same : kind_taken config tracker c Grant n rest h ≡ record h {
-        state = grant_taken c n due.whole due.data_too due.k rest h.state;
-      }
-      same = ap (λ (v : Service). taken_by_client c n v rest h) due.service ∙ ap
+      same : record h { state = grant_taken c n due.whole due.data_too due.k rest h.state } ≡ kind_taken config tracker
+          c Grant n rest h
+      same = sym (ap (λ (v : Service). taken_by_client c n v rest h) due.service ∙ ap
           (λ (a : AcquirePhase). record h { state = grant_taken c n (is_whole a) due.data_too due.k rest h.state })
-          due.wants
+          due.wants)
 
-  -- an Acquire of a block that is free
-  pub acquire-owed : length config.clients.items ≤ 16 → (h.state.link c).a ≡ packet Acquire n ∷ rest
-      → (h.state.block n).service ≡ Free
-      → IsReceived c Channel.A (system_after config log) sys' → Kept Acquire → TakenFalls Acquire
-  acquire-owed sixteen first free received kept = go ((h.state.block n).pair c).acquiring refl kept
-    where
-      b : Block (List ℕ)
-      b = h.state.block n
-
-      wants : is_wanting (b.pair c).acquiring ≡ true
-      wants = and_left (is_wanting (b.pair c).acquiring) _ (shown-first Channel.A c Acquire n rest matched.invariant
-          refl first)
-
-      taken : AcquirePhase → AbstractState w
-      taken x = acquire_taken (length config.clients.items) config.profile c n x tracker rest h
-
-      state_of : Bool → Grow → Bool → State (List ℕ)
-      state_of whole g probes = if probes then acquire_served c n (b.source c) tracker (cap_asked (AcquireOpen whole g))
-          rest h.state else acquire_granted c n tracker (is_granted_data whole g (b.pair c).recorded)
-          (gift config.profile whole g (is_unheld (length config.clients.items) b.pair)) rest h.state
-
-      each : (whole : Bool) (g : Grow) (probes : Bool) → IsKeptAfter config h.mail (state_of whole g probes)
-          → owed config h.mail (state_of whole g probes) sys' + 1 ≤ owed config h.mail h.state (system_after config log)
-      each whole g true is = acquire_served-owed sys' width matched c n rest lt
-          (b.source c) tracker (cap_asked (AcquireOpen whole g)) sixteen first free received is
-      each whole g false is = acquire_granted-owed sys' width matched c n rest lt
-          tracker (is_granted_data whole g (b.pair c).recorded)
-          (gift config.profile whole g (is_unheld (length config.clients.items) b.pair)) first free received is
-
-      go : (x : AcquirePhase) → (b.pair c).acquiring ≡ x → IsKeptAfter config (taken x).mail (taken x).state
-          → owed config (taken x).mail (taken x).state sys' + 1 ≤ owed config h.mail h.state (system_after config log)
-      go NoAcquire e is = absurd (let no : false ≡ true = rw e at wants in cc)
-      go (AcquireOpen whole g) e is =
-          each whole g (some_below (length config.clients.items)
-          (λ d. is_probed c true (cap_asked (AcquireOpen whole g)) (b.pair d).recorded d)) is
+  pub kind-owed : (k : Kind) (i : ℕ) → length config.clients.items ≤ 16 → IsEnding k i
+      → Falls (kind_taken config tracker c k i rest h)
+  kind-owed k i sixteen ending = true-taken config tracker c rest h IsEnding Falls k i (record {
+    nothing = λ j n known idle. absurd (let busy = never-idle config tracker c j n rest h matched.invariant known.0
+        known.2 in let no : false ≡ true = sym busy ∙ idle in cc);
+    access_answered = λ source m o known from caps none.
+        access_answered-owed sys' width matched c _ rest lt source (performs m) _ known.0
+        (first-request matched.invariant known.0) (unread-bytes c _ m matched
+        (ready-access tracker c source m h known.2 from).0 (rw caps none)) (answer_on_d m _) known.1;
+    access_served = λ source m k known from caps some. access_served-owed sys' width matched c _ rest lt source tracker k
+        sixteen known.0 (ready-access tracker c source m h known.2 from).1 known.1;
+    acquire_granted = λ n whole g known wants none. acquire_granted-owed sys' width matched c n rest lt tracker _ _
+        known.0 known.2.0 known.1;
+    acquire_served = λ n whole g known wants some. acquire_served-owed sys' width matched c n rest lt _ tracker _ sixteen
+        known.0 known.2.0 known.1;
+    probe = λ n known. probe_taken-owed sys' width matched c n rest lt _ known.0 (first-probe matched.invariant known.0)
+        known.1;
+    report = λ n known more. report_taken-owed sys' width matched c n rest lt (told config c h n) known.0 known.1;
+    report_answers = report-answered;
+    report_grants = λ n q source k whole g known last waits wants. report_grants-owed sys' width matched c n rest lt q
+        source k _ (told config c h n) _ known.0 waits (seen_apart q source k c (rw waits at
+        (answered_other _ ((h.state.block n).pair c) (view (h.state.block n).service c)
+        ((matched.invariant.blocks n).phases c) (first-report matched.invariant known.0)))) known.1;
+    release = λ n known. release_taken-owed sys' width matched c n rest lt _ known.0 known.1;
+    answer = λ source known. answer_taken-owed sys' width matched c source rest lt known.0 known.1;
+    grant = λ n q d k known sent. subst (λ (v : Service). Falls (taken_by_client c n v rest h)) sent (granted n known);
+    release_ack = λ n known. release_ack_taken-owed sys' width matched c n rest lt known.0 known.1;
+    grant_ack = λ n known. grant_ack_taken-owed sys' width matched c n rest lt known.0
+        (first-grant_ack matched.invariant known.0) known.1;
+  }) ending

@@ -1,16 +1,16 @@
 -- What is owed in a world: its bound, and how it falls with a beat that isn't the last of its message.
-use Rattle.tl_coherence.proofs.bound.Imports.{IsWidth, Beat, Channel, MessageA, beats_of, completes, Config, Log}
-use Rattle.tl_coherence.proofs.bound.Imports.{system_after, rank, State, AccessMessages, message_of_kind, System}
-use Rattle.tl_coherence.proofs.bound.Imports.{SimulationRelation, is_caching}
 use Rattle.std.proofs.Common.{◌≡◌, ℕ, ◌+◌, ◌*◌, ◌/◌, ◌<◌, ◌≤◌, Bool, true, false, List, ◌∷◌, refl, sym, ◌∙◌, arith, ◌⊎◌}
-use Rattle.std.proofs.Common.{inl, inr}
-use Rattle.std.{specs.Prelude.◌==◌, specs.Prelude.length, proofs.lemmas.Bool.cases_eq}
-use Rattle.tl_coherence.specs.bound.Rank.{open_requests, open_releases}
-use Rattle.tl_coherence.proofs.{bound.Beginnings.IsBegun, bound.Beginnings.beat-falls, queues.FirstToken.first-token}
-use Rattle.tl_coherence.proofs.{protocol.BeatsRemaining.beats_left, simulation.Popped.unfinished_at}
-use Rattle.tl_coherence.proofs.{simulation.Popped.are-clients, queues.Tokens.same_number, rank.Weights.IsLeft}
-use Rattle.tl_coherence.proofs.{rank.Weights.potential-few}
-use Rattle.tl_coherence.proofs.rank.BeatsRemainingSums.{answer_to, is-left, wide-block}
+use Rattle.std.proofs.Common.{inl, inr, length, ◌==◌}
+use Rattle.tl_coherence.proofs
+use proofs.Imports.{cases_eq, Beat, Channel, IsWidth, MessageA, beats_of, completes, Config, rank, open_requests}
+use proofs.Imports.{open_releases, State, AccessMessages, message_of_kind, SimulationRelation, is_caching, Log}
+use proofs.Imports.{system_after, System}
+use proofs.bound.Beginnings.{IsBegun, beat-falls}
+use proofs.queues.{FirstToken.first-token, Tokens.same_number}
+use proofs.protocol.BeatsRemaining.{beats_left}
+use proofs.simulation.Popped.{unfinished_at, are-clients}
+use proofs.rank.{Weights.IsLeft, Weights.potential-few, BeatsRemainingSums.answer_to, BeatsRemainingSums.is-left}
+use proofs.rank.{BeatsRemainingSums.wide-block}
 
 abbrev pub owed : {w : ℕ} → Config → AccessMessages w → State (List ℕ) → System w → ℕ
 owed {w} config mail s sys = rank config (64 / w) (beats_left mail s (unfinished_at sys)) (answer_to mail) s

@@ -1,24 +1,18 @@
 -- What is owed falls as a Probe is taken, and as a report is taken: with others missing, or the last one.
-use Rattle.tl_coherence.proofs.rank.Frames.{Taking, Falls, AreAsBefore, AreNoMore, AreElsewhere, IsBlockNoMore}
-use Rattle.tl_coherence.proofs.rank.Frames.{let-stays, unserved-stays}
-use Rattle.tl_coherence.proofs.bound.Imports.{Config, Cap, Report, Perm, IsInvariant, ClientBlock, Own, Granting}
-use Rattle.tl_coherence.proofs.bound.Imports.{ProbePhase, NoProbe, ProbeSent, ProbeAnswered, is_unprobed, Left}
-use Rattle.tl_coherence.proofs.bound.Imports.{probing_weight, pair_weight, probes_weight, acquire_weight, Service, Free}
-use Rattle.tl_coherence.proofs.bound.Imports.{Waits, GrantSent, GrantTaken, Block, State, SourceFree, InService}
-use Rattle.tl_coherence.proofs.bound.Imports.{Replied, Acquires, view, is_unserved, probed_block, ended_block}
-use Rattle.tl_coherence.proofs.bound.Imports.{granted_block, AccessMessages, ProbeAck, Acquire, Grant, Answer, set}
 use Rattle.std.proofs.Common.{◌≡◌, ℕ, zero, suc, ◌+◌, ◌<◌, ◌≤◌, Bool, true, false, List, refl, sym, ◌∙◌, ap, arith, ◌⊎◌}
-use Rattle.std.proofs.Common.{inl, inr}
-use Rattle.std.specs.Prelude.{if◌then◌else◌, length}
-use Rattle.std.proofs.lemmas.Bool.{cases_eq, ne_eqb}
-use Rattle.tl_params.specs.statement.Param.{report_at}
-use Rattle.tl_rules.specs.statement.Conformance.{same_perm}
-use Rattle.tl_coherence.specs.{protocol.Invariant.serves_of, protocol.Invariant.is_serving, bound.Rank.total}
-use Rattle.tl_coherence.specs.{protocol.Protocol.reported_block}
-use Rattle.tl_coherence.specs.protocol.PhaseSteps.{after_probe, after_report, after_grant_sent}
-use Rattle.tl_coherence.proofs.{protocol.BeatsRemaining.beats_left, rank.Weights.IsLeft}
-use Rattle.tl_coherence.proofs.rank.RankParts.{pair-falls, request-falls}
-use Rattle.tl_coherence.proofs.queues.Tokens.{same_number, set-same, set-other, set-part}
+use Rattle.std.proofs.Common.{inl, inr, length, ne_eqb, if◌then◌else◌}
+use Rattle.tl_coherence.proofs
+use proofs.Imports.{cases_eq, Config, Cap, Report, Perm, report_at, same_perm, Left, probing_weight, pair_weight}
+use proofs.Imports.{probes_weight, acquire_weight, IsInvariant, serves_of, is_serving, ProbeAck, Acquire, Grant, Answer}
+use proofs.Imports.{set, ClientBlock, Own, Granting, ProbePhase, NoProbe, ProbeSent, ProbeAnswered, is_unprobed}
+use proofs.Imports.{after_probe, after_report, after_grant_sent, Service, Free, Waits, GrantSent, GrantTaken, Block}
+use proofs.Imports.{State, SourceFree, InService, Replied, Acquires, view, probed_block, ended_block, granted_block}
+use proofs.Imports.{reported_block, is_unserved, AccessMessages}
+use Rattle.tl_coherence.specs.bound.Rank.{total}
+use proofs.rank.Frames.{Taking, Falls, AreAsBefore, AreNoMore, AreElsewhere, IsBlockNoMore, let-stays, unserved-stays}
+use proofs.protocol.BeatsRemaining.{beats_left}
+use proofs.rank.{Weights.IsLeft, RankParts.pair-falls, RankParts.request-falls}
+use proofs.queues.Tokens.{same_number, set-same, set-other, set-part}
 
 -- ---- one client's pair
 

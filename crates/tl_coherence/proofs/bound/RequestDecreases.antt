@@ -1,22 +1,18 @@
 -- What is owed falls as a request is taken: answered or granted at once, or with Probes.
-use Rattle.tl_coherence.proofs.rank.Frames.{Taking, Falls, AreAsBefore, AreNoMore, AreElsewhere, IsBlockNoMore}
-use Rattle.tl_coherence.proofs.rank.Frames.{acquire-stays, let-stays, pair-stays, unserved-stays, wants-used}
-use Rattle.tl_coherence.proofs.bound.Imports.{Config, Cap, IsInvariant, ClientBlock, Own, Granting, is_unprobed, Left}
-use Rattle.tl_coherence.proofs.bound.Imports.{pair_weight, probes_weight, acquire_weight, Service, Free, Waits}
-use Rattle.tl_coherence.proofs.bound.Imports.{GrantSent, Block, State, SourceFree, Asked, InService, Replied, Acquires}
-use Rattle.tl_coherence.proofs.bound.Imports.{view, is_unserved, granted_at_once, AccessMessages, Request, Acquire}
-use Rattle.tl_coherence.proofs.bound.Imports.{Grant, Answer}
-use Rattle.std.proofs.Common.{◌≡◌, ℕ, ◌+◌, ◌≤◌, Bool, true, false, List, refl, sym, ◌∙◌, ap, arith, ◌⊎◌, inl, inr}
-use Rattle.std.specs.Prelude.{◌&&◌, ◌==◌, if◌then◌else◌, length}
-use Rattle.std.proofs.lemmas.Bool.{cases_eq, ne_eqb}
-use Rattle.tl_coherence.specs.protocol.Phase.{Idle}
-use Rattle.tl_coherence.specs.protocol.PhaseSteps.{after_served, after_grant_sent}
-use Rattle.tl_coherence.specs.protocol.Protocol.{performed_block, served_block, served_pair}
-use Rattle.tl_coherence.proofs.{protocol.BeatsRemaining.beats_left, rank.RankParts.request-falls}
-use Rattle.tl_coherence.proofs.{protocol.QuiescentProtocol.serves_another, queues.Sums.total-le}
-use Rattle.tl_coherence.proofs.{queues.Tokens.same_number, queues.Tokens.set-part}
-use Rattle.tl_coherence.proofs.bound.ReportDecreases.{is_for_access, nobody-serving}
-use Rattle.tl_coherence.proofs.rank.Weights.{IsLeft, probes-few, probes-fewer}
+use Rattle.std.proofs.Common.{◌≡◌, ℕ, ◌+◌, ◌≤◌, Bool, true, false, List, refl, sym, ◌∙◌, ap, arith, ◌⊎◌, inl, inr, ◌&&◌}
+use Rattle.std.proofs.Common.{length, ne_eqb, ◌==◌, if◌then◌else◌}
+use Rattle.tl_coherence.proofs
+use proofs.Imports.{cases_eq, Config, Cap, Left, pair_weight, probes_weight, acquire_weight, IsInvariant, Request}
+use proofs.Imports.{Acquire, Grant, Answer, ClientBlock, Own, Granting, is_unprobed, Idle, after_served}
+use proofs.Imports.{after_grant_sent, Service, Free, Waits, GrantSent, Block, State, SourceFree, Asked, InService}
+use proofs.Imports.{Replied, Acquires, view, granted_at_once, performed_block, served_block, served_pair, is_unserved}
+use proofs.Imports.{AccessMessages}
+use proofs.rank.Frames.{Taking, Falls, AreAsBefore, AreNoMore, AreElsewhere, IsBlockNoMore, acquire-stays, let-stays}
+use proofs.rank.Frames.{pair-stays, unserved-stays, wants-used}
+use proofs.protocol.{BeatsRemaining.beats_left, QuiescentProtocol.serves_another}
+use proofs.rank.{RankParts.request-falls, Weights.IsLeft, Weights.probes-few, Weights.probes-fewer}
+use proofs.queues.{Sums.total-le, Tokens.same_number, Tokens.set-part}
+use proofs.bound.ReportDecreases.{is_for_access, nobody-serving}
 
 -- a client whose own Acquire is in service isn't probed for it
 owner_quiet : {caching : ℕ → Bool} {s : State (List ℕ)} (n r : ℕ) → IsInvariant caching s

@@ -1,30 +1,21 @@
 -- What is owed falls as a response is taken, a Release, and a GrantAck.
-use Rattle.tl_coherence.proofs.bound.ReportDecreases.{kept_at, nobody-serving, is_for_access}
-use Rattle.tl_coherence.proofs.rank.Frames.{Taking, Falls, AreAsBefore, AreNoMore, AreElsewhere, IsBlockNoMore}
-use Rattle.tl_coherence.proofs.rank.Frames.{acquire-stays, let-stays, pair-stays, unserved-stays, wants-used}
-use Rattle.tl_coherence.proofs.rank.Frames.{report-here}
-use Rattle.tl_coherence.proofs.bound.Imports.{Config, Cap, Prune, Perm, IsInvariant, ClientBlock, Granting, ProbePhase}
-use Rattle.tl_coherence.proofs.bound.Imports.{NoProbe, ProbeSent, ProbeAnswered, NoRelease, ReleaseSent, ReleaseAcked}
-use Rattle.tl_coherence.proofs.bound.Imports.{Left, probing_weight, pair_weight, probes_weight, acquire_weight}
-use Rattle.tl_coherence.proofs.bound.Imports.{letting_weight, Service, Free, GrantSent, GrantTaken, Block, State}
-use Rattle.tl_coherence.proofs.bound.Imports.{SourceFree, Replied, Acquires, view, is_unserved, is_wanting, is_answered}
-use Rattle.tl_coherence.proofs.bound.Imports.{taken_block, let_block, AccessMessages, Acquire, Grant, ProbeAck, Release}
-use Rattle.tl_coherence.proofs.bound.Imports.{Answer, set}
 use Rattle.std.proofs.Common.{◌≡◌, ℕ, ◌+◌, ◌<◌, ◌≤◌, Bool, true, false, List, refl, sym, ◌∙◌, ap, arith, ◌⊎◌, inl, inr}
-use Rattle.std.specs.Prelude.{◌==◌, if◌then◌else◌, Some, None, length}
-use Rattle.std.proofs.lemmas.Bool.{cases_eq, ne_eqb, eqb-true}
-use Rattle.tl_params.specs.statement.Param.{prune_right}
-use Rattle.tl_rules.specs.statement.Conformance.{same_perm}
-use Rattle.tl_coherence.specs.protocol.Invariant.{acquires_with}
-use Rattle.tl_coherence.specs.protocol.Phase.{Acknowledging, GrantedOther}
-use Rattle.tl_coherence.specs.protocol.PhaseSteps.{after_release_taken, after_release_ack, after_grant}
-use Rattle.tl_coherence.specs.protocol.Protocol.{let_go_block, freed_block}
-use Rattle.tl_coherence.proofs.{rank.RankDecreases.owed_use, rank.RankDecreases.owed_use', queues.Phases.and_right}
-use Rattle.tl_coherence.proofs.{queues.Sums.total-le}
-use Rattle.tl_coherence.proofs.protocol.BeatsRemaining.{beats_left, left-same}
-use Rattle.tl_coherence.proofs.rank.RankParts.{request-falls, release-falls, acknowledged-falls, granted-falls}
-use Rattle.tl_coherence.proofs.rank.RankParts.{block-same}
-use Rattle.tl_coherence.proofs.queues.Tokens.{same_number, set-same, set-other}
+use Rattle.std.proofs.Common.{Some, None, length, ne_eqb, eqb-true, ◌==◌, if◌then◌else◌}
+use Rattle.tl_coherence.proofs
+use proofs.Imports.{cases_eq, Config, Cap, Prune, Perm, prune_right, same_perm, Left, probing_weight, pair_weight}
+use proofs.Imports.{probes_weight, acquire_weight, letting_weight, IsInvariant, acquires_with, Acquire, Grant, ProbeAck}
+use proofs.Imports.{Release, Answer, set, ClientBlock, Granting, ProbePhase, NoProbe, ProbeSent, ProbeAnswered}
+use proofs.Imports.{NoRelease, ReleaseSent, ReleaseAcked, Acknowledging, GrantedOther, after_release_taken}
+use proofs.Imports.{after_release_ack, after_grant, Service, Free, GrantSent, GrantTaken, Block, State, SourceFree}
+use proofs.Imports.{Replied, Acquires, view, taken_block, let_block, let_go_block, freed_block, is_unserved, is_wanting}
+use proofs.Imports.{is_answered, AccessMessages}
+use proofs.bound.ReportDecreases.{kept_at, nobody-serving, is_for_access}
+use proofs.rank.Frames.{Taking, Falls, AreAsBefore, AreNoMore, AreElsewhere, IsBlockNoMore, acquire-stays, let-stays}
+use proofs.rank.Frames.{pair-stays, unserved-stays, wants-used, report-here}
+use proofs.rank.RankDecreases.{owed_use, owed_use'}
+use proofs.queues.{Phases.and_right, Sums.total-le, Tokens.same_number, Tokens.set-same, Tokens.set-other}
+use proofs.protocol.BeatsRemaining.{beats_left, left-same}
+use proofs.rank.RankParts.{request-falls, release-falls, acknowledged-falls, granted-falls, block-same}
 
 -- who has released is no longer recorded as the writer
 pruned : (r : Prune) → same_perm (prune_right r) Perm.Trunk ≡ false

@@ -1,22 +1,18 @@
 -- Deliveries move no more beats than the load before them; and the next ones, one after another, end
 -- what is outstanding.
-use Rattle.tl_coherence.proofs.bound.Imports.{Link, Channel, Config, Deliver, is_moving, Log, system_after, stepped}
 use Rattle.std.proofs.Common.{◌≡◌, ℕ, zero, suc, ◌+◌, ◌≤◌, Bool, true, false, [], ◌∷◌, ◌++◌, Option, Some, None, length}
-use Rattle.std.proofs.Common.{refl, sym, ◌∙◌, ap, subst, arith}
-use Rattle.std.specs.Prelude.{All, if◌then◌else◌, filter}
-use Rattle.std.proofs.lemmas.List.Elements.{All-head, All-tail}
-use Rattle.tl_manager.{proofs.blocks.Placing.limits, specs.laws.Pending.one_if}
-use Rattle.tl_coherence.specs.{declared.event.Event.Event, declared.event.Event.TheVariants.Ask}
-use Rattle.tl_coherence.specs.{declared.event.Outcome.Outcome, statement.Headline.AreTyped, statement.Headline.IsGiven}
-use Rattle.tl_coherence.specs.{statement.Load.load, statement.Log.IsLog}
-use Rattle.tl_coherence.specs.statement.Draining.{is_delivery, beats_moved, IsDrained}
-use Rattle.tl_coherence.specs.statement.Movable.{next_delivery, drained, with_delivery}
-use Rattle.tl_coherence.proofs.{outstanding.Counted.load-open, links.FromInvariant.matched-given}
-use Rattle.tl_coherence.proofs.{links.FromInvariant.stalls, deliveries.Matching.shadow}
-use Rattle.tl_coherence.proofs.{outstanding.Movement.none-outstanding, bound.RankOfLog.owed, bound.RankOfLog.owed-few}
-use Rattle.tl_coherence.proofs.{outstanding.Progress.counted, outstanding.Progress.moving, links.Stalling.movable-moves}
-use Rattle.tl_coherence.proofs.{queues.QuiescentQueues.next-movable}
-use Rattle.tl_coherence.proofs.bound.DeliveriesDecrease.{moving-owed, still-owed}
+use Rattle.std.proofs.Common.{refl, sym, ◌∙◌, ap, subst, arith, All, if◌then◌else◌, filter}
+use Rattle.tl_coherence.proofs
+use proofs.Imports.{All-head, Link, Channel, Config, limits, one_if, Event, Deliver, Ask, Outcome, is_moving}
+use proofs.Imports.{is_delivery, IsDrained, IsGiven, load, Log, system_after, next_delivery, with_delivery, stepped}
+use Rattle.std.proofs.lemmas.List.Elements.{All-tail}
+use Rattle.tl_coherence.specs.{statement.Draining.beats_moved, statement.Headline.AreTyped, statement.Log.IsLog}
+use Rattle.tl_coherence.specs.{statement.Movable.drained}
+use proofs.outstanding.{Counted.load-open, Movement.none-outstanding, Progress.counted, Progress.moving}
+use proofs.links.{FromInvariant.matched-given, FromInvariant.stalls, Stalling.movable-moves}
+use proofs.deliveries.Matching.{shadow}
+use proofs.bound.{RankOfLog.owed, RankOfLog.owed-few, DeliveriesDecrease.moving-owed, DeliveriesDecrease.still-owed}
+use proofs.queues.QuiescentQueues.{next-movable}
 
 -- ---- what is owed after a log
 

@@ -1,12 +1,11 @@
 -- Which clients' ends an event leaves alone: one at a client all others, one at the manager all.
-use Rattle.tl_coherence.proofs.client.Imports.{Cap, Report, ClientBlock, is_unreleased, after_report, Block, State}
-use Rattle.tl_coherence.proofs.client.Imports.{SourceState, served_block, granted_block, AccessMessages, set, set_at}
-use Rattle.std.proofs.Common.{◌≡◌, ℕ, Bool, true, false, List, refl, sym, ◌∙◌, ap, inl, inr}
-use Rattle.std.{specs.Prelude.◌==◌, specs.Prelude.◌&&◌, specs.Prelude.if◌then◌else◌, proofs.lemmas.Bool.eqb-true}
-use Rattle.tl_coherence.specs.protocol.PhaseSteps.{after_served, after_grant_sent}
-use Rattle.tl_coherence.specs.protocol.Protocol.{served_pair, granted_pair}
-use Rattle.tl_coherence.proofs.client.ClientEnd.{IsSameUse, is_access, IsAside}
-use Rattle.tl_coherence.proofs.queues.Tokens.{set-part, set-other}
+use Rattle.std.proofs.Common.{◌≡◌, ℕ, Bool, true, false, List, refl, sym, ◌∙◌, ap, inl, inr, ◌&&◌, eqb-true, ◌==◌}
+use Rattle.std.proofs.Common.{if◌then◌else◌}
+use Rattle.tl_coherence.proofs
+use proofs.Imports.{Cap, Report, set, set_at, ClientBlock, is_unreleased, after_report, after_served, after_grant_sent}
+use proofs.Imports.{Block, State, SourceState, served_block, granted_block, served_pair, granted_pair, AccessMessages}
+use proofs.client.ClientEnd.{IsSameUse, is_access, IsAside}
+use proofs.queues.Tokens.{set-part, set-other}
 
 -- ---- a block
 

@@ -1,30 +1,19 @@
 -- Which clients' ends are left alone as a message is taken, and as a client is asked: all of that is
 -- what `followed` does.
-use Rattle.tl_coherence.specs.protocol.PhaseSteps.{after_grant_sent, after_grant}
-use Rattle.tl_coherence.proofs.client.Imports.{after_release_taken, Grow, after_acquire, after_release, after_probe}
-use Rattle.tl_coherence.proofs.client.Imports.{after_release_ack, InService, Replied, SourceFree, Acquires, Message}
-use Rattle.tl_coherence.proofs.client.Imports.{Config, Cap, Report, Profile, block_at, Op, Reply, copy_stored}
-use Rattle.tl_coherence.proofs.client.Imports.{whole_grow, cap_probed, AbstractState, with_state, asked, probes_some}
-use Rattle.tl_coherence.proofs.client.Imports.{some_below, access_taken, request_taken, is_unheld, gift, acquire_taken}
-use Rattle.tl_coherence.proofs.client.Imports.{granted_after, last_taken, ack_taken, is_whole, taken_by_client}
-use Rattle.tl_coherence.proofs.client.Imports.{kind_taken, cap_asked, IsInvariant, AcquirePhase, NoAcquire, AcquireOpen}
-use Rattle.tl_coherence.proofs.client.Imports.{is_unprobed, is_granted_data, after_report, Service, Waits, GrantSent}
-use Rattle.tl_coherence.proofs.client.Imports.{Block, SourceState, Asked, packet, on, is_probed, acquire_served}
-use Rattle.tl_coherence.proofs.client.Imports.{acquire_granted, report_taken, cap_sent, report_told, prune_told, Kind}
-use Rattle.tl_coherence.proofs.client.Imports.{Request, Acquire, Probe, ProbeAck, Release, Answer, Grant, ReleaseAck}
-use Rattle.tl_coherence.proofs.client.Imports.{GrantAck, Packet, set}
-use Rattle.tl_coherence.proofs.client.Aside.{aside-block, aside-blocks, pair-aside, others-aside, entry-aside}
-use Rattle.tl_coherence.proofs.client.Aside.{served-aside, granted-aside, set_at-other, uses-moved}
-use Rattle.tl_coherence.specs.protocol.Protocol.{granted_copy, acquire_asked}
-use Rattle.tl_coherence.proofs.queues.Tokens.{set-other}
-use Rattle.std.proofs.Common.{sym, None, ◌≡◌, ℕ, Bool, true, false, not, List, ◌∷◌, Option, Some, length, refl, ◌∙◌, ap}
-use Rattle.std.proofs.Common.{inl}
-use Rattle.std.{proofs.lemmas.Bool.and_from, specs.Prelude.◌==◌, specs.Prelude.◌&&◌, specs.Prelude.if◌then◌else◌}
-use Rattle.tl_client.specs.statement.Send.{access}
-use Rattle.tl_coherence.specs.{protocol.Tokens.shown}
-use Rattle.tl_coherence.specs.protocol.Invariant.{is_asked, serves_of, is_serving}
-use Rattle.tl_coherence.proofs.{client.ClientEnd.is_access, client.ClientEnd.IsAside, queues.Tokens.same_number}
-use Rattle.tl_coherence.proofs.{queues.Tokens.holds-first, protocol.BothParts.releasing-open}
+use Rattle.std.proofs.Common.{sym, None, ◌≡◌, ℕ, Bool, true, false, List, ◌∷◌, Some, refl, ◌∙◌, ap, inl, not, ◌==◌}
+use Rattle.tl_coherence.proofs
+use proofs.Imports.{and_from, Message, Config, Cap, Grow, block_at, Op, Reply, copy_stored, whole_grow, access}
+use proofs.Imports.{cap_asked, IsInvariant, is_asked, serves_of, is_serving, Kind, Request, Probe, Release, Answer}
+use proofs.Imports.{Grant, ReleaseAck, Packet, is_whole, AcquireOpen, after_grant_sent, after_grant}
+use proofs.Imports.{after_release_taken, after_acquire, after_release, after_probe, after_release_ack, after_report}
+use proofs.Imports.{InService, Replied, SourceFree, Acquires, Service, Waits, GrantSent, Block, SourceState, Asked}
+use proofs.Imports.{packet, on, granted_copy, acquire_asked, AbstractState, with_state, asked, taken_by_client}
+use proofs.Imports.{kind_taken, channel_for, cap_sent, is_to_client}
+use proofs.client.Aside.{aside-block, aside-blocks, pair-aside, others-aside, entry-aside, served-aside, granted-aside}
+use proofs.client.Aside.{set_at-other, uses-moved}
+use proofs.queues.Tokens.{set-other, same_number}
+use proofs.client.ClientEnd.{is_access, IsAside}
+use proofs.protocol.{BothParts.releasing-open, FirstTokens.first-shown, FirstTokens.first-request, Events.true-taken}
 
 -- the client's end is left alone
 abbrev pub Leaves : {w : ℕ} → ℕ → AbstractState w → AbstractState w → Type 0
@@ -39,117 +28,66 @@ asked_access : (u : SourceState) → is_asked u ≡ true → is_access u ≡ tru
 asked_access Asked e = refl
 asked_access u e = absurd cc
 
-leaves-request : {w : ℕ} (clients c source tracker : ℕ) (m : Message w) (rest : List Packet) (h : AbstractState w)
-    (d : ℕ) → is_access (h.state.uses c source) ≡ true → Leaves d h (request_taken clients c source m tracker rest h)
-leaves-request {w} clients c source tracker (Message.A m) rest h d access =
-    go (probes_some clients c false (cap_probed m.opcode m.param) (h.state.block (block_at m.address)).pair)
-    (cap_probed m.opcode m.param)
-  where
-    n : ℕ
-    n = block_at m.address
-
-    go : (p : Bool) (o : Option Cap) → Leaves d h (access_taken c source m tracker p o rest h)
-    go true (Some k) = aside-block n refl (served-aside c source tracker false k (h.state.block n)) (λ i. refl)
-        (uses-moved c source (InService n) h.state.uses access refl d) (λ i. refl)
-    go p o = aside-block n refl (pair-aside refl refl refl refl refl refl) (λ i. refl)
-        (uses-moved c source Replied h.state.uses access refl d) (λ i. refl)
-leaves-request clients c source tracker (Message.B m) rest h d access = leaves-none d h
-leaves-request clients c source tracker (Message.C m) rest h d access = leaves-none d h
-leaves-request clients c source tracker (Message.D m) rest h d access = leaves-none d h
-leaves-request clients c source tracker (Message.E m) rest h d access = leaves-none d h
-
-leaves-acquire : {w : ℕ} (clients : ℕ) (p : Profile) (c n tracker : ℕ) (a : AcquirePhase) (rest : List Packet)
-    (h : AbstractState w) (d : ℕ) → Leaves d h (acquire_taken clients p c n a tracker rest h)
-leaves-acquire clients p c n tracker NoAcquire rest h d = leaves-none d h
-leaves-acquire {w} clients p c n tracker (AcquireOpen whole g) rest h d =
-    go (some_below clients (λ i. is_probed c true (cap_asked (AcquireOpen whole g)) (b.pair i).recorded i))
-  where
-    b : Block (List ℕ)
-    b = h.state.block n
-
-    go : (x : Bool) → IsAside d h.mail h.mail h.state (if x then acquire_served c n (b.source c) tracker
-        (cap_asked (AcquireOpen whole g)) rest h.state else acquire_granted c n tracker
-        (is_granted_data whole g (b.pair c).recorded) (gift p whole g (is_unheld clients b.pair)) rest h.state)
-    go true = aside-block n refl (served-aside c (b.source c) tracker true (cap_asked (AcquireOpen whole g)) b)
-        (λ i. refl) (λ i. inl refl) (λ i. refl)
-    go false = aside-block n refl (entry-aside c (after_grant_sent
-        (gift p whole g (is_unheld clients b.pair)) (b.pair c)) refl refl refl refl refl refl refl) (λ i. refl)
-        (λ i. inl refl) (λ i. refl)
-
--- ---- reports
-
 served_access : (n : ℕ) (u : SourceState) → serves_of n u ≡ true → is_access u ≡ true
 served_access n (InService m) e = refl
 served_access n u e = absurd cc
 
-leaves-granted : {w : ℕ} (clients : ℕ) (p : Profile) (c q n : ℕ) (r : Report) (a : AcquirePhase) (rest : List Packet)
-    (h : AbstractState w) (d : ℕ) → Leaves d h (granted_after clients p c q n r a rest h)
-leaves-granted clients p c q n r NoAcquire rest h d = leaves-none d h
-leaves-granted clients p c q n r (AcquireOpen whole g) rest h d =
-    let b : Block (List ℕ) = h.state.block n in
-    aside-block n refl (granted-aside c q r (is_granted_data whole g (b.pair q).recorded)
-    (gift p whole g (is_unheld clients (set c (after_report r (b.pair c)) b.pair))) b) (λ i. refl) (λ i. inl refl)
-    (λ i. refl)
-
-leaves-last : {w : ℕ} (clients : ℕ) (p : Profile) (c n : ℕ) (r : Report) (service : Service) (rest : List Packet)
-    (h : AbstractState w) (d : ℕ) → ((q source : ℕ) (k : Cap) → service ≡ Waits q false source k
-    → is_access (h.state.uses q source) ≡ true) → Leaves d h (last_taken clients p c n r service rest h)
-leaves-last clients p c n r (Waits q true source k) rest h d access =
-    leaves-granted clients p c q n r ((h.state.block n).pair q).acquiring rest h d
-leaves-last clients p c n r (Waits q false source k) rest h d access =
-    aside-block n refl (entry-aside c (after_report r ((h.state.block n).pair c)) refl refl refl refl refl refl refl)
-    (λ i. refl) (uses-moved q source Replied h.state.uses (access q source k refl) refl d) (λ i. refl)
-leaves-last clients p c n r service rest h d access = leaves-none d h
-
-leaves-ack : {w : ℕ} {caching : ℕ → Bool} (clients : ℕ) (p : Profile) (c n : ℕ) (r : Report) (rest : List Packet)
-    (h : AbstractState w) (d : ℕ) → IsInvariant caching h.state → Leaves d h (ack_taken clients p c n r rest h)
-leaves-ack {w} clients p c n r rest h d inv =
-    go (some_below clients (λ i. not (i == c) && not (is_unprobed ((h.state.block n).pair i).probing)))
-  where
-    served : (q source : ℕ) (k : Cap) → (h.state.block n).service ≡ Waits q false source k
-        → is_access (h.state.uses q source) ≡ true
-    served q source k e = served_access n (h.state.uses q source)
-        (inv.named.serves q source n ∙ ap (λ (x : Service). is_serving q source x) e
-        ∙ and_from (q == q) (source == source) (same_number q) (same_number source))
-
-    go : (x : Bool) → Leaves d h (if x then with_state (report_taken c n r rest h.state) h else last_taken clients p c n
-        r (h.state.block n).service rest h)
-    go true = aside-block n refl (entry-aside c (after_report r ((h.state.block n).pair c)) refl refl refl refl refl
-        refl refl) (λ i. refl) (λ i. inl refl) (λ i. refl)
-    go false = leaves-last clients p c n r (h.state.block n).service rest h d served
-
 -- ---- messages that the manager takes
 
 abbrev pub is_for_manager : Kind → Bool
-is_for_manager Request = true
-is_for_manager Acquire = true
-is_for_manager ProbeAck = true
-is_for_manager Release = true
-is_for_manager GrantAck = true
-is_for_manager _ = false
+is_for_manager k = not (is_to_client (channel_for k))
 
 pub leaves-at_manager : {w : ℕ} {caching : ℕ → Bool} (config : Config) (tracker c : ℕ) (k : Kind) (i : ℕ)
     (rest : List Packet) (h : AbstractState w) (d : ℕ) → is_for_manager k ≡ true → IsInvariant caching h.state
     → on k (h.state.link c) ≡ packet k i ∷ rest → Leaves d h (kind_taken config tracker c k i rest h)
-leaves-at_manager config tracker c Request i rest h d for inv first =
-    leaves-request (length config.clients.items) c i tracker (h.mail.request c i) rest h d
-    (asked_access (h.state.uses c i) (holds-first Request (h.state.link c).a rest (packet Request i)
-    (λ j. is_asked (h.state.uses c j)) first refl (inv.requests c)))
-leaves-at_manager config tracker c Acquire n rest h d for inv first =
-    leaves-acquire (length config.clients.items) config.profile c n tracker ((h.state.block n).pair c).acquiring rest h
-    d
-leaves-at_manager {caching} config tracker c ProbeAck n rest h d for inv first =
-    leaves-ack (length config.clients.items) config.profile c n (report_told ((h.state.block n).pair c).probing)
-    rest h d inv
-leaves-at_manager config tracker c Release n rest h d for inv first =
-    let releasing = releasing-open ((h.state.block n).pair c).letting (holds-first Release (h.state.link c).c rest
-    (packet Release n) (λ j. shown Release c (h.state.block j)) first refl (inv.transfers c Release refl)) in
-    aside-block n refl (entry-aside c (after_release_taken (prune_told ((h.state.block n).pair c).letting)
-    ((h.state.block n).pair c)) refl refl refl (sym releasing) refl refl refl) (λ i. refl) (λ i. inl refl)
-    (λ i. refl)
-leaves-at_manager config tracker c GrantAck n rest h d for inv first =
-    aside-block n refl (pair-aside refl refl refl refl refl refl) (λ i. refl) (λ i. inl refl) (λ i. refl)
-leaves-at_manager config tracker c k n rest h d for inv first = absurd cc
+leaves-at_manager {w} config tracker c k i rest h d for inv first =
+    true-taken config tracker c rest h
+    (λ j n. (is_for_manager j ≡ true) × (on j (h.state.link c) ≡ packet j n ∷ rest)) (Leaves d h) k i (record {
+      nothing = λ j n known idle. leaves-none d h;
+      access_answered = λ source m o known from caps none. aside-block (block_at m.address) refl
+          (pair-aside refl refl refl refl refl refl) (λ e. refl)
+          (uses-moved c source Replied h.state.uses (asked source known.1) refl d) (λ e. refl);
+      access_served = λ source m j known from caps some. aside-block (block_at m.address) refl
+          (served-aside c source tracker false j (block (block_at m.address))) (λ e. refl)
+          (uses-moved c source (InService (block_at m.address)) h.state.uses (asked source known.1) refl d) (λ e. refl);
+      acquire_granted = λ n whole g known wants none. aside-block n refl
+          (entry-aside c (after_grant_sent _ ((block n).pair c)) refl refl refl refl refl refl refl) (λ e. refl)
+          (λ e. inl refl) (λ e. refl);
+      acquire_served = λ n whole g known wants some. aside-block n refl
+          (served-aside c ((block n).source c) tracker true (cap_asked (AcquireOpen whole g)) (block n)) (λ e. refl)
+          (λ e. inl refl) (λ e. refl);
+      probe = λ n known. absurd cc;
+      report = λ n known more. aside-block n refl
+          (entry-aside c (after_report _ ((block n).pair c)) refl refl refl refl refl refl refl) (λ e. refl)
+          (λ e. inl refl) (λ e. refl);
+      report_answers = λ n q source j known last waits. aside-block n refl
+          (entry-aside c (after_report _ ((block n).pair c)) refl refl refl refl refl refl refl) (λ e. refl)
+          (uses-moved q source Replied h.state.uses (served n q source j waits) refl d) (λ e. refl);
+      report_grants = λ n q source j whole g known last waits wants. aside-block n refl
+          (granted-aside c q _ _ _ (block n)) (λ e. refl) (λ e. inl refl) (λ e. refl);
+      release = λ n known.
+          let releasing = releasing-open ((block n).pair c).letting (first-shown inv c Release refl known.1) in
+          aside-block n refl (entry-aside c (after_release_taken _ ((block n).pair c)) refl refl refl (sym releasing)
+          refl refl refl) (λ e. refl) (λ e. inl refl) (λ e. refl);
+      answer = λ source known. absurd cc;
+      grant = λ n q x j known sent. absurd cc;
+      release_ack = λ n known. absurd cc;
+      grant_ack = λ n known. aside-block n refl (pair-aside refl refl refl refl refl refl) (λ e. refl) (λ e. inl refl)
+          (λ e. refl);
+    }) (for, first)
+  where
+    block : ℕ → Block (List ℕ)
+    block = h.state.block
+
+    asked : (source : ℕ) → (h.state.link c).a ≡ packet Request source ∷ rest
+        → is_access (h.state.uses c source) ≡ true
+    asked source known = asked_access (h.state.uses c source) (ap is_asked (first-request inv known))
+
+    served : (n q source : ℕ) (j : Cap) → (block n).service ≡ Waits q false source j
+        → is_access (h.state.uses q source) ≡ true
+    served n q source j e = served_access n (h.state.uses q source)
+        (inv.named.serves q source n ∙ ap (λ (x : Service). is_serving q source x) e
+        ∙ and_from (q == q) (source == source) (same_number q) (same_number source))
 
 -- ---- messages that a client takes, as another sees it
 

@@ -1,23 +1,17 @@
 -- What a client is asked for and starts, the protocol allows: its sources are free, and nothing of the block is open.
-use Rattle.tl_coherence.proofs.client.Imports.{Message, MessageA, Config, RequestSource, ReleaseSource, AcquireOf}
-use Rattle.tl_coherence.proofs.client.Imports.{ReleaseOf, Level, Perm, block_at, pending, same_perm, Op, EndConfig}
-use Rattle.tl_coherence.proofs.client.Imports.{Endpoint, held_at, level_of, AbstractState, Log, AcquirePhase, NoAcquire}
-use Rattle.tl_coherence.proofs.client.Imports.{AcquireOpen, State, SourceState, SourceFree, Replied, Acquires}
-use Rattle.tl_coherence.proofs.client.Imports.{AccessMessages, acquire_of, block_message, System, terms_at, Acquire}
-use Rattle.tl_coherence.proofs.client.Imports.{SimulationRelation, is_caching, asked_by, Reply}
-use Rattle.std.proofs.Common.{◌≡◌, ℕ, Bool, true, false, List, Option, Some, None, refl, sym, ◌∙◌, ap}
-use Rattle.std.{specs.Prelude.is_some, proofs.lemmas.Bool.or_parts, proofs.lemmas.Bool.not-false}
-use Rattle.tl_params.specs.statement.Param.{grow_left, prune_left}
-use Rattle.tl_rules.specs.statement.Legality.{has_transfers}
-use Rattle.tl_client.{specs.declared.busy.Busy.Busy, proofs.endpoint.Cases.NotBusy, proofs.endpoint.Cases.asked-cases}
-use Rattle.tl_client.{proofs.pending.Free.least_free-some}
+use Rattle.std.proofs.Common.{◌≡◌, ℕ, Bool, true, false, List, Option, Some, None, refl, sym, ◌∙◌, ap, is_some}
+use Rattle.tl_coherence.proofs
+use proofs.Imports.{or_parts, not-false, Message, MessageA, Config, RequestSource, ReleaseSource, AcquireOf, ReleaseOf}
+use proofs.Imports.{Level, Perm, grow_left, prune_left, same_perm, block_at, pending, has_transfers, NotBusy}
+use proofs.Imports.{asked-cases, least_free-some, Busy, Op, Reply, done, store, free_request, free_release, source_or_0}
+use proofs.Imports.{EndConfig, Endpoint, held_at, level_of, Acquire, AcquirePhase, NoAcquire, AcquireOpen, State}
+use proofs.Imports.{SourceState, SourceFree, Replied, Acquires, AbstractState, AccessMessages, acquire_of}
+use proofs.Imports.{block_message, SimulationRelation, is_caching, asked_by, IsSourced, IsAnswered, IsAnswer, asked_for}
+use proofs.Imports.{block_used, first_of, request_source, Log, System, terms_at}
+use Rattle.tl_coherence.specs.refinement.SimulationRelation.{is_c}
 use Rattle.tl_client.specs.statement.Ask as ask
-use Rattle.tl_client.specs.statement.Ask.{done, store, free_request, free_release, source_or_0}
-use Rattle.tl_coherence.specs.refinement.SimulationRelation.{IsSourced, IsAnswered, IsAnswer, is_c, asked_for}
-use Rattle.tl_coherence.specs.refinement.SimulationRelation.{block_used, first_of, request_source}
-use Rattle.tl_coherence.proofs.{client.ClientDelivered.shadow_of, client.ClientEnd.IsEnd, client.ClientEnd.end-matched}
-use Rattle.tl_coherence.proofs.{client.ClientTakes.terms-are, protocol.FollowKept.IsAskable, protocol.BothParts.calm-is}
-use Rattle.tl_coherence.proofs.{protocol.BothParts.kept-letting}
+use proofs.client.{ClientDelivered.shadow_of, ClientEnd.IsEnd, ClientEnd.end-matched, ClientTakes.terms-are}
+use proofs.protocol.{FollowKept.IsAskable, BothParts.calm-is, BothParts.kept-letting}
 
 -- ---- sources that are free
 
@@ -82,14 +76,9 @@ caches config c l at transfers = absurd cc
 
 pub swap_perms : (p q : Perm) → same_perm p q ≡ same_perm q p
 swap_perms Perm.None Perm.None = refl
-swap_perms Perm.None Perm.Branch = refl
-swap_perms Perm.None Perm.Trunk = refl
 swap_perms Perm.Branch Perm.None = refl
-swap_perms Perm.Branch Perm.Branch = refl
-swap_perms Perm.Branch Perm.Trunk = refl
 swap_perms Perm.Trunk Perm.None = refl
-swap_perms Perm.Trunk Perm.Branch = refl
-swap_perms Perm.Trunk Perm.Trunk = refl
+swap_perms p q = refl
 
 -- ---- what is started
 

@@ -1,35 +1,27 @@
 -- A client's end after it was asked for an operation: what it does is what the protocol does.
-use Rattle.tl_coherence.proofs.client.Imports.{IsWidth, BeatA, Message, MessageC, AcquireOf, ReleaseOf, Perm, sent}
-use Rattle.tl_coherence.proofs.client.Imports.{block_at, is_release, held, pending, same_perm, Op, copy_stored}
-use Rattle.tl_coherence.proofs.client.Imports.{whole_grow, EndConfig, Endpoint, copy_at, held_at, sending, acquisition}
-use Rattle.tl_coherence.proofs.client.Imports.{same_block, AbstractState, ClientBlock, is_unreleased, after_release}
-use Rattle.tl_coherence.proofs.client.Imports.{Block, State, is_wanting, releasing_block, stored_block, AccessMessages}
-use Rattle.tl_coherence.proofs.client.Imports.{asked_by, is_whole, Reply}
 use Rattle.std.proofs.Common.{◌≡◌, subst, ℕ, Bool, true, false, not, ◌&&◌, cond, List, Option, Some, None, refl, sym}
-use Rattle.std.proofs.Common.{◌∙◌, ap, ◌⊎◌, inl, inr}
-use Rattle.std.specs.Prelude.{◌==◌, unwrap_or}
-use Rattle.std.proofs.lemmas.Bool.{cases_eq, eqb-true, ne_eqb, or_parts, not-false}
-use Rattle.tl_beat.{specs.declared.opcode.OpA.OpA, specs.declared.opcode.OpC.OpC}
-use Rattle.tl_params.specs.declared.param.Prune.{Prune}
-use Rattle.tl_params.specs.statement.Param.{prune_code, prune_left, prune_right}
-use Rattle.tl_client.{specs.declared.busy.Busy.Busy, specs.statement.EndpointInvariant.holds}
-use Rattle.tl_client.{proofs.pending.Accounted.accounted-asked, proofs.endpoint.Cases.NotBusy}
-use Rattle.tl_client.{proofs.endpoint.Cases.asked-cases}
+use Rattle.std.proofs.Common.{◌∙◌, ap, ◌⊎◌, inl, inr, eqb-true, ne_eqb, ◌==◌, unwrap_or}
+use Rattle.tl_coherence.proofs
+use proofs.Imports.{cases_eq, or_parts, not-false, BeatA, OpA, OpC, IsWidth, Message, MessageC, AcquireOf, ReleaseOf}
+use proofs.Imports.{Prune, Perm, prune_code, prune_left, prune_right, sent, same_perm, block_at, is_release, held}
+use proofs.Imports.{pending, kept_copies, kept_closed, NotBusy, asked-cases, same_block, swapped, kept_past}
+use proofs.Imports.{kept_waiting, kept-asked, Busy, Op, Reply, copy_stored, whole_grow, done, store, free_request}
+use proofs.Imports.{free_release, source_or_0, EndConfig, Endpoint, copy_at, held_at, sending, zeros, holds}
+use proofs.Imports.{acquisition, sourced, about, release, AreNamed, ClientBlock, is_unreleased, is_whole, after_release}
+use proofs.Imports.{Block, State, releasing_block, stored_block, release_asked, block_stored, is_wanting, AbstractState}
+use proofs.Imports.{AccessMessages, asked_by}
+use Rattle.tl_client.{proofs.endpoint.HeldAfter.held-release, proofs.pending.Accounted.accounted-asked}
+use Rattle.tl_client.{proofs.pending.KeptAsked.no_acquire, proofs.pending.KeptAsked.falls_to, specs.statement.Ask.load}
+use Rattle.tl_client.{specs.statement.Ask.is_access_of, specs.statement.Endpoint.with_copy}
+use Rattle.tl_client.{specs.statement.Endpoint.with_waiting, specs.statement.Endpoint.kept_for}
 use Rattle.tl_client.specs.statement.Ask as ask
-use Rattle.tl_client.specs.statement.Ask.{done, load, store, free_request, free_release, source_or_0, is_access_of}
-use Rattle.tl_client.specs.statement.Endpoint.{zeros, with_copy, with_waiting, kept_for}
-use Rattle.tl_client.specs.statement.Send.{sourced, about, release}
-use Rattle.tl_client.proofs.endpoint.AfterAsked.{kept_copies, kept_closed}
-use Rattle.tl_client.proofs.pending.KeptAsked.{kept_waiting, no_acquire, falls_to, kept-asked}
-use Rattle.tl_client.proofs.endpoint.HeldAfter.{swapped, held-release, kept_past}
 use Rattle.tl_coherence.specs.refinement.AbstractStep as world
-use Rattle.tl_coherence.specs.protocol.Invariant.{AreNamed}
-use Rattle.tl_coherence.specs.protocol.Protocol.{release_asked, block_stored}
-use Rattle.tl_coherence.proofs.{client.Aside.set_at-else, queues.Perms.held-some}
-use Rattle.tl_coherence.proofs.client.ClientEnd.{IsWellKept, IsEnd, IsSame, known-same, opened-same, asks-same, column}
-use Rattle.tl_coherence.proofs.client.ClientSent.{IsReleased, known-released, opened-released}
-use Rattle.tl_coherence.proofs.queues.Tokens.{same_number, set-same, set-other, set-part, set_at-same}
-use Rattle.tl_coherence.proofs.client.ClientRequests.{chosen, passed, end-access_asked, end-acquire_asked}
+use proofs.client.{Aside.set_at-else, ClientSent.IsReleased, ClientSent.known-released, ClientSent.opened-released}
+use proofs.client.{ClientRequests.chosen, ClientRequests.passed, ClientRequests.end-access_asked}
+use proofs.client.{ClientRequests.end-acquire_asked}
+use proofs.queues.{Perms.held-some, Tokens.same_number, Tokens.set-same, Tokens.set-other, Tokens.set-part}
+use proofs.queues.{Tokens.set_at-same}
+use proofs.client.ClientEnd.{IsWellKept, IsEnd, IsSame, known-same, opened-same, asks-same, column}
 
 -- ---- a Release
 

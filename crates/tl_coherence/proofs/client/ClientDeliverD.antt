@@ -1,19 +1,17 @@
 -- A client's end after it has taken a beat of channel D: what it knows is what the protocol says then.
-use Rattle.tl_coherence.proofs.client.Imports.{IsWidth, BeatA, BeatC, BeatD, History, unfinished, beats-positive}
-use Rattle.tl_coherence.proofs.client.Imports.{RequestSource, ReleaseSource, AcquireOf, ReleaseOf, Perm, sent, block_at}
-use Rattle.tl_coherence.proofs.client.Imports.{ends, is_grant, is_release_ack, held, pending, request_of, release_of}
-use Rattle.tl_coherence.proofs.client.Imports.{pending-whole, release_of-whole, Endpoint, open_beat, ClientRelation}
-use Rattle.tl_coherence.proofs.client.Imports.{is_unreleased, State, is_wanting, OpenSourceRelation, Beat}
 use Rattle.std.proofs.Common.{◌≡◌, ℕ, Bool, true, false, not, ◌&&◌, cond, List, [], ◌∷◌, Option, Some, None, refl, sym}
-use Rattle.std.proofs.Common.{◌∙◌, ap}
-use Rattle.std.{proofs.lemmas.Option.same_Some, specs.Prelude.◌==◌, specs.Prelude.is_some, specs.Prelude.option_map}
-use Rattle.tl_beat.specs.declared.channel.Channel.{Channel}
-use Rattle.tl_burst.{specs.declared.message.Message.TheVariants.E, specs.declared.message.MessageE.MessageE}
-use Rattle.tl_rules.specs.statement.History.{grants, releases, capped}
-use Rattle.tl_rules.{proofs.Handed.held-whole, proofs.Sent.pending-closed}
-use Rattle.tl_client.{proofs.pending.AccountedResponse.release_of-d, proofs.endpoint.HeldAfter.held-beat_d}
-use Rattle.tl_client.proofs.pending.Opens.{acquire_of-d, open_beat-d, open_beat-e, unfinished-d}
-use Rattle.tl_coherence.proofs.client.ClientEnd.{IsWellKept, known-kept}
+use Rattle.std.proofs.Common.{◌∙◌, ap, ◌==◌, is_some, option_map}
+use Rattle.tl_coherence.proofs
+use proofs.Imports.{same_Some, Beat, BeatA, BeatC, BeatD, Channel, IsWidth, beats-positive, E, MessageE, History}
+use proofs.Imports.{unfinished, RequestSource, ReleaseSource, AcquireOf, ReleaseOf, Perm, pending-whole}
+use proofs.Imports.{release_of-whole, held-whole, sent, block_at, ends, is_grant, is_release_ack, held, pending}
+use proofs.Imports.{request_of, release_of, grants, capped, release_of-d, Endpoint, open_beat, is_unreleased, State}
+use proofs.Imports.{is_wanting, ClientRelation, OpenSourceRelation}
+use Rattle.tl_rules.{proofs.Sent.pending-closed, specs.statement.History.releases}
+use Rattle.tl_client.{proofs.endpoint.HeldAfter.held-beat_d, proofs.pending.Opens.acquire_of-d}
+use Rattle.tl_client.{proofs.pending.Opens.open_beat-d, proofs.pending.Opens.open_beat-e}
+use Rattle.tl_client.{proofs.pending.Opens.unfinished-d}
+use proofs.client.ClientEnd.{IsWellKept, known-kept}
 
 -- ---- what a beat says
 

@@ -1,30 +1,21 @@
 -- A beat of channel D that is delivered to a client is taken, and its end is then that of the protocol.
-use Rattle.tl_coherence.proofs.client.Imports.{IsWidth, Beat, BeatA, BeatD, OpD, Message, MessageA, MessageD}
-use Rattle.tl_coherence.proofs.client.Imports.{unfinished, completes, Config, Cap, Perm, ends, is_grant, is_release_ack}
-use Rattle.tl_coherence.proofs.client.Imports.{request_of, same_perm, Finish, EndConfig, Endpoint, with_past, Offered}
-use Rattle.tl_coherence.proofs.client.Imports.{offered, taken, ended, responded, AbstractState, is_whole}
-use Rattle.tl_coherence.proofs.client.Imports.{taken_by_client, kind_taken, packet_taken, Log, AcquirePhase}
-use Rattle.tl_coherence.proofs.client.Imports.{AcquireOpen, Service, GrantSent, State, packet, is_on, grant_taken}
-use Rattle.tl_coherence.proofs.client.Imports.{AccessMessages, block_message, System, terms_at, Kind, Answer, Grant}
-use Rattle.tl_coherence.proofs.client.Imports.{ReleaseAck, Packet, SimulationRelation, gives_asked, asked_by}
-use Rattle.tl_coherence.proofs.client.Imports.{is_caching}
 use Rattle.std.proofs.Common.{◌≡◌, subst, ℕ, ◌+◌, ◌*◌, Bool, true, false, ◌||◌, List, ◌∷◌, Option, Some, length, refl}
-use Rattle.std.proofs.Common.{sym, ◌∙◌, ap, arith, lit<}
-use Rattle.std.{specs.Prelude.map, proofs.lemmas.Bool.eqb-true, proofs.lemmas.List.drop_all, proofs.lemmas.Nat.pow_pos}
-use Rattle.tl_beat.specs.declared.channel.Channel.{Channel}
-use Rattle.tl_burst.specs.statement.Burst.{d_beat_of, beats_of, burst_of, data_beats, IsBlankAfter, IsZeroFrom}
-use Rattle.tl_rules.{specs.statement.Admission.payload_of, proofs.Payload.payload-d, proofs.Widths.whole_block}
-use Rattle.tl_client.{specs.statement.Offer.granted, proofs.pending.Accounted.accounted-offered}
-use Rattle.tl_client.{proofs.pending.KeptOffered.kept-offered}
-use Rattle.tl_coherence.specs.refinement.PacketMessages.{message_of, message_of_kind}
-use Rattle.tl_coherence.specs.refinement.SimulationRelation.{IsGivenAsked}
-use Rattle.tl_coherence.proofs.{queues.Carried.IsNext, client.ClientAsked.IsEndOf, queues.FirstToken.IsFirst}
-use Rattle.tl_coherence.proofs.{queues.FirstToken.first-token, queues.Codes.access_kind}
-use Rattle.tl_coherence.proofs.client.ClientEnd.{IsWellKept, IsEnd, end-matched}
-use Rattle.tl_coherence.proofs.client.ClientTaken.{end-part, end-answer_taken, end-release_ack_taken, end-grant_taken}
-use Rattle.tl_coherence.proofs.client.ClientTakes.{answer-first, IsFitting, fitting, grant-first, ack-first, taken-d}
-use Rattle.tl_coherence.proofs.protocol.HeadOfD.{answer-due, IsGrantDue, grant-due, grant_message, grant-rendered}
-use Rattle.tl_coherence.proofs.protocol.HeadOfD.{ack-due, ack_message}
+use Rattle.std.proofs.Common.{sym, ◌∙◌, ap, arith, lit<, eqb-true, pow_pos, map}
+use Rattle.tl_coherence.proofs
+use proofs.Imports.{drop_all, Beat, BeatA, BeatD, Channel, OpD, IsWidth, Message, MessageA, MessageD, d_beat_of}
+use proofs.Imports.{beats_of, burst_of, data_beats, IsBlankAfter, IsZeroFrom, unfinished, completes, Config, Cap, Perm}
+use proofs.Imports.{payload-d, whole_block, payload_of, same_perm, ends, is_grant, is_release_ack, request_of}
+use proofs.Imports.{accounted-offered, kept-offered, Finish, EndConfig, Endpoint, with_past, Offered, offered, taken}
+use proofs.Imports.{ended, responded, granted, Kind, Answer, Grant, ReleaseAck, Packet, is_whole, AcquirePhase}
+use proofs.Imports.{AcquireOpen, Service, GrantSent, State, packet, is_on, grant_taken, AbstractState, taken_by_client}
+use proofs.Imports.{kind_taken, packet_taken, AccessMessages, block_message, message_of, message_of_kind}
+use proofs.Imports.{SimulationRelation, gives_asked, asked_by, is_caching, IsGivenAsked, Log, System, terms_at}
+use proofs.queues.{Carried.IsNext, FirstToken.IsFirst, FirstToken.first-token, Codes.access_kind}
+use proofs.client.{ClientAsked.IsEndOf, ClientEnd.IsWellKept, ClientEnd.IsEnd, ClientEnd.end-matched}
+use proofs.client.{ClientTaken.end-part, ClientTaken.end-answer_taken, ClientTaken.end-release_ack_taken}
+use proofs.client.{ClientTaken.end-grant_taken, ClientTakes.answer-first, ClientTakes.IsFitting, ClientTakes.fitting}
+use proofs.client.{ClientTakes.grant-first, ClientTakes.ack-first, ClientTakes.taken-d}
+use proofs.protocol.HeadOfD.{answer-due, IsGrantDue, grant-due, grant_message, grant-rendered, ack-due, ack_message}
 
 -- ---- what a client does at a beat of channel D
 

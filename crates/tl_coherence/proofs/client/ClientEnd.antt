@@ -1,22 +1,16 @@
 -- A client's end of its link beside the protocol, in one record; and what of the protocol it depends on.
-use Rattle.tl_coherence.proofs.client.Imports.{Beat, BeatA, Message, MessageA, a_beat_of, History, unfinished, Config}
-use Rattle.tl_coherence.proofs.client.Imports.{Grow, RequestSource, AcquireOf, ReleaseOf, is_grant, held, pending}
-use Rattle.tl_coherence.proofs.client.Imports.{request_of, same_perm, Endpoint, open_beat, acquisition, acquire_opcode}
-use Rattle.tl_coherence.proofs.client.Imports.{ClientRelation, Log, AcquireOpen, is_unreleased, Block, State}
-use Rattle.tl_coherence.proofs.client.Imports.{SourceState, SourceFree, Asked, InService, Replied, Acquires, is_wanting}
-use Rattle.tl_coherence.proofs.client.Imports.{AccessMessages, acquire_of, block_message, OpenSourceRelation, System}
-use Rattle.tl_coherence.proofs.client.Imports.{Acquire, set, SimulationRelation, asked_by, is_whole, Perm}
 use Rattle.std.proofs.Common.{◌≡◌, ℕ, Bool, true, false, not, cond, List, [], ◌∷◌, Option, Some, None, refl, sym, ◌∙◌}
-use Rattle.std.proofs.Common.{ap, ◌⊎◌, inl, inr}
-use Rattle.std.specs.Prelude.{◌&&◌, ◌==◌, if◌then◌else◌}
-use Rattle.tl_beat.specs.declared.channel.Channel.{Channel}
-use Rattle.tl_rules.specs.statement.History.{asks_for}
+use Rattle.std.proofs.Common.{ap, ◌⊎◌, inl, inr, ◌&&◌, ◌==◌, if◌then◌else◌}
+use Rattle.tl_coherence.proofs
+use proofs.Imports.{Beat, BeatA, Channel, Message, MessageA, a_beat_of, History, unfinished, Config, RequestSource}
+use proofs.Imports.{AcquireOf, ReleaseOf, Grow, Perm, same_perm, is_grant, held, pending, request_of, asks_for}
+use proofs.Imports.{Endpoint, is_acquire_beat, open_beat, acquisition, Acquire, set, AcquireOpen, is_unreleased}
+use proofs.Imports.{is_whole, Block, State, SourceState, SourceFree, Asked, InService, Replied, Acquires, is_wanting}
+use proofs.Imports.{acquire_opcode, ClientRelation, comes_granting, AccessMessages, acquire_of, block_message}
+use proofs.Imports.{SimulationRelation, asked_by, asked_for, first_of, block_used, OpenSourceRelation, Log, System}
+use Rattle.tl_client.{specs.laws.Accounted.IsAccounted, specs.statement.EndpointInvariant.IsGranting}
 use Rattle.tl_client.specs.laws.Accounted as accounted
-use Rattle.tl_client.specs.laws.Accounted.{IsAccounted}
 use Rattle.tl_client.specs.statement.EndpointInvariant as client
-use Rattle.tl_client.specs.statement.EndpointInvariant.{IsGranting, is_acquire_beat}
-use Rattle.tl_coherence.specs.refinement.ClientRelation.{comes_granting}
-use Rattle.tl_coherence.specs.refinement.SimulationRelation.{asked_for, first_of, block_used}
 
 -- ---- one client's end
 

@@ -1,19 +1,15 @@
 -- A client's end after it has taken a Probe, beside the event of the protocol.
-use Rattle.tl_coherence.proofs.client.Imports.{IsWidth, Beat, Cap, Perm, same_perm, Endpoint, copy_at, held_at, sending}
-use Rattle.tl_coherence.proofs.client.Imports.{with_past, probed, ClientBlock, after_probe, Block, State, probed_block}
-use Rattle.tl_coherence.proofs.client.Imports.{probe_taken, AccessMessages, probe_beat, Packet, asked_by, is_whole}
 use Rattle.std.proofs.Common.{◌≡◌, ℕ, Bool, true, false, not, ◌&&◌, cond, List, ◌∷◌, Some, None, refl, sym, ◌∙◌, ap}
-use Rattle.std.proofs.Common.{inl}
-use Rattle.std.{specs.Prelude.◌==◌, proofs.lemmas.Bool.eqb-true}
-use Rattle.tl_beat.{specs.declared.opcode.OpB.OpB}
-use Rattle.tl_params.specs.statement.Param.{report_right}
-use Rattle.tl_client.{specs.statement.EndpointInvariant.holds, specs.statement.Offer.report_for}
-use Rattle.tl_client.{specs.statement.Send.probe_ack, proofs.pending.KeptAsked.kept_waiting}
-use Rattle.tl_client.{proofs.pending.KeptOffered.reports_held}
-use Rattle.tl_client.proofs.endpoint.AfterAsked.{kept_copies, kept_closed}
-use Rattle.tl_coherence.proofs.client.ClientEnd.{IsWellKept, IsEnd, IsSame, known-same, opened-same, asks-same, column}
-use Rattle.tl_coherence.proofs.client.KnownProbed.{report_is, known-probed, opened-probed}
-use Rattle.tl_coherence.proofs.{queues.Tokens.set-same, queues.Tokens.set-part, queues.Perms.held-some}
+use Rattle.std.proofs.Common.{inl, eqb-true, ◌==◌}
+use Rattle.tl_coherence.proofs
+use proofs.Imports.{Beat, OpB, IsWidth, Cap, Perm, report_right, same_perm, kept_copies, kept_closed, kept_waiting}
+use proofs.Imports.{Endpoint, copy_at, held_at, sending, with_past, holds, report_for, probe_ack, Packet, ClientBlock}
+use proofs.Imports.{is_whole, after_probe, Block, State, probed_block, probe_taken, AccessMessages, probe_beat}
+use proofs.Imports.{asked_by}
+use Rattle.tl_client.{proofs.pending.KeptOffered.reports_held, specs.statement.Offer.probed}
+use proofs.client.ClientEnd.{IsWellKept, IsEnd, IsSame, known-same, opened-same, asks-same, column}
+use proofs.client.KnownProbed.{report_is, known-probed, opened-probed}
+use proofs.queues.{Tokens.set-same, Tokens.set-part, Perms.held-some}
 
 pub end-probe_taken : {w : ℕ} {c : ℕ} (n : ℕ) (k : Cap) (rest : List Packet) (mail : AccessMessages w)
     {s : State (List ℕ)} {e : Endpoint w} → IsWidth w → IsWellKept (probed (probe_beat n k) n (held_at e n) e).after

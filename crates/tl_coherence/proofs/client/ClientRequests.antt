@@ -1,20 +1,16 @@
 -- A client's end after it was asked for an access or an Acquire.
-use Rattle.tl_coherence.proofs.client.Imports.{IsWidth, BeatA, MessageA, a_beat_of, AcquireOf, Grow, Perm, block_at}
-use Rattle.tl_coherence.proofs.client.Imports.{is_acquire, pending, same_perm, Endpoint, sending, acquisition}
-use Rattle.tl_coherence.proofs.client.Imports.{same_block, acquire_opcode, ClientBlock, AcquireOpen, is_unreleased}
-use Rattle.tl_coherence.proofs.client.Imports.{after_acquire, Block, State, Asked, Acquires, is_wanting}
-use Rattle.tl_coherence.proofs.client.Imports.{acquiring_block, AccessMessages, set_at, asked_by, is_whole, Message}
 use Rattle.std.proofs.Common.{◌≡◌, ℕ, Bool, true, false, ◌&&◌, cond, List, Option, Some, refl, sym, ◌∙◌, ap, ◌⊎◌, inl}
-use Rattle.std.proofs.Common.{inr}
-use Rattle.std.{specs.Prelude.◌==◌, specs.Prelude.◌*◌, proofs.lemmas.Bool.cases_eq, proofs.lemmas.Bool.ne_eqb}
-use Rattle.tl_client.proofs.endpoint.HeldAfter.{swapped}
-use Rattle.tl_coherence.specs.protocol.Invariant.{acquires_of, AreNamed}
-use Rattle.tl_coherence.specs.protocol.Protocol.{access_asked, acquire_asked}
-use Rattle.tl_coherence.proofs.{client.Aside.set_at-else, queues.Codes.acquires-so}
-use Rattle.tl_coherence.proofs.client.ClientEnd.{is_access, IsWellKept, IsEnd, asks-same, asks-access, asks-acquire}
-use Rattle.tl_coherence.proofs.client.ClientEnd.{column}
-use Rattle.tl_coherence.proofs.client.ClientSent.{IsRequested, known-requested, opened-requested}
-use Rattle.tl_coherence.proofs.queues.Tokens.{same_number, set-same, set-other, set-part, set_at-same}
+use Rattle.std.proofs.Common.{inr, ◌*◌, ne_eqb, ◌==◌}
+use Rattle.tl_coherence.proofs
+use proofs.Imports.{cases_eq, BeatA, IsWidth, Message, MessageA, a_beat_of, AcquireOf, Grow, Perm, same_perm, block_at}
+use proofs.Imports.{is_acquire, pending, same_block, swapped, Endpoint, sending, acquisition, acquires_of, AreNamed}
+use proofs.Imports.{set_at, ClientBlock, AcquireOpen, is_unreleased, is_whole, after_acquire, Block, State, Asked}
+use proofs.Imports.{Acquires, acquiring_block, access_asked, acquire_asked, is_wanting, acquire_opcode, AccessMessages}
+use proofs.Imports.{asked_by}
+use proofs.client.{Aside.set_at-else, ClientSent.IsRequested, ClientSent.known-requested, ClientSent.opened-requested}
+use proofs.queues.{Codes.acquires-so, Tokens.same_number, Tokens.set-same, Tokens.set-other, Tokens.set-part}
+use proofs.queues.{Tokens.set_at-same}
+use proofs.client.ClientEnd.{is_access, IsWellKept, IsEnd, asks-same, asks-access, asks-acquire, column}
 
 -- a condition that is known
 pub chosen : {X : Type 0} (b : Bool) (x y : X) → b ≡ true → cond b x y ≡ x

@@ -1,17 +1,15 @@
 -- A client's end after it has handed a request or a Release out: what it knows is what the protocol says then.
-use Rattle.tl_coherence.proofs.client.Imports.{IsWidth, BeatA, BeatC, MessageA, MessageC, a_beat_of, History}
-use Rattle.tl_coherence.proofs.client.Imports.{unfinished, beats-positive, RequestSource, ReleaseSource, AcquireOf}
-use Rattle.tl_coherence.proofs.client.Imports.{ReleaseOf, Perm, sent, block_at, is_acquire, is_release, held, pending}
-use Rattle.tl_coherence.proofs.client.Imports.{release_of, pending-whole, release_of-whole, Endpoint, open_beat}
-use Rattle.tl_coherence.proofs.client.Imports.{ClientRelation, is_unreleased, State, is_wanting, OpenSourceRelation}
-use Rattle.std.proofs.Common.{◌≡◌, ℕ, Bool, true, false, not, cond, List, [], Option, Some, refl, sym, ◌∙◌, ap}
-use Rattle.std.specs.Prelude.{◌==◌, ◌&&◌, is_some, option_map}
-use Rattle.tl_beat.specs.declared.channel.Channel.{Channel}
-use Rattle.tl_burst.specs.declared.message.Message.TheVariants.{A, C}
-use Rattle.tl_burst.specs.statement.Burst.{c_beat_of}
-use Rattle.tl_rules.proofs.Handed.{held-whole}
-use Rattle.tl_client.proofs.pending.Opens.{open_beat-a, open_beat-c}
-use Rattle.tl_coherence.proofs.client.ClientEnd.{IsWellKept, known-kept}
+use Rattle.std.proofs.Common.{◌≡◌, ℕ, Bool, true, false, not, cond, List, [], Option, Some, refl, sym, ◌∙◌, ap, ◌&&◌}
+use Rattle.std.proofs.Common.{◌==◌, is_some, option_map}
+use Rattle.tl_coherence.proofs
+use proofs.Imports.{BeatA, BeatC, Channel, IsWidth, beats-positive, A, MessageA, MessageC, a_beat_of, c_beat_of}
+use proofs.Imports.{History, unfinished, RequestSource, ReleaseSource, AcquireOf, ReleaseOf, Perm, pending-whole}
+use proofs.Imports.{release_of-whole, held-whole, sent, block_at, is_acquire, is_release, held, pending, release_of}
+use proofs.Imports.{open_beat-c, Endpoint, open_beat, is_unreleased, State, is_wanting, ClientRelation}
+use proofs.Imports.{OpenSourceRelation}
+use Rattle.tl_burst.specs.declared.message.Message.TheVariants.{C}
+use Rattle.tl_client.proofs.pending.Opens.{open_beat-a}
+use proofs.client.ClientEnd.{IsWellKept, known-kept}
 
 -- ---- a request
 

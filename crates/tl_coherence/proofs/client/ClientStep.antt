@@ -1,32 +1,22 @@
 -- Clients' ends after every event: each is that of the protocol as it follows.
-use Rattle.tl_coherence.proofs.client.Imports.{IsWidth, Beat, Message, MessageA, unfinished, completes, Config, Rule}
-use Rattle.tl_coherence.proofs.client.Imports.{EndConfig, Endpoint, Offered, offered, taken, AbstractState}
-use Rattle.tl_coherence.proofs.client.Imports.{packet_taken, Log, is_unreleased, State, AccessMessages, System}
-use Rattle.tl_coherence.proofs.client.Imports.{terms_at, SimulationRelation, is_caching}
 use Rattle.std.proofs.Common.{◌≡◌, subst, ℕ, Bool, true, false, ◌&&◌, List, [], ◌∷◌, Option, Some, None, refl, sym, ◌∙◌}
-use Rattle.std.proofs.Common.{ap, ◌⊎◌, inl, inr}
-use Rattle.std.{specs.Prelude.if◌then◌else◌, specs.Prelude.Result, specs.Prelude.Ok, proofs.lemmas.Bool.cases_eq}
-use Rattle.tl_beat.{specs.declared.beat.Link.Link, specs.declared.channel.Channel.Channel}
-use Rattle.tl_client.{specs.declared.verdict.Verdict.Verdict, specs.laws.After.is_refused}
-use Rattle.tl_client.{specs.statement.Offer.is_stalled, proofs.endpoint.Stalls.taken_now, proofs.messages.Calls.kept_up}
-use Rattle.tl_manager.specs.statement.Service.{services, least_untaken, trackers_of}
+use Rattle.std.proofs.Common.{ap, ◌⊎◌, inl, inr, if◌then◌else◌, Result, Ok}
+use Rattle.tl_coherence.proofs
+use proofs.Imports.{cases_eq, Beat, Link, Channel, IsWidth, Message, MessageA, unfinished, completes, Config, Rule}
+use proofs.Imports.{kept_up, Verdict, is_refused, EndConfig, Endpoint, Offered, offered, taken, is_stalled, services}
+use proofs.Imports.{least_untaken, trackers_of, Event, Ask, Deliver, is_unreleased, State, packets_on, AbstractState}
+use proofs.Imports.{packet_taken, abstract_step, AccessMessages, SimulationRelation, is_caching, receiver, is_moving}
+use proofs.Imports.{Log, stepped, stepped_at, handed_by, judged, client_took, is_to_client, client_of, System, terms_at}
+use proofs.Imports.{with_client, with_channel}
+use Rattle.tl_client.proofs.endpoint.Stalls.{taken_now}
+use Rattle.tl_coherence.specs.refinement.AbstractStep.{is_last}
 use Rattle.tl_manager.specs.statement.Offer as manager
-use Rattle.tl_coherence.specs.{declared.event.Event.Event, statement.Draining.is_moving}
-use Rattle.tl_coherence.specs.{refinement.AbstractStep.abstract_step, refinement.AbstractStep.is_last}
-use Rattle.tl_coherence.specs.{statement.Delivery.receiver, protocol.Protocol.packets_on, statement.System.with_client}
-use Rattle.tl_coherence.specs.{statement.System.with_channel}
-use Rattle.tl_coherence.specs.declared.event.Event.TheVariants.{Ask, Deliver}
 use Rattle.tl_coherence.specs.statement.Step as step
-use Rattle.tl_coherence.specs.statement.Step.{stepped, stepped_at, handed_by, judged, client_took, is_to_client}
-use Rattle.tl_coherence.specs.statement.Step.{client_of}
-use Rattle.tl_coherence.proofs.client.AsideAll.{Leaves, leaves-none, leaves-at_client}
-use Rattle.tl_coherence.proofs.{client.ClientAsked.IsEndOf, client.ClientDelivered.shadow_of}
-use Rattle.tl_coherence.proofs.{client.ClientDelivered.delivered-d, client.ClientEnd.end-matched}
-use Rattle.tl_coherence.proofs.{queues.FirstToken.IsFirst, queues.FirstToken.first-token}
-use Rattle.tl_coherence.proofs.{client.ProbeDelivered.IsProbed, client.ProbeDelivered.delivered-b}
-use Rattle.tl_coherence.proofs.{queues.Steps.clients-with_messages}
-use Rattle.tl_coherence.proofs.client.ManagerStep.{AreEnds, left_alone, own_client, other_client, asked_ends}
-use Rattle.tl_coherence.proofs.client.ManagerStep.{client_kind, manager_ends}
+use proofs.client.{AsideAll.Leaves, AsideAll.leaves-none, AsideAll.leaves-at_client, ClientAsked.IsEndOf}
+use proofs.client.{ClientDelivered.shadow_of, ClientDelivered.delivered-d, ClientEnd.end-matched}
+use proofs.client.{ProbeDelivered.IsProbed, ProbeDelivered.delivered-b}
+use proofs.queues.{FirstToken.IsFirst, FirstToken.first-token, Steps.clients-with_messages}
+use proofs.client.ManagerStep.{AreEnds, left_alone, own_client, other_client, asked_ends, client_kind, manager_ends}
 
 -- ---- a client takes a beat
 
@@ -151,15 +141,8 @@ delivered_ends {config} {log} {mail} {request} {s} {sys} terms link Channel.B k 
     b_ends terms link k x queue width h at beats
 delivered_ends {config} {log} {mail} {request} {s} {sys} terms link Channel.D k (x ∷ queue) width h at beats =
     d_ends terms link k x queue width h at beats
-delivered_ends {config} {log} {mail} {request} {s} {sys} terms link Channel.A k (x ∷ queue) width h at beats =
-    manager_ends link Channel.A k x queue
-    (manager.offered config (record { 0 = link.0 }) Channel.A x sys.manager) width h beats refl
-delivered_ends {config} {log} {mail} {request} {s} {sys} terms link Channel.C k (x ∷ queue) width h at beats =
-    manager_ends link Channel.C k x queue
-    (manager.offered config (record { 0 = link.0 }) Channel.C x sys.manager) width h beats refl
-delivered_ends {config} {log} {mail} {request} {s} {sys} terms link Channel.E k (x ∷ queue) width h at beats =
-    manager_ends link Channel.E k x queue
-    (manager.offered config (record { 0 = link.0 }) Channel.E x sys.manager) width h beats refl
+delivered_ends {config} {log} {mail} {request} {s} {sys} terms link ch k (x ∷ queue) width h at beats =
+    manager_ends link ch k x queue (manager.offered config (record { 0 = link.0 }) ch x sys.manager) width h beats refl
 
 event_ends : {w : ℕ} {config : Config} {log : Log w} {mail : AccessMessages w} {request : ℕ → MessageA w}
     {s : State (List ℕ)} {sys : System w} (event : Event w) (o : Option EndConfig) (k : ℕ) → IsWidth w

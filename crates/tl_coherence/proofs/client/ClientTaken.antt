@@ -1,33 +1,23 @@
 -- A client's end after it has taken a beat of channel D, beside the event of the protocol.
-use Rattle.tl_coherence.proofs.client.Imports.{IsWidth, BeatA, BeatD, OpD, a_beat_of, History, Cap, Grow, Perm, sent}
-use Rattle.tl_coherence.proofs.client.Imports.{block_at, ends, is_grant, is_release_ack, request_of, same_perm, Finish}
-use Rattle.tl_coherence.proofs.client.Imports.{Endpoint, with_past, sending, ended, responded, open_beat, acquisition}
-use Rattle.tl_coherence.proofs.client.Imports.{same_block, grant_opcode, acquire_opcode, ClientBlock, AcquireOpen}
-use Rattle.tl_coherence.proofs.client.Imports.{is_unreleased, after_release_ack, Block, State, SourceFree, Acquires}
-use Rattle.tl_coherence.proofs.client.Imports.{is_wanting, taken_block, grant_taken, let_go_block, AccessMessages}
-use Rattle.tl_coherence.proofs.client.Imports.{Packet, asked_by, is_whole, Beat}
 use Rattle.std.proofs.Common.{◌≡◌, subst, ℕ, Bool, true, false, not, ◌&&◌, cond, List, ◌∷◌, Option, Some, None, refl}
-use Rattle.std.proofs.Common.{sym, ◌∙◌, ap, ◌⊎◌, inl, inr}
-use Rattle.std.{specs.Prelude.◌==◌, specs.Prelude.◌*◌, proofs.Math.Bool.and-false}
-use Rattle.std.proofs.lemmas.Bool.{cases_eq, eqb-true, ne_eqb}
-use Rattle.tl_burst.specs.declared.message.Message.TheVariants.{E}
-use Rattle.tl_params.specs.statement.Param.{cap_code, cap_right}
-use Rattle.tl_rules.specs.statement.History.{capped}
-use Rattle.tl_client.{specs.laws.After.copy_granted, specs.laws.After.waiting_granted, specs.statement.Send.grant_ack}
-use Rattle.tl_client.{proofs.endpoint.AfterOffered.granted_is, proofs.endpoint.HeldAfter.swapped}
-use Rattle.tl_client.specs.statement.EndpointInvariant.{is_acquire_beat, is_acquire_perm}
-use Rattle.tl_client.specs.statement.Offer.{address_asked, finish_of, granted}
-use Rattle.tl_manager.{proofs.blocks.Recording.cap-gives, proofs.pending.Performed.grants_by_opcode}
-use Rattle.tl_coherence.specs.protocol.PhaseSteps.{after_grant}
-use Rattle.tl_coherence.specs.protocol.Protocol.{answer_taken, granted_copy, release_ack_taken}
-use Rattle.tl_coherence.specs.protocol.Invariant.{acquires_of, AreNamed}
-use Rattle.tl_coherence.proofs.{client.Aside.set_at-else, client.ClientRequests.chosen, client.ClientRequests.passed}
-use Rattle.tl_coherence.proofs.{queues.Phases.and_right, queues.Codes.acquires-so}
-use Rattle.tl_coherence.proofs.client.ClientEnd.{IsWellKept, IsEnd, asks-same, asks-closed, asks-acquire, open-is}
-use Rattle.tl_coherence.proofs.client.ClientEnd.{column}
-use Rattle.tl_coherence.proofs.client.ClientDeliverD.{IsHeard, IsEcho, echo-none, echo-e, known-heard, opened-heard}
-use Rattle.tl_coherence.proofs.client.ClientDeliverD.{heard-part, answer_closes, ack_closes, grant_closes}
-use Rattle.tl_coherence.proofs.queues.Tokens.{same_number, set-same, set-other, set-part, set_at-same}
+use Rattle.std.proofs.Common.{sym, ◌∙◌, ap, ◌⊎◌, inl, inr, ◌*◌, eqb-true, ne_eqb, ◌==◌}
+use Rattle.tl_coherence.proofs
+use proofs.Imports.{and-false, cases_eq, Beat, BeatA, BeatD, OpD, IsWidth, E, a_beat_of, History, Cap, Grow, Perm}
+use proofs.Imports.{cap_code, cap_right, sent, same_perm, block_at, ends, is_grant, is_release_ack, request_of, capped}
+use proofs.Imports.{same_block, swapped, Finish, Endpoint, with_past, sending, is_acquire_beat, ended, responded}
+use proofs.Imports.{address_asked, finish_of, granted, open_beat, acquisition, grant_ack, cap-gives, grants_by_opcode}
+use proofs.Imports.{grant_opcode, acquires_of, AreNamed, Packet, ClientBlock, AcquireOpen, is_unreleased, is_whole}
+use proofs.Imports.{after_release_ack, after_grant, Block, State, SourceFree, Acquires, taken_block, grant_taken}
+use proofs.Imports.{let_go_block, answer_taken, granted_copy, release_ack_taken, is_wanting, acquire_opcode}
+use proofs.Imports.{AccessMessages, asked_by}
+use Rattle.tl_client.{proofs.endpoint.AfterOffered.granted_is, specs.laws.After.copy_granted}
+use Rattle.tl_client.{specs.laws.After.waiting_granted, specs.statement.EndpointInvariant.is_acquire_perm}
+use proofs.client.{Aside.set_at-else, ClientRequests.chosen, ClientRequests.passed}
+use proofs.queues.{Phases.and_right, Codes.acquires-so, Tokens.same_number, Tokens.set-same, Tokens.set-other}
+use proofs.queues.{Tokens.set-part, Tokens.set_at-same}
+use proofs.client.ClientEnd.{IsWellKept, IsEnd, asks-same, asks-closed, asks-acquire, open-is, column}
+use proofs.client.ClientDeliverD.{IsHeard, IsEcho, echo-none, echo-e, known-heard, opened-heard, heard-part}
+use proofs.client.ClientDeliverD.{answer_closes, ack_closes, grant_closes}
 
 -- ---- a beat that isn't the last of its message
 

@@ -1,30 +1,21 @@
 -- A beat of channel D that is delivered to a client is taken.
-use Rattle.tl_coherence.proofs.client.Imports.{Beat, BeatA, Message, MessageA, MessageD, a_beat_of, beat_of, History}
-use Rattle.tl_coherence.proofs.client.Imports.{unfinished, Config, RequestSource, Cap, Grow, Perm, Profile, is_outside}
-use Rattle.tl_coherence.proofs.client.Imports.{answers, broken_in_order, same_perm, held, pending, request_of, illegal}
-use Rattle.tl_coherence.proofs.client.Imports.{EndConfig, Endpoint, offered, taken, waits, open_beat, acquisition}
-use Rattle.tl_coherence.proofs.client.Imports.{same_block, grant_opcode, level_of, acquire_opcode, Log, AcquireOpen}
-use Rattle.tl_coherence.proofs.client.Imports.{State, AccessMessages, System, terms_at, SimulationRelation, gives_asked}
-use Rattle.tl_coherence.proofs.client.Imports.{asked_by}
 use Rattle.std.proofs.Common.{◌≡◌, subst, ℕ, zero, suc, Bool, cond, true, false, not, ◌&&◌, ◌||◌, List, [], ◌∷◌, Option}
-use Rattle.std.proofs.Common.{Some, None, refl, sym, ◌∙◌, ap, arith}
-use Rattle.std.proofs.lemmas.Bool.{not-true}
-use Rattle.std.specs.Prelude.{All, is_some, slice_get, option_map}
-use Rattle.tl_beat.specs.declared.channel.Channel.{Channel}
-use Rattle.tl_burst.specs.statement.Burst.{d_beat_of, begun}
-use Rattle.tl_params.specs.declared.config.ClientConfig.{ClientConfig}
-use Rattle.tl_params.specs.statement.Param.{cap_code, grow_code}
+use Rattle.std.proofs.Common.{Some, None, refl, sym, ◌∙◌, ap, arith, All, is_some, slice_get, option_map}
+use Rattle.tl_coherence.proofs
+use proofs.Imports.{not-true, Beat, BeatA, Channel, Message, MessageA, MessageD, a_beat_of, beat_of, d_beat_of, begun}
+use proofs.Imports.{History, unfinished, ClientConfig, Config, RequestSource, Cap, Grow, Perm, Profile, cap_code}
+use proofs.Imports.{grow_code, later-legal, is_outside, broken_in_order, same_perm, fits_grow, is_acquire_block}
+use proofs.Imports.{is_grant_without_data, held, pending, request_of, illegal, same_block, EndConfig, Endpoint, offered}
+use proofs.Imports.{taken, waits, open_beat, acquisition, no_ack_grant, grant_opcode, release_ack, level_of}
+use proofs.Imports.{AcquireOpen, cap_fits, grant_fits, State, acquire_opcode, AccessMessages, SimulationRelation}
+use proofs.Imports.{gives_asked, asked_by, Log, System, terms_at}
+use Rattle.tl_rules.specs.statement.Conformance.{answers}
 use Rattle.tl_rules.specs.statement.Conformance as rules
-use Rattle.tl_rules.specs.statement.Conformance.{fits_grow, is_acquire_block, is_grant_without_data}
-use Rattle.tl_rules.proofs.Later.{later-legal}
-use Rattle.tl_manager.{specs.statement.Handing.release_ack, proofs.pending.Answered.no_ack_grant}
 use Rattle.tl_manager.specs.code.Kept as manager
-use Rattle.tl_coherence.specs.protocol.Phase.{cap_fits, grant_fits}
-use Rattle.tl_coherence.proofs.{queues.Carried.IsNext, queues.Passes.client-takes, queues.Phases.and_left}
-use Rattle.tl_coherence.proofs.{queues.Phases.and_right, queues.Codes.access_kind}
-use Rattle.tl_coherence.proofs.client.ClientEnd.{is_access, IsEnd, asks-access, asks-acquire}
-use Rattle.tl_coherence.proofs.protocol.HeadOfD.{IsAnswerDue, IsGrantDue, grant_message, ack_message}
-use Rattle.tl_coherence.proofs.client.ResponseOrder.{answer-legal, grant-legal, ack-legal}
+use proofs.queues.{Carried.IsNext, Passes.client-takes, Phases.and_left, Phases.and_right, Codes.access_kind}
+use proofs.client.{ClientEnd.is_access, ClientEnd.IsEnd, ClientEnd.asks-access, ClientEnd.asks-acquire}
+use proofs.client.{ResponseOrder.answer-legal, ResponseOrder.grant-legal, ResponseOrder.ack-legal}
+use proofs.protocol.HeadOfD.{IsAnswerDue, IsGrantDue, grant_message, ack_message}
 
 -- ---- what a client was made for
 

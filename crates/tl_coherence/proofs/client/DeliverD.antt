@@ -1,13 +1,10 @@
 -- What a client answers to the last beat of a response.
-use Rattle.tl_coherence.proofs.client.Imports.{BeatD, OpD, Message, unfinished, Rule, ends, is_grant, is_release_ack}
-use Rattle.tl_coherence.proofs.client.Imports.{request_of, Finish, Endpoint, taken, ended, Beat}
-use Rattle.std.proofs.Common.{◌≡◌, ℕ, true, false, List, ◌∷◌, Option, Some, None, refl, sym, ◌∙◌, ap}
-use Rattle.std.specs.Prelude.{if◌then◌else◌, Result, Ok}
-use Rattle.tl_beat.specs.declared.channel.Channel.{Channel}
-use Rattle.tl_rules.specs.statement.Admission.{payload_of}
-use Rattle.tl_client.{specs.declared.verdict.Verdict.Verdict, specs.statement.Offer.finish_of}
-use Rattle.tl_client.{specs.statement.Offer.address_asked, specs.statement.Send.grant_ack}
-use Rattle.tl_coherence.specs.statement.Machine.{Requests, Releases, pool_of}
+use Rattle.std.proofs.Common.{◌≡◌, ℕ, true, false, List, ◌∷◌, Option, Some, None, refl, sym, ◌∙◌, ap, if◌then◌else◌}
+use Rattle.std.proofs.Common.{Result, Ok}
+use Rattle.tl_coherence.proofs
+use proofs.Imports.{Beat, BeatD, Channel, OpD, Message, unfinished, Rule, payload_of, ends, is_grant, is_release_ack}
+use proofs.Imports.{request_of, Finish, Verdict, Endpoint, taken, ended, finish_of, address_asked, grant_ack, Requests}
+use proofs.Imports.{Releases, pool_of}
 
 -- how the operation ends, and the message that is handed out
 abbrev pub finish_at : {w : ℕ} → BeatD w → Endpoint w → Finish

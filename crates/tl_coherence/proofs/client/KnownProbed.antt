@@ -1,30 +1,20 @@
 -- What a client knows after a Probe: the landed answer has exactly the effect of the abstract event.
-use Rattle.tl_coherence.proofs.{client.ClientEnd.IsWellKept, client.ClientEnd.known-kept, queues.Codes.cap-again}
-use Rattle.tl_client.specs.statement.Requests.{open_beat}
-use Rattle.tl_coherence.proofs.client.Imports.{IsWidth, Beat, BeatA, MessageC, beat_of, History, unfinished}
-use Rattle.tl_coherence.proofs.client.Imports.{beats-positive, Cap, Profile, Rule, Report, Perm, sent, is_outside}
-use Rattle.tl_coherence.proofs.client.Imports.{broken_in_order, block_at, held, pending, is_release, release_of}
-use Rattle.tl_coherence.proofs.client.Imports.{illegal, EndConfig, Endpoint, copy_at, held_at, with_past, sending}
-use Rattle.tl_coherence.proofs.client.Imports.{silent, offered, waits, taken, probed, same_block, ClientBlock}
-use Rattle.tl_coherence.proofs.client.Imports.{is_unreleased, after_probe, Packet, State, Block, probed_block}
-use Rattle.tl_coherence.proofs.client.Imports.{probe_taken, is_wanting, probe_beat, ClientRelation, OpenSourceRelation}
-use Rattle.tl_coherence.proofs.client.Imports.{pending-whole, release_of-whole, Message}
 use Rattle.std.proofs.Common.{◌≡◌, ℕ, Bool, true, false, not, cond, List, [], ◌∷◌, Option, None, refl, sym, ◌∙◌, ap}
-use Rattle.std.proofs.Common.{◌⊎◌, inl, inr}
-use Rattle.std.specs.Prelude.{◌==◌, if◌then◌else◌, nat_le, option_map}
-use Rattle.std.proofs.lemmas.Bool.{cases_eq, ne_eqb}
-use Rattle.tl_beat.{specs.declared.beat.BeatB.BeatB, specs.declared.channel.Channel.Channel}
-use Rattle.tl_beat.{specs.declared.opcode.OpB.OpB, specs.declared.opcode.OpC.OpC}
-use Rattle.tl_params.specs.declared.key.Key.{Key}
-use Rattle.tl_params.specs.statement.Param.{report_at, report_code, report_right}
-use Rattle.tl_rules.{specs.statement.Conformance.broken_order, proofs.Sent.pending-quiet, proofs.Sent.held_unsaid}
-use Rattle.tl_rules.specs.statement.History.{opens, closes, is_probe_ack}
-use Rattle.tl_client.{specs.statement.Endpoint.zeros, specs.declared.verdict.Verdict.Verdict}
-use Rattle.tl_client.{specs.statement.Send.about, specs.statement.Send.probe_ack, proofs.pending.Opens.open_beat-b}
-use Rattle.tl_client.{proofs.pending.Opens.open_beat-c}
-use Rattle.tl_client.specs.statement.Offer.{broken_before, broken_later, judged, judged_later, report_for}
-use Rattle.tl_client.proofs.endpoint.HeldAfter.{held-probe_ack, kept_past, still_whole}
-use Rattle.tl_coherence.proofs.queues.Tokens.{same_number, set-same, set-other}
+use Rattle.std.proofs.Common.{◌⊎◌, inl, inr, ne_eqb, ◌==◌, if◌then◌else◌, nat_le, option_map}
+use Rattle.tl_coherence.proofs
+use proofs.Imports.{cases_eq, Beat, BeatA, BeatB, Channel, OpB, OpC, IsWidth, beats-positive, Message, MessageC}
+use proofs.Imports.{beat_of, History, unfinished, Key, Cap, Report, Perm, Profile, Rule, report_at, report_code}
+use proofs.Imports.{report_right, pending-whole, release_of-whole, pending-quiet, held_unsaid, sent, is_outside}
+use proofs.Imports.{broken_in_order, broken_order, block_at, held, pending, is_release, release_of, opens, closes}
+use proofs.Imports.{is_probe_ack, illegal, same_block, kept_past, open_beat-c, Verdict, EndConfig, Endpoint, copy_at}
+use proofs.Imports.{held_at, with_past, sending, zeros, silent, offered, waits, taken, broken_before, broken_later}
+use proofs.Imports.{judged_later, report_for, open_beat, about, probe_ack, Packet, ClientBlock, is_unreleased}
+use proofs.Imports.{after_probe, State, Block, probed_block, probe_taken, is_wanting, ClientRelation, probe_beat}
+use proofs.Imports.{OpenSourceRelation}
+use Rattle.tl_client.{proofs.endpoint.HeldAfter.held-probe_ack, proofs.endpoint.HeldAfter.still_whole}
+use Rattle.tl_client.{proofs.pending.Opens.open_beat-b, specs.statement.Offer.probed, specs.statement.Offer.judged}
+use proofs.client.ClientEnd.{IsWellKept, known-kept}
+use proofs.queues.{Codes.cap-again, Tokens.same_number, Tokens.set-same, Tokens.set-other}
 
 -- ---- the Probe
 

@@ -1,26 +1,21 @@
 -- The clients' ends after one of them is asked, and after the manager takes a beat.
-use Rattle.tl_coherence.proofs.client.Imports.{IsWidth, Beat, MessageA, unfinished, Config, Op, EndConfig, Endpoint}
-use Rattle.tl_coherence.proofs.client.Imports.{AbstractState, asked, packet_taken, IsInvariant, Log, State, on, is_on}
-use Rattle.tl_coherence.proofs.client.Imports.{AccessMessages, System, Kind, Request, Acquire, Probe, ProbeAck, Release}
-use Rattle.tl_coherence.proofs.client.Imports.{Answer, Grant, ReleaseAck, GrantAck, SimulationRelation, is_caching}
-use Rattle.std.proofs.Common.{◌≡◌, subst, ℕ, Bool, true, false, cond, List, ◌∷◌, refl, sym, ◌∙◌, ap, inl, inr}
-use Rattle.std.{specs.Prelude.◌==◌, specs.Prelude.if◌then◌else◌, proofs.lemmas.Bool.cases_eq, proofs.lemmas.Bool.ne_eqb}
-use Rattle.tl_beat.{specs.declared.beat.Link.Link, specs.declared.channel.Channel.Channel}
+use Rattle.std.proofs.Common.{◌≡◌, subst, ℕ, Bool, true, false, cond, List, ◌∷◌, refl, sym, ◌∙◌, ap, inl, inr, not}
+use Rattle.std.proofs.Common.{ne_eqb, ◌==◌, if◌then◌else◌}
+use Rattle.tl_coherence.proofs
+use proofs.Imports.{cases_eq, Beat, Link, Channel, IsWidth, MessageA, unfinished, Config, Op, EndConfig, Endpoint}
+use proofs.Imports.{services, least_untaken, trackers_of, Event, Ask, Deliver, IsInvariant, Kind, State, is_on}
+use proofs.Imports.{packets_on, AbstractState, asked, packet_taken, abstract_step_by, AccessMessages}
+use proofs.Imports.{SimulationRelation, is_caching, receiver, Log, Step, replied, handed_by, manager_took, is_to_client}
+use proofs.Imports.{System, with_client, with_channel, with_manager, with_messages}
+use Rattle.tl_coherence.specs.refinement.AbstractStep.{is_last}
 use Rattle.tl_client.specs.statement.Ask as ask
-use Rattle.tl_manager.specs.statement.Service.{services, least_untaken, trackers_of}
 use Rattle.tl_manager.specs.statement.End as manager_end
 use Rattle.tl_manager.specs.statement.Offer as manager
-use Rattle.tl_coherence.specs.{declared.event.Event.Event, statement.Delivery.receiver, protocol.Protocol.packets_on}
-use Rattle.tl_coherence.specs.declared.event.Event.TheVariants.{Ask, Deliver}
-use Rattle.tl_coherence.specs.refinement.AbstractStep.{abstract_step_by, is_last}
-use Rattle.tl_coherence.specs.protocol.Protocol as world
-use Rattle.tl_coherence.specs.statement.Step.{Step, replied, handed_by, manager_took, is_to_client}
-use Rattle.tl_coherence.specs.statement.System.{with_client, with_channel, with_manager, with_messages}
-use Rattle.tl_coherence.proofs.client.AsideAll.{Leaves, leaves-none, leaves-asked, is_for_manager, leaves-at_manager}
-use Rattle.tl_coherence.proofs.{client.ClientAsked.IsEndOf, client.ClientAsked.end-asked}
-use Rattle.tl_coherence.proofs.{client.ClientDelivered.shadow_of, client.ClientEnd.end-matched}
-use Rattle.tl_coherence.proofs.{client.ClientEnd.end-aside, queues.FirstToken.IsFirst, queues.FirstToken.first-token}
-use Rattle.tl_coherence.proofs.{queues.Steps.clients-with_messages, queues.Tokens.same_number}
+use proofs.client.{AsideAll.Leaves, AsideAll.leaves-none, AsideAll.leaves-asked, AsideAll.is_for_manager}
+use proofs.client.{AsideAll.leaves-at_manager, ClientAsked.IsEndOf, ClientAsked.end-asked, ClientDelivered.shadow_of}
+use proofs.client.{ClientEnd.end-matched, ClientEnd.end-aside}
+use proofs.queues.{FirstToken.IsFirst, FirstToken.first-token, Steps.clients-with_messages, Tokens.same_number}
+use proofs.queues.{KindMoves.kind_channel, KindMoves.on_same}
 
 -- all ends are those of the protocol after this step
 abbrev pub AreEnds : {w : ℕ} → Config → Event w → System w → AbstractState w → ℕ → Step w → Type 0
@@ -67,32 +62,10 @@ asked_ends {w} {config} {log} {mail} {request} {s} {sys} terms c k o width h =
 
 -- the kinds of the channels to the manager, and to a client
 manager_kind : (ch : Channel) (k : Kind) → is_to_client ch ≡ false → is_on ch k ≡ true → is_for_manager k ≡ true
-manager_kind Channel.A Request down on_ = refl
-manager_kind Channel.A Acquire down on_ = refl
-manager_kind Channel.C ProbeAck down on_ = refl
-manager_kind Channel.C Release down on_ = refl
-manager_kind Channel.E GrantAck down on_ = refl
-manager_kind ch k down on_ = absurd cc
+manager_kind ch k down own = ap (λ (i : Channel). not (is_to_client i)) (kind_channel ch k own) ∙ ap not down
 
 pub client_kind : (ch : Channel) (k : Kind) → is_to_client ch ≡ true → is_on ch k ≡ true → is_for_manager k ≡ false
-client_kind Channel.B Probe up on_ = refl
-client_kind Channel.D Answer up on_ = refl
-client_kind Channel.D Grant up on_ = refl
-client_kind Channel.D ReleaseAck up on_ = refl
-client_kind ch k up on_ = absurd cc
-
--- a kind's channel is the one it is on
-pub on_same : (ch : Channel) (k : Kind) (l : world.Link) → is_on ch k ≡ true → on k l ≡ packets_on ch l
-on_same Channel.A Request l is = refl
-on_same Channel.A Acquire l is = refl
-on_same Channel.B Probe l is = refl
-on_same Channel.C ProbeAck l is = refl
-on_same Channel.C Release l is = refl
-on_same Channel.D Answer l is = refl
-on_same Channel.D Grant l is = refl
-on_same Channel.D ReleaseAck l is = refl
-on_same Channel.E GrantAck l is = refl
-on_same ch k l is = absurd cc
+client_kind ch k up own = ap (λ (i : Channel). not (is_to_client i)) (kind_channel ch k own) ∙ ap not up
 
 -- a message that the manager takes leaves all ends alone
 manager_leaves : {w : ℕ} {caching : ℕ → Bool} (config : Config) (tracker : ℕ) {c : ℕ} {ch : Channel}

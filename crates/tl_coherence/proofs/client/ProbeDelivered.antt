@@ -1,37 +1,25 @@
 -- A Probe that is delivered to a client waits for its Release, or is taken, and the client's end is
 -- then that of the protocol.
-use Rattle.tl_coherence.proofs.client.Imports.{IsWidth, Beat, BeatA, OpD, Message, MessageA, MessageD, beat_of}
-use Rattle.tl_coherence.proofs.client.Imports.{unfinished, completes, Config, ReleaseOf, Cap, Rule, is_grant, pending}
-use Rattle.tl_coherence.proofs.client.Imports.{illegal, EndConfig, Endpoint, held_at, Offered, offered, taken, probed}
-use Rattle.tl_coherence.proofs.client.Imports.{silent, waits, same_block, grant_opcode, level_of, AbstractState}
-use Rattle.tl_coherence.proofs.client.Imports.{packet_taken, kind_taken, IsInvariant, Log, is_unprobed, is_unreleased}
-use Rattle.tl_coherence.proofs.client.Imports.{State, packet, is_on, view, AccessMessages, cap_sent, block_message}
-use Rattle.tl_coherence.proofs.client.Imports.{probe_beat, System, terms_at, Kind, Probe, Answer, Grant, ReleaseAck}
-use Rattle.tl_coherence.proofs.client.Imports.{Packet, SimulationRelation, asked_by, is_caching}
 use Rattle.std.proofs.Common.{◌≡◌, subst, ℕ, zero, suc, ◌<◌, Bool, true, false, not, ◌&&◌, cond, List, [], ◌∷◌, Option}
-use Rattle.std.proofs.Common.{Some, None, refl, sym, ◌∙◌, ap, arith}
-use Rattle.std.specs.Prelude.{◌==◌, map, nat_le}
-use Rattle.std.proofs.lemmas.Bool.{eqb-true, and_right}
-use Rattle.tl_beat.specs.declared.channel.Channel.{Channel}
-use Rattle.tl_burst.specs.statement.Burst.{beats_of, begun}
-use Rattle.tl_rules.specs.statement.History.{asks_for}
-use Rattle.tl_client.{specs.declared.verdict.Verdict.Verdict, proofs.pending.Accounted.accounted-offered}
-use Rattle.tl_client.{proofs.endpoint.Cases.passes_before, proofs.pending.KeptOffered.kept-offered}
-use Rattle.tl_client.specs.statement.Offer.{judged, judged_later, broken_before, broken_later}
-use Rattle.tl_manager.specs.statement.Handing.{probe_of_block}
+use Rattle.std.proofs.Common.{Some, None, refl, sym, ◌∙◌, ap, arith, eqb-true, ◌==◌, map, nat_le}
+use Rattle.tl_coherence.proofs
+use proofs.Imports.{and_right, Beat, BeatA, Channel, OpD, IsWidth, Message, MessageA, MessageD, beat_of, beats_of}
+use proofs.Imports.{begun, unfinished, completes, Config, ReleaseOf, Cap, Rule, is_grant, pending, asks_for, illegal}
+use proofs.Imports.{same_block, accounted-offered, kept-offered, Verdict, EndConfig, Endpoint, held_at, Offered}
+use proofs.Imports.{offered, taken, silent, waits, judged_later, broken_before, broken_later, grant_opcode}
+use proofs.Imports.{probe_of_block, level_of, IsInvariant, Kind, Probe, Answer, Grant, ReleaseAck, Packet, is_unprobed}
+use proofs.Imports.{is_unreleased, State, packet, is_on, view, is_sent, AbstractState, packet_taken, kind_taken}
+use proofs.Imports.{IsCarried, comes_granting, AccessMessages, cap_sent, block_message, probe_beat, message_of}
+use proofs.Imports.{message_of_kind, SimulationRelation, asked_by, is_caching, Log, System, terms_at}
+use Rattle.tl_client.{proofs.endpoint.Cases.passes_before, specs.statement.Offer.probed, specs.statement.Offer.judged}
 use Rattle.tl_manager.specs.code.Kept as manager
-use Rattle.tl_coherence.specs.{refinement.Carried.IsCarried, refinement.ClientRelation.comes_granting}
-use Rattle.tl_coherence.specs.{protocol.Tokens.shown, protocol.Tokens.is_sent}
-use Rattle.tl_coherence.specs.refinement.PacketMessages.{message_of, message_of_kind}
-use Rattle.tl_coherence.proofs.{queues.Carried.IsNext, client.ClientAsked.IsEndOf, client.ClientDelivered.shadow_of}
-use Rattle.tl_coherence.proofs.{client.ClientProbed.end-probe_taken, queues.Facts.granting_alone}
-use Rattle.tl_coherence.proofs.{client.KnownProbed.probe-taken, queues.Phases.and_left, queues.Tokens.holds-first}
-use Rattle.tl_coherence.proofs.{protocol.BothParts.not-sent, queues.Codes.access_kind}
-use Rattle.tl_coherence.proofs.client.ClientEnd.{IsWellKept, IsEnd, end-matched, asks-acquire}
-use Rattle.tl_coherence.proofs.client.ClientTakes.{AreTermsOf, terms-are, sound-beat}
-use Rattle.tl_coherence.proofs.protocol.HeadOfD.{answer-due, grant-due, grant_message, grant-rendered, ack_message}
-use Rattle.tl_coherence.proofs.protocol.HeadOfD.{own_view}
-use Rattle.tl_coherence.proofs.queues.FirstToken.{IsFirst, first-token, own_kind}
+use proofs.queues.{Carried.IsNext, Facts.granting_alone, Phases.and_left, Codes.access_kind, FirstToken.IsFirst}
+use proofs.queues.{FirstToken.first-token, FirstToken.own_kind}
+use proofs.client.{ClientAsked.IsEndOf, ClientDelivered.shadow_of, ClientProbed.end-probe_taken}
+use proofs.client.{KnownProbed.probe-taken, ClientEnd.IsWellKept, ClientEnd.IsEnd, ClientEnd.end-matched}
+use proofs.client.{ClientEnd.asks-acquire, ClientTakes.AreTermsOf, ClientTakes.terms-are, ClientTakes.sound-beat}
+use proofs.protocol.{BothParts.not-sent, FirstTokens.first-shown}
+use proofs.protocol.HeadOfD.{answer-due, grant-due, grant_message, grant-rendered, ack_message, own_view}
 
 -- ---- no Grant of a block that is probed has begun to come
 
@@ -191,8 +179,7 @@ pub probe-delivered : {w : ℕ} {config : Config} {log : Log w} {mail : AccessMe
     → IsProbed config terms tracker c n (shadow_of mail request s) x (sys.clients c)
 probe-delivered {w} {config} {log} {mail} {request} {s} {sys} terms tracker c n rest {ms} {x} {queue} width h at beats
     first next =
-    let sent : is_sent ((s.block n).pair c).probing ≡ true = holds-first Probe (s.link c).b rest (packet Probe n)
-    (λ i. shown Probe c (s.block i)) first refl (h.invariant.transfers c Probe refl) in
+    let sent : is_sent ((s.block n).pair c).probing ≡ true = first-shown h.invariant c Probe refl first in
     let before : x ≡ Beat.B (probe_beat n k) → broken_before terms Channel.B x e ≡ None =
     λ f. cc (f, passes_before terms Channel.B (Beat.B (probe_beat n k)) e (h.live c) refl lawful) in
     let pends : is_unreleased ((s.block n).pair c).letting ≡ false → waits (Beat.B (probe_beat n k)) e.past ≡ true =

@@ -1,18 +1,14 @@
 -- A response that the values of a history allow breaks no rule of order after it: at a client's end and in what is
 -- delivered alike.
-use Rattle.tl_coherence.proofs.client.Imports.{BeatA, BeatC, BeatD, OpD, History, unfinished, RequestSource}
-use Rattle.tl_coherence.proofs.client.Imports.{ReleaseSource, Profile, answers, same_perm, broken_in_order, block_at}
-use Rattle.tl_coherence.proofs.client.Imports.{held, is_grant, is_release_ack, pending, request_of, release_of, Beat}
-use Rattle.tl_coherence.proofs.client.Imports.{Perm}
-use Rattle.std.proofs.Common.{◌≡◌, ℕ, Bool, true, false, not, ◌&&◌, [], Option, Some, None, refl, ap}
-use Rattle.std.{proofs.lemmas.Option.same_Some, specs.Prelude.◌==◌, specs.Prelude.option_map}
-use Rattle.tl_beat.{specs.declared.channel.Channel.Channel, specs.statement.First.first_if}
-use Rattle.tl_params.specs.declared.key.Key.TheVariants.{GrantSink, ProbeOf}
+use Rattle.std.proofs.Common.{◌≡◌, ℕ, Bool, true, false, not, ◌&&◌, [], Option, Some, None, refl, ap, ◌==◌, option_map}
+use Rattle.tl_coherence.proofs
+use proofs.Imports.{same_Some, Beat, BeatA, BeatC, BeatD, Channel, OpD, first_if, History, unfinished, RequestSource}
+use proofs.Imports.{ReleaseSource, GrantSink, ProbeOf, Perm, Profile, same_perm, broken_in_order, comes_in_request}
+use proofs.Imports.{comes_in_release, fits_grow, is_acquire_block, is_grant_without_data, broken_order, block_at, held}
+use proofs.Imports.{is_grant, is_release_ack, pending, request_of, release_of}
 use Rattle.tl_params.specs.declared.rule.Rule.TheVariants.{H2, H3, H6, H7}
-use Rattle.tl_rules.specs.statement.Conformance.{comes_in_request, comes_in_release, fits_grow, has_request, misgrants}
-use Rattle.tl_rules.specs.statement.Conformance.{is_acquire_block, is_grant_without_data, size_asked, size_of_release}
-use Rattle.tl_rules.specs.statement.Conformance.{broken_order}
-use Rattle.tl_coherence.proofs.queues.Tokens.{same_number}
+use Rattle.tl_rules.specs.statement.Conformance.{answers, has_request, misgrants, size_asked, size_of_release}
+use proofs.queues.Tokens.{same_number}
 
 rules : (asked sized amiss twice : Bool) → asked ≡ true → sized ≡ true → amiss ≡ false → twice ≡ false
     → first_if (not asked) H2 (first_if (not sized) H3 (first_if amiss H6 (first_if twice H7 None))) ≡ None

@@ -1,22 +1,19 @@
 -- A GrantAck that is delivered to the manager: the channels and the one memory afterwards.
-use Rattle.tl_coherence.proofs.deliveries.Imports.{IsWidth, Beat, Link, Channel, beat_of, unfinished, completes, Config}
-use Rattle.tl_coherence.proofs.deliveries.Imports.{on_link, reaction, Deliver, is_moving, AbstractState, kind_taken}
-use Rattle.tl_coherence.proofs.deliveries.Imports.{Log, system_after, ChannelRelation, MemoryRelation, GrantTaken}
-use Rattle.tl_coherence.proofs.deliveries.Imports.{packet, is_on, shown, one_memory_after, performing}
-use Rattle.tl_coherence.proofs.deliveries.Imports.{accesses_answered, block_message, stepped, System, terms_at}
-use Rattle.tl_coherence.proofs.deliveries.Imports.{with_channel, with_messages, Kind, GrantAck, SimulationRelation}
 use Rattle.std.proofs.Common.{◌≡◌, ℕ, Bool, true, false, List, [], ◌∷◌, Some, None, refl, sym, ◌∙◌, ap, subst}
-use Rattle.tl_beat.specs.declared.beat.BeatE.{BeatE}
+use Rattle.tl_coherence.proofs
+use proofs.Imports.{Beat, BeatE, Link, Channel, IsWidth, beat_of, unfinished, completes, Config, on_link, reaction-ack}
+use proofs.Imports.{reaction, Deliver, Kind, GrantAck, GrantTaken, packet, is_on, freed_block, grant_ack_taken}
+use proofs.Imports.{AbstractState, kind_taken, ChannelRelation, MemoryRelation, block_message, SimulationRelation}
+use proofs.Imports.{is_moving, Log, system_after, one_memory_after, performing, accesses_answered, stepped, System}
+use proofs.Imports.{terms_at, with_channel, with_messages}
 use Rattle.tl_client.specs.statement.Endpoint as client
-use Rattle.tl_manager.proofs.calls.Events.{reaction-ack}
-use Rattle.tl_coherence.specs.protocol.Protocol.{freed_block, grant_ack_taken}
-use Rattle.tl_coherence.proofs.{memory.BesideKinds.beside_block, queues.Shown.carried-shown}
-use Rattle.tl_coherence.proofs.{simulation.CarriedResponses.grant_ack_taken-shown}
-use Rattle.tl_coherence.proofs.{deliveries.DeliverDUnmoved.IsDelivered, queues.Tokens.holds-first}
-use Rattle.tl_coherence.proofs.{protocol.BothParts.acknowledging-is}
-use Rattle.tl_coherence.proofs.deliveries.ManagersAfter.{IsAtManager, at-manager, after_taken, delivered-last}
-use Rattle.tl_coherence.proofs.deliveries.ManagersAfter.{delivered-part}
-use Rattle.tl_coherence.proofs.manager.UnwaitedRequests.{next_tracker, invariant-taken}
+use proofs.memory.BesideKinds.{beside_block}
+use proofs.queues.Shown.{carried-shown}
+use proofs.simulation.CarriedResponses.{grant_ack_taken-shown}
+use proofs.deliveries.{DeliverDUnmoved.IsDelivered, ManagersAfter.IsAtManager, ManagersAfter.at-manager}
+use proofs.deliveries.{ManagersAfter.after_taken, ManagersAfter.delivered-last, ManagersAfter.delivered-part}
+use proofs.manager.UnwaitedRequests.{next_tracker, invariant-taken}
+use proofs.protocol.FirstTokens.{first-grant_ack}
 
 ack_kind : (k : Kind) → is_on Channel.E k ≡ true → k ≡ GrantAck
 ack_kind GrantAck e = refl
@@ -58,9 +55,7 @@ delivered-e {w} {config} {log} link h terms x queue width matched known beats mo
         (reaction-ack config link y sys.manager)
 
     sent : (h.state.block n).service ≡ GrantTaken link.0
-    sent = acknowledging-is (h.state.block n).service link.0 (holds-first GrantAck (h.state.link link.0).e is.first.rest
-        (packet GrantAck n) (λ i. shown GrantAck link.0 (h.state.block i)) tokens refl
-        (matched.invariant.transfers link.0 GrantAck refl))
+    sent = first-grant_ack matched.invariant tokens
 
     go : (b : Bool) → completes x (unfinished Channel.E (on_link link.0 sys.manager.trace)) ≡ b
         → IsDelivered config log link Channel.E h

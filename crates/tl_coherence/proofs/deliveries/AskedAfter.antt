@@ -1,35 +1,24 @@
 -- An operation that a client is asked for: the channels and the one memory afterwards.
-use Rattle.tl_coherence.proofs.deliveries.Imports.{IsWidth, Message, MessageA, Config, Grow, Prune, block_at, same_perm}
-use Rattle.tl_coherence.proofs.deliveries.Imports.{Op, release, Ask, MemoryRelation, AbstractState, IsInvariant, Log}
-use Rattle.tl_coherence.proofs.deliveries.Imports.{system_after, ChannelRelation, ClientBlock, Block, State, view}
-use Rattle.tl_coherence.proofs.deliveries.Imports.{one_memory_after, performing, accesses_answered, AccessMessages}
-use Rattle.tl_coherence.proofs.deliveries.Imports.{block_message, Step, stepped, handed_by, System, terms_at}
-use Rattle.tl_coherence.proofs.deliveries.Imports.{with_client, with_messages, Acquire, Release, SimulationRelation}
-use Rattle.tl_coherence.proofs.deliveries.Imports.{is_caching, Perm}
 use Rattle.std.proofs.Common.{◌≡◌, ℕ, Bool, true, false, ◌||◌, List, [], ◌∷◌, Option, Some, None, refl, sym, ◌∙◌, ap}
 use Rattle.std.proofs.Common.{subst, inl, inr}
-use Rattle.std.proofs.lemmas.Bool.{cases_eq, or_right}
-use Rattle.tl_beat.specs.declared.opcode.OpA.{OpA}
-use Rattle.tl_client.{specs.declared.reply.Reply.Reply, specs.statement.Ask.whole_grow}
-use Rattle.tl_client.{proofs.endpoint.Outstanding.unfinished-asked}
+use Rattle.tl_coherence.proofs
+use proofs.Imports.{cases_eq, or_right, OpA, IsWidth, Message, MessageA, Config, Grow, Prune, Perm, same_perm, block_at}
+use proofs.Imports.{unfinished-asked, Op, Reply, whole_grow, release, access, sourced, acquisition, Ask, Outcome}
+use proofs.Imports.{IsInvariant, Acquire, Release, ClientBlock, after_acquire, after_release, Block, State, view}
+use proofs.Imports.{acquiring_block, releasing_block, AbstractState, asked, acquire_opcode, ChannelRelation}
+use proofs.Imports.{MemoryRelation, AccessMessages, block_message, SimulationRelation, is_caching, Continues, Log}
+use proofs.Imports.{system_after, after_reply, one_memory_after, performing, accesses_answered, Step, stepped}
+use proofs.Imports.{handed_by, System, terms_at, with_client, with_messages}
+use Rattle.tl_coherence.specs.statement.Machine.{Performs}
 use Rattle.tl_client.specs.statement.Ask as ask
 use Rattle.tl_client.specs.statement.Endpoint as client
-use Rattle.tl_client.specs.statement.Send.{access, sourced, acquisition}
-use Rattle.tl_coherence.specs.{declared.event.Outcome.Outcome, refinement.AbstractStep.asked}
-use Rattle.tl_coherence.specs.{refinement.AbstractStep.acquire_opcode, statement.Headline.Continues}
-use Rattle.tl_coherence.specs.{statement.Machine.Performs, statement.Machine.after_reply}
-use Rattle.tl_coherence.specs.{protocol.PhaseSteps.after_acquire, protocol.PhaseSteps.after_release}
-use Rattle.tl_coherence.specs.{protocol.Protocol.acquiring_block, protocol.Protocol.releasing_block}
-use Rattle.tl_coherence.proofs.{deliveries.AskedWell.asked-well, deliveries.BusyWell.IsHandedOut}
-use Rattle.tl_coherence.proofs.{memory.BesideAsked.IsReply, memory.BesideAsked.beside-asked, queues.Channels.IsHanded}
-use Rattle.tl_coherence.proofs.{queues.Channels.pushes_at, queues.PhaseFacts.trunk_held, protocol.FollowKept.IsAskable}
-use Rattle.tl_coherence.proofs.{protocol.FollowKept.asked-kept, queues.Phases.and_left, protocol.Heads.rendered-acquire}
-use Rattle.tl_coherence.proofs.{queues.Landed.pushes_of, queues.Landed.handed-client, queues.Showing.none-carried}
-use Rattle.tl_coherence.proofs.{queues.Steps.stepped-asked, queues.Tokens.set-same}
-use Rattle.tl_coherence.proofs.{deliveries.ManagersAfter.release_channel}
-use Rattle.tl_coherence.proofs.simulation.CarriedAsks.{access_asked-carried, acquire_asked-carried}
-use Rattle.tl_coherence.proofs.simulation.CarriedAsks.{release_asked-carried, nothing_asked-carried}
-use Rattle.tl_coherence.proofs.simulation.CarriedAsks.{block_stored-carried}
+use proofs.deliveries.{AskedWell.asked-well, BusyWell.IsHandedOut, ManagersAfter.release_channel}
+use proofs.memory.BesideAsked.{IsReply, beside-asked}
+use proofs.queues.{Channels.IsHanded, Channels.pushes_at, PhaseFacts.trunk_held, Phases.and_left, Landed.pushes_of}
+use proofs.queues.{Landed.handed-client, Showing.none-carried, Steps.stepped-asked, Tokens.set-same}
+use proofs.protocol.{FollowKept.IsAskable, FollowKept.asked-kept, Heads.rendered-acquire}
+use proofs.simulation.CarriedAsks.{access_asked-carried, acquire_asked-carried, release_asked-carried}
+use proofs.simulation.CarriedAsks.{nothing_asked-carried, block_stored-carried}
 
 -- ---- the operations that do something
 

@@ -1,31 +1,22 @@
 -- What a client answers to an operation, beside the protocol and the one-memory machine: what it starts it may start,
 -- and its reply is one that the machine allows.
-use Rattle.tl_coherence.proofs.deliveries.Imports.{IsWidth, MessageA, Config, Perm, prune_left, block_at, same_perm, Op}
-use Rattle.tl_coherence.proofs.deliveries.Imports.{EndConfig, AbstractState, Log, Machine, Requests, NoAcquire, State}
-use Rattle.tl_coherence.proofs.deliveries.Imports.{SourceState, one_memory_after, System, terms_at, SimulationRelation}
-use Rattle.tl_coherence.proofs.deliveries.Imports.{is_caching, IsRequest, Channel, Message}
 use Rattle.std.proofs.Common.{◌≡◌, ℕ, true, false, not, ◌||◌, List, Option, Some, None, refl, sym, ◌∙◌, ap, subst}
-use Rattle.std.specs.Prelude.{◌==◌, is_none, nat_le}
-use Rattle.std.proofs.lemmas.Bool.{eqb-true, and_parts, not-false, or_parts}
-use Rattle.tl_params.specs.declared.key.Key.TheVariants.{RequestSource, ReleaseSource, AcquireOf, ReleaseOf}
-use Rattle.tl_params.specs.statement.Param.{grow_left}
-use Rattle.tl_rules.specs.statement.History.{pending}
-use Rattle.tl_rules.specs.statement.Legality.{has_transfers, illegal_message}
-use Rattle.tl_client.{specs.declared.reply.Reply.Reply, specs.statement.Send.access, proofs.endpoint.Cases.NotBusy}
-use Rattle.tl_client.{proofs.endpoint.Cases.asked-cases, proofs.messages.Clean.to_blank}
-use Rattle.tl_client.{proofs.pending.Free.least_free-some, proofs.messages.Sound.formed_access}
-use Rattle.tl_client.{proofs.caching_client.Stores.word_room}
-use Rattle.tl_client.specs.statement.Ask.{asked, done, only, load, store, loaded, is_word, is_clean, is_formed}
-use Rattle.tl_client.specs.statement.Ask.{op_block, free_request, free_release, source_or_0}
-use Rattle.tl_client.specs.statement.Endpoint.{Endpoint, copy_at, held_at}
-use Rattle.tl_manager.specs.statement.Offer.{level_of}
-use Rattle.tl_coherence.specs.{refinement.MemoryRelation.IsOpened, refinement.MemoryRelation.IsLet}
-use Rattle.tl_coherence.specs.{statement.Machine.Releases, protocol.Phase.NoRelease, protocol.Protocol.SourceFree}
-use Rattle.tl_coherence.proofs.client.Askable.{swap_perms, no_let, caches}
-use Rattle.tl_coherence.proofs.simulation.BeatsInFlight.{level-terms}
-use Rattle.tl_coherence.proofs.protocol.BothParts.{calm-is, kept-letting}
-use Rattle.tl_coherence.proofs.deliveries.BusyWell.{unused, busy_well, loaded_number, some_held, none_rule}
-use Rattle.tl_coherence.proofs.deliveries.BusyWell.{sourced_legal}
+use Rattle.std.proofs.Common.{eqb-true, ◌==◌, is_none, nat_le}
+use Rattle.tl_coherence.proofs
+use proofs.Imports.{and_parts, not-false, or_parts, Channel, IsWidth, Message, MessageA, Config, RequestSource}
+use proofs.Imports.{ReleaseSource, AcquireOf, ReleaseOf, Perm, prune_left, grow_left, same_perm, block_at, pending}
+use proofs.Imports.{has_transfers, illegal_message, word_room, NotBusy, asked-cases, least_free-some, Op, Reply, done}
+use proofs.Imports.{store, is_word, op_block, free_request, free_release, source_or_0, EndConfig, Endpoint, copy_at}
+use proofs.Imports.{held_at, access, level_of, NoAcquire, NoRelease, State, SourceState, SourceFree, AbstractState}
+use proofs.Imports.{IsOpened, IsLet, SimulationRelation, is_caching, IsRequest, Log, Machine, Requests, Releases}
+use proofs.Imports.{one_memory_after, System, terms_at}
+use Rattle.tl_client.{proofs.messages.Clean.to_blank, proofs.messages.Sound.formed_access, specs.statement.Ask.asked}
+use Rattle.tl_client.{specs.statement.Ask.only, specs.statement.Ask.load, specs.statement.Ask.loaded}
+use Rattle.tl_client.{specs.statement.Ask.is_clean, specs.statement.Ask.is_formed}
+use proofs.client.Askable.{swap_perms, no_let, caches}
+use proofs.simulation.BeatsInFlight.{level-terms}
+use proofs.protocol.BothParts.{calm-is, kept-letting}
+use proofs.deliveries.BusyWell.{unused, busy_well, loaded_number, some_held, none_rule, sourced_legal}
 pub use Rattle.tl_coherence.proofs.deliveries.BusyWell.{IsAskedWell}
 
 pub asked-well : {w : ℕ} (config : Config) (log : Log w) (h : AbstractState w) (sys : System w) (c : ℕ)

@@ -1,27 +1,19 @@
 -- What a client that is busy answers, and what that says of the protocol.
-use Rattle.tl_coherence.proofs.deliveries.Imports.{Message, MessageA, beat_of, Config, Perm, Prune, prune_left}
-use Rattle.tl_coherence.proofs.deliveries.Imports.{block_at, same_perm, Op, release, AbstractState, Log, Machine}
-use Rattle.tl_coherence.proofs.deliveries.Imports.{AcquirePhase, NoAcquire, AcquireOpen, Block, State, SourceState}
-use Rattle.tl_coherence.proofs.deliveries.Imports.{AccessMessages, block_message, Acquire, System, SimulationRelation}
-use Rattle.tl_coherence.proofs.deliveries.Imports.{is_caching, IsRequest, Channel}
 use Rattle.std.proofs.Common.{◌≡◌, ℕ, ◌+◌, ◌*◌, ◌/◌, ◌%◌, ◌^◌, ◌≤◌, Bool, true, false, List, Option, Some, None, refl}
-use Rattle.std.proofs.Common.{sym, ◌∙◌, ap, arith}
-use Rattle.std.specs.Prelude.{is_some, is_none, slice_index}
-use Rattle.tl_beat.specs.declared.opcode.OpA.{OpA}
-use Rattle.tl_params.{specs.declared.level.Level.Level, specs.declared.key.Key.TheVariants.RequestSource}
-use Rattle.tl_params.{specs.declared.rule.Rule.Rule}
-use Rattle.tl_rules.specs.statement.Effect.{Memory, IsBlock, number_from}
-use Rattle.tl_rules.{specs.statement.History.pending, specs.statement.Legality.illegal}
-use Rattle.tl_rules.{specs.statement.Legality.illegal_message, proofs.Legal.legal_from_beats, proofs.Legal.legal_beat}
-use Rattle.tl_rules.{proofs.Places.number_same}
-use Rattle.tl_client.{specs.declared.busy.Busy.Busy, specs.declared.reply.Reply.Reply}
-use Rattle.tl_client.{specs.statement.Endpoint.Endpoint, specs.statement.Send.access, specs.statement.Send.acquisition}
-use Rattle.tl_client.specs.statement.Ask.{Asked, only, whole_grow}
-use Rattle.tl_coherence.specs.{statement.Machine.Replies, refinement.PacketMessages.acquire_of}
-use Rattle.tl_coherence.specs.protocol.Protocol.{SourceFree, Replied, Acquires}
-use Rattle.tl_coherence.specs.refinement.SimulationRelation.{first_of, asked_for, block_used, IsSourced, IsAnswered}
-use Rattle.tl_coherence.proofs.{memory.BesideAsked.IsReply, protocol.FollowKept.IsAskable}
-use Rattle.tl_coherence.proofs.{simulation.SizedAfter.IsSizedAsk, simulation.SourcedAfter.IsSourcedAsk}
+use Rattle.std.proofs.Common.{sym, ◌∙◌, ap, arith, is_some, is_none, slice_index}
+use Rattle.tl_coherence.proofs
+use proofs.Imports.{Channel, OpA, Message, MessageA, beat_of, Config, RequestSource, Level, Prune, Perm, Rule}
+use proofs.Imports.{prune_left, legal_beat, same_perm, Memory, IsBlock, number_from, block_at, pending, illegal}
+use proofs.Imports.{illegal_message, Busy, Op, Reply, whole_grow, Endpoint, release, access, acquisition, Acquire}
+use proofs.Imports.{AcquirePhase, NoAcquire, AcquireOpen, Block, State, SourceState, SourceFree, Replied, Acquires}
+use proofs.Imports.{AbstractState, AccessMessages, block_message, acquire_of, SimulationRelation, is_caching, IsRequest}
+use proofs.Imports.{first_of, asked_for, block_used, IsSourced, IsAnswered, Log, Machine, System}
+use Rattle.tl_rules.{proofs.Legal.legal_from_beats, proofs.Places.number_same}
+use Rattle.tl_client.specs.statement.Ask.{Asked, only}
+use Rattle.tl_coherence.specs.statement.Machine.{Replies}
+use proofs.memory.BesideAsked.{IsReply}
+use proofs.protocol.FollowKept.{IsAskable}
+use proofs.simulation.{SizedAfter.IsSizedAsk, SourcedAfter.IsSourcedAsk}
 
 -- ---- what the protocol has, by what the end has
 

@@ -1,37 +1,32 @@
 -- The channels carry the messages of the tokens after each delivery on channel C or E.
-
-use Rattle.tl_coherence.proofs.deliveries.Imports.{IsFor, beat_of, unfinished, completes, Handed, reaction, Deliver}
-use Rattle.tl_coherence.proofs.deliveries.Imports.{Log, receiver, stepped, System, SimulationRelation, is_caching}
-use Rattle.tl_coherence.proofs.deliveries.Imports.{IsWidth, Beat, Channel, Message, MessageA, Config, Report}
-use Rattle.tl_coherence.proofs.deliveries.Imports.{AbstractState, ack_taken, answers, abstract_step, last_taken}
-use Rattle.tl_coherence.proofs.deliveries.Imports.{some_below, packet_taken, with_state, IsWell, IsInvariant}
-use Rattle.tl_coherence.proofs.deliveries.Imports.{ProbeAnswered, AcquirePhase, NoAcquire, AcquireOpen, is_granted_data}
-use Rattle.tl_coherence.proofs.deliveries.Imports.{Service, Waits, Block, shown, view, Free, GrantSent, GrantTaken}
-use Rattle.tl_coherence.proofs.deliveries.Imports.{let_block, release_taken, report_taken, packet, prune_told}
-use Rattle.tl_coherence.proofs.deliveries.Imports.{block_message, report_told, ProbeAck, Release, Grant, ReleaseAck}
-use Rattle.tl_coherence.proofs.deliveries.Imports.{Packet}
+use Rattle.std.proofs.Common.{◌≡◌, ℕ, Bool, true, false, List, [], ◌∷◌, length, refl, sym, ◌∙◌, ap, subst, ◌==◌}
+use Rattle.std.proofs.Common.{if◌then◌else◌}
+use Rattle.tl_coherence.proofs
+use proofs.Imports.{Beat, Channel, IsWidth, Message, MessageA, beat_of, unfinished, completes, Config, Report, Handed}
+use proofs.Imports.{reaction, Deliver, IsWell, IsInvariant, ProbeAck, Release, Grant, ReleaseAck, Packet, set}
+use proofs.Imports.{ProbeAnswered, AcquirePhase, NoAcquire, AcquireOpen, is_granted_data, Service, Waits, Block, view}
+use proofs.Imports.{Free, GrantSent, GrantTaken, let_block, release_taken, report_taken, packet, ended_block}
+use proofs.Imports.{granted_block, AbstractState, ack_taken, answers, abstract_step, last_taken, some_below}
+use proofs.Imports.{packet_taken, with_state, performs, granted_after, prune_told, block_message, report_told}
+use proofs.Imports.{SimulationRelation, is_caching, IsFor, receiver, Log, stepped, System}
 use Rattle.tl_coherence.specs.protocol.Protocol as protocol
-use Rattle.tl_coherence.proofs.{queues.Shown.carried-shown, manager.Choices.plain-past, queues.FirstToken.first-token}
-use Rattle.tl_coherence.proofs.{manager.ManagerSettles.gift_after, manager.Reporting.report-about}
-use Rattle.tl_coherence.proofs.{manager.Reporting.release-about, queues.Landed.IsOn, manager.ManagerAfter.others_probed}
-use Rattle.tl_coherence.proofs.{manager.ManagerTakes.by-first_c, protocol.RequestsKept.settled_all}
-use Rattle.tl_coherence.proofs.{rank.RankParts.serving-use}
-use Rattle.tl_coherence.proofs.simulation.CarriedEvents.{release_taken-shown, report_taken-shown}
-use Rattle.tl_coherence.proofs.simulation.CarriedLastReports.{report_answers-shown, report_grants-shown}
-use Rattle.tl_coherence.proofs.manager.UnwaitedRequests.{invariant-taken, next_tracker}
-use Rattle.tl_coherence.proofs.deliveries.ManagerDelivered.{Delivered, channel_c-delivered, pushed_by}
-use Rattle.tl_coherence.proofs.deliveries.ManagerDelivered.{releases-delivered, reports-delivered}
-use Rattle.tl_coherence.proofs.deliveries.LastReportDelivered.{pushed, pushed_last, seen_apart}
-use Rattle.tl_coherence.proofs.deliveries.ManagerFollowed.{client-of, followed-taken}
-use Rattle.std.proofs.Common.{◌≡◌, ℕ, Bool, true, false, List, [], ◌∷◌, length, refl, sym, ◌∙◌, ap, subst}
-use Rattle.std.specs.Prelude.{◌==◌, if◌then◌else◌}
-use Rattle.tl_coherence.specs.refinement.AbstractStep.{performs, granted_after}
-use Rattle.tl_coherence.specs.{protocol.Protocol.ended_block, protocol.Protocol.granted_block, protocol.Packet.set}
-use Rattle.tl_coherence.proofs.queues.Facts.{answered_other, is_other, own_wants}
-use Rattle.tl_coherence.proofs.queues.Tokens.{same_number, set-same, holds-first, set_at-same}
-use Rattle.tl_coherence.proofs.protocol.BothParts.{answered-is, taken-unseen, granted-unseen}
-use Rattle.tl_coherence.proofs.deliveries.LandedReports.{ended-bytes, on_c, IsReceived, CarriesAfter, part-carried}
-use Rattle.tl_coherence.proofs.deliveries.LandedReports.{last-quietly, last-handing, answer_on_d, grant_on_d, ack_on_d}
+use proofs.queues.{Shown.carried-shown, FirstToken.first-token, Landed.IsOn, Landed.on_own_channel}
+use proofs.queues.{Facts.answered_other, Facts.is_other, Facts.own_wants, Tokens.same_number, Tokens.set-same}
+use proofs.queues.{Tokens.set_at-same}
+use proofs.manager.{Choices.plain-past, ManagerSettles.gift_after, Reporting.report-about, Reporting.release-about}
+use proofs.manager.{ManagerAfter.others_probed, ManagerTakes.by-first_c, UnwaitedRequests.invariant-taken}
+use proofs.manager.{UnwaitedRequests.next_tracker}
+use proofs.protocol.{RequestsKept.settled_all, BothParts.taken-unseen, BothParts.granted-unseen}
+use proofs.protocol.{FirstTokens.first-report}
+use proofs.rank.RankParts.{serving-use}
+use proofs.simulation.{CarriedEvents.release_taken-shown, CarriedEvents.report_taken-shown}
+use proofs.simulation.{CarriedLastReports.report_answers-shown, CarriedLastReports.report_grants-shown}
+use proofs.deliveries.ManagerDelivered.{Delivered, channel_c-delivered, pushed_by, releases-delivered}
+use proofs.deliveries.ManagerDelivered.{reports-delivered}
+use proofs.deliveries.{LastReportDelivered.pushed, LastReportDelivered.pushed_last, LastReportDelivered.seen_apart}
+use proofs.deliveries.{ManagerFollowed.client-of, ManagerFollowed.followed-taken}
+use proofs.deliveries.LandedReports.{ended-bytes, IsReceived, CarriesAfter, part-carried, last-quietly, last-handing}
+use proofs.deliveries.LandedReports.{answer_on_d, grant_on_d, ack_on_d}
 
 -- ---- a ProbeAck
 
@@ -59,8 +54,7 @@ reports-last {w} {config} {log} {h} {sys} {c} n rest {x} {queue} at tokens whole
     after = (stepped config (Deliver (record { 0 = c }) Channel.C) sys).after
 
     answered : (b.pair c).probing ≡ ProbeAnswered r
-    answered = answered-is (b.pair c).probing (holds-first ProbeAck (h.state.link c).c rest (packet ProbeAck n)
-        (λ i. shown ProbeAck c (h.state.block i)) tokens refl (inv.transfers c ProbeAck refl))
+    answered = first-report inv tokens
 
     seen : is_other (view b.service c) ≡ true
     seen = answered_other r (b.pair c) (view b.service c) ((inv.blocks n).phases c) answered
@@ -153,11 +147,11 @@ received_on {w} {config} h {sys} c x queue width is beats =
     (λ n rest tokens next.
     let m = report-about (report_told ((h.state.block n).pair c).probing) n (h.state.block n).truth width
     (is.sized n).truth in
-    subst (IsOn Channel.C) (sym (next.beat_is ∙ ap (λ (i : Message w). beat_of i next.k) m.1)) (on_c m.0 next.k))
+    subst (IsOn Channel.C) (sym (next.beat_is ∙ ap (λ (i : Message w). beat_of i next.k) m.1)) (on_own_channel (beat_of (Message.C m.0) next.k)))
     (λ n rest tokens next.
     let m = release-about (prune_told ((h.state.block n).pair c).letting) ((h.state.block n).release_source c) n
     (h.state.block n).truth width (is.sized n).truth in
-    subst (IsOn Channel.C) (sym (next.beat_is ∙ ap (λ (i : Message w). beat_of i next.k) m.1)) (on_c m.0 next.k))
+    subst (IsOn Channel.C) (sym (next.beat_is ∙ ap (λ (i : Message w). beat_of i next.k) m.1)) (on_own_channel (beat_of (Message.C m.0) next.k)))
 
 -- the channels after a delivery on C, as the protocol follows it
 pub carried-followed_c : {w : ℕ} {config : Config} {log : Log w} (h : AbstractState w) {sys : System w} (c : ℕ)

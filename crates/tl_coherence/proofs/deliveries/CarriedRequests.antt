@@ -1,47 +1,33 @@
 -- The channels after a beat of a request is taken carry the messages of the tokens.
-use Rattle.tl_coherence.proofs.deliveries.Imports.{Beat, Channel, Message, MessageA, a_beat_of, beats_of, unfinished}
-use Rattle.tl_coherence.proofs.deliveries.Imports.{completes, Config, Cap, on_link, same_perm, Handed, Reaction}
-use Rattle.tl_coherence.proofs.deliveries.Imports.{block_at, same_block, reaction, must_wait, reaction-part, Log}
-use Rattle.tl_coherence.proofs.deliveries.Imports.{ChannelRelation, AbstractState, some_below, answers, kind_taken}
-use Rattle.tl_coherence.proofs.deliveries.Imports.{IsInvariant, IsWell, AcquirePhase, AcquireOpen, is_granted_data}
-use Rattle.tl_coherence.proofs.deliveries.Imports.{Free, Block, State, packet, AccessMessages, block_message, Step}
-use Rattle.tl_coherence.proofs.deliveries.Imports.{handing, System, channel_of_message, with_manager, with_channel}
-use Rattle.tl_coherence.proofs.deliveries.Imports.{with_messages, Kind, Request, Acquire, Grant, Packet}
-use Rattle.tl_coherence.proofs.deliveries.Imports.{SimulationRelation, is_caching, Perm}
-use Rattle.std.proofs.Common.{◌≡◌, ℕ, suc, ◌≤◌, ◌==◌, Bool, true, false, not, ◌&&◌, ◌||◌, List, [], ◌∷◌, Option, Some}
-use Rattle.std.proofs.Common.{None, length, refl, sym, subst, ◌∙◌, ap, ◌⊎◌, inl, inr, arith}
-use Rattle.std.{specs.Prelude.if◌then◌else◌, proofs.lemmas.Bool.cases_lt, proofs.Math.Bool.and_comm}
-use Rattle.tl_beat.specs.declared.beat.BeatA.{BeatA}
-use Rattle.tl_rules.{specs.declared.answer.Answer.Answer, specs.statement.Effect.effect}
-use Rattle.tl_rules.{specs.statement.Effect.answer_of, specs.statement.History.is_acquire, proofs.Sent.is_last}
-use Rattle.tl_manager.specs.statement.Handing.{access_answer, probes}
+use Rattle.std.proofs.Common.{◌≡◌, ℕ, suc, ◌≤◌, Bool, true, false, not, ◌&&◌, ◌||◌, List, [], ◌∷◌, Option, Some, None}
+use Rattle.std.proofs.Common.{length, refl, sym, subst, ◌∙◌, ap, ◌⊎◌, inl, inr, arith, ◌==◌, if◌then◌else◌}
+use Rattle.tl_coherence.proofs
+use proofs.Imports.{and_comm, cases_lt, Beat, Channel, Message, MessageA, a_beat_of, beats_of, unfinished, completes}
+use proofs.Imports.{Config, Cap, Perm, is_last, on_link, same_perm, effect, answer_of, block_at, is_acquire, same_block}
+use proofs.Imports.{swapped, reaction-part, Handed, Reaction, probes, recorded, probed, cap_probed, is_spared}
+use proofs.Imports.{must_wait, reaction, Outcome, IsInvariant, IsWell, cap_asked, Kind, Request, Acquire, Grant, Packet}
+use proofs.Imports.{AcquirePhase, AcquireOpen, is_granted_data, is_above, Free, Block, State, packet, is_probed}
+use proofs.Imports.{granted_at_once, acquire_served, acquire_granted, AbstractState, some_below, answers, kind_taken}
+use proofs.Imports.{bytes_at, probes_some, access_taken, request_taken, performs, gift, is_unheld, acquire_taken}
+use proofs.Imports.{ChannelRelation, AccessMessages, block_message, SimulationRelation, is_caching, Log, Step, handing}
+use proofs.Imports.{System, with_manager, with_channel, with_messages}
 use Rattle.tl_manager.specs.statement.Holders as holders
-use Rattle.tl_manager.specs.statement.Holders.{recorded, probed, cap_probed, is_spared}
-use Rattle.tl_client.proofs.endpoint.HeldAfter.{swapped}
-use Rattle.tl_coherence.specs.{declared.event.Outcome.Outcome, protocol.Invariant.cap_asked}
-use Rattle.tl_coherence.specs.{protocol.PhaseSteps.is_above}
-use Rattle.tl_coherence.specs.refinement.AbstractStep.{bytes_at, probes_some, access_taken, request_taken, performs}
-use Rattle.tl_coherence.specs.refinement.AbstractStep.{gift, is_unheld, acquire_taken}
-use Rattle.tl_coherence.specs.protocol.Protocol.{is_probed, granted_at_once, acquire_served, acquire_granted}
-use Rattle.tl_coherence.proofs.{manager.Admitted.offered-taken, manager.AtRequests.end_after}
-use Rattle.tl_coherence.proofs.{manager.AtRequests.reaction-probing, queues.Shown.carried-shown}
-use Rattle.tl_coherence.proofs.{protocol.FollowKept.IsReady, protocol.RequestsKept.some-none}
-use Rattle.tl_coherence.proofs.{protocol.RequestsKept.leaves-bytes, queues.Showing.carries, queues.Showing.none-carried}
-use Rattle.tl_coherence.proofs.{protocol.Heads.IsAsked, protocol.Heads.IsWanted, manager.ManagedServed.same_above}
-use Rattle.tl_coherence.proofs.{manager.Requests.recorded-beat, queues.Tokens.set-same, simulation.Moved.manager-heard}
-use Rattle.tl_coherence.proofs.{simulation.Moved.carried-part, queues.Codes.acquires-so, queues.Perms.none-above}
-use Rattle.tl_coherence.proofs.{bound.RankAfter.once_on_d}
-use Rattle.tl_coherence.proofs.manager.Arrivals.{link_of, with_beat, IsComing, ends-coming, service_for}
-use Rattle.tl_coherence.proofs.simulation.CarriedEvents.{access_answered-shown, acquire_granted-shown}
-use Rattle.tl_coherence.proofs.simulation.CarriedProbes.{probe_pushes, channels-probes, access_served-shown}
-use Rattle.tl_coherence.proofs.simulation.CarriedProbes.{acquire_served-shown}
-use Rattle.tl_coherence.proofs.manager.RequestsHanded.{handed-answered, handed-granted}
-use Rattle.tl_coherence.proofs.manager.UnwaitedRequests.{next_tracker, free-last, invariant-taken, probed-some}
-use Rattle.tl_coherence.proofs.manager.UnwaitedRequests.{somebody-probed, beyond-none}
-use Rattle.tl_coherence.proofs.manager.RequestsTaken.{caps_asked, acquire_wanted, ready-request, ready-acquire}
-use Rattle.tl_coherence.proofs.queues.Channels.{behind, IsTaken, pushes_at}
-use Rattle.tl_coherence.proofs.queues.Landed.{pushes_of, IsLanded, taken-landed, IsOn, HasTaken, landed-manager}
-use Rattle.tl_coherence.proofs.queues.Landed.{channels-handed}
+use proofs.manager.{Admitted.offered-taken, AtRequests.end_after, AtRequests.reaction-probing, ManagedServed.same_above}
+use proofs.manager.{Requests.recorded-beat, Arrivals.link_of, Arrivals.with_beat, Arrivals.IsComing}
+use proofs.manager.{Arrivals.ends-coming, Arrivals.service_for, RequestsHanded.handed-answered}
+use proofs.manager.{RequestsHanded.handed-granted, RequestsTaken.caps_asked, RequestsTaken.acquire_wanted}
+use proofs.manager.{RequestsTaken.ready-request, RequestsTaken.ready-acquire}
+use proofs.queues.{Shown.carried-shown, Showing.carries, Showing.none-carried, Tokens.set-same, Codes.acquires-so}
+use proofs.queues.{Perms.none-above, Channels.behind, Channels.IsTaken, Channels.pushes_at}
+use proofs.protocol.{Events.IsReady, RequestsKept.some-none, RequestsKept.leaves-bytes, Heads.IsAsked, Heads.IsWanted}
+use proofs.simulation.{Moved.manager-heard, Moved.carried-part, CarriedEvents.access_answered-shown}
+use proofs.simulation.{CarriedEvents.acquire_granted-shown}
+use proofs.bound.RankAfter.{once_on_d}
+use proofs.simulation.CarriedProbes.{probe_pushes, channels-probes, access_served-shown, acquire_served-shown}
+use proofs.manager.UnwaitedRequests.{next_tracker, free-last, invariant-taken, probed-some, somebody-probed}
+use proofs.manager.UnwaitedRequests.{beyond-none}
+use proofs.queues.Landed.{pushes_of, IsLanded, taken-landed, HasTaken, landed-manager, channels-handed, on_own_channel}
+use proofs.deliveries.LandedReports.{answer_on_d}
 
 -- ---- the whole after a beat of a request
 
@@ -50,10 +36,6 @@ abbrev pub system_after : {w : ℕ} → Config → ℕ → ℕ → MessageA w �
 system_after config c k m queue sys =
     with_messages (reaction config (link_of c) (Beat.A (a_beat_of m k)) sys.manager).handed
     (with_manager (end_after config c k m sys.manager) (with_channel c Channel.A queue sys))
-
-on_a : {w : ℕ} (x : BeatA w) → IsOn Channel.A (Beat.A x)
-on_a x Channel.A = refl
-on_a x _ = refl
 
 heard-coming : {w : ℕ} (config : Config) (c k : ℕ) (m : MessageA w) (queue : List (Beat w)) (sys : System w)
     → IsComing config c k m sys.manager
@@ -77,7 +59,7 @@ landed-coming {w} {config} {c} {k} {m} queue sys handed pushes is beats done pus
     let base : System w = with_manager (end_after config c k m sys.manager) (with_channel c Channel.A queue sys) in
     landed-manager c Channel.A (Beat.A (a_beat_of m k)) queue pushes
     (reaction config (link_of c) (Beat.A (a_beat_of m k)) sys.manager).handed
-    (end_after config c k m sys.manager) sys refl beats (on_a (a_beat_of m k)) (heard-coming config c k m queue sys is)
+    (end_after config c k m sys.manager) sys refl beats (on_own_channel (Beat.A (a_beat_of m k))) (heard-coming config c k m queue sys is)
     (λ d at. ap (λ (i : Handed w). (with_messages i base).channels d at) done ∙ pushed base d at)
 
 -- ---- a beat that isn't the last
@@ -229,10 +211,6 @@ carried-acquire_taken {w} {config} {log} h {sys} {c} {n} {k} rest queue is first
         (handed-granted is asked comes last (rw caps f) well)) is.carried
 
 -- ---- an access
-
-pub answer_on_d : {w : ℕ} (m : MessageA w) (r : Answer) → channel_of_message (access_answer m r) ≡ Channel.D
-answer_on_d m Answer.Ack = refl
-answer_on_d m r = refl
 
 -- an access that is answered at once changes the bytes only where no message carries them
 pub unread-bytes : {w : ℕ} {config : Config} {log : Log w} {mail : AccessMessages w} {request : ℕ → MessageA w}

@@ -1,34 +1,24 @@
 -- A beat that is delivered to a client: the channels and the one memory afterwards.
-use Rattle.tl_coherence.proofs.deliveries.Imports.{IsWidth, Beat, Link, Channel, Message, unfinished, completes, Config}
-use Rattle.tl_coherence.proofs.deliveries.Imports.{Cap, Deliver, MemoryRelation, is_moving, AbstractState}
-use Rattle.tl_coherence.proofs.deliveries.Imports.{abstract_step, packet_taken, kind_taken, IsInvariant, Log, Machine}
-use Rattle.tl_coherence.proofs.deliveries.Imports.{Requests, ChannelRelation, receiver, AcquirePhase, Service, Block}
-use Rattle.tl_coherence.proofs.deliveries.Imports.{packet, packets_on, shown, one_memory_after, accesses_answered}
-use Rattle.tl_coherence.proofs.deliveries.Imports.{block_message, stepped, handed_by, System, with_client, with_channel}
-use Rattle.tl_coherence.proofs.deliveries.Imports.{with_messages, Kind, Answer, Grant, ReleaseAck, GrantAck, Packet}
-use Rattle.tl_coherence.proofs.deliveries.Imports.{SimulationRelation, is_caching}
 use Rattle.std.proofs.Common.{◌≡◌, ℕ, Bool, true, false, List, [], ◌∷◌, Option, Some, None, refl, sym, ◌∙◌, ap, subst}
-use Rattle.std.proofs.Common.{◌⊎◌}
-use Rattle.std.specs.Prelude.{if◌then◌else◌}
-use Rattle.tl_beat.{specs.declared.beat.BeatD.BeatD, specs.declared.opcode.OpD.OpD}
-use Rattle.tl_burst.specs.declared.message.MessageD.{MessageD}
-use Rattle.tl_rules.specs.statement.History.{is_grant, is_release_ack}
-use Rattle.tl_client.{specs.declared.verdict.Finish.Finish, specs.statement.Send.grant_ack}
+use Rattle.std.proofs.Common.{◌⊎◌, if◌then◌else◌}
+use Rattle.tl_coherence.proofs
+use proofs.Imports.{Beat, BeatD, Link, Channel, OpD, IsWidth, Message, MessageD, unfinished, completes, Config, Cap}
+use proofs.Imports.{is_grant, is_release_ack, Finish, grant_ack, no_ack_grant, Deliver, IsInvariant, Kind, Answer}
+use proofs.Imports.{Grant, ReleaseAck, GrantAck, Packet, AcquirePhase, is_unreleased, is_whole, Service, Block, packet}
+use proofs.Imports.{packets_on, answer_taken, grant_taken, release_ack_taken, taken_block, shown, is_wanting}
+use proofs.Imports.{AbstractState, abstract_step, packet_taken, kind_taken, taken_by_client, ChannelRelation}
+use proofs.Imports.{MemoryRelation, block_message, SimulationRelation, is_caching, receiver, is_moving, Log, Machine}
+use proofs.Imports.{Requests, Pool, Releases, pool_of, after_end, one_memory_after, accesses_answered, stepped}
+use proofs.Imports.{handed_by, System, with_client, with_channel, with_messages}
 use Rattle.tl_client.specs.statement.Offer as offer
-use Rattle.tl_coherence.specs.{refinement.AbstractStep.taken_by_client, protocol.Phase.is_unreleased}
-use Rattle.tl_coherence.specs.{protocol.Phase.is_whole, protocol.Tokens.is_wanting}
-use Rattle.tl_coherence.specs.statement.Machine.{Pool, Releases, pool_of, after_end}
-use Rattle.tl_coherence.specs.protocol.Protocol.{answer_taken, grant_taken, release_ack_taken, taken_block}
-use Rattle.tl_coherence.proofs.memory.BesideResponses.{beside-answer, beside-grant, beside-release_ack}
-use Rattle.tl_coherence.proofs.{queues.Shown.carried-shown, queues.Channels.IsTaken, queues.Channels.pushes_at}
-use Rattle.tl_coherence.proofs.{queues.Showing.carries, queues.Codes.grants-so, queues.Codes.access_kind}
-use Rattle.tl_coherence.proofs.simulation.CarriedResponses.{answer_taken-shown, grant_taken-shown}
-use Rattle.tl_coherence.proofs.simulation.CarriedResponses.{release_ack_taken-shown}
-use Rattle.tl_coherence.proofs.protocol.HeadOfD.{IsAnswerDue, IsGrantDue, grant_message, ack_message}
-use Rattle.tl_coherence.proofs.client.DeliverD.{finish_at, acked, finish-pool}
-use Rattle.tl_coherence.proofs.queues.Landed.{pushes_of, IsOn, HasHeard, landed-client, taken-landed}
-use Rattle.tl_coherence.proofs.manager.UnwaitedRequests.{next_tracker, invariant-taken}
-use Rattle.tl_manager.proofs.pending.Answered.{no_ack_grant}
+use proofs.memory.BesideResponses.{beside-answer, beside-grant, beside-release_ack}
+use proofs.queues.{Shown.carried-shown, Channels.IsTaken, Channels.pushes_at, Showing.carries, Codes.grants-so}
+use proofs.queues.{Codes.access_kind}
+use proofs.queues.Landed.{pushes_of, IsOn, HasHeard, landed-client, taken-landed, on_own_channel}
+use proofs.simulation.CarriedResponses.{answer_taken-shown, grant_taken-shown, release_ack_taken-shown}
+use proofs.protocol.HeadOfD.{IsAnswerDue, IsGrantDue, grant_message, ack_message}
+use proofs.client.DeliverD.{finish_at, acked, finish-pool}
+use proofs.manager.UnwaitedRequests.{next_tracker, invariant-taken}
 
 -- ---- a delivery that moves a beat, as the protocol follows it
 
@@ -44,10 +34,6 @@ pub followed-still : {w : ℕ} (config : Config) (link : Link) (ch : Channel) (s
     → is_moving (stepped config (Deliver link ch) sys).outcome ≡ false
     → abstract_step config (Deliver link ch) sys h ≡ h
 followed-still {w} config link ch sys h still = cc still
-
-pub on_d : {w : ℕ} (y : BeatD w) → IsOn Channel.D (Beat.D y)
-on_d y Channel.A = refl
-on_d y _ = refl
 
 -- ---- the last beat of a response
 
@@ -81,7 +67,7 @@ taken_d : {w : ℕ} {c : ℕ} {x : Beat w} {queue : List (Beat w)} {sys : System
     → IsTaken c Channel.D x queue (pushes_at c (pushes_of m)) sys (after_heard c Channel.D x queue sys m)
 taken_d {w} {c} {x} {queue} {sys} m is =
     taken-landed (landed-client c Channel.D x queue m (offer.taken x (sys.clients c)).after sys refl is.first
-    (subst (λ (z : Beat w). IsOn Channel.D z) (sym is.x_is) (on_d is.y)) is.heard) is.last
+    (subst (λ (z : Beat w). IsOn Channel.D z) (sym is.x_is) (on_own_channel (Beat.D is.y))) is.heard) is.last
 
 finish_pool_is : {w : ℕ} {c : ℕ} {x : Beat w} {queue : List (Beat w)} {sys : System w} {mm : MessageD w}
     (is : IsLastBeat c x queue sys mm)

@@ -1,52 +1,37 @@
 -- A delivery that moves no beat, and the channels and the one memory after a delivery.
-use Rattle.tl_coherence.proofs.deliveries.Imports.{Beat, Link, Channel, Message, unfinished, Config, Cap, Grow, Perm}
-use Rattle.tl_coherence.proofs.deliveries.Imports.{on_link, same_perm, Deliver, MemoryRelation, is_moving}
-use Rattle.tl_coherence.proofs.deliveries.Imports.{AbstractState, abstract_step, IsInvariant, Log, system_after}
-use Rattle.tl_coherence.proofs.deliveries.Imports.{Machine, moved, ChannelRelation, receiver, AcquireOpen, Block, State}
-use Rattle.tl_coherence.proofs.deliveries.Imports.{view, one_memory_after, performing, accesses_answered}
-use Rattle.tl_coherence.proofs.deliveries.Imports.{AccessMessages, Step, stepped, only, manager_took, is_to_client}
-use Rattle.tl_coherence.proofs.deliveries.Imports.{System, terms_at, with_client, with_manager, SimulationRelation}
 use Rattle.std.proofs.Common.{◌≡◌, ℕ, Bool, true, false, List, [], ◌∷◌, Option, Some, None, refl, sym, ◌∙◌, ap, ◌⊎◌}
-use Rattle.std.proofs.Common.{inl, inr}
-use Rattle.std.specs.Prelude.{◌==◌, if◌then◌else◌, Result, Ok, Err}
-use Rattle.std.proofs.lemmas.Bool.{cases_eq, ne_eqb, not-true, or_right}
-use Rattle.tl_params.specs.declared.rule.Rule.{Rule}
-use Rattle.tl_client.{specs.declared.verdict.Verdict.Verdict, proofs.messages.Calls.refusal-offered}
+use Rattle.std.proofs.Common.{inl, inr, not, ne_eqb, ◌==◌, if◌then◌else◌, Result, Ok, Err}
+use Rattle.tl_coherence.proofs
+use proofs.Imports.{cases_eq, not-true, or_right, Beat, Link, Channel, Message, unfinished, Config, Cap, Grow, Perm}
+use proofs.Imports.{Rule, cap_right, on_link, same_perm, Verdict, Deliver, Outcome, IsInvariant, AcquireOpen}
+use proofs.Imports.{grant_fits, cap_fits, Block, State, view, taken_block, is_granting, AbstractState, abstract_step}
+use proofs.Imports.{IsCarried, ChannelRelation, MemoryRelation, AccessMessages, messages_on, SimulationRelation}
+use proofs.Imports.{receiver, is_moving, Log, system_after, Machine, moved, one_memory_after, performing}
+use proofs.Imports.{accesses_answered, Step, stepped, only, manager_took, is_to_client, stepped_at, judged, client_took}
+use proofs.Imports.{System, terms_at, with_client, with_manager}
+use Rattle.tl_client.proofs.messages.Calls.{refusal-offered}
 use Rattle.tl_client.specs.statement.Endpoint as client
 use Rattle.tl_client.specs.statement.Offer as offer
 use Rattle.tl_manager.specs.statement.End as manager_end
 use Rattle.tl_manager.specs.statement.Offer as manager_offer
-use Rattle.tl_coherence.specs.{declared.event.Outcome.Outcome, refinement.Carried.IsCarried, protocol.Phase.grant_fits}
-use Rattle.tl_coherence.specs.{protocol.Protocol.taken_block, protocol.Tokens.is_granting}
-use Rattle.tl_coherence.specs.{refinement.PacketMessages.messages_on}
-use Rattle.tl_coherence.specs.statement.Step.{stepped_at, judged, client_took}
 use Rattle.tl_coherence.specs.statement.Step as step
-use Rattle.tl_coherence.proofs.{protocol.HeadOfD.IsGrantDue, protocol.HeadOfD.own_view, queues.Phases.and_left}
-use Rattle.tl_coherence.proofs.{queues.Tokens.same_number}
-use Rattle.tl_coherence.proofs.deliveries.DeliverDAfter.{IsBare, followed-still}
-use Rattle.tl_coherence.proofs.queues.Showing.{is_given, is_told, carries, untold, uncarried, granted-untold}
+use proofs.protocol.HeadOfD.{IsGrantDue, own_view}
+use proofs.queues.{Phases.and_left, Phases.and_right, Tokens.same_number, Showing.is_given, Showing.is_told}
+use proofs.queues.{Showing.carries, Showing.untold, Showing.uncarried, Showing.granted-untold, Perms.fits_cap}
+use proofs.queues.{Perms.whole_cap}
+use proofs.deliveries.DeliverDAfter.{IsBare, followed-still}
 
 -- ---- a Grant of a whole block
 
 -- what is granted to a store of the whole block: Trunk, and no data
 whole_fits : (recorded held : Perm) (d : Bool) (k : Cap) (g : Grow)
     → grant_fits recorded held d k (AcquireOpen true g) ≡ true → (same_perm recorded Perm.Trunk ≡ true) × (d ≡ false)
-whole_fits Perm.Trunk held false Cap.ToT g e = (refl, refl)
-whole_fits Perm.Trunk held true Cap.ToT Grow.NtoT e = absurd cc
-whole_fits Perm.Trunk held true Cap.ToT Grow.BtoT e = absurd cc
-whole_fits Perm.Trunk held true Cap.ToT Grow.NtoB e = absurd cc
-whole_fits Perm.Trunk held d Cap.ToB g e = absurd cc
-whole_fits Perm.Trunk held d Cap.ToN g e = absurd cc
-whole_fits Perm.Branch held d Cap.ToT g e = absurd cc
-whole_fits Perm.Branch held d Cap.ToB Grow.NtoB e = absurd cc
-whole_fits Perm.Branch held d Cap.ToB Grow.NtoT e = absurd cc
-whole_fits Perm.Branch held d Cap.ToB Grow.BtoT e = absurd cc
-whole_fits Perm.Branch held d Cap.ToN g e = absurd cc
-whole_fits Perm.None held d Cap.ToT g e = absurd cc
-whole_fits Perm.None held d Cap.ToB g e = absurd cc
-whole_fits Perm.None held d Cap.ToN Grow.NtoB e = absurd cc
-whole_fits Perm.None held d Cap.ToN Grow.NtoT e = absurd cc
-whole_fits Perm.None held d Cap.ToN Grow.BtoT e = absurd cc
+whole_fits recorded held d k g e =
+    let top = whole_cap g k (fits_cap recorded held d k true g e) in
+    let rest = and_right (cap_fits true g k) _ (and_right (same_perm recorded (cap_right k)) _ e) in (
+      sym (ap (λ (j : Cap). same_perm recorded (cap_right j)) top) ∙ and_left (same_perm recorded (cap_right k)) _ e,
+      not-true d (and_left (not d) _ rest),
+    )
 
 pub bare : {w : ℕ} {caching : ℕ → Bool} {c n : ℕ} (h : AbstractState w) (due : IsGrantDue c n h.state)
     → IsInvariant caching h.state → IsBare c due.whole due.data_too due.k (h.state.block n)

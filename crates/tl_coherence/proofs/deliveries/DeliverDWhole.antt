@@ -1,30 +1,25 @@
 -- Every delivery on channel D, and every one that moves no beat: the channels and the one memory afterwards.
-use Rattle.tl_coherence.proofs.deliveries.Imports.{IsWidth, Beat, Link, Channel, Message, beat_of, unfinished}
-use Rattle.tl_coherence.proofs.deliveries.Imports.{completes, Config, Deliver, MemoryRelation, is_moving, AbstractState}
-use Rattle.tl_coherence.proofs.deliveries.Imports.{abstract_step, packet_taken, kind_taken, Log, system_after, Machine}
-use Rattle.tl_coherence.proofs.deliveries.Imports.{moved, ChannelRelation, Block, packet, is_on, shown}
-use Rattle.tl_coherence.proofs.deliveries.Imports.{one_memory_after, performing, accesses_answered, block_message}
-use Rattle.tl_coherence.proofs.deliveries.Imports.{message_of, message_of_kind, Step, stepped, handing, handed_by}
-use Rattle.tl_coherence.proofs.deliveries.Imports.{System, terms_at, with_client, with_channel, Kind, Answer, Grant}
-use Rattle.tl_coherence.proofs.deliveries.Imports.{ReleaseAck, Packet, SimulationRelation, is_caching}
-use Rattle.std.proofs.Common.{◌≡◌, ℕ, Bool, true, false, List, ◌∷◌, Some, None, refl, sym, ◌∙◌, ap, subst}
-use Rattle.std.specs.Prelude.{◌==◌, if◌then◌else◌, map}
-use Rattle.tl_beat.specs.declared.beat.BeatD.{BeatD}
-use Rattle.tl_burst.{specs.declared.message.MessageD.MessageD, specs.statement.Burst.d_beat_of}
-use Rattle.tl_client.specs.declared.verdict.Verdict.{Verdict}
+use Rattle.std.proofs.Common.{◌≡◌, ℕ, Bool, true, false, List, ◌∷◌, Some, None, refl, sym, ◌∙◌, ap, subst, ◌==◌}
+use Rattle.std.proofs.Common.{if◌then◌else◌, map}
+use Rattle.tl_coherence.proofs
+use proofs.Imports.{Beat, BeatD, Link, Channel, IsWidth, Message, MessageD, beat_of, d_beat_of, unfinished, completes}
+use proofs.Imports.{Config, Verdict, Deliver, Outcome, Kind, Answer, Grant, ReleaseAck, Packet, Block, packet, is_on}
+use proofs.Imports.{AbstractState, abstract_step, packet_taken, kind_taken, ChannelRelation, MemoryRelation}
+use proofs.Imports.{block_message, message_of, message_of_kind, SimulationRelation, is_caching, is_moving, Log}
+use proofs.Imports.{system_after, Machine, moved, one_memory_after, performing, accesses_answered, Step, stepped}
+use proofs.Imports.{handing, handed_by, System, terms_at, with_client, with_channel}
 use Rattle.tl_client.specs.statement.Endpoint as client
 use Rattle.tl_client.specs.statement.Offer as offer
-use Rattle.tl_coherence.specs.declared.event.Outcome.{Outcome}
-use Rattle.tl_coherence.proofs.{queues.Carried.IsNext, queues.FirstToken.IsFirst, queues.FirstToken.first-token}
-use Rattle.tl_coherence.proofs.{manager.UnwaitedRequests.next_tracker, queues.Tokens.holds-first}
-use Rattle.tl_coherence.proofs.{protocol.BothParts.acked-open}
-use Rattle.tl_coherence.proofs.protocol.HeadOfD.{grant_message, ack_message, answer-due, grant-due, grant-rendered}
-use Rattle.tl_coherence.proofs.client.DeliverD.{finish_at, acked, answer-last, answer-part, same_answers}
-use Rattle.tl_coherence.proofs.deliveries.DeliverDAfter.{IsLastBeat, IsResponded, followed-moving, on_d}
-use Rattle.tl_coherence.proofs.deliveries.DeliverDAfter.{responded-answer, responded-grant, responded-release_ack}
-use Rattle.tl_coherence.proofs.queues.Landed.{pushes_of, IsOn, HasHeard, landed-client}
-use Rattle.tl_coherence.proofs.simulation.Moved.{IsTakenByClient, client-moves, client-heard, carried-part}
-use Rattle.tl_coherence.proofs.deliveries.DeliverDUnmoved.{bare, IsDelivered, delivered_as}
+use proofs.queues.{Carried.IsNext, FirstToken.IsFirst, FirstToken.first-token, Landed.pushes_of, Landed.IsOn}
+use proofs.queues.{Landed.HasHeard, Landed.landed-client, Landed.on_own_channel}
+use proofs.manager.UnwaitedRequests.{next_tracker}
+use proofs.protocol.{BothParts.acked-open, HeadOfD.grant_message, HeadOfD.ack_message, HeadOfD.answer-due}
+use proofs.protocol.{HeadOfD.grant-due, HeadOfD.grant-rendered, FirstTokens.first-shown}
+use proofs.client.DeliverD.{finish_at, acked, answer-last, answer-part, same_answers}
+use proofs.deliveries.DeliverDAfter.{IsLastBeat, IsResponded, followed-moving, responded-answer, responded-grant}
+use proofs.deliveries.DeliverDAfter.{responded-release_ack}
+use proofs.simulation.Moved.{IsTakenByClient, client-moves, client-heard, carried-part}
+use proofs.deliveries.DeliverDUnmoved.{bare, IsDelivered, delivered_as}
 
 -- ---- on channel D
 
@@ -93,7 +88,7 @@ part_d {w} {config} {log} link h {terms} {x} {queue} mm k width is first x_is pa
     delivered_as config log link Channel.D h h same (subst (λ (y : Step w). ChannelRelation h.mail h.state y.after)
     (sym step_is) (carried-part h.mail h.state width
     (landed-client link.0 Channel.D x queue None (offer.taken x e).after sys refl first
-    (subst (λ (z : Beat w). IsOn Channel.D z) (sym x_is) (on_d y)) (client-heard width (is.kept link.0) t))
+    (subst (λ (z : Beat w). IsOn Channel.D z) (sym x_is) (on_own_channel (Beat.D y))) (client-heard width (is.kept link.0) t))
     (λ d at. none_pushed w at (d == link.0)) part is.carried))
     (subst (λ (m : Machine w). MemoryRelation h.mail h.state m)
     (sym (remembered_after config log link Channel.D now step_is)) is.beside)
@@ -202,8 +197,7 @@ delivered-d {w} {config} {log} link h terms x queue width is known beats moving 
         (h.state.block n).truth) tokens (grant-rendered c n h.state due) next
         (λ last. responded-grant h first.rest due width is tokens (bare h due is.invariant) last)
     kinds ReleaseAck n tokens own next =
-        let acked_there = holds-first ReleaseAck (h.state.link c).d first.rest (packet ReleaseAck n)
-        (λ i. shown ReleaseAck c (h.state.block i)) tokens refl (is.invariant.transfers c ReleaseAck refl) in
+        let acked_there = first-shown is.invariant c ReleaseAck refl tokens in
         by_message ReleaseAck n (ack_message ((h.state.block n).release_source c)) tokens
         (rendered_release_ack c n (h.state.block n)) next
         (λ last. responded-release_ack h n first.rest width is tokens

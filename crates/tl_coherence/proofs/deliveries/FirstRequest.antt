@@ -1,32 +1,25 @@
 -- The request that is first on channel A: it is taken, or has to wait.
-use Rattle.tl_coherence.proofs.deliveries.Imports.{IsWidth, Beat, MessageA, a_beat_of, beats_of, unfinished, Config}
-use Rattle.tl_coherence.proofs.deliveries.Imports.{on_link, block_at, same_block, reaction, End, must_wait}
-use Rattle.tl_coherence.proofs.deliveries.Imports.{AbstractState, kind_taken, Free, packet, is_on, Log, message_of}
-use Rattle.tl_coherence.proofs.deliveries.Imports.{System, Kind, Request, Acquire, Packet, SimulationRelation}
-use Rattle.tl_coherence.proofs.deliveries.Imports.{MemoryRelation, Machine, ChannelRelation, accesses_answered}
-use Rattle.tl_coherence.proofs.deliveries.Imports.{performing, Channel, Message}
-use Rattle.std.proofs.Common.{◌≡◌, ℕ, suc, ◌+◌, ◌<◌, ◌==◌, true, false, List, [], ◌∷◌, None, length, refl, sym, ◌∙◌, ap}
-use Rattle.std.proofs.Common.{inl, arith}
-use Rattle.std.{specs.Prelude.map, specs.Prelude.nat_le, proofs.lemmas.Bool.or_parts}
-use Rattle.tl_burst.{specs.statement.Burst.begun, specs.statement.Burst.IsBlankAfter, proofs.Begun.length-begun}
-use Rattle.tl_rules.{specs.statement.Conformance.broken_in_order, specs.statement.History.ends, proofs.Sent.is_last}
-use Rattle.tl_manager.specs.statement.Service.{services, is_in_service}
+use Rattle.std.proofs.Common.{◌≡◌, ℕ, suc, ◌+◌, ◌<◌, true, false, List, [], ◌∷◌, None, length, refl, sym, ◌∙◌, ap, inl}
+use Rattle.std.proofs.Common.{arith, ◌==◌, map, nat_le}
+use Rattle.tl_coherence.proofs
+use proofs.Imports.{or_parts, Beat, Channel, IsWidth, length-begun, Message, MessageA, a_beat_of, beats_of, begun}
+use proofs.Imports.{IsBlankAfter, unfinished, Config, is_last, on_link, broken_in_order, block_at, ends, same_block}
+use proofs.Imports.{End, must_wait, before_stall, reaction, services, is_in_service, Kind, Request, Acquire, Packet}
+use proofs.Imports.{Free, packet, is_on, on, AbstractState, kind_taken, IsCarried, ChannelRelation, MemoryRelation}
+use proofs.Imports.{message_of, SimulationRelation, Log, Machine, accesses_answered, performing, System}
+use Rattle.tl_manager.specs.statement.Offer.{offered}
 use Rattle.tl_manager.specs.statement.Offer as manager
-use Rattle.tl_manager.specs.statement.Offer.{before_stall, offered}
-use Rattle.tl_coherence.specs.{refinement.Carried.IsCarried, protocol.Protocol.on}
-use Rattle.tl_coherence.proofs.manager.Admitted.{order-access, order-acquire, early-acquire, unserved-free, first-beat}
-use Rattle.tl_coherence.proofs.manager.Admitted.{passes-first, waits-first, offered-taken, offered-stalled}
-use Rattle.tl_coherence.proofs.manager.Admitted.{first_counts}
-use Rattle.tl_coherence.proofs.memory.BesideRequests.{IsOnce, acquire-accesses, beside-request_taken}
-use Rattle.tl_coherence.proofs.memory.BesideRequests.{beside-acquire_taken, request-once}
-use Rattle.tl_coherence.proofs.{manager.Arrivals.link_of, manager.Arrivals.IsComing, manager.AtRequests.end_after}
-use Rattle.tl_coherence.proofs.{queues.Carried.IsNext, protocol.FollowKept.IsReady, manager.Requests.IsUnwaited}
-use Rattle.tl_coherence.proofs.{manager.UnwaitedRequests.next_tracker, manager.ManagerAfter.IsManagerOf}
-use Rattle.tl_coherence.proofs.deliveries.CarriedRequests.{system_after, carried-request_taken, carried-acquire_taken}
-use Rattle.tl_coherence.proofs.protocol.Heads.{IsAsked, asked-first, IsWanted, wanted-first, acquisition-blank}
-use Rattle.tl_coherence.proofs.protocol.Heads.{acquisition_beats, front-of}
-use Rattle.tl_coherence.proofs.manager.RequestsTaken.{unwaited-asked, ready-request, at_manager-request_taken}
-use Rattle.tl_coherence.proofs.manager.RequestsTaken.{acquire_wanted, ready-acquire, at_manager-acquire_taken}
+use proofs.manager.Admitted.{order-access, order-acquire, early-acquire, unserved-free, first-beat, passes-first}
+use proofs.manager.Admitted.{waits-first, offered-taken, offered-stalled, first_counts}
+use proofs.memory.BesideRequests.{IsOnce, acquire-accesses, beside-request_taken, beside-acquire_taken, request-once}
+use proofs.manager.{Arrivals.link_of, Arrivals.IsComing, AtRequests.end_after, Requests.IsUnwaited}
+use proofs.manager.{UnwaitedRequests.next_tracker, ManagerAfter.IsManagerOf}
+use proofs.queues.Carried.{IsNext}
+use proofs.protocol.Events.{IsReady}
+use proofs.deliveries.CarriedRequests.{system_after, carried-request_taken, carried-acquire_taken}
+use proofs.protocol.Heads.{IsAsked, asked-first, IsWanted, wanted-first, acquisition-blank, acquisition_beats, front-of}
+use proofs.manager.RequestsTaken.{unwaited-asked, ready-request, at_manager-request_taken, acquire_wanted}
+use proofs.manager.RequestsTaken.{ready-acquire, at_manager-acquire_taken}
 
 -- ---- the request that is first
 

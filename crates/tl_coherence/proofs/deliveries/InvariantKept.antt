@@ -1,21 +1,21 @@
 -- The protocol keeps its invariant as it follows any event of the world.
-use Rattle.tl_coherence.proofs.deliveries.Imports.{IsWidth, Beat, Link, Channel, MessageA, a_beat_of, beats_of, Config}
-use Rattle.tl_coherence.proofs.deliveries.Imports.{EndConfig, must_wait, Event, Deliver, is_moving, AbstractState}
-use Rattle.tl_coherence.proofs.deliveries.Imports.{abstract_step, IsInvariant, Log, State, packet, is_on}
-use Rattle.tl_coherence.proofs.deliveries.Imports.{AccessMessages, Step, stepped, manager_took, System, terms_at, Kind}
-use Rattle.tl_coherence.proofs.deliveries.Imports.{ProbeAck, Release, GrantAck, Packet, SimulationRelation, is_caching}
-use Rattle.tl_coherence.proofs.deliveries.Imports.{Message}
 use Rattle.std.proofs.Common.{◌≡◌, subst, ℕ, suc, ◌+◌, Bool, true, false, List, ◌∷◌, Option, Some, None, refl, sym, ◌∙◌}
-use Rattle.std.proofs.Common.{ap, arith}
-use Rattle.std.proofs.lemmas.Bool.{eqb-true}
+use Rattle.std.proofs.Common.{ap, arith, eqb-true}
+use Rattle.tl_coherence.proofs
+use proofs.Imports.{Beat, Link, Channel, IsWidth, Message, MessageA, a_beat_of, beats_of, Config, EndConfig, must_wait}
+use proofs.Imports.{Event, Deliver, IsInvariant, Kind, ProbeAck, Release, GrantAck, Packet, State, packet, is_on}
+use proofs.Imports.{AbstractState, abstract_step, AccessMessages, SimulationRelation, is_caching, is_moving, Log, Step}
+use proofs.Imports.{stepped, manager_took, System, terms_at}
 use Rattle.tl_manager.specs.statement.End as manager_end
 use Rattle.tl_manager.specs.statement.Offer as manager
-use Rattle.tl_coherence.proofs.{client.ClientDelivered.shadow_of, protocol.FollowKept.IsReady}
-use Rattle.tl_coherence.proofs.{queues.Steps.stepped-to-manager}
-use Rattle.tl_coherence.proofs.simulation.FollowCases.{IsDelivery, taken_of, followed-cases, on-first}
-use Rattle.tl_coherence.proofs.simulation.InvariantAtClients.{invariant-asked, ready-client, nobody_moves}
-use Rattle.tl_coherence.proofs.deliveries.FirstRequest.{IsArrival, arrival-first, coming-arrival, request-stalled}
-use Rattle.tl_coherence.proofs.manager.UnwaitedRequests.{next_tracker, invariant-taken}
+use proofs.client.ClientDelivered.{shadow_of}
+use proofs.protocol.Events.{IsReady}
+use proofs.queues.Steps.{stepped-to-manager}
+use proofs.simulation.{FollowCases.IsDelivery, FollowCases.taken_of, FollowCases.followed-cases, FollowCases.on-first}
+use proofs.simulation.{InvariantAtClients.invariant-asked, InvariantAtClients.ready-client}
+use proofs.simulation.{InvariantAtClients.nobody_moves}
+use proofs.deliveries.FirstRequest.{IsArrival, arrival-first, coming-arrival, request-stalled}
+use proofs.manager.UnwaitedRequests.{next_tracker, invariant-taken}
 
 -- ---- channel A
 

@@ -1,34 +1,24 @@
 -- The channels after a beat of channel C or E was taken, and the bytes on their way.
-use Rattle.tl_rules.specs.declared.answer.Answer as answers_of
-use Rattle.tl_rules.{specs.declared.answer.Answer.Answer, specs.statement.History.is_acquire}
-use Rattle.tl_coherence.proofs.deliveries.Imports.{same_perm, beat_of, unfinished, completes, EndConfig, Handed}
-use Rattle.tl_coherence.proofs.deliveries.Imports.{reaction, End, Deliver, Log, ChannelRelation, receiver, Step}
-use Rattle.tl_coherence.proofs.deliveries.Imports.{handing, is_to_client, stepped, System, terms_at, with_channel}
-use Rattle.tl_coherence.proofs.deliveries.Imports.{with_manager, with_messages, channel_of_message, SimulationRelation}
-use Rattle.tl_coherence.proofs.deliveries.Imports.{IsWidth, Beat, Channel, Message, MessageA, Config, Cap, Report, Perm}
-use Rattle.tl_coherence.proofs.deliveries.Imports.{prune_left, AbstractState, IsWell, ClientBlock, ProbeAnswered, Waits}
-use Rattle.tl_coherence.proofs.deliveries.Imports.{Block, shown, view, GrantSent, prune_told, block_message, Kind}
-use Rattle.tl_coherence.proofs.deliveries.Imports.{ProbeAck, Release, Grant, ReleaseAck}
-use Rattle.tl_burst.specs.declared.message.MessageC.{MessageC}
-use Rattle.tl_manager.{specs.statement.Handing.access_answer, specs.statement.Holders.cap_probed}
-use Rattle.tl_manager.specs.code.Kept as manager
-use Rattle.tl_coherence.specs.{declared.event.Outcome.Outcome, refinement.AbstractStep.performs}
-use Rattle.tl_coherence.specs.{protocol.Phase.is_unprobed, statement.Permissions.perm_le}
-use Rattle.tl_coherence.specs.{protocol.PhaseSteps.after_report, protocol.Protocol.ended_block}
-use Rattle.tl_coherence.proofs.queues.Channels.{behind, IsTaken, pushes_at}
-use Rattle.tl_coherence.proofs.queues.Landed.{HasTaken, IsLanded, IsOn, landed-manager, channels-handed, pushes_of}
-use Rattle.tl_coherence.proofs.queues.Landed.{taken-landed}
-use Rattle.tl_coherence.proofs.{manager.ManagerAfter.left, deliveries.LastReportDelivered.pushed}
-use Rattle.tl_coherence.proofs.{manager.ManagerTakes.IsTakenUp, simulation.Moved.carried-part}
-use Rattle.tl_coherence.proofs.{simulation.Moved.manager-heard, queues.Facts.reported_within}
-use Rattle.tl_coherence.proofs.{queues.Facts.spared_within, protocol.RequestsKept.leaves-bytes, queues.Showing.carries}
-use Rattle.tl_coherence.proofs.{queues.Showing.none-carried, protocol.BothParts.quiet-is, manager.Admitted.head_all}
-use Rattle.tl_coherence.proofs.deliveries.ManagerFollowed.{client-of, step-taken}
 use Rattle.std.proofs.Common.{◌≡◌, ℕ, Bool, true, false, List, [], ◌∷◌, Option, Some, None, length, refl, sym, ◌∙◌, ap}
 use Rattle.std.proofs.Common.{subst, ◌⊎◌, inl, inr}
-use Rattle.std.{proofs.lemmas.Bool.cases_eq, proofs.Math.Bool.or-true, proofs.lemmas.Option.same_Some}
-use Rattle.tl_params.specs.statement.Param.{report_right}
-use Rattle.tl_coherence.proofs.queues.Tokens.{set-same, set-other, set-part}
+use Rattle.tl_coherence.proofs
+use proofs.Imports.{or-true, cases_eq, same_Some, Beat, Channel, IsWidth, Message, MessageA, unfinished, completes}
+use proofs.Imports.{Config, Cap, Report, Perm, prune_left, report_right, same_perm, is_acquire, EndConfig, End, Handed}
+use proofs.Imports.{access_answer, cap_probed, reaction, Deliver, Outcome, IsWell, Kind, ProbeAck, Release, Grant}
+use proofs.Imports.{ReleaseAck, ClientBlock, ProbeAnswered, is_unprobed, after_report, Waits, Block, view, GrantSent}
+use proofs.Imports.{ended_block, shown, AbstractState, performs, ChannelRelation, prune_told, block_message}
+use proofs.Imports.{SimulationRelation, receiver, Log, perm_le, Step, handing, is_to_client, stepped, System, terms_at}
+use proofs.Imports.{with_channel, with_manager, with_messages, channel_of_message}
+use Rattle.tl_rules.specs.declared.answer.Answer.{Answer}
+use Rattle.tl_rules.specs.declared.answer.Answer as answers_of
+use Rattle.tl_manager.specs.code.Kept as manager
+use proofs.queues.{Channels.behind, Channels.IsTaken, Channels.pushes_at, Facts.reported_within, Facts.spared_within}
+use proofs.queues.{Showing.carries, Showing.none-carried, Tokens.set-same, Tokens.set-other, Tokens.set-part}
+use proofs.queues.Landed.{HasTaken, IsLanded, IsOn, landed-manager, channels-handed, pushes_of, taken-landed}
+use proofs.manager.{ManagerAfter.left, ManagerTakes.IsTakenUp, Admitted.head_all}
+use proofs.deliveries.{LastReportDelivered.pushed, ManagerFollowed.client-of, ManagerFollowed.step-taken}
+use proofs.simulation.Moved.{carried-part, manager-heard}
+use proofs.protocol.{RequestsKept.leaves-bytes, BothParts.quiet-is}
 
 -- ---- an access that ends leaves the bytes on their way, or there are none
 
@@ -109,10 +99,6 @@ landed-taken {w} {config} {c} {ch} {x} queue sys t handed pushes width kept type
     (landed-manager c ch x queue pushes handed e sys down beats on_ch heard (pushed base))
 
 -- a beat of channel C, or of channel E, is of that channel
-pub on_c : {w : ℕ} (m : MessageC w) (k : ℕ) → IsOn Channel.C (beat_of (Message.C m) k)
-on_c m k Channel.A = refl
-on_c m k _ = refl
-
 -- what holds before a delivery to the manager
 pub record IsReceived {w : ℕ} (config : Config) (log : Log w) (h : AbstractState w) (sys : System w) (c : ℕ)
     (ch : Channel)

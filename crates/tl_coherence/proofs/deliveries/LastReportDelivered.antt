@@ -1,32 +1,24 @@
 -- The manager takes the last beat of a ProbeAck.
-use Rattle.tl_coherence.proofs.deliveries.Imports.{is_granted_data, Reaction, Handed, Beat, Message, MessageA, Config}
-use Rattle.tl_coherence.proofs.deliveries.Imports.{Cap, Grow, Report, report_left, same_perm, reaction, End}
-use Rattle.tl_coherence.proofs.deliveries.Imports.{AbstractState, ack_taken, last_taken, some_below, with_state}
-use Rattle.tl_coherence.proofs.deliveries.Imports.{answers, IsInvariant, IsWell, Log, ProbeAnswered, AcquirePhase}
-use Rattle.tl_coherence.proofs.deliveries.Imports.{NoAcquire, AcquireOpen, Service, Free, Waits, GrantSent, GrantTaken}
-use Rattle.tl_coherence.proofs.deliveries.Imports.{Block, report_taken, packet, view, block_message, report_told}
-use Rattle.tl_coherence.proofs.deliveries.Imports.{System, Kind, ProbeAck, Release, Acquire, Packet, Grant, ReleaseAck}
-use Rattle.tl_coherence.proofs.deliveries.Imports.{SimulationRelation, is_caching, Channel, Perm}
+use Rattle.std.proofs.Common.{[], ◌≡◌, ℕ, Bool, true, false, ◌&&◌, List, ◌∷◌, length, refl, sym, ◌∙◌, ap, subst, ◌==◌}
+use Rattle.std.proofs.Common.{if◌then◌else◌}
+use Rattle.tl_coherence.proofs
+use proofs.Imports.{Beat, Channel, Message, MessageA, MessageC, c_beat_of, Config, Cap, Grow, Report, Perm, report_left}
+use proofs.Imports.{grow_code, report_code, same_perm, End, Reaction, Handed, reaction, IsInvariant, IsWell}
+use proofs.Imports.{IsOwnSource, Kind, ProbeAck, Release, Acquire, Packet, Grant, ReleaseAck, set, ProbeAnswered}
+use proofs.Imports.{AcquirePhase, NoAcquire, AcquireOpen, View, Own, Other, Granting, Acknowledging, GrantedOther}
+use proofs.Imports.{is_granted_data, Service, Free, Waits, GrantSent, GrantTaken, Block, report_taken, packet, view}
+use proofs.Imports.{Acquires, granted_block, is_wanting, AbstractState, ack_taken, last_taken, some_below, with_state}
+use proofs.Imports.{answers, acquire_opcode, granted_after, block_message, report_told, SimulationRelation, is_caching}
+use proofs.Imports.{IsAcquireOf, Log, System}
 use Rattle.tl_coherence.specs.protocol.Protocol as protocol
-use Rattle.tl_coherence.proofs.{manager.UnwaitedRequests.invariant-taken, manager.ManagersEnd.at_manager-matched}
-use Rattle.tl_coherence.proofs.{manager.ManagerHanded.grant-rendered, manager.SettlingService.IsSettling}
-use Rattle.tl_coherence.proofs.{manager.ManagerTakes.IsTakenUp, protocol.BothParts.acquires_of-is}
-use Rattle.tl_coherence.proofs.{protocol.BothParts.not-calm, memory.BesideTaken.same_message}
-use Rattle.std.proofs.Common.{[], ◌≡◌, ℕ, Bool, true, false, ◌&&◌, List, ◌∷◌, length, refl, sym, ◌∙◌, ap, subst}
-use Rattle.std.specs.Prelude.{◌==◌, if◌then◌else◌}
-use Rattle.tl_burst.{specs.declared.message.MessageC.MessageC, specs.statement.Burst.c_beat_of}
-use Rattle.tl_params.specs.statement.Param.{grow_code, report_code}
-use Rattle.tl_coherence.specs.refinement.AbstractStep.{acquire_opcode, granted_after}
-use Rattle.tl_coherence.specs.{protocol.Invariant.IsOwnSource, protocol.Protocol.Acquires}
-use Rattle.tl_coherence.specs.{protocol.Protocol.granted_block, protocol.Tokens.is_wanting, protocol.Packet.set}
-use Rattle.tl_coherence.specs.{refinement.SimulationRelation.IsAcquireOf}
-use Rattle.tl_coherence.specs.protocol.Phase.{View, Own, Other, Granting, Acknowledging, GrantedOther}
-use Rattle.tl_coherence.proofs.queues.Facts.{answered_other, is_other, own_wants}
-use Rattle.tl_coherence.proofs.manager.ManagerAfter.{IsManagerOf, left, IsEnd, others_probed, reported-left}
-use Rattle.tl_coherence.proofs.manager.ManagerAfter.{reaction-reported}
-use Rattle.tl_coherence.proofs.manager.ManagerSettles.{IsWanted, ended-left, conceded-left, reaction-ended}
-use Rattle.tl_coherence.proofs.manager.ManagerSettles.{reaction-conceded, gift_after}
-use Rattle.tl_coherence.proofs.queues.Tokens.{same_number, set-same, set_at-same}
+use proofs.manager.{UnwaitedRequests.invariant-taken, ManagersEnd.at_manager-matched, ManagerHanded.grant-rendered}
+use proofs.manager.{SettlingService.IsSettling, ManagerTakes.IsTakenUp}
+use proofs.protocol.BothParts.{acquires_of-is, not-calm}
+use proofs.memory.BesideTaken.{same_message}
+use proofs.queues.{Facts.answered_other, Facts.is_other, Facts.own_wants, Tokens.same_number, Tokens.set-same}
+use proofs.queues.{Tokens.set_at-same}
+use proofs.manager.ManagerAfter.{IsManagerOf, left, IsEnd, others_probed, reported-left, reaction-reported}
+use proofs.manager.ManagerSettles.{IsWanted, ended-left, conceded-left, reaction-ended, reaction-conceded, gift_after}
 
 -- ---- the Acquire that is granted
 

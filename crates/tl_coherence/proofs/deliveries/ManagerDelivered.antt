@@ -1,33 +1,24 @@
 -- The manager's end after any beat that is delivered on channel C or E: it takes the beat, and all that is kept of it
 -- is kept as the protocol follows.
-use Rattle.tl_coherence.proofs.deliveries.Imports.{reaction-part, Reaction, Handed, IsWidth, Beat, Channel, Message}
-use Rattle.tl_coherence.proofs.deliveries.Imports.{beats_of, unfinished, completes, Config, Prune, Report, prune_left}
-use Rattle.tl_coherence.proofs.deliveries.Imports.{on_link, same_perm, IsFor, reaction, End, AbstractState, ack_taken}
-use Rattle.tl_coherence.proofs.deliveries.Imports.{packet_taken, with_state, Log, ProbeAnswered, GrantTaken, Block}
-use Rattle.tl_coherence.proofs.deliveries.Imports.{release_taken, shown, packet, let_block, prune_told, block_message}
-use Rattle.tl_coherence.proofs.deliveries.Imports.{report_told, System, Kind, ProbeAck, Release, GrantAck, Packet}
-use Rattle.tl_coherence.proofs.deliveries.Imports.{ReleaseAck, SimulationRelation, is_caching, Perm}
-use Rattle.tl_coherence.proofs.{queues.FirstToken.first-token, manager.ManagersEnd.at_manager-matched}
-use Rattle.tl_coherence.proofs.{queues.Carried.IsNext, manager.ManagedAcks.IsAcked, queues.Tokens.holds-first}
-use Rattle.tl_coherence.proofs.{queues.Tokens.set-same, manager.Admitted.head_all}
-use Rattle.tl_manager.{proofs.calls.Events.reaction-ack, specs.statement.Handing.release_ack}
-use Rattle.tl_manager.{proofs.pending.LinkHistories.whole-e}
 use Rattle.std.proofs.Common.{[], ◌≡◌, ℕ, ◌+◌, Bool, true, false, List, ◌∷◌, None, length, refl, sym, ◌∙◌, ap, subst}
-use Rattle.std.{specs.Prelude.◌==◌, specs.Prelude.if◌then◌else◌, proofs.lemmas.Bool.eqb-true}
-use Rattle.tl_beat.specs.declared.beat.BeatE.{BeatE}
-use Rattle.tl_burst.specs.declared.message.MessageC.{MessageC}
-use Rattle.tl_burst.specs.statement.Burst.{begun, c_beat_of}
-use Rattle.tl_params.{specs.statement.Param.prune_code, specs.declared.key.Key.TheVariants.GrantSink}
-use Rattle.tl_rules.{specs.statement.Conformance.broken_in_order, specs.statement.History.pending}
+use Rattle.std.proofs.Common.{eqb-true, ◌==◌, if◌then◌else◌}
+use Rattle.tl_coherence.proofs
+use proofs.Imports.{Beat, BeatE, Channel, IsWidth, Message, MessageC, beats_of, begun, c_beat_of, unfinished, completes}
+use proofs.Imports.{Config, GrantSink, Prune, Report, Perm, prune_left, prune_code, on_link, same_perm, broken_in_order}
+use proofs.Imports.{pending, reaction-part, reaction-ack, whole-e, End, Reaction, Handed, release_ack, reaction, Kind}
+use proofs.Imports.{ProbeAck, Release, GrantAck, Packet, ReleaseAck, ProbeAnswered, ReleaseSent, GrantTaken, Block}
+use proofs.Imports.{release_taken, packet, let_block, grant_ack_taken, AbstractState, ack_taken, packet_taken}
+use proofs.Imports.{with_state, prune_told, block_message, report_told, SimulationRelation, is_caching, IsFor, Log}
+use proofs.Imports.{System}
 use Rattle.tl_manager.specs.code.Kept as manager
-use Rattle.tl_coherence.specs.{protocol.Phase.ReleaseSent, protocol.Protocol.grant_ack_taken}
-use Rattle.tl_coherence.proofs.manager.ManagerAfter.{IsManagerOf, left, IsEnd, report_part-left, released-left}
-use Rattle.tl_coherence.proofs.manager.ManagerAfter.{acked-left, reaction-released}
-use Rattle.tl_coherence.proofs.manager.ManagerTakes.{IsTakenUp, ack-order, by-first_c, by-first_e, release-order}
-use Rattle.tl_coherence.proofs.manager.ManagerTakes.{report-order, takes}
-use Rattle.tl_coherence.proofs.manager.Reporting.{report-about, release-about}
-use Rattle.tl_coherence.proofs.protocol.BothParts.{answered-is, releasing-is, acknowledging-is}
-use Rattle.tl_coherence.proofs.deliveries.LastReportDelivered.{pushed, Does, reported-last}
+use proofs.queues.{FirstToken.first-token, Carried.IsNext, Tokens.set-same}
+use proofs.manager.{ManagersEnd.at_manager-matched, ManagedAcks.IsAcked, Admitted.head_all, Reporting.report-about}
+use proofs.manager.{Reporting.release-about}
+use proofs.manager.ManagerAfter.{IsManagerOf, left, IsEnd, report_part-left, released-left, acked-left}
+use proofs.manager.ManagerAfter.{reaction-released}
+use proofs.manager.ManagerTakes.{IsTakenUp, ack-order, by-first_c, by-first_e, release-order, report-order, takes}
+use proofs.deliveries.LastReportDelivered.{pushed, Does, reported-last}
+use proofs.protocol.FirstTokens.{first-grant_ack, first-release, first-report}
 
 -- ---- any beat of a message of channel C
 
@@ -105,8 +96,7 @@ reports-delivered {w} {config} {log} h {sys} c n rest {x} {queue} {ms} width is 
     let about = report-about r n (h.state.block n).truth width (is.sized n).truth in
     let m : MessageC w = about.0 in
     let answered : ((h.state.block n).pair c).probing ≡ ProbeAnswered r =
-    answered-is ((h.state.block n).pair c).probing (holds-first ProbeAck (h.state.link c).c rest (packet ProbeAck n)
-    (λ i. shown ProbeAck c (h.state.block i)) tokens refl (is.invariant.transfers c ProbeAck refl)) in
+    first-report is.invariant tokens in
     delivered-c config h _ ProbeAck c n m sys.manager width
     (at_manager-matched is)
     (head_all (λ y. manager.IsSound config (record { 0 = c }, y)) x queue (sys.channels c Channel.C) beats
@@ -134,8 +124,7 @@ releases-delivered {w} {config} {log} h {sys} c n rest {x} {queue} {ms} width is
     in
     let m : MessageC w = about.0 in
     let releasing : ((h.state.block n).pair c).letting ≡ ReleaseSent r =
-    releasing-is ((h.state.block n).pair c).letting (holds-first Release (h.state.link c).c rest (packet Release n)
-    (λ i. shown Release c (h.state.block i)) tokens refl (is.invariant.transfers c Release refl)) in
+    first-release is.invariant tokens in
     delivered-c config h _ Release c n m sys.manager width
     (at_manager-matched is)
     (head_all (λ y. manager.IsSound config (record { 0 = c }, y)) x queue (sys.channels c Channel.C) beats
@@ -184,9 +173,7 @@ acks-delivered {w} {config} {log} h {sys} c n rest {x} {queue} width is beats to
     y = record { sink = (h.state.block n).tracker }
 
     taken_is : (h.state.block n).service ≡ GrantTaken c
-    taken_is = acknowledging-is (h.state.block n).service c
-        (holds-first GrantAck (h.state.link c).e rest (packet GrantAck n) (λ i. shown GrantAck c (h.state.block i))
-        tokens refl (is.invariant.transfers c GrantAck refl))
+    taken_is = first-grant_ack is.invariant tokens
 
     order : (pending (GrantSink y.sink) (on_link c e.trace) ≡ true)
         × (broken_in_order {w = w} config.profile (Beat.E y) (on_link c e.trace) ≡ None)

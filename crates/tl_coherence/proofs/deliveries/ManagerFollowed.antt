@@ -1,20 +1,16 @@
 -- The manager's end after a delivery on channel C or E, as a step of the whole and as the protocol follows it.
-use Rattle.tl_coherence.proofs.deliveries.Imports.{IsWidth, Beat, Channel, unfinished, completes, Config, EndConfig}
-use Rattle.tl_coherence.proofs.deliveries.Imports.{reaction, End, Deliver, AbstractState, abstract_delivery}
-use Rattle.tl_coherence.proofs.deliveries.Imports.{abstract_step, packet_taken, Log, receiver, packets_on, Step}
-use Rattle.tl_coherence.proofs.deliveries.Imports.{handing, is_to_client, stepped, System, terms_at, with_channel}
-use Rattle.tl_coherence.proofs.deliveries.Imports.{with_manager, SimulationRelation}
 use Rattle.std.proofs.Common.{false, ◌≡◌, ℕ, List, ◌∷◌, Option, Some, None, refl, sym, ◌∙◌, ap, subst, arith}
-use Rattle.std.specs.Prelude.{if◌then◌else◌, option_map, slice_get, All}
-use Rattle.tl_params.specs.declared.config.ClientConfig.{ClientConfig}
+use Rattle.std.proofs.Common.{if◌then◌else◌, option_map, slice_get, All}
+use Rattle.tl_coherence.proofs
+use proofs.Imports.{Beat, Channel, IsWidth, unfinished, completes, ClientConfig, Config, EndConfig, illegal_at, End}
+use proofs.Imports.{reaction, services, least_untaken, trackers_of, Deliver, Outcome, packets_on, AbstractState}
+use proofs.Imports.{abstract_delivery, abstract_step, packet_taken, SimulationRelation, receiver, Log, Step, handing}
+use proofs.Imports.{is_to_client, stepped, System, terms_at, with_channel, with_manager}
+use Rattle.tl_coherence.specs.refinement.AbstractStep.{is_last}
 use Rattle.tl_manager.specs.code.Kept as manager
-use Rattle.tl_manager.specs.code.Kept.{illegal_at}
-use Rattle.tl_manager.specs.statement.Service.{services, least_untaken, trackers_of}
-use Rattle.tl_coherence.specs.{declared.event.Outcome.Outcome, refinement.AbstractStep.is_last}
-use Rattle.tl_coherence.proofs.manager.ManagerAfter.{IsManagerOf, left}
-use Rattle.tl_coherence.proofs.deliveries.ManagerDelivered.{channel_c-delivered, channel_e-delivered}
-use Rattle.tl_coherence.proofs.manager.ManagerTakes.{IsTakenUp}
-use Rattle.tl_coherence.proofs.queues.Steps.{manager-with_messages, stepped-to-manager}
+use proofs.manager.{ManagerAfter.IsManagerOf, ManagerAfter.left, ManagerTakes.IsTakenUp}
+use proofs.deliveries.ManagerDelivered.{channel_c-delivered, channel_e-delivered}
+use proofs.queues.Steps.{manager-with_messages, stepped-to-manager}
 
 -- a link that has a beat is a client's
 pub client-of : {w : ℕ} (config : Config) (c : ℕ) (ch : Channel) (x : Beat w) (queue : List (Beat w)) (sys : System w)

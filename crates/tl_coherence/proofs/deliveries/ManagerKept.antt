@@ -1,16 +1,15 @@
 -- What is kept of the manager's end is kept by every event, where the invariant is.
-use Rattle.tl_coherence.proofs.deliveries.Imports.{IsWidth, Beat, Channel, Config, EndConfig, Event, Ask, Deliver}
-use Rattle.tl_coherence.proofs.deliveries.Imports.{AbstractState, abstract_step, Log, stepped, System, terms_at}
-use Rattle.tl_coherence.proofs.deliveries.Imports.{SimulationRelation, is_caching}
 use Rattle.std.proofs.Common.{◌≡◌, ℕ, List, [], ◌∷◌, Option, Some, None, refl}
-use Rattle.std.specs.Prelude.{⊤}
+use Rattle.tl_coherence.proofs
+use proofs.Imports.{⊤, Beat, Channel, IsWidth, Config, EndConfig, Event, Ask, Deliver, AbstractState, abstract_step}
+use proofs.Imports.{SimulationRelation, is_caching, Log, stepped, client_of, System, terms_at}
 use Rattle.tl_client.specs.statement.Ask as client_ask
-use Rattle.tl_coherence.specs.statement.Step.{client_of}
-use Rattle.tl_coherence.proofs.{protocol.FollowKept.IsAskable, manager.ManagerAfter.IsManagerOf}
-use Rattle.tl_coherence.proofs.{manager.ManagersEnd.at_manager-matched}
-use Rattle.tl_coherence.proofs.{deliveries.RequestsDelivered.at_manager-delivered_a, queues.Steps.stepped-empty}
-use Rattle.tl_coherence.proofs.deliveries.ManagerFollowed.{manager-followed_c, manager-followed_e}
-use Rattle.tl_coherence.proofs.manager.UnseenSteps.{at_manager-nobody, at_manager-ask, at_manager-to_client}
+use proofs.protocol.FollowKept.{IsAskable}
+use proofs.manager.{ManagerAfter.IsManagerOf, ManagersEnd.at_manager-matched, UnseenSteps.at_manager-nobody}
+use proofs.manager.{UnseenSteps.at_manager-ask, UnseenSteps.at_manager-to_client}
+use proofs.deliveries.{RequestsDelivered.at_manager-delivered_a, ManagerFollowed.manager-followed_c}
+use proofs.deliveries.{ManagerFollowed.manager-followed_e}
+use proofs.queues.Steps.{stepped-empty}
 
 -- what the invariant asks for at an event of a client with these terms: that the client may do what it is asked
 abbrev pub IsAllowed : {w : ℕ} → Config → Event w → EndConfig → System w → AbstractState w → Type 0

@@ -1,68 +1,35 @@
 -- A beat that is delivered to the manager: the channels and the one memory afterwards, by what is handed out.
-use Rattle.tl_coherence.proofs.deliveries.Imports.{IsWidth, Beat, Link, Channel, Message, beat_of, unfinished}
-use Rattle.tl_coherence.proofs.deliveries.Imports.{completes, Config, Prune, Report, Perm, report_left, on_link}
-use Rattle.tl_coherence.proofs.deliveries.Imports.{release, Handed, reaction, reaction-part, Deliver, MemoryRelation}
-use Rattle.tl_coherence.proofs.deliveries.Imports.{is_moving, AbstractState, abstract_step, kind_taken, Log}
-use Rattle.tl_coherence.proofs.deliveries.Imports.{system_after, Machine, ChannelRelation, receiver, AcquirePhase}
-use Rattle.tl_coherence.proofs.deliveries.Imports.{NoAcquire, AcquireOpen, Block, SourceState, packet, packets_on}
-use Rattle.tl_coherence.proofs.deliveries.Imports.{is_on, one_memory_after, performing, accesses_answered, report_told}
-use Rattle.tl_coherence.proofs.deliveries.Imports.{prune_told, block_message, message_of_kind, Step, stepped, handing}
-use Rattle.tl_coherence.proofs.deliveries.Imports.{is_to_client, System, terms_at, channel_of_message, with_manager}
-use Rattle.tl_coherence.proofs.deliveries.Imports.{with_channel, with_messages, Kind, Request, Acquire, Probe, ProbeAck}
-use Rattle.tl_coherence.proofs.deliveries.Imports.{Release, Answer, Grant, ReleaseAck, GrantAck, Packet}
-use Rattle.tl_coherence.proofs.deliveries.Imports.{SimulationRelation, is_caching, IsRequest}
 use Rattle.std.proofs.Common.{◌≡◌, ℕ, Bool, true, false, List, [], ◌∷◌, Option, Some, None, refl, sym, ◌∙◌, ap, subst}
-use Rattle.std.{specs.Prelude.if◌then◌else◌, specs.Prelude.All, proofs.lemmas.List.Elements.All-head}
-use Rattle.tl_beat.specs.declared.opcode.OpB.{OpB}
-use Rattle.tl_burst.specs.statement.Messages.{channel_of}
-use Rattle.tl_rules.specs.statement.History.{ends}
+use Rattle.std.proofs.Common.{if◌then◌else◌, All}
+use Rattle.tl_coherence.proofs
+use proofs.Imports.{All-head, Beat, Link, Channel, OpB, IsWidth, Message, beat_of, unfinished, channel_of, completes}
+use proofs.Imports.{Config, Prune, Report, Perm, report_left, on_link, ends, release, probe_ack, reaction-part, Handed}
+use proofs.Imports.{reaction, Deliver, Outcome, Kind, Request, Acquire, ProbeAck, Release, Answer, GrantAck, Packet}
+use proofs.Imports.{AcquirePhase, NoAcquire, AcquireOpen, Block, SourceState, packet, packets_on, is_on, AbstractState}
+use proofs.Imports.{abstract_step, kind_taken, ChannelRelation, MemoryRelation, report_told, prune_told, block_message}
+use proofs.Imports.{message_of_kind, acquire_of, SimulationRelation, is_caching, IsRequest, IsSourced, receiver}
+use proofs.Imports.{is_moving, Log, system_after, Machine, one_memory_after, performing, accesses_answered, Step}
+use proofs.Imports.{stepped, handing, is_to_client, System, terms_at, channel_of_message, with_manager, with_channel}
+use proofs.Imports.{with_messages}
 use Rattle.tl_client.specs.statement.Endpoint as client
-use Rattle.tl_client.specs.statement.Send.{probe_ack}
 use Rattle.tl_manager.specs.code.Kept as manager
 use Rattle.tl_manager.specs.statement.End as manager_end
 use Rattle.tl_manager.specs.statement.Offer as manager_offer
-use Rattle.tl_coherence.specs.{declared.event.Outcome.Outcome, refinement.PacketMessages.acquire_of}
-use Rattle.tl_coherence.specs.{refinement.SimulationRelation.IsSourced}
-use Rattle.tl_coherence.proofs.{queues.Channels.behind, queues.Channels.IsTaken, queues.FirstToken.IsFirst}
-use Rattle.tl_coherence.proofs.{queues.FirstToken.first-token, deliveries.DeliverDAfter.followed-moving}
-use Rattle.tl_coherence.proofs.{deliveries.DeliverDWhole.remembered_after, manager.UnwaitedRequests.next_tracker}
-use Rattle.tl_coherence.proofs.{simulation.SourcedAfter.first-asked}
-use Rattle.tl_coherence.proofs.deliveries.DeliverDUnmoved.{IsDelivered, delivered_as}
-use Rattle.tl_coherence.proofs.queues.Landed.{IsOn, HasTaken, landed-manager, taken-landed}
-use Rattle.tl_coherence.proofs.simulation.Moved.{manager-moves, manager-heard, carried-part}
+use proofs.queues.{Channels.behind, Channels.IsTaken, FirstToken.IsFirst, FirstToken.first-token, Landed.IsOn}
+use proofs.queues.{Landed.HasTaken, Landed.landed-manager, Landed.taken-landed, Landed.on_own_channel}
+use proofs.deliveries.{DeliverDAfter.followed-moving, DeliverDWhole.remembered_after, DeliverDUnmoved.IsDelivered}
+use proofs.deliveries.{DeliverDUnmoved.delivered_as}
+use proofs.manager.UnwaitedRequests.{next_tracker}
+use proofs.simulation.{SourcedAfter.first-asked, Moved.manager-moves, Moved.manager-heard, Moved.carried-part}
 
 -- ---- the channel of a message, and of its beats
-
-pub on_message : {w : ℕ} (m : Message w) (i : ℕ) → IsOn (channel_of_message m) (beat_of m i)
-on_message (Message.A m) i Channel.A = refl
-on_message (Message.A m) i Channel.B = refl
-on_message (Message.A m) i Channel.C = refl
-on_message (Message.A m) i Channel.D = refl
-on_message (Message.A m) i Channel.E = refl
-on_message (Message.B m) i Channel.A = refl
-on_message (Message.B m) i Channel.B = refl
-on_message (Message.B m) i Channel.C = refl
-on_message (Message.B m) i Channel.D = refl
-on_message (Message.B m) i Channel.E = refl
-on_message (Message.C m) i Channel.A = refl
-on_message (Message.C m) i Channel.B = refl
-on_message (Message.C m) i Channel.C = refl
-on_message (Message.C m) i Channel.D = refl
-on_message (Message.C m) i Channel.E = refl
-on_message (Message.D m) i Channel.A = refl
-on_message (Message.D m) i Channel.B = refl
-on_message (Message.D m) i Channel.C = refl
-on_message (Message.D m) i Channel.D = refl
-on_message (Message.D m) i Channel.E = refl
-on_message (Message.E m) i Channel.A = refl
-on_message (Message.E m) i Channel.B = refl
-on_message (Message.E m) i Channel.C = refl
-on_message (Message.E m) i Channel.D = refl
-on_message (Message.E m) i Channel.E = refl
 
 channel_of_beat : {w : ℕ} (m : Message w) (i : ℕ) → channel_of (beat_of m i) ≡ channel_of_message m
 channel_of_beat (Message.A m) i = refl
 channel_of_beat m i = refl
+
+pub on_message : {w : ℕ} (m : Message w) (i : ℕ) → IsOn (channel_of_message m) (beat_of m i)
+on_message m i = subst (λ (ch : Channel). IsOn ch (beat_of m i)) (channel_of_beat m i) (on_own_channel (beat_of m i))
 
 acquire_channel : (w : ℕ) (x : AcquirePhase) (source n : ℕ)
     → channel_of_message {w = w} (acquire_of x source n) ≡ Channel.A
@@ -168,20 +135,7 @@ at-manager {w} {config} {log} link ch h terms x queue width is known down beats 
         → channel_of_message (h.mail.answer link.0 i) ≡ at =
         elim [ Channel.D ↦ λ e f. absurd cc | at ↦ λ e f. absurd cc ] in
         never ch down own
-    message_channel Acquire i tokens own = rendered_channel w ch Acquire link.0 i (h.state.block i) down own
-        (λ e. absurd cc)
-    message_channel Probe i tokens own = rendered_channel w ch Probe link.0 i (h.state.block i) down own
-        (λ e. absurd cc)
-    message_channel ProbeAck i tokens own = rendered_channel w ch ProbeAck link.0 i (h.state.block i) down own
-        (λ e. absurd cc)
-    message_channel Release i tokens own = rendered_channel w ch Release link.0 i (h.state.block i) down own
-        (λ e. absurd cc)
-    message_channel Grant i tokens own = rendered_channel w ch Grant link.0 i (h.state.block i) down own
-        (λ e. absurd cc)
-    message_channel ReleaseAck i tokens own = rendered_channel w ch ReleaseAck link.0 i (h.state.block i) down own
-        (λ e. absurd cc)
-    message_channel GrantAck i tokens own = rendered_channel w ch GrantAck link.0 i (h.state.block i) down own
-        (λ e. absurd cc)
+    message_channel k i tokens own = rendered_channel w ch k link.0 i (h.state.block i) down own (λ e. absurd cc)
 
 -- the whole where these messages were handed out
 abbrev pub after_taken : {w : ℕ} → Config → Link → Channel → Beat w → List (Beat w) → System w → Handed w → System w

@@ -1,33 +1,28 @@
 -- What is kept of the whole is kept by every event: so it holds after every log, beside the protocol as it follows.
-use Rattle.tl_coherence.proofs.{manager.BlockAccounts.managed-traced, manager.Accounts.are_served-traced}
-use Rattle.tl_coherence.proofs.{deliveries.AcksAfter.delivered-e, client.Askable.askable}
-use Rattle.tl_coherence.proofs.{deliveries.AskedAfter.carried-ask, deliveries.AskedAfter.beside-ask}
-use Rattle.tl_coherence.proofs.{deliveries.AskedWell.asked-well, client.ClientAsked.IsEndOf}
-use Rattle.tl_coherence.proofs.{client.ClientStep.clients-kept, simulation.Fresh.fresh-matched}
-use Rattle.tl_coherence.proofs.{deliveries.DeliverDWhole.delivered-d, deliveries.InvariantKept.invariant-followed}
-use Rattle.tl_coherence.proofs.{deliveries.ManagerFollowed.client-of, deliveries.ManagerKept.IsAllowed}
-use Rattle.tl_coherence.proofs.{deliveries.ManagerKept.manager-kept, deliveries.ProbesAfter.delivered-b}
-use Rattle.tl_coherence.proofs.{deliveries.ReportsAfter.delivered-c, manager.UnwaitedRequests.next_tracker}
-use Rattle.tl_coherence.proofs.{simulation.SoundAfter.sound-after, simulation.SoundAfter.typed-after}
-use Rattle.tl_coherence.proofs.{queues.Steps.stepped-asked, queues.Steps.stepped-empty}
-use Rattle.tl_coherence.proofs.deliveries.Imports.{IsWidth, Beat, Link, Channel, Config, Op, EndConfig, Event, Ask}
-use Rattle.tl_coherence.proofs.deliveries.Imports.{Deliver, MemoryRelation, is_moving, AbstractState, abstract_step}
-use Rattle.tl_coherence.proofs.deliveries.Imports.{Log, system_after, Machine, moved, ChannelRelation, one_memory_after}
-use Rattle.tl_coherence.proofs.deliveries.Imports.{performing, accesses_answered, Step, stepped, only, System, terms_at}
-use Rattle.tl_coherence.proofs.deliveries.Imports.{SimulationRelation}
 use Rattle.std.proofs.Common.{◌≡◌, ℕ, Bool, true, false, List, [], ◌∷◌, Option, Some, None, refl, sym, ◌∙◌, ap, subst}
+use Rattle.tl_coherence.proofs
+use proofs.Imports.{Beat, Link, Channel, IsWidth, Config, Op, EndConfig, Event, Ask, Deliver, Outcome, AbstractState}
+use proofs.Imports.{abstract_step, first_abstract_state, abstract_step_by, ChannelRelation, MemoryRelation}
+use proofs.Imports.{SimulationRelation, is_moving, IsTyped, Log, system_after, Machine, moved, one_memory_after}
+use proofs.Imports.{performing, accesses_answered, Step, stepped, only, client_of, System, terms_at}
+use Rattle.tl_coherence.specs.{statement.Headline.AreTyped, statement.Log.IsLog}
 use Rattle.tl_client.specs.statement.Ask as ask
-use Rattle.tl_coherence.specs.{declared.event.Outcome.Outcome, statement.Headline.IsTyped, statement.Headline.AreTyped}
-use Rattle.tl_coherence.specs.{statement.Log.IsLog, statement.Step.client_of}
-use Rattle.tl_coherence.specs.refinement.AbstractStep.{first_abstract_state, abstract_step_by}
-use Rattle.tl_coherence.proofs.simulation.FollowCases.{followed-cases, asked-cases, delivered-cases, answered-followed}
-use Rattle.tl_coherence.proofs.simulation.FollowCases.{given-followed, on-first}
-use Rattle.tl_coherence.proofs.deliveries.DeliverDUnmoved.{IsDelivered, delivered-unmoved}
-use Rattle.tl_coherence.proofs.deliveries.RequestsDelivered.{delivery-a, carried-delivered_a, beside-delivered_a}
-use Rattle.tl_coherence.proofs.simulation.Sized.{AreStrange, strangers-asked, strangers-kind_taken}
-use Rattle.tl_coherence.proofs.simulation.SizedAfter.{AllSized, sized-asked, sized-kind_taken}
-use Rattle.tl_coherence.proofs.simulation.SourcedAfter.{AreSourced, sourced-asked, sourced-kind_taken}
-use Rattle.tl_coherence.proofs.client.Waiting.{AreAcquired, asked-acquired, kind_taken-acquired}
+use proofs.manager.{BlockAccounts.managed-traced, Accounts.are_served-traced, UnwaitedRequests.next_tracker}
+use proofs.deliveries.{AcksAfter.delivered-e, AskedAfter.carried-ask, AskedAfter.beside-ask, AskedWell.asked-well}
+use proofs.deliveries.{DeliverDWhole.delivered-d, InvariantKept.invariant-followed, ManagerFollowed.client-of}
+use proofs.deliveries.{ManagerKept.IsAllowed, ManagerKept.manager-kept, ProbesAfter.delivered-b}
+use proofs.deliveries.{ReportsAfter.delivered-c, DeliverDUnmoved.IsDelivered, DeliverDUnmoved.delivered-unmoved}
+use proofs.deliveries.{RequestsDelivered.delivery-a, RequestsDelivered.carried-delivered_a}
+use proofs.deliveries.{RequestsDelivered.beside-delivered_a}
+use proofs.client.{Askable.askable, ClientAsked.IsEndOf, ClientStep.clients-kept, Waiting.AreAcquired}
+use proofs.client.{Waiting.asked-acquired, Waiting.kind_taken-acquired}
+use proofs.simulation.{Fresh.fresh-matched, SoundAfter.sound-after, SoundAfter.typed-after, Sized.AreStrange}
+use proofs.simulation.{Sized.strangers-asked, Sized.strangers-kind_taken, SizedAfter.AllSized, SizedAfter.sized-asked}
+use proofs.simulation.{SizedAfter.sized-kind_taken, SourcedAfter.AreSourced, SourcedAfter.sourced-asked}
+use proofs.simulation.{SourcedAfter.sourced-kind_taken}
+use proofs.queues.Steps.{stepped-asked, stepped-empty}
+use proofs.simulation.FollowCases.{followed-cases, asked-cases, delivered-cases, answered-followed, given-followed}
+use proofs.simulation.FollowCases.{on-first}
 
 -- ---- steps
 

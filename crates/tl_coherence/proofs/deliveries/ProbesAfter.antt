@@ -1,53 +1,37 @@
 -- A Probe that is delivered to a client: the channels and the one memory afterwards.
-use Rattle.tl_coherence.proofs.deliveries.Imports.{IsWidth, Beat, Link, Message, unfinished, Config, Cap, Report, Perm}
-use Rattle.tl_coherence.proofs.deliveries.Imports.{report_left, block_at, same_perm, same_block, Deliver}
-use Rattle.tl_coherence.proofs.deliveries.Imports.{MemoryRelation, is_moving, AbstractState, abstract_step, kind_taken}
-use Rattle.tl_coherence.proofs.deliveries.Imports.{Log, system_after, Machine, moved, ChannelRelation, ClientBlock}
-use Rattle.tl_coherence.proofs.deliveries.Imports.{Block, packet, is_on, shown, one_memory_after, performing}
-use Rattle.tl_coherence.proofs.deliveries.Imports.{accesses_answered, block_message, message_of, message_of_kind, Step}
-use Rattle.tl_coherence.proofs.deliveries.Imports.{stepped, handing, handed_by, System, terms_at, with_client}
-use Rattle.tl_coherence.proofs.deliveries.Imports.{with_channel, Kind, Probe, ProbeAck, SimulationRelation, is_caching}
-use Rattle.tl_coherence.proofs.deliveries.Imports.{Channel}
-use Rattle.std.proofs.Common.{◌≡◌, ℕ, ◌*◌, Bool, true, false, List, [], ◌∷◌, Some, None, refl, sym, ◌∙◌, ap, subst}
-use Rattle.std.specs.Prelude.{map, Ok}
-use Rattle.tl_beat.{specs.declared.beat.BeatB.BeatB, specs.declared.opcode.OpB.OpB}
-use Rattle.tl_params.specs.statement.Param.{report_at}
-use Rattle.tl_client.{specs.declared.verdict.Verdict.Verdict, specs.statement.Endpoint.copy_at}
-use Rattle.tl_client.{specs.statement.Endpoint.held_at, specs.statement.Offer.report_for}
-use Rattle.tl_client.{specs.statement.Send.probe_ack}
+use Rattle.std.proofs.Common.{◌≡◌, ℕ, ◌*◌, Bool, true, false, List, [], ◌∷◌, Some, None, refl, sym, ◌∙◌, ap, subst, map}
+use Rattle.std.proofs.Common.{Ok}
+use Rattle.tl_coherence.proofs
+use proofs.Imports.{Beat, BeatB, Link, Channel, OpB, IsWidth, Message, unfinished, Config, Cap, Report, Perm}
+use proofs.Imports.{report_left, report_at, same_perm, block_at, same_block, Verdict, copy_at, held_at, report_for}
+use proofs.Imports.{probe_ack, Deliver, Outcome, Kind, Probe, ProbeAck, ClientBlock, ProbeSent, is_unreleased}
+use proofs.Imports.{after_probe, Block, packet, is_on, probed_block, probe_taken, AbstractState, abstract_step}
+use proofs.Imports.{kind_taken, ChannelRelation, MemoryRelation, block_message, message_of, message_of_kind, cap_sent}
+use proofs.Imports.{probe_beat, SimulationRelation, is_caching, is_moving, Log, system_after, Machine, moved}
+use proofs.Imports.{one_memory_after, performing, accesses_answered, Step, stepped, handing, handed_by, System}
+use proofs.Imports.{terms_at, with_client, with_channel}
 use Rattle.tl_client.specs.statement.Endpoint as client
 use Rattle.tl_client.specs.statement.Offer as offer
-use Rattle.tl_coherence.specs.{declared.event.Outcome.Outcome, protocol.Phase.ProbeSent, protocol.Phase.is_unreleased}
-use Rattle.tl_coherence.specs.{protocol.PhaseSteps.after_probe, protocol.Protocol.probed_block}
-use Rattle.tl_coherence.specs.{protocol.Protocol.probe_taken}
-use Rattle.tl_coherence.specs.refinement.PacketMessages.{cap_sent, probe_beat}
-use Rattle.tl_coherence.proofs.{memory.BesideKinds.beside_block, memory.BesideKinds.same_acquiring}
-use Rattle.tl_coherence.proofs.{queues.Carried.IsNext, queues.Shown.carried-shown}
-use Rattle.tl_coherence.proofs.{simulation.CarriedEvents.probe_taken-shown, queues.Channels.IsTaken}
-use Rattle.tl_coherence.proofs.{queues.Channels.pushes_at, queues.FirstToken.IsFirst, queues.FirstToken.first-token}
-use Rattle.tl_coherence.proofs.{client.DeliverD.same_answers, deliveries.DeliverDAfter.followed-moving}
-use Rattle.tl_coherence.proofs.{deliveries.DeliverDWhole.remembered_after, client.ProbeDelivered.IsProbed}
-use Rattle.tl_coherence.proofs.{client.ProbeDelivered.probe-delivered, queues.Tokens.set-same}
-use Rattle.tl_coherence.proofs.{queues.Tokens.holds-first, protocol.BothParts.kept-is, protocol.BothParts.sent-is}
-use Rattle.tl_coherence.proofs.{client.KnownProbed.report_is, deliveries.ManagersAfter.ack_channel}
-use Rattle.tl_coherence.proofs.deliveries.DeliverDUnmoved.{IsDelivered, delivered_as}
-use Rattle.tl_coherence.proofs.queues.Landed.{pushes_of, IsOn, landed-client, taken-landed}
-use Rattle.tl_coherence.proofs.simulation.Moved.{IsTakenByClient, client-moves, client-heard}
-use Rattle.tl_coherence.proofs.manager.UnwaitedRequests.{next_tracker, invariant-taken}
+use proofs.memory.BesideKinds.{beside_block, same_acquiring}
+use proofs.queues.{Carried.IsNext, Shown.carried-shown, Channels.IsTaken, Channels.pushes_at, FirstToken.IsFirst}
+use proofs.queues.{FirstToken.first-token, Tokens.set-same, Landed.pushes_of, Landed.IsOn, Landed.landed-client}
+use proofs.queues.{Landed.taken-landed, Landed.on_own_channel}
+use proofs.simulation.{CarriedEvents.probe_taken-shown, Moved.IsTakenByClient, Moved.client-moves, Moved.client-heard}
+use proofs.client.{DeliverD.same_answers, ProbeDelivered.IsProbed, ProbeDelivered.probe-delivered}
+use proofs.client.{KnownProbed.report_is}
+use proofs.deliveries.{DeliverDAfter.followed-moving, DeliverDWhole.remembered_after, ManagersAfter.ack_channel}
+use proofs.deliveries.{DeliverDUnmoved.IsDelivered, DeliverDUnmoved.delivered_as}
+use proofs.protocol.{BothParts.kept-is, FirstTokens.first-probe}
+use proofs.manager.UnwaitedRequests.{next_tracker, invariant-taken}
 
 -- ---- the answer to a Probe
 
 -- a report begins at what is held
 left_is : (k : Cap) (p : Perm) → report_left (report_at k p) ≡ p
 left_is Cap.ToT Perm.None = refl
-left_is Cap.ToT Perm.Branch = refl
-left_is Cap.ToT Perm.Trunk = refl
 left_is Cap.ToB Perm.None = refl
-left_is Cap.ToB Perm.Branch = refl
-left_is Cap.ToB Perm.Trunk = refl
 left_is Cap.ToN Perm.None = refl
-left_is Cap.ToN Perm.Branch = refl
-left_is Cap.ToN Perm.Trunk = refl
+left_is k p = refl
 
 ack_same : {w : ℕ} (p : Perm) (r : Report) (n : ℕ) (x y : List ℕ) → (same_perm p Perm.None ≡ false → x ≡ y)
     → probe_ack {w = w} OpB.ProbeBlock p r n x ≡ probe_ack OpB.ProbeBlock p r n y
@@ -75,10 +59,6 @@ handed_for x e = probe_ack x.opcode (held_at e (block_at x.address)) (report_for
 answer_b : {w : ℕ} (x : BeatB w) (e : client.Endpoint w)
     → (offer.taken (Beat.B x) e).answer ≡ Ok (Verdict.Taken, Some (handed_for x e))
 answer_b x e = refl
-
-on_b : {w : ℕ} (y : BeatB w) → IsOn Channel.B (Beat.B y)
-on_b y Channel.A = refl
-on_b y _ = refl
 
 taken_stalls : Verdict.Taken ≡ Verdict.Stalled → ⊥
 taken_stalls f = absurd cc
@@ -166,12 +146,11 @@ delivered-b {w} {config} {log} link h terms x queue width is known beats moving 
         step_is = cc (t.step_is, same_parts.0, message_is)
 
         sent : b_pair.probing ≡ ProbeSent k
-        sent = sent-is b_pair.probing (holds-first Probe (h.state.link c).b first.rest (packet Probe n)
-            (λ i. shown Probe c (h.state.block i)) tokens refl (is.invariant.transfers c Probe refl))
+        sent = first-probe is.invariant tokens
 
         taken : IsTaken c Channel.B x queue (pushes_at c (pushes_of (Some ack))) sys now.after
         taken = taken-landed (landed-client c Channel.B x queue (Some ack) (offer.taken x e).after sys refl beats
-            (subst (λ (z : Beat w). IsOn Channel.B z) (sym probed.beat_is) (on_b y)) (client-heard width (is.kept c) t))
+            (subst (λ (z : Beat w). IsOn Channel.B z) (sym probed.beat_is) (on_own_channel (Beat.B y))) (client-heard width (is.kept c) t))
             probed.whole
 
         follows : abstract_step config (Deliver link Channel.B) sys h ≡ kind_taken config (next_tracker sys) c Probe n

@@ -1,33 +1,27 @@
 -- A beat of channel C that is delivered to the manager: the channels and the one memory afterwards.
-use Rattle.tl_coherence.proofs.deliveries.Imports.{IsWidth, Beat, Link, Message, unfinished, completes, Config, Prune}
-use Rattle.tl_coherence.proofs.deliveries.Imports.{Report, on_link, Handed, reaction, MemoryRelation, AbstractState}
-use Rattle.tl_coherence.proofs.deliveries.Imports.{ack_taken, answers, kind_taken, last_taken, some_below, packet_taken}
-use Rattle.tl_coherence.proofs.deliveries.Imports.{with_state, Log, system_after, Machine, Requests, Service, Free}
-use Rattle.tl_coherence.proofs.deliveries.Imports.{Waits, GrantSent, GrantTaken, Block, SourceState, packet, let_block}
-use Rattle.tl_coherence.proofs.deliveries.Imports.{release_taken, report_taken, shown, performing, accesses_answered}
-use Rattle.tl_coherence.proofs.deliveries.Imports.{prune_told, block_message, report_told, IsFor, System, ProbeAck}
-use Rattle.tl_coherence.proofs.deliveries.Imports.{Release, ReleaseAck, Grant, Packet, SimulationRelation, IsRequest}
-use Rattle.tl_coherence.proofs.deliveries.Imports.{is_caching, Channel}
 use Rattle.std.proofs.Common.{◌≡◌, ℕ, Bool, true, false, List, [], ◌∷◌, None, refl, sym, ◌∙◌, ap, subst, inl, inr, not}
-use Rattle.std.proofs.Common.{◌&&◌}
-use Rattle.std.specs.Prelude.{◌==◌, if◌then◌else◌, length}
-use Rattle.tl_coherence.specs.{refinement.MemoryRelation.IsAccess, refinement.MemoryRelation.IsOpened}
-use Rattle.tl_coherence.specs.{protocol.Phase.is_unprobed, protocol.PhaseSteps.after_release_taken}
-use Rattle.tl_coherence.specs.{protocol.Protocol.InService, refinement.SimulationRelation.IsServedWith}
+use Rattle.std.proofs.Common.{◌&&◌, length, ◌==◌, if◌then◌else◌}
+use Rattle.tl_coherence.proofs
+use proofs.Imports.{Beat, Link, Channel, IsWidth, Message, unfinished, completes, Config, Prune, Report, on_link}
+use proofs.Imports.{Handed, reaction, ProbeAck, Release, ReleaseAck, Grant, Packet, is_unprobed, after_release_taken}
+use proofs.Imports.{Service, Free, Waits, GrantSent, GrantTaken, Block, SourceState, packet, let_block, release_taken}
+use proofs.Imports.{report_taken, InService, AbstractState, ack_taken, answers, kind_taken, last_taken, some_below}
+use proofs.Imports.{packet_taken, with_state, MemoryRelation, IsAccess, IsOpened, prune_told, block_message}
+use proofs.Imports.{report_told, SimulationRelation, IsRequest, is_caching, IsServedWith, IsFor, Log, system_after}
+use proofs.Imports.{Machine, Requests, performing, accesses_answered, System}
 use Rattle.tl_coherence.specs.protocol.Protocol as protocol
-use Rattle.tl_coherence.proofs.memory.BesideKinds.{IsWaiting, accesses_by, beside-report, beside_block, last_accesses}
-use Rattle.tl_coherence.proofs.memory.BesideKinds.{same_acquiring}
-use Rattle.tl_coherence.proofs.{memory.BesideRequests.IsOnce, memory.BesideRequests.accesses-answer}
-use Rattle.tl_coherence.proofs.{deliveries.CarriedReports.carried-followed_c, manager.Choices.plain-past}
-use Rattle.tl_coherence.proofs.{queues.FirstToken.first-token, protocol.RequestsKept.settled_all}
-use Rattle.tl_coherence.proofs.{deliveries.DeliverDWhole.remembered_after, deliveries.DeliverDUnmoved.IsDelivered}
-use Rattle.tl_coherence.proofs.{manager.ManagerAfter.others_probed, manager.ManagerTakes.by-first_c}
-use Rattle.tl_coherence.proofs.{manager.UnwaitedRequests.next_tracker, simulation.SourcedAfter.served-request}
-use Rattle.tl_coherence.proofs.{queues.Tokens.holds-first, queues.Tokens.set_at-same, protocol.BothParts.answered-is}
-use Rattle.tl_coherence.proofs.{rank.RankParts.serving-use}
-use Rattle.tl_coherence.proofs.deliveries.ManagerDelivered.{channel_c-delivered, releases-delivered, reports-delivered}
-use Rattle.tl_coherence.proofs.deliveries.LastReportDelivered.{pushed, pushed_last}
-use Rattle.tl_coherence.proofs.deliveries.ManagerFollowed.{client-of, followed-taken, step-taken}
+use proofs.memory.BesideKinds.{IsWaiting, accesses_by, beside-report, beside_block, last_accesses, same_acquiring}
+use proofs.memory.BesideRequests.{IsOnce, accesses-answer}
+use proofs.deliveries.{CarriedReports.carried-followed_c, DeliverDWhole.remembered_after, DeliverDUnmoved.IsDelivered}
+use proofs.deliveries.{ManagerDelivered.channel_c-delivered, ManagerDelivered.releases-delivered}
+use proofs.deliveries.{ManagerDelivered.reports-delivered, LastReportDelivered.pushed, LastReportDelivered.pushed_last}
+use proofs.deliveries.{ManagerFollowed.client-of, ManagerFollowed.followed-taken, ManagerFollowed.step-taken}
+use proofs.manager.{Choices.plain-past, ManagerAfter.others_probed, ManagerTakes.by-first_c}
+use proofs.manager.{UnwaitedRequests.next_tracker}
+use proofs.queues.{FirstToken.first-token, Tokens.set_at-same}
+use proofs.protocol.{RequestsKept.settled_all, FirstTokens.first-report}
+use proofs.simulation.SourcedAfter.{served-request}
+use proofs.rank.RankParts.{serving-use}
 
 -- ---- which accesses are answered by what is handed out
 
@@ -151,8 +145,7 @@ beside-followed_c {w} {config} {log} h {sys} c x queue {m} width is beats beside
     reported n rest tokens =
         let b : Block (List ℕ) = h.state.block n in
         let r : Report = report_told (b.pair c).probing in
-        let answered = answered-is (b.pair c).probing (holds-first ProbeAck (h.state.link c).c rest (packet ProbeAck n)
-        (λ i. shown ProbeAck c (h.state.block i)) tokens refl (is.invariant.transfers c ProbeAck refl)) in
+        let answered = first-report is.invariant tokens in
         subst (λ (l : List (ℕ × ℕ)). MemoryRelation (kind_taken config (next_tracker sys) c ProbeAck n rest h).mail
         (kind_taken config (next_tracker sys) c ProbeAck n rest h).state (performing l m))
         (sym (report-answered config c n r rest h (is.served.requests n)))

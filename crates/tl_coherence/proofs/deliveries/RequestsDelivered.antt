@@ -1,27 +1,21 @@
 -- A delivery on channel A: what is first there, that it is taken unless it has to wait, and the
 -- manager's end afterwards.
-use Rattle.tl_coherence.proofs.deliveries.Imports.{IsWidth, Beat, MessageA, a_beat_of, beats_of, unfinished, completes}
-use Rattle.tl_coherence.proofs.deliveries.Imports.{Config, on_link, EndConfig, reaction, End, must_wait, Deliver}
-use Rattle.tl_coherence.proofs.deliveries.Imports.{AbstractState, kind_taken, packet_taken, abstract_delivery}
-use Rattle.tl_coherence.proofs.deliveries.Imports.{abstract_step, Step, only, handing, manager_took, stepped, packet}
-use Rattle.tl_coherence.proofs.deliveries.Imports.{Log, System, terms_at, with_manager, with_channel, Kind, Packet}
-use Rattle.tl_coherence.proofs.deliveries.Imports.{SimulationRelation, MemoryRelation, Machine, ChannelRelation}
-use Rattle.tl_coherence.proofs.deliveries.Imports.{accesses_answered, performing, Handed, Reaction, reaction-part}
-use Rattle.tl_coherence.proofs.deliveries.Imports.{Channel, Message}
-use Rattle.std.proofs.Common.{◌≡◌, subst, ℕ, suc, ◌+◌, ◌<◌, ◌==◌, Bool, true, false, List, [], ◌∷◌, Some, refl, sym}
-use Rattle.std.proofs.Common.{◌∙◌, ap, inl, inr, arith}
-use Rattle.std.{specs.Prelude.if◌then◌else◌, proofs.lemmas.Bool.cases_eq, proofs.lemmas.Bool.eqb-true}
-use Rattle.tl_rules.proofs.Sent.{not_last}
-use Rattle.tl_coherence.specs.declared.event.Outcome.{Outcome}
+use Rattle.std.proofs.Common.{◌≡◌, subst, ℕ, suc, ◌+◌, ◌<◌, Bool, true, false, List, [], ◌∷◌, Some, refl, sym, ◌∙◌, ap}
+use Rattle.std.proofs.Common.{inl, inr, arith, eqb-true, ◌==◌, if◌then◌else◌}
+use Rattle.tl_coherence.proofs
+use proofs.Imports.{cases_eq, Beat, Channel, IsWidth, Message, MessageA, a_beat_of, beats_of, unfinished, completes}
+use proofs.Imports.{Config, not_last, on_link, EndConfig, reaction-part, End, Handed, Reaction, must_wait, reaction}
+use proofs.Imports.{Deliver, Outcome, Kind, Packet, packet, AbstractState, kind_taken, packet_taken, abstract_delivery}
+use proofs.Imports.{abstract_step, ChannelRelation, MemoryRelation, SimulationRelation, Log, Machine, accesses_answered}
+use proofs.Imports.{performing, Step, only, handing, manager_took, stepped, System, terms_at, with_manager}
+use proofs.Imports.{with_channel}
 use Rattle.tl_coherence.specs.refinement.AbstractStep as follow
-use Rattle.tl_coherence.proofs.{memory.BesideRequests.IsOnce, manager.Arrivals.link_of, manager.Arrivals.ends-coming}
-use Rattle.tl_coherence.proofs.{manager.AtRequests.end_after, manager.AtRequests.at_manager-more}
-use Rattle.tl_coherence.proofs.{manager.ManagersEnd.at_manager-matched, queues.Tokens.same_number}
-use Rattle.tl_coherence.proofs.{manager.UnwaitedRequests.next_tracker, manager.ManagerAfter.IsManagerOf}
-use Rattle.tl_coherence.proofs.deliveries.CarriedRequests.{carried-more}
-use Rattle.tl_coherence.proofs.queues.Steps.{manager-with_messages, stepped-empty, stepped-to-manager}
-use Rattle.tl_coherence.proofs.deliveries.FirstRequest.{IsArrival, arrival-first, coming-arrival, request-taken}
-use Rattle.tl_coherence.proofs.deliveries.FirstRequest.{request-stalled}
+use proofs.memory.BesideRequests.{IsOnce}
+use proofs.manager.{Arrivals.link_of, Arrivals.ends-coming, AtRequests.end_after, AtRequests.at_manager-more}
+use proofs.manager.{ManagersEnd.at_manager-matched, UnwaitedRequests.next_tracker, ManagerAfter.IsManagerOf}
+use proofs.queues.{Tokens.same_number, Steps.manager-with_messages, Steps.stepped-empty, Steps.stepped-to-manager}
+use proofs.deliveries.CarriedRequests.{carried-more}
+use proofs.deliveries.FirstRequest.{IsArrival, arrival-first, coming-arrival, request-taken, request-stalled}
 
 -- ---- what a delivery on channel A comes to
 

@@ -1,15 +1,10 @@
 -- Worked schedules of accesses, against the machine.
-use Rattle.std.proofs.Common.{refl, lit≤}
-use Rattle.std.specs.Prelude.{[], ◌∷◌, ◌++◌, replicate, Some, None}
-use Rattle.tl_coherence.proofs.examples.Imports.{Channel}
-use Rattle.tl_beat.{specs.declared.opcode.OpA.OpA, specs.declared.opcode.OpB.OpB, specs.declared.opcode.OpC.OpC}
-use Rattle.tl_beat.{specs.declared.opcode.OpD.OpD}
-use Rattle.tl_params.{specs.declared.level.Level.Level, specs.declared.param.Grow.Grow, specs.declared.perm.Perm.Perm}
-use Rattle.tl_params.{specs.declared.profile.Profile.Profile}
-use Rattle.tl_client.{specs.declared.reply.Reply.Reply, specs.declared.verdict.Finish.Finish}
-use Rattle.tl_coherence.specs.declared.event.Outcome.TheVariants.{Replied, Moved, Done}
-use Rattle.tl_coherence.proofs.examples.Play.{evaluated, Drains, draining, outcomes, Gives, world, deliver, load, store}
-use Rattle.tl_coherence.proofs.examples.Play.{acquire, access, a_beat, b_beat, c_beat, d_beat, e_beat}
+use Rattle.std.proofs.Common.{refl, lit≤, [], ◌∷◌, ◌++◌, Some, None, replicate}
+use Rattle.tl_coherence.proofs
+use proofs.Imports.{Channel, OpA, OpB, OpC, OpD, Level, Grow, Perm, Profile, Reply, Finish, Moved, Done}
+use Rattle.tl_coherence.specs.declared.event.Outcome.TheVariants.{Replied}
+use proofs.examples.Play.{evaluated, Drains, draining, outcomes, Gives, world, deliver, load, store, acquire, access}
+use proofs.examples.Play.{a_beat, b_beat, c_beat, d_beat, e_beat}
 
 bytes_of_a_word : Gives {w = 8} (world Profile.One 1 1 ((Level.UL, 1) ∷ []))
     ((access 0 OpA.PutPartialData 0 2 (lit≤ tt) 4 80 (replicate 4 0 ++ (17 ∷ 34 ∷ 51 ∷ 68 ∷ []) ++ replicate 56 0)

@@ -1,17 +1,13 @@
 -- An Acquire that is alone, drained.
-use Rattle.tl_coherence.proofs.examples.Imports.{unfinished, Config, request_of, release_of, probe_of, grant_sink}
-use Rattle.tl_coherence.proofs.examples.Imports.{pending, held, Ask, requests, releases, next_delivery, stepped}
-use Rattle.tl_coherence.proofs.examples.Imports.{with_messages}
-use Rattle.std.proofs.Common.{◌≡◌, refl}
-use Rattle.std.specs.Prelude.{[], ◌∷◌, length, None}
-use Rattle.tl_params.{specs.declared.level.Level.Level, specs.declared.param.Grow.Grow, specs.declared.perm.Perm.Perm}
-use Rattle.tl_params.{specs.declared.profile.Profile.Profile}
-use Rattle.tl_client.{specs.declared.operation.Op.Op, specs.declared.reply.Reply.Reply}
-use Rattle.tl_client.{specs.statement.Endpoint.held_at}
+use Rattle.std.proofs.Common.{◌≡◌, refl, [], ◌∷◌, length, None}
+use Rattle.tl_coherence.proofs
+use proofs.Imports.{unfinished, Config, Level, Grow, Perm, Profile, request_of, release_of, probe_of, grant_sink}
+use proofs.Imports.{pending, held, Op, Reply, held_at, Ask, requests, releases, load, Log, system_after, next_delivery}
+use proofs.Imports.{stepped, with_messages}
+use Rattle.tl_coherence.specs.{declared.event.Outcome.TheVariants.Replied, statement.Log.IsLog}
+use Rattle.tl_coherence.specs.{statement.Movable.drained}
 use Rattle.tl_client.specs.statement.Ask as ask
-use Rattle.tl_coherence.specs.{declared.event.Outcome.TheVariants.Replied, statement.Load.load, statement.Log.Log}
-use Rattle.tl_coherence.specs.{statement.Log.IsLog, statement.Log.system_after, statement.Movable.drained}
-use Rattle.tl_coherence.proofs.examples.Play.{evaluated, world}
+use proofs.examples.Play.{evaluated, world}
 
 abbrev two_caches : Config
 two_caches = world Profile.One 1 1 ((Level.C, 1) ∷ (Level.C, 1) ∷ [])

@@ -1,31 +1,21 @@
 -- Whether what the headline says holds at every event of a list that is played, evaluated: by tests, each with a
 -- number, of which those that fail are listed.
-use Rattle.tl_coherence.proofs.examples.Imports.{Beat, Link, Channel, Config, bytes_from, number_from, Event, Ask}
-use Rattle.tl_coherence.proofs.examples.Imports.{Deliver, started, flow, is_movable, next_delivery, accesses_answered}
-use Rattle.tl_coherence.proofs.examples.Imports.{performing, Step, stepped, System, requests, releases}
-use Rattle.std.{proofs.Common.◌≡◌, specs.Bool.beq}
-use Rattle.std.specs.Prelude.{min, ◌-◌, ℕ, zero, suc, Bool, true, false, not, List, [], ◌∷◌, ◌++◌, ◌==◌, ◌&&◌, ◌||◌}
-use Rattle.std.specs.Prelude.{◌*◌, ◌/◌, ◌^◌, nat_le, length, reverse, Option, Some, None, is_none}
-use Rattle.tl_burst.specs.statement.Messages.{same_control, carried_on}
-use Rattle.tl_params.{specs.declared.level.Level.Level, specs.declared.perm.Perm.Perm}
-use Rattle.tl_params.{specs.declared.profile.Profile.Profile}
-use Rattle.tl_rules.{specs.statement.Admission.lanes_of, specs.statement.Effect.Memory}
-use Rattle.tl_rules.{specs.statement.History.block_at}
-use Rattle.tl_rules.specs.statement.Conformance.{broken_after, is_legal, same_perm}
+use Rattle.std.proofs.Common.{◌≡◌, ◌-◌, ℕ, zero, suc, Bool, true, false, not, List, [], ◌∷◌, ◌++◌, ◌&&◌, ◌||◌, ◌*◌, ◌/◌}
+use Rattle.std.proofs.Common.{◌^◌, length, Option, Some, None, min, ◌==◌, nat_le, reverse, is_none}
+use Rattle.tl_coherence.proofs
+use proofs.Imports.{beq, Beat, Link, Channel, same_control, Config, Level, Perm, Profile, broken_after, same_perm}
+use proofs.Imports.{bytes_from, number_from, Memory, block_at, Op, Access, Reply, Finish, same_bytes, op_block, held_at}
+use proofs.Imports.{level_of, must_wait, Event, Ask, Deliver, Outcome, started, capacity, sources_of, receiver}
+use proofs.Imports.{is_delivery, is_moving, flow, requests, releases, outstanding, load, Log, Machine, Open, Requests}
+use proofs.Imports.{Releases, first, is_client, pool_of_op, pool_of, finish_with, cap_named, moved, is_movable}
+use proofs.Imports.{next_delivery, accesses_answered, performing, Step, stepped, client_of, System, fresh, terms_at}
+use Rattle.tl_burst.specs.statement.Messages.{carried_on}
+use Rattle.tl_rules.{specs.statement.Admission.lanes_of, specs.statement.Conformance.is_legal}
+use Rattle.tl_client.specs.declared.operation.Op.TheVariants.{Load, Store, Acquire, AcquireWhole, Release}
+use Rattle.tl_coherence.specs.{statement.Delivery.sender, statement.Machine.is_word_op, statement.Machine.performed}
 use Rattle.tl_rules.specs.statement.Effect as memory
-use Rattle.tl_client.{specs.declared.operation.Op.Op, specs.declared.reply.Reply.Reply}
-use Rattle.tl_client.{specs.declared.verdict.Finish.Finish, specs.statement.Ask.same_bytes}
-use Rattle.tl_client.{specs.statement.Ask.op_block, specs.statement.Endpoint.held_at}
-use Rattle.tl_client.specs.declared.operation.Op.TheVariants.{Load, Store, Acquire, AcquireWhole, Release, Access}
-use Rattle.tl_manager.specs.statement.Offer.{level_of, must_wait}
-use Rattle.tl_coherence.specs.{declared.event.Outcome.Outcome, statement.Draining.is_delivery}
-use Rattle.tl_coherence.specs.{statement.Draining.is_moving, statement.Load.outstanding, statement.Load.load}
-use Rattle.tl_coherence.specs.{statement.Log.Log, statement.Step.client_of, statement.System.fresh}
-use Rattle.tl_coherence.specs.{statement.System.terms_at}
-use Rattle.tl_coherence.specs.statement.Delivery.{capacity, sources_of, sender, receiver}
-use Rattle.tl_coherence.specs.statement.Machine.{Machine, Open, Requests, Releases, first, is_client, is_word_op}
-use Rattle.tl_coherence.specs.statement.Machine.{pool_of_op, pool_of, finish_with, cap_named, moved, performed}
-use Rattle.tl_coherence.proofs.{examples.Play.Line, examples.Play.Does, examples.Play.Drains, queues.Phases.implies}
+use proofs.examples.Play.{Line, Does, Drains}
+use proofs.queues.Phases.{implies}
 
 -- ---- a whole, what has happened to it, and the one-memory machine beside it
 

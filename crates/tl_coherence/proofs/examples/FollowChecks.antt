@@ -1,38 +1,24 @@
 -- Tests of the simulation relation, event by event, for the worked schedules.
-use Rattle.tl_coherence.proofs.examples.Imports.{Beat, Link, Channel, unfinished, Config, on_link, bytes_from, held}
-use Rattle.tl_coherence.proofs.examples.Imports.{pending, request_of, release_of, probe_of, grant_sink, Event, Deliver}
-use Rattle.tl_coherence.proofs.examples.Imports.{flow, next_delivery, Step, stepped, System, started, requests}
-use Rattle.tl_coherence.proofs.examples.Imports.{releases, accesses_answered, performing}
-use Rattle.std.{proofs.Common.◌≡◌, specs.Bool.beq}
-use Rattle.std.specs.Prelude.{ℕ, zero, suc, Bool, true, false, not, List, [], ◌∷◌, ◌++◌, ◌==◌, ◌&&◌, ◌||◌, ◌*◌, reverse}
-use Rattle.std.specs.Prelude.{Option, Some, None, is_some, option_map, length, if◌then◌else◌}
-use Rattle.tl_beat.{specs.declared.beat.BeatA.BeatA, specs.declared.beat.BeatB.BeatB}
-use Rattle.tl_burst.{specs.declared.message.MessageA.MessageA, specs.statement.Burst.a_beat_of}
-use Rattle.tl_burst.{specs.statement.Messages.same_control}
-use Rattle.tl_params.specs.declared.key.Key.TheVariants.{RequestSource, ReleaseSource, AcquireOf, ReleaseOf, GrantSink}
-use Rattle.tl_params.specs.declared.key.Key.TheVariants.{GrantAckOf, ProbeOf}
-use Rattle.tl_params.{specs.declared.param.Cap.Cap, specs.declared.perm.Perm.Perm}
-use Rattle.tl_rules.specs.statement.Conformance.{Trace, comes_in_release, comes_in_request, comes_in_grant, same_perm}
-use Rattle.tl_rules.specs.statement.History.{block_at, is_acquire}
-use Rattle.tl_client.{specs.statement.Ask.same_bytes, specs.statement.Requests.open_beat}
-use Rattle.tl_manager.specs.statement.Holders.{recorded, cap_probed}
-use Rattle.tl_manager.specs.code.Releases.{comes_of}
+use Rattle.std.proofs.Common.{◌≡◌, ℕ, zero, suc, Bool, true, false, not, List, [], ◌∷◌, ◌++◌, ◌&&◌, ◌||◌, ◌*◌, Option}
+use Rattle.std.proofs.Common.{Some, None, length, ◌==◌, reverse, is_some, option_map, if◌then◌else◌}
+use Rattle.tl_coherence.proofs
+use proofs.Imports.{beq, Beat, BeatA, BeatB, Link, Channel, MessageA, a_beat_of, unfinished, same_control, Config}
+use proofs.Imports.{RequestSource, ReleaseSource, AcquireOf, ReleaseOf, GrantSink, GrantAckOf, ProbeOf, Cap, Perm}
+use proofs.Imports.{on_link, Trace, comes_in_release, comes_in_request, comes_in_grant, same_perm, bytes_from, held}
+use proofs.Imports.{pending, request_of, release_of, probe_of, grant_sink, block_at, is_acquire, same_bytes, open_beat}
+use proofs.Imports.{comes_of, recorded, cap_probed, services, service_of_block, Event, Deliver, is_of, acquires_of}
+use proofs.Imports.{serves_of, acquires_with, serves_with, releases_with, tracks_with, ok, same_cap, is_unprobed}
+use proofs.Imports.{is_unreleased, is_whole, Service, Free, Waits, State, view, is_wanting, is_granting}
+use proofs.Imports.{is_acknowledging, is_unserved, is_answered, AbstractState, first_abstract_state, abstract_step}
+use proofs.Imports.{some_below, comes_granting, is_own, client_in, is_requested, is_release_pending, is_let_by, is_sunk}
+use proofs.Imports.{AccessMessages, messages_on, probe_beat, block_message, asked_by, is_served, is_granted, cap_waited}
+use proofs.Imports.{started, receiver, flow, requests, releases, next_delivery, accesses_answered, performing, Step}
+use proofs.Imports.{stepped, System}
+use Rattle.tl_coherence.specs.refinement.Carried.{spelled}
 use Rattle.tl_manager.specs.statement.Service as service
-use Rattle.tl_manager.specs.statement.Service.{services, service_of_block}
-use Rattle.tl_coherence.specs.{refinement.Carried.spelled, refinement.ClientRelation.comes_granting}
-use Rattle.tl_coherence.specs.{statement.Delivery.receiver, refinement.SimulationRelation.asked_by}
-use Rattle.tl_coherence.specs.refinement.MonitorRelation.{is_requested, is_release_pending, is_let_by, is_sunk}
-use Rattle.tl_coherence.specs.refinement.AbstractStep.{AbstractState, first_abstract_state, abstract_step, some_below}
-use Rattle.tl_coherence.specs.protocol.Invariant.{is_of, acquires_of, serves_of, acquires_with, serves_with}
-use Rattle.tl_coherence.specs.protocol.Invariant.{releases_with, tracks_with}
-use Rattle.tl_coherence.specs.refinement.ManagerRelation.{is_own, client_in}
-use Rattle.tl_coherence.specs.protocol.Phase.{ok, same_cap, is_unprobed, is_unreleased, is_whole}
-use Rattle.tl_coherence.specs.protocol.Protocol.{Service, Free, Waits, State, view}
-use Rattle.tl_coherence.specs.protocol.Tokens.{is_wanting, is_granting, is_acknowledging, is_unserved, is_answered}
-use Rattle.tl_coherence.specs.refinement.PacketMessages.{AccessMessages, messages_on, probe_beat, block_message}
-use Rattle.tl_coherence.specs.refinement.SourceRelation.{is_served, is_granted, cap_waited}
-use Rattle.tl_coherence.proofs.examples.Checks.{Past, begun, next, all_below, failed, same_beats, performs}
-use Rattle.tl_coherence.proofs.{examples.Play.Line, examples.Play.Does, examples.Play.Drains, queues.Phases.implies}
+use proofs.examples.{Checks.Past, Checks.begun, Checks.next, Checks.all_below, Checks.failed, Checks.same_beats}
+use proofs.examples.{Checks.performs, Play.Line, Play.Does, Play.Drains}
+use proofs.queues.Phases.{implies}
 
 -- ---- tests of values
 

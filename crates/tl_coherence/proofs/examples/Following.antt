@@ -2,15 +2,11 @@
 -- the manager and the flow have are those of the protocol, and its phases are well. By tests with numbers, of which
 -- those
 -- that fail are listed.
-use Rattle.std.proofs.Common.{refl, lit≤}
-use Rattle.std.specs.Prelude.{[], ◌∷◌, ◌++◌, replicate}
-use Rattle.tl_coherence.proofs.examples.Imports.{Channel}
-use Rattle.tl_beat.specs.declared.opcode.OpA.{OpA}
-use Rattle.tl_params.{specs.declared.level.Level.Level, specs.declared.param.Grow.Grow}
-use Rattle.tl_params.{specs.declared.param.Prune.Prune, specs.declared.profile.Profile.Profile}
-use Rattle.tl_coherence.proofs.examples.Play.{evaluated, Drains, world, deliver, load, store, acquire, whole, release}
-use Rattle.tl_coherence.proofs.examples.Play.{access}
-use Rattle.tl_coherence.proofs.examples.FollowChecks.{evaluated_tests, faults_draining, faults, Follows}
+use Rattle.std.proofs.Common.{refl, lit≤, [], ◌∷◌, ◌++◌, replicate}
+use Rattle.tl_coherence.proofs
+use proofs.Imports.{Channel, OpA, Level, Grow, Prune, Profile}
+use proofs.examples.Play.{evaluated, Drains, world, deliver, load, store, acquire, whole, release, access}
+use proofs.examples.FollowChecks.{evaluated_tests, faults_draining, faults, Follows}
 
 -- ---- lists that are known from elsewhere
 

@@ -1,13 +1,9 @@
 -- What the theorem says, evaluated at every event of lists that are known from elsewhere.
-use Rattle.std.proofs.Common.{refl, lit≤}
-use Rattle.std.specs.Prelude.{[], ◌∷◌, ◌++◌, replicate}
-use Rattle.tl_coherence.proofs.examples.Imports.{Channel}
-use Rattle.tl_beat.specs.declared.opcode.OpA.{OpA}
-use Rattle.tl_params.{specs.declared.level.Level.Level, specs.declared.param.Grow.Grow}
-use Rattle.tl_params.{specs.declared.param.Prune.Prune, specs.declared.profile.Profile.Profile}
-use Rattle.tl_coherence.proofs.examples.Play.{evaluated, Drains, world, deliver, load, store, acquire, whole, release}
-use Rattle.tl_coherence.proofs.examples.Play.{access}
-use Rattle.tl_coherence.proofs.examples.Checks.{evaluated_tests, Holds, faults, faults_draining}
+use Rattle.std.proofs.Common.{refl, lit≤, [], ◌∷◌, ◌++◌, replicate}
+use Rattle.tl_coherence.proofs
+use proofs.Imports.{Channel, OpA, Level, Grow, Prune, Profile}
+use proofs.examples.Play.{evaluated, Drains, world, deliver, load, store, acquire, whole, release, access}
+use proofs.examples.Checks.{evaluated_tests, Holds, faults, faults_draining}
 
 plain_accesses_of_what_a_cache_holds : Holds {w = 8} (world Profile.One 2 1 ((Level.C, 1) ∷ (Level.UL, 1) ∷ []))
     ((acquire 0 0 Grow.NtoT ∷ Drains 220 ∷ store 0 0 0 90 ∷ access 1 OpA.Get 0 0 (lit≤ tt) 0 1

@@ -1,24 +1,18 @@
 -- What comes of lists of events and drains, evaluated, with words for events and beats.
-use Rattle.tl_coherence.proofs.examples.Imports.{Beat, Link, Channel, Config, Event, Ask, Deliver, next_delivery, Step}
-use Rattle.tl_coherence.proofs.examples.Imports.{stepped, System, with_messages, is_movable, first_movable}
-use Rattle.tl_coherence.proofs.examples.Imports.{bytes_carried, number_from, unfinished, request_of, release_of}
-use Rattle.tl_coherence.proofs.examples.Imports.{probe_of, grant_sink, pending, held, illegal, first_illegal}
-use Rattle.tl_coherence.proofs.examples.Imports.{beats_from, each_below, broken_order, on_link, bytes_from, effect}
-use Rattle.tl_coherence.proofs.examples.Imports.{with_handed, clients_from, masks_carried, corrupt_carried}
-use Rattle.tl_coherence.proofs.examples.Imports.{request_carried}
-use Rattle.std.proofs.Common.{◌≡◌, ◌≤◌}
-use Rattle.std.specs.Prelude.{ℕ, zero, suc, Bool, false, List, [], ◌∷◌, map, if◌then◌else◌, Option, Some, None, is_some}
-use Rattle.tl_beat.specs.declared.beat.Beat.TheVariants.{A, B, C, D, E}
-use Rattle.tl_beat.{specs.declared.opcode.OpA.OpA, specs.declared.opcode.OpB.OpB, specs.declared.opcode.OpC.OpC}
-use Rattle.tl_beat.{specs.declared.opcode.OpD.OpD}
-use Rattle.tl_beat.specs.statement.Opcode.{a_code, b_code, c_code, d_code, a_carries_data, b_carries_data}
-use Rattle.tl_beat.specs.statement.Opcode.{c_carries_data, d_carries_data}
-use Rattle.tl_burst.specs.declared.message.Message.{Message}
-use Rattle.tl_params.{specs.declared.level.Level.Level, specs.declared.param.Grow.Grow}
-use Rattle.tl_params.{specs.declared.param.Prune.Prune, specs.declared.profile.Profile.Profile}
-use Rattle.tl_client.{specs.declared.operation.Op.Op, specs.declared.reply.Reply.Reply}
-use Rattle.tl_client.{specs.declared.verdict.Finish.Finish}
-use Rattle.tl_coherence.specs.{declared.event.Outcome.Outcome, statement.System.fresh}
+use Rattle.std.proofs.Common.{◌≡◌, ◌≤◌, ℕ, zero, suc, Bool, false, List, [], ◌∷◌, Option, Some, None, map}
+use Rattle.std.proofs.Common.{if◌then◌else◌, is_some}
+use Rattle.tl_coherence.proofs
+use proofs.Imports.{Beat, B, C, Link, Channel, OpA, OpB, OpC, OpD, a_carries_data, b_carries_data, c_carries_data}
+use proofs.Imports.{d_carries_data, Message, unfinished, Config, Level, Grow, Prune, Profile, broken_order, on_link}
+use proofs.Imports.{number_from, bytes_from, effect, request_of, release_of, probe_of, grant_sink, pending, held}
+use proofs.Imports.{illegal, beats_from, Op, Reply, Finish, with_handed, clients_from, Event, Ask, Deliver, Outcome}
+use proofs.Imports.{next_delivery, is_movable, first_movable, Step, stepped, System, with_messages, fresh}
+use Rattle.tl_beat.{specs.declared.beat.Beat.TheVariants.A, specs.declared.beat.Beat.TheVariants.D}
+use Rattle.tl_beat.{specs.declared.beat.Beat.TheVariants.E, specs.statement.Opcode.a_code}
+use Rattle.tl_beat.{specs.statement.Opcode.b_code, specs.statement.Opcode.c_code, specs.statement.Opcode.d_code}
+use Rattle.tl_rules.{specs.statement.Admission.bytes_carried, specs.statement.Legality.first_illegal}
+use Rattle.tl_rules.{specs.statement.Legality.each_below}
+use Rattle.tl_manager.specs.statement.Request.{masks_carried, corrupt_carried, request_carried}
 use Rattle.tl_client.specs.statement.Ask as ask
 use Rattle.tl_client.specs.statement.Offer as offer
 use Rattle.tl_manager.specs.statement.Service as service

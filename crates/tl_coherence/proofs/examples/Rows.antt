@@ -1,17 +1,10 @@
 -- What worlds do at lists of events that are known from elsewhere, evaluated.
-use Rattle.std.proofs.Common.{refl, lit≤}
-use Rattle.std.specs.Prelude.{[], ◌∷◌, ◌++◌, replicate, Some, None}
-use Rattle.tl_coherence.proofs.examples.Imports.{Channel}
-use Rattle.tl_beat.{specs.declared.opcode.OpA.OpA, specs.declared.opcode.OpB.OpB, specs.declared.opcode.OpC.OpC}
-use Rattle.tl_beat.{specs.declared.opcode.OpD.OpD}
-use Rattle.tl_params.{specs.declared.level.Level.Level, specs.declared.param.Grow.Grow}
-use Rattle.tl_params.{specs.declared.param.Prune.Prune, specs.declared.perm.Perm.Perm}
-use Rattle.tl_params.{specs.declared.profile.Profile.Profile}
-use Rattle.tl_client.{specs.declared.busy.Busy.Busy, specs.declared.reply.Reply.Reply}
-use Rattle.tl_client.{specs.declared.verdict.Finish.Finish}
-use Rattle.tl_coherence.specs.declared.event.Outcome.TheVariants.{Replied, Empty, Stalled, Moved, Done}
-use Rattle.tl_coherence.proofs.examples.Play.{evaluated, Drains, draining, outcomes, Gives, world, deliver, load, store}
-use Rattle.tl_coherence.proofs.examples.Play.{acquire, whole, release, access, a_beat, b_beat, c_beat, d_beat, e_beat}
+use Rattle.std.proofs.Common.{refl, lit≤, [], ◌∷◌, ◌++◌, Some, None, replicate}
+use Rattle.tl_coherence.proofs
+use proofs.Imports.{Channel, OpA, OpB, OpC, OpD, Level, Grow, Prune, Perm, Profile, Busy, Reply, Finish, Moved, Done}
+use Rattle.tl_coherence.specs.declared.event.Outcome.TheVariants.{Replied, Empty, Stalled}
+use proofs.examples.Play.{evaluated, Drains, draining, outcomes, Gives, world, deliver, load, store, acquire, whole}
+use proofs.examples.Play.{release, access, a_beat, b_beat, c_beat, d_beat, e_beat}
 
 a_release_while_a_probe_waits : Gives {w = 8} (world Profile.One 1 1 ((Level.C, 1) ∷ (Level.C, 1) ∷ []))
     ((acquire 0 0 Grow.NtoT ∷ Drains 220 ∷ store 0 0 0 90 ∷ acquire 1 0 Grow.NtoT ∷ deliver 1 Channel.A ∷ release 0 0

@@ -1,29 +1,24 @@
 -- What is delivered on a link, as a beat of channel A is: of an access, or of an Acquire.
-use Rattle.tl_coherence.proofs.flow.Imports.{Beat, BeatA, Channel, Message, a_beat_of, History, is_empty, completes}
-use Rattle.tl_coherence.proofs.flow.Imports.{Config, Cap, comes_in_request, comes_in_grant, same_perm, same_block}
-use Rattle.tl_coherence.proofs.flow.Imports.{MonitorRelation, AbstractState, Log, ClientBlock, View, Own, Granting}
-use Rattle.tl_coherence.proofs.flow.Imports.{is_unprobed, is_unreleased, Free, GrantSent, Block, State, Replied, view}
-use Rattle.tl_coherence.proofs.flow.Imports.{is_granting, is_acknowledging, is_answered, is_unserved, served_block}
-use Rattle.tl_coherence.proofs.flow.Imports.{acquire_served, granted_at_once, acquire_granted, System, Packet, set}
-use Rattle.tl_coherence.proofs.flow.Imports.{SimulationRelation, asked_by}
 use Rattle.std.proofs.Common.{◌≡◌, subst, ℕ, Bool, true, false, ◌&&◌, List, ◌∷◌, Option, Some, None, refl, sym, ◌∙◌, ap}
-use Rattle.std.proofs.Common.{◌⊎◌, inl, inr}
-use Rattle.std.{specs.Prelude.◌==◌, specs.Prelude.if◌then◌else◌, proofs.lemmas.Bool.cases_eq}
-use Rattle.std.{proofs.lemmas.Bool.eqb-true, proofs.Math.Bool.and-false, proofs.lemmas.Option.same_Some}
-use Rattle.tl_coherence.specs.protocol.PhaseSteps.{after_grant_sent}
-use Rattle.tl_coherence.proofs.{manager.Admitted.first_three, queues.Carried.IsNext, protocol.HeadOfD.IsGrantDue}
-use Rattle.tl_coherence.proofs.{queues.PhaseFacts.asked_alone, flow.FlowAccess.IsAccess, flow.FlowAccess.flowed-access}
-use Rattle.tl_coherence.proofs.{flow.FlowAcquired.flowed-acquire, flow.FlowAlone.AreRests, flow.FlowApart.replied}
-use Rattle.tl_coherence.proofs.{flow.FlowComing.coming-sink, flow.FlowComing.coming-granting, flow.FlowStep.held_by}
-use Rattle.tl_coherence.proofs.{queues.Phases.and_left, queues.Phases.and_right, manager.RequestsTaken.acquire_wanted}
-use Rattle.tl_coherence.proofs.{protocol.BothParts.quiet_unanswered, queues.Codes.acquires-so}
-use Rattle.tl_coherence.proofs.{simulation.Popped.unfinished_at}
-use Rattle.tl_coherence.proofs.client.ClientEnd.{is_access, asks-access, asks-acquire}
-use Rattle.tl_coherence.proofs.flow.FlowBeats.{came-so, comes-so, first-zero, one-beat, set_at-if, same_perms}
-use Rattle.tl_coherence.proofs.flow.FlowBeats.{unused-else}
-use Rattle.tl_coherence.proofs.flow.FlowSunk.{sunk_in, sunk-elsewhere, IsWithin, tracked-new}
-use Rattle.tl_coherence.proofs.protocol.Heads.{acquisition_beats, IsAsked, IsWanted}
-use Rattle.tl_coherence.proofs.queues.Tokens.{same_number, set-same, set-other}
+use Rattle.std.proofs.Common.{◌⊎◌, inl, inr, eqb-true, ◌==◌, if◌then◌else◌}
+use Rattle.tl_coherence.proofs
+use proofs.Imports.{and-false, cases_eq, same_Some, Beat, BeatA, Channel, Message, a_beat_of, History, is_empty}
+use proofs.Imports.{completes, Config, Cap, comes_in_request, comes_in_grant, same_perm, same_block, Packet, set}
+use proofs.Imports.{ClientBlock, View, Own, Granting, is_unprobed, is_unreleased, after_grant_sent, Free, GrantSent}
+use proofs.Imports.{Block, State, Replied, view, served_block, acquire_served, granted_at_once, acquire_granted}
+use proofs.Imports.{is_granting, is_acknowledging, is_answered, is_unserved, AbstractState, MonitorRelation}
+use proofs.Imports.{SimulationRelation, asked_by, Log, System}
+use proofs.manager.{Admitted.first_three, RequestsTaken.acquire_wanted}
+use proofs.queues.{Carried.IsNext, PhaseFacts.asked_alone, Phases.and_left, Phases.and_right, Codes.acquires-so}
+use proofs.queues.{Tokens.same_number, Tokens.set-same, Tokens.set-other}
+use proofs.protocol.{HeadOfD.IsGrantDue, BothParts.quiet_unanswered, Heads.acquisition_beats, Heads.IsAsked}
+use proofs.protocol.{Heads.IsWanted}
+use proofs.flow.{FlowAccess.IsAccess, FlowAccess.flowed-access, FlowAcquired.flowed-acquire, FlowAlone.AreRests}
+use proofs.flow.{FlowApart.replied, FlowComing.coming-sink, FlowComing.coming-granting, FlowStep.held_by}
+use proofs.flow.{FlowSunk.sunk_in, FlowSunk.sunk-elsewhere, FlowSunk.IsWithin, FlowSunk.tracked-new}
+use proofs.simulation.Popped.{unfinished_at}
+use proofs.client.ClientEnd.{is_access, asks-access, asks-acquire}
+use proofs.flow.FlowBeats.{came-so, comes-so, first-zero, one-beat, set_at-if, same_perms, unused-else}
 
 module _ {w : ℕ} {config : Config} {log : Log w} (h : AbstractState w) {sys : System w} {c : ℕ}
     (is : SimulationRelation config log h.mail h.request h.state sys) {t : History w}

@@ -1,16 +1,18 @@
 -- What is delivered on a link, as the beat of a Probe is, for a whole that is that of the protocol.
-use Rattle.tl_coherence.proofs.flow.Imports.{Beat, BeatA, Channel, Message, History, is_empty, completes, Config, Cap}
-use Rattle.tl_coherence.proofs.flow.Imports.{same_block, MonitorRelation, AbstractState, Log, ClientBlock, View, Idle}
-use Rattle.tl_coherence.proofs.flow.Imports.{Own, Other, Granting, Acknowledging, GrantedOther, ProbeSent, ok, Service}
-use Rattle.tl_coherence.proofs.flow.Imports.{Free, Waits, GrantSent, GrantTaken, State, packet, shown, view}
-use Rattle.tl_coherence.proofs.flow.Imports.{probe_taken, cap_sent, probe_beat, block_message, cap_waited, System}
-use Rattle.tl_coherence.proofs.flow.Imports.{Probe, Packet, SimulationRelation, asked_by}
-use Rattle.std.proofs.Common.{◌≡◌, subst, ℕ, Bool, true, false, ◌&&◌, List, [], ◌∷◌, Option, refl, sym, ◌∙◌, ap}
-use Rattle.std.specs.Prelude.{◌==◌, if◌then◌else◌}
-use Rattle.tl_coherence.specs.protocol.Phase.{same_cap, fits_service}
-use Rattle.tl_coherence.proofs.{queues.Carried.IsNext, flow.FlowAlone.AreRests, flow.FlowAside.comes-same}
-use Rattle.tl_coherence.proofs.{flow.FlowProbe.flowed-probe, queues.Phases.and_left, client.ProbeDelivered.probe-beat}
-use Rattle.tl_coherence.proofs.{queues.Tokens.holds-first, protocol.BothParts.sent-is, simulation.Popped.unfinished_at}
+use Rattle.std.proofs.Common.{◌≡◌, subst, ℕ, Bool, true, false, ◌&&◌, List, [], ◌∷◌, Option, refl, sym, ◌∙◌, ap, ◌==◌}
+use Rattle.std.proofs.Common.{if◌then◌else◌}
+use Rattle.tl_coherence.proofs
+use proofs.Imports.{Beat, BeatA, Channel, Message, History, is_empty, completes, Config, Cap, same_block, Probe, Packet}
+use proofs.Imports.{ClientBlock, View, Idle, Own, Other, Granting, Acknowledging, GrantedOther, ProbeSent, ok, same_cap}
+use proofs.Imports.{Service, Free, Waits, GrantSent, GrantTaken, State, packet, view, probe_taken, AbstractState}
+use proofs.Imports.{MonitorRelation, cap_sent, probe_beat, block_message, SimulationRelation, asked_by, cap_waited, Log}
+use proofs.Imports.{System}
+use Rattle.tl_coherence.specs.protocol.Phase.{fits_service}
+use proofs.queues.{Carried.IsNext, Phases.and_left}
+use proofs.flow.{FlowAlone.AreRests, FlowAside.comes-same, FlowProbe.flowed-probe}
+use proofs.client.ProbeDelivered.{probe-beat}
+use proofs.simulation.Popped.{unfinished_at}
+use proofs.protocol.FirstTokens.{first-probe}
 
 -- ---- who is probed
 
@@ -67,8 +69,7 @@ module _ {w : ℕ} {config : Config} {log : Log w} (h : AbstractState w) {sys : 
       let x_is : x ≡ Beat.B (probe_beat n k) = probe-beat c n s next in
       let whole : unfinished_at sys c Channel.B ≡ [] = (is.kept c).b_whole in
       let seen = sent_sees k ((s.block n).pair c) (view (s.block n).service c) ((is.invariant.blocks n).phases c)
-      (sent-is ((s.block n).pair c).probing (holds-first Probe (s.link c).b toks (packet Probe n)
-      (λ i. shown Probe c (s.block i)) tokens refl (is.invariant.transfers c Probe refl))) in
+      (first-probe is.invariant tokens) in
       subst (λ (z : Beat w). MonitorRelation asked' rest' c (probe_taken c n k toks s) (z ∷ t)) (sym x_is)
       (flowed-probe n k toks asked' rest' (ap is_empty (flowed.rest_is Channel.B ∙ whole))
       (ap (completes {w = w} (Beat.B (probe_beat n k))) (flowed.rest_is Channel.B ∙ whole))

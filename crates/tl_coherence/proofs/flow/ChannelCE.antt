@@ -1,31 +1,24 @@
 -- What is delivered on a link, as a beat of channel C or E is: of a ProbeAck, a Release or a GrantAck.
-use Rattle.tl_coherence.proofs.flow.Imports.{IsWidth, Beat, BeatA, BeatE, Channel, Message, MessageC, History, is_empty}
-use Rattle.tl_coherence.proofs.flow.Imports.{completes, Config, Prune, Report, prune_code, prune_left, report_code}
-use Rattle.tl_coherence.proofs.flow.Imports.{report_left, comes_in_release, same_perm, is_release, reported}
-use Rattle.tl_coherence.proofs.flow.Imports.{MonitorRelation, AbstractState, is_busy, Log, ClientBlock, View, Idle}
-use Rattle.tl_coherence.proofs.flow.Imports.{Granting, Acknowledging, ReleaseSent, is_unprobed, is_unreleased, ok}
-use Rattle.tl_coherence.proofs.flow.Imports.{Service, Free, Block, State, packet, shown, view, is_granting}
-use Rattle.tl_coherence.proofs.flow.Imports.{is_acknowledging, let_block, release_taken, report_taken, grant_ack_taken}
-use Rattle.tl_coherence.proofs.flow.Imports.{block_message, prune_told, report_told, System, ProbeAck, Release}
-use Rattle.tl_coherence.proofs.flow.Imports.{GrantAck, Packet, SimulationRelation, asked_by, Perm}
 use Rattle.std.proofs.Common.{◌≡◌, subst, ℕ, Bool, true, false, not, ◌&&◌, List, ◌∷◌, Option, refl, sym, ◌∙◌, ap}
-use Rattle.std.proofs.Common.{length}
-use Rattle.std.{proofs.lemmas.Bool.and_right as with_false, specs.Prelude.◌==◌, specs.Prelude.if◌then◌else◌}
-use Rattle.tl_burst.specs.statement.Burst.{c_beat_of}
-use Rattle.tl_params.specs.statement.Param.{prune_right}
-use Rattle.tl_client.{specs.statement.Send.release, proofs.endpoint.HeldAfter.reported-report}
-use Rattle.tl_coherence.specs.protocol.PhaseSteps.{after_release_taken}
-use Rattle.tl_coherence.proofs.{queues.Carried.IsNext, queues.Facts.answered_other, queues.Facts.granting_alone}
-use Rattle.tl_coherence.proofs.{flow.FlowAlone.AreRests, flow.FlowAlone.flowed-grant_ack, flow.FlowAside.comes-same}
-use Rattle.tl_coherence.proofs.{flow.FlowComing.coming-granting, flow.FlowLawful.other_ungranted}
-use Rattle.tl_coherence.proofs.{flow.FlowReleased.letting_after, flow.FlowReleased.flowed-release}
-use Rattle.tl_coherence.proofs.{flow.FlowReport.flowed-report_part, flow.FlowReported.flowed-report}
-use Rattle.tl_coherence.proofs.{flow.FlowStep.held_by, queues.Phases.and_left, queues.Phases.and_right}
-use Rattle.tl_coherence.proofs.{protocol.BothParts.answered-is, protocol.BothParts.releasing-is}
-use Rattle.tl_coherence.proofs.{simulation.Popped.unfinished_at}
-use Rattle.tl_coherence.proofs.flow.FlowBeats.{came-so, comes-so, one-beat, first_false}
-use Rattle.tl_coherence.proofs.manager.Reporting.{IsAbout, report-about, release-about, reported-prune}
-use Rattle.tl_coherence.proofs.queues.Tokens.{set-same, set-other, holds-first}
+use Rattle.std.proofs.Common.{length, ◌==◌, if◌then◌else◌}
+use Rattle.tl_coherence.proofs
+use proofs.Imports.{and_right as with_false, Beat, BeatA, BeatE, Channel, IsWidth, Message, MessageC, c_beat_of}
+use proofs.Imports.{History, is_empty, completes, Config, Prune, Report, Perm, prune_code, prune_left, report_code}
+use proofs.Imports.{report_left, prune_right, comes_in_release, same_perm, is_release, reported, reported-report}
+use proofs.Imports.{release, is_busy, ProbeAck, Release, GrantAck, Packet, ClientBlock, View, Idle, Granting}
+use proofs.Imports.{Acknowledging, ReleaseSent, is_unprobed, is_unreleased, ok, after_release_taken, Service, Free}
+use proofs.Imports.{Block, State, packet, view, let_block, release_taken, report_taken, grant_ack_taken, is_granting}
+use proofs.Imports.{is_acknowledging, AbstractState, MonitorRelation, block_message, prune_told, report_told}
+use proofs.Imports.{SimulationRelation, asked_by, Log, System}
+use proofs.queues.{Carried.IsNext, Facts.answered_other, Facts.granting_alone, Phases.and_left, Phases.and_right}
+use proofs.queues.{Tokens.set-same, Tokens.set-other}
+use proofs.flow.{FlowAlone.AreRests, FlowAlone.flowed-grant_ack, FlowAside.comes-same, FlowComing.coming-granting}
+use proofs.flow.{FlowLawful.other_ungranted, FlowReleased.letting_after, FlowReleased.flowed-release}
+use proofs.flow.{FlowReport.flowed-report_part, FlowReported.flowed-report, FlowStep.held_by, FlowBeats.came-so}
+use proofs.flow.{FlowBeats.comes-so, FlowBeats.one-beat, FlowBeats.first_false}
+use proofs.simulation.Popped.{unfinished_at}
+use proofs.manager.Reporting.{IsAbout, report-about, release-about, reported-prune}
+use proofs.protocol.FirstTokens.{first-release, first-report, first-shown}
 
 -- ---- what the messages say
 
@@ -152,8 +145,7 @@ module _ {w : ℕ} {config : Config} {log : Log w} (h : AbstractState w) {sys : 
       alone : is_granting (view (s.block n).service c) ≡ false
       alone = other_ungranted (view (s.block n).service c)
           (answered_other r ((s.block n).pair c) (view (s.block n).service c) well
-          (answered-is ((s.block n).pair c).probing (holds-first ProbeAck (s.link c).c toks (packet ProbeAck n)
-          (λ i. shown ProbeAck c (s.block i)) tokens refl (is.invariant.transfers c ProbeAck refl))))
+          (first-report is.invariant tokens))
 
       same : (z : Bool) → completes x (unfinished_at sys c Channel.C) ≡ z → (i : ℕ)
           → comes_in_release i (rest' Channel.C) ≡ comes_in_release i (unfinished_at sys c Channel.C)
@@ -187,8 +179,7 @@ module _ {w : ℕ} {config : Config} {log : Log w} (h : AbstractState w) {sys : 
       else s) (x ∷ t)
   own-release tokens x ms queue next rests b last =
       let releasing : ((s.block n).pair c).letting ≡ ReleaseSent r =
-      releasing-is ((s.block n).pair c).letting (holds-first Release (s.link c).c toks (packet Release n)
-      (λ i. shown Release c (s.block i)) tokens refl (is.invariant.transfers c Release refl)) in
+      first-release is.invariant tokens in
       let ungranted : is_granting (view (s.block n).service c) ≡ false =
       released_ungranted r ((s.block n).pair c) (view (s.block n).service c) well releasing in
       let now : (z : Bool) → (released_if r z).block n ≡ block_if z =
@@ -284,8 +275,7 @@ module _ {w : ℕ} {config : Config} {log : Log w} (h : AbstractState w) {sys : 
       (λ k. comes-same k before asked' (unfinished_at sys c Channel.D) asks) flowed)
     where
       shows : is_acknowledging (view (s.block n).service c) ≡ true
-      shows = holds-first GrantAck (s.link c).e toks (packet GrantAck n) (λ i. shown GrantAck c (s.block i)) tokens refl
-          (is.invariant.transfers c GrantAck refl)
+      shows = first-shown is.invariant c GrantAck refl tokens
 
       seen : view (s.block n).service c ≡ Acknowledging
       seen =

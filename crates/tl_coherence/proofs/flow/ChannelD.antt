@@ -1,35 +1,24 @@
 -- What is delivered on a link, as a beat of channel D is: of an answer, a Grant or a ReleaseAck.
-use Rattle.tl_coherence.proofs.flow.Imports.{Beat, BeatA, Channel, Message, MessageD, History, unfinished, is_empty}
-use Rattle.tl_coherence.proofs.flow.Imports.{completes, Config, Cap, comes_in_grant, is_grant, asks_for, same_block}
-use Rattle.tl_coherence.proofs.flow.Imports.{MonitorRelation, AbstractState, acquires_of, is_busy, comes_granting, Log}
-use Rattle.tl_coherence.proofs.flow.Imports.{ClientBlock, Granting, is_unprobed, is_unreleased, after_release_ack}
-use Rattle.tl_coherence.proofs.flow.Imports.{Block, State, SourceFree, Acquires, packet, shown, view, is_granting}
-use Rattle.tl_coherence.proofs.flow.Imports.{is_answered, is_wanting, taken_block, let_go_block, release_ack_taken}
-use Rattle.tl_coherence.proofs.flow.Imports.{block_message, System, Answer, Grant, ReleaseAck, Packet}
-use Rattle.tl_coherence.proofs.flow.Imports.{SimulationRelation, is_caching, asked_by}
 use Rattle.std.proofs.Common.{◌≡◌, subst, ℕ, Bool, true, false, not, ◌&&◌, List, ◌∷◌, Option, None, refl, sym, ◌∙◌, ap}
-use Rattle.std.proofs.Common.{inl}
-use Rattle.std.specs.Prelude.{◌==◌, if◌then◌else◌}
-use Rattle.std.proofs.lemmas.Bool.{eqb-false, eqb-true, and_right as with_false}
-use Rattle.tl_burst.specs.statement.Burst.{d_beat_of}
-use Rattle.tl_params.specs.statement.Param.{cap_right}
-use Rattle.tl_manager.{proofs.blocks.Recording.cap-gives, proofs.services.Serving.not_swapped}
-use Rattle.tl_manager.{proofs.pending.Answered.no_ack_grant}
-use Rattle.tl_coherence.specs.protocol.PhaseSteps.{after_grant}
-use Rattle.tl_coherence.specs.protocol.Protocol.{answer_taken, grant_taken}
-use Rattle.tl_coherence.proofs.{client.Aside.set_at-else, queues.Carried.IsNext, client.ClientDelivered.ack_next}
-use Rattle.tl_coherence.proofs.{client.ClientEnd.asks-same, client.ClientEnd.asks-acquire, queues.Facts.granting_alone}
-use Rattle.tl_coherence.proofs.{flow.FlowAlone.AreRests, flow.FlowAnswered.flowed-answer}
-use Rattle.tl_coherence.proofs.{flow.FlowAnswered.flowed-let_go, flow.FlowGranted.seen_after}
-use Rattle.tl_coherence.proofs.{flow.FlowGranted.flowed-grant, flow.FlowResponses.grant_quiet}
-use Rattle.tl_coherence.proofs.{flow.FlowResponses.grant_tracked, flow.FlowStep.held_by, queues.Phases.and_right}
-use Rattle.tl_coherence.proofs.{protocol.BothParts.acked-is, queues.Codes.access_kind, queues.Codes.grants-so}
-use Rattle.tl_coherence.proofs.{simulation.Popped.unfinished_at}
-use Rattle.tl_coherence.proofs.protocol.HeadOfD.{answer-due, IsGrantDue, grant-rendered, grant_message, ack_message}
-use Rattle.tl_coherence.proofs.protocol.HeadOfD.{own_view}
-use Rattle.tl_coherence.proofs.flow.FlowBeats.{came-so, comes-so, one-beat, set_at-if, same_perms, unused-else}
-use Rattle.tl_coherence.proofs.flow.FlowBeats.{first_false}
-use Rattle.tl_coherence.proofs.queues.Tokens.{same_number, set-same, set-other, holds-first}
+use Rattle.std.proofs.Common.{inl, eqb-true, ◌==◌, if◌then◌else◌}
+use Rattle.tl_coherence.proofs
+use proofs.Imports.{eqb-false, and_right as with_false, Beat, BeatA, Channel, Message, MessageD, d_beat_of, History}
+use proofs.Imports.{unfinished, is_empty, completes, Config, Cap, cap_right, comes_in_grant, is_grant, asks_for}
+use proofs.Imports.{same_block, cap-gives, no_ack_grant, acquires_of, is_busy, Answer, Grant, ReleaseAck, Packet}
+use proofs.Imports.{ClientBlock, Granting, is_unprobed, is_unreleased, after_release_ack, after_grant, Block, State}
+use proofs.Imports.{SourceFree, Acquires, packet, view, taken_block, let_go_block, release_ack_taken, answer_taken}
+use proofs.Imports.{grant_taken, is_granting, is_answered, is_wanting, AbstractState, comes_granting, MonitorRelation}
+use proofs.Imports.{block_message, SimulationRelation, is_caching, asked_by, Log, System}
+use Rattle.tl_manager.proofs.services.Serving.{not_swapped}
+use proofs.client.{Aside.set_at-else, ClientDelivered.ack_next, ClientEnd.asks-same, ClientEnd.asks-acquire}
+use proofs.queues.{Carried.IsNext, Facts.granting_alone, Phases.and_right, Codes.access_kind, Codes.grants-so}
+use proofs.queues.{Tokens.same_number, Tokens.set-same, Tokens.set-other}
+use proofs.flow.{FlowAlone.AreRests, FlowAnswered.flowed-answer, FlowAnswered.flowed-let_go, FlowGranted.seen_after}
+use proofs.flow.{FlowGranted.flowed-grant, FlowResponses.grant_quiet, FlowResponses.grant_tracked, FlowStep.held_by}
+use proofs.simulation.Popped.{unfinished_at}
+use proofs.protocol.HeadOfD.{answer-due, IsGrantDue, grant-rendered, grant_message, ack_message, own_view}
+use proofs.flow.FlowBeats.{came-so, comes-so, one-beat, set_at-if, same_perms, unused-else, first_false}
+use proofs.protocol.FirstTokens.{first-release_ack}
 
 module _ {w : ℕ} {config : Config} {log : Log w} (h : AbstractState w) {sys : System w} {c : ℕ}
     (is : SimulationRelation config log h.mail h.request h.state sys) {t : History w}
@@ -174,8 +163,7 @@ module _ {w : ℕ} {config : Config} {log : Log w} (h : AbstractState w) {sys : 
         grant = refl;
         ack = refl;
         source = refl;
-        letting = acked-is ((s.block n).pair c).letting (holds-first ReleaseAck (s.link c).d toks (packet ReleaseAck n)
-            (λ i. shown ReleaseAck c (s.block i)) tokens refl (is.invariant.transfers c ReleaseAck refl));
+        letting = first-release_ack is.invariant tokens;
         comes = none_came m x ms queue here rests true one.2 refl;
         grants = none_granted m x ms queue here rests true one.2 refl asked';
         asked_is = asks;

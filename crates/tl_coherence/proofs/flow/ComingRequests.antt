@@ -1,16 +1,14 @@
 -- What is half taken on channel A while a response is on its way.
-use Rattle.tl_coherence.proofs.flow.Imports.{Beat, Message, MessageA, begun, unfinished, Config, on_link}
-use Rattle.tl_coherence.proofs.flow.Imports.{comes_in_request, IsCarried, Log, State, SourceState, Asked, Acquires}
-use Rattle.tl_coherence.proofs.flow.Imports.{view, packet, shown, is_on, is_unserved, is_wanting, AccessMessages}
-use Rattle.tl_coherence.proofs.flow.Imports.{block_message, message_of, message_of_kind, System, Kind, Request, Acquire}
-use Rattle.tl_coherence.proofs.flow.Imports.{Packet, SimulationRelation, is_caching, Channel}
-use Rattle.std.proofs.Common.{◌≡◌, subst, ℕ, zero, suc, Bool, true, false, List, [], ◌∷◌, refl, sym, ◌∙◌, ap}
-use Rattle.std.{specs.Prelude.◌==◌, specs.Prelude.map, proofs.lemmas.Bool.eqb-true}
-use Rattle.tl_client.specs.statement.Send.{acquisition}
-use Rattle.tl_coherence.specs.refinement.AbstractStep.{acquire_opcode}
-use Rattle.tl_coherence.proofs.{protocol.HeadOfD.acquire-used, queues.FirstToken.own_kind, protocol.Heads.asked-first}
-use Rattle.tl_coherence.proofs.{protocol.Heads.rendered-acquire, queues.Phases.and_left, queues.Phases.and_right}
-use Rattle.tl_coherence.proofs.{queues.Tokens.holds-first, protocol.BothParts.wanting-is}
+use Rattle.std.proofs.Common.{◌≡◌, subst, ℕ, zero, suc, Bool, true, false, List, [], ◌∷◌, refl, sym, ◌∙◌, ap, eqb-true}
+use Rattle.std.proofs.Common.{◌==◌, map}
+use Rattle.tl_coherence.proofs
+use proofs.Imports.{Beat, Channel, Message, MessageA, begun, unfinished, Config, on_link, comes_in_request, acquisition}
+use proofs.Imports.{Kind, Request, Acquire, Packet, State, SourceState, Asked, Acquires, view, packet, is_on}
+use proofs.Imports.{is_unserved, is_wanting, acquire_opcode, IsCarried, AccessMessages, block_message, message_of}
+use proofs.Imports.{message_of_kind, SimulationRelation, is_caching, Log, System}
+use proofs.protocol.{HeadOfD.acquire-used, Heads.asked-first, Heads.rendered-acquire, BothParts.wanting-is}
+use proofs.protocol.{FirstTokens.first-shown}
+use proofs.queues.{FirstToken.own_kind, Phases.and_left, Phases.and_right}
 
 -- ---- what is half taken on channel A
 
@@ -43,8 +41,7 @@ waiting_acquire : {w : ℕ} {config : Config} {log : Log w} {mail : AccessMessag
     → (s.link c).a ≡ packet Acquire n ∷ rest → IsWaiting {w = w} c s (block_message Acquire c n (s.block n))
 unfolding IsWaiting
 waiting_acquire {w} {config} {s} c n rest h first =
-    let shows = holds-first Acquire (s.link c).a rest (packet Acquire n) (λ i. shown Acquire c (s.block i)) first refl
-    (h.invariant.transfers c Acquire refl) in
+    let shows = first-shown h.invariant c Acquire refl first in
     let wants = and_left (is_wanting ((s.block n).pair c).acquiring) (is_unserved (view (s.block n).service c)) shows in
     let asks = wanting-is ((s.block n).pair c).acquiring wants in (
       acquisition (acquire_opcode asks.0) asks.1 ((s.block n).source c) n,

@@ -1,26 +1,18 @@
 -- What excludes an access: who is recorded with no more than its cap leaves it.
 use Rattle.std.proofs.Common.{◌≡◌, ℕ, true, false, not, Some, None, refl, ◌∙◌, ap}
-use Rattle.std.proofs.lemmas.Option.{same_Some}
-use Rattle.tl_beat.specs.declared.opcode.OpA.{OpA}
-use Rattle.tl_params.{specs.declared.param.Cap.Cap, specs.declared.perm.Perm.Perm, specs.statement.Param.cap_right}
-use Rattle.tl_rules.{specs.statement.Conformance.same_perm, specs.statement.History.is_acquire}
-use Rattle.tl_rules.{specs.statement.Windows.leaves, specs.statement.Windows.needs}
-use Rattle.tl_manager.specs.statement.Holders.{cap_probed}
-use Rattle.tl_coherence.specs.{statement.Permissions.perm_le, protocol.PhaseSteps.is_above}
+use Rattle.tl_coherence.proofs
+use proofs.Imports.{same_Some, OpA, Cap, Perm, cap_right, same_perm, is_acquire, leaves, needs, cap_probed, is_above}
+use proofs.Imports.{perm_le}
 
 some_none : (k : Cap) → Some k ≡ None → ⊥
 some_none k e = cc
 
 pub above_le : (k : Cap) (p : Perm) → is_above k p ≡ false → perm_le p (cap_right k) ≡ true
 above_le Cap.ToT Perm.None e = refl
-above_le Cap.ToT Perm.Branch e = refl
-above_le Cap.ToT Perm.Trunk e = refl
-above_le Cap.ToB Perm.None e = refl
-above_le Cap.ToB Perm.Branch e = refl
 above_le Cap.ToB Perm.Trunk e = absurd cc
 above_le Cap.ToN Perm.None e = refl
-above_le Cap.ToN Perm.Branch e = absurd cc
-above_le Cap.ToN Perm.Trunk e = absurd cc
+above_le Cap.ToN p e = absurd cc
+above_le k p e = refl
 
 at_most_branch : (p : Perm) → perm_le p (cap_right Cap.ToB) ≡ true → not (same_perm p Perm.Trunk) ≡ true
 at_most_branch Perm.Trunk e = absurd cc

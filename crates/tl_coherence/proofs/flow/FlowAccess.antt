@@ -1,14 +1,14 @@
 -- What is delivered on a link, as a beat of an access is.
-use Rattle.tl_coherence.proofs.flow.Imports.{Beat, BeatA, Channel, History, Perm, comes_in_request, begins, ends}
-use Rattle.tl_coherence.proofs.flow.Imports.{block_at, is_acquire, request_of, release_of, MonitorRelation}
-use Rattle.tl_coherence.proofs.flow.Imports.{is_requested, is_let_by, is_sunk, Block, State, SourceState, SourceFree}
-use Rattle.tl_coherence.proofs.flow.Imports.{Asked, InService, Replied, Acquires, is_answered, probe_beat, cap_waited}
 use Rattle.std.proofs.Common.{◌≡◌, ℕ, Bool, true, false, not, ◌&&◌, ◌∷◌, Option, Some, None, refl, sym, ◌∙◌, ap, List}
-use Rattle.std.{proofs.lemmas.Bool.and_right, specs.Prelude.◌==◌, specs.Prelude.if◌then◌else◌, specs.Prelude.option_map}
-use Rattle.tl_coherence.proofs.{flow.FlowAlone.AreRests, flow.FlowAside.let_by-same, flow.FlowGranted.begun}
-use Rattle.tl_coherence.proofs.{flow.FlowGranted.unbegun, flow.FlowReleased.with_true, flow.FlowReport.unopened}
-use Rattle.tl_coherence.proofs.flow.FlowStep.{flowed-next, held_by, acquired_by, let_of, granted_by, step, step_quiet}
-use Rattle.tl_manager.proofs.pending.Accepted.{probe_of-a, grant_sink-a}
+use Rattle.std.proofs.Common.{◌==◌, if◌then◌else◌, option_map}
+use Rattle.tl_coherence.proofs
+use proofs.Imports.{and_right, Beat, BeatA, Channel, History, Perm, comes_in_request, begins, ends, block_at}
+use proofs.Imports.{is_acquire, request_of, release_of, probe_of-a, grant_sink-a, Block, State, SourceState, SourceFree}
+use proofs.Imports.{Asked, InService, Replied, Acquires, is_answered, MonitorRelation, is_requested, is_let_by, is_sunk}
+use proofs.Imports.{probe_beat, cap_waited}
+use proofs.flow.{FlowAlone.AreRests, FlowAside.let_by-same, FlowGranted.begun, FlowGranted.unbegun}
+use proofs.flow.{FlowReleased.with_true, FlowReport.unopened}
+use proofs.flow.FlowStep.{flowed-next, held_by, acquired_by, let_of, granted_by, step, step_quiet}
 
 pub released-of : {w : ℕ} (i : ℕ) (y : BeatA w) (t : History w) → release_of i (Beat.A y ∷ t) ≡ release_of i t
 unfolding release_of

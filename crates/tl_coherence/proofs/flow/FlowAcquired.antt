@@ -1,20 +1,16 @@
 -- What is delivered on a link, as the beat of an Acquire is.
-use Rattle.tl_coherence.proofs.flow.Imports.{Beat, BeatA, Channel, History, comes_in_request, begins, ends, block_at}
-use Rattle.tl_coherence.proofs.flow.Imports.{is_acquire, request_of, probe_of, grant_sink, MonitorRelation}
-use Rattle.tl_coherence.proofs.flow.Imports.{is_requested, is_let_by, is_sunk, acquires_of, comes_granting, Idle, Block}
-use Rattle.tl_coherence.proofs.flow.Imports.{State, Acquires, view, is_acknowledging, is_answered, is_granting}
-use Rattle.tl_coherence.proofs.flow.Imports.{is_wanting, is_unserved, probe_beat, cap_waited}
 use Rattle.std.proofs.Common.{◌≡◌, ℕ, Bool, true, false, not, ◌&&◌, ◌||◌, ◌∷◌, Option, Some, refl, sym, ◌∙◌, ap, List}
-use Rattle.std.specs.Prelude.{◌==◌, option_map}
-use Rattle.std.proofs.lemmas.Bool.{ne_eqb, and_right, and_from}
-use Rattle.tl_coherence.proofs.flow.FlowAccess.{of_source, of_other, released-of}
-use Rattle.tl_manager.proofs.pending.Accepted.{grant_sink-a, probe_of-a}
-use Rattle.tl_coherence.proofs.{flow.FlowAlone.AreRests, flow.FlowAlone.no_coming, flow.FlowGranted.requested-apart}
-use Rattle.tl_coherence.proofs.{queues.Tokens.same_number}
-use Rattle.tl_coherence.proofs.flow.FlowAside.{IsComing, comes-same, let_by-same}
-use Rattle.tl_coherence.proofs.flow.FlowReleased.{AreElsewhere, each-block, part-block}
-use Rattle.tl_coherence.proofs.flow.FlowStep.{flowed-next, held_by, acquired_by, let_of, granted_by, step, whole_opened}
-use Rattle.tl_coherence.proofs.flow.FlowStep.{whole_unopened}
+use Rattle.std.proofs.Common.{ne_eqb, ◌==◌, option_map}
+use Rattle.tl_coherence.proofs
+use proofs.Imports.{and_right, and_from, Beat, BeatA, Channel, History, comes_in_request, begins, ends, block_at}
+use proofs.Imports.{is_acquire, request_of, probe_of, grant_sink, grant_sink-a, probe_of-a, acquires_of, Idle, Block}
+use proofs.Imports.{State, Acquires, view, is_acknowledging, is_answered, is_granting, is_wanting, is_unserved}
+use proofs.Imports.{comes_granting, MonitorRelation, is_requested, is_let_by, is_sunk, probe_beat, cap_waited}
+use proofs.flow.{FlowAccess.of_source, FlowAccess.of_other, FlowAccess.released-of, FlowAlone.AreRests}
+use proofs.flow.{FlowAlone.no_coming, FlowGranted.requested-apart, FlowAside.IsComing, FlowAside.comes-same}
+use proofs.flow.{FlowAside.let_by-same, FlowReleased.AreElsewhere, FlowReleased.each-block, FlowReleased.part-block}
+use proofs.queues.Tokens.{same_number}
+use proofs.flow.FlowStep.{flowed-next, held_by, acquired_by, let_of, granted_by, step, whole_opened, whole_unopened}
 
 -- the one beat of client c's Acquire of block n, which was at rest, is granted or waits for ProbeAcks afterwards
 pub record IsAcquired {w : ℕ} {X : Type 0} (c n : ℕ) (y : BeatA w) (asked asked' : ℕ → Option (BeatA w))

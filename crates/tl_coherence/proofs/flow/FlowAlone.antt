@@ -1,22 +1,20 @@
 -- What is delivered on a link, as a Probe or a GrantAck is: messages of one beat, which leave requests
 -- and Releases alone.
-use Rattle.tl_coherence.proofs.flow.Imports.{Beat, BeatA, BeatE, Channel, History, on, grown, Cap, comes_in_grant}
-use Rattle.tl_coherence.proofs.flow.Imports.{begins, ends, block_at, release_of, probe_of, grant_sink, MonitorRelation}
-use Rattle.tl_coherence.proofs.flow.Imports.{is_requested, is_let_by, is_sunk, is_of, is_busy, comes_granting, View}
-use Rattle.tl_coherence.proofs.flow.Imports.{Own, Acknowledging, Other, Service, Free, Waits, Block, State, view}
-use Rattle.tl_coherence.proofs.flow.Imports.{is_granting, is_acknowledging, is_answered, is_wanting, is_unserved}
-use Rattle.tl_coherence.proofs.flow.Imports.{grant_ack_taken, freed_block, probe_beat, cap_waited, Packet}
 use Rattle.std.proofs.Common.{◌≡◌, ℕ, Bool, true, false, not, ◌&&◌, ◌||◌, ◌∷◌, Option, Some, None, refl, sym, ◌∙◌, ap}
-use Rattle.std.proofs.Common.{List, ◌⊎◌, inl, inr}
-use Rattle.std.specs.Prelude.{◌==◌, if◌then◌else◌, option_map}
-use Rattle.std.proofs.lemmas.Bool.{cases_eq, ne_eqb, eqb-true}
+use Rattle.std.proofs.Common.{List, ◌⊎◌, inl, inr, ne_eqb, eqb-true, ◌==◌, if◌then◌else◌, option_map}
+use Rattle.tl_coherence.proofs
+use proofs.Imports.{cases_eq, Beat, BeatA, BeatE, Channel, History, grown, Cap, comes_in_grant, begins, ends, block_at}
+use proofs.Imports.{release_of, probe_of, grant_sink, request_of-e, is_of, is_busy, AreNamed, Packet, View, Own}
+use proofs.Imports.{Acknowledging, Other, Service, Free, Waits, Block, State, view, grant_ack_taken, freed_block}
+use proofs.Imports.{is_granting, is_acknowledging, is_answered, is_wanting, is_unserved, comes_granting}
+use proofs.Imports.{MonitorRelation, is_requested, is_let_by, is_sunk, probe_beat, cap_waited}
+use Rattle.tl_burst.specs.statement.Messages.{on}
 use Rattle.tl_rules.specs.statement.History.{is_sink}
-use Rattle.tl_coherence.specs.protocol.Invariant.{AreNamed}
-use Rattle.tl_coherence.proofs.flow.FlowAside.{IsComing, requested-blocks, let_by-same}
-use Rattle.tl_coherence.proofs.flow.FlowStep.{flowed-next, held_by, acquired_by, let_of, granted_by, step}
-use Rattle.tl_coherence.proofs.queues.Tokens.{same_number, set-same, set-other, set-each, set-part}
-use Rattle.tl_manager.proofs.pending.Acked.{probe_of-e, request_of-e, grant_sink-e}
 use Rattle.tl_client.proofs.pending.AccountedResponse.{is_own_sink}
+use Rattle.tl_manager.proofs.pending.Acked.{probe_of-e, grant_sink-e}
+use proofs.flow.{FlowAside.IsComing, FlowAside.requested-blocks, FlowAside.let_by-same, FlowStep.flowed-next}
+use proofs.flow.{FlowStep.held_by, FlowStep.acquired_by, FlowStep.let_of, FlowStep.granted_by, FlowStep.step}
+use proofs.queues.Tokens.{same_number, set-same, set-other, set-each, set-part}
 
 -- what of each channel's first message was delivered, with one more beat
 abbrev pub AreRests : {w : ℕ} → Beat w → (Channel → List (Beat w)) → (Channel → List (Beat w)) → Type 0

@@ -1,22 +1,19 @@
 -- What is delivered on a link, as a beat of an access's answer or a ReleaseAck is.
-use Rattle.tl_coherence.proofs.flow.Imports.{Beat, BeatA, BeatC, BeatD, Channel, History, ReleaseSource, Perm}
-use Rattle.tl_coherence.proofs.flow.Imports.{comes_in_grant, begins, ends, block_at, pending, is_grant, is_release_ack}
-use Rattle.tl_coherence.proofs.flow.Imports.{asks_for, request_of, release_of, probe_of, grant_sink, MonitorRelation}
-use Rattle.tl_coherence.proofs.flow.Imports.{is_requested, is_release_pending, is_let_by, is_sunk, is_of}
-use Rattle.tl_coherence.proofs.flow.Imports.{comes_granting, NoRelease, ReleaseAcked, AcquirePhase, Service, Block}
-use Rattle.tl_coherence.proofs.flow.Imports.{State, SourceState, SourceFree, view, is_acknowledging, is_answered}
-use Rattle.tl_coherence.proofs.flow.Imports.{is_wanting, is_unserved, probe_beat, cap_waited}
 use Rattle.std.proofs.Common.{◌≡◌, ℕ, Bool, true, false, not, ◌&&◌, ◌||◌, ◌∷◌, Option, Some, None, refl, sym, ◌∙◌, ap}
-use Rattle.std.proofs.Common.{List}
-use Rattle.std.specs.Prelude.{◌==◌, if◌then◌else◌, option_map, unwrap_or}
-use Rattle.std.proofs.lemmas.Bool.{ne_eqb, eqb-true}
-use Rattle.tl_rules.specs.statement.History.{releases, capped}
-use Rattle.tl_client.{proofs.pending.Opens.request_of-d, proofs.pending.AccountedResponse.release_of-d}
-use Rattle.tl_coherence.specs.protocol.Invariant.{releases_with}
-use Rattle.tl_coherence.proofs.{flow.FlowAlone.AreRests, flow.FlowAside.requested-blocks, flow.FlowAside.let_by-same}
-use Rattle.tl_coherence.proofs.{queues.Tokens.same_number, protocol.BothParts.is_of-is, flow.FlowReport.unopened}
-use Rattle.tl_coherence.proofs.flow.FlowReleased.{AreElsewhere, each-block, part-block}
-use Rattle.tl_coherence.proofs.flow.FlowStep.{flowed-next, held_by, acquired_by, let_of, granted_by, step, step_quiet}
+use Rattle.std.proofs.Common.{List, ne_eqb, eqb-true, ◌==◌, if◌then◌else◌, option_map, unwrap_or}
+use Rattle.tl_coherence.proofs
+use proofs.Imports.{Beat, BeatA, BeatC, BeatD, Channel, History, ReleaseSource, Perm, comes_in_grant, begins, ends}
+use proofs.Imports.{block_at, pending, is_grant, is_release_ack, asks_for, request_of, release_of, probe_of, grant_sink}
+use proofs.Imports.{capped, release_of-d, request_of-d, is_of, releases_with, NoRelease, ReleaseAcked, AcquirePhase}
+use proofs.Imports.{Service, Block, State, SourceState, SourceFree, view, is_acknowledging, is_answered, is_wanting}
+use proofs.Imports.{is_unserved, comes_granting, MonitorRelation, is_requested, is_release_pending, is_let_by, is_sunk}
+use proofs.Imports.{probe_beat, cap_waited}
+use Rattle.tl_rules.specs.statement.History.{releases}
+use proofs.flow.{FlowAlone.AreRests, FlowAside.requested-blocks, FlowAside.let_by-same, FlowReport.unopened}
+use proofs.flow.{FlowReleased.AreElsewhere, FlowReleased.each-block, FlowReleased.part-block}
+use proofs.queues.Tokens.{same_number}
+use proofs.protocol.BothParts.{is_of-is}
+use proofs.flow.FlowStep.{flowed-next, held_by, acquired_by, let_of, granted_by, step, step_quiet}
 
 pub probed-of : {w : ℕ} (n : ℕ) (y : BeatD w) (t : History w) → probe_of n (Beat.D y ∷ t) ≡ probe_of n t
 unfolding probe_of

@@ -1,29 +1,24 @@
 -- What an event leaves of what is delivered on a link: each value is as before, where the event isn't of the link, or
 -- comes of a beat of it that is accounted for.
-use Rattle.tl_coherence.proofs.flow.Imports.{Beat, BeatA, Channel, Cap, Grow, Prune, Report, comes_in_grant, is_sunk}
-use Rattle.tl_coherence.proofs.flow.Imports.{Own, Other, Granting, GrantedOther, is_unprobed, after_report, Service}
-use Rattle.tl_coherence.proofs.flow.Imports.{Free, Waits, GrantSent, GrantTaken, Block, State, SourceState, InService}
-use Rattle.tl_coherence.proofs.flow.Imports.{Replied, Acquires, view, is_granting, is_acknowledging, is_answered}
-use Rattle.tl_coherence.proofs.flow.Imports.{acquiring_block, acquire_asked, access_asked, releasing_block}
-use Rattle.tl_coherence.proofs.flow.Imports.{release_asked, granted_at_once, acquire_granted, served_block}
-use Rattle.tl_coherence.proofs.flow.Imports.{probed_block, probe_taken, reported_block, report_taken, let_block}
-use Rattle.tl_coherence.proofs.flow.Imports.{release_taken, taken_block, let_go_block, release_ack_taken, freed_block}
-use Rattle.tl_coherence.proofs.flow.Imports.{grant_ack_taken, Packet, set, set_at}
 use Rattle.std.proofs.Common.{◌≡◌, subst, ℕ, Bool, true, false, ◌&&◌, ◌||◌, Option, Some, None, refl, sym, ◌∙◌, ap}
-use Rattle.std.proofs.Common.{List, ◌⊎◌, inl, inr}
-use Rattle.std.{specs.Prelude.◌==◌, specs.Prelude.if◌then◌else◌, proofs.lemmas.Bool.cases_eq}
-use Rattle.tl_coherence.specs.protocol.Protocol.{stored_block, block_stored, performed_block, access_answered}
-use Rattle.tl_coherence.specs.protocol.Protocol.{access_served, ended_block, report_answers, granted_block}
-use Rattle.tl_coherence.specs.protocol.Protocol.{report_grants, answer_taken, grant_taken}
-use Rattle.tl_coherence.proofs.client.Aside.{set_at-other, set_at-else}
-use Rattle.tl_coherence.proofs.flow.FlowAside.{IsSameBlock, same-block, is_heard, IsSameUse, IsComing, IsAside}
-use Rattle.tl_coherence.proofs.flow.FlowOthers.{is_outside, outside-waits, outside-sent, outside-taken, same-performed}
-use Rattle.tl_coherence.proofs.flow.FlowOthers.{same-served, same-granted_at_once, same-probed, same-reported}
-use Rattle.tl_coherence.proofs.flow.FlowOthers.{same-settled, same-granted, same-given, same-let, same-let_go}
-use Rattle.tl_coherence.proofs.flow.FlowOthers.{same-taken, same-freed, same-acquiring, same-releasing, same-stored}
-use Rattle.tl_coherence.proofs.flow.FlowSunk.{sunk_in, sunk-as, IsWithin, sunk-elsewhere, tracked-new, tracked-free}
-use Rattle.tl_coherence.proofs.flow.FlowSunk.{outside-unsunk}
-use Rattle.tl_coherence.proofs.queues.Tokens.{set-same, set-other, set-each, set-part, set_at-same}
+use Rattle.std.proofs.Common.{List, ◌⊎◌, inl, inr, ◌==◌, if◌then◌else◌}
+use Rattle.tl_coherence.proofs
+use proofs.Imports.{cases_eq, Beat, BeatA, Channel, Cap, Grow, Prune, Report, comes_in_grant, Packet, set, set_at, Own}
+use proofs.Imports.{Other, Granting, GrantedOther, is_unprobed, after_report, Service, Free, Waits, GrantSent}
+use proofs.Imports.{GrantTaken, Block, State, SourceState, InService, Replied, Acquires, view, acquiring_block}
+use proofs.Imports.{acquire_asked, access_asked, releasing_block, release_asked, granted_at_once, acquire_granted}
+use proofs.Imports.{served_block, probed_block, probe_taken, reported_block, report_taken, let_block, release_taken}
+use proofs.Imports.{taken_block, let_go_block, release_ack_taken, freed_block, grant_ack_taken, stored_block}
+use proofs.Imports.{block_stored, performed_block, access_answered, access_served, ended_block, report_answers}
+use proofs.Imports.{granted_block, report_grants, answer_taken, grant_taken, is_granting, is_acknowledging, is_answered}
+use proofs.Imports.{is_sunk}
+use proofs.client.Aside.{set_at-other, set_at-else}
+use proofs.flow.FlowAside.{IsSameBlock, same-block, is_heard, IsSameUse, IsComing, IsAside}
+use proofs.flow.FlowOthers.{is_outside, outside-waits, outside-sent, outside-taken, same-performed, same-served}
+use proofs.flow.FlowOthers.{same-granted_at_once, same-probed, same-reported, same-settled, same-granted, same-given}
+use proofs.flow.FlowOthers.{same-let, same-let_go, same-taken, same-freed, same-acquiring, same-releasing, same-stored}
+use proofs.flow.FlowSunk.{sunk_in, sunk-as, IsWithin, sunk-elsewhere, tracked-new, tracked-free, outside-unsunk}
+use proofs.queues.Tokens.{set-same, set-other, set-each, set-part, set_at-same}
 
 -- the access with this source is answered, as far as its link is concerned
 abbrev pub replied : {X : Type 0} → ℕ → ℕ → State X → State X

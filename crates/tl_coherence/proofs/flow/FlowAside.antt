@@ -1,11 +1,11 @@
 -- What is delivered on a link, as an event leaves it alone: each value of it is as before.
-use Rattle.tl_coherence.proofs.flow.Imports.{Beat, BeatA, Channel, History, MonitorRelation, is_requested}
-use Rattle.tl_coherence.proofs.flow.Imports.{is_release_pending, is_let_by, is_sunk, comes_granting, ReleasePhase}
-use Rattle.tl_coherence.proofs.flow.Imports.{Block, State, SourceState, InService, Replied, Acquires, view, is_granting}
-use Rattle.tl_coherence.proofs.flow.Imports.{is_acknowledging, is_answered, is_wanting, is_unserved, cap_waited}
 use Rattle.std.proofs.Common.{◌≡◌, ℕ, Bool, true, false, not, ◌&&◌, ◌||◌, ◌∷◌, Option, Some, None, refl, sym, ◌∙◌, ap}
 use Rattle.std.proofs.Common.{List, ◌⊎◌, inl, inr}
-use Rattle.tl_coherence.proofs.{flow.FlowSame.flowed-untouched, flow.FlowStep.held_by, flow.FlowStep.granted_by}
+use Rattle.tl_coherence.proofs
+use proofs.Imports.{Beat, BeatA, Channel, History, ReleasePhase, Block, State, SourceState, InService, Replied}
+use proofs.Imports.{Acquires, view, is_granting, is_acknowledging, is_answered, is_wanting, is_unserved, comes_granting}
+use proofs.Imports.{MonitorRelation, is_requested, is_release_pending, is_let_by, is_sunk, cap_waited}
+use proofs.flow.{FlowSame.flowed-untouched, FlowStep.held_by, FlowStep.granted_by}
 
 -- the block is as before for what was delivered on client d's link
 pub record IsSameBlock {X : Type 0} (d : ℕ) (b b' : Block X) : Type 0 where

@@ -1,20 +1,17 @@
 -- What is delivered on a client's link stays as it is when the client itself is asked for something.
-use Rattle.tl_coherence.proofs.flow.Imports.{Beat, BeatA, Channel, Grow, Prune, comes_in_request, comes_in_release}
-use Rattle.tl_coherence.proofs.flow.Imports.{is_requested, is_release_pending, is_let_by, is_of, comes_granting}
-use Rattle.tl_coherence.proofs.flow.Imports.{ClientBlock, NoAcquire, ReleasePhase, NoRelease, ReleaseSent}
-use Rattle.tl_coherence.proofs.flow.Imports.{after_release, Block, State, SourceState, SourceFree, Asked, Acquires}
-use Rattle.tl_coherence.proofs.flow.Imports.{view, is_acknowledging, is_answered, is_granting, is_wanting, is_unserved}
-use Rattle.tl_coherence.proofs.flow.Imports.{access_asked, acquire_asked, acquiring_block, release_asked}
-use Rattle.tl_coherence.proofs.flow.Imports.{releasing_block, cap_waited, set_at}
 use Rattle.std.proofs.Common.{◌≡◌, ℕ, Bool, true, false, not, ◌&&◌, ◌||◌, Option, Some, None, refl, sym, ◌∙◌, ap, List}
-use Rattle.std.proofs.Common.{inl, inr}
-use Rattle.std.{specs.Prelude.◌==◌, specs.Prelude.if◌then◌else◌, proofs.lemmas.Bool.cases_eq}
-use Rattle.tl_coherence.specs.protocol.PhaseSteps.{after_acquire}
-use Rattle.tl_coherence.proofs.{client.Aside.set_at-else, flow.FlowSame.IsUntouched, flow.FlowSunk.sunk_in}
-use Rattle.tl_coherence.proofs.{flow.FlowSunk.sunk-as}
-use Rattle.tl_coherence.proofs.flow.FlowAside.{comes-same, requested-blocks, let_by-same}
-use Rattle.tl_coherence.proofs.flow.FlowStep.{held_by, acquired_by, let_of, granted_by}
-use Rattle.tl_coherence.proofs.queues.Tokens.{same_number, set-same, set-each, set-part, set_at-same}
+use Rattle.std.proofs.Common.{inl, inr, ◌==◌, if◌then◌else◌}
+use Rattle.tl_coherence.proofs
+use proofs.Imports.{cases_eq, Beat, BeatA, Channel, Grow, Prune, comes_in_request, comes_in_release, is_of, set_at}
+use proofs.Imports.{ClientBlock, NoAcquire, ReleasePhase, NoRelease, ReleaseSent, after_release, after_acquire, Block}
+use proofs.Imports.{State, SourceState, SourceFree, Asked, Acquires, view, access_asked, acquire_asked, acquiring_block}
+use proofs.Imports.{release_asked, releasing_block, is_acknowledging, is_answered, is_granting, is_wanting, is_unserved}
+use proofs.Imports.{comes_granting, is_requested, is_release_pending, is_let_by, cap_waited}
+use proofs.client.Aside.{set_at-else}
+use proofs.flow.{FlowSame.IsUntouched, FlowSunk.sunk_in, FlowSunk.sunk-as, FlowAside.comes-same}
+use proofs.flow.{FlowAside.requested-blocks, FlowAside.let_by-same, FlowStep.held_by, FlowStep.acquired_by}
+use proofs.flow.{FlowStep.let_of, FlowStep.granted_by}
+use proofs.queues.Tokens.{same_number, set-same, set-each, set-part, set_at-same}
 
 -- ---- a request
 

@@ -1,27 +1,22 @@
 -- What is delivered on each link stays as it is when a client is asked for something.
-use Rattle.tl_coherence.proofs.flow.Imports.{IsWidth, BeatA, MessageA, History, Config, Grow, Prune, block_at}
-use Rattle.tl_coherence.proofs.flow.Imports.{MonitorRelation, AbstractState, Log, View, Granting, NoAcquire}
-use Rattle.tl_coherence.proofs.flow.Imports.{ClientBlock, after_release, Block, SourceState, SourceFree, Asked}
-use Rattle.tl_coherence.proofs.flow.Imports.{Acquires, view, is_granting, is_unserved, is_wanting, access_asked}
-use Rattle.tl_coherence.proofs.flow.Imports.{acquire_asked, release_asked, releasing_block, AccessMessages, System}
-use Rattle.tl_coherence.proofs.flow.Imports.{set_at, SimulationRelation, is_caching, asked_by, Message}
-use Rattle.std.proofs.Common.{◌≡◌, ℕ, Bool, true, false, Option, refl, sym, ◌∙◌, ap, List, inl, inr}
-use Rattle.std.{specs.Prelude.◌==◌, proofs.lemmas.Bool.cases_eq, proofs.lemmas.Bool.ne_eqb}
-use Rattle.tl_client.{specs.declared.operation.Op.Op, specs.declared.reply.Reply.Reply, specs.statement.Ask.copy_stored}
-use Rattle.tl_client.{specs.statement.Ask.whole_grow, specs.statement.Send.access}
-use Rattle.tl_coherence.specs.{refinement.AbstractStep.asked, protocol.Protocol.block_stored}
-use Rattle.tl_coherence.proofs.{client.Aside.set_at-else, client.AsideAll.Leaves, client.AsideAll.leaves-asked}
-use Rattle.tl_coherence.proofs.{deliveries.AskedAfter.reply-cases, deliveries.AskedAfter.IsPlain}
-use Rattle.tl_coherence.proofs.{memory.BesideAsked.IsReply, client.ClientRequests.asks_acquire}
-use Rattle.tl_coherence.proofs.{client.ClientEnd.asks-same, queues.Facts.unserved_calm, flow.ComingRequests.waits_on_a}
-use Rattle.tl_coherence.proofs.{flow.ComingRequests.not-coming_a, flow.FlowSame.flowed-untouched}
-use Rattle.tl_coherence.proofs.{protocol.FollowKept.IsAskable, queues.Tokens.set-same, queues.Tokens.set-part}
-use Rattle.tl_coherence.proofs.{simulation.Popped.unfinished_at}
-use Rattle.tl_coherence.proofs.flow.FlowApart.{left-access_asked, left-acquire_asked, left-release_asked}
-use Rattle.tl_coherence.proofs.flow.FlowApart.{left-block_stored}
-use Rattle.tl_coherence.proofs.flow.FlowAside.{IsAside, flowed-aside}
-use Rattle.tl_coherence.proofs.flow.FlowAsked.{untouched-access_asked, untouched-acquire_asked, untouched-release_asked}
-use Rattle.tl_coherence.proofs.flow.FlowComing.{coming-granting, coming-asked, coming-free}
+use Rattle.std.proofs.Common.{◌≡◌, ℕ, Bool, true, false, Option, refl, sym, ◌∙◌, ap, List, inl, inr, ne_eqb, ◌==◌}
+use Rattle.tl_coherence.proofs
+use proofs.Imports.{cases_eq, BeatA, IsWidth, Message, MessageA, History, Config, Grow, Prune, block_at, Op, Reply}
+use proofs.Imports.{copy_stored, whole_grow, access, set_at, View, Granting, NoAcquire, ClientBlock, after_release}
+use proofs.Imports.{Block, SourceState, SourceFree, Asked, Acquires, view, access_asked, acquire_asked, release_asked}
+use proofs.Imports.{releasing_block, block_stored, is_granting, is_unserved, is_wanting, AbstractState, asked}
+use proofs.Imports.{MonitorRelation, AccessMessages, SimulationRelation, is_caching, asked_by, Log, System}
+use proofs.client.{Aside.set_at-else, AsideAll.Leaves, AsideAll.leaves-asked, ClientRequests.asks_acquire}
+use proofs.client.{ClientEnd.asks-same}
+use proofs.deliveries.AskedAfter.{reply-cases, IsPlain}
+use proofs.memory.BesideAsked.{IsReply}
+use proofs.queues.{Facts.unserved_calm, Tokens.set-same, Tokens.set-part}
+use proofs.flow.{ComingRequests.waits_on_a, ComingRequests.not-coming_a, FlowSame.flowed-untouched, FlowAside.IsAside}
+use proofs.flow.{FlowAside.flowed-aside, FlowComing.coming-granting, FlowComing.coming-asked, FlowComing.coming-free}
+use proofs.protocol.FollowKept.{IsAskable}
+use proofs.simulation.Popped.{unfinished_at}
+use proofs.flow.FlowApart.{left-access_asked, left-acquire_asked, left-release_asked, left-block_stored}
+use proofs.flow.FlowAsked.{untouched-access_asked, untouched-acquire_asked, untouched-release_asked}
 
 -- what client d's end is left with asks for the same
 pub asks-left : {w : ℕ} (d : ℕ) (h h' : AbstractState w) → Leaves d h h' → (i : ℕ)

@@ -1,14 +1,11 @@
 -- What of a message was delivered before and after one of its beats.
-use Rattle.tl_coherence.proofs.flow.Imports.{Beat, Message, begun, grown, is_empty, completes, Perm, same_perm}
-use Rattle.tl_coherence.proofs.flow.Imports.{acquires_of, State, is_wanting, set_at}
 use Rattle.std.proofs.Common.{◌≡◌, ℕ, zero, suc, Bool, true, false, not, ◌&&◌, List, [], ◌∷◌, refl, sym, ◌∙◌, ap, inl}
-use Rattle.std.proofs.Common.{inr}
-use Rattle.std.specs.Prelude.{◌==◌, if◌then◌else◌}
-use Rattle.std.proofs.lemmas.Bool.{cases_eq, ne_eqb, and_right}
-use Rattle.tl_burst.specs.statement.Burst.{beats_of}
-use Rattle.tl_coherence.specs.protocol.Invariant.{AreNamed}
-use Rattle.tl_coherence.proofs.{client.Aside.set_at-else, queues.Carried.IsNext, queues.Tokens.same_number}
-use Rattle.tl_coherence.proofs.{queues.Tokens.set_at-same, client.ProbeDelivered.first_beat}
+use Rattle.std.proofs.Common.{inr, ne_eqb, ◌==◌, if◌then◌else◌}
+use Rattle.tl_coherence.proofs
+use proofs.Imports.{cases_eq, and_right, Beat, Message, begun, beats_of, grown, is_empty, completes, Perm, same_perm}
+use proofs.Imports.{acquires_of, AreNamed, set_at, State, is_wanting}
+use proofs.client.{Aside.set_at-else, ProbeDelivered.first_beat}
+use proofs.queues.{Carried.IsNext, Tokens.same_number, Tokens.set_at-same}
 
 -- a test of what was delivered, which no beats pass, and all beginnings of the message alike
 pub came-so : {w : ℕ} (f : List (Beat w) → Bool) {m : Message w} {x : Beat w} {rest : List (Beat w)}

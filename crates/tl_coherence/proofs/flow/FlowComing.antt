@@ -1,22 +1,19 @@
 -- What was delivered in part on a link: of which Grant, and of which Release.
-use Rattle.tl_coherence.proofs.flow.Imports.{IsWidth, Beat, BeatA, BeatC, BeatD, Message, MessageA, MessageC, MessageD}
-use Rattle.tl_coherence.proofs.flow.Imports.{begun, unfinished, Config, on_link, comes_in_release, comes_in_grant}
-use Rattle.tl_coherence.proofs.flow.Imports.{block_at, is_grant, is_release, asks_for, same_block, IsCarried}
-use Rattle.tl_coherence.proofs.flow.Imports.{comes_granting, Log, State, Acquires, packet, shown, view, is_on}
-use Rattle.tl_coherence.proofs.flow.Imports.{is_granting, AccessMessages, message_of, message_of_kind, report_told}
-use Rattle.tl_coherence.proofs.flow.Imports.{prune_told, block_message, System, Kind, ProbeAck, Release, Answer, Grant}
-use Rattle.tl_coherence.proofs.flow.Imports.{ReleaseAck, Packet, SimulationRelation, is_caching, asked_by, Channel}
 use Rattle.std.proofs.Common.{◌≡◌, ℕ, zero, suc, ◌*◌, Bool, true, false, ◌&&◌, List, [], ◌∷◌, Option, Some, None, refl}
-use Rattle.std.proofs.Common.{sym, ◌∙◌, ap, subst}
-use Rattle.std.{specs.Prelude.◌==◌, specs.Prelude.map, proofs.lemmas.Bool.eqb-true}
-use Rattle.tl_coherence.specs.protocol.Tokens.{is_releasing}
-use Rattle.tl_coherence.proofs.{client.ClientEnd.asks-acquire, queues.FirstToken.own_kind, flow.FlowAside.IsComing}
-use Rattle.tl_coherence.proofs.{manager.ManagedEndings.tracker-of, queues.Phases.and_left, queues.Phases.and_right}
-use Rattle.tl_coherence.proofs.{manager.Reporting.report-about, manager.Reporting.release-about}
-use Rattle.tl_coherence.proofs.{queues.Tokens.same_number, queues.Tokens.holds-first, protocol.BothParts.is_of-is}
-use Rattle.tl_coherence.proofs.{protocol.BothParts.releasing-is, queues.Codes.access_kind}
-use Rattle.tl_coherence.proofs.protocol.HeadOfD.{IsGrantDue, answer-due, grant-due, grant-rendered, grant_message}
-use Rattle.tl_coherence.proofs.protocol.HeadOfD.{ack_message, own_view}
+use Rattle.std.proofs.Common.{sym, ◌∙◌, ap, subst, eqb-true, ◌==◌, map}
+use Rattle.tl_coherence.proofs
+use proofs.Imports.{Beat, BeatA, BeatC, BeatD, Channel, IsWidth, Message, MessageA, MessageC, MessageD, begun}
+use proofs.Imports.{unfinished, Config, on_link, comes_in_release, comes_in_grant, block_at, is_grant, is_release}
+use proofs.Imports.{asks_for, same_block, Kind, ProbeAck, Release, Answer, Grant, ReleaseAck, Packet, State, Acquires}
+use proofs.Imports.{packet, view, is_on, is_granting, is_releasing, IsCarried, comes_granting, AccessMessages}
+use proofs.Imports.{message_of, message_of_kind, report_told, prune_told, block_message, SimulationRelation, is_caching}
+use proofs.Imports.{asked_by, Log, System}
+use proofs.client.ClientEnd.{asks-acquire}
+use proofs.queues.{FirstToken.own_kind, Phases.and_left, Phases.and_right, Tokens.same_number, Codes.access_kind}
+use proofs.flow.FlowAside.{IsComing}
+use proofs.manager.{ManagedEndings.tracker-of, Reporting.report-about, Reporting.release-about}
+use proofs.protocol.{BothParts.is_of-is, BothParts.releasing-is, FirstTokens.first-shown}
+use proofs.protocol.HeadOfD.{IsGrantDue, answer-due, grant-due, grant-rendered, grant_message, ack_message, own_view}
 
 -- ---- a Grant
 
@@ -233,8 +230,7 @@ half-released {w} {config} {log} {mail} {request} {s} {sys} c x more width h is 
         → IsReleaseAlone c s (message_of_kind k mail s c i)
     each ProbeAck i rest first own = alone_report c i width h
     each Release i rest first own = alone_release c i width h
-        (holds-first Release (s.link c).c rest (packet Release i) (λ j. shown Release c (s.block j)) first refl
-        (h.invariant.transfers c Release refl))
+        (first-shown h.invariant c Release refl first)
     each k i rest first own = absurd cc
 
     go : (xs : List Packet) → (s.link c).c ≡ xs → IsCarried rest_now (map (message_of mail s c) (s.link c).c)

@@ -1,24 +1,19 @@
 -- What is delivered on a link, as a beat of a Grant is.
-use Rattle.tl_coherence.proofs.flow.Imports.{Beat, BeatA, BeatD, Channel, History, RequestSource, Cap, Perm}
-use Rattle.tl_coherence.proofs.flow.Imports.{comes_in_request, comes_in_grant, begins, ends, block_at, pending}
-use Rattle.tl_coherence.proofs.flow.Imports.{is_grant, is_release_ack, asks_for, request_of, release_of, probe_of}
-use Rattle.tl_coherence.proofs.flow.Imports.{grant_sink, MonitorRelation, is_requested, is_let_by, is_sunk, is_of}
-use Rattle.tl_coherence.proofs.flow.Imports.{acquires_of, comes_granting, View, Granting, Acknowledging, Block, State}
-use Rattle.tl_coherence.proofs.flow.Imports.{SourceState, SourceFree, Asked, InService, Replied, Acquires, view}
-use Rattle.tl_coherence.proofs.flow.Imports.{is_granting, is_acknowledging, is_answered, is_wanting, is_unserved}
-use Rattle.tl_coherence.proofs.flow.Imports.{probe_beat, cap_waited}
 use Rattle.std.proofs.Common.{◌≡◌, ℕ, Bool, true, false, not, ◌&&◌, ◌||◌, ◌∷◌, Option, Some, None, refl, sym, ◌∙◌, ap}
-use Rattle.std.proofs.Common.{List}
-use Rattle.std.specs.Prelude.{◌==◌, if◌then◌else◌, option_map, unwrap_or}
-use Rattle.std.proofs.lemmas.Bool.{ne_eqb, and_right}
-use Rattle.tl_params.specs.statement.Param.{cap_right}
-use Rattle.tl_rules.specs.statement.History.{releases, capped}
-use Rattle.tl_client.{proofs.pending.Opens.request_of-d, proofs.pending.AccountedResponse.release_of-d}
-use Rattle.tl_coherence.proofs.{flow.FlowAlone.AreRests, flow.FlowAside.let_by-same}
-use Rattle.tl_coherence.proofs.{flow.FlowReport.unclosed as not_last, queues.Tokens.same_number}
-use Rattle.tl_coherence.proofs.flow.FlowAnswered.{probed-of, unclosed, closes_last}
-use Rattle.tl_coherence.proofs.flow.FlowReleased.{AreElsewhere, each-block, part-block, opened, with_true}
-use Rattle.tl_coherence.proofs.flow.FlowStep.{flowed-next, held_by, acquired_by, let_of, granted_by, step, step_quiet}
+use Rattle.std.proofs.Common.{List, ne_eqb, ◌==◌, if◌then◌else◌, option_map, unwrap_or}
+use Rattle.tl_coherence.proofs
+use proofs.Imports.{and_right, Beat, BeatA, BeatD, Channel, History, RequestSource, Cap, Perm, cap_right}
+use proofs.Imports.{comes_in_request, comes_in_grant, begins, ends, block_at, pending, is_grant, is_release_ack}
+use proofs.Imports.{asks_for, request_of, release_of, probe_of, grant_sink, capped, release_of-d, request_of-d, is_of}
+use proofs.Imports.{acquires_of, View, Granting, Acknowledging, Block, State, SourceState, SourceFree, Asked, InService}
+use proofs.Imports.{Replied, Acquires, view, is_granting, is_acknowledging, is_answered, is_wanting, is_unserved}
+use proofs.Imports.{comes_granting, MonitorRelation, is_requested, is_let_by, is_sunk, probe_beat, cap_waited}
+use Rattle.tl_rules.specs.statement.History.{releases}
+use proofs.flow.{FlowAlone.AreRests, FlowAside.let_by-same, FlowReport.unclosed as not_last, FlowAnswered.probed-of}
+use proofs.flow.{FlowAnswered.unclosed, FlowAnswered.closes_last, FlowReleased.AreElsewhere, FlowReleased.each-block}
+use proofs.flow.{FlowReleased.part-block, FlowReleased.opened, FlowReleased.with_true}
+use proofs.queues.Tokens.{same_number}
+use proofs.flow.FlowStep.{flowed-next, held_by, acquired_by, let_of, granted_by, step, step_quiet}
 
 abbrev pub seen_after : Bool → Bool → Cap → View
 seen_after true d k = Acknowledging

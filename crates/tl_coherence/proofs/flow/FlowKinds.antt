@@ -1,40 +1,29 @@
 -- What is delivered on a link, as messages of another link are taken; and after the last beat of a request or ProbeAck,
 -- as what comes of it at the manager.
-use Rattle.tl_coherence.proofs.flow.Imports.{Beat, BeatA, Channel, Message, MessageA, History, Config, Cap, Report}
-use Rattle.tl_coherence.proofs.flow.Imports.{comes_in_grant, block_at, MonitorRelation, AbstractState, kind_taken, Log}
-use Rattle.tl_coherence.proofs.flow.Imports.{Own, Granting, Acknowledging, GrantedOther, ProbeAnswered, AcquirePhase}
-use Rattle.tl_coherence.proofs.flow.Imports.{NoAcquire, AcquireOpen, is_unprobed, is_unreleased, after_report, Service}
-use Rattle.tl_coherence.proofs.flow.Imports.{Free, Waits, GrantSent, GrantTaken, Block, State, packet, shown, view}
-use Rattle.tl_coherence.proofs.flow.Imports.{is_answered, acquire_served, acquire_granted, report_taken, cap_sent}
-use Rattle.tl_coherence.proofs.flow.Imports.{report_told, prune_told, System, Kind, Request, Acquire, Probe, ProbeAck}
-use Rattle.tl_coherence.proofs.flow.Imports.{Release, Answer, Grant, ReleaseAck, GrantAck, Packet, set}
-use Rattle.tl_coherence.proofs.flow.Imports.{SimulationRelation, is_caching, asked_by}
-use Rattle.std.proofs.Common.{◌≡◌, subst, ℕ, Bool, true, false, not, ◌&&◌, List, ◌∷◌, Option, Some, None, length, refl}
-use Rattle.std.proofs.Common.{sym, ◌∙◌, ap, inl}
-use Rattle.std.{specs.Prelude.◌==◌, specs.Prelude.if◌then◌else◌, proofs.lemmas.Bool.ne_eqb}
-use Rattle.std.{proofs.lemmas.Option.same_Some}
-use Rattle.tl_manager.specs.statement.Holders.{cap_probed}
-use Rattle.tl_coherence.specs.refinement.AbstractStep.{with_state, some_below, performs, probes_some, access_taken}
-use Rattle.tl_coherence.specs.refinement.AbstractStep.{request_taken, is_unheld, gift, acquire_taken, granted_after}
-use Rattle.tl_coherence.specs.refinement.AbstractStep.{last_taken, ack_taken, taken_by_client}
-use Rattle.tl_coherence.specs.{protocol.Invariant.cap_asked, protocol.Phase.is_unacquired, protocol.Phase.is_whole}
-use Rattle.tl_coherence.specs.{protocol.PhaseSteps.is_granted_data}
-use Rattle.tl_coherence.specs.protocol.Protocol.{on, is_probed, report_grants}
-use Rattle.tl_coherence.proofs.client.AsideAll.{Leaves, is_for_manager, leaves-at_manager, leaves-at_client}
-use Rattle.tl_coherence.proofs.{manager.Choices.plain-past, protocol.HeadOfD.IsGrantDue, protocol.HeadOfD.grant-due}
-use Rattle.tl_coherence.proofs.{queues.PhaseFacts.quiet_at_rest, queues.PhaseFacts.own_alone, flow.FlowAsking.asks-left}
-use Rattle.tl_coherence.proofs.{flow.FlowBeats.same_perms, flow.FlowComing.coming-granting, flow.FlowComing.coming-sink}
-use Rattle.tl_coherence.proofs.{protocol.FollowKept.IsReady, protocol.RequestsKept.settled_all}
-use Rattle.tl_coherence.proofs.{manager.ManagedEndings.tracker-of, queues.Phases.and_right, queues.Tokens.same_number}
-use Rattle.tl_coherence.proofs.{queues.Tokens.holds-first, rank.RankParts.serving-use, simulation.Popped.unfinished_at}
-use Rattle.tl_coherence.proofs.queues.Facts.{own_wants, answered_other, is_other}
-use Rattle.tl_coherence.proofs.flow.FlowApart.{replied, left-replied, left-served, left-acquire_granted}
-use Rattle.tl_coherence.proofs.flow.FlowApart.{left-probe_taken, left-report_taken, left-release_taken}
-use Rattle.tl_coherence.proofs.flow.FlowApart.{left-answer_taken, left-grant_taken, left-release_ack_taken}
-use Rattle.tl_coherence.proofs.flow.FlowApart.{left-grant_ack_taken, left-access_answered, left-access_served}
-use Rattle.tl_coherence.proofs.flow.FlowApart.{left-report_answers, left-report_grants}
-use Rattle.tl_coherence.proofs.flow.FlowAside.{is_heard, IsComing, flowed-aside, flowed-asks}
-use Rattle.tl_coherence.proofs.protocol.BothParts.{answered-is, quiet_unanswered, acknowledging-is, not-other}
+use Rattle.std.proofs.Common.{◌≡◌, ℕ, Bool, true, false, List, ◌∷◌, Option, Some, None, length, refl, sym, ◌∙◌, ap, inl}
+use Rattle.std.proofs.Common.{ne_eqb}
+use Rattle.tl_coherence.proofs
+use proofs.Imports.{same_Some, Beat, BeatA, Channel, History, Config, Cap, Grow, comes_in_grant, block_at, cap_asked}
+use proofs.Imports.{Kind, Request, Probe, ProbeAck, Release, Answer, ReleaseAck, GrantAck, Packet, Own, AcquireOpen}
+use proofs.Imports.{is_unprobed, is_unreleased, is_granted_data, Free, Waits, GrantSent, State, packet, view}
+use proofs.Imports.{acquire_served, acquire_granted, report_taken, on, is_answered, AbstractState, kind_taken}
+use proofs.Imports.{with_state, performs, access_taken, is_unheld, gift, granted_after, last_taken, taken_by_client}
+use proofs.Imports.{MonitorRelation, report_told, SimulationRelation, is_caching, asked_by, Log, System}
+use proofs.client.AsideAll.{Leaves, is_for_manager, leaves-at_manager, leaves-at_client}
+use proofs.manager.{Choices.plain-past, ManagedEndings.tracker-of}
+use proofs.protocol.{HeadOfD.grant-due, Events.IsReady, Events.ready-access, Events.told, Events.true-taken}
+use proofs.protocol.{Events.waits_for_others, RequestsKept.settled_all, BothParts.quiet_unanswered}
+use proofs.protocol.{FirstTokens.first-grant_ack, FirstTokens.first-report, NeverIdle.never-idle}
+use proofs.queues.{PhaseFacts.quiet_at_rest, PhaseFacts.own_alone, Phases.and_right, Tokens.same_number}
+use proofs.queues.{Facts.answered_other, Facts.is_other}
+use proofs.flow.{FlowAsking.asks-left, FlowBeats.same_perms, FlowComing.coming-granting, FlowComing.coming-sink}
+use proofs.flow.{FlowAside.is_heard, FlowAside.IsComing, FlowAside.flowed-aside, FlowAside.flowed-asks}
+use proofs.rank.RankParts.{serving-use}
+use proofs.simulation.Popped.{unfinished_at}
+use proofs.flow.FlowApart.{replied, left-replied, left-served, left-acquire_granted, left-probe_taken}
+use proofs.flow.FlowApart.{left-report_taken, left-release_taken, left-answer_taken, left-grant_taken}
+use proofs.flow.FlowApart.{left-release_ack_taken, left-grant_ack_taken, left-access_answered, left-access_served}
+use proofs.flow.FlowApart.{left-report_answers, left-report_grants}
 
 module _ {w : ℕ} {config : Config} {log : Log w} (h : AbstractState w) {sys : System w} (c : ℕ)
     (is : SimulationRelation config log h.mail h.request h.state sys) (tracker : ℕ) where
@@ -60,75 +49,72 @@ module _ {w : ℕ} {config : Config} {log : Log w} (h : AbstractState w) {sys : 
     coming : IsComing (asked_by h.mail h.state d) (rest Channel.D) d h.state
     coming = rw same_d (coming-granting d is)
 
-    -- ---- an access
+    -- nobody else has a ProbeAck under way
+    unanswered : (n : ℕ) → waits_for_others config c h n ≡ false → (i : ℕ) → (i ≡ c → ⊥)
+        → is_answered ((s.block n).pair i).probing ≡ false
+    unanswered n last i ne = quiet_unanswered ((s.block n).pair i).probing (settled_all (length config.clients.items)
+        (is_caching config) c (s.block n).pair (plain-past config) (is.invariant.blocks n).outside last i ne)
 
-    pub settled-request : (source : ℕ) (m : MessageA w) (toks : List Packet)
-        → (s.block (block_at m.address)).service ≡ Free → s.tracked tracker ≡ None
-        → Leaves d h (request_taken (length config.clients.items) c source (Message.A m) tracker toks h)
-        → MonitorRelation before rest d (replied c source s) t
-        → FlowedAs (request_taken (length config.clients.items) c source (Message.A m) tracker toks h)
-    settled-request source m toks free unused left flowed =
-        go (probes_some (length config.clients.items) c false (cap_probed m.opcode m.param) (s.block n).pair)
-        (cap_probed m.opcode m.param) left
+    -- ---- an access, and a ProbeAck
+
+    -- what is so after the beats of the message, before anything comes of it
+    abbrev pub Begins : List Packet → Kind → ℕ → Type 0
+    Begins toks Request source = MonitorRelation before rest d (replied c source s) t
+    Begins toks ProbeAck n =
+        MonitorRelation before rest d (report_taken c n (report_told ((s.block n).pair c).probing) toks s) t
+    Begins toks k i = ⊥
+
+    abbrev IsSettling : List Packet → Kind → ℕ → Type 0
+    IsSettling toks k i = (on k (s.link c) ≡ packet k i ∷ toks) × IsReady tracker c k i h × Begins toks k i
+
+    -- with the requests of an event that leaves those of client d
+    abbrev Follows : AbstractState w → Type 0
+    Follows z = Leaves d h z → FlowedAs z
+
+    -- the last ProbeAck of an access
+    answers-report : (n : ℕ) (toks : List Packet) (q source : ℕ) (k : Cap) → IsSettling toks ProbeAck n
+        → waits_for_others config c h n ≡ false → (s.block n).service ≡ Waits q false source k
+        → Follows (last_taken (length config.clients.items) config.profile c n (told config c h n)
+        (Waits q false source k) toks h)
+    answers-report n toks q source k known last waits l =
+        let after = last_taken (length config.clients.items) config.profile c n (told config c h n)
+        (Waits q false source k) toks h in
+        flowed-aside
+        (left-report_answers d before (asked_by after.mail after.state d) rest s (asks-left d h after l) coming c n
+        (told config c h n) toks q source k (performs (h.request n)) waits (unanswered n last)
+        (tracker-of n is.invariant.named (rw waits refl))
+        (ap is_heard (serving-use n q source k is.invariant waits))) known.2
+
+    -- and of an Acquire
+    grants-report : (n : ℕ) (toks : List Packet) (q source : ℕ) (k : Cap) (whole : Bool) (g : Grow)
+        → IsSettling toks ProbeAck n → waits_for_others config c h n ≡ false
+        → (s.block n).service ≡ Waits q true source k → ((s.block n).pair q).acquiring ≡ AcquireOpen whole g
+        → Follows (granted_after (length config.clients.items) config.profile c q n (told config c h n)
+        (AcquireOpen whole g) toks h)
+    grants-report n toks q source k whole g known last waits wants l =
+        let even = same_perms ((s.block n).pair q).recorded ((s.block n).pair q).held (and_right (is_unreleased
+        ((s.block n).pair q).letting) _ (and_right (is_unprobed ((s.block n).pair q).probing) _ (own_alone
+        ((s.block n).pair q) (view (s.block n).service q) ((is.invariant.blocks n).phases q) own))) in
+        let after = granted_after (length config.clients.items) config.profile c q n (told config c h n)
+        (AcquireOpen whole g) toks h in
+        flowed-aside
+        (left-report_grants d before (asked_by after.mail after.state d) rest s (asks-left d h after l) coming c n
+        (told config c h n) toks q source k _ _ waits (unanswered n last) apart even none_comes) known.2
       where
-        n : ℕ
-        n = block_at m.address
-
-        answered : (z : AbstractState w) → z.state ≡ (access_taken c source m tracker false None toks h).state
-            → ((i : ℕ) → asked_by z.mail z.state d i ≡ before i) → FlowedAs z
-        answered z e asks = subst (λ (u : State (List ℕ)). MonitorRelation (asked_by z.mail z.state d) rest d u t)
-            (sym e) (flowed-aside (left-access_answered d before (asked_by z.mail z.state d) rest s asks coming c n
-            source (performs m) toks) flowed)
-
-        go : (p : Bool) (o : Option Cap) → Leaves d h (access_taken c source m tracker p o toks h)
-            → FlowedAs (access_taken c source m tracker p o toks h)
-        go true (Some k) l =
-            let after = access_taken c source m tracker true (Some k) toks h in
-            flowed-aside
-            (left-access_served d before (asked_by after.mail after.state d) rest s (asks-left d h after l) coming c n
-            source tracker k toks free (free_quiet n free d) unused) flowed
-        go true None l = answered (access_taken c source m tracker true None toks h) refl
-            (asks-left d h (access_taken c source m tracker true None toks h) l)
-        go false o l = answered (access_taken c source m tracker false o toks h) refl
-            (asks-left d h (access_taken c source m tracker false o toks h) l)
-
-    -- ---- a ProbeAck
-
-    pub settled-report : (n : ℕ) (toks : List Packet) → (s.link c).c ≡ packet ProbeAck n ∷ toks
-        → Leaves d h (ack_taken (length config.clients.items) config.profile c n
-        (report_told ((s.block n).pair c).probing) toks h)
-        → MonitorRelation before rest d (report_taken c n (report_told ((s.block n).pair c).probing) toks s) t
-        → FlowedAs (ack_taken (length config.clients.items) config.profile c n
-        (report_told ((s.block n).pair c).probing) toks h)
-    settled-report n toks tokens left flowed =
-        others (some_below (length config.clients.items)
-        (λ i. not (i == c) && not (is_unprobed ((s.block n).pair i).probing))) refl left
-      where
-        r : Report
-        r = report_told ((s.block n).pair c).probing
-
-        answered : ((s.block n).pair c).probing ≡ ProbeAnswered r
-        answered = answered-is ((s.block n).pair c).probing (holds-first ProbeAck (s.link c).c toks (packet ProbeAck n)
-            (λ i. shown ProbeAck c (s.block i)) tokens refl (is.invariant.transfers c ProbeAck refl))
+        own : view (s.block n).service q ≡ Own
+        own = rw (waits, same_number q) refl
 
         seen : is_other (view (s.block n).service c) ≡ true
-        seen = answered_other r ((s.block n).pair c) (view (s.block n).service c) ((is.invariant.blocks n).phases c)
-            answered
+        seen = answered_other _ ((s.block n).pair c) (view (s.block n).service c) ((is.invariant.blocks n).phases c)
+            (first-report is.invariant known.0)
 
-        taken : Leaves d h (with_state (report_taken c n r toks s) h)
-            → FlowedAs (with_state (report_taken c n r toks s) h)
-        taken l = flowed-asks (asked_by h.mail (report_taken c n r toks s) d)
-            (asks-left d h (with_state (report_taken c n r toks s) h) l) flowed
-
-        -- the last one: what the service is
-        unanswered : ((i : ℕ) → (i ≡ c → ⊥) → is_unprobed ((s.block n).pair i).probing ≡ true) → (i : ℕ) → (i ≡ c → ⊥)
-            → is_answered ((s.block n).pair i).probing ≡ false
-        unanswered quiet i ne = quiet_unanswered ((s.block n).pair i).probing (quiet i ne)
+        apart : q ≡ c → ⊥
+        apart same = let no : is_other Own ≡ true =
+            sym (ap is_other own) ∙ ap (λ (i : ℕ). is_other (view (s.block n).service i)) same ∙ seen in cc
 
         -- no Grant that was delivered in part is of a block that waits
-        none_comes : (q source : ℕ) (k : Cap) → (s.block n).service ≡ Waits q true source k → (i : ℕ)
-            → s.tracked i ≡ Some n → comes_in_grant i (rest Channel.D) ≡ false
-        none_comes q source k waits i tracks = cc (same_d, go (comes_in_grant i (unfinished_at sys d Channel.D)) refl)
+        none_comes : (i : ℕ) → s.tracked i ≡ Some n → comes_in_grant i (rest Channel.D) ≡ false
+        none_comes i tracks = cc (same_d, go (comes_in_grant i (unfinished_at sys d Channel.D)) refl)
           where
             go : (b : Bool) → comes_in_grant i (unfinished_at sys d Channel.D) ≡ b → b ≡ false
             go false f = refl
@@ -138,64 +124,37 @@ module _ {w : ℕ} {config : Config} {log : Log w} (h : AbstractState w) {sys : 
                 absurd (let no : GrantSent d of.1.data_too of.1.k ≡ Waits q true source k =
                 sym of.1.service ∙ ap (λ (j : ℕ). (s.block j).service) here ∙ waits in cc)
 
-        granted : (q source : ℕ) (k : Cap) → (s.block n).service ≡ Waits q true source k
-            → ((i : ℕ) → (i ≡ c → ⊥) → is_unprobed ((s.block n).pair i).probing ≡ true) → (a : AcquirePhase)
-            → not (is_unacquired a) ≡ true
-            → Leaves d h (granted_after (length config.clients.items) config.profile c q n r a toks h)
-            → FlowedAs (granted_after (length config.clients.items) config.profile c q n r a toks h)
-        granted q source k waits quiet NoAcquire wants l = absurd cc
-        granted q source k waits quiet (AcquireOpen whole g) wants l =
-            let even = same_perms ((s.block n).pair q).recorded ((s.block n).pair q).held (and_right (is_unreleased
-            ((s.block n).pair q).letting) _ (and_right (is_unprobed ((s.block n).pair q).probing) _ (own_alone
-            ((s.block n).pair q) (view (s.block n).service q) ((is.invariant.blocks n).phases q) own))) in
-            let x = is_granted_data whole g ((s.block n).pair q).recorded in
-            let j = gift config.profile whole g
-            (is_unheld (length config.clients.items) (set c (after_report r ((s.block n).pair c)) (s.block n).pair))
-            in
-            let after = report_grants c q n r x j toks s in
-            flowed-aside
-            (left-report_grants d before (asked_by h.mail after d) rest s (asks-left d h (with_state after h) l) coming
-            c n r toks q source k j x waits (unanswered quiet) apart even (none_comes q source k waits)) flowed
-          where
-            own : view (s.block n).service q ≡ Own
-            own = rw (waits, same_number q) refl
-
-            apart : q ≡ c → ⊥
-            apart same = let no : is_other Own ≡ true =
-                sym (ap is_other own) ∙ ap (λ (i : ℕ). is_other (view (s.block n).service i)) same ∙ seen in cc
-
-        last : ((i : ℕ) → (i ≡ c → ⊥) → is_unprobed ((s.block n).pair i).probing ≡ true) → (service : Service)
-            → (s.block n).service ≡ service
-            → Leaves d h (last_taken (length config.clients.items) config.profile c n r service toks h)
-            → FlowedAs (last_taken (length config.clients.items) config.profile c n r service toks h)
-        last quiet Free e l = absurd (let no : false ≡ true = rw e at seen in cc)
-        last quiet (GrantSent q x k) e l = absurd (let one : is_other (view (GrantSent q x k) c) ≡ true =
-            rw e at seen in let none =
-            not-other (c == q) (Granting x k) GrantedOther refl refl
-            in let no : false ≡ true = sym none ∙ one in cc)
-        last quiet (GrantTaken q) e l = absurd (let one : is_other (view (GrantTaken q) c) ≡ true = rw e at seen in
-            let none =
-            not-other (c == q) Acknowledging GrantedOther refl refl in let no : false ≡ true = sym none ∙ one in cc)
-        last quiet (Waits q true source k) e l = granted q source k e quiet ((s.block n).pair q).acquiring
-            (own_wants ((s.block n).pair q) (view (s.block n).service q) ((is.invariant.blocks n).phases q)
-            (rw (e, same_number q) refl)) l
-        last quiet (Waits q false source k) e l =
-            let after = last_taken (length config.clients.items) config.profile c n r (Waits q false source k) toks h in
-            flowed-aside
-            (left-report_answers d before (asked_by after.mail after.state d) rest s (asks-left d h after l) coming c n
-            r toks q source k
-            (performs (h.request n)) e (unanswered quiet) (tracker-of n is.invariant.named (rw e refl))
-            (ap is_heard (serving-use n q source k is.invariant e))) flowed
-
-        others : (x : Bool) → some_below (length config.clients.items)
-            (λ i. not (i == c) && not (is_unprobed ((s.block n).pair i).probing)) ≡ x
-            → Leaves d h (if x then with_state (report_taken c n r toks s) h else last_taken
-            (length config.clients.items) config.profile c n r (s.block n).service toks h)
-            → FlowedAs (if x then with_state (report_taken c n r toks s) h else last_taken (length config.clients.items)
-            config.profile c n r (s.block n).service toks h)
-        others true e l = taken l
-        others false e l = last (settled_all (length config.clients.items) (is_caching config) c (s.block n).pair
-            (plain-past config) (is.invariant.blocks n).outside e) (s.block n).service refl l
+    pub settled : (k : Kind) (i : ℕ) (toks : List Packet) → on k (s.link c) ≡ packet k i ∷ toks
+        → IsReady tracker c k i h → Begins toks k i → Leaves d h (kind_taken config tracker c k i toks h)
+        → FlowedAs (kind_taken config tracker c k i toks h)
+    settled k i toks first ready begins = true-taken config tracker c toks h (IsSettling toks) Follows k i (record {
+      nothing = λ j n known idle l. absurd (let busy = never-idle config tracker c j n toks h is.invariant known.0 known.1
+          in let no : false ≡ true = sym busy ∙ idle in cc);
+      access_answered = λ source m o known from caps none l.
+          let after = access_taken c source m tracker false None toks h in
+          flowed-aside (left-access_answered d before (asked_by after.mail after.state d) rest s (asks-left d h after l)
+          coming c (block_at m.address) source (performs m) toks) known.2;
+      access_served = λ source m j known from caps some l.
+          let after = access_taken c source m tracker true (Some j) toks h in
+          let may = ready-access tracker c source m h known.1 from in
+          flowed-aside (left-access_served d before (asked_by after.mail after.state d) rest s (asks-left d h after l)
+          coming c (block_at m.address) source tracker j toks may.1 (free_quiet (block_at m.address) may.1 d) may.2)
+          known.2;
+      acquire_granted = λ n whole g known wants none l. absurd known.2;
+      acquire_served = λ n whole g known wants some l. absurd known.2;
+      probe = λ n known l. absurd known.2;
+      report = λ n known more l.
+          let after = with_state (report_taken c n (told config c h n) toks s) h in
+          flowed-asks (asked_by after.mail after.state d) (asks-left d h after l) known.2;
+      report_answers = λ n q source j known last waits. answers-report n toks q source j known last waits;
+      report_grants = λ n q source j whole g known last waits wants. grants-report n toks q source j whole g known last
+          waits wants;
+      release = λ n known l. absurd known.2;
+      answer = λ source known l. absurd known.2;
+      grant = λ n q x j known sent l. absurd known.2;
+      release_ack = λ n known l. absurd known.2;
+      grant_ack = λ n known l. absurd known.2;
+    }) (first, ready, begins)
 
   -- ---- messages of client c's link, for another's
 
@@ -210,105 +169,70 @@ module _ {w : ℕ} {config : Config} {log : Log w} (h : AbstractState w) {sys : 
     comes : IsComing (asked_by h.mail h.state d) (unfinished_at sys d Channel.D) d h.state
     comes = coming-granting d is
 
-    other_request : (source : ℕ) (m : Message w) (toks : List Packet) → IsReady tracker c Request source h
-        → m ≡ h.mail.request c source
-        → Leaves d h (request_taken (length config.clients.items) c source m tracker toks h) → FlowsAs h
-        → FlowsAs (request_taken (length config.clients.items) c source m tracker toks h)
-    other_request source (Message.A m) toks ready e l flowed = settled-request d (unfinished_at sys d) refl t source m
-        toks (ap (λ (i : MessageA w). (s.block (block_at i.address)).service) same ∙ ready.3) ready.4 l
-        (flowed-aside (left-replied d then_asked then_asked (unfinished_at sys d) s (λ i. refl) comes c source ne)
-        flowed)
-      where
-        same : m ≡ ready.0
-        same = let both : Message.A m ≡ Message.A ready.0 = e ∙ ready.1 in cc
-    other_request source m toks ready e l flowed = flowed
+    -- a message that begins nothing at the manager but by its token
+    abbrev is_settled : Kind → Bool
+    is_settled Request = true
+    is_settled ProbeAck = true
+    is_settled k = false
 
-    other_acquire : (n : ℕ) (a : AcquirePhase) (toks : List Packet) → (s.block n).service ≡ Free
-        → s.tracked tracker ≡ None
-        → Leaves d h (acquire_taken (length config.clients.items) config.profile c n a tracker toks h) → FlowsAs h
-        → FlowsAs (acquire_taken (length config.clients.items) config.profile c n a tracker toks h)
-    other_acquire n NoAcquire toks free unused l flowed = flowed
-    other_acquire n (AcquireOpen whole g) toks free unused l flowed =
-        go (some_below (length config.clients.items) (λ i. is_probed c true (cap_asked (AcquireOpen whole g))
-        (b.pair i).recorded i)) l
-      where
-        b : Block (List ℕ)
-        b = s.block n
+    abbrev IsTaken : List Packet → Kind → ℕ → Type 0
+    IsTaken toks k i = (on k (s.link c) ≡ packet k i ∷ toks) × IsReady tracker c k i h × (is_settled k ≡ false)
 
-        granted : State (List ℕ)
-        granted = acquire_granted c n tracker (is_granted_data whole g (b.pair c).recorded)
-            (gift config.profile whole g (is_unheld (length config.clients.items) b.pair)) toks s
-
-        served : State (List ℕ)
-        served = acquire_served c n (b.source c) tracker (cap_asked (AcquireOpen whole g)) toks s
-
-        go : (x : Bool) → Leaves d h (with_state (if x then served else granted) h)
-            → FlowsAs (with_state (if x then served else granted) h)
-        go true i = flowed-aside (left-served d then_asked (asked_by h.mail served d) (unfinished_at sys d) s
-            (asks-left d h (with_state served h) i) comes c n (b.source c) tracker true
-            (cap_asked (AcquireOpen whole g)) served (λ m. refl) (ne_eqb d c ne) free (free_quiet n free d)
-            (λ j. inl refl) (λ j. refl) unused (λ j. refl)) flowed
-        go false i = flowed-aside (left-acquire_granted d then_asked (asked_by h.mail granted d) (unfinished_at sys d) s
-            (asks-left d h (with_state granted h) i) comes c n tracker (is_granted_data whole g (b.pair c).recorded)
-            (gift config.profile whole g (is_unheld (length config.clients.items) b.pair)) toks ne free
-            (quiet_unanswered (b.pair d).probing (free_quiet n free d)) unused) flowed
-
-    other_grant : {n : ℕ} (toks : List Packet) (due : IsGrantDue c n s) (service : Service)
-        → service ≡ GrantSent c due.data_too due.k
-        → Leaves d h (taken_by_client c n service toks h) → FlowsAs h → FlowsAs (taken_by_client c n service toks h)
-    other_grant {n} toks due service e l flowed = subst (λ (q : Service). FlowsAs (taken_by_client c n q toks h))
-        (sym e) (go (subst (λ (q : Service). Leaves d h (taken_by_client c n q toks h)) e l))
-      where
-        go : Leaves d h (taken_by_client c n (GrantSent c due.data_too due.k) toks h)
-            → FlowsAs (taken_by_client c n (GrantSent c due.data_too due.k) toks h)
-        go i =
-            let after = taken_by_client c n (GrantSent c due.data_too due.k) toks h in
-            flowed-aside
-            (left-grant_taken d then_asked (asked_by after.mail after.state d) (unfinished_at sys d) s
-            (asks-left d h after i) comes c n
-            (is_whole ((s.block n).pair c).acquiring) due.data_too due.k toks ne due.service) flowed
+    unsettled : (k : Kind) (i : ℕ) (toks : List Packet) → IsTaken toks k i → FlowsAs h
+        → Leaves d h (kind_taken config tracker c k i toks h) → FlowsAs (kind_taken config tracker c k i toks h)
+    unsettled k i toks known flowed =
+        true-taken config tracker c toks h (IsTaken toks) (λ z. Leaves d h z → FlowsAs z) k i (record {
+          nothing = λ j n taken idle l. flowed;
+          access_answered = λ source m o taken from caps none l. absurd cc;
+          access_served = λ source m j taken from caps some l. absurd cc;
+          acquire_granted = λ n whole g taken wants none l.
+              let after = acquire_granted c n tracker (is_granted_data whole g ((s.block n).pair c).recorded)
+              (gift config.profile whole g (is_unheld (length config.clients.items) (s.block n).pair)) toks s in
+              flowed-aside (left-acquire_granted d then_asked (asked_by h.mail after d) (unfinished_at sys d) s
+              (asks-left d h (with_state after h) l) comes c n tracker _ _ toks ne taken.1.0
+              (quiet_unanswered ((s.block n).pair d).probing (free_quiet n taken.1.0 d)) taken.1.1) flowed;
+          acquire_served = λ n whole g taken wants some l.
+              let after = acquire_served c n ((s.block n).source c) tracker (cap_asked (AcquireOpen whole g)) toks s in
+              flowed-aside (left-served d then_asked (asked_by h.mail after d) (unfinished_at sys d) s
+              (asks-left d h (with_state after h) l) comes c n ((s.block n).source c) tracker true
+              (cap_asked (AcquireOpen whole g)) after (λ m. refl) (ne_eqb d c ne) taken.1.0
+              (free_quiet n taken.1.0 d) (λ j. inl refl) (λ j. refl) taken.1.1 (λ j. refl)) flowed;
+          probe = λ n taken l. flowed-aside (left-probe_taken d then_asked _ (unfinished_at sys d) s
+              (asks-left d h (kind_taken config tracker c Probe n toks h) l) comes c n _ toks ne) flowed;
+          report = λ n taken more l. absurd cc;
+          report_answers = λ n q source j taken last waits l. absurd cc;
+          report_grants = λ n q source j whole g taken last waits wants l. absurd cc;
+          release = λ n taken l. flowed-aside (left-release_taken d then_asked _ (unfinished_at sys d) s
+              (asks-left d h (kind_taken config tracker c Release n toks h) l) comes c n _ toks ne) flowed;
+          answer = λ source taken l. flowed-aside (left-answer_taken d then_asked _ (unfinished_at sys d) s
+              (asks-left d h (kind_taken config tracker c Answer source toks h) l) comes c source toks ne) flowed;
+          grant = λ n q x j taken sent l.
+              let due = grant-due (is_caching config) c n toks s is.invariant taken.0 in
+              let same : q ≡ c = let both = sym sent ∙ due.service in cc in
+              flowed-aside (left-grant_taken d then_asked _ (unfinished_at sys d) s
+              (asks-left d h (taken_by_client c n (GrantSent q x j) toks h) l) comes c n _ x j toks ne
+              (sent ∙ ap (λ (i : ℕ). GrantSent i x j) same))
+              flowed;
+          release_ack = λ n taken l. flowed-aside (left-release_ack_taken d then_asked _ (unfinished_at sys d) s
+              (asks-left d h (kind_taken config tracker c ReleaseAck n toks h) l) comes c n toks ne) flowed;
+          grant_ack = λ n taken l.
+              let acks = first-grant_ack is.invariant taken.0 in
+              flowed-aside (left-grant_ack_taken d then_asked _ (unfinished_at sys d) s
+              (asks-left d h (kind_taken config tracker c GrantAck n toks h) l) comes c n toks ne acks
+              (tracker-of n is.invariant.named (rw acks refl))) flowed;
+        }) known
 
     -- a message of client c's link that is taken
     by_kind : (k : Kind) (i : ℕ) (toks : List Packet) → on k (s.link c) ≡ packet k i ∷ toks → IsReady tracker c k i h
         → Leaves d h (kind_taken config tracker c k i toks h) → FlowsAs h
         → FlowsAs (kind_taken config tracker c k i toks h)
-    by_kind Request source toks first ready l flowed = other_request source (h.mail.request c source) toks ready refl l
-        flowed
-    by_kind Acquire n toks first ready l flowed = other_acquire n ((s.block n).pair c).acquiring toks ready.0 ready.1 l
-        flowed
-    by_kind Probe n toks first ready l flowed =
-        let after = kind_taken config tracker c Probe n toks h in
-        flowed-aside
-        (left-probe_taken d then_asked (asked_by after.mail after.state d) (unfinished_at sys d) s
-        (asks-left d h after l) comes c n (cap_sent ((s.block n).pair c).probing) toks ne) flowed
-    by_kind ProbeAck n toks first ready l flowed = settled-report d (unfinished_at sys d) refl t n toks first l
+    by_kind Request source toks first ready l flowed = settled d (unfinished_at sys d) refl t Request source toks first
+        ready (flowed-aside (left-replied d then_asked then_asked (unfinished_at sys d) s (λ i. refl) comes c source ne)
+        flowed) l
+    by_kind ProbeAck n toks first ready l flowed = settled d (unfinished_at sys d) refl t ProbeAck n toks first ready
         (flowed-aside (left-report_taken d then_asked then_asked (unfinished_at sys d) s (λ i. refl) comes c n
-        (report_told ((s.block n).pair c).probing) toks ne) flowed)
-    by_kind Release n toks first ready l flowed =
-        let after = kind_taken config tracker c Release n toks h in
-        flowed-aside
-        (left-release_taken d then_asked (asked_by after.mail after.state d) (unfinished_at sys d) s
-        (asks-left d h after l) comes c n (prune_told ((s.block n).pair c).letting) toks ne) flowed
-    by_kind Answer source toks first ready l flowed =
-        let after = kind_taken config tracker c Answer source toks h in
-        flowed-aside
-        (left-answer_taken d then_asked (asked_by after.mail after.state d) (unfinished_at sys d) s
-        (asks-left d h after l) comes c source toks ne) flowed
-    by_kind Grant n toks first ready l flowed =
-        let due = grant-due (is_caching config) c n toks s is.invariant first in
-        other_grant toks due (s.block n).service due.service l flowed
-    by_kind ReleaseAck n toks first ready l flowed =
-        let after = kind_taken config tracker c ReleaseAck n toks h in
-        flowed-aside
-        (left-release_ack_taken d then_asked (asked_by after.mail after.state d) (unfinished_at sys d) s
-        (asks-left d h after l) comes c n toks ne) flowed
-    by_kind GrantAck n toks first ready l flowed =
-        let after = kind_taken config tracker c GrantAck n toks h in
-        let taken = acknowledging-is (s.block n).service c (holds-first GrantAck (s.link c).e toks (packet GrantAck n)
-        (λ i. shown GrantAck c (s.block i)) first refl (is.invariant.transfers c GrantAck refl)) in
-        flowed-aside
-        (left-grant_ack_taken d then_asked (asked_by after.mail after.state d) (unfinished_at sys d) s
-        (asks-left d h after l) comes c n toks ne taken (tracker-of n is.invariant.named (rw taken refl))) flowed
+        (report_told ((s.block n).pair c).probing) toks ne) flowed) l
+    by_kind k i toks first ready l flowed = unsettled k i toks (first, ready, refl) flowed l
 
     pub other-kind : (k : Kind) (i : ℕ) (toks : List Packet) → on k (s.link c) ≡ packet k i ∷ toks
         → IsReady tracker c k i h → FlowsAs h → FlowsAs (kind_taken config tracker c k i toks h)

@@ -1,28 +1,23 @@
 -- A beat of channel B or C that is delivered breaks no rule after what was delivered before it.
-use Rattle.tl_coherence.proofs.flow.Imports.{IsWidth, Beat, Channel, Message, MessageA, MessageC, beat_of, History}
-use Rattle.tl_coherence.proofs.flow.Imports.{channel_of, unfinished, Config, Level, Prune, Report, Profile, on_link}
-use Rattle.tl_coherence.proofs.flow.Imports.{broken_in_order, broken_after, illegal, same_block, level_of, flow, Log}
-use Rattle.tl_coherence.proofs.flow.Imports.{View, Granting, Acknowledging, ProbeSent, ProbeAnswered, ReleasePhase}
-use Rattle.tl_coherence.proofs.flow.Imports.{ReleaseSent, ReleaseAcked, AcquirePhase, NoAcquire, AcquireOpen, ok}
-use Rattle.tl_coherence.proofs.flow.Imports.{is_unreleased, is_unprobed, Block, State, packet, shown, view, is_granting}
-use Rattle.tl_coherence.proofs.flow.Imports.{is_acknowledging, is_answered, is_acked, is_on, AccessMessages, message_of}
-use Rattle.tl_coherence.proofs.flow.Imports.{message_of_kind, block_message, prune_told, report_told, cap_waited}
-use Rattle.tl_coherence.proofs.flow.Imports.{System, Kind, Probe, ProbeAck, Release, Packet, SimulationRelation}
-use Rattle.tl_coherence.proofs.flow.Imports.{MonitorRelations, is_caching}
-use Rattle.std.proofs.Common.{◌≡◌, ℕ, true, false, List, [], ◌∷◌, Some, None, refl, sym, ◌∙◌, ap, subst}
-use Rattle.std.specs.Prelude.{map}
-use Rattle.tl_burst.{specs.statement.Burst.c_beat_of, specs.statement.Messages.channel_in}
-use Rattle.tl_params.specs.statement.Param.{report_at}
-use Rattle.tl_coherence.specs.{protocol.Phase.ProbePhase, protocol.Phase.same_report, protocol.Tokens.is_sent}
-use Rattle.tl_coherence.proofs.{queues.Carried.IsNext, client.ClientTakes.sound-beat, queues.FirstToken.IsFirst}
-use Rattle.tl_coherence.proofs.{queues.FirstToken.first-token, queues.Phases.and_left, queues.Phases.and_right}
-use Rattle.tl_coherence.proofs.{client.ProbeDelivered.not_coming, queues.Tokens.same_number, queues.Tokens.holds-first}
-use Rattle.tl_coherence.proofs.queues.Facts.{answered_other, granting_alone, is_other, release_begins}
-use Rattle.tl_coherence.proofs.queues.PhaseFacts.{acknowledging_quiet, release_alone, report_first, report_fits}
-use Rattle.tl_coherence.proofs.flow.FlowOrders.{beat-flows, probe-flows, report-flows, release-flows}
-use Rattle.tl_coherence.proofs.manager.ManagerTakes.{by-first_c, same_report-is, seen_cap, unanswered}
-use Rattle.tl_coherence.proofs.manager.Reporting.{report-about, release-about}
-use Rattle.tl_coherence.proofs.protocol.BothParts.{is_of-is, answered-is, releasing-is}
+use Rattle.std.proofs.Common.{◌≡◌, ℕ, true, false, List, [], ◌∷◌, Some, None, refl, sym, ◌∙◌, ap, subst, map}
+use Rattle.tl_coherence.proofs
+use proofs.Imports.{Beat, Channel, IsWidth, Message, MessageA, MessageC, beat_of, c_beat_of, History, channel_of}
+use proofs.Imports.{unfinished, channel_in, Config, Level, Prune, Report, Profile, report_at, on_link, broken_in_order}
+use proofs.Imports.{broken_after, illegal, same_block, level_of, Kind, Probe, ProbeAck, Release, Packet, View, Granting}
+use proofs.Imports.{Acknowledging, ProbeSent, ProbeAnswered, ReleasePhase, ReleaseSent, ReleaseAcked, AcquirePhase}
+use proofs.Imports.{NoAcquire, AcquireOpen, ok, is_unreleased, is_unprobed, ProbePhase, same_report, Block, State}
+use proofs.Imports.{packet, view, is_on, is_granting, is_acknowledging, is_answered, is_acked, is_sent, AccessMessages}
+use proofs.Imports.{message_of, message_of_kind, block_message, prune_told, report_told, SimulationRelation}
+use proofs.Imports.{MonitorRelations, is_caching, cap_waited, flow, Log, System}
+use proofs.queues.{Carried.IsNext, FirstToken.IsFirst, FirstToken.first-token, Phases.and_left, Phases.and_right}
+use proofs.queues.{Tokens.same_number, Facts.answered_other, Facts.granting_alone, Facts.is_other, Facts.release_begins}
+use proofs.queues.{PhaseFacts.acknowledging_quiet, PhaseFacts.release_alone, PhaseFacts.report_first}
+use proofs.queues.{PhaseFacts.report_fits}
+use proofs.client.{ClientTakes.sound-beat, ProbeDelivered.not_coming}
+use proofs.flow.FlowOrders.{beat-flows, probe-flows, report-flows, release-flows}
+use proofs.manager.{ManagerTakes.by-first_c, ManagerTakes.same_report-is, ManagerTakes.seen_cap}
+use proofs.manager.{ManagerTakes.unanswered, Reporting.report-about, Reporting.release-about}
+use proofs.protocol.{BothParts.is_of-is, FirstTokens.first-release, FirstTokens.first-report, FirstTokens.first-shown}
 
 -- the next beat of a message whose first breaks no rule of order
 pub next-flows : {w : ℕ} (l : Level) (p : Profile) {m : Message w} {x : Beat w} {rest : List (Beat w)}
@@ -81,8 +76,7 @@ report-lawful {w} {config} {log} {mail} {s} {sys} c n toks l {x} {ms} {queue} wi
     ok_is = (is.invariant.blocks n).phases c
 
     answered : (b.pair c).probing ≡ ProbeAnswered r
-    answered = answered-is (b.pair c).probing (holds-first ProbeAck (s.link c).c toks (packet ProbeAck n)
-        (λ i. shown ProbeAck c (s.block i)) tokens refl (is.invariant.transfers c ProbeAck refl))
+    answered = first-report is.invariant tokens
 
     unacked : (y : ReleasePhase) → (b.pair c).letting ≡ y → is_acked y ≡ false
     unacked ReleaseAcked f = absurd (let first = report_first r (b.pair c) (view b.service c) ok_is answered in
@@ -120,8 +114,7 @@ release-lawful {w} {config} {log} {mail} {s} {sys} c n toks l {x} {ms} {queue} w
     ok_is = (is.invariant.blocks n).phases c
 
     releasing : (b.pair c).letting ≡ ReleaseSent r
-    releasing = releasing-is (b.pair c).letting (holds-first Release (s.link c).c toks (packet Release n)
-        (λ i. shown Release c (s.block i)) tokens refl (is.invariant.transfers c Release refl))
+    releasing = first-release is.invariant tokens
 
     calm : (y : AcquirePhase) → (b.pair c).acquiring ≡ y → y ≡ NoAcquire
     calm NoAcquire f = refl
@@ -165,8 +158,7 @@ unfolding block_message
 probe-lawful {w} {config} {log} {mail} {request} {s} {sys} c n toks l {x} {ms} {queue} is flowed lawful tokens
     unacknowledged next =
     let b : Block (List ℕ) = s.block n in
-    let shows : is_sent (b.pair c).probing ≡ true = holds-first Probe (s.link c).b toks (packet Probe n)
-    (λ i. shown Probe c (s.block i)) tokens refl (is.invariant.transfers c Probe refl) in
+    let shows : is_sent (b.pair c).probing ≡ true = first-shown is.invariant c Probe refl tokens in
     next-flows l config.profile
     (flow c log) lawful next ((flowed c).rest_is Channel.B)
     (λ none. probe-flows config.profile n _ (flowed c) none (same_block n) (unanswered_yet (b.pair c).probing shows)
@@ -197,6 +189,5 @@ flows-b {w} {config} {log} {mail} {request} {s} {sys} c l x queue width is flowe
         (map (message_of mail s c) first.rest) queue → broken_after l config.profile x (flow c log) ≡ None
     go Probe i tokens own next =
         cc (probe-lawful c i first.rest l is flowed (lawful-beat c Channel.B l x queue is beats level) tokens
-        (unacknowledged i (holds-first Probe (s.link c).b first.rest (packet Probe i) (λ j. shown Probe c (s.block j))
-        tokens refl (is.invariant.transfers c Probe refl)) (view (s.block i).service c) refl) next)
+        (unacknowledged i (first-shown is.invariant c Probe refl tokens) (view (s.block i).service c) refl) next)
     go k i tokens own next = absurd cc

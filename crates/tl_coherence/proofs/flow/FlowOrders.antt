@@ -1,24 +1,18 @@
 -- A message of channel A, B, C or E that is delivered breaks no rule of order after what was delivered before it.
-use Rattle.tl_coherence.proofs.flow.Imports.{Beat, BeatA, BeatC, BeatE, Channel, Message, beat_of, begun, History}
-use Rattle.tl_coherence.proofs.flow.Imports.{channel_of, unfinished, Level, Cap, Prune, Report, Profile, prune_code}
-use Rattle.tl_coherence.proofs.flow.Imports.{prune_left, report_code, broken_in_order, broken_after, comes_in_release}
-use Rattle.tl_coherence.proofs.flow.Imports.{comes_in_grant, same_perm, block_at, is_acquire, is_probe_ack, is_release}
-use Rattle.tl_coherence.proofs.flow.Imports.{held, pending, illegal, MonitorRelation, is_requested, is_release_pending}
-use Rattle.tl_coherence.proofs.flow.Imports.{is_let_by, comes_granting, View, Idle, ReleasePhase, NoRelease}
-use Rattle.tl_coherence.proofs.flow.Imports.{ReleaseSent, ReleaseAcked, NoAcquire, ProbeAnswered, State, SourceState}
-use Rattle.tl_coherence.proofs.flow.Imports.{Asked, Acquires, view, is_granting, is_acknowledging, is_answered}
-use Rattle.tl_coherence.proofs.flow.Imports.{is_acked, is_wanting, is_unserved, probe_beat, cap_waited}
 use Rattle.std.proofs.Common.{◌≡◌, ℕ, zero, suc, Bool, true, false, not, ◌&&◌, ◌||◌, [], Option, Some, None, refl, ◌∙◌}
 use Rattle.std.proofs.Common.{ap, List}
-use Rattle.std.proofs.Math.Bool.{and-false}
-use Rattle.tl_beat.{specs.declared.beat.BeatB.BeatB, specs.statement.First.first_if}
-use Rattle.tl_burst.specs.statement.Messages.{channel_in}
-use Rattle.tl_params.{specs.declared.key.Key.Key, specs.statement.Param.prune_of, specs.statement.Param.report_at}
-use Rattle.tl_params.specs.declared.rule.Rule.TheVariants.{H1, H9, H13}
-use Rattle.tl_rules.specs.statement.Conformance.{broken_order, grows_from, prunes_from}
-use Rattle.tl_rules.{specs.statement.History.is_probe, proofs.Later.later-legal}
-use Rattle.tl_coherence.proofs.manager.Orders.{report-legal, acquire-legal}
+use Rattle.tl_coherence.proofs
+use proofs.Imports.{and-false, Beat, BeatA, BeatB, BeatC, BeatE, Channel, first_if, Message, beat_of, begun, History}
+use proofs.Imports.{channel_of, unfinished, channel_in, Key, Level, Cap, Prune, Report, Profile, H1, H13, prune_code}
+use proofs.Imports.{prune_left, report_code, prune_of, report_at, later-legal, broken_in_order, broken_after}
+use proofs.Imports.{comes_in_release, comes_in_grant, same_perm, broken_order, grows_from, prunes_from, block_at}
+use proofs.Imports.{is_acquire, is_probe_ack, is_release, held, pending, is_probe, illegal, View, Idle, ReleasePhase}
+use proofs.Imports.{NoRelease, ReleaseSent, ReleaseAcked, NoAcquire, ProbeAnswered, State, SourceState, Asked, Acquires}
+use proofs.Imports.{view, is_granting, is_acknowledging, is_answered, is_acked, is_wanting, is_unserved, comes_granting}
+use proofs.Imports.{MonitorRelation, is_requested, is_release_pending, is_let_by, probe_beat, cap_waited}
+use Rattle.tl_params.specs.declared.rule.Rule.TheVariants.{H9}
 use Rattle.tl_client.proofs.messages.InOrder.{prune_again}
+use proofs.manager.Orders.{report-legal, acquire-legal}
 
 -- who isn't granted the block holds what is recorded, as far as was delivered
 held_as : {w : ℕ} {X : Type 0} {c : ℕ} (n : ℕ) {asked : ℕ → Option (BeatA w)} {rest : Channel → List (Beat w)}

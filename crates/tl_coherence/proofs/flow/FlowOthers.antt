@@ -1,19 +1,17 @@
 -- What an event leaves of its block for what is delivered on the links that it isn't of.
-use Rattle.tl_coherence.proofs.flow.Imports.{Cap, Grow, Prune, Report, ClientBlock, View, Idle, Own, Other, Granting}
-use Rattle.tl_coherence.proofs.flow.Imports.{Acknowledging, GrantedOther, ProbeSent, is_unprobed, after_release}
-use Rattle.tl_coherence.proofs.flow.Imports.{after_probe, after_report, after_release_ack, Service, Free, Waits}
-use Rattle.tl_coherence.proofs.flow.Imports.{GrantSent, GrantTaken, Block, view, is_granting, is_acknowledging}
-use Rattle.tl_coherence.proofs.flow.Imports.{is_answered, is_wanting, is_unserved, acquiring_block, releasing_block}
-use Rattle.tl_coherence.proofs.flow.Imports.{granted_at_once, served_block, probed_block, reported_block, let_block}
-use Rattle.tl_coherence.proofs.flow.Imports.{taken_block, let_go_block, freed_block, cap_waited, set}
-use Rattle.std.proofs.Common.{◌≡◌, ℕ, Bool, true, false, ◌&&◌, ◌||◌, refl, sym, ◌∙◌, ap, ◌⊎◌, inl, inr}
-use Rattle.std.{specs.Prelude.◌==◌, specs.Prelude.if◌then◌else◌, proofs.lemmas.Bool.ne_eqb}
-use Rattle.tl_coherence.specs.protocol.Phase.{ProbePhase}
-use Rattle.tl_coherence.specs.protocol.PhaseSteps.{after_acquire, is_above, after_served, after_grant_sent}
-use Rattle.tl_coherence.specs.protocol.PhaseSteps.{after_release_taken, after_grant}
-use Rattle.tl_coherence.specs.protocol.Protocol.{stored_block, performed_block, served_pair, ended_block, granted_block}
-use Rattle.tl_coherence.proofs.{flow.FlowAside.IsSameBlock, protocol.BothParts.quiet_unanswered}
-use Rattle.tl_coherence.proofs.queues.Tokens.{same_number, set-same, set-other}
+use Rattle.std.proofs.Common.{◌≡◌, ℕ, Bool, true, false, ◌&&◌, ◌||◌, refl, sym, ◌∙◌, ap, ◌⊎◌, inl, inr, ne_eqb, ◌==◌}
+use Rattle.std.proofs.Common.{if◌then◌else◌}
+use Rattle.tl_coherence.proofs
+use proofs.Imports.{Cap, Grow, Prune, Report, set, ClientBlock, View, Idle, Own, Other, Granting, Acknowledging}
+use proofs.Imports.{GrantedOther, ProbeSent, is_unprobed, ProbePhase, after_release, after_probe, after_report}
+use proofs.Imports.{after_release_ack, after_acquire, is_above, after_served, after_grant_sent, after_release_taken}
+use proofs.Imports.{after_grant, Service, Free, Waits, GrantSent, GrantTaken, Block, view, acquiring_block}
+use proofs.Imports.{releasing_block, granted_at_once, served_block, probed_block, reported_block, let_block}
+use proofs.Imports.{taken_block, let_go_block, freed_block, stored_block, performed_block, served_pair, ended_block}
+use proofs.Imports.{granted_block, is_granting, is_acknowledging, is_answered, is_wanting, is_unserved, cap_waited}
+use proofs.flow.FlowAside.{IsSameBlock}
+use proofs.protocol.BothParts.{quiet_unanswered}
+use proofs.queues.Tokens.{same_number, set-same, set-other}
 
 -- the service looks the same to the client's link
 pub record IsSameView (v v' : View) : Type 0 where

@@ -1,32 +1,26 @@
 -- What is delivered on a link, as a beat of it is: each value of it is that of the protocol afterwards.
-use Rattle.tl_coherence.specs.{protocol.Phase.is_whole, protocol.Invariant.cap_asked}
-use Rattle.tl_coherence.specs.{protocol.PhaseSteps.is_granted_data, protocol.Protocol.packets_on}
-use Rattle.tl_coherence.specs.{protocol.Protocol.is_probed}
-use Rattle.tl_coherence.proofs.flow.Imports.{IsWidth, Beat, Channel, Message, MessageA, MessageC, beat_of, History, on}
-use Rattle.tl_coherence.proofs.flow.Imports.{completes, Config, Cap, block_at, MonitorRelation, AbstractState}
-use Rattle.tl_coherence.proofs.flow.Imports.{kind_taken, Log, ClientBlock, AcquirePhase, AcquireOpen, after_probe}
-use Rattle.tl_coherence.proofs.flow.Imports.{after_release_ack, Block, State, packet, is_on, probed_block, probe_taken}
-use Rattle.tl_coherence.proofs.flow.Imports.{let_go_block, release_ack_taken, release_taken, acquire_served}
-use Rattle.tl_coherence.proofs.flow.Imports.{acquire_granted, cap_sent, prune_told, block_message, message_of_kind}
-use Rattle.tl_coherence.proofs.flow.Imports.{System, Kind, Request, Acquire, Probe, ProbeAck, Release, Answer, Grant}
-use Rattle.tl_coherence.proofs.flow.Imports.{ReleaseAck, GrantAck, Packet, SimulationRelation, is_caching, asked_by}
 use Rattle.std.proofs.Common.{◌≡◌, subst, ℕ, Bool, true, false, List, ◌∷◌, length, refl, sym, ◌∙◌, ap, inl}
-use Rattle.std.specs.Prelude.{if◌then◌else◌}
-use Rattle.tl_burst.specs.declared.message.MessageE.{MessageE}
-use Rattle.tl_coherence.specs.refinement.AbstractStep.{with_state, some_below, request_taken, is_unheld, gift}
-use Rattle.tl_coherence.specs.refinement.AbstractStep.{acquire_taken}
-use Rattle.tl_coherence.proofs.{client.AsideAll.Leaves, client.AsideAll.leaves-at_manager, queues.Carried.IsNext}
-use Rattle.tl_coherence.proofs.{client.ClientDelivered.ack_next, client.ClientEnd.asks-same, flow.FlowAlone.AreRests}
-use Rattle.tl_coherence.proofs.{flow.FlowAside.flowed-asks, flow.FlowAsking.asks-left, flow.FlowBeats.one-beat}
-use Rattle.tl_coherence.proofs.{flow.FlowKinds.settled-request, flow.FlowKinds.settled-report, flow.ChannelB.own-probe}
-use Rattle.tl_coherence.proofs.{protocol.FollowKept.IsReady, client.ProbeDelivered.probe-beat}
-use Rattle.tl_coherence.proofs.{manager.RequestsTaken.acquire_wanted, queues.Tokens.set-same, queues.Tokens.set-part}
-use Rattle.tl_coherence.proofs.{simulation.Popped.unfinished_at}
-use Rattle.tl_coherence.proofs.protocol.HeadOfD.{IsGrantDue, grant-due}
-use Rattle.tl_coherence.proofs.flow.ChannelD.{own-answer, own-release_ack, own-grant}
-use Rattle.tl_coherence.proofs.flow.ChannelA.{own-access, own-acquire_served, own-acquire_granted}
-use Rattle.tl_coherence.proofs.flow.ChannelCE.{report_rendered, ack_rendered, own-report, own-release, own-grant_ack}
-use Rattle.tl_coherence.proofs.protocol.Heads.{IsAsked, asked-first, IsWanted, wanted-first, acquisition_beats}
+use Rattle.std.proofs.Common.{if◌then◌else◌}
+use Rattle.tl_coherence.proofs
+use proofs.Imports.{Beat, Channel, IsWidth, Message, MessageA, MessageC, MessageE, beat_of, History, completes, Config}
+use proofs.Imports.{Cap, cap_asked, Kind, Request, Acquire, Probe, ProbeAck, Release, Answer, Grant, ReleaseAck}
+use proofs.Imports.{GrantAck, Packet, is_whole, ClientBlock, AcquirePhase, AcquireOpen, is_granted_data, after_probe}
+use proofs.Imports.{after_release_ack, packets_on, is_probed, Block, State, packet, is_on, probed_block, probe_taken}
+use proofs.Imports.{let_go_block, release_ack_taken, release_taken, acquire_served, acquire_granted, AbstractState}
+use proofs.Imports.{kind_taken, with_state, some_below, is_unheld, gift, acquire_taken, MonitorRelation, cap_sent}
+use proofs.Imports.{prune_told, block_message, message_of_kind, SimulationRelation, is_caching, asked_by, Log, System}
+use Rattle.tl_burst.specs.statement.Messages.{on}
+use proofs.client.{AsideAll.Leaves, AsideAll.leaves-at_manager, ClientDelivered.ack_next, ClientEnd.asks-same}
+use proofs.client.{ProbeDelivered.probe-beat}
+use proofs.queues.{Carried.IsNext, Tokens.set-same, Tokens.set-part}
+use proofs.flow.{FlowAlone.AreRests, FlowAside.flowed-asks, FlowAsking.asks-left, FlowBeats.one-beat, FlowKinds.settled}
+use proofs.flow.{ChannelB.own-probe, ChannelD.own-answer, ChannelD.own-release_ack, ChannelD.own-grant}
+use proofs.flow.{ChannelA.own-access, ChannelA.own-acquire_served, ChannelA.own-acquire_granted}
+use proofs.protocol.{Events.IsReady, HeadOfD.IsGrantDue, HeadOfD.grant-due, Heads.IsAsked, Heads.asked-first}
+use proofs.protocol.{Heads.IsWanted, Heads.wanted-first, Heads.acquisition_beats}
+use proofs.manager.RequestsTaken.{acquire_wanted}
+use proofs.simulation.Popped.{unfinished_at}
+use proofs.flow.ChannelCE.{report_rendered, ack_rendered, own-report, own-release, own-grant_ack}
 
 module _ {w : ℕ} {config : Config} {log : Log w} (h : AbstractState w) {sys : System w} {c : ℕ} (width : IsWidth w)
     (is : SimulationRelation config log h.mail h.request h.state sys) (tracker : ℕ) {t : History w}
@@ -70,18 +64,9 @@ module _ {w : ℕ} {config : Config} {log : Log w} (h : AbstractState w) {sys : 
         go : (z : Bool) → completes x (unfinished_at sys c Channel.A) ≡ z → (z ≡ true → IsReady tracker c Request i h)
             → FlowsWith x (if z then kind_taken config tracker c Request i toks h else h)
         go false e r = own-access h is flowed rest' i asked x ms queue here rests false e
-        go true e r =
-            let told = r refl in
-            let same : told.0 ≡ asked.request = (let both : Message.A told.0 ≡ Message.A asked.request =
-            sym told.1 ∙ asked.is_it in cc) in
-            let left : Leaves c h (request_taken (length config.clients.items) c i (Message.A asked.request) tracker
-            toks h) = subst (λ (m : Message w). Leaves c h (request_taken (length config.clients.items) c i m tracker
-            toks h)) asked.is_it (leaves-at_manager config tracker c Request i toks h c refl is.invariant tokens) in
-            subst (λ (m : Message w). FlowsWith x (request_taken (length config.clients.items) c i m tracker toks h))
-            (sym asked.is_it)
-            (settled-request h c is tracker c rest' (d_same (Message.A asked.request) here.k here.beat_is refl) (x ∷ t)
-            i asked.request toks (ap (λ (m : MessageA w). (s.block (block_at m.address)).service) (sym same)
-            ∙ told.3) told.4 left (own-access h is flowed rest' i asked x ms queue here rests true e))
+        go true e r = settled h c is tracker c rest' (d_same (Message.A asked.request) here.k here.beat_is refl) (x ∷ t)
+            Request i toks tokens (r refl) (own-access h is flowed rest' i asked x ms queue here rests true e)
+            (leaves-at_manager config tracker c Request i toks h c refl is.invariant tokens)
 
     goes-acquire : Goes Channel.A Acquire
     goes-acquire tokens next b last ready = go b last ready
@@ -175,9 +160,9 @@ module _ {w : ℕ} {config : Config} {log : Log w} (h : AbstractState w) {sys : 
         go : (z : Bool) → completes x (unfinished_at sys c Channel.C) ≡ z
             → FlowsWith x (if z then kind_taken config tracker c ProbeAck i toks h else h)
         go false e = own-report h width is flowed rest' i toks tokens x ms queue next rests false e
-        go true e = settled-report h c is tracker c rest' (d_same (Message.C about.0) here.k here.beat_is refl) (x ∷ t)
-            i toks tokens (leaves-at_manager config tracker c ProbeAck i toks h c refl is.invariant tokens)
-            (own-report h width is flowed rest' i toks tokens x ms queue next rests true e)
+        go true e = settled h c is tracker c rest' (d_same (Message.C about.0) here.k here.beat_is refl) (x ∷ t)
+            ProbeAck i toks tokens tt (own-report h width is flowed rest' i toks tokens x ms queue next rests true e)
+            (leaves-at_manager config tracker c ProbeAck i toks h c refl is.invariant tokens)
 
     goes-release : Goes Channel.C Release
     goes-release tokens next b last ready = go b last

@@ -1,19 +1,15 @@
 -- What is delivered on a link, as a Probe is.
-use Rattle.tl_coherence.proofs.flow.Imports.{Beat, BeatA, Channel, History, Cap, begins, ends, block_at, release_of}
-use Rattle.tl_coherence.proofs.flow.Imports.{probe_of, grant_sink, MonitorRelation, is_requested, is_release_pending}
-use Rattle.tl_coherence.proofs.flow.Imports.{is_let_by, is_sunk, comes_granting, View, Other, ClientBlock, after_probe}
-use Rattle.tl_coherence.proofs.flow.Imports.{Block, State, view, is_granting, is_answered, is_wanting, is_unserved}
-use Rattle.tl_coherence.proofs.flow.Imports.{probe_taken, probed_block, probe_beat, cap_waited, Packet, set}
 use Rattle.std.proofs.Common.{◌≡◌, ℕ, ◌*◌, Bool, true, false, not, ◌&&◌, ◌∷◌, Option, Some, None, refl, sym, ◌∙◌, ap}
-use Rattle.std.proofs.Common.{List}
-use Rattle.std.{specs.Prelude.◌==◌, specs.Prelude.if◌then◌else◌, specs.Prelude.option_map, proofs.lemmas.Bool.ne_eqb}
-use Rattle.tl_beat.specs.declared.beat.BeatB.{BeatB}
-use Rattle.tl_rules.specs.statement.History.{is_probe}
+use Rattle.std.proofs.Common.{List, ne_eqb, ◌==◌, if◌then◌else◌, option_map}
+use Rattle.tl_coherence.proofs
+use proofs.Imports.{Beat, BeatA, BeatB, Channel, History, Cap, begins, ends, block_at, release_of, probe_of, grant_sink}
+use proofs.Imports.{is_probe, Packet, set, View, Other, ClientBlock, after_probe, Block, State, view, probe_taken}
+use proofs.Imports.{probed_block, is_granting, is_answered, is_wanting, is_unserved, comes_granting, MonitorRelation}
+use proofs.Imports.{is_requested, is_release_pending, is_let_by, is_sunk, probe_beat, cap_waited}
 use Rattle.tl_client.proofs.pending.Opens.{request_of-b}
-use Rattle.tl_coherence.proofs.{flow.FlowAlone.AreRests, flow.FlowAside.requested-blocks, flow.FlowAside.let_by-same}
-use Rattle.tl_coherence.proofs.flow.FlowStep.{flowed-next, held_by, acquired_by, let_of, granted_by, step, whole_opened}
-use Rattle.tl_coherence.proofs.flow.FlowStep.{whole_unopened}
-use Rattle.tl_coherence.proofs.queues.Tokens.{same_number, set-same, set-each, set-part}
+use proofs.flow.{FlowAlone.AreRests, FlowAside.requested-blocks, FlowAside.let_by-same}
+use proofs.flow.FlowStep.{flowed-next, held_by, acquired_by, let_of, granted_by, step, whole_opened, whole_unopened}
+use proofs.queues.Tokens.{same_number, set-same, set-each, set-part}
 
 released-of : {w : ℕ} (i : ℕ) (y : BeatB w) (t : History w) → release_of i (Beat.B y ∷ t) ≡ release_of i t
 unfolding release_of

@@ -1,27 +1,20 @@
 -- What the receivers have after a delivery.
-use Rattle.tl_coherence.proofs.flow.Imports.{IsWidth, Beat, Channel, grown, completes, Config, flow, AbstractState}
-use Rattle.tl_coherence.proofs.flow.Imports.{kind_taken, Log, receiver, System, SimulationRelation, is_caching}
 use Rattle.std.proofs.Common.{◌≡◌, subst, ℕ, Bool, true, false, ◌&&◌, List, [], ◌∷◌, Some, None, refl, sym, ◌∙◌, ap}
-use Rattle.std.specs.Prelude.{◌==◌, if◌then◌else◌}
-use Rattle.tl_beat.specs.declared.beat.Link.{Link}
-use Rattle.tl_client.specs.statement.Endpoint.{EndConfig}
+use Rattle.std.proofs.Common.{◌==◌, if◌then◌else◌}
+use Rattle.tl_coherence.proofs
+use proofs.Imports.{Beat, Link, Channel, IsWidth, grown, completes, Config, EndConfig, Handed, reaction, Deliver}
+use proofs.Imports.{Outcome, AbstractState, kind_taken, abstract_step, SimulationRelation, is_caching, receiver}
+use proofs.Imports.{is_moving, flow, Log, system_after, Step, stepped, outcome_of, is_to_client, System, terms_at}
+use proofs.Imports.{same_channel, with_manager, with_channel, with_messages}
 use Rattle.tl_client.specs.statement.Offer as offer
-use Rattle.tl_manager.{specs.statement.Handing.Handed, specs.statement.Reaction.reaction}
 use Rattle.tl_manager.specs.statement.End as manager_end
 use Rattle.tl_manager.specs.statement.Offer as manager_offer
-use Rattle.tl_coherence.specs.{declared.event.Event.TheVariants.Deliver, declared.event.Outcome.Outcome}
-use Rattle.tl_coherence.specs.{statement.Draining.is_moving, refinement.AbstractStep.abstract_step}
-use Rattle.tl_coherence.specs.{statement.Log.system_after}
-use Rattle.tl_coherence.specs.statement.Step.{Step, stepped, outcome_of, is_to_client}
-use Rattle.tl_coherence.specs.statement.System.{terms_at, same_channel, with_manager, with_channel, with_messages}
-use Rattle.tl_coherence.proofs.links.FifoOfChannels.{on_it, flow_moved, taken_at}
-use Rattle.tl_coherence.proofs.{links.HeadsOfLinks.first-of, queues.FirstToken.IsFirst, queues.FirstToken.first-token}
-use Rattle.tl_coherence.proofs.{deliveries.DeliverDAfter.followed-moving, manager.UnwaitedRequests.next_tracker}
-use Rattle.tl_coherence.proofs.{simulation.Popped.unfinished_at}
-use Rattle.tl_coherence.proofs.queues.Landed.{IsOn, landed-client, landed-manager}
-use Rattle.tl_coherence.proofs.deliveries.ManagersAfter.{at-manager}
-use Rattle.tl_coherence.proofs.simulation.Moved.{client-moves, client-heard}
-use Rattle.tl_coherence.proofs.queues.Steps.{clients-with_messages, manager-with_messages}
+use proofs.links.{FifoOfChannels.flow_moved, FifoOfChannels.taken_at, HeadsOfLinks.first-of}
+use proofs.queues.{FirstToken.IsFirst, FirstToken.first-token, Landed.IsOn, Landed.landed-client, Landed.landed-manager}
+use proofs.queues.{Landed.on_own_channel, Steps.clients-with_messages, Steps.manager-with_messages}
+use proofs.deliveries.{DeliverDAfter.followed-moving, ManagersAfter.at-manager}
+use proofs.manager.UnwaitedRequests.{next_tracker}
+use proofs.simulation.{Popped.unfinished_at, Moved.client-moves, Moved.client-heard}
 
 -- ---- what the receivers have after a delivery
 
@@ -90,7 +83,7 @@ moved-to_client {w} {config} {log} link ch h terms x queue width is known up bea
     let first : IsFirst ch link.0 h.mail h.state sys x queue = first-token (is_caching config) ch link.0 h.mail h.state
     sys x queue width is.invariant is.carried beats in
     let on_ch : IsOn ch x = subst (λ (i : Channel). IsOn i x) (first-of config log h link.0 terms ch x queue width is
-    known beats).on (on_it x) in
+    known beats).on (on_own_channel x) in
     record {
       first = first;
       on_ch = on_ch;

@@ -1,21 +1,17 @@
 -- What is delivered on a link, as the beats of a Release are.
-use Rattle.tl_coherence.proofs.flow.Imports.{Beat, BeatA, BeatC, Channel, History, ReleaseSource, Prune, Perm}
-use Rattle.tl_coherence.proofs.flow.Imports.{comes_in_release, begins, ends, block_at, pending, is_probe_ack}
-use Rattle.tl_coherence.proofs.flow.Imports.{is_release, release_of, reported, MonitorRelation, is_requested}
-use Rattle.tl_coherence.proofs.flow.Imports.{is_release_pending, is_let_by, is_sunk, comes_granting, is_of}
-use Rattle.tl_coherence.proofs.flow.Imports.{ReleasePhase, ReleaseSent, ReleaseAcked, AcquirePhase, is_unreleased}
-use Rattle.tl_coherence.proofs.flow.Imports.{Service, Block, State, view, is_acknowledging, is_answered, is_wanting}
-use Rattle.tl_coherence.proofs.flow.Imports.{is_unserved, probe_beat, cap_waited, grant_sink-c, probe_of-c}
-use Rattle.tl_coherence.proofs.flow.Imports.{request_of-c}
 use Rattle.std.proofs.Common.{◌≡◌, ℕ, Bool, true, false, not, ◌&&◌, ◌||◌, ◌∷◌, Option, Some, None, refl, sym, ◌∙◌, ap}
-use Rattle.std.proofs.Common.{List, ◌⊎◌, inl, inr}
-use Rattle.std.specs.Prelude.{◌==◌, if◌then◌else◌, option_map, unwrap_or}
-use Rattle.std.proofs.lemmas.Bool.{cases_eq, ne_eqb, and_right}
-use Rattle.tl_params.specs.statement.Param.{prune_right}
-use Rattle.tl_coherence.specs.protocol.Invariant.{releases_with}
-use Rattle.tl_coherence.proofs.{flow.FlowAlone.AreRests, flow.FlowAside.requested-blocks, flow.FlowReported.unsaid}
-use Rattle.tl_coherence.proofs.{queues.Tokens.same_number, protocol.BothParts.is_of-is}
-use Rattle.tl_coherence.proofs.flow.FlowStep.{flowed-next, held_by, acquired_by, let_of, granted_by, step, step_quiet}
+use Rattle.std.proofs.Common.{List, ◌⊎◌, inl, inr, ne_eqb, ◌==◌, if◌then◌else◌, option_map, unwrap_or}
+use Rattle.tl_coherence.proofs
+use proofs.Imports.{cases_eq, and_right, Beat, BeatA, BeatC, Channel, History, ReleaseSource, Prune, Perm, prune_right}
+use proofs.Imports.{comes_in_release, begins, ends, block_at, pending, is_probe_ack, is_release, release_of, reported}
+use proofs.Imports.{grant_sink-c, probe_of-c, request_of-c, is_of, releases_with, ReleasePhase, ReleaseSent}
+use proofs.Imports.{ReleaseAcked, AcquirePhase, is_unreleased, Service, Block, State, view, is_acknowledging}
+use proofs.Imports.{is_answered, is_wanting, is_unserved, comes_granting, MonitorRelation, is_requested}
+use proofs.Imports.{is_release_pending, is_let_by, is_sunk, probe_beat, cap_waited}
+use proofs.flow.{FlowAlone.AreRests, FlowAside.requested-blocks, FlowReported.unsaid}
+use proofs.queues.Tokens.{same_number}
+use proofs.protocol.BothParts.{is_of-is}
+use proofs.flow.FlowStep.{flowed-next, held_by, acquired_by, let_of, granted_by, step, step_quiet}
 
 -- ---- another value of one block
 

@@ -1,20 +1,16 @@
 -- What is delivered on a link, as the last beat of a ProbeAck is.
-use Rattle.tl_coherence.proofs.flow.Imports.{Beat, BeatA, BeatC, Channel, History, Report, Perm, comes_in_release}
-use Rattle.tl_coherence.proofs.flow.Imports.{begins, ends, block_at, is_probe_ack, is_release, probe_of, reported}
-use Rattle.tl_coherence.proofs.flow.Imports.{MonitorRelation, is_requested, is_release_pending, is_let_by, is_sunk}
-use Rattle.tl_coherence.proofs.flow.Imports.{ClientBlock, after_report, Block, State, view, is_granting, is_answered}
-use Rattle.tl_coherence.proofs.flow.Imports.{is_wanting, is_unserved, report_taken, reported_block, probe_beat}
-use Rattle.tl_coherence.proofs.flow.Imports.{cap_waited, Packet, grant_sink-c, probe_of-c, request_of-c}
 use Rattle.std.proofs.Common.{◌≡◌, ℕ, Bool, true, false, not, ◌&&◌, ◌||◌, ◌∷◌, Option, Some, None, refl, sym, ◌∙◌, ap}
-use Rattle.std.proofs.Common.{List}
-use Rattle.std.specs.Prelude.{◌==◌, if◌then◌else◌, option_map, unwrap_or}
-use Rattle.std.proofs.lemmas.Bool.{ne_eqb}
-use Rattle.tl_params.specs.statement.Param.{report_right}
-use Rattle.tl_coherence.proofs.{flow.FlowAlone.AreRests, flow.FlowAside.requested-blocks, flow.FlowAside.let_by-same}
-use Rattle.tl_coherence.proofs.{flow.FlowProbe.part_of}
-use Rattle.tl_coherence.proofs.flow.FlowReport.{released-of, let_rest, let_by_rest, unopened}
-use Rattle.tl_coherence.proofs.flow.FlowStep.{flowed-next, held_by, acquired_by, let_of, granted_by, step, step_quiet}
-use Rattle.tl_coherence.proofs.queues.Tokens.{same_number, set-same, set-each, set-part}
+use Rattle.std.proofs.Common.{List, ne_eqb, ◌==◌, if◌then◌else◌, option_map, unwrap_or}
+use Rattle.tl_coherence.proofs
+use proofs.Imports.{Beat, BeatA, BeatC, Channel, History, Report, Perm, report_right, comes_in_release, begins, ends}
+use proofs.Imports.{block_at, is_probe_ack, is_release, probe_of, reported, grant_sink-c, probe_of-c, request_of-c}
+use proofs.Imports.{Packet, ClientBlock, after_report, Block, State, view, report_taken, reported_block, is_granting}
+use proofs.Imports.{is_answered, is_wanting, is_unserved, MonitorRelation, is_requested, is_release_pending, is_let_by}
+use proofs.Imports.{is_sunk, probe_beat, cap_waited}
+use proofs.flow.{FlowAlone.AreRests, FlowAside.requested-blocks, FlowAside.let_by-same, FlowProbe.part_of}
+use proofs.flow.{FlowReport.released-of, FlowReport.let_rest, FlowReport.let_by_rest, FlowReport.unopened}
+use proofs.flow.FlowStep.{flowed-next, held_by, acquired_by, let_of, granted_by, step, step_quiet}
+use proofs.queues.Tokens.{same_number, set-same, set-each, set-part}
 
 closed : (first ack here p : Bool) → ack ≡ true → here ≡ true → step first true false (ack && here) p ≡ false
 closed true ack here p e f = rw (e, f) refl

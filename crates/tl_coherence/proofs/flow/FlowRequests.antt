@@ -1,25 +1,19 @@
 -- A beat of channel A that needn't wait breaks no rule after what was delivered before it.
-use Rattle.tl_coherence.proofs.flow.Imports.{IsWidth, Beat, Message, MessageA, a_beat_of, channel_of, unfinished}
-use Rattle.tl_coherence.proofs.flow.Imports.{Config, Level, broken_after, on_link, same_perm, block_at, ends, illegal}
-use Rattle.tl_coherence.proofs.flow.Imports.{same_block, level_of, flow, Log, ClientBlock, Idle, is_unreleased}
-use Rattle.tl_coherence.proofs.flow.Imports.{is_unprobed, ok, Free, State, packet, view, is_on, AccessMessages}
-use Rattle.tl_coherence.proofs.flow.Imports.{message_of, message_of_kind, System, Kind, Request, Acquire}
-use Rattle.tl_coherence.proofs.flow.Imports.{SimulationRelation, MonitorRelations, is_caching, Channel}
 use Rattle.std.proofs.Common.{◌≡◌, ℕ, true, false, ◌&&◌, List, ◌∷◌, length, Some, None, refl, sym, ◌∙◌, ap, subst}
-use Rattle.std.proofs.Common.{arith}
-use Rattle.std.{specs.Prelude.map, specs.Prelude.nat_le, proofs.lemmas.Bool.or_parts}
-use Rattle.tl_burst.specs.statement.Burst.{beats_of}
-use Rattle.tl_rules.proofs.Sent.{is_last}
-use Rattle.tl_manager.specs.statement.Service.{services, is_in_service}
-use Rattle.tl_manager.specs.statement.Offer.{must_wait}
-use Rattle.tl_coherence.proofs.manager.Admitted.{first_three, grows, unserved-free}
-use Rattle.tl_coherence.proofs.{queues.Carried.IsNext, queues.Facts.acquire_fits, queues.PhaseFacts.asked_alone}
-use Rattle.tl_coherence.proofs.{queues.FirstToken.IsFirst, queues.FirstToken.first-token, flow.FlowLawful.lawful-beat}
-use Rattle.tl_coherence.proofs.{flow.FlowLawful.next-flows, flow.FlowOrders.acquire-flows}
-use Rattle.tl_coherence.proofs.{flow.FlowOrders.request-flows, queues.Phases.and_left, queues.Phases.and_right}
-use Rattle.tl_coherence.proofs.{deliveries.FirstRequest.ends-burst, manager.RequestsTaken.acquire_wanted}
-use Rattle.tl_coherence.proofs.{protocol.BothParts.kept-is, queues.Codes.acquires-so}
-use Rattle.tl_coherence.proofs.protocol.Heads.{IsAsked, asked-first, IsWanted, wanted-first, acquisition_beats}
+use Rattle.std.proofs.Common.{arith, map, nat_le}
+use Rattle.tl_coherence.proofs
+use proofs.Imports.{or_parts, Beat, Channel, IsWidth, Message, MessageA, a_beat_of, beats_of, channel_of, unfinished}
+use proofs.Imports.{Config, Level, is_last, broken_after, on_link, same_perm, block_at, ends, illegal, same_block}
+use proofs.Imports.{level_of, must_wait, services, is_in_service, Kind, Request, Acquire, ClientBlock, Idle}
+use proofs.Imports.{is_unreleased, is_unprobed, ok, Free, State, packet, view, is_on, AccessMessages, message_of}
+use proofs.Imports.{message_of_kind, SimulationRelation, MonitorRelations, is_caching, flow, Log, System}
+use proofs.manager.{Admitted.first_three, Admitted.grows, Admitted.unserved-free, RequestsTaken.acquire_wanted}
+use proofs.queues.{Carried.IsNext, Facts.acquire_fits, PhaseFacts.asked_alone, FirstToken.IsFirst}
+use proofs.queues.{FirstToken.first-token, Phases.and_left, Phases.and_right, Codes.acquires-so}
+use proofs.flow.{FlowLawful.lawful-beat, FlowLawful.next-flows, FlowOrders.acquire-flows, FlowOrders.request-flows}
+use proofs.deliveries.FirstRequest.{ends-burst}
+use proofs.protocol.{BothParts.kept-is, Heads.IsAsked, Heads.asked-first, Heads.IsWanted, Heads.wanted-first}
+use proofs.protocol.{Heads.acquisition_beats}
 
 access-lawful : {w : ℕ} {config : Config} {log : Log w} {mail : AccessMessages w} {request : ℕ → MessageA w}
     {s : State (List ℕ)} {sys : System w} {c source : ℕ} (l : Level) {x : Beat w} {ms : List (Message w)}

@@ -1,41 +1,30 @@
 -- A response that is delivered breaks no rule of order after what was delivered on its link.
-use Rattle.tl_coherence.proofs.flow.Imports.{IsWidth, Beat, BeatA, Message, MessageA, MessageC, MessageD, a_beat_of}
-use Rattle.tl_coherence.proofs.flow.Imports.{beat_of, begun, unfinished, History, channel_of, Config, Level, Profile}
-use Rattle.tl_coherence.proofs.flow.Imports.{illegal, level_of, RequestSource, ReleaseSource, Prune, Report, Perm}
-use Rattle.tl_coherence.proofs.flow.Imports.{prune_code, report_code, report_left, on_link, comes_in_release}
-use Rattle.tl_coherence.proofs.flow.Imports.{broken_in_order, same_perm, broken_after, is_release, held, pending}
-use Rattle.tl_coherence.proofs.flow.Imports.{request_of, same_block, IsCarried, flow, is_requested, is_sunk}
-use Rattle.tl_coherence.proofs.flow.Imports.{is_release_pending, is_busy, Log, View, ReleasePhase, ReleaseSent}
-use Rattle.tl_coherence.proofs.flow.Imports.{ReleaseAcked, AcquirePhase, AcquireOpen, is_unreleased, Service, GrantSent}
-use Rattle.tl_coherence.proofs.flow.Imports.{is_answered, is_acked, is_granting, is_acknowledging, State, SourceState}
-use Rattle.tl_coherence.proofs.flow.Imports.{view, packet, shown, is_on, is_unserved, AccessMessages, report_told}
-use Rattle.tl_coherence.proofs.flow.Imports.{prune_told, block_message, message_of, message_of_kind, System, Kind}
-use Rattle.tl_coherence.proofs.flow.Imports.{ProbeAck, Release, Answer, Grant, ReleaseAck, Packet, SimulationRelation}
-use Rattle.tl_coherence.proofs.flow.Imports.{MonitorRelations, is_caching, Channel}
 use Rattle.std.proofs.Common.{◌≡◌, subst, ℕ, zero, suc, Bool, true, false, not, ◌&&◌, ◌||◌, List, [], ◌∷◌, Option, Some}
-use Rattle.std.proofs.Common.{None, refl, sym, ◌∙◌, ap}
-use Rattle.std.{specs.Prelude.◌==◌, specs.Prelude.map, proofs.lemmas.Bool.eqb-true, proofs.lemmas.Bool.and_from}
-use Rattle.std.{proofs.lemmas.Option.same_Some}
-use Rattle.tl_beat.{specs.declared.opcode.OpB.OpB, specs.declared.opcode.OpC.OpC}
-use Rattle.tl_burst.specs.statement.Burst.{d_beat_of}
+use Rattle.std.proofs.Common.{None, refl, sym, ◌∙◌, ap, eqb-true, ◌==◌, map}
+use Rattle.tl_coherence.proofs
+use proofs.Imports.{and_from, same_Some, Beat, BeatA, Channel, OpB, OpC, IsWidth, Message, MessageA, MessageC, MessageD}
+use proofs.Imports.{a_beat_of, beat_of, begun, d_beat_of, unfinished, History, channel_of, Config, RequestSource}
+use proofs.Imports.{ReleaseSource, Level, Prune, Report, Perm, Profile, prune_code, report_code, report_left, on_link}
+use proofs.Imports.{comes_in_release, broken_in_order, same_perm, broken_after, is_release, held, pending, request_of}
+use proofs.Imports.{illegal, same_block, zeros, acquisition, about, release, probe_ack, no_ack_grant, grant_opcode}
+use proofs.Imports.{level_of, is_busy, IsInvariant, Kind, ProbeAck, Release, Answer, Grant, ReleaseAck, Packet, View}
+use proofs.Imports.{ReleasePhase, ReleaseSent, ReleaseAcked, AcquirePhase, AcquireOpen, is_unreleased, Service}
+use proofs.Imports.{GrantSent, State, SourceState, view, packet, is_on, is_answered, is_acked, is_granting}
+use proofs.Imports.{is_acknowledging, is_unserved, is_releasing, acquire_opcode, IsCarried, is_requested, is_sunk}
+use proofs.Imports.{is_release_pending, AccessMessages, report_told, prune_told, block_message, message_of}
+use proofs.Imports.{message_of_kind, SimulationRelation, MonitorRelations, is_caching, IsGivenAsked, gives_asked, flow}
+use proofs.Imports.{Log, System}
 use Rattle.tl_rules.specs.statement.Conformance as rules
-use Rattle.tl_client.specs.statement.Endpoint.{zeros}
-use Rattle.tl_client.specs.statement.Send.{acquisition, about, release, probe_ack}
-use Rattle.tl_manager.{specs.statement.Handing.grant_opcode, proofs.pending.Answered.no_ack_grant}
-use Rattle.tl_coherence.specs.{refinement.AbstractStep.acquire_opcode, protocol.Invariant.IsInvariant}
-use Rattle.tl_coherence.specs.{protocol.Tokens.is_releasing}
-use Rattle.tl_coherence.specs.refinement.SimulationRelation.{IsGivenAsked, gives_asked}
-use Rattle.tl_coherence.proofs.{queues.Carried.IsNext, client.ClientDelivered.ack_next, queues.Facts.granting_alone}
-use Rattle.tl_coherence.proofs.{flow.FlowLawful.lawful-beat, queues.Phases.and_left, queues.Tokens.same_number}
-use Rattle.tl_coherence.proofs.{queues.Tokens.holds-first, protocol.BothParts.is_of-is}
-use Rattle.tl_coherence.proofs.{protocol.BothParts.quiet_unanswered, queues.Codes.access_kind}
-use Rattle.tl_coherence.proofs.{flow.ComingRequests.waits_on_a, flow.ComingRequests.not-coming_a}
-use Rattle.tl_coherence.proofs.client.ClientEnd.{is_access, asks-access, asks-acquire}
-use Rattle.tl_coherence.proofs.client.ClientTakes.{answers_acquire, fits_asked, fitting, has_data, next-legal}
-use Rattle.tl_coherence.proofs.protocol.HeadOfD.{IsAnswerDue, answer-due, IsGrantDue, grant-due, grant-rendered}
-use Rattle.tl_coherence.proofs.protocol.HeadOfD.{ack-due, grant_message, ack_message, own_view}
-use Rattle.tl_coherence.proofs.queues.FirstToken.{IsFirst, first-token, own_kind}
-use Rattle.tl_coherence.proofs.client.ResponseOrder.{answer-legal, grant-legal, ack-legal}
+use proofs.queues.{Carried.IsNext, Facts.granting_alone, Phases.and_left, Tokens.same_number, Codes.access_kind}
+use proofs.queues.{FirstToken.IsFirst, FirstToken.first-token, FirstToken.own_kind}
+use proofs.client.{ClientDelivered.ack_next, ClientEnd.is_access, ClientEnd.asks-access, ClientEnd.asks-acquire}
+use proofs.client.{ClientTakes.answers_acquire, ClientTakes.fits_asked, ClientTakes.fitting, ClientTakes.has_data}
+use proofs.client.{ClientTakes.next-legal, ResponseOrder.answer-legal, ResponseOrder.grant-legal}
+use proofs.client.{ResponseOrder.ack-legal}
+use proofs.flow.{FlowLawful.lawful-beat, ComingRequests.waits_on_a, ComingRequests.not-coming_a}
+use proofs.protocol.{BothParts.is_of-is, BothParts.quiet_unanswered, FirstTokens.first-shown}
+use proofs.protocol.HeadOfD.{IsAnswerDue, answer-due, IsGrantDue, grant-due, grant-rendered, ack-due, grant_message}
+use proofs.protocol.HeadOfD.{ack_message, own_view}
 
 -- ---- an answer
 
@@ -199,8 +188,7 @@ not-coming_c {w} {config} {mail} {s} {sys} c n h let_ acked = go (s.link c).c re
     each ProbeAck i rest first own = rendered_report w c i source s
     each Release i rest first own =
         rendered_release w c i source s
-        (differ i (holds-first Release (s.link c).c rest (packet Release i) (λ j. shown Release c (s.block j)) first
-        refl (h.invariant.transfers c Release refl)) ((s.block i).release_source c == source) refl)
+        (differ i (first-shown h.invariant c Release refl first) ((s.block i).release_source c == source) refl)
     each k i rest first own = absurd cc
 
     go : (xs : List Packet) → (s.link c).c ≡ xs → IsCarried rest_now (map (message_of mail s c) (s.link c).c)
@@ -298,8 +286,7 @@ legal_d {w} {config} {log} {mail} {request} {s} {sys} c x queue width h flowed b
         → broken_in_order config.profile x (flow c log) ≡ None
     ack n tokens next = legal_next c (ack_message ((s.block n).release_source c)) h flowed (ack_next c n s next)
         (flow-ack c n h flowed (ack-due c n first.rest h.invariant tokens)
-        (holds-first ReleaseAck (s.link c).d first.rest (packet ReleaseAck n) (λ i. shown ReleaseAck c (s.block i))
-        tokens refl (h.invariant.transfers c ReleaseAck refl)))
+        (first-shown h.invariant c ReleaseAck refl tokens))
 
     go : (k : Kind) (i : ℕ) → (s.link c).d ≡ packet k i ∷ first.rest → is_on Channel.D k ≡ true
         → IsNext x rest_now (message_of_kind k mail s c i) ms queue

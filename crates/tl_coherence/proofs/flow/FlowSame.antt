@@ -1,8 +1,9 @@
 -- What is delivered on a link, as an event leaves each value of it as it was, though the protocol's state is another.
-use Rattle.tl_coherence.proofs.flow.Imports.{Beat, BeatA, Channel, History, MonitorRelation, is_requested, is_let_by}
-use Rattle.tl_coherence.proofs.flow.Imports.{is_sunk, State, is_answered, cap_waited}
 use Rattle.std.proofs.Common.{◌≡◌, ℕ, true, Option, Some, sym, ◌∙◌, ap, List}
-use Rattle.tl_coherence.proofs.flow.FlowStep.{held_by, acquired_by, let_of, granted_by}
+use Rattle.tl_coherence.proofs
+use proofs.Imports.{Beat, BeatA, Channel, History, State, is_answered, MonitorRelation, is_requested, is_let_by}
+use proofs.Imports.{is_sunk, cap_waited}
+use proofs.flow.FlowStep.{held_by, acquired_by, let_of, granted_by}
 
 -- each value is as before
 pub record IsUntouched {w : ℕ} {X : Type 0} (asked asked' : ℕ → Option (BeatA w)) (rest : Channel → List (Beat w))

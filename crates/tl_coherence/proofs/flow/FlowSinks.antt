@@ -1,23 +1,18 @@
 -- A beat of channel E that is delivered breaks no rule after what was delivered before it: no Grant
 -- with its sink is still coming.
-use Rattle.tl_coherence.proofs.flow.Imports.{IsWidth, Beat, BeatE, Message, MessageA, MessageD, begun, unfinished}
-use Rattle.tl_coherence.proofs.flow.Imports.{channel_of, Config, Level, Cap, broken_after, comes_in_grant, on_link}
-use Rattle.tl_coherence.proofs.flow.Imports.{is_grant, illegal, level_of, IsCarried, flow, Log, Service, GrantSent}
-use Rattle.tl_coherence.proofs.flow.Imports.{GrantTaken, State, packet, shown, is_on, AccessMessages, message_of}
-use Rattle.tl_coherence.proofs.flow.Imports.{message_of_kind, block_message, System, Kind, Answer, Grant, ReleaseAck}
-use Rattle.tl_coherence.proofs.flow.Imports.{GrantAck, Packet, SimulationRelation, MonitorRelations, is_caching}
-use Rattle.tl_coherence.proofs.flow.Imports.{Channel}
 use Rattle.std.proofs.Common.{◌≡◌, ℕ, zero, suc, Bool, true, false, ◌&&◌, List, [], ◌∷◌, Some, None, refl, sym, ◌∙◌, ap}
-use Rattle.std.proofs.Common.{subst}
-use Rattle.std.{specs.Prelude.◌==◌, specs.Prelude.map, proofs.lemmas.Bool.ne_eqb, proofs.lemmas.Bool.and_right}
-use Rattle.std.{proofs.lemmas.Option.same_Some}
-use Rattle.tl_manager.specs.statement.Handing.{grant_opcode}
-use Rattle.tl_coherence.proofs.{queues.Carried.IsNext, queues.FirstToken.first-token, queues.FirstToken.own_kind}
-use Rattle.tl_coherence.proofs.{flow.FlowBeats.first_false, flow.FlowLawful.lawful-beat, flow.FlowLawful.next-flows}
-use Rattle.tl_coherence.proofs.{flow.FlowOrders.grant_ack-flows, manager.ManagedEndings.tracker-of}
-use Rattle.tl_coherence.proofs.{manager.ManagerTakes.by-first_e, queues.Tokens.holds-first}
-use Rattle.tl_coherence.proofs.{protocol.BothParts.acknowledging-is, queues.Codes.access_kind}
-use Rattle.tl_coherence.proofs.protocol.HeadOfD.{ack_message, answer-due, grant-due, grant-rendered, grant_message}
+use Rattle.std.proofs.Common.{subst, ne_eqb, ◌==◌, map}
+use Rattle.tl_coherence.proofs
+use proofs.Imports.{and_right, same_Some, Beat, BeatE, Channel, IsWidth, Message, MessageA, MessageD, begun, unfinished}
+use proofs.Imports.{channel_of, Config, Level, Cap, broken_after, comes_in_grant, on_link, is_grant, illegal}
+use proofs.Imports.{grant_opcode, level_of, Kind, Answer, Grant, ReleaseAck, GrantAck, Packet, Service, GrantSent}
+use proofs.Imports.{GrantTaken, State, packet, is_on, IsCarried, AccessMessages, message_of, message_of_kind}
+use proofs.Imports.{block_message, SimulationRelation, MonitorRelations, is_caching, flow, Log, System}
+use proofs.queues.{Carried.IsNext, FirstToken.first-token, FirstToken.own_kind, Codes.access_kind}
+use proofs.flow.{FlowBeats.first_false, FlowLawful.lawful-beat, FlowLawful.next-flows, FlowOrders.grant_ack-flows}
+use proofs.manager.{ManagedEndings.tracker-of, ManagerTakes.by-first_e}
+use proofs.protocol.{BothParts.acknowledging-is, HeadOfD.ack_message, HeadOfD.answer-due, HeadOfD.grant-due}
+use proofs.protocol.{HeadOfD.grant-rendered, HeadOfD.grant_message, FirstTokens.first-shown}
 
 -- the message is no Grant with this sink
 IsElse : {w : ℕ} → ℕ → Message w → Type 0
@@ -115,8 +110,7 @@ ack-lawful : {w : ℕ} {config : Config} {log : Log w} {mail : AccessMessages w}
 unfolding block_message
 ack-lawful {w} {config} {log} {mail} {request} {s} {sys} c n toks l {x} {ms} {queue} is flowed lawful tokens next =
     let y : BeatE = record { sink = (s.block n).tracker } in
-    let shows = holds-first GrantAck (s.link c).e toks (packet GrantAck n) (λ i. shown GrantAck c (s.block i)) tokens
-    refl (is.invariant.transfers c GrantAck refl) in
+    let shows = first-shown is.invariant c GrantAck refl tokens in
     let taken : (s.block n).service ≡ GrantTaken c = acknowledging-is (s.block n).service c shows in
     next-flows l config.profile
     (flow c log) lawful next

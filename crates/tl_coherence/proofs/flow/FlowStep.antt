@@ -1,15 +1,14 @@
 -- What is delivered on a link, with one more beat: each value of it is as the beat leaves it.
-use Rattle.tl_coherence.proofs.flow.Imports.{Beat, BeatA, Channel, History, unfinished, on, grown, RequestSource}
-use Rattle.tl_coherence.proofs.flow.Imports.{ReleaseSource, Perm, begins, ends, pending, held, block_at, request_of}
-use Rattle.tl_coherence.proofs.flow.Imports.{release_of, probe_of, grant_sink, MonitorRelation, is_requested}
-use Rattle.tl_coherence.proofs.flow.Imports.{is_release_pending, is_let_by, is_sunk, comes_granting, Block, State, view}
-use Rattle.tl_coherence.proofs.flow.Imports.{is_granting, is_acknowledging, is_answered, is_wanting, is_unserved}
-use Rattle.tl_coherence.proofs.flow.Imports.{probe_beat, cap_waited}
 use Rattle.std.proofs.Common.{◌≡◌, ℕ, Bool, true, false, not, ◌&&◌, ◌||◌, ◌∷◌, Option, Some, refl, sym, ◌∙◌, List}
-use Rattle.std.specs.Prelude.{if◌then◌else◌, option_map, unwrap_or}
-use Rattle.tl_params.specs.declared.key.Key.{Key}
-use Rattle.tl_params.specs.declared.key.Key.TheVariants.{AcquireOf, ReleaseOf, GrantSink, GrantAckOf, ProbeOf}
-use Rattle.tl_rules.specs.statement.History.{opens, closes, says_held}
+use Rattle.std.proofs.Common.{if◌then◌else◌, option_map, unwrap_or}
+use Rattle.tl_coherence.proofs
+use proofs.Imports.{Beat, BeatA, Channel, History, unfinished, grown, Key, RequestSource, ReleaseSource, AcquireOf}
+use proofs.Imports.{ReleaseOf, GrantSink, GrantAckOf, ProbeOf, Perm, begins, ends, pending, held, block_at, request_of}
+use proofs.Imports.{release_of, probe_of, grant_sink, opens, closes, Block, State, view, is_granting, is_acknowledging}
+use proofs.Imports.{is_answered, is_wanting, is_unserved, comes_granting, MonitorRelation, is_requested}
+use proofs.Imports.{is_release_pending, is_let_by, is_sunk, probe_beat, cap_waited}
+use Rattle.tl_burst.specs.statement.Messages.{on}
+use Rattle.tl_rules.specs.statement.History.{says_held}
 
 -- a key that was pending so, after a beat that begins and completes its message so and opens and closes the key so
 abbrev pub step : Bool → Bool → Bool → Bool → Bool → Bool

@@ -1,11 +1,11 @@
 -- Which sinks are those of Grants that were delivered, as an event changes one block and its tracker.
-use Rattle.tl_coherence.proofs.flow.Imports.{Beat, comes_in_grant, is_sunk, View, Own, Granting, Acknowledging, Block}
-use Rattle.tl_coherence.proofs.flow.Imports.{State, view, is_granting, is_acknowledging, set}
 use Rattle.std.proofs.Common.{◌≡◌, ℕ, Bool, true, false, ◌&&◌, ◌||◌, Option, Some, None, refl, sym, ◌∙◌, ap, List, ◌⊎◌}
 use Rattle.std.proofs.Common.{inl, inr}
-use Rattle.std.proofs.lemmas.Bool.{cases_eq}
-use Rattle.tl_coherence.proofs.{flow.FlowOthers.is_outside, flow.FlowReleased.AreElsewhere, queues.Tokens.set-same}
-use Rattle.tl_coherence.proofs.{queues.Tokens.set-other}
+use Rattle.tl_coherence.proofs
+use proofs.Imports.{cases_eq, Beat, comes_in_grant, set, View, Own, Granting, Acknowledging, Block, State, view}
+use proofs.Imports.{is_granting, is_acknowledging, is_sunk}
+use proofs.flow.{FlowOthers.is_outside, FlowReleased.AreElsewhere}
+use proofs.queues.Tokens.{set-same, set-other}
 
 -- the Grant of the block, if it has this sink, was delivered to client c, and its GrantAck wasn't
 abbrev pub sunk_in : {w : ℕ} {X : Type 0} → ℕ → ℕ → List (Beat w) → Block X → Bool

@@ -1,18 +1,17 @@
 -- Each beat that is taken was first on its channel: what holds of all that are holds of what is delivered.
-use Rattle.tl_coherence.proofs.flow.Imports.{Beat, Channel, History, IsWidth, channel_of, Config, AbstractState, Log}
-use Rattle.tl_coherence.proofs.flow.Imports.{SimulationRelation, flow}
-use Rattle.std.proofs.Common.{◌≡◌, ℕ, Bool, true, false, List, [], ◌∷◌, Some, refl, sym, ◌∙◌, ap}
-use Rattle.std.specs.Prelude.{◌++◌, ◌==◌, if◌then◌else◌}
-use Rattle.tl_beat.specs.declared.beat.Link.{Link}
-use Rattle.tl_client.{specs.declared.verdict.Finish.Finish, specs.statement.Endpoint.EndConfig}
-use Rattle.tl_coherence.specs.{declared.event.Event.Event, declared.event.Event.TheVariants.Deliver}
-use Rattle.tl_coherence.specs.{declared.event.Outcome.Outcome, statement.Draining.is_moving, statement.Headline.IsGiven}
-use Rattle.tl_coherence.specs.{statement.Log.IsLog, statement.Log.system_after, statement.Step.stepped}
-use Rattle.tl_coherence.specs.{statement.Step.is_to_client, statement.System.terms_at}
-use Rattle.tl_coherence.specs.statement.Flow.{taken_at, IsTaken, EachTaken}
-use Rattle.tl_coherence.proofs.{bound.Settling.given-before, deliveries.Matching.shadow, flow.FlowReceived.moved-on}
-use Rattle.tl_coherence.proofs.{links.FromInvariant.matched-given, links.HeadsOfLinks.first-of}
-use Rattle.tl_coherence.proofs.{outstanding.Outstanding.first-moved, queues.Tokens.same_number}
+use Rattle.std.proofs.Common.{◌≡◌, ℕ, Bool, true, false, List, ◌∷◌, Some, refl, sym, ◌∙◌, ap, ◌++◌, ◌==◌, if◌then◌else◌}
+use Rattle.std.proofs.Common.{[]}
+use Rattle.tl_coherence.proofs
+use proofs.Imports.{Beat, Link, Channel, IsWidth, History, channel_of, Config, Finish, EndConfig, Event, Deliver}
+use proofs.Imports.{Outcome, AbstractState, SimulationRelation, is_moving, flow, taken_at, IsGiven, Log, system_after}
+use proofs.Imports.{stepped, is_to_client, terms_at}
+use Rattle.tl_coherence.specs.{statement.Flow.IsTaken, statement.Flow.EachTaken, statement.Log.IsLog}
+use proofs.bound.Settling.{given-before}
+use proofs.deliveries.Matching.{shadow}
+use proofs.flow.FlowReceived.{moved-on}
+use proofs.links.{FromInvariant.matched-given, HeadsOfLinks.first-of}
+use proofs.outstanding.Outstanding.{first-moved}
+use proofs.queues.Tokens.{same_number}
 
 first_of_two : {w : ℕ} (x y : Beat w) (t : History w) → x ∷ t ≡ y ∷ t → y ≡ x
 first_of_two x y t e = cc

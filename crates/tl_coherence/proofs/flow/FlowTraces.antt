@@ -1,21 +1,18 @@
 -- What is delivered, on all links at once, has no first fault.
-use Rattle.tl_coherence.proofs.flow.Imports.{Beat, Channel, History, Config, Level, Profile, broken_after, on_link}
-use Rattle.tl_coherence.proofs.flow.Imports.{level_of, flow, Log}
-use Rattle.std.proofs.Common.{◌≡◌, ℕ, Bool, true, false, ◌&&◌, List, [], ◌∷◌, ◌++◌, refl, sym, ◌∙◌, ap, subst}
-use Rattle.std.proofs.Common.{append_assoc}
-use Rattle.std.specs.Prelude.{◌==◌, if◌then◌else◌, Option, Some, None, is_none, reverse, slice_get, ⊤}
-use Rattle.std.{proofs.lemmas.Bool.eqb-false, proofs.lemmas.Option.slice_get-map}
-use Rattle.std.proofs.lemmas.List.{append-nil, reverse-append, reverse-reverse}
-use Rattle.tl_beat.specs.declared.beat.Link.{Link}
-use Rattle.tl_params.{specs.declared.config.ClientConfig.ClientConfig, specs.declared.rule.Rule.Rule}
-use Rattle.tl_rules.specs.statement.Conformance.{Trace, broken_at_level, broken_on_link, fault_from, is_legal}
-use Rattle.tl_coherence.specs.{declared.event.Event.Event, declared.event.Outcome.Outcome, statement.Delivery.Faultless}
-use Rattle.tl_coherence.specs.{statement.Delivery.levels_of, statement.Draining.is_moving, statement.Headline.IsGiven}
-use Rattle.tl_coherence.specs.{statement.Log.IsLog, statement.Log.system_after}
-use Rattle.tl_coherence.specs.declared.event.Event.TheVariants.{Ask, Deliver}
-use Rattle.tl_coherence.specs.statement.Flow.{taken_at, taken_on, trace_of}
-use Rattle.tl_coherence.proofs.{bound.Settling.given-before, flow.Flows.flows, outstanding.Outstanding.first-moved}
-use Rattle.tl_coherence.proofs.{simulation.BeatsInFlight.level-terms}
+use Rattle.std.proofs.Common.{◌≡◌, ℕ, Bool, true, false, ◌&&◌, List, [], ◌∷◌, ◌++◌, refl, sym, ◌∙◌, ap, subst, Option}
+use Rattle.std.proofs.Common.{Some, None, append_assoc, append-nil, ◌==◌, if◌then◌else◌, is_none, reverse, slice_get}
+use Rattle.tl_coherence.proofs
+use proofs.Imports.{eqb-false, reverse-append, ⊤, Beat, Link, Channel, History, ClientConfig, Config, Level, Profile}
+use proofs.Imports.{Rule, broken_after, on_link, Trace, level_of, Event, Ask, Deliver, Outcome, is_moving, flow}
+use proofs.Imports.{taken_at, taken_on, IsGiven, Log, system_after}
+use Rattle.std.{proofs.lemmas.List.reverse-reverse, proofs.lemmas.Option.slice_get-map}
+use Rattle.tl_rules.specs.statement.Conformance.{broken_at_level, broken_on_link, fault_from, is_legal}
+use Rattle.tl_coherence.specs.{statement.Delivery.Faultless, statement.Delivery.levels_of, statement.Flow.trace_of}
+use Rattle.tl_coherence.specs.{statement.Log.IsLog}
+use proofs.bound.Settling.{given-before}
+use proofs.flow.Flows.{flows}
+use proofs.outstanding.Outstanding.{first-moved}
+use proofs.simulation.BeatsInFlight.{level-terms}
 
 -- ---- the beats of all links, and those of one
 

@@ -1,36 +1,27 @@
 -- What is delivered on each link has the values of the protocol after every event, and so breaks no rule.
-use Rattle.tl_coherence.proofs.flow.Imports.{IsWidth, Beat, Channel, History, completes, Config, Level, Profile}
-use Rattle.tl_coherence.proofs.flow.Imports.{broken_after, level_of, flow, MonitorRelation, AbstractState, kind_taken}
-use Rattle.tl_coherence.proofs.flow.Imports.{Log, packet, message_of, System, SimulationRelation, MonitorRelations}
-use Rattle.tl_coherence.proofs.flow.Imports.{asked_by}
 use Rattle.std.proofs.Common.{◌≡◌, subst, ℕ, Bool, true, false, List, [], ◌∷◌, Option, Some, None, refl, sym, ◌∙◌, ap}
-use Rattle.std.proofs.Common.{inl, inr}
-use Rattle.std.specs.Prelude.{◌==◌, if◌then◌else◌, map}
-use Rattle.std.proofs.lemmas.Bool.{cases_eq, ne_eqb, eqb-true}
-use Rattle.tl_beat.specs.declared.beat.Link.{Link}
+use Rattle.std.proofs.Common.{inl, inr, ne_eqb, eqb-true, ◌==◌, if◌then◌else◌, map}
+use Rattle.tl_coherence.proofs
+use proofs.Imports.{cases_eq, Beat, Link, Channel, IsWidth, History, completes, Config, Level, Profile, broken_after}
+use proofs.Imports.{unfinished-asked, Op, EndConfig, level_of, Event, Ask, Deliver, Outcome, packet, on, AbstractState}
+use proofs.Imports.{kind_taken, abstract_step, abstract_step_by, asked, MonitorRelation, message_of, SimulationRelation}
+use proofs.Imports.{MonitorRelations, asked_by, is_moving, flow, IsGiven, Log, system_after, Step, stepped, replied}
+use proofs.Imports.{is_to_client, System, terms_at}
 use Rattle.tl_rules.specs.statement.Conformance.{is_legal}
-use Rattle.tl_client.{specs.declared.operation.Op.Op, specs.statement.Endpoint.EndConfig}
-use Rattle.tl_client.{proofs.endpoint.Outstanding.unfinished-asked}
+use Rattle.tl_coherence.specs.{statement.Headline.AreTyped, statement.Log.IsLog}
 use Rattle.tl_client.specs.statement.Ask as ask
-use Rattle.tl_coherence.specs.{declared.event.Event.Event, declared.event.Outcome.Outcome, statement.Draining.is_moving}
-use Rattle.tl_coherence.specs.{statement.Headline.AreTyped, statement.Headline.IsGiven, statement.Log.IsLog}
-use Rattle.tl_coherence.specs.{statement.Log.system_after, protocol.Protocol.on, statement.System.terms_at}
-use Rattle.tl_coherence.specs.declared.event.Event.TheVariants.{Ask, Deliver}
-use Rattle.tl_coherence.specs.refinement.AbstractStep.{abstract_step, abstract_step_by, asked}
-use Rattle.tl_coherence.specs.statement.Step.{Step, stepped, replied, is_to_client}
-use Rattle.tl_coherence.proofs.{deliveries.AskedWell.asked-well, client.ManagerStep.on_same}
-use Rattle.tl_coherence.proofs.{links.FifoOfChannels.flow_still, flow.FlowAlone.AreRests, flow.FlowAsking.flowed-asked}
-use Rattle.tl_coherence.proofs.{flow.FlowKinds.FlowsAs, flow.FlowKinds.other-kind, flow.FlowOwn.own-kind}
-use Rattle.tl_coherence.proofs.{flow.FlowLawful.flows-b, flow.FlowLawful.flows-c, flow.FlowRequests.flows-a}
-use Rattle.tl_coherence.proofs.{flow.FlowResponses.flows-d, flow.FlowSame.flowed-rests, flow.FlowSinks.flows-e}
-use Rattle.tl_coherence.proofs.{protocol.FollowKept.IsReady, deliveries.DeliverDAfter.followed-still}
-use Rattle.tl_coherence.proofs.{deliveries.DeliverDUnmoved.unmoved, simulation.Fresh.fresh-flowed}
-use Rattle.tl_coherence.proofs.{deliveries.FirstRequest.arrival-first, queues.Landed.handed-client}
-use Rattle.tl_coherence.proofs.{outstanding.Outstanding.first-moved, manager.UnwaitedRequests.next_tracker}
-use Rattle.tl_coherence.proofs.{queues.Steps.stepped-asked, queues.Tokens.same_number, simulation.Popped.unfinished_at}
-use Rattle.tl_coherence.proofs.{flow.FlowReceived.IsMovedOn, flow.FlowReceived.moved-on}
-use Rattle.tl_coherence.proofs.deliveries.InvariantKept.{request-moves, ready-delivered}
-use Rattle.tl_coherence.proofs.deliveries.Matching.{shadow, matched, stepped-nobody}
+use proofs.deliveries.{AskedWell.asked-well, DeliverDAfter.followed-still, DeliverDUnmoved.unmoved}
+use proofs.deliveries.{FirstRequest.arrival-first, InvariantKept.request-moves, InvariantKept.ready-delivered}
+use proofs.deliveries.{Matching.shadow, Matching.matched, Matching.stepped-nobody}
+use proofs.links.FifoOfChannels.{flow_still}
+use proofs.flow.{FlowAlone.AreRests, FlowAsking.flowed-asked, FlowKinds.FlowsAs, FlowKinds.other-kind, FlowOwn.own-kind}
+use proofs.flow.{FlowLawful.flows-b, FlowLawful.flows-c, FlowRequests.flows-a, FlowResponses.flows-d}
+use proofs.flow.{FlowSame.flowed-rests, FlowSinks.flows-e, FlowReceived.IsMovedOn, FlowReceived.moved-on}
+use proofs.protocol.Events.{IsReady}
+use proofs.simulation.{Fresh.fresh-flowed, Popped.unfinished_at}
+use proofs.queues.{Landed.handed-client, Steps.stepped-asked, Tokens.same_number, KindMoves.on_same}
+use proofs.outstanding.Outstanding.{first-moved}
+use proofs.manager.UnwaitedRequests.{next_tracker}
 
 -- ---- what is delivered after a delivery
 

@@ -1,24 +1,20 @@
 -- What all links carry together: at a Grant the others hold no more than it leaves them.
-use Rattle.tl_coherence.proofs.flow.Imports.{Beat, BeatD, History, channel_of, unfinished, Config, Perm, Log, Cap}
-use Rattle.tl_coherence.proofs.flow.Imports.{on_link, same_perm, held, View, Granting, GrantedOther, Block, Service}
-use Rattle.tl_coherence.proofs.flow.Imports.{GrantSent, view, is_granting, AbstractState, SimulationRelation, flow}
-use Rattle.tl_coherence.proofs.flow.Imports.{MonitorRelations, is_unprobed, is_unreleased, Channel}
 use Rattle.std.proofs.Common.{◌≡◌, ℕ, zero, suc, Bool, true, false, List, ◌∷◌, Some, refl, sym, ◌∙◌, ap, subst, inl}
-use Rattle.std.proofs.Common.{inr, ◌||◌}
-use Rattle.std.specs.Prelude.{◌==◌, if◌then◌else◌, length, Option}
-use Rattle.std.proofs.lemmas.Bool.{cases_eq, eq-eqb, ne_eqb, or_right}
-use Rattle.tl_params.specs.statement.Param.{cap_right}
-use Rattle.tl_rules.{specs.statement.Conformance.Trace, specs.statement.History.grants, specs.statement.History.capped}
-use Rattle.tl_rules.specs.statement.Windows.{leaves, is_spared, is_free}
-use Rattle.tl_manager.proofs.blocks.Recording.{cap-gives}
-use Rattle.tl_coherence.specs.{statement.Flow.trace_of, statement.Headline.IsGiven, statement.Log.system_after}
-use Rattle.tl_coherence.specs.{statement.Permissions.perm_le}
+use Rattle.std.proofs.Common.{inr, ◌||◌, length, Option, ne_eqb, ◌==◌, if◌then◌else◌, eq-eqb}
+use Rattle.tl_coherence.proofs
+use proofs.Imports.{cases_eq, or_right, Beat, BeatD, Channel, History, channel_of, unfinished, Config, Cap, Perm}
+use proofs.Imports.{cap_right, on_link, same_perm, Trace, held, grants, capped, leaves, cap-gives, View, Granting}
+use proofs.Imports.{GrantedOther, is_unprobed, is_unreleased, Block, Service, GrantSent, view, is_granting}
+use proofs.Imports.{AbstractState, SimulationRelation, MonitorRelations, flow, trace_of, IsGiven, Log, system_after}
+use proofs.Imports.{perm_le}
+use Rattle.tl_rules.specs.statement.Windows.{is_spared, is_free}
 use Rattle.tl_coherence.specs.statement.OneWriter.{IsGivenAlone, IsOneWriter, IsApart}
-use Rattle.tl_coherence.proofs.{deliveries.Matching.shadow, flow.FlowBeats.same_perms, flow.FlowStep.held_by}
-use Rattle.tl_coherence.proofs.{flow.FlowTaken.each-taken, flow.FlowTraces.trace-flows, flow.Flows.flowed}
-use Rattle.tl_coherence.proofs.{links.FromInvariant.matched-given, flow.NextOnD.IsGrantBeat, flow.NextOnD.grant-next}
-use Rattle.tl_coherence.proofs.{protocol.HeadOfD.IsGrantDue, protocol.HeadOfD.own_view, queues.Facts.granting_alone}
-use Rattle.tl_coherence.proofs.{queues.Facts.held_at_most, queues.Phases.and_right}
+use proofs.deliveries.Matching.{shadow}
+use proofs.flow.{FlowBeats.same_perms, FlowStep.held_by, FlowTaken.each-taken, FlowTraces.trace-flows, Flows.flowed}
+use proofs.flow.{NextOnD.IsGrantBeat, NextOnD.grant-next}
+use proofs.links.FromInvariant.{matched-given}
+use proofs.protocol.HeadOfD.{IsGrantDue, own_view}
+use proofs.queues.{Facts.granting_alone, Facts.held_at_most, Phases.and_right, Perms.none_below, Perms.trunk_below}
 
 -- ---- all links
 
@@ -52,19 +48,6 @@ held_by_most c b v e =
     let go : (x : Bool) (p : Perm) → perm_le (b.pair c).held p ≡ true → perm_le (if x then (b.pair c).held else p) p
     ≡ true = elim [ true ↦ λ p f. f | false ↦ λ p f. same p ] in
     go (is_granting v) (b.pair c).recorded e
-
-trunk_below : (p q : Perm) → perm_le p q ≡ true → p ≡ Perm.Trunk → same_perm q Perm.Trunk ≡ true
-trunk_below p Perm.Trunk e f = refl
-trunk_below p q e f = absurd (let no : false ≡ true = rw f at e in cc)
-
-none_above : (p q : Perm) → perm_le p q ≡ true → same_perm q Perm.None ≡ true → p ≡ Perm.None
-none_above Perm.None q e f = refl
-none_above Perm.Branch Perm.None e f = absurd cc
-none_above Perm.Branch Perm.Branch e f = absurd cc
-none_above Perm.Branch Perm.Trunk e f = absurd cc
-none_above Perm.Trunk Perm.None e f = absurd cc
-none_above Perm.Trunk Perm.Branch e f = absurd cc
-none_above Perm.Trunk Perm.Trunk e f = absurd cc
 
 -- ---- a beat of a Grant that is next on channel D
 
@@ -147,7 +130,7 @@ one-writer {w} {config} {log} given one other n ne trunk =
     cc (
       trace-flows other log,
       values other,
-      none_above (held_by other b) (b.pair other).recorded (most other)
+      none_below (held_by other b) (b.pair other).recorded (most other)
           ((at.invariant.blocks n).one_owner one other (trunk_below (held_by one b) (b.pair one).recorded (most one)
           (sym (values one) ∙ sym (ap (held n) (trace-flows one log)) ∙ trunk)) ne),
     )

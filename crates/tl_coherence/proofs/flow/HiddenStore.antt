@@ -1,18 +1,17 @@
 -- A client stores to its copy only where its link holds Trunk.
-use Rattle.tl_coherence.proofs.flow.Imports.{AbstractState, Perm, SimulationRelation, block_at, held, is_granting, view}
-use Rattle.tl_coherence.proofs.flow.Imports.{is_caching, Block}
-use Rattle.std.proofs.Common.{◌≡◌, ℕ, Bool, true, false, List, refl, sym, ◌∙◌, ap, subst}
-use Rattle.std.specs.Prelude.{if◌then◌else◌, Option, Some, None}
-use Rattle.tl_client.{specs.declared.operation.Op.Op, specs.declared.reply.Reply.Reply}
-use Rattle.tl_client.{specs.statement.Endpoint.EndConfig}
+use Rattle.std.proofs.Common.{◌≡◌, ℕ, Bool, true, false, List, refl, sym, ◌∙◌, ap, subst, Option, Some, None}
+use Rattle.std.proofs.Common.{if◌then◌else◌}
+use Rattle.tl_coherence.proofs
+use proofs.Imports.{Perm, block_at, held, Op, Reply, EndConfig, Ask, Outcome, view, Block, is_granting, AbstractState}
+use proofs.Imports.{SimulationRelation, is_caching, system_after, perm_le, Step, terms_at}
+use Rattle.tl_coherence.specs.statement.HiddenStores.{HiddenStores}
 use Rattle.tl_client.specs.statement.Ask as ask
-use Rattle.tl_coherence.specs.{declared.event.Event.TheVariants.Ask, declared.event.Outcome.Outcome}
-use Rattle.tl_coherence.specs.{statement.HiddenStores.HiddenStores, statement.Log.system_after}
-use Rattle.tl_coherence.specs.{statement.Permissions.perm_le, statement.Step.Step, statement.System.terms_at}
-use Rattle.tl_coherence.proofs.{client.Askable.askable, deliveries.Matching.shadow, deliveries.Matching.stepped-nobody}
-use Rattle.tl_coherence.proofs.{flow.FlowBeats.same_perms, flow.FlowTraces.trace-flows, flow.Flows.flowed}
-use Rattle.tl_coherence.proofs.{links.FromInvariant.matched-given, protocol.FollowKept.IsAskable}
-use Rattle.tl_coherence.proofs.{queues.Facts.held_at_most, queues.Steps.stepped-asked}
+use proofs.client.Askable.{askable}
+use proofs.deliveries.Matching.{shadow, stepped-nobody}
+use proofs.flow.{FlowBeats.same_perms, FlowTraces.trace-flows, Flows.flowed}
+use proofs.links.FromInvariant.{matched-given}
+use proofs.protocol.FollowKept.{IsAskable}
+use proofs.queues.{Facts.held_at_most, Steps.stepped-asked}
 
 -- who holds Trunk holds it by what was delivered too
 still_trunk : (granting : Bool) (held recorded : Perm) → perm_le held recorded ≡ true → held ≡ Perm.Trunk

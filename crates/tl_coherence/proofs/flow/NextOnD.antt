@@ -1,20 +1,17 @@
 -- The beat that is next on channel D of a client's link: one of an answer, of a Grant, or of a ReleaseAck.
-use Rattle.tl_coherence.proofs.flow.Imports.{Beat, BeatD, IsWidth, unfinished, Config, Message, MessageD, beat_of}
-use Rattle.tl_coherence.proofs.flow.Imports.{begun, is_grant, asks_for, request_of, View, Block, State, SourceState}
-use Rattle.tl_coherence.proofs.flow.Imports.{packet, is_on, is_unserved, is_requested, AbstractState, receiver}
-use Rattle.tl_coherence.proofs.flow.Imports.{message_of, message_of_kind, block_message, Kind, Answer, Grant}
-use Rattle.tl_coherence.proofs.flow.Imports.{ReleaseAck, flow, same_block, SimulationRelation, MonitorRelations}
-use Rattle.tl_coherence.proofs.flow.Imports.{is_caching, asked_by, Log, Channel}
-use Rattle.std.proofs.Common.{◌≡◌, ℕ, true, false, not, List, ◌∷◌, refl, sym, ◌∙◌, ap, subst}
-use Rattle.std.{specs.Prelude.◌==◌, specs.Prelude.map, specs.Prelude.length, proofs.lemmas.Bool.eqb-true}
-use Rattle.tl_burst.{specs.statement.Burst.d_beat_of, proofs.Begun.length-begun}
-use Rattle.tl_rules.specs.statement.History.{grants}
-use Rattle.tl_coherence.specs.statement.Log.{system_after}
-use Rattle.tl_coherence.proofs.{client.ClientEnd.asks-acquire, queues.Carried.IsNext, queues.Codes.access_kind}
-use Rattle.tl_coherence.proofs.{queues.FirstToken.IsFirst, queues.FirstToken.first-token, queues.Phases.and_left}
-use Rattle.tl_coherence.proofs.{queues.Phases.and_right}
-use Rattle.tl_coherence.proofs.protocol.HeadOfD.{IsAnswerDue, IsGrantDue, ack_message, answer-due, grant-due}
-use Rattle.tl_coherence.proofs.protocol.HeadOfD.{grant-rendered, grant_message, own_view}
+use Rattle.std.proofs.Common.{◌≡◌, ℕ, true, false, not, List, ◌∷◌, refl, sym, ◌∙◌, ap, subst, length, eqb-true, ◌==◌}
+use Rattle.std.proofs.Common.{map}
+use Rattle.tl_coherence.proofs
+use proofs.Imports.{Beat, BeatD, Channel, IsWidth, length-begun, Message, MessageD, beat_of, begun, d_beat_of}
+use proofs.Imports.{unfinished, Config, is_grant, asks_for, request_of, grants, same_block, Kind, Answer, Grant}
+use proofs.Imports.{ReleaseAck, View, Block, State, SourceState, packet, is_on, is_unserved, AbstractState}
+use proofs.Imports.{is_requested, message_of, message_of_kind, block_message, SimulationRelation, MonitorRelations}
+use proofs.Imports.{is_caching, asked_by, receiver, flow, Log, system_after}
+use proofs.client.ClientEnd.{asks-acquire}
+use proofs.queues.{Carried.IsNext, Codes.access_kind, FirstToken.IsFirst, FirstToken.first-token, Phases.and_left}
+use proofs.queues.{Phases.and_right}
+use proofs.protocol.HeadOfD.{IsAnswerDue, IsGrantDue, ack_message, answer-due, grant-due, grant-rendered, grant_message}
+use proofs.protocol.HeadOfD.{own_view}
 
 -- the Grant of the block that is on its way to the client
 abbrev pub grant_sent : {w : ℕ} (c n : ℕ) (s : State (List ℕ)) → IsGrantDue c n s → MessageD w

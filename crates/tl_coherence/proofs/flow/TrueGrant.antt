@@ -1,18 +1,14 @@
 -- Each beat of a GrantData has bytes of the one memory.
-use Rattle.tl_coherence.proofs.flow.Imports.{Beat, BeatD, History, channel_of, unfinished, Config, Log, AbstractState}
-use Rattle.tl_coherence.proofs.flow.Imports.{SimulationRelation, flow, Channel}
-use Rattle.std.proofs.Common.{◌≡◌, ℕ, Bool, true, false, List, ◌∷◌, refl, sym, ◌∙◌, ap, subst}
-use Rattle.std.specs.Prelude.{length}
-use Rattle.tl_beat.specs.declared.opcode.OpD.{OpD}
-use Rattle.tl_burst.specs.statement.Burst.{lanes_at}
-use Rattle.tl_rules.{specs.statement.Effect.IsBlock, specs.statement.History.grants}
-use Rattle.tl_manager.specs.statement.Handing.{grant_opcode}
-use Rattle.tl_coherence.specs.{statement.Flow.trace_of, statement.Headline.IsGiven, statement.Log.system_after}
-use Rattle.tl_coherence.specs.{statement.OneMemory.one_memory_after, statement.TrueGrants.IsTrueGrant}
-use Rattle.tl_coherence.specs.{statement.TrueGrants.TrueGrants}
-use Rattle.tl_coherence.proofs.{deliveries.Matching.shadow, flow.FlowTaken.each-taken, flow.FlowTraces.trace-flows}
-use Rattle.tl_coherence.proofs.{flow.Flows.flowed, flow.NextOnD.IsGrantBeat, flow.NextOnD.grant-next}
-use Rattle.tl_coherence.proofs.{links.FromInvariant.matched-given, protocol.HeadOfD.IsGrantDue}
+use Rattle.std.proofs.Common.{◌≡◌, ℕ, Bool, true, false, List, ◌∷◌, refl, sym, ◌∙◌, ap, subst, length}
+use Rattle.tl_coherence.proofs
+use proofs.Imports.{Beat, BeatD, Channel, OpD, lanes_at, History, channel_of, unfinished, Config, IsBlock, grants}
+use proofs.Imports.{grant_opcode, AbstractState, SimulationRelation, flow, trace_of, IsGiven, Log, system_after}
+use proofs.Imports.{one_memory_after}
+use Rattle.tl_coherence.specs.statement.TrueGrants.{IsTrueGrant, TrueGrants}
+use proofs.deliveries.Matching.{shadow}
+use proofs.flow.{FlowTaken.each-taken, FlowTraces.trace-flows, Flows.flowed, NextOnD.IsGrantBeat, NextOnD.grant-next}
+use proofs.links.FromInvariant.{matched-given}
+use proofs.protocol.HeadOfD.{IsGrantDue}
 
 with_data_only : (x : Bool) → grant_opcode x ≡ OpD.GrantData → x ≡ true
 with_data_only true e = refl

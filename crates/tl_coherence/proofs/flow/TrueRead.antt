@@ -1,27 +1,20 @@
 -- Each beat of an AccessAckData has bytes that the one memory had in a window of its access.
-use Rattle.tl_coherence.proofs.flow.Imports.{Beat, BeatA, BeatD, Message, MessageA, MessageD, channel_of, unfinished}
-use Rattle.tl_coherence.proofs.flow.Imports.{Config, Log, AbstractState, SimulationRelation, MonitorRelations, Replied}
-use Rattle.tl_coherence.proofs.flow.Imports.{SourceState, System, block_at, flow, level_of, on_link, request_of}
-use Rattle.tl_coherence.proofs.flow.Imports.{a_beat_of, Channel}
 use Rattle.std.proofs.Common.{◌≡◌, ℕ, Bool, true, false, List, [], ◌∷◌, ◌⊎◌, Some, None, refl, sym, ◌∙◌, ap, subst, inl}
-use Rattle.std.proofs.Common.{inr}
-use Rattle.std.specs.Prelude.{◌%◌, ◌^◌, Option, is_some, length}
-use Rattle.tl_beat.{specs.declared.opcode.OpA.OpA, specs.declared.opcode.OpD.OpD}
-use Rattle.tl_burst.specs.statement.Burst.{d_beat_of, lanes_at}
-use Rattle.tl_rules.{specs.code.Open.open_request, specs.statement.Windows.is_free, specs.statement.Windows.needs}
-use Rattle.tl_rules.specs.statement.Effect.{Memory, access_result, answer_of, as_payload, bytes_from, effect}
-use Rattle.tl_manager.specs.code.Kept.{illegal_message_at}
-use Rattle.tl_manager.specs.statement.Handing.{access_answer, grant_opcode}
-use Rattle.tl_coherence.specs.{refinement.AbstractStep.answers, refinement.SimulationRelation.IsSourced}
-use Rattle.tl_coherence.specs.{statement.Flow.trace_of, statement.Headline.IsGiven, statement.Log.system_after}
-use Rattle.tl_coherence.specs.{statement.OneMemory.one_memory_after}
+use Rattle.std.proofs.Common.{inr, ◌%◌, ◌^◌, Option, length, is_some}
+use Rattle.tl_coherence.proofs
+use proofs.Imports.{Beat, BeatA, BeatD, Channel, OpA, OpD, Message, MessageA, MessageD, a_beat_of, d_beat_of, lanes_at}
+use proofs.Imports.{channel_of, unfinished, Config, open_request, on_link, Memory, answer_of, as_payload, bytes_from}
+use proofs.Imports.{effect, block_at, request_of, is_free, needs, illegal_message_at, access_answer, grant_opcode}
+use proofs.Imports.{level_of, Replied, SourceState, AbstractState, answers, SimulationRelation, MonitorRelations}
+use proofs.Imports.{IsSourced, flow, trace_of, IsGiven, Log, system_after, one_memory_after, System}
+use Rattle.tl_rules.specs.statement.Effect.{access_result}
 use Rattle.tl_coherence.specs.statement.TrueReads.{IsTrueRead, TrueReads, WasFound, lanes_found}
-use Rattle.tl_coherence.proofs.{bound.Settling.given-before, deliveries.Matching.shadow, flow.FlowTaken.each-taken}
-use Rattle.tl_coherence.proofs.{flow.FlowTraces.trace-flows, flow.Flows.flowed, flow.NextOnD.next-on_d}
-use Rattle.tl_coherence.proofs.{flow.Renewed.IsSettledFor, links.FromInvariant.matched-given}
-use Rattle.tl_coherence.proofs.{memory.OneMemory.reply-performed}
-use Rattle.tl_coherence.proofs.flow.Windowed.{asked_flow, closed_first, free-now, opened-now, renewed-followed}
-use Rattle.tl_coherence.proofs.flow.Windowed.{same_first, same_request}
+use proofs.bound.Settling.{given-before}
+use proofs.deliveries.Matching.{shadow}
+use proofs.flow.{FlowTaken.each-taken, FlowTraces.trace-flows, Flows.flowed, NextOnD.next-on_d, Renewed.IsSettledFor}
+use proofs.links.FromInvariant.{matched-given}
+use proofs.memory.OneMemory.{reply-performed}
+use proofs.flow.Windowed.{asked_flow, closed_first, free-now, opened-now, renewed-followed, same_first, same_request}
 
 -- ---- what is answered
 

@@ -1,19 +1,16 @@
 -- Each beat of data that are given back has bytes of the one memory.
-use Rattle.tl_coherence.proofs.flow.Imports.{Beat, BeatC, History, MessageC, channel_of, unfinished, Config, Log}
-use Rattle.tl_coherence.proofs.flow.Imports.{AbstractState, SimulationRelation, is_caching, flow, Message, beat_of}
-use Rattle.tl_coherence.proofs.flow.Imports.{begun, block_at, on_link, Channel}
-use Rattle.std.proofs.Common.{◌≡◌, ℕ, Bool, true, List, ◌∷◌, sym, ◌∙◌, ap, subst}
-use Rattle.std.specs.Prelude.{length}
-use Rattle.tl_beat.specs.statement.Opcode.{c_carries_data}
-use Rattle.tl_burst.{specs.statement.Burst.c_beat_of, specs.statement.Burst.lanes_at, proofs.Begun.length-begun}
-use Rattle.tl_rules.specs.statement.Effect.{IsBlock}
-use Rattle.tl_coherence.specs.{statement.Flow.trace_of, statement.Headline.IsGiven, statement.Log.system_after}
-use Rattle.tl_coherence.specs.{statement.OneMemory.one_memory_after, statement.TrueReturns.IsTrueReturn}
-use Rattle.tl_coherence.specs.{statement.TrueReturns.TrueReturns}
-use Rattle.tl_coherence.proofs.{deliveries.Matching.shadow, flow.ChannelCE.report_rendered}
-use Rattle.tl_coherence.proofs.{flow.ChannelCE.release_rendered, flow.FlowTaken.each-taken, flow.FlowTraces.trace-flows}
-use Rattle.tl_coherence.proofs.{flow.Flows.flowed, links.FromInvariant.matched-given, manager.ManagerTakes.by-first_c}
-use Rattle.tl_coherence.proofs.{manager.Reporting.IsAbout, queues.FirstToken.first-token}
+use Rattle.std.proofs.Common.{◌≡◌, ℕ, Bool, true, List, ◌∷◌, sym, ◌∙◌, ap, subst, length}
+use Rattle.tl_coherence.proofs
+use proofs.Imports.{Beat, BeatC, Channel, c_carries_data, length-begun, Message, MessageC, beat_of, begun, c_beat_of}
+use proofs.Imports.{lanes_at, History, channel_of, unfinished, Config, on_link, IsBlock, block_at, AbstractState}
+use proofs.Imports.{SimulationRelation, is_caching, flow, trace_of, IsGiven, Log, system_after, one_memory_after}
+use Rattle.tl_coherence.specs.statement.TrueReturns.{IsTrueReturn, TrueReturns}
+use proofs.deliveries.Matching.{shadow}
+use proofs.flow.{ChannelCE.report_rendered, ChannelCE.release_rendered, FlowTaken.each-taken, FlowTraces.trace-flows}
+use proofs.flow.{Flows.flowed}
+use proofs.links.FromInvariant.{matched-given}
+use proofs.manager.{ManagerTakes.by-first_c, Reporting.IsAbout}
+use proofs.queues.FirstToken.{first-token}
 
 same_beat : {w : ℕ} (x y : BeatC w) → Beat.C x ≡ Beat.C y → x ≡ y
 same_beat x y e = cc

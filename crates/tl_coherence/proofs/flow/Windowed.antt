@@ -1,45 +1,29 @@
 -- Each access is answered after a moment, since it was asked whole, at which nobody held what excludes it.
 use Rattle.std.proofs.Common.{◌≡◌, ℕ, Bool, true, false, List, [], ◌∷◌, Option, Some, None, refl, sym, ◌∙◌, ap, subst}
-use Rattle.std.proofs.Common.{inl, inr}
-use Rattle.std.{specs.Prelude.◌++◌, specs.Prelude.is_some, proofs.lemmas.Bool.or_left, proofs.lemmas.Bool.or_right}
-use Rattle.tl_beat.{specs.statement.Width.IsWidth, specs.declared.beat.Beat.Beat, specs.declared.beat.BeatA.BeatA}
-use Rattle.tl_beat.{specs.declared.beat.BeatD.BeatD, specs.declared.beat.Link.Link, specs.declared.opcode.OpA.OpA}
-use Rattle.tl_coherence.proofs.{flow.Imports.Channel, deliveries.DeliverDAfter.followed-still}
-use Rattle.tl_coherence.proofs.{deliveries.InvariantKept.ready-delivered, flow.ComingRequests.not-coming_a}
-use Rattle.tl_coherence.proofs.{flow.ComingRequests.waits_on_a, flow.FlowStep.held_by, flow.Flows.flowed}
-use Rattle.tl_coherence.proofs.{flow.FlowTaken.each-taken, flow.FlowTraces.trace-flows, flow.GivenAlone.free-where}
-use Rattle.tl_coherence.proofs.{flow.GivenAlone.held_by_most, flow.NextOnD.next-on_d, links.FromInvariant.matched-given}
-use Rattle.tl_coherence.proofs.{manager.UnwaitedRequests.next_tracker, queues.Facts.held_at_most}
-use Rattle.tl_coherence.proofs.{queues.Perms.nothing_below, queues.Steps.stepped-asked}
-use Rattle.tl_burst.{specs.declared.message.Message.Message, specs.declared.message.MessageA.MessageA}
-use Rattle.tl_burst.{specs.statement.Burst.a_beat_of}
-use Rattle.tl_burst.specs.statement.Messages.{History, channel_of, unfinished}
-use Rattle.tl_params.{specs.declared.config.Config.Config, specs.declared.key.Key.TheVariants.RequestSource}
-use Rattle.tl_params.{specs.declared.perm.Perm.Perm}
-use Rattle.tl_rules.specs.statement.Conformance.{Trace, on_link, comes_in_request}
-use Rattle.tl_rules.specs.statement.History.{block_at, held, pending, request_of}
-use Rattle.tl_rules.specs.statement.Windows.{leaves, needs, is_free, has_window}
-use Rattle.tl_rules.specs.code.Open.{open_request}
-use Rattle.tl_client.{specs.declared.operation.Op.Op, specs.statement.Endpoint.EndConfig}
+use Rattle.std.proofs.Common.{inl, inr, ◌++◌, is_some}
+use Rattle.tl_coherence.proofs
+use proofs.Imports.{or_right, Beat, BeatA, BeatD, Link, Channel, OpA, IsWidth, Message, MessageA, a_beat_of, History}
+use proofs.Imports.{channel_of, unfinished, Config, RequestSource, Perm, open_request, Trace, on_link, comes_in_request}
+use proofs.Imports.{block_at, held, pending, request_of, leaves, needs, is_free, Op, EndConfig, grant_opcode}
+use proofs.Imports.{is_access_answer, Event, Ask, Deliver, Outcome, Acquire, Block, SourceState, SourceFree, Replied}
+use proofs.Imports.{view, AbstractState, abstract_step, abstract_step_by, block_message, SimulationRelation}
+use proofs.Imports.{MonitorRelations, asked_for, block_used, first_of, is_moving, flow, taken_at, IsGiven, Log}
+use proofs.Imports.{system_after, perm_le, Step, stepped, System, terms_at}
+use Rattle.std.proofs.lemmas.Bool.{or_left}
+use Rattle.tl_rules.specs.statement.Windows.{has_window}
+use Rattle.tl_coherence.specs.{statement.AnsweredInTime.IsAnsweredInTime, statement.AnsweredInTime.AnsweredInTime}
+use Rattle.tl_coherence.specs.{statement.Flow.trace_of, statement.Headline.AreTyped, statement.Log.IsLog}
 use Rattle.tl_client.specs.statement.Ask as ask
-use Rattle.tl_manager.{specs.statement.Handing.grant_opcode, specs.statement.Service.is_access_answer}
-use Rattle.tl_coherence.specs.{declared.event.Event.Event, declared.event.Outcome.Outcome, statement.Draining.is_moving}
-use Rattle.tl_coherence.specs.{statement.Flow.flow, statement.Flow.taken_at, statement.Flow.trace_of}
-use Rattle.tl_coherence.specs.{statement.Headline.AreTyped, statement.Headline.IsGiven, statement.Log.Log}
-use Rattle.tl_coherence.specs.{statement.Log.IsLog, statement.Log.system_after, statement.Step.Step}
-use Rattle.tl_coherence.specs.{statement.Step.stepped, statement.System.System, statement.System.terms_at}
-use Rattle.tl_coherence.specs.{statement.Permissions.perm_le, refinement.PacketMessages.block_message}
-use Rattle.tl_coherence.specs.{protocol.Packet.Acquire}
-use Rattle.tl_coherence.specs.declared.event.Event.TheVariants.{Ask, Deliver}
-use Rattle.tl_coherence.specs.statement.AnsweredInTime.{IsAnsweredInTime, AnsweredInTime}
-use Rattle.tl_coherence.specs.refinement.AbstractStep.{AbstractState, abstract_step, abstract_step_by}
-use Rattle.tl_coherence.specs.refinement.SimulationRelation.{SimulationRelation, MonitorRelations, asked_for}
-use Rattle.tl_coherence.specs.refinement.SimulationRelation.{block_used, first_of}
-use Rattle.tl_coherence.specs.protocol.Protocol.{Block, SourceState, SourceFree, Replied, view}
-use Rattle.tl_coherence.proofs.deliveries.Matching.{shadow, matched, stepped-nobody}
-use Rattle.tl_coherence.proofs.flow.Renewed.{AreRenewed, AreKept, IsSettledFor, kept-same, kept-asked, renewed-same}
-use Rattle.tl_coherence.proofs.flow.Renewed.{renewed-kind_taken}
-use Rattle.tl_coherence.proofs.simulation.FollowCases.{followed-cases, on-first}
+use proofs.deliveries.{DeliverDAfter.followed-still, InvariantKept.ready-delivered, Matching.shadow, Matching.matched}
+use proofs.deliveries.{Matching.stepped-nobody}
+use proofs.flow.{ComingRequests.not-coming_a, ComingRequests.waits_on_a, FlowStep.held_by, Flows.flowed}
+use proofs.flow.{FlowTaken.each-taken, FlowTraces.trace-flows, GivenAlone.free-where, GivenAlone.held_by_most}
+use proofs.flow.{NextOnD.next-on_d, Renewed.AreRenewed, Renewed.AreKept, Renewed.IsSettledFor, Renewed.kept-asked}
+use proofs.flow.{Renewed.renewed-kind_taken}
+use proofs.links.FromInvariant.{matched-given}
+use proofs.manager.UnwaitedRequests.{next_tracker}
+use proofs.queues.{Facts.held_at_most, Perms.nothing_below, Steps.stepped-asked}
+use proofs.simulation.FollowCases.{followed-cases, on-first}
 
 -- ---- what is held and excludes nothing
 
@@ -142,7 +126,7 @@ kept-ask {w} config c o sys h = go (terms_at config c) refl
 
     go : (i : Option EndConfig) → terms_at config c ≡ i → After (stepped config (Ask c o) sys)
     go None none = subst After (sym (stepped-nobody config (Ask c o) sys none))
-        (kept-same h h (λ d j. refl) (λ d j. (refl, refl)))
+        (λ d j e. (e, (refl, refl)))
     go (Some terms) known = subst After (sym (stepped-asked config c o sys terms known))
         (kept-asked c o (ask.asked terms o (sys.clients c)).reply h)
 
@@ -152,7 +136,7 @@ pub renewed-followed : {w : ℕ} (config : Config) (log : Log w) (event : Event 
 renewed-followed {w} config log event h width is =
     let sys : System w = system_after config log in
     followed-cases event (λ (i : AbstractState w). AreRenewed h i) width is
-    (renewed-same h h (λ d j. refl) (λ d j. (refl, refl)))
+    (λ d j e. inl (e, (refl, refl)))
     (λ terms c o at d j e. inl (kept-asked c o (ask.asked terms o (sys.clients c)).reply h d j e))
     (λ link ch x queue d. renewed-kind_taken (next_tracker sys) link.0 d.first.kind d.first.number d.first.rest h is
     (on-first d) (ready-delivered ch width is d))

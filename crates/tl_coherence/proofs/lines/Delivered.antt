@@ -1,29 +1,22 @@
 -- Each beat that is delivered has room in its line, and is within its types.
-use Rattle.std.proofs.Common.{◌≡◌, ℕ, Bool, true, false, List, [], ◌∷◌, Some, refl, sym, ◌∙◌, ap, subst}
-use Rattle.std.specs.Prelude.{◌==◌, All, if◌then◌else◌}
-use Rattle.std.proofs.lemmas.List.Elements.{All-head, All-nil, All-cons}
-use Rattle.tl_beat.{specs.declared.beat.Beat.Beat, specs.declared.channel.Channel.Channel}
-use Rattle.tl_beat.{specs.statement.Line.IsInRange, specs.statement.Line.IsWritable}
-use Rattle.tl_burst.specs.statement.Messages.{channel_of}
-use Rattle.tl_params.specs.declared.config.Config.{Config}
-use Rattle.tl_rules.{specs.statement.Admission.is_outside, specs.statement.Legality.illegal}
-use Rattle.tl_client.specs.statement.Endpoint.{EndConfig}
-use Rattle.tl_manager.proofs.blocks.Placing.{limits}
-use Rattle.tl_coherence.specs.{declared.event.Event.Event, declared.event.Outcome.Outcome, statement.Draining.is_moving}
-use Rattle.tl_coherence.specs.{statement.Flow.flow, statement.Headline.AreTyped, statement.Headline.IsGiven}
-use Rattle.tl_coherence.specs.{statement.Log.Log, statement.Log.IsLog, statement.Log.system_after}
-use Rattle.tl_coherence.specs.{statement.Ranged.AreRanged, statement.Step.is_to_client, statement.Step.stepped}
-use Rattle.tl_coherence.specs.{statement.System.terms_at}
-use Rattle.tl_coherence.specs.declared.event.Event.TheVariants.{Ask, Deliver}
-use Rattle.tl_coherence.specs.refinement.SimulationRelation.{AreLanes, SimulationRelation, is_caching}
-use Rattle.tl_coherence.proofs.{simulation.Bounded.matched-bounded, memory.Bytes.remembered-ranged}
-use Rattle.tl_coherence.proofs.{client.ClientTakes.sound-beat, links.FifoOfChannels.flow_still}
-use Rattle.tl_coherence.proofs.{queues.FirstToken.IsFirst, queues.FirstToken.first-token, flow.FlowLawful.lawful-beat}
-use Rattle.tl_coherence.proofs.{flow.Flows.asked-still, flow.FlowReceived.moved-on, links.FromInvariant.matched-given}
-use Rattle.tl_coherence.proofs.{simulation.BeatsInFlight.level-terms, deliveries.Matching.shadow}
-use Rattle.tl_coherence.proofs.{outstanding.Outstanding.first-moved, simulation.Owned.sources-own}
-use Rattle.tl_coherence.proofs.{lines.Writable.legal-writable}
-use Rattle.tl_coherence.proofs.lines.Ranges.{few-sources, first-ranged, ranged-beat}
+use Rattle.std.proofs.Common.{◌≡◌, ℕ, Bool, true, false, List, ◌∷◌, Some, refl, sym, ◌∙◌, ap, ◌==◌, if◌then◌else◌, []}
+use Rattle.std.proofs.Common.{subst, All}
+use Rattle.tl_coherence.proofs
+use proofs.Imports.{All-head, All-cons, Beat, Channel, IsInRange, IsWritable, channel_of, Config, is_outside, illegal}
+use proofs.Imports.{EndConfig, limits, Event, Ask, Deliver, AreLanes, SimulationRelation, is_caching, is_moving, flow}
+use proofs.Imports.{Log, system_after, is_to_client, stepped, terms_at}
+use Rattle.std.proofs.lemmas.List.Elements.{All-nil}
+use Rattle.tl_coherence.specs.{declared.event.Outcome.Outcome, statement.Headline.AreTyped, statement.Headline.IsGiven}
+use Rattle.tl_coherence.specs.{statement.Log.IsLog, statement.Ranged.AreRanged}
+use proofs.simulation.{Bounded.matched-bounded, BeatsInFlight.level-terms, Owned.sources-own}
+use proofs.memory.Bytes.{remembered-ranged}
+use proofs.client.ClientTakes.{sound-beat}
+use proofs.links.{FifoOfChannels.flow_still, FromInvariant.matched-given}
+use proofs.queues.FirstToken.{IsFirst, first-token}
+use proofs.flow.{FlowLawful.lawful-beat, Flows.asked-still, FlowReceived.moved-on}
+use proofs.deliveries.Matching.{shadow}
+use proofs.outstanding.Outstanding.{first-moved}
+use proofs.lines.{Writable.legal-writable, Ranges.few-sources, Ranges.first-ranged, Ranges.ranged-beat}
 
 -- ---- the first beat of a channel
 

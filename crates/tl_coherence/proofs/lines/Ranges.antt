@@ -1,41 +1,25 @@
 -- The numbers of each beat on a channel are within their types.
 use Rattle.std.proofs.Common.{◌≡◌, ℕ, zero, suc, ◌+◌, ◌-◌, ◌*◌, ◌%◌, ◌^◌, ◌<◌, ◌≤◌, Bool, true, false, List, [], ◌∷◌}
-use Rattle.std.proofs.Common.{◌++◌, Option, Some, None, length, refl, sym, ◌∙◌, lit<, arith}
-use Rattle.std.specs.Prelude.{IfSome, drop, nat_le, option_map, replicate, slice_get}
-use Rattle.std.proofs.lemmas.Bool.{and_parts, leb-false, leb-true}
-use Rattle.std.proofs.lemmas.List.Elements.{All-append, All-drop, All-from_get_or, All-replicate, All-take}
-use Rattle.tl_beat.{specs.statement.Line.AreLanes as HasLanes, specs.statement.Line.IsInRange}
-use Rattle.tl_beat.{specs.declared.channel.Channel.Channel, specs.declared.opcode.OpB.OpB}
-use Rattle.tl_beat.specs.statement.Opcode.{a_carries_data, b_carries_data, c_carries_data, d_carries_data}
-use Rattle.tl_burst.{specs.declared.message.Message.Message, specs.declared.message.MessageA.MessageA}
-use Rattle.tl_burst.{specs.statement.Burst.beat_of, specs.statement.Burst.lanes_at}
-use Rattle.tl_params.{specs.declared.config.ClientConfig.ClientConfig, specs.declared.config.Config.Config}
-use Rattle.tl_params.{specs.declared.param.Prune.Prune, specs.declared.param.Report.Report}
-use Rattle.tl_params.{specs.declared.perm.Perm.Perm, specs.statement.Range.is_from_to}
-use Rattle.tl_params.specs.statement.Config.{all_sources_fit, blocks_fit, config_fault, sources_fit, trackers_fit}
-use Rattle.tl_rules.{specs.statement.Admission.is_outside, specs.statement.Effect.answer_of}
-use Rattle.tl_rules.{specs.statement.Effect.as_payload, specs.statement.History.block_at}
+use Rattle.std.proofs.Common.{◌++◌, Option, Some, None, length, refl, sym, ◌∙◌, lit<, arith, leb-true, IfSome, drop}
+use Rattle.std.proofs.Common.{nat_le, option_map, replicate, slice_get, leb-false}
+use Rattle.tl_coherence.proofs
+use proofs.Imports.{and_parts, All-append, Channel, OpB, IsInRange, a_carries_data, b_carries_data, c_carries_data}
+use proofs.Imports.{d_carries_data, Message, MessageA, beat_of, lanes_at, ClientConfig, Config, Prune, Report, Perm}
+use proofs.Imports.{all_sources_fit, blocks_fit, config_fault, sources_fit, trackers_fit, is_from_to, is_outside}
+use proofs.Imports.{answer_of, as_payload, block_at, Op, EndConfig, probe_ack, release, sourced, one_if, access_answer}
+use proofs.Imports.{release_ack, Kind, Request, Acquire, Probe, ProbeAck, Release, Answer, Grant, ReleaseAck, GrantAck}
+use proofs.Imports.{Packet, count, is, AcquirePhase, AcquireOpen, Service, GrantSent, State, SourceState, SourceFree}
+use proofs.Imports.{Asked, Replied, Acquires, packet, packets_on, is_on, Answers, IsOpened, AccessMessages, acquire_of}
+use proofs.Imports.{grant_of, message_of_kind, prune_told, block_message, report_told, AreLanes, SimulationRelation}
+use proofs.Imports.{sources_of, Log, Requests, one_memory_after, AreBytes, System, terms_at}
+use Rattle.std.proofs.lemmas.List.Elements.{All-drop, All-from_get_or, All-replicate, All-take}
+use Rattle.tl_beat.specs.statement.Line.{AreLanes as HasLanes}
 use Rattle.tl_rules.specs.statement.Effect as memory
-use Rattle.tl_client.{specs.declared.operation.Op.Op, specs.statement.Endpoint.EndConfig}
-use Rattle.tl_client.specs.statement.Send.{probe_ack, release, sourced}
-use Rattle.tl_manager.specs.statement.Handing.{access_answer, release_ack}
-use Rattle.tl_coherence.specs.{refinement.MemoryRelation.Answers, refinement.MemoryRelation.IsOpened}
-use Rattle.tl_coherence.specs.{statement.Delivery.sources_of, statement.Log.Log, statement.Machine.Requests}
-use Rattle.tl_coherence.specs.{protocol.Phase.AcquirePhase, protocol.Phase.AcquireOpen, statement.Ranged.AreBytes}
-use Rattle.tl_coherence.specs.{statement.OneMemory.one_memory_after, statement.System.System, statement.System.terms_at}
-use Rattle.tl_coherence.specs.protocol.Protocol.{Service, GrantSent, State, SourceState, SourceFree, Asked, Replied}
-use Rattle.tl_coherence.specs.protocol.Protocol.{Acquires, packet, packets_on, is_on}
-use Rattle.tl_coherence.specs.refinement.PacketMessages.{AccessMessages, acquire_of, grant_of, message_of_kind}
-use Rattle.tl_coherence.specs.refinement.PacketMessages.{prune_told, block_message, report_told}
-use Rattle.tl_coherence.specs.protocol.Packet.{Kind, Request, Acquire, Probe, ProbeAck, Release, Answer, Grant}
-use Rattle.tl_coherence.specs.protocol.Packet.{ReleaseAck, GrantAck, Packet, count, is}
-use Rattle.tl_manager.specs.laws.Pending.{one_if}
-use Rattle.tl_coherence.specs.refinement.SimulationRelation.{AreLanes, SimulationRelation}
-use Rattle.tl_coherence.proofs.memory.Bytes.{IsRangedMachine, IsRangedOpen, IsRangedReply}
-use Rattle.tl_coherence.proofs.protocol.Capacities.{acquire_named, answer_named, grant_ack_named, grant_named}
-use Rattle.tl_coherence.proofs.protocol.Capacities.{release_ack_named, release_named, request_named}
-use Rattle.tl_coherence.proofs.protocol.TokenNames.{AreBounded, shown_there, shows_it, tracker_of_service}
-use Rattle.tl_coherence.proofs.{queues.Rendered.same_kind_again, queues.Tokens.same_number, queues.Limits.limits-fit}
+use proofs.memory.Bytes.{IsRangedMachine, IsRangedOpen, IsRangedReply}
+use proofs.protocol.Capacities.{acquire_named, answer_named, grant_ack_named, grant_named, release_ack_named}
+use proofs.protocol.Capacities.{release_named, request_named}
+use proofs.protocol.TokenNames.{AreBounded, shown_there, shows_it, tracker_of_service}
+use proofs.queues.{Rendered.same_kind_again, Tokens.same_number, Limits.limits-fit}
 
 -- ---- messages, and their beats
 

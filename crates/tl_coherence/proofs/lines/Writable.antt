@@ -1,17 +1,15 @@
 -- A beat of a message that breaks no rule of legality has room in its line.
-use Rattle.std.proofs.Common.{◌≡◌, ℕ, ◌<◌, ◌≤◌, ◌*◌, ◌/◌, ◌^◌, Bool, true, false, ◌&&◌, refl, arith, pow_pos, inl, inr}
-use Rattle.std.{specs.Prelude.None, specs.Prelude.is_some, specs.Prelude.◌==◌, proofs.lemmas.Nat.mod_below}
-use Rattle.std.proofs.lemmas.Bool.{cases_lt, eqb-true, ne_eqb, not-false, both_ways, and_parts}
-use Rattle.tl_beat.{specs.declared.beat.Beat.Beat, specs.declared.channel.Channel.Channel}
-use Rattle.tl_beat.{specs.declared.opcode.OpA.OpA, specs.declared.opcode.OpC.OpC, specs.declared.opcode.OpD.OpD}
-use Rattle.tl_beat.{specs.statement.Line.IsWritable, specs.statement.Width.IsWidth}
-use Rattle.tl_beat.specs.declared.beat.Beat.TheVariants.{A, B, C, D, E}
-use Rattle.tl_burst.{specs.declared.message.Message.Message, specs.statement.Burst.beat_of}
-use Rattle.tl_params.{specs.declared.level.Level.Level, specs.statement.Param.cap_of}
-use Rattle.tl_params.specs.declared.rule.Rule.TheVariants.{L1, L2, L3, L7}
-use Rattle.tl_rules.specs.statement.Legality.{a_has_param, a_has_size, breaks_l1, breaks_l2, breaks_l3, breaks_l7}
-use Rattle.tl_rules.specs.statement.Legality.{c_has_param, c_has_source, d_has_param, d_has_sink, illegal}
-use Rattle.tl_rules.{proofs.Bursts.next_rule, proofs.Sizes.response-small}
+use Rattle.std.proofs.Common.{◌≡◌, ℕ, ◌<◌, ◌≤◌, ◌*◌, ◌/◌, ◌^◌, Bool, true, false, ◌&&◌, refl, arith, inl, inr, None}
+use Rattle.std.proofs.Common.{eqb-true, ne_eqb, pow_pos, is_some, ◌==◌}
+use Rattle.tl_coherence.proofs
+use proofs.Imports.{cases_lt, not-false, and_parts, mod_below, Beat, B, C, Channel, OpA, OpC, OpD, IsWritable, IsWidth}
+use proofs.Imports.{Message, beat_of, Level, L1, L2, L3, cap_of, next_rule, a_has_param, a_has_size, illegal}
+use Rattle.std.proofs.lemmas.Bool.{both_ways}
+use Rattle.tl_beat.specs.declared.beat.Beat.TheVariants.{A, D, E}
+use Rattle.tl_params.specs.declared.rule.Rule.TheVariants.{L7}
+use Rattle.tl_rules.proofs.Sizes.{response-small}
+use Rattle.tl_rules.specs.statement.Legality.{breaks_l1, breaks_l2, breaks_l3, breaks_l7, c_has_param, c_has_source}
+use Rattle.tl_rules.specs.statement.Legality.{d_has_param, d_has_sink}
 use Rattle.tl_manager.proofs.words_of_clients.Masks.{request_small}
 
 -- ---- params

@@ -1,25 +1,20 @@
 -- A delivery with which an operation ends: it brings the last beat of the response that is first on channel D.
-use Rattle.tl_coherence.proofs.links.Imports.{IsWidth, Beat, Link, Channel, Message, beat_of, unfinished, Config}
-use Rattle.tl_coherence.proofs.links.Imports.{Verdict, Endpoint, EndConfig, Deliver, is_moving, AbstractState, Log}
-use Rattle.tl_coherence.proofs.links.Imports.{system_after, packet, is_on, message_of_kind, block_message, Step}
-use Rattle.tl_coherence.proofs.links.Imports.{stepped, is_to_client, System, terms_at, Kind, Answer, Grant, ReleaseAck}
-use Rattle.tl_coherence.proofs.links.Imports.{SimulationRelation, is_caching}
 use Rattle.std.proofs.Common.{◌≡◌, ℕ, Bool, true, false, List, [], ◌∷◌, Option, Some, None, refl, sym, ◌∙◌, ap, subst}
-use Rattle.std.specs.Prelude.{if◌then◌else◌, Ok}
-use Rattle.tl_beat.specs.declared.beat.BeatD.{BeatD}
-use Rattle.tl_burst.{specs.declared.message.MessageD.MessageD, specs.statement.Burst.d_beat_of}
-use Rattle.tl_burst.{specs.statement.Part.completes}
-use Rattle.tl_client.specs.declared.verdict.Finish.{Finish}
+use Rattle.std.proofs.Common.{if◌then◌else◌, Ok}
+use Rattle.tl_coherence.proofs
+use proofs.Imports.{Beat, BeatD, Link, Channel, IsWidth, Message, MessageD, beat_of, d_beat_of, unfinished, completes}
+use proofs.Imports.{Config, Finish, Verdict, Endpoint, EndConfig, Deliver, Outcome, Kind, Answer, Grant, ReleaseAck}
+use proofs.Imports.{Packet, packet, is_on, AbstractState, abstract_step, kind_taken, packet_taken, message_of_kind}
+use proofs.Imports.{block_message, SimulationRelation, is_caching, is_moving, Log, system_after, Step, stepped}
+use proofs.Imports.{is_to_client, outcome_of, System, terms_at}
 use Rattle.tl_client.specs.statement.Offer as offer
-use Rattle.tl_coherence.specs.{declared.event.Outcome.Outcome, statement.Step.outcome_of, protocol.Packet.Packet}
-use Rattle.tl_coherence.specs.refinement.AbstractStep.{abstract_step, kind_taken, packet_taken}
-use Rattle.tl_coherence.proofs.protocol.HeadOfD.{answer-due, grant-due, grant-rendered, ack_message}
-use Rattle.tl_coherence.proofs.{queues.FirstToken.IsFirst, queues.FirstToken.first-token}
-use Rattle.tl_coherence.proofs.{deliveries.DeliverDAfter.followed-moving, deliveries.Matching.not_moving}
-use Rattle.tl_coherence.proofs.{deliveries.Matching.stepped-nobody, client.ProbeDelivered.delivered-b}
-use Rattle.tl_coherence.proofs.{manager.UnwaitedRequests.next_tracker, queues.Steps.stepped-empty}
-use Rattle.tl_coherence.proofs.client.DeliverD.{finish_at, acked, answer-last, answer-part, same_answers}
-use Rattle.tl_coherence.proofs.simulation.Moved.{IsTakenByClient, client-moves, manager-moves}
+use proofs.protocol.HeadOfD.{answer-due, grant-due, grant-rendered, ack_message}
+use proofs.queues.{FirstToken.IsFirst, FirstToken.first-token, Steps.stepped-empty}
+use proofs.deliveries.{DeliverDAfter.followed-moving, Matching.not_moving, Matching.stepped-nobody}
+use proofs.client.{ProbeDelivered.delivered-b, DeliverD.finish_at, DeliverD.acked, DeliverD.answer-last}
+use proofs.client.{DeliverD.answer-part, DeliverD.same_answers}
+use proofs.manager.UnwaitedRequests.{next_tracker}
+use proofs.simulation.Moved.{IsTakenByClient, client-moves, manager-moves}
 
 -- the operation with this source ends so
 pub record IsEnding {w : ℕ} (config : Config) (log : Log w) (link : Link) (ch : Channel) (h : AbstractState w)

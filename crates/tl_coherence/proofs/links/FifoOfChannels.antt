@@ -1,40 +1,34 @@
 -- Channels lose nothing and keep order, whatever happens.
-use Rattle.tl_coherence.proofs.links.Imports.{IsWidth, Beat, Link, Channel, Message, beat_of, channel_of, Config, Op}
-use Rattle.tl_coherence.proofs.links.Imports.{Verdict, Endpoint, EndConfig, Deliver, is_moving, Log, system_after, Step}
-use Rattle.tl_coherence.proofs.links.Imports.{stepped, is_to_client, System, terms_at, SimulationRelation}
 use Rattle.std.proofs.Common.{◌≡◌, ℕ, Bool, true, false, List, [], ◌∷◌, Option, Some, None, refl, sym, ◌∙◌, ap, subst}
-use Rattle.std.proofs.Common.{inl, inr}
-use Rattle.std.specs.Prelude.{◌++◌, ◌==◌, if◌then◌else◌, All, map, Ok, ⊤}
-use Rattle.std.{proofs.lemmas.Bool.cases_eq, proofs.lemmas.Bool.ne_eqb, proofs.lemmas.List.Elements.All-head}
-use Rattle.tl_burst.specs.statement.Burst.{burst_of}
-use Rattle.tl_burst.specs.statement.Messages.{History, carried_on}
+use Rattle.std.proofs.Common.{inl, inr, ◌++◌, ne_eqb, ◌==◌, if◌then◌else◌, All, map, Ok}
+use Rattle.tl_coherence.proofs
+use proofs.Imports.{cases_eq, All-head, ⊤, Beat, Link, Channel, IsWidth, Message, beat_of, burst_of, History, Config}
+use proofs.Imports.{Trace, on_link, Op, Verdict, Endpoint, EndConfig, reaction_handable, IsHandable, Each, Handed}
+use proofs.Imports.{with_handed, is_from_client, Event, Deliver, Ask, Outcome, SimulationRelation, IsFifo, is_moving}
+use proofs.Imports.{flow, taken_on, IsTyped, Log, system_after, Step, stepped, is_to_client, handed_by, outcome_of}
+use proofs.Imports.{System, terms_at, fresh, with_client, with_manager, with_channel, with_message, with_messages}
+use Rattle.tl_burst.specs.statement.Messages.{carried_on}
 use Rattle.tl_rules.specs.statement.Admission.{sent_if_any}
-use Rattle.tl_rules.specs.statement.Conformance.{Trace, on_link}
+use Rattle.tl_client.{proofs.endpoint.AfterAsked.past-asked, proofs.endpoint.AfterOffered.past-offered}
+use Rattle.tl_manager.proofs.pending.Handed.{beats_on_link}
+use Rattle.tl_coherence.specs.{statement.Headline.AreTyped, statement.Log.IsLog}
 use Rattle.tl_client.specs.laws.After as client_after
 use Rattle.tl_client.specs.statement.Ask as ask
 use Rattle.tl_client.specs.statement.Offer as offer
-use Rattle.tl_client.{proofs.endpoint.AfterAsked.past-asked, proofs.endpoint.AfterOffered.past-offered}
-use Rattle.tl_manager.{specs.statement.Handing.Handed, specs.statement.Handing.with_handed, specs.code.Kept.Each}
-use Rattle.tl_manager.{specs.statement.Offer.is_from_client, proofs.calls.Reactions.reaction_handable}
-use Rattle.tl_manager.{proofs.pending.Handed.beats_on_link, proofs.messages.Lawful.IsHandable}
 use Rattle.tl_manager.specs.code.Kept as manager
 use Rattle.tl_manager.specs.statement.Reaction as manager_reaction
 use Rattle.tl_manager.specs.statement.End as manager_end
 use Rattle.tl_manager.specs.statement.Offer as manager_offer
-use Rattle.tl_coherence.specs.{declared.event.Event.Event, declared.event.Event.TheVariants.Ask}
-use Rattle.tl_coherence.specs.{declared.event.Outcome.Outcome, statement.Delivery.IsFifo, statement.Flow.flow}
-use Rattle.tl_coherence.specs.{statement.Flow.taken_on, statement.Headline.IsTyped, statement.Headline.AreTyped}
-use Rattle.tl_coherence.specs.{statement.Log.IsLog, statement.Step.handed_by, statement.Step.outcome_of}
-use Rattle.tl_coherence.specs.statement.System.{fresh, with_client, with_manager, with_channel, with_message}
-use Rattle.tl_coherence.specs.statement.System.{with_messages}
-use Rattle.tl_coherence.proofs.{links.HeadsOfLinks.first-of, deliveries.DeliverDUnmoved.unmoved, queues.Landed.IsOn}
-use Rattle.tl_coherence.proofs.{simulation.SoundAfter.copy-long, queues.Tokens.same_number}
-use Rattle.tl_coherence.proofs.simulation.BeatsInFlight.{IsOfClient, IsFitIfAny, IsFitAnswer, fit-asked, fit-taken}
-use Rattle.tl_coherence.proofs.deliveries.Matching.{shadow, matched, not_moving, stepped-nobody}
-use Rattle.tl_coherence.proofs.simulation.Moved.{IsTakenByClient, IsTakenByManager, client-moves, manager-moves}
-use Rattle.tl_coherence.proofs.links.FifoSteps.{ArePassing, heard_at, queued_at, client-says, manager-says}
-use Rattle.tl_coherence.proofs.links.FifoSteps.{client-hears, manager-hears, passing-same}
-use Rattle.tl_coherence.proofs.queues.Steps.{clients-with_messages, manager-with_messages, stepped-asked, stepped-empty}
+use proofs.links.HeadsOfLinks.{first-of}
+use proofs.deliveries.{DeliverDUnmoved.unmoved, Matching.shadow, Matching.matched, Matching.not_moving}
+use proofs.deliveries.{Matching.stepped-nobody}
+use proofs.queues.{Landed.IsOn, Landed.on_own_channel, Tokens.same_number}
+use proofs.simulation.{SoundAfter.copy-long, BeatsInFlight.IsOfClient, BeatsInFlight.IsFitIfAny}
+use proofs.simulation.{BeatsInFlight.IsFitAnswer, BeatsInFlight.fit-asked, BeatsInFlight.fit-taken}
+use proofs.simulation.{Moved.IsTakenByClient, Moved.IsTakenByManager, Moved.client-moves, Moved.manager-moves}
+use proofs.links.FifoSteps.{ArePassing, heard_at, queued_at, client-says, manager-says, client-hears, manager-hears}
+use proofs.links.FifoSteps.{passing-same}
+use proofs.queues.Steps.{clients-with_messages, manager-with_messages, stepped-asked, stepped-empty}
 
 -- ---- the whole
 
@@ -87,35 +81,6 @@ manages-passing {w} config (x ∷ handed) t s {p} {f} each is =
     (passing-same p (λ d. on_link d (map (λ b. (x.0, b)) (burst_of x.1) ++ t)) (with_message x.0.0 x.1 s).channels f
     (λ d. refl) (λ d. beats_on_link d x.0 (burst_of x.1) t) (λ d at. refl) (λ d. refl)
     (manager-says x.0.0 x.1 each.0.ours is))
-
--- ---- the channel of a beat
-
-pub on_it : {w : ℕ} (x : Beat w) → IsOn (channel_of x) x
-on_it (Beat.A x) Channel.A = refl
-on_it (Beat.A x) Channel.B = refl
-on_it (Beat.A x) Channel.C = refl
-on_it (Beat.A x) Channel.D = refl
-on_it (Beat.A x) Channel.E = refl
-on_it (Beat.B x) Channel.A = refl
-on_it (Beat.B x) Channel.B = refl
-on_it (Beat.B x) Channel.C = refl
-on_it (Beat.B x) Channel.D = refl
-on_it (Beat.B x) Channel.E = refl
-on_it (Beat.C x) Channel.A = refl
-on_it (Beat.C x) Channel.B = refl
-on_it (Beat.C x) Channel.C = refl
-on_it (Beat.C x) Channel.D = refl
-on_it (Beat.C x) Channel.E = refl
-on_it (Beat.D x) Channel.A = refl
-on_it (Beat.D x) Channel.B = refl
-on_it (Beat.D x) Channel.C = refl
-on_it (Beat.D x) Channel.D = refl
-on_it (Beat.D x) Channel.E = refl
-on_it (Beat.E x) Channel.A = refl
-on_it (Beat.E x) Channel.B = refl
-on_it (Beat.E x) Channel.C = refl
-on_it (Beat.E x) Channel.D = refl
-on_it (Beat.E x) Channel.E = refl
 
 -- ---- what is delivered
 
@@ -205,7 +170,7 @@ moved-passing {w} config log link ch terms x queue width typed logged known beat
     h = matched config log width typed logged
 
     on_ch : IsOn ch x
-    on_ch = rw (← (first-of config log (shadow config log) c terms ch x queue width h known beats).on) (on_it x)
+    on_ch = rw (← (first-of config log (shadow config log) c terms ch x queue width h known beats).on) (on_own_channel x)
 
     head : manager.IsSound config (record { 0 = c }, x)
     head = All-head (λ y. manager.IsSound config (record { 0 = c }, y)) x queue (same beats (h.sound c ch))
@@ -320,13 +285,9 @@ passing {w} config (x ∷ log) width typed logged =
 
 pub carried-passing : {w : ℕ} (config : Config) (log : Log w) (link : ℕ) (ch : Channel)
     → IsPassing (system_after config log) (λ d. flow d log) → IsFifo (system_after config log) log link ch
-carried-passing config log link Channel.A is = let both = is.up link Channel.A refl in
-    record { under_way = both.0; delivered = both.1 }
 carried-passing config log link Channel.B is = let both = is.down link Channel.B refl in
-    record { under_way = both.0; delivered = both.1 }
-carried-passing config log link Channel.C is = let both = is.up link Channel.C refl in
     record { under_way = both.0; delivered = both.1 }
 carried-passing config log link Channel.D is = let both = is.down link Channel.D refl in
     record { under_way = both.0; delivered = both.1 }
-carried-passing config log link Channel.E is = let both = is.up link Channel.E refl in
+carried-passing config log link ch is = let both = is.up link ch refl in
     record { under_way = both.0; delivered = both.1 }

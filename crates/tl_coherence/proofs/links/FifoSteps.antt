@@ -1,17 +1,12 @@
 -- Channels lose nothing and keep order: for histories of the two ends of each link, and what is on its channels.
-use Rattle.tl_coherence.proofs.links.Imports.{Beat, Channel, Message, beat_of, is_to_client}
 use Rattle.std.proofs.Common.{◌≡◌, ℕ, zero, suc, Bool, true, false, not, List, [], ◌∷◌, refl, sym, ◌∙◌, ap, inl, inr}
-use Rattle.std.specs.Prelude.{◌++◌, ◌==◌, ◌&&◌, if◌then◌else◌, reverse}
-use Rattle.std.proofs.lemmas.Bool.{cases_eq, ne_eqb}
-use Rattle.std.proofs.lemmas.List.{append_assoc, reverse-append}
-use Rattle.tl_burst.specs.statement.Burst.{beats_of, begun, burst_of}
-use Rattle.tl_burst.specs.statement.Messages.{History, carried_on, on}
-use Rattle.tl_rules.specs.statement.Legality.{beats_from}
-use Rattle.tl_manager.specs.statement.Offer.{is_from_client}
-use Rattle.tl_coherence.specs.statement.System.{same_channel, channel_of_message}
-use Rattle.tl_coherence.proofs.{queues.Beats.reverse-beats_from, queues.Landed.IsOn}
-use Rattle.tl_coherence.proofs.{deliveries.ManagersAfter.on_message, queues.Tokens.same_number}
-use Rattle.tl_coherence.proofs.{queues.Channels.same_channel-is}
+use Rattle.std.proofs.Common.{◌++◌, ◌&&◌, ne_eqb, append_assoc, ◌==◌, if◌then◌else◌, reverse}
+use Rattle.tl_coherence.proofs
+use proofs.Imports.{cases_eq, reverse-append, Beat, Channel, Message, beat_of, beats_of, begun, burst_of, History}
+use proofs.Imports.{beats_from, is_from_client, is_to_client, same_channel, channel_of_message}
+use Rattle.tl_burst.specs.statement.Messages.{carried_on, on}
+use proofs.queues.{Beats.reverse-beats_from, Landed.IsOn, Tokens.same_number, Channels.same_channel-is}
+use proofs.deliveries.ManagersAfter.{on_message}
 
 -- ---- lists
 

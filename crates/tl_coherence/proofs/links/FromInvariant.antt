@@ -1,21 +1,17 @@
 -- What holds of every manager and its clients, whatever happens to them: of what is kept of the whole.
-use Rattle.tl_coherence.proofs.links.Imports.{Beat, Link, Channel, Config, Op, EndConfig, Deliver, started, Log}
-use Rattle.tl_coherence.proofs.links.Imports.{system_after, one_memory_after, terms_at, SimulationRelation}
-use Rattle.std.proofs.Common.{◌≡◌, ◌∙◌, ℕ, true, ◌∷◌, Option, Some, None, refl, sym, ap₂}
-use Rattle.std.specs.Prelude.{◌≤◌, ◌/◌, is_some, length}
-use Rattle.tl_params.specs.declared.perm.Perm.{Perm}
-use Rattle.tl_client.{specs.declared.verdict.Finish.TheVariants.Granted, specs.statement.Ask.op_block}
-use Rattle.tl_client.{specs.statement.Endpoint.held_at}
-use Rattle.tl_manager.specs.statement.Holders.{recorded}
-use Rattle.tl_coherence.specs.{declared.event.Outcome.Outcome, statement.Coherent.IsCoherent, statement.Log.IsLog}
-use Rattle.tl_coherence.specs.{statement.Machine.Requests, statement.Machine.is_client, statement.Permissions.perm_le}
-use Rattle.tl_coherence.specs.{protocol.Protocol.view}
-use Rattle.tl_coherence.specs.statement.Delivery.{IsFifo, IsExact, capacity, sources_of}
-use Rattle.tl_coherence.specs.statement.Headline.{AreTyped, IsGiven, IsUnrefused}
-use Rattle.tl_coherence.proofs.{memory.Coherence.coherent-matched, links.FifoOfChannels.carried-passing}
-use Rattle.tl_coherence.proofs.{links.FifoOfChannels.passing, links.HeadsOfLinks.first-of, links.Granting.granted-holds}
-use Rattle.tl_coherence.proofs.{deliveries.Matching.shadow, deliveries.Matching.matched, simulation.Owned.channels-few}
-use Rattle.tl_coherence.proofs.{links.Stalling.exact, queues.Facts.held_at_most}
+use Rattle.std.proofs.Common.{◌≡◌, ◌∙◌, ℕ, true, ◌∷◌, Option, Some, None, refl, sym, ap₂, ◌≤◌, ◌/◌, length, is_some}
+use Rattle.tl_coherence.proofs
+use proofs.Imports.{Beat, Link, Channel, Config, Perm, Op, op_block, EndConfig, held_at, recorded, Deliver, Outcome}
+use proofs.Imports.{view, SimulationRelation, started, IsCoherent, IsFifo, IsExact, capacity, sources_of, IsGiven, Log}
+use proofs.Imports.{system_after, Requests, is_client, one_memory_after, perm_le, terms_at}
+use Rattle.tl_client.specs.declared.verdict.Finish.TheVariants.{Granted}
+use Rattle.tl_coherence.specs.{statement.Headline.AreTyped, statement.Headline.IsUnrefused, statement.Log.IsLog}
+use proofs.memory.Coherence.{coherent-matched}
+use proofs.links.{FifoOfChannels.carried-passing, FifoOfChannels.passing, HeadsOfLinks.first-of, Granting.granted-holds}
+use proofs.links.{Stalling.exact}
+use proofs.deliveries.Matching.{shadow, matched}
+use proofs.simulation.Owned.{channels-few}
+use proofs.queues.Facts.{held_at_most}
 
 pub matched-given : {w : ℕ} (config : Config) (log : Log w) → IsGiven config log
     → SimulationRelation config log (shadow config log).mail (shadow config log).request (shadow config log).state

@@ -1,31 +1,20 @@
 -- At a Grant the client holds what it is granted.
-use Rattle.tl_coherence.proofs.links.Imports.{IsWidth, Beat, Link, Channel, unfinished, Config, Op, Endpoint, Deliver}
-use Rattle.tl_coherence.proofs.links.Imports.{started, AbstractState, Log, system_after, is_on, packet}
-use Rattle.tl_coherence.proofs.links.Imports.{one_memory_after, message_of_kind, block_message, stepped, System, Kind}
-use Rattle.tl_coherence.proofs.links.Imports.{Answer, Grant, ReleaseAck, SimulationRelation, is_caching, Message}
-use Rattle.std.proofs.Common.{◌≡◌, ℕ, Bool, true, false, List, ◌∷◌, Option, Some, None, refl, sym, ◌∙◌, ap}
-use Rattle.std.specs.Prelude.{option_map}
-use Rattle.tl_beat.{specs.declared.beat.BeatD.BeatD, specs.declared.opcode.OpD.OpD}
-use Rattle.tl_burst.{specs.declared.message.MessageD.MessageD, specs.statement.Burst.d_beat_of}
-use Rattle.tl_params.{specs.declared.param.Cap.Cap, specs.declared.perm.Perm.Perm, specs.statement.Param.cap_code}
-use Rattle.tl_params.{specs.statement.Param.cap_right}
-use Rattle.tl_rules.specs.statement.Admission.{payload_of}
-use Rattle.tl_rules.specs.statement.History.{held, request_of}
-use Rattle.tl_client.{specs.declared.verdict.Finish.Finish, specs.statement.Ask.op_block}
-use Rattle.tl_client.{specs.statement.Offer.address_asked, specs.statement.Offer.finish_of}
-use Rattle.tl_manager.{specs.statement.Handing.grant_opcode, specs.statement.Service.is_access_answer}
-use Rattle.tl_manager.{proofs.blocks.Recording.cap-gives}
-use Rattle.tl_coherence.specs.{declared.event.Outcome.Outcome, refinement.MemoryRelation.IsOpened}
-use Rattle.tl_coherence.specs.{refinement.MemoryRelation.op_of, statement.Machine.Open, statement.Machine.Requests}
-use Rattle.tl_coherence.specs.{protocol.PhaseSteps.after_grant, protocol.Packet.Packet}
-use Rattle.tl_coherence.specs.refinement.AbstractStep.{abstract_step, kind_taken, taken_by_client}
-use Rattle.tl_coherence.specs.protocol.Phase.{ClientBlock, AcquirePhase, AcquireOpen, is_whole}
-use Rattle.tl_coherence.specs.protocol.Protocol.{Service, Block, SourceState, Acquires, taken_block}
-use Rattle.tl_coherence.proofs.{memory.Coherence.opened-started, links.Ending.IsEnding, links.Ending.ending}
-use Rattle.tl_coherence.proofs.{client.DeliverD.finish_at, deliveries.Matching.matched-event}
-use Rattle.tl_coherence.proofs.{manager.UnwaitedRequests.next_tracker, queues.Tokens.set-same}
-use Rattle.tl_coherence.proofs.protocol.HeadOfD.{IsGrantDue, ack_message, answer-due, grant-due, grant-rendered}
-use Rattle.tl_coherence.proofs.protocol.HeadOfD.{grant_message}
+use Rattle.std.proofs.Common.{◌≡◌, ℕ, Bool, true, false, List, ◌∷◌, Option, Some, None, refl, sym, ◌∙◌, ap, option_map}
+use Rattle.tl_coherence.proofs
+use proofs.Imports.{Beat, BeatD, Link, Channel, OpD, IsWidth, Message, MessageD, d_beat_of, unfinished, Config, Cap}
+use proofs.Imports.{Perm, cap_code, cap_right, payload_of, held, request_of, Op, Finish, op_block, Endpoint}
+use proofs.Imports.{address_asked, finish_of, cap-gives, grant_opcode, is_access_answer, Deliver, Outcome, Kind, Answer}
+use proofs.Imports.{Grant, ReleaseAck, Packet, ClientBlock, AcquirePhase, AcquireOpen, is_whole, after_grant, is_on}
+use proofs.Imports.{packet, Service, Block, SourceState, Acquires, taken_block, AbstractState, abstract_step}
+use proofs.Imports.{kind_taken, taken_by_client, IsOpened, op_of, message_of_kind, block_message, SimulationRelation}
+use proofs.Imports.{is_caching, started, Log, system_after, Open, Requests, one_memory_after, stepped, System}
+use proofs.memory.Coherence.{opened-started}
+use proofs.links.Ending.{IsEnding, ending}
+use proofs.client.DeliverD.{finish_at}
+use proofs.deliveries.Matching.{matched-event}
+use proofs.manager.UnwaitedRequests.{next_tracker}
+use proofs.queues.Tokens.{set-same}
+use proofs.protocol.HeadOfD.{IsGrantDue, ack_message, answer-due, grant-due, grant-rendered, grant_message}
 
 -- ---- how a response ends its operation
 

@@ -1,31 +1,27 @@
 -- The first beat of each channel of a client's link: it is one of the channel, no rule refuses it, and
 -- on channel B it is a Probe.
-use Rattle.tl_coherence.proofs.links.Imports.{IsWidth, Beat, Channel, Message, beat_of, channel_of, unfinished, Config}
-use Rattle.tl_coherence.proofs.links.Imports.{Verdict, EndConfig, AbstractState, Log, system_after, packet, is_on}
-use Rattle.tl_coherence.proofs.links.Imports.{message_of_kind, block_message, System, terms_at, Kind, Answer, Grant}
-use Rattle.tl_coherence.proofs.links.Imports.{ReleaseAck, SimulationRelation, is_caching}
-use Rattle.std.proofs.Common.{◌≡◌, ℕ, Bool, true, false, List, ◌∷◌, Option, Some, refl, sym, ◌∙◌, ap, subst}
-use Rattle.std.specs.Prelude.{map, Result, Ok, Err}
-use Rattle.tl_beat.specs.declared.beat.BeatB.{BeatB}
-use Rattle.tl_params.{specs.declared.param.Cap.Cap, specs.declared.rule.Rule.Rule}
-use Rattle.tl_rules.specs.statement.History.{is_probe}
-use Rattle.tl_client.{specs.laws.After.is_refused, proofs.messages.Calls.kept_up}
-use Rattle.tl_client.specs.statement.Offer.{Offered, offered, silent, taken}
+use Rattle.std.proofs.Common.{◌≡◌, ℕ, Bool, true, false, List, ◌∷◌, Option, Some, refl, sym, ◌∙◌, ap, subst, map}
+use Rattle.std.proofs.Common.{Result, Ok, Err}
+use Rattle.tl_coherence.proofs
+use proofs.Imports.{Beat, BeatB, Channel, IsWidth, Message, beat_of, channel_of, unfinished, Config, Cap, Rule}
+use proofs.Imports.{is_probe, kept_up, Verdict, is_refused, EndConfig, Offered, offered, silent, taken, Kind, Answer}
+use proofs.Imports.{Grant, ReleaseAck, is_unreleased, packet, is_on, AbstractState, message_of_kind, block_message}
+use proofs.Imports.{cap_sent, message_of, probe_beat, prune_told, report_told, SimulationRelation, is_caching, Log}
+use proofs.Imports.{system_after, System, terms_at}
 use Rattle.tl_manager.specs.statement.End as manager_end
 use Rattle.tl_manager.specs.statement.Offer as manager
-use Rattle.tl_coherence.specs.protocol.Phase.{is_unreleased}
-use Rattle.tl_coherence.specs.refinement.PacketMessages.{cap_sent, message_of, probe_beat, prune_told, report_told}
-use Rattle.tl_coherence.proofs.{queues.Carried.IsNext, client.ClientDelivered.shadow_of}
-use Rattle.tl_coherence.proofs.{client.ClientDelivered.delivered-d, queues.FirstToken.first-token}
-use Rattle.tl_coherence.proofs.{manager.ManagerTakes.by-first_c, manager.ManagerTakes.by-first_e}
-use Rattle.tl_coherence.proofs.{client.ProbeDelivered.IsProbed, client.ProbeDelivered.delivered-b}
-use Rattle.tl_coherence.proofs.{manager.Reporting.report-about, manager.Reporting.release-about}
-use Rattle.tl_coherence.proofs.{manager.UnwaitedRequests.next_tracker, memory.Runs.IsTakenUp, memory.Runs.IsTakenIn}
-use Rattle.tl_coherence.proofs.{links.Stalling.IsFirst}
-use Rattle.tl_coherence.proofs.protocol.HeadOfD.{answer-due, grant-due, grant-rendered}
 use Rattle.tl_coherence.proofs.queues.FirstToken as packet
-use Rattle.tl_coherence.proofs.deliveries.ManagerDelivered.{channel_c-delivered, channel_e-delivered}
-use Rattle.tl_coherence.proofs.deliveries.FirstRequest.{IsArrival, arrival-first, request-taken, request-stalled}
+use proofs.queues.{Carried.IsNext, FirstToken.first-token}
+use proofs.client.{ClientDelivered.shadow_of, ClientDelivered.delivered-d, ProbeDelivered.IsProbed}
+use proofs.client.{ProbeDelivered.delivered-b}
+use proofs.manager.{ManagerTakes.by-first_c, ManagerTakes.by-first_e, Reporting.report-about, Reporting.release-about}
+use proofs.manager.{UnwaitedRequests.next_tracker}
+use proofs.memory.Runs.{IsTakenUp, IsTakenIn}
+use proofs.links.Stalling.{IsFirst}
+use proofs.protocol.HeadOfD.{answer-due, grant-due, grant-rendered}
+use proofs.deliveries.{ManagerDelivered.channel_c-delivered, ManagerDelivered.channel_e-delivered}
+use proofs.deliveries.{FirstRequest.IsArrival, FirstRequest.arrival-first, FirstRequest.request-taken}
+use proofs.deliveries.{FirstRequest.request-stalled}
 
 -- ---- the channel of the first beat
 

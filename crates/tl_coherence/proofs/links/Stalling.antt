@@ -1,36 +1,25 @@
 -- Which deliveries are stalled: a Probe while a Release of its block is outstanding, and the last beat of a request
 -- whose block is in service, or for which there is no tracker.
-use Rattle.tl_coherence.proofs.links.Imports.{Beat, Channel, channel_of, Config, Op, Verdict, Message, EndConfig}
-use Rattle.tl_coherence.proofs.links.Imports.{started, Deliver, is_moving, Log, system_after, one_memory_after, Step}
-use Rattle.tl_coherence.proofs.links.Imports.{is_to_client, stepped, System, terms_at, SimulationRelation}
-use Rattle.std.proofs.Common.{◌≡◌, ℕ, Bool, true, false, List, [], ◌∷◌, refl, sym, ◌∙◌, ap}
-use Rattle.std.specs.Prelude.{not, ◌&&◌, if◌then◌else◌, Option, Some, None, is_none, is_some, option_map, Result, Ok}
-use Rattle.std.specs.Prelude.{Err}
-use Rattle.std.{proofs.Math.Bool.and-false, proofs.lemmas.Bool.not-true, proofs.lemmas.Bool.not-false}
-use Rattle.tl_beat.specs.declared.beat.BeatB.{BeatB}
-use Rattle.tl_burst.{specs.declared.message.MessageA.MessageA, specs.statement.Part.is_empty}
-use Rattle.tl_params.{specs.declared.level.Level.Level, specs.declared.param.Prune.Prune, specs.declared.rule.Rule.Rule}
-use Rattle.tl_params.{specs.declared.key.Key.TheVariants.ReleaseOf}
-use Rattle.tl_rules.specs.statement.History.{block_at, is_probe, pending}
-use Rattle.tl_client.{specs.declared.operation.Op.TheVariants.Release, specs.statement.Offer.offered}
+use Rattle.std.proofs.Common.{◌≡◌, ℕ, Bool, true, false, List, [], ◌∷◌, refl, sym, ◌∙◌, ap, not, ◌&&◌, Option, Some}
+use Rattle.std.proofs.Common.{None, is_none, is_some, option_map}
+use Rattle.tl_coherence.proofs
+use proofs.Imports.{and-false, not-true, not-false, Beat, BeatB, Channel, MessageA, channel_of, is_empty, Config}
+use proofs.Imports.{ReleaseOf, Level, Prune, Rule, block_at, is_probe, pending, Op, EndConfig, offered, must_wait}
+use proofs.Imports.{Passes, offered_as, open_level, Deliver, is_of, releases_with, is_unreleased, State, IsLet}
+use proofs.Imports.{AccessMessages, SimulationRelation, started, IsCoherent, IsExact, Moves, is_stall, is_moving, Log}
+use proofs.Imports.{system_after, Open, Releases, is_client, is_movable, moves, stalls, one_memory_after, stepped}
+use proofs.Imports.{delivered, stepped_at, System, terms_at}
+use Rattle.tl_client.specs.declared.operation.Op.TheVariants.{Release}
+use Rattle.tl_manager.proofs.judging.Stalls.{never-stalled}
+use Rattle.tl_manager.specs.statement.Offer.{Judgement, breaks_or, waits_or, is_waiting, judged_on, judged_at}
+use Rattle.tl_coherence.specs.statement.Delivery.{IsReleasing, is_emptiness, outcome_of_delivery}
 use Rattle.tl_client.specs.statement.Endpoint as client
 use Rattle.tl_client.specs.statement.Offer as offer
 use Rattle.tl_manager.specs.statement.End as manager_end
 use Rattle.tl_manager.specs.statement.Offer as manager
-use Rattle.tl_manager.specs.statement.Offer.{must_wait, Judgement, Passes, breaks_or, waits_or, is_waiting, offered_as}
-use Rattle.tl_manager.specs.statement.Offer.{judged_on, judged_at, open_level}
-use Rattle.tl_manager.proofs.judging.Stalls.{never-stalled}
-use Rattle.tl_coherence.specs.{refinement.MemoryRelation.IsLet, statement.Coherent.IsCoherent, protocol.Invariant.is_of}
-use Rattle.tl_coherence.specs.{protocol.Invariant.releases_with, protocol.Phase.is_unreleased, protocol.Protocol.State}
-use Rattle.tl_coherence.specs.{refinement.PacketMessages.AccessMessages}
-use Rattle.tl_coherence.specs.statement.Delivery.{IsExact, IsReleasing, Moves, is_emptiness, is_stall}
-use Rattle.tl_coherence.specs.statement.Delivery.{outcome_of_delivery}
-use Rattle.tl_coherence.specs.statement.Machine.{Open, Releases, is_client}
-use Rattle.tl_coherence.specs.statement.Movable.{is_movable, moves, stalls}
-use Rattle.tl_coherence.specs.statement.Step.{delivered, judged, manager_took, stepped_at}
-use Rattle.tl_coherence.proofs.{protocol.TokenNames.source_of_release, queues.Tokens.same_number}
-use Rattle.tl_coherence.proofs.{queues.Phases.and_left}
-use Rattle.tl_coherence.proofs.memory.Runs.{IsTaken, IsTakenUp, IsTakenIn, stall-delivered}
+use proofs.protocol.TokenNames.{source_of_release}
+use proofs.queues.{Tokens.same_number, Phases.and_left, Steps.first-outcome}
+use proofs.memory.Runs.{IsTaken, IsTakenUp, IsTakenIn, stall-delivered}
 
 -- ---- a request at the manager
 
@@ -128,25 +117,8 @@ module _ {w : ℕ} {config : Config} {log : Log w} {mail : AccessMessages w} {re
 emptiness : {w : ℕ} (config : Config) (terms : EndConfig) (link : ℕ) (ch : Channel) (beats : List (Beat w))
     (s : System w) → is_emptiness (delivered config terms link ch beats s).outcome ≡ is_empty beats
 emptiness config terms link ch [] s = refl
-emptiness {w} config terms link ch (x ∷ rest) s = go (is_to_client ch)
-  where
-    of_client : (r : Result (Verdict × Option (Message w)) Rule) (e : client.Endpoint w)
-        → is_emptiness (judged r link ch x rest e s).outcome ≡ false
-    of_client (Err rule) e = refl
-    of_client (Ok (Verdict.Stalled, m)) e = refl
-    of_client (Ok (Verdict.Taken, m)) e = refl
-    of_client (Ok (Verdict.Done source f, m)) e = refl
-
-    of_manager : (a : manager.Reception w × manager_end.End w)
-        → is_emptiness (manager_took link ch x rest a s).outcome ≡ false
-    of_manager (manager.Refused rule, e) = refl
-    of_manager a = refl
-
-    go : (b : Bool) → is_emptiness (if b then judged (offered terms ch x (s.clients link)).answer link ch x rest
-        (offered terms ch x (s.clients link)).after s else manager_took link ch x rest
-        (manager.offered config (record { 0 = link }) ch x s.manager) s).outcome ≡ false
-    go true = of_client (offered terms ch x (s.clients link)).answer _
-    go false = of_manager _
+emptiness config terms link ch (x ∷ rest) s =
+    first-outcome (λ o. is_emptiness o ≡ false) config terms link ch x rest s refl refl (λ source f. refl)
 
 -- one that is neither empty nor stalled moves a beat
 moving-else : {w : ℕ} (config : Config) (terms : EndConfig) (link : ℕ) (ch : Channel) (beats : List (Beat w))
@@ -154,28 +126,9 @@ moving-else : {w : ℕ} (config : Config) (terms : EndConfig) (link : ℕ) (ch :
     → is_stall (delivered config terms link ch beats s).outcome ≡ false
     → is_moving (delivered config terms link ch beats s).outcome ≡ true
 moving-else config terms link ch [] s some unstalled = absurd cc
-moving-else {w} config terms link ch (x ∷ rest) s some unstalled = go (is_to_client ch) unstalled
-  where
-    of_client : (r : Result (Verdict × Option (Message w)) Rule) (e : client.Endpoint w)
-        → is_stall (judged r link ch x rest e s).outcome ≡ false
-        → is_moving (judged r link ch x rest e s).outcome ≡ true
-    of_client (Ok (Verdict.Taken, m)) e f = refl
-    of_client (Ok (Verdict.Done source finish, m)) e f = refl
-    of_client r e f = absurd cc
-
-    of_manager : (a : manager.Reception w × manager_end.End w) → is_stall (manager_took link ch x rest a s).outcome
-        ≡ false → is_moving (manager_took link ch x rest a s).outcome ≡ true
-    of_manager (manager.Sent handed, e) f = refl
-    of_manager a f = absurd cc
-
-    step : Bool → Step w
-    step b = if b then judged (offered terms ch x (s.clients link)).answer link ch x rest
-        (offered terms ch x (s.clients link)).after s else manager_took link ch x rest
-        (manager.offered config (record { 0 = link }) ch x s.manager) s
-
-    go : (b : Bool) → is_stall (step b).outcome ≡ false → is_moving (step b).outcome ≡ true
-    go true f = of_client (offered terms ch x (s.clients link)).answer _ f
-    go false f = of_manager _ f
+moving-else config terms link ch (x ∷ rest) s some unstalled =
+    first-outcome (λ o. is_stall o ≡ false → is_moving o ≡ true) config terms link ch x rest s (λ e. absurd cc)
+    (λ e. refl) (λ source f e. refl) unstalled
 
 -- a movable delivery moves a beat, where empty and stalled ones are what they should be
 pub movable-moves : {w : ℕ} (config : Config) (log : Log w) (c : ℕ) (ch : Channel)

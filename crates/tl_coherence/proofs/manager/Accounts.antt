@@ -1,27 +1,23 @@
 -- What the manager knows follows from five things: what it recorded, which ProbeAcks it misses, which service each
 -- block has, and which request that is. This is for all of its events alike.
-use Rattle.tl_coherence.proofs.manager.Imports.{MessageA, unfinished, Config, Cap, Trace, on_link, comes_in_request}
-use Rattle.tl_coherence.proofs.manager.Imports.{probe_of, cap_probed, IsKept, services, service_of_block, End, View}
-use Rattle.tl_coherence.proofs.manager.Imports.{Own, Other, Granting, Acknowledging, GrantedOther, is_unprobed, Service}
-use Rattle.tl_coherence.proofs.manager.Imports.{Free, Waits, GrantSent, GrantTaken, State, SourceState, SourceFree}
-use Rattle.tl_coherence.proofs.manager.Imports.{Asked, InService, Replied, Acquires, view, is_granting}
-use Rattle.tl_coherence.proofs.manager.Imports.{is_acknowledging, is_wanting, IsInvariant, is_busy, ManagerRelation}
-use Rattle.tl_coherence.proofs.manager.Imports.{is_own, client_in, service_with, ServedSourceRelation, IsFor, is_served}
-use Rattle.tl_coherence.proofs.manager.Imports.{is_granted, cap_waited, probe_beat, Channel}
-use Rattle.std.proofs.Common.{◌≡◌, ℕ, ◌==◌, Bool, true, false, not, ◌&&◌, ◌||◌, Option, Some, None, refl, sym, ◌∙◌, ap}
-use Rattle.std.{specs.Prelude.if◌then◌else◌, specs.Cmp.Derive.one_truth, proofs.Math.Bool.or_comm}
-use Rattle.std.{proofs.lemmas.Bool.eqb-true, proofs.lemmas.Option.same_Some}
+use Rattle.std.proofs.Common.{◌≡◌, ℕ, Bool, true, false, not, ◌&&◌, ◌||◌, Option, Some, None, refl, sym, ◌∙◌, ap}
+use Rattle.std.proofs.Common.{eqb-true, ◌==◌, if◌then◌else◌}
+use Rattle.tl_coherence.proofs
+use proofs.Imports.{same_Some, Channel, MessageA, unfinished, Config, Cap, Trace, on_link, comes_in_request, probe_of}
+use proofs.Imports.{some_is, IsKept, is_any, IsProbed, End, cap_probed, services, service_of_block, IsInvariant}
+use proofs.Imports.{is_busy, IsOwnSource, is_serving, tracks_with, View, Own, Other, Granting, Acknowledging}
+use proofs.Imports.{GrantedOther, is_unprobed, Service, Free, Waits, GrantSent, GrantTaken, State, SourceState}
+use proofs.Imports.{SourceFree, Asked, InService, Replied, Acquires, view, is_granting, is_acknowledging, is_wanting}
+use proofs.Imports.{ManagerRelation, is_own, client_in, service_with, probe_beat, ServedSourceRelation, IsFor}
+use proofs.Imports.{is_served, is_granted, cap_waited}
+use Rattle.std.{proofs.Math.Bool.or_comm, specs.Cmp.Derive.one_truth}
+use Rattle.tl_manager.{proofs.pending.Sources.source-pending, proofs.pending.Sources.sink-pending}
+use Rattle.tl_manager.{specs.laws.Pending.is_asking, specs.laws.Pending.is_granted_with}
 use Rattle.tl_manager.specs.laws.Pending as waits
-use Rattle.tl_manager.specs.laws.Pending.{is_any, is_asking, is_granted_with, IsProbed}
 use Rattle.tl_manager.specs.statement.Service as manager
-use Rattle.tl_manager.proofs.services.Serving.{some_is}
-use Rattle.tl_manager.proofs.pending.Sources.{source-pending, sink-pending}
-use Rattle.tl_coherence.specs.protocol.Invariant.{IsOwnSource, is_serving, tracks_with}
-use Rattle.tl_coherence.proofs.{queues.Facts.own_wants, queues.Phases.and_left, queues.Phases.and_right}
-use Rattle.tl_coherence.proofs.{queues.Tokens.same_number}
-use Rattle.tl_coherence.proofs.protocol.BothParts.{is_of-is, acquires_of-is, serves_of-is, not-calm}
-use Rattle.tl_coherence.proofs.manager.BlockAccounts.{any-of, any-found, is_granted_in, IsTraced, at_service}
-use Rattle.tl_coherence.proofs.manager.BlockAccounts.{granted-is}
+use proofs.queues.{Facts.own_wants, Phases.and_left, Phases.and_right, Tokens.same_number}
+use proofs.protocol.BothParts.{is_of-is, acquires_of-is, serves_of-is, not-calm}
+use proofs.manager.BlockAccounts.{any-of, any-found, is_granted_in, IsTraced, at_service, granted-is}
 
 -- ---- sources
 

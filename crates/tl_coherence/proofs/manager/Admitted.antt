@@ -1,41 +1,27 @@
 -- A beat of channel A that is delivered breaks no rule: it is taken, unless it has to wait.
-use Rattle.tl_coherence.proofs.manager.Imports.{Beat, BeatA, Channel, MessageA, a_beat_of, begun, History, unfinished}
-use Rattle.tl_coherence.proofs.manager.Imports.{Config, Grow, Prune, Report, Perm, Profile, report_left, Trace, on_link}
-use Rattle.tl_coherence.proofs.manager.Imports.{broken_order, broken_in_order, same_perm, pending, block_at, is_acquire}
-use Rattle.tl_coherence.proofs.manager.Imports.{held, same_block, Link, first_if, Level, reaction, End, Passes}
-use Rattle.tl_coherence.proofs.manager.Imports.{level_of, must_wait, judged, offered, taken, services, service_of_block}
-use Rattle.tl_coherence.proofs.manager.Imports.{least_untaken, trackers_of, acquire_opcode, Log, ClientBlock, View, Own}
-use Rattle.tl_coherence.proofs.manager.Imports.{is_unprobed, ok, is_served, ManagerRelation, is_own, client_in}
-use Rattle.tl_coherence.proofs.manager.Imports.{service_with, IsInvariant, is_busy, Service, Free, Waits, GrantSent}
-use Rattle.tl_coherence.proofs.manager.Imports.{GrantTaken, Asked, State, packet, is_on, view, AccessMessages}
-use Rattle.tl_coherence.proofs.manager.Imports.{block_message, System, Kind, ProbeAck, Release, Packet}
-use Rattle.tl_coherence.proofs.manager.Imports.{SimulationRelation, Message}
-use Rattle.std.proofs.Common.{◌≡◌, ℕ, zero, suc, ◌==◌, Bool, true, false, not, ◌&&◌, ◌||◌, List, [], ◌∷◌, Option, Some}
-use Rattle.std.proofs.Common.{None, refl, sym, ◌∙◌, ap, arith}
-use Rattle.std.specs.Prelude.{map, is_some, All}
-use Rattle.std.proofs.lemmas.Bool.{ne_eqb, eqb-true}
-use Rattle.tl_beat.specs.declared.opcode.OpB.{OpB}
-use Rattle.tl_params.{specs.declared.key.Key.Key, specs.statement.Param.grow_code}
-use Rattle.tl_rules.{specs.statement.Conformance.grows_from, specs.statement.Admission.is_outside}
-use Rattle.tl_rules.{specs.statement.Admission.is_spoiled, specs.statement.Legality.illegal}
-use Rattle.tl_rules.{specs.statement.Legality.is_one_of, proofs.Later.later-legal}
-use Rattle.tl_client.specs.statement.Send.{acquisition, probe_ack, release}
-use Rattle.tl_params.specs.declared.rule.Rule.TheVariants.{H4, H5}
-use Rattle.tl_manager.{specs.code.Kept.IsSound, specs.code.Kept.IsTyped, proofs.judging.Judged.judged-passes}
-use Rattle.tl_manager.{proofs.messages.Sound.leveled, specs.code.Releases.comes_of}
-use Rattle.tl_manager.{specs.statement.Service.is_in_service, proofs.words_of_clients.Free.least_free-is_free}
-use Rattle.tl_manager.{proofs.services.Serving.tracker_among, specs.laws.Pending.one_if}
+use Rattle.std.proofs.Common.{◌≡◌, ℕ, zero, suc, Bool, true, false, not, ◌&&◌, ◌||◌, List, [], ◌∷◌, Option, Some, None}
+use Rattle.std.proofs.Common.{refl, sym, ◌∙◌, ap, arith, ne_eqb, eqb-true, ◌==◌, map, is_some, All}
+use Rattle.tl_coherence.proofs
+use proofs.Imports.{Beat, BeatA, Link, Channel, OpB, first_if, Message, MessageA, a_beat_of, begun, History, unfinished}
+use proofs.Imports.{Config, Key, Level, Grow, Prune, Report, Perm, Profile, H4, H5, report_left, grow_code, later-legal}
+use proofs.Imports.{is_outside, is_spoiled, Trace, on_link, broken_order, broken_in_order, same_perm, grows_from}
+use proofs.Imports.{pending, block_at, is_acquire, held, illegal, is_one_of, same_block, acquisition, probe_ack}
+use proofs.Imports.{release, judged-passes, tracker_among, IsSound, comes_of, one_if, End, Passes, level_of, must_wait}
+use proofs.Imports.{open_level, before_stall, offered_as, reaction, services, service_of_block, least_untaken}
+use proofs.Imports.{trackers_of, is_in_service, IsInvariant, is_busy, tracks_with, Kind, ProbeAck, Release, Packet}
+use proofs.Imports.{count, is, ClientBlock, View, Own, is_unprobed, ok, Idle, AcquireOpen, ReleasePhase, NoRelease}
+use proofs.Imports.{is_unreleased, grow_fits, Service, Free, Waits, GrantSent, GrantTaken, Asked, State, packet, is_on}
+use proofs.Imports.{view, is_releasing, is_unserved, acquire_opcode, IsCarried, ManagerRelation, is_own, client_in}
+use proofs.Imports.{service_with, AccessMessages, block_message, message_of, report_told, prune_told}
+use proofs.Imports.{SimulationRelation, AreLanes, is_served, Log, System}
+use Rattle.tl_manager.{proofs.messages.Sound.leveled, proofs.words_of_clients.Free.least_free-is_free}
+use Rattle.tl_manager.{specs.code.Kept.IsTyped, specs.statement.Offer.judged, specs.statement.Offer.offered}
+use Rattle.tl_manager.{specs.statement.Offer.taken, specs.statement.Offer.judged_at}
 use Rattle.tl_manager.specs.statement.Offer as manager
-use Rattle.tl_manager.specs.statement.Offer.{open_level, before_stall, judged_at, offered_as}
-use Rattle.tl_coherence.specs.protocol.Phase.{Idle, AcquireOpen, ReleasePhase, NoRelease, is_unreleased, grow_fits}
-use Rattle.tl_coherence.specs.{protocol.Invariant.tracks_with, refinement.Carried.IsCarried, protocol.Packet.count}
-use Rattle.tl_coherence.specs.{protocol.Packet.is, refinement.SimulationRelation.AreLanes}
-use Rattle.tl_coherence.specs.protocol.Tokens.{is_releasing, is_unserved, shown}
-use Rattle.tl_coherence.specs.refinement.PacketMessages.{message_of, report_told, prune_told}
-use Rattle.tl_coherence.proofs.{manager.Arrivals.link_of, queues.Facts.acquire_fits, queues.PhaseFacts.asked_alone}
-use Rattle.tl_coherence.proofs.{protocol.Heads.IsWanted, manager.Orders.acquire-legal, queues.Phases.and_left}
-use Rattle.tl_coherence.proofs.{queues.Phases.and_right, queues.Rendered.same_kind_again, queues.Tokens.same_number}
-use Rattle.tl_coherence.proofs.{queues.Tokens.holds-first, queues.Codes.acquires-so}
+use proofs.manager.{Arrivals.link_of, Orders.acquire-legal}
+use proofs.queues.{Facts.acquire_fits, PhaseFacts.asked_alone, Phases.and_left, Phases.and_right}
+use proofs.queues.{Rendered.same_kind_again, Tokens.same_number, Codes.acquires-so}
+use proofs.protocol.{Heads.IsWanted, FirstTokens.first-shown}
 
 -- ---- a Release that is unfinished at the manager is on its way
 
@@ -87,8 +73,7 @@ release-comes {w} {mail} {s} {sys} c n is kept = go (s.link c).c refl
         rw f (release_comes w (prune_told ((s.block x.number).pair c).letting) ((s.block x.number).release_source c)
         x.number n i (s.block x.number).truth (λ same.
         let first : (s.link c).c ≡ packet Release x.number ∷ xs = e ∙ ap (λ (k : Kind). packet k x.number ∷ xs) f in
-        let shows = holds-first Release (s.link c).c xs (packet Release x.number) (λ j. shown Release c (s.block j))
-        first refl (is.invariant.transfers c Release refl) in
+        let shows = first-shown is.invariant c Release refl first in
         let no : true ≡ false = sym shows ∙ ap (λ j. is_releasing ((s.block j).pair c).letting) same ∙ kept in
         cc))
     kinds k x xs e f i = absurd (apart x xs e (rw f refl))

@@ -1,24 +1,19 @@
 -- A beat of a request that comes to the manager: what the manager makes of it.
-use Rattle.tl_coherence.proofs.manager.Imports.{IsWidth, Beat, BeatA, Link, A, MessageA, a_beat_of, beats_of, begun}
-use Rattle.tl_coherence.proofs.manager.Imports.{History, unfinished, Config, Trace, on_link, ends, request_of, block_at}
-use Rattle.tl_coherence.proofs.manager.Imports.{is_last, IsKept, services, least_untaken, trackers_of, End, Passes}
-use Rattle.tl_coherence.proofs.manager.Imports.{judged, Channel}
-use Rattle.std.proofs.Common.{◌≡◌, subst, ℕ, zero, suc, ◌+◌, ◌-◌, ◌*◌, ◌<◌, ◌≤◌, ◌==◌, Bool, true, false, ◌&&◌, List}
-use Rattle.std.proofs.Common.{[], ◌∷◌, Option, Some, None, length, refl, sym, ◌∙◌, ap, arith}
-use Rattle.std.specs.Prelude.{if◌then◌else◌, replicate, drop, slice_range, min, ⊤, IfSome}
-use Rattle.std.proofs.lemmas.List.{length-take, length-drop, length-replicate}
-use Rattle.tl_beat.specs.statement.Opcode.{a_carries_data}
-use Rattle.tl_burst.specs.statement.Burst.{lanes_at, IsBlankAfter, IsZeroFrom}
-use Rattle.tl_burst.{specs.statement.Messages.grown, specs.statement.Messages.burst_length, proofs.Begun.length-begun}
-use Rattle.tl_rules.{specs.statement.History.begins, proofs.Checks.beats_room}
-use Rattle.tl_manager.{specs.code.Kept.IsTyped, specs.statement.Service.Service}
-use Rattle.tl_manager.{proofs.messages.Assembled.request-again, proofs.judging.Judged.passed}
-use Rattle.tl_manager.{proofs.calls.Keeping.is_taken, proofs.pending.Requested.service_made}
-use Rattle.tl_manager.{proofs.pending.Requested.made, proofs.services.Serving.some_is}
-use Rattle.tl_manager.{proofs.pending.Steady.request-ready}
-use Rattle.std.proofs.lemmas.Bool.{le-leb, ne_eqb}
-use Rattle.tl_manager.specs.code.Ready.{IsReady, IsServed, IsTaken}
-use Rattle.tl_coherence.proofs.{queues.Tokens.same_number, protocol.Room.positive}
+use Rattle.std.proofs.Common.{◌≡◌, subst, ℕ, zero, suc, ◌+◌, ◌-◌, ◌*◌, ◌<◌, ◌≤◌, Bool, true, false, ◌&&◌, List, [], ◌∷◌}
+use Rattle.std.proofs.Common.{Option, Some, None, length, refl, sym, ◌∙◌, ap, arith, le-leb, ne_eqb, ◌==◌}
+use Rattle.std.proofs.Common.{if◌then◌else◌, replicate, drop, min, IfSome, length-take, length-drop, slice_range}
+use Rattle.tl_coherence.proofs
+use proofs.Imports.{length-replicate, ⊤, Beat, BeatA, Link, Channel, a_carries_data, IsWidth, length-begun, A, MessageA}
+use proofs.Imports.{a_beat_of, beats_of, begun, lanes_at, IsBlankAfter, IsZeroFrom, History, unfinished, grown, Config}
+use proofs.Imports.{beats_room, is_last, Trace, on_link, ends, request_of, block_at, begins, is_taken, passed, some_is}
+use proofs.Imports.{IsKept, IsReady, End, Passes, services, least_untaken, trackers_of}
+use Rattle.tl_burst.specs.statement.Messages.{burst_length}
+use Rattle.tl_manager.{proofs.messages.Assembled.request-again, proofs.pending.Requested.service_made}
+use Rattle.tl_manager.{proofs.pending.Requested.made, proofs.pending.Steady.request-ready, specs.code.Kept.IsTyped}
+use Rattle.tl_manager.{specs.code.Ready.IsServed, specs.code.Ready.IsTaken, specs.statement.Offer.judged}
+use Rattle.tl_manager.{specs.statement.Service.Service}
+use proofs.queues.Tokens.{same_number}
+use proofs.protocol.Room.{positive}
 
 -- ---- the request that an unfinished burst began with (to stand in tl_rules)
 

@@ -1,27 +1,22 @@
 -- The manager's end after a beat of a request: one that isn't the last, and the last one, where others are probed, the
 -- access is answered, or the Acquire is granted.
-use Rattle.tl_coherence.proofs.manager.Imports.{A, MessageA, a_beat_of, beats_of, Config, Cap, on_link, bytes_from}
-use Rattle.tl_coherence.proofs.manager.Imports.{effect, ends, block_at, Reaction, with_handed, probes, performed}
-use Rattle.tl_coherence.proofs.manager.Imports.{is_nobody, probed, cap_probed, IsKept, illegal_message_at, services}
-use Rattle.tl_coherence.proofs.manager.Imports.{least_untaken, trackers_of, reaction, End, level_of, taken}
-use Rattle.tl_coherence.proofs.manager.Imports.{performed-access, performed-acquire, performs, Waits, Block, State}
-use Rattle.tl_coherence.proofs.manager.Imports.{granted_at_once, AccessMessages, set, IsServedWith, Beat, Channel}
 use Rattle.std.proofs.Common.{◌≡◌, subst, ℕ, suc, ◌+◌, ◌*◌, ◌<◌, Bool, false, List, Some, None, refl, sym, ◌∙◌, ap, ap₂}
-use Rattle.std.proofs.Common.{inl, inr}
-use Rattle.std.proofs.lemmas.Bool.{cases_eq, ne_eqb}
-use Rattle.tl_rules.proofs.Sent.{not_last}
-use Rattle.tl_manager.{specs.statement.Handing.nothing, specs.statement.Offer.Reception}
-use Rattle.tl_manager.{proofs.calls.Events.reaction-part, proofs.calls.Events.reaction-probes}
-use Rattle.tl_manager.{proofs.calls.Keeping.kept-offered, proofs.blocks.Memories.memory-elsewhere}
-use Rattle.tl_coherence.specs.protocol.Protocol.{served_block, performed_block}
-use Rattle.tl_coherence.proofs.{manager.Admitted.offered-taken, manager.Choices.some-clients}
-use Rattle.tl_coherence.proofs.{manager.Memories.block-same, manager.Memories.performed-block}
-use Rattle.tl_coherence.proofs.{manager.Probing.IsProbing, manager.Probing.traced-probing, manager.Requests.IsUnwaited}
-use Rattle.tl_coherence.proofs.{manager.Requests.traced-more}
-use Rattle.tl_coherence.proofs.manager.Arrivals.{link_of, with_beat, IsComing, ends-coming, service_for, served-last}
-use Rattle.tl_coherence.proofs.manager.ManagersEnd.{IsAtManager}
-use Rattle.tl_coherence.proofs.manager.Performing.{IsAnswering, traced-answered, IsGranting, traced-granted}
-use Rattle.tl_coherence.proofs.queues.Tokens.{set-same, set-other, set-part}
+use Rattle.std.proofs.Common.{inl, inr, ne_eqb}
+use Rattle.tl_coherence.proofs
+use proofs.Imports.{cases_eq, Beat, Channel, A, MessageA, a_beat_of, beats_of, Config, Cap, not_last, on_link}
+use proofs.Imports.{bytes_from, effect, ends, block_at, memory-elsewhere, performed-access, performed-acquire}
+use proofs.Imports.{reaction-part, IsKept, illegal_message_at, End, Reaction, with_handed, probes, performed, nothing}
+use proofs.Imports.{is_nobody, probed, cap_probed, level_of, reaction, services, least_untaken, trackers_of, set, Waits}
+use proofs.Imports.{Block, State, granted_at_once, served_block, performed_block, performs, AccessMessages}
+use proofs.Imports.{IsServedWith}
+use Rattle.tl_manager.{proofs.calls.Events.reaction-probes, proofs.calls.Keeping.kept-offered}
+use Rattle.tl_manager.{specs.statement.Offer.taken, specs.statement.Offer.Reception}
+use proofs.manager.{Admitted.offered-taken, Choices.some-clients, Memories.block-same, Memories.performed-block}
+use proofs.manager.{Probing.IsProbing, Probing.traced-probing, Requests.IsUnwaited, Requests.traced-more}
+use proofs.manager.{Arrivals.link_of, Arrivals.with_beat, Arrivals.IsComing, Arrivals.ends-coming, Arrivals.service_for}
+use proofs.manager.{Arrivals.served-last, ManagersEnd.IsAtManager, Performing.IsAnswering, Performing.traced-answered}
+use proofs.manager.{Performing.IsGranting, Performing.traced-granted}
+use proofs.queues.Tokens.{set-same, set-other, set-part}
 
 -- the manager's end after this beat
 abbrev pub end_after : {w : ℕ} → Config → ℕ → ℕ → MessageA w → End w → End w

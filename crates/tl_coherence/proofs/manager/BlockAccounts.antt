@@ -1,22 +1,18 @@
 -- What one block's service says of the links of its clients.
-use Rattle.tl_coherence.proofs.manager.Imports.{MessageA, a_beat_of, Config, ProbeOf, Cap, Trace, on_link, pending}
-use Rattle.tl_coherence.proofs.manager.Imports.{block_at, request_of, swapped, recorded, IsKept, services}
-use Rattle.tl_coherence.proofs.manager.Imports.{service_of_block, End, ClientBlock, View, Own, Other, Granting}
-use Rattle.tl_coherence.proofs.manager.Imports.{Acknowledging, GrantedOther, is_unprobed, ok, Service, Free, Waits}
-use Rattle.tl_coherence.proofs.manager.Imports.{GrantSent, GrantTaken, State, view, is_granting, is_acknowledging}
-use Rattle.tl_coherence.proofs.manager.Imports.{IsInvariant, ManagerRelation, is_own, client_in, service_with, IsFor}
-use Rattle.std.proofs.Common.{◌≡◌, ℕ, ◌==◌, Bool, true, false, not, ◌&&◌, ◌||◌, List, [], ◌∷◌, Some, None, refl, sym}
-use Rattle.std.proofs.Common.{◌∙◌, ap, inl, inr}
-use Rattle.std.{specs.Prelude.if◌then◌else◌, proofs.Math.Bool.or-true, proofs.lemmas.Bool.cases_eq}
-use Rattle.std.{proofs.lemmas.Bool.ne_eqb}
-use Rattle.tl_manager.{specs.code.Kept.AreApart, specs.code.Kept.blocks_of, proofs.services.Serving.some_is}
-use Rattle.tl_manager.{proofs.services.Serving.none_of_block, proofs.pending.Settled.all-settled}
+use Rattle.std.proofs.Common.{◌≡◌, ℕ, Bool, true, false, not, ◌&&◌, ◌||◌, List, [], ◌∷◌, Some, None, refl, sym, ◌∙◌, ap}
+use Rattle.std.proofs.Common.{inl, inr, ne_eqb, ◌==◌, if◌then◌else◌}
+use Rattle.tl_coherence.proofs
+use proofs.Imports.{or-true, cases_eq, MessageA, a_beat_of, Config, ProbeOf, Cap, Trace, on_link, pending, block_at}
+use proofs.Imports.{request_of, swapped, some_is, IsKept, AreApart, blocks_of, is_any, IsProbed, End, recorded}
+use proofs.Imports.{services, service_of_block, IsInvariant, IsAwaited, ClientBlock, View, Own, Other, Granting}
+use proofs.Imports.{Acknowledging, GrantedOther, is_unprobed, ok, Service, Free, Waits, GrantSent, GrantTaken, State}
+use proofs.Imports.{view, is_granting, is_acknowledging, ManagerRelation, is_own, client_in, service_with, IsFor}
+use Rattle.tl_manager.{proofs.pending.Settled.all-settled, proofs.services.Serving.none_of_block}
+use Rattle.tl_manager.{specs.laws.Pending.is_acquiring, specs.laws.Pending.is_granted_to, specs.laws.Pending.is_awaited}
 use Rattle.tl_manager.specs.laws.Pending as waits
-use Rattle.tl_manager.specs.laws.Pending.{is_any, is_acquiring, is_granted_to, is_awaited, IsProbed}
 use Rattle.tl_manager.specs.statement.Service as manager
-use Rattle.tl_coherence.specs.protocol.Invariant.{IsAwaited}
-use Rattle.tl_coherence.proofs.{queues.Facts.is_other, queues.Phases.each_phase, queues.Phases.of_phase}
-use Rattle.tl_coherence.proofs.{queues.Tokens.same_number, protocol.BothParts.not-other}
+use proofs.queues.{Facts.is_other, Phases.each_phase, Phases.of_phase, Tokens.same_number}
+use proofs.protocol.BothParts.{not-other}
 
 -- ---- services that pass a test
 

@@ -1,16 +1,16 @@
 -- Clients that pass a test, as the manager finds them and as the protocol does; and which source a
 -- request that waits has.
-use Rattle.tl_coherence.proofs.manager.Imports.{Config, Cap, is_nobody, some_below, IsInvariant, Own, Waits, State}
-use Rattle.tl_coherence.proofs.manager.Imports.{Acquires, InService, view, is_caching}
 use Rattle.std.proofs.Common.{◌≡◌, ℕ, zero, suc, ◌<◌, ◌≤◌, Bool, true, false, not, ◌||◌, List, [], ◌∷◌, length, refl}
-use Rattle.std.proofs.Common.{sym, ◌∙◌, ap, arith}
-use Rattle.std.{specs.Prelude.if◌then◌else◌, proofs.lemmas.Bool.lt-ltb, proofs.lemmas.Option.slice_get_past}
-use Rattle.tl_rules.specs.statement.Legality.{is_one_of}
-use Rattle.tl_manager.specs.statement.Holders.{clients_where}
-use Rattle.tl_manager.proofs.words_of_clients.Clients.{among-where, nobody-is, nobody-where, where-same}
-use Rattle.tl_coherence.specs.protocol.Invariant.{IsOwnSource}
-use Rattle.tl_coherence.proofs.{queues.Facts.own_wants, protocol.RequestsKept.some-none, queues.Tokens.same_number}
-use Rattle.tl_coherence.proofs.protocol.BothParts.{acquires_of-is, serves_of-is, not-calm}
+use Rattle.std.proofs.Common.{sym, ◌∙◌, ap, arith, lt-ltb, if◌then◌else◌}
+use Rattle.tl_coherence.proofs
+use proofs.Imports.{Config, Cap, is_one_of, is_nobody, IsInvariant, IsOwnSource, Own, Waits, State, Acquires, InService}
+use proofs.Imports.{view, some_below, is_caching}
+use Rattle.std.proofs.lemmas.Option.{slice_get_past}
+use Rattle.tl_manager.{proofs.words_of_clients.Clients.among-where, proofs.words_of_clients.Clients.nobody-is}
+use Rattle.tl_manager.{proofs.words_of_clients.Clients.nobody-where, proofs.words_of_clients.Clients.where-same}
+use Rattle.tl_manager.{specs.statement.Holders.clients_where}
+use proofs.queues.{Facts.own_wants, Tokens.same_number}
+use proofs.protocol.{RequestsKept.some-none, BothParts.acquires_of-is, BothParts.serves_of-is, BothParts.not-calm}
 
 -- ---- clients that pass a test
 

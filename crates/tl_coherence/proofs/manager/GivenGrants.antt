@@ -1,12 +1,11 @@
 -- A Grant of a block to a client whose request asks for it: what is pending on the link after it.
-use Rattle.tl_coherence.proofs.manager.Imports.{IsWidth, D, MessageD, unfinished, beats-positive, Trace, on_link}
-use Rattle.tl_coherence.proofs.manager.Imports.{capped, held, is_grant, request_of, held-sent_d, recorded, after_sent}
-use Rattle.tl_coherence.proofs.manager.Imports.{own_link, other_link, ClientBlock, Block, set, Channel}
-use Rattle.std.proofs.Common.{◌≡◌, ℕ, ◌==◌, Bool, true, false, ◌&&◌, [], Some, None, refl, sym, ap, inl, inr, subst}
-use Rattle.std.specs.Prelude.{if◌then◌else◌, unwrap_or}
-use Rattle.std.proofs.lemmas.Bool.{cases_eq, eqb-true, ne_eqb}
-use Rattle.tl_rules.{specs.statement.History.asks_for}
-use Rattle.tl_coherence.proofs.queues.Tokens.{same_number, set-same, set-other}
+use Rattle.std.proofs.Common.{◌≡◌, ℕ, Bool, true, false, ◌&&◌, [], Some, None, refl, sym, ap, inl, inr, subst, eqb-true}
+use Rattle.std.proofs.Common.{ne_eqb, ◌==◌, if◌then◌else◌, unwrap_or}
+use Rattle.tl_coherence.proofs
+use proofs.Imports.{cases_eq, Channel, IsWidth, beats-positive, D, MessageD, unfinished, held-sent_d, Trace, on_link}
+use proofs.Imports.{capped, held, is_grant, request_of, asks_for, after_sent, own_link, other_link, recorded, set}
+use proofs.Imports.{ClientBlock, Block}
+use proofs.queues.Tokens.{same_number, set-same, set-other}
 
 -- ---- a Grant of block n to client q, whose request asks for that block
 

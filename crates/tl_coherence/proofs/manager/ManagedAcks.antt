@@ -1,21 +1,16 @@
 -- What the manager knows after a GrantAck, which frees its block.
-use Rattle.tl_coherence.proofs.{manager.BlockAccounts.IsTraced, manager.ManagedEndings.tracker-of}
-use Rattle.tl_coherence.proofs.manager.Imports.{BeatE, MessageA, a_beat_of, Cap, Trace, on_link, is_acquire, held}
-use Rattle.tl_coherence.proofs.manager.Imports.{pending, request_of, held_unsaid, pending-quiet, services}
-use Rattle.tl_coherence.proofs.manager.Imports.{service_of_block, beat-keeps, AreNamed, is_busy, client_in}
-use Rattle.tl_coherence.proofs.manager.Imports.{service_with, is_unprobed, Service, Free, Waits, GrantTaken, Block}
-use Rattle.tl_coherence.proofs.manager.Imports.{State, Packet, set, Beat}
-use Rattle.std.proofs.Common.{◌≡◌, ℕ, ◌==◌, Bool, true, false, not, ◌&&◌, List, ◌∷◌, Option, Some, None, refl, sym, ◌∙◌}
-use Rattle.std.proofs.Common.{ap, inl, inr}
-use Rattle.std.{specs.Prelude.if◌then◌else◌, proofs.lemmas.Bool.cases_eq, proofs.lemmas.Bool.ne_eqb}
-use Rattle.std.{proofs.lemmas.Option.same_Some}
-use Rattle.tl_params.specs.declared.key.Key.{Key}
-use Rattle.tl_manager.{specs.code.Kept.AreApart, specs.code.Kept.blocks_of, specs.statement.Service.is_ended_by}
-use Rattle.tl_manager.{proofs.services.Serving.if_passes, proofs.services.Serving.serving-filter}
+use Rattle.std.proofs.Common.{◌≡◌, ℕ, Bool, true, false, not, ◌&&◌, List, ◌∷◌, Option, Some, None, refl, sym, ◌∙◌, ap}
+use Rattle.std.proofs.Common.{inl, inr, ne_eqb, ◌==◌, if◌then◌else◌}
+use Rattle.tl_coherence.proofs
+use proofs.Imports.{cases_eq, same_Some, Beat, BeatE, MessageA, a_beat_of, Key, Cap, held_unsaid, pending-quiet, Trace}
+use proofs.Imports.{on_link, is_acquire, held, pending, request_of, request_of-e, beat-keeps, AreApart, blocks_of}
+use proofs.Imports.{services, service_of_block, AreNamed, is_busy, Packet, set, is_unprobed, Service, Free, Waits}
+use proofs.Imports.{GrantTaken, Block, State, grant_ack_taken, freed_block, client_in, service_with}
+use Rattle.tl_manager.{proofs.pending.Acked.services-e, proofs.services.Serving.if_passes}
+use Rattle.tl_manager.{proofs.services.Serving.serving-filter, specs.statement.Service.is_ended_by}
 use Rattle.tl_manager.specs.statement.Service as manager
-use Rattle.tl_manager.proofs.pending.Acked.{services-e, request_of-e}
-use Rattle.tl_coherence.specs.protocol.Protocol.{grant_ack_taken, freed_block}
-use Rattle.tl_coherence.proofs.queues.Tokens.{same_number, set-same, set-other, set-part}
+use proofs.manager.{BlockAccounts.IsTraced, ManagedEndings.tracker-of}
+use proofs.queues.Tokens.{same_number, set-same, set-other, set-part}
 
 -- ---- a beat of channel E
 

@@ -1,21 +1,17 @@
 -- What the manager knows after the last ProbeAck that an access waited for, whose answer is handed out.
-use Rattle.tl_coherence.proofs.{manager.BlockAccounts.IsTraced, protocol.BothParts.is_of-is}
-use Rattle.tl_coherence.proofs.manager.Imports.{BeatC, D, MessageA, MessageD, a_beat_of, Cap, Report, report_right}
-use Rattle.tl_coherence.proofs.manager.Imports.{Trace, on_link, is_acquire, is_grant, is_probe_ack, request_of}
-use Rattle.tl_coherence.proofs.manager.Imports.{IsAccounted, services, service_of_block, after_sent, reply-quiet}
-use Rattle.tl_coherence.proofs.manager.Imports.{request-reply, AreNamed, is_busy, Free, Waits, Block, State, Packet}
-use Rattle.tl_coherence.proofs.manager.Imports.{set, Beat}
-use Rattle.std.proofs.Common.{◌≡◌, ℕ, Bool, true, false, List, ◌∷◌, Some, refl, sym, ◌∙◌, ap, inl, inr}
-use Rattle.std.proofs.lemmas.Bool.{cases_eq, ne_eqb}
-use Rattle.tl_params.specs.declared.key.Key.{Key}
+use Rattle.std.proofs.Common.{◌≡◌, ℕ, Bool, true, false, List, ◌∷◌, Some, refl, sym, ◌∙◌, ap, inl, inr, ne_eqb}
+use Rattle.tl_coherence.proofs
+use proofs.Imports.{cases_eq, Beat, BeatC, D, MessageA, MessageD, a_beat_of, Key, Cap, Report, report_right, Trace}
+use proofs.Imports.{on_link, is_acquire, is_grant, is_probe_ack, request_of, after_sent, IsReply, reply-quiet}
+use proofs.Imports.{request-reply, services, service_of_block, is_access_answer, AreNamed, is_busy, Packet, set, Free}
+use proofs.Imports.{Waits, Block, State, report_answers, ended_block}
+use Rattle.tl_manager.{proofs.pending.Accesses.answer_kind, proofs.pending.Accesses.services-answer}
+use Rattle.tl_manager.{proofs.words_of_clients.Counts.serving-without, specs.laws.Pending.IsAccounted}
 use Rattle.tl_manager.specs.statement.Service as manager
-use Rattle.tl_manager.{specs.statement.Service.is_access_answer, proofs.words_of_clients.Counts.serving-without}
-use Rattle.tl_manager.{proofs.pending.Replied.IsReply}
-use Rattle.tl_manager.proofs.pending.Accesses.{answer_kind, services-answer}
-use Rattle.tl_coherence.specs.{protocol.Protocol.report_answers, protocol.Protocol.ended_block}
-use Rattle.tl_coherence.proofs.manager.QuiescentManager.{quiet-c, IsLastOf, recorded-answer}
-use Rattle.tl_coherence.proofs.manager.ManagedReports.{reported-records, reported-missing}
-use Rattle.tl_coherence.proofs.queues.Tokens.{same_number, set-same, set-other}
+use proofs.manager.{BlockAccounts.IsTraced, QuiescentManager.quiet-c, QuiescentManager.IsLastOf}
+use proofs.manager.{QuiescentManager.recorded-answer, ManagedReports.reported-records, ManagedReports.reported-missing}
+use proofs.protocol.BothParts.{is_of-is}
+use proofs.queues.Tokens.{same_number, set-same, set-other}
 
 -- ---- a tracker
 

@@ -1,20 +1,16 @@
 -- What the manager knows after the last ProbeAck that an Acquire waited for, whose Grant is handed out.
-use Rattle.tl_coherence.proofs.{manager.BlockAccounts.IsTraced, manager.QuiescentManager.quiet-c}
-use Rattle.tl_coherence.proofs.{manager.QuiescentManager.IsLastOf, manager.ManagedEndings.taken}
-use Rattle.tl_coherence.proofs.{manager.ManagedEndings.service_for, queues.Tokens.set-same, queues.Tokens.set-other}
-use Rattle.tl_coherence.proofs.manager.Imports.{BeatC, D, MessageA, MessageD, a_beat_of, Cap, Report, cap_right}
-use Rattle.tl_coherence.proofs.manager.Imports.{report_right, Trace, on_link, block_at, capped, is_probe_ack}
-use Rattle.tl_coherence.proofs.manager.Imports.{request_of, recorded, service_of_block, after_sent, reply-quiet}
-use Rattle.tl_coherence.proofs.manager.Imports.{request-reply, ClientBlock, is_unprobed, after_report, after_grant_sent}
-use Rattle.tl_coherence.proofs.manager.Imports.{Waits, GrantSent, Block, State, report_grants, granted_block}
-use Rattle.tl_coherence.proofs.manager.Imports.{reported_block, Packet, set}
-use Rattle.std.proofs.Common.{◌≡◌, ℕ, ◌==◌, Bool, true, false, not, ◌&&◌, List, Some, refl, sym, ◌∙◌, ap, inl, inr}
-use Rattle.std.specs.Prelude.{if◌then◌else◌}
-use Rattle.std.proofs.lemmas.Bool.{cases_eq, eqb-true, and_parts}
-use Rattle.tl_params.specs.declared.key.Key.{Key}
+use Rattle.std.proofs.Common.{◌≡◌, ℕ, Bool, true, false, not, ◌&&◌, List, Some, refl, sym, ◌∙◌, ap, inl, inr, eqb-true}
+use Rattle.std.proofs.Common.{◌==◌, if◌then◌else◌}
+use Rattle.tl_coherence.proofs
+use proofs.Imports.{cases_eq, and_parts, BeatC, D, MessageA, MessageD, a_beat_of, Key, Cap, Report, cap_right}
+use proofs.Imports.{report_right, Trace, on_link, block_at, capped, is_probe_ack, request_of, after_sent, reply-quiet}
+use proofs.Imports.{request-reply, recorded, service_of_block, Packet, set, ClientBlock, is_unprobed, after_report}
+use proofs.Imports.{after_grant_sent, Waits, GrantSent, Block, State, report_grants, granted_block, reported_block}
 use Rattle.tl_manager.proofs.pending.Granted.{IsGrant, services-grant}
-use Rattle.tl_coherence.proofs.manager.ManagedReports.{reported-records, reported-missing}
-use Rattle.tl_coherence.proofs.manager.GivenGrants.{IsGiven, given-records, pair-over}
+use proofs.manager.{BlockAccounts.IsTraced, QuiescentManager.quiet-c, QuiescentManager.IsLastOf, ManagedEndings.taken}
+use proofs.manager.{ManagedEndings.service_for, ManagedReports.reported-records, ManagedReports.reported-missing}
+use proofs.manager.{GivenGrants.IsGiven, GivenGrants.given-records, GivenGrants.pair-over}
+use proofs.queues.Tokens.{set-same, set-other}
 
 -- ---- the Grant of a service that waited
 

@@ -1,21 +1,18 @@
 -- What the manager knows after a ProbeAck that isn't the last one missing, after a Release, and after a beat of channel
 -- C
 -- that isn't the last of its message.
-use Rattle.tl_coherence.proofs.{manager.BlockAccounts.IsTraced, queues.Tokens.set-part}
-use Rattle.tl_coherence.proofs.manager.QuiescentManager.{traced-still, AreQuiet, quiet-then, quiet-c, IsLastOf}
-use Rattle.tl_coherence.proofs.manager.QuiescentManager.{recorded-last, recorded-part, missing-last, missing-part}
-use Rattle.tl_coherence.proofs.manager.QuiescentManager.{missing-release, quiet-release_ack, recorded-answer, AreStill}
-use Rattle.tl_coherence.proofs.manager.QuiescentManager.{pair-part, pair-still}
-use Rattle.tl_coherence.proofs.manager.Imports.{IsWidth, BeatC, D, MessageA, MessageD, unfinished, Prune, Report}
-use Rattle.tl_coherence.proofs.manager.Imports.{prune_right, report_right, Trace, on_link, ends, is_grant, is_probe_ack}
-use Rattle.tl_coherence.proofs.manager.Imports.{is_release_ack, pending, recorded, after_sent, reply-quiet, ClientBlock}
-use Rattle.tl_coherence.proofs.manager.Imports.{is_unprobed, after_report, Block, State, reported_block, let_block}
-use Rattle.tl_coherence.proofs.manager.Imports.{Packet, set, Beat, Channel}
-use Rattle.std.proofs.Common.{◌≡◌, ℕ, ◌==◌, Bool, true, false, not, ◌&&◌, [], ◌∷◌, refl, sym, ◌∙◌, ap}
-use Rattle.std.specs.Prelude.{if◌then◌else◌, List}
-use Rattle.tl_params.specs.declared.key.Key.{Key}
-use Rattle.tl_coherence.specs.protocol.PhaseSteps.{after_release_taken}
-use Rattle.tl_coherence.specs.protocol.Protocol.{report_taken, release_taken}
+use Rattle.std.proofs.Common.{◌≡◌, ℕ, Bool, true, false, not, ◌&&◌, [], ◌∷◌, refl, sym, ◌∙◌, ap, List, ◌==◌}
+use Rattle.std.proofs.Common.{if◌then◌else◌}
+use Rattle.tl_coherence.proofs
+use proofs.Imports.{Beat, BeatC, Channel, IsWidth, D, MessageA, MessageD, unfinished, Key, Prune, Report, prune_right}
+use proofs.Imports.{report_right, Trace, on_link, ends, is_grant, is_probe_ack, is_release_ack, pending, after_sent}
+use proofs.Imports.{reply-quiet, recorded, Packet, set, ClientBlock, is_unprobed, after_report, after_release_taken}
+use proofs.Imports.{Block, State, reported_block, let_block, report_taken, release_taken}
+use proofs.manager.BlockAccounts.{IsTraced}
+use proofs.queues.Tokens.{set-part}
+use proofs.manager.QuiescentManager.{traced-still, AreQuiet, quiet-then, quiet-c, IsLastOf, recorded-last}
+use proofs.manager.QuiescentManager.{recorded-part, missing-last, missing-part, missing-release, quiet-release_ack}
+use proofs.manager.QuiescentManager.{recorded-answer, AreStill, pair-part, pair-still}
 
 -- ---- a beat that isn't the last one
 

@@ -1,36 +1,28 @@
 -- All that is kept of the manager's end, after a beat of channel C or E that it takes: a beat that isn't the last of
 -- its
 -- message, a ProbeAck that isn't the last one missing, a Release, and a GrantAck.
-use Rattle.tl_coherence.proofs.manager.BlockAccounts.{IsTraced}
-use Rattle.tl_coherence.proofs.manager.ManagedAcks.{traced-acked, IsAcked}
-use Rattle.tl_coherence.proofs.manager.ManagedReports.{traced-report_part, traced-reported, traced-released, IsReleased}
-use Rattle.tl_coherence.proofs.manager.Imports.{IsWidth, Beat, BeatC, BeatE, Channel, Message, MessageC, MessageD}
-use Rattle.tl_coherence.proofs.manager.Imports.{beats_of, begun, c_beat_of, unfinished, Config, Prune, Report, Perm}
-use Rattle.tl_coherence.proofs.manager.Imports.{prune_code, prune_left, prune_right, report_code, report_left}
-use Rattle.tl_coherence.proofs.manager.Imports.{report_right, on_link, same_perm, ends, block_at, is_grant}
-use Rattle.tl_coherence.proofs.manager.Imports.{is_probe_ack, is_release_ack, pending, reported, is_last, Reaction}
-use Rattle.tl_coherence.proofs.manager.Imports.{with_handed, IsKept, reaction, End, offered, taken, whole-taken}
-use Rattle.tl_coherence.proofs.manager.Imports.{AbstractState, some_below, ClientBlock, is_unprobed, Block, State}
-use Rattle.tl_coherence.proofs.manager.Imports.{reported_block, let_block, Packet, IsServedWith}
 use Rattle.std.proofs.Common.{◌≡◌, ℕ, suc, ◌+◌, Bool, true, false, not, ◌&&◌, ◌||◌, List, [], ◌∷◌, length, refl, sym}
-use Rattle.std.proofs.Common.{◌∙◌, ap, subst, inl, inr, arith}
-use Rattle.std.{specs.Prelude.◌==◌, specs.Prelude.if◌then◌else◌, proofs.lemmas.Bool.cases_eq, proofs.lemmas.Bool.ne_eqb}
-use Rattle.tl_burst.{specs.statement.Burst.burst_of, proofs.Begun.length-begun}
-use Rattle.tl_params.specs.declared.key.Key.{Key}
-use Rattle.tl_rules.{specs.statement.Admission.payload_of, proofs.Payload.payload-c}
-use Rattle.tl_manager.specs.statement.Handing.{nothing, release_ack}
-use Rattle.tl_manager.specs.statement.Holders.{is_settled, is_missing}
-use Rattle.tl_manager.proofs.calls.Events.{reaction-part, reaction-release, reaction-report, reaction-ack, memory_with}
-use Rattle.tl_manager.proofs.calls.Keeping.{kept-offered}
-use Rattle.tl_coherence.specs.refinement.AbstractStep.{with_state}
-use Rattle.tl_coherence.specs.protocol.Protocol.{report_taken, release_taken, grant_ack_taken, freed_block}
-use Rattle.tl_coherence.proofs.{manager.ManagersEnd.IsAtManager, manager.Choices.nobody-same}
-use Rattle.tl_coherence.proofs.{manager.ManagerTakes.IsTakenUp, manager.Reporting.IsAbout}
-use Rattle.tl_coherence.proofs.{manager.Reporting.reported-prune}
-use Rattle.tl_coherence.proofs.manager.ManagerMemory.{block_in, other-blocks, blocks-now, block-taken}
-use Rattle.tl_coherence.proofs.manager.QuiescentManager.{IsLastOf, missing-last}
-use Rattle.tl_client.proofs.endpoint.HeldAfter.{reported-report}
-use Rattle.tl_coherence.proofs.queues.Tokens.{same_number, set-same, set-other, set-part}
+use Rattle.std.proofs.Common.{◌∙◌, ap, subst, inl, inr, arith, ne_eqb, ◌==◌, if◌then◌else◌}
+use Rattle.tl_coherence.proofs
+use proofs.Imports.{cases_eq, Beat, BeatC, BeatE, Channel, IsWidth, length-begun, Message, MessageC, MessageD, beats_of}
+use proofs.Imports.{begun, c_beat_of, burst_of, unfinished, Config, Key, Prune, Report, Perm, prune_code, prune_left}
+use proofs.Imports.{prune_right, report_code, report_left, report_right, is_last, payload_of, on_link, same_perm, ends}
+use proofs.Imports.{block_at, is_grant, is_probe_ack, is_release_ack, pending, reported, reported-report, reaction-part}
+use proofs.Imports.{reaction-ack, memory_with, whole-taken, IsKept, End, Reaction, with_handed, nothing, release_ack}
+use proofs.Imports.{is_settled, reaction, Packet, ClientBlock, is_unprobed, Block, State, reported_block, let_block}
+use proofs.Imports.{report_taken, release_taken, grant_ack_taken, freed_block, AbstractState, some_below, with_state}
+use proofs.Imports.{IsServedWith}
+use Rattle.tl_rules.proofs.Payload.{payload-c}
+use Rattle.tl_manager.{proofs.calls.Events.reaction-release, proofs.calls.Events.reaction-report}
+use Rattle.tl_manager.{proofs.calls.Keeping.kept-offered, specs.statement.Holders.is_missing}
+use Rattle.tl_manager.{specs.statement.Offer.offered, specs.statement.Offer.taken}
+use proofs.manager.{BlockAccounts.IsTraced, ManagedAcks.traced-acked, ManagedAcks.IsAcked}
+use proofs.manager.{ManagedReports.traced-report_part, ManagedReports.traced-reported, ManagedReports.traced-released}
+use proofs.manager.{ManagedReports.IsReleased, ManagersEnd.IsAtManager, Choices.nobody-same, ManagerTakes.IsTakenUp}
+use proofs.manager.{Reporting.IsAbout, Reporting.reported-prune, ManagerMemory.block_in, ManagerMemory.other-blocks}
+use proofs.manager.{ManagerMemory.blocks-now, ManagerMemory.block-taken, QuiescentManager.IsLastOf}
+use proofs.manager.{QuiescentManager.missing-last}
+use proofs.queues.Tokens.{same_number, set-same, set-other, set-part}
 
 -- what is kept of the manager's end beside the protocol as it follows
 abbrev pub IsManagerOf : {w : ℕ} → Config → AbstractState w → End w → Type 0

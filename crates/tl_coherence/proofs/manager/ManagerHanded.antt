@@ -1,12 +1,11 @@
 -- What the manager hands out at a beat of channel C or E: the messages of the tokens that the protocol pushes.
-use Rattle.tl_coherence.proofs.manager.Imports.{Config, Cap, Grow, Report, cap_right, same_perm, AbstractState}
-use Rattle.tl_coherence.proofs.manager.Imports.{ClientBlock, after_report, after_grant_sent, is_granted_data, Block}
-use Rattle.tl_coherence.proofs.manager.Imports.{granted_block, block_message, Grant, set, Perm}
 use Rattle.std.proofs.Common.{◌≡◌, ℕ, Bool, false, List, refl, ap}
-use Rattle.tl_coherence.specs.{protocol.Invariant.IsWell}
+use Rattle.tl_coherence.proofs
+use proofs.Imports.{Config, Cap, Grow, Report, Perm, cap_right, same_perm, IsWell, Grant, set, ClientBlock}
+use proofs.Imports.{after_report, after_grant_sent, is_granted_data, Block, granted_block, AbstractState, block_message}
 use Rattle.tl_coherence.specs.protocol.Protocol as protocol
-use Rattle.tl_coherence.proofs.{manager.ManagerSettles.gift_after, manager.ManagerSettles.grant_after}
-use Rattle.tl_coherence.proofs.{queues.Tokens.set-same, queues.Codes.gives-some, manager.RequestsHanded.memory-granted}
+use proofs.manager.{ManagerSettles.gift_after, ManagerSettles.grant_after, RequestsHanded.memory-granted}
+use proofs.queues.{Tokens.set-same, Codes.gives-some}
 
 -- ---- the Grant
 

@@ -1,21 +1,16 @@
 -- The manager's memory, block by block, after what it takes from channel C and after an access is performed.
-use Rattle.tl_coherence.proofs.manager.Imports.{IsWidth, c_carries_data, Beat, BeatC, Link, Channel, MessageA, Config}
-use Rattle.tl_coherence.proofs.manager.Imports.{Level, Memory, answer_of, bytes_from, effect, block_at, access_answer}
-use Rattle.tl_coherence.proofs.manager.Imports.{IsKept, illegal_message_at, offered, answers, performs, Block, State}
-use Rattle.tl_coherence.proofs.manager.Imports.{set, Message}
 use Rattle.std.proofs.Common.{◌≡◌, ℕ, ◌+◌, ◌*◌, ◌%◌, ◌^◌, ◌<◌, ◌≤◌, Bool, true, false, List, length, Option, Some, None}
-use Rattle.std.proofs.Common.{refl, sym, ◌∙◌, ap, arith, inl, inr}
-use Rattle.std.specs.Prelude.{◌-◌, if◌then◌else◌}
-use Rattle.std.proofs.lemmas.Bool.{cases_eq, eqb-true, ne_eqb}
-use Rattle.tl_rules.{specs.statement.Admission.payload_of, specs.statement.Effect.AccessResult}
-use Rattle.tl_rules.{specs.statement.Effect.SameBlock, proofs.Bursts.control_of_legal, proofs.Bursts.control_aligned}
-use Rattle.tl_rules.{proofs.Local.after-local, proofs.Local.reply-local, proofs.Local.bytes_same}
-use Rattle.tl_rules.{proofs.Rooms.room_in_block}
+use Rattle.std.proofs.Common.{refl, sym, ◌∙◌, ap, arith, inl, inr, ◌-◌, eqb-true, ne_eqb, if◌then◌else◌}
+use Rattle.tl_coherence.proofs
+use proofs.Imports.{cases_eq, Beat, BeatC, Link, Channel, c_carries_data, IsWidth, Message, MessageA, Config, Level}
+use proofs.Imports.{control_of_legal, control_aligned, after-local, reply-local, bytes_same, room_in_block, payload_of}
+use proofs.Imports.{Memory, answer_of, bytes_from, effect, AccessResult, SameBlock, block_at, memory-elsewhere, IsKept}
+use proofs.Imports.{illegal_message_at, access_answer, with_block, set, Block, State, answers, performs, bytes_at}
+use Rattle.tl_manager.{proofs.blocks.Written.block-written, specs.statement.Offer.offered}
+use Rattle.tl_manager.{specs.statement.Reaction.written}
 use Rattle.tl_manager.specs.statement.End as manager_end
-use Rattle.tl_manager.{specs.statement.Reaction.with_block, specs.statement.Reaction.written}
-use Rattle.tl_manager.{proofs.blocks.Memories.memory-elsewhere, proofs.blocks.Written.block-written}
-use Rattle.tl_coherence.specs.refinement.AbstractStep.{bytes_at}
-use Rattle.tl_coherence.proofs.{queues.Tokens.set-same, queues.Tokens.set-other, manager.Memories.byte_in}
+use proofs.queues.Tokens.{set-same, set-other}
+use proofs.manager.Memories.{byte_in}
 
 -- ---- the bytes of a block
 

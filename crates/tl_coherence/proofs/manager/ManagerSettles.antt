@@ -1,36 +1,28 @@
 -- All that is kept of the manager's end, after the last ProbeAck that a request waited for.
-use Rattle.tl_coherence.proofs.manager.BlockAccounts.{IsTraced}
-use Rattle.tl_coherence.proofs.manager.ManagedGrants.{traced-conceded, IsConceded}
-use Rattle.tl_coherence.proofs.manager.ManagedEndings.{traced-ended, IsEnding, service_for}
-use Rattle.tl_manager.specs.statement.Holders as holders
-use Rattle.tl_manager.specs.statement.Handing as handing
-use Rattle.tl_coherence.proofs.manager.Imports.{is_granted_data, after_report, Perm, Grow, BeatC, Message, MessageA}
-use Rattle.tl_coherence.proofs.manager.Imports.{MessageC, MessageD, c_beat_of, Config, Cap, Report, Trace, same_perm}
-use Rattle.tl_coherence.proofs.manager.Imports.{effect, Memory, block_at, is_release_ack, is_grant, capped, Reaction}
-use Rattle.tl_coherence.proofs.manager.Imports.{access_answer, with_handed, cap_granted, recorded, reaction, End}
-use Rattle.tl_coherence.proofs.manager.Imports.{level_of, performed-access, performed-acquire, AbstractState, answers}
-use Rattle.tl_coherence.proofs.manager.Imports.{performs, acquire_opcode, gift, is_unheld, ClientBlock, GrantSent}
-use Rattle.tl_coherence.proofs.manager.Imports.{Block, State, Acquires, report_grants, granted_block, reported_block}
-use Rattle.tl_coherence.proofs.manager.Imports.{set, Packet, IsServedWith, Beat}
-use Rattle.tl_coherence.proofs.{manager.ManagedReports.reported-records, manager.Choices.nobody-same}
-use Rattle.tl_coherence.proofs.{queues.Tokens.set-same, queues.Tokens.set-other, queues.Codes.data-same}
-use Rattle.tl_coherence.specs.refinement.PacketMessages.{grant_of}
 use Rattle.std.proofs.Common.{◌≡◌, ℕ, Bool, true, false, not, List, [], ◌∷◌, length, refl, sym, ◌∙◌, ap, ap₂, subst}
 use Rattle.std.proofs.Common.{inl, inr}
-use Rattle.std.proofs.lemmas.Bool.{cases_eq}
-use Rattle.tl_params.specs.statement.Param.{cap_code, grow_code}
+use Rattle.tl_coherence.proofs
+use proofs.Imports.{cases_eq, Beat, BeatC, Message, MessageA, MessageC, MessageD, c_beat_of, Config, Cap, Grow, Report}
+use proofs.Imports.{Perm, cap_code, grow_code, Trace, same_perm, effect, Memory, block_at, is_release_ack, is_grant}
+use proofs.Imports.{capped, cap-gives, performed-access, performed-acquire, memory_with, grants_by_opcode, End}
+use proofs.Imports.{Reaction, access_answer, with_handed, cap_granted, grant, recorded, level_of, reaction}
+use proofs.Imports.{is_access_answer, set, Packet, ClientBlock, is_granted_data, after_report, GrantSent, Block, State}
+use proofs.Imports.{Acquires, report_grants, granted_block, reported_block, report_answers, ended_block, AbstractState}
+use proofs.Imports.{answers, performs, acquire_opcode, gift, is_unheld, with_state, grant_of, IsServedWith}
 use Rattle.tl_rules.specs.declared.answer.Answer.{Answer}
-use Rattle.tl_manager.{specs.statement.Handing.grant, specs.statement.Holders.has_copy}
-use Rattle.tl_manager.{specs.statement.Service.is_access_answer, proofs.calls.Events.memory_with}
-use Rattle.tl_manager.{proofs.blocks.Recording.cap-gives, proofs.pending.Performed.grants_by_opcode}
-use Rattle.tl_coherence.specs.refinement.AbstractStep.{with_answer, with_state}
+use Rattle.tl_manager.specs.statement.Holders.{has_copy}
+use Rattle.tl_coherence.specs.refinement.AbstractStep.{with_answer}
+use Rattle.tl_manager.specs.statement.Holders as holders
+use Rattle.tl_manager.specs.statement.Handing as handing
 use Rattle.tl_coherence.specs.protocol.Protocol as protocol
-use Rattle.tl_coherence.specs.protocol.Protocol.{report_answers, ended_block}
-use Rattle.tl_coherence.proofs.manager.ManagerAfter.{IsManagerOf, left, kept-left, others-left}
-use Rattle.tl_coherence.proofs.manager.ManagerMemory.{block_in, blocks-now, block-performed, answer-performed}
-use Rattle.tl_coherence.proofs.manager.SettlingService.{IsSettling, trace_with, settling-last, settling-ready}
-use Rattle.tl_coherence.proofs.manager.SettlingService.{settling-reaction, settling-lawful, settling-for}
-use Rattle.tl_coherence.proofs.manager.SettlingService.{settling-reply, settling-memory}
+use proofs.manager.{BlockAccounts.IsTraced, ManagedGrants.traced-conceded, ManagedGrants.IsConceded}
+use proofs.manager.{ManagedEndings.traced-ended, ManagedEndings.IsEnding, ManagedEndings.service_for}
+use proofs.manager.{ManagedReports.reported-records, Choices.nobody-same, ManagerAfter.IsManagerOf, ManagerAfter.left}
+use proofs.manager.{ManagerAfter.kept-left, ManagerAfter.others-left, ManagerMemory.block_in, ManagerMemory.blocks-now}
+use proofs.manager.{ManagerMemory.block-performed, ManagerMemory.answer-performed}
+use proofs.queues.{Tokens.set-same, Tokens.set-other, Codes.data-same}
+use proofs.manager.SettlingService.{IsSettling, trace_with, settling-last, settling-ready, settling-reaction}
+use proofs.manager.SettlingService.{settling-lawful, settling-for, settling-reply, settling-memory}
 
 -- ---- an access
 

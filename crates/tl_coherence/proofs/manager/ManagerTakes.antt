@@ -1,34 +1,25 @@
 -- A beat that is delivered on channel C or E breaks no rule after what the manager has of the link, and is taken.
-use Rattle.tl_coherence.proofs.manager.Imports.{Beat, BeatE, Channel, first_if, MessageA, MessageC, begun, c_beat_of}
-use Rattle.tl_coherence.proofs.manager.Imports.{History, unfinished, Config, Level, Cap, Prune, Report, Perm, Profile}
-use Rattle.tl_coherence.proofs.manager.Imports.{prune_code, prune_left, report_code, on_link, broken_in_order}
-use Rattle.tl_coherence.proofs.manager.Imports.{broken_order, same_perm, held, pending, IsKept, reaction, End, Passes}
-use Rattle.tl_coherence.proofs.manager.Imports.{judged, level_of, must_wait, offered, taken, IsInvariant, AreNamed}
-use Rattle.tl_coherence.proofs.manager.Imports.{ManagerRelation, is_own, View, Own, Other, Granting, Acknowledging}
-use Rattle.tl_coherence.proofs.manager.Imports.{GrantedOther, is_unprobed, Service, Free, Waits, GrantSent, GrantTaken}
-use Rattle.tl_coherence.proofs.manager.Imports.{Block, State, view, is_granting, is_acknowledging, is_on, packet}
-use Rattle.tl_coherence.proofs.manager.Imports.{AccessMessages, block_message, ServedSourceRelation, cap_waited}
-use Rattle.tl_coherence.proofs.manager.Imports.{is_granted, System, Kind, ProbeAck, Release, GrantAck, Packet, Message}
-use Rattle.tl_coherence.proofs.{queues.FirstToken.IsFirst, queues.Carried.IsNext, queues.Facts.is_other}
-use Rattle.tl_coherence.proofs.{queues.Facts.release_begins, queues.PhaseFacts.report_fits, queues.PhaseFacts.own_alone}
-use Rattle.tl_coherence.proofs.{manager.Orders.report-legal, queues.Phases.and_left, queues.Phases.and_right}
-use Rattle.tl_coherence.proofs.{queues.PhaseSteps.on_other, manager.ManagedEndings.tracker-of}
-use Rattle.tl_coherence.proofs.{manager.Reporting.IsAbout, queues.Tokens.same_number, queues.Tokens.ordered-first}
 use Rattle.std.proofs.Common.{sym, subst, ◌≡◌, ℕ, zero, suc, Bool, true, false, not, ◌&&◌, ◌||◌, List, [], ◌∷◌, Option}
-use Rattle.std.proofs.Common.{Some, None, refl, ◌∙◌, ap, arith}
-use Rattle.std.specs.Prelude.{◌==◌, if◌then◌else◌, map}
-use Rattle.tl_burst.specs.statement.Messages.{channel_of}
-use Rattle.tl_params.{specs.declared.key.Key.Key, specs.statement.Param.prune_of, specs.statement.Param.report_at}
-use Rattle.tl_params.specs.declared.rule.Rule.TheVariants.{H1, H8, H13}
-use Rattle.tl_rules.{specs.statement.Conformance.prunes_from, proofs.Later.later-legal}
-use Rattle.tl_manager.{specs.code.Kept.IsSound, specs.code.Kept.illegal_at, proofs.judging.Judged.judged-passes}
-use Rattle.tl_manager.{proofs.judging.Judged.manager-takes, proofs.pending.LinkHistories.whole-e}
-use Rattle.tl_manager.{specs.laws.Pending.one_if}
+use Rattle.std.proofs.Common.{Some, None, refl, ◌∙◌, ap, arith, ◌==◌, if◌then◌else◌, map}
+use Rattle.tl_coherence.proofs
+use proofs.Imports.{Beat, BeatE, Channel, first_if, Message, MessageA, MessageC, begun, c_beat_of, History, unfinished}
+use proofs.Imports.{channel_of, Config, Key, Level, Cap, Prune, Report, Perm, Profile, H1, H13, prune_code, prune_left}
+use proofs.Imports.{report_code, prune_of, report_at, later-legal, on_link, broken_in_order, broken_order, same_perm}
+use proofs.Imports.{prunes_from, held, pending, judged-passes, whole-e, IsKept, IsSound, illegal_at, one_if, End}
+use proofs.Imports.{Passes, level_of, must_wait, is_from_client, open_level, reaction, IsInvariant, AreNamed, Kind}
+use proofs.Imports.{ProbeAck, Release, GrantAck, Packet, is, count, View, Own, Other, Granting, Acknowledging}
+use proofs.Imports.{GrantedOther, is_unprobed, ProbeAnswered, ReleaseSent, is_unreleased, same_report, Service, Free}
+use proofs.Imports.{Waits, GrantSent, GrantTaken, Block, State, view, is_on, packet, is_granting, is_acknowledging}
+use proofs.Imports.{is_answered, ManagerRelation, is_own, AccessMessages, block_message, message_of, message_of_kind}
+use proofs.Imports.{ServedSourceRelation, cap_waited, is_granted, System}
+use Rattle.tl_params.specs.declared.rule.Rule.TheVariants.{H8}
+use Rattle.tl_manager.{proofs.judging.Judged.manager-takes, specs.statement.Offer.judged, specs.statement.Offer.offered}
+use Rattle.tl_manager.{specs.statement.Offer.taken, specs.statement.Offer.unlawful}
 use Rattle.tl_manager.specs.statement.Offer as manager_offer
-use Rattle.tl_manager.specs.statement.Offer.{is_from_client, open_level, unlawful}
-use Rattle.tl_coherence.specs.protocol.Phase.{ProbeAnswered, ReleaseSent, is_unreleased, same_report}
-use Rattle.tl_coherence.specs.{protocol.Tokens.is_answered, protocol.Packet.is, protocol.Packet.count}
-use Rattle.tl_coherence.specs.refinement.PacketMessages.{message_of, message_of_kind}
+use proofs.queues.{FirstToken.IsFirst, Carried.IsNext, Facts.is_other, Facts.release_begins, PhaseFacts.report_fits}
+use proofs.queues.{PhaseFacts.own_alone, Phases.and_left, Phases.and_right, PhaseSteps.on_other, Tokens.same_number}
+use proofs.queues.{Tokens.ordered-first}
+use proofs.manager.{Orders.report-legal, ManagedEndings.tracker-of, Reporting.IsAbout}
 
 -- ---- the first message of channel C or E
 

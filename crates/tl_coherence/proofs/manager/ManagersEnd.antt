@@ -1,10 +1,10 @@
 -- The manager's end beside the protocol: all that is kept of it in one, and what follows from one trace and one memory.
-use Rattle.tl_coherence.proofs.manager.Imports.{MessageA, Config, bytes_from, IsKept, End, Log, Service, Waits}
-use Rattle.tl_coherence.proofs.manager.Imports.{GrantSent, State, AccessMessages, System, SimulationRelation}
-use Rattle.tl_coherence.proofs.manager.Imports.{IsServedWith}
 use Rattle.std.proofs.Common.{◌≡◌, ℕ, ◌*◌, List, [], sym, ◌∙◌}
-use Rattle.tl_coherence.proofs.{manager.Accounts.traced-known, manager.BlockAccounts.IsTraced}
-use Rattle.tl_coherence.proofs.manager.Traces.{IsSameToManager, SameService, traced-same}
+use Rattle.tl_coherence.proofs
+use proofs.Imports.{MessageA, Config, bytes_from, IsKept, End, Service, Waits, GrantSent, State, AccessMessages}
+use proofs.Imports.{SimulationRelation, IsServedWith, Log, System}
+use proofs.manager.{Accounts.traced-known, BlockAccounts.IsTraced, Traces.IsSameToManager, Traces.SameService}
+use proofs.manager.{Traces.traced-same}
 
 -- all that is kept of the manager's end
 pub record IsAtManager {w : ℕ} (config : Config) (mail : AccessMessages w) (request : ℕ → MessageA w)

@@ -1,13 +1,10 @@
 -- The manager's memory, block by block, after an access was performed.
-use Rattle.tl_coherence.proofs.manager.Imports.{IsWidth, A, MessageA, Level, Memory, bytes_from, effect, block_at}
-use Rattle.tl_coherence.proofs.manager.Imports.{illegal_message_at, performs}
 use Rattle.std.proofs.Common.{◌≡◌, ℕ, zero, suc, ◌+◌, ◌-◌, ◌*◌, ◌%◌, ◌^◌, ◌<◌, ◌≤◌, Option, Some, None, sym, ◌∙◌, ap}
-use Rattle.std.proofs.Common.{arith}
-use Rattle.std.{specs.Prelude.slice_index, proofs.lemmas.Bool.eqb-true}
-use Rattle.tl_rules.{specs.statement.Effect.SameBlock, proofs.Bursts.control_of_legal, proofs.Bursts.control_aligned}
-use Rattle.tl_rules.{proofs.Local.after-local, proofs.Local.reply-local, proofs.Local.bytes_same}
-use Rattle.tl_rules.{proofs.Rooms.room_in_block}
-use Rattle.tl_coherence.specs.refinement.AbstractStep.{bytes_at}
+use Rattle.std.proofs.Common.{arith, eqb-true, slice_index}
+use Rattle.tl_coherence.proofs
+use proofs.Imports.{IsWidth, A, MessageA, Level, control_of_legal, control_aligned, after-local, reply-local}
+use proofs.Imports.{bytes_same, room_in_block, Memory, bytes_from, effect, SameBlock, block_at, illegal_message_at}
+use proofs.Imports.{performs, bytes_at}
 
 -- the bytes of a block that no byte of is changed
 pub block-same : (f g : Memory) (n : ℕ) → SameBlock n f g → bytes_from f (64 * n) 64 ≡ bytes_from g (64 * n) 64

@@ -1,30 +1,25 @@
 -- What the manager knows after a request that is performed at once: an access that is answered, an
 -- Acquire that is granted.
-use Rattle.tl_coherence.proofs.manager.Imports.{beats-positive, Message, A, D, MessageA, MessageD, a_beat_of, beats_of}
-use Rattle.tl_coherence.proofs.manager.Imports.{unfinished, Config, ProbeOf, Cap, cap_right, Trace, on_link, Memory}
-use Rattle.tl_coherence.proofs.manager.Imports.{effect, answer_of, pending, held, block_at, is_acquire, is_grant}
-use Rattle.tl_coherence.proofs.manager.Imports.{request_of, capped, held-sent_d, IsWidth, ClientBlock, is_unprobed}
-use Rattle.tl_coherence.proofs.manager.Imports.{Reaction, with_handed, performed, access_answer, cap_granted, recorded}
-use Rattle.tl_coherence.proofs.manager.Imports.{services, service_of_block, least_untaken, trackers_of, End}
-use Rattle.tl_coherence.proofs.manager.Imports.{performed-access, performed-acquire, after_sent, own_link, other_link}
-use Rattle.tl_coherence.proofs.manager.Imports.{whole-taken, reply-quiet, request-reply, after_grant_sent, set, Free}
-use Rattle.tl_coherence.proofs.manager.Imports.{Waits, GrantSent, Block, State, granted_at_once, client_in}
-use Rattle.tl_coherence.proofs.manager.Imports.{service_with, Beat, Channel}
-use Rattle.std.proofs.Common.{◌≡◌, ℕ, suc, ◌==◌, Bool, true, false, not, ◌&&◌, [], ◌∷◌, Some, None, refl, sym, ◌∙◌, ap}
-use Rattle.std.proofs.Common.{inl, inr}
-use Rattle.std.specs.Prelude.{if◌then◌else◌, unwrap_or}
-use Rattle.std.proofs.lemmas.Bool.{cases_eq, ne_eqb}
-use Rattle.tl_rules.{specs.declared.answer.Answer.Answer, specs.statement.History.asks_for}
-use Rattle.tl_manager.{specs.statement.Handing.grant, specs.statement.Handing.is_granted_data}
-use Rattle.tl_manager.{specs.statement.Service.Service, proofs.pending.LinkHistories.sent-keeps}
-use Rattle.tl_manager.{proofs.pending.Performed.performed-serving, proofs.blocks.Recording.cap-gives}
+use Rattle.std.proofs.Common.{◌≡◌, ℕ, suc, Bool, true, false, not, ◌&&◌, [], ◌∷◌, Some, None, refl, sym, ◌∙◌, ap, inl}
+use Rattle.std.proofs.Common.{inr, ne_eqb, ◌==◌, if◌then◌else◌, unwrap_or}
+use Rattle.tl_coherence.proofs
+use proofs.Imports.{cases_eq, Beat, Channel, IsWidth, beats-positive, Message, A, D, MessageA, MessageD, a_beat_of}
+use proofs.Imports.{beats_of, unfinished, Config, ProbeOf, Cap, cap_right, held-sent_d, Trace, on_link, Memory, effect}
+use proofs.Imports.{answer_of, pending, held, block_at, is_acquire, is_grant, request_of, capped, asks_for, cap-gives}
+use proofs.Imports.{performed-access, performed-acquire, after_sent, own_link, other_link, whole-taken, reply-quiet}
+use proofs.Imports.{request-reply, End, Reaction, with_handed, performed, access_answer, cap_granted, grant, recorded}
+use proofs.Imports.{services, service_of_block, least_untaken, trackers_of, set, ClientBlock, is_unprobed}
+use proofs.Imports.{after_grant_sent, Free, Waits, GrantSent, Block, State, granted_at_once, performed_block, client_in}
+use proofs.Imports.{service_with}
+use Rattle.tl_rules.specs.declared.answer.Answer.{Answer}
+use Rattle.tl_manager.{proofs.pending.LinkHistories.sent-keeps, proofs.pending.Performed.performed-serving}
+use Rattle.tl_manager.{specs.statement.Handing.is_granted_data, specs.statement.Service.Service}
 use Rattle.tl_manager.specs.statement.Holders as holders
-use Rattle.tl_coherence.specs.protocol.Protocol.{performed_block}
-use Rattle.tl_coherence.proofs.{manager.BlockAccounts.IsTraced, manager.Traces.traced-at, queues.Codes.grants-so}
-use Rattle.tl_coherence.proofs.manager.Arrivals.{link_of, with_beat, IsComing, service_for, ready-last}
-use Rattle.tl_coherence.proofs.manager.Requests.{recorded-beat, missing-beat, request-beat, request-own, IsUnwaited}
-use Rattle.tl_coherence.proofs.manager.Requests.{serving-last, serving-others}
-use Rattle.tl_coherence.proofs.queues.Tokens.{same_number, set-same, set-other, set-part}
+use proofs.manager.{BlockAccounts.IsTraced, Traces.traced-at, Arrivals.link_of, Arrivals.with_beat, Arrivals.IsComing}
+use proofs.manager.{Arrivals.service_for, Arrivals.ready-last}
+use proofs.queues.{Codes.grants-so, Tokens.same_number, Tokens.set-same, Tokens.set-other, Tokens.set-part}
+use proofs.manager.Requests.{recorded-beat, missing-beat, request-beat, request-own, IsUnwaited, serving-last}
+use proofs.manager.Requests.{serving-others}
 
 -- the trace after the last beat of a request, which is performed, and its answer
 abbrev pub with_answer : {w : ℕ} → Config → ℕ → ℕ → MessageA w → Memory → Trace w → Trace w

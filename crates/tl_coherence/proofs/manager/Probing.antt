@@ -1,28 +1,23 @@
 -- What the manager knows after a request for which others are probed: an Acquire, or an access.
-use Rattle.tl_coherence.proofs.manager.Imports.{A, MessageA, a_beat_of, beats_of, unfinished, Config, ProbeOf, Cap}
-use Rattle.tl_coherence.proofs.manager.Imports.{Trace, on_link, pending, held, block_at, request_of, held_unsaid}
-use Rattle.tl_coherence.proofs.manager.Imports.{swapped, with_handed, probes, recorded, is_spared, probed, services}
-use Rattle.tl_coherence.proofs.manager.Imports.{service_of_block, least_untaken, trackers_of, End, whole-taken}
-use Rattle.tl_coherence.proofs.manager.Imports.{ClientBlock, is_unprobed, is_above, set, Free, Waits, Block, State}
-use Rattle.tl_coherence.proofs.manager.Imports.{client_in, service_with, IsFor, Beat, Channel, Perm}
-use Rattle.std.proofs.Common.{◌≡◌, ℕ, suc, ◌≤◌, ◌==◌, Bool, true, false, not, ◌&&◌, List, [], Option, Some, length}
-use Rattle.std.proofs.Common.{refl, sym, ◌∙◌, ap, inl, inr, arith}
-use Rattle.std.{specs.Prelude.if◌then◌else◌, proofs.lemmas.Bool.cases_lt, proofs.lemmas.Bool.ne_eqb}
-use Rattle.std.{proofs.Math.Bool.and-false}
-use Rattle.tl_rules.specs.statement.Admission.{sent}
-use Rattle.tl_manager.{specs.statement.Handing.probe_beat, specs.statement.Handing.probe_of_block}
-use Rattle.tl_manager.{specs.statement.Service.Service, proofs.pending.Probed.probes-keep}
+use Rattle.std.proofs.Common.{◌≡◌, ℕ, suc, ◌≤◌, Bool, true, false, not, ◌&&◌, List, [], Option, Some, length, refl, sym}
+use Rattle.std.proofs.Common.{◌∙◌, ap, inl, inr, arith, ne_eqb, ◌==◌, if◌then◌else◌}
+use Rattle.tl_coherence.proofs
+use proofs.Imports.{and-false, cases_lt, Beat, Channel, A, MessageA, a_beat_of, beats_of, unfinished, Config, ProbeOf}
+use proofs.Imports.{Cap, Perm, held_unsaid, sent, Trace, on_link, pending, held, block_at, request_of, swapped}
+use proofs.Imports.{whole-taken, End, with_handed, probes, probe_of_block, recorded, is_spared, probed, services}
+use proofs.Imports.{service_of_block, least_untaken, trackers_of, set, ClientBlock, is_unprobed, ProbeSent, is_above}
+use proofs.Imports.{after_served, Free, Waits, Block, State, served_pair, served_block, client_in, service_with, IsFor}
+use Rattle.tl_manager.{proofs.pending.Probed.probes-keep, proofs.pending.Probes.probes-within}
+use Rattle.tl_manager.{proofs.pending.Probes.probes-beyond, proofs.pending.Probes.services-probes}
+use Rattle.tl_manager.{proofs.pending.Probing.missing-own_b, proofs.pending.Probing.missing-else_b}
+use Rattle.tl_manager.{proofs.pending.Probing.request_of-b, specs.statement.Handing.probe_beat}
+use Rattle.tl_manager.{specs.statement.Service.Service}
 use Rattle.tl_manager.specs.statement.Holders as holders
-use Rattle.tl_manager.proofs.pending.Probes.{probes-within, probes-beyond, services-probes}
-use Rattle.tl_manager.proofs.pending.Probing.{missing-own_b, missing-else_b, request_of-b}
-use Rattle.tl_coherence.specs.{protocol.Phase.ProbeSent, protocol.PhaseSteps.after_served}
-use Rattle.tl_coherence.specs.{protocol.Protocol.served_pair, protocol.Protocol.served_block}
-use Rattle.tl_coherence.proofs.{manager.BlockAccounts.IsTraced, manager.Traces.traced-at}
-use Rattle.tl_coherence.proofs.{manager.ManagedServed.same_above, queues.Tokens.set-same, queues.Tokens.set-other}
-use Rattle.tl_coherence.proofs.{queues.Perms.nothing-above}
-use Rattle.tl_coherence.proofs.manager.Arrivals.{link_of, with_beat, IsComing, service_for}
-use Rattle.tl_coherence.proofs.manager.Requests.{recorded-beat, missing-beat, request-beat, request-own, IsUnwaited}
-use Rattle.tl_coherence.proofs.manager.Requests.{serving-last, serving-others}
+use proofs.manager.{BlockAccounts.IsTraced, Traces.traced-at, ManagedServed.same_above, Arrivals.link_of}
+use proofs.manager.{Arrivals.with_beat, Arrivals.IsComing, Arrivals.service_for}
+use proofs.queues.{Tokens.set-same, Tokens.set-other, Perms.nothing-above}
+use proofs.manager.Requests.{recorded-beat, missing-beat, request-beat, request-own, IsUnwaited, serving-last}
+use proofs.manager.Requests.{serving-others}
 
 -- the trace after the last beat of a request, and the Probes
 abbrev pub with_probes : {w : ℕ} → Config → ℕ → ℕ → MessageA w → ℕ → Cap → Trace w → Trace w

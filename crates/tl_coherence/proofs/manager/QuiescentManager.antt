@@ -1,21 +1,17 @@
 -- Beats and answers after which the manager's end says the same of all but what is recorded and which
 -- ProbeAcks are missing.
-use Rattle.tl_coherence.proofs.manager.BlockAccounts.{IsTraced}
-use Rattle.tl_coherence.proofs.manager.Imports.{IsWidth, BeatC, Link, D, MessageA, MessageD, unfinished, Perm, Trace}
-use Rattle.tl_coherence.proofs.manager.Imports.{on_link, ends, block_at, is_grant, is_probe_ack, is_release}
-use Rattle.tl_coherence.proofs.manager.Imports.{is_release_ack, pending, reported, request_of, held, held-sent_d}
-use Rattle.tl_coherence.proofs.manager.Imports.{beats-positive, recorded, services, service_of_block, after_sent}
-use Rattle.tl_coherence.proofs.manager.Imports.{own_link, other_link, own_beat, other_beat, beat-keeps, request-reply}
-use Rattle.tl_coherence.proofs.manager.Imports.{ClientBlock, is_unprobed, Block, State, set, Beat, Channel}
-use Rattle.std.proofs.Common.{◌≡◌, ℕ, ◌==◌, Bool, true, false, not, ◌&&◌, ◌||◌, [], ◌∷◌, Some, None, refl, sym, ◌∙◌, ap}
-use Rattle.std.proofs.Common.{subst, inl, inr}
-use Rattle.std.specs.Prelude.{if◌then◌else◌, unwrap_or}
-use Rattle.std.proofs.lemmas.Bool.{cases_eq, eqb-true, ne_eqb}
-use Rattle.tl_params.specs.declared.key.Key.{Key}
+use Rattle.std.proofs.Common.{◌≡◌, ℕ, Bool, true, false, not, ◌&&◌, ◌||◌, [], ◌∷◌, Some, None, refl, sym, ◌∙◌, ap}
+use Rattle.std.proofs.Common.{subst, inl, inr, eqb-true, ne_eqb, ◌==◌, if◌then◌else◌, unwrap_or}
+use Rattle.tl_coherence.proofs
+use proofs.Imports.{cases_eq, Beat, BeatC, Link, Channel, IsWidth, beats-positive, D, MessageA, MessageD, unfinished}
+use proofs.Imports.{Key, Perm, held-sent_d, Trace, on_link, ends, block_at, is_grant, is_probe_ack, is_release}
+use proofs.Imports.{is_release_ack, pending, reported, request_of, held, after_sent, own_link, other_link, own_beat}
+use proofs.Imports.{other_beat, beat-keeps, request_of-c, request-reply, recorded, services, service_of_block, set}
+use proofs.Imports.{ClientBlock, is_unprobed, Block, State}
 use Rattle.tl_manager.{proofs.pending.Accesses.services-release_ack, proofs.pending.Handed.recorded-taken}
-use Rattle.tl_manager.{proofs.pending.LinkHistories.pending-closed}
-use Rattle.tl_manager.proofs.pending.Probing.{services-c, request_of-c}
-use Rattle.tl_coherence.proofs.queues.Tokens.{same_number, set-same, set-other}
+use Rattle.tl_manager.{proofs.pending.LinkHistories.pending-closed, proofs.pending.Probing.services-c}
+use proofs.manager.BlockAccounts.{IsTraced}
+use proofs.queues.Tokens.{same_number, set-same, set-other}
 
 -- ---- the manager's end
 

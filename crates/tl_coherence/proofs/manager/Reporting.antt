@@ -1,15 +1,10 @@
 -- What the messages of channel C say that a client has in flight, and what the manager takes of them.
-use Rattle.tl_coherence.proofs.manager.Imports.{IsWidth, c_carries_data, MessageC, beats_of, Prune, Report, prune_code}
-use Rattle.tl_coherence.proofs.manager.Imports.{prune_left, prune_right, report_code, report_left, block_at}
-use Rattle.tl_coherence.proofs.manager.Imports.{is_probe_ack, is_release, reported, same_perm, same_block, Message}
-use Rattle.tl_coherence.proofs.manager.Imports.{Perm}
-use Rattle.std.proofs.Common.{◌≡◌, ℕ, ◌*◌, Bool, true, false, not, List, length, refl, arith, pow_pos, lit<}
-use Rattle.std.proofs.lemmas.List.{drop_all}
-use Rattle.tl_beat.{specs.declared.opcode.OpB.OpB, specs.declared.opcode.OpC.OpC}
-use Rattle.tl_burst.specs.statement.Burst.{data_beats, IsZeroFrom, IsBlankAfter}
-use Rattle.tl_client.specs.statement.Endpoint.{zeros}
-use Rattle.tl_client.specs.statement.Send.{about, probe_ack, release}
-use Rattle.tl_rules.proofs.Widths.{whole_block}
+use Rattle.std.proofs.Common.{◌≡◌, ℕ, ◌*◌, Bool, true, false, not, List, length, refl, arith, lit<, pow_pos}
+use Rattle.tl_coherence.proofs
+use proofs.Imports.{drop_all, OpB, OpC, c_carries_data, IsWidth, Message, MessageC, beats_of, data_beats, IsZeroFrom}
+use proofs.Imports.{IsBlankAfter, Prune, Report, Perm, prune_code, prune_left, prune_right, report_code, report_left}
+use proofs.Imports.{whole_block, same_perm, block_at, is_probe_ack, is_release, reported, same_block, zeros, about}
+use proofs.Imports.{probe_ack, release}
 
 -- a message of channel C about a block, with its bytes where it gives Trunk up
 pub record IsAbout {w : ℕ} (is_report : Bool) (n param : ℕ) (carries : Bool) (truth : List ℕ) (m : MessageC w) : Type 0

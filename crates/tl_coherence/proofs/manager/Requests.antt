@@ -1,15 +1,14 @@
 -- What the manager knows after a beat of a request, and after one that is not the last.
-use Rattle.tl_coherence.proofs.manager.Imports.{A, MessageA, a_beat_of, beats_of, Config, ProbeOf, Cap, Trace, on_link}
-use Rattle.tl_coherence.proofs.manager.Imports.{pending, held, block_at, request_of, held_unsaid, pending-quiet}
-use Rattle.tl_coherence.proofs.manager.Imports.{recorded, services, service_of_block, End, own_beat, other_beat}
-use Rattle.tl_coherence.proofs.manager.Imports.{beat-keeps, Waits, State, Beat}
-use Rattle.std.proofs.Common.{◌≡◌, ℕ, suc, ◌+◌, ◌<◌, Bool, ◌∷◌, Some, refl, sym, ◌∙◌, ap, inl, inr}
-use Rattle.std.proofs.lemmas.Bool.{cases_eq, ne_eqb}
-use Rattle.tl_rules.proofs.Sent.{not_last}
-use Rattle.tl_manager.{proofs.services.Ended.services-part, proofs.calls.Events.services-request}
-use Rattle.tl_coherence.proofs.{manager.BlockAccounts.IsTraced, queues.Tokens.same_number}
-use Rattle.tl_coherence.proofs.manager.Arrivals.{link_of, with_beat, IsComing, ends-coming, service_for, served-last}
-use Rattle.tl_coherence.proofs.manager.Arrivals.{request-taken, request-else}
+use Rattle.std.proofs.Common.{◌≡◌, ℕ, suc, ◌+◌, ◌<◌, Bool, ◌∷◌, Some, refl, sym, ◌∙◌, ap, inl, inr, ne_eqb}
+use Rattle.tl_coherence.proofs
+use proofs.Imports.{cases_eq, Beat, A, MessageA, a_beat_of, beats_of, Config, ProbeOf, Cap, held_unsaid, pending-quiet}
+use proofs.Imports.{not_last, Trace, on_link, pending, held, block_at, request_of, own_beat, other_beat, beat-keeps}
+use proofs.Imports.{End, recorded, services, service_of_block, Waits, State}
+use Rattle.tl_manager.{proofs.calls.Events.services-request, proofs.services.Ended.services-part}
+use proofs.manager.BlockAccounts.{IsTraced}
+use proofs.queues.Tokens.{same_number}
+use proofs.manager.Arrivals.{link_of, with_beat, IsComing, ends-coming, service_for, served-last, request-taken}
+use proofs.manager.Arrivals.{request-else}
 
 -- ---- the values of a trace with one more beat of a request
 

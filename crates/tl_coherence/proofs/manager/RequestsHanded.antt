@@ -1,28 +1,24 @@
 -- What the manager hands out at the last beat of a request: the messages of the tokens that the protocol pushes.
-use Rattle.tl_coherence.proofs.manager.Imports.{Message, MessageA, a_beat_of, beats_of, Config, Cap, cap_right, Memory}
-use Rattle.tl_coherence.proofs.manager.Imports.{bytes_from, answer_of, block_at, Reaction, access_answer, cap_granted}
-use Rattle.tl_coherence.proofs.manager.Imports.{recorded, cap_probed, Trace, same_perm, same_block, reaction, End}
-use Rattle.tl_coherence.proofs.manager.Imports.{level_of, performed-access, performed-acquire, answers, gift, is_unheld}
-use Rattle.tl_coherence.proofs.manager.Imports.{Log, ClientBlock, after_grant_sent, is_granted_data, GrantSent, Block}
-use Rattle.tl_coherence.proofs.manager.Imports.{State, view, is_granting, granted_at_once, AccessMessages}
-use Rattle.tl_coherence.proofs.manager.Imports.{block_message, System, Grant, SimulationRelation, Beat, Perm}
 use Rattle.std.proofs.Common.{◌≡◌, ℕ, suc, ◌*◌, Bool, true, false, not, ◌&&◌, List, [], ◌∷◌, refl, sym, ◌∙◌, ap, ap₂}
-use Rattle.std.proofs.Common.{inl, inr}
-use Rattle.std.{specs.Prelude.if◌then◌else◌, specs.Prelude.length, proofs.lemmas.Bool.cases_eq}
-use Rattle.std.{proofs.lemmas.Bool.false_from_ne_true, proofs.Math.Bool.and-false}
+use Rattle.std.proofs.Common.{inl, inr, length, if◌then◌else◌}
+use Rattle.tl_coherence.proofs
+use proofs.Imports.{and-false, cases_eq, Beat, Message, MessageA, a_beat_of, beats_of, Config, Cap, Perm, cap_right}
+use proofs.Imports.{Trace, same_perm, Memory, bytes_from, answer_of, block_at, same_block, performed-access}
+use proofs.Imports.{performed-acquire, End, Reaction, access_answer, cap_granted, recorded, cap_probed, level_of}
+use proofs.Imports.{reaction, IsWell, is_out, Grant, ClientBlock, after_grant_sent, is_granted_data, GrantSent, Block}
+use proofs.Imports.{State, view, granted_at_once, is_granting, answers, gift, is_unheld, probes_some, AccessMessages}
+use proofs.Imports.{block_message, grant_of, SimulationRelation, Log, System}
+use Rattle.std.proofs.lemmas.Bool.{false_from_ne_true}
+use Rattle.tl_manager.specs.statement.Handing.{grant_with, grant_payload}
 use Rattle.tl_rules.specs.statement.Effect as memory
 use Rattle.tl_manager.specs.statement.Handing as handing
-use Rattle.tl_manager.specs.statement.Handing.{grant_with, grant_payload}
 use Rattle.tl_manager.specs.statement.Holders as holders
 use Rattle.tl_manager.specs.statement.Service as manager
-use Rattle.tl_coherence.specs.{refinement.AbstractStep.probes_some, protocol.Invariant.IsWell}
-use Rattle.tl_coherence.specs.{protocol.Invariant.is_out, refinement.PacketMessages.grant_of}
-use Rattle.tl_coherence.proofs.manager.Arrivals.{link_of, with_beat, IsComing, service_for}
-use Rattle.tl_coherence.proofs.{protocol.Heads.IsAsked, protocol.Heads.IsWanted, manager.Memories.performed-reply}
-use Rattle.tl_coherence.proofs.{manager.Requests.recorded-beat, manager.RequestsTaken.acquire_wanted}
-use Rattle.tl_coherence.proofs.{queues.Tokens.same_number, queues.Tokens.set-same}
-use Rattle.tl_coherence.proofs.manager.UnwaitedRequests.{next_tracker, reaction-performed, unheld-same}
-use Rattle.tl_coherence.proofs.queues.Codes.{acquires-so, gives-some, data-same}
+use proofs.manager.{Arrivals.link_of, Arrivals.with_beat, Arrivals.IsComing, Arrivals.service_for}
+use proofs.manager.{Memories.performed-reply, Requests.recorded-beat, RequestsTaken.acquire_wanted}
+use proofs.manager.{UnwaitedRequests.next_tracker, UnwaitedRequests.reaction-performed, UnwaitedRequests.unheld-same}
+use proofs.protocol.Heads.{IsAsked, IsWanted}
+use proofs.queues.{Tokens.same_number, Tokens.set-same, Codes.acquires-so, Codes.gives-some, Codes.data-same}
 
 -- ---- an access that is answered
 

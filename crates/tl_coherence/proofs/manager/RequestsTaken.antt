@@ -1,28 +1,22 @@
 -- The last beat of a request that is taken: what the protocol does then is what the manager does.
-use Rattle.tl_coherence.proofs.manager.Imports.{Message, MessageA, a_beat_of, beats_of, Config, Cap, Grow, block_at}
-use Rattle.tl_coherence.proofs.manager.Imports.{is_acquire, same_block, performed, cap_granted, is_nobody, probed}
-use Rattle.tl_coherence.proofs.manager.Imports.{cap_probed, reaction, End, must_wait, AbstractState, some_below}
-use Rattle.tl_coherence.proofs.manager.Imports.{acquire_opcode, is_unheld, gift, kind_taken, Log, is_granted_data}
-use Rattle.tl_coherence.proofs.manager.Imports.{Service, Free, Waits, GrantSent, GrantTaken, Block, State, Asked}
-use Rattle.tl_coherence.proofs.manager.Imports.{InService, Acquires, AccessMessages, System, Request, Acquire, Packet}
-use Rattle.tl_coherence.proofs.manager.Imports.{set, SimulationRelation, IsServedWith, Beat}
 use Rattle.std.proofs.Common.{◌≡◌, subst, ℕ, suc, Bool, true, false, not, List, Option, Some, None, length, refl, sym}
-use Rattle.std.proofs.Common.{◌∙◌, ap}
-use Rattle.std.specs.Prelude.{if◌then◌else◌}
-use Rattle.tl_client.specs.statement.Send.{acquisition}
-use Rattle.tl_coherence.specs.refinement.AbstractStep.{probes_some, access_taken, request_taken, acquire_taken}
-use Rattle.tl_coherence.specs.{protocol.Invariant.cap_asked, protocol.Phase.AcquirePhase, protocol.Phase.AcquireOpen}
-use Rattle.tl_coherence.specs.protocol.Protocol.{is_probed, acquire_served, acquire_granted}
-use Rattle.tl_coherence.proofs.manager.Arrivals.{link_of, with_beat, IsComing, service_for}
-use Rattle.tl_coherence.proofs.manager.AtRequests.{end_after, at_manager-probing, at_manager-answered}
-use Rattle.tl_coherence.proofs.manager.AtRequests.{at_manager-granted}
-use Rattle.tl_coherence.proofs.{manager.Choices.waits-used, protocol.FollowKept.IsReady, protocol.Heads.IsAsked}
-use Rattle.tl_coherence.proofs.{protocol.Heads.IsWanted, manager.Performing.IsAnswering, manager.Requests.IsUnwaited}
-use Rattle.tl_coherence.proofs.{queues.Codes.acquires-so, manager.ManagerAfter.IsManagerOf}
-use Rattle.tl_coherence.proofs.manager.ManagersEnd.{IsAtManager, at_manager-matched}
-use Rattle.tl_coherence.proofs.manager.UnwaitedRequests.{next_tracker, free-last, untracked-next, probed-some}
-use Rattle.tl_coherence.proofs.manager.UnwaitedRequests.{unheld-same, quiet-free, beyond-none, reaction-performed}
-use Rattle.tl_coherence.proofs.manager.UnwaitedRequests.{somebody-probed}
+use Rattle.std.proofs.Common.{◌∙◌, ap, if◌then◌else◌}
+use Rattle.tl_coherence.proofs
+use proofs.Imports.{Beat, Message, MessageA, a_beat_of, beats_of, Config, Cap, Grow, block_at, is_acquire, same_block}
+use proofs.Imports.{acquisition, End, performed, cap_granted, is_nobody, probed, cap_probed, must_wait, reaction}
+use proofs.Imports.{cap_asked, Request, Acquire, Packet, set, AcquirePhase, AcquireOpen, is_granted_data, Service, Free}
+use proofs.Imports.{Waits, GrantSent, GrantTaken, Block, State, Asked, InService, Acquires, is_probed, acquire_served}
+use proofs.Imports.{acquire_granted, AbstractState, some_below, acquire_opcode, is_unheld, gift, kind_taken}
+use proofs.Imports.{probes_some, access_taken, request_taken, acquire_taken, AccessMessages, SimulationRelation}
+use proofs.Imports.{IsServedWith, Log, System}
+use proofs.manager.{Arrivals.link_of, Arrivals.with_beat, Arrivals.IsComing, Arrivals.service_for, Choices.waits-used}
+use proofs.manager.{Performing.IsAnswering, Requests.IsUnwaited, ManagerAfter.IsManagerOf, ManagersEnd.IsAtManager}
+use proofs.manager.{ManagersEnd.at_manager-matched}
+use proofs.manager.AtRequests.{end_after, at_manager-probing, at_manager-answered, at_manager-granted}
+use proofs.protocol.{Events.IsReady, Heads.IsAsked, Heads.IsWanted}
+use proofs.queues.Codes.{acquires-so}
+use proofs.manager.UnwaitedRequests.{next_tracker, free-last, untracked-next, probed-some, unheld-same, quiet-free}
+use proofs.manager.UnwaitedRequests.{beyond-none, reaction-performed, somebody-probed}
 
 -- ---- an access
 

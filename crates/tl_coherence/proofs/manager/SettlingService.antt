@@ -1,23 +1,17 @@
 -- The service that the last report of a block settles.
-
-use Rattle.tl_coherence.proofs.manager.Imports.{MessageC, MessageD, c_beat_of, Config, Cap, Report, report_code}
-use Rattle.tl_coherence.proofs.manager.Imports.{report_left, report_right, Trace, same_perm, is_release_ack, performed}
-use Rattle.tl_coherence.proofs.manager.Imports.{services, service_of_block, reaction, End, AbstractState, some_below}
-use Rattle.tl_coherence.proofs.manager.Imports.{Waits, IsFor, Beat, Channel, Perm}
-use Rattle.tl_manager.{specs.code.Ready.IsReady, specs.statement.Holders.is_settled, specs.code.Kept.IsPerformable}
-use Rattle.tl_manager.{proofs.calls.Events.reaction-settled, proofs.calls.Events.memory_with}
-use Rattle.tl_manager.{proofs.pending.Granted.of_served, proofs.judging.Judged.passed, proofs.calls.Keeping.is_taken}
-use Rattle.tl_manager.{proofs.pending.Replied.IsReply, proofs.pending.SteadyReports.report-ready}
-use Rattle.std.proofs.Common.{◌≡◌, ℕ, Bool, true, false, not, Some, length, refl, ◌∙◌, ap}
-use Rattle.std.specs.Prelude.{if◌then◌else◌}
+use Rattle.std.proofs.Common.{◌≡◌, ℕ, Bool, true, false, not, Some, length, refl, ◌∙◌, ap, if◌then◌else◌}
+use Rattle.tl_coherence.proofs
+use proofs.Imports.{Beat, Channel, MessageC, MessageD, c_beat_of, Config, Cap, Report, Perm, report_code, report_left}
+use proofs.Imports.{report_right, Trace, same_perm, is_release_ack, reported-report, memory_with, is_taken, passed}
+use proofs.Imports.{of_served, IsReply, IsReady, End, performed, is_settled, reaction, services, service_of_block}
+use proofs.Imports.{Waits, AbstractState, some_below, IsFor}
+use Rattle.tl_manager.{proofs.calls.Events.reaction-settled, proofs.pending.SteadyReports.report-ready}
+use Rattle.tl_manager.{specs.code.Kept.IsPerformable}
 use Rattle.tl_coherence.specs.protocol.Protocol as protocol
-use Rattle.tl_coherence.proofs.{manager.ManagedEndings.service_for, manager.ManagerMemory.block_in}
-use Rattle.tl_coherence.proofs.{manager.ManagerTakes.IsTakenUp}
 use Rattle.tl_coherence.proofs.manager.ManagedEndings as endings
-use Rattle.tl_coherence.proofs.manager.ManagerAfter.{IsManagerOf, IsEnd, ends-it, last-of, memory-end, others_probed}
-use Rattle.tl_coherence.proofs.manager.ManagerAfter.{settled-is}
-use Rattle.tl_coherence.proofs.manager.QuiescentManager.{quiet-c, IsLastOf}
-use Rattle.tl_client.proofs.endpoint.HeldAfter.{reported-report}
+use proofs.manager.{ManagedEndings.service_for, ManagerMemory.block_in, ManagerTakes.IsTakenUp}
+use proofs.manager.{QuiescentManager.quiet-c, QuiescentManager.IsLastOf}
+use proofs.manager.ManagerAfter.{IsManagerOf, IsEnd, ends-it, last-of, memory-end, others_probed, settled-is}
 
 -- ---- the service of the block
 

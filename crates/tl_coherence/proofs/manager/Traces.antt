@@ -1,11 +1,10 @@
 -- The values of a trace that all else follows from, as one block changes, and where nothing changes to the manager.
-use Rattle.tl_coherence.proofs.manager.Imports.{MessageA, a_beat_of, ProbeOf, Cap, Trace, on_link, pending, request_of}
-use Rattle.tl_coherence.proofs.manager.Imports.{recorded, services, service_of_block, is_unprobed, ok, Service, Free}
-use Rattle.tl_coherence.proofs.manager.Imports.{Waits, GrantSent, GrantTaken, Block, State, client_in, service_with}
-use Rattle.tl_coherence.proofs.manager.Imports.{IsFor}
 use Rattle.std.proofs.Common.{◌≡◌, ℕ, Bool, not, Option, Some, sym, ◌∙◌, ap, ap₂, inl, inr}
-use Rattle.std.proofs.lemmas.Bool.{cases_eq}
-use Rattle.tl_coherence.proofs.manager.BlockAccounts.{IsTraced}
+use Rattle.tl_coherence.proofs
+use proofs.Imports.{cases_eq, MessageA, a_beat_of, ProbeOf, Cap, Trace, on_link, pending, request_of, recorded}
+use proofs.Imports.{services, service_of_block, is_unprobed, ok, Service, Free, Waits, GrantSent, GrantTaken, Block}
+use proofs.Imports.{State, client_in, service_with, IsFor}
+use proofs.manager.BlockAccounts.{IsTraced}
 
 -- ---- one block changes
 

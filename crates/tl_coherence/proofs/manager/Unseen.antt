@@ -1,26 +1,17 @@
 -- Events that the manager doesn't see: clients that are asked, and beats that clients take. What it knows stays so.
-use Rattle.tl_coherence.proofs.manager.Imports.{Message, MessageA, Config, Cap, Grow, Prune, block_at, End}
-use Rattle.tl_coherence.proofs.manager.Imports.{AbstractState, kind_taken, IsInvariant, ClientBlock, is_unprobed}
-use Rattle.tl_coherence.proofs.manager.Imports.{Service, Free, Waits, GrantSent, GrantTaken, Block, State, SourceFree}
-use Rattle.tl_coherence.proofs.manager.Imports.{InService, on, packet, view, is_granting, AccessMessages, Kind, Request}
-use Rattle.tl_coherence.proofs.manager.Imports.{Acquire, Probe, ProbeAck, Release, Answer, Grant, ReleaseAck, GrantAck}
-use Rattle.tl_coherence.proofs.manager.Imports.{Packet, set, IsServedWith}
-use Rattle.std.proofs.Common.{◌≡◌, ℕ, Bool, true, false, ◌==◌, List, ◌∷◌, refl, sym, ◌∙◌, ap, ap₂, inl, inr}
-use Rattle.std.proofs.lemmas.Bool.{cases_eq, eqb-true}
-use Rattle.tl_client.{specs.declared.operation.Op.Op, specs.declared.reply.Reply.Reply, specs.statement.Ask.copy_stored}
-use Rattle.tl_client.{specs.statement.Ask.whole_grow, specs.statement.Send.access}
-use Rattle.tl_coherence.specs.{refinement.AbstractStep.asked, refinement.AbstractStep.taken_by_client}
-use Rattle.tl_coherence.specs.{protocol.Phase.ProbeSent, protocol.Phase.is_whole, protocol.Tokens.shown}
-use Rattle.tl_coherence.specs.{refinement.PacketMessages.cap_sent, protocol.Packet.set_at}
-use Rattle.tl_coherence.specs.protocol.PhaseSteps.{after_acquire, after_release, after_probe, after_grant}
-use Rattle.tl_coherence.specs.protocol.PhaseSteps.{after_release_ack}
-use Rattle.tl_coherence.specs.protocol.Protocol.{acquiring_block, releasing_block, stored_block, probed_block}
-use Rattle.tl_coherence.specs.protocol.Protocol.{taken_block, let_go_block}
-use Rattle.tl_coherence.proofs.{manager.Traces.IsSameToManager, manager.Traces.SameService, manager.Choices.waits-used}
-use Rattle.tl_coherence.proofs.{protocol.FollowKept.IsAskable, manager.ManagersEnd.IsAtManager}
-use Rattle.tl_coherence.proofs.{manager.ManagersEnd.at_manager-same, protocol.BothParts.granting-own}
-use Rattle.tl_coherence.proofs.{protocol.BothParts.sent-is, manager.ManagerAfter.IsManagerOf}
-use Rattle.tl_coherence.proofs.queues.Tokens.{set-same, set-other, set-part, holds-first}
+use Rattle.std.proofs.Common.{◌≡◌, ℕ, Bool, true, false, List, ◌∷◌, refl, sym, ◌∙◌, ap, ap₂, inl, inr, eqb-true, ◌==◌}
+use Rattle.tl_coherence.proofs
+use proofs.Imports.{cases_eq, Message, MessageA, Config, Cap, Grow, Prune, block_at, Op, Reply, copy_stored, whole_grow}
+use proofs.Imports.{access, End, IsInvariant, Kind, Probe, Answer, Grant, ReleaseAck, Packet, set, set_at, ClientBlock}
+use proofs.Imports.{is_unprobed, ProbeSent, is_whole, after_acquire, after_release, after_probe, after_grant}
+use proofs.Imports.{after_release_ack, Service, Free, Waits, GrantSent, GrantTaken, Block, State, SourceFree, InService}
+use proofs.Imports.{on, packet, view, acquiring_block, releasing_block, stored_block, probed_block, taken_block}
+use proofs.Imports.{let_go_block, is_granting, AbstractState, kind_taken, asked, taken_by_client, channel_for}
+use proofs.Imports.{AccessMessages, cap_sent, IsServedWith, is_to_client}
+use proofs.manager.{Traces.IsSameToManager, Traces.SameService, Choices.waits-used, ManagersEnd.IsAtManager}
+use proofs.manager.{ManagersEnd.at_manager-same, ManagerAfter.IsManagerOf}
+use proofs.protocol.{FollowKept.IsAskable, BothParts.granting-own, FirstTokens.first-probe, FirstTokens.first-shown}
+use proofs.queues.Tokens.{set-same, set-other, set-part}
 
 -- ---- one block changes, and not to the manager
 
@@ -179,26 +170,16 @@ at_manager-asked config c o r h e inv may is = is
 
 -- the kinds that clients take
 abbrev pub is_to_clients : Kind → Bool
-is_to_clients Probe = true
-is_to_clients Answer = true
-is_to_clients Grant = true
-is_to_clients ReleaseAck = true
-is_to_clients _ = false
+is_to_clients k = is_to_client (channel_for k)
 
 -- what is kept of the manager's end stays as a client takes a message
 pub at_manager-client_taken : {w : ℕ} {caching : ℕ → Bool} (config : Config) (tracker c : ℕ) (kind : Kind) (n : ℕ)
     (rest : List Packet) (h : AbstractState w) (e : End w) → is_to_clients kind ≡ true → IsInvariant caching h.state
     → on kind (h.state.link c) ≡ packet kind n ∷ rest → IsManagerOf config h e
     → IsManagerOf config (kind_taken config tracker c kind n rest h) e
-at_manager-client_taken config tracker c Request n rest h e kind inv first is = absurd cc
-at_manager-client_taken config tracker c Acquire n rest h e kind inv first is = absurd cc
-at_manager-client_taken config tracker c ProbeAck n rest h e kind inv first is = absurd cc
-at_manager-client_taken config tracker c Release n rest h e kind inv first is = absurd cc
-at_manager-client_taken config tracker c GrantAck n rest h e kind inv first is = absurd cc
 at_manager-client_taken config tracker c Probe n rest h e kind inv first is =
     let k = cap_sent ((h.state.block n).pair c).probing in
-    let sent = sent-is ((h.state.block n).pair c).probing (holds-first Probe (h.state.link c).b rest (packet Probe n)
-    (λ i. shown Probe c (h.state.block i)) first refl (inv.transfers c Probe refl)) in
+    let sent = first-probe inv first in
     at_manager-unseen n (λ i. refl) (same-probed c k k (h.state.block n) sent) is
 at_manager-client_taken config tracker c Answer n rest h e kind inv first is = at_manager-untouched (λ i. refl) is
 at_manager-client_taken config tracker c ReleaseAck n rest h e kind inv first is =
@@ -209,9 +190,9 @@ at_manager-client_taken {w} config tracker c Grant n rest h e kind inv first is 
         → IsManagerOf config (taken_by_client c n service rest h) e
     go (GrantSent q d k) f =
         let seen : is_granting (view (GrantSent q d k) c) ≡ true =
-        rw f at (holds-first Grant (h.state.link c).d rest (packet Grant n) (λ i. shown Grant c (h.state.block i))
-        first refl (inv.transfers c Grant refl)) in
+        rw f at (first-shown inv c Grant refl first) in
         let same : c ≡ q = eqb-true c q (granting-own (c == q) d k seen) in
         let whole = is_whole ((h.state.block n).pair c).acquiring in
         at_manager-unseen n (λ i. refl) (same-taken c whole d k k (h.state.block n) (f ∙ rw same refl)) is
     go service f = is
+at_manager-client_taken config tracker c other n rest h e kind inv first is = absurd cc

@@ -1,31 +1,23 @@
 -- Steps of the whole that the manager doesn't see: an event of a client that there isn't, a client that is asked, and a
 -- delivery to a client.
-use Rattle.tl_coherence.proofs.manager.Imports.{Beat, Link, Channel, Message, unfinished, Config, AbstractState, Log}
-use Rattle.tl_coherence.proofs.manager.Imports.{packet, is_on, on, System, Kind, Request, Acquire, Probe, ProbeAck}
-use Rattle.tl_coherence.proofs.manager.Imports.{Release, Answer, Grant, ReleaseAck, GrantAck, Packet}
-use Rattle.tl_coherence.proofs.manager.Imports.{SimulationRelation, is_caching}
 use Rattle.std.proofs.Common.{◌≡◌, subst, ℕ, Bool, true, false, ◌&&◌, List, [], ◌∷◌, Option, Some, None, refl, sym, ◌∙◌}
-use Rattle.std.proofs.Common.{ap}
-use Rattle.std.proofs.lemmas.Bool.{true_from_ne_false}
-use Rattle.std.specs.Prelude.{if◌then◌else◌, Result, Ok}
-use Rattle.tl_params.specs.declared.rule.Rule.{Rule}
-use Rattle.tl_client.{specs.declared.operation.Op.Op, specs.declared.verdict.Verdict.Verdict}
-use Rattle.tl_client.{specs.statement.Offer.offered}
+use Rattle.std.proofs.Common.{ap, if◌then◌else◌, Result, Ok}
+use Rattle.tl_coherence.proofs
+use proofs.Imports.{true_from_ne_false, Beat, Link, Channel, Message, unfinished, Config, Rule, Op, Verdict, offered}
+use proofs.Imports.{Event, Ask, Deliver, Outcome, Kind, Packet, packet, is_on, on, packets_on, AbstractState}
+use proofs.Imports.{abstract_step_by, packet_taken, abstract_step, SimulationRelation, is_caching, receiver, is_moving}
+use proofs.Imports.{Log, Step, handed_by, judged, is_to_client, client_of, stepped, System, terms_at, with_client}
+use proofs.Imports.{with_channel}
+use Rattle.tl_coherence.specs.refinement.AbstractStep.{is_last}
 use Rattle.tl_client.specs.statement.Ask as client_ask
 use Rattle.tl_client.specs.statement.Endpoint as client
-use Rattle.tl_coherence.specs.{declared.event.Event.Event, declared.event.Outcome.Outcome, statement.Draining.is_moving}
-use Rattle.tl_coherence.specs.{statement.Delivery.receiver, protocol.Protocol.packets_on}
-use Rattle.tl_coherence.specs.declared.event.Event.TheVariants.{Ask, Deliver}
 use Rattle.tl_coherence.specs.refinement.AbstractStep as follow
-use Rattle.tl_coherence.specs.refinement.AbstractStep.{abstract_step_by, is_last, packet_taken, abstract_step}
-use Rattle.tl_coherence.specs.protocol.Protocol as protocol
-use Rattle.tl_coherence.specs.statement.Step.{Step, handed_by, judged, is_to_client, client_of, stepped}
-use Rattle.tl_coherence.specs.statement.System.{terms_at, with_client, with_channel}
-use Rattle.tl_coherence.proofs.{manager.Admitted.first_counts, protocol.FollowKept.IsAskable}
-use Rattle.tl_coherence.proofs.{manager.ManagersEnd.at_manager-matched, manager.UnwaitedRequests.next_tracker}
-use Rattle.tl_coherence.proofs.{manager.ManagerAfter.IsManagerOf}
-use Rattle.tl_coherence.proofs.queues.Steps.{manager-with_messages, stepped-asked, stepped-to-client, stepped-empty}
-use Rattle.tl_coherence.proofs.manager.Unseen.{at_manager-asked, is_to_clients, at_manager-client_taken}
+use proofs.manager.{Admitted.first_counts, ManagersEnd.at_manager-matched, UnwaitedRequests.next_tracker}
+use proofs.manager.{ManagerAfter.IsManagerOf, Unseen.at_manager-asked, Unseen.is_to_clients}
+use proofs.manager.{Unseen.at_manager-client_taken}
+use proofs.protocol.FollowKept.{IsAskable}
+use proofs.queues.Steps.{manager-with_messages, stepped-asked, stepped-to-client, stepped-empty}
+use proofs.queues.KindMoves.{kind_channel, on_same}
 
 -- ---- there is no client of this number
 
@@ -79,27 +71,8 @@ manager-to-client {w} config link ch sys terms there up = go (sys.channels link.
 
 -- the kinds of a channel to clients
 to_clients : (ch : Channel) (k : Kind) → is_to_client ch ≡ true → (is_on ch k ≡ false → ⊥) → is_to_clients k ≡ true
-to_clients Channel.B Probe up on_it = refl
-to_clients Channel.D Answer up on_it = refl
-to_clients Channel.D Grant up on_it = refl
-to_clients Channel.D ReleaseAck up on_it = refl
-to_clients Channel.A k up on_it = absurd cc
-to_clients Channel.C k up on_it = absurd cc
-to_clients Channel.E k up on_it = absurd cc
-to_clients ch k up on_it = absurd (on_it refl)
-
--- such a kind is on its channel
-on-channel : (ch : Channel) (k : Kind) (l : protocol.Link) → is_on ch k ≡ true → on k l ≡ packets_on ch l
-on-channel Channel.A Request l e = refl
-on-channel Channel.A Acquire l e = refl
-on-channel Channel.B Probe l e = refl
-on-channel Channel.C ProbeAck l e = refl
-on-channel Channel.C Release l e = refl
-on-channel Channel.D Answer l e = refl
-on-channel Channel.D Grant l e = refl
-on-channel Channel.D ReleaseAck l e = refl
-on-channel Channel.E GrantAck l e = refl
-on-channel ch k l e = absurd cc
+to_clients ch k up on_it =
+    ap is_to_client (kind_channel ch k (true_from_ne_false (is_on ch k) on_it)) ∙ up
 
 -- where the invariant is kept, so is what is kept of the manager's end
 pub at_manager-to_client : {w : ℕ} {config : Config} {log : Log w} (h : AbstractState w) {sys : System w} (link : Link)
@@ -129,6 +102,6 @@ at_manager-to_client {w} {config} {log} h {sys} link ch terms is there up =
         let here : is_on ch y.kind ≡ false → ⊥ =
         λ off. first_counts y ys (rw e at (is.invariant.own_kinds c ch y.kind y.number off)) in
         let first : on y.kind (h.state.link c) ≡ packet y.kind y.number ∷ ys =
-        on-channel ch y.kind (h.state.link c) (true_from_ne_false (is_on ch y.kind) here) ∙ e in
+        on_same ch y.kind (h.state.link c) (true_from_ne_false (is_on ch y.kind) here) ∙ e in
         at_manager-client_taken config (next_tracker sys) c y.kind y.number ys h sys.manager
         (to_clients ch y.kind up here) is.invariant first known

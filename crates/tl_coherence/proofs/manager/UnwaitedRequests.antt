@@ -1,25 +1,20 @@
 -- What a request finds that needn't wait, whom it probes, and what the manager does for it.
-use Rattle.tl_coherence.proofs.manager.Imports.{MessageA, a_beat_of, beats_of, Config, Cap, Perm, on_link, same_perm}
-use Rattle.tl_coherence.proofs.manager.Imports.{ends, block_at, is_acquire, is_last, swapped, performed, recorded}
-use Rattle.tl_coherence.proofs.manager.Imports.{is_nobody, probed, cap_probed, is_spared, services, least_untaken}
-use Rattle.tl_coherence.proofs.manager.Imports.{trackers_of, reaction, End, must_wait, AbstractState, some_below}
-use Rattle.tl_coherence.proofs.manager.Imports.{is_unheld, kind_taken, IsInvariant, Log, ClientBlock, is_unprobed}
-use Rattle.tl_coherence.proofs.manager.Imports.{is_above, Service, Free, Waits, State, on, packet, view, AccessMessages}
-use Rattle.tl_coherence.proofs.manager.Imports.{IsFor, System, Kind, Packet, SimulationRelation, is_caching, Beat}
-use Rattle.tl_coherence.proofs.manager.Imports.{Message}
-use Rattle.std.proofs.Common.{◌≡◌, ℕ, suc, ◌≤◌, ◌==◌, Bool, true, false, not, ◌&&◌, List, ◌∷◌, Option, Some, None}
-use Rattle.std.proofs.Common.{length, refl, ◌∙◌, ap, arith}
-use Rattle.std.{specs.Prelude.nat_le, proofs.lemmas.Bool.or_parts, proofs.Math.Bool.and_comm}
-use Rattle.tl_manager.specs.statement.Holders as holders
-use Rattle.tl_manager.specs.statement.Service.{is_in_service}
+use Rattle.std.proofs.Common.{◌≡◌, ℕ, suc, ◌≤◌, Bool, true, false, not, ◌&&◌, List, ◌∷◌, Option, Some, None, length}
+use Rattle.std.proofs.Common.{refl, ◌∙◌, ap, arith, ◌==◌, nat_le}
+use Rattle.tl_coherence.proofs
+use proofs.Imports.{and_comm, or_parts, Beat, Message, MessageA, a_beat_of, beats_of, Config, Cap, Perm, is_last}
+use proofs.Imports.{on_link, same_perm, ends, block_at, is_acquire, swapped, End, performed, recorded, is_nobody}
+use proofs.Imports.{probed, cap_probed, is_spared, must_wait, reaction, services, least_untaken, trackers_of}
+use proofs.Imports.{is_in_service, IsInvariant, Kind, Packet, ClientBlock, is_unprobed, is_above, Service, Free, Waits}
+use proofs.Imports.{State, on, packet, view, is_probed, AbstractState, some_below, is_unheld, kind_taken, probes_some}
+use proofs.Imports.{AccessMessages, SimulationRelation, is_caching, IsFor, Log, System}
 use Rattle.tl_manager.proofs.calls.Events.{reaction-unprobed, reaction-intent}
-use Rattle.tl_coherence.specs.{refinement.AbstractStep.probes_some, protocol.Protocol.is_probed}
-use Rattle.tl_coherence.proofs.{manager.Admitted.unserved-free, manager.Admitted.free-untracked}
-use Rattle.tl_coherence.proofs.{queues.PhaseFacts.quiet_at_rest, manager.ManagedServed.same_above}
-use Rattle.tl_coherence.proofs.{manager.Requests.recorded-beat}
-use Rattle.tl_coherence.proofs.manager.Arrivals.{link_of, with_beat, IsComing, ends-coming, service_for, served-last}
-use Rattle.tl_coherence.proofs.manager.Choices.{nobody-same, no-clients, plain-past}
-use Rattle.tl_coherence.proofs.protocol.FollowKept.{IsReady, IsServing, kind_taken-kept}
+use Rattle.tl_manager.specs.statement.Holders as holders
+use proofs.manager.{Admitted.unserved-free, Admitted.free-untracked, ManagedServed.same_above, Requests.recorded-beat}
+use proofs.manager.{Arrivals.link_of, Arrivals.with_beat, Arrivals.IsComing, Arrivals.ends-coming, Arrivals.service_for}
+use proofs.manager.{Arrivals.served-last, Choices.nobody-same, Choices.no-clients, Choices.plain-past}
+use proofs.queues.PhaseFacts.{quiet_at_rest}
+use proofs.protocol.{Events.IsReady, FollowKept.IsServing, FollowKept.kind_taken-kept}
 
 -- ---- what a request that needn't wait finds
 

@@ -1,14 +1,12 @@
 -- The one-memory machine beside the protocol, after events: what is open at each source, and the memory.
-use Rattle.tl_coherence.proofs.memory.Imports.{Message, IsBlock, effect, IsAccess, MemoryRelation, Machine, Open, Pool}
-use Rattle.tl_coherence.proofs.memory.Imports.{Requests, Releases, same_pool, with_open, with_memory, performed, State}
-use Rattle.tl_coherence.proofs.memory.Imports.{SourceState, SourceFree, Asked, InService, Replied, Acquires, performing}
-use Rattle.tl_coherence.proofs.memory.Imports.{AccessMessages, set_at, Op}
 use Rattle.std.proofs.Common.{◌≡◌, ℕ, Bool, true, false, ◌&&◌, List, [], ◌∷◌, Option, Some, None, refl, sym, ◌∙◌, subst}
-use Rattle.std.proofs.Common.{◌⊎◌, inl, inr}
-use Rattle.std.specs.Prelude.{◌==◌, if◌then◌else◌, ⊤}
-use Rattle.std.proofs.lemmas.Bool.{cases_eq, ne_eqb}
-use Rattle.tl_coherence.specs.refinement.MemoryRelation.{Answers, IsOpened, IsLet}
-use Rattle.tl_coherence.proofs.queues.Tokens.{same_number, set_at-same}
+use Rattle.std.proofs.Common.{◌⊎◌, inl, inr, ne_eqb, ◌==◌, if◌then◌else◌}
+use Rattle.tl_coherence.proofs
+use proofs.Imports.{cases_eq, ⊤, Message, IsBlock, effect, Op, set_at, State, SourceState, SourceFree, Asked, InService}
+use proofs.Imports.{Replied, Acquires, IsAccess, MemoryRelation, Answers, IsOpened, IsLet, AccessMessages, Machine}
+use proofs.Imports.{Open, Pool, Requests, Releases, same_pool, with_open, with_memory, performing}
+use Rattle.tl_coherence.specs.statement.Machine.{performed}
+use proofs.queues.Tokens.{same_number, set_at-same}
 
 -- ---- one place of two numbers
 

@@ -1,27 +1,20 @@
 -- The one-memory machine beside the protocol, after an operation that a client is asked for.
-use Rattle.tl_coherence.proofs.memory.Imports.{MessageA, Memory, IsBlock, block_at, same_perm, Op, Reply}
-use Rattle.tl_coherence.proofs.memory.Imports.{MemoryRelation, AbstractState, Machine, Open, Requests, Releases}
-use Rattle.tl_coherence.proofs.memory.Imports.{with_open, after_reply, ClientBlock, AcquireOpen, Block, State}
-use Rattle.tl_coherence.proofs.memory.Imports.{SourceState, Acquires, AccessMessages, set_at, Message}
 use Rattle.std.proofs.Common.{◌≡◌, ℕ, Bool, true, false, ◌&&◌, List, Option, Some, None, length, refl, sym, ◌∙◌, ap}
-use Rattle.std.proofs.Common.{subst, ◌⊎◌, inl, inr}
-use Rattle.std.{specs.Prelude.◌==◌, specs.Prelude.⊤, proofs.lemmas.Bool.cases_eq}
-use Rattle.tl_params.{specs.declared.param.Grow.Grow, specs.declared.perm.Perm.Perm, specs.declared.param.Prune.Prune}
-use Rattle.tl_client.specs.statement.Ask.{copy_stored, is_word, whole_grow}
-use Rattle.tl_client.{specs.statement.Send.access, proofs.caching_client.Stores.word_room}
-use Rattle.tl_coherence.specs.{refinement.MemoryRelation.op_of, refinement.AbstractStep.asked}
-use Rattle.tl_coherence.specs.{protocol.Invariant.acquires_of, protocol.Invariant.IsInvariant}
-use Rattle.tl_coherence.specs.{statement.Machine.with_number, protocol.Phase.AcquirePhase, protocol.Phase.NoAcquire}
-use Rattle.tl_coherence.specs.{protocol.PhaseSteps.after_acquire, protocol.PhaseSteps.after_release}
-use Rattle.tl_coherence.specs.{protocol.Tokens.is_wanting, protocol.Packet.set, refinement.SimulationRelation.AreSized}
-use Rattle.tl_coherence.specs.protocol.Protocol.{access_asked, acquiring_block, acquire_asked, releasing_block}
-use Rattle.tl_coherence.specs.protocol.Protocol.{release_asked, stored_block, block_stored}
-use Rattle.tl_coherence.proofs.memory.Beside.{IsElsewhere, IsSameAcquire, set_at-there, open-here, open-there}
-use Rattle.tl_coherence.proofs.memory.Beside.{open-releases, open-requests, beside-still, beside-used, beside-let}
-use Rattle.tl_coherence.proofs.{protocol.FollowKept.IsAskable, memory.OneMemory.block-stored}
-use Rattle.tl_coherence.proofs.{memory.OneMemory.block-unstored, simulation.SizedAfter.IsSizedAsk}
-use Rattle.tl_coherence.proofs.{queues.Perms.trunk-some}
-use Rattle.tl_coherence.proofs.queues.Tokens.{same_number, set-same, set-other, set-part, set_at-same}
+use Rattle.std.proofs.Common.{subst, ◌⊎◌, inl, inr, ◌==◌}
+use Rattle.tl_coherence.proofs
+use proofs.Imports.{cases_eq, ⊤, Message, MessageA, Grow, Prune, Perm, same_perm, Memory, IsBlock, block_at, word_room}
+use proofs.Imports.{Op, Reply, copy_stored, is_word, whole_grow, access, acquires_of, IsInvariant, set_at, set}
+use proofs.Imports.{ClientBlock, AcquireOpen, AcquirePhase, NoAcquire, after_acquire, after_release, Block, State}
+use proofs.Imports.{SourceState, Acquires, access_asked, acquiring_block, acquire_asked, releasing_block, release_asked}
+use proofs.Imports.{stored_block, block_stored, is_wanting, AbstractState, asked, MemoryRelation, op_of, AccessMessages}
+use proofs.Imports.{AreSized, Machine, Open, Requests, Releases, with_open, after_reply, with_number}
+use proofs.memory.Beside.{IsElsewhere, IsSameAcquire, set_at-there, open-here, open-there, open-releases, open-requests}
+use proofs.memory.Beside.{beside-still, beside-used, beside-let}
+use proofs.protocol.FollowKept.{IsAskable}
+use proofs.memory.OneMemory.{block-stored, block-unstored}
+use proofs.simulation.SizedAfter.{IsSizedAsk}
+use proofs.queues.{Perms.trunk-some, Tokens.same_number, Tokens.set-same, Tokens.set-other, Tokens.set-part}
+use proofs.queues.{Tokens.set_at-same}
 
 -- ---- Acquires of other sources
 

@@ -1,27 +1,18 @@
 -- The one-memory machine beside the protocol, after each message that is taken.
-use Rattle.tl_coherence.proofs.memory.Imports.{Message, MessageA, Config, Cap, effect, block_at, cap_probed}
-use Rattle.tl_coherence.proofs.memory.Imports.{MemoryRelation, AbstractState, some_below, bytes_at, performs, Machine}
-use Rattle.tl_coherence.proofs.memory.Imports.{ClientBlock, AcquireOpen, Block, State, is_probed, performing}
-use Rattle.tl_coherence.proofs.memory.Imports.{AccessMessages, set_at}
 use Rattle.std.proofs.Common.{◌≡◌, subst, ℕ, ◌≤◌, Bool, true, false, not, ◌&&◌, List, [], ◌∷◌, Option, Some, None}
-use Rattle.std.proofs.Common.{length, refl, sym, ◌∙◌, ap, ◌⊎◌, inl, inr}
-use Rattle.std.{specs.Prelude.◌==◌, specs.Prelude.if◌then◌else◌, specs.Prelude.⊤, proofs.lemmas.Bool.cases_eq}
-use Rattle.tl_params.{specs.declared.param.Report.Report, specs.declared.profile.Profile.Profile}
-use Rattle.tl_coherence.specs.refinement.AbstractStep.{answers, probes_some, access_taken, request_taken, acquire_taken}
-use Rattle.tl_coherence.specs.refinement.AbstractStep.{granted_after, last_taken, ack_taken}
-use Rattle.tl_coherence.specs.protocol.Invariant.{IsInvariant}
-use Rattle.tl_coherence.specs.protocol.Phase.{ProbeAnswered, AcquirePhase, NoAcquire, is_unprobed}
-use Rattle.tl_coherence.specs.protocol.PhaseSteps.{after_served, after_grant_sent, after_report}
-use Rattle.tl_coherence.specs.protocol.Protocol.{Service, Free, Waits, GrantSent, GrantTaken, written, performed_block}
-use Rattle.tl_coherence.specs.protocol.Protocol.{served_block, granted_at_once, reported_block, ended_block}
-use Rattle.tl_coherence.specs.protocol.Protocol.{granted_block, granted_pair, access_answered, access_served}
-use Rattle.tl_coherence.specs.protocol.Protocol.{report_taken, report_answers}
-use Rattle.tl_coherence.specs.protocol.Packet.{Kind, Request, ProbeAck, Packet, set}
-use Rattle.tl_coherence.proofs.memory.Beside.{beside-still, beside-used, same_acquire}
-use Rattle.tl_coherence.proofs.memory.BesideTaken.{IsPerformed, beside-performed, memory-unprobed, memory-reported}
-use Rattle.tl_coherence.proofs.memory.BesideTaken.{intent-reply}
-use Rattle.tl_coherence.proofs.queues.Tokens.{set-same, set-other, set-part}
-use Rattle.tl_coherence.proofs.queues.Codes.{low_cap}
+use Rattle.std.proofs.Common.{length, refl, sym, ◌∙◌, ap, ◌⊎◌, inl, inr, ◌==◌, if◌then◌else◌}
+use Rattle.tl_coherence.proofs
+use proofs.Imports.{cases_eq, ⊤, Message, MessageA, Config, Cap, Report, Profile, effect, block_at, cap_probed}
+use proofs.Imports.{IsInvariant, set_at, Kind, Request, ProbeAck, Packet, set, ClientBlock, AcquireOpen, ProbeAnswered}
+use proofs.Imports.{AcquirePhase, NoAcquire, is_unprobed, after_served, after_grant_sent, after_report, Block, State}
+use proofs.Imports.{is_probed, Service, Waits, written, performed_block, served_block, granted_at_once, reported_block}
+use proofs.Imports.{ended_block, granted_block, granted_pair, access_answered, access_served, report_taken}
+use proofs.Imports.{report_answers, AbstractState, some_below, bytes_at, performs, answers, probes_some, access_taken}
+use proofs.Imports.{request_taken, acquire_taken, granted_after, last_taken, ack_taken, MemoryRelation, AccessMessages}
+use proofs.Imports.{Machine, performing}
+use proofs.memory.Beside.{beside-still, beside-used, same_acquire}
+use proofs.memory.BesideTaken.{IsPerformed, beside-performed, memory-unprobed, memory-reported, intent-reply}
+use proofs.queues.{Tokens.set-same, Tokens.set-other, Tokens.set-part, Codes.low_cap}
 
 -- ---- which accesses are performed, and what ends
 
@@ -240,9 +231,6 @@ beside_last : {w : ℕ} {caching : ℕ → Bool} (config : Config) (clients : �
     → MemoryRelation h.mail h.state m → MemoryRelation (last_taken clients p c n r v rest h).mail
     (last_taken clients p c n r v rest h).state (performing (last_accesses v) m)
 unfolding performing
-beside_last config clients p c n r Free rest h inv e answered settled is beside = beside
-beside_last config clients p c n r (GrantSent q d k) rest h inv e answered settled is beside = beside
-beside_last config clients p c n r (GrantTaken q) rest h inv e answered settled is beside = beside
 beside_last {caching} config clients p c n r (Waits q false source k) rest h {m} inv e answered settled is beside =
     beside_ended c n r k rest h inv e answered settled is.0 is.1 beside
 beside_last {w} config clients p c n r (Waits q true source k) rest h {m} inv e answered settled is beside =
@@ -253,6 +241,7 @@ beside_last {w} config clients p c n r (Waits q true source k) rest h {m} inv e 
     go NoAcquire = beside
     go (AcquireOpen whole g) = beside_block n (granted_block c q r _ _ (h.state.block n)) _ (λ i. refl) (λ d i. refl)
         (λ d i. refl) refl (λ d. granted_acquiring c q r _ (h.state.block n).pair d) (λ d. refl) beside
+beside_last config clients p c n r v rest h inv e answered settled is beside = beside
 
 pub beside-report : {w : ℕ} {caching : ℕ → Bool} (config : Config) (c n : ℕ) (r : Report) (rest : List Packet)
     (h : AbstractState w) {m : Machine w} → IsInvariant caching h.state → ((h.state.block n).pair c).probing

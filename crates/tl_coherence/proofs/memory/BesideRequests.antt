@@ -1,34 +1,25 @@
 -- The one-memory machine beside the protocol after a beat of a request is taken: an access that is
 -- answered is performed.
-use Rattle.tl_coherence.proofs.memory.Imports.{Message, MessageA, Config, Cap, block_at, Memory, effect, cap_probed}
-use Rattle.tl_coherence.proofs.memory.Imports.{IsAccess, MemoryRelation, AbstractState, bytes_at, some_below, Log}
-use Rattle.tl_coherence.proofs.memory.Imports.{Machine, Requests, AcquireOpen, Block, is_probed, accesses_answered}
-use Rattle.tl_coherence.proofs.memory.Imports.{performing}
 use Rattle.std.proofs.Common.{◌≡◌, subst, ℕ, suc, Bool, true, false, not, List, [], ◌∷◌, Option, Some, None, length}
-use Rattle.std.proofs.Common.{refl, sym, ◌∙◌, ap, ◌⊎◌, inl, inr}
-use Rattle.tl_beat.specs.declared.beat.Beat.{Beat}
-use Rattle.tl_burst.specs.statement.Burst.{a_beat_of, beats_of}
-use Rattle.tl_rules.{specs.declared.answer.Answer.Answer, specs.statement.Conformance.Trace}
-use Rattle.tl_rules.{specs.statement.Effect.answer_of}
-use Rattle.std.specs.Prelude.{if◌then◌else◌}
-use Rattle.tl_client.proofs.endpoint.HeldAfter.{same_block}
-use Rattle.tl_manager.specs.statement.Handing.{Handed, Reaction, probes, access_answer, grant_opcode, is_granted_data}
-use Rattle.tl_manager.specs.statement.Handing.{grant}
-use Rattle.tl_manager.{specs.statement.Holders.recorded, specs.statement.Holders.probed}
-use Rattle.tl_manager.{specs.statement.Service.Service, specs.statement.Service.is_access_answer}
-use Rattle.tl_manager.{specs.statement.Reaction.reaction, proofs.calls.Events.performed-acquire}
-use Rattle.tl_coherence.specs.refinement.AbstractStep.{probes_some, request_taken, kind_taken}
-use Rattle.tl_coherence.specs.{protocol.Invariant.cap_asked, statement.Machine.Performs, statement.System.System}
-use Rattle.tl_coherence.specs.protocol.Packet.{Request, Acquire, Packet}
-use Rattle.tl_coherence.specs.refinement.SimulationRelation.{SimulationRelation}
-use Rattle.tl_coherence.proofs.manager.Arrivals.{link_of, with_beat, IsComing, service_for}
-use Rattle.tl_coherence.proofs.{manager.AtRequests.reaction-probing, memory.BesideTaken.IsPerformed}
-use Rattle.tl_coherence.proofs.{manager.Choices.plain-past, protocol.Heads.IsAsked, protocol.Heads.IsWanted}
-use Rattle.tl_coherence.proofs.{manager.RequestsHanded.handed-answered, queues.Codes.acquires-so}
-use Rattle.tl_coherence.proofs.memory.Beside.{done_at, performed-open, performing-one}
-use Rattle.tl_coherence.proofs.memory.BesideKinds.{access_list, beside-request, beside-acquire}
-use Rattle.tl_coherence.proofs.manager.RequestsTaken.{caps_asked, acquire_wanted}
-use Rattle.tl_coherence.proofs.manager.UnwaitedRequests.{next_tracker, probed-some, reaction-performed}
+use Rattle.std.proofs.Common.{refl, sym, ◌∙◌, ap, ◌⊎◌, inl, inr, if◌then◌else◌}
+use Rattle.tl_coherence.proofs
+use proofs.Imports.{Beat, Message, MessageA, a_beat_of, beats_of, Config, Cap, Trace, Memory, effect, answer_of}
+use proofs.Imports.{block_at, same_block, performed-acquire, Handed, Reaction, probes, access_answer, grant_opcode}
+use proofs.Imports.{grant, cap_probed, recorded, probed, reaction, is_access_answer, cap_asked, Request, Acquire}
+use proofs.Imports.{Packet, AcquireOpen, Block, is_probed, AbstractState, bytes_at, some_below, probes_some}
+use proofs.Imports.{request_taken, kind_taken, IsAccess, MemoryRelation, SimulationRelation, Log, Machine, Requests}
+use proofs.Imports.{accesses_answered, performing, System}
+use Rattle.tl_rules.specs.declared.answer.Answer.{Answer}
+use Rattle.tl_manager.{specs.statement.Handing.is_granted_data, specs.statement.Service.Service}
+use Rattle.tl_coherence.specs.statement.Machine.{Performs}
+use proofs.manager.{Arrivals.link_of, Arrivals.with_beat, Arrivals.IsComing, Arrivals.service_for}
+use proofs.manager.{AtRequests.reaction-probing, Choices.plain-past, RequestsHanded.handed-answered}
+use proofs.manager.{RequestsTaken.caps_asked, RequestsTaken.acquire_wanted, UnwaitedRequests.next_tracker}
+use proofs.manager.{UnwaitedRequests.probed-some, UnwaitedRequests.reaction-performed}
+use proofs.memory.{BesideTaken.IsPerformed, Beside.done_at, Beside.performed-open, Beside.performing-one}
+use proofs.memory.{BesideKinds.access_list, BesideKinds.beside-request, BesideKinds.beside-acquire}
+use proofs.protocol.Heads.{IsAsked, IsWanted}
+use proofs.queues.Codes.{acquires-so}
 
 -- ---- which accesses are answered
 

@@ -1,24 +1,17 @@
 -- The one memory stays beside the protocol where a client takes a response.
-use Rattle.tl_coherence.proofs.memory.Imports.{Cap, IsBlock, Op, MemoryRelation, Machine, Open, Requests, Releases}
-use Rattle.tl_coherence.proofs.memory.Imports.{with_open, with_memory, memory_after, after_end, AcquireOpen, Block}
-use Rattle.tl_coherence.proofs.memory.Imports.{State, SourceState, Replied, Acquires, AccessMessages, Message}
 use Rattle.std.proofs.Common.{◌≡◌, subst, ℕ, Bool, true, false, ◌&&◌, List, Option, Some, None, refl, sym, ◌∙◌, ap, ◌⊎◌}
-use Rattle.std.proofs.Common.{inl, inr}
-use Rattle.std.{specs.Prelude.◌==◌, proofs.lemmas.Bool.cases_eq, proofs.lemmas.Bool.ne_eqb, proofs.Math.Bool.and-false}
-use Rattle.tl_coherence.specs.refinement.MemoryRelation.{op_of, IsOpened, IsLet}
-use Rattle.tl_coherence.specs.{protocol.Invariant.acquires_of, protocol.Invariant.IsInvariant}
-use Rattle.tl_coherence.specs.{protocol.PhaseSteps.after_release_ack, protocol.PhaseSteps.after_grant}
-use Rattle.tl_coherence.specs.{protocol.Tokens.is_wanting, protocol.Packet.Packet, protocol.Packet.set}
-use Rattle.tl_coherence.specs.protocol.Phase.{AcquirePhase, NoAcquire, is_unreleased, is_whole}
-use Rattle.tl_coherence.specs.protocol.Protocol.{taken_block, granted_truth, let_go_block, answer_taken, grant_taken}
-use Rattle.tl_coherence.specs.protocol.Protocol.{release_ack_taken}
-use Rattle.tl_coherence.proofs.memory.Beside.{open-here, open-there, open-releases, open-requests, beside-used}
-use Rattle.tl_coherence.proofs.memory.Beside.{beside-let, same_acquire}
-use Rattle.tl_coherence.proofs.{memory.BesideAsked.acquires-else, memory.OneMemory.block-besides}
-use Rattle.tl_coherence.proofs.{protocol.BothParts.is_of-is, protocol.BothParts.acquires_of-is}
-use Rattle.tl_coherence.proofs.{memory.BesideKinds.same_acquiring}
+use Rattle.std.proofs.Common.{inl, inr, ne_eqb, ◌==◌}
+use Rattle.tl_coherence.proofs
+use proofs.Imports.{and-false, cases_eq, Message, Cap, IsBlock, Op, acquires_of, IsInvariant, Packet, set, AcquireOpen}
+use proofs.Imports.{AcquirePhase, NoAcquire, is_unreleased, is_whole, after_release_ack, after_grant, Block, State}
+use proofs.Imports.{SourceState, Replied, Acquires, taken_block, granted_truth, let_go_block, answer_taken, grant_taken}
+use proofs.Imports.{release_ack_taken, is_wanting, MemoryRelation, op_of, IsOpened, IsLet, AccessMessages, Machine}
+use proofs.Imports.{Open, Requests, Releases, with_open, with_memory, memory_after, after_end}
 use Rattle.tl_manager.proofs.blocks.Blocks.{block-put}
-use Rattle.tl_coherence.proofs.queues.Tokens.{same_number, set-same, set-other, set-part}
+use proofs.memory.Beside.{open-here, open-there, open-releases, open-requests, beside-used, beside-let, same_acquire}
+use proofs.memory.{BesideAsked.acquires-else, OneMemory.block-besides, BesideKinds.same_acquiring}
+use proofs.protocol.BothParts.{is_of-is, acquires_of-is}
+use proofs.queues.Tokens.{same_number, set-same, set-other, set-part}
 
 -- ---- responses
 

@@ -1,34 +1,22 @@
 -- The one-memory machine beside the protocol, after a message that is taken: which accesses are
 -- performed, and which operation ends.
-use Rattle.tl_coherence.proofs.memory.Imports.{OpA, Message, MessageA, Config, Cap, Memory, IsBlock, effect, block_at}
-use Rattle.tl_coherence.proofs.memory.Imports.{same_perm, cap_probed, IsAccess, MemoryRelation, some_below, bytes_at}
-use Rattle.tl_coherence.proofs.memory.Imports.{performs, Machine, Open, Requests, with_memory, ClientBlock, Block}
-use Rattle.tl_coherence.proofs.memory.Imports.{State, SourceState, Replied, Acquires, is_probed, performing}
-use Rattle.tl_coherence.proofs.memory.Imports.{AccessMessages, set_at, Op}
 use Rattle.std.proofs.Common.{◌≡◌, subst, ℕ, ◌^◌, ◌≤◌, Bool, true, false, not, ◌&&◌, List, [], ◌∷◌, Some, None, length}
-use Rattle.std.proofs.Common.{refl, sym, ◌∙◌, ap, ◌⊎◌, inl, inr}
-use Rattle.std.specs.Prelude.{if◌then◌else◌}
-use Rattle.std.proofs.lemmas.Bool.{cases_eq, cases_lt, not-true}
-use Rattle.tl_beat.specs.statement.Width.{IsWidth}
-use Rattle.tl_params.{specs.declared.param.Report.Report, specs.declared.perm.Perm.Perm}
-use Rattle.tl_params.{specs.statement.Param.report_left}
+use Rattle.std.proofs.Common.{refl, sym, ◌∙◌, ap, ◌⊎◌, inl, inr, if◌then◌else◌}
+use Rattle.tl_coherence.proofs
+use proofs.Imports.{cases_eq, cases_lt, not-true, OpA, IsWidth, Message, MessageA, Config, Cap, Report, Perm}
+use proofs.Imports.{report_left, same_perm, Memory, IsBlock, effect, answer_of, block_at, is_acquire, Op, sourced}
+use proofs.Imports.{length-bytes, access_answer, cap_probed, level_of, IsWell, set_at, ClientBlock, View, ProbePhase}
+use proofs.Imports.{NoProbe, ProbeAnswered, ok, same_cap, is_unprobed, is_above, Block, State, SourceState, Replied}
+use proofs.Imports.{Acquires, is_probed, Waits, view, written, is_sent, some_below, bytes_at, performs, answers}
+use proofs.Imports.{IsAccess, MemoryRelation, IsReach, Answers, AccessMessages, report_told, IsRequest, Machine, Open}
+use proofs.Imports.{Requests, with_memory, performing}
 use Rattle.tl_rules.specs.statement.Effect as memory
-use Rattle.tl_rules.{specs.statement.Effect.answer_of, specs.statement.History.is_acquire}
-use Rattle.tl_client.specs.statement.Send.{sourced}
-use Rattle.tl_manager.{specs.statement.Handing.access_answer, specs.statement.Offer.level_of}
-use Rattle.tl_manager.{proofs.messages.Filled.length-bytes}
-use Rattle.tl_coherence.specs.{refinement.MemoryRelation.IsReach, refinement.MemoryRelation.Answers}
-use Rattle.tl_coherence.specs.{refinement.AbstractStep.answers, protocol.Invariant.IsWell, protocol.PhaseSteps.is_above}
-use Rattle.tl_coherence.specs.{protocol.Tokens.is_sent, refinement.PacketMessages.report_told}
-use Rattle.tl_coherence.specs.{refinement.SimulationRelation.IsRequest}
-use Rattle.tl_coherence.specs.protocol.Phase.{View, ProbePhase, NoProbe, ProbeAnswered, ok, same_cap, is_unprobed}
-use Rattle.tl_coherence.specs.protocol.Protocol.{Waits, view, written}
-use Rattle.tl_coherence.proofs.memory.Beside.{IsSameAcquire, set_at-there, open-here, open-there, open-releases}
-use Rattle.tl_coherence.proofs.memory.Beside.{performing-one, beside-used}
-use Rattle.tl_coherence.proofs.{queues.Facts.is_other, protocol.RequestsKept.some-none, queues.Perms.nothing-above}
-use Rattle.tl_coherence.proofs.{queues.Perms.not_out, queues.Tokens.set_at-same}
-use Rattle.tl_coherence.proofs.memory.OneMemory.{blocks-performed, reply-performed, effect-sourced}
-use Rattle.tl_coherence.proofs.queues.Phases.{each_phase, of_phase, implies, implies_is}
+use proofs.memory.Beside.{IsSameAcquire, set_at-there, open-here, open-there, open-releases, performing-one}
+use proofs.memory.Beside.{beside-used}
+use proofs.queues.{Facts.is_other, Perms.nothing-above, Perms.not_out, Tokens.set_at-same, Phases.each_phase}
+use proofs.queues.{Phases.of_phase, Phases.implies, Phases.implies_is}
+use proofs.protocol.RequestsKept.{some-none}
+use proofs.memory.OneMemory.{blocks-performed, reply-performed, effect-sourced}
 
 -- ---- the manager's memory is the one memory, where nobody has what he was given to write
 

@@ -1,23 +1,18 @@
 -- The one memory has bytes, and so have the operations that are open and their answers.
-use Rattle.tl_coherence.proofs.memory.Imports.{OpA, Message, MessageA, Config, Memory, effect, block_at, Op, Reply, Log}
-use Rattle.tl_coherence.proofs.memory.Imports.{Machine, Open, Pool, Requests, after_end, after_reply, memory_after}
-use Rattle.tl_coherence.proofs.memory.Imports.{same_pool, with_memory, with_open, accesses_answered, performing}
-use Rattle.tl_coherence.proofs.memory.Imports.{one_memory_after}
 use Rattle.std.proofs.Common.{◌≡◌, ℕ, zero, suc, ◌+◌, ◌-◌, ◌/◌, ◌%◌, ◌^◌, ◌<◌, Bool, true, false, List, [], ◌∷◌, Option}
-use Rattle.std.proofs.Common.{Some, None, length, refl, inl, inr, lit<}
-use Rattle.std.specs.Prelude.{◌==◌, ◌&&◌, if◌then◌else◌, slice_get, slice_index, unwrap_or}
-use Rattle.std.{proofs.lemmas.Bool.cases_lt, proofs.lemmas.List.get_or_past, proofs.lemmas.Nat.mod_below}
+use Rattle.std.proofs.Common.{Some, None, length, refl, inl, inr, lit<, ◌&&◌, ◌==◌, if◌then◌else◌, slice_get}
+use Rattle.std.proofs.Common.{slice_index, unwrap_or}
+use Rattle.tl_coherence.proofs
+use proofs.Imports.{cases_lt, All-nil, All-cons, mod_below, OpA, a_carries_data, Message, MessageA, reaches, Config}
+use proofs.Imports.{Memory, effect, bytes_from, byte_of, block_at, Op, Reply, Event, Ask, Deliver, Outcome, Log}
+use proofs.Imports.{system_after, Machine, Open, Pool, Requests, after_end, after_reply, memory_after, same_pool}
+use proofs.Imports.{with_memory, with_open, first, moved, performed_op, performed_open, pool_of, pool_of_op}
+use proofs.Imports.{accesses_answered, performing, one_memory_after, AreBytes, stepped}
+use Rattle.std.{proofs.lemmas.List.get_or_past, proofs.lemmas.List.Elements.All-get_or}
 use Rattle.std.{proofs.lemmas.Option.get_or_from_slice_get}
-use Rattle.std.proofs.lemmas.List.Elements.{All-nil, All-cons, All-get_or}
-use Rattle.tl_beat.specs.statement.Opcode.{a_carries_data}
-use Rattle.tl_burst.specs.statement.Burst.{bit, byte_if, place_of, reaches}
+use Rattle.tl_burst.specs.statement.Burst.{bit, byte_if, place_of}
+use Rattle.tl_coherence.specs.statement.Ranged.{AreRanged, IsRanged, IsRangedOp}
 use Rattle.tl_rules.specs.statement.Effect as memory
-use Rattle.tl_rules.specs.statement.Effect.{bytes_from, byte_of}
-use Rattle.tl_coherence.specs.{declared.event.Event.Event, declared.event.Outcome.Outcome, statement.Log.system_after}
-use Rattle.tl_coherence.specs.{statement.Step.stepped}
-use Rattle.tl_coherence.specs.declared.event.Event.TheVariants.{Ask, Deliver}
-use Rattle.tl_coherence.specs.statement.Machine.{first, moved, performed_op, performed_open, pool_of, pool_of_op}
-use Rattle.tl_coherence.specs.statement.Ranged.{AreBytes, AreRanged, IsRanged, IsRangedOp}
 
 -- ---- bytes
 

@@ -1,22 +1,15 @@
 -- Copies are coherent with the one memory, and the open operations are those that were started.
-use Rattle.tl_coherence.proofs.memory.Imports.{MessageA, Config, IsBlock, same_perm, Op, Reply, Log, Machine, Open}
-use Rattle.tl_coherence.proofs.memory.Imports.{Pool, Requests, Releases, same_pool, with_open, with_memory}
-use Rattle.tl_coherence.proofs.memory.Imports.{memory_after, after_reply, after_end, performed, State, one_memory_after}
-use Rattle.tl_coherence.proofs.memory.Imports.{performing, accesses_answered, AccessMessages}
 use Rattle.std.proofs.Common.{◌≡◌, ℕ, Bool, true, false, ◌&&◌, List, [], ◌∷◌, Option, Some, None, refl, sym, ◌∙◌, ap}
-use Rattle.std.proofs.Common.{subst}
-use Rattle.std.specs.Prelude.{◌==◌, if◌then◌else◌, option_map, unwrap_or, is_some}
-use Rattle.std.proofs.lemmas.Bool.{eqb-true}
-use Rattle.tl_params.specs.declared.perm.Perm.{Perm}
+use Rattle.std.proofs.Common.{subst, eqb-true, ◌==◌, if◌then◌else◌, option_map, unwrap_or, is_some}
+use Rattle.tl_coherence.proofs
+use proofs.Imports.{MessageA, Config, IsBlock, swapped, Op, Reply, holds, Event, Ask, Deliver, Outcome, State, view}
+use proofs.Imports.{AccessMessages, SimulationRelation, started, IsCoherent, Log, system_after, Machine, Open, Pool}
+use proofs.Imports.{Requests, Releases, same_pool, with_open, with_memory, memory_after, after_reply, after_end}
+use proofs.Imports.{pool_of, moved, performed_op, performed_open, one_memory_after, performing, accesses_answered}
+use proofs.Imports.{stepped}
+use Rattle.tl_coherence.specs.{statement.Coherent.started_at, statement.Machine.performed}
 use Rattle.tl_rules.specs.statement.Effect as memory
-use Rattle.tl_client.{specs.statement.EndpointInvariant.holds, proofs.endpoint.HeldAfter.swapped}
-use Rattle.tl_coherence.specs.{declared.event.Event.Event, declared.event.Outcome.Outcome, statement.Log.system_after}
-use Rattle.tl_coherence.specs.{statement.Permissions.perm_le, protocol.Protocol.view, statement.Step.stepped}
-use Rattle.tl_coherence.specs.{refinement.SimulationRelation.SimulationRelation}
-use Rattle.tl_coherence.specs.declared.event.Event.TheVariants.{Ask, Deliver}
-use Rattle.tl_coherence.specs.statement.Coherent.{started_at, started, IsCoherent}
-use Rattle.tl_coherence.specs.statement.Machine.{pool_of, moved, performed_op, performed_open}
-use Rattle.tl_coherence.proofs.{queues.Facts.held_at_most, queues.Perms.held-some}
+use proofs.queues.{Facts.held_at_most, Perms.held-some, Perms.none_below, Perms.trunk_below}
 
 -- ---- what is open, as it was asked
 
@@ -136,19 +129,6 @@ opened-started {w} config (x ∷ log) c pool source =
 
 -- ---- coherent copies
 
-trunk_is : (p q : Perm) → p ≡ Perm.Trunk → perm_le p q ≡ true → same_perm q Perm.Trunk ≡ true
-trunk_is Perm.Trunk Perm.Trunk e f = refl
-trunk_is p q e f = absurd cc
-
-none_is : (p q : Perm) → same_perm q Perm.None ≡ true → perm_le p q ≡ true → p ≡ Perm.None
-none_is Perm.None q e f = refl
-none_is Perm.Branch Perm.None e f = absurd cc
-none_is Perm.Trunk Perm.None e f = absurd cc
-none_is Perm.Branch Perm.Branch e f = absurd cc
-none_is Perm.Branch Perm.Trunk e f = absurd cc
-none_is Perm.Trunk Perm.Branch e f = absurd cc
-none_is Perm.Trunk Perm.Trunk e f = absurd cc
-
 pub coherent-matched : {w : ℕ} {config : Config} {log : Log w} {mail : AccessMessages w} {request : ℕ → MessageA w}
     {s : State (List ℕ)} → SimulationRelation config log mail request s (system_after config log)
     → IsCoherent (system_after config log) log (one_memory_after config log)
@@ -156,12 +136,12 @@ coherent-matched {w} {config} {log} {s} h =
     let some_is : (x y : List ℕ) → Some x ≡ Some y → x ≡ y = λ x y e. cc in
     record {
       one_writer = λ c d n differ writes.
-          let top = trunk_is ((s.block n).pair c).held ((s.block n).pair c).recorded
-          (sym ((h.known c).held_is n) ∙ writes)
-          (held_at_most ((s.block n).pair c) (view (s.block n).service c) ((h.invariant.blocks n).phases c)) in
+          let top = trunk_below ((s.block n).pair c).held ((s.block n).pair c).recorded
+          (held_at_most ((s.block n).pair c) (view (s.block n).service c) ((h.invariant.blocks n).phases c))
+          (sym ((h.known c).held_is n) ∙ writes) in
           let none = (h.invariant.blocks n).one_owner c d top (λ e. differ (sym e)) in
-          (h.known d).held_is n ∙ none_is ((s.block n).pair d).held ((s.block n).pair d).recorded none
-          (held_at_most ((s.block n).pair d) (view (s.block n).service d) ((h.invariant.blocks n).phases d));
+          (h.known d).held_is n ∙ none_below ((s.block n).pair d).held ((s.block n).pair d).recorded
+          (held_at_most ((s.block n).pair d) (view (s.block n).service d) ((h.invariant.blocks n).phases d)) none;
       copies = λ c n bytes copy.
           let some = held-some ((s.block n).pair c).held
           (sym (sym (ap is_some copy) ∙ (h.kept c).copies_held n ∙ ap holds ((h.known c).held_is n))) in

@@ -1,21 +1,16 @@
 -- The one memory, block by block: after an access, a Store, and a store of a whole block.
-use Rattle.tl_coherence.proofs.memory.Imports.{OpA, MessageA, Memory, IsBlock, effect, block_at, bytes_at, performs}
 use Rattle.std.proofs.Common.{◌≡◌, ℕ, zero, suc, ◌+◌, ◌-◌, ◌*◌, ◌/◌, ◌%◌, ◌^◌, ◌<◌, ◌≤◌, Bool, true, false, ◌&&◌, List}
-use Rattle.std.proofs.Common.{[], ◌∷◌, Option, Some, None, length, refl, sym, ◌∙◌, ap, ◌⊎◌, inl, inr, arith}
-use Rattle.std.specs.Prelude.{◌≢◌, if◌then◌else◌, slice_index, get_or, nat_le, nat_lt}
-use Rattle.std.proofs.lemmas.Bool.{cases_lt, ne_eqb, le-leb, lt-ltb, leb-true, ltb-true, and_parts}
-use Rattle.tl_beat.specs.statement.Width.{IsWidth}
-use Rattle.tl_burst.specs.declared.message.Message.TheVariants.{A}
-use Rattle.tl_burst.specs.statement.Burst.{beats_of, IsBlankAfter, reaches}
-use Rattle.tl_params.specs.declared.level.Level.{Level}
-use Rattle.tl_rules.{specs.statement.Effect.bytes_from, specs.statement.Effect.byte_of}
-use Rattle.tl_rules.{specs.statement.History.is_acquire, proofs.Blocks.effect_elsewhere, proofs.Legal.access_at_uh}
-use Rattle.tl_client.{specs.statement.Ask.copy_stored, specs.statement.Send.sourced}
-use Rattle.tl_client.proofs.caching_client.Stores.{stored-inside, stored-outside, length-stored}
-use Rattle.tl_manager.{specs.code.Kept.illegal_message_at, specs.statement.Reaction.with_block}
-use Rattle.tl_manager.{proofs.blocks.Written.bytes_are, proofs.blocks.Memories.access_code}
-use Rattle.tl_coherence.specs.statement.Machine.{with_number}
-use Rattle.tl_coherence.proofs.manager.Memories.{performed-block, performed-reply, byte_in}
+use Rattle.std.proofs.Common.{[], ◌∷◌, Option, Some, None, length, refl, sym, ◌∙◌, ap, ◌⊎◌, inl, inr, arith, ne_eqb}
+use Rattle.std.proofs.Common.{le-leb, lt-ltb, leb-true, if◌then◌else◌, slice_index, nat_le, ltb-true, ◌≢◌, get_or}
+use Rattle.std.proofs.Common.{nat_lt}
+use Rattle.tl_coherence.proofs
+use proofs.Imports.{cases_lt, and_parts, OpA, IsWidth, A, MessageA, beats_of, IsBlankAfter, reaches, Level, Memory}
+use proofs.Imports.{IsBlock, effect, bytes_from, byte_of, block_at, is_acquire, length-stored, copy_stored, sourced}
+use proofs.Imports.{bytes_are, illegal_message_at, with_block, bytes_at, performs, with_number}
+use Rattle.tl_rules.{proofs.Blocks.effect_elsewhere, proofs.Legal.access_at_uh}
+use Rattle.tl_client.proofs.caching_client.Stores.{stored-inside, stored-outside}
+use Rattle.tl_manager.proofs.blocks.Memories.{access_code}
+use proofs.manager.Memories.{performed-block, performed-reply, byte_in}
 
 -- ---- a block's bytes, as a list and by their places
 

@@ -1,20 +1,15 @@
 -- Runs of the one-memory machine, and exact stalls.
-use Rattle.tl_coherence.proofs.memory.Imports.{Message, Config, Log, one_memory_after}
-use Rattle.std.proofs.Common.{◌≡◌, List, [], ◌∷◌, refl, sym, ◌∙◌}
-use Rattle.std.specs.Prelude.{ℕ, Bool, true, false, Result, Ok, Err, Option, ⊤}
-use Rattle.tl_beat.{specs.declared.beat.Beat.Beat, specs.declared.channel.Channel.Channel}
-use Rattle.tl_params.specs.declared.rule.Rule.{Rule}
-use Rattle.tl_client.{specs.declared.verdict.Verdict.Verdict, specs.statement.Endpoint.EndConfig}
-use Rattle.tl_client.{specs.statement.Offer.is_stalled, specs.statement.Offer.offered}
-use Rattle.tl_client.{proofs.endpoint.Stalls.stalls-offered}
+use Rattle.std.proofs.Common.{◌≡◌, List, [], ◌∷◌, refl, sym, ◌∙◌, ℕ, Bool, true, false, Option, Result, Ok, Err}
+use Rattle.tl_coherence.proofs
+use proofs.Imports.{⊤, Beat, Channel, Message, Config, Rule, Verdict, EndConfig, is_stalled, offered, is_stall}
+use proofs.Imports.{Continues, Log, stalls, one_memory_after, delivered, is_to_client, judged, manager_took, System}
+use Rattle.tl_client.proofs.endpoint.Stalls.{stalls-offered}
+use Rattle.tl_manager.proofs.judging.Stalls.{stalls-answered}
+use Rattle.tl_coherence.specs.statement.Machine.{Run}
 use Rattle.tl_client.specs.statement.Endpoint as client
 use Rattle.tl_manager.specs.code.Kept as kept
 use Rattle.tl_manager.specs.statement.End as manager_end
 use Rattle.tl_manager.specs.statement.Offer as manager
-use Rattle.tl_manager.proofs.judging.Stalls.{stalls-answered}
-use Rattle.tl_coherence.specs.{statement.Delivery.is_stall, statement.Headline.Continues, statement.Machine.Run}
-use Rattle.tl_coherence.specs.{statement.Movable.stalls, statement.System.System}
-use Rattle.tl_coherence.specs.statement.Step.{delivered, is_to_client, judged, manager_took}
 
 -- ---- runs
 

@@ -1,14 +1,14 @@
 -- What is outstanding after a log is what is open: the starts of the log are its ends and what is open after it.
-use Rattle.tl_coherence.proofs.outstanding.Imports.{IsWidth, Config, Outcome, AbstractState, abstract_step}
-use Rattle.tl_coherence.proofs.outstanding.Imports.{starts_request, starts_release, outstanding, Log, system_after}
-use Rattle.tl_coherence.proofs.outstanding.Imports.{open_requests, open_releases, State, one_if, SimulationRelation}
-use Rattle.std.proofs.Common.{◌≡◌, ℕ, ◌+◌, Bool, true, false, [], ◌∷◌, length, refl, arith}
-use Rattle.std.specs.Prelude.{◌*◌, ◌/◌, if◌then◌else◌, filter}
-use Rattle.tl_coherence.specs.{declared.event.Event.Event, refinement.AbstractStep.first_state, bound.Rank.total}
-use Rattle.tl_coherence.specs.{statement.Step.stepped}
-use Rattle.tl_coherence.specs.statement.Load.{ends_request, ends_release, number, requests, releases, load}
-use Rattle.tl_coherence.proofs.protocol.OpenCounts.{clients_in, sources_in, IsBalance}
-use Rattle.tl_coherence.proofs.{outstanding.Outstanding.counted-followed, queues.Sums.total-zero}
+use Rattle.std.proofs.Common.{◌≡◌, ℕ, ◌+◌, Bool, true, false, [], ◌∷◌, length, refl, arith, ◌*◌, ◌/◌, if◌then◌else◌}
+use Rattle.std.proofs.Common.{filter}
+use Rattle.tl_coherence.proofs
+use proofs.Imports.{IsWidth, Config, one_if, open_requests, open_releases, total, Event, Outcome, State, AbstractState}
+use proofs.Imports.{abstract_step, first_state, SimulationRelation, starts_request, starts_release, outstanding}
+use proofs.Imports.{ends_request, ends_release, requests, releases, load, Log, system_after, stepped}
+use Rattle.tl_coherence.specs.statement.Load.{number}
+use proofs.protocol.OpenCounts.{clients_in, sources_in, IsBalance}
+use proofs.outstanding.Outstanding.{counted-followed}
+use proofs.queues.Sums.{total-zero}
 
 -- the starts of this log are its ends and what is open in this state
 pub record AreCounted {w : ℕ} {X : Type 0} (config : Config) (log : Log w) (s : State X) : Type 0 where

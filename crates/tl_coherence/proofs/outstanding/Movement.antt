@@ -1,22 +1,19 @@
 -- A delivery is next exactly while something is outstanding.
-use Rattle.tl_coherence.proofs.outstanding.Imports.{IsWidth, Beat, Channel, MessageA, Config, EndConfig, outstanding}
-use Rattle.tl_coherence.proofs.outstanding.Imports.{Log, system_after, next_delivery, is_used, is_let, open_requests}
-use Rattle.tl_coherence.proofs.outstanding.Imports.{open_releases, State, SourceState, SourceFree, terms_at, Packet}
-use Rattle.tl_coherence.proofs.outstanding.Imports.{one_if, SimulationRelation}
 use Rattle.std.proofs.Common.{◌≡◌, ℕ, zero, suc, ◌+◌, ◌<◌, Bool, true, false, List, [], ◌∷◌, length, refl, sym, ◌∙◌, ap}
-use Rattle.std.proofs.Common.{◌⊎◌, inl, inr, arith, Option, Some, None}
-use Rattle.std.{specs.Prelude.◌==◌, specs.Prelude.is_none, proofs.lemmas.Bool.cases_eq, proofs.lemmas.Bool.eqb-true}
-use Rattle.tl_beat.specs.declared.beat.Link.{Link}
-use Rattle.tl_coherence.specs.{statement.Coherent.IsCoherent, bound.Rank.total, statement.OneMemory.one_memory_after}
-use Rattle.tl_coherence.specs.{refinement.PacketMessages.AccessMessages}
-use Rattle.tl_coherence.proofs.{simulation.Bounded.matched-bounded, protocol.TokenNames.AreBounded}
-use Rattle.tl_coherence.proofs.{outstanding.Counted.AreCounted, outstanding.Counted.outstanding-open}
-use Rattle.tl_coherence.proofs.{protocol.OpenCounts.clients_in, protocol.OpenCounts.sources_in}
-use Rattle.tl_coherence.proofs.{simulation.Owned.sources-own, links.Stalling.IsFirst}
-use Rattle.tl_coherence.proofs.{queues.QuiescentQueues.client_below, protocol.QuiescentProtocol.IsClosed}
-use Rattle.tl_coherence.proofs.{queues.Sums.total-zero}
-use Rattle.tl_coherence.proofs.outstanding.Moving.{bare-when-standing, closed-when-standing, standing-when-closed}
+use Rattle.std.proofs.Common.{◌⊎◌, inl, inr, arith, Option, Some, None, eqb-true, ◌==◌, is_none}
+use Rattle.tl_coherence.proofs
+use proofs.Imports.{cases_eq, Beat, Link, Channel, IsWidth, MessageA, Config, EndConfig, one_if, is_used, is_let}
+use proofs.Imports.{open_requests, open_releases, Packet, State, SourceState, SourceFree, AccessMessages}
+use proofs.Imports.{SimulationRelation, IsCoherent, outstanding, Log, system_after, next_delivery, one_memory_after}
+use proofs.Imports.{terms_at}
+use Rattle.tl_coherence.specs.bound.Rank.{total}
 use Rattle.tl_coherence.proofs.simulation.Strangers as strangers
+use proofs.simulation.{Bounded.matched-bounded, Owned.sources-own}
+use proofs.protocol.{TokenNames.AreBounded, OpenCounts.clients_in, OpenCounts.sources_in, QuiescentProtocol.IsClosed}
+use proofs.outstanding.{Counted.AreCounted, Counted.outstanding-open, Moving.bare-when-standing}
+use proofs.outstanding.{Moving.closed-when-standing, Moving.standing-when-closed}
+use proofs.links.Stalling.{IsFirst}
+use proofs.queues.{QuiescentQueues.client_below, Sums.total-zero}
 
 -- a sum is 0 where each of its numbers is
 pub total-none : (n : ℕ) (f : ℕ → ℕ) → total n f ≡ 0 → (i : ℕ) → i < n → f i ≡ 0

@@ -1,28 +1,21 @@
 -- A delivery is movable exactly where a channel carries a message.
-use Rattle.tl_coherence.proofs.outstanding.Imports.{IsWidth, Beat, Channel, Message, MessageA, Config, block_at}
-use Rattle.tl_coherence.proofs.outstanding.Imports.{EndConfig, Log, system_after, next_delivery, State, terms_at}
-use Rattle.tl_coherence.proofs.outstanding.Imports.{Packet, Release, ReleaseAck, one_if, SimulationRelation}
-use Rattle.std.proofs.Common.{◌≡◌, ℕ, ◌<◌, Bool, true, false, List, [], ◌∷◌, refl, sym, ◌∙◌, ap, arith}
-use Rattle.std.specs.Prelude.{not, map, nat_le, Option, Some, None}
-use Rattle.std.{proofs.lemmas.Bool.Decides.nat_tests, proofs.Math.Bool.and-false, proofs.lemmas.Bool.true_from_ne_false}
-use Rattle.tl_burst.specs.statement.Messages.{unfinished}
-use Rattle.tl_params.specs.declared.key.Key.TheVariants.{ReleaseOf}
-use Rattle.tl_rules.{specs.statement.Conformance.on_link, specs.statement.History.ends, specs.statement.History.pending}
+use Rattle.std.proofs.Common.{◌≡◌, ℕ, ◌<◌, Bool, true, false, List, ◌∷◌, sym, ◌∙◌, ap, arith, not, Option, Some, None}
+use Rattle.std.proofs.Common.{map, nat_le, [], refl}
+use Rattle.tl_coherence.proofs
+use proofs.Imports.{and-false, true_from_ne_false, nat_tests, Beat, Channel, IsWidth, Message, MessageA, unfinished}
+use proofs.Imports.{Config, ReleaseOf, on_link, block_at, ends, pending, EndConfig, one_if, services, service_of_block}
+use proofs.Imports.{Packet, Release, ReleaseAck, count, ReleasePhase, NoRelease, ReleaseSent, ReleaseAcked}
+use proofs.Imports.{is_unreleased, State, Service, shown, IsCarried, client_in, service_with, AccessMessages}
+use proofs.Imports.{message_of, messages_on, SimulationRelation, IsCoherent, Moves, receiver, Log, system_after}
+use proofs.Imports.{next_delivery, is_movable, one_memory_after, terms_at}
+use Rattle.tl_coherence.specs.protocol.Protocol.{packets_on}
 use Rattle.tl_manager.specs.statement.Service as manager
-use Rattle.tl_manager.specs.statement.Service.{services, service_of_block}
-use Rattle.tl_coherence.specs.{refinement.Carried.IsCarried, statement.Coherent.IsCoherent, statement.Delivery.Moves}
-use Rattle.tl_coherence.specs.{statement.Delivery.receiver, statement.Movable.is_movable, protocol.Protocol.Service}
-use Rattle.tl_coherence.specs.{protocol.Protocol.packets_on, protocol.Tokens.shown}
-use Rattle.tl_coherence.specs.{statement.OneMemory.one_memory_after, protocol.Packet.count}
-use Rattle.tl_coherence.specs.refinement.ManagerRelation.{client_in, service_with}
-use Rattle.tl_coherence.specs.protocol.Phase.{ReleasePhase, NoRelease, ReleaseSent, ReleaseAcked, is_unreleased}
-use Rattle.tl_coherence.specs.refinement.PacketMessages.{AccessMessages, message_of, messages_on}
-use Rattle.tl_coherence.proofs.{queues.Carried.carried-none, queues.Tokens.same_number}
-use Rattle.tl_coherence.proofs.protocol.QuiescentBlock.{IsSilent, free-when_silent}
-use Rattle.tl_coherence.proofs.links.Stalling.{IsFirst, exact, started-releasing}
-use Rattle.tl_coherence.proofs.queues.QuiescentQueues.{nothing-moves, no-next, empty-still}
 use Rattle.tl_coherence.proofs.simulation.Strangers as strangers
-use Rattle.tl_coherence.proofs.protocol.QuiescentProtocol.{IsBare, IsClosed, bare-when-closed, closed-when_bare}
+use proofs.queues.{Carried.carried-none, Tokens.same_number, QuiescentQueues.nothing-moves, QuiescentQueues.no-next}
+use proofs.queues.{QuiescentQueues.empty-still}
+use proofs.protocol.{QuiescentBlock.IsSilent, QuiescentBlock.free-when_silent, QuiescentProtocol.IsBare}
+use proofs.protocol.{QuiescentProtocol.IsClosed, QuiescentProtocol.bare-when-closed, QuiescentProtocol.closed-when_bare}
+use proofs.links.Stalling.{IsFirst, exact, started-releasing}
 
 no_tokens : {w : ℕ} (f : Packet → Message w) (xs : List Packet) → map f xs ≡ [] → xs ≡ []
 no_tokens f [] e = refl

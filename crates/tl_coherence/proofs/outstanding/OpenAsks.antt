@@ -1,26 +1,19 @@
 -- What is open after a client is asked: an operation that starts opens a request or a Release, with a
 -- source that was free.
-use Rattle.tl_coherence.proofs.outstanding.Imports.{Config, block_at, EndConfig, AbstractState, starts_request}
-use Rattle.tl_coherence.proofs.outstanding.Imports.{starts_release, Log, is_used, is_let, State, SourceState}
-use Rattle.tl_coherence.proofs.outstanding.Imports.{SourceFree, Asked, Acquires, packet, System, terms_at, Request}
-use Rattle.tl_coherence.proofs.outstanding.Imports.{Acquire, Release, one_if, SimulationRelation, is_caching, Message}
-use Rattle.tl_coherence.proofs.outstanding.Imports.{Outcome}
 use Rattle.std.proofs.Common.{◌≡◌, ℕ, ◌+◌, ◌<◌, Bool, true, false, refl, ap, arith, Option, Some, None}
-use Rattle.tl_params.specs.declared.key.Key.TheVariants.{RequestSource, ReleaseSource}
-use Rattle.tl_params.{specs.declared.param.Grow.Grow, specs.declared.param.Prune.Prune, specs.declared.perm.Perm.Perm}
-use Rattle.tl_rules.specs.statement.History.{pending}
-use Rattle.tl_client.{specs.declared.busy.Busy.Busy, specs.declared.operation.Op.Op, specs.declared.reply.Reply.Reply}
-use Rattle.tl_client.{specs.statement.Endpoint.Endpoint, specs.statement.Endpoint.held_at}
-use Rattle.tl_client.{proofs.endpoint.Cases.NotBusy, proofs.endpoint.Cases.asked-cases}
-use Rattle.tl_client.{proofs.pending.Free.least_free-some}
+use Rattle.tl_coherence.proofs
+use proofs.Imports.{Message, Config, RequestSource, ReleaseSource, Grow, Prune, Perm, block_at, pending, NotBusy}
+use proofs.Imports.{asked-cases, least_free-some, Busy, Op, Reply, done, store, free_request, free_release, source_or_0}
+use proofs.Imports.{EndConfig, Endpoint, held_at, one_if, is_used, is_let, Ask, Outcome, Request, Acquire, Release}
+use proofs.Imports.{State, SourceState, SourceFree, Asked, Acquires, packet, with_a, with_c, access_asked}
+use proofs.Imports.{acquire_asked, release_asked, AbstractState, asked, SimulationRelation, is_caching, sources_of}
+use proofs.Imports.{starts_request, starts_release, Log, System, terms_at}
+use Rattle.tl_client.specs.statement.Ask.{load}
 use Rattle.tl_client.specs.statement.Ask as ask
-use Rattle.tl_client.specs.statement.Ask.{done, load, store, free_request, free_release, source_or_0}
-use Rattle.tl_coherence.specs.{declared.event.Event.TheVariants.Ask, statement.Delivery.sources_of}
-use Rattle.tl_coherence.specs.{refinement.AbstractStep.asked}
-use Rattle.tl_coherence.specs.protocol.Protocol.{with_a, with_c, access_asked, acquire_asked, release_asked}
-use Rattle.tl_coherence.proofs.{client.Askable.askable, protocol.FollowKept.IsAskable, queues.Tokens.set-part}
-use Rattle.tl_coherence.proofs.protocol.OpenCounts.{marked-set, acks-same, clients_in, sources_in, IsBalance}
-use Rattle.tl_coherence.proofs.protocol.OpenCounts.{requests-split}
+use proofs.client.Askable.{askable}
+use proofs.protocol.FollowKept.{IsAskable}
+use proofs.queues.Tokens.{set-part}
+use proofs.protocol.OpenCounts.{marked-set, acks-same, clients_in, sources_in, IsBalance, requests-split}
 
 module _ {X : Type 0} (config : Config) (s : State X) where
   access-asked : (c source : ℕ) → c < clients_in config → source < sources_in config c → s.uses c source ≡ SourceFree

@@ -1,35 +1,24 @@
 -- What is open after the first token of a channel is taken: an answer ends a request, a Grant turns one into a
 -- GrantAck,
 -- a GrantAck ends it, a ReleaseAck ends a Release, and all else leaves what is open.
-use Rattle.tl_coherence.proofs.outstanding.Imports.{Message, MessageA, Config, block_at, AbstractState, Log, is_used}
-use Rattle.tl_coherence.proofs.outstanding.Imports.{is_let, State, SourceState, SourceFree, Asked, Acquires, packet}
-use Rattle.tl_coherence.proofs.outstanding.Imports.{System, Request, Acquire, Release, ReleaseAck, Packet, one_if}
-use Rattle.tl_coherence.proofs.outstanding.Imports.{SimulationRelation, is_caching}
-use Rattle.std.proofs.Common.{◌≡◌, subst, ℕ, suc, ◌<◌, Bool, true, false, not, ◌&&◌, List, [], ◌∷◌, ◌++◌, length, refl}
-use Rattle.std.proofs.Common.{sym, ◌∙◌, ap, arith, Option, Some, None}
-use Rattle.std.{specs.Prelude.◌==◌, specs.Prelude.if◌then◌else◌, proofs.lemmas.List.length-append}
-use Rattle.tl_params.{specs.declared.param.Cap.Cap, specs.declared.param.Prune.Prune}
-use Rattle.tl_params.{specs.declared.param.Report.Report, specs.declared.profile.Profile.Profile}
-use Rattle.tl_manager.specs.statement.Holders.{cap_probed}
+use Rattle.std.proofs.Common.{◌≡◌, ℕ, suc, ◌<◌, Bool, true, false, List, [], ◌∷◌, ◌++◌, length, refl, sym, ◌∙◌, ap}
+use Rattle.std.proofs.Common.{arith, Option, Some, None, length-append, ◌==◌, if◌then◌else◌}
+use Rattle.tl_coherence.proofs
+use proofs.Imports.{Config, Cap, Prune, Report, one_if, is_used, is_let, ReleaseAck, Packet, Kind, Answer, Grant}
+use proofs.Imports.{GrantAck, set, State, SourceState, SourceFree, Asked, Acquires, packet, Block, InService, Replied}
+use proofs.Imports.{on, is_probed, with_probe, answered_link, served_link, probed_link, popped_link, ended_link}
+use proofs.Imports.{granted_link, let_link, taken_link, access_answered, access_served, acquire_granted, acquire_served}
+use proofs.Imports.{probe_taken, report_taken, report_answers, report_grants, release_taken, GrantSent, answer_taken}
+use proofs.Imports.{grant_taken, release_ack_taken, grant_ack_taken, AbstractState, taken_by_client, kind_taken}
+use proofs.Imports.{SimulationRelation, is_caching, Log, System}
+use Rattle.tl_coherence.specs.protocol.Protocol.{Link}
 use Rattle.tl_coherence.specs.refinement.AbstractStep as follow
-use Rattle.tl_coherence.specs.refinement.AbstractStep.{with_state, some_below, probes_some, access_taken, request_taken}
-use Rattle.tl_coherence.specs.refinement.AbstractStep.{acquire_taken, is_unheld, gift, granted_after, last_taken}
-use Rattle.tl_coherence.specs.refinement.AbstractStep.{ack_taken, taken_by_client, kind_taken}
-use Rattle.tl_coherence.specs.protocol.Invariant.{IsInvariant, cap_asked, serves_with}
-use Rattle.tl_coherence.specs.protocol.Phase.{AcquirePhase, NoAcquire, AcquireOpen, is_unprobed, is_whole}
-use Rattle.tl_coherence.specs.{protocol.PhaseSteps.is_granted_data, refinement.PacketMessages.report_told}
-use Rattle.tl_coherence.specs.protocol.Protocol.{Service, Waits, Block, Link, InService, Replied, on, is_probed}
-use Rattle.tl_coherence.specs.protocol.Protocol.{with_probe, answered_link, served_link, probed_link, popped_link}
-use Rattle.tl_coherence.specs.protocol.Protocol.{ended_link, granted_link, let_link, taken_link, access_answered}
-use Rattle.tl_coherence.specs.protocol.Protocol.{access_served, acquire_granted, acquire_served, probe_taken}
-use Rattle.tl_coherence.specs.protocol.Protocol.{report_taken, report_answers, report_grants, release_taken}
-use Rattle.tl_coherence.specs.protocol.Protocol.{answer_taken, grant_taken, release_ack_taken, grant_ack_taken}
-use Rattle.tl_coherence.specs.protocol.Packet.{Kind, Probe, ProbeAck, Answer, Grant, GrantAck, set}
-use Rattle.tl_coherence.proofs.{protocol.TokenNames.AreBounded, protocol.Heads.asked-first, queues.Tokens.same_number}
-use Rattle.tl_coherence.proofs.{queues.Tokens.set-part, protocol.BothParts.serves_of-is}
-use Rattle.tl_coherence.proofs.protocol.HeadOfD.{answer-due, grant-due, ack-due}
-use Rattle.tl_coherence.proofs.protocol.OpenCounts.{marked-set, set_at-part, acks-set, acks-same, clients_in}
-use Rattle.tl_coherence.proofs.protocol.OpenCounts.{sources_in, IsBalance, requests-split, balance-same}
+use proofs.protocol.{TokenNames.AreBounded, HeadOfD.answer-due, HeadOfD.grant-due, HeadOfD.ack-due, Events.true-taken}
+use proofs.protocol.{FirstTokens.first-request}
+use proofs.queues.Tokens.{set-part}
+use proofs.protocol.OpenCounts.{marked-set, set_at-part, acks-set, acks-same, clients_in, sources_in, IsBalance}
+use proofs.protocol.OpenCounts.{requests-split, balance-same}
+use proofs.rank.RankParts.{serving-use}
 
 -- ---- links whose channel E stays
 
@@ -194,65 +183,42 @@ abbrev pub is_letting_go : Kind → Bool
 is_letting_go ReleaseAck = true
 is_letting_go _ = false
 
-module _ {w : ℕ} (config : Config) (h : AbstractState w) where
-  abbrev Stays : AbstractState w → Type 0
-  Stays h' = IsBalance config h.state h'.state false false false false
-
-  request-kind : (clients c source tracker : ℕ) (m : MessageA w) (rest : List Packet) → h.state.uses c source ≡ Asked
-      → Stays (request_taken clients c source (Message.A m) tracker rest h)
-  request-kind clients c source tracker m rest used =
-      go (probes_some clients c false (cap_probed m.opcode m.param) (h.state.block n).pair)
-      (cap_probed m.opcode m.param)
-    where
-      n : ℕ
-      n = block_at m.address
-
-      go : (b : Bool) (o : Option Cap) → Stays (access_taken c source m tracker b o rest h)
-      go true (Some k) = access-served config h.state c n source tracker k rest used
-      go b o = access-answered config h.state c n source (follow.performs m) rest used
-
-  acquire-kind : (clients : ℕ) (p : Profile) (c n tracker : ℕ) (x : AcquirePhase) (rest : List Packet)
-      → Stays (acquire_taken clients p c n x tracker rest h)
-  acquire-kind clients p c n tracker NoAcquire rest = unchanged config h.state
-  acquire-kind clients p c n tracker (AcquireOpen whole g) rest =
-      go (some_below clients (λ i. is_probed c true (cap_asked (AcquireOpen whole g)) (b.pair i).recorded i))
-    where
-      b : Block (List ℕ)
-      b = h.state.block n
-
-      go : (x : Bool) → IsBalance config h.state (if x then acquire_served c n (b.source c) tracker
-          (cap_asked (AcquireOpen whole g)) rest h.state else acquire_granted c n tracker
-          (is_granted_data whole g (b.pair c).recorded) (gift p whole g (is_unheld clients b.pair)) rest h.state) false
-          false false false
-      go true = acquire-served config h.state c n (b.source c) tracker (cap_asked (AcquireOpen whole g)) rest
-      go false = acquire-granted config h.state c n tracker (is_granted_data whole g (b.pair c).recorded)
-          (gift p whole g (is_unheld clients b.pair)) rest
-
-  granted-kind : (clients : ℕ) (p : Profile) (c q n : ℕ) (r : Report) (x : AcquirePhase) (rest : List Packet)
-      → Stays (granted_after clients p c q n r x rest h)
-  granted-kind clients p c q n r NoAcquire rest = unchanged config h.state
-  granted-kind clients p c q n r (AcquireOpen whole g) rest = report-grants config h.state c q n r _ _ rest
-
-  last-kind : {caching : ℕ → Bool} (clients : ℕ) (p : Profile) (c n : ℕ) (r : Report) (service : Service)
-      (rest : List Packet) → IsInvariant caching h.state
-      → (h.state.block n).service ≡ service → Stays (last_taken clients p c n r service rest h)
-  last-kind clients p c n r (Waits q true source k) rest inv e =
-      granted-kind clients p c q n r ((h.state.block n).pair q).acquiring rest
-  last-kind clients p c n r (Waits q false source k) rest inv e =
-      let with : serves_with q source (h.state.block n) ≡ true = rw (e, same_number q, same_number source) refl in
-      report-answers config h.state c q n source r (follow.performs (h.request n)) rest
-      (serves_of-is n (h.state.uses q source) (inv.named.serves q source n ∙ with))
-  last-kind clients p c n r service rest inv e = unchanged config h.state
-
-  ack-kind : {caching : ℕ → Bool} (clients : ℕ) (p : Profile) (c n : ℕ) (r : Report) (rest : List Packet)
-      → IsInvariant caching h.state → Stays (ack_taken clients p c n r rest h)
-  ack-kind {caching} clients p c n r rest inv =
-      go (some_below clients (λ i. not (i == c) && not (is_unprobed ((h.state.block n).pair i).probing)))
-    where
-      go : (x : Bool) → Stays (if x then with_state (report_taken c n r rest h.state) h else last_taken clients p c n r
-          (h.state.block n).service rest h)
-      go true = report-taken config h.state c n r rest
-      go false = last-kind clients p c n r (h.state.block n).service rest inv refl
+-- a message of another kind ends nothing
+still-kind : {w : ℕ} {config : Config} {log : Log w} (tracker c : ℕ) (k : Kind) (i : ℕ) (rest : List Packet)
+    (h : AbstractState w) {sys : System w}
+    → SimulationRelation config log h.mail h.request h.state sys → c < clients_in config
+    → AreBounded c (sources_in config c) config.trackers h.state → on k (h.state.link c) ≡ packet k i ∷ rest
+    → is_ending k ≡ false → is_letting_go k ≡ false
+    → IsBalance config h.state (kind_taken config tracker c k i rest h).state false false false false
+still-kind {w} {config} tracker c k i rest h is few own first ends lets = true-taken config tracker c rest h
+    (λ j n. (on j (h.state.link c) ≡ packet j n ∷ rest) × (is_ending j ≡ false) × (is_letting_go j ≡ false))
+    (λ (x : AbstractState w). IsBalance config h.state x.state false false false false) k i (record {
+      nothing = λ j n known idle. unchanged config h.state;
+      access_answered = λ source m o known from caps none. access-answered config h.state c _ source
+          (follow.performs m) rest (first-request is.invariant known.0);
+      access_served = λ source m j known from caps some. access-served config h.state c _ source tracker j rest
+          (first-request is.invariant known.0);
+      acquire_granted = λ n whole g known wants none. acquire-granted config h.state c n tracker _ _ rest;
+      acquire_served = λ n whole g known wants some. acquire-served config h.state c n _ tracker _ rest;
+      probe = λ n known. probe-taken config h.state c n _ rest;
+      report = λ n known more. report-taken config h.state c n _ rest;
+      report_answers = λ n q source j known last waits. report-answers config h.state c q n source _
+          (follow.performs (h.request n)) rest (serving-use n q source j is.invariant waits);
+      report_grants = λ n q source j whole g known last waits wants. report-grants config h.state c q n _ _ _ rest;
+      release = λ n known. release-taken config h.state c n _ rest;
+      answer = λ source known. absurd cc;
+      grant = λ n q d j known sent. granted n known.0 q d j sent;
+      release_ack = λ n known. absurd cc;
+      grant_ack = λ n known. absurd cc;
+    }) (first, ends, lets)
+  where
+    granted : (n : ℕ) → (h.state.link c).d ≡ packet Grant n ∷ rest → (q : ℕ) (d : Bool) (j : Cap)
+        → (h.state.block n).service ≡ GrantSent q d j
+        → IsBalance config h.state (taken_by_client c n (GrantSent q d j) rest h).state false false false false
+    granted n tokens q d j sent =
+        let due = grant-due (is_caching config) c n rest h.state is.invariant tokens in
+        grant-taken config h.state c n _ d j rest few (own.requests ((h.state.block n).source c) (λ closed. absurd
+        (let both : Acquires n ≡ SourceFree = sym due.used ∙ closed in cc))) due.used
 
 -- What is open, after the first token of a channel of a client's link is taken.
 pub balance-kind : {w : ℕ} {config : Config} {log : Log w} (tracker : ℕ) {c : ℕ} (k : Kind) (i : ℕ) (rest : List Packet)
@@ -261,31 +227,13 @@ pub balance-kind : {w : ℕ} {config : Config} {log : Log w} (tracker : ℕ) {c 
     → AreBounded c (sources_in config c) config.trackers h.state → on k (h.state.link c) ≡ packet k i ∷ rest
     → IsBalance config h.state (kind_taken config tracker c k i rest h).state false (is_ending k) false
     (is_letting_go k)
-balance-kind {w} {config} {log} tracker {c} Request i rest h {sys} is few own first =
-    let asked = asked-first c i rest is first in
-    subst (λ (m : Message w). IsBalance config h.state (request_taken (clients_in config) c i m tracker rest h).state
-    false false false false) (sym asked.is_it)
-    (request-kind config h (clients_in config) c i tracker asked.request rest asked.used)
-balance-kind {config} tracker {c} Acquire n rest h is few own first =
-    acquire-kind config h (clients_in config) config.profile c n tracker ((h.state.block n).pair c).acquiring rest
-balance-kind {config} tracker {c} Probe n rest h is few own first = probe-taken config h.state c n _ rest
-balance-kind {config} tracker {c} ProbeAck n rest h is few own first =
-    ack-kind config h (clients_in config) config.profile c n
-    (report_told ((h.state.block n).pair c).probing) rest is.invariant
-balance-kind {config} tracker {c} Release n rest h is few own first = release-taken config h.state c n _ rest
 balance-kind {config} tracker {c} Answer source rest h is few own first =
     let due = answer-due (is_caching config) c source rest h.mail h.state is.invariant (is.answered c source) first in
     answer-taken config h.state c source rest few
     (own.requests source (λ closed. absurd (let both : Replied ≡ SourceFree = sym due.used ∙ closed in cc)))
     due.used
-balance-kind {config} tracker {c} Grant n rest h is few own first =
-    let due = grant-due (is_caching config) c n rest h.state is.invariant first in
-    subst (λ (v : Service). IsBalance config h.state (taken_by_client c n v rest h).state false false false false)
-    (sym due.service)
-    (grant-taken config h.state c n (is_whole ((h.state.block n).pair c).acquiring) due.data_too due.k rest few
-    (own.requests ((h.state.block n).source c) (λ closed. absurd (let both : Acquires n ≡ SourceFree =
-    sym due.used ∙ closed in cc))) due.used)
 balance-kind {config} tracker {c} ReleaseAck n rest h is few own first =
     let let_ = ack-due c n rest is.invariant first in
     release-ack-taken config h.state c n rest few (own.releases ((h.state.block n).release_source c) n let_) let_
 balance-kind {config} tracker {c} GrantAck n rest h is few own first = grant-ack-taken config h.state c n rest few first
+balance-kind tracker {c} k i rest h is few own first = still-kind tracker c k i rest h is few own first refl refl

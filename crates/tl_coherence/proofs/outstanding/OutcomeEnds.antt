@@ -1,26 +1,16 @@
 -- What an outcome ends of what is outstanding.
-use Rattle.tl_coherence.proofs.outstanding.Imports.{Beat, Channel, Message, Config, EndConfig, Outcome, AbstractState}
-use Rattle.tl_coherence.proofs.outstanding.Imports.{System, terms_at, Request, Acquire, Release}
 use Rattle.std.proofs.Common.{◌≡◌, subst, ℕ, zero, suc, ◌+◌, ◌<◌, Bool, true, false, List, [], ◌∷◌, refl, sym, ◌∙◌, ap}
-use Rattle.std.proofs.Common.{arith, Option, Some, None}
-use Rattle.std.specs.Prelude.{◌==◌, map, Result, Ok, Err}
-use Rattle.tl_beat.{specs.declared.beat.Link.Link, specs.declared.opcode.OpD.OpD}
-use Rattle.tl_burst.specs.statement.Burst.{beat_of, beats_of}
-use Rattle.tl_burst.specs.statement.Messages.{channel_of, unfinished}
-use Rattle.tl_params.specs.declared.rule.Rule.{Rule}
-use Rattle.tl_rules.specs.statement.History.{is_release_ack}
-use Rattle.tl_client.{specs.declared.verdict.Verdict.Verdict, specs.statement.Offer.finish_of}
+use Rattle.std.proofs.Common.{arith, Option, Some, None, ◌==◌, map, Result, Ok, Err}
+use Rattle.tl_coherence.proofs
+use proofs.Imports.{Beat, Link, Channel, OpD, Message, beat_of, beats_of, channel_of, unfinished, Config, Rule}
+use proofs.Imports.{is_release_ack, Verdict, EndConfig, finish_of, grant_opcode, is_access_answer, Deliver, Outcome}
+use proofs.Imports.{Request, Acquire, Release, Kind, Probe, ProbeAck, GrantAck, Block, is_on, AbstractState, message_of}
+use proofs.Imports.{message_of_kind, block_message, receiver, is_moving, ends_request, ends_release, is_to_client}
+use proofs.Imports.{outcome_of, stepped, stepped_at, delivered, System, terms_at}
 use Rattle.tl_client.specs.statement.Endpoint as client
 use Rattle.tl_client.specs.statement.Offer as offer
-use Rattle.tl_manager.{specs.statement.Handing.grant_opcode, specs.statement.Service.is_access_answer}
-use Rattle.tl_coherence.specs.{declared.event.Event.TheVariants.Deliver, statement.Draining.is_moving}
-use Rattle.tl_coherence.specs.{statement.Load.ends_request, statement.Load.ends_release, statement.Delivery.receiver}
-use Rattle.tl_coherence.specs.{protocol.Protocol.Block, protocol.Protocol.is_on}
-use Rattle.tl_coherence.specs.refinement.PacketMessages.{message_of, message_of_kind, block_message}
-use Rattle.tl_coherence.specs.statement.Step.{is_to_client, outcome_of, stepped, stepped_at, delivered}
-use Rattle.tl_coherence.specs.protocol.Packet.{Kind, Probe, ProbeAck, GrantAck}
-use Rattle.tl_coherence.proofs.{queues.Carried.IsNext, queues.FirstToken.IsFirst, outstanding.OpenKinds.is_ending}
-use Rattle.tl_coherence.proofs.{outstanding.OpenKinds.is_letting_go}
+use proofs.queues.{Carried.IsNext, FirstToken.IsFirst}
+use proofs.outstanding.OpenKinds.{is_ending, is_letting_go}
 
 -- ---- what an outcome ends
 

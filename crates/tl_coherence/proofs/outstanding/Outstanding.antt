@@ -1,45 +1,31 @@
 -- What is outstanding is what is open: at every event the requests and Releases that it starts and ends are those that
 -- it
 -- opens and closes.
-use Rattle.tl_coherence.proofs.outstanding.Imports.{IsWidth, Beat, Channel, Message, Config, EndConfig, Outcome}
-use Rattle.tl_coherence.proofs.outstanding.Imports.{AbstractState, abstract_step, starts_request, starts_release, Log}
-use Rattle.tl_coherence.proofs.outstanding.Imports.{system_after, open_requests, open_releases, packet, terms_at}
-use Rattle.tl_coherence.proofs.outstanding.Imports.{ReleaseAck, Packet, one_if, SimulationRelation, is_caching}
 use Rattle.std.proofs.Common.{◌≡◌, subst, ℕ, ◌+◌, ◌<◌, Bool, true, false, List, ◌∷◌, refl, sym, ◌∙◌, ap, Option, Some}
-use Rattle.std.proofs.Common.{None}
-use Rattle.std.specs.Prelude.{if◌then◌else◌, map, Ok}
-use Rattle.tl_beat.{specs.declared.beat.BeatD.BeatD, specs.declared.beat.Link.Link}
-use Rattle.tl_burst.{specs.declared.message.MessageD.MessageD, specs.statement.Messages.channel_of}
-use Rattle.tl_burst.{specs.statement.Messages.unfinished, specs.statement.Part.completes}
-use Rattle.tl_burst.specs.statement.Burst.{beat_of, beats_of, d_beat_of}
-use Rattle.tl_rules.specs.statement.History.{is_release_ack}
-use Rattle.tl_client.specs.declared.verdict.Verdict.{Verdict}
+use Rattle.std.proofs.Common.{None, if◌then◌else◌, map, Ok}
+use Rattle.tl_coherence.proofs
+use proofs.Imports.{Beat, BeatD, Link, Channel, IsWidth, Message, MessageD, beat_of, beats_of, d_beat_of, channel_of}
+use proofs.Imports.{unfinished, completes, Config, is_release_ack, Verdict, EndConfig, one_if, is_access_answer}
+use proofs.Imports.{open_requests, open_releases, Event, Ask, Deliver, Outcome, ReleaseAck, Packet, Kind, Answer, Grant}
+use proofs.Imports.{GrantAck, packet, is_on, on, AbstractState, abstract_step, abstract_step_by, kind_taken, message_of}
+use proofs.Imports.{message_of_kind, SimulationRelation, is_caching, receiver, is_moving, starts_request}
+use proofs.Imports.{starts_release, ends_request, ends_release, Log, system_after, Step, is_to_client, outcome_of}
+use proofs.Imports.{stepped, stepped_at, terms_at}
 use Rattle.tl_client.specs.statement.Endpoint as client
 use Rattle.tl_client.specs.statement.Offer as offer
-use Rattle.tl_manager.specs.statement.Service.{is_access_answer}
-use Rattle.tl_coherence.specs.{declared.event.Event.Event, statement.Draining.is_moving, statement.Load.ends_request}
-use Rattle.tl_coherence.specs.{statement.Load.ends_release, statement.Delivery.receiver, protocol.Protocol.is_on}
-use Rattle.tl_coherence.specs.{protocol.Protocol.on}
-use Rattle.tl_coherence.specs.declared.event.Event.TheVariants.{Ask, Deliver}
-use Rattle.tl_coherence.specs.refinement.AbstractStep.{abstract_step_by, kind_taken}
-use Rattle.tl_coherence.specs.refinement.PacketMessages.{message_of, message_of_kind}
-use Rattle.tl_coherence.specs.statement.Step.{Step, is_to_client, outcome_of, stepped, stepped_at}
-use Rattle.tl_coherence.specs.protocol.Packet.{Kind, Answer, Grant, GrantAck}
-use Rattle.tl_coherence.proofs.{simulation.Bounded.matched-bounded, protocol.TokenNames.AreBounded}
-use Rattle.tl_coherence.proofs.{queues.Carried.IsNext, client.ManagerStep.on_same, queues.FirstToken.IsFirst}
-use Rattle.tl_coherence.proofs.{queues.FirstToken.first-token, deliveries.DeliverDWhole.rendered_release_ack}
-use Rattle.tl_coherence.proofs.{simulation.Moved.IsTakenByClient, simulation.Moved.client-moves}
-use Rattle.tl_coherence.proofs.{outstanding.OpenAsks.balance-asked, simulation.Owned.sources-own}
-use Rattle.tl_coherence.proofs.{queues.QuiescentQueues.client_below, manager.UnwaitedRequests.next_tracker}
-use Rattle.tl_coherence.proofs.{queues.Codes.access_kind}
-use Rattle.tl_coherence.proofs.protocol.HeadOfD.{answer-due, grant-due, grant_message, ack_message, grant-rendered}
-use Rattle.tl_coherence.proofs.client.DeliverD.{finish_at, answer-last, answer-part, same_answers, acked}
-use Rattle.tl_coherence.proofs.deliveries.DeliverDAfter.{followed-moving, followed-still}
-use Rattle.tl_coherence.proofs.deliveries.ManagersAfter.{at-manager}
-use Rattle.tl_coherence.proofs.protocol.OpenCounts.{clients_in, sources_in, IsBalance}
-use Rattle.tl_coherence.proofs.outstanding.OpenKinds.{is_ending, is_letting_go, balance-kind}
-use Rattle.tl_coherence.proofs.outstanding.OutcomeEnds.{Ends, still-ends, is_e, moved-ends, finish-ends, manager-kind}
-use Rattle.tl_coherence.proofs.outstanding.OutcomeEnds.{ack_whole, one_whole, grant_kind, probe-ends, first-probe}
+use proofs.simulation.{Bounded.matched-bounded, Moved.IsTakenByClient, Moved.client-moves, Owned.sources-own}
+use proofs.protocol.{TokenNames.AreBounded, HeadOfD.answer-due, HeadOfD.grant-due, HeadOfD.grant_message}
+use proofs.protocol.{HeadOfD.ack_message, HeadOfD.grant-rendered, OpenCounts.clients_in, OpenCounts.sources_in}
+use proofs.protocol.{OpenCounts.IsBalance}
+use proofs.queues.{Carried.IsNext, FirstToken.IsFirst, FirstToken.first-token, QuiescentQueues.client_below}
+use proofs.queues.{Codes.access_kind, KindMoves.on_same}
+use proofs.client.DeliverD.{finish_at, answer-last, answer-part, same_answers, acked}
+use proofs.deliveries.{DeliverDWhole.rendered_release_ack, DeliverDAfter.followed-moving, DeliverDAfter.followed-still}
+use proofs.deliveries.{ManagersAfter.at-manager}
+use proofs.outstanding.{OpenAsks.balance-asked, OpenKinds.is_ending, OpenKinds.is_letting_go, OpenKinds.balance-kind}
+use proofs.manager.UnwaitedRequests.{next_tracker}
+use proofs.outstanding.OutcomeEnds.{Ends, still-ends, is_e, moved-ends, finish-ends, manager-kind, ack_whole, one_whole}
+use proofs.outstanding.OutcomeEnds.{grant_kind, probe-ends, first-probe}
 pub use Rattle.tl_coherence.proofs.outstanding.OutcomeEnds.{first-moved}
 
 -- ---- one event

@@ -1,17 +1,16 @@
 -- Whatever happens to a manager and its clients, what is outstanding is what is open, and a delivery is next exactly
 -- while
 -- something is outstanding.
-use Rattle.tl_coherence.proofs.outstanding.Imports.{IsWidth, Config, outstanding, Log, system_after, next_delivery}
-use Rattle.std.proofs.Common.{◌≡◌, ℕ, ◌<◌, true, [], ◌∷◌, None, length, arith}
-use Rattle.std.{specs.Prelude.◌==◌, specs.Prelude.is_none, proofs.lemmas.Bool.Decides.nat_tests}
-use Rattle.tl_params.specs.statement.Config.{config_fault, blocks_fit, trackers_fit, all_sources_fit}
-use Rattle.tl_params.specs.statement.Range.{is_from_to}
-use Rattle.tl_coherence.specs.{statement.Headline.AreTyped, statement.Headline.IsGiven, statement.Log.IsLog}
-use Rattle.tl_coherence.proofs.outstanding.Counted.{AreCounted, counted-first, counted-next}
-use Rattle.tl_coherence.proofs.{links.HeadsOfLinks.first-of, links.FromInvariant.coherent}
-use Rattle.tl_coherence.proofs.{links.FromInvariant.matched-given, deliveries.Matching.shadow}
-use Rattle.tl_coherence.proofs.{deliveries.Matching.matched, outstanding.Movement.next-while-outstanding}
-use Rattle.tl_coherence.proofs.{queues.Limits.limits-fit}
+use Rattle.std.proofs.Common.{◌≡◌, ℕ, ◌<◌, true, [], ◌∷◌, None, length, arith, ◌==◌, is_none}
+use Rattle.tl_coherence.proofs
+use proofs.Imports.{nat_tests, IsWidth, Config, config_fault, blocks_fit, trackers_fit, all_sources_fit, is_from_to}
+use proofs.Imports.{IsGiven, outstanding, Log, system_after, next_delivery}
+use Rattle.tl_coherence.specs.{statement.Headline.AreTyped, statement.Log.IsLog}
+use proofs.outstanding.{Counted.AreCounted, Counted.counted-first, Counted.counted-next}
+use proofs.outstanding.{Movement.next-while-outstanding}
+use proofs.links.{HeadsOfLinks.first-of, FromInvariant.coherent, FromInvariant.matched-given}
+use proofs.deliveries.Matching.{shadow, matched}
+use proofs.queues.Limits.{limits-fit}
 
 -- the starts of every log are its ends and what is open after it
 pub counted : {w : ℕ} (config : Config) (log : Log w) → IsWidth w → AreTyped log → IsLog config log

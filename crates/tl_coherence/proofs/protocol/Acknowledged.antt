@@ -1,24 +1,20 @@
 -- A ReleaseAck and a GrantAck that are taken keep the invariant.
-use Rattle.tl_coherence.proofs.protocol.Imports.{Channel, ClientBlock, View, Idle, Acknowledging, GrantedOther}
-use Rattle.tl_coherence.proofs.protocol.Imports.{ReleaseAcked, is_unreleased, is_unprobed, Kind, Request, Acquire}
-use Rattle.tl_coherence.proofs.protocol.Imports.{Probe, ProbeAck, Release, Grant, ReleaseAck, GrantAck, Packet, set}
-use Rattle.tl_coherence.proofs.protocol.Imports.{set_at, GrantTaken, Block, State, Link, view, packet, shows}
-use Rattle.tl_coherence.proofs.protocol.Imports.{is_transfer, is_wanting, is_unserved, is_sent, is_answered}
-use Rattle.tl_coherence.proofs.protocol.Imports.{is_releasing, is_acked, is_granting, is_acknowledging, Move, Stays}
-use Rattle.tl_coherence.proofs.protocol.Imports.{Pushes, Pops, AreMoved, agrees, is_own_move, channel_for, is_out}
-use Rattle.tl_coherence.proofs.protocol.Imports.{is_of, acquires_of, serves_of, acquires_with, serves_with}
-use Rattle.tl_coherence.proofs.protocol.Imports.{releases_with, tracks_with, IsWell, IsInvariant}
-use Rattle.std.proofs.Common.{◌≡◌, refl, sym, ◌∙◌, ap, inl, inr}
-use Rattle.std.specs.Prelude.{ℕ, Bool, true, false, not, List, ◌∷◌, ◌==◌, ◌&&◌, None}
-use Rattle.std.{proofs.lemmas.Bool.cases_eq, proofs.lemmas.Bool.ne_eqb, proofs.Math.Bool.and-false}
-use Rattle.tl_coherence.specs.protocol.PhaseSteps.{after_release_ack}
-use Rattle.tl_coherence.specs.protocol.Protocol.{let_go_block, release_ack_taken, freed_block, grant_ack_taken}
-use Rattle.tl_coherence.proofs.queues.Moves.{event-at, bare-at, names-block, names-set, names-set_at, invariant-moved}
-use Rattle.tl_coherence.proofs.{queues.KindMoves.same_again, protocol.BothParts.is_of-is}
-use Rattle.tl_coherence.proofs.queues.Tokens.{same_number, set-same, set-other, set-part}
-use Rattle.tl_coherence.proofs.queues.PhaseSteps.{release_ack-ok, ack_taken-ok, ack_taken_other-ok}
-use Rattle.tl_coherence.proofs.protocol.Blocks.{gentle-same, awaited-same, asked_cap-same, alone-set, owned-set}
-use Rattle.tl_coherence.proofs.protocol.Blocks.{outside-set, busy-inside}
+use Rattle.std.proofs.Common.{◌≡◌, refl, sym, ◌∙◌, ap, inl, inr, ℕ, Bool, true, false, not, List, ◌∷◌, ◌&&◌, None}
+use Rattle.std.proofs.Common.{ne_eqb, ◌==◌}
+use Rattle.tl_coherence.proofs
+use proofs.Imports.{and-false, cases_eq, Channel, is_out, is_of, acquires_of, serves_of, acquires_with, serves_with}
+use proofs.Imports.{releases_with, tracks_with, IsWell, IsInvariant, Kind, Request, Acquire, Probe, ProbeAck, Release}
+use proofs.Imports.{Grant, ReleaseAck, GrantAck, Packet, set, set_at, ClientBlock, View, Idle, Acknowledging}
+use proofs.Imports.{GrantedOther, ReleaseAcked, is_unreleased, is_unprobed, after_release_ack, GrantTaken, Block, State}
+use proofs.Imports.{view, packet, let_go_block, release_ack_taken, freed_block, grant_ack_taken, shows, is_transfer}
+use proofs.Imports.{is_wanting, is_unserved, is_sent, is_answered, is_releasing, is_acked, is_granting}
+use proofs.Imports.{is_acknowledging, Move, Stays, Pushes, Pops, AreMoved, agrees, is_own_move, channel_for}
+use Rattle.tl_coherence.specs.protocol.Protocol.{Link}
+use proofs.queues.Moves.{event-at, bare-at, names-block, names-set, names-set_at, invariant-moved}
+use proofs.queues.{KindMoves.same_again, Tokens.same_number, Tokens.set-same, Tokens.set-other, Tokens.set-part}
+use proofs.queues.{PhaseSteps.release_ack-ok, PhaseSteps.ack_taken-ok, PhaseSteps.ack_taken_other-ok}
+use proofs.protocol.BothParts.{is_of-is}
+use proofs.protocol.Blocks.{gentle-same, awaited-same, asked_cap-same, alone-set, owned-set, outside-set, busy-inside}
 
 -- ---- a ReleaseAck
 

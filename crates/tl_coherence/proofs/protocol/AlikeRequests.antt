@@ -1,18 +1,16 @@
 -- What is shown of a block stays where a client is asked, and where a request is taken.
-use Rattle.tl_coherence.proofs.protocol.Imports.{Cap, Grow, Prune, ClientBlock, View, Own, Other, Granting}
-use Rattle.tl_coherence.proofs.protocol.Imports.{Acknowledging, GrantedOther, ProbePhase, NoProbe, ReleasePhase}
-use Rattle.tl_coherence.proofs.protocol.Imports.{NoRelease, AcquirePhase, NoAcquire, is_unacquired, is_unprobed}
-use Rattle.tl_coherence.proofs.protocol.Imports.{after_grant_sent, Kind, Acquire, Probe, ProbeAck, Release, Grant}
-use Rattle.tl_coherence.proofs.protocol.Imports.{ReleaseAck, GrantAck, set, Service, Free, Waits, GrantSent, GrantTaken}
-use Rattle.tl_coherence.proofs.protocol.Imports.{Block, view, is_wanting, is_sent, is_answered, is_releasing, is_acked}
-use Rattle.tl_coherence.proofs.protocol.Imports.{is_granting, is_acknowledging, IsWell}
-use Rattle.std.proofs.Common.{◌≡◌, ℕ, Bool, true, false, not, ◌&&◌, List, refl, sym, ◌∙◌, ap, ◌⊎◌, inl, inr}
-use Rattle.std.{specs.Prelude.◌==◌, specs.Prelude.if◌then◌else◌, proofs.lemmas.Bool.cases_eq}
-use Rattle.tl_coherence.specs.protocol.PhaseSteps.{after_acquire, after_release, after_served}
-use Rattle.tl_coherence.specs.protocol.Protocol.{acquiring_block, releasing_block, granted_at_once, served_block}
-use Rattle.tl_coherence.proofs.{queues.Facts.granting_asks, queues.PhaseFacts.quiet_at_rest}
-use Rattle.tl_coherence.proofs.queues.Showing.{IsAlike, AreAlike, carries}
-use Rattle.tl_coherence.proofs.queues.Tokens.{set-same, set-other, set-part}
+use Rattle.std.proofs.Common.{◌≡◌, ℕ, Bool, true, false, not, ◌&&◌, List, refl, sym, ◌∙◌, ap, ◌⊎◌, inl, inr, ◌==◌}
+use Rattle.std.proofs.Common.{if◌then◌else◌}
+use Rattle.tl_coherence.proofs
+use proofs.Imports.{cases_eq, Cap, Grow, Prune, IsWell, Kind, Acquire, Probe, ProbeAck, Release, Grant, ReleaseAck}
+use proofs.Imports.{GrantAck, set, ClientBlock, View, Own, Other, Granting, Acknowledging, GrantedOther, ProbePhase}
+use proofs.Imports.{NoProbe, ReleasePhase, NoRelease, AcquirePhase, NoAcquire, is_unacquired, is_unprobed}
+use proofs.Imports.{after_grant_sent, after_acquire, after_release, after_served, Service, Free, Waits, GrantSent}
+use proofs.Imports.{GrantTaken, Block, view, acquiring_block, releasing_block, granted_at_once, served_block}
+use proofs.Imports.{served_pair, is_wanting, is_sent, is_answered, is_releasing, is_acked, is_granting}
+use proofs.Imports.{is_acknowledging, shown, is_unserved}
+use proofs.queues.{Facts.granting_asks, PhaseFacts.quiet_at_rest, Showing.IsAlike, Showing.AreAlike, Showing.carries}
+use proofs.queues.{Tokens.set-same, Tokens.set-other, Tokens.set-each, Phases.and_left}
 
 -- ---- what a service shows
 
@@ -52,6 +50,60 @@ unacknowledged v i u e f g = let h : is_acknowledging (view u i) ≡ true = rw e
 -- a part of pairs where one client's changes
 pub pair_at : (c : ℕ) (p : ClientBlock) (f : ℕ → ClientBlock) → set c p f c ≡ p
 pair_at c p f = set-same c p f
+
+-- ---- one client's pair changes
+
+-- of what is shown of a pair before and after, nothing changes
+pub record IsAlikePair (p q : ClientBlock) : Type 0 where
+  pub acquiring : is_wanting p.acquiring ≡ true → is_wanting q.acquiring ≡ true → q.acquiring ≡ p.acquiring
+  pub sent : is_sent p.probing ≡ true → is_sent q.probing ≡ true → q.probing ≡ p.probing
+  pub answered : is_answered p.probing ≡ true → is_answered q.probing ≡ true → q.probing ≡ p.probing
+  pub letting : is_releasing p.letting ≡ true → is_releasing q.letting ≡ true → q.letting ≡ p.letting
+
+pub alike-parts : (p q : ClientBlock) → q.acquiring ≡ p.acquiring → q.probing ≡ p.probing → q.letting ≡ p.letting
+    → IsAlikePair p q
+alike-parts p q acquiring probing letting =
+    record { acquiring = λ e f. acquiring; sent = λ e f. probing; answered = λ e f. probing; letting = λ e f. letting }
+
+pub alike-pair : (c : ℕ) (q : ClientBlock) (pair : ℕ → ClientBlock) → IsAlikePair (pair c) q → (i : ℕ)
+    → IsAlikePair (pair i) (set c q pair i)
+alike-pair c q pair here = set-each (λ i x. IsAlikePair (pair i) x) c q pair here
+    (λ i ne. alike-parts (pair i) (pair i) refl refl refl)
+
+-- nor is anything shown of a Grant both before and after, or its service and tracker stay
+abbrev pub AreAlikeGrants : Block (List ℕ) → Block (List ℕ) → Type 0
+AreAlikeGrants b b' = (i : ℕ)
+    → (is_granting (view b.service i) ≡ true → is_granting (view b'.service i) ≡ true
+    → (b'.service ≡ b.service) × (b'.tracker ≡ b.tracker))
+    × (is_acknowledging (view b.service i) ≡ true → is_acknowledging (view b'.service i) ≡ true
+    → b'.tracker ≡ b.tracker)
+
+pub alike-pairs : (b b' : Block (List ℕ)) → ((i : ℕ) → IsAlikePair (b.pair i) (b'.pair i))
+    → b'.source ≡ b.source → b'.release_source ≡ b.release_source → AreAlikeGrants b b'
+    → ((k : Kind) (i : ℕ) → shown k i b ≡ true → shown k i b' ≡ true → (carries k i b ≡ false)
+    ⊎ (b'.truth ≡ b.truth)) → (i : ℕ) → AreAlike i b b'
+alike-pairs b b' pairs source release grants bytes i k e f = (alike k e f, bytes k i e f)
+  where
+    alike : (k : Kind) → shown k i b ≡ true → shown k i b' ≡ true → IsAlike k i b b'
+    alike Acquire e f = (
+      (pairs i).acquiring (and_left _ (is_unserved (view b.service i)) e)
+          (and_left _ (is_unserved (view b'.service i)) f),
+      ap (λ (g : ℕ → ℕ). g i) source,
+    )
+    alike Probe e f = (pairs i).sent e f
+    alike ProbeAck e f = (pairs i).answered e f
+    alike Release e f = ((pairs i).letting e f, ap (λ (g : ℕ → ℕ). g i) release)
+    alike Grant e f = let same = (grants i).0 e f in (same.0, ap (λ (g : ℕ → ℕ). g i) source, same.1)
+    alike ReleaseAck e f = ap (λ (g : ℕ → ℕ). g i) release
+    alike GrantAck e f = (grants i).1 e f
+    alike k e f = tt
+
+-- a service that is free shows nothing
+pub free-grants : (b b' : Block (List ℕ)) → b.service ≡ Free → AreAlikeGrants b b'
+free-grants b b' free i = (
+  λ e f. absurd (ungranted b.service i Free free refl e),
+  λ e f. absurd (unacknowledged b.service i Free free refl e),
+)
 
 -- ---- a client is asked
 
@@ -165,20 +217,11 @@ alike-bytes b b' pair source release service tracker bytes i k e f = (alike k, b
 
 pub alike-granted_at_once : (r tracker : ℕ) (d : Bool) (k : Cap) (b : Block (List ℕ)) → b.service ≡ Free → (i : ℕ)
     → AreAlike i b (granted_at_once r tracker d k b)
-alike-granted_at_once r tracker d k b free i = go
-  where
-    after : ClientBlock
-    after = after_grant_sent k (b.pair r)
-
-    go : AreAlike i b (granted_at_once r tracker d k b)
-    go Acquire e f = ((set-part (λ (p : ClientBlock). p.acquiring) r after b.pair refl i, refl), inr refl)
-    go Probe e f = (set-part (λ (p : ClientBlock). p.probing) r after b.pair refl i, inr refl)
-    go ProbeAck e f = (set-part (λ (p : ClientBlock). p.probing) r after b.pair refl i, inr refl)
-    go Release e f = ((set-part (λ (p : ClientBlock). p.letting) r after b.pair refl i, refl), inr refl)
-    go Grant e f = absurd (ungranted b.service i Free free refl e)
-    go ReleaseAck e f = (refl, inr refl)
-    go GrantAck e f = absurd (unacknowledged b.service i Free free refl e)
-    go _ e f = (tt, inr refl)
+alike-granted_at_once r tracker d k b free =
+    let new : Block (List ℕ) = granted_at_once r tracker d k b in
+    alike-pairs b new (alike-pair r (after_grant_sent k (b.pair r)) b.pair
+    (alike-parts (b.pair r) (after_grant_sent k (b.pair r)) refl refl refl)) refl refl (free-grants b new free)
+    (λ j i e f. inr refl)
 
 unsent : (x : ProbePhase) → is_unprobed x ≡ true → is_sent x ≡ true → ⊥
 unsent NoProbe e f = cc
@@ -190,22 +233,21 @@ unanswered x e f = cc
 
 pub alike-served : {caching : ℕ → Bool} (r : ℕ) (own : Bool) (source tracker : ℕ) (k : Cap) {b : Block (List ℕ)}
     → IsWell caching b → b.service ≡ Free → (i : ℕ) → AreAlike i b (served_block r own source tracker k b)
-alike-served r own source tracker k {b} well free i = go
+alike-served r own source tracker k {b} well free =
+    let new : Block (List ℕ) = served_block r own source tracker k b in
+    alike-pairs b new pairs refl refl (free-grants b new free) (λ j i e f. inr refl)
   where
-    quiet : is_unprobed (b.pair i).probing ≡ true
-    quiet = quiet_at_rest (b.pair i) (view b.service i) (well.phases i) (rw free refl)
+    quiet : (i : ℕ) → is_unprobed (b.pair i).probing ≡ true
+    quiet i = quiet_at_rest (b.pair i) (view b.service i) (well.phases i) (rw free refl)
 
-    same : {A : Type 0} (part : ClientBlock → A) → ((p : ClientBlock) → part (after_served k p) ≡ part p) → (x : Bool)
-        → part (if x then b.pair i else after_served k (b.pair i)) ≡ part (b.pair i)
-    same part e true = refl
-    same part e false = e (b.pair i)
+    either : (i : ℕ) (x : Bool) → IsAlikePair (b.pair i) (if x then b.pair i else after_served k (b.pair i))
+    either i true = alike-parts (b.pair i) (b.pair i) refl refl refl
+    either i false = record {
+      acquiring = λ e f. refl;
+      sent = λ e f. absurd (unsent (b.pair i).probing (quiet i) e);
+      answered = λ e f. absurd (unanswered (b.pair i).probing (quiet i) e);
+      letting = λ e f. refl;
+    }
 
-    go : AreAlike i b (served_block r own source tracker k b)
-    go Acquire e f = ((same (λ (p : ClientBlock). p.acquiring) (λ p. refl) (own && (i == r)), refl), inr refl)
-    go Probe e f = absurd (unsent (b.pair i).probing quiet e)
-    go ProbeAck e f = absurd (unanswered (b.pair i).probing quiet e)
-    go Release e f = ((same (λ (p : ClientBlock). p.letting) (λ p. refl) (own && (i == r)), refl), inr refl)
-    go Grant e f = absurd (ungranted b.service i Free free refl e)
-    go ReleaseAck e f = (refl, inr refl)
-    go GrantAck e f = absurd (unacknowledged b.service i Free free refl e)
-    go _ e f = (tt, inr refl)
+    pairs : (i : ℕ) → IsAlikePair (b.pair i) (served_pair r own k b.pair i)
+    pairs i = either i (own && (i == r))

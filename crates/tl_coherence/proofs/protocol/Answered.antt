@@ -1,16 +1,15 @@
 -- An access that is answered as it is taken, and an answer that is taken, keep the invariant.
-use Rattle.tl_coherence.proofs.protocol.Imports.{Channel, same_perm, Kind, Request, ProbeAck, Answer, Packet, Block}
-use Rattle.tl_coherence.proofs.protocol.Imports.{State, Link, Asked, Replied, view, packet, shown, is_transfer, Move}
-use Rattle.tl_coherence.proofs.protocol.Imports.{Stays, Pushes, Pops, AreMoved, is_own_move, channel_for, is_of}
-use Rattle.tl_coherence.proofs.protocol.Imports.{acquires_of, serves_of, acquires_with, serves_with, releases_with}
-use Rattle.tl_coherence.proofs.protocol.Imports.{tracks_with, IsWell, IsInvariant, Perm}
-use Rattle.std.proofs.Common.{◌≡◌, refl, sym, ◌∙◌, ap, ◌⊎◌, inl, inr}
-use Rattle.std.specs.Prelude.{ℕ, Bool, true, false, List, ◌∷◌}
-use Rattle.tl_coherence.specs.protocol.Protocol.{performed_block, answered_link, access_answered, answer_taken}
-use Rattle.tl_coherence.proofs.queues.Moves.{event-at, bare-elsewhere, invariant-moved_access, names-block}
-use Rattle.tl_coherence.proofs.queues.Moves.{names-set_at, invariant-moved_use}
-use Rattle.tl_coherence.proofs.{queues.KindMoves.spares, queues.KindMoves.spared-agrees, queues.Tokens.same_number}
-use Rattle.tl_coherence.proofs.{queues.Facts.held_at_most, queues.Perms.nothing_below}
+use Rattle.std.proofs.Common.{◌≡◌, refl, sym, ◌∙◌, ap, ◌⊎◌, inl, inr, ℕ, Bool, true, false, List, ◌∷◌}
+use Rattle.tl_coherence.proofs
+use proofs.Imports.{Channel, Perm, same_perm, is_of, acquires_of, serves_of, acquires_with, serves_with, releases_with}
+use proofs.Imports.{tracks_with, IsWell, IsInvariant, Kind, Request, ProbeAck, Answer, Packet, Block, State, Asked}
+use proofs.Imports.{Replied, view, packet, performed_block, answered_link, access_answered, answer_taken, shown}
+use proofs.Imports.{is_transfer, Move, Stays, Pushes, Pops, AreMoved, is_own_move, channel_for}
+use Rattle.tl_coherence.specs.protocol.Protocol.{Link}
+use proofs.queues.Moves.{event-at, bare-elsewhere, invariant-moved_access, names-block, names-set_at}
+use proofs.queues.Moves.{invariant-moved_use}
+use proofs.queues.{KindMoves.spares, KindMoves.spared-agrees, Tokens.same_number, Facts.held_at_most}
+use proofs.queues.{Perms.nothing_below}
 
 -- ---- the block
 

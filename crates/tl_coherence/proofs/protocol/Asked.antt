@@ -1,28 +1,22 @@
 -- What a client is asked keeps the invariant: an access, an Acquire, a Release and a store.
-use Rattle.tl_coherence.proofs.protocol.Imports.{Channel, Grow, Prune, Perm, prune_left, same_perm, ClientBlock, View}
-use Rattle.tl_coherence.proofs.protocol.Imports.{Own, NoRelease, NoAcquire, AcquireOpen, is_unacquired, is_unprobed}
-use Rattle.tl_coherence.proofs.protocol.Imports.{Kind, Request, Acquire, Probe, ProbeAck, Release, Answer, Grant}
-use Rattle.tl_coherence.proofs.protocol.Imports.{ReleaseAck, GrantAck, set, set_at, Block, State, Link, SourceFree}
-use Rattle.tl_coherence.proofs.protocol.Imports.{Acquires, view, packet, shows, shown, is_transfer, is_wanting}
-use Rattle.tl_coherence.proofs.protocol.Imports.{is_unserved, is_sent, is_answered, is_releasing, is_acked, is_granting}
-use Rattle.tl_coherence.proofs.protocol.Imports.{is_acknowledging, Move, Stays, Pushes, AreMoved, agrees, is_own_move}
-use Rattle.tl_coherence.proofs.protocol.Imports.{channel_for, is_out, is_of, acquires_of, serves_of, acquires_with}
-use Rattle.tl_coherence.proofs.protocol.Imports.{serves_with, releases_with, tracks_with, IsWell, IsInvariant}
-use Rattle.std.proofs.Common.{◌≡◌, refl, sym, ◌∙◌, ap, inl, inr}
-use Rattle.std.specs.Prelude.{ℕ, Bool, true, false, not, ◌&&◌, Some, None}
-use Rattle.std.proofs.lemmas.Bool.{cases_eq, ne_eqb}
-use Rattle.tl_coherence.specs.protocol.Phase.{grow_fits}
-use Rattle.tl_coherence.specs.protocol.PhaseSteps.{after_acquire, after_release}
-use Rattle.tl_coherence.specs.protocol.Protocol.{with_a, with_c, acquiring_block, releasing_block, stored_block}
-use Rattle.tl_coherence.specs.protocol.Protocol.{access_asked, acquire_asked, release_asked, block_stored}
-use Rattle.tl_coherence.proofs.{queues.Phases.and_left, queues.PhaseSteps.acquire-ok, queues.PhaseSteps.release-ok}
-use Rattle.tl_coherence.proofs.{queues.KindMoves.spares, queues.KindMoves.same_again, queues.Perms.nothing_below}
-use Rattle.tl_coherence.proofs.queues.Facts.{own_wants, held_at_most, held_out, unserved_calm}
-use Rattle.tl_coherence.proofs.protocol.Blocks.{awaited-same, asked_cap-same, asked_cap-other, own_source-other}
-use Rattle.tl_coherence.proofs.protocol.Blocks.{gentle-same, alone-set, owned-set, outside-set}
-use Rattle.tl_coherence.proofs.queues.Moves.{event-at, bare-at, bare-elsewhere, invariant-moved_access, names-kept}
-use Rattle.tl_coherence.proofs.queues.Moves.{names-block, names-set_at, invariant-moved, invariant-moved_use}
-use Rattle.tl_coherence.proofs.queues.Tokens.{same_number, set-same, set-other, set-part}
+use Rattle.std.proofs.Common.{◌≡◌, refl, sym, ◌∙◌, ap, inl, inr, ℕ, Bool, true, false, not, ◌&&◌, Some, None, ne_eqb}
+use Rattle.tl_coherence.proofs
+use proofs.Imports.{cases_eq, Channel, Grow, Prune, Perm, prune_left, same_perm, is_out, is_of, acquires_of, serves_of}
+use proofs.Imports.{acquires_with, serves_with, releases_with, tracks_with, IsWell, IsInvariant, Kind, Request, Acquire}
+use proofs.Imports.{Probe, ProbeAck, Release, Answer, Grant, ReleaseAck, GrantAck, set, set_at, ClientBlock, View, Own}
+use proofs.Imports.{NoRelease, NoAcquire, AcquireOpen, is_unacquired, is_unprobed, grow_fits, after_acquire}
+use proofs.Imports.{after_release, Block, State, SourceFree, Acquires, view, packet, with_a, with_c, acquiring_block}
+use proofs.Imports.{releasing_block, stored_block, access_asked, acquire_asked, release_asked, block_stored, shows}
+use proofs.Imports.{shown, is_transfer, is_wanting, is_unserved, is_sent, is_answered, is_releasing, is_acked}
+use proofs.Imports.{is_granting, is_acknowledging, Move, Stays, Pushes, AreMoved, agrees, is_own_move, channel_for}
+use Rattle.tl_coherence.specs.protocol.Protocol.{Link}
+use proofs.queues.{Phases.and_left, PhaseSteps.acquire-ok, PhaseSteps.release-ok, KindMoves.spares}
+use proofs.queues.{KindMoves.same_again, Perms.nothing_below, Facts.own_wants, Facts.held_at_most, Facts.held_out}
+use proofs.queues.{Facts.unserved_calm, Tokens.same_number, Tokens.set-same, Tokens.set-other, Tokens.set-part}
+use proofs.protocol.Blocks.{awaited-same, asked_cap-same, asked_cap-other, own_source-other, gentle-same, alone-set}
+use proofs.protocol.Blocks.{owned-set, outside-set}
+use proofs.queues.Moves.{event-at, bare-at, bare-elsewhere, invariant-moved_access, names-kept, names-block}
+use proofs.queues.Moves.{names-set_at, invariant-moved, invariant-moved_use}
 
 -- ---- blocks
 

@@ -1,23 +1,21 @@
 -- An Acquire that is granted as it is taken keeps the invariant.
-use Rattle.tl_coherence.proofs.protocol.Imports.{Channel, Cap, Grow, Perm, cap_right, same_perm, ClientBlock, Idle}
-use Rattle.tl_coherence.proofs.protocol.Imports.{Granting, GrantedOther, AcquireOpen, same_cap, is_unacquired}
-use Rattle.tl_coherence.proofs.protocol.Imports.{is_unprobed, cap_fits, is_above, is_granted_data, after_grant_sent}
-use Rattle.tl_coherence.proofs.protocol.Imports.{Kind, Request, Acquire, Probe, ProbeAck, Release, Grant, ReleaseAck}
-use Rattle.tl_coherence.proofs.protocol.Imports.{GrantAck, Packet, set, Free, Block, State, Link, view, packet, shows}
-use Rattle.tl_coherence.proofs.protocol.Imports.{is_transfer, is_wanting, is_sent, is_answered, is_releasing, is_acked}
-use Rattle.tl_coherence.proofs.protocol.Imports.{Move, Stays, Pushes, Pops, AreMoved, agrees, is_own_move, channel_for}
-use Rattle.tl_coherence.proofs.protocol.Imports.{is_of, acquires_of, serves_of, acquires_with, serves_with}
-use Rattle.tl_coherence.proofs.protocol.Imports.{releases_with, tracks_with, IsWell, IsInvariant, cap_asked}
-use Rattle.std.proofs.Common.{◌≡◌, refl, sym, ◌∙◌, ◌⊎◌, inl, inr}
-use Rattle.std.specs.Prelude.{ℕ, Bool, true, false, not, List, ◌∷◌, Some, None}
-use Rattle.std.proofs.lemmas.Bool.{cases_eq, ne_eqb}
-use Rattle.tl_coherence.specs.protocol.Protocol.{granted_at_once, answered_link, acquire_granted}
-use Rattle.tl_coherence.proofs.queues.Moves.{event-at, bare-at, names-block, names-set, invariant-moved}
-use Rattle.tl_coherence.proofs.{queues.KindMoves.same_again, queues.Facts.asked_low, queues.PhaseFacts.quiet_at_rest}
-use Rattle.tl_coherence.proofs.{protocol.Blocks.busy-inside, protocol.Blocks.outside-set, queues.Perms.not_out}
-use Rattle.tl_coherence.proofs.queues.Tokens.{same_number, set-same, set-other, set-part}
-use Rattle.tl_coherence.proofs.queues.PhaseSteps.{grant_at_once-ok, granted_other-ok}
-use Rattle.tl_coherence.proofs.protocol.Granted.{gives, none_or_trunk, grows_to_trunk}
+use Rattle.std.proofs.Common.{◌≡◌, refl, sym, ◌∙◌, ◌⊎◌, inl, inr, ℕ, Bool, true, false, not, List, ◌∷◌, Some, None}
+use Rattle.std.proofs.Common.{ne_eqb}
+use Rattle.tl_coherence.proofs
+use proofs.Imports.{cases_eq, Channel, Cap, Grow, Perm, cap_right, same_perm, is_of, acquires_of, serves_of}
+use proofs.Imports.{acquires_with, serves_with, releases_with, tracks_with, IsWell, IsInvariant, cap_asked, Kind}
+use proofs.Imports.{Request, Acquire, Probe, ProbeAck, Release, Grant, ReleaseAck, GrantAck, Packet, set, ClientBlock}
+use proofs.Imports.{Idle, Granting, GrantedOther, AcquireOpen, same_cap, is_unacquired, is_unprobed, cap_fits, is_above}
+use proofs.Imports.{is_granted_data, after_grant_sent, Free, Block, State, view, packet, granted_at_once, answered_link}
+use proofs.Imports.{acquire_granted, shows, is_transfer, is_wanting, is_sent, is_answered, is_releasing, is_acked, Move}
+use proofs.Imports.{Stays, Pushes, Pops, AreMoved, agrees, is_own_move, channel_for}
+use Rattle.tl_coherence.specs.protocol.Protocol.{Link}
+use proofs.queues.{Moves.event-at, Moves.bare-at, Moves.names-block, Moves.names-set, Moves.invariant-moved}
+use proofs.queues.{KindMoves.same_again, Facts.asked_low, PhaseFacts.quiet_at_rest, Perms.not_out, Tokens.same_number}
+use proofs.queues.{Tokens.set-same, Tokens.set-other, Tokens.set-part, PhaseSteps.grant_at_once-ok}
+use proofs.queues.{PhaseSteps.granted_other-ok}
+use proofs.protocol.{Blocks.busy-inside, Blocks.outside-set, Granted.gives, Granted.none_or_trunk}
+use proofs.protocol.{Granted.grows_to_trunk}
 
 -- ---- the block
 

@@ -1,14 +1,12 @@
 -- How many beats of a message are left on its channel, before and after each event.
-use Rattle.tl_coherence.proofs.protocol.Imports.{Beat, Channel, beats_of, Move, Stays, Pushes, Pops, IsMoved}
-use Rattle.tl_coherence.proofs.protocol.Imports.{channel_for, State, packet, packets_on, is_on, is_transfer, shown}
-use Rattle.tl_coherence.proofs.protocol.Imports.{AccessMessages, block_message, Kind, Request, Answer, Packet, one_if}
-use Rattle.tl_coherence.proofs.protocol.Imports.{count}
 use Rattle.std.proofs.Common.{◌≡◌, ℕ, ◌-◌, ◌<◌, ◌≤◌, Bool, true, false, List, [], ◌∷◌, ◌++◌, refl, sym, ap, subst}
-use Rattle.std.proofs.Common.{arith, ◌⊎◌, inl, inr}
-use Rattle.std.{specs.Prelude.length, proofs.lemmas.Bool.cases_eq}
-use Rattle.tl_coherence.specs.{bound.Rank.Left, refinement.PacketMessages.message_of_kind, protocol.Packet.is}
-use Rattle.tl_coherence.proofs.protocol.TokenNames.{once, shown_there, shows_it}
-use Rattle.tl_coherence.proofs.queues.Channels.{IsShowing}
+use Rattle.std.proofs.Common.{arith, ◌⊎◌, inl, inr, length}
+use Rattle.tl_coherence.proofs
+use proofs.Imports.{cases_eq, Beat, Channel, beats_of, one_if, Left, Kind, Request, Answer, Packet, count, is, State}
+use proofs.Imports.{packet, packets_on, is_on, is_transfer, shown, Move, Stays, Pushes, Pops, IsMoved, channel_for}
+use proofs.Imports.{AccessMessages, block_message, message_of_kind}
+use proofs.protocol.TokenNames.{once, shown_there, shows_it}
+use proofs.queues.Channels.{IsShowing}
 
 -- the token is the first of its channel
 abbrev pub is_front : Kind → ℕ → List Packet → Bool

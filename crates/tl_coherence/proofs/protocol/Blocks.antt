@@ -1,11 +1,10 @@
 -- What is kept across clients where one client's part of a block changes.
-use Rattle.tl_coherence.proofs.protocol.Imports.{same_perm, ClientBlock, Own, is_unprobed, set, Service, Waits, view}
-use Rattle.tl_coherence.proofs.protocol.Imports.{resting, IsAskedCap, Perm}
-use Rattle.std.proofs.Common.{◌≡◌, refl, ◌∙◌, ap, inl, inr}
-use Rattle.std.specs.Prelude.{ℕ, Bool, true, false}
-use Rattle.std.proofs.lemmas.Bool.{cases_eq}
-use Rattle.tl_coherence.specs.protocol.Invariant.{IsAwaited, IsOwnSource, IsAlone, IsOwned, AreOutside}
-use Rattle.tl_coherence.proofs.queues.Tokens.{same_number, set-same, set-other}
+use Rattle.std.proofs.Common.{◌≡◌, refl, ◌∙◌, ap, inl, inr, ℕ, Bool, true, false}
+use Rattle.tl_coherence.proofs
+use proofs.Imports.{cases_eq, Perm, same_perm, resting, IsAskedCap, IsAwaited, IsOwnSource, AreOutside, set}
+use proofs.Imports.{ClientBlock, Own, is_unprobed, Service, Waits, view}
+use Rattle.tl_coherence.specs.protocol.Invariant.{IsAlone, IsOwned}
+use proofs.queues.Tokens.{same_number, set-same, set-other}
 
 -- ---- who is waited for
 

@@ -1,16 +1,14 @@
 -- What a test says of a part of the protocol's state: of a use, a wish, a Probe, a Release, a view.
-use Rattle.tl_coherence.proofs.protocol.Imports.{Cap, Grow, is_asked, is_replied, is_of, acquires_of, serves_of, View}
-use Rattle.tl_coherence.proofs.protocol.Imports.{Own, Other, Granting, Acknowledging, GrantedOther, is_unacquired}
-use Rattle.tl_coherence.proofs.protocol.Imports.{ProbePhase, NoProbe, ProbeSent, ProbeAnswered, ReleasePhase, NoRelease}
-use Rattle.tl_coherence.proofs.protocol.Imports.{ReleaseSent, ReleaseAcked, AcquirePhase, NoAcquire, AcquireOpen}
-use Rattle.tl_coherence.proofs.protocol.Imports.{is_unprobed, is_unreleased, Service, Free, Waits, GrantSent}
-use Rattle.tl_coherence.proofs.protocol.Imports.{GrantTaken, SourceState, Asked, InService, Replied, Acquires, view}
-use Rattle.tl_coherence.proofs.protocol.Imports.{is_wanting, is_sent, is_answered, is_releasing, is_acked, is_granting}
-use Rattle.tl_coherence.proofs.protocol.Imports.{is_acknowledging}
-use Rattle.std.proofs.Common.{◌≡◌, ℕ, Bool, true, false, not, Option, Some, None, refl}
-use Rattle.std.{specs.Prelude.◌==◌, specs.Prelude.◌&&◌, specs.Prelude.if◌then◌else◌, proofs.lemmas.Bool.eqb-true}
-use Rattle.tl_coherence.specs.refinement.PacketMessages.{cap_sent, report_told, prune_told}
-use Rattle.tl_coherence.proofs.queues.Facts.{is_other}
+use Rattle.std.proofs.Common.{◌≡◌, ℕ, Bool, true, false, not, Option, Some, None, refl, ◌&&◌, eqb-true, ◌==◌}
+use Rattle.std.proofs.Common.{if◌then◌else◌}
+use Rattle.tl_coherence.proofs
+use proofs.Imports.{Cap, Grow, is_asked, is_replied, is_of, acquires_of, serves_of, View, Own, Other, Granting}
+use proofs.Imports.{Acknowledging, GrantedOther, is_unacquired, ProbePhase, NoProbe, ProbeSent, ProbeAnswered}
+use proofs.Imports.{ReleasePhase, NoRelease, ReleaseSent, ReleaseAcked, AcquirePhase, NoAcquire, AcquireOpen}
+use proofs.Imports.{is_unprobed, is_unreleased, Service, Free, Waits, GrantSent, GrantTaken, SourceState, Asked}
+use proofs.Imports.{InService, Replied, Acquires, view, is_wanting, is_sent, is_answered, is_releasing, is_acked}
+use proofs.Imports.{is_granting, is_acknowledging, cap_sent, report_told, prune_told}
+use proofs.queues.Facts.{is_other}
 
 -- ---- numbers and uses
 

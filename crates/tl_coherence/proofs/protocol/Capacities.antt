@@ -1,18 +1,17 @@
 -- How many messages a channel holds: as many at most as there are sources, trackers, or both.
-use Rattle.tl_coherence.proofs.protocol.Imports.{Channel, View, Acknowledging, is_unprobed, Kind, Request, Acquire}
-use Rattle.tl_coherence.proofs.protocol.Imports.{Probe, ProbeAck, Release, Answer, Grant, ReleaseAck, GrantAck, Packet}
-use Rattle.tl_coherence.proofs.protocol.Imports.{State, SourceState, SourceFree, Asked, Replied, Acquires, view}
-use Rattle.tl_coherence.proofs.protocol.Imports.{packets_on, is_on, is_acknowledging, shown, IsInvariant, is_asked}
-use Rattle.tl_coherence.proofs.protocol.Imports.{is_replied}
-use Rattle.std.proofs.Common.{◌≡◌, ℕ, ◌+◌, ◌<◌, ◌≤◌, Bool, true, false, refl, sym, ◌∙◌, ap, subst, arith}
-use Rattle.std.{specs.Prelude.not, specs.Prelude.length, specs.Prelude.Some, proofs.lemmas.Bool.and_parts}
-use Rattle.tl_coherence.specs.{protocol.Phase.is_idle, protocol.Packet.same_kind}
-use Rattle.tl_coherence.proofs.queues.Distinct.{passing, pass-or-not, all-pass, few, IsThere}
-use Rattle.tl_coherence.proofs.protocol.BothParts.{not-answered, not-sent, acked-open, releasing-open, is_replied-is}
-use Rattle.tl_coherence.proofs.protocol.BothParts.{is_asked-is}
-use Rattle.tl_coherence.proofs.protocol.TokenNames.{AreBounded, once, kind_there, shown_there, token-is, asked_by}
-use Rattle.tl_coherence.proofs.protocol.TokenNames.{answered_by, of_block, name, source_of_acquire, source_of_release}
-use Rattle.tl_coherence.proofs.protocol.TokenNames.{tracker_of_service, busy_unless_idle, grants_ask, probes_serve}
+use Rattle.std.proofs.Common.{◌≡◌, ℕ, ◌+◌, ◌<◌, ◌≤◌, Bool, true, false, refl, sym, ◌∙◌, ap, subst, arith, not, length}
+use Rattle.std.proofs.Common.{Some}
+use Rattle.tl_coherence.proofs
+use proofs.Imports.{and_parts, Channel, IsInvariant, is_asked, is_replied, Kind, Request, Acquire, Probe, ProbeAck}
+use proofs.Imports.{Release, Answer, Grant, ReleaseAck, GrantAck, Packet, same_kind, View, Acknowledging, is_unprobed}
+use proofs.Imports.{is_idle, State, SourceState, SourceFree, Asked, Replied, Acquires, view, packets_on, is_on}
+use proofs.Imports.{is_acknowledging, shown}
+use proofs.queues.{Distinct.passing, Distinct.pass-or-not, Distinct.all-pass, Distinct.few, Distinct.IsThere}
+use proofs.queues.{KindMoves.kind_is}
+use proofs.protocol.BothParts.{not-answered, not-sent, acked-open, releasing-open, is_replied-is, is_asked-is}
+use proofs.protocol.TokenNames.{AreBounded, once, kind_there, shown_there, token-is, asked_by, answered_by, of_block}
+use proofs.protocol.TokenNames.{name, source_of_acquire, source_of_release, tracker_of_service, busy_unless_idle}
+use proofs.protocol.TokenNames.{grants_ask, probes_serve}
 
 -- ---- each token is the one of its source, or of its tracker
 
@@ -170,18 +169,6 @@ module _ {X : Type 0} (caching : ℕ → Bool) (s : State X) (c sources trackers
   -- a kind of the channel that isn't the one is the other
   only_kind : (ch : Channel) (x : Packet) → IsThere x (packets_on ch (s.link c)) → is_on ch x.kind ≡ true
   only_kind ch x there = kind_there c ch x inv there
-
-  kind_is : (k j : Kind) → same_kind k j ≡ true → k ≡ j
-  kind_is Request Request e = refl
-  kind_is Acquire Acquire e = refl
-  kind_is Probe Probe e = refl
-  kind_is ProbeAck ProbeAck e = refl
-  kind_is Release Release e = refl
-  kind_is Answer Answer e = refl
-  kind_is Grant Grant e = refl
-  kind_is ReleaseAck ReleaseAck e = refl
-  kind_is GrantAck GrantAck e = refl
-  kind_is _ _ e = absurd cc
 
   probe_alone : (k : Kind) → is_on Channel.B k ≡ true → k ≡ Probe
   probe_alone Probe e = refl

@@ -1,25 +1,22 @@
 -- The last ProbeAck that is taken, with which the access that waited is answered, keeps the invariant.
-use Rattle.tl_coherence.proofs.protocol.Imports.{Channel, Cap, Report, report_left, report_right, same_perm}
-use Rattle.tl_coherence.proofs.protocol.Imports.{ClientBlock, Idle, Other, ProbeAnswered, ok, same_cap, is_unprobed}
-use Rattle.tl_coherence.proofs.protocol.Imports.{after_report, Kind, Request, Acquire, Probe, ProbeAck, Release, Answer}
-use Rattle.tl_coherence.proofs.protocol.Imports.{Grant, ReleaseAck, GrantAck, Packet, set, Waits, Block, State, Link}
-use Rattle.tl_coherence.proofs.protocol.Imports.{InService, Replied, view, packet, packets_on, shows, shown}
-use Rattle.tl_coherence.proofs.protocol.Imports.{is_transfer, is_wanting, is_sent, is_answered, is_releasing, is_acked}
-use Rattle.tl_coherence.proofs.protocol.Imports.{Move, Stays, Pushes, Pops, IsMoved, agrees, is_own_move, channel_for}
-use Rattle.tl_coherence.proofs.protocol.Imports.{is_out, is_of, acquires_of, serves_of, acquires_with, serves_with}
-use Rattle.tl_coherence.proofs.protocol.Imports.{releases_with, tracks_with, IsWell, IsInvariant, Perm}
-use Rattle.std.proofs.Common.{◌≡◌, refl, sym, subst, ◌∙◌, ap, ◌⊎◌, inl, inr}
-use Rattle.std.specs.Prelude.{ℕ, Bool, true, false, List, ◌∷◌, ◌==◌, ◌&&◌, if◌then◌else◌, Some, None}
-use Rattle.std.proofs.lemmas.Bool.{cases_eq, ne_eqb, eqb-true}
-use Rattle.tl_coherence.specs.protocol.Protocol.{written, with_d, popped_link, ended_block, ended_link, report_answers}
-use Rattle.tl_coherence.proofs.queues.Moves.{names-block, names-set, names-set_at, invariant-moved_use}
-use Rattle.tl_coherence.proofs.{queues.KindMoves.same_again, queues.PhaseSteps.report-ok, queues.PhaseSteps.ended-ok}
-use Rattle.tl_coherence.proofs.{protocol.Reported.gentle-report, queues.Perms.nothing_below, queues.Perms.not_out}
-use Rattle.tl_coherence.proofs.queues.Tokens.{same_number, set-same, set-other, set-part}
-use Rattle.tl_coherence.proofs.queues.Facts.{held_at_most, spared_within, reported_within, cap_is_low, report_begins}
-use Rattle.tl_coherence.proofs.protocol.Granted.{low_within, both_trunk, low_none}
-use Rattle.tl_coherence.proofs.protocol.Blocks.{alone-set, owned-set, outside-set, busy-inside}
-use Rattle.tl_coherence.proofs.protocol.BothParts.{is_of-is, serves_of-is, quiet-is}
+use Rattle.std.proofs.Common.{◌≡◌, refl, sym, subst, ◌∙◌, ap, ◌⊎◌, inl, inr, ℕ, Bool, true, false, List, ◌∷◌, ◌&&◌}
+use Rattle.std.proofs.Common.{Some, None, ne_eqb, eqb-true, ◌==◌, if◌then◌else◌}
+use Rattle.tl_coherence.proofs
+use proofs.Imports.{cases_eq, Channel, Cap, Report, Perm, report_left, report_right, same_perm, is_out, is_of}
+use proofs.Imports.{acquires_of, serves_of, acquires_with, serves_with, releases_with, tracks_with, IsWell, IsInvariant}
+use proofs.Imports.{Kind, Request, Acquire, Probe, ProbeAck, Release, Answer, Grant, ReleaseAck, GrantAck, Packet, set}
+use proofs.Imports.{ClientBlock, Idle, Other, ProbeAnswered, ok, same_cap, is_unprobed, after_report, Waits, Block}
+use proofs.Imports.{State, InService, Replied, view, packet, packets_on, written, with_d, popped_link, ended_block}
+use proofs.Imports.{ended_link, report_answers, shows, shown, is_transfer, is_wanting, is_sent, is_answered}
+use proofs.Imports.{is_releasing, is_acked, Move, Stays, Pushes, Pops, IsMoved, agrees, is_own_move, channel_for}
+use Rattle.tl_coherence.specs.protocol.Protocol.{Link}
+use proofs.queues.{Moves.names-block, Moves.names-set, Moves.names-set_at, Moves.invariant-moved_use}
+use proofs.queues.{KindMoves.same_again, PhaseSteps.report-ok, PhaseSteps.ended-ok, Perms.nothing_below, Perms.not_out}
+use proofs.queues.{Tokens.same_number, Tokens.set-same, Tokens.set-other, Tokens.set-part}
+use proofs.protocol.{Reported.gentle-report, Granted.low_within, Granted.both_trunk, Granted.low_none, Blocks.alone-set}
+use proofs.protocol.{Blocks.owned-set, Blocks.outside-set, Blocks.busy-inside, BothParts.is_of-is}
+use proofs.protocol.{BothParts.serves_of-is, BothParts.quiet-is}
+use proofs.queues.Facts.{held_at_most, spared_within, reported_within, cap_is_low, report_begins}
 
 -- ---- the block
 

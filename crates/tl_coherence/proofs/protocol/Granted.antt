@@ -1,19 +1,15 @@
 -- The last ProbeAck that is taken, with which the Acquire that waited is granted, keeps what holds of a block.
-use Rattle.tl_coherence.proofs.protocol.Imports.{Cap, Grow, Report, Perm, cap_right, report_left, report_right}
-use Rattle.tl_coherence.proofs.protocol.Imports.{same_perm, ClientBlock, Own, Other, Granting, GrantedOther, NoProbe}
-use Rattle.tl_coherence.proofs.protocol.Imports.{ProbeAnswered, NoAcquire, AcquireOpen, ok, same_cap, is_unprobed}
-use Rattle.tl_coherence.proofs.protocol.Imports.{cap_fits, is_granted_data, after_grant_sent, after_report, set, Waits}
-use Rattle.tl_coherence.proofs.protocol.Imports.{GrantSent, Block, view, granted_block, cap_asked, IsAskedCap, resting}
-use Rattle.tl_coherence.proofs.protocol.Imports.{is_out, IsWell}
-use Rattle.std.proofs.Common.{◌≡◌, refl, sym, ◌∙◌, ap, ◌⊎◌, inl, inr}
-use Rattle.std.specs.Prelude.{ℕ, Bool, true, false}
-use Rattle.std.proofs.lemmas.Bool.{cases_eq, ne_eqb, not-true}
-use Rattle.tl_coherence.specs.{statement.Permissions.perm_le, protocol.Protocol.written, protocol.Protocol.granted_pair}
-use Rattle.tl_coherence.proofs.queues.Tokens.{same_number, set-same, set-other, set-part}
-use Rattle.tl_coherence.proofs.queues.PhaseSteps.{grant_last-ok, report-ok, ended-ok}
-use Rattle.tl_coherence.proofs.queues.Facts.{spared_within, reported_within, cap_is_low, own_low, own_quiet}
-use Rattle.tl_coherence.proofs.queues.Facts.{report_begins}
-use Rattle.tl_coherence.proofs.{protocol.BothParts.quiet-is, queues.Perms.not_out}
+use Rattle.std.proofs.Common.{◌≡◌, refl, sym, ◌∙◌, ap, ◌⊎◌, inl, inr, ℕ, Bool, true, false, ne_eqb}
+use Rattle.tl_coherence.proofs
+use proofs.Imports.{cases_eq, not-true, Cap, Grow, Report, Perm, cap_right, report_left, report_right, same_perm}
+use proofs.Imports.{cap_asked, IsAskedCap, resting, is_out, IsWell, set, ClientBlock, Own, Other, Granting}
+use proofs.Imports.{GrantedOther, NoProbe, ProbeAnswered, NoAcquire, AcquireOpen, ok, same_cap, is_unprobed, cap_fits}
+use proofs.Imports.{is_granted_data, after_grant_sent, after_report, Waits, GrantSent, Block, view, granted_block}
+use proofs.Imports.{written, granted_pair, perm_le}
+use proofs.queues.{Tokens.same_number, Tokens.set-same, Tokens.set-other, Tokens.set-part, PhaseSteps.grant_last-ok}
+use proofs.queues.{PhaseSteps.report-ok, PhaseSteps.ended-ok, Perms.not_out}
+use proofs.queues.Facts.{spared_within, reported_within, cap_is_low, own_low, own_quiet, report_begins}
+use proofs.protocol.BothParts.{quiet-is}
 
 -- ---- the views before and after
 

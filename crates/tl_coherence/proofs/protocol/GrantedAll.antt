@@ -1,21 +1,17 @@
 -- The last ProbeAck that is taken, with which the Acquire that waited is granted, keeps the invariant.
-use Rattle.tl_coherence.proofs.protocol.Imports.{Channel, Cap, Grow, Report, ClientBlock, Own, Other, Granting}
-use Rattle.tl_coherence.proofs.protocol.Imports.{GrantedOther, ProbeAnswered, is_unprobed, is_granted_data}
-use Rattle.tl_coherence.proofs.protocol.Imports.{after_grant_sent, after_report, Kind, Acquire, Probe, ProbeAck}
-use Rattle.tl_coherence.proofs.protocol.Imports.{Release, Answer, Grant, ReleaseAck, GrantAck, Packet, set, Block}
-use Rattle.tl_coherence.proofs.protocol.Imports.{State, Link, view, packet, packets_on, is_transfer, is_wanting}
-use Rattle.tl_coherence.proofs.protocol.Imports.{is_sent, is_answered, is_releasing, is_acked, shows, shown}
-use Rattle.tl_coherence.proofs.protocol.Imports.{granted_block, Move, Stays, Pushes, Pops, IsMoved, agrees, is_own_move}
-use Rattle.tl_coherence.proofs.protocol.Imports.{channel_for, IsInvariant}
 use Rattle.std.proofs.Common.{◌≡◌, ℕ, Bool, true, false, ◌&&◌, List, [], ◌∷◌, ◌++◌, refl, sym, ◌∙◌, ap, ap₂, ◌⊎◌, inl}
-use Rattle.std.proofs.Common.{inr}
-use Rattle.std.{specs.Prelude.◌==◌, specs.Prelude.if◌then◌else◌, proofs.lemmas.Bool.cases_eq, proofs.lemmas.Bool.ne_eqb}
-use Rattle.std.{specs.Bool.beq}
-use Rattle.tl_coherence.specs.protocol.Protocol.{granted_link, report_grants}
-use Rattle.tl_coherence.proofs.{queues.Facts.own_quiet, protocol.Granted.IsLast, protocol.Granted.granted-block}
-use Rattle.tl_coherence.proofs.{queues.KindMoves.spares, queues.KindMoves.same_again}
-use Rattle.tl_coherence.proofs.queues.Moves.{names-kept, invariant-moved, moved_as}
-use Rattle.tl_coherence.proofs.queues.Tokens.{same_number, set-same, set-other, set-part}
+use Rattle.std.proofs.Common.{inr, ne_eqb, ◌==◌, if◌then◌else◌}
+use Rattle.tl_coherence.proofs
+use proofs.Imports.{cases_eq, beq, Channel, Cap, Grow, Report, IsInvariant, Kind, Acquire, Probe, ProbeAck, Release}
+use proofs.Imports.{Answer, Grant, ReleaseAck, GrantAck, Packet, set, ClientBlock, Own, Other, Granting, GrantedOther}
+use proofs.Imports.{ProbeAnswered, is_unprobed, is_granted_data, after_grant_sent, after_report, Block, State, view}
+use proofs.Imports.{packet, packets_on, granted_block, granted_link, report_grants, is_transfer, is_wanting, is_sent}
+use proofs.Imports.{is_answered, is_releasing, is_acked, shows, shown, Move, Stays, Pushes, Pops, IsMoved, agrees}
+use proofs.Imports.{is_own_move, channel_for}
+use Rattle.tl_coherence.specs.protocol.Protocol.{Link}
+use proofs.queues.{Facts.own_quiet, KindMoves.spares, KindMoves.same_again, Moves.names-kept, Moves.invariant-moved}
+use proofs.queues.{Moves.moved_as, Tokens.same_number, Tokens.set-same, Tokens.set-other, Tokens.set-part}
+use proofs.protocol.Granted.{IsLast, granted-block}
 
 -- c's ProbeAck goes, and q's Grant comes
 abbrev pub granted_moves : ℕ → ℕ → ℕ → ℕ → Channel → Move

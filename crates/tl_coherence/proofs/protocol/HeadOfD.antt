@@ -1,23 +1,16 @@
 -- What is due to a client: the message of the first token of channel D, and what it answers.
-use Rattle.tl_coherence.proofs.protocol.Imports.{Message, MessageA, Cap, Grow, is_replied, IsInvariant, Own, Other}
-use Rattle.tl_coherence.proofs.protocol.Imports.{Granting, Acknowledging, GrantedOther, ReleasePhase, ReleaseAcked}
-use Rattle.tl_coherence.proofs.protocol.Imports.{AcquirePhase, NoAcquire, AcquireOpen, is_unacquired, is_unreleased}
-use Rattle.tl_coherence.proofs.protocol.Imports.{Service, Free, Waits, GrantSent, GrantTaken, State, Replied, Acquires}
-use Rattle.tl_coherence.proofs.protocol.Imports.{view, packet, shown, is_wanting, is_granting, is_acked, AccessMessages}
-use Rattle.tl_coherence.proofs.protocol.Imports.{block_message, Answer, Grant, ReleaseAck, Packet}
-use Rattle.std.proofs.Common.{◌≡◌, ℕ, Bool, true, false, not, ◌&&◌, List, ◌∷◌, Some, refl, ◌∙◌, ap, lit≤}
-use Rattle.std.specs.Prelude.{◌==◌, if◌then◌else◌}
-use Rattle.std.proofs.lemmas.Bool.{eqb-true, and_from}
-use Rattle.tl_beat.specs.declared.opcode.OpD.{OpD}
-use Rattle.tl_burst.specs.declared.message.MessageD.{MessageD}
-use Rattle.tl_params.specs.statement.Param.{cap_code}
+use Rattle.std.proofs.Common.{◌≡◌, ℕ, Bool, true, false, not, ◌&&◌, List, ◌∷◌, Some, refl, ◌∙◌, ap, lit≤, eqb-true}
+use Rattle.std.proofs.Common.{◌==◌, if◌then◌else◌}
+use Rattle.tl_coherence.proofs
+use proofs.Imports.{and_from, OpD, Message, MessageA, MessageD, Cap, Grow, cap_code, grant_opcode, no_payload}
+use proofs.Imports.{is_access_answer, IsInvariant, Answer, Grant, ReleaseAck, Packet, Own, Other, Granting}
+use proofs.Imports.{Acknowledging, GrantedOther, ReleasePhase, ReleaseAcked, AcquirePhase, NoAcquire, AcquireOpen}
+use proofs.Imports.{is_unacquired, is_unreleased, grant_fits, Service, Free, Waits, GrantSent, GrantTaken, State}
+use proofs.Imports.{Replied, Acquires, view, packet, is_wanting, is_granting, is_acked, AccessMessages, block_message}
+use proofs.Imports.{IsAnswered}
 use Rattle.tl_rules.specs.statement.Conformance.{answers}
-use Rattle.tl_manager.specs.statement.Handing.{grant_opcode, no_payload}
-use Rattle.tl_manager.specs.statement.Service.{is_access_answer}
-use Rattle.tl_coherence.specs.{protocol.Phase.grant_fits, refinement.SimulationRelation.IsAnswered}
-use Rattle.tl_coherence.proofs.queues.Facts.{grant_is_fit, granting_asks}
-use Rattle.tl_coherence.proofs.queues.Tokens.{same_number, holds-first}
-use Rattle.tl_coherence.proofs.protocol.BothParts.{is_of-is, acquires_of-is, is_replied-is}
+use proofs.queues.{Facts.grant_is_fit, Facts.granting_asks, Tokens.same_number}
+use proofs.protocol.{BothParts.is_of-is, BothParts.acquires_of-is, FirstTokens.first-answer, FirstTokens.first-shown}
 
 -- ---- an answer
 
@@ -40,8 +33,7 @@ answer-due {w} caching c source rest mail s inv answered first = go (mail.reques
     refl (rw used at answered)
   where
     used : s.uses c source ≡ Replied
-    used = is_replied-is (s.uses c source) (holds-first Answer (s.link c).d rest (packet Answer source)
-        (λ i. is_replied (s.uses c i)) first refl (inv.answers c))
+    used = first-answer inv first
 
     go : (a b : Message w) → mail.request c source ≡ a → mail.answer c source ≡ b → IsAnswered source a b Replied
         → IsAnswerDue c source mail s
@@ -108,8 +100,7 @@ pub grant-due : (caching : ℕ → Bool) (c n : ℕ) (rest : List Packet) (s : S
     → (s.link c).d ≡ packet Grant n ∷ rest → IsGrantDue c n s
 grant-due caching c n rest s inv first =
     let b = s.block n in
-    let seen : is_granting (view b.service c) ≡ true = holds-first Grant (s.link c).d rest (packet Grant n)
-    (λ i. shown Grant c (s.block i)) first refl (inv.transfers c Grant refl) in
+    let seen : is_granting (view b.service c) ≡ true = first-shown inv c Grant refl first in
     let sent = granting-service b.service c seen in
     let mine : view b.service c ≡ Granting sent.0 sent.1 = own_view c sent.0 sent.1 b.service sent.2 in
     let wants = wanting_is (b.pair c).acquiring (granting_asks sent.0 sent.1 (b.pair c) (view b.service c)
@@ -169,8 +160,7 @@ acked_open x e = absurd cc
 pub ack-due : {caching : ℕ → Bool} (c n : ℕ) (rest : List Packet) {s : State (List ℕ)} → IsInvariant caching s
     → (s.link c).d ≡ packet ReleaseAck n ∷ rest → s.lets c ((s.block n).release_source c) ≡ Some n
 ack-due c n rest {s} inv first =
-    let acked = holds-first ReleaseAck (s.link c).d rest (packet ReleaseAck n) (λ i. shown ReleaseAck c (s.block i))
-    first refl (inv.transfers c ReleaseAck refl) in
+    let acked = first-shown inv c ReleaseAck refl first in
     let live = acked_open ((s.block n).pair c).letting acked in
     is_of-is n (s.lets c ((s.block n).release_source c))
     (inv.named.releases c ((s.block n).release_source c) n ∙ and_from (not (is_unreleased ((s.block n).pair c).letting))

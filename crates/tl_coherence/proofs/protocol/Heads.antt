@@ -1,26 +1,17 @@
 -- The request whose beat is first on channel A of a link: an access that was asked, or an Acquire that is wanted.
-use Rattle.tl_coherence.proofs.protocol.Imports.{Beat, Message, MessageA, beats_of, Config, Grow, is_asked, AcquireOpen}
-use Rattle.tl_coherence.proofs.protocol.Imports.{Block, State, Asked, Acquires, packet, shown, is_wanting, is_unserved}
-use Rattle.tl_coherence.proofs.protocol.Imports.{view, AccessMessages, block_message, Request, Acquire, Packet, Channel}
 use Rattle.std.proofs.Common.{◌≡◌, ℕ, ◌-◌, ◌*◌, ◌^◌, ◌<◌, Bool, true, false, List, ◌∷◌, Some, None, refl, sym, ◌∙◌, ap}
-use Rattle.std.proofs.Common.{inl, inr, arith}
-use Rattle.std.{proofs.lemmas.Option.same_Some, specs.Prelude.map}
-use Rattle.tl_beat.specs.statement.Width.{IsWidth}
-use Rattle.tl_burst.{specs.statement.Burst.a_beat_of, specs.statement.Burst.IsBlankAfter}
-use Rattle.tl_burst.{specs.statement.Messages.unfinished, proofs.Splitting.beats-positive}
-use Rattle.tl_rules.specs.statement.Conformance.{on_link}
-use Rattle.tl_rules.specs.statement.History.{block_at, is_acquire}
-use Rattle.tl_client.{specs.statement.Requests.open_beat, specs.statement.EndpointInvariant.acquires}
-use Rattle.tl_client.{specs.statement.Send.acquisition, proofs.endpoint.HeldAfter.same_block}
-use Rattle.tl_manager.{specs.code.Kept.illegal_message_at, specs.statement.Offer.level_of}
-use Rattle.tl_coherence.specs.{refinement.Carried.IsCarried, refinement.AbstractStep.acquire_opcode, statement.Log.Log}
-use Rattle.tl_coherence.specs.{statement.System.System}
-use Rattle.tl_coherence.specs.refinement.PacketMessages.{message_of, messages_on}
-use Rattle.tl_coherence.specs.refinement.SimulationRelation.{SimulationRelation, IsRequest, first_of, request_source}
-use Rattle.tl_coherence.proofs.{queues.Carried.carried-next, queues.Carried.IsNext, queues.Phases.and_left}
-use Rattle.tl_coherence.proofs.{queues.Phases.and_right, queues.Tokens.same_number, queues.Tokens.holds-first}
-use Rattle.tl_coherence.proofs.{queues.Codes.acquires-so}
-use Rattle.tl_coherence.proofs.protocol.BothParts.{acquires_of-is, is_asked-is, wanting-is}
+use Rattle.std.proofs.Common.{inl, inr, arith, map}
+use Rattle.tl_coherence.proofs
+use proofs.Imports.{same_Some, Beat, Channel, IsWidth, beats-positive, Message, MessageA, beats_of, a_beat_of}
+use proofs.Imports.{IsBlankAfter, unfinished, Config, Grow, on_link, block_at, is_acquire, same_block, open_beat}
+use proofs.Imports.{acquisition, illegal_message_at, level_of, Request, Acquire, Packet, AcquireOpen, Block, State}
+use proofs.Imports.{Asked, Acquires, packet, view, is_wanting, is_unserved, acquire_opcode, IsCarried, AccessMessages}
+use proofs.Imports.{block_message, message_of, messages_on, SimulationRelation, IsRequest, first_of, request_source}
+use proofs.Imports.{Log, System}
+use Rattle.tl_client.specs.statement.EndpointInvariant.{acquires}
+use proofs.queues.{Carried.carried-next, Carried.IsNext, Phases.and_left, Phases.and_right, Tokens.same_number}
+use proofs.queues.{Codes.acquires-so}
+use proofs.protocol.{BothParts.acquires_of-is, BothParts.wanting-is, FirstTokens.first-request, FirstTokens.first-shown}
 
 -- ---- an access that was asked
 
@@ -104,8 +95,7 @@ asked-first {w} {config} {log} {mail} {request} {s} {sys} c source rest is first
     }
   where
     used : s.uses c source ≡ Asked
-    used = is_asked-is (s.uses c source) (holds-first Request (s.link c).a rest (packet Request source)
-        (λ i. is_asked (s.uses c i)) first refl (is.invariant.requests c))
+    used = first-request is.invariant first
 
     sourced : IsRequest config c source (mail.request c source)
     sourced = rw used at (is.sourced c source)
@@ -126,8 +116,7 @@ pub wanted-first : {w : ℕ} {config : Config} {log : Log w} {mail : AccessMessa
     → SimulationRelation config log mail request s sys → (s.link c).a ≡ packet Acquire n ∷ rest → IsWanted w c n s
 wanted-first {w} {s} c n rest is first =
     let b : Block (List ℕ) = s.block n in
-    let shows = holds-first Acquire (s.link c).a rest (packet Acquire n) (λ i. shown Acquire c (s.block i)) first refl
-    (is.invariant.transfers c Acquire refl) in
+    let shows = first-shown is.invariant c Acquire refl first in
     let wants = and_left (is_wanting (b.pair c).acquiring) (is_unserved (view b.service c)) shows in
     let asks = wanting-is (b.pair c).acquiring wants in
     record {

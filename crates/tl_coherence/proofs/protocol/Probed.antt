@@ -1,21 +1,16 @@
 -- A Probe that is taken keeps the invariant.
-use Rattle.tl_coherence.proofs.protocol.Imports.{Channel, Cap, Perm, report_right, same_perm, ClientBlock, View}
-use Rattle.tl_coherence.proofs.protocol.Imports.{NoProbe, ProbeSent, NoRelease, is_unprobed, Kind, Acquire, Probe}
-use Rattle.tl_coherence.proofs.protocol.Imports.{ProbeAck, Release, Grant, ReleaseAck, GrantAck, Packet, set, count}
-use Rattle.tl_coherence.proofs.protocol.Imports.{Block, State, Link, view, packet, is_transfer, is_wanting, is_unserved}
-use Rattle.tl_coherence.proofs.protocol.Imports.{is_releasing, is_acked, is_granting, is_acknowledging, shows, Move}
-use Rattle.tl_coherence.proofs.protocol.Imports.{Stays, Pushes, Pops, AreMoved, agrees, is_own_move, channel_for}
-use Rattle.tl_coherence.proofs.protocol.Imports.{resting, IsWell, IsInvariant}
-use Rattle.std.proofs.Common.{◌≡◌, ◌&&◌, refl, sym, ◌∙◌, ap, inl, inr}
-use Rattle.std.specs.Prelude.{ℕ, Bool, true, false, List, ◌∷◌}
-use Rattle.std.proofs.lemmas.Bool.{cases_eq}
-use Rattle.tl_params.specs.statement.Param.{report_at}
-use Rattle.tl_coherence.specs.protocol.PhaseSteps.{after_probe}
-use Rattle.tl_coherence.specs.protocol.Protocol.{probed_block, probed_link, probe_taken}
-use Rattle.tl_coherence.proofs.queues.Moves.{event-at, bare-at, names-kept, invariant-moved}
-use Rattle.tl_coherence.proofs.{queues.KindMoves.same_again, queues.PhaseSteps.probe-ok, protocol.Blocks.awaited_by}
-use Rattle.tl_coherence.proofs.{protocol.Blocks.asked_cap-same}
-use Rattle.tl_coherence.proofs.queues.Tokens.{same_number, set-same, set-other, set-part}
+use Rattle.std.proofs.Common.{◌≡◌, ◌&&◌, refl, sym, ◌∙◌, ap, inl, inr, ℕ, Bool, true, false, List, ◌∷◌}
+use Rattle.tl_coherence.proofs
+use proofs.Imports.{cases_eq, Channel, Cap, Perm, report_right, report_at, same_perm, resting, IsWell, IsInvariant}
+use proofs.Imports.{Kind, Acquire, Probe, ProbeAck, Release, Grant, ReleaseAck, GrantAck, Packet, set, count}
+use proofs.Imports.{ClientBlock, View, NoProbe, ProbeSent, NoRelease, is_unprobed, after_probe, Block, State, view}
+use proofs.Imports.{packet, probed_block, probed_link, probe_taken, is_transfer, is_wanting, is_unserved, is_releasing}
+use proofs.Imports.{is_acked, is_granting, is_acknowledging, shows, Move, Stays, Pushes, Pops, AreMoved, agrees}
+use proofs.Imports.{is_own_move, channel_for}
+use Rattle.tl_coherence.specs.protocol.Protocol.{Link}
+use proofs.queues.{Moves.event-at, Moves.bare-at, Moves.names-kept, Moves.invariant-moved, KindMoves.same_again}
+use proofs.queues.{PhaseSteps.probe-ok, Tokens.same_number, Tokens.set-same, Tokens.set-other, Tokens.set-part}
+use proofs.protocol.Blocks.{awaited_by, asked_cap-same}
 
 -- ---- the block
 

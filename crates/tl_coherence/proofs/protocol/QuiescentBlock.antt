@@ -1,10 +1,10 @@
 -- Where nothing is on channels B, C, D and E, no block is in service: so requests can move.
-use Rattle.tl_coherence.proofs.protocol.Imports.{ProbePhase, NoProbe, is_unprobed, Kind, Probe, ProbeAck, Grant}
-use Rattle.tl_coherence.proofs.protocol.Imports.{GrantAck, one_if, count, Service, Free, Waits, GrantSent, GrantTaken}
-use Rattle.tl_coherence.proofs.protocol.Imports.{State, is_transfer, is_sent, is_answered, on, shown, IsInvariant}
 use Rattle.std.proofs.Common.{◌≡◌, ℕ, Bool, true, false, [], refl, arith}
-use Rattle.tl_coherence.specs.protocol.Invariant.{IsAwaited}
-use Rattle.tl_coherence.proofs.queues.Tokens.{same_number}
+use Rattle.tl_coherence.proofs
+use proofs.Imports.{one_if, IsInvariant, IsAwaited, Kind, Probe, ProbeAck, Grant, GrantAck, count, ProbePhase, NoProbe}
+use proofs.Imports.{is_unprobed, Service, Free, Waits, GrantSent, GrantTaken, State, on, is_transfer, is_sent}
+use proofs.Imports.{is_answered, shown}
+use proofs.queues.Tokens.{same_number}
 
 -- a channel without tokens shows nothing
 nothing_shown : {X : Type 0} {caching : ℕ → Bool} {s : State X} (c n : ℕ) (k : Kind) → IsInvariant caching s

@@ -1,25 +1,21 @@
 -- Where nothing is on a channel, nothing is open; and where nothing is open and no GrantAck is on its way, nothing is
 -- on
 -- a channel.
-use Rattle.tl_coherence.proofs.protocol.Imports.{Channel, ClientBlock, View, Own, ReleasePhase, NoRelease, ReleaseSent}
-use Rattle.tl_coherence.proofs.protocol.Imports.{ReleaseAcked, is_unprobed, is_unreleased, ok, Kind, Request, Acquire}
-use Rattle.tl_coherence.proofs.protocol.Imports.{Probe, ProbeAck, Release, Answer, Grant, ReleaseAck, GrantAck, Packet}
-use Rattle.tl_coherence.proofs.protocol.Imports.{one_if, count, Service, Free, Waits, GrantSent, GrantTaken, State}
-use Rattle.tl_coherence.proofs.protocol.Imports.{SourceState, SourceFree, Asked, InService, Replied, Acquires, view, on}
-use Rattle.tl_coherence.proofs.protocol.Imports.{packets_on, is_on, is_transfer, is_wanting, shown, IsInvariant}
-use Rattle.tl_coherence.proofs.protocol.Imports.{acquires_of, serves_of, is_of, is_asked, is_replied, serves_with}
-use Rattle.tl_coherence.proofs.protocol.Imports.{releases_with}
-use Rattle.std.proofs.Common.{◌≡◌, ℕ, ◌<◌, Bool, true, false, List, [], ◌∷◌, refl, sym, ◌∙◌, arith}
-use Rattle.std.specs.Prelude.{not, ◌==◌, ◌||◌, Option, Some, None}
-use Rattle.tl_coherence.specs.refinement.ManagerRelation.{is_own}
-use Rattle.tl_coherence.proofs.protocol.Capacities.{acquire_named, grant_named, release_named, release_ack_named}
-use Rattle.tl_coherence.proofs.protocol.TokenNames.{shown_there, kind_there, source_of_acquire}
-use Rattle.tl_rules.proofs.Takeable.{part_bit}
-use Rattle.tl_coherence.proofs.{queues.Distinct.IsThere, queues.Distinct.first-there, queues.Tokens.same_number}
-use Rattle.tl_coherence.proofs.{queues.Facts.is_other}
-use Rattle.tl_coherence.proofs.queues.Phases.{each_phase, of_phase, and_left}
-use Rattle.tl_coherence.proofs.protocol.QuiescentBlock.{IsSilent, free-when_silent}
-use Rattle.tl_coherence.proofs.protocol.BothParts.{not-sent, not-answered, taken-unseen, granted-unseen}
+use Rattle.std.proofs.Common.{◌≡◌, ℕ, ◌<◌, Bool, true, false, List, [], ◌∷◌, refl, sym, ◌∙◌, arith, not, ◌||◌, Option}
+use Rattle.std.proofs.Common.{Some, None, ◌==◌}
+use Rattle.tl_coherence.proofs
+use proofs.Imports.{Channel, part_bit, one_if, IsInvariant, acquires_of, serves_of, is_of, is_asked, is_replied}
+use proofs.Imports.{serves_with, releases_with, Kind, Request, Acquire, Probe, ProbeAck, Release, Answer, Grant}
+use proofs.Imports.{ReleaseAck, GrantAck, Packet, count, ClientBlock, View, Own, ReleasePhase, NoRelease, ReleaseSent}
+use proofs.Imports.{ReleaseAcked, is_unprobed, is_unreleased, ok, Service, Free, Waits, GrantSent, GrantTaken, State}
+use proofs.Imports.{SourceState, SourceFree, Asked, InService, Replied, Acquires, view, on, packets_on, is_on}
+use proofs.Imports.{is_transfer, is_wanting, shown, is_own}
+use proofs.protocol.{Capacities.acquire_named, Capacities.grant_named, Capacities.release_named}
+use proofs.protocol.{Capacities.release_ack_named, TokenNames.shown_there, TokenNames.kind_there}
+use proofs.protocol.{TokenNames.source_of_acquire, QuiescentBlock.IsSilent, QuiescentBlock.free-when_silent}
+use proofs.protocol.{BothParts.not-sent, BothParts.not-answered, BothParts.taken-unseen, BothParts.granted-unseen}
+use proofs.queues.{Distinct.IsThere, Distinct.first-there, Tokens.same_number, Facts.is_other, Phases.each_phase}
+use proofs.queues.{Phases.of_phase, Phases.and_left}
 
 -- ---- nothing is on a channel
 

@@ -1,26 +1,21 @@
 -- A ProbeAck that is taken while others are missing, and a Release that is taken, keep the invariant.
-use Rattle.tl_coherence.proofs.protocol.Imports.{Channel, Prune, Report, Perm, prune_left, report_left, report_right}
-use Rattle.tl_coherence.proofs.protocol.Imports.{same_perm, ClientBlock, View, ProbeAnswered, ReleaseSent}
-use Rattle.tl_coherence.proofs.protocol.Imports.{is_unreleased, is_unprobed, after_report, Kind, Acquire, Probe}
-use Rattle.tl_coherence.proofs.protocol.Imports.{ProbeAck, Release, Grant, ReleaseAck, GrantAck, Packet, set, count}
-use Rattle.tl_coherence.proofs.protocol.Imports.{one_if, Service, Block, State, Link, view, packet, shows, is_transfer}
-use Rattle.tl_coherence.proofs.protocol.Imports.{is_wanting, is_unserved, is_sent, is_answered, is_releasing, is_acked}
-use Rattle.tl_coherence.proofs.protocol.Imports.{is_granting, is_acknowledging, Move, Stays, Pushes, Pops, AreMoved}
-use Rattle.tl_coherence.proofs.protocol.Imports.{agrees, is_own_move, channel_for, is_out, IsWell, IsInvariant}
-use Rattle.std.proofs.Common.{◌≡◌, arith, refl, ap, inl, inr}
-use Rattle.std.specs.Prelude.{ℕ, Bool, true, false, List, ◌∷◌, ◌&&◌, if◌then◌else◌}
-use Rattle.std.proofs.lemmas.Bool.{cases_eq}
-use Rattle.tl_params.specs.statement.Param.{prune_right}
-use Rattle.tl_coherence.specs.protocol.PhaseSteps.{after_release_taken}
-use Rattle.tl_coherence.specs.protocol.Protocol.{written_from, reported_block, report_taken, let_block, let_link}
-use Rattle.tl_coherence.specs.protocol.Protocol.{release_taken}
-use Rattle.tl_coherence.proofs.queues.Moves.{event-at, bare-at, names-kept, invariant-moved}
-use Rattle.tl_coherence.proofs.{queues.KindMoves.same_again, queues.PhaseSteps.report-ok}
-use Rattle.tl_coherence.proofs.{queues.PhaseSteps.release_taken-ok, queues.Facts.report_begins}
-use Rattle.tl_coherence.proofs.{queues.Facts.release_begins, protocol.Granted.both_trunk, queues.Perms.not_out}
-use Rattle.tl_coherence.proofs.queues.Tokens.{same_number, set-same, set-other, set-part, ordered-first}
-use Rattle.tl_coherence.proofs.protocol.Blocks.{IsGentle, awaited_by, awaited-same, asked_cap-same, alone-set}
-use Rattle.tl_coherence.proofs.protocol.Blocks.{owned-set, outside-set, busy-inside}
+use Rattle.std.proofs.Common.{◌≡◌, arith, refl, ap, inl, inr, ℕ, Bool, true, false, List, ◌∷◌, ◌&&◌, if◌then◌else◌}
+use Rattle.tl_coherence.proofs
+use proofs.Imports.{cases_eq, Channel, Prune, Report, Perm, prune_left, report_left, report_right, prune_right}
+use proofs.Imports.{same_perm, one_if, is_out, IsWell, IsInvariant, Kind, Acquire, Probe, ProbeAck, Release, Grant}
+use proofs.Imports.{ReleaseAck, GrantAck, Packet, set, count, ClientBlock, View, ProbeAnswered, ReleaseSent}
+use proofs.Imports.{is_unreleased, is_unprobed, after_report, after_release_taken, Service, Block, State, view, packet}
+use proofs.Imports.{reported_block, report_taken, let_block, let_link, release_taken, shows, is_transfer, is_wanting}
+use proofs.Imports.{is_unserved, is_sent, is_answered, is_releasing, is_acked, is_granting, is_acknowledging, Move}
+use proofs.Imports.{Stays, Pushes, Pops, AreMoved, agrees, is_own_move, channel_for}
+use Rattle.tl_coherence.specs.protocol.Protocol.{Link, written_from}
+use proofs.queues.{Moves.event-at, Moves.bare-at, Moves.names-kept, Moves.invariant-moved, KindMoves.same_again}
+use proofs.queues.{PhaseSteps.report-ok, PhaseSteps.release_taken-ok, Facts.report_begins, Facts.release_begins}
+use proofs.queues.{Perms.not_out, Tokens.same_number, Tokens.set-same, Tokens.set-other, Tokens.set-part}
+use proofs.queues.{Tokens.ordered-first}
+use proofs.protocol.Granted.{both_trunk}
+use proofs.protocol.Blocks.{IsGentle, awaited_by, awaited-same, asked_cap-same, alone-set, owned-set, outside-set}
+use proofs.protocol.Blocks.{busy-inside}
 
 -- ---- what is recorded falls
 

@@ -1,21 +1,16 @@
 -- How many beats a channel holds, by the messages that are on it.
-use Rattle.tl_coherence.proofs.protocol.Imports.{Beat, Channel, Message, beats_of, IsInvariant, State, is_on}
-use Rattle.tl_coherence.proofs.protocol.Imports.{packets_on, AccessMessages, block_message, Kind, Probe, ReleaseAck}
-use Rattle.tl_coherence.proofs.protocol.Imports.{GrantAck, Packet, one_if}
 use Rattle.std.proofs.Common.{◌≡◌, ℕ, ◌+◌, ◌-◌, ◌*◌, ◌/◌, ◌<◌, ◌≤◌, Bool, true, false, List, [], ◌∷◌, ◌++◌, refl, ◌∙◌}
-use Rattle.std.proofs.Common.{ap, arith, inl, inr}
-use Rattle.std.{specs.Prelude.not, specs.Prelude.length, specs.Prelude.map, proofs.lemmas.List.length-append}
-use Rattle.std.{proofs.lemmas.Nat.le-div}
-use Rattle.tl_beat.specs.statement.Width.{IsWidth}
-use Rattle.tl_rules.{proofs.Checks.beats_room, specs.statement.Legality.beats_from}
-use Rattle.tl_coherence.specs.{refinement.Carried.spelled, refinement.Carried.IsCarried, statement.Delivery.capacity}
-use Rattle.tl_coherence.specs.{protocol.Packet.same_kind}
-use Rattle.tl_coherence.specs.refinement.PacketMessages.{message_of, message_of_kind, messages_on}
-use Rattle.tl_coherence.proofs.queues.Beats.{length-beats_from}
-use Rattle.tl_coherence.proofs.protocol.Capacities.{few_on_a, few_on_b, few_on_c, few_on_e, few_acks_on_d}
-use Rattle.tl_coherence.proofs.protocol.Capacities.{few_responses_on_d}
-use Rattle.tl_coherence.proofs.protocol.TokenNames.{AreBounded, kind_there}
-use Rattle.tl_coherence.proofs.queues.Distinct.{passing, all-pass, IsThere, first-there, later-there}
+use Rattle.std.proofs.Common.{ap, arith, inl, inr, not, length, length-append, map}
+use Rattle.tl_coherence.proofs
+use proofs.Imports.{Beat, Channel, IsWidth, Message, beats_of, beats_room, beats_from, one_if, IsInvariant, Kind, Probe}
+use proofs.Imports.{ReleaseAck, GrantAck, Packet, same_kind, State, is_on, packets_on, IsCarried, AccessMessages}
+use proofs.Imports.{block_message, message_of, message_of_kind, messages_on, capacity}
+use Rattle.std.proofs.lemmas.Nat.{le-div}
+use Rattle.tl_coherence.specs.refinement.Carried.{spelled}
+use proofs.queues.{Beats.length-beats_from, Distinct.passing, Distinct.all-pass, Distinct.IsThere, Distinct.first-there}
+use proofs.queues.{Distinct.later-there}
+use proofs.protocol.Capacities.{few_on_a, few_on_b, few_on_c, few_on_e, few_acks_on_d, few_responses_on_d}
+use proofs.protocol.TokenNames.{AreBounded, kind_there}
 
 pub positive : (w : ℕ) → IsWidth w → 0 < w
 positive w (inl e) = omega (arith, e)

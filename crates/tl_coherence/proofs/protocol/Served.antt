@@ -1,26 +1,21 @@
 -- A request that is taken, and for which clients are probed, keeps the invariant.
-use Rattle.tl_coherence.proofs.protocol.Imports.{Channel, Cap, Grow, Perm, same_perm, ClientBlock, View, Idle, Own}
-use Rattle.tl_coherence.proofs.protocol.Imports.{Other, ProbePhase, ProbeSent, AcquireOpen, ok, same_cap, is_unprobed}
-use Rattle.tl_coherence.proofs.protocol.Imports.{is_above, Kind, Request, Acquire, Probe, ProbeAck, Release, Answer}
-use Rattle.tl_coherence.proofs.protocol.Imports.{Grant, ReleaseAck, GrantAck, Packet, set, Free, Waits, Block, State}
-use Rattle.tl_coherence.proofs.protocol.Imports.{Link, Asked, InService, view, packet, packets_on, shows, shown}
-use Rattle.tl_coherence.proofs.protocol.Imports.{is_transfer, is_granting, is_wanting, is_sent, is_answered}
-use Rattle.tl_coherence.proofs.protocol.Imports.{is_releasing, is_acked, Move, Stays, Pushes, Pops, IsMoved, agrees}
-use Rattle.tl_coherence.proofs.protocol.Imports.{is_own_move, channel_for, cap_asked, resting, is_out, is_of}
-use Rattle.tl_coherence.proofs.protocol.Imports.{acquires_of, serves_of, acquires_with, serves_with, releases_with}
-use Rattle.tl_coherence.proofs.protocol.Imports.{tracks_with, IsAskedCap, IsWell, IsInvariant}
-use Rattle.std.proofs.Common.{◌≡◌, refl, sym, ◌∙◌}
-use Rattle.std.specs.Prelude.{ℕ, Bool, true, false, not, List, ◌∷◌, ◌++◌, [], ◌==◌, ◌&&◌, if◌then◌else◌, Some, None}
-use Rattle.std.proofs.lemmas.Bool.{eqb-true, ne_eqb}
-use Rattle.tl_coherence.specs.{protocol.PhaseSteps.after_served, protocol.Invariant.IsOwnSource}
-use Rattle.tl_coherence.specs.protocol.Protocol.{is_probed, served_pair, served_block, with_probe, served_link}
-use Rattle.tl_coherence.specs.protocol.Protocol.{acquire_served, access_served}
-use Rattle.tl_coherence.proofs.{queues.Phases.and_left, queues.Phases.and_right, queues.PhaseSteps.serve-ok}
-use Rattle.tl_coherence.proofs.{queues.PhaseSteps.served-ok, queues.PhaseFacts.quiet_at_rest, queues.Tokens.same_number}
-use Rattle.tl_coherence.proofs.{protocol.BothParts.quiet_unanswered}
-use Rattle.tl_coherence.proofs.queues.Moves.{IsEvent, names-block, names-set, names-set_at, invariant-moved}
-use Rattle.tl_coherence.proofs.queues.Moves.{invariant-moved_use}
-use Rattle.tl_coherence.proofs.queues.KindMoves.{same_again, spares, spared-agrees}
+use Rattle.std.proofs.Common.{◌≡◌, refl, sym, ◌∙◌, ℕ, Bool, true, false, not, List, ◌∷◌, ◌++◌, [], ◌&&◌, Some, None}
+use Rattle.std.proofs.Common.{eqb-true, ne_eqb, ◌==◌, if◌then◌else◌}
+use Rattle.tl_coherence.proofs
+use proofs.Imports.{Channel, Cap, Grow, Perm, same_perm, cap_asked, resting, is_out, is_of, acquires_of, serves_of}
+use proofs.Imports.{acquires_with, serves_with, releases_with, tracks_with, IsAskedCap, IsWell, IsInvariant}
+use proofs.Imports.{IsOwnSource, Kind, Request, Acquire, Probe, ProbeAck, Release, Answer, Grant, ReleaseAck, GrantAck}
+use proofs.Imports.{Packet, set, ClientBlock, View, Idle, Own, Other, ProbePhase, ProbeSent, AcquireOpen, ok, same_cap}
+use proofs.Imports.{is_unprobed, is_above, after_served, Free, Waits, Block, State, Asked, InService, view, packet}
+use proofs.Imports.{packets_on, is_probed, served_pair, served_block, with_probe, served_link, acquire_served}
+use proofs.Imports.{access_served, shows, shown, is_transfer, is_granting, is_wanting, is_sent, is_answered}
+use proofs.Imports.{is_releasing, is_acked, Move, Stays, Pushes, Pops, IsMoved, agrees, is_own_move, channel_for}
+use Rattle.tl_coherence.specs.protocol.Protocol.{Link}
+use proofs.queues.{Phases.and_left, Phases.and_right, PhaseSteps.serve-ok, PhaseSteps.served-ok}
+use proofs.queues.{PhaseFacts.quiet_at_rest, Tokens.same_number, KindMoves.same_again, KindMoves.spares}
+use proofs.queues.{KindMoves.spared-agrees}
+use proofs.protocol.BothParts.{quiet_unanswered}
+use proofs.queues.Moves.{IsEvent, names-block, names-set, names-set_at, invariant-moved, invariant-moved_use}
 
 -- ---- who is probed
 

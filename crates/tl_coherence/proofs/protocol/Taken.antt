@@ -1,26 +1,18 @@
 -- A Grant that is taken keeps what holds of a block, also where it changes what all copies stand for.
-use Rattle.tl_coherence.proofs.protocol.Imports.{Cap, Grow, Perm, cap_right, same_perm, ClientBlock, Granting}
-use Rattle.tl_coherence.proofs.protocol.Imports.{Acknowledging, GrantedOther, NoAcquire, AcquireOpen, is_unprobed}
-use Rattle.tl_coherence.proofs.protocol.Imports.{cap_fits, after_grant, set, GrantSent, GrantTaken, Block, view}
-use Rattle.tl_coherence.proofs.protocol.Imports.{taken_block, resting, is_out, IsWell}
-use Rattle.std.proofs.Common.{◌≡◌, ℕ, Bool, true, false, not, ◌&&◌, ◌||◌, refl, sym, ◌∙◌, ap, inl, inr}
-use Rattle.std.{proofs.lemmas.Bool.cases_eq, proofs.lemmas.Bool.ne_eqb, proofs.Math.Bool.and-false}
-use Rattle.tl_coherence.specs.protocol.Phase.{grant_fits}
-use Rattle.tl_coherence.specs.protocol.Protocol.{granted_copy, granted_truth}
-use Rattle.tl_coherence.proofs.{queues.Phases.and_left, queues.Phases.and_right, queues.PhaseSteps.grant_taken-ok}
-use Rattle.tl_coherence.proofs.{queues.Facts.held_at_most, queues.Facts.grant_is_fit, queues.Perms.nothing_below}
-use Rattle.tl_coherence.proofs.queues.Tokens.{same_number, set-same, set-other, set-part}
+use Rattle.std.proofs.Common.{◌≡◌, ℕ, Bool, true, false, not, ◌&&◌, ◌||◌, refl, sym, ◌∙◌, ap, inl, inr, ne_eqb}
+use Rattle.tl_coherence.proofs
+use proofs.Imports.{and-false, cases_eq, Cap, Grow, Perm, cap_right, same_perm, resting, is_out, IsWell, set}
+use proofs.Imports.{ClientBlock, Granting, Acknowledging, GrantedOther, NoAcquire, AcquireOpen, is_unprobed, cap_fits}
+use proofs.Imports.{grant_fits, after_grant, GrantSent, GrantTaken, Block, view, taken_block, granted_copy}
+use proofs.Imports.{granted_truth}
+use proofs.queues.{Phases.and_left, Phases.and_right, PhaseSteps.grant_taken-ok, Facts.held_at_most, Facts.grant_is_fit}
+use proofs.queues.{Perms.nothing_below, Perms.whole_cap, Tokens.same_number, Tokens.set-same, Tokens.set-other}
+use proofs.queues.{Tokens.set-part}
 
 -- a Grant for a store of the whole block gives Trunk
 whole_trunk : (g : Grow) (k : Cap) (p : Perm) → same_perm p (cap_right k) ≡ true → cap_fits true g k ≡ true
     → same_perm p Perm.Trunk ≡ true
-whole_trunk g Cap.ToT p e f = e
-whole_trunk Grow.NtoB Cap.ToB p e f = absurd cc
-whole_trunk Grow.NtoT Cap.ToB p e f = absurd cc
-whole_trunk Grow.BtoT Cap.ToB p e f = absurd cc
-whole_trunk Grow.NtoB Cap.ToN p e f = absurd cc
-whole_trunk Grow.NtoT Cap.ToN p e f = absurd cc
-whole_trunk Grow.BtoT Cap.ToN p e f = absurd cc
+whole_trunk g k p e f = sym (ap (λ (j : Cap). same_perm p (cap_right j)) (whole_cap g k f)) ∙ e
 
 some_held : (p : Perm) → same_perm p Perm.Branch ≡ true → same_perm p Perm.None ≡ false
 some_held Perm.Branch e = refl

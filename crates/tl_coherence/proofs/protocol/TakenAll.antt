@@ -1,20 +1,16 @@
 -- A Grant that is taken keeps the invariant.
-use Rattle.tl_coherence.proofs.protocol.Imports.{Channel, Cap, Grow, ClientBlock, Granting, Acknowledging, AcquireOpen}
-use Rattle.tl_coherence.proofs.protocol.Imports.{after_grant, Kind, Acquire, Probe, ProbeAck, Release, Grant}
-use Rattle.tl_coherence.proofs.protocol.Imports.{ReleaseAck, GrantAck, Packet, GrantSent, Block, State, Link}
-use Rattle.tl_coherence.proofs.protocol.Imports.{SourceFree, Acquires, packet, shows, is_transfer, is_wanting, is_sent}
-use Rattle.tl_coherence.proofs.protocol.Imports.{is_answered, is_releasing, is_acked, taken_block, Move, Stays, Pushes}
-use Rattle.tl_coherence.proofs.protocol.Imports.{Pops, AreMoved, agrees, is_own_move, channel_for, is_of, acquires_of}
-use Rattle.tl_coherence.proofs.protocol.Imports.{serves_of, acquires_with, serves_with, releases_with, tracks_with}
-use Rattle.tl_coherence.proofs.protocol.Imports.{IsInvariant}
-use Rattle.std.proofs.Common.{◌≡◌, refl, sym, ◌∙◌}
-use Rattle.std.specs.Prelude.{ℕ, Bool, true, false, List, ◌∷◌, ◌&&◌}
-use Rattle.std.{proofs.lemmas.Bool.ne_eqb, proofs.Math.Bool.and-false}
-use Rattle.tl_coherence.specs.protocol.Protocol.{taken_link, grant_taken}
-use Rattle.tl_coherence.proofs.queues.Moves.{event-at, bare-elsewhere, names-block, names-set_at, invariant-moved_use}
-use Rattle.tl_coherence.proofs.{queues.KindMoves.same_again, protocol.Taken.taken-block}
-use Rattle.tl_coherence.proofs.{protocol.BothParts.acquires_of-is}
-use Rattle.tl_coherence.proofs.queues.Tokens.{same_number, set-same, set-other, set-part}
+use Rattle.std.proofs.Common.{◌≡◌, refl, sym, ◌∙◌, ℕ, Bool, true, false, List, ◌∷◌, ◌&&◌, ne_eqb}
+use Rattle.tl_coherence.proofs
+use proofs.Imports.{and-false, Channel, Cap, Grow, is_of, acquires_of, serves_of, acquires_with, serves_with}
+use proofs.Imports.{releases_with, tracks_with, IsInvariant, Kind, Acquire, Probe, ProbeAck, Release, Grant, ReleaseAck}
+use proofs.Imports.{GrantAck, Packet, ClientBlock, Granting, Acknowledging, AcquireOpen, after_grant, GrantSent, Block}
+use proofs.Imports.{State, SourceFree, Acquires, packet, taken_block, taken_link, grant_taken, shows, is_transfer}
+use proofs.Imports.{is_wanting, is_sent, is_answered, is_releasing, is_acked, Move, Stays, Pushes, Pops, AreMoved}
+use proofs.Imports.{agrees, is_own_move, channel_for}
+use Rattle.tl_coherence.specs.protocol.Protocol.{Link}
+use proofs.queues.Moves.{event-at, bare-elsewhere, names-block, names-set_at, invariant-moved_use}
+use proofs.queues.{KindMoves.same_again, Tokens.same_number, Tokens.set-same, Tokens.set-other, Tokens.set-part}
+use proofs.protocol.{Taken.taken-block, BothParts.acquires_of-is}
 
 abbrev pub taken_moves : ℕ → Channel → Move
 taken_moves n Channel.D = Pops Grant n

@@ -1,17 +1,13 @@
 -- Which source, block or tracker each token is of.
-use Rattle.tl_coherence.proofs.protocol.Imports.{Channel, ClientBlock, View, is_unreleased, is_unprobed, ok, Kind}
-use Rattle.tl_coherence.proofs.protocol.Imports.{Request, Acquire, Probe, ProbeAck, Release, Answer, Grant, ReleaseAck}
-use Rattle.tl_coherence.proofs.protocol.Imports.{GrantAck, Packet, one_if, count, Service, Free, State, SourceState}
-use Rattle.tl_coherence.proofs.protocol.Imports.{SourceFree, Asked, Replied, Acquires, packet, view, on, packets_on}
-use Rattle.tl_coherence.proofs.protocol.Imports.{is_on, is_wanting, is_granting, shown, IsInvariant, is_asked}
-use Rattle.tl_coherence.proofs.protocol.Imports.{is_replied}
-use Rattle.std.proofs.Common.{◌≡◌, ℕ, ◌<◌, ◌≤◌, Bool, true, false, refl, sym, ◌∙◌, ap, arith}
-use Rattle.std.specs.Prelude.{◌||◌, not, Option, Some, None}
-use Rattle.tl_coherence.specs.{protocol.Phase.is_idle, protocol.Packet.is, protocol.Invariant.is_busy}
-use Rattle.tl_coherence.proofs.{queues.Distinct.IsThere, queues.Tokens.same_number, queues.Phases.each_phase}
-use Rattle.tl_coherence.proofs.{queues.Phases.of_phase, protocol.BothParts.is_of-is, protocol.BothParts.acquires_of-is}
-use Rattle.tl_coherence.proofs.{queues.Channels.on_same}
-use Rattle.tl_rules.proofs.Takeable.{part_bit}
+use Rattle.std.proofs.Common.{◌≡◌, ℕ, ◌<◌, ◌≤◌, Bool, true, false, refl, sym, ◌∙◌, ap, arith, ◌||◌, not, Option, Some}
+use Rattle.std.proofs.Common.{None}
+use Rattle.tl_coherence.proofs
+use proofs.Imports.{Channel, part_bit, one_if, IsInvariant, is_asked, is_replied, is_busy, Kind, Request, Acquire}
+use proofs.Imports.{Release, Answer, Grant, ReleaseAck, Packet, count, is, ClientBlock, View, is_unreleased}
+use proofs.Imports.{is_unprobed, ok, is_idle, Service, Free, State, SourceState, SourceFree, Asked, Replied, Acquires}
+use proofs.Imports.{packet, view, on, packets_on, is_on, is_wanting, is_granting, shown}
+use proofs.queues.{Distinct.IsThere, Tokens.same_number, Phases.each_phase, Phases.of_phase, KindMoves.on_same}
+use proofs.protocol.BothParts.{is_of-is, acquires_of-is}
 
 -- what is used is below these bounds
 pub record AreBounded {X : Type 0} (c sources trackers : ℕ) (s : State X) : Type 0 where
@@ -38,18 +34,7 @@ once_of : {X : Type 0} {caching : ℕ → Bool} {s : State X} (c : ℕ) (ch : Ch
     → packets_on ch (s.link c) ≡ on k (s.link c) → count k n (packets_on ch (s.link c)) ≤ 1
 once_of {s} c ch Request n inv on_it is = at_most_one _ (is_asked (s.uses c n)) (rw is (inv.requests c n))
 once_of {s} c ch Answer n inv on_it is = at_most_one _ (is_replied (s.uses c n)) (rw is (inv.answers c n))
-once_of {s} c ch Acquire n inv on_it is =
-    at_most_one _ (shown Acquire c (s.block n)) (rw is (inv.transfers c Acquire refl n))
-once_of {s} c ch Probe n inv on_it is = at_most_one _ (shown Probe c (s.block n)) (rw is (inv.transfers c Probe refl n))
-once_of {s} c ch ProbeAck n inv on_it is =
-    at_most_one _ (shown ProbeAck c (s.block n)) (rw is (inv.transfers c ProbeAck refl n))
-once_of {s} c ch Release n inv on_it is =
-    at_most_one _ (shown Release c (s.block n)) (rw is (inv.transfers c Release refl n))
-once_of {s} c ch Grant n inv on_it is = at_most_one _ (shown Grant c (s.block n)) (rw is (inv.transfers c Grant refl n))
-once_of {s} c ch ReleaseAck n inv on_it is =
-    at_most_one _ (shown ReleaseAck c (s.block n)) (rw is (inv.transfers c ReleaseAck refl n))
-once_of {s} c ch GrantAck n inv on_it is =
-    at_most_one _ (shown GrantAck c (s.block n)) (rw is (inv.transfers c GrantAck refl n))
+once_of {s} c ch k n inv on_it is = at_most_one _ (shown k c (s.block n)) (rw is (inv.transfers c k refl n))
 
 -- no token stands twice on a channel
 pub once : {X : Type 0} {caching : ℕ → Bool} {s : State X} (c : ℕ) (ch : Channel) → IsInvariant caching s
@@ -57,7 +42,7 @@ pub once : {X : Type 0} {caching : ℕ → Bool} {s : State X} (c : ℕ) (ch : C
 once {s} c ch inv k n = go (is_on ch k) refl
   where
     go : (b : Bool) → is_on ch k ≡ b → count k n (packets_on ch (s.link c)) ≤ 1
-    go true e = once_of c ch k n inv e (on_same ch k (s.link c) e)
+    go true e = once_of c ch k n inv e (sym (on_same ch k (s.link c) e))
     go false e = let none : count k n (packets_on ch (s.link c)) ≡ 0 = inv.own_kinds c ch k n e in omega (arith, none)
 
 -- a token is of a kind of its channel
@@ -79,7 +64,7 @@ pub shown_there : {X : Type 0} {caching : ℕ → Bool} {s : State X} (c : ℕ) 
 shown_there {s} c ch k n inv on_it there = go k refl
   where
     on_k : 0 < count k n (on k (s.link c))
-    on_k = rw (on_same ch k (s.link c) on_it) at there
+    on_k = rw (← on_same ch k (s.link c) on_it) at there
 
     go : (j : Kind) → k ≡ j → shows_it s c j n ≡ true
     go Request e = there_shown _ (is_asked (s.uses c n)) (rw e at on_k) (inv.requests c n)

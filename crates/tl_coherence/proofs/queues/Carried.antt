@@ -1,10 +1,10 @@
 -- A message that is pushed, and a beat that is taken.
-use Rattle.tl_coherence.proofs.queues.Imports.{Beat, Message, beats_of, completes, beats_from, IsCarried}
 use Rattle.std.proofs.Common.{◌≡◌, ℕ, zero, suc, ◌<◌, ◌+◌, ◌-◌, List, [], ◌∷◌, ◌++◌, refl, sym, ◌∙◌, ap, arith}
-use Rattle.std.{specs.Prelude.◌==◌, proofs.lemmas.List.append_assoc, proofs.lemmas.List.append-nil}
-use Rattle.tl_burst.specs.statement.Burst.{beat_of, begun, burst_of}
-use Rattle.tl_burst.{specs.statement.Messages.grown, proofs.Begun.length-begun, proofs.Splitting.length-of_beat}
-use Rattle.tl_rules.proofs.Sent.{not_last, is_last}
+use Rattle.std.proofs.Common.{append_assoc, append-nil, ◌==◌}
+use Rattle.tl_coherence.proofs
+use proofs.Imports.{Beat, length-begun, Message, beats_of, beat_of, begun, burst_of, grown, completes, not_last}
+use proofs.Imports.{is_last, beats_from, IsCarried}
+use Rattle.tl_burst.proofs.Splitting.{length-of_beat}
 use Rattle.tl_coherence.specs.refinement.Carried.{spelled}
 
 spelled-append : {w : ℕ} (ms ns : List (Message w)) → spelled (ms ++ ns) ≡ spelled ms ++ spelled ns

@@ -1,10 +1,10 @@
 -- The beats of a channel after the move of an event: one lemma for all events.
-use Rattle.tl_coherence.proofs.queues.Imports.{IsWidth, Beat, Message, beats_of, completes, beats_from, Kind, Packet}
-use Rattle.tl_coherence.proofs.queues.Imports.{packet, Move, Stays, Pushes, Pops, IsMoved, IsCarried}
-use Rattle.std.proofs.Common.{◌≡◌, ℕ, true, ◌+◌, List, [], ◌∷◌, ◌++◌, refl, sym, ◌∙◌, ap, ap₂}
-use Rattle.std.{specs.Prelude.map, proofs.lemmas.List.map-append, proofs.lemmas.Bool.eqb-true}
-use Rattle.tl_burst.proofs.Splitting.{beats-positive}
-use Rattle.tl_coherence.proofs.queues.Carried.{carried-push, carried-next}
+use Rattle.std.proofs.Common.{◌≡◌, ℕ, true, ◌+◌, List, [], ◌∷◌, ◌++◌, refl, sym, ◌∙◌, ap, ap₂, eqb-true, map}
+use Rattle.tl_coherence.proofs
+use proofs.Imports.{Beat, IsWidth, beats-positive, Message, beats_of, completes, beats_from, Kind, Packet, packet}
+use proofs.Imports.{IsCarried, Move, Stays, Pushes, Pops, IsMoved}
+use Rattle.std.proofs.lemmas.List.{map-append}
+use proofs.queues.Carried.{carried-push, carried-next}
 
 -- the beats of a channel before and after, and what the receiver has of the first message: as before; with all
 -- beats of a message behind; without the last beat of the first message

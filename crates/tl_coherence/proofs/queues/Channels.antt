@@ -1,20 +1,16 @@
 -- The channels after any event: where the tokens that stay show the same messages, and the beats move with the tokens,
 -- the channels carry the messages of the tokens.
-use Rattle.tl_coherence.proofs.queues.Imports.{IsWidth, Beat, Channel, Message, beats_of, unfinished, completes}
-use Rattle.tl_coherence.proofs.queues.Imports.{beats_from, Kind, Request, Acquire, Probe, ProbeAck, Release, Answer}
-use Rattle.tl_coherence.proofs.queues.Imports.{Grant, ReleaseAck, GrantAck, Packet, is, one_if, count, set, State}
-use Rattle.tl_coherence.proofs.queues.Imports.{packet, packets_on, is_on, shown, IsInvariant, is_asked, is_replied}
-use Rattle.tl_coherence.proofs.queues.Imports.{Move, Stays, Pushes, Pops, IsMoved, AreMoved, AccessMessages, message_of}
-use Rattle.tl_coherence.proofs.queues.Imports.{ChannelRelation, receiver, System, same_channel}
 use Rattle.std.proofs.Common.{◌≡◌, ℕ, Bool, true, false, ◌≤◌, List, [], ◌∷◌, ◌++◌, refl, sym, ◌∙◌, ap, ap₂, ◌⊎◌, inl}
-use Rattle.std.proofs.Common.{inr, arith}
-use Rattle.std.specs.Prelude.{◌==◌, ◌&&◌, if◌then◌else◌, map, Option, Some, None, ⊤}
-use Rattle.std.proofs.lemmas.Bool.{cases_eq, ne_eqb}
-use Rattle.tl_coherence.specs.{protocol.Protocol.Link, protocol.Protocol.on, protocol.Tokens.is_transfer}
-use Rattle.tl_coherence.specs.refinement.PacketMessages.{block_message, message_of_kind}
-use Rattle.tl_coherence.proofs.queues.CarriedMoves.{IsQueued, staying, carried-moved}
-use Rattle.tl_coherence.proofs.{queues.Moves.moves_at, queues.Rendered.same_kind_again}
-use Rattle.tl_coherence.proofs.queues.Tokens.{same_number, set-same, set-other}
+use Rattle.std.proofs.Common.{inr, arith, ◌&&◌, Option, Some, None, ne_eqb, ◌==◌, if◌then◌else◌, map}
+use Rattle.tl_coherence.proofs
+use proofs.Imports.{cases_eq, ⊤, Beat, Channel, IsWidth, Message, beats_of, unfinished, completes, beats_from, one_if}
+use proofs.Imports.{IsInvariant, is_asked, is_replied, Kind, Request, Answer, Packet, is, count, set, State, packet}
+use proofs.Imports.{packets_on, is_on, on, shown, is_transfer, ChannelRelation, Move, Stays, Pushes, Pops, IsMoved}
+use proofs.Imports.{AreMoved, AccessMessages, message_of, block_message, message_of_kind, receiver, System}
+use proofs.Imports.{same_channel}
+use Rattle.tl_coherence.specs.protocol.Protocol.{Link}
+use proofs.queues.{CarriedMoves.IsQueued, CarriedMoves.staying, CarriedMoves.carried-moved, Moves.moves_at}
+use proofs.queues.{Rendered.same_kind_again, Tokens.same_number, Tokens.set-same, Tokens.set-other, KindMoves.on_same}
 
 -- ---- tokens that stay
 
@@ -70,18 +66,6 @@ pub record IsShowing {w : ℕ} (caching : ℕ → Bool) (n : ℕ) (moves : ℕ �
   pub answers : (d i : ℕ) → is_replied (s.uses d i) ≡ true → is_replied (s'.uses d i) ≡ true
       → mail'.answer d i ≡ mail.answer d i
 
-pub on_same : (ch : Channel) (k : Kind) (l : Link) → is_on ch k ≡ true → packets_on ch l ≡ on k l
-on_same Channel.A Request l e = refl
-on_same Channel.A Acquire l e = refl
-on_same Channel.B Probe l e = refl
-on_same Channel.C ProbeAck l e = refl
-on_same Channel.C Release l e = refl
-on_same Channel.D Answer l e = refl
-on_same Channel.D Grant l e = refl
-on_same Channel.D ReleaseAck l e = refl
-on_same Channel.E GrantAck l e = refl
-on_same ch k l e = absurd cc
-
 -- a kind of which there is one where the test says so
 not_there : (a b : Bool) (n : ℕ) → n ≤ one_if a → n ≤ one_if b → (n ≡ 0) ⊎ ((a ≡ true) × (b ≡ true))
 not_there true true n le me = inr (refl, refl)
@@ -114,8 +98,8 @@ messages-stay {w} {n} {moves} {mail} {mail'} {s} {s'} event d ch =
     here : (k : Kind) (i : ℕ) (a b : Bool) → is_on ch k ≡ true → count k i (on k (s.link d)) ≡ one_if a
         → count k i (on k (s'.link d)) ≡ one_if b → (count k i stay ≡ 0) ⊎ ((a ≡ true) × (b ≡ true))
     here k i a b own e f =
-        let before : count k i xs ≡ one_if a = ap (count k i) (on_same ch k (s.link d) own) ∙ e in
-        let after : count k i ys ≡ one_if b = ap (count k i) (on_same ch k (s'.link d) own) ∙ f in
+        let before : count k i xs ≡ one_if a = sym (ap (count k i) (on_same ch k (s.link d) own)) ∙ e in
+        let after : count k i ys ≡ one_if b = sym (ap (count k i) (on_same ch k (s'.link d) own)) ∙ f in
         not_there a b (count k i stay) (omega (arith, fewer k i, before))
         (omega (arith, stay_after (moves d ch) k i xs ys (event.moved d ch), after))
 

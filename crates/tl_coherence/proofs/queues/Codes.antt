@@ -1,16 +1,10 @@
 -- What the opcodes and the parameters of a message say.
-use Rattle.tl_coherence.proofs.queues.Imports.{Cap, Grow, Perm, same_perm, same_cap}
-use Rattle.std.specs.Prelude.{if◌then◌else◌, ◌==◌}
-use Rattle.std.proofs.Common.{Bool, Some, false, refl, true, ℕ, ◌≡◌}
-use Rattle.tl_beat.{specs.declared.opcode.OpA.OpA, specs.declared.opcode.OpD.OpD}
-use Rattle.tl_params.specs.statement.Param.{cap_code, cap_of, cap_right, grow_code}
-use Rattle.tl_params.specs.declared.profile.Profile.{Profile}
-use Rattle.tl_rules.specs.statement.History.{is_acquire, is_grant, is_release_ack}
-use Rattle.tl_manager.{specs.statement.Handing.grant_opcode, specs.statement.Holders.cap_probed}
-use Rattle.tl_manager.{specs.statement.Service.is_access_answer}
+use Rattle.std.proofs.Common.{Bool, Some, false, refl, true, ℕ, ◌≡◌, if◌then◌else◌, ◌==◌}
+use Rattle.tl_coherence.proofs
+use proofs.Imports.{OpA, OpD, Cap, Grow, Perm, Profile, cap_code, cap_of, cap_right, grow_code, same_perm, is_acquire}
+use proofs.Imports.{is_grant, is_release_ack, grant_opcode, cap_probed, is_access_answer, same_cap, is_granted_data}
+use proofs.Imports.{acquire_opcode, gift}
 use Rattle.tl_manager.specs.statement.Handing as handing
-use Rattle.tl_coherence.specs.refinement.AbstractStep.{acquire_opcode, gift}
-use Rattle.tl_coherence.specs.protocol.PhaseSteps.{is_granted_data}
 
 -- ---- opcodes
 
@@ -51,27 +45,14 @@ low_cap o param Cap.ToT e = absurd cc
 pub gives-some : (p : Profile) (whole : Bool) (g : Grow) (unheld : Bool)
     → same_perm (cap_right (gift p whole g unheld)) Perm.None ≡ false
 gives-some Profile.One true Grow.NtoB unheld = refl
-gives-some Profile.One true Grow.NtoT unheld = refl
-gives-some Profile.One true Grow.BtoT unheld = refl
 gives-some Profile.One false Grow.NtoB unheld = refl
-gives-some Profile.One false Grow.NtoT unheld = refl
-gives-some Profile.One false Grow.BtoT unheld = refl
 gives-some Profile.Two true Grow.NtoB unheld = refl
-gives-some Profile.Two true Grow.NtoT unheld = refl
-gives-some Profile.Two true Grow.BtoT unheld = refl
 gives-some Profile.Two false Grow.NtoB true = refl
-gives-some Profile.Two false Grow.NtoB false = refl
-gives-some Profile.Two false Grow.NtoT unheld = refl
-gives-some Profile.Two false Grow.BtoT unheld = refl
+gives-some p whole g unheld = refl
 
 -- it carries the block where the protocol says so
 pub data-same : (whole : Bool) (g : Grow) (p : Perm) → handing.is_granted_data (acquire_opcode whole) (grow_code g)
     p ≡ is_granted_data whole g p
 data-same true Grow.NtoB p = refl
-data-same true Grow.NtoT p = refl
-data-same true Grow.BtoT p = refl
-data-same false Grow.NtoB p = refl
-data-same false Grow.NtoT p = refl
 data-same false Grow.BtoT Perm.None = refl
-data-same false Grow.BtoT Perm.Branch = refl
-data-same false Grow.BtoT Perm.Trunk = refl
+data-same whole g p = refl

@@ -1,13 +1,10 @@
 -- Tokens with names of their own: where each name below a bound is of one token at most, there are no more tokens.
-use Rattle.tl_coherence.proofs.queues.Imports.{Kind, Packet, is, one_if, count}
 use Rattle.std.proofs.Common.{◌≡◌, ℕ, ◌+◌, ◌<◌, ◌≤◌, Bool, true, false, List, [], ◌∷◌, refl, sym, ◌∙◌, ap, ◌⊎◌, inl}
-use Rattle.std.proofs.Common.{inr, arith}
-use Rattle.std.specs.Prelude.{◌==◌, ◌&&◌, if◌then◌else◌, not, length, Option, Some, None}
-use Rattle.std.proofs.lemmas.Bool.{cases_eq, ne_eqb, eqb-true, and_parts}
-use Rattle.std.proofs.lemmas.Option.{same_Some}
-use Rattle.tl_coherence.specs.bound.Rank.{total}
-use Rattle.tl_coherence.proofs.{queues.Rendered.same_kind_again, queues.Tokens.same_number}
-use Rattle.tl_coherence.proofs.queues.Sums.{total-same, total-le, total-plus, total-zero, total-one, total-const}
+use Rattle.std.proofs.Common.{inr, arith, ◌&&◌, not, length, Option, Some, None, ne_eqb, eqb-true, ◌==◌, if◌then◌else◌}
+use Rattle.tl_coherence.proofs
+use proofs.Imports.{cases_eq, and_parts, same_Some, one_if, total, Kind, Packet, is, count}
+use proofs.queues.{Rendered.same_kind_again, Tokens.same_number, Sums.total-same, Sums.total-le, Sums.total-plus}
+use proofs.queues.{Sums.total-zero, Sums.total-one, Sums.total-const}
 
 -- how many tokens pass a test
 unfoldable pub passing : (Packet → Bool) → List Packet → ℕ

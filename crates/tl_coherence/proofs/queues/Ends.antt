@@ -1,20 +1,14 @@
 -- What every client's calls keep holds of every client's end, whatever has happened.
-use Rattle.tl_coherence.proofs.queues.Imports.{Beat, Channel, Message, Config, EndConfig, is_to_client, System}
-use Rattle.tl_coherence.proofs.queues.Imports.{terms_at}
-use Rattle.std.proofs.Common.{◌≡◌, ℕ, Bool, true, false, List, [], ◌∷◌, refl}
-use Rattle.std.specs.Prelude.{◌==◌, if◌then◌else◌, Option, Some, None, Result, Ok, Err}
-use Rattle.std.proofs.lemmas.Bool.{eqb-true}
-use Rattle.tl_params.specs.declared.rule.Rule.{Rule}
-use Rattle.tl_client.{specs.declared.operation.Op.Op, specs.declared.verdict.Verdict.Verdict, specs.statement.Ask.asked}
-use Rattle.tl_client.{specs.statement.Endpoint.Endpoint, specs.statement.Endpoint.fresh, specs.statement.Offer.offered}
+use Rattle.std.proofs.Common.{◌≡◌, ℕ, Bool, true, false, List, [], ◌∷◌, refl, Option, Some, None, eqb-true, ◌==◌}
+use Rattle.std.proofs.Common.{if◌then◌else◌, Result, Ok, Err}
+use Rattle.tl_coherence.proofs
+use proofs.Imports.{Beat, Channel, Message, Config, Rule, Op, Verdict, EndConfig, Endpoint, offered, Event, Ask}
+use proofs.Imports.{Deliver, Log, system_after, is_to_client, stepped, stepped_at, client_of, delivered, judged}
+use proofs.Imports.{manager_took, handed_by, System, terms_at, with_client, with_manager, with_channel}
+use Rattle.tl_client.{specs.statement.Ask.asked, specs.statement.Endpoint.fresh}
 use Rattle.tl_manager.specs.statement.End as manager_end
 use Rattle.tl_manager.specs.statement.Offer as manager
-use Rattle.tl_coherence.specs.{declared.event.Event.Event, statement.Log.Log, statement.Log.system_after}
-use Rattle.tl_coherence.specs.declared.event.Event.TheVariants.{Ask, Deliver}
-use Rattle.tl_coherence.specs.statement.Step.{stepped, stepped_at, client_of, delivered, judged, manager_took}
-use Rattle.tl_coherence.specs.statement.Step.{handed_by}
-use Rattle.tl_coherence.specs.statement.System.{with_client, with_manager, with_channel}
-use Rattle.tl_coherence.proofs.queues.Steps.{clients-with_messages}
+use proofs.queues.Steps.{clients-with_messages}
 
 -- what is so of each client's end, whatever it is asked and offered
 pub record AreKept {w : ℕ} (config : Config) (P : ℕ → Endpoint w → Type 0) : Type 0 where

@@ -1,17 +1,13 @@
 -- What holds in every phase that is well, and that no message is refused: by computation.
-use Rattle.tl_coherence.proofs.queues.Imports.{Cap, Grow, Report, Prune, prune_left, same_perm, ClientBlock, View, Idle}
-use Rattle.tl_coherence.proofs.queues.Imports.{Own, Other, Granting, NoProbe, ProbeAnswered, ReleaseSent, NoAcquire}
-use Rattle.tl_coherence.proofs.queues.Imports.{AcquireOpen, ok, same_cap, Perm}
-use Rattle.std.{proofs.Common.◌≡◌, proofs.Common.refl, proofs.lemmas.Bool.not-true}
-use Rattle.std.specs.Prelude.{Bool, true, false, not, ◌&&◌, ◌||◌}
-use Rattle.tl_params.specs.statement.Param.{report_left, report_right, cap_right}
-use Rattle.tl_coherence.specs.protocol.Phase.{grant_fits, grow_fits, is_unacquired, is_unprobed}
-use Rattle.tl_coherence.specs.{statement.Permissions.perm_le, protocol.Tokens.is_unserved, protocol.Tokens.is_answered}
-use Rattle.tl_coherence.specs.{protocol.Invariant.is_out}
-use Rattle.tl_coherence.proofs.queues.Phases.{and_left, and_right, each_phase, of_phase, implies, implies_is}
-use Rattle.tl_coherence.proofs.queues.PhaseSteps.{on_idle, on_own, on_other, on_granting, on_quiet, on_answered}
-use Rattle.tl_coherence.proofs.queues.PhaseSteps.{on_releasing, on_wants, idle_is, own_is, other_is, granting_is}
-use Rattle.tl_coherence.proofs.queues.PhaseSteps.{quiet_is, answered_is, releasing_is, wants_is}
+use Rattle.std.proofs.Common.{◌≡◌, refl, Bool, true, false, not, ◌&&◌, ◌||◌}
+use Rattle.tl_coherence.proofs
+use proofs.Imports.{not-true, Cap, Grow, Prune, Report, Perm, prune_left, report_left, report_right, cap_right}
+use proofs.Imports.{same_perm, is_out, ClientBlock, View, Idle, Own, Other, Granting, NoProbe, ProbeAnswered}
+use proofs.Imports.{ReleaseSent, NoAcquire, AcquireOpen, ok, same_cap, grant_fits, grow_fits, is_unacquired}
+use proofs.Imports.{is_unprobed, is_unserved, is_answered, perm_le}
+use proofs.queues.Phases.{and_left, and_right, each_phase, of_phase, implies, implies_is}
+use proofs.queues.PhaseSteps.{on_idle, on_own, on_other, on_granting, on_quiet, on_answered, on_releasing, on_wants}
+use proofs.queues.PhaseSteps.{idle_is, own_is, other_is, granting_is, quiet_is, answered_is, releasing_is, wants_is}
 pub use Rattle.tl_coherence.proofs.queues.PhaseFacts.{held_at_most, is_other, granting_alone}
 
 -- ---- the left end of the first message on C is what is recorded (H12, H13)

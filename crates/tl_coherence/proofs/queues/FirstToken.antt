@@ -1,13 +1,10 @@
 -- The beat that comes first on a channel belongs to the message of the first token there.
-use Rattle.tl_coherence.proofs.queues.Imports.{IsWidth, Beat, Channel, Message, unfinished, IsCarried, IsInvariant}
-use Rattle.tl_coherence.proofs.queues.Imports.{ChannelRelation, receiver, State, packet, packets_on, is_on}
-use Rattle.tl_coherence.proofs.queues.Imports.{AccessMessages, message_of, System, Kind, Packet, is, count, one_if}
-use Rattle.std.proofs.Common.{◌≡◌, ℕ, ◌+◌, Bool, true, false, List, [], ◌∷◌, refl, sym, ◌∙◌, ap, arith}
-use Rattle.std.specs.Prelude.{map}
-use Rattle.tl_burst.proofs.Splitting.{beats-positive}
-use Rattle.tl_coherence.specs.refinement.PacketMessages.{message_of_kind}
-use Rattle.tl_coherence.proofs.{queues.Carried.IsNext, queues.Carried.carried-next, queues.Rendered.same_kind_again}
-use Rattle.tl_coherence.proofs.{queues.Tokens.same_number}
+use Rattle.std.proofs.Common.{◌≡◌, ℕ, ◌+◌, Bool, true, false, List, [], ◌∷◌, refl, sym, ◌∙◌, ap, arith, map}
+use Rattle.tl_coherence.proofs
+use proofs.Imports.{Beat, Channel, IsWidth, beats-positive, Message, unfinished, one_if, IsInvariant, Kind, Packet, is}
+use proofs.Imports.{count, State, packet, packets_on, is_on, IsCarried, ChannelRelation, AccessMessages, message_of}
+use proofs.Imports.{message_of_kind, receiver, System}
+use proofs.queues.{Carried.IsNext, Carried.carried-next, Rendered.same_kind_again, Tokens.same_number}
 
 -- the first token of a channel, whose message has this beat next
 pub record IsFirst {w : ℕ} (ch : Channel) (c : ℕ) (mail : AccessMessages w) (s : State (List ℕ)) (sys : System w)

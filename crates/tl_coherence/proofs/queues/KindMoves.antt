@@ -1,16 +1,15 @@
 -- What a move of one token does to each kind of token on a channel.
-use Rattle.tl_coherence.proofs.queues.Imports.{Channel, Kind, Request, Acquire, Probe, ProbeAck, Release, Answer, Grant}
-use Rattle.tl_coherence.proofs.queues.Imports.{ReleaseAck, GrantAck, Packet, same_kind, count, set, packet, packets_on}
-use Rattle.tl_coherence.proofs.queues.Imports.{is_on, shown, Move, Stays, Pushes, Pops, IsMoved, AreMoved}
-use Rattle.std.proofs.Common.{◌≡◌, ℕ, Bool, true, false, not, ◌&&◌, List, [], ◌∷◌, ◌++◌, refl, ◌⊎◌, inl, inr}
-use Rattle.std.{specs.Prelude.◌==◌, specs.Prelude.if◌then◌else◌, specs.Bool.beq}
-use Rattle.std.proofs.lemmas.Bool.{cases_eq, ne_eqb, eqb-true, not-true}
-use Rattle.tl_coherence.specs.{protocol.Packet.Holds, protocol.Packet.IsOrdered, protocol.Protocol.Block}
-use Rattle.tl_coherence.specs.{protocol.Protocol.Link, protocol.Protocol.on, protocol.Tokens.is_transfer}
-use Rattle.tl_coherence.specs.refinement.Move.{agrees, is_own_move, channel_for}
-use Rattle.tl_coherence.proofs.queues.Tokens.{holds-set, holds-push, holds-push_other, holds-pop, holds-pop_other}
-use Rattle.tl_coherence.proofs.queues.Tokens.{none-push, none-pop, ordered-pop, ordered-push_other, ordered-push_report}
-use Rattle.tl_coherence.proofs.queues.Phases.{and_left, and_right}
+use Rattle.std.proofs.Common.{◌≡◌, ℕ, Bool, true, false, not, ◌&&◌, List, [], ◌∷◌, ◌++◌, refl, ◌⊎◌, inl, inr, ap, sym}
+use Rattle.std.proofs.Common.{◌∙◌, ne_eqb, eqb-true, ◌==◌, if◌then◌else◌}
+use Rattle.tl_coherence.proofs
+use proofs.Imports.{cases_eq, not-true, beq, Channel, Kind, Request, Acquire, Probe, ProbeAck, Release, Answer, Grant}
+use proofs.Imports.{ReleaseAck, GrantAck, Packet, same_kind, count, set, Holds, IsOrdered, packet, packets_on, is_on}
+use proofs.Imports.{Block, on, shown, is_transfer, Move, Stays, Pushes, Pops, IsMoved, AreMoved, agrees, is_own_move}
+use proofs.Imports.{channel_for}
+use Rattle.tl_coherence.specs.protocol.Protocol.{Link}
+use proofs.queues.Tokens.{holds-set, holds-push, holds-push_other, holds-pop, holds-pop_other, none-push, none-pop}
+use proofs.queues.Tokens.{ordered-pop, ordered-push_other, ordered-push_report}
+use proofs.queues.Phases.{and_left, and_right}
 
 pub same_again : (b : Bool) → beq b b ≡ true
 same_again true = refl
@@ -71,6 +70,22 @@ pub on_is : (k : Kind) (l : Link) → on k l ≡ packets_on (channel_for k) l
 on_is Request l = refl
 on_is k l = refl
 
+-- the kind is one of its channel alone
+pub kind_channel : (ch : Channel) (k : Kind) → is_on ch k ≡ true → channel_for k ≡ ch
+kind_channel Channel.A Request e = refl
+kind_channel Channel.A Acquire e = refl
+kind_channel Channel.B Probe e = refl
+kind_channel Channel.C ProbeAck e = refl
+kind_channel Channel.C Release e = refl
+kind_channel Channel.D Answer e = refl
+kind_channel Channel.D Grant e = refl
+kind_channel Channel.D ReleaseAck e = refl
+kind_channel Channel.E GrantAck e = refl
+kind_channel ch k e = absurd cc
+
+pub on_same : (ch : Channel) (k : Kind) (l : Link) → is_on ch k ≡ true → on k l ≡ packets_on ch l
+on_same ch k l own = on_is k l ∙ ap (λ (i : Channel). packets_on i l) (kind_channel ch k own)
+
 -- all transfers of a client after the moves of its link, where one block changes
 pub transfers-moved : {X : Type 0} (moves : Channel → Move) (l m : Link) (d n : ℕ) (b : Block X) (block : ℕ → Block X)
     → AreMoved moves l m → ((k : Kind) → is_transfer k ≡ true → agrees (moves (channel_for k)) k n (shown k d (block n))
@@ -80,18 +95,28 @@ transfers-moved moves l m d n b block moved fits h k t =
     rw (on_is k m) (holds-moved k (moves (channel_for k)) (packets_on (channel_for k) l) (packets_on (channel_for k) m)
     (shown k d) block n b (moved (channel_for k)) (fits k t) (rw (on_is k l) at (h k t)))
 
+pub kind_is : (k j : Kind) → same_kind k j ≡ true → k ≡ j
+kind_is Request Request e = refl
+kind_is Acquire Acquire e = refl
+kind_is Probe Probe e = refl
+kind_is ProbeAck ProbeAck e = refl
+kind_is Release Release e = refl
+kind_is Answer Answer e = refl
+kind_is Grant Grant e = refl
+kind_is ReleaseAck ReleaseAck e = refl
+kind_is GrantAck GrantAck e = refl
+kind_is _ _ e = absurd cc
+
 -- a kind that isn't one of the channel isn't one that is
 pub kinds_apart : (ch : Channel) (k j : Kind) → is_on ch k ≡ true → is_on ch j ≡ false → same_kind k j ≡ false
-kinds_apart ch Request Request e f = absurd cc
-kinds_apart ch Acquire Acquire e f = absurd cc
-kinds_apart ch Probe Probe e f = absurd cc
-kinds_apart ch ProbeAck ProbeAck e f = absurd cc
-kinds_apart ch Release Release e f = absurd cc
-kinds_apart ch Answer Answer e f = absurd cc
-kinds_apart ch Grant Grant e f = absurd cc
-kinds_apart ch ReleaseAck ReleaseAck e f = absurd cc
-kinds_apart ch GrantAck GrantAck e f = absurd cc
-kinds_apart ch _ _ e f = refl
+kinds_apart ch k j e f =
+    let go : (b : Bool) → same_kind k j ≡ b → b ≡ false =
+    elim [
+      | false ↦ λ g. refl
+      | true ↦ λ g. absurd (let no : true ≡ false = sym e ∙ ap (is_on ch) (kind_is k j g) ∙ f in
+          cc)
+    ] in
+    go (same_kind k j) refl
 
 -- a channel has tokens of its own kinds after its move
 pub own_kinds-moved : (ch : Channel) (move : Move) (xs ys : List Packet) (k : Kind) (i : ℕ) → is_own_move ch move ≡ true
@@ -110,12 +135,4 @@ ordered-moved (Pushes ProbeAck n) m xs ys moved order h = rw moved (go (cases_eq
     go : (m ≡ n) ⊎ (m ≡ n → ⊥) → IsOrdered m (xs ++ packet ProbeAck n ∷ [])
     go (inl same) = ordered-push_report m xs (packet ProbeAck n) (rw same (order n refl)) h
     go (inr other) = ordered-push_other m xs (packet ProbeAck n) (ne_eqb m n other) h
-ordered-moved (Pushes Request n) m xs ys moved order h = rw moved (ordered-push_other m xs (packet Request n) refl h)
-ordered-moved (Pushes Acquire n) m xs ys moved order h = rw moved (ordered-push_other m xs (packet Acquire n) refl h)
-ordered-moved (Pushes Probe n) m xs ys moved order h = rw moved (ordered-push_other m xs (packet Probe n) refl h)
-ordered-moved (Pushes Release n) m xs ys moved order h = rw moved (ordered-push_other m xs (packet Release n) refl h)
-ordered-moved (Pushes Answer n) m xs ys moved order h = rw moved (ordered-push_other m xs (packet Answer n) refl h)
-ordered-moved (Pushes Grant n) m xs ys moved order h = rw moved (ordered-push_other m xs (packet Grant n) refl h)
-ordered-moved (Pushes ReleaseAck n) m xs ys moved order h =
-    rw moved (ordered-push_other m xs (packet ReleaseAck n) refl h)
-ordered-moved (Pushes GrantAck n) m xs ys moved order h = rw moved (ordered-push_other m xs (packet GrantAck n) refl h)
+ordered-moved (Pushes k n) m xs ys moved order h = rw moved (ordered-push_other m xs (packet k n) refl h)

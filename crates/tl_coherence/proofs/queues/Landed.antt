@@ -1,20 +1,15 @@
 -- The whole after an event: what each channel gained and lost, and what each receiver has of the first messages.
-use Rattle.tl_coherence.proofs.queues.Imports.{Beat, Channel, Message, beats_of, unfinished, completes, beats_from}
-use Rattle.tl_coherence.proofs.queues.Imports.{receiver, is_to_client, System, same_channel}
-use Rattle.std.proofs.Common.{◌≡◌, ℕ, Bool, true, false, List, [], ◌∷◌, ◌++◌, refl, sym, ◌∙◌, ap, ◌⊎◌, inl, inr}
-use Rattle.std.specs.Prelude.{◌==◌, ◌&&◌, if◌then◌else◌, Option, Some, None}
-use Rattle.std.proofs.lemmas.Bool.{cases_eq, ne_eqb}
-use Rattle.tl_burst.specs.statement.Messages.{History, on, grown}
-use Rattle.tl_rules.specs.statement.Conformance.{on_link}
+use Rattle.std.proofs.Common.{◌≡◌, ℕ, Bool, true, false, List, [], ◌∷◌, ◌++◌, refl, sym, ◌∙◌, ap, ◌⊎◌, inl, inr, ◌&&◌}
+use Rattle.std.proofs.Common.{Option, Some, None, ne_eqb, ◌==◌, if◌then◌else◌}
+use Rattle.tl_coherence.proofs
+use proofs.Imports.{cases_eq, Beat, Channel, Message, beats_of, unfinished, History, grown, channel_of, completes}
+use proofs.Imports.{on_link, beats_from, Handed, receiver, is_to_client, handed_by, System, same_channel}
+use proofs.Imports.{channel_of_message, with_client, with_manager, with_channel, with_messages}
+use Rattle.tl_burst.specs.statement.Messages.{on}
 use Rattle.tl_client.specs.statement.Endpoint as client
-use Rattle.tl_manager.specs.statement.Handing.{Handed}
 use Rattle.tl_manager.specs.statement.End as manager_end
-use Rattle.tl_coherence.specs.statement.Step.{handed_by}
-use Rattle.tl_coherence.specs.statement.System.{channel_of_message, with_client, with_manager, with_channel}
-use Rattle.tl_coherence.specs.statement.System.{with_messages}
-use Rattle.tl_coherence.proofs.queues.Channels.{behind, pushes_at, IsTaken, IsHanded, same_channel-is}
-use Rattle.tl_coherence.proofs.queues.Steps.{clients-with_messages, manager-with_messages}
-use Rattle.tl_coherence.proofs.queues.Tokens.{same_number}
+use proofs.queues.{Channels.behind, Channels.pushes_at, Channels.IsTaken, Channels.IsHanded, Channels.same_channel-is}
+use proofs.queues.{Steps.clients-with_messages, Steps.manager-with_messages, Tokens.same_number}
 
 -- ---- one message is handed out, or none
 
@@ -89,6 +84,21 @@ taken-landed {w} {c} {ch} {x} {sys} is last = record {
 abbrev pub IsOn : {w : ℕ} → Channel → Beat w → Type 0
 IsOn ch x = (at : Channel) → on at x ≡ same_channel at ch
 
+pub on_own_channel : {w : ℕ} (x : Beat w) → IsOn (channel_of x) x
+on_own_channel (Beat.A x) Channel.A = refl
+on_own_channel (Beat.B x) Channel.A = refl
+on_own_channel (Beat.C x) Channel.A = refl
+on_own_channel (Beat.D x) Channel.A = refl
+on_own_channel (Beat.E x) Channel.A = refl
+on_own_channel x at = refl
+
+-- a channel to a client isn't one to the manager
+apart_channels : (a b : Channel) → (is_to_client a ≡ is_to_client b → ⊥) → same_channel a b ≡ false
+apart_channels a b apart =
+    let go : (x : Bool) → same_channel a b ≡ x → x ≡ false =
+    elim [ false ↦ λ e. refl | true ↦ λ e. absurd (apart (ap is_to_client (same_channel-is a b e))) ] in
+    go (same_channel a b) refl
+
 grown_history : {w : ℕ} (ch at : Channel) (x : Beat w) (t : History w) → IsOn ch x
     → unfinished at (x ∷ t) ≡ (if same_channel at ch then grown x (unfinished at t) else unfinished at t)
 unfolding unfinished
@@ -145,13 +155,7 @@ landed-client {w} c ch x queue m e sys to_client first is heard = record {
         rw f (ap (λ (b : manager_end.End w). unfinished at (on_link d b.trace)) manager_is ∙ unless (d == c))
 
     not_here : (ch at : Channel) → is_to_client ch ≡ true → is_to_client at ≡ false → same_channel at ch ≡ false
-    not_here Channel.B Channel.A a b = refl
-    not_here Channel.B Channel.C a b = refl
-    not_here Channel.B Channel.E a b = refl
-    not_here Channel.D Channel.A a b = refl
-    not_here Channel.D Channel.C a b = refl
-    not_here Channel.D Channel.E a b = refl
-    not_here ch at a b = absurd cc
+    not_here ch at a b = apart_channels at ch (λ e. cc)
 
     rests : (d : ℕ) (at : Channel)
         → unfinished at (receiver at d after) ≡ (if (d == c) && same_channel at ch then grown x
@@ -229,13 +233,7 @@ rests-manager {w} c ch x queue handed e sys to_manager is heard = rests
     theirs d at up (inr other) = cc (manager_is, heard d at up, swapped d other, ne_eqb d c other)
 
     not_here : (ch at : Channel) → is_to_client ch ≡ false → is_to_client at ≡ true → same_channel at ch ≡ false
-    not_here Channel.A Channel.B a b = refl
-    not_here Channel.A Channel.D a b = refl
-    not_here Channel.C Channel.B a b = refl
-    not_here Channel.C Channel.D a b = refl
-    not_here Channel.E Channel.B a b = refl
-    not_here Channel.E Channel.D a b = refl
-    not_here ch at a b = absurd cc
+    not_here ch at a b = apart_channels at ch (λ e. cc)
 
     ours : (d : ℕ) (at : Channel) → same_channel at ch ≡ false
         → unfinished at (after.clients d).past ≡ (if (d == c) && same_channel at ch then grown x

@@ -1,9 +1,9 @@
 -- A configuration within its limits, as arithmetic.
 use Rattle.std.proofs.Common.{◌≡◌, ◌<◌, ◌&&◌, ℕ, zero, suc, Bool, true, false, List, [], ◌∷◌, Some, None, refl, length}
-use Rattle.std.proofs.Common.{arith}
-use Rattle.std.specs.Prelude.{slice_index_or, Option, not, if◌then◌else◌}
-use Rattle.tl_params.{specs.declared.config.ClientConfig.ClientConfig, specs.declared.config.NewFault.NewFault}
-use Rattle.tl_params.{specs.statement.Config.sources_fit, specs.statement.Config.all_sources_fit}
+use Rattle.std.proofs.Common.{arith, Option, not, if◌then◌else◌, slice_index_or}
+use Rattle.tl_coherence.proofs
+use proofs.Imports.{ClientConfig, sources_fit, all_sources_fit}
+use Rattle.tl_params.specs.declared.config.NewFault.{NewFault}
 
 pub all-fit : (clients : List ClientConfig) (i : ℕ) (d : ClientConfig) → all_sources_fit clients ≡ true
     → i < length clients → sources_fit (slice_index_or clients i d) ≡ true

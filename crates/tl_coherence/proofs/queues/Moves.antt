@@ -1,17 +1,14 @@
 -- Tokens, and what they stand for, after the moves of an event: one lemma for all events.
-use Rattle.tl_coherence.proofs.queues.Imports.{Channel, Kind, Request, ProbeAck, Release, Answer, Packet, count, set}
-use Rattle.tl_coherence.proofs.queues.Imports.{State, packets_on, shown, Move, Stays, Pushes, IsMoved, AreMoved}
-use Rattle.tl_coherence.proofs.queues.Imports.{IsInvariant, is_asked, is_replied}
-use Rattle.std.proofs.Common.{◌≡◌, ℕ, Bool, true, false, List, Option, refl, sym, ◌∙◌, ap, inl, inr}
-use Rattle.std.{specs.Prelude.◌==◌, specs.Prelude.if◌then◌else◌, proofs.lemmas.Bool.cases_eq, proofs.lemmas.Bool.ne_eqb}
-use Rattle.tl_coherence.specs.{protocol.Packet.Holds, protocol.Packet.set_at, protocol.Tokens.is_transfer}
-use Rattle.tl_coherence.specs.protocol.Protocol.{Block, SourceState, Link}
-use Rattle.tl_coherence.specs.refinement.Move.{agrees, is_own_move, channel_for}
-use Rattle.tl_coherence.proofs.queues.Tokens.{same_number, set-same, set-other, set-each}
-use Rattle.tl_coherence.specs.protocol.Invariant.{IsWell, AreNamed, Names, is_of, acquires_of, serves_of, acquires_with}
-use Rattle.tl_coherence.specs.protocol.Invariant.{serves_with, releases_with, tracks_with}
-use Rattle.tl_coherence.proofs.queues.KindMoves.{holds-moved, spares, holds-spared, on_is, transfers-moved}
-use Rattle.tl_coherence.proofs.queues.KindMoves.{own_kinds-moved, ordered-moved}
+use Rattle.std.proofs.Common.{◌≡◌, ℕ, Bool, true, false, List, Option, refl, sym, ◌∙◌, ap, inl, inr, ne_eqb, ◌==◌}
+use Rattle.std.proofs.Common.{if◌then◌else◌}
+use Rattle.tl_coherence.proofs
+use proofs.Imports.{cases_eq, Channel, IsInvariant, is_asked, is_replied, IsWell, AreNamed, is_of, acquires_of}
+use proofs.Imports.{serves_of, acquires_with, serves_with, releases_with, tracks_with, Kind, Request, ProbeAck, Release}
+use proofs.Imports.{Answer, Packet, count, set, Holds, set_at, State, packets_on, Block, SourceState, shown}
+use proofs.Imports.{is_transfer, Move, Stays, Pushes, IsMoved, AreMoved, agrees, is_own_move, channel_for}
+use Rattle.tl_coherence.specs.{protocol.Invariant.Names, protocol.Protocol.Link}
+use proofs.queues.Tokens.{same_number, set-same, set-other, set-each}
+use proofs.queues.KindMoves.{holds-moved, spares, holds-spared, on_is, transfers-moved, own_kinds-moved, ordered-moved}
 
 -- ---- the whole invariant
 

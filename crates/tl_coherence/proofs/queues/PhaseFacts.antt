@@ -1,16 +1,13 @@
 -- What the phases of a client say of what it holds and of what is on its channels.
-use Rattle.tl_coherence.proofs.queues.Imports.{Cap, Grow, Report, Perm, prune_left, same_perm, ClientBlock, View, Idle}
-use Rattle.tl_coherence.proofs.queues.Imports.{Own, Other, Granting, Acknowledging, ProbePhase, ProbeAnswered}
-use Rattle.tl_coherence.proofs.queues.Imports.{ReleasePhase, ReleaseSent, AcquireOpen, ok}
-use Rattle.std.proofs.Common.{◌≡◌, refl}
-use Rattle.std.specs.Prelude.{Bool, true, false, not, ◌&&◌, ◌||◌}
-use Rattle.tl_params.specs.statement.Param.{report_left, cap_right, report_at}
-use Rattle.tl_coherence.specs.protocol.Phase.{same_report, is_unacquired, is_unreleased, is_unprobed}
-use Rattle.tl_coherence.specs.{statement.Permissions.perm_le, protocol.Tokens.is_granting, protocol.Tokens.is_acked}
-use Rattle.tl_coherence.proofs.queues.Phases.{each_phase, of_phase, implies, implies_is}
-use Rattle.tl_coherence.proofs.queues.PhaseSteps.{on_idle, on_own, on_other, on_granting, on_acknowledging, on_answered}
-use Rattle.tl_coherence.proofs.queues.PhaseSteps.{on_wants, idle_is, own_is, granting_is, acknowledging_is, answered_is}
-use Rattle.tl_coherence.proofs.queues.PhaseSteps.{wants_is}
+use Rattle.std.proofs.Common.{◌≡◌, refl, Bool, true, false, not, ◌&&◌, ◌||◌}
+use Rattle.tl_coherence.proofs
+use proofs.Imports.{Cap, Grow, Report, Perm, prune_left, report_left, cap_right, report_at, same_perm, ClientBlock}
+use proofs.Imports.{View, Idle, Own, Other, Granting, Acknowledging, ProbePhase, ProbeAnswered, ReleasePhase}
+use proofs.Imports.{ReleaseSent, AcquireOpen, ok, same_report, is_unacquired, is_unreleased, is_unprobed, is_granting}
+use proofs.Imports.{is_acked, perm_le}
+use proofs.queues.Phases.{each_phase, of_phase, implies, implies_is}
+use proofs.queues.PhaseSteps.{on_idle, on_own, on_other, on_granting, on_acknowledging, on_answered, on_wants, idle_is}
+use proofs.queues.PhaseSteps.{own_is, granting_is, acknowledging_is, answered_is, wants_is}
 
 -- ---- what is held is no more than is recorded
 

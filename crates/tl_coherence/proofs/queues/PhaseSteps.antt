@@ -1,18 +1,14 @@
 -- Each event leads from a phase that is well to one that is well: by computation over all phases.
-use Rattle.tl_coherence.proofs.queues.Imports.{Cap, Grow, Prune, Report, prune_left, same_perm, ClientBlock, View, Idle}
-use Rattle.tl_coherence.proofs.queues.Imports.{Own, Other, Granting, Acknowledging, GrantedOther, ProbePhase, NoProbe}
-use Rattle.tl_coherence.proofs.queues.Imports.{ProbeAnswered, ReleasePhase, ReleaseSent, NoAcquire, AcquireOpen, ok}
-use Rattle.tl_coherence.proofs.queues.Imports.{same_cap, Perm}
-use Rattle.std.proofs.Common.{◌≡◌, refl}
-use Rattle.std.specs.Prelude.{Bool, true, false, not, ◌&&◌, ◌||◌}
-use Rattle.tl_coherence.specs.protocol.Phase.{ProbeSent, NoRelease, ReleaseAcked, AcquirePhase, grow_fits, cap_fits}
-use Rattle.tl_coherence.specs.protocol.Phase.{is_unacquired, is_unreleased}
-use Rattle.tl_coherence.specs.protocol.PhaseSteps.{after_acquire, after_release, after_served, is_granted_data}
-use Rattle.tl_coherence.specs.protocol.PhaseSteps.{after_grant_sent, after_probe, after_report, after_release_taken}
-use Rattle.tl_coherence.specs.protocol.PhaseSteps.{after_release_ack, after_grant}
-use Rattle.tl_coherence.specs.protocol.Tokens.{is_answered}
-use Rattle.tl_coherence.proofs.queues.Phases.{where_true, where_is, and_left, and_right, each_bool, each_grow, each_cap}
-use Rattle.tl_coherence.proofs.queues.Phases.{each_prune, each_phase, of_bool, of_grow, of_cap, of_prune, of_phase}
+use Rattle.std.proofs.Common.{◌≡◌, refl, Bool, true, false, not, ◌&&◌, ◌||◌}
+use Rattle.tl_coherence.proofs
+use proofs.Imports.{Cap, Grow, Prune, Report, Perm, prune_left, same_perm, ClientBlock, View, Idle, Own, Other}
+use proofs.Imports.{Granting, Acknowledging, GrantedOther, ProbePhase, NoProbe, ProbeAnswered, ReleasePhase}
+use proofs.Imports.{ReleaseSent, NoAcquire, AcquireOpen, ok, same_cap, ProbeSent, NoRelease, ReleaseAcked, AcquirePhase}
+use proofs.Imports.{grow_fits, cap_fits, is_unacquired, is_unreleased, after_acquire, after_release, after_served}
+use proofs.Imports.{is_granted_data, after_grant_sent, after_probe, after_report, after_release_taken}
+use proofs.Imports.{after_release_ack, after_grant, is_answered}
+use proofs.queues.Phases.{where_true, where_is, and_left, and_right, each_bool, each_grow, each_cap, each_prune}
+use proofs.queues.Phases.{each_phase, of_bool, of_grow, of_cap, of_prune, of_phase}
 
 -- ---- a test of one case of a part
 

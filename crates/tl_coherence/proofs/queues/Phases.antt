@@ -1,11 +1,10 @@
 -- Every phase that is well, by computation.
-use Rattle.tl_coherence.proofs.queues.Imports.{Cap, Grow, Prune, Report, Perm, ClientBlock, View, Idle, Own, Other}
-use Rattle.tl_coherence.proofs.queues.Imports.{Granting, Acknowledging, GrantedOther, ProbePhase, NoProbe}
-use Rattle.tl_coherence.proofs.queues.Imports.{ProbeAnswered, ReleasePhase, ReleaseSent, NoAcquire, AcquireOpen, ok}
-use Rattle.std.proofs.Common.{◌≡◌, refl}
-use Rattle.std.specs.Prelude.{Bool, true, false, ◌&&◌, ⊤}
-use Rattle.tl_coherence.specs.protocol.Phase.{ProbeSent, NoRelease, ReleaseAcked, AcquirePhase, ok_first, ok_second}
-use Rattle.tl_coherence.specs.protocol.Phase.{ok_third}
+use Rattle.std.proofs.Common.{◌≡◌, refl, Bool, true, false, ◌&&◌}
+use Rattle.tl_coherence.proofs
+use proofs.Imports.{⊤, Cap, Grow, Prune, Report, Perm, ClientBlock, View, Idle, Own, Other, Granting, Acknowledging}
+use proofs.Imports.{GrantedOther, ProbePhase, NoProbe, ProbeAnswered, ReleasePhase, ReleaseSent, NoAcquire, AcquireOpen}
+use proofs.Imports.{ok, ProbeSent, NoRelease, ReleaseAcked, AcquirePhase}
+use Rattle.tl_coherence.specs.protocol.Phase.{ok_first, ok_second, ok_third}
 
 -- ---- tests of all values of a type
 

@@ -1,11 +1,11 @@
 -- Where no delivery is movable, nothing is on a channel; and where nothing is on a channel, none is movable.
-use Rattle.tl_coherence.proofs.queues.Imports.{Channel, Config, EndConfig, System, terms_at}
-use Rattle.std.proofs.Common.{◌≡◌, ℕ, zero, suc, ◌+◌, ◌<◌, ◌≤◌, Bool, true, false, [], refl, inl, inr, arith}
-use Rattle.std.specs.Prelude.{if◌then◌else◌, length, Option, Some, None, option_map, slice_get}
-use Rattle.std.{proofs.lemmas.Bool.cases_eq, proofs.lemmas.Option.same_Some, proofs.lemmas.Option.slice_get_within}
-use Rattle.tl_beat.specs.declared.beat.Link.{Link}
-use Rattle.tl_params.specs.declared.config.ClientConfig.{ClientConfig}
-use Rattle.tl_coherence.specs.statement.Movable.{is_movable, first_movable, moves, movable_on, next_delivery, or_later}
+use Rattle.std.proofs.Common.{◌≡◌, ℕ, zero, suc, ◌+◌, ◌<◌, ◌≤◌, Bool, true, false, [], refl, inl, inr, arith, length}
+use Rattle.std.proofs.Common.{Option, Some, None, if◌then◌else◌, option_map, slice_get}
+use Rattle.tl_coherence.proofs
+use proofs.Imports.{cases_eq, same_Some, Link, Channel, ClientConfig, Config, EndConfig, is_movable, first_movable}
+use proofs.Imports.{moves, next_delivery, System, terms_at}
+use Rattle.std.proofs.lemmas.Option.{slice_get_within}
+use Rattle.tl_coherence.specs.statement.Movable.{movable_on, or_later}
 
 -- ---- which delivery is next
 

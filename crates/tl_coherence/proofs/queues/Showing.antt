@@ -1,20 +1,14 @@
 -- What a token stands for that is there before and after an event: the same message.
-use Rattle.tl_coherence.proofs.queues.Imports.{Channel, Prune, Report, Perm, prune_left, same_perm, ClientBlock, View}
-use Rattle.tl_coherence.proofs.queues.Imports.{Granting, GrantedOther, ok, Kind, Request, Acquire, Probe, ProbeAck}
-use Rattle.tl_coherence.proofs.queues.Imports.{Release, Answer, Grant, ReleaseAck, GrantAck, set, State, shown}
-use Rattle.tl_coherence.proofs.queues.Imports.{IsInvariant, is_asked, is_replied, Move, AreMoved, AccessMessages}
-use Rattle.std.proofs.Common.{◌≡◌, ℕ, Bool, true, false, not, ◌&&◌, ◌||◌, List, refl, sym, ◌∙◌, ap, ◌⊎◌, inl, inr}
-use Rattle.std.proofs.lemmas.Bool.{not-true, or_parts}
-use Rattle.std.specs.Prelude.{◌==◌, if◌then◌else◌, ⊤}
-use Rattle.tl_beat.specs.declared.opcode.OpB.{OpB}
-use Rattle.tl_params.specs.statement.Param.{report_left}
-use Rattle.tl_client.specs.statement.Send.{release, probe_ack}
-use Rattle.tl_coherence.specs.protocol.Protocol.{Service, GrantSent, Block, view}
-use Rattle.tl_coherence.specs.{protocol.Tokens.is_granting, protocol.Invariant.IsWell}
-use Rattle.tl_coherence.specs.refinement.PacketMessages.{report_told, prune_told, grant_of, block_message}
-use Rattle.tl_coherence.proofs.queues.Channels.{IsShowing}
-use Rattle.tl_coherence.proofs.queues.Phases.{and_left, and_right, each_phase, of_phase, implies, implies_is}
-use Rattle.tl_coherence.proofs.queues.Tokens.{same_number, set-same, set-other}
+use Rattle.std.proofs.Common.{◌≡◌, ℕ, Bool, true, false, not, ◌&&◌, ◌||◌, List, refl, sym, ◌∙◌, ap, ◌⊎◌, inl, inr, ◌==◌}
+use Rattle.std.proofs.Common.{if◌then◌else◌}
+use Rattle.tl_coherence.proofs
+use proofs.Imports.{not-true, or_parts, ⊤, Channel, OpB, Prune, Report, Perm, prune_left, report_left, same_perm}
+use proofs.Imports.{release, probe_ack, IsInvariant, is_asked, is_replied, IsWell, Kind, Request, Acquire, Probe}
+use proofs.Imports.{ProbeAck, Release, Answer, Grant, ReleaseAck, GrantAck, set, ClientBlock, View, Granting}
+use proofs.Imports.{GrantedOther, ok, State, Service, GrantSent, Block, view, shown, is_granting, Move, AreMoved}
+use proofs.Imports.{AccessMessages, report_told, prune_told, grant_of, block_message}
+use proofs.queues.{Channels.IsShowing, Phases.and_left, Phases.and_right, Phases.each_phase, Phases.of_phase}
+use proofs.queues.{Phases.implies, Phases.implies_is, Tokens.same_number, Tokens.set-same, Tokens.set-other}
 
 -- ---- one message
 

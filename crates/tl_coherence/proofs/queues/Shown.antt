@@ -1,9 +1,9 @@
 -- What an event does to the channels at which a message is taken: which tokens stay, and which move.
-use Rattle.tl_coherence.proofs.queues.Imports.{IsWidth, Beat, Channel, Message, ChannelRelation, Move, State, packet}
-use Rattle.tl_coherence.proofs.queues.Imports.{AccessMessages, message_of, System, same_channel}
-use Rattle.std.proofs.Common.{ℕ, Bool, List}
-use Rattle.std.specs.Prelude.{◌==◌, ◌&&◌, Option}
-use Rattle.tl_coherence.proofs.queues.Channels.{IsShowing, IsTaken, Fits, carried-event, queued-taken}
+use Rattle.std.proofs.Common.{ℕ, Bool, List, ◌&&◌, Option, ◌==◌}
+use Rattle.tl_coherence.proofs
+use proofs.Imports.{Beat, Channel, IsWidth, Message, State, packet, ChannelRelation, Move, AccessMessages, message_of}
+use proofs.Imports.{System, same_channel}
+use proofs.queues.Channels.{IsShowing, IsTaken, Fits, carried-event, queued-taken}
 
 -- The tokens move, and those that stay show the same messages, as the first message on channel ch of client c is taken,
 -- and these are handed out.

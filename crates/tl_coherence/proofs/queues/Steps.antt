@@ -1,16 +1,12 @@
 -- What a step changes, part by part.
-use Rattle.tl_coherence.proofs.queues.Imports.{Beat, Channel, Config, EndConfig, is_to_client, System, terms_at}
-use Rattle.tl_coherence.proofs.queues.Imports.{same_channel}
-use Rattle.std.proofs.Common.{◌≡◌, ℕ, List, [], ◌∷◌, Some, refl}
-use Rattle.std.specs.Prelude.{false, true}
-use Rattle.tl_beat.specs.declared.beat.Link.{Link}
-use Rattle.tl_client.{specs.declared.operation.Op.Op, specs.statement.Ask.asked, specs.statement.Offer.offered}
-use Rattle.tl_manager.specs.statement.Handing.{Handed}
+use Rattle.std.proofs.Common.{◌≡◌, ℕ, List, [], ◌∷◌, Some, refl, false, true, Option, Bool, Result, Ok, Err}
+use Rattle.std.proofs.Common.{if◌then◌else◌}
+use Rattle.tl_coherence.proofs
+use proofs.Imports.{Beat, Link, Channel, Message, Config, Rule, Op, Finish, Verdict, EndConfig, Endpoint, offered, End}
+use proofs.Imports.{Handed, Ask, Deliver, Outcome, is_to_client, stepped, only, replied, client_took, manager_took}
+use proofs.Imports.{delivered, judged, System, terms_at, same_channel, with_message, with_messages}
+use Rattle.tl_client.specs.statement.Ask.{asked}
 use Rattle.tl_manager.specs.statement.Offer as manager
-use Rattle.tl_coherence.specs.declared.event.Event.TheVariants.{Ask, Deliver}
-use Rattle.tl_coherence.specs.declared.event.Outcome.{Outcome}
-use Rattle.tl_coherence.specs.statement.Step.{stepped, only, replied, client_took, manager_took}
-use Rattle.tl_coherence.specs.statement.System.{with_message, with_messages}
 
 -- messages that are handed out change the channels alone
 pub clients-with_messages : {w : ℕ} (handed : Handed w) (s : System w) → (with_messages handed s).clients ≡ s.clients
@@ -56,4 +52,26 @@ pub stepped-to-manager : {w : ℕ} (config : Config) (link : Link) (ch : Channel
 unfolding stepped
 stepped-to-manager config link ch s t x rest e some down = rw (e, some, down) refl
 
--- ---- any event
+-- the delivery of a first beat stalls, moves it, or ends something with it
+pub first-outcome : {w : ℕ} (P : Outcome w → Type 0) (config : Config) (terms : EndConfig) (link : ℕ) (ch : Channel)
+    (x : Beat w) (rest : List (Beat w)) (s : System w) → P Outcome.Stalled → P (Outcome.Moved x)
+    → ((source : ℕ) (f : Finish) → P (Outcome.Done x source f))
+    → P (delivered config terms link ch (x ∷ rest) s).outcome
+first-outcome {w} P config terms link ch x rest s stalled moved done = go (is_to_client ch)
+  where
+    of_client : (r : Result (Verdict × Option (Message w)) Rule) (e : Endpoint w)
+        → P (judged r link ch x rest e s).outcome
+    of_client (Err rule) e = stalled
+    of_client (Ok (Verdict.Stalled, m)) e = stalled
+    of_client (Ok (Verdict.Taken, m)) e = moved
+    of_client (Ok (Verdict.Done source f, m)) e = done source f
+
+    of_manager : (a : manager.Reception w × End w) → P (manager_took link ch x rest a s).outcome
+    of_manager (manager.Refused rule, e) = stalled
+    of_manager (manager.Stalled, e) = stalled
+    of_manager (manager.Sent handed, e) = moved
+
+    go : (b : Bool) → P (if b then client_took link ch x rest (offered terms ch x (s.clients link)) s else manager_took
+        link ch x rest (manager.offered config (record { 0 = link }) ch x s.manager) s).outcome
+    go true = of_client (offered terms ch x (s.clients link)).answer _
+    go false = of_manager _

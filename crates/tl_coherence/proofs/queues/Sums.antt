@@ -1,8 +1,10 @@
 -- Sums over numbers below a bound.
-use Rattle.std.proofs.Common.{◌≡◌, ℕ, zero, suc, ◌+◌, ◌*◌, ◌<◌, ◌≤◌, refl, ap, ◌⊎◌, inl, inr, arith}
-use Rattle.std.{specs.Prelude.◌==◌, specs.Prelude.if◌then◌else◌, proofs.lemmas.Bool.cases_eq, proofs.lemmas.Bool.ne_eqb}
-use Rattle.tl_coherence.specs.{bound.Rank.total, protocol.Packet.set}
-use Rattle.tl_coherence.proofs.queues.Tokens.{same_number, set-same, set-other}
+use Rattle.std.proofs.Common.{◌≡◌, ℕ, zero, suc, ◌+◌, ◌*◌, ◌<◌, ◌≤◌, refl, ap, ◌⊎◌, inl, inr, arith, ne_eqb, ◌==◌}
+use Rattle.std.proofs.Common.{if◌then◌else◌}
+use Rattle.tl_coherence.proofs
+use proofs.Imports.{cases_eq, set}
+use Rattle.tl_coherence.specs.bound.Rank.{total}
+use proofs.queues.Tokens.{same_number, set-same, set-other}
 
 pub total-same : (n : ℕ) (f g : ℕ → ℕ) → ((i : ℕ) → i < n → f i ≡ g i) → total n f ≡ total n g
 unfolding total

@@ -1,9 +1,9 @@
 -- Tokens that are pushed and popped.
-use Rattle.tl_coherence.proofs.queues.Imports.{Kind, ProbeAck, Release, Packet, same_kind, is, one_if, count, set}
-use Rattle.std.proofs.Common.{◌≡◌, refl, ◌∙◌, inl, inr, arith}
-use Rattle.std.specs.Prelude.{ℕ, Bool, true, false, List, [], ◌∷◌, ◌++◌, ◌==◌, ◌+◌}
-use Rattle.std.proofs.lemmas.Bool.{cases_eq, ne_eqb}
-use Rattle.tl_coherence.specs.protocol.Packet.{Holds, IsOrdered, set_at}
+use Rattle.std.proofs.Common.{◌≡◌, refl, ◌∙◌, inl, inr, arith, ℕ, Bool, true, false, List, [], ◌∷◌, ◌++◌, ◌+◌, ne_eqb}
+use Rattle.std.proofs.Common.{◌==◌}
+use Rattle.tl_coherence.proofs
+use proofs.Imports.{cases_eq, one_if, Kind, ProbeAck, Release, Packet, same_kind, is, count, set, Holds, set_at}
+use Rattle.tl_coherence.specs.protocol.Packet.{IsOrdered}
 
 -- ---- one place of a function
 

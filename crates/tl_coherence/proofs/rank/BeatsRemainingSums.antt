@@ -1,31 +1,19 @@
 -- How many beats are left of what is on the channels: no more than a block has, of a report one unless it is the
 -- writer's,
 -- and of an access and its answer one more than a block has.
-use Rattle.tl_coherence.proofs.rank.Imports.{Beat, Channel, Config, IsInvariant, View, ProbePhase, ProbeAnswered, State}
-use Rattle.tl_coherence.proofs.rank.Imports.{Asked, Replied, view, AccessMessages, Request, Acquire, ProbeAck, Answer}
 use Rattle.std.proofs.Common.{◌≡◌, ℕ, ◌+◌, ◌/◌, ◌≤◌, Bool, true, false, List, [], ◌∷◌, refl, sym, ◌∙◌, arith, inl, inr}
-use Rattle.std.specs.Prelude.{not, ◌==◌, ◌||◌, if◌then◌else◌, Option, Some, None}
-use Rattle.std.proofs.lemmas.Bool.{eqb-true, not-false}
-use Rattle.tl_beat.{specs.statement.Width.IsWidth, specs.declared.opcode.OpA.OpA, specs.declared.opcode.OpB.OpB}
-use Rattle.tl_beat.{specs.declared.opcode.OpD.OpD, specs.statement.Opcode.a_carries_data}
-use Rattle.tl_beat.{specs.statement.Opcode.d_carries_data}
-use Rattle.tl_burst.{specs.declared.message.Message.Message, specs.declared.message.MessageA.MessageA}
-use Rattle.tl_burst.{specs.statement.Burst.beats_of, specs.statement.Burst.data_beats}
-use Rattle.tl_params.{specs.declared.level.Level.Level, specs.declared.param.Report.Report}
-use Rattle.tl_params.{specs.declared.perm.Perm.Perm, specs.statement.Param.report_left}
-use Rattle.tl_params.specs.declared.rule.Rule.TheVariants.{L1, L2, L3}
-use Rattle.tl_rules.specs.statement.Conformance.{answers, same_perm}
-use Rattle.tl_rules.specs.statement.Legality.{is_one_of, a_of_level, a_has_param, a_has_size}
-use Rattle.tl_rules.proofs.Bursts.{control_of_legal, next_rule}
-use Rattle.tl_client.specs.statement.Send.{probe_ack}
-use Rattle.tl_manager.{specs.code.Kept.illegal_message_at, specs.statement.Service.is_access_answer}
-use Rattle.tl_manager.{specs.statement.Offer.level_of}
-use Rattle.tl_coherence.specs.protocol.Phase.{ClientBlock, AcquirePhase, AcquireOpen, ok}
-use Rattle.tl_coherence.specs.refinement.PacketMessages.{acquire_of, report_told, block_message, message_of_kind}
-use Rattle.tl_coherence.specs.refinement.SimulationRelation.{IsRequest, IsSourced, IsAnswer, IsAnswered}
-use Rattle.tl_coherence.proofs.{queues.PhaseFacts.data_carried, protocol.BeatsRemaining.beats_left}
-use Rattle.tl_coherence.proofs.{protocol.BeatsRemaining.left-few, queues.Phases.and_left, protocol.Room.beats-few}
-use Rattle.tl_coherence.proofs.{rank.Weights.IsLeft}
+use Rattle.std.proofs.Common.{not, ◌||◌, Option, Some, None, eqb-true, ◌==◌, if◌then◌else◌}
+use Rattle.tl_coherence.proofs
+use proofs.Imports.{not-false, Beat, Channel, OpA, OpB, OpD, a_carries_data, d_carries_data, IsWidth, Message, MessageA}
+use proofs.Imports.{beats_of, data_beats, Config, Level, Report, Perm, L1, L2, L3, report_left, control_of_legal}
+use proofs.Imports.{next_rule, same_perm, is_one_of, a_has_param, a_has_size, probe_ack, illegal_message_at, level_of}
+use proofs.Imports.{is_access_answer, IsInvariant, Request, Acquire, ProbeAck, Answer, View, ProbePhase, ProbeAnswered}
+use proofs.Imports.{ClientBlock, AcquirePhase, AcquireOpen, ok, State, Asked, Replied, view, AccessMessages, acquire_of}
+use proofs.Imports.{report_told, block_message, message_of_kind, IsRequest, IsSourced, IsAnswer, IsAnswered}
+use Rattle.tl_rules.{specs.statement.Conformance.answers, specs.statement.Legality.a_of_level}
+use proofs.queues.{PhaseFacts.data_carried, Phases.and_left}
+use proofs.protocol.{BeatsRemaining.beats_left, BeatsRemaining.left-few, Room.beats-few}
+use proofs.rank.Weights.{IsLeft}
 
 -- ---- the answer to a request
 

@@ -1,22 +1,16 @@
 -- What is owed for what an event leaves alone.
-use Rattle.tl_coherence.proofs.rank.Imports.{Beat, Channel, Config, IsInvariant, View, Own, Granting, ProbePhase}
-use Rattle.tl_coherence.proofs.rank.Imports.{ProbeAnswered, Left, pair_weight, probes_weight, acquire_weight}
-use Rattle.tl_coherence.proofs.rank.Imports.{letting_weight, let_weight, State, Asked, InService, Replied, Acquires}
-use Rattle.tl_coherence.proofs.rank.Imports.{view, AccessMessages, Request, Acquire, ProbeAck, Release, Answer, Grant}
-use Rattle.tl_coherence.proofs.rank.Imports.{SourceFree, rank, sources_of, terms_at}
 use Rattle.std.proofs.Common.{◌≡◌, ℕ, ◌+◌, ◌<◌, ◌≤◌, Bool, true, false, List, refl, sym, ◌∙◌, arith, ◌⊎◌, inl, inr}
-use Rattle.std.specs.Prelude.{Option, Some, None, length}
-use Rattle.std.proofs.lemmas.Bool.{cases_eq, and_from}
-use Rattle.tl_coherence.specs.{protocol.Invariant.is_asked, protocol.Invariant.is_replied, refinement.Move.Move}
-use Rattle.tl_coherence.specs.{protocol.Phase.ReleasePhase, protocol.Phase.ReleaseSent, bound.Rank.probing_weight}
-use Rattle.tl_coherence.specs.{protocol.Packet.Kind}
-use Rattle.tl_coherence.specs.protocol.Tokens.{is_wanting, is_unserved, shown}
-use Rattle.tl_manager.specs.laws.Pending.{one_if}
-use Rattle.tl_coherence.proofs.{queues.Channels.IsShowing, queues.Phases.and_left, queues.Tokens.same_number}
-use Rattle.tl_coherence.proofs.rank.RankDecreases.{owed_use, owed_use', owed_let, owed_let', clients, use-no-more}
-use Rattle.tl_coherence.proofs.rank.RankDecreases.{probes-no-more}
-use Rattle.tl_coherence.proofs.protocol.BeatsRemaining.{IsHere, IsPopped, beats_left, left-same}
+use Rattle.std.proofs.Common.{Option, Some, None, length}
+use Rattle.tl_coherence.proofs
+use proofs.Imports.{cases_eq, and_from, Beat, Channel, Config, one_if, Left, pair_weight, probes_weight, acquire_weight}
+use proofs.Imports.{letting_weight, let_weight, rank, probing_weight, IsInvariant, is_asked, is_replied, Request}
+use proofs.Imports.{Acquire, ProbeAck, Release, Answer, Grant, Kind, View, Own, Granting, ProbePhase, ProbeAnswered}
+use proofs.Imports.{ReleasePhase, ReleaseSent, State, Asked, InService, Replied, Acquires, view, SourceFree, is_wanting}
+use proofs.Imports.{is_unserved, shown, Move, AccessMessages, sources_of, terms_at}
 use Rattle.tl_coherence.specs.protocol.Protocol.{Link}
+use proofs.queues.{Channels.IsShowing, Phases.and_left, Tokens.same_number}
+use proofs.rank.RankDecreases.{owed_use, owed_use', owed_let, owed_let', clients, use-no-more, probes-no-more}
+use proofs.protocol.BeatsRemaining.{IsHere, IsPopped, beats_left, left-same}
 
 -- ---- what is shown is there
 

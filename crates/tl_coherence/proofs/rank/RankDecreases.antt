@@ -1,13 +1,11 @@
 -- The potential falls where what is owed falls at one client and rises nowhere.
-use Rattle.tl_coherence.proofs.rank.Imports.{Config, sources_of, View, Own, Granting, Left, pair_weight, probes_weight}
-use Rattle.tl_coherence.proofs.rank.Imports.{acquire_weight, let_weight, rank, State, SourceState, SourceFree, Asked}
-use Rattle.tl_coherence.proofs.rank.Imports.{InService, Replied, Acquires, view, terms_at, Request, Acquire, Answer}
-use Rattle.tl_coherence.proofs.rank.Imports.{Grant}
-use Rattle.std.proofs.Common.{◌≡◌, ℕ, zero, suc, ◌+◌, ◌<◌, ◌≤◌, true, refl, arith, ◌⊎◌, inl, inr}
-use Rattle.std.{specs.Prelude.length, proofs.lemmas.Bool.cases_eq}
-use Rattle.tl_coherence.specs.bound.Rank.{total, use_weight, client_weight}
-use Rattle.tl_coherence.specs.protocol.Tokens.{is_unserved}
-use Rattle.tl_coherence.proofs.queues.Sums.{total-le}
+use Rattle.std.proofs.Common.{◌≡◌, ℕ, zero, suc, ◌+◌, ◌<◌, ◌≤◌, true, refl, arith, ◌⊎◌, inl, inr, length}
+use Rattle.tl_coherence.proofs
+use proofs.Imports.{cases_eq, Config, Left, pair_weight, probes_weight, acquire_weight, let_weight, rank, use_weight}
+use proofs.Imports.{client_weight, Request, Acquire, Answer, Grant, View, Own, Granting, State, SourceState, SourceFree}
+use proofs.Imports.{Asked, InService, Replied, Acquires, view, is_unserved, sources_of, terms_at}
+use Rattle.tl_coherence.specs.bound.Rank.{total}
+use proofs.queues.Sums.{total-le}
 
 -- one summand falls by k, and the others don't rise
 pub total-falls : (n m k : ℕ) (f g : ℕ → ℕ) → m < n → ((i : ℕ) → i < n → g i ≤ f i) → g m + k ≤ f m

@@ -1,20 +1,17 @@
 -- What is owed falls with each delivery: block by block.
-use Rattle.tl_coherence.proofs.rank.Frames.{Taking, Falls, AreAsBefore, AreElsewhere, AreNoMore, use-stays, let-all}
-use Rattle.tl_coherence.proofs.rank.Frames.{IsBlockNoMore, acquire-stays, let-stays, pair-stays, wants-used}
-use Rattle.tl_coherence.proofs.rank.Imports.{Config, IsInvariant, Own, Granting, Acknowledging, GrantedOther, Left}
-use Rattle.tl_coherence.proofs.rank.Imports.{pair_weight, probes_weight, letting_weight, State, SourceState, SourceFree}
-use Rattle.tl_coherence.proofs.rank.Imports.{InService, Acquires, view, AccessMessages, Release}
 use Rattle.std.proofs.Common.{◌≡◌, ℕ, ◌+◌, ◌<◌, ◌≤◌, Bool, true, false, List, refl, sym, ◌∙◌, ap, arith, ◌⊎◌, inl, inr}
-use Rattle.std.specs.Prelude.{◌==◌, if◌then◌else◌, Some, length}
-use Rattle.std.proofs.lemmas.Bool.{cases_eq, eqb-true}
-use Rattle.tl_params.specs.declared.param.Cap.{Cap}
-use Rattle.tl_coherence.specs.{protocol.Invariant.serves_of, protocol.Invariant.serves_with, protocol.Phase.is_unprobed}
-use Rattle.tl_coherence.specs.protocol.Protocol.{Service, Free, Waits, GrantSent, GrantTaken}
-use Rattle.tl_coherence.proofs.{protocol.TokenNames.source_of_acquire, protocol.BeatsRemaining.beats_left}
-use Rattle.tl_coherence.proofs.{queues.Sums.total-le, queues.Tokens.same_number, queues.Facts.is_other}
-use Rattle.tl_coherence.proofs.rank.RankDecreases.{IsNoMore, owed_use, owed_use', owed_let, owed_let', clients}
-use Rattle.tl_coherence.proofs.rank.RankDecreases.{use-falls, let-falls, ack-falls, grant-falls, total-falls}
-use Rattle.tl_coherence.proofs.protocol.QuiescentProtocol.{owns_ask, serves_another}
+use Rattle.std.proofs.Common.{Some, length, eqb-true, ◌==◌, if◌then◌else◌}
+use Rattle.tl_coherence.proofs
+use proofs.Imports.{cases_eq, Config, Cap, Left, pair_weight, probes_weight, letting_weight, IsInvariant, serves_of}
+use proofs.Imports.{serves_with, Release, Own, Granting, Acknowledging, GrantedOther, is_unprobed, State, SourceState}
+use proofs.Imports.{SourceFree, InService, Acquires, view, Service, Free, Waits, GrantSent, GrantTaken, AccessMessages}
+use proofs.rank.Frames.{Taking, Falls, AreAsBefore, AreElsewhere, AreNoMore, use-stays, let-all, IsBlockNoMore}
+use proofs.rank.Frames.{acquire-stays, let-stays, pair-stays, wants-used}
+use proofs.protocol.{TokenNames.source_of_acquire, BeatsRemaining.beats_left, QuiescentProtocol.owns_ask}
+use proofs.protocol.{QuiescentProtocol.serves_another}
+use proofs.queues.{Sums.total-le, Tokens.same_number, Facts.is_other}
+use proofs.rank.RankDecreases.{IsNoMore, owed_use, owed_use', owed_let, owed_let', clients, use-falls, let-falls}
+use proofs.rank.RankDecreases.{ack-falls, grant-falls, total-falls}
 
 -- the access for which a block waits
 pub serving-use : {X : Type 0} {caching : ℕ → Bool} {s : State X} (n q source : ℕ) (k : Cap) → IsInvariant caching s

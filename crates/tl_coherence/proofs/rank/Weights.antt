@@ -1,23 +1,17 @@
 -- What is owed for each open request is at most 33 beats and those of a block, for each Release one
 -- and those of a block.
-use Rattle.tl_coherence.proofs.rank.Imports.{Config, sources_of, IsInvariant, View, Own, Granting, ProbePhase, NoProbe}
-use Rattle.tl_coherence.proofs.rank.Imports.{ProbeSent, ProbeAnswered, Left, pair_weight, probes_weight, acquire_weight}
-use Rattle.tl_coherence.proofs.rank.Imports.{letting_weight, let_weight, rank, State, SourceState, SourceFree, Asked}
-use Rattle.tl_coherence.proofs.rank.Imports.{InService, Replied, Acquires, view, terms_at, Request, Acquire, ProbeAck}
-use Rattle.tl_coherence.proofs.rank.Imports.{Release, Answer, Grant}
-use Rattle.std.proofs.Common.{◌≡◌, ℕ, zero, suc, ◌+◌, ◌*◌, ◌<◌, ◌≤◌, Bool, true, false, refl, arith, ◌⊎◌, inl, inr}
-use Rattle.std.specs.Prelude.{not, ◌==◌, ◌&&◌, if◌then◌else◌, Option, Some, None, length}
-use Rattle.std.proofs.lemmas.Bool.{cases_eq, ne_eqb}
-use Rattle.tl_params.specs.declared.perm.Perm.{Perm}
-use Rattle.tl_rules.specs.statement.Conformance.{same_perm}
-use Rattle.tl_coherence.specs.{refinement.AbstractStep.some_below, protocol.Packet.Kind}
-use Rattle.tl_coherence.specs.protocol.Phase.{ReleasePhase, NoRelease, ReleaseSent, ReleaseAcked, is_unprobed}
-use Rattle.tl_coherence.specs.bound.Rank.{total, probing_weight, use_weight, client_weight, is_used, is_let}
-use Rattle.tl_coherence.specs.bound.Rank.{open_requests, open_releases}
-use Rattle.tl_manager.specs.laws.Pending.{one_if}
-use Rattle.tl_coherence.proofs.protocol.RequestsKept.{some-none, some-one}
-use Rattle.tl_coherence.proofs.queues.Sums.{total-le, total-const, probes-light, one-at-most}
-use Rattle.tl_coherence.proofs.queues.Tokens.{same_number}
+use Rattle.std.proofs.Common.{◌≡◌, ℕ, zero, suc, ◌+◌, ◌*◌, ◌<◌, ◌≤◌, Bool, true, false, refl, arith, ◌⊎◌, inl, inr, not}
+use Rattle.std.proofs.Common.{◌&&◌, Option, Some, None, length, ne_eqb, ◌==◌, if◌then◌else◌}
+use Rattle.tl_coherence.proofs
+use proofs.Imports.{cases_eq, Config, Perm, same_perm, one_if, Left, pair_weight, probes_weight, acquire_weight}
+use proofs.Imports.{letting_weight, let_weight, rank, probing_weight, use_weight, client_weight, is_used, is_let}
+use proofs.Imports.{open_requests, open_releases, IsInvariant, Request, Acquire, ProbeAck, Release, Answer, Grant, Kind}
+use proofs.Imports.{View, Own, Granting, ProbePhase, NoProbe, ProbeSent, ProbeAnswered, ReleasePhase, NoRelease}
+use proofs.Imports.{ReleaseSent, ReleaseAcked, is_unprobed, State, SourceState, SourceFree, Asked, InService, Replied}
+use proofs.Imports.{Acquires, view, some_below, sources_of, terms_at}
+use Rattle.tl_coherence.specs.bound.Rank.{total}
+use proofs.protocol.RequestsKept.{some-none, some-one}
+use proofs.queues.{Sums.total-le, Sums.total-const, Sums.probes-light, Sums.one-at-most, Tokens.same_number}
 
 -- what is left of a message is no more than it has: a block has n beats, an Acquire one, a report from one who isn't
 -- recorded as the writer one, and an access and its answer one more than a block together

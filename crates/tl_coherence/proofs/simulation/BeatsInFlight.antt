@@ -1,35 +1,24 @@
 -- Each beat on a channel is sound, and has the lanes of its width: of those that stay, and of those
 -- that are handed out.
-use Rattle.tl_coherence.proofs.simulation.Imports.{IsWidth, Beat, Channel, Message, beats_of, Config, Report, Rule}
-use Rattle.tl_coherence.proofs.simulation.Imports.{unfinished, block_at, Op, Verdict, IsTypedOp, EndConfig, Offered}
-use Rattle.tl_coherence.proofs.simulation.Imports.{System, same_channel, channel_of_message, terms_at, with_channel}
-use Rattle.tl_coherence.proofs.simulation.Imports.{with_messages}
 use Rattle.std.proofs.Common.{◌≡◌, ℕ, zero, suc, ◌+◌, ◌<◌, Bool, true, false, ◌&&◌, ◌||◌, List, [], ◌∷◌, ◌++◌, Option}
-use Rattle.std.proofs.Common.{Some, None, refl, sym, ◌∙◌, ap, inl, inr, arith}
-use Rattle.std.specs.Prelude.{◌==◌, if◌then◌else◌, All, slice_get, nat_le, length, option_map, Result, Ok, Err, ⊤}
-use Rattle.std.proofs.lemmas.Bool.{cases_eq, ne_eqb}
-use Rattle.std.proofs.lemmas.List.Elements.{All-nil, All-cons, All-append, All-rest}
-use Rattle.tl_beat.{specs.declared.opcode.OpB.OpB, specs.declared.opcode.OpD.OpD, specs.declared.beat.BeatD.BeatD}
-use Rattle.tl_burst.{specs.statement.Burst.beat_of, specs.statement.Messages.channel_of}
-use Rattle.tl_params.{specs.declared.level.Level.Level, specs.declared.param.Prune.Prune, specs.declared.perm.Perm.Perm}
-use Rattle.tl_params.{specs.declared.config.ClientConfig.ClientConfig}
-use Rattle.tl_rules.specs.statement.Admission.{is_outside, is_spoiled, payload_of}
-use Rattle.tl_rules.{specs.statement.History.ends, specs.statement.History.request_of}
-use Rattle.tl_rules.{specs.statement.Legality.beats_from, specs.statement.Legality.illegal, specs.laws.Typed.HasBlock}
-use Rattle.tl_rules.{proofs.Legal.legal_beat, proofs.Typed.typed-beat}
-use Rattle.tl_client.{specs.declared.verdict.Finish.Finish, proofs.endpoint.HeldAfter.same_block}
-use Rattle.tl_client.{specs.laws.Sound.IsSound, specs.laws.Sound.corrupt_in, specs.statement.Send.release}
-use Rattle.tl_client.{specs.statement.Send.probe_ack}
-use Rattle.tl_client.specs.statement.Ask.{asked, done, load, store, free_release, source_or_0}
-use Rattle.tl_client.specs.statement.Endpoint.{Endpoint, copy_at, held_at, with_past}
-use Rattle.tl_client.specs.statement.Offer.{taken, ended, responded, silent, report_for}
-use Rattle.tl_client.proofs.endpoint.Cases.{NotBusy, asked-cases, probe_ack-cases}
+use Rattle.std.proofs.Common.{Some, None, refl, sym, ◌∙◌, ap, inl, inr, arith, length, ne_eqb, ◌==◌, if◌then◌else◌, All}
+use Rattle.std.proofs.Common.{slice_get, nat_le, option_map, Result, Ok, Err}
+use Rattle.tl_coherence.proofs
+use proofs.Imports.{cases_eq, All-nil, All-cons, All-append, ⊤, Beat, BeatD, Channel, OpB, OpD, IsWidth, Message}
+use proofs.Imports.{beats_of, beat_of, unfinished, channel_of, ClientConfig, Config, Level, Prune, Report, Perm, Rule}
+use proofs.Imports.{legal_beat, is_outside, is_spoiled, payload_of, block_at, ends, request_of, beats_from, illegal}
+use proofs.Imports.{NotBusy, asked-cases, same_block, Op, Finish, Verdict, done, store, free_release, source_or_0}
+use proofs.Imports.{EndConfig, Endpoint, copy_at, held_at, with_past, Offered, taken, ended, responded, silent}
+use proofs.Imports.{report_for, release, probe_ack, IsHandable, Each, Handed, level_of, AreLanes, IsTypedOp, System}
+use proofs.Imports.{same_channel, channel_of_message, terms_at, with_channel, with_messages, with_message}
+use Rattle.std.proofs.lemmas.List.Elements.{All-rest}
+use Rattle.tl_rules.{proofs.Typed.typed-beat, specs.laws.Typed.HasBlock}
+use Rattle.tl_client.{proofs.endpoint.Cases.probe_ack-cases, specs.laws.Sound.IsSound, specs.laws.Sound.corrupt_in}
+use Rattle.tl_client.{specs.statement.Ask.asked, specs.statement.Ask.load}
+use Rattle.tl_manager.proofs.messages.Lawful.{no_bit}
 use Rattle.tl_rules.specs.laws.Typed as rules
-use Rattle.tl_manager.{specs.statement.Handing.Handed, specs.code.Kept.Each, specs.statement.Offer.level_of}
-use Rattle.tl_manager.{proofs.messages.Lawful.IsHandable, proofs.messages.Lawful.no_bit}
 use Rattle.tl_manager.specs.code.Kept as manager
-use Rattle.tl_coherence.specs.{statement.System.with_message, refinement.SimulationRelation.AreLanes}
-use Rattle.tl_coherence.proofs.queues.Tokens.{same_number}
+use proofs.queues.Tokens.{same_number}
 
 -- ---- what holds of each beat of each channel
 

@@ -1,23 +1,16 @@
 -- Sources and trackers that are used are below the numbers that the configuration gives.
-use Rattle.tl_coherence.proofs.simulation.Imports.{Message, MessageA, Config, pending, services, Service, Free, Waits}
-use Rattle.tl_coherence.proofs.simulation.Imports.{GrantSent, GrantTaken, State, SourceState, SourceFree, Asked}
-use Rattle.tl_coherence.proofs.simulation.Imports.{InService, Replied, Acquires, AccessMessages, block_message, Log}
-use Rattle.tl_coherence.proofs.simulation.Imports.{System, terms_at, SimulationRelation}
-use Rattle.std.proofs.Common.{◌≡◌, ℕ, ◌<◌, Bool, true, false, List, [], ◌∷◌, refl, sym, ◌∙◌, ap}
-use Rattle.std.specs.Prelude.{◌==◌, ◌||◌, Option, Some, is_some}
-use Rattle.std.proofs.lemmas.Bool.{eqb-true, and_parts}
-use Rattle.tl_params.specs.declared.key.Key.TheVariants.{RequestSource, ReleaseSource}
-use Rattle.tl_rules.specs.statement.Legality.{is_one_of}
+use Rattle.std.proofs.Common.{◌≡◌, ℕ, ◌<◌, Bool, true, false, List, [], ◌∷◌, refl, sym, ◌∙◌, ap, ◌||◌, Option, Some}
+use Rattle.std.proofs.Common.{eqb-true, ◌==◌, is_some}
+use Rattle.tl_coherence.proofs
+use proofs.Imports.{and_parts, Message, MessageA, Config, RequestSource, ReleaseSource, pending, is_one_of}
+use proofs.Imports.{tracker_among, services, service_of_block, trackers_of, tracks_with, is_busy, Service, Free, Waits}
+use proofs.Imports.{GrantSent, GrantTaken, State, SourceState, SourceFree, Asked, InService, Replied, Acquires}
+use proofs.Imports.{client_in, service_with, IsOpened, AccessMessages, block_message, SimulationRelation, asked_by}
+use proofs.Imports.{first_of, request_source, IsSourced, sources_of, Log, Requests, one_memory_after, System, terms_at}
 use Rattle.tl_manager.specs.code.Kept as kept
-use Rattle.tl_manager.specs.statement.Service.{service_of_block, trackers_of}
-use Rattle.tl_manager.proofs.services.Serving.{tracker_among}
-use Rattle.tl_coherence.specs.{statement.Delivery.sources_of, protocol.Invariant.tracks_with}
-use Rattle.tl_coherence.specs.{protocol.Invariant.is_busy, statement.OneMemory.one_memory_after}
-use Rattle.tl_coherence.specs.{statement.Machine.Requests, refinement.MemoryRelation.IsOpened}
-use Rattle.tl_coherence.specs.refinement.ManagerRelation.{client_in, service_with}
-use Rattle.tl_coherence.specs.refinement.SimulationRelation.{asked_by, first_of, request_source, IsSourced}
-use Rattle.tl_coherence.proofs.{protocol.TokenNames.AreBounded, queues.Tokens.same_number}
-use Rattle.tl_coherence.proofs.{client.Askable.acquires_something}
+use proofs.protocol.TokenNames.{AreBounded}
+use proofs.queues.Tokens.{same_number}
+use proofs.client.Askable.{acquires_something}
 
 -- a client's sources that are pending are its own
 pub record IsOwn {w : ℕ} (config : Config) (c : ℕ) (sys : System w) : Type 0 where

@@ -1,20 +1,17 @@
 -- The channels carry the messages of the tokens after a client is asked.
-use Rattle.tl_coherence.proofs.simulation.Imports.{IsWidth, Channel, Message, NoAcquire, Kind, Request, Acquire}
-use Rattle.tl_coherence.proofs.simulation.Imports.{Release, set, set_at, Block, State, SourceFree, packet, IsInvariant}
-use Rattle.tl_coherence.proofs.simulation.Imports.{Move, Stays, ChannelRelation, AccessMessages, block_message}
-use Rattle.tl_coherence.proofs.simulation.Imports.{message_of, System, same_channel, channel_of_message}
-use Rattle.std.proofs.Common.{◌≡◌, ℕ, Bool, true, false, List, Option, Some, None, refl, ◌∙◌, ap, ◌⊎◌, inl, inr}
-use Rattle.std.{specs.Prelude.◌==◌, specs.Prelude.if◌then◌else◌, proofs.lemmas.Bool.cases_eq, proofs.lemmas.Bool.ne_eqb}
-use Rattle.tl_params.{specs.declared.param.Grow.Grow, specs.declared.param.Prune.Prune}
-use Rattle.tl_coherence.specs.{protocol.Phase.NoRelease, protocol.Invariant.is_asked, refinement.Move.AreMoved}
-use Rattle.tl_coherence.specs.protocol.Protocol.{with_a, with_c, access_asked, acquire_asked, acquiring_block}
-use Rattle.tl_coherence.specs.protocol.Protocol.{release_asked, releasing_block, block_stored, stored_block}
-use Rattle.tl_coherence.proofs.protocol.AlikeRequests.{alike-acquiring, alike-releasing, alike-bytes}
-use Rattle.tl_coherence.proofs.protocol.Asked.{access_moves, acquire_moves, release_moves}
-use Rattle.tl_coherence.proofs.queues.Channels.{IsHanded, Fits, carried-event, queued-handed, moved-at, fits-handed}
-use Rattle.tl_coherence.proofs.queues.Channels.{pushes_at}
-use Rattle.tl_coherence.proofs.{queues.Landed.pushes_of, queues.Moves.moves_at, queues.Showing.carries}
-use Rattle.tl_coherence.proofs.{queues.Showing.showing-block, queues.Tokens.same_number, queues.Tokens.set-same}
+use Rattle.std.proofs.Common.{◌≡◌, ℕ, Bool, true, false, List, Option, Some, None, refl, ◌∙◌, ap, ◌⊎◌, inl, inr, ne_eqb}
+use Rattle.std.proofs.Common.{◌==◌, if◌then◌else◌}
+use Rattle.tl_coherence.proofs
+use proofs.Imports.{cases_eq, Channel, IsWidth, Message, Grow, Prune, IsInvariant, is_asked, Kind, Request, Acquire}
+use proofs.Imports.{Release, set, set_at, NoAcquire, NoRelease, Block, State, SourceFree, packet, with_a, with_c}
+use proofs.Imports.{access_asked, acquire_asked, acquiring_block, release_asked, releasing_block, block_stored}
+use proofs.Imports.{stored_block, ChannelRelation, Move, Stays, AreMoved, AccessMessages, block_message, message_of}
+use proofs.Imports.{System, same_channel, channel_of_message}
+use proofs.protocol.{AlikeRequests.alike-acquiring, AlikeRequests.alike-releasing, AlikeRequests.alike-bytes}
+use proofs.protocol.{Asked.access_moves, Asked.acquire_moves, Asked.release_moves}
+use proofs.queues.Channels.{IsHanded, Fits, carried-event, queued-handed, moved-at, fits-handed, pushes_at}
+use proofs.queues.{Landed.pushes_of, Moves.moves_at, Showing.carries, Showing.showing-block, Tokens.same_number}
+use proofs.queues.{Tokens.set-same}
 
 -- ---- one message that is handed out
 

@@ -1,24 +1,20 @@
 -- The channels carry the messages of the tokens after the manager or a client takes a message of channels A to C.
-use Rattle.tl_coherence.proofs.simulation.Imports.{Channel, Message, Cap, Report, Kind, Request, Acquire, Probe}
-use Rattle.tl_coherence.proofs.simulation.Imports.{ProbeAck, Release, Answer, Grant, ReleaseAck, Packet, set, set_at}
-use Rattle.tl_coherence.proofs.simulation.Imports.{Free, Block, State, Asked, packet, IsInvariant, Stays}
-use Rattle.tl_coherence.proofs.simulation.Imports.{AccessMessages, block_message, message_of, same_channel}
-use Rattle.tl_coherence.proofs.simulation.Imports.{channel_of_message}
-use Rattle.std.proofs.Common.{◌≡◌, ℕ, Bool, true, false, ◌&&◌, List, ◌∷◌, Some, None, refl, ◌⊎◌, inl, inr}
-use Rattle.std.{specs.Prelude.◌==◌, specs.Prelude.if◌then◌else◌, proofs.lemmas.Bool.cases_eq, proofs.lemmas.Bool.ne_eqb}
-use Rattle.tl_params.specs.declared.param.Prune.{Prune}
-use Rattle.tl_coherence.specs.{protocol.Phase.ProbeSent, protocol.Invariant.is_replied, refinement.Move.AreMoved}
-use Rattle.tl_coherence.specs.protocol.Protocol.{answered_link, let_link, probed_link, access_answered, performed_block}
-use Rattle.tl_coherence.specs.protocol.Protocol.{acquire_granted, granted_at_once, probe_taken, probed_block}
-use Rattle.tl_coherence.specs.protocol.Protocol.{report_taken, reported_block, release_taken, let_block}
-use Rattle.tl_coherence.proofs.protocol.AlikeRequests.{alike-bytes, alike-granted_at_once}
-use Rattle.tl_coherence.proofs.protocol.Alike.{alike-probed, alike-reported, alike-let}
-use Rattle.tl_coherence.proofs.{protocol.Answered.answer_moves, protocol.AtOnce.once_moves, queues.Landed.pushes_of}
-use Rattle.tl_coherence.proofs.{queues.Moves.moves_at, protocol.Probed.probe_moves, protocol.Reported.report_moves}
-use Rattle.tl_coherence.proofs.{protocol.Reported.let_moves, queues.Shown.IsShown, queues.Showing.carries}
-use Rattle.tl_coherence.proofs.{queues.Showing.showing-block, queues.Tokens.same_number, queues.Tokens.set-same}
-use Rattle.tl_coherence.proofs.queues.Channels.{Fits, moved-at, fits-at, pushes_at}
-use Rattle.tl_coherence.proofs.simulation.CarriedAsks.{only_on, fits_pushed, new_there}
+use Rattle.std.proofs.Common.{◌≡◌, ℕ, Bool, true, false, ◌&&◌, List, ◌∷◌, Some, None, refl, ◌⊎◌, inl, inr, ne_eqb, ◌==◌}
+use Rattle.std.proofs.Common.{if◌then◌else◌}
+use Rattle.tl_coherence.proofs
+use proofs.Imports.{cases_eq, Channel, Message, Cap, Prune, Report, IsInvariant, is_replied, Kind, Request, Acquire}
+use proofs.Imports.{Probe, ProbeAck, Release, Answer, Grant, ReleaseAck, Packet, set, set_at, ProbeSent, Free, Block}
+use proofs.Imports.{State, Asked, packet, answered_link, let_link, probed_link, access_answered, performed_block}
+use proofs.Imports.{acquire_granted, granted_at_once, probe_taken, probed_block, report_taken, reported_block}
+use proofs.Imports.{release_taken, let_block, Stays, AreMoved, AccessMessages, block_message, message_of, same_channel}
+use proofs.Imports.{channel_of_message}
+use proofs.protocol.{AlikeRequests.alike-bytes, AlikeRequests.alike-granted_at_once, Alike.alike-probed}
+use proofs.protocol.{Alike.alike-reported, Alike.alike-let, Answered.answer_moves, AtOnce.once_moves}
+use proofs.protocol.{Probed.probe_moves, Reported.report_moves, Reported.let_moves}
+use proofs.queues.{Landed.pushes_of, Moves.moves_at, Shown.IsShown, Showing.carries, Showing.showing-block}
+use proofs.queues.{Tokens.same_number, Tokens.set-same, Channels.Fits, Channels.moved-at, Channels.fits-at}
+use proofs.queues.{Channels.pushes_at}
+use proofs.simulation.CarriedAsks.{only_on, fits_pushed, new_there}
 
 -- ---- a request is taken
 

@@ -1,21 +1,17 @@
 -- The channels carry the messages of the tokens after the last report, for which a service ends.
-use Rattle.tl_coherence.proofs.simulation.Imports.{Channel, Message, Cap, Report, Kind, ProbeAck, Answer, Grant, Packet}
-use Rattle.tl_coherence.proofs.simulation.Imports.{set, set_at, Waits, Block, State, packet, packets_on, shown}
-use Rattle.tl_coherence.proofs.simulation.Imports.{IsInvariant, Move, Stays, AccessMessages, block_message, message_of}
-use Rattle.tl_coherence.proofs.simulation.Imports.{same_channel, channel_of_message}
 use Rattle.std.proofs.Common.{◌≡◌, ℕ, Bool, true, false, ◌&&◌, List, [], ◌∷◌, ◌++◌, Some, None, refl, sym, ◌∙◌, ap, ◌⊎◌}
-use Rattle.std.proofs.Common.{inl, inr}
-use Rattle.std.{specs.Prelude.◌==◌, specs.Prelude.if◌then◌else◌, proofs.lemmas.Bool.cases_eq, proofs.lemmas.Bool.ne_eqb}
-use Rattle.tl_coherence.specs.protocol.Protocol.{Link, popped_link, granted_link, report_answers, ended_block}
-use Rattle.tl_coherence.specs.protocol.Protocol.{report_grants, granted_block}
-use Rattle.tl_coherence.specs.protocol.Invariant.{is_replied}
-use Rattle.tl_coherence.specs.refinement.Move.{Pushes, Pops, IsMoved}
-use Rattle.tl_coherence.proofs.{protocol.Alike.alike-ended, protocol.Alike.alike-granted}
-use Rattle.tl_coherence.proofs.{simulation.CarriedAsks.only_on, queues.Channels.Fits, queues.Channels.pushes_at}
-use Rattle.tl_coherence.proofs.{protocol.Ended.ended_move, protocol.Ended.ended_moved}
-use Rattle.tl_coherence.proofs.{protocol.GrantedAll.granted_moves, queues.Landed.pushes_of, queues.Shown.IsShown}
-use Rattle.tl_coherence.proofs.{queues.Showing.carries, queues.Showing.showing-block}
-use Rattle.tl_coherence.proofs.queues.Tokens.{same_number, set-same, set-other}
+use Rattle.std.proofs.Common.{inl, inr, ne_eqb, ◌==◌, if◌then◌else◌}
+use Rattle.tl_coherence.proofs
+use proofs.Imports.{cases_eq, Channel, Message, Cap, Report, IsInvariant, is_replied, Kind, ProbeAck, Answer, Grant}
+use proofs.Imports.{Packet, set, set_at, Waits, Block, State, packet, packets_on, popped_link, granted_link}
+use proofs.Imports.{report_answers, ended_block, report_grants, granted_block, shown, Move, Stays, Pushes, Pops}
+use proofs.Imports.{IsMoved, AccessMessages, block_message, message_of, same_channel, channel_of_message}
+use Rattle.tl_coherence.specs.protocol.Protocol.{Link}
+use proofs.protocol.{Alike.alike-ended, Alike.alike-granted, Ended.ended_move, Ended.ended_moved}
+use proofs.protocol.{GrantedAll.granted_moves}
+use proofs.simulation.CarriedAsks.{only_on}
+use proofs.queues.{Channels.Fits, Channels.pushes_at, Landed.pushes_of, Shown.IsShown, Showing.carries}
+use proofs.queues.{Showing.showing-block, Tokens.same_number, Tokens.set-same, Tokens.set-other}
 
 -- ---- the last report, for which an access is answered
 

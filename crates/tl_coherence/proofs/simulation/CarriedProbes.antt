@@ -1,25 +1,18 @@
 -- The channels carry the messages of the tokens after an event at two clients or more: a request that probes, and the
 -- last report, for which an access is answered or an Acquire is granted.
-use Rattle.tl_coherence.proofs.simulation.Imports.{Channel, Message, beats_of, Cap, Kind, Request, Acquire, Probe}
-use Rattle.tl_coherence.proofs.simulation.Imports.{Packet, set, Free, Block, State, packet, packets_on, IsInvariant}
-use Rattle.tl_coherence.proofs.simulation.Imports.{Move, Stays, AccessMessages, block_message, message_of, System}
-use Rattle.tl_coherence.proofs.simulation.Imports.{same_channel, with_messages}
 use Rattle.std.proofs.Common.{◌≡◌, ℕ, zero, suc, ◌+◌, ◌<◌, ◌≤◌, Bool, true, false, not, ◌&&◌, List, [], ◌∷◌, ◌++◌}
-use Rattle.std.proofs.Common.{Option, Some, None, refl, sym, ◌∙◌, ◌⊎◌, inl, inr, arith}
-use Rattle.std.specs.Prelude.{◌==◌, if◌then◌else◌}
-use Rattle.std.proofs.lemmas.Bool.{cases_eq, cases_lt, ne_eqb}
-use Rattle.tl_rules.specs.statement.Legality.{beats_from}
-use Rattle.tl_manager.specs.statement.Handing.{probes, probe_of_block}
-use Rattle.tl_manager.specs.statement.Holders.{clients_from}
-use Rattle.tl_coherence.specs.{protocol.Phase.ClientBlock, protocol.PhaseSteps.is_above}
-use Rattle.tl_coherence.specs.{protocol.PhaseSteps.after_served, refinement.Move.Pops, refinement.Move.IsMoved}
-use Rattle.tl_coherence.specs.{refinement.PacketMessages.cap_sent, statement.System.with_message}
-use Rattle.tl_coherence.specs.protocol.Protocol.{Link, with_probe, is_probed, served_link, served_block, acquire_served}
-use Rattle.tl_coherence.specs.protocol.Protocol.{access_served}
-use Rattle.tl_coherence.proofs.{protocol.AlikeRequests.alike-served, queues.Channels.Fits, queues.Channels.behind}
-use Rattle.tl_coherence.proofs.{queues.Shown.IsShown, queues.Showing.showing-block, queues.Tokens.same_number}
-use Rattle.tl_coherence.proofs.{queues.Tokens.set-same}
-use Rattle.tl_coherence.proofs.protocol.Served.{request_move, served_moves, kind_served, number_served}
+use Rattle.std.proofs.Common.{Option, Some, None, refl, sym, ◌∙◌, ◌⊎◌, inl, inr, arith, ne_eqb, ◌==◌, if◌then◌else◌}
+use Rattle.tl_coherence.proofs
+use proofs.Imports.{cases_eq, cases_lt, Channel, Message, beats_of, Cap, beats_from, probes, probe_of_block}
+use proofs.Imports.{clients_from, IsInvariant, Kind, Request, Acquire, Probe, Packet, set, ClientBlock, is_above}
+use proofs.Imports.{after_served, Free, Block, State, packet, packets_on, with_probe, is_probed, served_link}
+use proofs.Imports.{served_block, acquire_served, access_served, Move, Stays, Pops, IsMoved, AccessMessages}
+use proofs.Imports.{block_message, message_of, cap_sent, System, same_channel, with_messages, with_message}
+use Rattle.tl_coherence.specs.protocol.Protocol.{Link}
+use proofs.protocol.{AlikeRequests.alike-served, Served.request_move, Served.served_moves, Served.kind_served}
+use proofs.protocol.{Served.number_served}
+use proofs.queues.{Channels.Fits, Channels.behind, Shown.IsShown, Showing.showing-block, Tokens.same_number}
+use proofs.queues.{Tokens.set-same}
 
 -- ---- Probes that are handed out
 
@@ -120,18 +113,11 @@ pub channels-probes : {w : ℕ} (n : ℕ) (k : Cap) (count : ℕ) (test probed :
     → ((d : ℕ) → d < count → test d ≡ probed d) → ((d : ℕ) → count ≤ d → probed d ≡ false) → (d : ℕ) (at : Channel)
     → (with_messages (probes n k (clients_from 0 count test)) s).channels d at ≡ behind (probe_pushes n k probed d at)
     (s.channels d at)
-channels-probes n k count test probed s same none d Channel.A = probes-aside n k (clients_from 0 count test) d Channel.A
-    s refl
-channels-probes n k count test probed s same none d Channel.C = probes-aside n k (clients_from 0 count test) d Channel.C
-    s refl
-channels-probes n k count test probed s same none d Channel.D = probes-aside n k (clients_from 0 count test) d Channel.D
-    s refl
-channels-probes n k count test probed s same none d Channel.E = probes-aside n k (clients_from 0 count test) d Channel.E
-    s refl
 channels-probes {w} n k count test probed s same none d Channel.B = elim (cases_lt d count) [
   | inl lt ↦ probes-among n k 0 count test d s (omega arith) (omega (arith, lt)) ∙ rw (same d lt) refl
   | inr le ↦ probes-past n k 0 count test d s (omega (arith, le)) ∙ rw (none d le) refl
 ]
+channels-probes n k count test probed s same none d at = probes-aside n k (clients_from 0 count test) d at s refl
 
 -- ---- a request that probes
 

@@ -1,20 +1,15 @@
 -- The channels carry the messages of the tokens after a response or a GrantAck is taken.
-use Rattle.tl_coherence.proofs.simulation.Imports.{Channel, Message, Cap, Kind, Answer, Grant, ReleaseAck, GrantAck}
-use Rattle.tl_coherence.proofs.simulation.Imports.{Packet, GrantSent, GrantTaken, Block, State, packet, shown}
-use Rattle.tl_coherence.proofs.simulation.Imports.{IsInvariant, Stays, AccessMessages, block_message, message_of}
-use Rattle.tl_coherence.proofs.simulation.Imports.{same_channel, channel_of_message}
-use Rattle.std.proofs.Common.{◌≡◌, ℕ, Bool, true, false, ◌&&◌, List, ◌∷◌, Some, None, refl, ◌⊎◌}
-use Rattle.std.specs.Prelude.{◌==◌, if◌then◌else◌}
-use Rattle.tl_coherence.specs.protocol.Protocol.{taken_link, answer_taken, grant_taken, taken_block, release_ack_taken}
-use Rattle.tl_coherence.specs.protocol.Protocol.{let_go_block, grant_ack_taken, freed_block}
-use Rattle.tl_coherence.specs.refinement.Move.{AreMoved}
-use Rattle.tl_coherence.proofs.{protocol.Acknowledged.let_go_moves, protocol.Acknowledged.freed_moves}
-use Rattle.tl_coherence.proofs.{protocol.Answered.done_moves, queues.Landed.pushes_of, queues.Moves.moves_at}
-use Rattle.tl_coherence.proofs.{queues.Shown.IsShown, queues.Showing.carries, queues.Showing.showing-block}
-use Rattle.tl_coherence.proofs.{protocol.TakenAll.taken_moves}
-use Rattle.tl_coherence.proofs.protocol.Alike.{alike-let_go, alike-taken, alike-freed}
-use Rattle.tl_coherence.proofs.queues.Channels.{Fits, moved-at, fits-at, pushes_at}
-use Rattle.tl_coherence.proofs.simulation.CarriedAsks.{only_on, fits_pushed, new_there}
+use Rattle.std.proofs.Common.{◌≡◌, ℕ, Bool, true, false, ◌&&◌, List, ◌∷◌, Some, None, refl, ◌⊎◌, ◌==◌, if◌then◌else◌}
+use Rattle.tl_coherence.proofs
+use proofs.Imports.{Channel, Message, Cap, IsInvariant, Kind, Answer, Grant, ReleaseAck, GrantAck, Packet, GrantSent}
+use proofs.Imports.{GrantTaken, Block, State, packet, taken_link, answer_taken, grant_taken, taken_block}
+use proofs.Imports.{release_ack_taken, let_go_block, grant_ack_taken, freed_block, shown, Stays, AreMoved}
+use proofs.Imports.{AccessMessages, block_message, message_of, same_channel, channel_of_message}
+use proofs.protocol.{Acknowledged.let_go_moves, Acknowledged.freed_moves, Answered.done_moves, TakenAll.taken_moves}
+use proofs.protocol.{Alike.alike-let_go, Alike.alike-taken, Alike.alike-freed}
+use proofs.queues.{Landed.pushes_of, Moves.moves_at, Shown.IsShown, Showing.carries, Showing.showing-block}
+use proofs.queues.{Channels.Fits, Channels.moved-at, Channels.fits-at, Channels.pushes_at}
+use proofs.simulation.CarriedAsks.{only_on, fits_pushed, new_there}
 
 -- ---- a response is taken
 

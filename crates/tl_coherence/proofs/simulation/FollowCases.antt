@@ -1,23 +1,19 @@
 -- What the protocol does at an event of the world: nothing, what a client is asked for, or the first
 -- token of a channel.
-use Rattle.tl_coherence.proofs.simulation.Imports.{IsWidth, Beat, Link, Channel, MessageA, unfinished, Config, Op}
-use Rattle.tl_coherence.proofs.simulation.Imports.{EndConfig, Deliver, is_moving, AbstractState, asked, kind_taken, Log}
-use Rattle.tl_coherence.proofs.simulation.Imports.{receiver, State, packet, on, packets_on, AccessMessages, stepped}
-use Rattle.tl_coherence.proofs.simulation.Imports.{stepped_at, System, terms_at, Kind, Packet, SimulationRelation}
-use Rattle.tl_coherence.proofs.simulation.Imports.{is_caching}
 use Rattle.std.proofs.Common.{◌≡◌, ℕ, Bool, true, false, ◌&&◌, List, [], ◌∷◌, Option, Some, None, refl, sym, ◌∙◌, ap}
-use Rattle.std.specs.Prelude.{if◌then◌else◌}
-use Rattle.tl_burst.specs.statement.Part.{completes}
+use Rattle.std.proofs.Common.{if◌then◌else◌}
+use Rattle.tl_coherence.proofs
+use proofs.Imports.{Beat, Link, Channel, IsWidth, MessageA, unfinished, completes, Config, Op, EndConfig, Event}
+use proofs.Imports.{Deliver, Ask, Outcome, Kind, Packet, State, packet, on, packets_on, AbstractState, asked}
+use proofs.Imports.{kind_taken, abstract_delivery, abstract_step_by, abstract_step, packet_taken, AccessMessages}
+use proofs.Imports.{SimulationRelation, is_caching, receiver, is_moving, Log, stepped, stepped_at, System, terms_at}
+use Rattle.tl_coherence.specs.refinement.AbstractStep.{is_last}
 use Rattle.tl_client.specs.statement.Ask as ask
-use Rattle.tl_coherence.specs.{declared.event.Event.Event, declared.event.Event.TheVariants.Ask}
-use Rattle.tl_coherence.specs.{declared.event.Outcome.Outcome}
-use Rattle.tl_coherence.specs.refinement.AbstractStep.{abstract_delivery, abstract_step_by, abstract_step, is_last}
-use Rattle.tl_coherence.specs.refinement.AbstractStep.{packet_taken}
-use Rattle.tl_coherence.proofs.{client.Askable.askable, client.ClientDelivered.shadow_of, client.ManagerStep.on_same}
-use Rattle.tl_coherence.proofs.{queues.FirstToken.IsFirst, queues.FirstToken.first-token}
-use Rattle.tl_coherence.proofs.{manager.UnwaitedRequests.next_tracker}
-use Rattle.tl_coherence.proofs.client.AnswersKept.{AreAnswered, answered-asked, answered-kind_taken}
-use Rattle.tl_coherence.proofs.client.GrantMatchesAcquire.{AreGiven, given-asked, given-kind_taken}
+use proofs.client.{Askable.askable, ClientDelivered.shadow_of, AnswersKept.AreAnswered, AnswersKept.answered-asked}
+use proofs.client.{AnswersKept.answered-kind_taken, GrantMatchesAcquire.AreGiven, GrantMatchesAcquire.given-asked}
+use proofs.client.{GrantMatchesAcquire.given-kind_taken}
+use proofs.queues.{FirstToken.IsFirst, FirstToken.first-token, KindMoves.on_same}
+use proofs.manager.UnwaitedRequests.{next_tracker}
 
 -- a delivery that completes a message: the beat is moved, and is the last of the message of the first token
 pub record IsDelivery {w : ℕ} (config : Config) (mail : AccessMessages w) (s : State (List ℕ)) (sys : System w)

@@ -1,20 +1,15 @@
 -- As a world begins, it is matched by the protocol as that begins.
-use Rattle.tl_coherence.proofs.simulation.Imports.{Channel, unfinished, Config, pending, services, IsInvariant}
-use Rattle.tl_coherence.proofs.simulation.Imports.{receiver, on, shown, packets_on, Kind, Request, SimulationRelation}
-use Rattle.tl_coherence.proofs.simulation.Imports.{is_caching}
-use Rattle.std.proofs.Common.{◌≡◌, ℕ, zero, suc, ◌*◌, ◌+◌, true, List, [], ◌∷◌, replicate, Bool, refl, sym, ap, arith}
+use Rattle.std.proofs.Common.{◌≡◌, ℕ, zero, suc, ◌*◌, ◌+◌, true, List, [], ◌∷◌, Bool, refl, sym, ap, arith, replicate}
+use Rattle.tl_coherence.proofs
+use proofs.Imports.{Channel, unfinished, Config, on_link, bytes_from, IsBlock, pending, held, kept-fresh, zeros}
+use proofs.Imports.{services, IsInvariant, IsWell, Kind, Request, count, Holds, ok, on, packets_on, shown, is_transfer}
+use proofs.Imports.{first_state, first_abstract_state, IsCarried, messages_on, SimulationRelation, is_caching}
+use proofs.Imports.{MonitorRelations, receiver, flow, one_memory_after, fresh}
 use Rattle.std.proofs.lemmas.List.{get_or-replicate}
-use Rattle.tl_rules.{specs.statement.Conformance.on_link, specs.statement.Effect.bytes_from}
-use Rattle.tl_rules.{specs.statement.Effect.IsBlock, specs.statement.History.held}
-use Rattle.tl_client.{specs.statement.Endpoint.zeros, proofs.pending.Accounted.accounted-fresh}
-use Rattle.tl_client.{proofs.pending.KeptOffered.kept-fresh}
+use Rattle.tl_client.proofs.pending.Accounted.{accounted-fresh}
 use Rattle.tl_manager.proofs.calls.Keeping.{fresh-kept}
-use Rattle.tl_coherence.specs.{refinement.Carried.IsCarried, statement.Flow.flow, protocol.Invariant.IsWell}
-use Rattle.tl_coherence.specs.{protocol.Phase.ok, protocol.Tokens.is_transfer, statement.OneMemory.one_memory_after}
-use Rattle.tl_coherence.specs.{refinement.PacketMessages.messages_on, statement.System.fresh}
-use Rattle.tl_coherence.specs.{refinement.SimulationRelation.MonitorRelations}
-use Rattle.tl_coherence.specs.refinement.AbstractStep.{first_block, first_link, first_state, first_abstract_state}
-use Rattle.tl_coherence.specs.protocol.Packet.{count, Holds, IsOrdered}
+use Rattle.tl_coherence.specs.{protocol.Packet.IsOrdered, refinement.AbstractStep.first_block}
+use Rattle.tl_coherence.specs.{refinement.AbstractStep.first_link}
 
 -- ---- the protocol
 

@@ -1,19 +1,15 @@
 -- The protocol keeps its invariant as a client is asked, and as a client takes a message.
-use Rattle.tl_coherence.proofs.simulation.Imports.{IsWidth, Beat, Link, Channel, MessageA, unfinished, Config, Op}
-use Rattle.tl_coherence.proofs.simulation.Imports.{EndConfig, Offered, Deliver, is_moving, asked, IsInvariant, Log}
-use Rattle.tl_coherence.proofs.simulation.Imports.{receiver, State, packet, is_on, packets_on, AccessMessages}
-use Rattle.tl_coherence.proofs.simulation.Imports.{message_of, stepped, client_took, is_to_client, System, terms_at}
-use Rattle.tl_coherence.proofs.simulation.Imports.{Kind, Probe, Answer, Grant, ReleaseAck, Packet, SimulationRelation}
-use Rattle.tl_coherence.proofs.simulation.Imports.{is_caching}
-use Rattle.std.proofs.Common.{◌≡◌, ℕ, Bool, true, false, not, List, ◌∷◌, Option, Some, None, refl, sym, ◌∙◌, ap}
-use Rattle.std.specs.Prelude.{map}
+use Rattle.std.proofs.Common.{◌≡◌, ℕ, Bool, true, false, not, List, ◌∷◌, Option, Some, None, refl, sym, ◌∙◌, ap, map}
+use Rattle.tl_coherence.proofs
+use proofs.Imports.{Beat, Link, Channel, IsWidth, MessageA, unfinished, Config, Op, EndConfig, Offered, Deliver}
+use proofs.Imports.{IsInvariant, Kind, Probe, Answer, Grant, ReleaseAck, Packet, NoRelease, is_unreleased, State}
+use proofs.Imports.{packet, is_on, packets_on, asked, AccessMessages, message_of, message_of_kind, SimulationRelation}
+use proofs.Imports.{is_caching, receiver, is_moving, Log, stepped, client_took, is_to_client, Step, System, terms_at}
 use Rattle.tl_client.specs.statement.Ask as ask
-use Rattle.tl_coherence.specs.{protocol.Phase.NoRelease, protocol.Phase.is_unreleased}
-use Rattle.tl_coherence.specs.{refinement.PacketMessages.message_of_kind, statement.Step.Step}
-use Rattle.tl_coherence.proofs.{client.Askable.askable, queues.Carried.IsNext, client.ClientDelivered.shadow_of}
-use Rattle.tl_coherence.proofs.{protocol.FollowKept.IsReady, protocol.FollowKept.asked-kept}
-use Rattle.tl_coherence.proofs.{client.ProbeDelivered.probe-delivered, manager.UnwaitedRequests.next_tracker}
-use Rattle.tl_coherence.proofs.{queues.Steps.stepped-to-client, protocol.BothParts.kept-letting}
+use proofs.client.{Askable.askable, ClientDelivered.shadow_of, ProbeDelivered.probe-delivered}
+use proofs.queues.{Carried.IsNext, Steps.stepped-to-client}
+use proofs.protocol.{Events.IsReady, FollowKept.asked-kept, BothParts.kept-letting}
+use proofs.manager.UnwaitedRequests.{next_tracker}
 
 pub invariant-asked : {w : ℕ} {config : Config} {log : Log w} {mail : AccessMessages w} {request : ℕ → MessageA w}
     {s : State (List ℕ)} {sys : System w} (terms : EndConfig) (c : ℕ) (o : Op w)

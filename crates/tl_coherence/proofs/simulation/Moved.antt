@@ -1,33 +1,25 @@
 -- A delivery that moves a beat: the beat was taken, and what was handed out for it is on the channels.
-use Rattle.tl_coherence.proofs.simulation.Imports.{IsWidth, Beat, Link, Channel, Message, beats_of, unfinished, Config}
-use Rattle.tl_coherence.proofs.simulation.Imports.{Rule, Verdict, Offered, Deliver, is_moving, ChannelRelation}
-use Rattle.tl_coherence.proofs.simulation.Imports.{receiver, State, AccessMessages, stepped, client_took, is_to_client}
-use Rattle.tl_coherence.proofs.simulation.Imports.{System, same_channel, terms_at, with_channel}
 use Rattle.std.proofs.Common.{◌≡◌, ℕ, Bool, true, false, ◌+◌, ◌<◌, List, [], ◌∷◌, refl, sym, ◌∙◌, ap, ◌⊎◌, inl, inr}
-use Rattle.std.proofs.Common.{arith}
-use Rattle.std.specs.Prelude.{◌==◌, ◌&&◌, if◌then◌else◌, Option, Some, None, Result, Ok}
-use Rattle.std.proofs.lemmas.Bool.{cases_eq, ne_eqb}
-use Rattle.tl_burst.{specs.statement.Messages.grown, specs.statement.Part.completes, proofs.Splitting.beats-positive}
-use Rattle.tl_rules.specs.statement.Conformance.{on_link}
+use Rattle.std.proofs.Common.{arith, ◌&&◌, Option, Some, None, ne_eqb, ◌==◌, if◌then◌else◌, Result, Ok}
+use Rattle.tl_coherence.proofs
+use proofs.Imports.{cases_eq, Beat, Link, Channel, IsWidth, beats-positive, Message, beats_of, unfinished, grown}
+use proofs.Imports.{completes, Config, Rule, on_link, Verdict, Offered, Handed, Deliver, Outcome, State, IsCarried}
+use proofs.Imports.{ChannelRelation, AccessMessages, messages_on, receiver, is_moving, stepped, client_took}
+use proofs.Imports.{is_to_client, Step, handing, handed_by, outcome_of, judged, manager_took, System, same_channel}
+use proofs.Imports.{terms_at, with_channel, with_client, with_manager}
+use Rattle.tl_client.proofs.endpoint.Outstanding.{unfinished-offered}
+use Rattle.tl_manager.specs.laws.After.{is_of_clients, taken_after}
 use Rattle.tl_client.specs.laws.After as after
 use Rattle.tl_client.specs.statement.Endpoint as client
 use Rattle.tl_client.specs.statement.EndpointInvariant as client_kept
 use Rattle.tl_client.specs.statement.Offer as offer
-use Rattle.tl_client.proofs.endpoint.Outstanding.{unfinished-offered}
-use Rattle.tl_manager.{specs.laws.After.is_of_clients, specs.laws.After.taken_after, specs.statement.Handing.Handed}
 use Rattle.tl_manager.specs.code.Kept as manager
 use Rattle.tl_manager.specs.statement.Reaction as manager_reaction
 use Rattle.tl_manager.specs.statement.End as manager_end
 use Rattle.tl_manager.specs.statement.Offer as manager_offer
 use Rattle.tl_manager.proofs.pending.Afterwards as manager_after
-use Rattle.tl_coherence.specs.{declared.event.Outcome.Outcome, refinement.Carried.IsCarried}
-use Rattle.tl_coherence.specs.{refinement.PacketMessages.messages_on, statement.System.with_client}
-use Rattle.tl_coherence.specs.{statement.System.with_manager}
-use Rattle.tl_coherence.specs.statement.Step.{Step, handing, handed_by, outcome_of, judged, manager_took}
-use Rattle.tl_coherence.proofs.{queues.Carried.carried-next, queues.Channels.same_channel-is}
-use Rattle.tl_coherence.proofs.{queues.Steps.stepped-to-client, queues.Steps.stepped-to-manager}
-use Rattle.tl_coherence.proofs.{queues.Tokens.same_number}
-use Rattle.tl_coherence.proofs.queues.Landed.{IsLanded, HasHeard, HasTaken}
+use proofs.queues.{Carried.carried-next, Channels.same_channel-is, Steps.stepped-to-client, Steps.stepped-to-manager}
+use proofs.queues.{Tokens.same_number, Landed.IsLanded, Landed.HasHeard, Landed.HasTaken}
 
 -- ---- to a client
 

@@ -1,17 +1,15 @@
 -- Each client's open sources are its own, in every world; and so no channel holds more than it is made for.
-use Rattle.tl_coherence.proofs.simulation.Imports.{IsWidth, Channel, MessageA, Config, pending, EndConfig, Log}
-use Rattle.tl_coherence.proofs.simulation.Imports.{system_after, State, AccessMessages, terms_at, SimulationRelation}
-use Rattle.std.proofs.Common.{◌≡◌, ℕ, ◌/◌, ◌≤◌, true, List, refl}
-use Rattle.std.specs.Prelude.{Option, Some, None, length}
-use Rattle.tl_params.specs.declared.key.Key.{Key}
-use Rattle.tl_params.specs.declared.key.Key.TheVariants.{RequestSource, ReleaseSource}
-use Rattle.tl_client.{specs.statement.Endpoint.Endpoint, specs.statement.Endpoint.fresh, specs.laws.Inside.IsInside}
-use Rattle.tl_client.{specs.statement.EndpointInvariant.IsEndpointInvariant, proofs.pending.KeptAsked.kept-asked}
-use Rattle.tl_client.proofs.endpoint.Inside.{inside-fresh, inside-asked, inside-offered}
-use Rattle.tl_client.proofs.pending.KeptOffered.{kept-fresh, kept-offered}
-use Rattle.tl_coherence.specs.statement.Delivery.{capacity, sources_of}
-use Rattle.tl_coherence.proofs.{simulation.Bounded.IsOwn, simulation.Bounded.matched-bounded, queues.Ends.AreKept}
-use Rattle.tl_coherence.proofs.{queues.Ends.ends-kept, protocol.Room.channel-few}
+use Rattle.std.proofs.Common.{◌≡◌, ℕ, ◌/◌, ◌≤◌, true, List, refl, Option, Some, None, length}
+use Rattle.tl_coherence.proofs
+use proofs.Imports.{Channel, IsWidth, MessageA, Config, Key, RequestSource, ReleaseSource, pending, kept-asked}
+use proofs.Imports.{kept-fresh, kept-offered, EndConfig, Endpoint, State, AccessMessages, SimulationRelation, capacity}
+use proofs.Imports.{sources_of, Log, system_after, terms_at}
+use Rattle.tl_client.{proofs.endpoint.Inside.inside-fresh, proofs.endpoint.Inside.inside-asked}
+use Rattle.tl_client.{proofs.endpoint.Inside.inside-offered, specs.laws.Inside.IsInside, specs.statement.Endpoint.fresh}
+use Rattle.tl_client.{specs.statement.EndpointInvariant.IsEndpointInvariant}
+use proofs.simulation.Bounded.{IsOwn, matched-bounded}
+use proofs.queues.Ends.{AreKept, ends-kept}
+use proofs.protocol.Room.{channel-few}
 
 -- a client's end is within its terms, and there is nothing where there is no client
 pub record IsWithin {w : ℕ} (config : Config) (c : ℕ) (e : Endpoint w) : Type 0 where

@@ -1,22 +1,16 @@
 -- What a delivery leaves on the channels, who has something open, and how much is left of what is taken.
-use Rattle.tl_coherence.proofs.simulation.Imports.{IsWidth, Beat, Channel, Message, MessageA, beats_of, unfinished}
-use Rattle.tl_coherence.proofs.simulation.Imports.{Config, EndConfig, Log, system_after, receiver, Move, Stays, State}
-use Rattle.tl_coherence.proofs.simulation.Imports.{SourceFree, packet, packets_on, is_on, AccessMessages, System}
-use Rattle.tl_coherence.proofs.simulation.Imports.{same_channel, terms_at, Kind, Request, Acquire, Probe, ProbeAck}
-use Rattle.tl_coherence.proofs.simulation.Imports.{Release, Answer, Grant, ReleaseAck, GrantAck, Packet}
-use Rattle.tl_coherence.proofs.simulation.Imports.{SimulationRelation}
-use Rattle.std.proofs.Common.{◌≡◌, ℕ, ◌+◌, ◌<◌, Bool, true, false, List, [], ◌∷◌, refl, sym, ◌∙◌, ap, arith}
-use Rattle.std.specs.Prelude.{◌==◌, ◌&&◌, if◌then◌else◌, Option, Some, None, length}
-use Rattle.std.proofs.lemmas.Bool.{eqb-true}
-use Rattle.tl_burst.proofs.Begun.{length-begun}
-use Rattle.tl_coherence.specs.refinement.Move.{Pushes, Pops, IsMoved, AreMoved, channel_for}
-use Rattle.tl_coherence.specs.{refinement.PacketMessages.message_of_kind, protocol.Packet.is}
-use Rattle.tl_coherence.proofs.{simulation.Bounded.matched-bounded, queues.Channels.Fits}
-use Rattle.tl_coherence.proofs.{queues.Channels.same_channel-is, queues.FirstToken.IsFirst, rank.Frames.AreClients}
-use Rattle.tl_coherence.proofs.{simulation.Owned.sources-own, queues.Rendered.same_kind_again}
-use Rattle.tl_coherence.proofs.{queues.QuiescentQueues.client_below, simulation.Strangers.no_use}
-use Rattle.tl_coherence.proofs.{simulation.Strangers.no_let, queues.Tokens.same_number, queues.Steps.same_channel-refl}
-use Rattle.tl_coherence.proofs.protocol.BeatsRemaining.{IsPopped, beats_left, is_pop, is_front, taken_of}
+use Rattle.std.proofs.Common.{◌≡◌, ℕ, ◌+◌, ◌<◌, Bool, true, false, List, [], ◌∷◌, refl, sym, ◌∙◌, ap, arith, ◌&&◌}
+use Rattle.std.proofs.Common.{Option, Some, None, length, eqb-true, ◌==◌, if◌then◌else◌}
+use Rattle.tl_coherence.proofs
+use proofs.Imports.{Beat, Channel, IsWidth, length-begun, Message, MessageA, beats_of, unfinished, Config, EndConfig}
+use proofs.Imports.{Kind, Packet, is, State, SourceFree, packet, packets_on, Move, Stays, Pushes, Pops, IsMoved}
+use proofs.Imports.{AreMoved, channel_for, AccessMessages, message_of_kind, SimulationRelation, receiver, Log}
+use proofs.Imports.{system_after, System, same_channel, terms_at}
+use proofs.simulation.{Bounded.matched-bounded, Owned.sources-own, Strangers.no_use, Strangers.no_let}
+use proofs.queues.{Channels.Fits, Channels.same_channel-is, FirstToken.IsFirst, Rendered.same_kind_again}
+use proofs.queues.{QuiescentQueues.client_below, Tokens.same_number, Steps.same_channel-refl, KindMoves.kind_channel}
+use proofs.rank.Frames.{AreClients}
+use proofs.protocol.BeatsRemaining.{IsPopped, beats_left, is_pop, is_front, taken_of}
 
 -- what the receiver of each channel has of the message that comes first there
 abbrev pub unfinished_at : {w : ℕ} → System w → ℕ → Channel → List (Beat w)
@@ -104,19 +98,6 @@ module _ {w : ℕ} {config : Config} {log : Log w} {mail : AccessMessages w} {re
       letter d i n (Some terms) is e = client_below config d terms is
 
 -- ---- what is taken
-
--- the kind is one of its channel alone
-pub kind_channel : (ch : Channel) (k : Kind) → is_on ch k ≡ true → channel_for k ≡ ch
-kind_channel Channel.A Request e = refl
-kind_channel Channel.A Acquire e = refl
-kind_channel Channel.B Probe e = refl
-kind_channel Channel.C ProbeAck e = refl
-kind_channel Channel.C Release e = refl
-kind_channel Channel.D Answer e = refl
-kind_channel Channel.D Grant e = refl
-kind_channel Channel.D ReleaseAck e = refl
-kind_channel Channel.E GrantAck e = refl
-kind_channel ch k e = absurd cc
 
 -- at least its last beat is left of the message that comes first
 pub first-left : {w : ℕ} {ch : Channel} {c : ℕ} {mail : AccessMessages w} {s : State (List ℕ)} {sys : System w}

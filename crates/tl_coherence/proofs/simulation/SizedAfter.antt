@@ -1,30 +1,15 @@
 -- The bytes of each block are 64, and each access that is under way has its source, after every event.
-use Rattle.tl_coherence.proofs.simulation.Imports.{Message, MessageA, Config, Cap, Report, block_at, Op, AbstractState}
-use Rattle.tl_coherence.proofs.simulation.Imports.{asked, kind_taken, IsTypedOp, IsInvariant, NoAcquire, Service, Waits}
-use Rattle.tl_coherence.proofs.simulation.Imports.{GrantSent, Block, State, Kind, Request, Acquire, Probe, ProbeAck}
-use Rattle.tl_coherence.proofs.simulation.Imports.{Release, Answer, Grant, ReleaseAck, GrantAck, Packet, set}
-use Rattle.std.proofs.Common.{◌≡◌, ℕ, ◌*◌, Bool, true, false, ◌&&◌, List, Option, Some, refl, sym, ◌∙◌, ap, ◌⊎◌, inl}
-use Rattle.std.proofs.Common.{inr}
-use Rattle.std.specs.Prelude.{◌==◌, if◌then◌else◌, length, ⊤}
-use Rattle.std.proofs.lemmas.Bool.{cases_eq}
-use Rattle.tl_params.{specs.declared.param.Grow.Grow, specs.declared.profile.Profile.Profile}
-use Rattle.tl_params.{specs.declared.perm.Perm.Perm}
-use Rattle.tl_rules.specs.statement.Conformance.{same_perm}
-use Rattle.tl_client.{specs.declared.reply.Reply.Reply, specs.statement.Ask.copy_stored, specs.statement.Ask.is_word}
-use Rattle.tl_client.proofs.caching_client.Stores.{word_room, length-stored}
-use Rattle.tl_manager.proofs.messages.Filled.{length-bytes}
-use Rattle.tl_coherence.specs.refinement.AbstractStep.{performs, access_taken, request_taken, acquire_taken}
-use Rattle.tl_coherence.specs.refinement.AbstractStep.{granted_after, last_taken, taken_by_client}
-use Rattle.tl_coherence.specs.protocol.Phase.{ClientBlock, AcquirePhase, AcquireOpen, is_whole}
-use Rattle.tl_coherence.specs.protocol.PhaseSteps.{after_acquire, after_release, after_served, after_grant_sent}
-use Rattle.tl_coherence.specs.protocol.PhaseSteps.{after_probe, after_report, after_release_taken, after_release_ack}
-use Rattle.tl_coherence.specs.protocol.PhaseSteps.{after_grant}
-use Rattle.tl_coherence.specs.protocol.Protocol.{acquiring_block, stored_block, performed_block, served_block}
-use Rattle.tl_coherence.specs.protocol.Protocol.{ended_block, granted_block, granted_pair, taken_block, granted_truth}
-use Rattle.tl_coherence.specs.protocol.Protocol.{freed_block}
-use Rattle.tl_coherence.specs.refinement.SimulationRelation.{AreSized}
-use Rattle.tl_coherence.proofs.queues.Tokens.{set-same, set-other, set-each, set-part}
-use Rattle.tl_coherence.proofs.queues.Perms.{trunk-some}
+use Rattle.std.proofs.Common.{◌≡◌, ℕ, ◌*◌, Bool, true, false, ◌&&◌, List, refl, sym, ◌∙◌, ap, ◌⊎◌, inl, inr, length}
+use Rattle.std.proofs.Common.{◌==◌, if◌then◌else◌}
+use Rattle.tl_coherence.proofs
+use proofs.Imports.{cases_eq, ⊤, Message, Config, Cap, Grow, Report, Perm, same_perm, block_at, word_room}
+use proofs.Imports.{length-stored, Op, Reply, copy_stored, is_word, length-bytes, IsInvariant, Kind, Packet, set}
+use proofs.Imports.{ClientBlock, AcquirePhase, AcquireOpen, is_whole, after_acquire, after_release, after_served}
+use proofs.Imports.{after_grant_sent, after_probe, after_report, after_release_taken, after_release_ack, after_grant}
+use proofs.Imports.{Block, State, acquiring_block, stored_block, served_block, granted_block, granted_pair, taken_block}
+use proofs.Imports.{granted_truth, AbstractState, asked, kind_taken, AreSized, IsTypedOp}
+use proofs.queues.{Tokens.set-same, Tokens.set-other, Tokens.set-each, Tokens.set-part, Perms.trunk-some}
+use proofs.protocol.Events.{true-taken}
 
 -- ---- bytes
 
@@ -98,88 +83,43 @@ sized_taken_block c d k {b} h =
 
 -- ---- messages that are taken
 
-sized_access : {w : ℕ} (c source : ℕ) (m : MessageA w) (tracker : ℕ) (p : Bool) (o : Option Cap) (rest : List Packet)
-    (h : AbstractState w) → AllSized h.state → AllSized (access_taken c source m tracker p o rest h).state
-sized_access {w} c source m tracker p o rest h before = go p o
-  where
-    n : ℕ
-    n = block_at m.address
-
-    b : Block (List ℕ)
-    b = h.state.block n
-
-    answered : (i : ℕ) → AreSized (set n (performed_block (performs m) b) h.state.block i)
-    answered i = sized_block n h.state.block (sized_same (performed_block (performs m) b) (length-bytes _ (64 * n) 64)
-        (λ j. refl) (λ j e. e) (before n)) before i
-
-    go : (p : Bool) (o : Option Cap) → AllSized (access_taken c source m tracker p o rest h).state
-    go true (Some k) i = sized_block n h.state.block (sized_served c false source tracker k (before n)) before i
-    go p o i = answered i
-
-sized_request : {w : ℕ} (clients c source : ℕ) (m : Message w) (tracker : ℕ) (rest : List Packet) (h : AbstractState w)
-    → AllSized h.state → AllSized (request_taken clients c source m tracker rest h).state
-sized_request clients c source (Message.A m) tracker rest h before = sized_access c source m tracker _ _ rest h before
-sized_request clients c source m tracker rest h before = before
-
-sized_acquire : {w : ℕ} (clients : ℕ) (p : Profile) (c n : ℕ) (x : AcquirePhase) (tracker : ℕ) (rest : List Packet)
-    (h : AbstractState w) → AllSized h.state → AllSized (acquire_taken clients p c n x tracker rest h).state
-sized_acquire clients p c n NoAcquire tracker rest h before = before
-sized_acquire {w} clients p c n (AcquireOpen whole g) tracker rest h before =
-    let either : (x : Bool) (s t : State (List ℕ)) → AllSized s → AllSized t → AllSized (if x then s else t) =
-    elim [ true ↦ λ s t f g. f | false ↦ λ s t f g. g ] in
-    let b : Block (List ℕ) = h.state.block n in
-    either _ _ _ (λ i. sized_block n h.state.block (sized_served c true (b.source c) tracker _ (before n)) before i)
-    (λ i. sized_block n h.state.block (sized_pair c (after_grant_sent _ (b.pair c)) _ refl refl refl refl
-    (before n)) before i)
-
-sized_granted : {w : ℕ} (clients : ℕ) (p : Profile) (c q n : ℕ) (r : Report) (x : AcquirePhase) (rest : List Packet)
-    (h : AbstractState w) → AllSized h.state → AllSized (granted_after clients p c q n r x rest h).state
-sized_granted clients p c q n r NoAcquire rest h before = before
-sized_granted clients p c q n r (AcquireOpen whole g) rest h before =
-    λ i. sized_block n h.state.block (sized_granted_block c q r _ _ (before n)) before i
-
-sized_last : {w : ℕ} (clients : ℕ) (p : Profile) (c n : ℕ) (r : Report) (v : Service) (rest : List Packet)
-    (h : AbstractState w) → AllSized h.state → AllSized (last_taken clients p c n r v rest h).state
-sized_last clients p c n r (Waits q true source k) rest h before =
-    sized_granted clients p c q n r ((h.state.block n).pair q).acquiring rest h before
-sized_last clients p c n r (Waits q false source k) rest h before =
-    λ i. sized_block n h.state.block (sized_same (ended_block c r (performs (h.request n)) (h.state.block n))
-    (length-bytes _ (64 * block_at (h.request n).address) 64) (λ j. refl)
-    (λ j e. still_acquires c (after_report r ((h.state.block n).pair c)) (h.state.block n).pair refl j e) (before n))
-    before i
-sized_last clients p c n r v rest h before = before
-
-sized_taken : {w : ℕ} (c n : ℕ) (v : Service) (rest : List Packet) (h : AbstractState w) → AllSized h.state
-    → AllSized (taken_by_client c n v rest h).state
-sized_taken c n (GrantSent q d k) rest h before =
-    λ i. sized_block n h.state.block (sized_taken_block c d k (before n)) before i
-sized_taken c n v rest h before = before
-
 pub sized-kind_taken : {w : ℕ} (config : Config) (tracker c : ℕ) (k : Kind) (i : ℕ) (rest : List Packet)
     (h : AbstractState w) → AllSized h.state → AllSized (kind_taken config tracker c k i rest h).state
-sized-kind_taken config tracker c Request i rest h before = sized_request _ c i (h.mail.request c i) tracker rest h
-    before
-sized-kind_taken config tracker c Acquire i rest h before =
-    sized_acquire _ config.profile c i ((h.state.block i).pair c).acquiring tracker rest h before
-sized-kind_taken config tracker c Probe i rest h before = λ j.
-    sized_block i h.state.block (sized_pair c (after_probe _ ((h.state.block i).pair c)) _ refl refl
-    refl refl (before i)) before j
-sized-kind_taken {w} config tracker c ProbeAck i rest h before =
-    let either : (b : Bool) (s t : AbstractState w) → AllSized s.state → AllSized t.state
-    → AllSized (if b then s else t).state = elim [ true ↦ λ s t f g. f | false ↦ λ s t f g. g ] in
-    either _ _ _ (λ j. sized_block i h.state.block (sized_pair c (after_report _ ((h.state.block i).pair c)) _ refl refl
-    refl refl (before i)) before j) (sized_last _ config.profile c i _ (h.state.block i).service rest h before)
-sized-kind_taken config tracker c Release i rest h before = λ j.
-    sized_block i h.state.block (sized_pair c (after_release_taken _ ((h.state.block i).pair c)) _
-    refl refl refl refl (before i)) before j
-sized-kind_taken config tracker c Answer i rest h before = before
-sized-kind_taken config tracker c Grant i rest h before = sized_taken c i (h.state.block i).service rest h before
-sized-kind_taken config tracker c ReleaseAck i rest h before = λ j.
-    sized_block i h.state.block (sized_pair c (after_release_ack ((h.state.block i).pair c)) _ refl
-    refl refl refl (before i)) before j
-sized-kind_taken config tracker c GrantAck i rest h before =
-    λ j. sized_block i h.state.block (sized_same (freed_block (h.state.block i)) (before i).truth (λ d. refl) (λ d e. e)
-    (before i)) before j
+sized-kind_taken {w} config tracker c k i rest h before =
+    true-taken config tracker c rest h (λ j n. ⊤) (λ (x : AbstractState w). AllSized x.state) k i (record {
+      nothing = λ j n known idle. before;
+      access_answered = λ source m o known from caps none. changed (block_at m.address)
+          (sized_same _ (length-bytes _ (64 * block_at m.address) 64) (λ d. refl) (λ d e. e)
+          (before (block_at m.address)));
+      access_served = λ source m j known from caps some. changed (block_at m.address)
+          (sized_served c false source tracker j (before (block_at m.address)));
+      acquire_granted = λ n whole g known wants none. one n (after_grant_sent _ (pair n c)) _ refl refl refl refl;
+      acquire_served = λ n whole g known wants some. changed n
+          (sized_served c true ((h.state.block n).source c) tracker _ (before n));
+      probe = λ n known. one n (after_probe _ (pair n c)) _ refl refl refl refl;
+      report = λ n known more. one n (after_report _ (pair n c)) _ refl refl refl refl;
+      report_answers = λ n q source j known last waits. changed n
+          (sized_same _ (length-bytes _ (64 * block_at (h.request n).address) 64) (λ d. refl)
+          (λ d e. still_acquires c (after_report _ (pair n c)) (pair n) refl d e) (before n));
+      report_grants = λ n q source j whole g known last waits wants. changed n
+          (sized_granted_block c q _ _ _ (before n));
+      release = λ n known. one n (after_release_taken _ (pair n c)) _ refl refl refl refl;
+      answer = λ source known. before;
+      grant = λ n q d j known sent. changed n (sized_taken_block c d j (before n));
+      release_ack = λ n known. one n (after_release_ack (pair n c)) _ refl refl refl refl;
+      grant_ack = λ n known. changed n (sized_same _ (before n).truth (λ d. refl) (λ d e. e) (before n));
+    }) tt
+  where
+    pair : ℕ → ℕ → ClientBlock
+    pair n = (h.state.block n).pair
+
+    changed : (n : ℕ) {new : Block (List ℕ)} → AreSized new → (j : ℕ) → AreSized (set n new h.state.block j)
+    changed n here = sized_block n h.state.block here before
+
+    one : (n : ℕ) (p : ClientBlock) (new : Block (List ℕ)) → new.pair ≡ set c p (pair n)
+        → p.acquiring ≡ (pair n c).acquiring → new.truth ≡ (h.state.block n).truth
+        → new.waiting ≡ (h.state.block n).waiting → (j : ℕ) → AreSized (set n new h.state.block j)
+    one n p new pairs same truth waiting = changed n (sized_pair c p new pairs same truth waiting (before n))
 
 -- ---- operations that are asked
 
@@ -207,7 +147,6 @@ sized_acquiring c source whole g bytes {b} long h = record { truth = h.truth; wa
 
 pub sized-asked : {w : ℕ} {caching : ℕ → Bool} (c : ℕ) (o : Op w) (r : Reply) (h : AbstractState w)
     → IsInvariant caching h.state → IsTypedOp o → IsSizedAsk c o r h → AllSized h.state → AllSized (asked c o r h).state
-sized-asked c (Op.Load address size) r h inv typed ask before = before
 sized-asked c (Op.Store address size value) Reply.Stored h inv typed ask before = λ i.
     let n : ℕ = block_at address in
     let b : Block (List ℕ) = h.state.block n in
@@ -217,36 +156,13 @@ sized-asked c (Op.Store address size value) Reply.Stored h inv typed ask before 
     (sized_same (stored_block c (copy_stored address size value (b.copy c)) b)
     (length-stored address size value (b.copy c) long (word_room address size ask.0)) (λ d. refl) (λ d e. e) (before n))
     before i
-sized-asked c (Op.Store address size value) (Reply.Value v) h inv typed ask before = before
-sized-asked c (Op.Store address size value) Reply.Miss h inv typed ask before = before
-sized-asked c (Op.Store address size value) (Reply.Started source) h inv typed ask before = before
-sized-asked c (Op.Store address size value) (Reply.Busy why) h inv typed ask before = before
 sized-asked c (Op.Acquire n g) (Reply.Started source) h inv typed ask before = λ i.
     sized_block n h.state.block (sized_acquiring c source false g ((h.state.block n).waiting c)
     (λ e. absurd cc) (before n)) before i
-sized-asked c (Op.Acquire n g) (Reply.Value v) h inv typed ask before = before
-sized-asked c (Op.Acquire n g) Reply.Stored h inv typed ask before = before
-sized-asked c (Op.Acquire n g) Reply.Miss h inv typed ask before = before
-sized-asked c (Op.Acquire n g) (Reply.Busy why) h inv typed ask before = before
 sized-asked c (Op.AcquireWhole n bytes) (Reply.Started source) h inv typed ask before =
     λ i. sized_block n h.state.block (sized_acquiring c source true _ bytes (λ e. typed) (before n)) before i
-sized-asked c (Op.AcquireWhole n bytes) (Reply.Value v) h inv typed ask before = before
-sized-asked c (Op.AcquireWhole n bytes) Reply.Stored h inv typed ask before = before
-sized-asked c (Op.AcquireWhole n bytes) Reply.Miss h inv typed ask before = before
-sized-asked c (Op.AcquireWhole n bytes) (Reply.Busy why) h inv typed ask before = before
 sized-asked c (Op.Release n p) (Reply.Started source) h inv typed ask before = λ i.
     sized_block n h.state.block (sized_pair c (after_release p ((h.state.block n).pair c)) _ refl
     refl refl refl (before n)) before i
-sized-asked c (Op.Release n p) (Reply.Value v) h inv typed ask before = before
-sized-asked c (Op.Release n p) Reply.Stored h inv typed ask before = before
-sized-asked c (Op.Release n p) Reply.Miss h inv typed ask before = before
-sized-asked c (Op.Release n p) (Reply.Busy why) h inv typed ask before = before
 sized-asked c (Op.Access (Message.A m)) (Reply.Started source) h inv typed ask before = before
-sized-asked c (Op.Access (Message.A m)) (Reply.Value v) h inv typed ask before = before
-sized-asked c (Op.Access (Message.A m)) Reply.Stored h inv typed ask before = before
-sized-asked c (Op.Access (Message.A m)) Reply.Miss h inv typed ask before = before
-sized-asked c (Op.Access (Message.A m)) (Reply.Busy why) h inv typed ask before = before
-sized-asked c (Op.Access (Message.B m)) r h inv typed ask before = before
-sized-asked c (Op.Access (Message.C m)) r h inv typed ask before = before
-sized-asked c (Op.Access (Message.D m)) r h inv typed ask before = before
-sized-asked c (Op.Access (Message.E m)) r h inv typed ask before = before
+sized-asked c o r h inv typed ask before = before

@@ -1,31 +1,24 @@
 -- Each beat on a channel is sound and has its lanes, after every event.
-use Rattle.tl_coherence.proofs.simulation.Imports.{IsWidth, Beat, Link, Channel, Message, MessageA, Config, Rule, Op}
-use Rattle.tl_coherence.proofs.simulation.Imports.{Verdict, Deliver, IsTypedOp, Log, State, AccessMessages, stepped}
-use Rattle.tl_coherence.proofs.simulation.Imports.{stepped_at, client_took, is_to_client, System, terms_at}
-use Rattle.tl_coherence.proofs.simulation.Imports.{with_channel, with_messages, SimulationRelation}
 use Rattle.std.proofs.Common.{◌≡◌, ℕ, Bool, true, false, List, [], ◌∷◌, Option, Some, None, refl, ◌∙◌, ap, subst}
-use Rattle.std.specs.Prelude.{if◌then◌else◌, All, length, Result, Ok, unwrap_or, is_some}
-use Rattle.std.proofs.lemmas.List.Elements.{All-head}
-use Rattle.tl_params.specs.declared.perm.Perm.{Perm}
-use Rattle.tl_rules.specs.statement.Conformance.{same_perm}
+use Rattle.std.proofs.Common.{length, if◌then◌else◌, All, Result, Ok, unwrap_or, is_some}
+use Rattle.tl_coherence.proofs
+use proofs.Imports.{All-head, Beat, Link, Channel, IsWidth, Message, MessageA, Config, Perm, Rule, same_perm, Op}
+use proofs.Imports.{Verdict, zeros, copy_at, holds, reaction_handable, Each, Event, Deliver, Ask, State, AccessMessages}
+use proofs.Imports.{SimulationRelation, AreLanes, IsTypedOp, IsTyped, Log, stepped, stepped_at, client_took}
+use proofs.Imports.{is_to_client, client_of, delivered, handed_by, judged, manager_took, System, terms_at, with_channel}
+use proofs.Imports.{with_messages, with_client, with_manager}
+use Rattle.tl_client.{proofs.endpoint.Cases.offered-cases, proofs.messages.Sound.asked-sound}
+use Rattle.tl_client.{proofs.messages.Sound.offered-sound, specs.laws.Sound.IsSoundIfAny}
+use Rattle.tl_client.{specs.laws.Sound.IsSoundAnswer}
 use Rattle.tl_client.specs.statement.Ask as ask
 use Rattle.tl_client.specs.statement.Endpoint as client
-use Rattle.tl_client.{specs.statement.Endpoint.zeros, specs.statement.Endpoint.copy_at}
-use Rattle.tl_client.{specs.statement.EndpointInvariant.holds, specs.laws.Sound.IsSoundIfAny}
-use Rattle.tl_client.{specs.laws.Sound.IsSoundAnswer, proofs.endpoint.Cases.offered-cases}
-use Rattle.tl_client.{proofs.messages.Sound.asked-sound, proofs.messages.Sound.offered-sound}
 use Rattle.tl_client.specs.statement.Offer as offer
 use Rattle.tl_manager.specs.code.Kept as manager
-use Rattle.tl_manager.{specs.code.Kept.Each, proofs.calls.Reactions.reaction_handable}
 use Rattle.tl_manager.specs.statement.Reaction as manager_reaction
 use Rattle.tl_manager.specs.statement.End as manager_end
 use Rattle.tl_manager.specs.statement.Offer as manager_offer
-use Rattle.tl_coherence.specs.{declared.event.Event.Event, declared.event.Event.TheVariants.Ask}
-use Rattle.tl_coherence.specs.{statement.Headline.IsTyped, statement.System.with_client, statement.System.with_manager}
-use Rattle.tl_coherence.specs.{refinement.SimulationRelation.AreLanes}
-use Rattle.tl_coherence.specs.statement.Step.{client_of, delivered, handed_by, judged, manager_took}
-use Rattle.tl_coherence.proofs.simulation.BeatsInFlight.{IsGood, IsFitIfAny, IsFitAnswer, all-messages, all-popped}
-use Rattle.tl_coherence.proofs.simulation.BeatsInFlight.{good-message, good-handed, level-terms, fit-asked, fit-taken}
+use proofs.simulation.BeatsInFlight.{IsGood, IsFitIfAny, IsFitAnswer, all-messages, all-popped, good-message}
+use proofs.simulation.BeatsInFlight.{good-handed, level-terms, fit-asked, fit-taken}
 
 -- ---- copies have 64 bytes
 

@@ -1,24 +1,19 @@
 -- Where there is no client, nothing is on a channel.
-use Rattle.tl_coherence.proofs.simulation.Imports.{IsWidth, Channel, Message, MessageA, Config, EndConfig, services}
-use Rattle.tl_coherence.proofs.simulation.Imports.{Log, system_after, Service, Free, Waits, GrantSent, GrantTaken}
-use Rattle.tl_coherence.proofs.simulation.Imports.{State, SourceFree, Asked, packets_on, is_on, shown, AccessMessages}
-use Rattle.tl_coherence.proofs.simulation.Imports.{terms_at, Kind, Request, Acquire, Probe, ProbeAck, Release, Answer}
-use Rattle.tl_coherence.proofs.simulation.Imports.{Grant, ReleaseAck, GrantAck, Packet, SimulationRelation}
-use Rattle.std.proofs.Common.{◌≡◌, ℕ, ◌<◌, Bool, true, false, List, [], ◌∷◌, refl, sym, ◌∙◌, ap, arith}
-use Rattle.std.specs.Prelude.{◌==◌, ◌&&◌, if◌then◌else◌, Option, Some, None, option_map, slice_get}
-use Rattle.std.proofs.lemmas.Bool.{eqb-true}
-use Rattle.tl_params.{specs.declared.config.ClientConfig.ClientConfig, specs.declared.level.Level.Level}
+use Rattle.std.proofs.Common.{◌≡◌, ℕ, ◌<◌, Bool, true, false, List, [], ◌∷◌, refl, sym, ◌∙◌, ap, arith, ◌&&◌, Option}
+use Rattle.std.proofs.Common.{Some, None, eqb-true, ◌==◌, if◌then◌else◌, option_map, slice_get}
+use Rattle.tl_coherence.proofs
+use proofs.Imports.{Channel, IsWidth, Message, MessageA, ClientConfig, Config, Level, EndConfig, of_served, level_of}
+use proofs.Imports.{services, service_of_block, resting, Kind, Request, Acquire, Probe, ProbeAck, Release, Answer}
+use proofs.Imports.{Grant, ReleaseAck, GrantAck, Packet, count, Own, Other, Granting, Acknowledging, GrantedOther}
+use proofs.Imports.{Service, Free, Waits, GrantSent, GrantTaken, State, SourceFree, Asked, packets_on, is_on, view}
+use proofs.Imports.{shown, is_acknowledging, client_in, service_with, AccessMessages, SimulationRelation, Log}
+use proofs.Imports.{system_after, terms_at}
 use Rattle.tl_manager.specs.code.Kept as kept
-use Rattle.tl_manager.{specs.statement.Service.service_of_block, specs.statement.Offer.level_of}
-use Rattle.tl_manager.{proofs.pending.Granted.of_served}
-use Rattle.tl_coherence.specs.{protocol.Invariant.resting, protocol.Protocol.view, protocol.Tokens.is_acknowledging}
-use Rattle.tl_coherence.specs.{protocol.Packet.count}
-use Rattle.tl_coherence.specs.refinement.ManagerRelation.{client_in, service_with}
-use Rattle.tl_coherence.specs.protocol.Phase.{Own, Other, Granting, Acknowledging, GrantedOther}
-use Rattle.tl_coherence.proofs.protocol.Capacities.{acquire_named, grant_named, release_named, release_ack_named}
-use Rattle.tl_coherence.proofs.protocol.Capacities.{request_named, answer_named}
-use Rattle.tl_coherence.proofs.{protocol.TokenNames.shown_there, protocol.TokenNames.kind_there}
-use Rattle.tl_coherence.proofs.{queues.Distinct.IsThere, queues.Distinct.first-there, simulation.Owned.sources-own}
+use proofs.protocol.Capacities.{acquire_named, grant_named, release_named, release_ack_named, request_named}
+use proofs.protocol.Capacities.{answer_named}
+use proofs.protocol.TokenNames.{shown_there, kind_there}
+use proofs.queues.Distinct.{IsThere, first-there}
+use proofs.simulation.Owned.{sources-own}
 
 no_level : (config : Config) (c : ℕ) → terms_at config c ≡ None → level_of config c ≡ None
 no_level config c is =

@@ -1,33 +1,22 @@
 -- What the one-memory machine allows at a delivery: how an access ends as its answer comes.
-use Rattle.tl_coherence.proofs.theorem.Imports.{IsWidth, Beat, Link, Channel, Message, Config, Finish, AbstractState}
-use Rattle.tl_coherence.proofs.theorem.Imports.{Log, system_after, Ends, Machine, pool_of, SourceState, packet}
-use Rattle.tl_coherence.proofs.theorem.Imports.{one_memory_after, System, Kind, Acquire, Answer, SimulationRelation}
-use Rattle.tl_coherence.proofs.theorem.Imports.{is_caching}
-use Rattle.std.proofs.Common.{◌≡◌, ℕ, ◌+◌, ◌-◌, ◌*◌, ◌%◌, ◌^◌, ◌≤◌, Bool, true, false, List, ◌∷◌, ◌++◌, length, take}
-use Rattle.std.proofs.Common.{drop, Option, Some, None, refl, sym, ◌∙◌, ap, subst, cond, arith}
-use Rattle.std.{specs.Prelude.replicate, proofs.lemmas.Bool.eqb-true, proofs.lemmas.Nat.pow_pos}
-use Rattle.std.proofs.lemmas.List.{append_assoc, drop_at, take_at, length-replicate}
-use Rattle.tl_beat.{specs.declared.beat.BeatA.BeatA, specs.declared.opcode.OpD.OpD}
-use Rattle.tl_burst.{specs.declared.message.MessageA.MessageA, specs.declared.message.MessageD.MessageD}
-use Rattle.tl_burst.{specs.statement.Messages.History, specs.statement.Messages.unfinished}
-use Rattle.tl_burst.specs.statement.Burst.{a_beat_of, beats_of, burst_of, d_beat_of, data_beats, IsBlankAfter}
-use Rattle.tl_params.{specs.declared.key.Key.TheVariants.RequestSource, specs.declared.level.Level.Level}
-use Rattle.tl_rules.{specs.statement.Admission.payload_of, specs.statement.Effect.as_payload}
-use Rattle.tl_rules.{specs.statement.Effect.answer_of, specs.statement.History.pending}
-use Rattle.tl_rules.{specs.statement.History.request_of, proofs.Bursts.control_of_legal, proofs.Bursts.control_aligned}
-use Rattle.tl_rules.{proofs.Payload.payload-d}
-use Rattle.tl_rules.specs.statement.Effect as memory
-use Rattle.tl_client.{specs.declared.operation.Op.TheVariants.Access, specs.statement.Offer.finish_of}
-use Rattle.tl_client.{specs.statement.Offer.padded, specs.statement.Requests.open_beat, specs.statement.Send.sourced}
-use Rattle.tl_manager.{specs.statement.Handing.access_answer, specs.statement.Handing.no_payload}
-use Rattle.tl_manager.{specs.code.Kept.illegal_message_at, specs.statement.Offer.level_of}
+use Rattle.std.proofs.Common.{◌≡◌, ℕ, ◌+◌, ◌-◌, ◌*◌, ◌%◌, ◌^◌, ◌≤◌, Bool, true, false, List, ◌∷◌, ◌++◌, length, Option}
+use Rattle.std.proofs.Common.{Some, None, refl, sym, ◌∙◌, ap, subst, cond, arith, eqb-true, append_assoc, pow_pos, drop}
+use Rattle.std.proofs.Common.{replicate, take, drop_at, take_at}
+use Rattle.tl_coherence.proofs
+use proofs.Imports.{length-replicate, Beat, BeatA, Link, Channel, OpD, IsWidth, Message, MessageA, MessageD, a_beat_of}
+use proofs.Imports.{beats_of, burst_of, d_beat_of, data_beats, IsBlankAfter, History, unfinished, Config, RequestSource}
+use proofs.Imports.{Level, control_of_legal, control_aligned, payload-d, payload_of, as_payload, answer_of, pending}
+use proofs.Imports.{request_of, Access, Finish, finish_of, open_beat, sourced, illegal_message_at, access_answer}
+use proofs.Imports.{no_payload, level_of, Kind, Acquire, Answer, SourceState, packet, Replied, AbstractState, Answers}
+use proofs.Imports.{IsOpened, IsReach, message_of_kind, block_message, SimulationRelation, is_caching, IsRequest}
+use proofs.Imports.{IsSourced, asked_for, block_used, first_of, Log, system_after, Ends, Machine, pool_of, Requests}
+use proofs.Imports.{finish_with, one_memory_after, System}
+use Rattle.tl_client.specs.statement.Offer.{padded}
 use Rattle.tl_manager.proofs.messages.Filled.{data_room, payload-long, payload-zero, room_in_beats}
-use Rattle.tl_coherence.specs.refinement.MemoryRelation.{Answers, IsOpened, IsReach}
-use Rattle.tl_coherence.specs.{statement.Machine.Requests, statement.Machine.finish_with, protocol.Protocol.Replied}
-use Rattle.tl_coherence.specs.refinement.PacketMessages.{message_of_kind, block_message}
-use Rattle.tl_coherence.specs.refinement.SimulationRelation.{IsRequest, IsSourced, asked_for, block_used, first_of}
-use Rattle.tl_coherence.proofs.{client.AnswersKept.answer_message, protocol.HeadOfD.IsAnswerDue}
-use Rattle.tl_coherence.proofs.{protocol.HeadOfD.answer-due, links.Ending.IsEnding, links.Granting.same-response}
+use Rattle.tl_rules.specs.statement.Effect as memory
+use proofs.client.AnswersKept.{answer_message}
+use proofs.protocol.HeadOfD.{IsAnswerDue, answer-due}
+use proofs.links.{Ending.IsEnding, Granting.same-response}
 
 -- ---- the bytes of an answer
 

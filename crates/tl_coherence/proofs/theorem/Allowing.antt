@@ -1,36 +1,20 @@
 -- What the one-memory machine allows at a delivery: how a Grant and a ReleaseAck end their operations.
-use Rattle.tl_coherence.proofs.theorem.Imports.{Beat, Link, Channel, Config, Grow, Perm, Finish, AbstractState, Log}
-use Rattle.tl_coherence.proofs.theorem.Imports.{system_after, Ends, Machine, pool_of, AcquirePhase, AcquireOpen, packet}
-use Rattle.tl_coherence.proofs.theorem.Imports.{one_memory_after, System, Kind, Answer, Grant, ReleaseAck}
-use Rattle.tl_coherence.proofs.theorem.Imports.{SimulationRelation, is_caching, Message}
 use Rattle.std.proofs.Common.{◌≡◌, ℕ, Bool, true, false, List, ◌∷◌, Option, Some, None, refl, sym, ◌∙◌, ap, subst}
-use Rattle.tl_burst.{specs.declared.message.MessageD.MessageD, specs.statement.Burst.d_beat_of}
-use Rattle.tl_params.{specs.declared.param.Cap.Cap, specs.statement.Param.cap_right}
-use Rattle.tl_manager.proofs.blocks.Recording.{cap-gives}
-use Rattle.tl_coherence.specs.{refinement.MemoryRelation.IsLet, refinement.MemoryRelation.op_of}
-use Rattle.tl_coherence.specs.{protocol.Phase.grant_fits, protocol.Protocol.is_on}
-use Rattle.tl_coherence.specs.statement.Machine.{EndsOp, Open, Releases, cap_named}
-use Rattle.tl_coherence.specs.refinement.PacketMessages.{message_of_kind, block_message}
-use Rattle.tl_coherence.proofs.protocol.HeadOfD.{ack_message, ack-due, grant-due, grant-rendered, grant_message}
-use Rattle.tl_coherence.proofs.links.Ending.{IsEnding}
-use Rattle.tl_coherence.proofs.links.Granting.{granted-at, opened-acquire, released-at, same-response}
+use Rattle.tl_coherence.proofs
+use proofs.Imports.{Beat, Link, Channel, Message, MessageD, d_beat_of, Config, Cap, Grow, Perm, cap_right, Finish}
+use proofs.Imports.{cap-gives, Kind, Answer, Grant, ReleaseAck, AcquirePhase, AcquireOpen, grant_fits, packet, is_on}
+use proofs.Imports.{AbstractState, IsLet, op_of, message_of_kind, block_message, SimulationRelation, is_caching, Log}
+use proofs.Imports.{system_after, Ends, Machine, pool_of, Open, Releases, cap_named, one_memory_after, System}
+use Rattle.tl_coherence.specs.statement.Machine.{EndsOp}
+use proofs.protocol.HeadOfD.{ack_message, ack-due, grant-due, grant-rendered, grant_message}
+use proofs.links.{Ending.IsEnding, Granting.granted-at, Granting.opened-acquire, Granting.released-at}
+use proofs.links.{Granting.same-response}
+use proofs.queues.Perms.{fits_cap, whole_cap}
 
 -- what is granted to a store of the whole block is Trunk
 whole_trunk : (recorded held : Perm) (d : Bool) (k : Cap) (g : Grow)
     → grant_fits recorded held d k (AcquireOpen true g) ≡ true → cap_right k ≡ Perm.Trunk
-whole_trunk Perm.Trunk held d Cap.ToT g e = refl
-whole_trunk Perm.Trunk held d Cap.ToB g e = absurd cc
-whole_trunk Perm.Trunk held d Cap.ToN g e = absurd cc
-whole_trunk Perm.Branch held d Cap.ToT g e = refl
-whole_trunk Perm.Branch held d Cap.ToB Grow.NtoB e = absurd cc
-whole_trunk Perm.Branch held d Cap.ToB Grow.NtoT e = absurd cc
-whole_trunk Perm.Branch held d Cap.ToB Grow.BtoT e = absurd cc
-whole_trunk Perm.Branch held d Cap.ToN g e = absurd cc
-whole_trunk Perm.None held d Cap.ToT g e = refl
-whole_trunk Perm.None held d Cap.ToB g e = absurd cc
-whole_trunk Perm.None held d Cap.ToN Grow.NtoB e = absurd cc
-whole_trunk Perm.None held d Cap.ToN Grow.NtoT e = absurd cc
-whole_trunk Perm.None held d Cap.ToN Grow.BtoT e = absurd cc
+whole_trunk recorded held d k g e = ap cap_right (whole_cap g k (fits_cap recorded held d k true g e))
 
 ends_granted : {w : ℕ} (n : ℕ) (bytes : List ℕ) (x : Beat w) (k : Cap) (whole : Bool) (g : Grow) (y : AcquirePhase)
     → y ≡ AcquireOpen whole g → cap_named x ≡ cap_right k → (whole ≡ true → cap_right k ≡ Perm.Trunk)

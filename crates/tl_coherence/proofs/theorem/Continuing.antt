@@ -1,27 +1,20 @@
 -- What a delivery answers of accesses is performed after the step of the one-memory machine.
-use Rattle.tl_coherence.proofs.theorem.Imports.{IsWidth, Beat, Link, Channel, Message, Config, Deliver, AbstractState}
-use Rattle.tl_coherence.proofs.theorem.Imports.{Log, system_after, Machine, one_memory_after, System}
-use Rattle.tl_coherence.proofs.theorem.Imports.{SimulationRelation}
 use Rattle.std.proofs.Common.{◌≡◌, ℕ, Bool, true, false, List, [], ◌∷◌, Option, Some, None, refl, ◌∙◌, ap, subst, ◌⊎◌}
-use Rattle.std.proofs.Common.{inl, inr}
-use Rattle.std.{specs.Prelude.All, specs.Prelude.Ok, proofs.lemmas.List.Elements.All-head}
-use Rattle.tl_beat.specs.declared.beat.BeatE.{BeatE}
-use Rattle.tl_burst.specs.statement.Messages.{channel_of}
-use Rattle.tl_client.{specs.declared.verdict.Verdict.Verdict, specs.statement.Endpoint.EndConfig}
+use Rattle.std.proofs.Common.{inl, inr, All, Ok}
+use Rattle.tl_coherence.proofs
+use proofs.Imports.{All-head, Beat, BeatE, Link, Channel, IsWidth, Message, channel_of, Config, Verdict, EndConfig}
+use proofs.Imports.{reaction-ack, reaction, Deliver, AbstractState, IsAccess, SimulationRelation, is_moving, Log}
+use proofs.Imports.{system_after, Machine, Requests, moved, one_memory_after, performing, accesses_answered, Step}
+use proofs.Imports.{stepped, handed_by, is_to_client, System, terms_at}
+use Rattle.tl_coherence.specs.statement.Machine.{Performs}
 use Rattle.tl_manager.specs.code.Kept as manager
-use Rattle.tl_manager.{specs.statement.Reaction.reaction, proofs.calls.Events.reaction-ack}
-use Rattle.tl_coherence.specs.{refinement.MemoryRelation.IsAccess, statement.Draining.is_moving}
-use Rattle.tl_coherence.specs.{statement.OneMemory.performing, statement.OneMemory.accesses_answered}
-use Rattle.tl_coherence.specs.{statement.System.terms_at}
-use Rattle.tl_coherence.specs.statement.Machine.{Performs, Requests, moved}
-use Rattle.tl_coherence.specs.statement.Step.{Step, stepped, handed_by, is_to_client}
-use Rattle.tl_coherence.proofs.{memory.BesideRequests.IsOnce, memory.BesideRequests.once-performs}
-use Rattle.tl_coherence.proofs.{links.HeadsOfLinks.first-of, deliveries.DeliverDUnmoved.unmoved}
-use Rattle.tl_coherence.proofs.{deliveries.Matching.not_moving, deliveries.Matching.stepped-nobody}
-use Rattle.tl_coherence.proofs.{simulation.Moved.client-moves, simulation.Moved.manager-moves}
-use Rattle.tl_coherence.proofs.{deliveries.ReportsAfter.once-followed_c, deliveries.RequestsDelivered.once-delivered_a}
-use Rattle.tl_coherence.proofs.{simulation.SoundAfter.copy-long, queues.Steps.stepped-empty}
-use Rattle.tl_coherence.proofs.simulation.BeatsInFlight.{IsOfClient, IsFitAnswer, fit-taken}
+use proofs.memory.BesideRequests.{IsOnce, once-performs}
+use proofs.links.HeadsOfLinks.{first-of}
+use proofs.deliveries.{DeliverDUnmoved.unmoved, Matching.not_moving, Matching.stepped-nobody}
+use proofs.deliveries.{ReportsAfter.once-followed_c, RequestsDelivered.once-delivered_a}
+use proofs.simulation.{Moved.client-moves, Moved.manager-moves, SoundAfter.copy-long, BeatsInFlight.IsOfClient}
+use proofs.simulation.{BeatsInFlight.IsFitAnswer, BeatsInFlight.fit-taken}
+use proofs.queues.Steps.{stepped-empty}
 
 -- ---- what a client hands out answers no access
 

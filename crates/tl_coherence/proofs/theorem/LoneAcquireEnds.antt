@@ -1,26 +1,23 @@
 -- An Acquire that is started alone brings what it asks for, and an AcquireWhole brings Trunk.
-use Rattle.tl_coherence.proofs.theorem.Imports.{Link, Channel, Config, Grow, Perm, Deliver, AbstractState, Log}
-use Rattle.tl_coherence.proofs.theorem.Imports.{system_after, AcquirePhase, AcquireOpen, SourceState}
 use Rattle.std.proofs.Common.{◌≡◌, ℕ, zero, suc, Bool, true, false, List, ◌∷◌, Option, Some, None, refl, sym, ◌∙◌, ap}
-use Rattle.tl_params.specs.declared.profile.Profile.{Profile}
-use Rattle.tl_client.{specs.declared.operation.Op.Op, specs.declared.reply.Reply.TheVariants.Started}
-use Rattle.tl_client.{specs.statement.Ask.whole_grow, specs.statement.Endpoint.held_at}
-use Rattle.tl_rules.specs.statement.Conformance.{same_perm}
-use Rattle.tl_coherence.specs.{declared.event.Event.TheVariants.Ask, declared.event.Outcome.TheVariants.Replied}
-use Rattle.tl_coherence.specs.{statement.Headline.IsGiven, statement.Load.outstanding, statement.Log.IsLog}
-use Rattle.tl_coherence.specs.{protocol.Phase.ClientBlock, protocol.PhaseSteps.after_acquire}
-use Rattle.tl_coherence.specs.statement.Draining.{LoneAcquire, LoneAcquireWhole, IsDrained, grown_to}
-use Rattle.tl_coherence.specs.refinement.AbstractStep.{asked, abstract_step}
-use Rattle.tl_coherence.specs.statement.Movable.{next_delivery, drained, with_delivery}
-use Rattle.tl_coherence.specs.protocol.Protocol.{Block, State, SourceFree, Acquires, acquire_asked, acquiring_block}
-use Rattle.tl_coherence.proofs.{memory.Beside.set_at-there, outstanding.Counted.outstanding-open}
-use Rattle.tl_coherence.proofs.{links.FromInvariant.matched-given, deliveries.Matching.shadow}
-use Rattle.tl_coherence.proofs.{outstanding.Movement.closed-when-counted, outstanding.Progress.counted}
-use Rattle.tl_coherence.proofs.{manager.UnwaitedRequests.next_tracker, bound.Settling.given-before}
-use Rattle.tl_coherence.proofs.{bound.Settling.given-delivering, protocol.QuiescentProtocol.IsClosed}
-use Rattle.tl_coherence.proofs.{queues.Tokens.set-same, queues.Tokens.set_at-same}
-use Rattle.tl_coherence.proofs.simulation.FollowCases.{delivered-cases, on-first}
-use Rattle.tl_coherence.proofs.theorem.LoneAcquireSteps.{Brings, IsLone, grown, lone-kind_taken}
+use Rattle.tl_coherence.proofs
+use proofs.Imports.{Link, Channel, Config, Grow, Perm, Profile, same_perm, Op, whole_grow, held_at, Deliver, Ask}
+use proofs.Imports.{AcquirePhase, AcquireOpen, ClientBlock, after_acquire, SourceState, Block, State, SourceFree}
+use proofs.Imports.{Acquires, acquire_asked, acquiring_block, AbstractState, asked, abstract_step, IsDrained, grown_to}
+use proofs.Imports.{IsGiven, outstanding, Log, system_after, next_delivery, with_delivery}
+use Rattle.tl_client.specs.declared.reply.Reply.TheVariants.{Started}
+use Rattle.tl_coherence.specs.{declared.event.Outcome.TheVariants.Replied, statement.Draining.LoneAcquire}
+use Rattle.tl_coherence.specs.{statement.Draining.LoneAcquireWhole, statement.Log.IsLog, statement.Movable.drained}
+use proofs.memory.Beside.{set_at-there}
+use proofs.outstanding.{Counted.outstanding-open, Movement.closed-when-counted, Progress.counted}
+use proofs.links.FromInvariant.{matched-given}
+use proofs.deliveries.Matching.{shadow}
+use proofs.manager.UnwaitedRequests.{next_tracker}
+use proofs.bound.Settling.{given-before, given-delivering}
+use proofs.protocol.QuiescentProtocol.{IsClosed}
+use proofs.queues.Tokens.{set-same, set_at-same}
+use proofs.simulation.FollowCases.{delivered-cases, on-first}
+use proofs.theorem.LoneAcquireSteps.{Brings, IsLone, grown, lone-kind_taken}
 
 -- ---- logs
 

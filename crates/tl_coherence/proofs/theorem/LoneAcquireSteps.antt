@@ -1,38 +1,25 @@
 -- An Acquire that is alone: its client holds the block until it is granted what it asked for, and then that, whatever
 -- message is taken.
-use Rattle.tl_coherence.proofs.theorem.Imports.{Config, Grow, Perm, AbstractState, AcquirePhase, AcquireOpen}
-use Rattle.tl_coherence.proofs.theorem.Imports.{SourceState, packet, Kind, Request, Acquire, Probe, ProbeAck, Release}
-use Rattle.tl_coherence.proofs.theorem.Imports.{Answer, Grant, ReleaseAck, GrantAck}
-use Rattle.std.proofs.Common.{◌≡◌, subst, ℕ, Bool, true, false, List, ◌∷◌, refl, sym, ◌∙◌, ap, ap₂, ◌⊎◌, inl, inr}
-use Rattle.std.proofs.Common.{length}
-use Rattle.std.specs.Prelude.{if◌then◌else◌, not, ◌==◌, ◌&&◌, ◌||◌}
-use Rattle.std.proofs.lemmas.Bool.{cases_eq}
-use Rattle.tl_params.{specs.declared.param.Cap.Cap, specs.declared.param.Report.Report}
-use Rattle.tl_params.{specs.declared.profile.Profile.Profile, specs.statement.Param.cap_right}
-use Rattle.tl_rules.specs.statement.Conformance.{same_perm}
-use Rattle.tl_coherence.specs.{statement.Draining.grown_to, protocol.Tokens.shown, protocol.Tokens.is_sent}
-use Rattle.tl_coherence.specs.{refinement.PacketMessages.report_told, protocol.Packet.Packet, protocol.Packet.set}
-use Rattle.tl_coherence.specs.{protocol.Packet.set_at}
-use Rattle.tl_coherence.specs.refinement.AbstractStep.{acquire_taken, gift, granted_after, is_unheld, kind_taken}
-use Rattle.tl_coherence.specs.refinement.AbstractStep.{last_taken, some_below, taken_by_client, with_state}
-use Rattle.tl_coherence.specs.protocol.Invariant.{IsInvariant, cap_asked, is_replied}
-use Rattle.tl_coherence.specs.protocol.Phase.{ClientBlock, Own, Other, NoAcquire, cap_fits, grant_fits}
-use Rattle.tl_coherence.specs.protocol.PhaseSteps.{after_grant_sent, after_probe, after_report, is_granted_data}
-use Rattle.tl_coherence.specs.protocol.Protocol.{Service, Free, Waits, GrantSent, GrantTaken, Block, State, SourceFree}
-use Rattle.tl_coherence.specs.protocol.Protocol.{Asked, InService, Replied, Acquires, view, on, is_probed}
-use Rattle.tl_coherence.specs.protocol.Protocol.{acquire_granted, acquire_served, granted_at_once, granted_pair}
-use Rattle.tl_coherence.specs.protocol.Protocol.{probe_taken, report_taken, reported_block, served_block, served_pair}
-use Rattle.tl_coherence.specs.refinement.SimulationRelation.{IsGivenAsked, gives_asked}
-use Rattle.tl_coherence.proofs.{memory.Beside.IsElsewhere, memory.Beside.place-cases}
-use Rattle.tl_coherence.proofs.{protocol.TokenNames.source_of_acquire, client.ClientEnd.is_access}
-use Rattle.tl_coherence.proofs.{protocol.HeadOfD.IsGrantDue, protocol.HeadOfD.grant-due}
-use Rattle.tl_coherence.proofs.{client.GrantMatchesAcquire.AreGiven, links.Granting.held_granted}
-use Rattle.tl_coherence.proofs.{manager.ManagerAfter.others_probed, queues.Phases.and_left, queues.Phases.and_right}
-use Rattle.tl_coherence.proofs.{simulation.Sized.each-set_at, simulation.SourcedAfter.first-asked}
-use Rattle.tl_coherence.proofs.{rank.RankParts.serving-use, queues.Facts.is_other}
-use Rattle.tl_coherence.proofs.protocol.QuiescentProtocol.{owns_ask, serves_another}
-use Rattle.tl_coherence.proofs.queues.Tokens.{same_number, set-each, set-other, set-same, holds-first, set_at-same}
-use Rattle.tl_coherence.proofs.protocol.BothParts.{is_replied-is, not-sent, taken-unseen, granted-unseen}
+use Rattle.std.proofs.Common.{◌≡◌, subst, ℕ, Bool, true, false, List, ◌∷◌, refl, sym, ◌∙◌, ap, ap₂, ◌⊎◌, inl, inr, ◌&&◌}
+use Rattle.std.proofs.Common.{if◌then◌else◌, ◌==◌}
+use Rattle.tl_coherence.proofs
+use proofs.Imports.{cases_eq, Config, Cap, Grow, Report, Perm, Profile, cap_right, IsInvariant, Kind, Request, Probe}
+use proofs.Imports.{Grant, Packet, set, set_at, AcquirePhase, AcquireOpen, ClientBlock, Own, Other, NoAcquire, cap_fits}
+use proofs.Imports.{after_grant_sent, after_probe, after_report, SourceState, packet, Service, Free, Waits, GrantSent}
+use proofs.Imports.{GrantTaken, Block, State, SourceFree, Asked, InService, Replied, Acquires, view, on}
+use proofs.Imports.{granted_at_once, granted_pair, probe_taken, reported_block, served_block, served_pair, let_block}
+use proofs.Imports.{let_go_block, freed_block, granted_block, is_sent, AbstractState, kind_taken, taken_by_client}
+use proofs.Imports.{IsGivenAsked, gives_asked, grown_to}
+use proofs.memory.Beside.{IsElsewhere, place-cases}
+use proofs.protocol.{TokenNames.source_of_acquire, HeadOfD.IsGrantDue, HeadOfD.grant-due, QuiescentProtocol.owns_ask}
+use proofs.protocol.{QuiescentProtocol.serves_another, BothParts.not-sent, BothParts.taken-unseen}
+use proofs.protocol.{BothParts.granted-unseen, FirstTokens.first-answer, FirstTokens.first-shown, Events.true-taken}
+use proofs.client.{ClientEnd.is_access, GrantMatchesAcquire.AreGiven}
+use proofs.links.Granting.{held_granted}
+use proofs.queues.{Facts.is_other, Tokens.same_number, Tokens.set-each, Tokens.set-other, Tokens.set-same}
+use proofs.queues.{Tokens.set_at-same, Perms.fits_cap}
+use proofs.simulation.{Sized.each-set_at, SourcedAfter.first-asked}
+use proofs.rank.RankParts.{serving-use}
 
 -- what may be held by one who wanted this, and of whom nothing else was asked
 abbrev pub grown : Profile → AcquirePhase → Perm → Bool
@@ -104,13 +91,6 @@ grows Profile.One whole Grow.BtoT Cap.ToT e f = refl
 grows Profile.Two whole Grow.BtoT Cap.ToT e f = refl
 grows p whole g k e f = absurd cc
 
-fits_cap : (recorded held : Perm) (d : Bool) (k : Cap) (whole : Bool) (g : Grow)
-    → grant_fits recorded held d k (AcquireOpen whole g) ≡ true → cap_fits whole g k ≡ true
-fits_cap recorded held d k whole g f =
-    and_left (cap_fits whole g k) (not (whole && d) && (whole || (d || same_perm held Perm.Branch)))
-    (and_right (same_perm recorded (cap_right k))
-    (cap_fits whole g k && (not (whole && d) && (whole || (d || same_perm held Perm.Branch)))) f)
-
 brings_granted : (p : Profile) (n : ℕ) (a : AcquirePhase) (u : SourceState) (x : ClientBlock) (q : Perm)
     → u ≡ SourceFree → x.held ≡ q → grown p a q ≡ true → Brings p n a u x
 brings_granted p n a u x q e f is = rw e (ap (grown p a) f ∙ is)
@@ -180,35 +160,6 @@ module _ (p : Profile) (c n source : ℕ) (a : AcquirePhase) where
 
   -- ---- messages that are taken
 
-  lone_if : (x : Bool) {s t : State (List ℕ)} → IsLone p c n source a s → IsLone p c n source a t
-      → IsLone p c n source a (if x then s else t)
-  lone_if true f h = f
-  lone_if false f h = h
-
-  lone_served : (d m i tracker : ℕ) (k : Cap) (rest : List Packet) {s : State (List ℕ)} → IsLone p c n source a s
-      → IsLone p c n source a (acquire_served d m i tracker k rest s)
-  lone_served d m i tracker k rest {s} is = lone_steady (acquire_served d m i tracker k rest s) (λ e j. refl)
-      (steady_at m (served_block d true i tracker k (s.block m)) s.block n c
-      (λ here. steady_served d true k (s.block m).pair c)) is
-
-  lone_sent : (d m tracker : ℕ) (data_too : Bool) (k : Cap) (rest : List Packet) {s : State (List ℕ)}
-      → IsLone p c n source a s → IsLone p c n source a (acquire_granted d m tracker data_too k rest s)
-  lone_sent d m tracker data_too k rest {s} is = lone_steady (acquire_granted d m tracker data_too k rest s)
-      (λ e j. refl) (steady_at m (granted_at_once d tracker data_too k (s.block m)) s.block n c
-      (λ here. steady_pair d (after_grant_sent k ((s.block m).pair d)) (s.block m).pair (refl, refl) c)) is
-
-  lone_acquire : {w : ℕ} (clients : ℕ) (profile : Profile) (d m : ℕ) (x : AcquirePhase) (tracker : ℕ)
-      (rest : List Packet) (h : AbstractState w)
-      → IsLone p c n source a h.state → IsLone p c n source a (acquire_taken clients profile d m x tracker rest h).state
-  lone_acquire clients profile d m NoAcquire tracker rest h is = is
-  lone_acquire {w} clients profile d m (AcquireOpen whole j) tracker rest h is =
-      let b : Block (List ℕ) = h.state.block m in
-      let k : Cap = cap_asked (AcquireOpen whole j) in
-      let data_too : Bool = is_granted_data whole j (b.pair d).recorded in
-      let given : Cap = gift profile whole j (is_unheld clients b.pair) in
-      lone_if (some_below clients (λ e. is_probed d true k (b.pair e).recorded e))
-      (lone_served d m (b.source d) tracker k rest is) (lone_sent d m tracker data_too given rest is)
-
   lone_probe : {caching : ℕ → Bool} (d m : ℕ) (k : Cap) (rest : List Packet) {s : State (List ℕ)}
       → IsInvariant caching s → is_sent ((s.block m).pair d).probing ≡ true → IsLone p c n source a s
       → IsLone p c n source a (probe_taken d m k rest s)
@@ -220,23 +171,6 @@ module _ (p : Profile) (c n source : ℕ) (a : AcquirePhase) where
       go here (inl same) = absurd
           (unprobed inv is (ap₂ (λ (i j : ℕ). is_sent ((s.block i).pair j).probing) here same ∙ sent))
       go here (inr other) = rw (set-other d c (after_probe k ((s.block m).pair d)) (s.block m).pair other) (refl, refl)
-
-  lone_granted : {w : ℕ} (clients : ℕ) (profile : Profile) (d q m : ℕ) (r : Report) (x : AcquirePhase)
-      (rest : List Packet) (h : AbstractState w)
-      → IsLone p c n source a h.state → IsLone p c n source a (granted_after clients profile d q m r x rest h).state
-  lone_granted clients profile d q m r NoAcquire rest h is = is
-  lone_granted clients profile d q m r (AcquireOpen whole j) rest h is =
-      lone_steady _ (λ e i. refl)
-      (steady_at m _ h.state.block n c (λ here. steady_granted d q r _ (h.state.block m).pair c)) is
-
-  lone_last : {w : ℕ} (clients : ℕ) (profile : Profile) (d m : ℕ) (r : Report) (v : Service) (rest : List Packet)
-      (h : AbstractState w) → ((q i : ℕ) (k : Cap) → v ≡ Waits q false i k → h.state.uses q i ≡ InService m)
-      → IsLone p c n source a h.state → IsLone p c n source a (last_taken clients profile d m r v rest h).state
-  lone_last clients profile d m r (Waits q true i k) rest h used is =
-      lone_granted clients profile d q m r ((h.state.block m).pair q).acquiring rest h is
-  lone_last clients profile d m r (Waits q false i k) rest h used is =
-      absurd (no_access q i (InService m) is (used q i k refl) refl)
-  lone_last clients profile d m r v rest h used is = is
 
   lone_grant : {w : ℕ} (config : Config) (tracker : ℕ) {d m : ℕ} (rest : List Packet) (h : AbstractState w)
       → AreGiven p h.state → IsGrantDue d m h.state
@@ -274,41 +208,44 @@ module _ (p : Profile) (c n source : ℕ) (a : AcquirePhase) where
       (rest : List Packet) (h : AbstractState w)
       → IsInvariant caching h.state → AreGiven p h.state → on k (h.state.link d) ≡ packet k i ∷ rest
       → IsLone p c n source a h.state → IsLone p c n source a (kind_taken config tracker d k i rest h).state
-  lone-kind_taken config tracker d Request i rest h inv given first is =
-      absurd (no_access d i Asked is (first-asked d i rest h inv first) refl)
-  lone-kind_taken config tracker d Answer i rest h inv given first is =
-      absurd (no_access d i Replied is (is_replied-is (h.state.uses d i)
-      (holds-first Answer (h.state.link d).d rest (packet Answer i) (λ j. is_replied (h.state.uses d j)) first refl
-      (inv.answers d))) refl)
-  lone-kind_taken config tracker d Acquire i rest h inv given first is =
-      lone_acquire _ config.profile d i ((h.state.block i).pair d).acquiring tracker rest h is
-  lone-kind_taken {caching} config tracker d Probe i rest h inv given first is =
-      lone_probe d i _ rest inv (holds-first Probe (h.state.link d).b rest (packet Probe i)
-      (λ j. shown Probe d (h.state.block j)) first refl (inv.transfers d Probe refl)) is
-  lone-kind_taken {w} {caching} config tracker d ProbeAck i rest h inv given first is =
-      either (some_below (length config.clients.items) (others_probed d (h.state.block i).pair))
+  lone-kind_taken {w} {caching} config tracker d k i rest h inv given first is =
+      true-taken config tracker d rest h (λ j m. on j (h.state.link d) ≡ packet j m ∷ rest)
+      (λ (x : AbstractState w). IsLone p c n source a x.state) k i (record {
+        nothing = λ j m known idle. is;
+        access_answered = λ src m o known from caps none. absurd (never src known);
+        access_served = λ src m j known from caps some. absurd (never src known);
+        acquire_granted = λ m whole g known wants none. steady m (granted_at_once d tracker _ _ (block m)) _
+            (λ e j. refl) (λ j. refl) (steady_pair d (after_grant_sent _ ((block m).pair d)) (block m).pair (refl, refl)
+            c);
+        acquire_served = λ m whole g known wants some. steady m (served_block d true _ tracker _ (block m)) _
+            (λ e j. refl) (λ j. refl) (steady_served d true _ (block m).pair c);
+        probe = λ m known. lone_probe d m _ rest inv (first-shown inv d Probe refl known) is;
+        report = λ m known more. steady m (reported_block d _ (block m)) _ (λ e j. refl) (λ j. refl)
+            (steady_pair d (after_report _ ((block m).pair d)) (block m).pair (refl, refl) c);
+        report_answers = λ m q src j known last waits.
+            absurd (no_access q src (InService m) is (serving-use m q src j inv waits) refl);
+        report_grants = λ m q src j whole g known last waits wants. steady m (granted_block d q _ _ _ (block m)) _
+            (λ e f. refl) (λ f. refl) (steady_granted d q _ _ (block m).pair c);
+        release = λ m known. steady m (let_block d _ (block m)) _ (λ e j. refl) (λ j. refl)
+            (steady_pair d _ (block m).pair (refl, refl) c);
+        answer = λ src known. absurd (no_access d src Replied is (first-answer inv known) refl);
+        grant = λ m q x j known sent. subst
+            (λ (v : Service). IsLone p c n source a (taken_by_client d m v rest h).state) sent
+            (lone_grant config tracker rest h given (grant-due caching d m rest h.state inv known) is);
+        release_ack = λ m known. steady m (let_go_block d (block m)) _ (λ e j. refl) (λ j. refl)
+            (steady_pair d _ (block m).pair (refl, refl) c);
+        grant_ack = λ m known. steady m (freed_block (block m)) _ (λ e j. refl) (λ j. refl) (refl, refl);
+      }) first
     where
-      r : Report
-      r = report_told ((h.state.block i).pair d).probing
+      block : ℕ → Block (List ℕ)
+      block = h.state.block
 
-      told : State (List ℕ)
-      told = report_taken d i r rest h.state
+      never : (src : ℕ) → (h.state.link d).a ≡ packet Request src ∷ rest → ⊥
+      never src known = no_access d src Asked is (first-asked d src rest h inv known) refl
 
-      last : AbstractState w
-      last = last_taken (length config.clients.items) config.profile d i r (h.state.block i).service rest h
-
-      either : (b : Bool) → IsLone p c n source a (if b then with_state told h else last).state
-      either true = lone_steady told (λ e j. refl) (steady_at i (reported_block d r (h.state.block i)) h.state.block n c
-          (λ here. steady_pair d (after_report r ((h.state.block i).pair d)) (h.state.block i).pair (refl, refl) c)) is
-      either false = lone_last (length config.clients.items) config.profile d i r (h.state.block i).service rest h
-          (λ q j k e. serving-use i q j k inv e) is
-  lone-kind_taken config tracker d Release i rest h inv given first is =
-      lone_steady _ (λ e j. refl)
-      (steady_at i _ h.state.block n c (λ here. steady_pair d _ (h.state.block i).pair (refl, refl) c)) is
-  lone-kind_taken {caching} config tracker d Grant i rest h inv given first is =
-      lone_grant config tracker rest h given (grant-due caching d i rest h.state inv first) is
-  lone-kind_taken config tracker d ReleaseAck i rest h inv given first is =
-      lone_steady _ (λ e j. refl)
-      (steady_at i _ h.state.block n c (λ here. steady_pair d _ (h.state.block i).pair (refl, refl) c)) is
-  lone-kind_taken config tracker d GrantAck i rest h inv given first is =
-      lone_steady _ (λ e j. refl) (steady_at i _ h.state.block n c (λ here. (refl, refl))) is
+      -- block m changes, and neither what client c holds of it nor what it wants
+      steady : (m : ℕ) (new : Block (List ℕ)) (t : State (List ℕ)) → ((e j : ℕ) → t.uses e j ≡ h.state.uses e j)
+          → ((j : ℕ) → t.block j ≡ set m new block j) → IsSteady ((block m).pair c) (new.pair c)
+          → IsLone p c n source a t
+      steady m new t uses blocks same = lone_steady t uses (subst (λ (b : Block (List ℕ)). IsSteady ((block n).pair c)
+          (b.pair c)) (sym (blocks n)) (steady_at m new block n c (λ here. same))) is

@@ -1,27 +1,18 @@
 -- Each event is a step of the one-memory machine, and performs what it answers: the outcomes are a run of it.
-use Rattle.tl_coherence.proofs.theorem.Imports.{IsWidth, Beat, Link, Channel, Message, Config, Finish, Deliver}
-use Rattle.tl_coherence.proofs.theorem.Imports.{AbstractState, Log, system_after, Ends, Machine, pool_of}
-use Rattle.tl_coherence.proofs.theorem.Imports.{one_memory_after, System, Kind, Request, Acquire, Probe, ProbeAck}
-use Rattle.tl_coherence.proofs.theorem.Imports.{Release, Answer, Grant, ReleaseAck, GrantAck, SimulationRelation}
 use Rattle.std.proofs.Common.{◌≡◌, ℕ, Bool, true, false, List, [], ◌∷◌, Option, Some, None, refl, sym, ◌∙◌, ap, subst}
-use Rattle.std.specs.Prelude.{if◌then◌else◌, Result, Ok, Err, is_some}
-use Rattle.tl_params.specs.declared.rule.Rule.{Rule}
-use Rattle.tl_client.{specs.declared.verdict.Verdict.Verdict, specs.statement.Endpoint.Endpoint}
-use Rattle.tl_client.{specs.statement.Endpoint.EndConfig, specs.statement.Offer.offered}
-use Rattle.tl_manager.specs.statement.End as manager_end
-use Rattle.tl_manager.specs.statement.Offer as manager
-use Rattle.tl_coherence.specs.{declared.event.Event.Event, declared.event.Event.TheVariants.Ask}
-use Rattle.tl_coherence.specs.{declared.event.Outcome.Outcome, statement.Headline.AreTyped}
-use Rattle.tl_coherence.specs.{statement.Headline.Continues, statement.Log.IsLog, statement.OneMemory.accesses_answered}
-use Rattle.tl_coherence.specs.{statement.OneMemory.performing, statement.System.terms_at}
-use Rattle.tl_coherence.specs.statement.Machine.{IsStep, Performs, Run, is_client, moved}
-use Rattle.tl_coherence.specs.statement.Step.{Step, stepped, judged, manager_took, is_to_client}
+use Rattle.std.proofs.Common.{is_some}
+use Rattle.tl_coherence.proofs
+use proofs.Imports.{Beat, Link, Channel, IsWidth, Config, Finish, EndConfig, Event, Deliver, Ask, Outcome, Kind, Answer}
+use proofs.Imports.{AbstractState, SimulationRelation, Continues, Log, system_after, Ends, Machine, pool_of, Run}
+use proofs.Imports.{is_client, moved, one_memory_after, accesses_answered, performing, Step, stepped, System, terms_at}
+use Rattle.tl_coherence.specs.{statement.Headline.AreTyped, statement.Log.IsLog, statement.Machine.IsStep}
+use Rattle.tl_coherence.specs.{statement.Machine.Performs}
 use Rattle.tl_coherence.specs.statement.Step as step
-use Rattle.tl_coherence.proofs.{theorem.Allowing.ends-transfer, theorem.AccessEnds.ends-answer}
-use Rattle.tl_coherence.proofs.{deliveries.AskedAfter.continues-ask, theorem.Continuing.performs-delivered}
-use Rattle.tl_coherence.proofs.{links.Ending.IsEnding, links.Ending.ending, memory.Runs.AllContinue}
-use Rattle.tl_coherence.proofs.{memory.Runs.run-continued, queues.Steps.stepped-asked}
-use Rattle.tl_coherence.proofs.deliveries.Matching.{shadow, matched, stepped-nobody}
+use proofs.theorem.{Allowing.ends-transfer, AccessEnds.ends-answer, Continuing.performs-delivered}
+use proofs.deliveries.{AskedAfter.continues-ask, Matching.shadow, Matching.matched, Matching.stepped-nobody}
+use proofs.links.Ending.{IsEnding, ending}
+use proofs.memory.Runs.{AllContinue, run-continued}
+use proofs.queues.Steps.{stepped-asked, first-outcome}
 
 -- ---- what a delivery can come to
 
@@ -34,25 +25,8 @@ delivered-so : {w : ℕ} (config : Config) (terms : EndConfig) (c : ℕ) (ch : C
     (s : System w) → is_delivered (step.delivered config terms c ch beats s).outcome ≡ true
 unfolding is_delivered
 delivered-so config terms c ch [] s = refl
-delivered-so {w} config terms c ch (x ∷ rest) s = go (is_to_client ch)
-  where
-    of_client : (r : Result (Verdict × Option (Message w)) Rule) (e : Endpoint w)
-        → is_delivered (judged r c ch x rest e s).outcome ≡ true
-    of_client (Err rule) e = refl
-    of_client (Ok (Verdict.Stalled, m)) e = refl
-    of_client (Ok (Verdict.Taken, m)) e = refl
-    of_client (Ok (Verdict.Done source f, m)) e = refl
-
-    of_manager : (a : manager.Reception w × manager_end.End w)
-        → is_delivered (manager_took c ch x rest a s).outcome ≡ true
-    of_manager (manager.Refused rule, e) = refl
-    of_manager a = refl
-
-    go : (b : Bool) → is_delivered (if b then judged (offered terms ch x (s.clients c)).answer c ch x rest
-        (offered terms ch x (s.clients c)).after s else manager_took c ch x rest
-        (manager.offered config (record { 0 = c }) ch x s.manager) s).outcome ≡ true
-    go true = of_client (offered terms ch x (s.clients c)).answer _
-    go false = of_manager _
+delivered-so config terms c ch (x ∷ rest) s =
+    first-outcome (λ o. is_delivered o ≡ true) config terms c ch x rest s refl refl (λ source f. refl)
 
 stepped-so : {w : ℕ} (config : Config) (link : Link) (ch : Channel) (terms : EndConfig) (s : System w)
     → terms_at config link.0 ≡ Some terms → is_delivered (stepped config (Deliver link ch) s).outcome ≡ true
@@ -66,13 +40,7 @@ step_allowed : {w : ℕ} (config : Config) (link : Link) (ch : Channel) (o : Out
     → IsStep config (Deliver link ch) o m (moved (Deliver link ch) o m)
 unfolding is_delivered
 step_allowed config link Channel.D (Outcome.Done x source f) m so known done = (known, (done x source f refl).1, refl)
-step_allowed config link Channel.A (Outcome.Done x source f) m so known done =
-    absurd (let e = (done x source f refl).0 in cc)
-step_allowed config link Channel.B (Outcome.Done x source f) m so known done =
-    absurd (let e = (done x source f refl).0 in cc)
-step_allowed config link Channel.C (Outcome.Done x source f) m so known done =
-    absurd (let e = (done x source f refl).0 in cc)
-step_allowed config link Channel.E (Outcome.Done x source f) m so known done =
+step_allowed config link ch (Outcome.Done x source f) m so known done =
     absurd (let e = (done x source f refl).0 in cc)
 step_allowed config link ch (Outcome.Replied r) m so known done = absurd cc
 step_allowed config link ch Outcome.NoSuchClient m so known done = absurd cc
@@ -113,22 +81,7 @@ continues-delivered {w} {config} {log} link ch h terms width is known = (
 
         go : (k : Kind) → end.first.kind ≡ k → Ends (m.opened link.0 (pool_of f) source) x f
         go Answer g = ends-answer width is end g
-        go Request g = ends-transfer is end (λ i. let no_one : Request ≡ Answer =
-            sym g ∙ i in cc)
-        go Acquire g = ends-transfer is end (λ i. let no_one : Acquire ≡ Answer =
-            sym g ∙ i in cc)
-        go Probe g = ends-transfer is end (λ i. let no_one : Probe ≡ Answer =
-            sym g ∙ i in cc)
-        go ProbeAck g = ends-transfer is end (λ i. let no_one : ProbeAck ≡ Answer =
-            sym g ∙ i in cc)
-        go Release g = ends-transfer is end (λ i. let no_one : Release ≡ Answer =
-            sym g ∙ i in cc)
-        go Grant g = ends-transfer is end (λ i. let no_one : Grant ≡ Answer =
-            sym g ∙ i in cc)
-        go ReleaseAck g = ends-transfer is end (λ i. let no_one : ReleaseAck ≡ Answer =
-            sym g ∙ i in cc)
-        go GrantAck g = ends-transfer is end (λ i. let no_one : GrantAck ≡ Answer =
-            sym g ∙ i in cc)
+        go k g = ends-transfer is end (λ i. let no_one : k ≡ Answer = sym g ∙ i in cc)
 
 continues_event : {w : ℕ} {config : Config} {log : Log w} (event : Event w) (h : AbstractState w) → IsWidth w
     → SimulationRelation config log h.mail h.request h.state (system_after config log)

@@ -1,24 +1,19 @@
 -- An access is performed at a moment at which no link holds what excludes it.
-use Rattle.tl_coherence.proofs.flow.Imports.{BeatA, Channel, Message, MessageA, Config, Log, AbstractState}
-use Rattle.tl_coherence.proofs.flow.Imports.{SimulationRelation, MonitorRelations, AccessMessages, State, SourceState}
-use Rattle.tl_coherence.proofs.flow.Imports.{SourceFree, Replied, Acquires, a_beat_of, block_at, on_link, request_of}
 use Rattle.std.proofs.Common.{◌≡◌, ℕ, true, List, [], ◌∷◌, Option, Some, None, refl, sym, ◌∙◌, ap, subst, inl, inr}
-use Rattle.tl_beat.specs.declared.beat.Link.{Link}
-use Rattle.tl_rules.specs.statement.Effect.{AccessResult, effect}
-use Rattle.tl_rules.specs.statement.Windows.{is_free, needs}
-use Rattle.tl_client.specs.declared.operation.Op.{Op}
-use Rattle.tl_coherence.specs.{declared.event.Event.Event, declared.event.Event.TheVariants.Deliver}
-use Rattle.tl_coherence.specs.{declared.event.Outcome.Outcome, refinement.MemoryRelation.IsAccess}
-use Rattle.tl_coherence.specs.{refinement.MemoryRelation.IsOpened, statement.Flow.trace_of, statement.Headline.IsGiven}
-use Rattle.tl_coherence.specs.{statement.Log.IsLog, statement.Log.system_after, statement.PerformedFree.PerformedFree}
-use Rattle.tl_coherence.specs.{statement.Step.stepped}
-use Rattle.tl_coherence.specs.statement.Machine.{Machine, Open, Requests, moved, with_memory}
-use Rattle.tl_coherence.specs.statement.OneMemory.{accesses_answered, one_memory_after}
-use Rattle.tl_coherence.proofs.{bound.Settling.given-before, deliveries.Matching.shadow, flow.FlowTraces.trace-flows}
-use Rattle.tl_coherence.proofs.{flow.Flows.flowed, flow.Renewed.IsSettledFor, links.FromInvariant.matched-given}
-use Rattle.tl_coherence.proofs.{theorem.Continuing.answering-delivered}
-use Rattle.tl_coherence.proofs.flow.Windowed.{asked_flow, free-now, renewed-followed, same_first}
-use Rattle.tl_coherence.proofs.memory.Beside.{done_at, open-here, performing-one}
+use Rattle.tl_coherence.proofs
+use proofs.Imports.{BeatA, Link, Channel, Message, MessageA, a_beat_of, Config, on_link, AccessResult, effect, block_at}
+use proofs.Imports.{request_of, is_free, needs, Op, Event, Deliver, Outcome, State, SourceState, SourceFree, Replied}
+use proofs.Imports.{Acquires, AbstractState, IsAccess, IsOpened, AccessMessages, SimulationRelation, MonitorRelations}
+use proofs.Imports.{trace_of, IsGiven, Log, system_after, Machine, Open, Requests, moved, with_memory}
+use proofs.Imports.{accesses_answered, one_memory_after, stepped}
+use Rattle.tl_coherence.specs.{statement.Log.IsLog, statement.PerformedFree.PerformedFree}
+use proofs.bound.Settling.{given-before}
+use proofs.deliveries.Matching.{shadow}
+use proofs.flow.{FlowTraces.trace-flows, Flows.flowed, Renewed.IsSettledFor, Windowed.asked_flow, Windowed.free-now}
+use proofs.flow.{Windowed.renewed-followed, Windowed.same_first}
+use proofs.links.FromInvariant.{matched-given}
+use proofs.theorem.Continuing.{answering-delivered}
+use proofs.memory.Beside.{done_at, open-here, performing-one}
 
 -- the answer of what is open
 abbrev answer_in : {w : ℕ} → Option (Open w) → Option AccessResult

@@ -1,8 +1,10 @@
 -- One memory, coherent copies, and nothing that gets stuck.
 use Rattle.std.proofs.Common.{ℕ, arith}
+use Rattle.tl_coherence.proofs
 use Rattle.tl_coherence.specs.statement.Headline.{Headline, OneMemory}
-use Rattle.tl_coherence.proofs.{links.FromInvariant.coherent, links.FromInvariant.unrefused, theorem.Machined.continues}
-use Rattle.tl_coherence.proofs.{theorem.Machined.run, outstanding.Progress.counted, outstanding.Progress.moving}
+use proofs.links.FromInvariant.{coherent, unrefused}
+use proofs.theorem.Machined.{continues, run}
+use proofs.outstanding.Progress.{counted, moving}
 
 pub one_memory : {w : ℕ} → OneMemory w
 one_memory = λ config log given. (

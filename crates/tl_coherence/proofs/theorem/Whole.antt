@@ -1,10 +1,11 @@
 -- All that holds of a manager and its clients.
 use Rattle.std.proofs.Common.{ℕ}
+use Rattle.tl_coherence.proofs
 use Rattle.tl_coherence.specs.statement.Theorem.{Theorem}
-use Rattle.tl_coherence.proofs.{theorem.LoneAcquireEnds.alone, theorem.LoneAcquireEnds.alone_whole, flow.Flows.flows}
-use Rattle.tl_coherence.proofs.{flow.FlowTraces.faultless, bound.Settling.bound, bound.Settling.drain}
-use Rattle.tl_coherence.proofs.{theorem.Soundness.headline}
-use Rattle.tl_coherence.proofs.links.FromInvariant.{at_most_recorded, carries, channels, grants, stalls}
+use proofs.theorem.{LoneAcquireEnds.alone, LoneAcquireEnds.alone_whole, Soundness.headline}
+use proofs.flow.{Flows.flows, FlowTraces.faultless}
+use proofs.bound.Settling.{bound, drain}
+use proofs.links.FromInvariant.{at_most_recorded, carries, channels, grants, stalls}
 
 pub whole : (w : ℕ) → Theorem w
 whole w = record {

@@ -13,8 +13,7 @@ use Rattle.tl_params.specs.declared.perm.Perm.TheVariants as perm
 use Rattle.tl_params.specs.statement.Param.{prune_left, report_left}
 use Rattle.tl_rules.specs.statement.Conformance.{same_perm}
 use Rattle.tl_coherence.specs.protocol.Phase.{ClientBlock, View, Idle, Own, Other, Granting, Acknowledging}
-use Rattle.tl_coherence.specs.protocol.Phase.{GrantedOther, ProbePhase, ProbeSent, ProbeAnswered, ReleasePhase}
-use Rattle.tl_coherence.specs.protocol.Phase.{ReleaseSent, ReleaseAcked, AcquirePhase, NoAcquire, AcquireOpen}
+use Rattle.tl_coherence.specs.protocol.Phase.{GrantedOther}
 use Rattle.tl_coherence.specs.protocol.PhaseSteps.{is_above, after_acquire, after_release, after_served}
 use Rattle.tl_coherence.specs.protocol.PhaseSteps.{after_grant_sent, after_probe, after_report, after_release_taken}
 use Rattle.tl_coherence.specs.protocol.PhaseSteps.{after_release_ack, after_grant}

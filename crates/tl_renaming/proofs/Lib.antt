@@ -1,0 +1,10 @@
+pub mod Addresses
+pub mod Bursts
+pub mod Held
+pub mod Imports
+pub mod Legal
+pub mod Messages
+pub mod Numbers
+pub mod Ordered
+pub mod Pending
+pub mod Traces

@@ -22,7 +22,7 @@ use Rattle.tl_rules.specs.statement.Liberties.{has_other_source, has_request_und
 module _ {w : ℕ} (l : Liberties) (r : Renaming) (faithful : IsFaithful l r) where
   -- ---- bursts that are of a message
 
-  in-request-kept : (s : ℕ) (burst : List (Beat w)) → comes_in_request (r.source s) (map (renamed r) burst)
+  pub in-request-kept : (s : ℕ) (burst : List (Beat w)) → comes_in_request (r.source s) (map (renamed r) burst)
       ≡ comes_in_request s burst
   in-request-kept s [] = refl
   in-request-kept s (A x ∷ burst) = source-test l r faithful x.source s
@@ -31,7 +31,7 @@ module _ {w : ℕ} (l : Liberties) (r : Renaming) (faithful : IsFaithful l r) wh
   in-request-kept s (D x ∷ burst) = refl
   in-request-kept s (E x ∷ burst) = refl
 
-  in-release-kept : (s : ℕ) (burst : List (Beat w)) → comes_in_release (r.source s) (map (renamed r) burst)
+  pub in-release-kept : (s : ℕ) (burst : List (Beat w)) → comes_in_release (r.source s) (map (renamed r) burst)
       ≡ comes_in_release s burst
   in-release-kept s [] = refl
   in-release-kept s (C x ∷ burst) = rw (source-test l r faithful x.source s) refl
@@ -40,7 +40,7 @@ module _ {w : ℕ} (l : Liberties) (r : Renaming) (faithful : IsFaithful l r) wh
   in-release-kept s (D x ∷ burst) = refl
   in-release-kept s (E x ∷ burst) = refl
 
-  in-grant-kept : (s : ℕ) (burst : List (Beat w)) → comes_in_grant (r.sink s) (map (renamed r) burst)
+  pub in-grant-kept : (s : ℕ) (burst : List (Beat w)) → comes_in_grant (r.sink s) (map (renamed r) burst)
       ≡ comes_in_grant s burst
   in-grant-kept s [] = refl
   in-grant-kept s (D x ∷ burst) = rw (sink-test l r faithful x.sink s) refl

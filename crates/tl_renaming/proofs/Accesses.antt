@@ -1,0 +1,120 @@
+-- The accesses that are pending after a renamed trace.
+use Rattle.tl_renaming.proofs.Imports.{Beat, A, B, C, D, E, BeatA, BeatD, Channel, History, unfinished, IsFaithful}
+use Rattle.tl_renaming.proofs.Imports.{Renaming, ends, renamed, renamed_a, renamed_address, renamed_d}
+use Rattle.tl_renaming.proofs.Imports.{renamed_history}
+use Rattle.tl_renaming.proofs.Carried.{bytes-carried-kept, carried-mask-kept, some-spoiled-kept}
+use Rattle.tl_renaming.{proofs.Bursts.ends-kept, proofs.Bursts.unfinished-kept, proofs.Numbers.same-test}
+use Rattle.tl_renaming.{proofs.Traces.beats-kept, proofs.Traces.link-kept}
+use Rattle.tl_renaming.specs.statement.Renamed.{AreFaithful, Renamings, of_link, renamed_trace}
+use Rattle.std.proofs.Common.{◌≡◌, ℕ, suc, Bool, true, false, not, ◌&&◌, List, [], ◌∷◌, length, map, refl, sym, ap, ◌∙◌}
+use Rattle.std.specs.Prelude.{filter, find, if◌then◌else◌, is_some, Option, Some, None, option_map, ◌==◌}
+use Rattle.std.proofs.lemmas.Bool.{eqb-true}
+use Rattle.tl_burst.specs.declared.message.MessageA.{MessageA}
+use Rattle.tl_bytes.specs.statement.Bytes.{Access, asked_by, ends_request, is_access, is_of, pending_accesses}
+use Rattle.tl_bytes.specs.statement.Bytes.{pending_with}
+use Rattle.tl_params.specs.declared.liberties.Liberties.{Liberties}
+use Rattle.tl_rules.specs.statement.Admission.{is_spoiled}
+use Rattle.tl_rules.specs.statement.Conformance.{Trace, on_link}
+
+-- what a request, and an access, becomes
+abbrev pub renamed_message : {w : ℕ} → Renaming → MessageA w → MessageA w
+renamed_message r m = record m { source = r.source m.source; address = renamed_address r m.address }
+
+abbrev pub renamed_access : {w : ℕ} → Renamings → Access w → Access w
+renamed_access r x = record x { request = renamed_message (of_link r x.link) x.request }
+
+-- ---- lists
+
+module _ {X Y : Type 0} (f : X → Y) (p : X → Bool) (q : Y → Bool) (same : (x : X) → q (f x) ≡ p x) where
+  pub filter-kept : (xs : List X) → filter q (map f xs) ≡ map f (filter p xs)
+  filter-kept [] = refl
+  filter-kept (x ∷ xs) = rw (same x, filter-kept xs) (go (p x))
+    where
+      go : (b : Bool) → (if b then f x ∷ map f (filter p xs) else map f (filter p xs))
+          ≡ map f (if b then x ∷ filter p xs else filter p xs)
+      go true = refl
+      go false = refl
+
+  pub find-kept : (xs : List X) → find q (map f xs) ≡ option_map f (find p xs)
+  find-kept [] = refl
+  find-kept (x ∷ xs) = rw (same x, find-kept xs) (go (p x))
+    where
+      go : (b : Bool) → (if b then Some (f x) else option_map f (find p xs))
+          ≡ option_map f (if b then Some x else find p xs)
+      go true = refl
+      go false = refl
+
+module _ {w : ℕ} (l : Liberties) (r : Renamings) (faithful : AreFaithful l r) where
+  -- ---- whose access it is
+
+  pub is-of-kept : (link s : ℕ) (x : Access w) → is_of link (r.sources link s) (renamed_access r x) ≡ is_of link s x
+  is-of-kept link s x = go (x.link == link) refl
+    where
+      go : (b : Bool) → (x.link == link) ≡ b
+          → ((x.link == link) && (r.sources x.link x.request.source == r.sources link s))
+          ≡ ((x.link == link) && (x.request.source == s))
+      go true e = rw e (ap (λ i. r.sources i x.request.source == r.sources link s) (eqb-true x.link link e)
+          ∙ same-test (r.sources link) (faithful link).sources_apart x.request.source s)
+      go false e = rw e refl
+
+  pub not-of-kept : (link s : ℕ) (x : Access w)
+      → not (is_of link (r.sources link s) (renamed_access r x)) ≡ not (is_of link s x)
+  not-of-kept link s x = ap not (is-of-kept link s x)
+
+  -- ---- what is pending
+
+  asked-kept : (link : ℕ) (x : BeatA w) (burst : List (Beat w)) (moment : ℕ)
+      → asked_by link (renamed_a (of_link r link) x) (map (renamed (of_link r link)) burst) moment
+      ≡ renamed_access r (asked_by link x burst moment)
+  asked-kept link x burst moment =
+      rw (
+        bytes-carried-kept (of_link r link) burst,
+        carried-mask-kept (of_link r link) burst,
+        some-spoiled-kept (of_link r link) burst,
+      ) refl
+
+  pub ends-request-kept : (link : ℕ) (x : BeatD w) (t : History w)
+      → ends_request (renamed_d (of_link r link) x) (renamed_history (of_link r link) t) ≡ ends_request x t
+  ends-request-kept link x t = rw (ends-kept (of_link r link) (D x) t) refl
+
+  step-kept : (link : ℕ) (x : Beat w) (t : History w) (moment : ℕ) (before : List (Access w))
+      → pending_with link (renamed (of_link r link) x) (renamed_history (of_link r link) t) moment
+      (map (renamed_access r) before) ≡ map (renamed_access r) (pending_with link x t moment before)
+  step-kept link (A x) t moment before =
+      rw (
+        ends-kept (of_link r link) (A x) t,
+        unfinished-kept (of_link r link) Channel.A t,
+        asked-kept link x (A x ∷ unfinished Channel.A t) moment,
+      ) (go (is_access x.opcode && ends (A x) t))
+    where
+      go : (b : Bool)
+          → (if b then renamed_access r (asked_by link x (A x ∷ unfinished Channel.A t) moment)
+          ∷ map (renamed_access r) before else map (renamed_access r) before)
+          ≡ map (renamed_access r)
+          (if b then asked_by link x (A x ∷ unfinished Channel.A t) moment ∷ before else before)
+      go true = refl
+      go false = refl
+  step-kept link (D x) t moment before =
+      rw (
+        ends-request-kept link x t,
+        filter-kept (renamed_access r) (λ a. not (is_of link x.source a))
+            (λ a. not (is_of link (r.sources link x.source) a)) (not-of-kept link x.source) before,
+      ) (go (ends_request x t))
+    where
+      go : (b : Bool)
+          → (if b then map (renamed_access r) (filter (λ a. not (is_of link x.source a)) before)
+          else map (renamed_access r) before)
+          ≡ map (renamed_access r) (if b then filter (λ a. not (is_of link x.source a)) before else before)
+      go true = refl
+      go false = refl
+  step-kept link (B x) t moment before = refl
+  step-kept link (C x) t moment before = refl
+  step-kept link (E x) t moment before = refl
+
+  pub accesses-kept : (t : Trace w) → pending_accesses (renamed_trace r t)
+      ≡ map (renamed_access r) (pending_accesses t)
+  unfolding pending_accesses
+  accesses-kept [] = refl
+  accesses-kept (x ∷ t) =
+      rw (accesses-kept t, link-kept r x.0.0 t, beats-kept r t)
+      (step-kept x.0.0 x.1 (on_link x.0.0 t) (suc (length t)) (pending_accesses t))

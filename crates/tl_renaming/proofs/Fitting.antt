@@ -1,0 +1,151 @@
+-- The accesses of a lawful trace lie in one block each.
+use Rattle.tl_renaming.proofs.Imports.{Beat, A, B, C, D, E, BeatA, BeatD, Channel, History, channel_of, unfinished, ends}
+use Rattle.tl_renaming.proofs.Values.{Fits}
+use Rattle.tl_renaming.specs.statement.Together.{AreTypedOn}
+use Rattle.std.proofs.Common.{◌≡◌, ℕ, suc, Bool, true, false, ◌+◌, ◌*◌, ◌/◌, ◌%◌, ◌^◌, ◌≤◌, ◌<◌, List, [], ◌∷◌, length, map}
+use Rattle.std.proofs.Common.{refl, sym, ap, ◌∙◌, arith, inl, inr}
+use Rattle.std.specs.Prelude.{All, ◌&&◌, eqb, filter, if◌then◌else◌, IfSome, min, None, not, Option, Some, unwrap_or, ⊤}
+use Rattle.std.proofs.lemmas.Bool.{cases_lt, eqb-true, le-ltb, lt-ltb}
+use Rattle.std.proofs.lemmas.List.{length-append}
+use Rattle.std.proofs.lemmas.List.Elements.{All-cons, All-filter, All-nil}
+use Rattle.tl_beat.{specs.declared.beat.Link.Link, specs.statement.Opcode.a_carries_data, specs.statement.Width.IsWidth}
+use Rattle.tl_burst.{specs.statement.Burst.data_beats, specs.statement.Messages.burst_length, specs.statement.Messages.on}
+use Rattle.tl_burst.specs.statement.Part.{completes}
+use Rattle.tl_bytes.specs.statement.Bytes.{Access, asked_by, ends_request, is_access, is_of, pending_accesses}
+use Rattle.tl_bytes.specs.statement.Bytes.{pending_with}
+use Rattle.tl_memory.{proofs.Lawful.by_itself, proofs.Lawful.is-request, proofs.OpenAccesses.is-fine}
+use Rattle.tl_memory.specs.statement.Links.{AreLegal}
+use Rattle.tl_params.specs.declared.level.Level.{Level}
+use Rattle.tl_params.specs.declared.profile.Profile.{Profile}
+use Rattle.tl_rules.{proofs.Rooms.room_in_block, proofs.Rooms.room_of_base}
+use Rattle.tl_rules.{specs.code.Place.base_of, specs.laws.Typed.AreTyped, specs.laws.Typed.IsTyped}
+use Rattle.tl_rules.specs.statement.Admission.{bytes_carried, lanes_of}
+use Rattle.tl_rules.specs.statement.Conformance.{Trace, on_link}
+use Rattle.tl_rules.specs.statement.Legality.{illegal}
+
+-- the beats of a link have lanes of their width, where those of a trace have
+typed-link : {w : ℕ} (n : ℕ) (t : Trace w) → AreTypedOn t → AreTyped (on_link n t)
+unfolding on_link
+typed-link n [] typed = tt
+typed-link {w} n (x ∷ t) typed = go (eqb x.0.0 n) (typed-link n t typed.1)
+  where
+    go : (b : Bool) → AreTyped (on_link n t) → AreTyped (if b then x.1 ∷ on_link n t else on_link n t)
+    go true rest = (typed.0, rest)
+    go false rest = rest
+
+typed-burst : {w : ℕ} (ch : Channel) (t : History w) → AreTyped t → AreTyped (unfinished ch t)
+unfolding unfinished
+typed-burst ch [] typed = tt
+typed-burst {w} ch (x ∷ t) typed = go (on ch x) (completes x (unfinished ch t)) (typed-burst ch t typed.1)
+  where
+    go : (own last : Bool) → AreTyped (unfinished ch t)
+        → AreTyped (if own then (if last then [] else x ∷ unfinished ch t) else unfinished ch t)
+    go true true rest = tt
+    go true false rest = (typed.0, rest)
+    go false last rest = rest
+
+-- ---- one access
+
+some-lanes : (w : ℕ) (o : Option (List ℕ)) → IfSome o (λ lanes. length lanes ≡ w) → length (unwrap_or o []) ≤ w
+some-lanes w None typed = omega arith
+some-lanes w (Some lanes) typed = omega (arith, typed)
+
+pub few-lanes : {w : ℕ} (x : Beat w) → IsTyped x → length (lanes_of x) ≤ w
+few-lanes {w} (A x) typed = some-lanes w x.lanes typed.1
+few-lanes {w} (B x) typed = some-lanes w x.lanes typed.1
+few-lanes {w} (C x) typed = some-lanes w x.lanes typed
+few-lanes {w} (D x) typed = some-lanes w x.lanes typed
+few-lanes (E x) typed = omega arith
+
+few-bytes : {w : ℕ} (beats : List (Beat w)) → AreTyped beats → length (bytes_carried beats) ≤ w * length beats
+unfolding bytes_carried
+few-bytes [] typed = omega arith
+few-bytes {w} (x ∷ beats) typed =
+    let next : w * suc (length beats) ≡ w * length beats + w = omega arith in
+    omega (
+      arith,
+      next,
+      length-append (bytes_carried beats) (lanes_of x),
+      few-bytes beats typed.1,
+      few-lanes x typed.0,
+    )
+
+module _ (w : ℕ) (width : IsWidth w) where
+  -- whole beats take no more than their bytes
+  whole-beats : (size : ℕ) → w * (2 ^ size / w) ≤ 2 ^ size
+  whole-beats size = elim width [
+    | inl e ↦ rw e (omega arith)
+    | inr more ↦ elim more [ inl e ↦ rw e (omega arith) | inr e ↦ rw e (omega arith) ]
+  ]
+
+  below-place : (address : ℕ) → base_of w address ≤ address % 64
+  below-place address = elim width [
+    | inl e ↦ rw e (omega arith)
+    | inr more ↦ elim more [ inl e ↦ rw e (omega arith) | inr e ↦ rw e (omega arith) ]
+  ]
+
+  data-room : (size address : ℕ) → address % 64 + 2 ^ size ≤ 64 → base_of w address + w * data_beats w size ≤ 64
+  data-room size address room = elim (cases_lt w (2 ^ size)) [
+    | inl long ↦ rw (lt-ltb w (2 ^ size) long) (omega (arith, whole-beats size, below-place address, room))
+    | inr short ↦
+        let one : w * 1 ≡ w = omega arith in
+        rw (le-ltb w (2 ^ size) short, one) (room_of_base w address width)
+  ]
+
+  burst-room : (carries : Bool) (size address : ℕ) → address % 64 + 2 ^ size ≤ 64
+      → base_of w address + w * (if carries then data_beats w size else 1) ≤ 64
+  burst-room true size address room = data-room size address room
+  burst-room false size address room = let one : w * 1 ≡ w = omega arith in rw one (room_of_base w address width)
+
+module _ {w : ℕ} (p : Profile) (width : IsWidth w) where
+  asked-fits : (level : Level) (link : ℕ) (x : BeatA w) (burst : List (Beat w)) (moment : ℕ)
+      → illegal level Channel.A (A x) ≡ None → AreTyped (A x ∷ burst) → length (A x ∷ burst) ≡ burst_length (A x)
+      → Fits (asked_by link x (A x ∷ burst) moment)
+  asked-fits level link x burst moment legal typed whole =
+      let asked = is-request level x width legal in
+      let aligned = eqb-true (x.address % 2 ^ x.size) 0 asked.aligned in
+      let room = room_in_block x.size x.address asked.small aligned in
+      let same : min x.size 6 ≡ x.size = omega (arith, asked.small) in
+      let few = few-bytes (A x ∷ burst) typed in
+      let count = burst-room w width (a_carries_data x.opcode) x.size x.address room in
+      record {
+        in_payload = omega (arith, few, ap (λ n. w * n) whole, count);
+        in_block = rw same room;
+      }
+
+  step-fits : (level : Level) (link : ℕ) (x : Beat w) (t : History w) (moment : ℕ) (before : List (Access w))
+      → illegal level (channel_of x) x ≡ None → IsTyped x → AreTyped t → All Fits before
+      → All Fits (pending_with link x t moment before)
+  step-fits level link (A x) t moment before legal typed rest fits =
+      go (is_access x.opcode) (ends (A x) t) refl
+    where
+      whole : (burst : List (Beat w)) → completes (A x) burst ≡ true → length (A x ∷ burst) ≡ burst_length (A x)
+      whole burst e = let counted = eqb-true (length burst + 1) (burst_length (A x)) e in omega (arith, counted)
+
+      go : (access last : Bool) → ends (A x) t ≡ last
+          → All Fits (if access && last then asked_by link x (A x ∷ unfinished Channel.A t) moment ∷ before else before)
+      go true true e =
+          All-cons Fits (asked_by link x (A x ∷ unfinished Channel.A t) moment) before
+          (asked-fits level link x (unfinished Channel.A t) moment legal (typed, typed-burst Channel.A t rest)
+          (whole (unfinished Channel.A t) e)) fits
+      go true false e = fits
+      go false last e = fits
+  step-fits level link (D x) t moment before legal typed rest fits = go (ends_request x t)
+    where
+      go : (b : Bool) → All Fits (if b then filter (λ access. not (is_of link x.source access)) before else before)
+      go true = All-filter (λ access. not (is_of link x.source access)) Fits before fits
+      go false = fits
+  step-fits level link (B x) t moment before legal typed rest fits = fits
+  step-fits level link (C x) t moment before legal typed rest fits = fits
+  step-fits level link (E x) t moment before legal typed rest fits = fits
+
+  -- ---- a trace
+
+  pub all-fit : (levels : List Level) (t : Trace w) → AreLegal levels p t → AreTypedOn t → All Fits (pending_accesses t)
+  unfolding pending_accesses
+  all-fit levels [] legal typed = All-nil Fits
+  all-fit levels (x ∷ t) legal typed =
+      let fine = is-fine levels p x t legal.0 in
+      step-fits fine.level x.0.0 x.1 (on_link x.0.0 t) (suc (length t)) (pending_accesses t)
+      (by_itself fine.level p x.1 (on_link x.0.0 t) fine.fine) typed.0 (typed-link x.0.0 t typed.1)
+      (all-fit levels t legal.1 typed.1)

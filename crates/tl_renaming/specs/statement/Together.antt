@@ -1,0 +1,30 @@
+-- That renaming changes no verdict on all links of a manager together.
+use Rattle.std.specs.Prelude.{ℕ, ◌≡◌, [], ◌∷◌, List, ⊤}
+use Rattle.tl_beat.specs.declared.beat.Beat.{Beat}
+use Rattle.tl_beat.specs.declared.beat.Link.{Link}
+use Rattle.tl_memory.specs.statement.Links.{AreLegal}
+use Rattle.tl_params.specs.declared.level.Level.{Level}
+use Rattle.tl_params.specs.declared.profile.Profile.{Profile}
+use Rattle.tl_params.specs.statement.Liberties.{liberties_of}
+use Rattle.tl_renaming.specs.statement.Renamed.{AreFaithful, Renamings, renamed_on_link, renamed_trace}
+use Rattle.tl_rules.specs.laws.Typed.{IsTyped}
+use Rattle.tl_rules.specs.statement.Conformance.{Trace}
+use Rattle.tl_together.specs.statement.Coherence.{broken_together, first_breach}
+
+-- each beat has as many lanes, and as many bits of mask, as its type says
+abbrev pub AreTypedOn : {w : ℕ} → Trace w → Type 0
+AreTypedOn [] = ⊤
+AreTypedOn (x ∷ t) = IsTyped x.1 × AreTypedOn t
+
+-- after a renamed trace, of which no beat breaks a rule of its link, a renamed beat breaks the same rule, of its link
+-- or of memory
+abbrev pub KeepsTogether : ℕ → Type 0
+KeepsTogether w = (p : Profile) (r : Renamings) (levels : List Level) (x : Link × Beat w) (t : Trace w)
+    → AreFaithful (liberties_of p) r → AreLegal levels p t → AreTypedOn (x ∷ t)
+    → broken_together levels p (renamed_on_link r x) (renamed_trace r t) ≡ broken_together levels p x t
+
+-- so a renamed trace has the same first breach, rule and place
+abbrev pub KeepsBreaches : ℕ → Type 0
+KeepsBreaches w = (p : Profile) (r : Renamings) (levels : List Level) (trace : Trace w)
+    → AreFaithful (liberties_of p) r → AreTypedOn trace
+    → first_breach levels p (renamed_trace r trace) ≡ first_breach levels p trace

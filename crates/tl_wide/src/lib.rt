@@ -1,0 +1,4 @@
+//! Wide beats: beats of up to 64 bytes, with addresses of 64 bits and ids of 16, and what they mean.
+#![tactic(auto)]
+
+pub mod beat;

@@ -19,7 +19,7 @@ sys.path.insert(0, str(ROOT / "docs"))
 from walk import PAGES, walk
 
 OUT, DIST = ROOT / "packaging/out", ROOT / "dist"
-KEPT, ROOM = OUT / "bare.tar", OUT / "bare"
+KEPT, BEGUN, ROOM = OUT / "bare.tar", OUT / "begun.tar", OUT / "bare"
 AS_ROOT = [] if os.geteuid() == 0 else ["sudo"]
 # What a user of the packages has beside them: Python's installer, a C compiler, and Verilator.
 TOOLS = "xz-utils,python3-pip,verilator,g++,make,pkgconf"
@@ -37,7 +37,9 @@ def on_host(*words):
 def make_room(fresh):
     """Unpacks a bare system, with the packages and the tests in its folder /root."""
     if fresh or not KEPT.exists():
-        on_host("mmdebstrap", "--quiet", "--variant=minbase", f"--include={TOOLS}", "bookworm", KEPT)
+        apt = ["--aptopt=Acquire::Retries 5", "--aptopt=APT::Sandbox::User root"]
+        on_host("mmdebstrap", "--quiet", "--variant=minbase", *apt, f"--include={TOOLS}", "bookworm", BEGUN)
+        on_host("mv", BEGUN, KEPT)
     on_host("rm", "-rf", ROOM)
     ROOM.mkdir(parents=True)
     on_host("tar", "-xpf", KEPT, "-C", ROOM)
@@ -57,11 +59,11 @@ def run(command, path="", quiet=False):
     return ran.stdout + (f"status {ran.returncode}\n" if ran.returncode else "")
 
 
-COUNTS = {"passed": 0, "failed": 0}
+PASSED, FAILED = [], []
 
 
 def want(what, holds):
-    COUNTS["passed" if holds else "failed"] += 1
+    (PASSED if holds else FAILED).append(what)
     print(f"{'ok     ' if holds else 'FAILED '} {what}", flush=True)
 
 
@@ -71,17 +73,23 @@ def writes(what, command, pattern, path=""):
     want(what, re.search(pattern, written, re.M) and not re.search(r"^status \d+$", written, re.M))
 
 
+def each(number, things, holds, lost):
+    return f"each of the {number} {things} {holds}" + (f"; not {', '.join(lost)}" if lost else "")
+
+
 def pages(prefix, path):
     """That the pages' commands write what the installed pages show, and that what these link to is there."""
     documents = ROOM / f"{prefix}/share/doc/hefrudyl"[1:]
     there = lambda command: re.sub(r"status \d+\n\Z", "", run(f"cd walk; {command}", path, quiet=True))
+    walked = []
     for page in PAGES:
         run(f"rm -rf walk; cp -R {prefix}/{EXAMPLES} walk", quiet=True)
-        passed, failed = walk(page, (documents / page).read_text(), there)
-        want(f"{page}: {passed} commands write what it shows, {failed} don't", not failed)
+        walked.append(walk(page, (documents / page).read_text(), there))
+    passed, failed = map(sum, zip(*walked))
+    want(f"{passed} commands of the pages write what is shown, {failed} don't", passed and not failed)
     links = [(page, it) for page in documents.rglob("*.md") for it in re.findall(r"\]\(([^)#]+)", page.read_text()) if "://" not in it]
     lost = [f"{page.name}: {it}" for page, it in links if not (page.parent / it).exists()]
-    want(f"the {len(links)} links of the pages lead somewhere {lost or ''}", links and not lost)
+    want(each(len(links), "links of the pages", "leads somewhere", lost), links and not lost)
 
 
 def programs(flags, path=""):
@@ -117,8 +125,23 @@ def tarball():
     run(f"rm -rf {prefix} out")
 
 
+def whole():
+    """That the Debian packages have each file of the tarball, at its place in Debian."""
+    places = {"lib/": "usr/lib/x86_64-linux-gnu/", "PROVED": "usr/share/doc/hefrudyl/PROVED",
+              "share/doc/hefrudyl/CHANGELOG.md": "usr/share/doc/hefrudyl/changelog", "": "usr/"}
+    place = lambda name: next(to + name.removeprefix(of) for of, to in places.items() if name.startswith(of))
+    names = lambda command: {it.removeprefix("./") for it in run(command, quiet=True).splitlines() if not it.endswith("/")}
+    packed = {it.removesuffix(".gz") for deb in DEBS for it in names(f"dpkg-deb --fsys-tarfile {deb.name} | tar -t")}
+    wanted = {place(it.removeprefix(f"{NAME}/")) for it in names(f"tar -tf {TARBALL.name}")}
+    lost = sorted(wanted - packed)
+    want(each(len(wanted), "files of the tarball", "is in the packages", lost), wanted and not lost)
+
+
 def packages():
+    whole()
     writes("the packages are installed", f"dpkg -i {' '.join(it.name for it in DEBS)}", "Setting up hefrudyl")
+    for package in ("hefrudyl", "libhefrudyl1"):
+        writes(f"{package} says what was proved", f"head -n 3 /usr/share/doc/{package}/PROVED", "^Proved by rattle-kit")
     writes("the command", "command -v tltool; tltool --version", rf"^/usr/bin/tltool\ntltool {re.escape(VERSION)}$")
     pages("/usr", "")
     programs("pkg-config")
@@ -128,6 +151,8 @@ def packages():
 def wheel():
     install = "pip install --no-index --break-system-packages --root-user-action=ignore"
     writes("the wheel is installed", f"{install} ./{WHEEL.name}", "Successfully installed hefrudyl")
+    proved = "python3 -c 'import hefrudyl, pathlib; print(pathlib.Path(hefrudyl.__file__).with_name(\"PROVED\").read_text())' | head -n 3"
+    writes("the wheel says what was proved", proved, "^Proved by rattle-kit")
     writes("a bench in Python", "python3 test_clocked.py", "^0 failures$")
     writes("it is removed", "pip uninstall --yes --break-system-packages --root-user-action=ignore hefrudyl", "Successfully uninstalled")
 
@@ -147,8 +172,8 @@ def main():
     on_host("rm", "-rf", ROOM)
     for file in (TARBALL, *DEBS, WHEEL):
         print(f"{file.stat().st_size:9} {file.name}")
-    print(f"{COUNTS['passed']} passed, {COUNTS['failed']} failed, {time.time() - began:.0f} s")
-    return 1 if COUNTS["failed"] else 0
+    print(*(f"FAILED  {what}" for what in FAILED), f"{len(PASSED)} passed, {len(FAILED)} failed, {time.time() - began:.0f} s", sep="\n")
+    return 1 if FAILED else 0
 
 
 if __name__ == "__main__":

@@ -26,7 +26,7 @@ packaged() {
 }
 rm -f $(packaged)
 (cd "$room" && dpkg-buildpackage --build=binary --no-sign --no-pre-clean --buildinfo-option=--build=binary) >packaging/out/deb.log 2>&1 \
-  || { tail -n 40 packaging/out/deb.log; exit 1; }
+  || { tail -n 100 packaging/out/deb.log; exit 1; }
 mv packaging/out/*_amd64.deb dist/
 lintian --fail-on error --allow-root $(packaged)
 ls -l $(packaged)

@@ -2,14 +2,13 @@
 """proved.py [FOLDER]: writes what is proved of the packages, and by what: the toolchain, each crate with its number of functions and the
 sum of its sources, and of FOLDER, which is packed, the sum of each file. It refuses where a verdict is missing, where sources
 aren't those that were proved, or where what is packed isn't what was built of them."""
-import json
 import pathlib
 import subprocess
 import sys
 
 ROOT = pathlib.Path(__file__).resolve().parent.parent
 sys.path.insert(0, str(ROOT / "tools"))
-from verdicts import BUILT, NOTES, below, sources, sum_of
+from verdicts import below, faults, noted, sum_of
 
 # The crates of the command and of the library.
 PROGRAMS = ("tltool", "hefrudyl")
@@ -35,22 +34,6 @@ The files, each with its SHA-256: grep -E '^[0-9a-f]{64}  ' PROVED | sha256sum -
 """
 
 
-def faults(notes, wanted):
-    """Why what is here isn't what was proved."""
-    for crate in sorted(wanted):
-        if crate not in notes:
-            yield f"{crate}: no verdict is noted: run `make proof` and `make library`, or `make test`"
-        elif notes[crate]["sources"] != sources(crate):
-            yield f"{crate}: its sources aren't those that were proved"
-        elif crate in BUILT and not (ROOT / BUILT[crate]).exists():
-            yield f"{BUILT[crate]}: isn't there"
-        elif crate in BUILT and notes[crate].get("built") != sum_of(ROOT / BUILT[crate]):
-            yield f"{BUILT[crate]}: isn't what was built of the proved sources"
-    for word in ("kit", "logic"):
-        if len({notes[crate][word] for crate in wanted if crate in notes}) > 1:
-            yield f"not all crates were proved by the same {word}"
-
-
 def list_files(folder):
     print(FILES, end="")
     for file in sorted(it for it in folder.rglob("*") if it.is_file() and not it.is_symlink() and it != folder / "PROVED"):
@@ -59,7 +42,7 @@ def list_files(folder):
 
 def main():
     wanted = set().union(*map(below, PROGRAMS))
-    notes = json.loads(NOTES.read_text()) if NOTES.exists() else {}
+    notes = noted()
     wrong = list(faults(notes, wanted))
     if wrong:
         sys.exit("packaging/proved.py: what is here can't be packed as proved:\n" + "\n".join(wrong))

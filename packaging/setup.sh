@@ -2,7 +2,7 @@
 # Installs by apt-get what the packages are made and tried with. It fails where a tool is missing afterwards.
 set -euo pipefail
 
-packages=(dpkg-dev debhelper fakeroot lintian python3-build python3-setuptools python3-wheel mmdebstrap binutils xz-utils make gcc)
+packages=(dpkg-dev debhelper fakeroot lintian python3-build python3-setuptools python3-wheel mmdebstrap binutils xz-utils make gcc libc6-dev)
 tools=(dpkg-buildpackage dh fakeroot lintian mmdebstrap objdump xz make gcc unshare)
 
 missing() {
@@ -10,13 +10,16 @@ missing() {
     command -v "$tool" >/dev/null || echo "$tool"
   done
   /usr/bin/python3 -c 'import build, setuptools, wheel' 2>/dev/null || echo python3-build
+  # what a static program is linked with; the compiler prints a file's name alone where it hasn't the file
+  [ "$(gcc -print-file-name=libc.a 2>/dev/null)" != libc.a ] || echo libc6-dev
 }
 
 if [ -n "$(missing)" ]; then
   root=()
   [ "$(id -u)" -eq 0 ] || root=(sudo)
-  "${root[@]}" apt-get update
-  "${root[@]}" env DEBIAN_FRONTEND=noninteractive apt-get install -y --no-install-recommends "${packages[@]}"
+  apt=("${root[@]}" env DEBIAN_FRONTEND=noninteractive apt-get -o DPkg::Lock::Timeout=600 -o Acquire::Retries=5 -o APT::Sandbox::User=root)
+  "${apt[@]}" update
+  "${apt[@]}" install -y --no-install-recommends "${packages[@]}"
 fi
 
 if [ -n "$(missing)" ]; then

@@ -20,5 +20,5 @@ HEFRUDYL_GLIBC=$(printf '2.5\n%s\n' "$(packaging/needs.sh "$library")" | sort -V
 sed "s/@VERSION@/$version/" packaging/wheel/pyproject.toml >"$room/pyproject.toml"
 rm -f dist/hefrudyl-"$version"-py3-*.whl
 /usr/bin/python3 -m build --wheel --no-isolation --outdir dist "$room" >packaging/out/wheel.log 2>&1 \
-  || { tail -n 40 packaging/out/wheel.log; exit 1; }
+  || { tail -n 100 packaging/out/wheel.log; exit 1; }
 ls -l dist/hefrudyl-"$version"-py3-*.whl

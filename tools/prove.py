@@ -1,16 +1,19 @@
 #!/usr/bin/env python3
-"""prove.py PROGRAM: proves a program of the repository and what it stands on, several crates at once, and builds it.
+"""prove.py CRATE..: proves programs and static libraries of the repository and what they stand on, several crates at once, and
+builds them. Where it is noted that what stands in crates/CRATE/out was built of the sources as they are, there is nothing to do.
 
 The crates are copied to a folder apart, without their wrong bodies, and `rt ci` proves them there from nothing, side by side as
-far as their libraries and the memory allow. The program and its object file then stand in crates/PROGRAM/out. In that crate's
-folder `rt run` does the same for one crate after another, and keeps what it proved."""
+far as their libraries and the memory allow; what an earlier run on this machine proved of the same files it keeps. `rt ci` builds
+no static library, and a program that it keeps comes without its object file: one more check of that crate, over the libraries
+that stand there, builds it. In a crate's folder `rt run` and `rt lib` do the same for one crate after another, and keep what they
+proved."""
 import pathlib
 import shutil
 import subprocess
 import sys
 import tempfile
 
-from verdicts import ROOT, below, crates
+from verdicts import BUILT, ROOT, below, crates, faults, noted
 
 
 def copy(names, room):
@@ -23,18 +26,49 @@ def copy(names, room):
     (room / ".git").mkdir()
 
 
-def main():
-    program = sys.argv[1]
+def build_words(crate, kit):
+    """What `rattle build` is told in the folder of a crate that stands over the libraries that `rt ci` left."""
+    rlibs = {name: f"../{name}/out/rlib" if name in crates() else kit / "rlibs" for name in ("std", *crates()[crate][1])}
+    named = [word for name, folder in rlibs.items() for word in ("--extern", f"{name}={folder}/{name}.rlib")]
+    folders = [kit / "rlibs", *(f"../{name}/out/rlib" for name in below(crate) - {crate})]
+    named += [word for folder in folders for word in ("-L", f"dependency={folder}")]
+    logic = ["--antt-project", kit / "rattle/logic/antt-project.json", "--logic-built", kit / "logic_built"]
+    return ["--crate-name", crate, *named, *logic, "--toolchain", kit / "toolchain", "--backend", "llvm", "--jobs", "2"]
+
+
+def build(crate, room):
+    """Checks a crate and builds its static library, or its object file and the program."""
+    kit = pathlib.Path(subprocess.run(["rt", "doc"], capture_output=True, text=True, check=True).stdout.strip()).parent
+    made = room / BUILT[crate][0]
+    kind = ["src/lib.rt", "--crate-type", "staticlib"] if made.suffix == ".a" else ["src/main.rt"]
+    run = lambda *words: subprocess.run(words, cwd=room / "crates" / crate).returncode
+    print(f"== {crate}", flush=True)
+    status = run(kit / "bin/rattle", "build", *kind, *build_words(crate, kit), "-o", made)
+    if status == 0 and made.suffix == ".o":
+        link = ["--target", "x86_64-unknown-linux-gnu", "--toolchain", kit / "toolchain", "-o", made.with_suffix("")]
+        status = run(kit / "bin/rattle-link", *link, made, kit / "c/libos_c.a", kit / "c/liblibc_c.a")
+    return status
+
+
+def prove(names):
     with tempfile.TemporaryDirectory(prefix="prove-") as folder:
         room = pathlib.Path(folder)
-        copy(below(program), room)
+        copy(set().union(*map(below, names)), room)
         status = subprocess.run(["rt", "ci"], cwd=room).returncode
-        if status == 0:
-            out = ROOT / "crates" / program / "out"
-            out.mkdir(exist_ok=True)
-            for name in (f"{program}.o", program):
-                shutil.copy(room / "crates" / program / "out" / name, out)
+        for crate in names:
+            if status == 0 and not all((room / file).exists() for file in BUILT[crate]):
+                status = build(crate, room)
+            for file in BUILT[crate] if status == 0 else ():
+                (ROOT / file).parent.mkdir(exist_ok=True)
+                shutil.copy(room / file, ROOT / file)
     return status
+
+
+def main():
+    left = [crate for crate in sys.argv[1:] if list(faults(noted(), below(crate)))]
+    if not left:
+        print(f"{' '.join(sys.argv[1:])}: proved and built of these sources before")
+    return prove(left) if left else 0
 
 
 if __name__ == "__main__":

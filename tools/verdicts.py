@@ -1,8 +1,8 @@
 #!/usr/bin/env python3
-"""verdicts.py COMMAND..: runs a command, as `rt ci` or `rt run`, passes on what it writes, and notes in packaging/out/verdicts.json
-each crate that it proved: by which toolchain, how many functions, of which sources, and what was built of them. A crate whose
-sources changed meanwhile isn't noted; a file that wasn't built anew keeps its note, where the sources are those of before. The
-exit status is the command's."""
+"""verdicts.py COMMAND..: runs a command, as `rt ci`, passes on what it writes, and notes in packaging/out/verdicts.json each crate
+that it proved from nothing: by which toolchain, how many functions, of which sources, and what was built of them. A crate whose
+sources changed meanwhile isn't noted, nor one of which an earlier check's work was taken; a file that wasn't built anew keeps its
+note, where the sources are those of before. The exit status is the command's."""
 import hashlib
 import json
 import pathlib
@@ -13,7 +13,7 @@ import sys
 ROOT = pathlib.Path(__file__).resolve().parent.parent
 NOTES = ROOT / "packaging/out/verdicts.json"
 # What is built of a crate, and packed.
-BUILT = {"tltool": "crates/tltool/out/tltool.o", "hefrudyl": "crates/hefrudyl/out/libhefrudyl.a"}
+BUILT = {"tltool": ("crates/tltool/out/tltool.o", "crates/tltool/out/tltool"), "hefrudyl": ("crates/hefrudyl/out/libhefrudyl.a",)}
 
 
 def sum_of(file):
@@ -46,9 +46,32 @@ def sources(crate):
     return hashlib.sha256("\n".join([*lines, crates()[crate][0], ""]).encode()).hexdigest()
 
 
+def noted():
+    """What earlier runs noted of each crate."""
+    return json.loads(NOTES.read_text()) if NOTES.exists() else {}
+
+
+def faults(notes, wanted):
+    """Why what is here isn't what was proved, of these crates."""
+    for crate in sorted(wanted):
+        if crate not in notes:
+            yield f"{crate}: no verdict is noted: run `make proved`"
+        elif notes[crate]["sources"] != sources(crate):
+            yield f"{crate}: its sources aren't those that were proved: run `make proved`"
+        else:
+            for file in BUILT.get(crate, ()):
+                if not (ROOT / file).exists():
+                    yield f"{file}: isn't there: run `make proved`"
+                elif notes[crate].get("built", {}).get(file) != sum_of(ROOT / file):
+                    yield f"{file}: isn't what was built of the proved sources: run `make proved`"
+    for word in ("kit", "logic"):
+        if len({notes[crate][word] for crate in wanted if crate in notes}) > 1:
+            yield f"not all crates were proved by the same {word}"
+
+
 def verdicts(lines):
-    """Each crate that lines of `rt` say is proved, with its number of functions and the sum of its logic. Of a crate that is kept,
-    since `rt ci` proved the same files in an earlier run on this machine, it says neither."""
+    """Each crate that lines of `rt` say is proved from nothing, with its number of functions and the sum of its logic. Of a crate that
+    is kept, since `rt ci` proved the same files in an earlier run on this machine, it says neither."""
     crate = None
     for line in lines:
         kept = re.match(r"rt: (\w+) is kept: an earlier run on this machine proved the same files", line)
@@ -58,7 +81,7 @@ def verdicts(lines):
         if named or line.startswith("== "):
             crate = named[1] if named else line.split()[-1]
         found = re.match(r"logic=proved functions=(\d+).* sum=(\w+)", line)
-        if found and crate and " tests=" not in line:
+        if found and crate and " tests=" not in line and " incremental=trusted" not in line:
             yield crate, int(found[1]), found[2]
 
 
@@ -72,21 +95,27 @@ def run(command):
     return lines, child.wait()
 
 
-def main():
-    before = {crate: sources(crate) for crate in crates()}
-    stamps = {crate: (ROOT / file).stat().st_mtime_ns if (ROOT / file).exists() else 0 for crate, file in BUILT.items()}
+def stamp_of(file):
+    return (ROOT / file).stat().st_mtime_ns if (ROOT / file).exists() else 0
+
+
+def note(notes, lines, before, stamps):
+    """Notes the crates that lines of `rt` say are proved, with what was built of them meanwhile."""
     kit, _, kits_logic = subprocess.run(["rt", "version"], capture_output=True, text=True, check=True).stdout.split()[:3]
-    lines, status = run(sys.argv[1:])
-    notes = json.loads(NOTES.read_text()) if NOTES.exists() else {}
     for crate, functions, logic in verdicts(lines):
         if crate in before and sources(crate) == before[crate]:
             same = notes.get(crate) if notes.get(crate, {}).get("sources") == before[crate] else {}
-            notes[crate] = {**same, "kit": kit, "logic": logic or kits_logic, "functions": functions or same.get("functions"),
-                            "sources": before[crate]}
-    for crate, name in BUILT.items():
-        file = ROOT / name
-        if crate in notes and notes[crate]["sources"] == before[crate] and file.exists() and file.stat().st_mtime_ns > stamps[crate]:
-            notes[crate]["built"] = sum_of(file)
+            anew = {file: sum_of(ROOT / file) for file in BUILT.get(crate, ()) if stamp_of(file) > stamps[file]}
+            notes[crate] = {"kit": kit, "logic": logic or kits_logic, "functions": functions or same.get("functions"),
+                            "sources": before[crate], "built": {**same.get("built", {}), **anew}}
+
+
+def main():
+    before = {crate: sources(crate) for crate in crates()}
+    stamps = {file: stamp_of(file) for files in BUILT.values() for file in files}
+    lines, status = run(sys.argv[1:])
+    notes = noted()
+    note(notes, lines, before, stamps)
     NOTES.parent.mkdir(parents=True, exist_ok=True)
     NOTES.write_text(json.dumps(notes, indent=1, sort_keys=True) + "\n")
     return status

@@ -96,7 +96,8 @@ LIMITS = {
     "tl_proved_client": [*AGENT_LIMITS, ("SOURCES(5)", "tl_SOURCES_is_1_to_8_and_fits_SOURCE_BITS")],
 }
 LINT = ["verilator", "--lint-only", "--timing", "-Wno-PINMISSING", "-Wno-WIDTH", INCLUDES, "--top-module", "refused"]
-ELABORATE = ["iverilog", "-g2012", INCLUDES, "-s", "refused", "-o", "/dev/null"]
+# No output: Icarus makes its output executable, and a /dev/null of mode 755 is closed to every user but root.
+ELABORATE = ["iverilog", "-g2012", INCLUDES, "-s", "refused", "-t", "null"]
 
 
 def elaborated(command, module, parameter):

@@ -16,7 +16,7 @@ WATCH = ["sv/tl_pkg.sv", "sv/tl_unknown.sv", "sv/tl_pending.sv", "sv/tl_port_wat
 SV = WATCH + ["sv/tl_manager_recorder.sv", "sv/tl_link_recorder.sv"]
 CHECKERS = ["sv/tl_manager_checker.sv", "sv/tl_link_checker.sv"]
 INCLUDES = "-I" + os.path.join(HERE, "sv")
-EXAMPLE = ["example/tl_cache.sv", "example/tl_home.sv", "example/tl_device.sv", "example/bench_recorded.sv"]
+EXAMPLE = [f"example/{name}.sv" for name in ("tl_cache", "tl_liberal_cache", "tl_home", "tl_device", "bench_recorded")]
 
 # Each bug of example/tl_home.sv, and the rule of memory that finds it.
 HOME_BUGS = {1: "M1", 2: "M4", 3: "M2"}
@@ -33,6 +33,17 @@ BUGS = {
     7: ("H13", "agree"),
     8: ("H10", "agree"),
     9: (None, "agree"),
+}
+
+# Each bug of example/tl_liberal_cache.sv, in the same way.
+LIBERAL_BUGS = {
+    1: (None, "differ"),
+    2: ("H8", "agree"),
+    3: ("H8", "agree"),
+    4: ("H10", "agree"),
+    5: ("H12", "agree"),
+    6: ("H13", "differ"),
+    7: (None, "differ"),
 }
 
 TESTS = []
@@ -122,6 +133,16 @@ def proved(width=8, checkers="CHECKED", base=0):
 
 def recorded():
     return verilator("recorded", "bench_recorded", SV + EXAMPLE)
+
+
+def liberal():
+    """The example with the caches that take liberties."""
+    return verilator("liberal", "bench_recorded", SV + EXAMPLE, "-DLIBERAL")
+
+
+def liberal_checked():
+    """The same with a checker on each link, and one of all links that judges each by itself."""
+    return with_library("liberal_checked", [], ["sv/tl_checker_dpi.cpp"], "-DLIBERAL", "-DCHECKED", "-DTOGETHER", "-DCOUNT=0")
 
 
 def judged(trace, command="monitor"):

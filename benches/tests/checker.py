@@ -68,10 +68,12 @@ def the_checker_of_a_link_takes_liberties():
 RECORDER_LIMITS = [
     ("LINK(16)", "tl_links_are_0_to_15"), ("W(32)", "tl_W_is_4_8_or_16"), ("SOURCE_BITS(9)", "tl_SOURCE_BITS_is_1_to_8"),
     ("SINK_BITS(9)", "tl_SINK_BITS_is_1_to_8"), ("ADDRESS_BITS(36)", "tl_ADDRESS_BITS_is_1_to_32"),
-    ("TIMEOUT(-1)", "tl_TIMEOUT_is_0_or_more"),
+    ("TIMEOUT(-1)", "tl_TIMEOUT_is_0_or_more"), ("LEVEL(3)", "tl_LEVELS_are_0_1_or_2"), ("PROFILE(3)", "tl_PROFILE_is_1_or_2"),
+    ("LIBERTIES(256)", "tl_LIBERTIES_is_0_to_255"),
 ]
 SHARED_LIMITS = [
-    ("N(17)", "tl_N_is_1_to_16"), ("CLIENTS(17)", "tl_CLIENTS_is_0_to_16"), ("FIRST(15), .N(2)", "tl_links_are_0_to_15"),
+    ("N(17)", "tl_N_is_1_to_16"), ("N(2), .LEVELS(4'b1110)", "tl_LEVELS_are_0_1_or_2"), ("CLIENTS(17)", "tl_CLIENTS_is_0_to_16"),
+    ("FIRST(15), .N(2)", "tl_links_are_0_to_15"),
     # a port that there isn't, sources backwards, beyond the width, and of two clients
     *((f"CLIENTS(2), {words}", "tl_sources_of_CLIENTS_are_apart_and_of_a_port") for words in (
         ".CLIENT_PORTS(8'h10), .FIRST_SOURCES(16'h0400), .LAST_SOURCES(16'h0703)",
@@ -90,7 +92,7 @@ AGENT_LIMITS = [
 ]
 LIMITS = {
     "tl_link_recorder": RECORDER_LIMITS, "tl_manager_recorder": SHARED_LIMITS, "tl_manager_checker": CHECKER_LIMITS,
-    "tl_link_checker": [("LEVEL(3)", "tl_LEVELS_are_0_1_or_2"), *RECORDER_LIMITS[1:]],
+    "tl_link_checker": RECORDER_LIMITS[1:],
     "tl_proved_manager": [*AGENT_LIMITS, ("N(17)", "tl_N_is_1_to_16"), ("TRACKERS(9)", "tl_TRACKERS_is_1_to_8"),
                           ("LEVELS(3)", "tl_LEVELS_are_0_1_or_2")],
     "tl_proved_client": [*AGENT_LIMITS, ("SOURCES(5)", "tl_SOURCES_is_1_to_8_and_fits_SOURCE_BITS")],
@@ -122,20 +124,20 @@ def what_does_not_fit_is_refused_at_elaboration():
 
 
 @test
-def open_fields_are_written_as_a_trace_fixes_them():
+def fields_are_written_as_they_are_on_the_link():
     top = "test_fields"
     sources = SV + ["tests/test_fields.sv"]
     for name, command in (("fast", [verilator(top, top, sources)]), ("slow", ["vvp", "-n", icarus(top + ".vvp", top, sources)])):
         run(command + [f"+trace={path(name)}"])
         want(beat_lines(name) == [
             "tltrace 2 4 C C",
-            "00 B 6 2 6 00 00000040 f - 0",
-            "00 C 4 5 6 00 00000040 - 0",
-            "00 D 0 0 2 01 00 1 - 0",
+            "00 B 6 2 6 02 00000040 f - 0",
+            "00 C 4 5 6 02 00000040 - 0",
+            "00 D 0 0 2 01 07 1 - 0",
             "01 B 6 2 6 02 00000040 f - 0",
             "01 C 4 5 6 02 00000040 - 0",
             "01 D 0 0 2 01 07 1 - 0",
-            "00 D 1 0 2 01 00 1 00000000 1",
+            "00 D 1 0 2 01 07 1 00000000 0",
             "01 D 1 0 2 01 07 1 00000000 0",
             "00 E 03",
             "01 E 03",

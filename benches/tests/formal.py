@@ -14,6 +14,9 @@ PATIENCE = 1800  # seconds of wall time, on a machine that does much else
 CACHE_BUGS = {1: "H11", 3: "H8", 4: "S1", 5: "H12", 6: "H5", 7: "H13", 8: "H10", 9: "H5"}
 WIDE = {4: "tl_cache.toml"}
 
+# Those of the cache that takes liberties. A search finds the sixth also where a copy to read is upgraded.
+LIBERAL_CACHE_BUGS = {2: ["H8"], 3: ["H8"], 4: ["H10"], 5: ["H12"], 6: ["H12", "H13"]}
+
 
 def formal(map_file, *words, status=0):
     return run([os.path.join(FORMAL, "tl-formal"), os.path.join(FORMAL, map_file), "--tool", TLTOOL, *words], status=status, timeout=PATIENCE)
@@ -58,6 +61,20 @@ def bounded_search_finds_a_byte_that_the_third_bug_of_the_manager_drops():
     # of one link: data are given back, and a Get brings what was before
     told = formal("tl_home_one.toml", "--set", "bug=3", "--search", "400", "--block-bits", "1", "--memory", "--byte", "5", status=1)
     want(fault(told) == ("M3", "M3"), told)
+
+
+@test
+def bounded_search_finds_the_bugs_of_the_cache_that_takes_liberties():
+    for bug, rules in LIBERAL_CACHE_BUGS.items():
+        told = formal("tl_liberal_cache.toml", "--set", f"bug={bug}", "--search", "120", "--block-bits", "2", status=1)
+        failing, judged = fault(told)
+        want(failing == judged and failing in rules, f"bug {bug}: {told}")
+
+
+@test
+def the_cache_that_takes_liberties_is_proved():
+    told = formal("tl_liberal_cache.toml", "--search", "0", "--prove", "600", "--block-bits", "2")
+    want(len(re.findall(r"^\w+ +proved ", told, re.M)) == 16, told)
 
 
 @test

@@ -1,6 +1,11 @@
-"""Liberties: for each a shortest trace that it alone makes lawful, and the nearest that stays at fault."""
+"""Liberties: for each a shortest trace that it alone makes lawful, and the nearest that stays at fault; and how they are named."""
 
-from harness import python_module, test, want
+import os
+import re
+import subprocess
+import sys
+
+from harness import HERE, SV, TLTOOL, beat_lines, icarus, path, python_module, run, test, verilator, want
 
 DATA = "00" * 8
 ACQUIRE_NTOB = "00 A 6 0 6 00 00000000 ff - 0"
@@ -87,3 +92,79 @@ def liberties_of_a_profile_are_the_profile():
             with module.Monitor([module.Level.C], profile=profile) as monitor:
                 told = [monitor.push_line(f"{line}\n".encode()).rule for line in lines][-1]
             want(told == first_fault(module, liberties, lines), f"profile {profile}: {told}: {lines}")
+
+
+# ---- names
+
+# The numbers of docs/PROTOCOL.md's liberties, in its order; and what stands for several.
+NUMBERS = {name: 1 << place for place, name in enumerate(
+    ("IDS", "SINKS", "WRITER", "EARLY", "DROPS", "REPORTS", "DENIED", "UNCORRUPT"))}
+STANDARD, EVERY = 127, 255
+
+# Where each file names them: the text that begins and ends the list, and a name with its number.
+NAMED = [
+    ("sv/tl_pkg.sv", "// What a link may do", "\n\n", r"\bLIBERTY_([A-Z]+) = (\d+);"),
+    ("include/hefrudyl.h", "enum tl_liberty {", "};", r"\bTL_(?!NO_)([A-Z]+) = (\d+)"),
+    ("python/hefrudyl.py", "class Liberty(", "\n\n\n", r"^    ([A-Z]+) = (\d+)$"),
+]
+
+
+@test
+def each_language_names_the_liberties_alike():
+    for file, begin, end, pattern in NAMED:
+        with open(os.path.join(HERE, file)) as text:
+            listed = text.read().split(begin)[1].split(end)[0]
+        found = {name: int(number) for name, number in re.findall(pattern, listed, re.M)}
+        want(found == {**NUMBERS, "STANDARD": STANDARD}, f"{file}: {found}")
+    sys.path.insert(0, os.path.join(HERE, "formal"))
+    from tl_formal.design import LIBERTIES
+    want(LIBERTIES == [name.lower() for name in NUMBERS], f"tl_formal: {LIBERTIES}")
+
+
+def header_of(liberties):
+    """The header of a link of level C, as docs/FORMATS.md has it."""
+    if liberties == 0:
+        return "tltrace 2 8 C"
+    if liberties == NUMBERS["WRITER"]:
+        return "tltrace 3 8 2 C"
+    if liberties in (STANDARD, EVERY):
+        return f"tltrace 4 8 {'standard' if liberties == STANDARD else 'standard,uncorrupt'} C"
+    return f"tltrace 4 8 {','.join(name.lower() for name, number in NUMBERS.items() if liberties & number)} C"
+
+
+def recorded_headers(simulator, sets):
+    """Has recorders of these sets write their headers, to the files `headers` and a word."""
+    top = "test_headers"
+    words = ",".join(f"8'd{it}" for it in reversed(sets))
+    flags = [f"-DCOUNT={len(sets)}", f"-DSETS={{{words}}}"]
+    sources = SV + [f"tests/{top}.sv"]
+    if simulator == "Verilator":
+        run([verilator(top, top, sources, *flags), f"+traces={path('headers')}"])
+    else:
+        run(["vvp", "-n", icarus(f"{top}.vvp", top, sources, *flags), f"+traces={path('headers')}"])
+    others = {it: beat_lines(f"headers.{it}") for it in ("several", "second", "none")}
+    want(others == {"several": ["tltrace 4 8 early UL UL UL UH C"], "second": ["tltrace 3 8 2 UH"], "none": []}, f"{simulator}: {others}")
+    for it in sets:
+        found = beat_lines(f"headers.{it}")
+        want(found == [header_of(it)], f"{simulator}, liberties {it}: {found}")
+
+
+@test
+def a_recorder_writes_its_liberties_into_the_header():
+    few = [0, *NUMBERS.values(), STANDARD, EVERY]
+    recorded_headers("Verilator", few)
+    recorded_headers("Icarus", [*few, *(EVERY - it for it in NUMBERS.values() if it != NUMBERS["UNCORRUPT"])])
+
+
+def monitored(liberties, lines):
+    """What the command says of a trace with the header that a recorder wrote last."""
+    text = "\n".join([*beat_lines(f"headers.{liberties}"), *lines, ""])
+    return subprocess.run([TLTOOL, "monitor"], input=text, stdout=subprocess.PIPE, text=True).stdout.strip()
+
+
+@test
+def the_command_reads_what_a_recorder_names():
+    recorded_headers("Icarus", [*NUMBERS.values(), *(EVERY - it for it in NUMBERS.values())])
+    for name, lines, rule in ALLOWED:
+        own, others = monitored(NUMBERS[name], lines), monitored(EVERY - NUMBERS[name], lines)
+        want(own == f"clean {len(lines)}" and others == f"line {len(lines) + 1} {rule}", f"{name}: {own}, {others}: {lines}")

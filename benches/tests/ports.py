@@ -104,7 +104,7 @@ def what_is_pending_at_the_end_is_listed():
 # Two clients on port 0, with sources 0 to 3 and 8 to b, and one on port 1 with sources 0 to f.
 SHARED = (".SOURCE_BITS(SOURCE_BITS),.CLIENTS(3),.CLIENT_PORTS(12'h100),.FIRST_SOURCES({8'd0,8'd8,8'd0}),"
           ".LAST_SOURCES({8'd15,8'd11,8'd3})")
-SHARED_FLAGS = ["-DN=2", f"-DPARAMETERS={SHARED}", '-DHEADER="tltrace 2 8 C C C"', "-DLEVELS=6'b10_10_10"]
+SHARED_FLAGS = ["-DN=2", f"-DPARAMETERS={SHARED}", "-DLEVELS=6'b10_10_10"]
 
 # The first client has a block and gives it to the second, while that of port 1 has another.
 SHARED_RUN = ["A 0 7 1 6 3 0 edge 1", "D 0 4 0 6 3 1 E 0 1 edge 1", "B 0 6 2 6 0 0 edge 1", "C 0 4 1 6 0 0 edge 1",
@@ -168,7 +168,7 @@ def checked_ports(name, *flags):
 def a_checker_judges_anew_behind_a_reset():
     # the block that link 0 had before the reset is granted to link 1 behind it, and the source and sink are new ones
     script = [*filled(HELD), "reset", "A 1 7 1 6 0 0 edge 1", "D 1 4 0 6 0 0 edge 1", "E 1 0 edge 1"]
-    flags = ["-DN=2", '-DHEADER="tltrace 2 8 C C"', "-DLEVELS=4'b10_10"]
+    flags = ["-DN=2", "-DLEVELS=4'b10_10"]
     told = played(checked_ports("two", *flags), script, "+anew")
     want("breaks" not in told, told)
     told = played(checked_ports("two", *flags), [line for line in script if line != "reset"], status=-6)

@@ -62,11 +62,11 @@ def case_of(tool, name, text):
     lines = text.split("\n")
     if line == 1 and rule:
         return None
-    width, profile, levels = read_header(lines[0])
+    width, liberties, levels = read_header(lines[0])
     if rule and (rule[0] == "F" or int(lines[line - 1][:2], 16) >= len(levels)):
         line, rule = line - 1, None
     beats = [(number, *read_beat(lines[number - 1])) for number in range(2, line + 1)]
-    return Case(name, width, levels, frozenset(["writer"] if profile == 2 else []), beats, (line, rule))
+    return Case(name, width, levels, liberties, beats, (line, rule))
 
 
 def recorded(path, liberties):

@@ -2,9 +2,11 @@
 
 import random
 
-from reference import NAMES, REPORTS, WITH_DATA, Beat, History, name_of
+from reference import LIBERTIES, NAMES, REPORTS, WITH_DATA, Beat, History, name_of
 
 LEVELS = ["UL", "UH", "C"]
+# Words of a header that name no liberty or several.
+SETS_BY_NAME = {"none": [], "standard": LIBERTIES[:7]}
 
 
 def read_beat(line):
@@ -25,13 +27,14 @@ def read_beat(line):
 
 
 def read_header(line):
-    """The width of a beat, the profile and the levels of the links."""
+    """The width of a beat, the liberties and the levels of the links."""
     version, *rest = line.split(" ")[1:]
     if version == "1":
-        return 8, 1, rest
+        return 8, frozenset(), rest
     if version == "2":
-        return int(rest[0]), 1, rest[1:]
-    return int(rest[0]), int(rest[1]), rest[2:]
+        return int(rest[0]), frozenset(), rest[1:]
+    words = {"1": [], "2": ["writer"]}[rest[1]] if version == "3" else rest[1].split(",")
+    return int(rest[0]), frozenset(it for word in words for it in SETS_BY_NAME.get(word, [word])), rest[2:]
 
 
 def line_of(beat, width):

@@ -207,16 +207,13 @@ class Top:
         design, sizes = self.design, self.design.sizes
         joined = [f".{channel}_{field}({channel}_{field})" for channel, fields in FIELDS.items() for field, _ in fields]
         joined += [f".{channel}_data({channel}_data)" for channel in DATA]
-        levels = " ".join([["UL", "UH", "C"][design.level]] * design.links)
-        profile = "3 %0d 2" if design.liberties == 4 else "2 %0d"
+        levels = sum(design.level << (2 * link) for link in range(design.links))
         yield "`ifdef REPLAY"
         yield "  string file;"
         yield "  int fd = 0;"
-        yield '  initial if ($value$plusargs("trace=%s", file)) begin'
-        yield '    fd = $fopen(file, "w");'
-        yield f'    $fwrite(fd, "tltrace {profile} {levels}\\n", {sizes["width"]});'
-        yield "  end"
-        yield (f"  tl_manager_recorder #(.N({design.links}), .W({sizes['width']}), .SOURCE_BITS({sizes['source_bits']}), "
+        yield '  initial if ($value$plusargs("trace=%s", file)) fd = $fopen(file, "w");'
+        yield (f"  tl_manager_recorder #(.N({design.links}), .LEVELS({levels}), .LIBERTIES({design.liberties}), "
+               f".W({sizes['width']}), .SOURCE_BITS({sizes['source_bits']}), "
                f".SINK_BITS({sizes['sink_bits']}), .ADDRESS_BITS({sizes['address_bits']}), .UNKNOWN(0)) recorder (.clk, .rst_n, .fd, {', '.join(joined)});")
         yield "`endif"
 

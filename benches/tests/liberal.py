@@ -1,0 +1,82 @@
+"""The example's cache that takes liberties: recorded and judged under them, and its bugs, which none of them hides."""
+
+import os
+import subprocess
+
+from harness import (
+    EXAMPLE, LIBERAL_BUGS, SV, TLTOOL, beat_lines, icarus, judged, liberal, liberal_checked, path, run, test, want,
+)
+
+# The liberties of the example's links, in the order of a header, and the rule that the trace of a run breaks without each.
+NEEDED = {"ids": "L2", "sinks": "L2", "writer": "H6", "early": "H8", "drops": "H5"}
+HEADER = f"tltrace 4 8 {','.join(NEEDED)} C C UL"
+SEEDS = range(1, 11)
+
+
+def judged_under(header, name):
+    """What the command says of a trace with another header."""
+    with open(path(name)) as trace:
+        trace.readline()
+        text = f"{header}\n{trace.read()}"
+    return subprocess.run([TLTOOL, "monitor"], input=text, stdout=subprocess.PIPE, text=True).stdout.strip()
+
+
+@test
+def a_cache_that_takes_liberties_is_clean_in_both_simulators():
+    slow = icarus("liberal.vvp", "bench_recorded", SV + EXAMPLE, "-DLIBERAL")
+    for seed in (1, 2):
+        for name, command in (("fast", [liberal()]), ("slow", ["vvp", "-n", slow])):
+            told = run([*command, f"+seed={seed}", "+cycles=8000", f"+trace={path(name)}"])
+            want("agree" in told, f"seed {seed}: {told}")
+        want(beat_lines("fast") == beat_lines("slow") and beat_lines("fast")[0] == HEADER, f"seed {seed}: {beat_lines('fast')[0]}")
+        want(judged(path("slow")) == f"clean {len(beat_lines('slow')) - 1}", f"seed {seed}: {judged(path('slow'))}")
+
+
+@test
+def a_cache_that_takes_liberties_needs_each_of_them():
+    run([liberal(), "+seed=1", "+cycles=20000", f"+trace={path('needed')}"])
+    want(judged_under("tltrace 4 8 standard C C UL", "needed").startswith("clean "), "the standard's liberties")
+    want(judged_under("tltrace 2 8 C C UL", "needed").endswith(" H8"), "no liberties")
+    for name, rule in NEEDED.items():
+        others = ",".join(it for it in NEEDED if it != name)
+        told = judged_under(f"tltrace 4 8 {others} C C UL", "needed")
+        want(told.endswith(f" {rule}"), f"without {name}: {told}")
+
+
+@test
+def no_liberty_hides_a_bug_that_a_link_shows():
+    for bug, (rule, own) in LIBERAL_BUGS.items():
+        for seed in SEEDS:
+            told = run([liberal(), f"+seed={seed}", "+cycles=20000", f"+bug={bug}", f"+trace={path('bug')}"])
+            verdict = judged(path("bug"))
+            want(own in told, f"bug {bug}, seed {seed}: the bench says {told}")
+            want(verdict.endswith(f" {rule}") if rule else verdict.startswith("clean "), f"bug {bug}, seed {seed}: {verdict}")
+
+
+@test
+def the_checkers_take_the_liberties_of_a_link():
+    told = run([liberal_checked(), "+seed=7", "+cycles=20000"])
+    want("agree" in told and told.count("faults: 0") == 2, told)
+    for bug, (rule, _) in LIBERAL_BUGS.items():
+        plus = ["+seed=1", "+cycles=20000", f"+bug={bug}", f"+trace={path('bug')}"]
+        told = run([liberal_checked(), *plus], status=-6 if rule else 0)
+        if rule:
+            beat = beat_lines("bug")[int(judged(path("bug")).split()[1]) - 1].split()
+            for checker in ("tl_link_checker", "tl_manager_checker"):
+                want(f"{checker}: link {int(beat[0], 16)} breaks {rule}: channel {beat[1]} " in told, f"bug {bug}: {told}")
+        else:
+            want(told.count("faults: 0") == 2, f"bug {bug}: {told}")
+
+
+@test
+def ten_million_cycles_with_liberties_long():
+    pipe = path("pipe")
+    if os.path.exists(pipe):
+        os.remove(pipe)
+    os.mkfifo(pipe)
+    for seed in (11, 12):
+        monitor = subprocess.Popen([TLTOOL, "monitor", pipe], stdout=subprocess.PIPE, text=True)
+        told = run([liberal_checked(), f"+seed={seed}", "+cycles=5000000", f"+trace={pipe}"], timeout=3600)
+        verdict = monitor.communicate(timeout=600)[0].strip()
+        want("agree" in told and told.count("faults: 0") == 2 and verdict.startswith("clean "), f"{told}{verdict}")
+        print(f"        seed {seed}: {verdict}, {next(line for line in told.splitlines() if 'agree' in line)}")

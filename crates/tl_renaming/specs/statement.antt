@@ -1,3 +1,4 @@
 pub mod Renamed
 pub mod Renaming
 pub mod Together
+pub mod Widened

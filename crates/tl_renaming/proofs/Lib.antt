@@ -25,4 +25,6 @@ pub mod Tellings
 pub mod Together
 pub mod Traces
 pub mod Values
+pub mod WideBeats
+pub mod WideNames
 pub mod Widened

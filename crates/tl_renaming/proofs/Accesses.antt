@@ -1,19 +1,18 @@
 -- The accesses that are pending after a renamed trace.
-use Rattle.tl_renaming.proofs.Imports.{Beat, A, B, C, D, E, BeatA, BeatD, Channel, History, unfinished, IsFaithful}
+use Rattle.tl_renaming.proofs.Imports.{Beat, A, B, C, D, E, BeatA, BeatD, Channel, History, unfinished}
 use Rattle.tl_renaming.proofs.Imports.{Renaming, ends, renamed, renamed_a, renamed_address, renamed_d}
 use Rattle.tl_renaming.proofs.Imports.{renamed_history}
 use Rattle.tl_renaming.proofs.Carried.{bytes-carried-kept, carried-mask-kept, some-spoiled-kept}
 use Rattle.tl_renaming.{proofs.Bursts.ends-kept, proofs.Bursts.unfinished-kept, proofs.Numbers.same-test}
 use Rattle.tl_renaming.{proofs.Traces.beats-kept, proofs.Traces.link-kept}
 use Rattle.tl_renaming.specs.statement.Renamed.{AreFaithful, Renamings, of_link, renamed_trace}
-use Rattle.std.proofs.Common.{◌≡◌, ℕ, suc, Bool, true, false, not, ◌&&◌, List, [], ◌∷◌, length, map, refl, sym, ap, ◌∙◌}
-use Rattle.std.specs.Prelude.{filter, find, if◌then◌else◌, is_some, Option, Some, None, option_map, ◌==◌}
+use Rattle.std.proofs.Common.{◌≡◌, ℕ, suc, Bool, true, false, not, ◌&&◌, List, [], ◌∷◌, length, map, refl, ap, ◌∙◌}
+use Rattle.std.specs.Prelude.{filter, find, if◌then◌else◌, Some, option_map, ◌==◌}
 use Rattle.std.proofs.lemmas.Bool.{eqb-true}
 use Rattle.tl_burst.specs.declared.message.MessageA.{MessageA}
 use Rattle.tl_bytes.specs.statement.Bytes.{Access, asked_by, ends_request, is_access, is_of, pending_accesses}
 use Rattle.tl_bytes.specs.statement.Bytes.{pending_with}
 use Rattle.tl_params.specs.declared.liberties.Liberties.{Liberties}
-use Rattle.tl_rules.specs.statement.Admission.{is_spoiled}
 use Rattle.tl_rules.specs.statement.Conformance.{Trace, on_link}
 
 -- what a request, and an access, becomes

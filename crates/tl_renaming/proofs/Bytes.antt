@@ -1,5 +1,5 @@
 -- M2 and M3, of renamed traces.
-use Rattle.tl_renaming.proofs.Imports.{Beat, BeatD, D, Channel, block_at, renamed, renamed_address, renamed_d, unfinished}
+use Rattle.tl_renaming.proofs.Imports.{BeatD, D, Channel, block_at, renamed_address, renamed_d, unfinished}
 use Rattle.tl_renaming.proofs.Accesses.{renamed_access}
 use Rattle.tl_renaming.{proofs.Bursts.length-kept, proofs.Bursts.on-kept, proofs.Free.open-kept, proofs.Values.Fits}
 use Rattle.tl_renaming.proofs.Free.{renamed_request}
@@ -7,12 +7,12 @@ use Rattle.tl_renaming.proofs.MayBe.{AreFitting, FitsIfAny, answered-kept, burst
 use Rattle.tl_renaming.proofs.MayBe.{may-read-kept}
 use Rattle.tl_renaming.proofs.Places.{reaches-kept, start-moved, unreached}
 use Rattle.tl_renaming.specs.statement.Renamed.{AreFaithful, Renamings, of_link, renamed_trace}
-use Rattle.std.proofs.Common.{◌≡◌, ℕ, zero, suc, Bool, true, false, not, ◌&&◌, ◌||◌, ◌+◌, ◌*◌, ◌/◌, ◌%◌, ◌^◌, ◌≤◌, ◌<◌}
+use Rattle.std.proofs.Common.{◌≡◌, ℕ, zero, suc, Bool, true, false, not, ◌&&◌, ◌||◌, ◌+◌, ◌*◌, ◌/◌, ◌^◌, ◌≤◌, ◌<◌}
 use Rattle.std.proofs.Common.{List, [], ◌∷◌, length, refl, sym, ap, ◌∙◌, arith, inl, inr, add-zero}
 use Rattle.std.proofs.Math.Path.{ap₂}
 use Rattle.std.specs.Prelude.{find, if◌then◌else◌, Option, Some, None, option_map, ◌==◌}
 use Rattle.std.proofs.lemmas.Bool.{cases_lt}
-use Rattle.tl_beat.{specs.declared.beat.Link.Link, specs.declared.opcode.OpD.OpD, specs.statement.Width.IsWidth}
+use Rattle.tl_beat.{specs.declared.opcode.OpD.OpD, specs.statement.Width.IsWidth}
 use Rattle.tl_burst.{specs.statement.Burst.reaches, specs.statement.Messages.on}
 use Rattle.tl_bytes.specs.statement.Bytes.{Access, before_last, each_from, grants_truly, is_of, is_true, is_true_grant}
 use Rattle.tl_bytes.specs.statement.Bytes.{is_true_read, may_grant, may_read, pending_accesses, reads_truly}

@@ -1,8 +1,8 @@
 -- What the beats of a renamed burst carry.
 use Rattle.tl_renaming.proofs.Imports.{Beat, A, B, C, D, E, Renaming, renamed}
 use Rattle.tl_renaming.{proofs.Bursts.length-kept, proofs.Choices.one-found}
-use Rattle.std.proofs.Common.{◌≡◌, ℕ, Bool, true, false, List, [], ◌∷◌, map, refl}
-use Rattle.std.specs.Prelude.{if◌then◌else◌, is_some, find, Some, None}
+use Rattle.std.proofs.Common.{◌≡◌, ℕ, List, [], ◌∷◌, map, refl}
+use Rattle.std.specs.Prelude.{is_some, find}
 use Rattle.tl_bytes.specs.statement.Bytes.{carried_byte, carried_mask, is_denied}
 use Rattle.tl_rules.specs.statement.Admission.{bytes_carried, is_spoiled, lanes_of}
 

@@ -1,14 +1,14 @@
 -- The accesses of a lawful trace lie in one block each.
-use Rattle.tl_renaming.proofs.Imports.{Beat, A, B, C, D, E, BeatA, BeatD, Channel, History, channel_of, unfinished, ends}
+use Rattle.tl_renaming.proofs.Imports.{Beat, A, B, C, D, E, BeatA, Channel, History, channel_of, unfinished, ends}
 use Rattle.tl_renaming.proofs.Values.{Fits}
 use Rattle.tl_renaming.specs.statement.Together.{AreTypedOn}
-use Rattle.std.proofs.Common.{◌≡◌, ℕ, suc, Bool, true, false, ◌+◌, ◌*◌, ◌/◌, ◌%◌, ◌^◌, ◌≤◌, ◌<◌, List, [], ◌∷◌, length, map}
-use Rattle.std.proofs.Common.{refl, sym, ap, ◌∙◌, arith, inl, inr}
-use Rattle.std.specs.Prelude.{All, ◌&&◌, eqb, filter, if◌then◌else◌, IfSome, min, None, not, Option, Some, unwrap_or, ⊤}
+use Rattle.std.proofs.Common.{◌≡◌, ℕ, suc, Bool, true, false, ◌+◌, ◌*◌, ◌/◌, ◌%◌, ◌^◌, ◌≤◌, List, [], ◌∷◌, length}
+use Rattle.std.proofs.Common.{refl, ap, arith, inl, inr}
+use Rattle.std.specs.Prelude.{All, ◌&&◌, eqb, filter, if◌then◌else◌, IfSome, min, None, not, Option, Some, unwrap_or}
 use Rattle.std.proofs.lemmas.Bool.{cases_lt, eqb-true, le-ltb, lt-ltb}
 use Rattle.std.proofs.lemmas.List.{length-append}
 use Rattle.std.proofs.lemmas.List.Elements.{All-cons, All-filter, All-nil}
-use Rattle.tl_beat.{specs.declared.beat.Link.Link, specs.statement.Opcode.a_carries_data, specs.statement.Width.IsWidth}
+use Rattle.tl_beat.{specs.statement.Opcode.a_carries_data, specs.statement.Width.IsWidth}
 use Rattle.tl_burst.{specs.statement.Burst.data_beats, specs.statement.Messages.burst_length, specs.statement.Messages.on}
 use Rattle.tl_burst.specs.statement.Part.{completes}
 use Rattle.tl_bytes.specs.statement.Bytes.{Access, asked_by, ends_request, is_access, is_of, pending_accesses}

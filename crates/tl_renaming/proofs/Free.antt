@@ -1,17 +1,17 @@
 -- Who holds what of a renamed block, and when it is free.
-use Rattle.tl_renaming.proofs.Imports.{Beat, A, B, C, D, E, BeatA, BeatB, BeatC, BeatD, Channel, History, unfinished}
-use Rattle.tl_renaming.proofs.Imports.{IsFaithful, Renaming, block_at, ends, pending, probe_of, renamed, renamed_a}
+use Rattle.tl_renaming.proofs.Imports.{Beat, A, B, C, D, E, BeatA, BeatB, BeatC, Channel, History, unfinished}
+use Rattle.tl_renaming.proofs.Imports.{IsFaithful, Renaming, block_at, pending, probe_of, renamed, renamed_a}
 use Rattle.tl_renaming.proofs.Imports.{renamed_b, renamed_c, renamed_history, request_of}
 use Rattle.tl_renaming.{proofs.Addresses.block-of, proofs.Held.held-kept, proofs.Ordered.in-request-kept}
 use Rattle.tl_renaming.{proofs.Bursts.ends-kept, proofs.Bursts.unfinished-kept, proofs.Pending.pending-kept}
 use Rattle.tl_renaming.{proofs.Traces.link-kept}
 use Rattle.tl_renaming.proofs.Messages.{block-test, grants-kept, probe-kept, request-kept}
 use Rattle.tl_renaming.specs.statement.Renamed.{AreFaithful, Renamings, of_link, renamed_on_link, renamed_trace}
-use Rattle.std.proofs.Common.{◌≡◌, ℕ, zero, suc, Bool, true, false, not, ◌&&◌, ◌||◌, List, [], ◌∷◌, map, refl, sym, ap, ◌∙◌}
+use Rattle.std.proofs.Common.{◌≡◌, ℕ, zero, suc, Bool, true, false, not, ◌&&◌, List, [], ◌∷◌, map, refl, sym, ◌∙◌}
 use Rattle.std.specs.Prelude.{if◌then◌else◌, is_some, Option, Some, None, option_map}
 use Rattle.tl_beat.specs.declared.beat.Link.{Link}
 use Rattle.tl_bytes.specs.statement.Shown.{had_window, is_window, shows, shows_bytes}
-use Rattle.tl_monitor.specs.statement.Granting.{coming, given_by, granted}
+use Rattle.tl_monitor.specs.statement.Granting.{given_by, granted}
 use Rattle.tl_params.specs.declared.key.Key.TheVariants.{ProbeOf, RequestSource}
 use Rattle.tl_params.specs.declared.perm.Perm.{Perm}
 use Rattle.tl_params.specs.declared.profile.Profile.{Profile}

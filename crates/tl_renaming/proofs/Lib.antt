@@ -1,5 +1,6 @@
 pub mod Accesses
 pub mod Addresses
+pub mod Appearing
 pub mod Bursts
 pub mod Bytes
 pub mod Carried
@@ -12,11 +13,18 @@ pub mod Imports
 pub mod Legal
 pub mod MayBe
 pub mod Messages
+mod Needed
 pub mod Numbers
+pub mod OnePart
 pub mod Ordered
 pub mod Pending
 pub mod Places
+pub mod SameBeats
+pub mod Spread
 pub mod Tellings
 pub mod Together
 pub mod Traces
 pub mod Values
+pub mod WideBeats
+pub mod WideNames
+pub mod Widened

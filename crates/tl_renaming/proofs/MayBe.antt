@@ -1,5 +1,5 @@
 -- What the bytes of memory may be, after a renamed trace.
-use Rattle.tl_renaming.proofs.Imports.{Beat, A, B, C, D, E, BeatD, Channel, History, channel_of, unfinished, block_at}
+use Rattle.tl_renaming.proofs.Imports.{Beat, A, B, C, D, E, Channel, channel_of, unfinished, block_at}
 use Rattle.tl_renaming.proofs.Imports.{renamed, renamed_address, renamed_d}
 use Rattle.tl_renaming.proofs.Accesses.{accesses-kept, ends-request-kept, filter-kept, find-kept, is-of-kept, not-of-kept}
 use Rattle.tl_renaming.proofs.Accesses.{renamed_access}
@@ -11,9 +11,9 @@ use Rattle.tl_renaming.proofs.Free.{free-kept}
 use Rattle.tl_renaming.proofs.Tellings.{began-kept, last-told-kept, last-window-kept, tells-kept, windows-kept}
 use Rattle.tl_renaming.proofs.Traces.{beats-kept, link-kept}
 use Rattle.tl_renaming.proofs.Values.{Fits, left-kept, pending-value-kept, writes-kept}
-use Rattle.tl_renaming.specs.statement.Renamed.{AreFaithful, Renamings, of_link, renamed_on_link, renamed_trace}
-use Rattle.std.proofs.Common.{◌≡◌, ℕ, suc, Bool, true, false, not, ◌&&◌, ◌||◌, ◌+◌, ◌%◌, List, [], ◌∷◌, length, map, refl}
-use Rattle.std.proofs.Common.{sym, ap, ◌∙◌}
+use Rattle.tl_renaming.specs.statement.Renamed.{AreFaithful, Renamings, of_link, renamed_trace}
+use Rattle.std.proofs.Common.{◌≡◌, ℕ, suc, Bool, true, false, not, ◌&&◌, ◌||◌, ◌%◌, List, [], ◌∷◌, length, map, refl}
+use Rattle.std.proofs.Common.{ap, ◌∙◌}
 use Rattle.std.proofs.Math.Path.{ap₂}
 use Rattle.std.specs.Prelude.{All, filter, find, if◌then◌else◌, nat_le, nat_lt, Option, Some, None, option_map, ⊤}
 use Rattle.std.proofs.lemmas.List.Elements.{All-filter, All-head, All-tail}

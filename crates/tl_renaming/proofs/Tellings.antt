@@ -1,11 +1,11 @@
 -- When the bytes of a renamed block are told, and when it is free for writing.
-use Rattle.tl_renaming.proofs.Imports.{Beat, A, B, C, D, E, BeatA, History, IsFaithful, Renaming, ends, renamed}
+use Rattle.tl_renaming.proofs.Imports.{Beat, A, B, C, D, E, BeatA, History, IsFaithful, Renaming, renamed}
 use Rattle.tl_renaming.proofs.Imports.{renamed_a, renamed_history, request_of}
 use Rattle.tl_renaming.{proofs.Bursts.ends-kept, proofs.Free.free-kept}
 use Rattle.tl_renaming.proofs.Messages.{block-test, grants-kept, request-kept}
 use Rattle.tl_renaming.{proofs.Traces.beats-kept, proofs.Traces.link-kept}
 use Rattle.tl_renaming.specs.statement.Renamed.{AreFaithful, Renamings, of_link, renamed_trace}
-use Rattle.std.proofs.Common.{◌≡◌, ℕ, suc, [], ◌∷◌, length, refl}
+use Rattle.std.proofs.Common.{◌≡◌, ℕ, [], ◌∷◌, refl}
 use Rattle.std.specs.Prelude.{Option, Some, None, option_map}
 use Rattle.tl_beat.specs.declared.opcode.OpD.{OpD}
 use Rattle.tl_bytes.specs.statement.Bytes.{asks_unread, last_told, last_window, tells, tells_granted, window_began}

@@ -1,13 +1,13 @@
 -- All links of a manager together, of renamed traces.
-use Rattle.tl_renaming.proofs.Imports.{Beat, A, B, C, D, E, Channel, renamed, unfinished}
+use Rattle.tl_renaming.proofs.Imports.{Beat, A, B, C, D, E, renamed}
 use Rattle.tl_renaming.{proofs.Bytes.bytes-kept, proofs.Fitting.all-fit, proofs.Fitting.few-lanes}
 use Rattle.tl_renaming.{proofs.Granting.beginning-kept, proofs.MayBe.AreFitting}
 use Rattle.tl_renaming.proofs.Traces.{beats-kept, on-link-kept}
 use Rattle.tl_renaming.specs.statement.Renamed.{AreFaithful, Renamings, of_link, renamed_on_link, renamed_trace}
 use Rattle.tl_renaming.specs.statement.Together.{AreTypedOn}
-use Rattle.std.proofs.Common.{◌≡◌, ℕ, ◌+◌, ◌*◌, ◌≤◌, List, [], ◌∷◌, length, refl, sym, ap, ◌∙◌, arith}
+use Rattle.std.proofs.Common.{◌≡◌, ℕ, List, [], ◌∷◌, length, refl, sym, ap, ◌∙◌, arith}
 use Rattle.std.proofs.Math.Path.{ap₂}
-use Rattle.std.specs.Prelude.{Option, Some, None, ⊤}
+use Rattle.std.specs.Prelude.{Option, Some, None}
 use Rattle.tl_beat.{specs.declared.beat.Link.Link, specs.statement.Width.IsWidth}
 use Rattle.tl_memory.{proofs.OpenAccesses.is-fine, proofs.OpenAccesses.legal-on, proofs.Unfinished.room}
 use Rattle.tl_memory.specs.statement.Links.{AreLegal}
@@ -17,7 +17,6 @@ use Rattle.tl_params.specs.declared.rule.Rule.{Rule}
 use Rattle.tl_params.specs.statement.Liberties.{liberties_of}
 use Rattle.tl_rules.proofs.Profiles.{on_link-of}
 use Rattle.tl_rules.specs.laws.Typed.{IsTyped}
-use Rattle.tl_rules.specs.statement.Admission.{lanes_of}
 use Rattle.tl_rules.specs.statement.Conformance.{Trace, broken_on_link, on_link}
 use Rattle.tl_together.specs.declared.breach.Breach.{Breach}
 use Rattle.tl_together.specs.declared.breach.MemoryRule.{MemoryRule}

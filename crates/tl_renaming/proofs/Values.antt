@@ -1,11 +1,11 @@
 -- What accesses write, of renamed ones.
-use Rattle.tl_renaming.proofs.Imports.{Beat, Renaming, block_at, renamed, renamed_address}
+use Rattle.tl_renaming.proofs.Imports.{Beat, renamed, renamed_address}
 use Rattle.tl_renaming.proofs.Accesses.{renamed_access, renamed_message}
 use Rattle.tl_renaming.proofs.Carried.{carried-byte-kept, some-spoiled-kept}
 use Rattle.tl_renaming.proofs.Places.{byte-kept, reached-block, reaches-kept, same-distance, same-offset}
 use Rattle.tl_renaming.specs.statement.Renamed.{AreFaithful, Renamings, of_link}
-use Rattle.std.proofs.Common.{◌≡◌, ℕ, Bool, true, false, ◌||◌, ◌+◌, ◌-◌, ◌*◌, ◌/◌, ◌%◌, ◌^◌, ◌≤◌, ◌<◌, List, [], ◌∷◌, length}
-use Rattle.std.proofs.Common.{map, refl, sym, ap, ◌∙◌}
+use Rattle.std.proofs.Common.{◌≡◌, ℕ, Bool, true, false, ◌||◌, ◌+◌, ◌-◌, ◌*◌, ◌/◌, ◌%◌, ◌^◌, ◌≤◌, List, [], length}
+use Rattle.std.proofs.Common.{map, refl, ap, ◌∙◌}
 use Rattle.std.proofs.Math.Path.{ap₂}
 use Rattle.std.specs.Prelude.{find, if◌then◌else◌, is_some, Option, Some, None, slice_index, unwrap_or}
 use Rattle.tl_beat.{specs.declared.opcode.OpA.OpA, specs.statement.Opcode.a_carries_data, specs.statement.Width.IsWidth}

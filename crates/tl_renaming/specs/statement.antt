@@ -1,3 +1,5 @@
 pub mod Renamed
 pub mod Renaming
 pub mod Together
+pub mod WideRenaming
+pub mod Widened

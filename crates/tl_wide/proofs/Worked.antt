@@ -1,5 +1,5 @@
 -- What small wide traces become, and what is at fault with them, worked out.
-use Rattle.std.proofs.Common.{◌≡◌, ℕ, refl, false, List, [], ◌∷◌, ◌++◌, replicate}
+use Rattle.std.proofs.Common.{◌≡◌, ℕ, zero, suc, refl, true, false, List, [], ◌∷◌, ◌++◌, replicate}
 use Rattle.std.specs.Prelude.{Some, None}
 use Rattle.tl_beat.specs.declared.beat.Beat.{Beat}
 use Rattle.tl_beat.specs.declared.beat.Beat.TheVariants as beat
@@ -17,7 +17,7 @@ use Rattle.tl_rules.specs.statement.Legality.{each_below}
 use Rattle.tl_rules.specs.statement.Liberties.{broken_after_under, broken_order_under, fault_from_under, illegal_under}
 use Rattle.tl_wide.specs.declared.beat.WideBeat.{WideBeat}
 use Rattle.tl_wide.specs.declared.beat.WideBeat.TheVariants as wide
-use Rattle.tl_wide.specs.statement.Naming.{named, place_in}
+use Rattle.tl_wide.specs.statement.Naming.{WideTrace, is_beyond, named, place_in}
 use Rattle.tl_wide.specs.statement.Narrowed.{asked_address, narrowed, narrowed_from}
 use Rattle.tl_wide.specs.statement.Parts.{below, part_carries, shown_carries}
 use Rattle.tl_wide.specs.statement.Verdict.{Breaks, first_wide_fault, joined, owner}
@@ -82,6 +82,19 @@ answer size source lanes = wide.D (record {
   carries = refl;
 })
 
+abbrev grant : {w : ℕ} → ℕ → WideBeat w
+grant sink = wide.D (record {
+  opcode = d.Grant;
+  param = 0;
+  size = 6;
+  source = 0;
+  sink = sink;
+  denied = false;
+  lanes = None;
+  corrupt = false;
+  carries = refl;
+})
+
 -- ---- beats of the rules
 
 abbrev narrow_get : {w : ℕ} → ℕ → ℕ → ℕ → ℕ → Beat w
@@ -123,6 +136,19 @@ narrow_answer size source lanes = beat.D (record {
   carries = refl;
 })
 
+abbrev narrow_grant : {w : ℕ} → ℕ → Beat w
+narrow_grant sink = beat.D (record {
+  opcode = d.Grant;
+  param = 0;
+  size = 6;
+  source = 0;
+  sink = sink;
+  denied = false;
+  lanes = None;
+  corrupt = false;
+  carries = refl;
+})
+
 -- lanes that all hold one byte
 abbrev all : ℕ → ℕ → List ℕ
 all count byte = replicate count byte
@@ -137,6 +163,41 @@ numbers : narrowed {w = 8}
     ∷ ((link_1, narrow_get 3 1 0 255) ∷ []) ∷ []
 unfolding narrowed_from named place_in below each_below part_carries shown_carries
 numbers = refl
+
+-- sinks 200 and 100 of two links are 1 and 2
+one_table_of_sinks : narrowed {w = 8} ((link_0, grant 512) ∷ (link_1, grant 256) ∷ (link_0, grant 512) ∷ [])
+    ≡ ((link_0, narrow_grant 1) ∷ []) ∷ ((link_1, narrow_grant 2) ∷ []) ∷ ((link_0, narrow_grant 1) ∷ []) ∷ []
+unfolding narrowed_from named place_in below each_below part_carries shown_carries asked_address
+one_table_of_sinks = refl
+
+-- ---- limits
+
+-- Gets with the sources n, n - 1 and so on to 1, the newest first
+abbrev sources_to : ℕ → WideTrace 8
+sources_to zero = []
+sources_to (suc n) = (link_0, get 3 (suc n) 0 255) ∷ sources_to n
+
+-- GrantAcks with such sinks
+abbrev sinks_to : ℕ → WideTrace 8
+sinks_to zero = []
+sinks_to (suc n) = (link_0, wide.E (record { sink = suc n })) ∷ sinks_to n
+
+-- 256 sources have numbers, 0 among them, and 257 haven't; so with sinks
+as_many_sources : is_beyond link_0 (sources_to 255) ≡ false
+unfolding named
+as_many_sources = refl
+
+one_source_more : is_beyond link_0 (sources_to 256) ≡ true
+unfolding named
+one_source_more = refl
+
+as_many_sinks : is_beyond link_0 (sinks_to 255) ≡ false
+unfolding named
+as_many_sinks = refl
+
+one_sink_more : is_beyond link_0 (sinks_to 256) ≡ true
+unfolding named
+one_sink_more = refl
 
 -- ---- parts
 
@@ -165,6 +226,15 @@ asked_part : narrowed {w = 32}
     ≡ ((link_0, narrow_get 4 1 16 65535) ∷ []) ∷ ((link_0, narrow_answer 4 1 (all 16 2)) ∷ []) ∷ []
 unfolding narrowed_from named place_in below each_below part_carries shown_carries asked_address
 asked_part = refl
+
+-- a Get with this source on another link names no part of it
+other_link : narrowed {w = 32}
+    ((link_0, get 4 5 6442450960 4294901760) ∷ (link_1, get 4 5 6442450944 65535)
+    ∷ (link_0, answer 4 5 (all 16 1 ++ all 16 2)) ∷ [])
+    ≡ ((link_0, narrow_get 4 1 16 65535) ∷ []) ∷ ((link_1, narrow_get 4 1 0 65535) ∷ [])
+    ∷ ((link_0, narrow_answer 4 1 (all 16 2)) ∷ []) ∷ []
+unfolding narrowed_from named place_in below each_below part_carries shown_carries asked_address
+other_link = refl
 
 -- ---- verdicts
 

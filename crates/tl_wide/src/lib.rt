@@ -2,3 +2,8 @@
 #![tactic(auto)]
 
 pub mod beat;
+pub mod numbers;
+#[cfg(test)]
+mod tests;
+pub(crate) mod text;
+pub mod write;

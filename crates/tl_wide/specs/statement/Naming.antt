@@ -68,7 +68,7 @@ sinks t = named sink_named (0 ∷ []) t
 -- the place of a number in a list, from 0 on
 unfoldable pub place_in : List ℕ → ℕ → ℕ
 place_in [] n = 0
-place_in (m ∷ numbers) n = if m == n then 0 else suc (place_in numbers n)
+place_in (m ∷ numbers) n = if n == m then 0 else suc (place_in numbers n)
 
 -- the address in the block of this number
 abbrev pub in_block : ℕ → ℕ → ℕ

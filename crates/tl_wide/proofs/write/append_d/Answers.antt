@@ -1,0 +1,15 @@
+use Rattle.std.proofs.Common.{append_assoc}
+use Rattle.tl_beat.specs.statement.Line.{spaced}
+use Rattle.tl_wide.proofs.write.append_d.Goals as goal
+
+pub returns-clause-text : goal.returns-clause-text
+unfolding spaced
+returns-clause-text g c =
+    rw (
+      c.append_tail.ensures.text,
+      c.append_next_bit.ensures.text,
+      c.append_number.ensures.text,
+      c.from.ensures,
+      c.append_head.ensures.text,
+      c.code.ensures,
+    ) (simp append_assoc)

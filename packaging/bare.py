@@ -172,7 +172,10 @@ def main():
     on_host("rm", "-rf", ROOM)
     for file in (TARBALL, *DEBS, WHEEL):
         print(f"{file.stat().st_size:9} {file.name}")
-    print(*(f"FAILED  {what}" for what in FAILED), f"{len(PASSED)} passed, {len(FAILED)} failed, {time.time() - began:.0f} s", sep="\n")
+    for what in FAILED:
+        print(f"FAILED  {what}")
+    took = f"{time.time() - began:.0f} s, {sum(os.times()[:4]):.0f} s of processor time"
+    print(f"{len(PASSED)} passed, {len(FAILED)} failed, {took}")
     return 1 if FAILED else 0
 
 

@@ -164,17 +164,35 @@ def checked_ports(name, *flags):
     return [verilator(f"ports_checked_{name}", TOP, sources, "-DCHECKER", *flags, *DPI)]
 
 
+TWO_LINKS = ["-DN=2", "-DLEVELS=4'b10_10"]
+
+
 @test
 def a_checker_judges_anew_behind_a_reset():
     # the block that link 0 had before the reset is granted to link 1 behind it, and the source and sink are new ones
     script = [*filled(HELD), "reset", "A 1 7 1 6 0 0 edge 1", "D 1 4 0 6 0 0 edge 1", "E 1 0 edge 1"]
-    flags = ["-DN=2", "-DLEVELS=4'b10_10"]
-    told = played(checked_ports("two", *flags), script, "+anew")
+    told = played(checked_ports("two", *TWO_LINKS), script, "+anew")
     want("breaks" not in told, told)
-    told = played(checked_ports("two", *flags), [line for line in script if line != "reset"], status=-6)
+    told = played(checked_ports("two", *TWO_LINKS), [line for line in script if line != "reset"], status=-6)
     want("tl_manager_checker: link 1 breaks M1: channel D " in told, told)
     # the trace has the beat at fault, in the last line
     want(judged(path("ports"), "coherent") == f"line {len(beat_lines('ports'))} M1", judged(path("ports"), "coherent"))
+
+
+# Fields that are fixed on a link without liberties, each in the last beat of a script with another value.
+FIXED = [
+    (["B 0 6 2 6 5 40 edge 2"], "L2: channel B opcode 6"),
+    (["B 0 6 2 6 0 40 edge 1", "C 0 4 5 6 5 40 edge 2"], "L2: channel C opcode 4"),
+    (["A 0 4 0 3 5 40 edge 1", "D 0 1 0 3 5 3 edge 2"], "L2: channel D opcode 1"),
+    (["A 0 4 0 3 5 40 edge 1", "denied D 0 1 0 3 5 0 edge 2"], "L6: channel D opcode 1"),
+]
+
+
+@test
+def a_checker_judges_fields_as_they_are_on_the_link():
+    for script, beat in FIXED:
+        told = played(checked_ports("two", *TWO_LINKS), script, status=-6)
+        want(f"tl_manager_checker: link 0 breaks {beat} " in told, f"{beat}: {told}")
 
 
 @test

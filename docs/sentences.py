@@ -1,7 +1,7 @@
 #!/usr/bin/env python3
 """sentences.py: that `tltool explain` says of each rule what docs/PROTOCOL.md does, of each fault what
-docs/FORMATS.md does, and that its shortest traces are those of crates/tl_examples/data/rules. Run at
-the top of the repository; it prints what differs, and its exit status is 1 then."""
+docs/FORMATS.md does, that its shortest traces are those of crates/tl_examples/data/rules, and that
+docs/TRIAGE.md has an entry for each rule. Run at the top of the repository; it prints what differs, and its exit status is 1 then."""
 import re
 import sys
 
@@ -45,5 +45,8 @@ for fault in ["F2", "F3", "F4", "F5", "F6"]:
     row = re.search(r"^\| \d \| %s \| (.*) \|$" % fault, formats, re.M).group(1)
     if row not in named:
         wrong.append("%s: the sentences differ" % fault)
+entries = re.findall(r"^### (\w+): ", open("docs/TRIAGE.md").read(), re.M)
+if entries != [*RULES, "M1", "M2", "M3", "M4"]:
+    wrong.append("docs/TRIAGE.md: its entries aren't those of the rules, in their order: %s" % entries)
 print("\n".join(wrong) or "rules and faults say what the documents do")
 sys.exit(1 if wrong else 0)

@@ -26,6 +26,7 @@ PROBED_TOLD = """  4: 00 D Grant
 LINES_LOOKED_FOR = "a number from 1 to 18446744073709551615, without leading zeros"
 LINES = "the numbers of the first line and of the last, without leading zeros, as 2-80"
 BLOCK = "the number of a block in three digits or in seven, of 0 to 9 and a to f, as 00f"
+LIBERTIES = "none, standard, or names of ids, sinks, writer, early, drops, reports, denied and uncorrupt, in this order, with a comma between them"
 NUMBER = "a number from 0 to 18446744073709551615"
 LIST = "1 to 16 clients with commas between them, each UL, UH or C with its number of sources from 1 to 8, as C:2,C:2,UH:1"
 # What each liberty allows: the last beat of a trace breaks the rule without it, and none with it.
@@ -64,6 +65,11 @@ STILL = [
 def judged(liberties, beats):
     lines = " ".join(f"'00 {it}'" for it in beats)
     return f"printf '%s\\n' 'tltrace 4 8 {liberties} C' {lines} | tltool monitor"
+
+
+def allowed(header, liberties, beats, options=""):
+    lines = " ".join(f"'00 {it}'" for it in beats)
+    return f"printf '%s\\n' '{header}' {lines} | tltool monitor --allow {liberties} {options}"
 
 
 def explained(beats):
@@ -111,6 +117,17 @@ ROWS = [
         for word in ("0", "01", "+1", "one", "1.5", "18446744073709551616")
     ),
     ("tltool monitor --all", 2, "", "error: .."),
+    # words of liberties
+    *(
+        (f"tltool monitor --allow {word} two_caches.trace", 2, "", f"error: invalid value '{word}' for '--allow <LIBERTIES>': {LIBERTIES}\n..")
+        for word in ("all", "Early", "early,", ",early", "drops,early", "early,early", "none,early", "standard,early", "early,late")
+    ),
+    ("tltool monitor --allow '' two_caches.trace", 2, "", f"error: invalid value '' for '--allow <LIBERTIES>': {LIBERTIES}\n.."),
+    ("tltool monitor --allow 'early drops' --all 3 two_caches.trace", 2, "", f"error: invalid value 'early drops' for '--allow <LIBERTIES>': {LIBERTIES}\n.."),
+    ("tltool monitor --allow late --report r.json two_caches.trace; ls r.json", 2, "", f"error: invalid value 'late' for '--allow <LIBERTIES>': {LIBERTIES}\n.."),
+    ("tltool monitor --allow", 2, "", "error: .."),
+    ("tltool monitor --allow early --allow drops two_caches.trace", 2, "", "error: .."),
+    *((f"tltool {it} --allow early two_caches.trace", 2, "", "error: unexpected argument '--allow' found..") for it in ("coherent", "explain", "chart", "decode", "run")),
     ("tltool monitor --all 1 --all 2", 2, "", "error: .."),
     ("tltool explain --all 2 two_caches.trace", 2, "", "error: unexpected argument '--all' found.."),
     # words of a chart
@@ -287,12 +304,21 @@ ROWS = [
         "2 none C", "32 none C", "8 none" + 17 * " C",
     )),
     *((f"printf 'tltrace 4 8 early C\\n' | tltool {it}", 1, f"{F7.format(1)}{count}", "") for it, count in (
-        ("coherent", ""), ("monitor --all 3", "faults 1\n"), ("monitor --report r.json", ""), ("monitor --junit r.xml", ""),
+        ("coherent", ""), ("coherent --all 3", "faults 1\n"), ("coherent --report r.json", ""), ("coherent --junit r.xml", ""),
     )),
     *((judged(it, beats), 0, f"clean {len(beats)}\n", "") for it, _, beats in UNDER),
     *((judged("none", beats), 1, f"line {len(beats) + 1} {rule}\n", "") for _, rule, beats in UNDER),
     *((judged(it, beats), 1, f"line {len(beats) + 1} {rule}\n", "") for it, rule, beats in STILL),
     *((judged(it, beats), 0, f"clean {len(beats)}\n", "") for it in ("standard", "standard,uncorrupt") for _, _, beats in UNDER[:-1]),
+    # the same, added to what a header names
+    *((allowed("tltrace 1 C", it, beats), 0, f"clean {len(beats)}\n", "") for it, _, beats in UNDER),
+    *((allowed("tltrace 1 C", it, beats), 1, f"line {len(beats) + 1} {rule}\n", "") for it, rule, beats in STILL),
+    *((allowed("tltrace 4 8 standard C", "none", beats), 0, f"clean {len(beats)}\n", "") for _, _, beats in UNDER[:-1]),
+    *((allowed("tltrace 4 8 standard C", "uncorrupt", beats), 0, f"clean {len(beats)}\n", "") for _, _, beats in UNDER),
+    *((allowed("tltrace 1 C", it, beats, "--all 2"), 0, f"clean {len(beats)}\n", "") for it, _, beats in UNDER),
+    *((allowed("tltrace 1 C", it, beats, "--all 1"), 1, f"line {len(beats) + 1} {rule}\nfaults 1\n", "") for it, rule, beats in STILL),
+    (allowed("tltrace 4 8 early,drops C", "denied", UNDER[4][2] + UNDER[0][2], "--all 9"), 1, "line 5 L2\nfaults 1\n", ""),
+    (allowed("tltrace 2 8", "standard", UNDER[0][2]), 1, "line 1 F7\n", ""),
     # an explanation ends with the liberties that would allow the beat
     *((explained(beats), 0, f"  (allowed under {it})\n", "") for it, _, beats in UNDER),
     (explained([PERM, GRANT, "E 00", PROBE, "C 4 2 6 00 00000000 - 0"]) + " | grep -c allowed", 1, "0\n", ""),

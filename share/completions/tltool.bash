@@ -10,13 +10,17 @@ _tltool() {
         COMPREPLY=($(compgen -W '4 8 16' -- "$current"))
         return
     fi
+    if [[ $previous == --allow ]]; then
+        COMPREPLY=($(compgen -W 'none standard ids sinks writer early drops reports denied uncorrupt' -- "$current"))
+        return
+    fi
     if [[ $previous == --profile ]]; then
         COMPREPLY=($(compgen -W '1 2' -- "$current"))
         return
     fi
     case ${COMP_WORDS[1]} in
     decode) options='--width --help -h' ;;
-    monitor) options='--all --report --junit --help -h' ;;
+    monitor) options='--allow --all --report --junit --help -h' ;;
     coherent) options='--all --report --junit --help -h' ;;
     explain) options='--coherent --help -h' ;;
     chart) options='--lines --block --help -h' ;;

@@ -10,6 +10,7 @@ complete -c tltool -n __fish_use_subcommand -f -a help -d 'show the help of a co
 complete -c tltool -s h -l help -d 'show help'
 complete -c tltool -n __fish_use_subcommand -s V -l version -d 'show the version'
 complete -c tltool -n '__fish_seen_subcommand_from decode' -l width -x -a '4 8 16' -d 'bytes of data that a beat carries'
+complete -c tltool -n '__fish_seen_subcommand_from monitor' -l allow -x -a 'none standard ids sinks writer early drops reports denied uncorrupt' -d 'what links may do besides what the header names'
 complete -c tltool -n '__fish_seen_subcommand_from monitor' -l all -x -d 'go on behind up to so many lines at fault'
 complete -c tltool -n '__fish_seen_subcommand_from monitor' -l report -r -F -d 'write a report in JSON'
 complete -c tltool -n '__fish_seen_subcommand_from monitor' -l junit -r -F -d 'write a report in XML'

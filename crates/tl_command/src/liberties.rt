@@ -1,9 +1,9 @@
 //! Reads the words that name what links may do beyond the first profile.
 
-ghost use Rattle.std.specs.Prelude.{◌≡◌, ◌≢◌, ◌++◌, ℕ, List, MatchOption, IfSome, codes};
+ghost use Rattle.std.specs.Prelude.{◌≡◌, ◌≢◌, ◌++◌, ℕ, List, MatchOption, IfSome, codes, option_map};
 ghost use Rattle.tl_command.specs.code.LibertyReading.{liberties_at, mark_at, names_at, standard_at};
 ghost use Rattle.tl_command.specs.code.LibertyReading.{GivesMark, IsAfter};
-ghost use Rattle.tl_command.specs.statement.LibertyWords.{IsRead, LacksComma, SpellsLiberties};
+ghost use Rattle.tl_command.specs.statement.LibertyWords.{AreAllowed, IsRead, LacksComma, SpellsLiberties};
 ghost use Rattle.tl_params.specs.code.HeaderReading.{Gives, after_word};
 ghost use Rattle.tl_params.specs.declared.liberties.Liberties.{Liberties};
 
@@ -116,5 +116,17 @@ pub fn liberties_named(word: &str) -> Option<Liberties>
         Some(liberties)
     } else {
         None
+    }
+}
+
+/// The liberties that the word of `--allow` names; none without the word.
+pub fn allowed_named(word: Option<&str>) -> Option<Liberties>
+    ensures { MatchOption result
+        ((liberties : Liberties) → ¬ AreAllowed (option_map (λ s. s.now) word.entry) liberties)
+        (AreAllowed (option_map (λ s. s.now) word.entry)) }
+{
+    match word {
+        None => Some(Liberties::none()),
+        Some(word) => liberties_named(word),
     }
 }

@@ -1,11 +1,11 @@
 //! What is looked for in a trace, and the word that says how much.
 
-ghost use Rattle.std.specs.Prelude.{◌≡◌, ℕ, MatchOption, option_map};
-ghost use Rattle.std.specs.Bool.{OnTrue};
+ghost use Rattle.std.specs.Prelude.{◌≡◌, ℕ, IfSome, MatchOption, option_map};
 ghost use Rattle.tl_command.specs.declared.search.Inquiry.{Inquiry};
 ghost use Rattle.tl_command.specs.statement.SearchWords.{IsBehind, IsInquiry};
 
 use crate::number::number;
+use tl_params::liberties::Liberties;
 
 /// What is looked for in a trace.
 #[derive(Clone, Copy, Debug, PartialEq, Eq)]
@@ -14,15 +14,8 @@ pub struct Aim {
     pub together: bool,
     /// How many lines at fault are looked for behind the first.
     pub behind: u64,
-}
-
-impl Aim {
-    /// Whether this is the same aim.
-    pub fn is(&self, other: &Aim) -> bool
-        ensures { OnTrue result (self.now ≡ other.now) }
-    {
-        self.together == other.together && self.behind == other.behind
-    }
+    /// What links may do besides what the header names, each judged by itself.
+    pub allow: Liberties,
 }
 
 /// How many lines at fault are looked for behind the first, by the word of `--all`.
@@ -42,23 +35,30 @@ pub struct Inquiry {
     pub all: bool,
 }
 
-/// What is asked by the word of `--all`, or without it, of all links together or of each by itself.
-pub fn inquiry_named(together: bool, word: Option<&str>) -> Option<Inquiry>
-    ensures { MatchOption result ((q : Inquiry) → ¬ IsInquiry together (option_map (λ s. s.now) word.entry) q)
+/// What is asked by the word of `--all`, or without it, of all links together or of each by itself, which may do this
+/// besides what the header names.
+pub fn inquiry_named(together: bool, word: Option<&str>, allow: Liberties) -> Option<Inquiry>
+    ensures named { MatchOption result ((q : Inquiry) → ¬ IsInquiry together (option_map (λ s. s.now) word.entry) q)
         (IsInquiry together (option_map (λ s. s.now) word.entry)) }
+    ensures allow { IfSome result (λ q. q.aim.allow ≡ allow) }
 {
     match word {
         None => Some(Inquiry {
             aim: Aim {
                 together,
                 behind: 0,
+                allow,
             },
             all: false,
         }),
         Some(word) => match behind_named(word) {
             None => None,
             Some(behind) => Some(Inquiry {
-                aim: Aim { together, behind },
+                aim: Aim {
+                    together,
+                    behind,
+                    allow,
+                },
                 all: true,
             }),
         },

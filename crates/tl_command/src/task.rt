@@ -4,13 +4,16 @@ use crate::chart::Range;
 use crate::command::Command;
 use crate::random::Options;
 use crate::search::{Aim, Inquiry};
+use tl_params::liberties::Liberties;
 
 /// What the words of the program ask for.
 #[derive(Drop)]
 pub enum Task {
-    /// A command over the file of this name, or over standard input.
+    /// A command over the file of this name, or over standard input. What links may do besides what the header names
+    /// is asked by `monitor` alone.
     Read {
         command: Command,
+        allow: Liberties,
         file: Option<String>,
     },
     /// The lines at fault of the trace in the file of this name, or on standard input.

@@ -23,11 +23,11 @@ use Rattle.tl_engine.specs.declared.fault.Fault.TheVariants.{Rule as Breaks}
 use Rattle.tl_engine.specs.statement.Coherent.{fault_of_breach}
 use Rattle.tl_engine.specs.code.Watching.{JudgesBeat, KnowsBeats, faults_by}
 
-whole : (o : Option Breach) → of_all.broken o ≡ None → o ≡ None
+pub whole : (o : Option Breach) → of_all.broken o ≡ None → o ≡ None
 whole None e = refl
 whole (Some breach) e = absurd cc
 
-breached_by : (o : Option Breach) (breach : Breach) → of_all.broken o ≡ Some (judge.Broken breach) → o ≡ Some breach
+pub breached_by : (o : Option Breach) (breach : Breach) → of_all.broken o ≡ Some (judge.Broken breach) → o ≡ Some breach
 breached_by None breach e = absurd cc
 breached_by (Some other) breach e = cc
 

@@ -12,6 +12,7 @@ use Rattle.tl_engine.specs.declared.status.Status.TheVariants.{Clean, Broken}
 use Rattle.tl_engine.specs.declared.status.ToolFault.{ToolFault}
 use Rattle.tl_engine.specs.declared.status.ToolFault.TheVariants.{Memory, Read, Write}
 use Rattle.tl_engine.specs.code.GivenUp.{GivesUpFor, GivesUpPiece, IsKnown, lines_ended}
+use Rattle.tl_engine.specs.code.Judging.{KnowsFor}
 use Rattle.tl_engine.specs.code.Lines.{lines_of}
 use Rattle.tl_engine.specs.code.Parts.{AppendsShort}
 use Rattle.tl_engine.specs.code.Progress.{Feeds, FinishesInput, GivesUp, GivesUpWithin, Progress, ended_lines}
@@ -186,3 +187,17 @@ module _ {H : Type 0} (knows : H → List (List ℕ) → List ℕ → Type 0) (t
         (read, text, consumed, short, inl (told _ _ known))
     given_up_told so_far told (Err Write) had left held holds (read, text, consumed, short, inr ends) =
         (read, text, consumed, short, inr ends)
+
+-- the same of a handler that is made for nothing beside what its type says
+pub told_without_purpose : {H : Type 0} (knows : H → List (List ℕ) → List ℕ → Type 0)
+    (tells : List (List ℕ) → List ℕ → Status → Type 0) (so_far : List (List ℕ) → List ℕ → Type 0)
+    → ((lines : List (List ℕ)) (text : List ℕ) → IsKnown knows lines text → so_far lines text)
+    → (r : Result Status ToolFault) (had left held holds : Option (List ℕ))
+    → IfErr r (GivesUpFor (IsKnown (KnowsFor {M = Unit {0}} (λ h. tt) tt knows)) tells had left held holds)
+    → IfErr r (GivesUpFor so_far tells had left held holds)
+told_without_purpose knows tells so_far told =
+    given_up_told (KnowsFor {M = Unit {0}} (λ h. tt) tt knows) tells so_far any
+  where
+    any : (lines : List (List ℕ)) (text : List ℕ)
+        → IsKnown (KnowsFor {M = Unit {0}} (λ h. tt) tt knows) lines text → so_far lines text
+    any lines text (handler, known) = told lines text (handler, known.0)

@@ -190,7 +190,7 @@ judged_more n w width judge lines text k more =
     judged_behind SpellsHeader (faults_by (is_together n)) (said_by (is_together n)) (KnowsBeats (is_together n) judge)
     width lines text k more
 
-pub judged_total : (n : ℕ) → IsTotal (KnowsLines {n = n}) (JudgedSo (is_together n))
+pub judged_total : (n : ℕ) → IsTotal {M = Unit {0}} (λ h. tt) (KnowsLines {n = n}) (λ m. JudgedSo (is_together n))
 judged_total n (Waiting alloc) lines text known more =
     rw (known.0, known.1)
     (judged_whole SpellsHeader (faults_by (is_together n)) (said_by (is_together n)) header_or_none more)

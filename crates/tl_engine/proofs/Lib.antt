@@ -8,6 +8,7 @@ pub mod InputLines
 pub mod JudgedInput
 pub mod Parts
 pub mod Progress
+mod Purposes
 pub mod Replaying
 pub mod Runs
 pub mod BeatJudging

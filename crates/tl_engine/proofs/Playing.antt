@@ -308,7 +308,7 @@ played-more trace world lines text k more =
     let (rest, status, played) = played-after trace k.config (length lines + 1) k.log more k.reached.given in
     (rest, status, k.before more rest status played)
 
-pub played-total : (n : ℕ) → IsTotal (KnowsSchedule {n = n}) (Played (is_trace n))
+pub played-total : (n : ℕ) → IsTotal {M = Unit {0}} (λ h. tt) (KnowsSchedule {n = n}) (λ m. Played (is_trace n))
 played-total n (Waiting alloc) lines text known more = rw (known.0, known.1) (played-whole (is_trace n) more)
 played-total n (Four m) lines text k more = played-more (is_trace n) m lines text k more
 played-total n (Eight m) lines text k more = played-more (is_trace n) m lines text k more

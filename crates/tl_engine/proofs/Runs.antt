@@ -23,14 +23,14 @@ module _ {H : Type 0} (knows : H → List (List ℕ) → List ℕ → Type 0) (t
     same_text state read before p = rw append-nil p
 
     -- nothing was written for the piece
-    pub fails_unjudged : IsTotal knows tells → (state : Lines H) (piece : List ℕ) (held : Option (List ℕ))
+    pub fails_unjudged : IsTotal (λ (h : H). h) knows (λ (h : H). tells) → (state : Lines H) (piece : List ℕ) (held : Option (List ℕ))
         → FailsAfter knows tells state piece held held
     fails_unjudged total state piece held = λ read before p.
         let rest = total state.handler p.lines before p.known (lines_of (state.begun.items ++ piece)) in
         (rest.0, rest.1, rw (p.cut piece) rest.2, ([], rest.0, refl, Appends-nil held))
 
     -- what was judged of the piece was written in part
-    pub fails_written : IsTotal knows tells → (status : Status) (old new : Lines H) (piece out : List ℕ)
+    pub fails_written : IsTotal (λ (h : H). h) knows (λ (h : H). tells) → (status : Status) (old new : Lines H) (piece out : List ℕ)
         (held holds : Option (List ℕ)) → Feeds knows tells old new piece [] out status
         → AppendsPart held holds out → FailsAfter knows tells old piece held holds
     fails_written total Clean old new piece out held holds feeds part = λ read before p.
@@ -63,7 +63,7 @@ module _ {H : Type 0} (knows : H → List (List ℕ) → List ℕ → Type 0) (t
     passes Broken old new piece out feeds = λ read before p. feeds read before (same_text old read before p)
 
     -- nothing was read
-    pub fails_at_start : IsTotal knows tells → (handler : H) (had held : Option (List ℕ)) → knows handler [] []
+    pub fails_at_start : IsTotal (λ (h : H). h) knows (λ (h : H). tells) → (handler : H) (had held : Option (List ℕ)) → knows handler [] []
         → FailsAt tells had had held held
     unfolding lines_of
     fails_at_start total handler had held known =
@@ -74,7 +74,7 @@ module _ {H : Type 0} (knows : H → List (List ℕ) → List ℕ → Type 0) (t
         (so_far : (read text : List ℕ) × Consumes had left read × Appends held holds text
         × Progress knows state read text) where
       -- no more could be read
-      pub fails_reading : IsTotal knows tells → (now : Option (List ℕ)) → Keeps left now
+      pub fails_reading : IsTotal (λ (h : H). h) knows (λ (h : H). tells) → (now : Option (List ℕ)) → Keeps left now
           → FailsAt tells had now held holds
       fails_reading total now keeps =
           let (read, text, consumed, appended, p) = so_far in

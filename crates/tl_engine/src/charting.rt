@@ -281,7 +281,9 @@ impl ChartLines {
 impl LineHandler for ChartLines {
     ghost knows = { KnowsChart };
 
-    ghost tells = { Judged };
+    ghost purpose = { λ _. tt };
+
+    ghost tells = { λ _. Judged };
 
     ghost ends = { EndsChart };
 

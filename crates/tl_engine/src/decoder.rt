@@ -21,7 +21,9 @@ pub struct Decoder<const W: usize> {
 impl<const W: usize> LineHandler for Decoder<W> {
     ghost knows = { λ _ lines text. DecodesBefore W lines text };
 
-    ghost tells = { DecodesTo W };
+    ghost purpose = { λ _. tt };
+
+    ghost tells = { λ _. DecodesTo W };
 
     ghost ends = { λ _ _. ⊤ };
 

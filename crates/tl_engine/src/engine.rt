@@ -4,7 +4,7 @@ ghost use Rattle.std.specs.Prelude.{◌≡◌, ◌≢◌, ◌⊎◌, ◌+◌, �
 ghost use Rattle.std.specs.Prelude.{IfOk, OnOk, OnErr, IfErr, length, take, vec_len};
 ghost use Rattle.std.specs.Io.KnownBytes.{Appends, Consumes, IsAtEnd, Keeps};
 ghost use Rattle.tl_engine.specs.code.GivenUp.{GivesUpFor, GivesUpPiece, IsKnown};
-ghost use Rattle.tl_engine.specs.code.Judging.{IsTotal};
+ghost use Rattle.tl_engine.specs.code.Judging.{IsTotal, KnowsFor};
 ghost use Rattle.tl_engine.specs.code.Lines.{lines_of};
 ghost use Rattle.tl_engine.specs.code.Parts.{AppendsPart};
 ghost use Rattle.tl_engine.specs.code.Progress.{FinishesInput, HasAll, Progress};
@@ -55,14 +55,15 @@ fn pass<H: LineHandler, W: Write>(
     writer: &mut W,
 ) -> Result<Status, ToolFault>
     requires empty { out.old.items ≡ [] }
-    requires total { IsTotal H.knows H.tells }
+    requires total { IsTotal H.purpose H.knows H.tells }
     ensures empty { OnOk result (out.new.items ≡ []) }
-    ensures ok { IfOk result (λ status. (said : List ℕ) × Appends (W.contents writer.old) (W.contents writer.new) said
-        × Passes H.knows H.tells lines.old lines.new piece.now said status) }
-    ensures err { OnErr result (FailsAfter H.knows H.tells lines.old piece.now (W.contents writer.old)
-        (W.contents writer.new)) }
-    ensures fault { IfErr result (GivesUpPiece H.knows H.tells lines.old piece.now (W.contents writer.old)
-        (W.contents writer.new)) }
+    ensures ok { (m : H.Purpose) → IfOk result (λ status. (said : List ℕ)
+        × Appends (W.contents writer.old) (W.contents writer.new) said
+        × Passes (KnowsFor H.purpose m H.knows) (H.tells m) lines.old lines.new piece.now said status) }
+    ensures err { (m : H.Purpose) → OnErr result (FailsAfter (KnowsFor H.purpose m H.knows) (H.tells m) lines.old
+        piece.now (W.contents writer.old) (W.contents writer.new)) }
+    ensures fault { (m : H.Purpose) → IfErr result (GivesUpPiece (KnowsFor H.purpose m H.knows) (H.tells m) lines.old
+        piece.now (W.contents writer.old) (W.contents writer.new)) }
 {
     let status = lines.feed(piece, out)?;
     write_all(writer, out)?;
@@ -77,13 +78,14 @@ fn close<H: LineHandler, W: Write>(
     writer: &mut W,
 ) -> Result<Status, ToolFault>
     requires empty { out.old.items ≡ [] }
-    requires total { IsTotal H.knows H.tells }
-    ensures ok { IfOk result (λ status. (said : List ℕ) × Appends (W.contents writer.old) (W.contents writer.new) said
-        × FinishesInput H.knows H.tells lines.now [] said status) }
-    ensures err { OnErr result (FailsAfter H.knows H.tells lines.now [] (W.contents writer.old)
-        (W.contents writer.new)) }
-    ensures fault { IfErr result (GivesUpPiece H.knows H.tells lines.now [] (W.contents writer.old)
-        (W.contents writer.new)) }
+    requires total { IsTotal H.purpose H.knows H.tells }
+    ensures ok { (m : H.Purpose) → IfOk result (λ status. (said : List ℕ)
+        × Appends (W.contents writer.old) (W.contents writer.new) said
+        × FinishesInput (KnowsFor H.purpose m H.knows) (H.tells m) lines.now [] said status) }
+    ensures err { (m : H.Purpose) → OnErr result (FailsAfter (KnowsFor H.purpose m H.knows) (H.tells m) lines.now []
+        (W.contents writer.old) (W.contents writer.new)) }
+    ensures fault { (m : H.Purpose) → IfErr result (GivesUpPiece (KnowsFor H.purpose m H.knows) (H.tells m) lines.now []
+        (W.contents writer.old) (W.contents writer.new)) }
 {
     let status = lines.finish(out)?;
     write_all(writer, out)?;
@@ -101,9 +103,11 @@ pub fn judge_input<H: LineHandler, R: Read>(
 ) -> Result<Status, ToolFault>
     requires { Progress H.knows lines.old [] out.old.items }
     ensures ok { IfOk result (λ status. (read : List ℕ) × Consumes (R.remaining reader.old) (R.remaining reader.new) read
-        × H.tells (lines_of read) out.new.items status × EndsAs H.tells (R.remaining reader.new) read out.new.items status
+        × H.tells (H.purpose lines.old.handler) (lines_of read) out.new.items status
+        × EndsAs (H.tells (H.purpose lines.old.handler)) (R.remaining reader.new) read out.new.items status
         × HasAll H.knows H.ends lines.new.handler (lines_of read) status
         × Stands H.ends (R.remaining reader.new) read lines.new.handler) }
+    ensures purpose { IfOk result (λ _. H.purpose lines.new.handler ≡ H.purpose lines.old.handler) }
     ensures fault { IfErr result (λ fault. fault ≢ ToolFault.Write) }
 {
     let mut chunk = new_chunk(alloc)?;
@@ -132,13 +136,14 @@ pub fn handle_input<H: LineHandler, R: Read, W: Write>(
     writer: &mut W,
 ) -> Result<Status, ToolFault>
     requires begins { H.knows handler [] [] }
-    requires total { IsTotal H.knows H.tells }
-    ensures ok { IfOk result (RunsTo H.tells (R.remaining reader.old) (R.remaining reader.new) (W.contents writer.old)
+    requires total { IsTotal H.purpose H.knows H.tells }
+    ensures ok { IfOk result (RunsTo (H.tells (H.purpose handler)) (R.remaining reader.old) (R.remaining reader.new)
+        (W.contents writer.old) (W.contents writer.new)) }
+    ensures err { OnErr result (FailsAt (H.tells (H.purpose handler)) (R.remaining reader.old) (R.remaining reader.new)
+        (W.contents writer.old) (W.contents writer.new)) }
+    ensures fault { IfErr result (GivesUpFor (IsKnown (KnowsFor H.purpose (H.purpose handler) H.knows))
+        (H.tells (H.purpose handler)) (R.remaining reader.old) (R.remaining reader.new) (W.contents writer.old)
         (W.contents writer.new)) }
-    ensures err { OnErr result (FailsAt H.tells (R.remaining reader.old) (R.remaining reader.new)
-        (W.contents writer.old) (W.contents writer.new)) }
-    ensures fault { IfErr result (GivesUpFor (IsKnown H.knows) H.tells (R.remaining reader.old) (R.remaining reader.new)
-        (W.contents writer.old) (W.contents writer.new)) }
 {
     let mut chunk = new_chunk(alloc)?;
     let mut out = Vec::new(alloc);

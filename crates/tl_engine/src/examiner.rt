@@ -192,7 +192,9 @@ pub struct Examiner<'a, const TOGETHER: usize> {
 impl<const TOGETHER: usize> LineHandler for Examiner<'_, TOGETHER> {
     ghost knows = { KnowsExaminer };
 
-    ghost tells = { JudgedSo (is_together TOGETHER) };
+    ghost purpose = { λ _. tt };
+
+    ghost tells = { λ _. JudgedSo (is_together TOGETHER) };
 
     ghost ends = { λ e lines. FindsBlock e.found.now lines };
 

@@ -92,8 +92,9 @@ fn handle_counted_line<H: LineHandler>(
     line: &[u8],
     out: &mut Vec<u8>,
 ) -> Result<Status, ToolFault>
-    ensures counts { IfOk result (CountsLine H.knows H.tells handler.old handler.new count.old count.new line.now
-        out.old.items out.new.items) }
+    ensures counts { IfOk result (CountsLine H.knows (H.tells (H.purpose handler.old)) handler.old handler.new count.old
+        count.new line.now out.old.items out.new.items) }
+    ensures purpose { IfOk result (λ _. H.purpose handler.new ≡ H.purpose handler.old) }
     ensures ends { result ≡ Ok Status.Broken → Ends H.knows H.ends handler.old handler.new line.now }
     ensures fault { IfErr result (GivesUp count.old) }
 {
@@ -113,7 +114,8 @@ fn handle_counted_line<H: LineHandler>(
 impl<H: LineHandler> Lines<H> {
     /// No line has been judged yet.
     pub fn new(handler: H) -> Lines<H>
-        ensures { H.knows handler [] [] → Progress H.knows result [] [] }
+        ensures knows { H.knows handler [] [] → Progress H.knows result [] [] }
+        ensures handler { result.handler ≡ handler }
     {
         Lines {
             handler,
@@ -140,7 +142,8 @@ impl<H: LineHandler> Lines<H> {
     fn stop(&self, out: &mut Vec<u8>) -> Result<Status, ToolFault>
         ensures broken { IfOk result (λ status. status ≡ Status.Broken) }
         ensures stops { IfOk result (λ _. (line : List ℕ) → IsOpen line →
-            StopsAt H.knows H.tells self.now.handler self.now.count line out.old.items out.new.items) }
+            StopsAt H.knows (H.tells (H.purpose self.now.handler)) self.now.handler self.now.count line
+            out.old.items out.new.items) }
         ensures says { IfOk result (λ _. (fault : Fault)
             × (out.new.items ≡ out.old.items ++ fault_text (self.now.count + 1) fault)) }
         ensures ends { IfOk result (λ _. (line : List ℕ) → IsOpen line →
@@ -155,7 +158,9 @@ impl<H: LineHandler> Lines<H> {
     /// Judges a line, of which a beginning may have come with earlier pieces.
     pub(crate) fn take_line(&mut self, line: &[u8], out: &mut Vec<u8>) -> Result<Status, ToolFault>
         requires { IsLine line.now }
-        ensures feeds { IfOk result (Feeds H.knows H.tells self.old self.new line.now out.old.items out.new.items) }
+        ensures feeds { IfOk result (Feeds H.knows (H.tells (H.purpose self.old.handler)) self.old self.new line.now
+            out.old.items out.new.items) }
+        ensures purpose { IfOk result (λ _. H.purpose self.new.handler ≡ H.purpose self.old.handler) }
         ensures ends { result ≡ Ok Status.Broken → EndsWithin H.knows H.ends self.old self.new.handler line.now
             out.old.items }
         ensures fault { IfErr result (GivesUp (lines_judged self.old)) }
@@ -179,7 +184,9 @@ impl<H: LineHandler> Lines<H> {
     /// Keeps the beginning of a line. A line that has 256 bytes and no LF is at fault at once.
     pub(crate) fn keep(&mut self, rest: &[u8], out: &mut Vec<u8>) -> Result<Status, ToolFault>
         requires { LacksLf rest.now }
-        ensures feeds { IfOk result (Feeds H.knows H.tells self.old self.new rest.now out.old.items out.new.items) }
+        ensures feeds { IfOk result (Feeds H.knows (H.tells (H.purpose self.old.handler)) self.old self.new rest.now
+            out.old.items out.new.items) }
+        ensures purpose { IfOk result (λ _. H.purpose self.new.handler ≡ H.purpose self.old.handler) }
         ensures ends { result ≡ Ok Status.Broken → EndsWithin H.knows H.ends self.old self.new.handler rest.now
             out.old.items }
         ensures fault { IfErr result (GivesUp (lines_judged self.old)) }
@@ -192,7 +199,9 @@ impl<H: LineHandler> Lines<H> {
 
     /// Judges the lines that end in a piece of the input, and keeps the beginning of the next.
     pub fn feed(&mut self, piece: &[u8], out: &mut Vec<u8>) -> Result<Status, ToolFault>
-        ensures feeds { IfOk result (Feeds H.knows H.tells self.old self.new piece.now out.old.items out.new.items) }
+        ensures feeds { IfOk result (Feeds H.knows (H.tells (H.purpose self.old.handler)) self.old self.new piece.now
+            out.old.items out.new.items) }
+        ensures purpose { IfOk result (λ _. H.purpose self.new.handler ≡ H.purpose self.old.handler) }
         ensures ends { result ≡ Ok Status.Broken → EndsWithin H.knows H.ends self.old self.new.handler piece.now
             out.old.items }
         ensures fault { IfErr result (GivesUpWithin H.knows self.old piece.now out.old.items) }
@@ -209,7 +218,8 @@ impl<H: LineHandler> Lines<H> {
 
     /// Judges the end of the input. A rest without LF is a line too.
     pub fn finish(&self, out: &mut Vec<u8>) -> Result<Status, ToolFault>
-        ensures finishes { IfOk result (FinishesInput H.knows H.tells self.now out.old.items out.new.items) }
+        ensures finishes { IfOk result (FinishesInput H.knows (H.tells (H.purpose self.now.handler)) self.now out.old.items
+            out.new.items) }
         ensures has { IfOk result (λ status. (read text : List ℕ) → Progress H.knows self.now read text →
             HasAll H.knows H.ends self.now.handler (lines_of read) status) }
         ensures fault { IfErr result (GivesUp (lines_judged self.now)) }

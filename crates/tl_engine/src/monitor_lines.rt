@@ -128,7 +128,9 @@ impl<const TOGETHER: usize> MonitorLines<TOGETHER> {
 impl<const TOGETHER: usize> LineHandler for MonitorLines<TOGETHER> {
     ghost knows = { KnowsLines };
 
-    ghost tells = { JudgedSo (is_together TOGETHER) };
+    ghost purpose = { λ _. tt };
+
+    ghost tells = { λ _. JudgedSo (is_together TOGETHER) };
 
     ghost ends = { λ _ _. ⊤ };
 

@@ -58,7 +58,9 @@ impl<const W: usize> Listing<'_, W> {
 impl<const W: usize> LineHandler for Listing<'_, W> {
     ghost knows = { λ _ _ _. ⊤ };
 
-    ghost tells = { λ _ _ _. ⊤ };
+    ghost purpose = { λ _. tt };
+
+    ghost tells = { λ _ _ _ _. ⊤ };
 
     ghost ends = { λ _ _. ⊤ };
 

@@ -92,7 +92,9 @@ impl<const W: usize> Replay<W> {
 impl<const W: usize> LineHandler for Replay<W> {
     ghost knows = { λ r lines text. KnowsReplay r lines };
 
-    ghost tells = { λ _ _ _. ⊤ };
+    ghost purpose = { λ _. tt };
+
+    ghost tells = { λ _ _ _ _. ⊤ };
 
     ghost ends = { λ _ _. ⊤ };
 

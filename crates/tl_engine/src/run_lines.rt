@@ -74,7 +74,9 @@ fn start<const TRACES: usize>(
 impl<const TRACES: usize> LineHandler for RunLines<TRACES> {
     ghost knows = { KnowsSchedule };
 
-    ghost tells = { Played (is_trace TRACES) };
+    ghost purpose = { λ _. tt };
+
+    ghost tells = { λ _. Played (is_trace TRACES) };
 
     ghost ends = { λ _ _. ⊤ };
 

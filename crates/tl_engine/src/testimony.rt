@@ -312,7 +312,9 @@ pub struct Testimony {
 impl LineHandler for Testimony {
     ghost knows = { KnowsTestimony };
 
-    ghost tells = { JudgedTogether };
+    ghost purpose = { λ _. tt };
+
+    ghost tells = { λ _. JudgedTogether };
 
     ghost ends = { EndsTestimony };
 

@@ -13,6 +13,7 @@ use Rattle.tl_engine.proofs.Judged.{open_line}
 use Rattle.tl_engine.specs.code.Judging.{Ends, EndsHere, Judges}
 use Rattle.tl_engine.specs.code.Lines.{IsOpen}
 use Rattle.tl_engine.specs.code.Progress.{HasAll}
+use Rattle.tl_engine.specs.code.Run.{Stands}
 use Rattle.tl_engine.specs.declared.fault.Fault.{Fault}
 use Rattle.tl_engine.specs.declared.header.Header.{Header}
 use Rattle.tl_engine.specs.declared.status.Status.{Status}
@@ -23,7 +24,7 @@ use Rattle.tl_links.specs.code.Allowing.{EndsLines, KnowsBeats, KnowsLines, Know
 use Rattle.tl_links.specs.declared.allow_lines.AllowLines.{AllowLines}
 use Rattle.tl_links.specs.declared.allow_lines.AllowLines.TheVariants.{Waiting, Four, Eight, Sixteen}
 use Rattle.tl_links.specs.declared.allow_lines.Watch.{Watch}
-use Rattle.tl_links.specs.statement.Allowed.{Allowed, AllowedAfter, NamesProfile}
+use Rattle.tl_links.specs.statement.Allowed.{Allowed, AllowedAfter, IsSettled, NamesProfile}
 use Rattle.tl_params.specs.declared.level.Level.{Level}
 use Rattle.tl_params.specs.declared.liberties.Liberties.{Liberties}
 use Rattle.tl_params.specs.declared.liberties.Liberty.{Liberty}
@@ -162,3 +163,8 @@ all_found (Waiting alloc) lines Clean (text, none) = waited lines none
 all_found (Four v) lines Clean (text, k) = all_good v lines k
 all_found (Eight v) lines Clean (text, k) = all_good v lines k
 all_found (Sixteen v) lines Clean (text, k) = all_good v lines k
+
+-- what is found stands whatever follows it, or the input is at its end
+pub settled : (h : AllowLines) (left : Option (List ℕ)) (read : List ℕ) → Stands EndsLines left read h
+    → IsSettled left read (found_in h)
+settled h left read stands = stands

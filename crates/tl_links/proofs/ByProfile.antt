@@ -9,13 +9,12 @@ use Rattle.tl_engine.specs.statement.Judged.{Judged, JudgedAfter, JudgedBy, clea
 use Rattle.tl_engine.specs.statement.Trace.{SpellsHeader}
 use Rattle.tl_engine.specs.statement.Width.{bytes_of}
 use Rattle.tl_links.proofs.Headers.{versions_apart}
-use Rattle.tl_links.specs.statement.Header.{NamesLinks}
 use Rattle.tl_links.specs.statement.Judged.{JudgedLinks, faults_under}
 use Rattle.tl_params.specs.declared.level.Level.{Level}
 use Rattle.tl_params.specs.declared.liberties.Liberties.{Liberties}
 use Rattle.tl_params.specs.declared.profile.Profile.{Profile}
 use Rattle.tl_params.specs.declared.width.Width.{Width}
-use Rattle.tl_params.specs.statement.Liberties.{liberties_of}
+use Rattle.tl_params.specs.statement.Liberties.{liberties_of, no_liberties, united}
 use Rattle.tl_rules.proofs.Profiles.{on_link-of}
 use Rattle.tl_rules.specs.statement.Conformance.{Trace}
 
@@ -42,21 +41,26 @@ module _ {w : ℕ} (p : Profile) (levels : List Level) where
   judged_so t (line ∷ lines) text status (inr (fault, inr (link, beat, spells, bad), says, ends)) =
       inr (fault, inr (link, beat, spells, sym (same_faults (link, beat) t) ∙ bad), says, ends)
 
+-- nothing is added to those of a profile
+none_added : (p : Profile) → united (liberties_of p) no_liberties ≡ liberties_of p
+none_added Profile.One = refl
+none_added Profile.Two = refl
+
 pub by_profile : (line : List ℕ) (lines : List (List ℕ)) (text : List ℕ) (status : Status) (width : Width) (p : Profile)
-    (levels : List Level) → SpellsHeader line width p levels → JudgedLinks (line ∷ lines) text status
+    (levels : List Level) → SpellsHeader line width p levels → JudgedLinks no_liberties (line ∷ lines) text status
     → Judged (line ∷ lines) text status
 unfolding JudgedBy
-by_profile line lines text status width p levels s (inl (wide, may, others, inl (q, r, is), judged)) =
+by_profile line lines text status width p levels s (inl (wide, may, others, (own, inl (q, r, is), same), judged)) =
     inl (
       wide,
       q,
       others,
       r,
       judged_so q others [] lines text status
-          (subst (λ (m : Liberties). JudgedAfter {w = bytes_of wide} faults_under clean_text others m [] lines text status) is
-          judged),
+          (subst (λ (m : Liberties). JudgedAfter {w = bytes_of wide} faults_under clean_text others m [] lines text status)
+          (same ∙ ap (λ (l : Liberties). united l no_liberties) is ∙ none_added q) judged),
     )
-by_profile line lines text status width p levels s (inl (wide, may, others, inr h, judged)) =
-    absurd (versions_apart line width wide p may levels others s h)
+by_profile line lines text status width p levels s (inl (wide, may, others, (own, inr h, same), judged)) =
+    absurd (versions_apart line width wide p own levels others s h)
 by_profile line lines text status width p levels s (inr (none, says, ends)) =
-    absurd (none width (liberties_of p) levels (inl (p, s, refl)))
+    absurd (none width (united (liberties_of p) no_liberties) levels (liberties_of p, inl (p, s, refl), refl))

@@ -17,7 +17,7 @@ use Rattle.tl_engine.specs.declared.header.Header.{Header}
 use Rattle.tl_engine.specs.statement.Trace.{IsHeader, SpellsHeader, SpellsLevels, levels_text}
 use Rattle.tl_links.specs.code.HeadReading.{front_at, with_eight, with_four, with_sixteen}
 use Rattle.tl_links.specs.declared.header.LinksHeader.{LinksHeader}
-use Rattle.tl_links.specs.statement.Header.{IsLinks, NamesLinks, SpellsFourth, fourth_front}
+use Rattle.tl_links.specs.statement.Header.{IsLinks, NamesAllowed, NamesLinks, SpellsFourth, fourth_front}
 use Rattle.tl_params.proofs.Headers.{after_taken}
 use Rattle.tl_params.proofs.Options.{some_pair}
 use Rattle.tl_params.specs.code.HeaderReading.{Gives, after_word}
@@ -28,7 +28,7 @@ use Rattle.tl_params.specs.declared.profile.Profile.{Profile}
 use Rattle.tl_params.specs.declared.width.Width.{Width}
 use Rattle.tl_params.specs.declared.width.Width.TheVariants.{Four, Eight, Sixteen}
 use Rattle.tl_params.specs.statement.Config.{IsCount}
-use Rattle.tl_params.specs.statement.Liberties.{liberties_of}
+use Rattle.tl_params.specs.statement.Liberties.{liberties_of, united}
 
 -- ---- the front
 
@@ -294,3 +294,16 @@ pub open_links : (line : List ℕ) → IsOpen line → (width : Width) (may : Li
     → ¬ NamesLinks line width may levels
 open_links line is width may levels (inl (p, s, of)) = open_line line is width p levels s
 open_links line is width may levels (inr h) = fourth_open line is width may levels h
+
+-- ---- with what is allowed besides
+
+pub allowed_or_none : (allow : Liberties) (line : List ℕ) → IsReadable (NamesAllowed allow) line
+allowed_or_none allow line = go (links_or_none line)
+  where
+    go : IsReadable NamesLinks line → IsReadable (NamesAllowed allow) line
+    go (inl (width, own, levels, named)) = inl (width, united own allow, levels, (own, named, refl))
+    go (inr none) = inr (λ width may levels named. none width named.0 levels named.1)
+
+pub open_allowed : (allow : Liberties) (line : List ℕ) → IsOpen line → (width : Width) (may : Liberties)
+    (levels : List Level) → ¬ NamesAllowed allow line width may levels
+open_allowed allow line is width may levels (own, named, same) = open_links line is width own levels named

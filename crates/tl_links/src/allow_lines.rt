@@ -118,7 +118,9 @@ impl AllowLines {
 impl LineHandler for AllowLines {
     ghost knows = { KnowsLines };
 
-    ghost tells = { λ _ _ _. ⊤ };
+    ghost purpose = { λ _. tt };
+
+    ghost tells = { λ _ _ _ _. ⊤ };
 
     ghost ends = { EndsLines };
 

@@ -1,10 +1,8 @@
 //! Says which liberties would allow the first beat at fault of a trace.
 
-ghost use Rattle.std.specs.Prelude.{◌≡◌, ◌≢◌, ◌++◌, ℕ, List, IfErr, IfOk, OnOk};
-ghost use Rattle.std.specs.Io.KnownBytes.{Consumes};
-ghost use Rattle.tl_engine.specs.code.Lines.{lines_of};
+ghost use Rattle.std.specs.Prelude.{◌≡◌, ◌≢◌, ◌++◌, List, IfErr, IfOk, OnOk};
 ghost use Rattle.tl_engine.specs.declared.status.ToolFault.{ToolFault};
-ghost use Rattle.tl_links.specs.statement.Allowed.{Allowed, allowed_line};
+ghost use Rattle.tl_links.specs.statement.Allowed.{FindsAllowed, allowed_line};
 ghost use Rattle.tl_params.specs.declared.liberties.Liberty.{Liberty};
 
 use crate::allow_lines::AllowLines;
@@ -29,16 +27,18 @@ fn append_line(liberties: &[Liberty], out: &mut Vec<u8>) -> Result<(), AllocErro
     Ok(())
 }
 
-/// Appends the line that names the liberties, each of which alone would allow the first beat at fault of what a reader
-/// gives; nothing where there are none, or the first line at fault spells no beat. The input is read to its end or to
-/// that line; a header of the fourth form is none here, as for `explain`. At a fault of memory or of the reader a part of it may be appended.
+/// Reads a trace to its first line at fault, or to its end. Appends the line that names each liberty which alone would
+/// allow the beat at fault.
+///
+/// Nothing is appended if no liberty would, if no line is at fault, or if that line spells no beat. A header of the
+/// fourth form is at fault, as for `explain`. At an error a part of the line may be appended.
 pub fn append_allowed<R: Read>(
     alloc: Global,
     reader: &mut R,
     out: &mut Vec<u8>,
 ) -> Result<(), ToolFault>
-    ensures ok { OnOk result ((read : List ℕ) × (allowing : List Liberty)
-        × Consumes (R.remaining reader.old) (R.remaining reader.new) read × Allowed (lines_of read) allowing
+    ensures ok { OnOk result ((allowing : List Liberty)
+        × FindsAllowed (R.remaining reader.old) (R.remaining reader.new) allowing
         × (out.new.items ≡ out.old.items ++ allowed_line allowing)) }
     ensures fault { IfErr result (λ fault. fault ≢ ToolFault.Write) }
 {

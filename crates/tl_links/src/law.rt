@@ -8,10 +8,13 @@ ghost use Rattle.tl_links.specs.statement.Judged.{JudgedLinks};
 ghost use Rattle.tl_params.specs.declared.level.Level.{Level};
 ghost use Rattle.tl_params.specs.declared.profile.Profile.{Profile};
 ghost use Rattle.tl_params.specs.declared.width.Width.{Width};
+ghost use Rattle.tl_params.specs.statement.Liberties.{no_liberties};
 
-/// A trace whose header is of the first three versions is judged as `monitor` judges it.
+/// A trace whose header is of the first three versions, and whose links are allowed nothing besides, is judged as
+/// `monitor` judges it.
 pub fn judged_by_profile()
     ensures { (line : List ℕ) (lines : List (List ℕ)) (text : List ℕ) (status : Status) (width : Width) (p : Profile)
-        (levels : List Level) → SpellsHeader line width p levels → JudgedLinks (line ∷ lines) text status →
+        (levels : List Level) → SpellsHeader line width p levels → JudgedLinks no_liberties
+        (line ∷ lines) text status →
         Judged (line ∷ lines) text status }
 {}

@@ -4,9 +4,10 @@ ghost use Rattle.std.specs.Prelude.{◌≡◌, ℕ, List, [], false, IfOk, ⊤};
 ghost use Rattle.tl_beat.specs.statement.Width.{IsWidth};
 ghost use Rattle.tl_engine.specs.code.Judging.{Judges};
 ghost use Rattle.tl_links.specs.code.Watching.{Begins, KnowsLines, Watches};
-ghost use Rattle.tl_links.specs.declared.link_lines.LinkLines.{LinkLines};
+ghost use Rattle.tl_links.specs.declared.link_lines.LinkJudge.{LinkJudge};
 ghost use Rattle.tl_links.specs.statement.Judged.{JudgedLinks};
 ghost use Rattle.tl_monitor.specs.statement.Knows.{KnowsUnder};
+ghost use Rattle.tl_params.specs.statement.Liberties.{united};
 
 use crate::header::{LinksHeader, read_links};
 use std::alloc::{AllocError, Global};
@@ -18,16 +19,25 @@ use tl_engine::line_handler::LineHandler;
 use tl_engine::monitor_lines::append_end;
 use tl_monitor::fault::MonitorFault;
 use tl_monitor::monitor::Monitor;
+use tl_params::liberties::Liberties;
 use tl_params::width::Width;
 
-/// Judges the lines of a trace: the header, and then the beats of up to 16 links, each link by itself.
+/// A monitor of the links of a trace, by the bytes of a beat.
 #[derive(Drop)]
-pub enum LinkLines {
+enum LinkJudge {
     /// The header hasn't been read.
     Waiting(Global),
     Four(Monitor<4>),
     Eight(Monitor<8>),
     Sixteen(Monitor<16>),
+}
+
+/// Judges the lines of a trace: the header, and then the beats of up to 16 links, each link by itself.
+#[derive(Drop)]
+pub struct LinkLines {
+    /// What the links may do besides what the header names.
+    allow: Liberties,
+    judge: LinkJudge,
 }
 
 /// Judges the line of the next beat.
@@ -48,27 +58,33 @@ fn watch<const W: usize>(monitor: &mut Monitor<W>, line: &[u8]) -> Result<Option
     }
 }
 
-/// A monitor of the links that a header names.
-fn monitor<const W: usize>(alloc: Global, header: &LinksHeader) -> Result<Monitor<W>, AllocError>
+/// A monitor of the links that a header names, which may do this besides.
+fn monitor<const W: usize>(
+    alloc: Global,
+    allow: Liberties,
+    header: &LinksHeader,
+) -> Result<Monitor<W>, AllocError>
     requires { IsWidth W }
-    ensures { IfOk result (λ monitor. KnowsUnder monitor header.now.levels.items header.now.may [] false) }
+    ensures { IfOk result (λ monitor. KnowsUnder monitor header.now.levels.items (united header.now.may allow) [] false) }
 {
-    Monitor::with_liberties(alloc, header.levels.as_slice(), header.may).map_err(|_| AllocError)
+    Monitor::with_liberties(alloc, header.levels.as_slice(), header.may.union(allow)).map_err(
+        |_| AllocError,
+    )
 }
 
-/// Judges the links that a header names. A line of another form names none.
-fn begin(alloc: Global, line: &[u8]) -> Result<Option<LinkLines>, AllocError>
-    ensures { IfOk result (Begins line.now) }
+/// Judges the links that a header names, which may do this besides. A line of another form names none.
+fn begin(alloc: Global, allow: Liberties, line: &[u8]) -> Result<Option<LinkJudge>, AllocError>
+    ensures { IfOk result (Begins allow line.now) }
 {
     let Some(header) = read_links(line) else {
         return Ok(None);
     };
-    let link_lines = match header.width {
-        Width::Four => LinkLines::Four(monitor(alloc, &header)?),
-        Width::Eight => LinkLines::Eight(monitor(alloc, &header)?),
-        Width::Sixteen => LinkLines::Sixteen(monitor(alloc, &header)?),
+    let judge = match header.width {
+        Width::Four => LinkJudge::Four(monitor(alloc, allow, &header)?),
+        Width::Eight => LinkJudge::Eight(monitor(alloc, allow, &header)?),
+        Width::Sixteen => LinkJudge::Sixteen(monitor(alloc, allow, &header)?),
     };
-    Ok(Some(link_lines))
+    Ok(Some(judge))
 }
 
 /// Goes on with the monitor of the links that the header names. A line of another form is at fault.
@@ -79,21 +95,41 @@ fn start(
     alloc: Global,
     line: &[u8],
 ) -> Result<Option<Fault>, AllocError>
-    requires { link_lines.old ≡ LinkLines.Waiting alloc }
-    ensures { (said : List ℕ) → IfOk result (Judges KnowsLines JudgedLinks link_lines.old link_lines.new line.now said
-        said) }
+    requires { link_lines.old.judge ≡ LinkJudge.Waiting alloc }
+    ensures judges { (said : List ℕ) → IfOk result (Judges KnowsLines (JudgedLinks link_lines.old.allow) link_lines.old
+        link_lines.new line.now said said) }
+    ensures purpose { IfOk result (λ _. link_lines.new.allow ≡ link_lines.old.allow) }
 {
-    match begin(alloc, line)? {
+    match begin(alloc, link_lines.allow, line)? {
         None => Ok(Some(Fault::Header)),
-        Some(begun) => {
-            *link_lines = begun;
+        Some(judge) => {
+            link_lines.judge = judge;
             Ok(None)
         }
     }
 }
 
+impl LinkLines {
+    /// No line has been read. The links may do this besides what the header names.
+    pub fn new(alloc: Global, allow: Liberties) -> LinkLines
+        ensures knows { KnowsLines result [] [] }
+        ensures purpose { result.allow ≡ allow }
+    {
+        LinkLines {
+            allow,
+            judge: LinkJudge::Waiting(alloc),
+        }
+    }
+}
+
 impl LineHandler for LinkLines {
+    ghost use Rattle.tl_params.specs.declared.liberties.Liberties.{Liberties};
+
     ghost knows = { KnowsLines };
+
+    ghost Purpose = { Liberties };
+
+    ghost purpose = { λ h. h.allow };
 
     ghost tells = { JudgedLinks };
 
@@ -105,27 +141,27 @@ impl LineHandler for LinkLines {
         line: &[u8],
         _out: &mut Vec<u8>,
     ) -> Result<Option<Fault>, AllocError> {
-        match self {
-            LinkLines::Waiting(alloc) => {
+        match &mut self.judge {
+            LinkJudge::Waiting(alloc) => {
                 let alloc = *alloc;
                 start(self, alloc, line)
             }
-            LinkLines::Four(monitor) => watch(monitor, line),
-            LinkLines::Eight(monitor) => watch(monitor, line),
-            LinkLines::Sixteen(monitor) => watch(monitor, line),
+            LinkJudge::Four(monitor) => watch(monitor, line),
+            LinkJudge::Eight(monitor) => watch(monitor, line),
+            LinkJudge::Sixteen(monitor) => watch(monitor, line),
         }
     }
 
     fn open_fault(&self) -> Fault {
-        match self {
-            LinkLines::Waiting(_) => Fault::Header,
+        match self.judge {
+            LinkJudge::Waiting(_) => Fault::Header,
             _ => Fault::Line(LineFault::F1),
         }
     }
 
     fn finish(&self, count: u64, out: &mut Vec<u8>) -> Result<Option<Fault>, AllocError> {
-        match self {
-            LinkLines::Waiting(_) => Ok(Some(Fault::Header)),
+        match self.judge {
+            LinkJudge::Waiting(_) => Ok(Some(Fault::Header)),
             _ => {
                 append_end(false, count.saturating_sub(1), out)?;
                 Ok(None)

@@ -1,3 +1,4 @@
 pub mod Counted
+pub mod Judging
 pub mod Searched
 pub mod Verdict

@@ -13,27 +13,29 @@ use Rattle.tl_beat.specs.declared.fault.LineFault.{LineFault}
 use Rattle.tl_beat.specs.declared.fault.LineFault.TheVariants.{F1}
 use Rattle.tl_beat.specs.statement.Line.{Spells, line_fault}
 use Rattle.tl_params.specs.declared.level.Level.{Level}
-use Rattle.tl_params.specs.declared.profile.Profile.{Profile}
+use Rattle.tl_params.specs.declared.liberties.Liberties.{Liberties}
 use Rattle.tl_params.specs.declared.width.Width.{Width}
 use Rattle.tl_rules.specs.statement.Conformance.{Trace}
 use Rattle.tl_engine.specs.code.Judging.{Ends, EndsHere, Finishes, Judges, Stops}
 use Rattle.tl_engine.specs.code.Lines.{IsOpen, lines_of}
 use Rattle.tl_engine.specs.code.Progress.{HasAll}
 use Rattle.tl_engine.specs.code.Run.{EndsAs, Stands}
-use Rattle.tl_engine.specs.code.Watching.{JudgesBeat, KnowsBeats, faults_by}
 use Rattle.tl_engine.specs.declared.fault.Fault.{Fault}
 use Rattle.tl_engine.specs.declared.fault.Fault.TheVariants.{Line}
 use Rattle.tl_engine.specs.declared.status.Status.{Status}
 use Rattle.tl_engine.specs.declared.status.Status.TheVariants.{Clean, Broken}
-use Rattle.tl_engine.specs.statement.Trace.{SpellsHeader}
 use Rattle.tl_engine.specs.statement.Width.{bytes_of}
 use Rattle.tl_engine.proofs.Decoded.{open_fault}
+use Rattle.tl_engine.proofs.Judged.{open_line}
+use Rattle.tl_links.proofs.Headers.{open_allowed}
 use Rattle.tl_report.specs.declared.findings.Findings.{Findings}
 use Rattle.tl_command.specs.declared.search.Aim.{Aim}
 use Rattle.tl_report.specs.declared.search.Search.{Search}
 use Rattle.tl_report.specs.declared.search_lines.SearchLines.{SearchLines}
 use Rattle.tl_report.specs.declared.search_lines.SearchLines.TheVariants.{Waiting, Four, Eight, Sixteen}
-use Rattle.tl_report.specs.statement.Found.{Finds, FindsAfter, is_open, left_behind, most_of, no_header}
+use Rattle.tl_report.specs.code.TraceJudging.{JudgesBeat, KnowsBeats}
+use Rattle.tl_report.specs.statement.Found.{Finds, FindsAfter, FindsFor, is_open, left_behind, no_header}
+use Rattle.tl_report.specs.statement.Judging.{heads_by}
 use Rattle.tl_report.specs.statement.Said.{Searches}
 use Rattle.tl_report.specs.statement.Taken.{AreCounted, cell_of, cells_of}
 use Rattle.tl_report.specs.code.Searching.{EndsLines, EndsSearch, EndsWith, HasFound, IsBegun, IsElsewhereSame, JudgesLine}
@@ -82,21 +84,21 @@ counted_alike f g taken same is = subst (λ (x : Findings). AreCounted x.beats x
 module _ {w : ℕ} (old new : Search w) (link : Link) (beat : Beat w) where
   -- what is so where the judge has a trace
   abbrev Judges_so : Option Fault → Type 0
-  Judges_so fault = (together : Bool) (levels : List Level) (p : Profile) (t : Trace w)
-      → KnowsBeats together old.judge levels p t → JudgesBeat together new.judge levels p t (link, beat) fault
+  Judges_so fault = (together : Bool) (levels : List Level) (may : Liberties) (t : Trace w)
+      → KnowsBeats together old.judge levels may t → JudgesBeat together new.judge levels may t (link, beat) fault
 
   pub take_good : Judges_so None
       → ((taken : List ℕ) → AreCounted old.findings.beats old.findings.cells.items taken
       → AreCounted new.findings.beats new.findings.cells.items (cell_of link beat ∷ taken))
       → (line : List ℕ) → Spells line link beat → JudgesLine old new line None
-  take_good judged one line spells = λ levels p t known many.
-      let (good, knows) = judged old.aim.together levels p t known in
+  take_good judged one line spells = λ levels may t known many.
+      let (good, knows) = judged old.aim.together levels may t known in
       (link, beat, spells, good, knows, one (cells_of t) many)
 
   pub take_bad : (fault : Fault) → Judges_so (Some fault) → new.findings ≡ old.findings → (line : List ℕ)
       → Spells line link beat → JudgesLine old new line (Some fault)
-  take_bad fault judged same line spells = λ levels p t known many.
-      let (bad, knows) = judged old.aim.together levels p t known in
+  take_bad fault judged same line spells = λ levels may t known many.
+      let (bad, knows) = judged old.aim.together levels may t known in
       (inr (link, beat, spells, bad), knows, counted_alike new.findings old.findings (cells_of t) same many)
 
 pub at_line : {w : ℕ} {E : Type 0} (old new : Search w) (line : List ℕ) (link : Link) (beat : Beat w)
@@ -107,7 +109,7 @@ at_line old new line link beat (Err e) judged spells = tt
 
 pub no_beat : {w : ℕ} (s : Search w) (line : List ℕ) (fault : LineFault) → line_fault w line ≡ Some fault
     → JudgesLine s s line (Some (Line fault))
-no_beat s line fault is = λ levels p t known many. (inl (fault, is, refl), known, many)
+no_beat s line fault is = λ levels may t known many. (inl (fault, is, refl), known, many)
 
 -- ---- a line that is read
 
@@ -117,13 +119,13 @@ module _ {w : ℕ} (old mid : Search w) (line : List ℕ) (same : IsElsewhereSam
       → new.findings ≡ mid.findings → new.lines ≡ old.lines + 1 → new.over ≡ mid.over → SearchesLine old new line None
   unfolding FindsAfter
   read_good new judged aim judge findings lines over = λ before k.
-      let (link, beat, spells, good, known, many) = judged k.levels k.profile k.trace k.known k.so_many in
+      let (link, beat, spells, good, known, many) = judged k.levels k.may k.trace k.known k.so_many in
       let aim_is : new.aim ≡ old.aim = aim ∙ same.aim_is in
       let found_is : new.findings.faults.items ≡ old.findings.faults.items =
       ap (λ (f : Findings). f.faults.items) findings ∙ same.found_is in
       record {
         levels = k.levels;
-        profile = k.profile;
+        may = k.may;
         trace = (link, beat) ∷ k.trace;
         left = k.left;
         known = rw (aim_is, judge) known;
@@ -142,7 +144,7 @@ module _ {w : ℕ} (old mid : Search w) (line : List ℕ) (same : IsElsewhereSam
     pub read_on : Notes at_line new line number fault true → SearchesLine old new line None
     unfolding FindsAfter
     read_on notes = λ before k.
-        let (is, known, many) = judged k.levels k.profile k.trace k.known k.so_many in
+        let (is, known, many) = judged k.levels k.may k.trace k.known k.so_many in
         let aim_is : new.aim ≡ old.aim = notes.aim_is ∙ aim ∙ same.aim_is in
         let judge_is : new.judge ≡ mid.judge = notes.judge_is ∙ judge in
         let had : at_line.findings.faults.items ≡ old.findings.faults.items =
@@ -157,7 +159,7 @@ module _ {w : ℕ} (old mid : Search w) (line : List ℕ) (same : IsElsewhereSam
         let room = some_behind line k.left old.aim.behind (length old.findings.faults.items) k.most_are more_is in
         record {
           levels = k.levels;
-          profile = k.profile;
+          may = k.may;
           trace = k.trace;
           left = k.left - 1;
           known = rw (aim_is, judge_is) known;
@@ -190,7 +192,7 @@ module _ {w : ℕ} (old mid : Search w) (line : List ℕ) (same : IsElsewhereSam
     pub read_last : Notes at_line new line number fault false → SearchesLine old new line (Some fault)
     unfolding FindsAfter
     read_last notes = λ before k more.
-        let (is, known, many) = judged k.levels k.profile k.trace k.known k.so_many in
+        let (is, known, many) = judged k.levels k.may k.trace k.known k.so_many in
         let aim_is : new.aim ≡ old.aim = notes.aim_is ∙ aim ∙ same.aim_is in
         let had : at_line.findings.faults.items ≡ old.findings.faults.items =
         ap (λ (f : Findings). f.faults.items) findings ∙ same.found_is in
@@ -212,12 +214,12 @@ module _ {w : ℕ} (old mid : Search w) (line : List ℕ) (same : IsElsewhereSam
 
 -- ---- the first line
 
-pub begun : (line : List ℕ) (wide : Width) (p : Profile) (levels : List Level) (aim : Aim) (s : Search (bytes_of wide))
-    → SpellsHeader line wide p levels → IsBegun s aim levels p → KnowsSearch s (line ∷ [])
+pub begun : (line : List ℕ) (wide : Width) (may : Liberties) (levels : List Level) (aim : Aim) (s : Search (bytes_of wide))
+    → heads_by aim.together aim.allow line wide may levels → IsBegun s aim levels may → KnowsSearch s (line ∷ [])
 unfolding Finds
-begun line wide p levels aim s spells is = record {
+begun line wide may levels aim s spells is = record {
   levels = levels;
-  profile = p;
+  may = may;
   trace = [];
   left = s.aim.behind;
   known = rw is.aim_is is.known;
@@ -226,7 +228,7 @@ begun line wide p levels aim s spells is = record {
   unended = is.unended;
   some = λ e. cc;
   before = λ more later beats cells found.
-      rw is.none_found (inl (wide, p, levels, spells, rw is.header at found));
+      rw is.none_found (inl (wide, may, levels, rw (← is.aim_is) at spells, rw is.header at found));
 }
 
 -- a broken status isn't clean
@@ -234,10 +236,21 @@ pub unclean : {A : Type 0} → Broken ≡ Clean → A
 unclean e = absurd cc
 
 module _ (alloc : Global) (aim : Aim) (line : List ℕ)
-    (none : (width : Width) (p : Profile) (levels : List Level) → ¬ SpellsHeader line width p levels) where
+    (none : (width : Width) (may : Liberties) (levels : List Level)
+    → ¬ heads_by aim.together aim.allow line width may levels) where
   pub no_header_ends : Ends KnowsLines EndsLines (Waiting alloc aim) (Waiting alloc aim) line
   unfolding Finds
   no_header_ends = λ lines text known more beats cells counted. rw known (inr (none, refl, counted))
+
+-- a line that has no LF or more than 256 bytes is no header
+no_head : (together : Bool) (allow : Liberties) (line : List ℕ) → IsOpen line → (width : Width) (may : Liberties)
+    (levels : List Level) → ¬ heads_by together allow line width may levels
+no_head true allow line is width may levels named = open_line line is width named.0 levels named.1
+no_head false allow line is width may levels named = open_allowed allow line is width may levels named
+
+pub open_header : (alloc : Global) (aim : Aim) (line : List ℕ) → IsOpen line
+    → Ends KnowsLines EndsLines (Waiting alloc aim) (Waiting alloc aim) line
+open_header alloc aim line is = no_header_ends alloc aim line (no_head aim.together aim.allow line is)
 
 pub stops : (h : SearchLines) (line was is : List ℕ) (fault : Fault) → Stops KnowsLines TellsLines h line was is fault
 stops h line was is fault = λ lines before known more broken. unclean broken
@@ -304,14 +317,14 @@ read_clean (Sixteen s) read count was is = λ lines before k counted clean. k.so
 
 -- what was found, where all lines were read
 all_found : {w : ℕ} (s : Search w) (lines : List (List ℕ)) → KnowsSearch s lines
-    → Finds (faults_by s.aim.together) (most_of s.aim) lines s.findings.faults.items s.findings.beats s.findings.cells.items
+    → FindsFor s.aim lines s.findings.faults.items s.findings.beats s.findings.cells.items
 unfolding FindsAfter
 all_found s lines k = rw (append-nil lines, append-nil s.findings.faults.items) at
     (k.before [] [] s.findings.beats s.findings.cells.items (refl, k.so_many))
 
 found_in : {w : ℕ} (s : Search w) (status : Status) (f : Findings) (lines : List (List ℕ)) → EndsWith status s.over s.findings s.lines f
     → ((status ≡ Clean) → KnowsSearch s lines) → ((status ≡ Broken) → EndsSearch s lines)
-    → Finds (faults_by s.aim.together) (most_of s.aim) lines f.faults.items f.beats f.cells.items
+    → FindsFor s.aim lines f.faults.items f.beats f.cells.items
 found_in s Clean f lines is knows ends = rw (is.0, is.1, is.2) (all_found s lines (knows refl))
 found_in s Broken f lines is knows ends = rw (is.0, is.1, is.2) (ends refl)
 
@@ -338,7 +351,7 @@ pub searches : (had left : Option (List ℕ)) (h : SearchLines) (aim : Aim) (tex
     × EndsAs TellsLines left read text status × HasAll KnowsLines EndsLines h (lines_of read) status
     × Stands EndsLines left read h
     → HasFound h status f → aim_of h ≡ aim
-    → Searches aim.together (most_of aim) had left f.faults.items f.beats f.cells.items
+    → Searches aim had left f.faults.items f.beats f.cells.items
 searches had left h aim text Clean f (read, consumed, told, ended, has, stands) found is = (
   read,
   consumed,

@@ -1,3 +1,4 @@
 pub mod Found
+pub mod Judging
 pub mod Said
 pub mod Taken

@@ -3,15 +3,13 @@
 ghost use Rattle.std.specs.Prelude.{◌≡◌, ◌≢◌, ℕ, List, IfErr, IfOk};
 ghost use Rattle.std.specs.Io.KnownBytes.{Appends};
 ghost use Rattle.tl_engine.specs.declared.status.ToolFault.{ToolFault};
-ghost use Rattle.tl_report.specs.code.Searching.{HasFound, aim_of};
 ghost use Rattle.tl_report.specs.declared.findings.Finding.{Finding};
-ghost use Rattle.tl_report.specs.statement.Found.{most_of};
 ghost use Rattle.tl_report.specs.statement.Said.{GivesUpSearching, Searches, all_text, status_of};
 
 use crate::findings::Findings;
 use crate::say::{append_all, status_of};
 use crate::search_lines::SearchLines;
-use std::alloc::{AllocError, Global};
+use std::alloc::Global;
 use std::io::{Read, Write};
 use tl_command::search::Aim;
 use tl_engine::engine::judge_input;
@@ -19,27 +17,16 @@ use tl_engine::lines::Lines;
 use tl_engine::output::write_all;
 use tl_engine::status::{Status, ToolFault};
 
-/// What was found in the lines of an input, behind which the search has this status, where it was for this.
-pub fn findings_of(lines: SearchLines, aim: Aim, status: Status) -> Result<Findings, AllocError>
-    ensures { IfOk result (λ f. (aim_of lines ≡ aim) × HasFound lines status f) }
-{
-    if !lines.aim().is(&aim) {
-        return Err(AllocError);
-    }
-    lines.into_findings(status)
-}
-
 /// What is found in what a reader gives, up to its end or to the last line that is looked for. A line of more than 256
 /// bytes is the last that is read.
 pub fn search<R: Read>(alloc: Global, aim: Aim, reader: &mut R) -> Result<Findings, ToolFault>
-    ensures ok { IfOk result (λ f. Searches aim.together (most_of aim) (R.remaining reader.old) (R.remaining reader.new)
-        f.faults.items f.beats f.cells.items) }
+    ensures ok { IfOk result (λ f. Searches aim (R.remaining reader.old) (R.remaining reader.new) f.faults.items f.beats f.cells.items) }
     ensures fault { IfErr result (λ fault. fault ≢ ToolFault.Write) }
 {
     let mut lines = Lines::new(SearchLines::Waiting(alloc, aim));
     let mut said = Vec::new(alloc);
     let status = judge_input(alloc, &mut lines, reader, &mut said)?;
-    Ok(findings_of(lines.into_handler(), aim, status)?)
+    Ok(lines.into_handler().into_findings(status)?)
 }
 
 /// Writes `line N X` for each line of a trace that is at fault, up to so many, and then `faults N`, how many they are;
@@ -55,10 +42,10 @@ pub fn find_all<R: Read, W: Write>(
     writer: &mut W,
 ) -> Result<Status, ToolFault>
     ensures ok { IfOk result (λ status. (found : List Finding) × (beats : ℕ) × (cells : List ℕ)
-        × Searches aim.together (most_of aim) (R.remaining reader.old) (R.remaining reader.new) found beats cells
+        × Searches aim (R.remaining reader.old) (R.remaining reader.new) found beats cells
         × Appends (W.contents writer.old) (W.contents writer.new) (all_text aim.together found beats)
         × (status ≡ status_of found)) }
-    ensures fault { IfErr result (GivesUpSearching aim.together (most_of aim) (R.remaining reader.old)
+    ensures fault { IfErr result (GivesUpSearching aim (R.remaining reader.old)
         (R.remaining reader.new) (W.contents writer.old) (W.contents writer.new)) }
 {
     let findings = search(alloc, aim, reader)?;

@@ -8,3 +8,4 @@ pub mod say;
 pub mod search;
 pub mod search_lines;
 pub mod taken;
+pub mod trace_judge;

@@ -10,21 +10,21 @@ ghost use Rattle.tl_report.specs.statement.Found.{is_open};
 
 use crate::findings::{Finding, Findings};
 use crate::taken::cell_of;
+use crate::trace_judge::TraceJudge;
 use std::alloc::{AllocError, Global};
 use tl_beat::beat::{Beat, Link};
 use tl_beat::fault::LineFault;
 use tl_beat::read::read_line;
 use tl_command::search::Aim;
-use tl_engine::beat_judge::BeatJudge;
 use tl_engine::fault::Fault;
-use tl_engine::header::Header;
 use tl_engine::status::Status;
+use tl_links::header::LinksHeader;
 
 /// A judge of the links of a trace, and what is found in it.
 #[derive(Drop)]
 pub struct Search<const W: usize> {
     pub aim: Aim,
-    judge: BeatJudge<W>,
+    judge: TraceJudge<W>,
     findings: Findings,
     /// How many lines were read, the header among them.
     lines: u64,
@@ -41,13 +41,13 @@ fn is_open(line: &[u8]) -> bool
 
 impl<const W: usize> Search<W> {
     /// Begins behind a header.
-    pub fn new(alloc: Global, aim: Aim, header: &Header) -> Result<Self, AllocError>
+    pub fn new(alloc: Global, aim: Aim, header: &LinksHeader) -> Result<Self, AllocError>
         requires { IsWidth W }
-        ensures { IfOk result (λ search. IsBegun search aim header.now.levels.items header.now.profile) }
+        ensures { IfOk result (λ search. IsBegun search aim header.now.levels.items header.now.may) }
     {
         Ok(Search {
             aim,
-            judge: BeatJudge::new(alloc, aim.together, header)?,
+            judge: TraceJudge::new(alloc, aim.together, header)?,
             findings: Findings::new(alloc)?,
             lines: 1,
             over: false,
@@ -98,7 +98,8 @@ impl<const W: usize> Search<W> {
     #[inline(never)]
     pub fn read(&mut self, line: &[u8]) -> Result<Option<Fault>, AllocError>
         requires { IsWidth W }
-        ensures { IfOk result (SearchesLine self.old self.new line.now) }
+        ensures reads { IfOk result (SearchesLine self.old self.new line.now) }
+        ensures aim { IfOk result (λ _. self.new.aim ≡ self.old.aim) }
     {
         let number = self.lines.checked_add(1).ok_or(AllocError)?;
         match self.judge(line)? {

@@ -1,6 +1,6 @@
 //! Searches the lines of an input for those at fault.
 
-ghost use Rattle.std.specs.Prelude.{◌≡◌, [], IfOk};
+ghost use Rattle.std.specs.Prelude.{◌≡◌, [], IfOk, IfSome};
 ghost use Rattle.tl_engine.specs.declared.status.Status.{Status};
 ghost use Rattle.tl_report.specs.code.Searching.{Begins, EndsLines, HasFound, KnowsLines, TellsLines, aim_of};
 ghost use Rattle.tl_report.specs.statement.Found.{no_header};
@@ -8,11 +8,11 @@ ghost use Rattle.tl_report.specs.statement.Taken.{AreCounted};
 
 use crate::findings::{Finding, Findings};
 use crate::search::Search;
+use crate::trace_judge::read_for;
 use std::alloc::{AllocError, Global};
 use tl_beat::fault::LineFault;
 use tl_command::search::Aim;
 use tl_engine::fault::Fault;
-use tl_engine::header::read_header;
 use tl_engine::line_handler::LineHandler;
 use tl_engine::status::Status;
 use tl_params::width::Width;
@@ -30,9 +30,10 @@ pub enum SearchLines {
 /// Begins with the links that a header names. A line of another form names none.
 #[inline(never)]
 fn begin(alloc: Global, aim: Aim, line: &[u8]) -> Result<Option<SearchLines>, AllocError>
-    ensures { IfOk result (Begins aim line.now) }
+    ensures begins { IfOk result (Begins aim line.now) }
+    ensures aim { IfOk result (λ begun. IfSome begun (λ lines. aim_of lines ≡ aim)) }
 {
-    let Some(header) = read_header(line) else {
+    let Some(header) = read_for(aim.together, aim.allow, line) else {
         return Ok(None);
     };
     let lines = match header.width {
@@ -56,18 +57,6 @@ fn no_header(alloc: Global) -> Result<Findings, AllocError>
 }
 
 impl SearchLines {
-    /// What is looked for.
-    pub fn aim(&self) -> Aim
-        ensures { result ≡ aim_of self.now }
-    {
-        match self {
-            SearchLines::Waiting(_, aim) => *aim,
-            SearchLines::Four(search) => search.aim,
-            SearchLines::Eight(search) => search.aim,
-            SearchLines::Sixteen(search) => search.aim,
-        }
-    }
-
     /// What was found, at the end of the input or at a line that ends the search.
     pub fn into_findings(self, status: Status) -> Result<Findings, AllocError>
         ensures { IfOk result (HasFound self status) }
@@ -82,9 +71,15 @@ impl SearchLines {
 }
 
 impl LineHandler for SearchLines {
+    ghost use Rattle.tl_command.specs.declared.search.Aim.{Aim};
+
     ghost knows = { KnowsLines };
 
-    ghost tells = { TellsLines };
+    ghost Purpose = { Aim };
+
+    ghost purpose = { aim_of };
+
+    ghost tells = { λ _. TellsLines };
 
     ghost ends = { EndsLines };
 

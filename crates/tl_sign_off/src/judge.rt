@@ -4,7 +4,7 @@ ghost use Rattle.std.specs.Prelude.{◌≡◌, ◌≢◌, ◌++◌, [], ℕ, Lis
 ghost use Rattle.std.specs.Io.KnownBytes.{Consumes, IsAtEnd};
 ghost use Rattle.tl_engine.specs.declared.status.ToolFault.{ToolFault};
 ghost use Rattle.tl_engine.specs.code.Progress.{Progress};
-ghost use Rattle.tl_report.specs.code.Searching.{KnowsLines};
+ghost use Rattle.tl_report.specs.code.Searching.{KnowsLines, aim_of};
 ghost use Rattle.tl_sign_off.specs.code.Noting.{IsJudged, IsJudgedWhole, IsNoted};
 ghost use Rattle.tl_sign_off.specs.statement.Account.{IsOf};
 
@@ -16,7 +16,6 @@ use tl_command::search::Aim;
 use tl_engine::engine::{new_chunk, next_piece};
 use tl_engine::lines::Lines;
 use tl_engine::status::{Status, ToolFault};
-use tl_report::find::findings_of;
 use tl_report::search_lines::SearchLines;
 
 /// Judges the lines that end in a piece, unless a line before has ended the search.
@@ -28,6 +27,7 @@ fn go_on(
 ) -> Result<Status, ToolFault>
     ensures judged { IfOk result (λ now. (input : List ℕ) → IsJudged status lines.old input out.old.items →
         IsJudged now lines.new (input ++ piece.now) out.new.items) }
+    ensures aim { IfOk result (λ _. aim_of lines.new.handler ≡ aim_of lines.old.handler) }
     ensures fault { IfErr result (λ fault. fault ≢ ToolFault.Write) }
 {
     match status {
@@ -60,6 +60,7 @@ fn read_whole<R: Read>(
     ensures ok { IfOk result (λ status. (input : List ℕ)
         × Consumes (R.remaining reader.old) (R.remaining reader.new) input × IsAtEnd (R.remaining reader.new)
         × IsNoted notes.new input × IsJudgedWhole lines.new.handler input status) }
+    ensures aim { IfOk result (λ _. aim_of lines.new.handler ≡ aim_of lines.old.handler) }
     ensures fault { IfErr result (λ fault. fault ≢ ToolFault.Write) }
 {
     let mut chunk = new_chunk(alloc)?;
@@ -87,7 +88,7 @@ pub fn judge_whole<R: Read>(alloc: Global, aim: Aim, reader: &mut R) -> Result<A
     let mut lines = Lines::new(SearchLines::Waiting(alloc, aim));
     let mut notes = Notes::new();
     let status = read_whole(alloc, &mut lines, &mut notes, reader)?;
-    let findings = findings_of(lines.into_handler(), aim, status)?;
+    let findings = lines.into_handler().into_findings(status)?;
     Ok(Account {
         together: aim.together,
         findings,

@@ -12,14 +12,16 @@ use Rattle.tl_command.specs.declared.chart.Range.{Range}
 use Rattle.tl_command.specs.declared.search.Aim.{Aim}
 use Rattle.tl_command.specs.declared.search.Inquiry.{Inquiry}
 use Rattle.tl_command.specs.statement.ChartWords.{IsRange}
+use Rattle.tl_command.specs.statement.LibertyWords.{AreAllowed}
 use Rattle.tl_command.specs.statement.RandomWords.{IsWrong, Words}
 use Rattle.tl_command.specs.statement.SearchWords.{IsInquiry}
 use Rattle.tl_command.proofs.RandomOptions.{wrong_for_all}
 use Rattle.tl_words.specs.declared.words.WordsFault.{WordsFault}
 use Rattle.tl_words.specs.declared.words.WordsFault.TheVariants as fault
 use Rattle.tl_words.specs.Refused.{AsksNothing, IsFaultOf, IsRefusal}
-use Rattle.tl_words.specs.Tool.{IsAim, IsInquiryOf, IsTaskOf, command_in, command_named, is_reported, together_named}
+use Rattle.tl_words.specs.Tool.{AreAllowedIn, IsAim, IsInquiryOf, IsTaskOf, command_in, command_named, is_reported, together_named}
 use Rattle.tl_words.specs.Tool.{tool_of, words_in}
+use Rattle.tl_params.specs.declared.liberties.Liberties.{Liberties}
 
 -- the same words name the same command
 pub named_alike : (name : Text) {a b c d w x y z : Option Text} → a ≡ w → b ≡ x → c ≡ y → d ≡ z
@@ -57,7 +59,7 @@ no_inquiry name word inquiry none is = let some = is.1 in absurd cc
 -- a word that stands for nothing asks for nothing
 pub no_draw : (rows : List Row) (option : RandomOption) → IsWrong (words_in rows) option → (task : Task)
     → ¬ IsTaskOf (codes "random") rows task
-no_draw rows option wrong (Read command file) is = let none = is.0 in absurd cc
+no_draw rows option wrong (Read command allow file) is = let none = is.0 in absurd cc
 no_draw rows option wrong (Search aim file) is = no_search (codes "random") (first_of (codes "all") rows) aim refl is.0
 no_draw rows option wrong (Report inquiry file report junit) is =
     no_inquiry (codes "random") (first_of (codes "all") rows) inquiry refl is.0
@@ -72,7 +74,7 @@ range_alike range {a} {b} {x} {y} p q is =
 -- words that name no lines, or no block, ask for nothing
 pub no_chart : (rows : List Row) → ((range : Range) → ¬ IsRange (first_of (codes "lines") rows)
     (first_of (codes "block") rows) range) → (task : Task) → ¬ IsTaskOf (codes "chart") rows task
-no_chart rows wrong (Read command file) is = let none = is.0 in absurd cc
+no_chart rows wrong (Read command allow file) is = let none = is.0 in absurd cc
 no_chart rows wrong (Search aim file) is = no_search (codes "chart") (first_of (codes "all") rows) aim refl is.0
 no_chart rows wrong (Report inquiry file report junit) is =
     no_inquiry (codes "chart") (first_of (codes "all") rows) inquiry refl is.0
@@ -83,7 +85,7 @@ no_chart rows wrong (Draw options) is = let none = is.0 in absurd cc
 pub no_read : (name : Text) (rows : List Row) → command_in name rows ≡ None → first_of (codes "all") rows ≡ None
     → bytes_eq name (codes "random") ≡ false → bytes_eq name (codes "chart") ≡ false → is_reported rows ≡ false
     → (task : Task) → ¬ IsTaskOf name rows task
-no_read name rows none unsaid other another unreported (Read command file) is = let some = is.0 in absurd cc
+no_read name rows none unsaid other another unreported (Read command allow file) is = let some = is.0 in absurd cc
 no_read name rows none unsaid other another unreported (Search aim file) is =
     subst (λ (word : Option Text). IsAim name word aim) unsaid is.0
 no_read name rows none unsaid other another unreported (Report inquiry file report junit) is =
@@ -95,7 +97,7 @@ no_read name rows none unsaid other another unreported (Draw options) is = let s
 pub no_aim : (name word : Text) (rows : List Row) → ((aim : Aim) → ¬ IsAim name (Some word) aim)
     → first_of (codes "all") rows ≡ Some word → bytes_eq name (codes "random") ≡ false
     → bytes_eq name (codes "chart") ≡ false → is_reported rows ≡ false → (task : Task) → ¬ IsTaskOf name rows task
-no_aim name word rows none said other another unreported (Read command file) is = let unsaid = is.1 in absurd cc
+no_aim name word rows none said other another unreported (Read command allow file) is = let unsaid = is.1 in absurd cc
 no_aim name word rows none said other another unreported (Search aim file) is =
     none aim (subst (λ (w : Option Text). IsAim name w aim) said is.0)
 no_aim name word rows none said other another unreported (Report inquiry file report junit) is =
@@ -108,12 +110,31 @@ no_aim name word rows none said other another unreported (Draw options) is = let
 pub no_report : (name : Text) (word : Option Text) (rows : List Row) → ((inquiry : Inquiry) → ¬ IsInquiryOf name word inquiry)
     → first_of (codes "all") rows ≡ word → bytes_eq name (codes "random") ≡ false
     → bytes_eq name (codes "chart") ≡ false → is_reported rows ≡ true → (task : Task) → ¬ IsTaskOf name rows task
-no_report name word rows none said other another reported (Read command file) is = let unreported = is.3 in absurd cc
+no_report name word rows none said other another reported (Read command allow file) is = let unreported = is.3 in absurd cc
 no_report name word rows none said other another reported (Search aim file) is = let unreported = is.2 in absurd cc
 no_report name word rows none said other another reported (Report inquiry file report junit) is =
     none inquiry (subst (λ (w : Option Text). IsInquiryOf name w inquiry) said is.0)
 no_report name word rows none said other another reported (Chart range file) is = let same = is.0 in absurd cc
 no_report name word rows none said other another reported (Draw options) is = let same = is.0 in absurd cc
+
+-- a word of `--allow` that names no liberties asks for nothing
+pub no_liberties_named : (name : Text) (rows : List Row) → ((allow : Liberties) → ¬ AreAllowedIn rows allow)
+    → bytes_eq name (codes "random") ≡ false → bytes_eq name (codes "chart") ≡ false → (task : Task)
+    → ¬ IsTaskOf name rows task
+no_liberties_named name rows none other another (Read command allow file) is = none allow is.4
+no_liberties_named name rows none other another (Search aim file) is = none aim.allow is.3
+no_liberties_named name rows none other another (Report inquiry file report junit) is = none inquiry.aim.allow is.5
+no_liberties_named name rows none other another (Chart range file) is = let same = is.0 in absurd cc
+no_liberties_named name rows none other another (Draw options) is = let same = is.0 in absurd cc
+
+-- the entries have this word of `--allow`
+pub allowed_in : (rows : List Row) {a : Option Text} → a ≡ first_of (codes "allow") rows → (allow : Liberties)
+    → AreAllowed a allow → AreAllowedIn rows allow
+allowed_in rows is allow are = subst (λ (o : Option Text). AreAllowed o allow) is are
+
+pub none_allowed_in : (rows : List Row) {a : Option Text} → a ≡ first_of (codes "allow") rows
+    → ((allow : Liberties) → ¬ AreAllowed a allow) → (allow : Liberties) → ¬ AreAllowedIn rows allow
+none_allowed_in rows is none allow are = none allow (subst (λ (o : Option Text). AreAllowed o allow) (sym is) are)
 
 module _ (texts : List Text) (name : Text) (rows : List Row) (is : subcommand_of tool_of texts ≡ Some (name, rows))
   where

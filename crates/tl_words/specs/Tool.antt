@@ -12,9 +12,11 @@ use Rattle.tl_command.specs.declared.search.Inquiry.{Inquiry}
 use Rattle.tl_command.specs.declared.task.Task.{Task}
 use Rattle.tl_command.specs.declared.task.Task.TheVariants.{Chart, Draw, Read, Report, Search}
 use Rattle.tl_command.specs.statement.ChartWords.{IsRange}
+use Rattle.tl_command.specs.statement.LibertyWords.{AreAllowed}
 use Rattle.tl_command.specs.statement.RandomWords.{AreOptions, Words}
 use Rattle.tl_command.specs.statement.SearchWords.{IsBehind, IsInquiry}
 use Rattle.tl_command.specs.statement.Words.{width_named}
+use Rattle.tl_params.specs.declared.liberties.Liberties.{Liberties}
 
 -- `--NAME VALUE`
 abbrev pub valued_rule : Text → Rule
@@ -37,9 +39,10 @@ abbrev pub with_reports : App → App
 with_reports a =
     with_rule (with_rule (with_rule a all_rule) (valued_rule (codes "report"))) (valued_rule (codes "junit"))
 
--- `monitor [--all N] [--report FILE] [--junit FILE] [FILE]`
+-- `monitor [--allow LIBERTIES] [--all N] [--report FILE] [--junit FILE] [FILE]`
 abbrev pub monitor_of : App
-monitor_of = with_rule (with_reports (new_app (codes "monitor"))) (new_rule (codes "FILE"))
+monitor_of = with_rule (with_reports (with_rule (new_app (codes "monitor")) (valued_rule (codes "allow"))))
+    (new_rule (codes "FILE"))
 
 -- `coherent [--all N] [--report FILE] [--junit FILE] [FILE]`
 abbrev pub coherent_of : App
@@ -164,20 +167,24 @@ IsInquiryOf name word q = (together : Bool) × (together_named name ≡ Some tog
 abbrev pub is_reported : List Row → Bool
 is_reported rows = is_some (first_of (codes "report") rows) || is_some (first_of (codes "junit") rows)
 
+-- what links may do besides what the header names
+abbrev pub AreAllowedIn : List Row → Liberties → Type 0
+AreAllowedIn rows = AreAllowed (first_of (codes "allow") rows)
+
 -- What a subcommand's name and entries ask for: a command over FILE, a search of it, a judgement of it that is reported, a
 -- chart of it, or a random schedule.
 abbrev pub IsTaskOf : Text → List Row → Task → Type 0
-IsTaskOf name rows (Read command file) =
+IsTaskOf name rows (Read command allow file) =
     (command_in name rows ≡ Some command) × (first_of (codes "all") rows ≡ None)
-    × (option_map string_bytes file ≡ file_in rows) × (is_reported rows ≡ false)
+    × (option_map string_bytes file ≡ file_in rows) × (is_reported rows ≡ false) × AreAllowedIn rows allow
 IsTaskOf name rows (Search aim file) =
     IsAim name (first_of (codes "all") rows) aim × (option_map string_bytes file ≡ file_in rows)
-    × (is_reported rows ≡ false)
+    × (is_reported rows ≡ false) × AreAllowedIn rows aim.allow
 IsTaskOf name rows (Report inquiry file report junit) =
     IsInquiryOf name (first_of (codes "all") rows) inquiry × (is_reported rows ≡ true)
     × (option_map string_bytes file ≡ file_in rows)
     × (option_map string_bytes report ≡ first_of (codes "report") rows)
-    × (option_map string_bytes junit ≡ first_of (codes "junit") rows)
+    × (option_map string_bytes junit ≡ first_of (codes "junit") rows) × AreAllowedIn rows inquiry.aim.allow
 IsTaskOf name rows (Chart range file) =
     (bytes_eq name (codes "chart") ≡ true)
     × IsRange (first_of (codes "lines") rows) (first_of (codes "block") rows) range

@@ -59,8 +59,9 @@ pub fn monitor<'a>(alloc: Global) -> Result<clap::Command<'a>, AllocError>
     let monitor = clap::Command::new(alloc, "monitor")
         .about("Judges a recorded trace: writes `clean N`, N its beats, or the first line at fault")
         .after_help(help::TRACE);
+    let allow = valued(alloc, "allow", "LIBERTIES", help::ALLOW);
     let file = Arg::new(alloc, "FILE").help(FILE_HELP);
-    with_reports(alloc, monitor)?.arg(file)
+    with_reports(alloc, monitor.arg(allow)?)?.arg(file)
 }
 
 /// `tltool coherent`.

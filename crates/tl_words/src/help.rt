@@ -186,6 +186,10 @@ pub const TOGETHER: &str = outcomes_of_all_links!(
     "\n  tltool run --trace schedules/a_writer_becomes_a_reader.schedule | tltool coherent",
 );
 
+/// What help says of `--allow`.
+pub const ALLOW: &str =
+    "Allow links this besides what the header names: none, standard, or names of ids, sinks, writer, early, drops, reports, denied and uncorrupt, in this order, with a comma between them";
+
 /// What help says of `--all`.
 pub const ALL: &str =
     "Go on behind a line at fault, whose beat isn't taken, up to N such lines; `faults N` says how many were found";

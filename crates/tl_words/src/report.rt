@@ -4,13 +4,14 @@ ghost use Rattle.std.specs.Prelude.{◌≡◌, IfOk, IfErr, true, false, List, b
 ghost use Rattle.clap.specs.Words.{Row, first_of, found_of, rows_of};
 ghost use Rattle.tl_words.specs.Refused.{IsFaultOf};
 ghost use Rattle.tl_words.specs.Reports.{AreGiven};
-ghost use Rattle.tl_words.specs.Tool.{IsTaskOf, is_reported};
+ghost use Rattle.tl_words.specs.Tool.{AreAllowedIn, IsTaskOf, is_reported};
 
 use crate::words::{WordsFault, copied, together_named, wrong_number, wrong_words};
 use clap::ArgMatches;
 use std::alloc::Global;
 use tl_command::search::inquiry_named;
 use tl_command::task::Task;
+use tl_params::liberties::Liberties;
 
 /// The words of a judgement that is reported.
 #[derive(Clone, Copy)]
@@ -28,10 +29,15 @@ pub(crate) fn is_reported(found: &ArgMatches) -> bool
     found.get_str("report").is_some() || found.get_str("junit").is_some()
 }
 
-/// The judgement and its reports that these words ask for.
-fn reported(alloc: Global, name: &str, words: &ReportWords) -> Result<Task, WordsFault>
+/// The judgement and its reports that these words ask for, with what links may do besides.
+fn reported(
+    alloc: Global,
+    name: &str,
+    allow: Liberties,
+    words: &ReportWords,
+) -> Result<Task, WordsFault>
     ensures read { IfOk result (λ task. (rows : List Row) → AreGiven rows words.now → is_reported rows ≡ true →
-        IsTaskOf name.now rows task) }
+        AreAllowedIn rows allow → IsTaskOf name.now rows task) }
     ensures wrong { IfErr result (λ fault. (rows : List Row) → AreGiven rows words.now → is_reported rows ≡ true →
         bytes_eq name.now (codes "random") ≡ false → bytes_eq name.now (codes "chart") ≡ false →
         IsFaultOf name.now rows fault) }
@@ -39,7 +45,7 @@ fn reported(alloc: Global, name: &str, words: &ReportWords) -> Result<Task, Word
     let Some(together) = together_named(name) else {
         return Err(WordsFault::Usage(wrong_words(alloc, name, None)?));
     };
-    let Some(inquiry) = inquiry_named(together, words.all) else {
+    let Some(inquiry) = inquiry_named(together, words.all, allow) else {
         let word = words.all.unwrap_or("");
         return Err(WordsFault::Usage(wrong_number(alloc, together, word)?));
     };
@@ -54,11 +60,17 @@ fn reported(alloc: Global, name: &str, words: &ReportWords) -> Result<Task, Word
     })
 }
 
-/// The judgement and its reports that the entries of a command ask for.
-pub(crate) fn report(alloc: Global, name: &str, found: &ArgMatches) -> Result<Task, WordsFault>
+/// The judgement and its reports that the entries of a command ask for, with what links may do besides.
+pub(crate) fn report(
+    alloc: Global,
+    name: &str,
+    allow: Liberties,
+    found: &ArgMatches,
+) -> Result<Task, WordsFault>
     requires random { bytes_eq name.now (codes "random") ≡ false }
     requires chart { bytes_eq name.now (codes "chart") ≡ false }
     requires reported { is_reported (rows_of (found_of found.now)) ≡ true }
+    requires allowed { AreAllowedIn (rows_of (found_of found.now)) allow }
     ensures read { IfOk result (IsTaskOf name.now (rows_of (found_of found.now))) }
     ensures wrong { IfErr result (IsFaultOf name.now (rows_of (found_of found.now))) }
 {
@@ -68,5 +80,5 @@ pub(crate) fn report(alloc: Global, name: &str, found: &ArgMatches) -> Result<Ta
         report: found.get_str("report"),
         junit: found.get_str("junit"),
     };
-    reported(alloc, name, &words)
+    reported(alloc, name, allow, &words)
 }

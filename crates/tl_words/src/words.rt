@@ -1,7 +1,7 @@
-//! Reads the program's words: `tltool decode [--width 4|8|16] [FILE]`, `tltool monitor [--all N] [--report FILE]
-//! [--junit FILE] [FILE]`, `tltool coherent` with the same options, `tltool explain [--coherent] FILE`, `tltool chart [--lines A-B] [--block BBB] [FILE]`,
-//! `tltool run [--trace] [FILE]`, `tltool random --seed N` with its options, and those that ask for help or the
-//! version.
+//! Reads the program's words: `tltool decode [--width 4|8|16] [FILE]`, `tltool monitor [--allow LIBERTIES] [--all N]
+//! [--report FILE] [--junit FILE] [FILE]`, `tltool coherent [--all N] [--report FILE] [--junit FILE] [FILE]`,
+//! `tltool explain [--coherent] FILE`, `tltool chart [--lines A-B] [--block BBB] [FILE]`, `tltool run [--trace] [FILE]`,
+//! `tltool random --seed N` with its options, and those that ask for help or the version.
 
 ghost use Rattle.std.specs.Prelude.{◌≡◌, IfOk, IfErr, true, false, List, Some, bytes_eq, codes, map, option_map};
 ghost use Rattle.std.specs.String.{string_bytes};
@@ -9,7 +9,7 @@ ghost use Rattle.clap.specs.Words.{Row, Text, first_of, found_of, is_simple_and_
 ghost use Rattle.clap.specs.Words.{kind_of, rows_of, subcommand_of};
 ghost use Rattle.tl_words.specs.Refused.{IsFaultOf, IsRefusal, status_of_usage, usage_status, words_fault};
 ghost use Rattle.tl_command.specs.statement.RandomWords.{words_of};
-ghost use Rattle.tl_words.specs.Tool.{IsTaskOf, command_named, flag_named, is_reported, together_named, tool_of};
+ghost use Rattle.tl_words.specs.Tool.{AreAllowedIn, IsTaskOf, command_named, flag_named, is_reported, together_named, tool_of};
 ghost use Rattle.tl_words.specs.Tool.{words_in};
 
 use crate::commands::{chart, coherent, decode, explain, monitor, random, tool};
@@ -19,10 +19,12 @@ use clap::error::ErrorKind;
 use std::alloc::{AllocError, Global};
 use tl_command::chart::{ChartOption, range_named};
 use tl_command::command::Command;
+use tl_command::liberties::{LIBERTIES_WANTED, allowed_named};
 use tl_command::random_words::{RandomOption, RandomWords, options_named};
 use tl_command::search::{ALL_WANTED, Aim, behind_named};
 use tl_command::task::Task;
 use tl_command::width_word::width_named;
+use tl_params::liberties::Liberties;
 
 /// Why the words give no command: they aren't of its form, or ask for help, or there is no memory.
 #[derive(Debug, Drop)]
@@ -271,6 +273,18 @@ pub(crate) fn wrong_number(
     command.error(ErrorKind::InvalidValue, message.as_str())
 }
 
+/// The error of a word of `--allow` that names no liberties.
+fn wrong_liberties(alloc: Global, word: Option<&str>) -> Result<clap::Error, AllocError>
+    ensures { IfOk result (λ error. status_of_usage error ≡ 2) }
+{
+    let word = word.unwrap_or("");
+    let message = format!(in alloc;
+        "invalid value '{word}' for '--allow <LIBERTIES>': {LIBERTIES_WANTED}"
+    )?;
+    let mut monitor = monitor(alloc)?.bin_name("tltool monitor")?;
+    monitor.error(ErrorKind::InvalidValue, message.as_str())
+}
+
 /// Whether the command of this name judges all links together, or each by itself; others don't search.
 pub(crate) fn together_named(name: &str) -> Option<bool>
     ensures { result ≡ together_named name.now }
@@ -282,16 +296,17 @@ pub(crate) fn together_named(name: &str) -> Option<bool>
     }
 }
 
-/// The search that the word of `--all` asks for.
+/// The search that the word of `--all` asks for, with what links may do besides.
 fn search(
     alloc: Global,
     name: &str,
+    allow: Liberties,
     word: &str,
     name_of_file: Option<&str>,
 ) -> Result<Task, WordsFault>
     ensures read { IfOk result (λ task. (rows : List Row) → first_of (codes "all") rows ≡ Some word.now →
         first_of (codes "FILE") rows ≡ option_map (λ s. s.now) name_of_file.entry → is_reported rows ≡ false →
-        IsTaskOf name.now rows task) }
+        AreAllowedIn rows allow → IsTaskOf name.now rows task) }
     ensures wrong { IfErr result (λ fault. (rows : List Row) → first_of (codes "all") rows ≡ Some word.now →
         bytes_eq name.now (codes "random") ≡ false → bytes_eq name.now (codes "chart") ≡ false →
         is_reported rows ≡ false → IsFaultOf name.now rows fault) }
@@ -304,16 +319,21 @@ fn search(
     };
     let file = copied(alloc, name_of_file)?;
     Ok(Task::Search {
-        aim: Aim { together, behind },
+        aim: Aim {
+            together,
+            behind,
+            allow,
+        },
         file,
     })
 }
 
-/// What the entries of a command ask for that reads, and reports nothing.
-fn read(alloc: Global, name: &str, found: &ArgMatches) -> Result<Task, WordsFault>
+/// What the entries of a command ask for that reads, and reports nothing, with what links may do besides.
+fn read(alloc: Global, name: &str, allow: Liberties, found: &ArgMatches) -> Result<Task, WordsFault>
     requires random { bytes_eq name.now (codes "random") ≡ false }
     requires chart { bytes_eq name.now (codes "chart") ≡ false }
     requires unreported { is_reported (rows_of (found_of found.now)) ≡ false }
+    requires allowed { AreAllowedIn (rows_of (found_of found.now)) allow }
     ensures read { IfOk result (IsTaskOf name.now (rows_of (found_of found.now))) }
     ensures wrong { IfErr result (IsFaultOf name.now (rows_of (found_of found.now))) }
 {
@@ -322,13 +342,17 @@ fn read(alloc: Global, name: &str, found: &ArgMatches) -> Result<Task, WordsFaul
     let coherent = found.get_str("coherent");
     let name_of_file = found.get_str("FILE");
     if let Some(word) = found.get_str("all") {
-        return search(alloc, name, word, name_of_file);
+        return search(alloc, name, allow, word, name_of_file);
     }
     let Some(command) = command_named(name, width, trace, coherent, name_of_file) else {
         return Err(WordsFault::Usage(wrong_words(alloc, name, width)?));
     };
     let file = copied(alloc, name_of_file)?;
-    Ok(Task::Read { command, file })
+    Ok(Task::Read {
+        command,
+        allow,
+        file,
+    })
 }
 
 /// What the entries of a command ask for that reads.
@@ -338,10 +362,14 @@ fn asked(alloc: Global, name: &str, found: &ArgMatches) -> Result<Task, WordsFau
     ensures read { IfOk result (IsTaskOf name.now (rows_of (found_of found.now))) }
     ensures wrong { IfErr result (IsFaultOf name.now (rows_of (found_of found.now))) }
 {
+    let word = found.get_str("allow");
+    let Some(allow) = allowed_named(word) else {
+        return Err(WordsFault::Usage(wrong_liberties(alloc, word)?));
+    };
     if is_reported(found) {
-        report(alloc, name, found)
+        report(alloc, name, allow, found)
     } else {
-        read(alloc, name, found)
+        read(alloc, name, allow, found)
     }
 }
 

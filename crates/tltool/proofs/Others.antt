@@ -7,14 +7,15 @@ use Rattle.tl_engine.specs.declared.status.Status.{Status}
 use Rattle.tl_engine.specs.declared.status.ToolFault.{ToolFault}
 use Rattle.tl_engine.specs.statement.Exit.{exit_status}
 use Rattle.tl_engine.specs.statement.Told.{text_so_far, text_told}
+use Rattle.tl_params.specs.declared.liberties.Liberties.{Liberties}
 use Rattle.tltool.specs.Ended.{EndsAs, IsOutcome}
 
-pub ends_other : (command : Command) (outcome : Result Status ToolFault) (had left held holds : Option (List ℕ))
+pub ends_other : (command : Command) (allow : Liberties) (outcome : Result Status ToolFault) (had left held holds : Option (List ℕ))
     (status : ℕ) → (command ≡ Monitor → ⊥) → status ≡ exit_status outcome
     → IsOutcome (text_told command) (text_so_far command) had left held holds outcome
-    → EndsAs command had left held holds status
-ends_other Monitor outcome had left held holds status other same so = absurd (other refl)
-ends_other (Decode width) outcome had left held holds status other same so = (outcome, same, so)
-ends_other Coherent outcome had left held holds status other same so = (outcome, same, so)
-ends_other (Explain together) outcome had left held holds status other same so = (outcome, same, so)
-ends_other (Run trace) outcome had left held holds status other same so = (outcome, same, so)
+    → EndsAs command allow had left held holds status
+ends_other Monitor allow outcome had left held holds status other same so = absurd (other refl)
+ends_other (Decode width) allow outcome had left held holds status other same so = (outcome, same, so)
+ends_other Coherent allow outcome had left held holds status other same so = (outcome, same, so)
+ends_other (Explain together) allow outcome had left held holds status other same so = (outcome, same, so)
+ends_other (Run trace) allow outcome had left held holds status other same so = (outcome, same, so)

@@ -1,11 +1,12 @@
 -- How the program ends, by its exit status.
 use Rattle.std.specs.Prelude.{◌≡◌, ◌⊎◌, ◌++◌, ℕ, Bool, List, Option, Result, Ok, Err, IfErr, IfOk, OnErr, OnOk}
-use Rattle.std.specs.Io.KnownBytes.{Appends, Consumes}
+use Rattle.std.specs.Io.KnownBytes.{Appends}
 use Rattle.tl_chart.specs.declared.window.Window.{Window}
 use Rattle.tl_command.specs.declared.command.Command.{Command}
 use Rattle.tl_command.specs.declared.command.Command.TheVariants.{Coherent, Decode, Explain, Monitor, Run}
 use Rattle.tl_command.specs.declared.random.Options.{Options}
 use Rattle.tl_command.specs.declared.search.Aim.{Aim}
+use Rattle.tl_params.specs.declared.liberties.Liberties.{Liberties}
 use Rattle.tl_params.specs.declared.liberties.Liberty.{Liberty}
 use Rattle.tl_params.specs.statement.Header.{width_of}
 use Rattle.tl_words.specs.declared.words.WordsFault.{WordsFault}
@@ -16,7 +17,7 @@ use Rattle.tl_engine.specs.declared.status.Status.{Status}
 use Rattle.tl_engine.specs.declared.status.ToolFault.{ToolFault}
 use Rattle.tl_engine.specs.declared.status.ToolFault.TheVariants.{Memory, Write}
 use Rattle.tl_engine.specs.code.GivenUp.{GivesUpFor}
-use Rattle.tl_engine.specs.code.Lines.{lines_of}
+use Rattle.tl_engine.specs.code.Parts.{AppendsShort}
 use Rattle.tl_engine.specs.code.Run.{FailsAt, RunsTo}
 use Rattle.tl_engine.specs.statement.Charted.{Charts, GivesUpCharting}
 use Rattle.tl_engine.specs.statement.Exit.{exit_status}
@@ -24,28 +25,28 @@ use Rattle.tl_engine.specs.statement.Explained.{Explains}
 use Rattle.tl_engine.specs.statement.Told.{text_so_far, text_told}
 use Rattle.tl_engine.specs.statement.Unexplained.{GivesUpExplaining, Reaches}
 use Rattle.tl_engine.specs.statement.Width.{bytes_of}
-use Rattle.tl_links.specs.statement.Allowed.{Allowed, allowed_line}
+use Rattle.tl_links.specs.statement.Allowed.{FindsAllowed, allowed_line}
 use Rattle.tl_links.specs.statement.Judged.{JudgedLinks, LinksSoFar}
 use Rattle.tl_random.specs.statement.Random.{WritesPart, WritesSchedule}
 use Rattle.tl_report.specs.declared.findings.Finding.{Finding}
-use Rattle.tl_report.specs.statement.Found.{most_of}
 use Rattle.tl_report.specs.statement.Said.{GivesUpSearching, Searches, all_text, status_of}
 
--- a command's text of these lines, with the status at their end; `monitor` reads headers that name liberties too
-abbrev pub program_told : Command → List (List ℕ) → List ℕ → Status → Type 0
-program_told Monitor = JudgedLinks
-program_told (Decode width) = text_told (Decode width)
-program_told Coherent = text_told Coherent
-program_told (Explain together) = text_told (Explain together)
-program_told (Run trace) = text_told (Run trace)
+-- A command's text of these lines, with the status at their end. `monitor` reads headers that name liberties too, and
+-- allows links this besides.
+abbrev pub program_told : Command → Liberties → List (List ℕ) → List ℕ → Status → Type 0
+program_told Monitor allow = JudgedLinks allow
+program_told (Decode width) allow = text_told (Decode width)
+program_told Coherent allow = text_told Coherent
+program_told (Explain together) allow = text_told (Explain together)
+program_told (Run trace) allow = text_told (Run trace)
 
 -- the text of these lines, of which none is at fault, before the end of the input
-abbrev pub program_so_far : Command → List (List ℕ) → List ℕ → Type 0
-program_so_far Monitor = LinksSoFar
-program_so_far (Decode width) = text_so_far (Decode width)
-program_so_far Coherent = text_so_far Coherent
-program_so_far (Explain together) = text_so_far (Explain together)
-program_so_far (Run trace) = text_so_far (Run trace)
+abbrev pub program_so_far : Command → Liberties → List (List ℕ) → List ℕ → Type 0
+program_so_far Monitor allow = LinksSoFar allow
+program_so_far (Decode width) allow = text_so_far (Decode width)
+program_so_far Coherent allow = text_so_far Coherent
+program_so_far (Explain together) allow = text_so_far (Explain together)
+program_so_far (Run trace) allow = text_so_far (Run trace)
 
 -- the outcome is one that these texts have over what was read and written
 abbrev pub IsOutcome : (List (List ℕ) → List ℕ → Status → Type 0) → (List (List ℕ) → List ℕ → Type 0)
@@ -54,15 +55,16 @@ IsOutcome tells so_far had left held holds outcome =
     IfOk outcome (RunsTo tells had left held holds) × OnErr outcome (FailsAt tells had left held holds)
     × IfErr outcome (GivesUpFor so_far tells had left held holds)
 
--- The status is that of an outcome which the command has over what was read and written.
-abbrev pub EndsAs : Command → Option (List ℕ) → Option (List ℕ) → Option (List ℕ) → Option (List ℕ) → ℕ → Type 0
-EndsAs command had left held holds status =
+-- The status is that of an outcome which the command, that allows links this besides, has over what was read and written.
+abbrev pub EndsAs : Command → Liberties → Option (List ℕ) → Option (List ℕ) → Option (List ℕ) → Option (List ℕ) → ℕ
+    → Type 0
+EndsAs command allow had left held holds status =
     (outcome : Result Status ToolFault) × (status ≡ exit_status outcome)
-    × IsOutcome (program_told command) (program_so_far command) had left held holds outcome
+    × IsOutcome (program_told command allow) (program_so_far command allow) had left held holds outcome
 
 -- whatever was left of the input
-abbrev pub EndsOver : Command → Option (List ℕ) → Option (List ℕ) → Option (List ℕ) → ℕ → Type 0
-EndsOver command had held holds status = (left : Option (List ℕ)) × EndsAs command had left held holds status
+abbrev pub EndsOver : Command → Liberties → Option (List ℕ) → Option (List ℕ) → Option (List ℕ) → ℕ → Type 0
+EndsOver command allow had held holds status = (left : Option (List ℕ)) × EndsAs command allow had left held holds status
 
 -- The status is that of an outcome with which a random schedule of these options was written, whole at success and
 -- otherwise a beginning of it.
@@ -87,13 +89,19 @@ EndsExplained together had left had_again left_again held holds status =
     × Explains had_again left_again verdict reasons judged × Appends held holds (verdict ++ reasons))
     × IfErr outcome (GivesUpExplaining together had left had_again left_again held holds)
 
+-- It was given up for this to say which liberties would allow what was found. But for `Write` nothing was written.
+abbrev pub GivesUpAllowing : Option (List ℕ) → Option (List ℕ) → Option (List ℕ) → Option (List ℕ) → ToolFault → Type 0
+GivesUpAllowing had left held holds Write =
+    (allowing : List Liberty) × FindsAllowed had left allowing × AppendsShort held holds (allowed_line allowing)
+GivesUpAllowing had left held holds fault = holds ≡ held
+
 -- The status is that of the explanation, behind which stands the line that names the liberties which would allow what was
--- found; or nothing more could be read or written.
+-- found; or that of what it was given up for.
 abbrev pub EndsAllowed : ℕ → Option (List ℕ) → Option (List ℕ) → Option (List ℕ) → Option (List ℕ) → ℕ → Type 0
 EndsAllowed explained had left held holds status =
-    ((read : List ℕ) × (allowing : List Liberty) × Consumes had left read × Allowed (lines_of read) allowing
-    × Appends held holds (allowed_line allowing) × (status ≡ explained))
-    ⊎ ((fault : ToolFault) × (status ≡ exit_status (Err fault)))
+    ((allowing : List Liberty) × FindsAllowed had left allowing × Appends held holds (allowed_line allowing)
+    × (status ≡ explained))
+    ⊎ ((fault : ToolFault) × GivesUpAllowing had left held holds fault × (status ≡ exit_status (Err fault)))
 
 -- The status is that of an outcome which a chart of a window has over what was read and written.
 abbrev pub EndsCharted : Window → Option (List ℕ) → Option (List ℕ) → Option (List ℕ) → Option (List ℕ) → ℕ → Type 0
@@ -107,9 +115,9 @@ abbrev pub EndsFound : Aim → Option (List ℕ) → Option (List ℕ) → Optio
 EndsFound aim had left held holds status =
     (outcome : Result Status ToolFault) × (status ≡ exit_status outcome)
     × IfOk outcome (λ judged. (found : List Finding) × (beats : ℕ) × (cells : List ℕ)
-    × Searches aim.together (most_of aim) had left found beats cells
+    × Searches aim had left found beats cells
     × Appends held holds (all_text aim.together found beats) × (judged ≡ status_of found))
-    × IfErr outcome (GivesUpSearching aim.together (most_of aim) had left held holds)
+    × IfErr outcome (GivesUpSearching aim had left held holds)
 
 -- The words give no command: the status is that of the usage, or of a writer that failed, or of want of memory.
 abbrev pub IsRefused : WordsFault → ℕ → Type 0

@@ -27,6 +27,7 @@ use tl_engine::status::{Status, ToolFault, exit_of};
 use tl_engine::tool::run_tool;
 use tl_links::allowing::append_allowed;
 use tl_links::run::run_links;
+use tl_params::liberties::Liberties;
 use tl_random::schedule::write_schedule;
 use tl_report::find::find_all;
 use tl_words::words::{WordsFault, invocation, usage_status};
@@ -62,18 +63,19 @@ fn refused(rt: &HostRuntime, fault: WordsFault) -> u8
     }
 }
 
-/// Runs a command over an input.
+/// Runs a command over an input. `monitor` allows links this besides what the header names.
 fn run_over<R: Read, W: Write>(
     rt: &HostRuntime,
     command: Command,
+    allow: Liberties,
     input: &mut R,
     output: &mut W,
 ) -> u8
-    ensures { EndsAs command (R.remaining input.old) (R.remaining input.new) (W.contents output.old)
+    ensures { EndsAs command allow (R.remaining input.old) (R.remaining input.new) (W.contents output.old)
         (W.contents output.new) result }
 {
     match command {
-        Command::Monitor => told(rt, run_links(rt.alloc(), input, output)),
+        Command::Monitor => told(rt, run_links(rt.alloc(), allow, input, output)),
         _ => told(rt, run_tool(rt.alloc(), command, input, output)),
     }
 }
@@ -90,16 +92,17 @@ pub(crate) fn unopened(rt: &HostRuntime, name: &str) -> u8
 fn run_file<R: Read + Drop, W: Write>(
     rt: &HostRuntime,
     command: Command,
+    allow: Liberties,
     name: &str,
     opened: io::Result<R>,
     output: &mut W,
 ) -> u8
-    ensures opened { IfOk opened (λ file. EndsOver command (R.remaining file) (W.contents output.old)
+    ensures opened { IfOk opened (λ file. EndsOver command allow (R.remaining file) (W.contents output.old)
         (W.contents output.new) result) }
     ensures unopened { OnErr opened (result ≡ exit_status (Err ToolFault.Read)) }
 {
     match opened {
-        Ok(mut file) => run_over(rt, command, &mut file, output),
+        Ok(mut file) => run_over(rt, command, allow, &mut file, output),
         Err(_) => unopened(rt, name),
     }
 }
@@ -200,14 +203,14 @@ fn explain(rt: &HostRuntime, coherent: bool, name: &str) -> u8 {
 }
 
 /// Runs a command over standard input, or over the file of this name.
-fn read(rt: &HostRuntime, command: Command, name: Option<String>) -> u8 {
+fn read(rt: &HostRuntime, command: Command, allow: Liberties, name: Option<String>) -> u8 {
     let mut output = io::writer(rt);
     match (command, name) {
-        (_, None) => run_over(rt, command, &mut rt.reader(), &mut output),
+        (_, None) => run_over(rt, command, allow, &mut rt.reader(), &mut output),
         (Command::Explain { coherent }, Some(name)) => explain(rt, coherent, name.as_str()),
         (_, Some(name)) => {
             let opened = fs::open(rt, name.as_str());
-            run_file(rt, command, name.as_str(), opened, &mut output)
+            run_file(rt, command, allow, name.as_str(), opened, &mut output)
         }
     }
 }
@@ -269,7 +272,11 @@ fn find(rt: &HostRuntime, aim: Aim, name: Option<String>) -> u8 {
 /// Does what the words of the program ask for.
 fn run(rt: &HostRuntime, task: Task) -> u8 {
     match task {
-        Task::Read { command, file } => read(rt, command, file),
+        Task::Read {
+            command,
+            allow,
+            file,
+        } => read(rt, command, allow, file),
         Task::Search { aim, file } => find(rt, aim, file),
         Task::Report {
             inquiry,

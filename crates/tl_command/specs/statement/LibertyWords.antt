@@ -2,6 +2,7 @@
 use denote.Ref.{Bor}
 use Rattle.std.specs.Prelude.{Option, Some, None, ◌≡◌, ◌≢◌, ◌⊎◌, ◌++◌, ℕ, List, [], ◌∷◌, codes, map}
 use Rattle.std.specs.List.{filter}
+use Rattle.tl_command.specs.statement.Words.{Text}
 use Rattle.tl_params.specs.declared.liberties.Liberties.{Liberties}
 use Rattle.tl_params.specs.declared.liberties.Liberty.{Liberty}
 use Rattle.tl_params.specs.declared.liberties.Liberty.TheVariants.{Ids, Sinks, Writer, Early, Drops, Reports, Denied}
@@ -39,3 +40,8 @@ LacksComma bytes = (rest : List ℕ) → bytes ≢ 44 ∷ rest
 abbrev pub IsRead : Option (Liberties × Bor (List ℕ)) → Liberties → List ℕ → Type 0
 IsRead None l rest = ⊥
 IsRead (Some x) l rest = (x.0 ≡ l) × (x.1.now ≡ rest)
+
+-- these are what `--allow` adds to what a header names, by its word; nothing without it
+abbrev pub AreAllowed : Option Text → Liberties → Type 0
+AreAllowed None l = l ≡ no_liberties
+AreAllowed (Some word) l = SpellsLiberties word l

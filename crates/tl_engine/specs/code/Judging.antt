@@ -47,9 +47,15 @@ Finishes knows tells handler count was is (Some fault) =
     (lines : List (List ℕ)) (before : List ℕ) → knows handler lines (before ++ was) → count ≡ length lines
     → tells lines (before ++ (is ++ fault_text (length lines + 1) fault)) Broken
 
--- whatever lines follow those that a handler knows, they have a text
-abbrev pub IsTotal : {H : Type 0} → (H → List (List ℕ) → List ℕ → Type 0) → (List (List ℕ) → List ℕ → Status → Type 0)
-    → Type 0
-IsTotal {H} knows tells =
+-- whatever lines follow those that a handler knows, they have a text for its purpose
+abbrev pub IsTotal : {H M : Type 0} → (H → M) → (H → List (List ℕ) → List ℕ → Type 0)
+    → (M → List (List ℕ) → List ℕ → Status → Type 0) → Type 0
+IsTotal {H} purpose knows tells =
     (handler : H) (lines : List (List ℕ)) (text : List ℕ) → knows handler lines text
-    → (more : List (List ℕ)) → (rest : List ℕ) × (status : Status) × tells (lines ++ more) (text ++ rest) status
+    → (more : List (List ℕ)) → (rest : List ℕ) × (status : Status)
+    × tells (purpose handler) (lines ++ more) (text ++ rest) status
+
+-- a handler for this purpose knows these lines
+abbrev pub KnowsFor : {H M : Type 0} → (H → M) → M → (H → List (List ℕ) → List ℕ → Type 0) → H → List (List ℕ)
+    → List ℕ → Type 0
+KnowsFor purpose m knows handler lines text = knows handler lines text × (purpose handler ≡ m)

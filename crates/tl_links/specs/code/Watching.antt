@@ -6,9 +6,10 @@ use Rattle.tl_beat.specs.statement.Line.{Spells}
 use Rattle.tl_engine.specs.code.Watching.{KnowsTraceOf}
 use Rattle.tl_engine.specs.declared.fault.Fault.{Fault}
 use Rattle.tl_engine.specs.statement.Judged.{IsAtFault, clean_text}
+use Rattle.tl_links.specs.declared.link_lines.LinkJudge.{LinkJudge}
+use Rattle.tl_links.specs.declared.link_lines.LinkJudge.TheVariants.{Waiting, Four, Eight, Sixteen}
 use Rattle.tl_links.specs.declared.link_lines.LinkLines.{LinkLines}
-use Rattle.tl_links.specs.declared.link_lines.LinkLines.TheVariants.{Waiting, Four, Eight, Sixteen}
-use Rattle.tl_links.specs.statement.Header.{NamesLinks}
+use Rattle.tl_links.specs.statement.Header.{NamesAllowed}
 use Rattle.tl_links.specs.statement.Judged.{faults_under}
 use Rattle.tl_monitor.specs.declared.monitor.Monitor.{Monitor}
 use Rattle.tl_monitor.specs.statement.Knows.{KnowsUnder}
@@ -32,18 +33,21 @@ Watches {w} old new line (Some fault) =
     (levels : List Level) (may : Liberties) (t : Trace w) → KnowsBeats old levels may t
     → IsAtFault faults_under levels may t line fault
 
--- these lines, a header and beats that aren't at fault, are judged with this text so far
-abbrev pub KnowsTrace : {w : ℕ} → Monitor w → List (List ℕ) → List ℕ → Type 0
-KnowsTrace monitor = KnowsTraceOf (KnowsBeats monitor) NamesLinks faults_under clean_text
+-- these lines, a header and beats that aren't at fault, are judged with this text so far; this is allowed besides
+abbrev pub KnowsTrace : {w : ℕ} → Liberties → Monitor w → List (List ℕ) → List ℕ → Type 0
+KnowsTrace allow monitor = KnowsTraceOf (KnowsBeats monitor) (NamesAllowed allow) faults_under clean_text
 
 -- after these lines, of which none was at fault, this text has been appended
-abbrev pub KnowsLines : LinkLines → List (List ℕ) → List ℕ → Type 0
-KnowsLines (Waiting alloc) lines text = (lines ≡ []) × (text ≡ [])
-KnowsLines (Four monitor) lines text = KnowsTrace monitor lines text
-KnowsLines (Eight monitor) lines text = KnowsTrace monitor lines text
-KnowsLines (Sixteen monitor) lines text = KnowsTrace monitor lines text
+abbrev pub KnowsJudge : Liberties → LinkJudge → List (List ℕ) → List ℕ → Type 0
+KnowsJudge allow (Waiting alloc) lines text = (lines ≡ []) × (text ≡ [])
+KnowsJudge allow (Four monitor) lines text = KnowsTrace allow monitor lines text
+KnowsJudge allow (Eight monitor) lines text = KnowsTrace allow monitor lines text
+KnowsJudge allow (Sixteen monitor) lines text = KnowsTrace allow monitor lines text
 
--- what the first line begins: a handler that knows the header, or none where it is no header
-abbrev pub Begins : List ℕ → Option LinkLines → Type 0
-Begins line None = (width : Width) (may : Liberties) (levels : List Level) → ¬ NamesLinks line width may levels
-Begins line (Some link_lines) = KnowsLines link_lines (line ∷ []) []
+abbrev pub KnowsLines : LinkLines → List (List ℕ) → List ℕ → Type 0
+KnowsLines h lines text = KnowsJudge h.allow h.judge lines text
+
+-- what the first line begins: a judge that knows the header, or none if it is no header
+abbrev pub Begins : Liberties → List ℕ → Option LinkJudge → Type 0
+Begins allow line None = (width : Width) (may : Liberties) (levels : List Level) → ¬ NamesAllowed allow line width may levels
+Begins allow line (Some judge) = KnowsJudge allow judge (line ∷ []) []

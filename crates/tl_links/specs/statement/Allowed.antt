@@ -1,10 +1,12 @@
 -- Under which single liberties the first beat at fault of a trace would break no rule.
-use Rattle.std.specs.Prelude.{◌≡◌, ◌⊎◌, ◌++◌, ℕ, List, [], ◌∷◌, codes, Some, None}
+use Rattle.std.specs.Prelude.{◌≡◌, ◌⊎◌, ◌++◌, ℕ, List, [], ◌∷◌, codes, Option, Some, None}
+use Rattle.std.specs.Io.KnownBytes.{Consumes, IsAtEnd}
 use Rattle.tl_allowed.specs.statement.Allowed.{allowance_text, allowed_under}
 use Rattle.tl_beat.specs.declared.beat.Beat.{Beat}
 use Rattle.tl_beat.specs.declared.beat.Link.{Link}
 use Rattle.tl_beat.specs.declared.fault.LineFault.{LineFault}
 use Rattle.tl_beat.specs.statement.Line.{Spells, line_fault}
+use Rattle.tl_engine.specs.code.Lines.{lines_of}
 use Rattle.tl_engine.specs.statement.Judged.{Headers}
 use Rattle.tl_engine.specs.statement.Trace.{SpellsHeader}
 use Rattle.tl_engine.specs.statement.Width.{bytes_of}
@@ -43,6 +45,15 @@ Allowed (line ∷ lines) allowing =
     × AllowedAfter {w = bytes_of width} levels may [] lines allowing)
     ⊎ (((width : Width) (may : Liberties) (levels : List Level) → ¬ NamesProfile line width may levels)
     × (allowing ≡ []))
+
+-- nothing that follows what was read changes what is found of it, or it was read to its end
+abbrev pub IsSettled : Option (List ℕ) → List ℕ → List Liberty → Type 0
+IsSettled left read allowing = ((more : List ℕ) → Allowed (lines_of (read ++ more)) allowing) ⊎ IsAtEnd left
+
+-- what was read of an input, to its first line at fault or to its end, is found to be allowed by these
+abbrev pub FindsAllowed : Option (List ℕ) → Option (List ℕ) → List Liberty → Type 0
+FindsAllowed had left allowing =
+    (read : List ℕ) × Consumes had left read × Allowed (lines_of read) allowing × IsSettled left read allowing
 
 -- the line that names them, indented; nothing where there are none
 abbrev pub allowed_line : List Liberty → List ℕ

@@ -10,7 +10,7 @@ use Rattle.tl_params.specs.declared.profile.Profile.{Profile}
 use Rattle.tl_params.specs.declared.width.Width.{Width}
 use Rattle.tl_params.specs.statement.Config.{IsCount}
 use Rattle.tl_params.specs.statement.Header.{width_text}
-use Rattle.tl_params.specs.statement.Liberties.{liberties_of}
+use Rattle.tl_params.specs.statement.Liberties.{liberties_of, united}
 
 -- the front of a header of the fourth version, with the bytes of a beat
 abbrev pub fourth_front : Width → List ℕ
@@ -28,6 +28,11 @@ abbrev pub NamesLinks : Headers Liberties
 NamesLinks line width may levels =
     ((p : Profile) × SpellsHeader line width p levels × (may ≡ liberties_of p))
     ⊎ SpellsFourth line width may levels
+
+-- the line is a header, and its links may do what it names and what is allowed besides
+abbrev pub NamesAllowed : Liberties → Headers Liberties
+NamesAllowed allow line width may levels =
+    (own : Liberties) × NamesLinks line width own levels × (may ≡ united own allow)
 
 -- the header names these
 abbrev pub IsLinks : Option LinksHeader → Width → Liberties → List Level → Type 0

@@ -6,30 +6,30 @@ use Rattle.tl_beat.specs.declared.beat.Link.{Link}
 use Rattle.tl_beat.specs.declared.fault.LineFault.TheVariants.{F1}
 use Rattle.tl_beat.specs.statement.Line.{Spells}
 use Rattle.tl_params.specs.declared.level.Level.{Level}
-use Rattle.tl_params.specs.declared.profile.Profile.{Profile}
+use Rattle.tl_params.specs.declared.liberties.Liberties.{Liberties}
 use Rattle.tl_params.specs.declared.width.Width.{Width}
 use Rattle.tl_rules.specs.statement.Conformance.{Trace}
 use Rattle.tl_engine.specs.code.Progress.{HasAll}
-use Rattle.tl_engine.specs.code.Watching.{KnowsBeats, faults_by}
 use Rattle.tl_engine.specs.declared.fault.Fault.{Fault}
 use Rattle.tl_engine.specs.declared.fault.Fault.TheVariants.{Line}
 use Rattle.tl_engine.specs.declared.status.Status.{Status}
 use Rattle.tl_engine.specs.declared.status.Status.TheVariants.{Clean, Broken}
 use Rattle.tl_engine.specs.statement.Judged.{IsAtFault}
-use Rattle.tl_engine.specs.statement.Trace.{SpellsHeader}
 use Rattle.tl_report.specs.declared.findings.Finding.{Finding}
 use Rattle.tl_report.specs.declared.findings.Findings.{Findings}
 use Rattle.tl_command.specs.declared.search.Aim.{Aim}
 use Rattle.tl_report.specs.declared.search.Search.{Search}
 use Rattle.tl_report.specs.declared.search_lines.SearchLines.{SearchLines}
 use Rattle.tl_report.specs.declared.search_lines.SearchLines.TheVariants.{Waiting, Four, Eight, Sixteen}
-use Rattle.tl_report.specs.statement.Found.{Finds, FindsAfter, is_open, most_of, no_header}
+use Rattle.tl_report.specs.code.TraceJudging.{KnowsBeats}
+use Rattle.tl_report.specs.statement.Found.{FindsAfter, FindsFor, is_open, no_header}
+use Rattle.tl_report.specs.statement.Judging.{faults_by, heads_by}
 use Rattle.tl_report.specs.statement.Taken.{AreCounted, cells_of}
 
 -- nothing was read behind the header
-pub record IsBegun {w : ℕ} (s : Search w) (aim : Aim) (levels : List Level) (p : Profile) : Type 0 where
+pub record IsBegun {w : ℕ} (s : Search w) (aim : Aim) (levels : List Level) (may : Liberties) : Type 0 where
   pub aim_is : s.aim ≡ aim
-  pub known : KnowsBeats aim.together s.judge levels p []
+  pub known : KnowsBeats aim.together s.judge levels may []
   pub none_found : s.findings.faults.items ≡ []
   pub none_taken : AreCounted s.findings.beats s.findings.cells.items []
   pub header : s.lines ≡ 1
@@ -38,17 +38,17 @@ pub record IsBegun {w : ℕ} (s : Search w) (aim : Aim) (levels : List Level) (p
 -- These lines were read, and more are looked for: what is found behind them is found behind what was.
 pub record KnowsSearch {w : ℕ} (s : Search w) (lines : List (List ℕ)) : Type 0 where
   pub levels : List Level
-  pub profile : Profile
+  pub may : Liberties
   pub trace : Trace w
   pub left : ℕ
-  pub known : KnowsBeats s.aim.together s.judge levels profile trace
+  pub known : KnowsBeats s.aim.together s.judge levels may trace
   pub so_many : AreCounted s.findings.beats s.findings.cells.items (cells_of trace)
   pub most_are : s.aim.behind ≡ length s.findings.faults.items + left
   pub unended : s.over ≡ false
   pub some : lines ≢ []
   pub before : (more : List (List ℕ)) (later : List Finding) (beats : ℕ) (cells : List ℕ)
-      → FindsAfter (faults_by s.aim.together) levels profile trace (s.lines + 1) (suc left) more later beats cells
-      → Finds (faults_by s.aim.together) (most_of s.aim) (lines ++ more) (s.findings.faults.items ++ later) beats cells
+      → FindsAfter (faults_by s.aim.together) levels may trace (s.lines + 1) (suc left) more later beats cells
+      → FindsFor s.aim (lines ++ more) (s.findings.faults.items ++ later) beats cells
 
 -- what is found with a line that ends a search without being noted
 abbrev pub found_with : Bool → List Finding → ℕ → List Finding
@@ -57,7 +57,7 @@ found_with false found line = found ++ record { line = line; fault = Line F1 } �
 
 -- what was found is all that is found in these lines
 abbrev pub EndsSearch : {w : ℕ} → Search w → List (List ℕ) → Type 0
-EndsSearch s lines = Finds (faults_by s.aim.together) (most_of s.aim) lines
+EndsSearch s lines = FindsFor s.aim lines
     (found_with s.over s.findings.faults.items (s.lines + 1)) s.findings.beats s.findings.cells.items
 
 -- a line was read: more are looked for, or it ends the search, whatever follows it
@@ -69,17 +69,17 @@ SearchesLine old new line (Some fault) =
 -- what a line is at fault for behind the beats that a search has taken, and what it has taken with the line
 abbrev pub JudgesLine : {w : ℕ} → Search w → Search w → List ℕ → Option Fault → Type 0
 JudgesLine {w} old new line None =
-    (levels : List Level) (p : Profile) (t : Trace w) → KnowsBeats old.aim.together old.judge levels p t
+    (levels : List Level) (may : Liberties) (t : Trace w) → KnowsBeats old.aim.together old.judge levels may t
     → AreCounted old.findings.beats old.findings.cells.items (cells_of t)
     → (link : Link) × (beat : Beat w) × Spells line link beat
-    × (faults_by old.aim.together w levels p (link, beat) t ≡ None)
-    × KnowsBeats old.aim.together new.judge levels p ((link, beat) ∷ t)
+    × (faults_by old.aim.together w levels may (link, beat) t ≡ None)
+    × KnowsBeats old.aim.together new.judge levels may ((link, beat) ∷ t)
     × AreCounted new.findings.beats new.findings.cells.items (cells_of ((link, beat) ∷ t))
 JudgesLine {w} old new line (Some fault) =
-    (levels : List Level) (p : Profile) (t : Trace w) → KnowsBeats old.aim.together old.judge levels p t
+    (levels : List Level) (may : Liberties) (t : Trace w) → KnowsBeats old.aim.together old.judge levels may t
     → AreCounted old.findings.beats old.findings.cells.items (cells_of t)
-    → IsAtFault (faults_by old.aim.together) levels p t line fault
-    × KnowsBeats old.aim.together new.judge levels p t
+    → IsAtFault (faults_by old.aim.together) levels may t line fault
+    × KnowsBeats old.aim.together new.judge levels may t
     × AreCounted new.findings.beats new.findings.cells.items (cells_of t)
 
 -- what a beat doesn't change of a search
@@ -132,7 +132,7 @@ TellsLines lines text status = status ≡ Clean → lines ≢ []
 abbrev pub EndsLines : SearchLines → List (List ℕ) → Type 0
 EndsLines (Waiting alloc aim) lines =
     (beats : ℕ) (cells : List ℕ) → AreCounted beats cells []
-    → Finds (faults_by aim.together) (most_of aim) lines no_header beats cells
+    → FindsFor aim lines no_header beats cells
 EndsLines (Four s) lines = EndsSearch s lines
 EndsLines (Eight s) lines = EndsSearch s lines
 EndsLines (Sixteen s) lines = EndsSearch s lines
@@ -141,10 +141,10 @@ EndsLines (Sixteen s) lines = EndsSearch s lines
 abbrev pub HasFound : SearchLines → Status → Findings → Type 0
 HasFound h status f =
     (lines : List (List ℕ)) → HasAll KnowsLines EndsLines h lines status → (status ≡ Clean → lines ≢ [])
-    → Finds (faults_by (aim_of h).together) (most_of (aim_of h)) lines f.faults.items f.beats
-    f.cells.items
+    → FindsFor (aim_of h) lines f.faults.items f.beats f.cells.items
 
 -- what the first line begins: a search behind the header, or none where it spells none
 abbrev pub Begins : Aim → List ℕ → Option SearchLines → Type 0
-Begins aim line None = (width : Width) (p : Profile) (levels : List Level) → ¬ SpellsHeader line width p levels
+Begins aim line None = (width : Width) (may : Liberties) (levels : List Level)
+    → ¬ heads_by aim.together aim.allow line width may levels
 Begins aim line (Some s) = KnowsLines s (line ∷ []) []

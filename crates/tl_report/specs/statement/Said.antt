@@ -5,14 +5,15 @@ use Rattle.std.specs.List.{flat_map}
 use Rattle.std.specs.Io.KnownBytes.{Consumes, IsAtEnd}
 use Rattle.tl_engine.specs.code.Lines.{lines_of}
 use Rattle.tl_engine.specs.code.Parts.{AppendsShort}
-use Rattle.tl_engine.specs.code.Watching.{faults_by, said_by}
+use Rattle.tl_engine.specs.code.Watching.{said_by}
 use Rattle.tl_engine.specs.declared.status.Status.{Status}
 use Rattle.tl_engine.specs.declared.status.Status.TheVariants.{Clean, Broken}
 use Rattle.tl_engine.specs.declared.status.ToolFault.{ToolFault}
 use Rattle.tl_engine.specs.declared.status.ToolFault.TheVariants.{Write}
 use Rattle.tl_engine.specs.statement.Fault.{fault_text}
+use Rattle.tl_command.specs.declared.search.Aim.{Aim}
 use Rattle.tl_report.specs.declared.findings.Finding.{Finding}
-use Rattle.tl_report.specs.statement.Found.{Finds}
+use Rattle.tl_report.specs.statement.Found.{FindsFor}
 
 -- `line N X`
 abbrev pub finding_text : Finding → List ℕ
@@ -45,18 +46,18 @@ abbrev pub status_of : List Finding → Status
 status_of [] = Clean
 status_of found = Broken
 
--- What was read, to its end or so that nothing that follows changes it, has these lines at fault, at most so many, and
--- so many beats are taken, in each cell as many as are counted in it.
-abbrev pub Searches : Bool → ℕ → Option (List ℕ) → Option (List ℕ) → List Finding → ℕ → List ℕ → Type 0
-Searches together most had left found beats cells =
-    (read : List ℕ) × Consumes had left read × Finds (faults_by together) most (lines_of read) found beats cells
-    × (((more : List ℕ) → Finds (faults_by together) most (lines_of (read ++ more)) found beats cells) ⊎ IsAtEnd left)
+-- What was read, to its end or so that nothing that follows changes it, has these lines at fault, as many as are looked
+-- for, and so many beats are taken, in each cell as many as are counted in it.
+abbrev pub Searches : Aim → Option (List ℕ) → Option (List ℕ) → List Finding → ℕ → List ℕ → Type 0
+Searches aim had left found beats cells =
+    (read : List ℕ) × Consumes had left read × FindsFor aim (lines_of read) found beats cells
+    × (((more : List ℕ) → FindsFor aim (lines_of (read ++ more)) found beats cells) ⊎ IsAtEnd left)
 
 -- A search was given up for this. But for `Write` nothing was written. `Write`: the search came to its end, and some of
 -- the text is left to be written.
-abbrev pub GivesUpSearching : Bool → ℕ → Option (List ℕ) → Option (List ℕ) → Option (List ℕ) → Option (List ℕ)
-    → ToolFault → Type 0
-GivesUpSearching together most had left held holds Write =
-    (found : List Finding) × (beats : ℕ) × (cells : List ℕ) × Searches together most had left found beats cells
-    × AppendsShort held holds (all_text together found beats)
-GivesUpSearching together most had left held holds fault = holds ≡ held
+abbrev pub GivesUpSearching : Aim → Option (List ℕ) → Option (List ℕ) → Option (List ℕ) → Option (List ℕ) → ToolFault
+    → Type 0
+GivesUpSearching aim had left held holds Write =
+    (found : List Finding) × (beats : ℕ) × (cells : List ℕ) × Searches aim had left found beats cells
+    × AppendsShort held holds (all_text aim.together found beats)
+GivesUpSearching aim had left held holds fault = holds ≡ held

@@ -3,16 +3,14 @@ use Rattle.std.specs.Prelude.{◌≡◌, ℕ, List, length, take}
 use Rattle.sha2.specs.Sha256.{sha256}
 use Rattle.tl_command.specs.declared.search.Aim.{Aim}
 use Rattle.tl_engine.specs.code.Lines.{lines_of}
-use Rattle.tl_engine.specs.code.Watching.{faults_by}
-use Rattle.tl_report.specs.statement.Found.{Finds, most_of}
+use Rattle.tl_report.specs.statement.Found.{FindsFor}
 use Rattle.tl_sign_off.specs.declared.account.Account.{Account}
 
 -- The account is of these bytes: what is found in their lines, with the beats that are taken; how many bytes there are,
 -- the first 256 of them, and their sum.
 pub record IsOf (aim : Aim) (a : Account) (input : List ℕ) : Type 0 where
   pub together_is : a.together ≡ aim.together
-  pub found : Finds (faults_by aim.together) (most_of aim) (lines_of input) a.findings.faults.items a.findings.beats
-      a.findings.cells.items
+  pub found : FindsFor aim (lines_of input) a.findings.faults.items a.findings.beats a.findings.cells.items
   pub bytes_are : a.input.bytes ≡ length input
   pub front_is : a.input.front.items ≡ take 256 input
   pub sum_is : a.input.sum ≡ sha256 input

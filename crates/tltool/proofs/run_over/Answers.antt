@@ -13,5 +13,5 @@ returns-in-Monitor g c = rw c.in-Monitor.is (
 )
 
 pub returns-in_default : goal.returns-in_default
-returns-in_default g c = ends_other c.args.command c.run_tool.result _ _ _ _ _ c.in_default.not-Monitor c.told-in_default.ensures
+returns-in_default g c = ends_other c.args.command c.args.allow c.run_tool.result _ _ _ _ _ c.in_default.not-Monitor c.told-in_default.ensures
     (c.run_tool.ensures.ok, c.run_tool.ensures.err, c.run_tool.ensures.fault)

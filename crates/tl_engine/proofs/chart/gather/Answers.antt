@@ -3,7 +3,7 @@ use Rattle.tl_engine.proofs.ChartedLines.{drawn_at_end}
 use Rattle.tl_engine.proofs.chart.gather.Goals as goal
 
 pub judge_input-requires : goal.judge_input-requires
-judge_input-requires g c = rw c.requires (c.new-lines.ensures c.in_ok-new.ensures)
+judge_input-requires g c = rw c.requires (c.new-lines.ensures.knows c.in_ok-new.ensures)
 
 pub returns-clause-ok : goal.returns-clause-ok
 returns-clause-ok g c =

@@ -1,4 +1,4 @@
-use Rattle.std.proofs.Common.{◌<◌, ℕ, List, length}
+use Rattle.std.proofs.Common.{◌≡◌, ◌<◌, ℕ, List, length}
 use Rattle.std.specs.Io.KnownBytes.{Consumes}
 use Rattle.tl_engine.specs.code.Progress.{Progress}
 use Rattle.tl_engine.proofs.engine.judge_input.Given as goal
@@ -8,4 +8,5 @@ invariant-loop g l = record {
   room : 0 < length l.chunk.items;
   so_far : (read : List ℕ) × Consumes (g.R.Read.remaining l.fn.reader) (g.R.Read.remaining l.reader) read
       × Progress g.H.LineHandler.knows l.lines read l.out.items;
+  same : g.H.LineHandler.purpose l.lines.handler ≡ g.H.LineHandler.purpose l.fn.lines.handler;
 }

@@ -7,7 +7,7 @@ use Rattle.tl_engine.proofs.reread.read_again.Goals as goal
 pub loop-init : goal.loop-init
 loop-init g c = record {
   room = search rules;
-  so_far = ([], Consumes-nil _, rw c.new-out.ensures.items (c.new-lines.ensures c.requires));
+  so_far = ([], Consumes-nil _, rw c.new-out.ensures.items (c.new-lines.ensures.knows c.requires));
 }
 
 pub returns-then-handler-clause-ok : goal.returns-then-handler-clause-ok

@@ -12,7 +12,7 @@ use Rattle.tl_engine.specs.statement.Played.{Played}
 use Rattle.tl_engine.specs.statement.Told.{text_so_far}
 use Rattle.tl_engine.specs.code.Playing.{KnowsSchedule}
 use Rattle.tl_engine.specs.code.Watching.{KnowsLines}
-use Rattle.tl_engine.proofs.GivenUp.{given_up_told}
+use Rattle.tl_engine.proofs.GivenUp.{told_without_purpose}
 use Rattle.tl_engine.proofs.SoFar.{decoded_so_far, judged_so_far, played_so_far}
 use Rattle.tl_engine.proofs.tool.run_tool.Goals as goal
 
@@ -45,58 +45,58 @@ handle_input-requires-in-Run-true-clause-total g c = played-total 1
 
 pub returns-in-Four-clause-fault : goal.returns-in-Four-clause-fault
 returns-in-Four-clause-fault g c =
-    rw (c.in-Decode.is, c.in-Four.is) (given_up_told {H = Decoder 4} (λ _ lines text. DecodesBefore 4 lines text)
+    rw (c.in-Decode.is, c.in-Four.is) (told_without_purpose {H = Decoder 4} (λ _ lines text. DecodesBefore 4 lines text)
     (DecodesTo 4) (text_so_far (Decode Four)) (λ lines text known. decoded_so_far Four lines text known.1)
     _ _ _ _ _ c.handle_input.ensures.fault)
 
 pub returns-in-Eight-clause-fault : goal.returns-in-Eight-clause-fault
 returns-in-Eight-clause-fault g c =
-    rw (c.in-Decode.is, c.in-Eight.is) (given_up_told {H = Decoder 8} (λ _ lines text. DecodesBefore 8 lines text)
+    rw (c.in-Decode.is, c.in-Eight.is) (told_without_purpose {H = Decoder 8} (λ _ lines text. DecodesBefore 8 lines text)
     (DecodesTo 8) (text_so_far (Decode Eight)) (λ lines text known. decoded_so_far Eight lines text known.1)
     _ _ _ _ _ c.handle_input-in-Eight.ensures.fault)
 
 pub returns-in-Sixteen-clause-fault : goal.returns-in-Sixteen-clause-fault
 returns-in-Sixteen-clause-fault g c =
-    rw (c.in-Decode.is, c.in-Sixteen.is) (given_up_told {H = Decoder 16} (λ _ lines text. DecodesBefore 16 lines text)
+    rw (c.in-Decode.is, c.in-Sixteen.is) (told_without_purpose {H = Decoder 16} (λ _ lines text. DecodesBefore 16 lines text)
     (DecodesTo 16) (text_so_far (Decode Sixteen)) (λ lines text known. decoded_so_far Sixteen lines text known.1)
     _ _ _ _ _ c.handle_input-in-Sixteen.ensures.fault)
 
 pub returns-in-Monitor-clause-fault : goal.returns-in-Monitor-clause-fault
 returns-in-Monitor-clause-fault g c =
-    rw c.in-Monitor.is (given_up_told (KnowsLines {n = 0}) Judged (text_so_far Monitor)
+    rw c.in-Monitor.is (told_without_purpose (KnowsLines {n = 0}) Judged (text_so_far Monitor)
     (λ lines text known. judged_so_far 0 known.0 lines text known.1)
     _ _ _ _ _ c.handle_input-in-Monitor.ensures.fault)
 
 pub returns-in-Explain-false-clause-fault : goal.returns-in-Explain-false-clause-fault
 returns-in-Explain-false-clause-fault g c =
     let apart : c.in-Explain-false.coherent ≡ false = search rules in
-    rw (c.in-Explain-false.is, apart) (given_up_told (KnowsLines {n = 0}) Judged (text_so_far (Explain false))
+    rw (c.in-Explain-false.is, apart) (told_without_purpose (KnowsLines {n = 0}) Judged (text_so_far (Explain false))
     (λ lines text known. judged_so_far 0 known.0 lines text known.1)
     _ _ _ _ _ c.handle_input-in-Explain-false.ensures.fault)
 
 pub returns-in-Explain-true-clause-fault : goal.returns-in-Explain-true-clause-fault
 returns-in-Explain-true-clause-fault g c =
     let together : c.in-Explain-true.coherent ≡ true = search rules in
-    rw (c.in-Explain-true.is, together) (given_up_told (KnowsLines {n = 1}) JudgedTogether (text_so_far (Explain true))
+    rw (c.in-Explain-true.is, together) (told_without_purpose (KnowsLines {n = 1}) JudgedTogether (text_so_far (Explain true))
     (λ lines text known. judged_so_far 1 known.0 lines text known.1)
     _ _ _ _ _ c.handle_input-in-Explain-true.ensures.fault)
 
 pub returns-in-Coherent-clause-fault : goal.returns-in-Coherent-clause-fault
 returns-in-Coherent-clause-fault g c =
-    rw c.in-Coherent.is (given_up_told (KnowsLines {n = 1}) JudgedTogether (text_so_far Coherent)
+    rw c.in-Coherent.is (told_without_purpose (KnowsLines {n = 1}) JudgedTogether (text_so_far Coherent)
     (λ lines text known. judged_so_far 1 known.0 lines text known.1)
     _ _ _ _ _ c.handle_input-in-Coherent.ensures.fault)
 
 pub returns-in-Run-false-clause-fault : goal.returns-in-Run-false-clause-fault
 returns-in-Run-false-clause-fault g c =
     let shown : c.in-Run-false.trace ≡ false = search rules in
-    rw (c.in-Run-false.is, shown) (given_up_told (KnowsSchedule {n = 0}) (Played false) (text_so_far (Run false))
+    rw (c.in-Run-false.is, shown) (told_without_purpose (KnowsSchedule {n = 0}) (Played false) (text_so_far (Run false))
     (λ lines text known. played_so_far 0 known.0 lines text known.1)
     _ _ _ _ _ c.handle_input-in-Run-false.ensures.fault)
 
 pub returns-in-Run-true-clause-fault : goal.returns-in-Run-true-clause-fault
 returns-in-Run-true-clause-fault g c =
     let shown : c.in-Run-true.trace ≡ true = search rules in
-    rw (c.in-Run-true.is, shown) (given_up_told (KnowsSchedule {n = 1}) (Played true) (text_so_far (Run true))
+    rw (c.in-Run-true.is, shown) (told_without_purpose (KnowsSchedule {n = 1}) (Played true) (text_so_far (Run true))
     (λ lines text known. played_so_far 1 known.0 lines text known.1)
     _ _ _ _ _ c.handle_input-in-Run-true.ensures.fault)

@@ -8,7 +8,8 @@ use Rattle.tl_words.proofs.words.read.Goals as goal
 pub returns-in-Some-clause-read : goal.returns-in-Some-clause-read
 returns-in-Some-clause-read c = IfOk-weaker c.search.result _ _ (λ task h. h (rows_of (found_of c.args.found.now))
     (sym (c.in-Some.ensures ∙ first_value-rows (found_of c.args.found.now) (codes "all")))
-    (sym (c.get_str-name_of_file.ensures ∙ first_value-rows (found_of c.args.found.now) (codes "FILE"))) c.requires.unreported) c.search.ensures.read
+    (sym (c.get_str-name_of_file.ensures ∙ first_value-rows (found_of c.args.found.now) (codes "FILE"))) c.requires.unreported
+    c.requires.allowed) c.search.ensures.read
 
 pub returns-in-Some-clause-wrong : goal.returns-in-Some-clause-wrong
 returns-in-Some-clause-wrong c = IfErr-weaker c.search.result _ _ (λ fault h. h (rows_of (found_of c.args.found.now))
@@ -42,4 +43,5 @@ returns-clause-read c = (
   sym (c.in_default.ensures ∙ first_value-rows (found_of c.args.found.now) (codes "all")),
   c.in_ok-file.ensures ∙ c.get_str-name_of_file.ensures ∙ first_value-rows (found_of c.args.found.now) (codes "FILE"),
   c.requires.unreported,
+  c.requires.allowed,
 )

@@ -5,18 +5,18 @@ use Rattle.tl_engine.proofs.Progress.{empty_is, finishes_clean, finishes_broken,
 use Rattle.tl_engine.proofs.lines.Lines.finish.Goals as goal
 
 pub returns-then-not-is_empty-clause-finishes : goal.returns-then-not-is_empty-clause-finishes
-returns-then-not-is_empty-clause-finishes g c = finishes_stopped g.H.LineHandler.knows g.H.LineHandler.tells _ _ _ _
+returns-then-not-is_empty-clause-finishes g c = finishes_stopped g.H.LineHandler.knows (g.H.LineHandler.tells (g.H.LineHandler.purpose c.args.self.now.handler)) _ _ _ _
     (search rules) c.stop.ensures.broken c.stop.ensures.stops c.stop.ensures.says
 
 pub returns-in-None-clause-finishes : goal.returns-in-None-clause-finishes
-returns-in-None-clause-finishes g c = finishes_clean g.H.LineHandler.knows g.H.LineHandler.tells _ _ _
+returns-in-None-clause-finishes g c = finishes_clean g.H.LineHandler.knows (g.H.LineHandler.tells (g.H.LineHandler.purpose c.args.self.now.handler)) _ _ _
     (empty_is _ (search rules)) (rw c.in-None.is at c.in_ok-finish.ensures.finishes)
 
 pub returns-in_ok-append_fault-in-Some-clause-finishes : goal.returns-in_ok-append_fault-in-Some-clause-finishes
 returns-in_ok-append_fault-in-Some-clause-finishes g c =
     let says : c.append_fault.new.out.items ≡ c.finish.new.out.items ++ fault_text (c.args.self.now.count + 1)
     c.in-Some.fault = search rules in
-    finishes_broken g.H.LineHandler.knows g.H.LineHandler.tells _ _ c.finish.new.out.items _ c.in-Some.fault
+    finishes_broken g.H.LineHandler.knows (g.H.LineHandler.tells (g.H.LineHandler.purpose c.args.self.now.handler)) _ _ c.finish.new.out.items _ c.in-Some.fault
     (empty_is _ (search rules)) (rw c.in-Some.is at c.in_ok-finish.ensures.finishes) says
 
 pub returns-then-not-is_empty-clause-has : goal.returns-then-not-is_empty-clause-has

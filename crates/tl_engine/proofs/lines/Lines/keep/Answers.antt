@@ -15,11 +15,11 @@ returns-then-is_err-clause-feeds g c =
       )
       | then-is_err-via-else-is_err+then-is_full w ↦ search rules
     ] in
-    feeds_stopped g.H.LineHandler.knows g.H.LineHandler.tells _ _ _ _ _ _ c.args.rest.now [] (sym (append-nil _))
+    feeds_stopped g.H.LineHandler.knows (g.H.LineHandler.tells (g.H.LineHandler.purpose c.args.self.now.handler)) _ _ _ _ _ _ c.args.rest.now [] (sym (append-nil _))
     c.requires long c.stop.ensures.broken c.stop.ensures.stops
 
 pub returns-clause-feeds : goal.returns-clause-feeds
-returns-clause-feeds g c = feeds_kept g.H.LineHandler.knows g.H.LineHandler.tells _ _ _ _ refl refl (search rules)
+returns-clause-feeds g c = feeds_kept g.H.LineHandler.knows (g.H.LineHandler.tells (g.H.LineHandler.purpose c.args.self.now.handler)) _ _ _ _ refl refl (search rules)
     c.requires (search rules)
 
 pub returns-then-is_err-clause-ends : goal.returns-then-is_err-clause-ends

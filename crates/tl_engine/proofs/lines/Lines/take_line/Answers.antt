@@ -3,7 +3,7 @@ use Rattle.tl_engine.proofs.Progress.{ends_at_hand, ends_line, ends_open, feeds_
 use Rattle.tl_engine.proofs.lines.Lines.take_line.Goals as goal
 
 pub returns-then-line-le256-clause-feeds : goal.returns-then-line-le256-clause-feeds
-returns-then-line-le256-clause-feeds g c = feeds_at_hand g.H.LineHandler.knows g.H.LineHandler.tells _ _ _ _ _ _
+returns-then-line-le256-clause-feeds g c = feeds_at_hand g.H.LineHandler.knows (g.H.LineHandler.tells (g.H.LineHandler.purpose c.args.self.now.handler)) _ _ _ _ _ _
     c.requires (search rules) refl c.handle_counted_line.ensures.counts
 
 pub returns-then-is_err-clause-feeds : goal.returns-then-is_err-clause-feeds
@@ -13,13 +13,13 @@ returns-then-is_err-clause-feeds g c =
     let past : 256 < length c.args.self.now.begun.items + length c.args.line.now =
     refused _ _ (search rules) c.try_extend_from_slice.ensures.variant.1 in
     let long : 256 ≤ length c.args.self.now.begun.items + length front = omega (arith, size, past) in
-    feeds_stopped g.H.LineHandler.knows g.H.LineHandler.tells _ _ _ _ _ _ front (10 ∷ []) c.requires.2 c.requires.1 long
+    feeds_stopped g.H.LineHandler.knows (g.H.LineHandler.tells (g.H.LineHandler.purpose c.args.self.now.handler)) _ _ _ _ _ _ front (10 ∷ []) c.requires.2 c.requires.1 long
     c.stop.ensures.broken c.stop.ensures.stops
 
 pub returns-clause-feeds : goal.returns-clause-feeds
 returns-clause-feeds g c =
     let whole : c.as_slice.result.now ≡ c.args.self.now.begun.items ++ c.args.line.now = search rules in
-    feeds_line g.H.LineHandler.knows g.H.LineHandler.tells _ _ _ _ _ _ c.requires c.clear.ensures
+    feeds_line g.H.LineHandler.knows (g.H.LineHandler.tells (g.H.LineHandler.purpose c.args.self.now.handler)) _ _ _ _ _ _ c.requires c.clear.ensures
     (rw whole at c.in_ok-status.ensures.counts)
 
 pub returns-then-line-le256-clause-ends : goal.returns-then-line-le256-clause-ends

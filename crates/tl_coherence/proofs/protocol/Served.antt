@@ -4,17 +4,17 @@ use Rattle.std.proofs.Common.{eqb-true, ne_eqb, ◌==◌, if◌then◌else◌}
 use Rattle.tl_coherence.proofs
 use proofs.Imports.{Channel, Cap, Grow, Perm, same_perm, cap_asked, resting, is_out, is_of, acquires_of, serves_of}
 use proofs.Imports.{acquires_with, serves_with, releases_with, tracks_with, IsAskedCap, IsWell, IsInvariant}
-use proofs.Imports.{IsOwnSource, Kind, Request, Acquire, Probe, ProbeAck, Release, Answer, Grant, ReleaseAck, GrantAck}
+use proofs.Imports.{IsOwnSource, Kind, Request, Acquire, Probe, ProbeAck, Answer}
 use proofs.Imports.{Packet, set, ClientBlock, View, Idle, Own, Other, ProbePhase, ProbeSent, AcquireOpen, ok, same_cap}
 use proofs.Imports.{is_unprobed, is_above, after_served, Free, Waits, Block, State, Asked, InService, view, packet}
 use proofs.Imports.{packets_on, is_probed, served_pair, served_block, with_probe, served_link, acquire_served}
 use proofs.Imports.{access_served, shows, shown, is_transfer, is_granting, is_wanting, is_sent, is_answered}
-use proofs.Imports.{is_releasing, is_acked, Move, Stays, Pushes, Pops, IsMoved, agrees, is_own_move, channel_for}
+use proofs.Imports.{Move, Stays, Pushes, Pops, IsMoved, agrees, is_own_move, channel_for}
 use Rattle.tl_coherence.specs.protocol.Protocol.{Link}
 use proofs.queues.{Phases.and_left, Phases.and_right, PhaseSteps.serve-ok, PhaseSteps.served-ok}
 use proofs.queues.{PhaseFacts.quiet_at_rest, Tokens.same_number, KindMoves.same_again, KindMoves.spares}
 use proofs.queues.{KindMoves.spared-agrees}
-use proofs.protocol.BothParts.{quiet_unanswered}
+use proofs.protocol.BothParts.{quiet_unanswered, waits_ungranted}
 use proofs.queues.Moves.{IsEvent, names-block, names-set, names-set_at, invariant-moved, invariant-moved_use}
 
 -- ---- who is probed
@@ -41,11 +41,6 @@ none_above k Perm.Trunk e = absurd cc
 out_same : (p q : ClientBlock) (v u : View) → q.recorded ≡ p.recorded → is_granting u ≡ is_granting v
     → is_out q u ≡ is_out p v
 out_same p q v u e f = rw (e, f) refl
-
-never_granting : (r s : ℕ) (own : Bool) (k : Cap) (d : ℕ) → is_granting (view (Waits r own s k) d) ≡ false
-never_granting r s own k d =
-    let go : (b : Bool) → is_granting (if b then Own else Other k) ≡ false = elim [ true ↦ refl | false ↦ refl ] in
-    go (own && (d == r))
 
 never_top : (k : Cap) (whole : Bool) (g : Grow) → same_cap k (cap_asked (AcquireOpen whole g)) ≡ true
     → same_cap k Cap.ToT ≡ false
@@ -93,7 +88,7 @@ served-block r {own} source tracker {k} {b} h free asks sourced w probed =
       memory = λ none. h.memory (λ d.
           let before : is_granting (view b.service d) ≡ false = rw (idle d) refl in
           sym (out_same (b.pair d) (served_pair r own k b.pair d) (view b.service d) (view (Waits r own source k) d)
-          (recorded_same d) (never_granting r source own k d ∙ sym before)) ∙ none d);
+          (recorded_same d) (waits_ungranted own r source k d ∙ sym before)) ∙ none d);
     }
   where
     idle : (d : ℕ) → view b.service d ≡ Idle
@@ -138,13 +133,7 @@ served_moves r own n source k pair d =
 sender_shows : (n : ℕ) (j : Kind) (p : ClientBlock) → is_transfer j ≡ true → is_wanting p.acquiring ≡ true
     → agrees (request_move (Pops Acquire n) false n (channel_for j)) j n (shows j p Idle) (shows j p Own) ≡ true
 sender_shows n Acquire p t e = rw (e, same_number n) refl
-sender_shows n Probe p t e = same_again (is_sent p.probing)
-sender_shows n ProbeAck p t e = same_again (is_answered p.probing)
-sender_shows n Release p t e = same_again (is_releasing p.letting)
-sender_shows n Grant p t e = refl
-sender_shows n ReleaseAck p t e = same_again (is_acked p.letting)
-sender_shows n GrantAck p t e = refl
-sender_shows n j p t e = absurd cc
+sender_shows n j p t e = same_again (shows j p Idle)
 
 -- what another shows, or the sender of an access
 other_shows : (n : ℕ) (j : Kind) (m : Move) (k : Cap) (p : ClientBlock) (above : Bool) → is_transfer j ≡ true
@@ -158,11 +147,8 @@ other_shows n Probe m k p true t u q e =
 other_shows n Probe m k p false t u q e = rw e (same_again (is_sent p.probing))
 other_shows n ProbeAck m k p true t u q e = rw (e, quiet_unanswered p.probing q) refl
 other_shows n ProbeAck m k p false t u q e = rw e (same_again (is_answered p.probing))
-other_shows n Release m k p above t u q e = same_again (is_releasing p.letting)
-other_shows n Grant m k p above t u q e = refl
-other_shows n ReleaseAck m k p above t u q e = same_again (is_acked p.letting)
-other_shows n GrantAck m k p above t u q e = refl
-other_shows n j m k p above t u q e = absurd cc
+other_shows n Request m k p above t u q e = absurd cc
+other_shows n j m k p above t u q e = same_again (shows j p Idle)
 
 -- both, by whether it is an Acquire, and whether this is the sender
 any_shows : (n source : ℕ) (j : Kind) (own x : Bool) (k : Cap) (p : ClientBlock) → is_transfer j ≡ true

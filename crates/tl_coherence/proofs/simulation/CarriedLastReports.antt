@@ -15,30 +15,15 @@ use proofs.queues.{Showing.showing-block, Tokens.same_number, Tokens.set-same, T
 
 -- ---- the last report, for which an access is answered
 
-ended_fits : {w : ℕ} (n source : ℕ) (m : Message w) (at : Channel) (x y : Bool) (render : Kind → ℕ → Message w)
+ended_fits : {w : ℕ} (x y : Bool) (n source : ℕ) (m : Message w) (at : Channel) (render : Kind → ℕ → Message w)
     → (y ≡ true → render Answer source ≡ m)
     → Fits (x && same_channel at Channel.C) (if y then only_on Channel.D m at else None) (ended_move x y n source at)
     render
-ended_fits n source m Channel.A true true render e = tt
-ended_fits n source m Channel.A true false render e = tt
-ended_fits n source m Channel.A false true render e = tt
-ended_fits n source m Channel.A false false render e = tt
-ended_fits n source m Channel.B true true render e = tt
-ended_fits n source m Channel.B true false render e = tt
-ended_fits n source m Channel.B false true render e = tt
-ended_fits n source m Channel.B false false render e = tt
-ended_fits n source m Channel.C true true render e = tt
-ended_fits n source m Channel.C true false render e = tt
-ended_fits n source m Channel.C false true render e = tt
-ended_fits n source m Channel.C false false render e = tt
-ended_fits n source m Channel.D true true render e = e refl
-ended_fits n source m Channel.D true false render e = tt
-ended_fits n source m Channel.D false true render e = e refl
-ended_fits n source m Channel.D false false render e = tt
-ended_fits n source m Channel.E true true render e = tt
-ended_fits n source m Channel.E true false render e = tt
-ended_fits n source m Channel.E false true render e = tt
-ended_fits n source m Channel.E false false render e = tt
+ended_fits true true n source m Channel.D render e = e refl
+ended_fits true false n source m Channel.D render e = tt
+ended_fits false true n source m Channel.D render e = e refl
+ended_fits false false n source m Channel.D render e = tt
+ended_fits x y n source m at render e = tt
 
 -- the first token of c's channel C, wherever it is looked for
 first_of_c : (c d : ℕ) (t : Packet) (rest : List Packet) (link : ℕ → Link) → (link c).c ≡ t ∷ rest → (d == c) ≡ true
@@ -75,8 +60,8 @@ report_answers-shown {w} {caching} c q n source r k f rest m mail {s} inv inv' f
     let answer_is : (d : ℕ) → (d == q) ≡ true → set_at q source m mail.answer d source ≡ m =
     λ d e. rw (e, same_number source) refl in
     let fits : (d : ℕ) (at : Channel) → Fits ((d == c) && same_channel at Channel.C) (pushes_at q (pushes_of (Some m)) d
-    at) (moves d at) (λ j l. message_of mail' s' d (packet j l)) = λ d at. rw chan (ended_fits n source m at (d ==
-    c) (d == q) (λ j l. message_of mail' s' d (packet j l)) (answer_is d)) in
+    at) (moves d at) (λ j l. message_of mail' s' d (packet j l)) = λ d at. rw chan (ended_fits (d == c)
+    (d == q) n source m at (λ j l. message_of mail' s' d (packet j l)) (answer_is d)) in
     record {
       moves = moves;
       showing = showing-block n new moves mail mail' inv inv' (λ d ch. moved d ch) (λ i. refl)

@@ -40,37 +40,29 @@ probes-aside n k [] d at s aside = refl
 probes-aside n k (c ∷ clients) d at s aside = probes-aside n k clients d at (with_message c (probe_of_block n k) s)
     aside ∙ aside_probe n k c d at s aside
 
-probes_below : {w : ℕ} (n : ℕ) (k : Cap) (first count : ℕ) (test : ℕ → Bool) (d : ℕ) (s : System w) → d < first
+-- none goes to one who isn't among those clients
+pub probes-outside : {w : ℕ} (n : ℕ) (k : Cap) (first count : ℕ) (test : ℕ → Bool) (d : ℕ) (s : System w)
+    → (d < first) ⊎ (first + count ≤ d)
     → (with_messages (probes n k (clients_from first count test)) s).channels d Channel.B ≡ s.channels d Channel.B
 unfolding with_messages clients_from
-probes_below n k first zero test d s lt = refl
-probes_below {w} n k first (suc count) test d s lt =
-    go (λ u. probes_below n k (first + 1) count test d u (omega (arith, lt))) (test first)
+probes-outside n k first zero test d s out = refl
+probes-outside {w} n k first (suc count) test d s out =
+    go (λ u. probes-outside n k (first + 1) count test d u (later out)) (test first)
   where
-    go : ((u : System w) → (with_messages (probes n k (clients_from (first + 1) count test)) u).channels d
-        Channel.B ≡ u.channels d Channel.B) → (b : Bool)
-        → (with_messages (probes n k (if b then first ∷ clients_from (first + 1) count test else clients_from
-        (first + 1) count test)) s).channels d Channel.B ≡ s.channels d Channel.B
-    go rest true =
-        let ne : d ≡ first → ⊥ = λ e. absurd (omega (arith, e, lt)) in
-        rest (with_message first (probe_of_block n k) s) ∙ other_probe n k first d Channel.B s ne
-    go rest false = rest s
+    later : (d < first) ⊎ (first + suc count ≤ d) → (d < first + 1) ⊎ (first + 1 + count ≤ d)
+    later (inl lt) = inl (omega (arith, lt))
+    later (inr le) = inr (omega (arith, le))
 
-pub probes-past : {w : ℕ} (n : ℕ) (k : Cap) (first count : ℕ) (test : ℕ → Bool) (d : ℕ) (s : System w)
-    → first + count ≤ d
-    → (with_messages (probes n k (clients_from first count test)) s).channels d Channel.B ≡ s.channels d Channel.B
-unfolding with_messages clients_from
-probes-past n k first zero test d s le = refl
-probes-past {w} n k first (suc count) test d s le =
-    go (λ u. probes-past n k (first + 1) count test d u (omega (arith, le))) (test first)
-  where
+    apart : (d < first) ⊎ (first + suc count ≤ d) → d ≡ first → ⊥
+    apart (inl lt) e = absurd (omega (arith, e, lt))
+    apart (inr le) e = absurd (omega (arith, e, le))
+
     go : ((u : System w) → (with_messages (probes n k (clients_from (first + 1) count test)) u).channels d
         Channel.B ≡ u.channels d Channel.B) → (b : Bool)
         → (with_messages (probes n k (if b then first ∷ clients_from (first + 1) count test else clients_from
         (first + 1) count test)) s).channels d Channel.B ≡ s.channels d Channel.B
     go rest true =
-        let ne : d ≡ first → ⊥ = λ e. absurd (omega (arith, e, le)) in
-        rest (with_message first (probe_of_block n k) s) ∙ other_probe n k first d Channel.B s ne
+        rest (with_message first (probe_of_block n k) s) ∙ other_probe n k first d Channel.B s (apart out)
     go rest false = rest s
 
 pub probes-among : {w : ℕ} (n : ℕ) (k : Cap) (first count : ℕ) (test : ℕ → Bool) (d : ℕ) (s : System w) → first ≤ d
@@ -93,9 +85,9 @@ probes-among {w} n k first (suc count) test d s le lt =
     at_first : (b : Bool) → (with_messages
         (probes n k (if b then d ∷ clients_from (d + 1) count test else clients_from (d + 1) count test)) s).channels d
         Channel.B ≡ behind (if b then Some (probe_of_block n k) else None) (s.channels d Channel.B)
-    at_first true = probes_below n k (d + 1) count test d (with_message d (probe_of_block n k) s) (omega arith)
+    at_first true = probes-outside n k (d + 1) count test d (with_message d (probe_of_block n k) s) (inl (omega arith))
         ∙ own_probe n k d s
-    at_first false = probes_below n k (d + 1) count test d s (omega arith)
+    at_first false = probes-outside n k (d + 1) count test d s (inl (omega arith))
 
     later : (d ≡ first → ⊥) → Rest → (b : Bool)
         → (with_messages (probes n k (if b then first ∷ clients_from (first + 1) count test else clients_from
@@ -115,7 +107,7 @@ pub channels-probes : {w : ℕ} (n : ℕ) (k : Cap) (count : ℕ) (test probed :
     (s.channels d at)
 channels-probes {w} n k count test probed s same none d Channel.B = elim (cases_lt d count) [
   | inl lt ↦ probes-among n k 0 count test d s (omega arith) (omega (arith, lt)) ∙ rw (same d lt) refl
-  | inr le ↦ probes-past n k 0 count test d s (omega (arith, le)) ∙ rw (none d le) refl
+  | inr le ↦ probes-outside n k 0 count test d s (inr (omega (arith, le))) ∙ rw (none d le) refl
 ]
 channels-probes n k count test probed s same none d at = probes-aside n k (clients_from 0 count test) d at s refl
 

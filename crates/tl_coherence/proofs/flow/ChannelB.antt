@@ -2,15 +2,13 @@
 use Rattle.std.proofs.Common.{◌≡◌, subst, ℕ, true, List, [], ◌∷◌, Option, refl, sym, ◌∙◌, ap}
 use Rattle.tl_coherence.proofs
 use proofs.Imports.{Beat, BeatA, Channel, Message, History, is_empty, completes, Config, Cap, same_block, Probe, Packet}
-use proofs.Imports.{ClientBlock, View, Other, ProbeSent, ok, same_cap}
-use proofs.Imports.{State, packet, view, probe_taken, AbstractState}
-use proofs.Imports.{MonitorRelation, cap_sent, probe_beat, block_message, SimulationRelation, asked_by, Log}
-use proofs.Imports.{System}
+use proofs.Imports.{ClientBlock, View, Other, ProbeSent, ok, same_cap, State, packet, view, probe_taken, AbstractState}
+use proofs.Imports.{MonitorRelation, cap_sent, probe_beat, block_message, SimulationRelation, asked_by, Log, System}
 use Rattle.tl_coherence.specs.protocol.Phase.{fits_service}
 use proofs.protocol.{BothParts.cap-waited, FirstTokens.first-probe}
 use proofs.queues.{Carried.IsNext, Phases.and_left}
-use proofs.flow.{FlowAlone.AreRests, FlowAside.comes-same, FlowProbe.flowed-probe}
-use proofs.client.ProbeDelivered.{probe-beat}
+use proofs.flow.{FlowAlone.AreRests, FlowProbe.flowed-probe}
+use proofs.client.{ProbeDelivered.probe-beat, ClientEnd.comes-same}
 use proofs.simulation.Popped.{unfinished_at}
 
 -- ---- who is probed

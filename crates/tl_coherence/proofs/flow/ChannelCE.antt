@@ -12,13 +12,14 @@ use proofs.Imports.{is_acknowledging, AbstractState, MonitorRelation, block_mess
 use proofs.Imports.{SimulationRelation, asked_by, Log, System}
 use proofs.queues.{Tokens.if-part, Tokens.set-same, Tokens.set-other, Carried.IsNext, Facts.answered_other}
 use proofs.queues.{Facts.granting_alone, Phases.and_left, Phases.and_right}
-use proofs.flow.{FlowAlone.AreRests, FlowAlone.flowed-grant_ack, FlowAside.comes-same, FlowComing.coming-granting}
-use proofs.flow.{FlowLawful.other_ungranted, FlowReleased.letting_after, FlowReleased.flowed-release}
-use proofs.flow.{FlowReport.flowed-report_part, FlowReported.flowed-report, FlowStep.held_by, FlowBeats.came-so}
-use proofs.flow.{FlowBeats.comes-so, FlowBeats.one-beat, FlowBeats.first_false}
+use proofs.flow.{FlowAlone.AreRests, FlowAlone.flowed-grant_ack, FlowComing.coming-granting, FlowLawful.other_ungranted}
+use proofs.flow.{FlowReleased.letting_after, FlowReleased.flowed-release, FlowReport.flowed-report_part}
+use proofs.flow.{FlowReported.flowed-report, FlowStep.held_by, FlowBeats.came-so, FlowBeats.comes-so}
+use proofs.flow.{FlowBeats.one-beat, FlowBeats.first_false}
 use proofs.simulation.Popped.{unfinished_at}
 use proofs.manager.Reporting.{IsAbout, report-about, release-about, reported-prune}
 use proofs.protocol.FirstTokens.{first-release, first-report, first-shown}
+use proofs.client.ClientEnd.{comes-same}
 
 -- ---- what the messages say
 

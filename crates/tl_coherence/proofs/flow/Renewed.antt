@@ -12,10 +12,9 @@ use proofs.Imports.{taken_by_client, some_below, probes_some, performs, answers,
 use proofs.Imports.{SimulationRelation, is_caching, IsFor, Log, perm_le, System}
 use proofs.client.AnswersKept.{set_at-apart}
 use proofs.manager.Choices.{plain-past}
-use proofs.queues.{Codes.low_cap, Tokens.set-same}
-use proofs.queues.{Tokens.set_at-same}
-use proofs.protocol.{Granted.recorded_within, Events.IsReady, Events.ready-access}
-use proofs.protocol.{Events.true-taken, RequestsKept.unprobed, RequestsKept.settled_all, FirstTokens.first-report}
+use proofs.queues.{Codes.low_cap, Tokens.set-same, Tokens.set_at-same}
+use proofs.protocol.{Granted.recorded_within, Events.IsReady, Events.ready-access, Events.true-taken}
+use proofs.protocol.{RequestsKept.unprobed, RequestsKept.settled_all, FirstTokens.first-report}
 use proofs.flow.Excluded.{above_le, leaves_within, leaves_all}
 use proofs.memory.BesideTaken.{intent-reply, memory-reported, memory-unprobed}
 

@@ -5,8 +5,7 @@ use Rattle.tl_coherence.proofs
 use proofs.Imports.{cases_eq, and_parts, BeatC, D, MessageA, MessageD, a_beat_of, Key, Cap, Report, cap_right}
 use proofs.Imports.{report_right, Trace, on_link, block_at, capped, is_probe_ack, request_of, after_sent, reply-quiet}
 use proofs.Imports.{request-reply, recorded, service_of_block, Packet, set, ClientBlock, is_unprobed, after_report}
-use proofs.Imports.{after_grant_sent, Waits, Block, State, report_grants, granted_block, reported_block}
-use proofs.Imports.{IsFor}
+use proofs.Imports.{after_grant_sent, Waits, Block, State, report_grants, granted_block, reported_block, IsFor}
 use Rattle.tl_manager.proofs.pending.Granted.{IsGrant, services-grant}
 use proofs.manager.{BlockAccounts.IsTraced, QuiescentManager.quiet-c, QuiescentManager.IsLastOf, ManagedEndings.taken}
 use proofs.manager.{ManagedEndings.service_for, ManagedReports.reported-records, ManagedReports.reported-missing}

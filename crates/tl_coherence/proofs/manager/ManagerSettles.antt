@@ -1,13 +1,13 @@
 -- All that is kept of the manager's end, after the last ProbeAck that a request waited for.
 use Rattle.std.proofs.Common.{◌≡◌, ℕ, Bool, true, false, not, List, [], ◌∷◌, length, refl, sym, ◌∙◌, ap, ap₂, subst}
 use Rattle.tl_coherence.proofs
-use proofs.Imports.{Beat, BeatC, Message, MessageA, MessageC, MessageD, c_beat_of, Config, Cap, Grow, Report}
-use proofs.Imports.{Perm, cap_code, grow_code, Trace, same_perm, effect, Memory, block_at, is_release_ack, is_grant}
-use proofs.Imports.{capped, cap-gives, performed-access, performed-acquire, memory_with, grants_by_opcode, End}
-use proofs.Imports.{Reaction, access_answer, with_handed, cap_granted, grant, recorded, level_of, reaction}
-use proofs.Imports.{is_access_answer, set, Packet, ClientBlock, is_granted_data, after_report, GrantSent, Block, State}
-use proofs.Imports.{Acquires, report_grants, granted_block, reported_block, report_answers, ended_block, AbstractState}
-use proofs.Imports.{answers, performs, acquire_opcode, gift, is_unheld, with_state, grant_of, IsServedWith}
+use proofs.Imports.{Beat, BeatC, Message, MessageA, MessageC, MessageD, c_beat_of, Config, Cap, Grow, Report, Perm}
+use proofs.Imports.{cap_code, grow_code, Trace, same_perm, effect, Memory, block_at, is_release_ack, is_grant, capped}
+use proofs.Imports.{cap-gives, performed-access, performed-acquire, memory_with, grants_by_opcode, End, Reaction}
+use proofs.Imports.{access_answer, with_handed, cap_granted, grant, recorded, level_of, reaction, is_access_answer, set}
+use proofs.Imports.{Packet, ClientBlock, is_granted_data, after_report, GrantSent, Block, State, Acquires}
+use proofs.Imports.{report_grants, granted_block, reported_block, report_answers, ended_block, AbstractState, answers}
+use proofs.Imports.{performs, acquire_opcode, gift, is_unheld, with_state, grant_of, IsServedWith}
 use Rattle.tl_rules.specs.declared.answer.Answer.{Answer}
 use Rattle.tl_manager.specs.statement.Holders.{has_copy}
 use Rattle.tl_coherence.specs.refinement.AbstractStep.{with_answer}

@@ -7,11 +7,11 @@ use proofs.Imports.{channel_of, Config, Key, Level, Cap, Prune, Report, Perm, Pr
 use proofs.Imports.{report_code, prune_of, report_at, later-legal, on_link, broken_in_order, broken_order, same_perm}
 use proofs.Imports.{prunes_from, held, pending, judged-passes, whole-e, IsKept, IsSound, illegal_at, one_if, End}
 use proofs.Imports.{Passes, level_of, must_wait, is_from_client, open_level, reaction, IsInvariant, AreNamed, Kind}
-use proofs.Imports.{ProbeAck, Release, GrantAck, Packet, is, count, View, Own, Other, Acknowledging}
-use proofs.Imports.{GrantedOther, is_unprobed, ProbeAnswered, ReleaseSent, is_unreleased, same_report, Service}
-use proofs.Imports.{GrantTaken, Block, State, view, is_on, packet, is_granting, is_acknowledging}
-use proofs.Imports.{is_answered, ManagerRelation, is_own, AccessMessages, block_message, message_of, message_of_kind}
-use proofs.Imports.{ServedSourceRelation, cap_waited, is_granted, System}
+use proofs.Imports.{ProbeAck, Release, GrantAck, Packet, is, count, View, Own, Other, Acknowledging, GrantedOther}
+use proofs.Imports.{is_unprobed, ProbeAnswered, ReleaseSent, is_unreleased, same_report, Service, GrantTaken, Block}
+use proofs.Imports.{State, view, is_on, packet, is_granting, is_acknowledging, is_answered, ManagerRelation, is_own}
+use proofs.Imports.{AccessMessages, block_message, message_of, message_of_kind, ServedSourceRelation, cap_waited}
+use proofs.Imports.{is_granted, System}
 use Rattle.tl_params.specs.declared.rule.Rule.TheVariants.{H8}
 use Rattle.tl_manager.{proofs.judging.Judged.manager-takes, specs.statement.Offer.judged, specs.statement.Offer.offered}
 use Rattle.tl_manager.{specs.statement.Offer.taken, specs.statement.Offer.unlawful}

@@ -1,19 +1,18 @@
 -- A ReleaseAck and a GrantAck that are taken keep the invariant.
-use Rattle.std.proofs.Common.{◌≡◌, refl, sym, ◌∙◌, ap, inl, inr, ℕ, Bool, true, false, not, List, ◌∷◌, None}
-use Rattle.std.proofs.Common.{ne_eqb, ◌==◌}
+use Rattle.std.proofs.Common.{◌≡◌, refl, sym, ◌∙◌, ap, inl, inr, ℕ, Bool, true, false, not, List, ◌∷◌, None, ne_eqb}
+use Rattle.std.proofs.Common.{◌==◌}
 use Rattle.tl_coherence.proofs
 use proofs.Imports.{and-false, cases_eq, Channel, is_out, is_of, acquires_of, serves_of, acquires_with, serves_with}
-use proofs.Imports.{releases_with, tracks_with, IsWell, IsInvariant, Kind, Request, ProbeAck, Release}
-use proofs.Imports.{ReleaseAck, GrantAck, Packet, set, set_at, ClientBlock, View, Idle, Acknowledging}
-use proofs.Imports.{GrantedOther, ReleaseAcked, is_unreleased, ok, after_release_ack, GrantTaken, Block}
-use proofs.Imports.{State, view, packet, let_go_block, release_ack_taken, freed_block, grant_ack_taken, shows}
-use proofs.Imports.{is_transfer, is_acked}
-use proofs.Imports.{Move, Stays, Pushes, Pops, AreMoved, agrees, is_own_move, channel_for}
+use proofs.Imports.{releases_with, tracks_with, IsWell, IsInvariant, Kind, ProbeAck, Release, ReleaseAck}
+use proofs.Imports.{GrantAck, Packet, set, set_at, ClientBlock, View, Idle, Acknowledging, ReleaseAcked}
+use proofs.Imports.{is_unreleased, ok, after_release_ack, GrantTaken, Block, State, view, packet, let_go_block}
+use proofs.Imports.{release_ack_taken, freed_block, grant_ack_taken, shows, is_transfer, is_acked, Move, Stays, Pushes}
+use proofs.Imports.{Pops, AreMoved, agrees, is_own_move, channel_for}
 use Rattle.tl_coherence.specs.protocol.Protocol.{Link}
 use proofs.queues.Moves.{event-at, bare-at, names-block, names-set, names-set_at, invariant-moved}
 use proofs.queues.{KindMoves.same_again, Tokens.same_number, Tokens.set-same, Tokens.set-each, Tokens.set-other}
 use proofs.queues.{Tokens.set-part, PhaseSteps.release_ack-ok, PhaseSteps.ack_taken-ok, PhaseSteps.ack_taken_other-ok}
-use proofs.protocol.BothParts.{is_of-is}
+use proofs.protocol.BothParts.{is_of-is, shows-beside}
 use proofs.protocol.Blocks.{gentle-same, awaited-set, asked_cap-set, alone-set, owned-set, outside-set, busy-inside}
 
 -- ---- a ReleaseAck
@@ -114,10 +113,6 @@ freed_shows : (n : ℕ) (k : Kind) (p : ClientBlock) → is_transfer k ≡ true
 freed_shows n GrantAck p t = rw (same_number n) refl
 freed_shows n k p t = same_again (shows k p Idle)
 
-freed_beside : (k : Kind) (p : ClientBlock) → shows k p Idle ≡ shows k p GrantedOther
-freed_beside Request p = refl
-freed_beside k p = refl
-
 pub grant_ack_taken-kept : {X : Type 0} {caching : ℕ → Bool} (c n : ℕ) (rest : List Packet) {s : State X}
     → IsInvariant caching s → (s.link c).e ≡ packet GrantAck n ∷ rest → (s.block n).service ≡ GrantTaken c
     → IsInvariant caching (grant_ack_taken c n rest s)
@@ -134,7 +129,7 @@ grant_ack_taken-kept {X} {caching} c n rest {s} inv first taken =
       moved = moved;
       own = own;
       fits = λ k t. rw (taken, same_number c) (freed_shows n k ((s.block n).pair c) t);
-      others = λ d ne k t. rw (taken, ne_eqb d c ne) (freed_beside k ((s.block n).pair d));
+      others = λ d ne k t. rw (taken, ne_eqb d c ne) (sym (shows-beside k ((s.block n).pair d)));
       in_order = λ m e. absurd (let f : Stays ≡ Pushes ProbeAck m = e in cc);
     }))
     (bare-at c (freed_moves n) refl refl)

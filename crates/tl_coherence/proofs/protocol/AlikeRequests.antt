@@ -3,11 +3,10 @@ use Rattle.std.proofs.Common.{◌≡◌, ℕ, Bool, true, false, not, ◌&&◌, 
 use Rattle.std.proofs.Common.{if◌then◌else◌}
 use Rattle.tl_coherence.proofs
 use proofs.Imports.{cases_eq, Cap, Grow, Prune, IsWell, Kind, Acquire, Probe, ProbeAck, Release, Grant, ReleaseAck}
-use proofs.Imports.{GrantAck, set, ClientBlock, View, Granting, ProbePhase}
-use proofs.Imports.{NoProbe, ReleasePhase, NoRelease, AcquirePhase, NoAcquire, is_unacquired, is_unprobed}
-use proofs.Imports.{after_grant_sent, after_acquire, after_release, after_served, Service, Free}
-use proofs.Imports.{Block, view, acquiring_block, releasing_block, granted_at_once, served_block}
-use proofs.Imports.{served_pair, is_wanting, is_sent, is_answered, is_releasing, is_acked, is_granting}
+use proofs.Imports.{GrantAck, set, ClientBlock, View, Granting, ProbePhase, NoProbe, ReleasePhase, NoRelease}
+use proofs.Imports.{AcquirePhase, NoAcquire, is_unacquired, is_unprobed, after_grant_sent, after_acquire, after_release}
+use proofs.Imports.{after_served, Service, Free, Block, view, acquiring_block, releasing_block, granted_at_once}
+use proofs.Imports.{served_block, served_pair, is_wanting, is_sent, is_answered, is_releasing, is_acked, is_granting}
 use proofs.Imports.{is_acknowledging, shown, is_unserved}
 use proofs.queues.{Facts.granting_asks, PhaseFacts.quiet_at_rest, Showing.IsAlike, Showing.AreAlike, Showing.carries}
 use proofs.queues.{Tokens.set-same, Tokens.set-other, Tokens.set-each, Phases.and_left}

@@ -3,11 +3,10 @@ use Rattle.std.proofs.Common.{◌≡◌, refl, sym, ◌∙◌, ap, inl, inr, ℕ
 use Rattle.tl_coherence.proofs
 use proofs.Imports.{cases_eq, Channel, Grow, Prune, Perm, prune_left, same_perm, is_out, is_of, acquires_of, serves_of}
 use proofs.Imports.{acquires_with, serves_with, releases_with, tracks_with, IsWell, IsInvariant, Kind, Request, Acquire}
-use proofs.Imports.{ProbeAck, Release, Answer, ReleaseAck, set_at, ClientBlock, View, Own}
-use proofs.Imports.{NoRelease, NoAcquire, AcquireOpen, is_unacquired, grow_fits, ok, after_acquire}
-use proofs.Imports.{after_release, Block, State, SourceFree, Acquires, view, packet, with_a, with_c, acquiring_block}
-use proofs.Imports.{releasing_block, stored_block, access_asked, acquire_asked, release_asked, block_stored, shows}
-use proofs.Imports.{shown, is_transfer, is_unserved}
+use proofs.Imports.{ProbeAck, Release, Answer, ReleaseAck, set_at, ClientBlock, View, Own, NoRelease, NoAcquire}
+use proofs.Imports.{AcquireOpen, is_unacquired, grow_fits, ok, after_acquire, after_release, Block, State, SourceFree}
+use proofs.Imports.{Acquires, view, packet, with_a, with_c, acquiring_block, releasing_block, stored_block}
+use proofs.Imports.{access_asked, acquire_asked, release_asked, block_stored, shows, shown, is_transfer, is_unserved}
 use proofs.Imports.{is_granting, Move, Stays, Pushes, AreMoved, agrees, is_own_move, channel_for}
 use Rattle.tl_coherence.specs.protocol.Protocol.{Link}
 use proofs.queues.{Phases.and_left, PhaseSteps.acquire-ok, PhaseSteps.release-ok, KindMoves.spares}

@@ -2,12 +2,13 @@
 use Rattle.std.proofs.Common.{◌≡◌, ℕ, Bool, true, false, not, Option, Some, None, refl, ◌&&◌, eqb-true, ◌==◌}
 use Rattle.std.proofs.Common.{if◌then◌else◌, ap, sym, ◌∙◌}
 use Rattle.tl_coherence.proofs
-use proofs.Imports.{Cap, Grow, is_asked, is_replied, is_of, acquires_of, serves_of, Own, Other, Granting}
+use proofs.Imports.{Cap, Grow, is_asked, is_replied, is_of, acquires_of, serves_of, Kind, Request, Own, Other, Granting}
 use proofs.Imports.{Acknowledging, GrantedOther, is_unacquired, ProbePhase, NoProbe, ProbeSent, ProbeAnswered}
 use proofs.Imports.{ReleasePhase, NoRelease, ReleaseSent, ReleaseAcked, AcquirePhase, NoAcquire, AcquireOpen}
-use proofs.Imports.{is_unprobed, is_unreleased, Idle, Service, Free, Waits, GrantSent, GrantTaken, SourceState, Asked}
-use proofs.Imports.{InService, Replied, Acquires, view, is_wanting, is_sent, is_answered, is_releasing, is_acked}
-use proofs.Imports.{is_granting, is_acknowledging, cap_sent, report_told, prune_told, cap_waited}
+use proofs.Imports.{is_unprobed, is_unreleased, Idle, ClientBlock, Service, Free, Waits, GrantSent, GrantTaken}
+use proofs.Imports.{SourceState, Asked, InService, Replied, Acquires, view, is_wanting, is_sent, is_answered}
+use proofs.Imports.{is_releasing, is_acked, is_granting, is_acknowledging, shows, cap_sent, report_told, prune_told}
+use proofs.Imports.{cap_waited}
 use proofs.queues.{Tokens.if-part, Facts.is_other}
 
 -- ---- numbers and uses
@@ -114,6 +115,11 @@ sent_unacknowledged q d k i = if-part is_acknowledging (i == q) refl refl
 
 pub taken_ungranted : (q i : ℕ) → is_granting (view (GrantTaken q) i) ≡ false
 taken_ungranted q i = if-part is_granting (i == q) refl refl
+
+-- a client shows beside another's Grant what it shows of a free block
+pub shows-beside : (k : Kind) (p : ClientBlock) → shows k p GrantedOther ≡ shows k p Idle
+shows-beside Request p = refl
+shows-beside k p = refl
 
 -- who sees another's service sees the cap that it probes with
 pub cap-waited : (k : Cap) (s : Service) (c : ℕ) → view s c ≡ Other k → cap_waited s ≡ k

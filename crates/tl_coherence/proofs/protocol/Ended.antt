@@ -1,22 +1,21 @@
 -- The last ProbeAck that is taken, with which the access that waited is answered, keeps the invariant.
-use Rattle.std.proofs.Common.{◌≡◌, refl, sym, subst, ◌∙◌, ap, ◌⊎◌, inl, inr, ℕ, Bool, true, false, List, ◌∷◌}
-use Rattle.std.proofs.Common.{Some, None, ne_eqb, eqb-true, ◌==◌, if◌then◌else◌}
+use Rattle.std.proofs.Common.{◌≡◌, refl, sym, subst, ◌∙◌, ap, ◌⊎◌, inl, inr, ℕ, Bool, true, false, List, ◌∷◌, Some}
+use Rattle.std.proofs.Common.{None, ne_eqb, eqb-true, ◌==◌, if◌then◌else◌}
 use Rattle.tl_coherence.proofs
-use proofs.Imports.{cases_eq, Channel, Cap, Report, Perm, report_left, same_perm, is_out, is_of}
-use proofs.Imports.{acquires_of, serves_of, acquires_with, serves_with, releases_with, tracks_with, IsWell, IsInvariant}
-use proofs.Imports.{Kind, Request, Probe, ProbeAck, Answer, Packet, set}
-use proofs.Imports.{ClientBlock, Idle, Other, ProbeAnswered, ok, same_cap, is_unprobed, after_report, Waits, Block}
-use proofs.Imports.{State, InService, Replied, view, packet, packets_on, written, with_d, popped_link, ended_block}
-use proofs.Imports.{ended_link, report_answers, shows, shown, is_transfer, is_answered}
-use proofs.Imports.{Move, Stays, Pushes, Pops, IsMoved, agrees, is_own_move, channel_for}
+use proofs.Imports.{cases_eq, Channel, Cap, Report, Perm, report_left, same_perm, is_out, is_of, acquires_of, serves_of}
+use proofs.Imports.{acquires_with, serves_with, releases_with, tracks_with, IsWell, IsInvariant, Kind, Request, Probe}
+use proofs.Imports.{ProbeAck, Answer, Packet, set, ClientBlock, Idle, Other, ProbeAnswered, ok, same_cap, is_unprobed}
+use proofs.Imports.{after_report, Waits, Block, State, InService, Replied, view, packet, packets_on, written, with_d}
+use proofs.Imports.{popped_link, ended_block, ended_link, report_answers, shows, shown, is_transfer, is_answered, Move}
+use proofs.Imports.{Stays, Pushes, Pops, IsMoved, agrees, is_own_move, channel_for}
 use Rattle.tl_coherence.specs.protocol.Protocol.{Link}
 use proofs.queues.{Moves.names-block, Moves.names-set, Moves.names-set_at, Moves.invariant-moved_use}
 use proofs.queues.{KindMoves.same_again, PhaseSteps.report-ok, PhaseSteps.ended-ok, Perms.nothing_below, Perms.not_out}
-use proofs.queues.{Tokens.same_number, Tokens.set-same, Tokens.set-other, Tokens.set-part}
+use proofs.queues.{Tokens.same_number, Tokens.set-same, Tokens.set-other, Tokens.set-part, Facts.held_at_most}
+use proofs.queues.{Facts.spared_within, Facts.cap_is_low, Facts.report_begins}
 use proofs.protocol.{Reported.gentle-report, Granted.low_within, Granted.both_trunk, Granted.low_none}
 use proofs.protocol.{Granted.recorded_within, Blocks.alone-set, Blocks.owned-set, Blocks.outside-set}
 use proofs.protocol.{Blocks.busy-inside, BothParts.is_of-is, BothParts.serves_of-is, BothParts.quiet-is}
-use proofs.queues.Facts.{held_at_most, spared_within, cap_is_low, report_begins}
 
 -- ---- the block
 
@@ -114,30 +113,15 @@ ended_own Channel.D x true n source = refl
 ended_own Channel.D x false n source = refl
 ended_own ch x y n source = refl
 
-pub ended_moved : (ch : Channel) (x y : Bool) (n source : ℕ) (l : Link) (rest : List Packet)
+pub ended_moved : (x y : Bool) (ch : Channel) (n source : ℕ) (l : Link) (rest : List Packet)
     → (x ≡ true → l.c ≡ packet ProbeAck n ∷ rest) → IsMoved (ended_move x y n source ch) (packets_on ch l)
     (packets_on ch (if y then with_d (packet Answer source) (if x then record l { c = rest } else l) else
     (if x then record l { c = rest } else l)))
-ended_moved Channel.A true true n source l rest e = refl
-ended_moved Channel.A true false n source l rest e = refl
-ended_moved Channel.A false true n source l rest e = refl
-ended_moved Channel.A false false n source l rest e = refl
-ended_moved Channel.B true true n source l rest e = refl
-ended_moved Channel.B true false n source l rest e = refl
-ended_moved Channel.B false true n source l rest e = refl
-ended_moved Channel.B false false n source l rest e = refl
-ended_moved Channel.C true true n source l rest e = e refl
-ended_moved Channel.C true false n source l rest e = e refl
-ended_moved Channel.C false true n source l rest e = refl
-ended_moved Channel.C false false n source l rest e = refl
-ended_moved Channel.D true true n source l rest e = refl
-ended_moved Channel.D true false n source l rest e = refl
-ended_moved Channel.D false true n source l rest e = refl
-ended_moved Channel.D false false n source l rest e = refl
-ended_moved Channel.E true true n source l rest e = refl
-ended_moved Channel.E true false n source l rest e = refl
-ended_moved Channel.E false true n source l rest e = refl
-ended_moved Channel.E false false n source l rest e = refl
+ended_moved true true Channel.C n source l rest e = e refl
+ended_moved true false Channel.C n source l rest e = e refl
+ended_moved false true Channel.C n source l rest e = refl
+ended_moved false false Channel.C n source l rest e = refl
+ended_moved x y ch n source l rest e = refl
 
 -- ---- the whole
 
@@ -168,7 +152,7 @@ report_answers-kept {X} {c} {q} n {r} {f} {source} {k} rest {s} inv first last =
     invariant-moved_use q source Replied
     (set tracker None s.tracked) inv (record {
       well = ended-block (inv.blocks n) last;
-      moved = λ d ch. by_link d ch (ended_moved ch (d == c) (d == q) n source (s.link d) rest (first_at d));
+      moved = λ d ch. by_link d ch (ended_moved (d == c) (d == q) ch n source (s.link d) rest (first_at d));
       own = λ d ch. ended_own ch (d == c) (d == q) n source;
       fits = λ d j t. by_pair d j (ended_move (d == c) (d == q) n source (channel_for j))
           (ended_shows (d == c) (d == q) n source j r k (old d) t (answered_at d));

@@ -1,11 +1,11 @@
 -- The last ProbeAck that is taken, with which the Acquire that waited is granted, keeps what holds of a block.
 use Rattle.std.proofs.Common.{◌≡◌, refl, sym, ◌∙◌, ap, ◌⊎◌, inl, inr, ℕ, Bool, true, false, ne_eqb}
 use Rattle.tl_coherence.proofs
-use proofs.Imports.{cases_eq, not-true, Cap, Grow, Report, Perm, cap_right, report_left, same_perm}
-use proofs.Imports.{cap_asked, IsAskedCap, resting, is_out, IsWell, set, ClientBlock, Own, Other, Granting}
-use proofs.Imports.{GrantedOther, NoProbe, ProbeAnswered, NoAcquire, AcquireOpen, ok, same_cap, is_unprobed, cap_fits}
-use proofs.Imports.{is_granted_data, after_grant_sent, after_report, Waits, GrantSent, Block, view, granted_block}
-use proofs.Imports.{written, granted_pair, perm_le}
+use proofs.Imports.{cases_eq, not-true, Cap, Grow, Report, Perm, cap_right, report_left, same_perm, cap_asked}
+use proofs.Imports.{IsAskedCap, resting, is_out, IsWell, set, ClientBlock, Own, Other, Granting, GrantedOther, NoProbe}
+use proofs.Imports.{ProbeAnswered, NoAcquire, AcquireOpen, ok, same_cap, is_unprobed, cap_fits, is_granted_data}
+use proofs.Imports.{after_grant_sent, after_report, Waits, GrantSent, Block, view, granted_block, written, granted_pair}
+use proofs.Imports.{perm_le}
 use proofs.queues.{Tokens.same_number, Tokens.set-same, Tokens.set-other, Tokens.set-part, PhaseSteps.grant_last-ok}
 use proofs.queues.{PhaseSteps.report-ok, PhaseSteps.ended-ok, Perms.not_out}
 use proofs.queues.Facts.{spared_within, reported_within, cap_is_low, own_low, own_quiet, report_begins}

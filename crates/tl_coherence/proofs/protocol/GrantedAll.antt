@@ -2,12 +2,11 @@
 use Rattle.std.proofs.Common.{◌≡◌, ℕ, Bool, true, false, ◌&&◌, List, [], ◌∷◌, ◌++◌, refl, sym, ◌∙◌, ap, ap₂, ◌⊎◌, inl}
 use Rattle.std.proofs.Common.{inr, ne_eqb, ◌==◌, if◌then◌else◌}
 use Rattle.tl_coherence.proofs
-use proofs.Imports.{cases_eq, beq, Channel, Cap, Grow, Report, IsInvariant, Kind, Acquire, Probe, ProbeAck}
-use proofs.Imports.{Answer, Grant, GrantAck, Packet, set, ClientBlock, Own, Other, Granting, GrantedOther}
-use proofs.Imports.{ProbeAnswered, is_unprobed, is_granted_data, after_grant_sent, after_report, Block, State, view}
-use proofs.Imports.{packet, packets_on, granted_block, granted_link, report_grants, is_transfer, is_wanting}
-use proofs.Imports.{shows, shown, Move, Stays, Pushes, Pops, IsMoved, agrees}
-use proofs.Imports.{is_own_move, channel_for}
+use proofs.Imports.{cases_eq, beq, Channel, Cap, Grow, Report, IsInvariant, Kind, Acquire, Probe, ProbeAck, Answer}
+use proofs.Imports.{Grant, GrantAck, Packet, set, ClientBlock, Own, Other, Granting, GrantedOther, ProbeAnswered}
+use proofs.Imports.{is_unprobed, is_granted_data, after_grant_sent, after_report, Block, State, view, packet}
+use proofs.Imports.{packets_on, granted_block, granted_link, report_grants, is_transfer, is_wanting, shows, shown, Move}
+use proofs.Imports.{Stays, Pushes, Pops, IsMoved, agrees, is_own_move, channel_for}
 use Rattle.tl_coherence.specs.protocol.Protocol.{Link}
 use proofs.queues.{Facts.own_quiet, KindMoves.spares, KindMoves.same_again, Moves.names-kept, Moves.invariant-moved}
 use proofs.queues.{Moves.moved_as, Tokens.same_number, Tokens.set-same, Tokens.set-other, Tokens.set-part}

@@ -1,13 +1,12 @@
 -- What is due to a client: the message of the first token of channel D, and what it answers.
-use Rattle.std.proofs.Common.{◌≡◌, ℕ, Bool, true, false, not, List, ◌∷◌, Some, refl, ◌∙◌, ap, lit≤, eqb-true}
-use Rattle.std.proofs.Common.{◌==◌, if◌then◌else◌, sym}
+use Rattle.std.proofs.Common.{◌≡◌, ℕ, Bool, true, false, not, List, ◌∷◌, Some, refl, ◌∙◌, ap, lit≤, eqb-true, ◌==◌}
+use Rattle.std.proofs.Common.{if◌then◌else◌, sym}
 use Rattle.tl_coherence.proofs
 use proofs.Imports.{and_from, OpD, Message, MessageA, MessageD, Cap, Grow, cap_code, grant_opcode, no_payload}
-use proofs.Imports.{is_access_answer, IsInvariant, Answer, Grant, ReleaseAck, Packet, Granting}
-use proofs.Imports.{GrantedOther, ReleasePhase, ReleaseAcked, AcquirePhase, NoAcquire, AcquireOpen}
-use proofs.Imports.{is_unacquired, is_unreleased, grant_fits, Service, Free, Waits, GrantSent, GrantTaken, State}
-use proofs.Imports.{Replied, Acquires, view, packet, is_wanting, is_granting, is_acked, AccessMessages, block_message}
-use proofs.Imports.{IsAnswered}
+use proofs.Imports.{is_access_answer, IsInvariant, Answer, Grant, ReleaseAck, Packet, Granting, GrantedOther}
+use proofs.Imports.{ReleasePhase, ReleaseAcked, AcquirePhase, NoAcquire, AcquireOpen, is_unacquired, is_unreleased}
+use proofs.Imports.{grant_fits, Service, Free, Waits, GrantSent, GrantTaken, State, Replied, Acquires, view, packet}
+use proofs.Imports.{is_wanting, is_granting, is_acked, AccessMessages, block_message, IsAnswered}
 use Rattle.tl_rules.specs.statement.Conformance.{answers}
 use proofs.protocol.{BothParts.waits_ungranted, BothParts.taken_ungranted, BothParts.is_of-is, BothParts.acquires_of-is}
 use proofs.protocol.{FirstTokens.first-answer, FirstTokens.first-shown}

@@ -2,11 +2,10 @@
 use Rattle.std.proofs.Common.{◌≡◌, refl, sym, ◌∙◌, ap, inl, inr, ℕ, Bool, true, false, List, ◌∷◌}
 use Rattle.tl_coherence.proofs
 use proofs.Imports.{cases_eq, Channel, Cap, Perm, report_right, report_at, same_perm, resting, IsWell, IsInvariant}
-use proofs.Imports.{Kind, Probe, ProbeAck, Release, Packet, set, count}
-use proofs.Imports.{ClientBlock, View, NoProbe, ProbeSent, NoRelease, is_unprobed, ok, after_probe, Block, State, view}
-use proofs.Imports.{packet, probed_block, probed_link, probe_taken, is_transfer}
-use proofs.Imports.{shows, Move, Stays, Pushes, Pops, AreMoved, agrees}
-use proofs.Imports.{is_own_move, channel_for}
+use proofs.Imports.{Kind, Probe, ProbeAck, Release, Packet, set, count, ClientBlock, View, NoProbe, ProbeSent}
+use proofs.Imports.{NoRelease, is_unprobed, ok, after_probe, Block, State, view, packet, probed_block, probed_link}
+use proofs.Imports.{probe_taken, is_transfer, shows, Move, Stays, Pushes, Pops, AreMoved, agrees, is_own_move}
+use proofs.Imports.{channel_for}
 use Rattle.tl_coherence.specs.protocol.Protocol.{Link}
 use proofs.queues.{Moves.event-at, Moves.bare-at, Moves.names-kept, Moves.invariant-moved, KindMoves.same_again}
 use proofs.queues.{PhaseSteps.probe-ok, Tokens.same_number, Tokens.set-same, Tokens.set-each, Tokens.set-other}

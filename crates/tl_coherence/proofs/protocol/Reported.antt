@@ -2,11 +2,10 @@
 use Rattle.std.proofs.Common.{◌≡◌, arith, refl, ap, inl, inr, ℕ, Bool, true, false, List, ◌∷◌, if◌then◌else◌}
 use Rattle.tl_coherence.proofs
 use proofs.Imports.{cases_eq, Channel, Prune, Report, Perm, prune_left, report_left, report_right, prune_right}
-use proofs.Imports.{same_perm, one_if, is_out, IsWell, IsInvariant, Kind, Probe, ProbeAck, Release}
-use proofs.Imports.{ReleaseAck, Packet, set, count, ClientBlock, View, ProbeAnswered, ReleaseSent}
-use proofs.Imports.{is_unreleased, is_unprobed, ok, after_report, after_release_taken, Service, Block, State, view}
-use proofs.Imports.{packet, reported_block, report_taken, let_block, let_link, release_taken, shows, is_transfer}
-use proofs.Imports.{is_answered, is_releasing}
+use proofs.Imports.{same_perm, one_if, is_out, IsWell, IsInvariant, Kind, Probe, ProbeAck, Release, ReleaseAck, Packet}
+use proofs.Imports.{set, count, ClientBlock, View, ProbeAnswered, ReleaseSent, is_unreleased, is_unprobed, ok}
+use proofs.Imports.{after_report, after_release_taken, Service, Block, State, view, packet, reported_block}
+use proofs.Imports.{report_taken, let_block, let_link, release_taken, shows, is_transfer, is_answered, is_releasing}
 use proofs.Imports.{Move, Stays, Pushes, Pops, AreMoved, agrees, is_own_move, channel_for}
 use Rattle.tl_coherence.specs.protocol.Protocol.{Link, written_from}
 use proofs.queues.{Moves.event-at, Moves.bare-at, Moves.names-kept, Moves.invariant-moved, KindMoves.same_again}
@@ -24,22 +23,16 @@ report_trunk : (r : Report) (p : Perm) → same_perm (report_left r) p ≡ true
 report_trunk Report.TtoT Perm.Trunk e f = refl
 report_trunk r p e f = absurd cc
 
-report_none : (r : Report) (p : Perm) → same_perm (report_left r) p ≡ true → same_perm p Perm.None ≡ true
+report_none : (p : Perm) (r : Report) → same_perm (report_left r) p ≡ true → same_perm p Perm.None ≡ true
     → same_perm (report_right r) Perm.None ≡ true
-report_none Report.TtoB Perm.None e f = absurd cc
-report_none Report.TtoN Perm.None e f = absurd cc
-report_none Report.BtoN Perm.None e f = absurd cc
-report_none Report.TtoT Perm.None e f = absurd cc
-report_none Report.BtoB Perm.None e f = absurd cc
-report_none Report.NtoN Perm.None e f = refl
-report_none r Perm.Branch e f = absurd cc
-report_none r Perm.Trunk e f = absurd cc
+report_none Perm.None Report.NtoN e f = refl
+report_none p r e f = absurd cc
 
 pub gentle-report : (r : Report) (p : ClientBlock) → same_perm (report_left r) p.recorded ≡ true
     → IsGentle p (after_report r p)
 gentle-report r p e = record {
   trunk = λ f. report_trunk r p.recorded e f;
-  none = λ f. report_none r p.recorded e f;
+  none = λ f. report_none p.recorded r e f;
   quiet = λ f. refl;
 }
 
@@ -48,19 +41,16 @@ prune_trunk : (r : Prune) (p : Perm) → same_perm (prune_left r) p ≡ true →
 prune_trunk Prune.TtoB p e f = absurd cc
 prune_trunk r p e f = absurd cc
 
-prune_none : (r : Prune) (p : Perm) → same_perm (prune_left r) p ≡ true → same_perm p Perm.None ≡ true
+prune_none : (p : Perm) (r : Prune) → same_perm (prune_left r) p ≡ true → same_perm p Perm.None ≡ true
     → same_perm (prune_right r) Perm.None ≡ true
-prune_none Prune.TtoB Perm.None e f = absurd cc
-prune_none Prune.TtoN Perm.None e f = absurd cc
-prune_none Prune.BtoN Perm.None e f = absurd cc
-prune_none r Perm.Branch e f = absurd cc
-prune_none r Perm.Trunk e f = absurd cc
+prune_none Perm.None Prune.TtoB e f = absurd cc
+prune_none p r e f = absurd cc
 
 gentle-prune : (r : Prune) (p : ClientBlock) → same_perm (prune_left r) p.recorded ≡ true
     → IsGentle p (after_release_taken r p)
 gentle-prune r p e = record {
   trunk = λ f. prune_trunk r p.recorded e f;
-  none = λ f. prune_none r p.recorded e f;
+  none = λ f. prune_none p.recorded r e f;
   quiet = λ f. f;
 }
 

@@ -2,11 +2,10 @@
 use Rattle.std.proofs.Common.{◌≡◌, refl, sym, ◌∙◌, ℕ, Bool, true, false, List, ◌∷◌, ◌&&◌, ne_eqb}
 use Rattle.tl_coherence.proofs
 use proofs.Imports.{and-false, Channel, Cap, Grow, is_of, acquires_of, serves_of, acquires_with, serves_with}
-use proofs.Imports.{releases_with, tracks_with, IsInvariant, Kind, Acquire, ProbeAck, Grant}
-use proofs.Imports.{GrantAck, Packet, ClientBlock, Granting, Acknowledging, AcquireOpen, after_grant, GrantSent, Block}
-use proofs.Imports.{State, SourceFree, Acquires, packet, taken_block, taken_link, grant_taken, shows, is_transfer}
-use proofs.Imports.{is_wanting, Move, Stays, Pushes, Pops, AreMoved}
-use proofs.Imports.{agrees, is_own_move, channel_for}
+use proofs.Imports.{releases_with, tracks_with, IsInvariant, Kind, Acquire, ProbeAck, Grant, GrantAck, Packet}
+use proofs.Imports.{ClientBlock, Granting, Acknowledging, AcquireOpen, after_grant, GrantSent, Block, State, SourceFree}
+use proofs.Imports.{Acquires, packet, taken_block, taken_link, grant_taken, shows, is_transfer, is_wanting, Move, Stays}
+use proofs.Imports.{Pushes, Pops, AreMoved, agrees, is_own_move, channel_for}
 use Rattle.tl_coherence.specs.protocol.Protocol.{Link}
 use proofs.queues.Moves.{event-at, bare-elsewhere, names-block, names-set_at, invariant-moved_use}
 use proofs.queues.{KindMoves.same_again, Tokens.same_number, Tokens.set-same, Tokens.set-other, Tokens.set-part}

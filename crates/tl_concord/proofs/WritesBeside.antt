@@ -11,7 +11,7 @@ use Rattle.tl_client.specs.declared.operation.Op.{Op}
 use Rattle.tl_coherence.specs.protocol.Protocol.{Asked, InService, Replied, SourceFree, State}
 use Rattle.tl_coherence.specs.{refinement.PacketMessages.AccessMessages, statement.Machine.Open}
 use Rattle.tl_coherence.proofs.{bound.Settling.given-before, deliveries.Matching.shadow, flow.Renewed.IsSettledFor}
-use Rattle.tl_coherence.proofs.{flow.Windowed.renewed-followed, flow.Windowed.same_request}
+use Rattle.tl_coherence.proofs.{flow.Windowed.renewed-followed, memory.BesideTaken.same_message}
 use Rattle.tl_concord.proofs.Responses.{begun-due, due-recorded}
 use Rattle.tl_concord.specs.statement.WritesBeside.{WritesBesideNoGrant}
 
@@ -59,7 +59,7 @@ writes_beside {w} config log x given c source m r writes before after link y old
           (subst (λ (u : SourceState). IsOpened c source h.mail h.state u
           (Some (record { asked = Op.Access (Message.A m); answer = None }))) old.0
           (subst (IsOpened c source h.mail h.state (h.state.uses c source)) before (is.beside.requests c source)))
-      | inr new ↦ settled new.0 (same_request new.0 (sourced source m) (sym new.1 ∙ now.1)) new.2
+      | inr new ↦ settled new.0 (same_message new.0 (sourced source m) (sym new.1 ∙ now.1)) new.2
     ]
   where
     h : AbstractState w

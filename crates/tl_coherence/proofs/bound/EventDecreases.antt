@@ -1,17 +1,18 @@
 -- What an event at which the last beat of a message is taken finds, and what it leaves as it was.
-use Rattle.std.proofs.Common.{◌≡◌, ℕ, ◌≤◌, Bool, true, false, List, ◌∷◌, ◌++◌, refl, sym, ◌∙◌, ap, subst, arith, ◌⊎◌}
-use Rattle.std.proofs.Common.{inl, inr, [], length, ◌==◌, if◌then◌else◌, map}
+use Rattle.std.proofs.Common.{◌≡◌, ℕ, ◌≤◌, Bool, true, List, ◌∷◌, refl, ap, subst, arith, ◌⊎◌}
+use Rattle.std.proofs.Common.{inl, inr, length, map}
 use Rattle.tl_coherence.proofs
-use proofs.Imports.{cases_eq, Channel, length-begun, Cap, Prune, Report, IsInvariant, Kind, Grant, Packet, set, set_at}
-use proofs.Imports.{ProbePhase, ProbeAnswered, ReleaseSent, ReleasePhase, Block, State, packet, packets_on, is_probed}
-use proofs.Imports.{is_on, with_d, with_probe, popped_link, ended_link, granted_link, served_link, is_answered}
+use proofs.Imports.{cases_eq, Channel, length-begun, Cap, Prune, Report, IsInvariant, Kind, Packet, set, set_at}
+use proofs.Imports.{ProbePhase, ProbeAnswered, ReleaseSent, ReleasePhase, Block, State, packet, packets_on}
+use proofs.Imports.{is_on, ended_link, granted_link, served_link, is_answered}
 use proofs.Imports.{is_releasing, IsCarried, ChannelRelation, channel_for, AccessMessages, message_of_kind, message_of}
 use proofs.Imports.{System}
 use Rattle.tl_coherence.specs.protocol.Protocol.{Link}
 use proofs.client.Aside.{set_at-other, set_at-else}
 use proofs.protocol.{TokenNames.shown_there, TokenNames.shows_it, BeatsRemaining.beats_left, BeatsRemaining.taken_of}
 use proofs.protocol.{BeatsRemaining.is_front}
-use proofs.queues.{Distinct.first-there, Rendered.same_kind_again, Tokens.same_number, Tokens.set-part}
+use proofs.outstanding.OpenKinds.{set_e, ended_e, granted_e, served_e}
+use proofs.queues.{Distinct.first-there, Rendered.same_kind_again, Tokens.same_number}
 use proofs.queues.{KindMoves.kind_channel}
 use proofs.simulation.Popped.{unfinished_at}
 
@@ -58,34 +59,20 @@ acks_as l k e = let same = ap length e in omega (arith, same)
 
 pub acks_set : (c : ℕ) (l : Link) (link : ℕ → Link) → l.e ≡ (link c).e → (d : ℕ)
     → length (set c l link d).e ≤ length (link d).e
-acks_set c l link e d = acks_as (set c l link d) (link d) (set-part (λ k. k.e) c l link e d)
+acks_set c l link e d = acks_as (set c l link d) (link d) (set_e c l link e d)
 
 pub acks_ended : (c q : ℕ) (x : Packet) (rest : List Packet) (link : ℕ → Link) (d : ℕ)
     → length (ended_link c q x rest link d).e ≤ length (link d).e
-acks_ended c q x rest link d =
-    let go : (b : Bool) → (if b then with_d x (popped_link c rest link d) else popped_link c rest link d).e
-    ≡ (popped_link c rest link d).e = elim [ true ↦ refl | false ↦ refl ] in
-    acks_as (ended_link c q x rest link d) (link d) (go (d == q) ∙ set-part (λ k. k.e) c (record (link c) { c = rest })
-    link refl d)
+acks_ended c q x rest link d = acks_as (ended_link c q x rest link d) (link d) (ended_e c q x rest link d)
 
 pub acks_granted : (c q n : ℕ) (rest : List Packet) (link : ℕ → Link) (d : ℕ)
     → length (granted_link c q n rest link d).e ≤ length (link d).e
-acks_granted c q n rest link d =
-    acks_as (granted_link c q n rest link d) (link d)
-    (set-part (λ k. k.e) q (record (link q) { d = (link q).d ++ packet Grant n ∷ [] }) (popped_link c rest link)
-    (sym (set-part (λ k. k.e) c (record (link c) { c = rest }) link refl q)) d ∙ set-part (λ k. k.e) c
-    (record (link c) { c = rest }) link refl d)
+acks_granted c q n rest link d = acks_as (granted_link c q n rest link d) (link d) (granted_e c q n rest link d)
 
 pub acks_served : (r : ℕ) (own : Bool) (n : ℕ) (k : Cap) (rest : List Packet) (b : Block (List ℕ)) (link : ℕ → Link)
     (d : ℕ) → length (served_link r own n k rest b link d).e ≤ length (link d).e
-acks_served r own n k rest b link d = acks_as (served_link r own n k rest b link d) (link d)
-    (go (is_probed r own k (b.pair d).recorded d) (d == r))
-  where
-    go : (x y : Bool) → (with_probe n x (if y then record (link d) { a = rest } else link d)).e ≡ (link d).e
-    go true true = refl
-    go true false = refl
-    go false true = refl
-    go false false = refl
+acks_served r own n k rest b link d =
+    acks_as (served_link r own n k rest b link d) (link d) (served_e r own n k rest b link d)
 
 -- ---- phases
 

@@ -2,7 +2,7 @@
 use Rattle.std.proofs.Common.{◌≡◌, ℕ, ◌+◌, ◌/◌, ◌<◌, ◌≤◌, Bool, true, false, List, ◌∷◌, refl, arith, ◌⊎◌, inl, inr, ap}
 use Rattle.std.proofs.Common.{[], None, length, Option, length-append}
 use Rattle.tl_coherence.proofs
-use proofs.Imports.{cases_eq, Channel, OpB, IsWidth, Message, MessageA, Config, Cap, Prune, Report, Perm, probe_ack}
+use proofs.Imports.{cases_eq, Channel, IsWidth, Message, MessageA, Config, Cap, Prune, Report}
 use proofs.Imports.{IsInvariant, is_replied, Kind, Request, Acquire, Probe, ProbeAck, Release, Answer, Grant}
 use proofs.Imports.{ReleaseAck, GrantAck, Packet, set, set_at, ProbeSent, ProbeAnswered, probe_taken, report_answers}
 use proofs.Imports.{report_grants, access_answered, access_served, release_taken, answer_taken, release_ack_taken}
@@ -36,18 +36,14 @@ use proofs.simulation.CarriedEvents.{probe_taken-shown, report_taken-shown, acce
 use proofs.simulation.CarriedEvents.{acquire_granted-shown, release_taken-shown}
 use proofs.simulation.CarriedResponses.{answer_taken-shown, release_ack_taken-shown, grant_taken-shown}
 use proofs.simulation.CarriedResponses.{grant_ack_taken-shown}
+use proofs.deliveries.ManagersAfter.{ack_channel}
 
 -- ---- the channels of what is handed out
-
-report_on_c : (w : ℕ) (p : Perm) (r : Report) (n : ℕ) (bytes : List ℕ)
-    → channel_of_message (probe_ack {w = w} OpB.ProbeBlock p r n bytes) ≡ Channel.C
-report_on_c w Perm.None r n bytes = refl
-report_on_c w p r n bytes = refl
 
 probed_on_c : (w c n : ℕ) (k : Cap) (b : Block (List ℕ))
     → channel_of_message (block_message {w = w} ProbeAck c n (probed_block c k b)) ≡ Channel.C
 unfolding block_message
-probed_on_c w c n k b = report_on_c w _ _ n b.truth
+probed_on_c w c n k b = ack_channel w _ _ n b.truth
 
 let_on_d : (w c n : ℕ) (r : Prune) (b : Block (List ℕ))
     → channel_of_message (block_message {w = w} ReleaseAck c n (let_block c r b)) ≡ Channel.D

@@ -54,7 +54,8 @@ module _ {w : ℕ} {config : Config} {log : Log w} (h : AbstractState w) (sys' :
       (inv.blocks n).outside last) for.0 for.3 (matched.sized n).truth) (answer_on_d v _) known.1 is
 
   granted : (n : ℕ) → IsEnding Grant n → Falls (kind_taken config tracker c Grant n rest h)
-  granted n known = subst Falls same (grant_taken-owed sys' width matched c n rest lt due.whole due.data_too due.k known.0
+  granted n known = subst Falls same (grant_taken-owed sys' width matched c n rest lt due.whole due.data_too due.k
+      known.0
       due.service (bare h due matched.invariant) known.1)
     where
       due : IsGrantDue c n h.state
@@ -75,11 +76,13 @@ module _ {w : ℕ} {config : Config} {log : Log w} (h : AbstractState w) (sys' :
         access_answered-owed sys' width matched c _ rest lt source (performs m) _ known.0
         (first-request matched.invariant known.0) (unread-bytes c _ m matched
         (ready-access tracker c source m h known.2 from).0 (rw caps none)) (answer_on_d m _) known.1;
-    access_served = λ source m k known from caps some. access_served-owed sys' width matched c _ rest lt source tracker k
+    access_served = λ source m k known from caps some. access_served-owed sys' width matched c _ rest lt source tracker
+        k
         sixteen known.0 (ready-access tracker c source m h known.2 from).1 known.1;
     acquire_granted = λ n whole g known wants none. acquire_granted-owed sys' width matched c n rest lt tracker _ _
         known.0 known.2.0 known.1;
-    acquire_served = λ n whole g known wants some. acquire_served-owed sys' width matched c n rest lt _ tracker _ sixteen
+    acquire_served = λ n whole g known wants some. acquire_served-owed sys' width matched c n rest lt _ tracker _
+        sixteen
         known.0 known.2.0 known.1;
     probe = λ n known. probe_taken-owed sys' width matched c n rest lt _ known.0 (first-probe matched.invariant known.0)
         known.1;

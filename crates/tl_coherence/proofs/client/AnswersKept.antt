@@ -183,7 +183,8 @@ answered-kind_taken {w} {config} tracker c k i rest h is first =
       access_answered = λ source m o known from caps none.
           let due = asked-first c source rest is known in
           let same : due.request ≡ m = let both = sym due.is_it ∙ from in cc in
-          answered-now c source _ h.mail h.state (access_taken c source m tracker false None rest h).state refl (rw from (answers-access source m _
+          answered-now c source _ h.mail h.state (access_taken c source m tracker false None rest h).state refl
+          (rw from (answers-access source m _
           (ap (λ (x : MessageA w). is_acquire x.opcode) (sym same) ∙ due.access)
           (ap (λ (x : MessageA w). x.source) (sym same) ∙ due.source_is))) is.answered;
       access_served = λ source m j known from caps some. used c source (InService (block_at m.address))
@@ -200,7 +201,8 @@ answered-kind_taken {w} {config} tracker c k i rest h is first =
           (rw with (answers-access source (h.request n) _ for.0 for.1)) is.answered;
       report_grants = λ n q source j whole g known last waits wants. is.answered;
       release = λ n known. is.answered;
-      answer = λ source known. used c source SourceFree (kind_taken config tracker c Answer source rest h).state refl refl;
+      answer = λ source known. used c source SourceFree (kind_taken config tracker c Answer source rest h).state refl
+          refl;
       grant = λ n q d j known sent. used c ((h.state.block n).source c) SourceFree
           (taken_by_client c n (GrantSent q d j) rest h).state refl refl;
       release_ack = λ n known. is.answered;

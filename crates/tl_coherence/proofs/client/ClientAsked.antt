@@ -184,16 +184,8 @@ IsAfter c o h x = IsWellKept x.after → IsEndOf c (world.asked c o x.reply h) x
 
 end_busy : {w : ℕ} (c : ℕ) (o : Op w) (b : Busy) (h : AbstractState w) (e : Endpoint w) → IsEndOf c h e
     → IsEndOf c (world.asked c o (Reply.Busy b) h) e
-end_busy c (Op.Load address size) b h e end = end
-end_busy c (Op.Store address size value) b h e end = end
-end_busy c (Op.Acquire n g) b h e end = end
-end_busy c (Op.AcquireWhole n bytes) b h e end = end
-end_busy c (Op.Release n r) b h e end = end
 end_busy c (Op.Access (Message.A m)) b h e end = end
-end_busy c (Op.Access (Message.B m)) b h e end = end
-end_busy c (Op.Access (Message.C m)) b h e end = end
-end_busy c (Op.Access (Message.D m)) b h e end = end
-end_busy c (Op.Access (Message.E m)) b h e end = end
+end_busy c o b h e end = end
 
 end_load : {w : ℕ} (c address size : ℕ) (p : Perm) (h : AbstractState w) (e : Endpoint w) → IsEndOf c h e
     → IsAfter c (Op.Load address size) h (load address size p e)

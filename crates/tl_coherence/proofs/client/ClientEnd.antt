@@ -95,10 +95,10 @@ pub record IsSame {w : ℕ} (c : ℕ) (asked asked' : ℕ → Option (BeatA w)) 
   pub lets : (source : ℕ) → s'.lets c source ≡ s.lets c source
   pub asks : (source : ℕ) → asked' source ≡ asked source
 
-pub comes-same : {w : ℕ} (asked asked' : ℕ → Option (BeatA w)) (n : ℕ) (rest : List (Beat w))
+pub comes-same : {w : ℕ} (n : ℕ) (asked asked' : ℕ → Option (BeatA w)) (rest : List (Beat w))
     → ((source : ℕ) → asked' source ≡ asked source) → comes_granting n asked' rest ≡ comes_granting n asked rest
-comes-same asked asked' n (Beat.D x ∷ rest) same = rw (same x.source) refl
-comes-same asked asked' n rest same = refl
+comes-same n asked asked' (Beat.D x ∷ rest) same = rw (same x.source) refl
+comes-same n asked asked' rest same = refl
 
 pub known-same : {w : ℕ} {c : ℕ} {asked asked' : ℕ → Option (BeatA w)} {rest : List (Beat w)} {s s' : State (List ℕ)}
     {t : History w} → IsSame c asked asked' s s' → ClientRelation asked rest c s t → ClientRelation asked' rest c s' t
@@ -110,7 +110,7 @@ known-same {asked} {asked'} {rest} same known = record {
   opens = λ source. known.opens source ∙ sym (same.asks source);
   rest_is = known.rest_is;
   sinks = known.sinks;
-  grants = λ n. known.grants n ∙ sym (comes-same asked asked' n rest same.asks);
+  grants = λ n. known.grants n ∙ sym (comes-same n asked asked' rest same.asks);
 }
 
 pub opened-same : {w : ℕ} {c : ℕ} {asked asked' : ℕ → Option (BeatA w)} {s s' : State (List ℕ)} {t : History w}

@@ -90,7 +90,8 @@ pub given-kind_taken : {w : ℕ} (config : Config) (tracker c : ℕ) (k : Kind) 
     (h : AbstractState w) → AreGiven config.profile h.state
     → AreGiven config.profile (kind_taken config tracker c k i rest h).state
 given-kind_taken {w} config tracker c k i rest h given =
-    true-taken config tracker c rest h (λ j n. ⊤) (λ (x : AbstractState w). AreGiven config.profile x.state) k i (record {
+    true-taken config tracker c rest h (λ j n. ⊤) (λ (x : AbstractState w). AreGiven config.profile x.state) k i
+    (record {
       nothing = λ j n known idle. given;
       access_answered = λ source m o known is caps none. changed (block_at m.address) _ (given (block_at m.address));
       access_served = λ source m j known is caps some. changed (block_at m.address) _ tt;

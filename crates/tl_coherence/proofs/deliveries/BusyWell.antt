@@ -1,58 +1,29 @@
 -- What a client that is busy answers, and what that says of the protocol.
-use Rattle.std.proofs.Common.{◌≡◌, ℕ, ◌+◌, ◌*◌, ◌/◌, ◌%◌, ◌^◌, ◌≤◌, Bool, true, false, List, Option, Some, None, refl}
-use Rattle.std.proofs.Common.{sym, ◌∙◌, ap, arith, is_some, is_none, slice_index}
+use Rattle.std.proofs.Common.{◌≡◌, ℕ, ◌+◌, ◌*◌, ◌/◌, ◌%◌, ◌^◌, ◌≤◌, true, false, List, Option, Some, None, refl}
+use Rattle.std.proofs.Common.{sym, ◌∙◌, ap, arith, is_none, slice_index}
 use Rattle.tl_coherence.proofs
 use proofs.Imports.{Channel, OpA, Message, MessageA, beat_of, Config, RequestSource, Level, Prune, Perm, Rule}
 use proofs.Imports.{prune_left, legal_beat, same_perm, Memory, IsBlock, number_from, block_at, pending, illegal}
-use proofs.Imports.{illegal_message, Busy, Op, Reply, whole_grow, Endpoint, release, access, acquisition, Acquire}
-use proofs.Imports.{AcquirePhase, NoAcquire, AcquireOpen, Block, State, SourceState, SourceFree, Replied, Acquires}
-use proofs.Imports.{AbstractState, AccessMessages, block_message, acquire_of, SimulationRelation, is_caching, IsRequest}
-use proofs.Imports.{first_of, asked_for, block_used, IsSourced, IsAnswered, Log, Machine, System}
+use proofs.Imports.{illegal_message, Busy, Op, Reply, whole_grow, Endpoint, release, access, acquisition}
+use proofs.Imports.{State, SourceFree}
+use proofs.Imports.{AbstractState, AccessMessages, SimulationRelation, is_caching}
+use proofs.Imports.{Log, Machine, System}
 use Rattle.tl_rules.{proofs.Legal.legal_from_beats, proofs.Places.number_same}
 use Rattle.tl_client.specs.statement.Ask.{Asked, only}
 use Rattle.tl_coherence.specs.statement.Machine.{Replies}
 use proofs.memory.BesideAsked.{IsReply}
 use proofs.protocol.FollowKept.{IsAskable}
 use proofs.simulation.{SizedAfter.IsSizedAsk, SourcedAfter.IsSourcedAsk}
+use proofs.client.Askable.{closed-source}
 
 -- ---- what the protocol has, by what the end has
 
 -- who has no request open with a source doesn't use it
-acquire_some : (w c n : ℕ) (b : Block (List ℕ))
-    → is_some (asked_for {w = w} (Acquires n) (block_message Acquire c n b) (block_message Acquire c n b)) ≡ true
-unfolding block_message
-acquire_some w c n b =
-    let go : (x : AcquirePhase) → is_some (first_of {w = w} (acquire_of x (b.source c) n)) ≡ true =
-    elim [ NoAcquire ↦ refl | AcquireOpen true g ↦ refl | AcquireOpen false g ↦ refl ] in
-    go (b.pair c).acquiring
-
-request_some : {w : ℕ} (config : Config) (c source : ℕ) (m : Message w) → IsRequest config c source m
-    → is_some (first_of m) ≡ true
-request_some config c source (Message.A m) h = refl
-request_some config c source m h = absurd (let e = h.0 in cc)
-
-answer_some : {w : ℕ} (source : ℕ) (m x : Message w) → IsAnswered source m x Replied → is_some (first_of m) ≡ true
-answer_some source (Message.A m) x h = refl
-answer_some source m x h = absurd h
-
 pub unused : {w : ℕ} {config : Config} {log : Log w} {mail : AccessMessages w} {request : ℕ → MessageA w}
     {s : State (List ℕ)} {sys : System w} (c source : ℕ) → SimulationRelation config log mail request s sys
     → pending (RequestSource source) (sys.clients c).past ≡ false → s.uses c source ≡ SourceFree
-unused {w} {config} {mail} {s} c source h free =
-    go (s.uses c source) refl (h.sourced c source) (h.answered c source) (sym ((h.opened c).requests source) ∙ free)
-  where
-    differ : (b : Bool) → b ≡ true → b ≡ false → ⊥
-    differ b e f = let g : true ≡ false = sym e ∙ f in cc
-
-    go : (u : SourceState) → s.uses c source ≡ u → IsSourced config c source (mail.request c source) u
-        → IsAnswered source (mail.request c source) (mail.answer c source) u
-        → is_some (asked_for u (mail.request c source)
-        (block_message Acquire c (block_used u) (s.block (block_used u)))) ≡ false → u ≡ SourceFree
-    go SourceFree e sourced answered none = refl
-    go Replied e sourced answered none =
-        absurd (differ _ (answer_some source (mail.request c source) (mail.answer c source) answered) none)
-    go (Acquires n) e sourced answered none = absurd (differ _ (acquire_some w c n (s.block n)) none)
-    go u e sourced answered none = absurd (differ _ (request_some config c source (mail.request c source) sourced) none)
+unused {config} {mail} {s} c source h free =
+    closed-source config c mail s (h.sourced c source) (h.answered c source) (sym ((h.opened c).requests source) ∙ free)
 
 -- ---- what is answered
 

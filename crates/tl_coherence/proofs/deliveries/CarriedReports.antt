@@ -147,11 +147,13 @@ received_on {w} {config} h {sys} c x queue width is beats =
     (λ n rest tokens next.
     let m = report-about (report_told ((h.state.block n).pair c).probing) n (h.state.block n).truth width
     (is.sized n).truth in
-    subst (IsOn Channel.C) (sym (next.beat_is ∙ ap (λ (i : Message w). beat_of i next.k) m.1)) (on_own_channel (beat_of (Message.C m.0) next.k)))
+    subst (IsOn Channel.C) (sym (next.beat_is ∙ ap (λ (i : Message w). beat_of i next.k) m.1))
+    (on_own_channel (beat_of (Message.C m.0) next.k)))
     (λ n rest tokens next.
     let m = release-about (prune_told ((h.state.block n).pair c).letting) ((h.state.block n).release_source c) n
     (h.state.block n).truth width (is.sized n).truth in
-    subst (IsOn Channel.C) (sym (next.beat_is ∙ ap (λ (i : Message w). beat_of i next.k) m.1)) (on_own_channel (beat_of (Message.C m.0) next.k)))
+    subst (IsOn Channel.C) (sym (next.beat_is ∙ ap (λ (i : Message w). beat_of i next.k) m.1))
+    (on_own_channel (beat_of (Message.C m.0) next.k)))
 
 -- the channels after a delivery on C, as the protocol follows it
 pub carried-followed_c : {w : ℕ} {config : Config} {log : Log w} (h : AbstractState w) {sys : System w} (c : ℕ)

@@ -59,7 +59,8 @@ landed-coming {w} {config} {c} {k} {m} queue sys handed pushes is beats done pus
     let base : System w = with_manager (end_after config c k m sys.manager) (with_channel c Channel.A queue sys) in
     landed-manager c Channel.A (Beat.A (a_beat_of m k)) queue pushes
     (reaction config (link_of c) (Beat.A (a_beat_of m k)) sys.manager).handed
-    (end_after config c k m sys.manager) sys refl beats (on_own_channel (Beat.A (a_beat_of m k))) (heard-coming config c k m queue sys is)
+    (end_after config c k m sys.manager) sys refl beats (on_own_channel (Beat.A (a_beat_of m k)))
+    (heard-coming config c k m queue sys is)
     (λ d at. ap (λ (i : Handed w). (with_messages i base).channels d at) done ∙ pushed base d at)
 
 -- ---- a beat that isn't the last

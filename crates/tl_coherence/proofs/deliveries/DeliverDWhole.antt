@@ -88,7 +88,8 @@ part_d {w} {config} {log} link h {terms} {x} {queue} mm k width is first x_is pa
     delivered_as config log link Channel.D h h same (subst (λ (y : Step w). ChannelRelation h.mail h.state y.after)
     (sym step_is) (carried-part h.mail h.state width
     (landed-client link.0 Channel.D x queue None (offer.taken x e).after sys refl first
-    (subst (λ (z : Beat w). IsOn Channel.D z) (sym x_is) (on_own_channel (Beat.D y))) (client-heard width (is.kept link.0) t))
+    (subst (λ (z : Beat w). IsOn Channel.D z) (sym x_is) (on_own_channel (Beat.D y)))
+    (client-heard width (is.kept link.0) t))
     (λ d at. none_pushed w at (d == link.0)) part is.carried))
     (subst (λ (m : Machine w). MemoryRelation h.mail h.state m)
     (sym (remembered_after config log link Channel.D now step_is)) is.beside)

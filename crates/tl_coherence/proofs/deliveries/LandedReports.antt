@@ -3,42 +3,33 @@ use Rattle.std.proofs.Common.{◌≡◌, ℕ, Bool, true, false, List, [], ◌�
 use Rattle.std.proofs.Common.{subst, ◌⊎◌, inl, inr}
 use Rattle.tl_coherence.proofs
 use proofs.Imports.{or-true, cases_eq, same_Some, Beat, Channel, IsWidth, Message, MessageA, unfinished, completes}
-use proofs.Imports.{Config, Cap, Report, Perm, prune_left, report_right, same_perm, is_acquire, EndConfig, End, Handed}
-use proofs.Imports.{access_answer, cap_probed, reaction, Deliver, Outcome, IsWell, Kind, ProbeAck, Release, Grant}
-use proofs.Imports.{ReleaseAck, ClientBlock, ProbeAnswered, is_unprobed, after_report, Waits, Block, view, GrantSent}
-use proofs.Imports.{ended_block, shown, AbstractState, performs, ChannelRelation, prune_told, block_message}
-use proofs.Imports.{SimulationRelation, receiver, Log, perm_le, Step, handing, is_to_client, stepped, System, terms_at}
-use proofs.Imports.{with_channel, with_manager, with_messages, channel_of_message}
+use proofs.Imports.{Config, Cap, Report, Perm, prune_left, same_perm, is_acquire, EndConfig, End, Handed, access_answer}
+use proofs.Imports.{cap_probed, reaction, Deliver, Outcome, IsWell, Kind, ProbeAck, Release, Grant, ReleaseAck, set}
+use proofs.Imports.{ClientBlock, ProbeAnswered, is_unprobed, after_report, Waits, Block, GrantSent, ended_block, shown}
+use proofs.Imports.{AbstractState, performs, ChannelRelation, prune_told, block_message, SimulationRelation, receiver}
+use proofs.Imports.{Log, Step, handing, is_to_client, stepped, System, terms_at, with_channel, with_manager}
+use proofs.Imports.{with_messages, channel_of_message}
 use Rattle.tl_rules.specs.declared.answer.Answer.{Answer}
 use Rattle.tl_rules.specs.declared.answer.Answer as answers_of
 use Rattle.tl_manager.specs.code.Kept as manager
-use proofs.queues.{Channels.behind, Channels.IsTaken, Channels.pushes_at, Facts.reported_within, Facts.spared_within}
-use proofs.queues.{Showing.carries, Showing.none-carried, Tokens.set-same, Tokens.set-other, Tokens.set-part}
+use proofs.queues.{Channels.behind, Channels.IsTaken, Channels.pushes_at, Showing.carries, Showing.none-carried}
+use proofs.queues.{Tokens.set-same, Tokens.set-other, Tokens.set-part, Perms.nothing_below}
 use proofs.queues.Landed.{HasTaken, IsLanded, IsOn, landed-manager, channels-handed, pushes_of, taken-landed}
 use proofs.manager.{ManagerAfter.left, ManagerTakes.IsTakenUp, Admitted.head_all}
 use proofs.deliveries.{LastReportDelivered.pushed, ManagerFollowed.client-of, ManagerFollowed.step-taken}
 use proofs.simulation.Moved.{carried-part, manager-heard}
-use proofs.protocol.{RequestsKept.leaves-bytes, BothParts.quiet-is}
+use proofs.protocol.{RequestsKept.leaves-bytes, Granted.recorded_within}
 
 -- ---- an access that ends leaves the bytes on their way, or there are none
-
-least : (p : Perm) → perm_le p Perm.None ≡ true → same_perm p Perm.None ≡ true
-least Perm.None e = refl
-least p e = absurd cc
 
 -- a service that probes toN, with its last ProbeAck: nobody is recorded then
 unrecorded : {caching : ℕ → Bool} (c q source : ℕ) (r : Report) (f : List ℕ → List ℕ) {b : Block (List ℕ)}
     → IsWell caching b → b.service ≡ Waits q false source Cap.ToN → (b.pair c).probing ≡ ProbeAnswered r
     → ((d : ℕ) → (d ≡ c → ⊥) → is_unprobed (b.pair d).probing ≡ true) → (d : ℕ)
     → same_perm ((ended_block c r f b).pair d).recorded Perm.None ≡ true
-unrecorded c q source r f {b} well waits answered settled d = elim (cases_eq d c) [
-  | inl same ↦ rw (same, set-same c (after_report r (b.pair c)) b.pair)
-      (least (report_right r) (reported_within Cap.ToN r (b.pair c) (view b.service c) (well.phases c) (rw waits refl)
-      answered))
-  | inr other ↦ rw (set-other c d (after_report r (b.pair c)) b.pair other)
-      (least (b.pair d).recorded (spared_within Cap.ToN (b.pair d) (view b.service d) (well.phases d) (rw waits refl)
-      (quiet-is (b.pair d).probing (settled d other))))
-]
+unrecorded c q source r f {b} well waits answered settled d =
+    nothing_below (set c (after_report r (b.pair c)) b.pair d).recorded Perm.None
+    (recorded_within c r Cap.ToN well answered settled (rw waits refl) d (rw waits refl)) refl
 
 pub ended-bytes : {w : ℕ} {caching : ℕ → Bool} (c q source : ℕ) (r : Report) (k : Cap) (m : MessageA w)
     {b : Block (List ℕ)} → IsWell caching b → IsWell caching (ended_block c r (performs m) b)

@@ -150,7 +150,8 @@ delivered-b {w} {config} {log} link h terms x queue width is known beats moving 
 
         taken : IsTaken c Channel.B x queue (pushes_at c (pushes_of (Some ack))) sys now.after
         taken = taken-landed (landed-client c Channel.B x queue (Some ack) (offer.taken x e).after sys refl beats
-            (subst (λ (z : Beat w). IsOn Channel.B z) (sym probed.beat_is) (on_own_channel (Beat.B y))) (client-heard width (is.kept c) t))
+            (subst (λ (z : Beat w). IsOn Channel.B z) (sym probed.beat_is) (on_own_channel (Beat.B y)))
+            (client-heard width (is.kept c) t))
             probed.whole
 
         follows : abstract_step config (Deliver link Channel.B) sys h ≡ kind_taken config (next_tracker sys) c Probe n

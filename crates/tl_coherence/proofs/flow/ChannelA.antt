@@ -9,8 +9,8 @@ use proofs.Imports.{Block, State, Replied, view, served_block, acquire_served, g
 use proofs.Imports.{is_granting, is_acknowledging, is_answered, is_unserved, AbstractState, MonitorRelation}
 use proofs.Imports.{SimulationRelation, asked_by, Log, System}
 use proofs.manager.{Admitted.first_three, RequestsTaken.acquire_wanted}
-use proofs.queues.{Carried.IsNext, PhaseFacts.asked_alone, Phases.and_left, Phases.and_right, Codes.acquires-so}
-use proofs.queues.{Tokens.same_number, Tokens.set-same, Tokens.set-other}
+use proofs.queues.{Tokens.if-part, Tokens.same_number, Tokens.set-same, Tokens.set-other, Carried.IsNext}
+use proofs.queues.{PhaseFacts.asked_alone, Phases.and_left, Phases.and_right, Codes.acquires-so}
 use proofs.protocol.{HeadOfD.IsGrantDue, BothParts.quiet_unanswered, Heads.acquisition_beats, Heads.IsAsked}
 use proofs.protocol.{Heads.IsWanted}
 use proofs.flow.{FlowAccess.IsAccess, FlowAccess.flowed-access, FlowAcquired.flowed-acquire, FlowAlone.AreRests}
@@ -38,12 +38,6 @@ module _ {w : ℕ} {config : Config} {log : Log w} (h : AbstractState w) {sys : 
       → IsAccess c (a_beat_of asked.request k) (is_empty (unfinished_at sys c Channel.A)) b (asked_by h.mail h.state c)
       (unfinished_at sys c) rest' h.state (replied_if source b)
   access_of source asked k ms queue next rests b last zeroth =
-      let blocks : (z : Bool) (m : ℕ) → (replied_if source z).block m ≡ h.state.block m =
-      elim [ true ↦ λ m. refl | false ↦ λ m. refl ] in
-      let lets : (z : Bool) (i : ℕ) → (replied_if source z).lets c i ≡ h.state.lets c i =
-      elim [ true ↦ λ i. refl | false ↦ λ i. refl ] in
-      let tracked : (z : Bool) (i : ℕ) → (replied_if source z).tracked i ≡ h.state.tracked i =
-      elim [ true ↦ λ i. refl | false ↦ λ i. refl ] in
       let y : Beat w = Beat.A (a_beat_of asked.request k) in
       record {
         access = asked.access;
@@ -60,10 +54,10 @@ module _ {w : ℕ} {config : Config} {log : Log w} (h : AbstractState w) {sys : 
           comes-so (comes_in_request i) y (unfinished_at sys c Channel.A) (asked.request.source == i) refl refl,
           last,
         );
-        blocks = λ m. blocks b m;
+        blocks = λ m. if-part (λ (z : State (List ℕ)). z.block m) b refl refl;
         uses = λ i. uses b i;
-        lets = λ i. lets b i;
-        tracked = λ i. tracked b i;
+        lets = λ i. if-part (λ (z : State (List ℕ)). z.lets c i) b refl refl;
+        tracked = λ i. if-part (λ (z : State (List ℕ)). z.tracked i) b refl refl;
       }
     where
       uses : (z : Bool) (i : ℕ)

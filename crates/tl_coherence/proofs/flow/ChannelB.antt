@@ -1,18 +1,15 @@
 -- What is delivered on a link, as the beat of a Probe is, for a whole that is that of the protocol.
-use Rattle.std.proofs.Common.{◌≡◌, subst, ℕ, Bool, true, false, ◌&&◌, List, [], ◌∷◌, Option, refl, sym, ◌∙◌, ap, ◌==◌}
-use Rattle.std.proofs.Common.{if◌then◌else◌}
+use Rattle.std.proofs.Common.{◌≡◌, subst, ℕ, true, List, [], ◌∷◌, Option, refl, sym, ◌∙◌, ap}
 use Rattle.tl_coherence.proofs
 use proofs.Imports.{Beat, BeatA, Channel, Message, History, is_empty, completes, Config, Cap, same_block, Probe, Packet}
-use proofs.Imports.{ClientBlock, View, Idle, Own, Other, Granting, Acknowledging, GrantedOther, ProbeSent, ok, same_cap}
-use proofs.Imports.{Service, Free, Waits, GrantSent, GrantTaken, State, packet, view, probe_taken, AbstractState}
-use proofs.Imports.{MonitorRelation, cap_sent, probe_beat, block_message, SimulationRelation, asked_by, cap_waited, Log}
-use proofs.Imports.{System}
+use proofs.Imports.{ClientBlock, View, Other, ProbeSent, ok, same_cap, State, packet, view, probe_taken, AbstractState}
+use proofs.Imports.{MonitorRelation, cap_sent, probe_beat, block_message, SimulationRelation, asked_by, Log, System}
 use Rattle.tl_coherence.specs.protocol.Phase.{fits_service}
+use proofs.protocol.{BothParts.cap-waited, FirstTokens.first-probe}
 use proofs.queues.{Carried.IsNext, Phases.and_left}
-use proofs.flow.{FlowAlone.AreRests, FlowAside.comes-same, FlowProbe.flowed-probe}
-use proofs.client.ProbeDelivered.{probe-beat}
+use proofs.flow.{FlowAlone.AreRests, FlowProbe.flowed-probe}
+use proofs.client.{ProbeDelivered.probe-beat, ClientEnd.comes-same}
 use proofs.simulation.Popped.{unfinished_at}
-use proofs.protocol.FirstTokens.{first-probe}
 
 -- ---- who is probed
 
@@ -31,21 +28,6 @@ probed_sees k v e = absurd cc
 sent_sees : (k : Cap) (p : ClientBlock) (v : View) → ok p v ≡ true → p.probing ≡ ProbeSent k → v ≡ Other k
 unfolding ok
 sent_sees k p v well sent = probed_sees k v (rw sent at (and_left (fits_service p.probing v) _ well))
-
-waited_as : (k : Cap) (q : Service) (c : ℕ) → view q c ≡ Other k → cap_waited q ≡ k
-waited_as k Free c e = absurd (let no : Idle ≡ Other k = e in cc)
-waited_as k (Waits r own source j) c e =
-    let go : (b : Bool) → (if b then Own else Other j) ≡ Other k → j ≡ k =
-    elim [ true ↦ λ f. absurd cc | false ↦ λ f. cc ] in
-    go (own && (c == r)) e
-waited_as k (GrantSent r d j) c e =
-    let go : (b : Bool) → (if b then Granting d j else GrantedOther) ≡ Other k → ⊥ =
-    elim [ true ↦ λ f. cc | false ↦ λ f. cc ] in
-    absurd (go (c == r) e)
-waited_as k (GrantTaken r) c e =
-    let go : (b : Bool) → (if b then Acknowledging else GrantedOther) ≡ Other k → ⊥ =
-    elim [ true ↦ λ f. cc | false ↦ λ f. cc ] in
-    absurd (go (c == r) e)
 
 module _ {w : ℕ} {config : Config} {log : Log w} (h : AbstractState w) {sys : System w} {c : ℕ}
     (is : SimulationRelation config log h.mail h.request h.state sys) {t : History w}
@@ -74,5 +56,5 @@ module _ {w : ℕ} {config : Config} {log : Log w} (h : AbstractState w) {sys : 
       (flowed-probe n k toks asked' rest' (ap is_empty (flowed.rest_is Channel.B ∙ whole))
       (ap (completes {w = w} (Beat.B (probe_beat n k))) (flowed.rest_is Channel.B ∙ whole))
       (subst (λ (z : Beat w). AreRests z (unfinished_at sys c) rest') x_is rests) asks (same_block n) seen
-      (waited_as k (s.block n).service c seen) (λ m. comes-same m before asked' (unfinished_at sys c Channel.D)
+      (cap-waited k (s.block n).service c seen) (λ m. comes-same m before asked' (unfinished_at sys c Channel.D)
       asks) flowed)

@@ -10,15 +10,16 @@ use proofs.Imports.{Acknowledging, ReleaseSent, is_unprobed, is_unreleased, ok, 
 use proofs.Imports.{Block, State, packet, view, let_block, release_taken, report_taken, grant_ack_taken, is_granting}
 use proofs.Imports.{is_acknowledging, AbstractState, MonitorRelation, block_message, prune_told, report_told}
 use proofs.Imports.{SimulationRelation, asked_by, Log, System}
-use proofs.queues.{Carried.IsNext, Facts.answered_other, Facts.granting_alone, Phases.and_left, Phases.and_right}
-use proofs.queues.{Tokens.set-same, Tokens.set-other}
-use proofs.flow.{FlowAlone.AreRests, FlowAlone.flowed-grant_ack, FlowAside.comes-same, FlowComing.coming-granting}
-use proofs.flow.{FlowLawful.other_ungranted, FlowReleased.letting_after, FlowReleased.flowed-release}
-use proofs.flow.{FlowReport.flowed-report_part, FlowReported.flowed-report, FlowStep.held_by, FlowBeats.came-so}
-use proofs.flow.{FlowBeats.comes-so, FlowBeats.one-beat, FlowBeats.first_false}
+use proofs.queues.{Tokens.if-part, Tokens.set-same, Tokens.set-other, Carried.IsNext, Facts.answered_other}
+use proofs.queues.{Facts.granting_alone, Phases.and_left, Phases.and_right}
+use proofs.flow.{FlowAlone.AreRests, FlowAlone.flowed-grant_ack, FlowComing.coming-granting, FlowLawful.other_ungranted}
+use proofs.flow.{FlowReleased.letting_after, FlowReleased.flowed-release, FlowReport.flowed-report_part}
+use proofs.flow.{FlowReported.flowed-report, FlowStep.held_by, FlowBeats.came-so, FlowBeats.comes-so}
+use proofs.flow.{FlowBeats.one-beat, FlowBeats.first_false}
 use proofs.simulation.Popped.{unfinished_at}
 use proofs.manager.Reporting.{IsAbout, report-about, release-about, reported-prune}
 use proofs.protocol.FirstTokens.{first-release, first-report, first-shown}
+use proofs.client.ClientEnd.{comes-same}
 
 -- ---- what the messages say
 
@@ -182,25 +183,12 @@ module _ {w : ℕ} {config : Config} {log : Log w} (h : AbstractState w) {sys : 
       first-release is.invariant tokens in
       let ungranted : is_granting (view (s.block n).service c) ≡ false =
       released_ungranted r ((s.block n).pair c) (view (s.block n).service c) well releasing in
-      let now : (z : Bool) → (released_if r z).block n ≡ block_if z =
-      elim [ true ↦ set-same n (let_block c r (s.block n)) s.block | false ↦ refl ] in
-      let elsewhere : (z : Bool) (k : ℕ) → (k ≡ n → ⊥) → (released_if r z).block k ≡ s.block k =
-      elim [ true ↦ λ k ne. set-other n k (let_block c r (s.block n)) s.block ne | false ↦ λ k ne. refl ] in
-      let uses : (z : Bool) (i : ℕ) → (released_if r z).uses c i ≡ s.uses c i =
-      elim [ true ↦ λ i. refl | false ↦ λ i. refl ] in
-      let lets : (z : Bool) (i : ℕ) → (released_if r z).lets c i ≡ s.lets c i =
-      elim [ true ↦ λ i. refl | false ↦ λ i. refl ] in
-      let tracked : (z : Bool) (i : ℕ) → (released_if r z).tracked i ≡ s.tracked i =
-      elim [ true ↦ λ i. refl | false ↦ λ i. refl ] in
+      let now : (release_taken c n r toks s).block n ≡ new = set-same n new s.block in
       let held_is : (z : Bool) → held_by c ((released_if r z).block n)
       ≡ (if z then prune_right r else held_by c (s.block n)) =
-      elim [ true ↦ cc (now true, ungranted, pair) | false ↦ refl ] in
-      let service : (z : Bool) → (block_if z).service ≡ (s.block n).service = elim [ true ↦ refl | false ↦ refl ] in
-      let tracker : (z : Bool) → (block_if z).tracker ≡ (s.block n).tracker = elim [ true ↦ refl | false ↦ refl ] in
-      let release_source : (z : Bool) → (block_if z).release_source c ≡ (s.block n).release_source c =
-      elim [ true ↦ refl | false ↦ refl ] in
-      let letting_is : (z : Bool) → ((block_if z).pair c).letting ≡ letting_after z r =
-      elim [ true ↦ ap (λ (p : ClientBlock). p.letting) pair | false ↦ releasing ] in
+      elim [ true ↦ cc (now, ungranted, pair) | false ↦ refl ] in
+      let letting_is : (z : Bool) → (((released_if r z).block n).pair c).letting ≡ letting_after z r =
+      elim [ true ↦ part_is (λ p. p.letting) | false ↦ releasing ] in
       let about = release_rendered c n (s.block n) width (is.sized n).truth in
       let m : MessageC w = about.0 in
       let here : IsNext x (unfinished_at sys c Channel.C) (Message.C m) ms queue =
@@ -219,37 +207,33 @@ module _ {w : ℕ} {config : Config} {log : Log w} (h : AbstractState w) {sys : 
         letting = releasing;
         came = λ i. cc (came m x ms queue here rests b last i, about.2.releases);
         comes = λ i. cc (comes m x ms queue here rests b last i, about.2.releases);
-        elsewhere = elsewhere b;
-        uses = uses b;
-        lets = lets b;
-        tracked = tracked b;
+        elsewhere = λ k ne. if-part (λ (z : State (List ℕ)). z.block k) b (set-other n k new s.block ne) refl;
+        uses = λ i. if-part (λ (z : State (List ℕ)). z.uses c i) b refl refl;
+        lets = λ i. if-part (λ (z : State (List ℕ)). z.lets c i) b refl refl;
+        tracked = λ i. if-part (λ (z : State (List ℕ)). z.tracked i) b refl refl;
         held_is = held_is b;
-        service = ap (λ (z : Block (List ℕ)). z.service) (now b) ∙ service b;
-        tracker = ap (λ (z : Block (List ℕ)). z.tracker) (now b) ∙ tracker b;
-        release_source = ap (λ (z : Block (List ℕ)). z.release_source c) (now b) ∙ release_source b;
-        acquiring = ap (λ (z : Block (List ℕ)). (z.pair c).acquiring) (now b) ∙ acquiring b;
-        probing = ap (λ (z : Block (List ℕ)). (z.pair c).probing) (now b) ∙ probing b;
-        letting_is = ap (λ (z : Block (List ℕ)). (z.pair c).letting) (now b) ∙ letting_is b;
+        service = if-part (λ (z : State (List ℕ)). (z.block n).service) b (ap (λ z. z.service) now) refl;
+        tracker = if-part (λ (z : State (List ℕ)). (z.block n).tracker) b (ap (λ z. z.tracker) now) refl;
+        release_source = if-part (λ (z : State (List ℕ)). (z.block n).release_source c) b
+            (ap (λ z. z.release_source c) now) refl;
+        acquiring = if-part (λ (z : State (List ℕ)). ((z.block n).pair c).acquiring) b (part_is (λ p. p.acquiring))
+            refl;
+        probing = if-part (λ (z : State (List ℕ)). ((z.block n).pair c).probing) b (part_is (λ p. p.probing)) refl;
+        letting_is = letting_is b;
       }) flowed)
     where
       r : Prune
       r = prune_told ((s.block n).pair c).letting
 
-      -- the block afterwards
-      block_if : Bool → Block (List ℕ)
-      block_if true = let_block c r (s.block n)
-      block_if false = s.block n
+      new : Block (List ℕ)
+      new = let_block c r (s.block n)
 
-      pair : (let_block c r (s.block n)).pair c ≡ after_release_taken r ((s.block n).pair c)
+      pair : new.pair c ≡ after_release_taken r ((s.block n).pair c)
       pair = set-same c (after_release_taken r ((s.block n).pair c)) (s.block n).pair
 
-      acquiring : (z : Bool) → ((block_if z).pair c).acquiring ≡ ((s.block n).pair c).acquiring
-      acquiring true = ap (λ (p : ClientBlock). p.acquiring) pair
-      acquiring false = refl
-
-      probing : (z : Bool) → ((block_if z).pair c).probing ≡ ((s.block n).pair c).probing
-      probing true = ap (λ (p : ClientBlock). p.probing) pair
-      probing false = refl
+      part_is : {A : Type 0} (part : ClientBlock → A)
+          → part (((release_taken c n r toks s).block n).pair c) ≡ part (after_release_taken r ((s.block n).pair c))
+      part_is part = ap (λ (z : Block (List ℕ)). part (z.pair c)) (set-same n new s.block) ∙ ap part pair
 
   -- ---- a GrantAck
 

@@ -11,8 +11,8 @@ use proofs.Imports.{grant_taken, is_granting, is_answered, is_wanting, AbstractS
 use proofs.Imports.{block_message, SimulationRelation, is_caching, asked_by, Log, System}
 use Rattle.tl_manager.proofs.services.Serving.{not_swapped}
 use proofs.client.{Aside.set_at-else, ClientDelivered.ack_next, ClientEnd.asks-same, ClientEnd.asks-acquire}
-use proofs.queues.{Carried.IsNext, Facts.granting_alone, Phases.and_right, Codes.access_kind, Codes.grants-so}
-use proofs.queues.{Tokens.same_number, Tokens.set-same, Tokens.set-other}
+use proofs.queues.{Tokens.if-part, Tokens.same_number, Tokens.set-same, Tokens.set-other, Carried.IsNext}
+use proofs.queues.{Facts.granting_alone, Phases.and_right, Codes.access_kind, Codes.grants-so}
 use proofs.flow.{FlowAlone.AreRests, FlowAnswered.flowed-answer, FlowAnswered.flowed-let_go, FlowGranted.seen_after}
 use proofs.flow.{FlowGranted.flowed-grant, FlowResponses.grant_quiet, FlowResponses.grant_tracked, FlowStep.held_by}
 use proofs.simulation.Popped.{unfinished_at}
@@ -118,12 +118,6 @@ module _ {w : ℕ} {config : Config} {log : Log w} (h : AbstractState w) {sys : 
       → AreRests x (unfinished_at sys c) rest' → (b : Bool) → completes x (unfinished_at sys c Channel.D) ≡ b
       → MonitorRelation (asked_by h.mail (answered_if source b) c) rest' c (answered_if source b) (x ∷ t)
   own-answer source tokens x ms queue next rests b last =
-      let blocks : (z : Bool) (k : ℕ) → (answered_if source z).block k ≡ s.block k =
-      elim [ true ↦ λ k. refl | false ↦ λ k. refl ] in
-      let lets : (z : Bool) (i : ℕ) → (answered_if source z).lets c i ≡ s.lets c i =
-      elim [ true ↦ λ i. refl | false ↦ λ i. refl ] in
-      let tracked : (z : Bool) (i : ℕ) → (answered_if source z).tracked i ≡ s.tracked i =
-      elim [ true ↦ λ i. refl | false ↦ λ i. refl ] in
       let due = answer-due (is_caching config) c source toks h.mail s is.invariant (is.answered c source) tokens in
       let here : IsNext x (unfinished_at sys c Channel.D) (Message.D due.answer) ms queue =
       subst (λ (i : Message w). IsNext x (unfinished_at sys c Channel.D) i ms queue) due.answer_is next in
@@ -137,10 +131,10 @@ module _ {w : ℕ} {config : Config} {log : Log w} (h : AbstractState w) {sys : 
         ack = kind.1;
         comes = none_came due.answer x ms queue here rests b last kind.0;
         grants = none_granted due.answer x ms queue here rests b last kind.0 (asked_by h.mail (answered_if source b) c);
-        blocks = blocks b;
+        blocks = λ k. if-part (λ (z : State (List ℕ)). z.block k) b refl refl;
         uses = λ i. answer_uses source b i due.answer.source due.from;
-        lets = lets b;
-        tracked = tracked b;
+        lets = λ i. if-part (λ (z : State (List ℕ)). z.lets c i) b refl refl;
+        tracked = λ i. if-part (λ (z : State (List ℕ)). z.tracked i) b refl refl;
         asked_is = λ i e. answer_asks source b i due.answer.source due.from e;
       }) flowed)
 
@@ -224,27 +218,13 @@ module _ {w : ℕ} {config : Config} {log : Log w} (h : AbstractState w) {sys : 
       let asks_now : (z : Bool) (j : ℕ)
       → (not z && (true && asks_for j (asked_by h.mail (s_if z) c ((s.block n).source c)))) ≡ (not z && (n == j)) =
       elim [ true ↦ λ j. refl | false ↦ λ j. asks j ] in
-      -- the block afterwards
-      let block_if : Bool → Block (List ℕ) = elim [ true ↦ new | false ↦ s.block n ] in
-      let now : (z : Bool) → (s_if z).block n ≡ block_if z = elim [ true ↦ set-same n new s.block | false ↦ refl ] in
-      let elsewhere : (z : Bool) (k : ℕ) → (k ≡ n → ⊥) → (s_if z).block k ≡ s.block k =
-      elim [ true ↦ λ k ne. set-other n k new s.block ne | false ↦ λ k ne. refl ] in
-      let lets : (z : Bool) (i : ℕ) → (s_if z).lets c i ≡ s.lets c i = elim [ true ↦ λ i. refl | false ↦ λ i. refl ] in
-      let tracked : (z : Bool) (i : ℕ) → (s_if z).tracked i ≡ s.tracked i =
-      elim [ true ↦ λ i. refl | false ↦ λ i. refl ] in
-      let seen_is : (z : Bool) → view (block_if z).service c ≡ seen_after z due.data_too due.k =
-      elim [ true ↦ rw (same_number c) refl | false ↦ seen ] in
+      let now : (s_if true).block n ≡ new = set-same n new s.block in
+      let seen_is : (z : Bool) → view ((s_if z).block n).service c ≡ seen_after z due.data_too due.k =
+      elim [ true ↦ rw (now, same_number c) refl | false ↦ seen ] in
       let held_is : (z : Bool) → held_by c ((s_if z).block n) ≡ (if z then cap_right due.k else held_by c (s.block n)) =
-      elim [ true ↦ cc (now true, seen_is true, pair, even) | false ↦ refl ] in
-      let wants_is : (z : Bool) → is_wanting ((block_if z).pair c).acquiring ≡ not z =
-      elim [ true ↦ ap (λ (p : ClientBlock). is_wanting p.acquiring) pair | false ↦ ap is_wanting due.wants ] in
-      let letting_is : (z : Bool) → ((block_if z).pair c).letting ≡ ((s.block n).pair c).letting =
-      elim [ true ↦ ap (λ (p : ClientBlock). p.letting) pair | false ↦ refl ] in
-      let release_source : (z : Bool) → (block_if z).release_source c ≡ (s.block n).release_source c =
-      elim [ true ↦ refl | false ↦ refl ] in
-      let tracker : (z : Bool) → (block_if z).tracker ≡ (s.block n).tracker = elim [ true ↦ refl | false ↦ refl ] in
-      let answered : (z : Bool) → is_answered ((block_if z).pair c).probing ≡ is_answered ((s.block n).pair c).probing =
-      elim [ true ↦ ap (λ (p : ClientBlock). is_answered p.probing) pair | false ↦ refl ] in
+      elim [ true ↦ cc (now, seen_is true, pair, even) | false ↦ refl ] in
+      let wants_is : (z : Bool) → is_wanting (((s_if z).block n).pair c).acquiring ≡ not z =
+      elim [ true ↦ part_is (λ p. is_wanting p.acquiring) | false ↦ ap is_wanting due.wants ] in
       let m : MessageD w = grant_message due.data_too due.k ((s.block n).source c) (s.block n).tracker (s.block n).truth
       in
       let here : IsNext x (unfinished_at sys c Channel.D) (Message.D m) ms queue =
@@ -275,17 +255,19 @@ module _ {w : ℕ} {config : Config} {log : Log w} (h : AbstractState w) {sys : 
           asks_now b j,
         );
         asked_is = grant_asks n whole due.data_too due.k b;
-        elsewhere = elsewhere b;
+        elsewhere = λ k ne. if-part (λ (z : State (List ℕ)). z.block k) b (set-other n k new s.block ne) refl;
         uses = uses b;
-        lets = lets b;
-        tracked = tracked b;
+        lets = λ i. if-part (λ (z : State (List ℕ)). z.lets c i) b refl refl;
+        tracked = λ i. if-part (λ (z : State (List ℕ)). z.tracked i) b refl refl;
         held_is = held_is b;
-        seen_is = ap (λ (z : Block (List ℕ)). view z.service c) (now b) ∙ seen_is b;
-        wants_is = ap (λ (z : Block (List ℕ)). is_wanting (z.pair c).acquiring) (now b) ∙ wants_is b;
-        letting_is = ap (λ (z : Block (List ℕ)). (z.pair c).letting) (now b) ∙ letting_is b;
-        release_source = ap (λ (z : Block (List ℕ)). z.release_source c) (now b) ∙ release_source b;
-        tracker = ap (λ (z : Block (List ℕ)). z.tracker) (now b) ∙ tracker b;
-        answered = ap (λ (z : Block (List ℕ)). is_answered (z.pair c).probing) (now b) ∙ answered b;
+        seen_is = seen_is b;
+        wants_is = wants_is b;
+        letting_is = if-part (λ (z : State (List ℕ)). ((z.block n).pair c).letting) b (part_is (λ p. p.letting)) refl;
+        release_source = if-part (λ (z : State (List ℕ)). (z.block n).release_source c) b
+            (ap (λ z. z.release_source c) now) refl;
+        tracker = if-part (λ (z : State (List ℕ)). (z.block n).tracker) b (ap (λ z. z.tracker) now) refl;
+        answered = if-part (λ (z : State (List ℕ)). is_answered ((z.block n).pair c).probing) b
+            (part_is (λ p. is_answered p.probing)) refl;
       }) flowed)
     where
       s_if : Bool → State (List ℕ)
@@ -296,6 +278,10 @@ module _ {w : ℕ} {config : Config} {log : Log w} (h : AbstractState w) {sys : 
 
       pair : new.pair c ≡ after_grant due.k ((s.block n).pair c)
       pair = set-same c (after_grant due.k ((s.block n).pair c)) (s.block n).pair
+
+      part_is : {A : Type 0} (part : ClientBlock → A)
+          → part (((s_if true).block n).pair c) ≡ part (after_grant due.k ((s.block n).pair c))
+      part_is part = ap (λ (z : Block (List ℕ)). part (z.pair c)) (set-same n new s.block) ∙ ap part pair
 
       uses : (z : Bool) (i : ℕ)
           → (s_if z).uses c i ≡ (if z && ((s.block n).source c == i) then SourceFree else s.uses c i)

@@ -7,10 +7,11 @@ use proofs.Imports.{is_acquire, request_of, probe_of, grant_sink, grant_sink-a, 
 use proofs.Imports.{State, Acquires, view, is_acknowledging, is_answered, is_granting, is_wanting, is_unserved}
 use proofs.Imports.{comes_granting, MonitorRelation, is_requested, is_let_by, is_sunk, probe_beat, cap_waited}
 use proofs.flow.{FlowAccess.of_source, FlowAccess.of_other, FlowAccess.released-of, FlowAlone.AreRests}
-use proofs.flow.{FlowAlone.no_coming, FlowGranted.requested-apart, FlowAside.IsComing, FlowAside.comes-same}
-use proofs.flow.{FlowAside.let_by-same, FlowReleased.AreElsewhere, FlowReleased.each-block, FlowReleased.part-block}
+use proofs.flow.{FlowAlone.no_coming, FlowGranted.requested-apart, FlowAside.IsComing, FlowAside.let_by-same}
+use proofs.flow.{FlowReleased.AreElsewhere, FlowReleased.each-block, FlowReleased.part-block}
 use proofs.queues.Tokens.{same_number}
 use proofs.flow.FlowStep.{flowed-next, held_by, acquired_by, let_of, granted_by, step, whole_opened, whole_unopened}
+use proofs.client.ClientEnd.{comes-same}
 
 -- the one beat of client c's Acquire of block n, which was at rest, is granted or waits for ProbeAcks afterwards
 pub record IsAcquired {w : ℕ} {X : Type 0} (c n : ℕ) (y : BeatA w) (asked asked' : ℕ → Option (BeatA w))

@@ -1,11 +1,12 @@
 -- What is delivered on a link, as an event leaves it alone: each value of it is as before.
-use Rattle.std.proofs.Common.{◌≡◌, ℕ, Bool, true, false, not, ◌&&◌, ◌||◌, ◌∷◌, Option, Some, None, refl, sym, ◌∙◌, ap}
+use Rattle.std.proofs.Common.{◌≡◌, ℕ, Bool, true, false, not, ◌&&◌, ◌||◌, Option, Some, None, refl, sym, ◌∙◌, ap}
 use Rattle.std.proofs.Common.{List, ◌⊎◌, inl, inr}
 use Rattle.tl_coherence.proofs
 use proofs.Imports.{Beat, BeatA, Channel, History, ReleasePhase, Block, State, SourceState, InService, Replied}
 use proofs.Imports.{Acquires, view, is_granting, is_acknowledging, is_answered, is_wanting, is_unserved, comes_granting}
 use proofs.Imports.{MonitorRelation, is_requested, is_release_pending, is_let_by, is_sunk, cap_waited}
 use proofs.flow.{FlowSame.flowed-untouched, FlowStep.held_by, FlowStep.granted_by}
+use proofs.client.ClientEnd.{comes-same}
 
 -- the block is as before for what was delivered on client d's link
 pub record IsSameBlock {X : Type 0} (d : ℕ) (b b' : Block X) : Type 0 where
@@ -76,11 +77,6 @@ let_by-same c i rest (Some n) s s' h = ap (is_release_pending i rest) (h n)
 -- a part of a Grant was delivered of a block that is granted alone
 abbrev pub IsComing : {w : ℕ} {X : Type 0} → (ℕ → Option (BeatA w)) → List (Beat w) → ℕ → State X → Type 0
 IsComing asked rest c s = (n : ℕ) → comes_granting n asked rest ≡ true → is_granting (view (s.block n).service c) ≡ true
-
-pub comes-same : {w : ℕ} (n : ℕ) (asked asked' : ℕ → Option (BeatA w)) (rest : List (Beat w))
-    → ((i : ℕ) → asked' i ≡ asked i) → comes_granting n asked' rest ≡ comes_granting n asked rest
-comes-same n asked asked' (Beat.D x ∷ rest) h = cc (h x.source)
-comes-same n asked asked' rest h = refl
 
 -- ---- all values
 

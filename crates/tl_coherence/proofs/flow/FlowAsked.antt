@@ -7,10 +7,9 @@ use proofs.Imports.{ClientBlock, NoAcquire, ReleasePhase, NoRelease, ReleaseSent
 use proofs.Imports.{State, SourceState, SourceFree, Asked, Acquires, view, access_asked, acquire_asked, acquiring_block}
 use proofs.Imports.{release_asked, releasing_block, is_acknowledging, is_answered, is_granting, is_wanting, is_unserved}
 use proofs.Imports.{comes_granting, is_requested, is_release_pending, is_let_by, cap_waited}
-use proofs.client.Aside.{set_at-else}
-use proofs.flow.{FlowSame.IsUntouched, FlowSunk.sunk_in, FlowSunk.sunk-as, FlowAside.comes-same}
-use proofs.flow.{FlowAside.requested-blocks, FlowAside.let_by-same, FlowStep.held_by, FlowStep.acquired_by}
-use proofs.flow.{FlowStep.let_of, FlowStep.granted_by}
+use proofs.client.{Aside.set_at-else, ClientEnd.comes-same}
+use proofs.flow.{FlowSame.IsUntouched, FlowSunk.sunk_in, FlowSunk.sunk-as, FlowAside.requested-blocks}
+use proofs.flow.{FlowAside.let_by-same, FlowStep.held_by, FlowStep.acquired_by, FlowStep.let_of, FlowStep.granted_by}
 use proofs.queues.Tokens.{same_number, set-same, set-each, set-part, set_at-same}
 
 -- ---- a request

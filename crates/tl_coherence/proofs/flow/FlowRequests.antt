@@ -47,7 +47,7 @@ acquire-lawful {w} {config} {log} {mail} {request} {s} {sys} {c} {n} l {x} {ms} 
     (λ none. acquire-flows config.profile n (a_beat_of m 0) (flowed c) none (acquires-so wanted.whole) (same_block n)
     wanted.used idle (kept-is p.letting (and_right (is_unprobed p.probing) (is_unreleased p.letting)
     (and_left (is_unprobed p.probing && is_unreleased p.letting) (same_perm p.recorded p.held) settled)))
-    (grows wanted.grow p.recorded p.held wanted.whole
+    (grows wanted.whole p.recorded p.held wanted.grow
     (acquire_fits wanted.whole wanted.grow p (view (s.block n).service c) well wanted.wants)
     (and_right (is_unprobed p.probing && is_unreleased p.letting) (same_perm p.recorded p.held) settled)))
   where

@@ -12,10 +12,9 @@ use proofs.Imports.{taken_by_client, some_below, probes_some, performs, answers,
 use proofs.Imports.{SimulationRelation, is_caching, IsFor, Log, perm_le, System}
 use proofs.client.AnswersKept.{set_at-apart}
 use proofs.manager.Choices.{plain-past}
-use proofs.queues.{Codes.low_cap, Facts.reported_within, Facts.spared_within, Tokens.set-same, Tokens.set-other}
-use proofs.queues.{Tokens.set_at-same}
-use proofs.protocol.{BothParts.quiet-is, Events.IsReady, Events.ready-access, Events.true-taken, RequestsKept.unprobed}
-use proofs.protocol.{RequestsKept.settled_all, FirstTokens.first-report}
+use proofs.queues.{Codes.low_cap, Tokens.set-same, Tokens.set_at-same}
+use proofs.protocol.{Granted.recorded_within, Events.IsReady, Events.ready-access, Events.true-taken}
+use proofs.protocol.{RequestsKept.unprobed, RequestsKept.settled_all, FirstTokens.first-report}
 use proofs.flow.Excluded.{above_le, leaves_within, leaves_all}
 use proofs.memory.BesideTaken.{intent-reply, memory-reported, memory-unprobed}
 
@@ -140,7 +139,8 @@ renewed-kind_taken {w} {config} tracker c k i rest h is first ready =
         → probes_some clients c false o (h.state.block (block_at m.address)).pair ≡ false
         → AreRenewed h (access_taken c source m tracker false None rest h)
     answered source m o from plain caps none = renewed-reply c source m b.memory h
-        (access_taken c source m tracker false None rest h) (λ d j. refl) (λ d j. refl) (λ d j. refl) from (λ d. ap (λ (z : Block (List ℕ)). leaves (needs m.opcode) (z.pair d).recorded)
+        (access_taken c source m tracker false None rest h) (λ d j. refl) (λ d j. refl) (λ d j. refl) from
+        (λ d. ap (λ (z : Block (List ℕ)). leaves (needs m.opcode) (z.pair d).recorded)
         (set-same n (performed_block (performs m) b) h.state.block) ∙ (found o caps none).0 d) (found o caps none).1
       where
         n : ℕ
@@ -200,13 +200,7 @@ renewed-kind_taken {w} {config} tracker c k i rest h is first ready =
         other d = rw waits refl
 
         low : (d : ℕ) → perm_le (set c (after_report r (b.pair c)) b.pair d).recorded (cap_right j) ≡ true
-        low d = elim (cases_eq d c) [
-          | inl e ↦ rw (e, set-same c (after_report r (b.pair c)) b.pair)
-              (reported_within j r (b.pair c) (view b.service c) ((is.invariant.blocks n).phases c) (other c) answer)
-          | inr ne ↦ rw (set-other c d (after_report r (b.pair c)) b.pair ne)
-              (spared_within j (b.pair d) (view b.service d) ((is.invariant.blocks n).phases d) (other d)
-              (quiet-is (b.pair d).probing (quiet d ne)))
-        ]
+        low d = recorded_within c r j (is.invariant.blocks n) answer quiet (other c) d (other d)
 
         settled : IsSettledFor m (last_taken clients config.profile c n r (Waits q false source j) rest h).state
         settled d = ap (λ (i : ℕ). leaves (needs m.opcode) ((set n new h.state.block i).pair d).recorded) for.2

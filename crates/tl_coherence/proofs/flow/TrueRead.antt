@@ -13,8 +13,8 @@ use proofs.bound.Settling.{given-before}
 use proofs.deliveries.Matching.{shadow}
 use proofs.flow.{FlowTaken.each-taken, FlowTraces.trace-flows, Flows.flowed, NextOnD.next-on_d, Renewed.IsSettledFor}
 use proofs.links.FromInvariant.{matched-given}
-use proofs.memory.OneMemory.{reply-performed}
-use proofs.flow.Windowed.{asked_flow, closed_first, free-now, opened-now, renewed-followed, same_first, same_request}
+use proofs.memory.{OneMemory.reply-performed, BesideTaken.same_message}
+use proofs.flow.Windowed.{asked_flow, closed_first, free-now, opened-now, renewed-followed, same_first}
 
 -- ---- what is answered
 
@@ -66,7 +66,7 @@ answered {w} {config} (x ∷ log) given c source m used request =
       elim (renewed-followed config log x.0 h given.width is c source used) [
         | inl old ↦ inr (subst (λ (r : Message w). WasAnswered config c source m r log) (sym old.1.1)
             (answered log before c source m old.0 (sym old.1.0 ∙ request)))
-        | inr new ↦ inl (now new.0 new.1 new.2 new.3 (same_request new.0 m (sym new.1 ∙ request)))
+        | inr new ↦ inl (now new.0 new.1 new.2 new.3 (same_message new.0 m (sym new.1 ∙ request)))
       ],
     )
 

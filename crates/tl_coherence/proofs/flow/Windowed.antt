@@ -24,6 +24,7 @@ use proofs.links.FromInvariant.{matched-given}
 use proofs.manager.UnwaitedRequests.{next_tracker}
 use proofs.queues.{Facts.held_at_most, Perms.nothing_below, Steps.stepped-asked}
 use proofs.simulation.FollowCases.{followed-cases, on-first}
+use proofs.memory.BesideTaken.{same_message}
 
 -- ---- what is held and excludes nothing
 
@@ -35,9 +36,6 @@ leaves_below OpA.Get Perm.Trunk Perm.Trunk e f = f
 leaves_below OpA.Get Perm.Trunk q e f = absurd cc
 leaves_below o p q e f = nothing_below p q e f
 
-pub same_request : {w : ℕ} (m n : MessageA w) → Message.A m ≡ Message.A n → m ≡ n
-same_request m n e = cc
-
 pub same_first : {w : ℕ} (x y : BeatA w) → Some x ≡ Some y → y ≡ x
 same_first x y e = cc
 
@@ -47,7 +45,7 @@ abbrev AreWindowed : {w : ℕ} → AbstractState w → Trace w → Type 0
 AreWindowed {w} h t = (n c source : ℕ) (m : MessageA w) → h.state.uses c source ≡ Replied
     → h.mail.request c source ≡ Message.A m → has_window n c source (needs m.opcode) (block_at m.address) t ≡ true
 
-asked_replied : {w : ℕ} (u : SourceState) (m acquire : Message w) → u ≡ Replied → asked_for u m acquire ≡ first_of m
+pub asked_replied : {w : ℕ} (u : SourceState) (m acquire : Message w) → u ≡ Replied → asked_for u m acquire ≡ first_of m
 asked_replied u m acquire e = rw e refl
 
 -- one that is answered is pending
@@ -109,7 +107,7 @@ windowed-more {w} {config} {log'} h h' {sys'} y t is values more renewed before 
           (has_window n c source (needs m.opcode) (block_at m.address) t)
           (subst (λ (s : Trace w). is_free n None (needs m.opcode) (block_at m.address) s ≡ true) more
           (free-now config log' h' sys' is values c source m used request
-          (subst (λ (i : MessageA w). IsSettledFor i h'.state) (same_request new.0 m (sym new.1 ∙ request)) new.2) n))
+          (subst (λ (i : MessageA w). IsSettledFor i h'.state) (same_message new.0 m (sym new.1 ∙ request)) new.2) n))
     ])
 
 windowed-kept : {w : ℕ} (h h' : AbstractState w) (t : Trace w) → AreKept h h' → AreWindowed h t → AreWindowed h' t

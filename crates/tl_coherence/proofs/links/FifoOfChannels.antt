@@ -170,7 +170,8 @@ moved-passing {w} config log link ch terms x queue width typed logged known beat
     h = matched config log width typed logged
 
     on_ch : IsOn ch x
-    on_ch = rw (← (first-of config log (shadow config log) c terms ch x queue width h known beats).on) (on_own_channel x)
+    on_ch = rw (← (first-of config log (shadow config log) c terms ch x queue width h known beats).on)
+        (on_own_channel x)
 
     head : manager.IsSound config (record { 0 = c }, x)
     head = All-head (λ y. manager.IsSound config (record { 0 = c }, y)) x queue (same beats (h.sound c ch))

@@ -109,28 +109,20 @@ order-access {w} {config} {log} {mail} {request} {s} {sys} c source m zero is us
 order-access {config} {sys} c source m (suc i) is used source_is access burst =
     later-legal config.profile (Message.A m) i (on_link c sys.manager.trace) burst
 
-pub grows : (g : Grow) (p q : Perm) (whole : Bool) → grow_fits q (AcquireOpen whole g) ≡ true → same_perm p q ≡ true
+none_grows : (g : Grow) → grows_from (grow_code g) Perm.None ≡ true
+none_grows Grow.NtoB = refl
+none_grows g = refl
+
+-- what may grow from what is held may grow from what is recorded, where they agree
+pub grows : (whole : Bool) (p q : Perm) (g : Grow) → grow_fits q (AcquireOpen whole g) ≡ true → same_perm p q ≡ true
     → grows_from (grow_code g) p ≡ true
-grows Grow.NtoB Perm.None Perm.None whole e f = refl
-grows Grow.NtoT Perm.None Perm.None whole e f = refl
-grows Grow.BtoT Perm.None Perm.None whole e f = refl
-grows Grow.BtoT Perm.Branch Perm.Branch whole e f = refl
-grows Grow.NtoB Perm.Branch Perm.Branch true e f = absurd cc
-grows Grow.NtoB Perm.Branch Perm.Branch false e f = absurd cc
-grows Grow.NtoB Perm.Trunk Perm.Trunk true e f = absurd cc
-grows Grow.NtoB Perm.Trunk Perm.Trunk false e f = absurd cc
-grows Grow.NtoT Perm.Branch Perm.Branch true e f = absurd cc
-grows Grow.NtoT Perm.Branch Perm.Branch false e f = absurd cc
-grows Grow.NtoT Perm.Trunk Perm.Trunk true e f = absurd cc
-grows Grow.NtoT Perm.Trunk Perm.Trunk false e f = absurd cc
-grows Grow.BtoT Perm.Trunk Perm.Trunk true e f = absurd cc
-grows Grow.BtoT Perm.Trunk Perm.Trunk false e f = absurd cc
-grows g Perm.None Perm.Branch whole e f = absurd cc
-grows g Perm.None Perm.Trunk whole e f = absurd cc
-grows g Perm.Branch Perm.None whole e f = absurd cc
-grows g Perm.Branch Perm.Trunk whole e f = absurd cc
-grows g Perm.Trunk Perm.None whole e f = absurd cc
-grows g Perm.Trunk Perm.Branch whole e f = absurd cc
+grows true Perm.None Perm.None g e f = none_grows g
+grows false Perm.None Perm.None g e f = none_grows g
+grows true Perm.Branch Perm.Branch Grow.BtoT e f = refl
+grows false Perm.Branch Perm.Branch Grow.BtoT e f = refl
+grows true Perm.Trunk Perm.Trunk Grow.BtoT e f = absurd cc
+grows false Perm.Trunk Perm.Trunk Grow.BtoT e f = absurd cc
+grows whole p q g e f = absurd cc
 
 kept-is : (x : ReleasePhase) → is_unreleased x ≡ true → is_releasing x ≡ false
 kept-is NoRelease e = refl
@@ -163,7 +155,7 @@ order-acquire {w} {config} {log} {mail} {request} {s} {sys} {c} {n} zero is is_i
     (kept-is p.letting (and_right (is_unprobed p.probing) (is_unreleased p.letting)
     (and_left (is_unprobed p.probing && is_unreleased p.letting) (same_perm p.recorded p.held) settled))))
     (is.managed.recorded_is c n)
-    (grows is_it.grow p.recorded p.held is_it.whole (acquire_fits is_it.whole is_it.grow p (view (s.block n).service c)
+    (grows is_it.whole p.recorded p.held is_it.grow (acquire_fits is_it.whole is_it.grow p (view (s.block n).service c)
     well is_it.wants)
     (and_right (is_unprobed p.probing && is_unreleased p.letting) (same_perm p.recorded p.held) settled))
 order-acquire {w} {config} {s} {sys} {c} {n} (suc i) is is_it free burst =

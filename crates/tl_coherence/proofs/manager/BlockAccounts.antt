@@ -11,8 +11,7 @@ use Rattle.tl_manager.{proofs.pending.Settled.all-settled, proofs.services.Servi
 use Rattle.tl_manager.{specs.laws.Pending.is_acquiring, specs.laws.Pending.is_granted_to, specs.laws.Pending.is_awaited}
 use Rattle.tl_manager.specs.laws.Pending as waits
 use Rattle.tl_manager.specs.statement.Service as manager
-use proofs.queues.{Facts.is_other, Phases.each_phase, Phases.of_phase, Tokens.same_number}
-use proofs.protocol.BothParts.{not-other}
+use proofs.queues.{Facts.is_other, Phases.each_phase, Phases.of_phase, Tokens.same_number, Tokens.if-part}
 
 -- ---- services that pass a test
 
@@ -95,8 +94,8 @@ abbrev pub at_service : {w : ℕ} → ℕ → ℕ → MessageA w → manager.Ser
 at_service r tracker m = record { tracker = tracker; link = record { 0 = r }; request = m }
 
 granted_views : (s : Service) (c : ℕ) → is_granted_in s ≡ true → is_other (view s c) ≡ false
-granted_views (GrantSent q d k) c e = not-other (c == q) (Granting d k) GrantedOther refl refl
-granted_views (GrantTaken q) c e = not-other (c == q) Acknowledging GrantedOther refl refl
+granted_views (GrantSent q d k) c e = if-part is_other (c == q) refl refl
+granted_views (GrantTaken q) c e = if-part is_other (c == q) refl refl
 granted_views s c e = absurd cc
 
 -- a request is granted exactly where the protocol says so

@@ -5,12 +5,12 @@ use Rattle.tl_coherence.proofs
 use proofs.Imports.{cases_eq, same_Some, Beat, BeatE, MessageA, a_beat_of, Key, Cap, held_unsaid, pending-quiet, Trace}
 use proofs.Imports.{on_link, is_acquire, held, pending, request_of, request_of-e, beat-keeps, AreApart, blocks_of}
 use proofs.Imports.{services, service_of_block, AreNamed, is_busy, Packet, set, is_unprobed, Service, Free, Waits}
-use proofs.Imports.{GrantTaken, Block, State, grant_ack_taken, freed_block, client_in, service_with}
+use proofs.Imports.{GrantTaken, Block, State, grant_ack_taken, freed_block, client_in, service_with, IsFor}
 use Rattle.tl_manager.{proofs.pending.Acked.services-e, proofs.services.Serving.if_passes}
 use Rattle.tl_manager.{proofs.services.Serving.serving-filter, specs.statement.Service.is_ended_by}
 use Rattle.tl_manager.specs.statement.Service as manager
 use proofs.manager.{BlockAccounts.IsTraced, ManagedEndings.tracker-of}
-use proofs.queues.Tokens.{same_number, set-same, set-other, set-part}
+use proofs.queues.Tokens.{set-each, same_number, set-same, set-other, set-part}
 
 -- ---- a beat of channel E
 
@@ -83,12 +83,9 @@ pub traced-acked : {w : ℕ} {X : Type 0} {request : ℕ → MessageA w} {c n : 
 traced-acked {X} {request} {c} {n} rest {x} {s} {t} is known =
     let new : Block X = freed_block (s.block n) in
     let asked_now : (i p from : ℕ) (own : Bool) (low : Cap) → (set n new s.block i).service ≡ Waits p own from low
-    → request_of from (on_link p t) ≡ Some (a_beat_of (request i) 0) = λ i p from own low e. elim (cases_eq i n) [
-      | inl same ↦ absurd (let free : Free ≡ Waits p own from low =
-          ap (λ (b : Block X). b.service) (sym (set-same n new s.block)) ∙ (rw same at e) in cc)
-      | inr other ↦ known.asked i p from own low
-          (ap (λ (b : Block X). b.service) (sym (set-other n i new s.block other)) ∙ e)
-    ] in
+    → request_of from (on_link p t) ≡ Some (a_beat_of (request i) 0) = λ i p from own low. set-each
+    (λ j z. z.service ≡ Waits p own from low → request_of from (on_link p t) ≡ Some (a_beat_of (request j) 0)) n new
+    s.block (λ e. absurd cc) (λ j ne. known.asked j p from own low) i in
     record {
       recorded_is = λ d i. beat-keeps (held i) d (record { 0 = c }) (Beat.E x) t (λ h. held_unsaid i (Beat.E x) h refl)
           ∙ known.recorded_is d i ∙ sym (set-part (λ (b : Block X). (b.pair d).recorded) n new s.block refl i);
@@ -99,10 +96,7 @@ traced-acked {X} {request} {c} {n} rest {x} {s} {t} is known =
         | inl same ↦ rw (same, set-same n new s.block, same_number n) refl
         | inr other ↦ rw (set-other n i new s.block other, ne_eqb i n other) (known.serving_is i)
       ];
-      requests = λ i. elim (cases_eq i n) [
-        | inl same ↦ rw (same, set-same n new s.block) tt
-        | inr other ↦ rw (set-other n i new s.block other) (known.requests i)
-      ];
+      requests = set-each (λ i z. IsFor z.service i (request i)) n new s.block tt (λ i ne. known.requests i);
       asked = λ i p from own low e. beat-keeps (request_of from) p (record { 0 = c }) (Beat.E x) t (request_of-e from x)
           ∙ asked_now i p from own low e;
     }

@@ -3,15 +3,15 @@ use Rattle.std.proofs.Common.{◌≡◌, ℕ, Bool, true, false, List, ◌∷◌
 use Rattle.tl_coherence.proofs
 use proofs.Imports.{cases_eq, Beat, BeatC, D, MessageA, MessageD, a_beat_of, Key, Cap, Report, report_right, Trace}
 use proofs.Imports.{on_link, is_acquire, is_grant, is_probe_ack, request_of, after_sent, IsReply, reply-quiet}
-use proofs.Imports.{request-reply, services, service_of_block, is_access_answer, AreNamed, is_busy, Packet, set, Free}
-use proofs.Imports.{Waits, Block, State, report_answers, ended_block}
+use proofs.Imports.{request-reply, services, service_of_block, is_access_answer, AreNamed, is_busy, Packet, set, Waits}
+use proofs.Imports.{Block, State, report_answers, ended_block, IsFor}
 use Rattle.tl_manager.{proofs.pending.Accesses.answer_kind, proofs.pending.Accesses.services-answer}
 use Rattle.tl_manager.{proofs.words_of_clients.Counts.serving-without, specs.laws.Pending.IsAccounted}
 use Rattle.tl_manager.specs.statement.Service as manager
 use proofs.manager.{BlockAccounts.IsTraced, QuiescentManager.quiet-c, QuiescentManager.IsLastOf}
 use proofs.manager.{QuiescentManager.recorded-answer, ManagedReports.reported-records, ManagedReports.reported-missing}
 use proofs.protocol.BothParts.{is_of-is}
-use proofs.queues.Tokens.{same_number, set-same, set-other}
+use proofs.queues.Tokens.{set-each, same_number}
 
 -- ---- a tracker
 
@@ -51,12 +51,9 @@ traced-ended {w} {X} {request} {c} {q} {n} {r} f rest {x} {m} {s} {t} is known =
     let other : is_grant m.opcode ≡ false = answer_kind m.opcode is.answers in
     let asked_now : (i p source : ℕ) (own : Bool) (cap : Cap) → (set n new s.block i).service ≡ Waits p own source cap
     → request_of source (on_link p t) ≡ Some (a_beat_of (request i) 0) =
-    λ i p source own cap e. elim (cases_eq i n) [
-      | inl same ↦ absurd (let free : Free ≡ Waits p own source cap =
-          ap (λ (b : Block X). b.service) (sym (set-same n new s.block)) ∙ (rw same at e) in cc)
-      | inr apart ↦ known.asked i p source own cap
-          (ap (λ (b : Block X). b.service) (sym (set-other n i new s.block apart)) ∙ e)
-    ] in
+    λ i p source own cap. set-each (λ j z. z.service ≡ Waits p own source cap
+    → request_of source (on_link p t) ≡ Some (a_beat_of (request j) 0)) n new s.block (λ e. absurd cc)
+    (λ j ne. known.asked j p source own cap) i in
     record {
       recorded_is = λ d i. recorded-answer (record { 0 = q }) m u is.reply.width is.reply.whole other d i
           ∙ reported-records r new is.last (λ j. refl) known d i;
@@ -71,10 +68,7 @@ traced-ended {w} {X} {request} {c} {q} {n} {r} f rest {x} {m} {s} {t} is known =
                 rw (ne_eqb n i apart, ne_eqb i n differ)
                 (ap (service_of_block i) (quiet-c (record { 0 = c }) x t).serves ∙ known.serving_is i)
           ];
-      requests = λ i. elim (cases_eq i n) [
-        | inl same ↦ rw (same, set-same n new s.block) tt
-        | inr apart ↦ rw (set-other n i new s.block apart) (known.requests i)
-      ];
+      requests = set-each (λ i z. IsFor z.service i (request i)) n new s.block tt (λ i ne. known.requests i);
       asked = λ i p source own cap e. request-reply (record { 0 = q }) m u p
           source ∙ (quiet-c (record { 0 = c }) x t).requests p source ∙ asked_now i p source own cap e;
     }

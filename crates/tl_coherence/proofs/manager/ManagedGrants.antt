@@ -5,12 +5,12 @@ use Rattle.tl_coherence.proofs
 use proofs.Imports.{cases_eq, and_parts, BeatC, D, MessageA, MessageD, a_beat_of, Key, Cap, Report, cap_right}
 use proofs.Imports.{report_right, Trace, on_link, block_at, capped, is_probe_ack, request_of, after_sent, reply-quiet}
 use proofs.Imports.{request-reply, recorded, service_of_block, Packet, set, ClientBlock, is_unprobed, after_report}
-use proofs.Imports.{after_grant_sent, Waits, GrantSent, Block, State, report_grants, granted_block, reported_block}
+use proofs.Imports.{after_grant_sent, Waits, Block, State, report_grants, granted_block, reported_block, IsFor}
 use Rattle.tl_manager.proofs.pending.Granted.{IsGrant, services-grant}
 use proofs.manager.{BlockAccounts.IsTraced, QuiescentManager.quiet-c, QuiescentManager.IsLastOf, ManagedEndings.taken}
 use proofs.manager.{ManagedEndings.service_for, ManagedReports.reported-records, ManagedReports.reported-missing}
 use proofs.manager.{GivenGrants.IsGiven, GivenGrants.given-records, GivenGrants.pair-over}
-use proofs.queues.Tokens.{set-same, set-other}
+use proofs.queues.Tokens.{set-each, set-same, set-other}
 
 -- ---- the Grant of a service that waited
 
@@ -52,12 +52,9 @@ traced-conceded {w} {X} {request} {c} {q} {n} {gift} {r} dt rest {x} {m} {s} {t}
     ≡ (if (q == d) && (n == i) then cap_right gift else ((set n mid s.block i).pair d).recorded) =
     λ d i. rw (is.cap_is, reported-records r mid is.last (λ j. refl) known d i) refl in
     let asked_now : (i p from : ℕ) (own : Bool) (low : Cap) → (set n new s.block i).service ≡ Waits p own from low
-    → request_of from (on_link p t) ≡ Some (a_beat_of (request i) 0) = λ i p from own low e. elim (cases_eq i n) [
-      | inl same ↦ absurd (let sent : GrantSent q dt gift ≡ Waits p own from low =
-          ap (λ (b : Block X). b.service) (sym (set-same n new s.block)) ∙ (rw same at e) in cc)
-      | inr other ↦ known.asked i p from own low
-          (ap (λ (b : Block X). b.service) (sym (set-other n i new s.block other)) ∙ e)
-    ] in
+    → request_of from (on_link p t) ≡ Some (a_beat_of (request i) 0) = λ i p from own low. set-each
+    (λ j z. z.service ≡ Waits p own from low → request_of from (on_link p t) ≡ Some (a_beat_of (request j) 0)) n new
+    s.block (λ e. absurd cc) (λ j ne. known.asked j p from own low) i in
     record {
       recorded_is = λ d i. given-records given d i ∙ records_now d i ∙ sym
           (pair-over (λ p. p.recorded) q n gives new mid s.block (λ j. refl) d i);
@@ -71,10 +68,8 @@ traced-conceded {w} {X} {request} {c} {q} {n} {gift} {r} dt rest {x} {m} {s} {t}
             | inl same ↦ rw (same, set-same n new s.block, is.waits) refl
             | inr other ↦ rw (set-other n i new s.block other) refl
           ]);
-      requests = λ i. elim (cases_eq i n) [
-        | inl same ↦ rw (same, set-same n new s.block) (is.grant.acquires, is.block_is)
-        | inr other ↦ rw (set-other n i new s.block other) (known.requests i)
-      ];
+      requests = set-each (λ i z. IsFor z.service i (request i)) n new s.block (is.grant.acquires, is.block_is)
+          (λ i ne. known.requests i);
       asked = λ i p from own low e. request-reply (record { 0 = q }) m u p from
           ∙ (quiet-c (record { 0 = c }) x t).requests p from ∙ asked_now i p from own low e;
     }

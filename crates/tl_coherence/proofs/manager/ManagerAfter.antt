@@ -22,7 +22,7 @@ use proofs.manager.{ManagedReports.IsReleased, ManagersEnd.IsAtManager, Choices.
 use proofs.manager.{Reporting.IsAbout, Reporting.reported-prune, ManagerMemory.block_in, ManagerMemory.other-blocks}
 use proofs.manager.{ManagerMemory.blocks-now, ManagerMemory.block-taken, QuiescentManager.IsLastOf}
 use proofs.manager.{QuiescentManager.missing-last}
-use proofs.queues.Tokens.{same_number, set-same, set-other, set-part}
+use proofs.queues.Tokens.{set-each, same_number, set-part}
 
 -- what is kept of the manager's end beside the protocol as it follows
 abbrev pub IsManagerOf : {w : ℕ} → Config → AbstractState w → End w → Type 0
@@ -155,10 +155,8 @@ released-left {w} {config} {c} {n} {k} r rest {m} h {e} up end is =
       none = answer.3;
       whole = (whole-taken c (record { 0 = c }) (Beat.C x) e.trace refl (is.manager_kept.whole c)).1;
     } in
-    let still : (i : ℕ) → IsServedWith h.mail (after.block i).service (h.request i) = λ i. elim (cases_eq i n) [
-      | inl same ↦ rw (same, set-same n (let_block c r (h.state.block n)) h.state.block) (is.served_with n)
-      | inr other ↦ rw (set-other n i (let_block c r (h.state.block n)) h.state.block other) (is.served_with i)
-    ] in
+    let still = set-each (λ i z. IsServedWith h.mail z.service (h.request i)) n (let_block c r (h.state.block n))
+    h.state.block (is.served_with n) (λ i ne. is.served_with i) in
     subst (λ (d : Reaction w). IsManagerOf config (with_state after h) (left c (Beat.C x) d e)) (sym done) (record {
       traced = subst (λ (i : Message w). IsTraced h.request after
           (with_handed ((record { 0 = c }, i) ∷ []) ((record { 0 = c }, Beat.C x) ∷ e.trace))) (sym answer.1)
@@ -228,10 +226,8 @@ reported-left {w} {config} {c} {n} {k} r rest {m} h {e} up end others is =
     let does : Reaction w = nothing (memory_with (record { 0 = c }) x e) in
     let last = last-of (report_right r) end (reported-report r) in
     let done = reaction-reported config r h end others is.traced in
-    let still : (i : ℕ) → IsServedWith h.mail (after.block i).service (h.request i) = λ i. elim (cases_eq i n) [
-      | inl same ↦ rw (same, set-same n (reported_block c r (h.state.block n)) h.state.block) (is.served_with n)
-      | inr other ↦ rw (set-other n i (reported_block c r (h.state.block n)) h.state.block other) (is.served_with i)
-    ] in
+    let still = set-each (λ i z. IsServedWith h.mail z.service (h.request i)) n (reported_block c r (h.state.block n))
+    h.state.block (is.served_with n) (λ i ne. is.served_with i) in
     subst (λ (d : Reaction w). IsManagerOf config (with_state after h) (left c (Beat.C x) d e)) (sym done) (record {
       traced = traced-reported r rest last end.about.reports is.traced;
       served_with = λ i. still i;
@@ -255,10 +251,8 @@ unfolding with_handed
 acked-left {w} {config} {c} {n} rest {x} h {e} width up acks is =
     let after : State (List ℕ) = grant_ack_taken c n rest h.state in
     let done = reaction-ack config (record { 0 = c }) x e in
-    let still : (i : ℕ) → IsServedWith h.mail (after.block i).service (h.request i) = λ i. elim (cases_eq i n) [
-      | inl same ↦ rw (same, set-same n (freed_block (h.state.block n)) h.state.block) tt
-      | inr other ↦ rw (set-other n i (freed_block (h.state.block n)) h.state.block other) (is.served_with i)
-    ] in
+    let still = set-each (λ i z. IsServedWith h.mail z.service (h.request i)) n (freed_block (h.state.block n))
+    h.state.block tt (λ i ne. is.served_with i) in
     subst (λ (d : Reaction w). IsManagerOf config (with_state after h) (left c (Beat.E x) d e)) (sym done) (record {
       traced = traced-acked rest acks is.traced;
       served_with = λ i. still i;

@@ -1,15 +1,15 @@
 -- The manager's memory, block by block, after what it takes from channel C and after an access is performed.
 use Rattle.std.proofs.Common.{◌≡◌, ℕ, ◌+◌, ◌*◌, ◌%◌, ◌^◌, ◌<◌, ◌≤◌, Bool, true, false, List, length, Option, Some, None}
-use Rattle.std.proofs.Common.{refl, sym, ◌∙◌, ap, arith, inl, inr, ◌-◌, eqb-true, ne_eqb, if◌then◌else◌}
+use Rattle.std.proofs.Common.{refl, sym, ◌∙◌, ap, arith, ◌-◌, eqb-true, ne_eqb, if◌then◌else◌}
 use Rattle.tl_coherence.proofs
-use proofs.Imports.{cases_eq, Beat, BeatC, Link, Channel, c_carries_data, IsWidth, Message, MessageA, Config, Level}
+use proofs.Imports.{Beat, BeatC, Link, Channel, c_carries_data, IsWidth, Message, MessageA, Config, Level}
 use proofs.Imports.{control_of_legal, control_aligned, after-local, reply-local, bytes_same, room_in_block, payload_of}
 use proofs.Imports.{Memory, answer_of, bytes_from, effect, AccessResult, SameBlock, block_at, memory-elsewhere, IsKept}
 use proofs.Imports.{illegal_message_at, access_answer, with_block, set, Block, State, answers, performs, bytes_at}
 use Rattle.tl_manager.{proofs.blocks.Written.block-written, specs.statement.Offer.offered}
 use Rattle.tl_manager.{specs.statement.Reaction.written}
 use Rattle.tl_manager.specs.statement.End as manager_end
-use proofs.queues.Tokens.{set-same, set-other}
+use proofs.queues.Tokens.{set-each}
 use proofs.manager.Memories.{byte_in}
 
 -- ---- the bytes of a block
@@ -37,10 +37,8 @@ other-blocks {config} link ch x {e} n width kept block i other =
 pub blocks-now : (memory later : Memory) (n : ℕ) (new : Block (List ℕ)) (s : State (List ℕ))
     → block_in later n ≡ new.memory → ((i : ℕ) → (i ≡ n → ⊥) → block_in later i ≡ block_in memory i)
     → ((i : ℕ) → block_in memory i ≡ (s.block i).memory) → (i : ℕ) → block_in later i ≡ (set n new s.block i).memory
-blocks-now memory later n new s here others known i = elim (cases_eq i n) [
-  | inl same ↦ rw (same, set-same n new s.block) here
-  | inr other ↦ rw (set-other n i new s.block other) (others i other ∙ known i)
-]
+blocks-now memory later n new s here others known =
+    set-each (λ i z. block_in later i ≡ z.memory) n new s.block here (λ i other. others i other ∙ known i)
 
 -- ---- a message of channel C
 

@@ -1,14 +1,13 @@
 -- All that is kept of the manager's end, after the last ProbeAck that a request waited for.
 use Rattle.std.proofs.Common.{◌≡◌, ℕ, Bool, true, false, not, List, [], ◌∷◌, length, refl, sym, ◌∙◌, ap, ap₂, subst}
-use Rattle.std.proofs.Common.{inl, inr}
 use Rattle.tl_coherence.proofs
-use proofs.Imports.{cases_eq, Beat, BeatC, Message, MessageA, MessageC, MessageD, c_beat_of, Config, Cap, Grow, Report}
-use proofs.Imports.{Perm, cap_code, grow_code, Trace, same_perm, effect, Memory, block_at, is_release_ack, is_grant}
-use proofs.Imports.{capped, cap-gives, performed-access, performed-acquire, memory_with, grants_by_opcode, End}
-use proofs.Imports.{Reaction, access_answer, with_handed, cap_granted, grant, recorded, level_of, reaction}
-use proofs.Imports.{is_access_answer, set, Packet, ClientBlock, is_granted_data, after_report, GrantSent, Block, State}
-use proofs.Imports.{Acquires, report_grants, granted_block, reported_block, report_answers, ended_block, AbstractState}
-use proofs.Imports.{answers, performs, acquire_opcode, gift, is_unheld, with_state, grant_of, IsServedWith}
+use proofs.Imports.{Beat, BeatC, Message, MessageA, MessageC, MessageD, c_beat_of, Config, Cap, Grow, Report, Perm}
+use proofs.Imports.{cap_code, grow_code, Trace, same_perm, effect, Memory, block_at, is_release_ack, is_grant, capped}
+use proofs.Imports.{cap-gives, performed-access, performed-acquire, memory_with, grants_by_opcode, End, Reaction}
+use proofs.Imports.{access_answer, with_handed, cap_granted, grant, recorded, level_of, reaction, is_access_answer, set}
+use proofs.Imports.{Packet, ClientBlock, is_granted_data, after_report, GrantSent, Block, State, Acquires}
+use proofs.Imports.{report_grants, granted_block, reported_block, report_answers, ended_block, AbstractState, answers}
+use proofs.Imports.{performs, acquire_opcode, gift, is_unheld, with_state, grant_of, IsServedWith}
 use Rattle.tl_rules.specs.declared.answer.Answer.{Answer}
 use Rattle.tl_manager.specs.statement.Holders.{has_copy}
 use Rattle.tl_coherence.specs.refinement.AbstractStep.{with_answer}
@@ -20,7 +19,7 @@ use proofs.manager.{ManagedEndings.traced-ended, ManagedEndings.IsEnding, Manage
 use proofs.manager.{ManagedReports.reported-records, Choices.nobody-same, ManagerAfter.IsManagerOf, ManagerAfter.left}
 use proofs.manager.{ManagerAfter.kept-left, ManagerAfter.others-left, ManagerMemory.block_in, ManagerMemory.blocks-now}
 use proofs.manager.{ManagerMemory.block-performed, ManagerMemory.answer-performed}
-use proofs.queues.{Tokens.set-same, Tokens.set-other, Codes.data-same}
+use proofs.queues.{Tokens.set-each, Tokens.set-same, Tokens.set-other, Codes.data-same}
 use proofs.manager.SettlingService.{IsSettling, trace_with, settling-last, settling-ready, settling-reaction}
 use proofs.manager.SettlingService.{settling-lawful, settling-for, settling-reply, settling-memory}
 
@@ -82,10 +81,8 @@ ended-left {w} {config} {c} {q} {n} {source} {k} {low} {r} rest {m} {h} {e} at =
       accounted = (settling-ready at).accounted;
       access = for.0;
     } in
-    let still : (i : ℕ) → IsServedWith h.mail (after.block i).service (h.request i) = λ i. elim (cases_eq i n) [
-      | inl same ↦ rw (same, set-same n new h.state.block) tt
-      | inr other ↦ rw (set-other n i new h.state.block other) (at.is.served_with i)
-    ] in
+    let still = set-each (λ i z. IsServedWith h.mail z.service (h.request i)) n new h.state.block tt
+    (λ i ne. at.is.served_with i) in
     subst (λ (d : Reaction w). IsManagerOf config (with_answer q source said (with_state after h))
     (left c (Beat.C x) d e)) (sym done) (record {
       traced = subst (λ (i : Message w). IsTraced h.request after
@@ -226,10 +223,8 @@ conceded-left {w} {config} {c} {q} {n} {source} {k} {low} {r} {whole} {g} rest {
       asked = at.is.traced.asked n q source true low at.waits;
       cap_is = ap capped reply.6 ∙ cap-gives given;
     } in
-    let still : (i : ℕ) → IsServedWith h.mail (after.block i).service (h.request i) = λ i. elim (cases_eq i n) [
-      | inl same ↦ rw (same, set-same n new h.state.block) tt
-      | inr other ↦ rw (set-other n i new h.state.block other) (at.is.served_with i)
-    ] in
+    let still = set-each (λ i z. IsServedWith h.mail z.service (h.request i)) n new h.state.block tt
+    (λ i ne. at.is.served_with i) in
     subst (λ (d : Reaction w). IsManagerOf config (with_state after h) (left c (Beat.C x) d e)) (sym done) (record {
       traced = subst (λ (i : Message w). IsTraced h.request after
           (with_handed ((record { 0 = q }, i) ∷ []) (trace_with c k m e))) (sym reply.1)

@@ -7,15 +7,16 @@ use proofs.Imports.{channel_of, Config, Key, Level, Cap, Prune, Report, Perm, Pr
 use proofs.Imports.{report_code, prune_of, report_at, later-legal, on_link, broken_in_order, broken_order, same_perm}
 use proofs.Imports.{prunes_from, held, pending, judged-passes, whole-e, IsKept, IsSound, illegal_at, one_if, End}
 use proofs.Imports.{Passes, level_of, must_wait, is_from_client, open_level, reaction, IsInvariant, AreNamed, Kind}
-use proofs.Imports.{ProbeAck, Release, GrantAck, Packet, is, count, View, Own, Other, Granting, Acknowledging}
-use proofs.Imports.{GrantedOther, is_unprobed, ProbeAnswered, ReleaseSent, is_unreleased, same_report, Service, Free}
-use proofs.Imports.{Waits, GrantSent, GrantTaken, Block, State, view, is_on, packet, is_granting, is_acknowledging}
-use proofs.Imports.{is_answered, ManagerRelation, is_own, AccessMessages, block_message, message_of, message_of_kind}
-use proofs.Imports.{ServedSourceRelation, cap_waited, is_granted, System}
+use proofs.Imports.{ProbeAck, Release, GrantAck, Packet, is, count, View, Own, Other, Acknowledging, GrantedOther}
+use proofs.Imports.{is_unprobed, ProbeAnswered, ReleaseSent, is_unreleased, same_report, Service, GrantTaken, Block}
+use proofs.Imports.{State, view, is_on, packet, is_granting, is_acknowledging, is_answered, ManagerRelation, is_own}
+use proofs.Imports.{AccessMessages, block_message, message_of, message_of_kind, ServedSourceRelation, cap_waited}
+use proofs.Imports.{is_granted, System}
 use Rattle.tl_params.specs.declared.rule.Rule.TheVariants.{H8}
 use Rattle.tl_manager.{proofs.judging.Judged.manager-takes, specs.statement.Offer.judged, specs.statement.Offer.offered}
 use Rattle.tl_manager.{specs.statement.Offer.taken, specs.statement.Offer.unlawful}
 use Rattle.tl_manager.specs.statement.Offer as manager_offer
+use proofs.protocol.BothParts.{cap-waited}
 use proofs.queues.{FirstToken.IsFirst, Carried.IsNext, Facts.is_other, Facts.release_begins, PhaseFacts.report_fits}
 use proofs.queues.{PhaseFacts.own_alone, Phases.and_left, Phases.and_right, PhaseSteps.on_other, Tokens.same_number}
 use proofs.queues.{Tokens.ordered-first}
@@ -98,19 +99,11 @@ same_report-is p q e = absurd cc
 -- what holds of the cap that a client sees holds of that of the service
 pub seen_cap : (test : Cap → Bool) (s : Service) (c : ℕ) → (on_other (view s c) test && is_other (view s c)) ≡ true
     → test (cap_waited s) ≡ true
-seen_cap test Free c e = absurd cc
-seen_cap test (Waits r own source k) c e =
-    let go : (b : Bool) → (on_other (if b then Own else Other k) test && is_other (if b then Own else Other k)) ≡ true
-    → test k ≡ true = elim [ true ↦ λ f. absurd cc | false ↦ λ f. and_left (test k) true f ] in
-    go (own && (c == r)) e
-seen_cap test (GrantSent r d k) c e =
-    let go : (b : Bool) → (on_other (if b then Granting d k else GrantedOther) test && is_other
-    (if b then Granting d k else GrantedOther)) ≡ true → ⊥ = elim [ true ↦ λ f. cc | false ↦ λ f. cc ] in
-    absurd (go (c == r) e)
-seen_cap test (GrantTaken r) c e =
-    let go : (b : Bool) → (on_other (if b then Acknowledging else GrantedOther) test && is_other
-    (if b then Acknowledging else GrantedOther)) ≡ true → ⊥ = elim [ true ↦ λ f. cc | false ↦ λ f. cc ] in
-    absurd (go (c == r) e)
+seen_cap test s c = go (view s c) refl
+  where
+    go : (v : View) → view s c ≡ v → (on_other v test && is_other v) ≡ true → test (cap_waited s) ≡ true
+    go (Other k) f e = rw (cap-waited k s c f) (and_left (test k) true e)
+    go v f e = absurd cc
 
 -- the place of a beat in its message
 abbrev NextOrder : {w : ℕ} → Profile → MessageC w → ℕ → History w → Type 0

@@ -74,16 +74,8 @@ module _ {w : ℕ} (config : Config) (c : ℕ) (h : AbstractState w) where
       (starts_release (Ask c o) (Outcome.Replied r)) false
 
   busy-opens : (o : Op w) (b : Busy) → IsOpenAfter o (Reply.Busy b)
-  busy-opens (Op.Load address size) b = record { requests = refl; releases = refl }
-  busy-opens (Op.Store address size value) b = record { requests = refl; releases = refl }
-  busy-opens (Op.Acquire n g) b = record { requests = refl; releases = refl }
-  busy-opens (Op.AcquireWhole n bytes) b = record { requests = refl; releases = refl }
-  busy-opens (Op.Release n r) b = record { requests = refl; releases = refl }
   busy-opens (Op.Access (Message.A m)) b = record { requests = refl; releases = refl }
-  busy-opens (Op.Access (Message.B m)) b = record { requests = refl; releases = refl }
-  busy-opens (Op.Access (Message.C m)) b = record { requests = refl; releases = refl }
-  busy-opens (Op.Access (Message.D m)) b = record { requests = refl; releases = refl }
-  busy-opens (Op.Access (Message.E m)) b = record { requests = refl; releases = refl }
+  busy-opens o b = record { requests = refl; releases = refl }
 
   load-opens : (address size : ℕ) (p : Perm) (e : Endpoint w)
       → IsOpenAfter (Op.Load address size) (load address size p e).reply

@@ -22,7 +22,7 @@ use proofs.rank.RankParts.{serving-use}
 
 -- ---- links whose channel E stays
 
-served_e : {X : Type 0} (r : ℕ) (own : Bool) (n : ℕ) (k : Cap) (rest : List Packet) (b : Block X) (link : ℕ → Link)
+pub served_e : {X : Type 0} (r : ℕ) (own : Bool) (n : ℕ) (k : Cap) (rest : List Packet) (b : Block X) (link : ℕ → Link)
     (d : ℕ) → (served_link r own n k rest b link d).e ≡ (link d).e
 served_e {X} r own n k rest b link d = go (is_probed r own k (b.pair d).recorded d) (d == r)
   where
@@ -32,20 +32,21 @@ served_e {X} r own n k rest b link d = go (is_probed r own k (b.pair d).recorded
     go false true = refl
     go false false = refl
 
-set_e : (c : ℕ) (l : Link) (link : ℕ → Link) → l.e ≡ (link c).e → (d : ℕ) → (set c l link d).e ≡ (link d).e
+pub set_e : (c : ℕ) (l : Link) (link : ℕ → Link) → l.e ≡ (link c).e → (d : ℕ) → (set c l link d).e ≡ (link d).e
 set_e c l link same d = set-part (λ (x : Link). x.e) c l link same d
 
 popped_e : (c : ℕ) (rest : List Packet) (link : ℕ → Link) (d : ℕ) → (popped_link c rest link d).e ≡ (link d).e
 popped_e c rest link d = set_e c (record (link c) { c = rest }) link refl d
 
-ended_e : (c q : ℕ) (x : Packet) (rest : List Packet) (link : ℕ → Link) (d : ℕ)
+pub ended_e : (c q : ℕ) (x : Packet) (rest : List Packet) (link : ℕ → Link) (d : ℕ)
     → (ended_link c q x rest link d).e ≡ (link d).e
 ended_e c q x rest link d =
     let go : (b : Bool) → (if b then record (popped_link c rest link d) { d = (popped_link c rest link d).d ++ x ∷ [] }
     else popped_link c rest link d).e ≡ (popped_link c rest link d).e = elim [ true ↦ refl | false ↦ refl ] in
     go (d == q) ∙ popped_e c rest link d
 
-granted_e : (c q n : ℕ) (rest : List Packet) (link : ℕ → Link) (d : ℕ) → (granted_link c q n rest link d).e ≡ (link d).e
+pub granted_e : (c q n : ℕ) (rest : List Packet) (link : ℕ → Link) (d : ℕ)
+    → (granted_link c q n rest link d).e ≡ (link d).e
 granted_e c q n rest link d = set_e q (record (link q) { d = (link q).d ++ packet Grant n ∷ [] })
     (popped_link c rest link) (sym (popped_e c rest link q)) d ∙ popped_e c rest link d
 

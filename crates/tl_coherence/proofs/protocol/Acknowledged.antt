@@ -1,20 +1,19 @@
 -- A ReleaseAck and a GrantAck that are taken keep the invariant.
-use Rattle.std.proofs.Common.{◌≡◌, refl, sym, ◌∙◌, ap, inl, inr, ℕ, Bool, true, false, not, List, ◌∷◌, ◌&&◌, None}
-use Rattle.std.proofs.Common.{ne_eqb, ◌==◌}
+use Rattle.std.proofs.Common.{◌≡◌, refl, sym, ◌∙◌, ap, inl, inr, ℕ, Bool, true, false, not, List, ◌∷◌, None, ne_eqb}
+use Rattle.std.proofs.Common.{◌==◌}
 use Rattle.tl_coherence.proofs
 use proofs.Imports.{and-false, cases_eq, Channel, is_out, is_of, acquires_of, serves_of, acquires_with, serves_with}
-use proofs.Imports.{releases_with, tracks_with, IsWell, IsInvariant, Kind, Request, Acquire, Probe, ProbeAck, Release}
-use proofs.Imports.{Grant, ReleaseAck, GrantAck, Packet, set, set_at, ClientBlock, View, Idle, Acknowledging}
-use proofs.Imports.{GrantedOther, ReleaseAcked, is_unreleased, is_unprobed, after_release_ack, GrantTaken, Block, State}
-use proofs.Imports.{view, packet, let_go_block, release_ack_taken, freed_block, grant_ack_taken, shows, is_transfer}
-use proofs.Imports.{is_wanting, is_unserved, is_sent, is_answered, is_releasing, is_acked, is_granting}
-use proofs.Imports.{is_acknowledging, Move, Stays, Pushes, Pops, AreMoved, agrees, is_own_move, channel_for}
+use proofs.Imports.{releases_with, tracks_with, IsWell, IsInvariant, Kind, ProbeAck, Release, ReleaseAck}
+use proofs.Imports.{GrantAck, Packet, set, set_at, ClientBlock, View, Idle, Acknowledging, ReleaseAcked}
+use proofs.Imports.{is_unreleased, ok, after_release_ack, GrantTaken, Block, State, view, packet, let_go_block}
+use proofs.Imports.{release_ack_taken, freed_block, grant_ack_taken, shows, is_transfer, is_acked, Move, Stays, Pushes}
+use proofs.Imports.{Pops, AreMoved, agrees, is_own_move, channel_for}
 use Rattle.tl_coherence.specs.protocol.Protocol.{Link}
 use proofs.queues.Moves.{event-at, bare-at, names-block, names-set, names-set_at, invariant-moved}
-use proofs.queues.{KindMoves.same_again, Tokens.same_number, Tokens.set-same, Tokens.set-other, Tokens.set-part}
-use proofs.queues.{PhaseSteps.release_ack-ok, PhaseSteps.ack_taken-ok, PhaseSteps.ack_taken_other-ok}
-use proofs.protocol.BothParts.{is_of-is}
-use proofs.protocol.Blocks.{gentle-same, awaited-same, asked_cap-same, alone-set, owned-set, outside-set, busy-inside}
+use proofs.queues.{KindMoves.same_again, Tokens.same_number, Tokens.set-same, Tokens.set-each, Tokens.set-other}
+use proofs.queues.{Tokens.set-part, PhaseSteps.release_ack-ok, PhaseSteps.ack_taken-ok, PhaseSteps.ack_taken_other-ok}
+use proofs.protocol.BothParts.{is_of-is, shows-beside}
+use proofs.protocol.Blocks.{gentle-same, awaited-set, asked_cap-set, alone-set, owned-set, outside-set, busy-inside}
 
 -- ---- a ReleaseAck
 
@@ -25,15 +24,10 @@ let_go-block {caching} c {b} h acked =
     let held_same = set-part (λ (p : ClientBlock). p.held) c after b.pair refl in
     let recorded_same = set-part (λ (p : ClientBlock). p.recorded) c after b.pair refl in
     record {
-      phases = λ d. elim (cases_eq d c) [
-        | inl same ↦ rw (same, set-same c after b.pair) (release_ack-ok (b.pair c) (view b.service c) (h.phases c)
-            acked)
-        | inr other ↦ rw (set-other c d after b.pair other) (h.phases d)
-      ];
-      awaited = awaited-same b.service b.pair (set c after b.pair)
-          (set-part (λ (p : ClientBlock). is_unprobed p.probing) c after b.pair refl) h.awaited;
-      asked_cap = asked_cap-same b.service b.pair (set c after b.pair)
-          (set-part (λ (p : ClientBlock). p.acquiring) c after b.pair refl) h.asked_cap;
+      phases = set-each (λ d q. ok q (view b.service d) ≡ true) c after b.pair
+          (release_ack-ok (b.pair c) (view b.service c) (h.phases c) acked) (λ d ne. h.phases d);
+      awaited = awaited-set b.service c after b.pair refl h.awaited;
+      asked_cap = asked_cap-set b.service c after b.pair refl h.asked_cap;
       own_source = h.own_source;
       alone = alone-set c b.pair (gentle-same (b.pair c) after refl refl) h.alone;
       one_owner = owned-set c b.pair (gentle-same (b.pair c) after refl refl) h.one_owner;
@@ -49,14 +43,9 @@ let_go_moves n _ = Stays
 
 let_go_shows : (n : ℕ) (k : Kind) (p : ClientBlock) (v : View) → is_transfer k ≡ true → p.letting ≡ ReleaseAcked
     → agrees (let_go_moves n (channel_for k)) k n (shows k p v) (shows k (after_release_ack p) v) ≡ true
-let_go_shows n Acquire p v t e = same_again (is_wanting p.acquiring && is_unserved v)
-let_go_shows n Probe p v t e = same_again (is_sent p.probing)
-let_go_shows n ProbeAck p v t e = same_again (is_answered p.probing)
 let_go_shows n Release p v t e = rw e refl
-let_go_shows n Grant p v t e = same_again (is_granting v)
 let_go_shows n ReleaseAck p v t e = rw (same_number n) refl
-let_go_shows n GrantAck p v t e = same_again (is_acknowledging v)
-let_go_shows n k p v t e = absurd cc
+let_go_shows n k p v t e = same_again (shows k p v)
 
 pub release_ack_taken-kept : {X : Type 0} {caching : ℕ → Bool} (c n : ℕ) (rest : List Packet) {s : State X}
     → IsInvariant caching s → (s.link c).d ≡ packet ReleaseAck n ∷ rest
@@ -121,18 +110,8 @@ freed_moves n _ = Stays
 
 freed_shows : (n : ℕ) (k : Kind) (p : ClientBlock) → is_transfer k ≡ true
     → agrees (freed_moves n (channel_for k)) k n (shows k p Acknowledging) (shows k p Idle) ≡ true
-freed_shows n Acquire p t = same_again (is_wanting p.acquiring && true)
-freed_shows n Probe p t = same_again (is_sent p.probing)
-freed_shows n ProbeAck p t = same_again (is_answered p.probing)
-freed_shows n Release p t = same_again (is_releasing p.letting)
-freed_shows n Grant p t = refl
-freed_shows n ReleaseAck p t = same_again (is_acked p.letting)
 freed_shows n GrantAck p t = rw (same_number n) refl
-freed_shows n k p t = absurd cc
-
-freed_beside : (k : Kind) (p : ClientBlock) → shows k p Idle ≡ shows k p GrantedOther
-freed_beside Request p = refl
-freed_beside k p = refl
+freed_shows n k p t = same_again (shows k p Idle)
 
 pub grant_ack_taken-kept : {X : Type 0} {caching : ℕ → Bool} (c n : ℕ) (rest : List Packet) {s : State X}
     → IsInvariant caching s → (s.link c).e ≡ packet GrantAck n ∷ rest → (s.block n).service ≡ GrantTaken c
@@ -150,7 +129,7 @@ grant_ack_taken-kept {X} {caching} c n rest {s} inv first taken =
       moved = moved;
       own = own;
       fits = λ k t. rw (taken, same_number c) (freed_shows n k ((s.block n).pair c) t);
-      others = λ d ne k t. rw (taken, ne_eqb d c ne) (freed_beside k ((s.block n).pair d));
+      others = λ d ne k t. rw (taken, ne_eqb d c ne) (sym (shows-beside k ((s.block n).pair d)));
       in_order = λ m e. absurd (let f : Stays ≡ Pushes ProbeAck m = e in cc);
     }))
     (bare-at c (freed_moves n) refl refl)

@@ -6,7 +6,7 @@ use proofs.Imports.{after_probe, after_release_taken, after_release_ack, Free, W
 use proofs.Imports.{granted_block, taken_block, probed_block, reported_block, ended_block, let_block, let_go_block}
 use proofs.Imports.{freed_block, granted_pair, shown}
 use proofs.queues.{Showing.AreAlike, Showing.carries, Tokens.set-each}
-use proofs.protocol.AlikeRequests.{waits_ungranted, waits_unacknowledged, sent_unacknowledged, taken_ungranted}
+use proofs.protocol.BothParts.{waits_ungranted, waits_unacknowledged, sent_unacknowledged, taken_ungranted}
 use proofs.protocol.AlikeRequests.{ungranted, unacknowledged, IsAlikePair, AreAlikeGrants, alike-parts, alike-pair}
 use proofs.protocol.AlikeRequests.{alike-pairs}
 

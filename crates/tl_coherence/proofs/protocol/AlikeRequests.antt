@@ -3,40 +3,15 @@ use Rattle.std.proofs.Common.{◌≡◌, ℕ, Bool, true, false, not, ◌&&◌, 
 use Rattle.std.proofs.Common.{if◌then◌else◌}
 use Rattle.tl_coherence.proofs
 use proofs.Imports.{cases_eq, Cap, Grow, Prune, IsWell, Kind, Acquire, Probe, ProbeAck, Release, Grant, ReleaseAck}
-use proofs.Imports.{GrantAck, set, ClientBlock, View, Own, Other, Granting, Acknowledging, GrantedOther, ProbePhase}
-use proofs.Imports.{NoProbe, ReleasePhase, NoRelease, AcquirePhase, NoAcquire, is_unacquired, is_unprobed}
-use proofs.Imports.{after_grant_sent, after_acquire, after_release, after_served, Service, Free, Waits, GrantSent}
-use proofs.Imports.{GrantTaken, Block, view, acquiring_block, releasing_block, granted_at_once, served_block}
-use proofs.Imports.{served_pair, is_wanting, is_sent, is_answered, is_releasing, is_acked, is_granting}
+use proofs.Imports.{GrantAck, set, ClientBlock, View, Granting, ProbePhase, NoProbe, ReleasePhase, NoRelease}
+use proofs.Imports.{AcquirePhase, NoAcquire, is_unacquired, is_unprobed, after_grant_sent, after_acquire, after_release}
+use proofs.Imports.{after_served, Service, Free, Block, view, acquiring_block, releasing_block, granted_at_once}
+use proofs.Imports.{served_block, served_pair, is_wanting, is_sent, is_answered, is_releasing, is_acked, is_granting}
 use proofs.Imports.{is_acknowledging, shown, is_unserved}
 use proofs.queues.{Facts.granting_asks, PhaseFacts.quiet_at_rest, Showing.IsAlike, Showing.AreAlike, Showing.carries}
 use proofs.queues.{Tokens.set-same, Tokens.set-other, Tokens.set-each, Phases.and_left}
 
 -- ---- what a service shows
-
-pub waits_ungranted : (own : Bool) (r source : ℕ) (k : Cap) (i : ℕ)
-    → is_granting (view (Waits r own source k) i) ≡ false
-waits_ungranted own r source k i =
-    let go : (b : Bool) → is_granting (if b then Own else Other k) ≡ false = elim [ true ↦ refl | false ↦ refl ] in
-    go (own && (i == r))
-
-pub waits_unacknowledged : (own : Bool) (r source : ℕ) (k : Cap) (i : ℕ)
-    → is_acknowledging (view (Waits r own source k) i) ≡ false
-waits_unacknowledged own r source k i =
-    let go : (b : Bool) → is_acknowledging (if b then Own else Other k) ≡ false = elim [ true ↦ refl | false ↦ refl ] in
-    go (own && (i == r))
-
-pub sent_unacknowledged : (q : ℕ) (d : Bool) (k : Cap) (i : ℕ) → is_acknowledging (view (GrantSent q d k) i) ≡ false
-sent_unacknowledged q d k i =
-    let go : (b : Bool) → is_acknowledging (if b then Granting d k else GrantedOther) ≡ false =
-    elim [ true ↦ refl | false ↦ refl ] in
-    go (i == q)
-
-pub taken_ungranted : (q i : ℕ) → is_granting (view (GrantTaken q) i) ≡ false
-taken_ungranted q i =
-    let go : (b : Bool) → is_granting (if b then Acknowledging else GrantedOther) ≡ false =
-    elim [ true ↦ refl | false ↦ refl ] in
-    go (i == q)
 
 pub ungranted : (v : Service) (i : ℕ) (u : Service) → v ≡ u → is_granting (view u i) ≡ false
     → is_granting (view v i) ≡ true → ⊥

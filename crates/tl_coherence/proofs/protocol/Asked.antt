@@ -1,19 +1,19 @@
 -- What a client is asked keeps the invariant: an access, an Acquire, a Release and a store.
-use Rattle.std.proofs.Common.{◌≡◌, refl, sym, ◌∙◌, ap, inl, inr, ℕ, Bool, true, false, not, ◌&&◌, Some, None, ne_eqb}
+use Rattle.std.proofs.Common.{◌≡◌, refl, sym, ◌∙◌, ap, inl, inr, ℕ, Bool, true, false, not, Some, None, ne_eqb}
 use Rattle.tl_coherence.proofs
 use proofs.Imports.{cases_eq, Channel, Grow, Prune, Perm, prune_left, same_perm, is_out, is_of, acquires_of, serves_of}
 use proofs.Imports.{acquires_with, serves_with, releases_with, tracks_with, IsWell, IsInvariant, Kind, Request, Acquire}
-use proofs.Imports.{Probe, ProbeAck, Release, Answer, Grant, ReleaseAck, GrantAck, set, set_at, ClientBlock, View, Own}
-use proofs.Imports.{NoRelease, NoAcquire, AcquireOpen, is_unacquired, is_unprobed, grow_fits, after_acquire}
-use proofs.Imports.{after_release, Block, State, SourceFree, Acquires, view, packet, with_a, with_c, acquiring_block}
-use proofs.Imports.{releasing_block, stored_block, access_asked, acquire_asked, release_asked, block_stored, shows}
-use proofs.Imports.{shown, is_transfer, is_wanting, is_unserved, is_sent, is_answered, is_releasing, is_acked}
-use proofs.Imports.{is_granting, is_acknowledging, Move, Stays, Pushes, AreMoved, agrees, is_own_move, channel_for}
+use proofs.Imports.{ProbeAck, Release, Answer, ReleaseAck, set_at, ClientBlock, View, Own, NoRelease, NoAcquire}
+use proofs.Imports.{AcquireOpen, is_unacquired, grow_fits, ok, after_acquire, after_release, Block, State, SourceFree}
+use proofs.Imports.{Acquires, view, packet, with_a, with_c, acquiring_block, releasing_block, stored_block}
+use proofs.Imports.{access_asked, acquire_asked, release_asked, block_stored, shows, shown, is_transfer, is_unserved}
+use proofs.Imports.{is_granting, Move, Stays, Pushes, AreMoved, agrees, is_own_move, channel_for}
 use Rattle.tl_coherence.specs.protocol.Protocol.{Link}
 use proofs.queues.{Phases.and_left, PhaseSteps.acquire-ok, PhaseSteps.release-ok, KindMoves.spares}
 use proofs.queues.{KindMoves.same_again, Perms.nothing_below, Facts.own_wants, Facts.held_at_most, Facts.held_out}
-use proofs.queues.{Facts.unserved_calm, Tokens.same_number, Tokens.set-same, Tokens.set-other, Tokens.set-part}
-use proofs.protocol.Blocks.{awaited-same, asked_cap-same, asked_cap-other, own_source-other, gentle-same, alone-set}
+use proofs.queues.{Facts.unserved_calm, Tokens.same_number, Tokens.set-same, Tokens.set-each, Tokens.set-other}
+use proofs.queues.{Tokens.set-part}
+use proofs.protocol.Blocks.{awaited-set, asked_cap-set, asked_cap-other, own_source-other, gentle-same, alone-set}
 use proofs.protocol.Blocks.{owned-set, outside-set}
 use proofs.queues.Moves.{event-at, bare-at, bare-elsewhere, invariant-moved_access, names-kept, names-block}
 use proofs.queues.Moves.{names-set_at, invariant-moved, invariant-moved_use}
@@ -29,13 +29,9 @@ acquiring-block {caching} c source whole g bytes {b} h inside calm kept fits =
     let held_same = set-part (λ (p : ClientBlock). p.held) c after b.pair refl in
     let recorded_same = set-part (λ (p : ClientBlock). p.recorded) c after b.pair refl in
     record {
-      phases = λ d. elim (cases_eq d c) [
-        | inl same ↦ rw (same, set-same c after b.pair) (acquire-ok whole g (b.pair c) (view b.service c) (h.phases c)
-            calm kept fits)
-        | inr other ↦ rw (set-other c d after b.pair other) (h.phases d)
-      ];
-      awaited = awaited-same b.service b.pair (set c after b.pair)
-          (set-part (λ (p : ClientBlock). is_unprobed p.probing) c after b.pair refl) h.awaited;
+      phases = set-each (λ d q. ok q (view b.service d) ≡ true) c after b.pair
+          (acquire-ok whole g (b.pair c) (view b.service c) (h.phases c) calm kept fits) (λ d ne. h.phases d);
+      awaited = awaited-set b.service c after b.pair refl h.awaited;
       asked_cap = asked_cap-other b.service c after b.pair (λ e. not_own e) h.asked_cap;
       own_source = own_source-other b.service c source b.source (λ e. not_own e) h.own_source;
       alone = alone-set c b.pair (gentle-same (b.pair c) after refl refl) h.alone;
@@ -65,15 +61,10 @@ releasing-block {caching} c source r {b} h inside calm kept fits =
     let after : ClientBlock = after_release r (b.pair c) in
     let recorded_same = set-part (λ (p : ClientBlock). p.recorded) c after b.pair refl in
     record {
-      phases = λ d. elim (cases_eq d c) [
-        | inl same ↦ rw (same, set-same c after b.pair) (release-ok r (b.pair c) (view b.service c) (h.phases c) calm
-            kept fits)
-        | inr other ↦ rw (set-other c d after b.pair other) (h.phases d)
-      ];
-      awaited = awaited-same b.service b.pair (set c after b.pair)
-          (set-part (λ (p : ClientBlock). is_unprobed p.probing) c after b.pair refl) h.awaited;
-      asked_cap = asked_cap-same b.service b.pair (set c after b.pair)
-          (set-part (λ (p : ClientBlock). p.acquiring) c after b.pair refl) h.asked_cap;
+      phases = set-each (λ d q. ok q (view b.service d) ≡ true) c after b.pair
+          (release-ok r (b.pair c) (view b.service c) (h.phases c) calm kept fits) (λ d ne. h.phases d);
+      awaited = awaited-set b.service c after b.pair refl h.awaited;
+      asked_cap = asked_cap-set b.service c after b.pair refl h.asked_cap;
       own_source = h.own_source;
       alone = alone-set c b.pair (gentle-same (b.pair c) after refl refl) h.alone;
       one_owner = owned-set c b.pair (gentle-same (b.pair c) after refl refl) h.one_owner;
@@ -148,13 +139,7 @@ acquire_shows : (n : ℕ) (k : Kind) (whole : Bool) (g : Grow) (p : ClientBlock)
     → p.acquiring ≡ NoAcquire → is_unserved v ≡ true
     → agrees (acquire_moves n (channel_for k)) k n (shows k p v) (shows k (after_acquire whole g p) v) ≡ true
 acquire_shows n Acquire whole g p v t calm out = rw (calm, out, same_number n) refl
-acquire_shows n Probe whole g p v t calm out = same_again (is_sent p.probing)
-acquire_shows n ProbeAck whole g p v t calm out = same_again (is_answered p.probing)
-acquire_shows n Release whole g p v t calm out = same_again (is_releasing p.letting)
-acquire_shows n Grant whole g p v t calm out = same_again (is_granting v)
-acquire_shows n ReleaseAck whole g p v t calm out = same_again (is_acked p.letting)
-acquire_shows n GrantAck whole g p v t calm out = same_again (is_acknowledging v)
-acquire_shows n k whole g p v t calm out = absurd cc
+acquire_shows n k whole g p v t calm out = same_again (shows k p v)
 
 pub acquire_asked-kept : {X : Type 0} {caching : ℕ → Bool} (c n source : ℕ) (whole : Bool) (g : Grow) (bytes : X)
     {s : State X} → IsInvariant caching s → caching c ≡ true → s.uses c source ≡ SourceFree
@@ -204,14 +189,9 @@ release_moves n _ = Stays
 release_shows : (n : ℕ) (k : Kind) (r : Prune) (p : ClientBlock) (v : View) → is_transfer k ≡ true
     → p.letting ≡ NoRelease
     → agrees (release_moves n (channel_for k)) k n (shows k p v) (shows k (after_release r p) v) ≡ true
-release_shows n Acquire r p v t kept = same_again (is_wanting p.acquiring && is_unserved v)
-release_shows n Probe r p v t kept = same_again (is_sent p.probing)
-release_shows n ProbeAck r p v t kept = same_again (is_answered p.probing)
 release_shows n Release r p v t kept = rw (kept, same_number n) refl
-release_shows n Grant r p v t kept = same_again (is_granting v)
 release_shows n ReleaseAck r p v t kept = rw kept refl
-release_shows n GrantAck r p v t kept = same_again (is_acknowledging v)
-release_shows n k r p v t kept = absurd cc
+release_shows n k r p v t kept = same_again (shows k p v)
 
 pub release_asked-kept : {X : Type 0} {caching : ℕ → Bool} (c n source : ℕ) (r : Prune) {s : State X}
     → IsInvariant caching s → caching c ≡ true → s.lets c source ≡ None

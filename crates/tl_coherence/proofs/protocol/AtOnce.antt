@@ -4,18 +4,18 @@ use Rattle.std.proofs.Common.{ne_eqb}
 use Rattle.tl_coherence.proofs
 use proofs.Imports.{cases_eq, Channel, Cap, Grow, Perm, cap_right, same_perm, is_of, acquires_of, serves_of}
 use proofs.Imports.{acquires_with, serves_with, releases_with, tracks_with, IsWell, IsInvariant, cap_asked, Kind}
-use proofs.Imports.{Request, Acquire, Probe, ProbeAck, Release, Grant, ReleaseAck, GrantAck, Packet, set, ClientBlock}
-use proofs.Imports.{Idle, Granting, GrantedOther, AcquireOpen, same_cap, is_unacquired, is_unprobed, cap_fits, is_above}
-use proofs.Imports.{is_granted_data, after_grant_sent, Free, Block, State, view, packet, granted_at_once, answered_link}
-use proofs.Imports.{acquire_granted, shows, is_transfer, is_wanting, is_sent, is_answered, is_releasing, is_acked, Move}
-use proofs.Imports.{Stays, Pushes, Pops, AreMoved, agrees, is_own_move, channel_for}
+use proofs.Imports.{Acquire, ProbeAck, Grant, Packet, set, ClientBlock, Idle, Granting}
+use proofs.Imports.{AcquireOpen, same_cap, is_unacquired, is_unprobed, cap_fits, is_above, is_granted_data}
+use proofs.Imports.{after_grant_sent, Free, Block, State, view, packet, granted_at_once, answered_link, acquire_granted}
+use proofs.Imports.{shows, is_transfer, is_wanting, Move, Stays, Pushes, Pops, AreMoved, agrees, is_own_move}
+use proofs.Imports.{channel_for}
 use Rattle.tl_coherence.specs.protocol.Protocol.{Link}
 use proofs.queues.{Moves.event-at, Moves.bare-at, Moves.names-block, Moves.names-set, Moves.invariant-moved}
 use proofs.queues.{KindMoves.same_again, Facts.asked_low, PhaseFacts.quiet_at_rest, Perms.not_out, Tokens.same_number}
 use proofs.queues.{Tokens.set-same, Tokens.set-other, Tokens.set-part, PhaseSteps.grant_at_once-ok}
 use proofs.queues.{PhaseSteps.granted_other-ok}
 use proofs.protocol.{Blocks.busy-inside, Blocks.outside-set, Granted.gives, Granted.none_or_trunk}
-use proofs.protocol.{Granted.grows_to_trunk}
+use proofs.protocol.{Granted.grows_to_trunk, BothParts.shows-beside}
 
 -- ---- the block
 
@@ -109,17 +109,8 @@ once_shows : (n : ℕ) (k : Kind) (p : ClientBlock) (d : Bool) (gift : Cap) → 
     → is_wanting p.acquiring ≡ true → agrees (once_moves n (channel_for k)) k n (shows k p Idle)
     (shows k (after_grant_sent gift p) (Granting d gift)) ≡ true
 once_shows n Acquire p d gift t e = rw (e, same_number n) refl
-once_shows n Probe p d gift t e = same_again (is_sent p.probing)
-once_shows n ProbeAck p d gift t e = same_again (is_answered p.probing)
-once_shows n Release p d gift t e = same_again (is_releasing p.letting)
 once_shows n Grant p d gift t e = rw (same_number n) refl
-once_shows n ReleaseAck p d gift t e = same_again (is_acked p.letting)
-once_shows n GrantAck p d gift t e = refl
-once_shows n k p d gift t e = absurd cc
-
-beside_shows : (k : Kind) (p : ClientBlock) → shows k p GrantedOther ≡ shows k p Idle
-beside_shows Request p = refl
-beside_shows k p = refl
+once_shows n k p d gift t e = same_again (shows k p Idle)
 
 pub acquire_granted-kept : {X : Type 0} {caching : ℕ → Bool} {r : ℕ} (n tracker : ℕ) {whole : Bool} {g : Grow}
     {gift : Cap} (rest : List Packet) {s : State X} → IsInvariant caching s → (s.link r).a ≡ packet Acquire n ∷ rest
@@ -142,7 +133,7 @@ acquire_granted-kept {X} {caching} {r} n tracker {whole} {g} {gift} rest {s} inv
       own = own;
       fits = λ k t. rw (is.free, set-same r after old, same_number r)
           (once_shows n k (old r) with_data gift t (rw is.wants refl));
-      others = λ d ne k t. rw (is.free, set-other r d after old ne, ne_eqb d r ne) (beside_shows k (old d));
+      others = λ d ne k t. rw (is.free, set-other r d after old ne, ne_eqb d r ne) (shows-beside k (old d));
       in_order = λ m e. absurd (let f : Stays ≡ Pushes ProbeAck m = e in cc);
     }))
     (bare-at r (once_moves n) refl refl)

@@ -4,7 +4,7 @@ use Rattle.tl_coherence.proofs
 use proofs.Imports.{cases_eq, Perm, same_perm, resting, IsAskedCap, IsAwaited, IsOwnSource, AreOutside, set}
 use proofs.Imports.{ClientBlock, Own, is_unprobed, Service, Waits, view}
 use Rattle.tl_coherence.specs.protocol.Invariant.{IsAlone, IsOwned}
-use proofs.queues.Tokens.{same_number, set-same, set-other}
+use proofs.queues.Tokens.{same_number, set-other, set-each, set-part}
 
 -- ---- who is waited for
 
@@ -13,16 +13,16 @@ pub awaited_by : (s : Service) (pair : ℕ → ClientBlock) (c : ℕ) → is_unp
 awaited_by (Waits r own s k) pair c h = (c, h)
 awaited_by s pair c h = tt
 
-pub awaited-same : (s : Service) (pair after : ℕ → ClientBlock)
-    → ((d : ℕ) → is_unprobed (after d).probing ≡ is_unprobed (pair d).probing) → IsAwaited s pair → IsAwaited s after
-awaited-same (Waits r own s k) pair after e h = (h.0, e h.0 ∙ h.1)
-awaited-same s pair after e h = tt
+pub awaited-set : (s : Service) (c : ℕ) (q : ClientBlock) (pair : ℕ → ClientBlock)
+    → is_unprobed q.probing ≡ is_unprobed (pair c).probing → IsAwaited s pair → IsAwaited s (set c q pair)
+awaited-set (Waits r own s k) c q pair e h = (h.0, set-part (λ p. is_unprobed p.probing) c q pair e h.0 ∙ h.1)
+awaited-set s c q pair e h = tt
 
 -- the cap stays where the Acquires do
-pub asked_cap-same : (s : Service) (pair after : ℕ → ClientBlock) → ((d : ℕ) → (after d).acquiring ≡ (pair d).acquiring)
-    → IsAskedCap s pair → IsAskedCap s after
-asked_cap-same (Waits r true s k) pair after e h = rw (e r) h
-asked_cap-same s pair after e h = tt
+pub asked_cap-set : (s : Service) (c : ℕ) (q : ClientBlock) (pair : ℕ → ClientBlock)
+    → q.acquiring ≡ (pair c).acquiring → IsAskedCap s pair → IsAskedCap s (set c q pair)
+asked_cap-set (Waits r true s k) c q pair e h = rw (set-part (λ p. p.acquiring) c q pair e r) h
+asked_cap-set s c q pair e h = tt
 
 -- and where another's changes than the one that is served
 pub asked_cap-other : (s : Service) (c : ℕ) (q : ClientBlock) (pair : ℕ → ClientBlock) → (view s c ≡ Own → ⊥)
@@ -57,24 +57,18 @@ gentle-same p q e f = record { trunk = λ h. rw e at h; none = λ h. rw e h; qui
 
 trunk_at : (c i : ℕ) {q : ClientBlock} (pair : ℕ → ClientBlock) → IsGentle (pair c) q
     → same_perm (set c q pair i).recorded Perm.Trunk ≡ true → same_perm (pair i).recorded Perm.Trunk ≡ true
-trunk_at c i {q} pair g e = elim (cases_eq i c) [
-  | inl same ↦ rw same (g.trunk (rw (same, set-same c q pair) at e))
-  | inr other ↦ rw (set-other c i q pair other) at e
-]
+trunk_at c i {q} pair g = set-each (λ d p. same_perm p.recorded Perm.Trunk ≡ true
+    → same_perm (pair d).recorded Perm.Trunk ≡ true) c q pair g.trunk (λ d ne e. e) i
 
 none_at : (c i : ℕ) {q : ClientBlock} (pair : ℕ → ClientBlock) → IsGentle (pair c) q
     → same_perm (pair i).recorded Perm.None ≡ true → same_perm (set c q pair i).recorded Perm.None ≡ true
-none_at c i {q} pair g e = elim (cases_eq i c) [
-  | inl same ↦ rw (same, set-same c q pair) (g.none (rw same at e))
-  | inr other ↦ rw (set-other c i q pair other) e
-]
+none_at c i {q} pair g = set-each (λ d p. same_perm (pair d).recorded Perm.None ≡ true
+    → same_perm p.recorded Perm.None ≡ true) c q pair g.none (λ d ne e. e) i
 
 quiet_at : (c i : ℕ) {q : ClientBlock} (pair : ℕ → ClientBlock) → IsGentle (pair c) q
     → is_unprobed (pair i).probing ≡ true → is_unprobed (set c q pair i).probing ≡ true
-quiet_at c i {q} pair g e = elim (cases_eq i c) [
-  | inl same ↦ rw (same, set-same c q pair) (g.quiet (rw same at e))
-  | inr other ↦ rw (set-other c i q pair other) e
-]
+quiet_at c i {q} pair g = set-each (λ d p. is_unprobed (pair d).probing ≡ true → is_unprobed p.probing ≡ true) c q
+    pair g.quiet (λ d ne e. e) i
 
 probed_at : (c i : ℕ) {q : ClientBlock} (pair : ℕ → ClientBlock) → IsGentle (pair c) q
     → is_unprobed (set c q pair i).probing ≡ false → is_unprobed (pair i).probing ≡ false

@@ -1,14 +1,15 @@
 -- What a test says of a part of the protocol's state: of a use, a wish, a Probe, a Release, a view.
 use Rattle.std.proofs.Common.{◌≡◌, ℕ, Bool, true, false, not, Option, Some, None, refl, ◌&&◌, eqb-true, ◌==◌}
-use Rattle.std.proofs.Common.{if◌then◌else◌}
+use Rattle.std.proofs.Common.{if◌then◌else◌, ap, sym, ◌∙◌}
 use Rattle.tl_coherence.proofs
-use proofs.Imports.{Cap, Grow, is_asked, is_replied, is_of, acquires_of, serves_of, View, Own, Other, Granting}
+use proofs.Imports.{Cap, Grow, is_asked, is_replied, is_of, acquires_of, serves_of, Kind, Request, Own, Other, Granting}
 use proofs.Imports.{Acknowledging, GrantedOther, is_unacquired, ProbePhase, NoProbe, ProbeSent, ProbeAnswered}
 use proofs.Imports.{ReleasePhase, NoRelease, ReleaseSent, ReleaseAcked, AcquirePhase, NoAcquire, AcquireOpen}
-use proofs.Imports.{is_unprobed, is_unreleased, Service, Free, Waits, GrantSent, GrantTaken, SourceState, Asked}
-use proofs.Imports.{InService, Replied, Acquires, view, is_wanting, is_sent, is_answered, is_releasing, is_acked}
-use proofs.Imports.{is_granting, is_acknowledging, cap_sent, report_told, prune_told}
-use proofs.queues.Facts.{is_other}
+use proofs.Imports.{is_unprobed, is_unreleased, Idle, ClientBlock, Service, Free, Waits, GrantSent, GrantTaken}
+use proofs.Imports.{SourceState, Asked, InService, Replied, Acquires, view, is_wanting, is_sent, is_answered}
+use proofs.Imports.{is_releasing, is_acked, is_granting, is_acknowledging, shows, cap_sent, report_told, prune_told}
+use proofs.Imports.{cap_waited}
+use proofs.queues.{Tokens.if-part, Facts.is_other}
 
 -- ---- numbers and uses
 
@@ -101,27 +102,50 @@ acked-open x e = absurd cc
 
 -- ---- services and views
 
+pub waits_ungranted : (own : Bool) (r source : ℕ) (k : Cap) (i : ℕ)
+    → is_granting (view (Waits r own source k) i) ≡ false
+waits_ungranted own r source k i = if-part is_granting (own && (i == r)) refl refl
+
+pub waits_unacknowledged : (own : Bool) (r source : ℕ) (k : Cap) (i : ℕ)
+    → is_acknowledging (view (Waits r own source k) i) ≡ false
+waits_unacknowledged own r source k i = if-part is_acknowledging (own && (i == r)) refl refl
+
+pub sent_unacknowledged : (q : ℕ) (d : Bool) (k : Cap) (i : ℕ) → is_acknowledging (view (GrantSent q d k) i) ≡ false
+sent_unacknowledged q d k i = if-part is_acknowledging (i == q) refl refl
+
+pub taken_ungranted : (q i : ℕ) → is_granting (view (GrantTaken q) i) ≡ false
+taken_ungranted q i = if-part is_granting (i == q) refl refl
+
+-- a client shows beside another's Grant what it shows of a free block
+pub shows-beside : (k : Kind) (p : ClientBlock) → shows k p GrantedOther ≡ shows k p Idle
+shows-beside Request p = refl
+shows-beside k p = refl
+
+-- who sees another's service sees the cap that it probes with
+pub cap-waited : (k : Cap) (s : Service) (c : ℕ) → view s c ≡ Other k → cap_waited s ≡ k
+cap-waited k Free c e = absurd (let no : Idle ≡ Other k = e in cc)
+cap-waited k (Waits r own source j) c e =
+    let go : (b : Bool) → (if b then Own else Other j) ≡ Other k → j ≡ k =
+    elim [ true ↦ λ f. absurd cc | false ↦ λ f. cc ] in
+    go (own && (c == r)) e
+cap-waited k (GrantSent r d j) c e =
+    let no : is_other (view (GrantSent r d j) c) ≡ false = if-part is_other (c == r) refl refl in
+    absurd (let yes : false ≡ true = sym no ∙ ap is_other e in cc)
+cap-waited k (GrantTaken r) c e =
+    let no : is_other (view (GrantTaken r) c) ≡ false = if-part is_other (c == r) refl refl in
+    absurd (let yes : false ≡ true = sym no ∙ ap is_other e in cc)
+
 -- who sees its GrantAck under way
 pub acknowledging-is : (s : Service) (c : ℕ) → is_acknowledging (view s c) ≡ true → s ≡ GrantTaken c
 acknowledging-is Free c e = absurd cc
 acknowledging-is (Waits q o source k) c e =
-    let never : (x : Bool) → is_acknowledging (if x then Own else Other k) ≡ true → ⊥ =
-    elim [ true ↦ λ f. cc | false ↦ λ f. cc ] in
-    absurd (never (o && (c == q)) e)
+    absurd (let no : false ≡ true = sym (waits_unacknowledged o q source k c) ∙ e in cc)
 acknowledging-is (GrantSent q d k) c e =
-    let never : (x : Bool) → is_acknowledging (if x then Granting d k else GrantedOther) ≡ true → ⊥ =
-    elim [ true ↦ λ f. cc | false ↦ λ f. cc ] in
-    absurd (never (c == q) e)
+    absurd (let no : false ≡ true = sym (sent_unacknowledged q d k c) ∙ e in cc)
 acknowledging-is (GrantTaken q) c e =
     let own : (x : Bool) → is_acknowledging (if x then Acknowledging else GrantedOther) ≡ true → x ≡ true =
     elim [ true ↦ λ f. refl | false ↦ λ f. absurd cc ] in
     let same : c ≡ q = eqb-true c q (own (c == q) e) in rw same refl
-
--- who sees another's service sees no Grant
-pub not-other : (x : Bool) (u v : View) → is_other u ≡ false → is_other v ≡ false
-    → is_other (if x then u else v) ≡ false
-not-other true u v e f = e
-not-other false u v e f = f
 
 pub granting-own : (b d : Bool) (k : Cap) → is_granting (if b then Granting d k else GrantedOther) ≡ true → b ≡ true
 granting-own true d k e = refl

@@ -1,22 +1,21 @@
 -- The last ProbeAck that is taken, with which the access that waited is answered, keeps the invariant.
-use Rattle.std.proofs.Common.{◌≡◌, refl, sym, subst, ◌∙◌, ap, ◌⊎◌, inl, inr, ℕ, Bool, true, false, List, ◌∷◌, ◌&&◌}
-use Rattle.std.proofs.Common.{Some, None, ne_eqb, eqb-true, ◌==◌, if◌then◌else◌}
+use Rattle.std.proofs.Common.{◌≡◌, refl, sym, subst, ◌∙◌, ap, ◌⊎◌, inl, inr, ℕ, Bool, true, false, List, ◌∷◌, Some}
+use Rattle.std.proofs.Common.{None, ne_eqb, eqb-true, ◌==◌, if◌then◌else◌}
 use Rattle.tl_coherence.proofs
-use proofs.Imports.{cases_eq, Channel, Cap, Report, Perm, report_left, report_right, same_perm, is_out, is_of}
-use proofs.Imports.{acquires_of, serves_of, acquires_with, serves_with, releases_with, tracks_with, IsWell, IsInvariant}
-use proofs.Imports.{Kind, Request, Acquire, Probe, ProbeAck, Release, Answer, Grant, ReleaseAck, GrantAck, Packet, set}
-use proofs.Imports.{ClientBlock, Idle, Other, ProbeAnswered, ok, same_cap, is_unprobed, after_report, Waits, Block}
-use proofs.Imports.{State, InService, Replied, view, packet, packets_on, written, with_d, popped_link, ended_block}
-use proofs.Imports.{ended_link, report_answers, shows, shown, is_transfer, is_wanting, is_sent, is_answered}
-use proofs.Imports.{is_releasing, is_acked, Move, Stays, Pushes, Pops, IsMoved, agrees, is_own_move, channel_for}
+use proofs.Imports.{cases_eq, Channel, Cap, Report, Perm, report_left, same_perm, is_out, is_of, acquires_of, serves_of}
+use proofs.Imports.{acquires_with, serves_with, releases_with, tracks_with, IsWell, IsInvariant, Kind, Request, Probe}
+use proofs.Imports.{ProbeAck, Answer, Packet, set, ClientBlock, Idle, Other, ProbeAnswered, ok, same_cap, is_unprobed}
+use proofs.Imports.{after_report, Waits, Block, State, InService, Replied, view, packet, packets_on, written, with_d}
+use proofs.Imports.{popped_link, ended_block, ended_link, report_answers, shows, shown, is_transfer, is_answered, Move}
+use proofs.Imports.{Stays, Pushes, Pops, IsMoved, agrees, is_own_move, channel_for}
 use Rattle.tl_coherence.specs.protocol.Protocol.{Link}
 use proofs.queues.{Moves.names-block, Moves.names-set, Moves.names-set_at, Moves.invariant-moved_use}
 use proofs.queues.{KindMoves.same_again, PhaseSteps.report-ok, PhaseSteps.ended-ok, Perms.nothing_below, Perms.not_out}
-use proofs.queues.{Tokens.same_number, Tokens.set-same, Tokens.set-other, Tokens.set-part}
-use proofs.protocol.{Reported.gentle-report, Granted.low_within, Granted.both_trunk, Granted.low_none, Blocks.alone-set}
-use proofs.protocol.{Blocks.owned-set, Blocks.outside-set, Blocks.busy-inside, BothParts.is_of-is}
-use proofs.protocol.{BothParts.serves_of-is, BothParts.quiet-is}
-use proofs.queues.Facts.{held_at_most, spared_within, reported_within, cap_is_low, report_begins}
+use proofs.queues.{Tokens.same_number, Tokens.set-same, Tokens.set-other, Tokens.set-part, Facts.held_at_most}
+use proofs.queues.{Facts.spared_within, Facts.cap_is_low, Facts.report_begins}
+use proofs.protocol.{Reported.gentle-report, Granted.low_within, Granted.both_trunk, Granted.low_none}
+use proofs.protocol.{Granted.recorded_within, Blocks.alone-set, Blocks.owned-set, Blocks.outside-set}
+use proofs.protocol.{Blocks.busy-inside, BothParts.is_of-is, BothParts.serves_of-is, BothParts.quiet-is}
 
 -- ---- the block
 
@@ -76,14 +75,8 @@ ended-block {X} {caching} {c} {r} {f} {k} {b} h last =
 
     -- where all were probed, nobody is recorded any more
     nobody : k ≡ Cap.ToN → (d : ℕ) → same_perm (set c after b.pair d).recorded Perm.None ≡ true
-    nobody e d = elim (cases_eq d c) [
-      | inl same ↦ rw (same, set-same c after b.pair)
-          (low_none k (report_right r) e (reported_within k r (b.pair c) (view b.service c) (h.phases c) (other c)
-          last.answered))
-      | inr ne ↦ rw (set-other c d after b.pair ne) (low_none k (b.pair d).recorded e
-          (spared_within k (b.pair d) (view b.service d) (h.phases d) (other d)
-          (quiet-is (b.pair d).probing (last.settled d ne))))
-    ]
+    nobody e d = low_none k (set c after b.pair d).recorded e
+        (recorded_within c r k h last.answered last.settled (other c) d (other d))
 
     copy_is : (d : ℕ) → same_perm (set c after b.pair d).held Perm.None ≡ false → (f b.truth ≡ b.truth) ⊎ (k ≡ Cap.ToN)
         → b.copy d ≡ f b.truth
@@ -101,60 +94,34 @@ ended_move x y n source Channel.C = if x then Pops ProbeAck n else Stays
 ended_move x y n source Channel.D = if y then Pushes Answer source else Stays
 ended_move x y n source _ = Stays
 
-ended_shows : (n source : ℕ) (j : Kind) (x y : Bool) (r : Report) (k : Cap) (p : ClientBlock) → is_transfer j ≡ true
+ended_shows : (x y : Bool) (n source : ℕ) (j : Kind) (r : Report) (k : Cap) (p : ClientBlock) → is_transfer j ≡ true
     → (x ≡ true → p.probing ≡ ProbeAnswered r) → agrees (ended_move x y n source (channel_for j)) j n
     (shows j p (Other k)) (shows j (if x then after_report r p else p) Idle) ≡ true
-ended_shows n source Request x y r k p t e = absurd cc
-ended_shows n source Answer x y r k p t e = absurd cc
-ended_shows n source Acquire true y r k p t e = same_again (is_wanting p.acquiring && true)
-ended_shows n source Acquire false y r k p t e = same_again (is_wanting p.acquiring && true)
-ended_shows n source Probe true y r k p t e = rw (e refl) refl
-ended_shows n source Probe false y r k p t e = same_again (is_sent p.probing)
-ended_shows n source ProbeAck true y r k p t e = rw (same_number n) refl
-ended_shows n source ProbeAck false y r k p t e = same_again (is_answered p.probing)
-ended_shows n source Release true y r k p t e = same_again (is_releasing p.letting)
-ended_shows n source Release false y r k p t e = same_again (is_releasing p.letting)
-ended_shows n source Grant x true r k p t e = refl
-ended_shows n source Grant x false r k p t e = refl
-ended_shows n source ReleaseAck true true r k p t e = same_again (is_acked p.letting)
-ended_shows n source ReleaseAck true false r k p t e = same_again (is_acked p.letting)
-ended_shows n source ReleaseAck false true r k p t e = same_again (is_acked p.letting)
-ended_shows n source ReleaseAck false false r k p t e = same_again (is_acked p.letting)
-ended_shows n source GrantAck x y r k p t e = refl
+ended_shows true true n source Request r k p t e = absurd cc
+ended_shows true false n source Request r k p t e = absurd cc
+ended_shows false true n source Request r k p t e = absurd cc
+ended_shows false false n source Request r k p t e = absurd cc
+ended_shows x y n source Answer r k p t e = absurd cc
+ended_shows true y n source Probe r k p t e = rw (e refl) refl
+ended_shows true y n source ProbeAck r k p t e = rw (same_number n) refl
+ended_shows x y n source j r k p t e = same_again (shows j p (Other k))
 
 ended_own : (ch : Channel) (x y : Bool) (n source : ℕ) → is_own_move ch (ended_move x y n source ch) ≡ true
-ended_own Channel.A x y n source = refl
-ended_own Channel.B x y n source = refl
 ended_own Channel.C true y n source = refl
 ended_own Channel.C false y n source = refl
 ended_own Channel.D x true n source = refl
 ended_own Channel.D x false n source = refl
-ended_own Channel.E x y n source = refl
+ended_own ch x y n source = refl
 
-pub ended_moved : (ch : Channel) (x y : Bool) (n source : ℕ) (l : Link) (rest : List Packet)
+pub ended_moved : (x y : Bool) (ch : Channel) (n source : ℕ) (l : Link) (rest : List Packet)
     → (x ≡ true → l.c ≡ packet ProbeAck n ∷ rest) → IsMoved (ended_move x y n source ch) (packets_on ch l)
     (packets_on ch (if y then with_d (packet Answer source) (if x then record l { c = rest } else l) else
     (if x then record l { c = rest } else l)))
-ended_moved Channel.A true true n source l rest e = refl
-ended_moved Channel.A true false n source l rest e = refl
-ended_moved Channel.A false true n source l rest e = refl
-ended_moved Channel.A false false n source l rest e = refl
-ended_moved Channel.B true true n source l rest e = refl
-ended_moved Channel.B true false n source l rest e = refl
-ended_moved Channel.B false true n source l rest e = refl
-ended_moved Channel.B false false n source l rest e = refl
-ended_moved Channel.C true true n source l rest e = e refl
-ended_moved Channel.C true false n source l rest e = e refl
-ended_moved Channel.C false true n source l rest e = refl
-ended_moved Channel.C false false n source l rest e = refl
-ended_moved Channel.D true true n source l rest e = refl
-ended_moved Channel.D true false n source l rest e = refl
-ended_moved Channel.D false true n source l rest e = refl
-ended_moved Channel.D false false n source l rest e = refl
-ended_moved Channel.E true true n source l rest e = refl
-ended_moved Channel.E true false n source l rest e = refl
-ended_moved Channel.E false true n source l rest e = refl
-ended_moved Channel.E false false n source l rest e = refl
+ended_moved true true Channel.C n source l rest e = e refl
+ended_moved true false Channel.C n source l rest e = e refl
+ended_moved false true Channel.C n source l rest e = refl
+ended_moved false false Channel.C n source l rest e = refl
+ended_moved x y ch n source l rest e = refl
 
 -- ---- the whole
 
@@ -185,10 +152,10 @@ report_answers-kept {X} {c} {q} n {r} {f} {source} {k} rest {s} inv first last =
     invariant-moved_use q source Replied
     (set tracker None s.tracked) inv (record {
       well = ended-block (inv.blocks n) last;
-      moved = λ d ch. by_link d ch (ended_moved ch (d == c) (d == q) n source (s.link d) rest (first_at d));
+      moved = λ d ch. by_link d ch (ended_moved (d == c) (d == q) ch n source (s.link d) rest (first_at d));
       own = λ d ch. ended_own ch (d == c) (d == q) n source;
       fits = λ d j t. by_pair d j (ended_move (d == c) (d == q) n source (channel_for j))
-          (ended_shows n source j (d == c) (d == q) r k (old d) t (answered_at d));
+          (ended_shows (d == c) (d == q) n source j r k (old d) t (answered_at d));
       in_order = λ d m e. absurd (never_pushed (d == c) m e);
     })
     (rw used refl) (rw (same_number q, used, same_number source) refl) (λ d ne. (refl, rw (ne_eqb d q ne) refl))

@@ -150,7 +150,8 @@ module _ {w : ℕ} (config : Config) (tracker c : ℕ) (rest : List Packet) (h :
       go : (x : Bool) → probes_for_acquire config c h n whole g ≡ x
           → P (with_served n (acquisition (acquire_opcode whole) g (b.source c) n) (with_state (if x then acquire_served
           c n (b.source c) tracker (cap_asked (AcquireOpen whole g)) rest h.state else acquire_granted c n tracker
-          (is_granted_data whole g (b.pair c).recorded) (gift config.profile whole g (is_unheld all_clients b.pair)) rest
+          (is_granted_data whole g (b.pair c).recorded) (gift config.profile whole g (is_unheld all_clients b.pair))
+          rest
           h.state) h))
       go true e = each.acquire_served n whole g known is e
       go false e = each.acquire_granted n whole g known is e

@@ -44,7 +44,8 @@ module _ {w : ℕ} {caching : ℕ → Bool} (config : Config) (c : ℕ) (rest : 
       → is_unprobed ((h.state.block n).pair d).probing ≡ true
   quiet n last = settled_all clients caching c (h.state.block n).pair plain (inv.blocks n).outside last
 
-  report-followed : (n : ℕ) → (h.state.link c).c ≡ packet ProbeAck n ∷ rest → some_below clients (others_probed n) ≡ true
+  report-followed : (n : ℕ) → (h.state.link c).c ≡ packet ProbeAck n ∷ rest
+      → some_below clients (others_probed n) ≡ true
       → IsInvariant caching (report_taken c n (r n) rest h.state)
   report-followed n first more =
       let one = some-one clients (others_probed n) more in
@@ -82,7 +83,8 @@ module _ {w : ℕ} {caching : ℕ → Bool} (config : Config) (c : ℕ) (rest : 
     wants = wants;
     fits = gift_fits config.profile whole g (b.pair q).held (is_unheld clients after) fits;
     room = λ top d ne. elim (gift_trunk config.profile whole g (b.pair q).held (is_unheld clients after) fits top) [
-      | inl grows ↦ room-trunk c q (r n) whole g source k (inv.blocks n) waits answered (quiet n last) wants grows differ
+      | inl grows ↦ room-trunk c q (r n) whole g source k (inv.blocks n) waits answered (quiet n last) wants grows
+          differ
           d ne
       | inr unheld ↦ unheld_none clients caching after plain
           (outside-set caching c (after_report (r n) (b.pair c)) b.pair inside (inv.blocks n).outside) unheld d
@@ -139,10 +141,13 @@ kind_taken-kept {w} {caching} config tracker c k i rest h inv plain long serving
       nothing = λ j n known idle. inv;
       access_answered = λ source m o known from caps none. access_answered-followed config c rest h inv plain source m o
           known.0 (ready-access tracker c source m h known.1 from).0 (long (block_at m.address)) caps none;
-      access_served = λ source m j known from caps some. access_served-followed config c rest h inv plain tracker source m
-          j known.0 (ready-access tracker c source m h known.1 from).1 (ready-access tracker c source m h known.1 from).2
+      access_served = λ source m j known from caps some. access_served-followed config c rest h inv plain tracker source
+          m
+          j known.0 (ready-access tracker c source m h known.1 from).1
+          (ready-access tracker c source m h known.1 from).2
           caps some;
-      acquire_granted = λ n whole g known wants none. acquire_granted-followed config c rest h inv plain tracker n whole g
+      acquire_granted = λ n whole g known wants none. acquire_granted-followed config c rest h inv plain tracker n whole
+          g
           known.0 known.1.0 known.1.1 wants none;
       acquire_served = λ n whole g known wants some. acquire_served-followed config c rest h inv plain tracker n whole g
           known.0 known.1.0 known.1.1 wants some;
@@ -150,7 +155,8 @@ kind_taken-kept {w} {caching} config tracker c k i rest h inv plain long serving
       report = λ n known more. report-followed config c rest h inv plain n known.0 more;
       report_answers = λ n q source j known last waits. report_answers-followed config c rest h inv plain n q source j
           known.0 (long n) (serving n) last waits;
-      report_grants = λ n q source j whole g known last waits wants. report_grants-followed config c rest h inv plain n q
+      report_grants = λ n q source j whole g known last waits wants. report_grants-followed config c rest h inv plain n
+          q
           source j whole g known.0 last waits wants;
       release = λ n known. release_taken-kept c n _ rest inv known.0 (first-release inv known.0);
       answer = λ source known. answer_taken-kept c source rest inv known.0 (first-answer inv known.0);

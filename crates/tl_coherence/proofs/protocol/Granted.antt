@@ -1,11 +1,11 @@
 -- The last ProbeAck that is taken, with which the Acquire that waited is granted, keeps what holds of a block.
 use Rattle.std.proofs.Common.{◌≡◌, refl, sym, ◌∙◌, ap, ◌⊎◌, inl, inr, ℕ, Bool, true, false, ne_eqb}
 use Rattle.tl_coherence.proofs
-use proofs.Imports.{cases_eq, not-true, Cap, Grow, Report, Perm, cap_right, report_left, report_right, same_perm}
-use proofs.Imports.{cap_asked, IsAskedCap, resting, is_out, IsWell, set, ClientBlock, Own, Other, Granting}
-use proofs.Imports.{GrantedOther, NoProbe, ProbeAnswered, NoAcquire, AcquireOpen, ok, same_cap, is_unprobed, cap_fits}
-use proofs.Imports.{is_granted_data, after_grant_sent, after_report, Waits, GrantSent, Block, view, granted_block}
-use proofs.Imports.{written, granted_pair, perm_le}
+use proofs.Imports.{cases_eq, not-true, Cap, Grow, Report, Perm, cap_right, report_left, same_perm, cap_asked}
+use proofs.Imports.{IsAskedCap, resting, is_out, IsWell, set, ClientBlock, Own, Other, Granting, GrantedOther, NoProbe}
+use proofs.Imports.{ProbeAnswered, NoAcquire, AcquireOpen, ok, same_cap, is_unprobed, cap_fits, is_granted_data}
+use proofs.Imports.{after_grant_sent, after_report, Waits, GrantSent, Block, view, granted_block, written, granted_pair}
+use proofs.Imports.{perm_le}
 use proofs.queues.{Tokens.same_number, Tokens.set-same, Tokens.set-other, Tokens.set-part, PhaseSteps.grant_last-ok}
 use proofs.queues.{PhaseSteps.report-ok, PhaseSteps.ended-ok, Perms.not_out}
 use proofs.queues.Facts.{spared_within, reported_within, cap_is_low, own_low, own_quiet, report_begins}
@@ -53,6 +53,18 @@ gives whole g Cap.ToT e = inl refl
 gives whole g k e = inr refl
 
 -- ---- the block
+
+-- after its last ProbeAck nobody is recorded with more than a service's cap lets stay
+pub recorded_within : {X : Type 0} {caching : ℕ → Bool} (c : ℕ) (r : Report) (k : Cap) {b : Block X} → IsWell caching b
+    → (b.pair c).probing ≡ ProbeAnswered r → ((d : ℕ) → (d ≡ c → ⊥) → is_unprobed (b.pair d).probing ≡ true)
+    → view b.service c ≡ Other k → (d : ℕ) → view b.service d ≡ Other k
+    → perm_le (set c (after_report r (b.pair c)) b.pair d).recorded (cap_right k) ≡ true
+recorded_within c r k {b} h answered settled seen d other = elim (cases_eq d c) [
+  | inl same ↦ rw (same, set-same c (after_report r (b.pair c)) b.pair)
+      (reported_within k r (b.pair c) (view b.service c) (h.phases c) seen answered)
+  | inr ne ↦ rw (set-other c d (after_report r (b.pair c)) b.pair ne)
+      (spared_within k (b.pair d) (view b.service d) (h.phases d) other (quiet-is (b.pair d).probing (settled d ne)))
+]
 
 -- what the premises say: c's ProbeAck is the last one that q's Acquire waits for
 pub record IsLast {X : Type 0} (c q : ℕ) (r : Report) (whole : Bool) (g : Grow) (gift : Cap) (source : ℕ) (k : Cap)
@@ -155,14 +167,8 @@ granted-block {X} {c} {q} {r} {whole} {g} {gift} {source} {k} {b} h last =
 
     -- those who aren't granted have no Trunk
     low_elsewhere : (d : ℕ) → (d ≡ q → ⊥) → same_perm (set c after b.pair d).recorded Perm.Trunk ≡ false
-    low_elsewhere d ne = elim (cases_eq d c) [
-      | inl same ↦ rw (same, set-same c after b.pair)
-          (low_within (report_right r) k (reported_within k r (b.pair c) (view b.service c) (h.phases c) (other c apart)
-          last.answered) low)
-      | inr neither ↦ rw (set-other c d after b.pair neither)
-          (low_within (b.pair d).recorded k (spared_within k (b.pair d) (view b.service d) (h.phases d) (other d ne)
-          (quiet-is (b.pair d).probing (last.settled d neither))) low)
-    ]
+    low_elsewhere d ne = low_within (set c after b.pair d).recorded k
+        (recorded_within c r k h last.answered last.settled (other c apart) d (other d ne)) low
 
     owner : (same_cap gift Cap.ToT ≡ true) ⊎ (same_perm (cap_right gift) Perm.Trunk ≡ false) → (i j : ℕ)
         → same_perm (granted_pair c q r gift b.pair i).recorded Perm.Trunk ≡ true → (j ≡ i → ⊥)
@@ -220,11 +226,5 @@ room-trunk c q r whole g source k {b} h waits answered settled wants trunk apart
     λ i differs. rw waits (other_view q source i k differs) in
     let asked : IsAskedCap (Waits q true source k) b.pair = rw waits at h.asked_cap in
     let cap_is : k ≡ Cap.ToN = asks_none k whole g trunk (rw wants at asked) in
-    elim (cases_eq d c) [
-      | inl same ↦ rw (same, set-same c (after_report r (b.pair c)) b.pair)
-          (low_none k (report_right r) cap_is (reported_within k r (b.pair c) (view b.service c) (h.phases c)
-          (seen c apart) answered))
-      | inr neither ↦ rw (set-other c d (after_report r (b.pair c)) b.pair neither)
-          (low_none k (b.pair d).recorded cap_is (spared_within k (b.pair d) (view b.service d) (h.phases d) (seen d ne)
-          (quiet-is (b.pair d).probing (settled d neither))))
-    ]
+    low_none k (set c (after_report r (b.pair c)) b.pair d).recorded cap_is
+    (recorded_within c r k h answered settled (seen c apart) d (seen d ne))

@@ -2,12 +2,11 @@
 use Rattle.std.proofs.Common.{◌≡◌, ℕ, Bool, true, false, ◌&&◌, List, [], ◌∷◌, ◌++◌, refl, sym, ◌∙◌, ap, ap₂, ◌⊎◌, inl}
 use Rattle.std.proofs.Common.{inr, ne_eqb, ◌==◌, if◌then◌else◌}
 use Rattle.tl_coherence.proofs
-use proofs.Imports.{cases_eq, beq, Channel, Cap, Grow, Report, IsInvariant, Kind, Acquire, Probe, ProbeAck, Release}
-use proofs.Imports.{Answer, Grant, ReleaseAck, GrantAck, Packet, set, ClientBlock, Own, Other, Granting, GrantedOther}
-use proofs.Imports.{ProbeAnswered, is_unprobed, is_granted_data, after_grant_sent, after_report, Block, State, view}
-use proofs.Imports.{packet, packets_on, granted_block, granted_link, report_grants, is_transfer, is_wanting, is_sent}
-use proofs.Imports.{is_answered, is_releasing, is_acked, shows, shown, Move, Stays, Pushes, Pops, IsMoved, agrees}
-use proofs.Imports.{is_own_move, channel_for}
+use proofs.Imports.{cases_eq, beq, Channel, Cap, Grow, Report, IsInvariant, Kind, Acquire, Probe, ProbeAck, Answer}
+use proofs.Imports.{Grant, GrantAck, Packet, set, ClientBlock, Own, Other, Granting, GrantedOther, ProbeAnswered}
+use proofs.Imports.{is_unprobed, is_granted_data, after_grant_sent, after_report, Block, State, view, packet}
+use proofs.Imports.{packets_on, granted_block, granted_link, report_grants, is_transfer, is_wanting, shows, shown, Move}
+use proofs.Imports.{Stays, Pushes, Pops, IsMoved, agrees, is_own_move, channel_for}
 use Rattle.tl_coherence.specs.protocol.Protocol.{Link}
 use proofs.queues.{Facts.own_quiet, KindMoves.spares, KindMoves.same_again, Moves.names-kept, Moves.invariant-moved}
 use proofs.queues.{Moves.moved_as, Tokens.same_number, Tokens.set-same, Tokens.set-other, Tokens.set-part}
@@ -26,36 +25,20 @@ at_sender : (n : ℕ) (k : Kind) (p : ClientBlock) (d : Bool) (gift : Cap) → i
 at_sender n Acquire p d gift t =
     let go : (b : Bool) → beq (b && false) (b && false) ≡ true = elim [ true ↦ refl | false ↦ refl ] in
     go (is_wanting p.acquiring)
-at_sender n Probe p d gift t = same_again (is_sent p.probing)
-at_sender n ProbeAck p d gift t = same_again (is_answered p.probing)
-at_sender n Release p d gift t = same_again (is_releasing p.letting)
 at_sender n Grant p d gift t = rw (same_number n) refl
-at_sender n ReleaseAck p d gift t = same_again (is_acked p.letting)
-at_sender n GrantAck p d gift t = refl
-at_sender n k p d gift t = absurd cc
+at_sender n k p d gift t = same_again (shows k p Own)
 
 at_reporter : (n : ℕ) (k : Kind) (r : Report) (p : ClientBlock) (j : Cap) → is_transfer k ≡ true
     → p.probing ≡ ProbeAnswered r → agrees (granted_moves n 1 0 1 (channel_for k)) k n (shows k p (Other j))
     (shows k (after_report r p) GrantedOther) ≡ true
-at_reporter n Acquire r p j t e = same_again (is_wanting p.acquiring && true)
 at_reporter n Probe r p j t e = rw e refl
 at_reporter n ProbeAck r p j t e = rw (same_number n) refl
-at_reporter n Release r p j t e = same_again (is_releasing p.letting)
-at_reporter n Grant r p j t e = refl
-at_reporter n ReleaseAck r p j t e = same_again (is_acked p.letting)
-at_reporter n GrantAck r p j t e = refl
-at_reporter n k r p j t e = absurd cc
+at_reporter n k r p j t e = same_again (shows k p (Other j))
 
 at_other : (n : ℕ) (k : Kind) (p : ClientBlock) (j : Cap) → is_transfer k ≡ true
     → agrees Stays k n (shows k p (Other j)) (shows k p GrantedOther) ≡ true
-at_other n Acquire p j t = same_again (is_wanting p.acquiring && true)
-at_other n Probe p j t = same_again (is_sent p.probing)
-at_other n ProbeAck p j t = same_again (is_answered p.probing)
-at_other n Release p j t = same_again (is_releasing p.letting)
-at_other n Grant p j t = refl
-at_other n ReleaseAck p j t = same_again (is_acked p.letting)
 at_other n GrantAck p j t = refl
-at_other n k p j t = absurd cc
+at_other n k p j t = same_again (shows k p (Other j))
 
 -- moves by the place of the client
 moves_of_sender : (n c q : ℕ) (ch : Channel) → (q ≡ c → ⊥) → granted_moves n c q q ch ≡ granted_moves n 0 1 1 ch

@@ -1,16 +1,16 @@
 -- What is due to a client: the message of the first token of channel D, and what it answers.
-use Rattle.std.proofs.Common.{◌≡◌, ℕ, Bool, true, false, not, ◌&&◌, List, ◌∷◌, Some, refl, ◌∙◌, ap, lit≤, eqb-true}
-use Rattle.std.proofs.Common.{◌==◌, if◌then◌else◌}
+use Rattle.std.proofs.Common.{◌≡◌, ℕ, Bool, true, false, not, List, ◌∷◌, Some, refl, ◌∙◌, ap, lit≤, eqb-true, ◌==◌}
+use Rattle.std.proofs.Common.{if◌then◌else◌, sym}
 use Rattle.tl_coherence.proofs
 use proofs.Imports.{and_from, OpD, Message, MessageA, MessageD, Cap, Grow, cap_code, grant_opcode, no_payload}
-use proofs.Imports.{is_access_answer, IsInvariant, Answer, Grant, ReleaseAck, Packet, Own, Other, Granting}
-use proofs.Imports.{Acknowledging, GrantedOther, ReleasePhase, ReleaseAcked, AcquirePhase, NoAcquire, AcquireOpen}
-use proofs.Imports.{is_unacquired, is_unreleased, grant_fits, Service, Free, Waits, GrantSent, GrantTaken, State}
-use proofs.Imports.{Replied, Acquires, view, packet, is_wanting, is_granting, is_acked, AccessMessages, block_message}
-use proofs.Imports.{IsAnswered}
+use proofs.Imports.{is_access_answer, IsInvariant, Answer, Grant, ReleaseAck, Packet, Granting, GrantedOther}
+use proofs.Imports.{ReleasePhase, ReleaseAcked, AcquirePhase, NoAcquire, AcquireOpen, is_unacquired, is_unreleased}
+use proofs.Imports.{grant_fits, Service, Free, Waits, GrantSent, GrantTaken, State, Replied, Acquires, view, packet}
+use proofs.Imports.{is_wanting, is_granting, is_acked, AccessMessages, block_message, IsAnswered}
 use Rattle.tl_rules.specs.statement.Conformance.{answers}
+use proofs.protocol.{BothParts.waits_ungranted, BothParts.taken_ungranted, BothParts.is_of-is, BothParts.acquires_of-is}
+use proofs.protocol.{FirstTokens.first-answer, FirstTokens.first-shown}
 use proofs.queues.{Facts.grant_is_fit, Facts.granting_asks, Tokens.same_number}
-use proofs.protocol.{BothParts.is_of-is, BothParts.acquires_of-is, FirstTokens.first-answer, FirstTokens.first-shown}
 
 -- ---- an answer
 
@@ -66,13 +66,8 @@ pub granting-service : (s : Service) (c : ℕ) → is_granting (view s c) ≡ tr
     × (s ≡ GrantSent c d k)
 granting-service Free c e = absurd cc
 granting-service (Waits q o source k) c e =
-    let never : (x : Bool) → is_granting (if x then Own else Other k) ≡ true → ⊥ =
-    elim [ true ↦ λ f. cc | false ↦ λ f. cc ] in
-    absurd (never (o && (c == q)) e)
-granting-service (GrantTaken q) c e =
-    let never : (x : Bool) → is_granting (if x then Acknowledging else GrantedOther) ≡ true → ⊥ =
-    elim [ true ↦ λ f. cc | false ↦ λ f. cc ] in
-    absurd (never (c == q) e)
+    absurd (let no : false ≡ true = sym (waits_ungranted o q source k c) ∙ e in cc)
+granting-service (GrantTaken q) c e = absurd (let no : false ≡ true = sym (taken_ungranted q c) ∙ e in cc)
 granting-service (GrantSent q d k) c e =
     let own : (x : Bool) → is_granting (if x then Granting d k else GrantedOther) ≡ true → x ≡ true =
     elim [ true ↦ λ f. refl | false ↦ λ f. absurd cc ] in

@@ -1,16 +1,16 @@
 -- A Probe that is taken keeps the invariant.
-use Rattle.std.proofs.Common.{◌≡◌, ◌&&◌, refl, sym, ◌∙◌, ap, inl, inr, ℕ, Bool, true, false, List, ◌∷◌}
+use Rattle.std.proofs.Common.{◌≡◌, refl, sym, ◌∙◌, ap, inl, inr, ℕ, Bool, true, false, List, ◌∷◌}
 use Rattle.tl_coherence.proofs
 use proofs.Imports.{cases_eq, Channel, Cap, Perm, report_right, report_at, same_perm, resting, IsWell, IsInvariant}
-use proofs.Imports.{Kind, Acquire, Probe, ProbeAck, Release, Grant, ReleaseAck, GrantAck, Packet, set, count}
-use proofs.Imports.{ClientBlock, View, NoProbe, ProbeSent, NoRelease, is_unprobed, after_probe, Block, State, view}
-use proofs.Imports.{packet, probed_block, probed_link, probe_taken, is_transfer, is_wanting, is_unserved, is_releasing}
-use proofs.Imports.{is_acked, is_granting, is_acknowledging, shows, Move, Stays, Pushes, Pops, AreMoved, agrees}
-use proofs.Imports.{is_own_move, channel_for}
+use proofs.Imports.{Kind, Probe, ProbeAck, Release, Packet, set, count, ClientBlock, View, NoProbe, ProbeSent}
+use proofs.Imports.{NoRelease, is_unprobed, ok, after_probe, Block, State, view, packet, probed_block, probed_link}
+use proofs.Imports.{probe_taken, is_transfer, shows, Move, Stays, Pushes, Pops, AreMoved, agrees, is_own_move}
+use proofs.Imports.{channel_for}
 use Rattle.tl_coherence.specs.protocol.Protocol.{Link}
 use proofs.queues.{Moves.event-at, Moves.bare-at, Moves.names-kept, Moves.invariant-moved, KindMoves.same_again}
-use proofs.queues.{PhaseSteps.probe-ok, Tokens.same_number, Tokens.set-same, Tokens.set-other, Tokens.set-part}
-use proofs.protocol.Blocks.{awaited_by, asked_cap-same}
+use proofs.queues.{PhaseSteps.probe-ok, Tokens.same_number, Tokens.set-same, Tokens.set-each, Tokens.set-other}
+use proofs.queues.{Tokens.set-part}
+use proofs.protocol.Blocks.{awaited_by, asked_cap-set}
 
 -- ---- the block
 
@@ -30,14 +30,10 @@ probed-block c k {b} h sent kept =
     let quiet_same = set-part (λ (p : ClientBlock). is_unprobed p.probing) c after b.pair (rw sent refl) in
     let recorded_same = set-part (λ (p : ClientBlock). p.recorded) c after b.pair refl in
     record {
-      phases = λ d. elim (cases_eq d c) [
-        | inl same ↦ rw (same, set-same c after b.pair) (probe-ok k (b.pair c) (view b.service c) (h.phases c) sent
-            kept)
-        | inr other ↦ rw (set-other c d after b.pair other) (h.phases d)
-      ];
+      phases = set-each (λ d q. ok q (view b.service d) ≡ true) c after b.pair
+          (probe-ok k (b.pair c) (view b.service c) (h.phases c) sent kept) (λ d ne. h.phases d);
       awaited = awaited_by b.service (set c after b.pair) c (rw (set-same c after b.pair) refl);
-      asked_cap = asked_cap-same b.service b.pair (set c after b.pair)
-          (set-part (λ (p : ClientBlock). p.acquiring) c after b.pair refl) h.asked_cap;
+      asked_cap = asked_cap-set b.service c after b.pair refl h.asked_cap;
       own_source = h.own_source;
       alone = λ i j trunk probed ne. rw (quiet_same j)
           (h.alone i j (rw (recorded_same i) at trunk) (rw (quiet_same i) at probed) ne);
@@ -66,14 +62,9 @@ probe_moves n _ = Stays
 
 probe_shows : (n : ℕ) (k : Kind) (j : Cap) (p : ClientBlock) (v : View) → is_transfer k ≡ true → p.probing ≡ ProbeSent j
     → agrees (probe_moves n (channel_for k)) k n (shows k p v) (shows k (after_probe j p) v) ≡ true
-probe_shows n Acquire j p v t e = same_again (is_wanting p.acquiring && is_unserved v)
 probe_shows n Probe j p v t e = rw (same_number n) refl
 probe_shows n ProbeAck j p v t e = rw (e, same_number n) refl
-probe_shows n Release j p v t e = same_again (is_releasing p.letting)
-probe_shows n Grant j p v t e = same_again (is_granting v)
-probe_shows n ReleaseAck j p v t e = same_again (is_acked p.letting)
-probe_shows n GrantAck j p v t e = same_again (is_acknowledging v)
-probe_shows n k j p v t e = absurd cc
+probe_shows n k j p v t e = same_again (shows k p v)
 
 pub probe_taken-kept : {X : Type 0} {caching : ℕ → Bool} (c n : ℕ) (k : Cap) (rest : List Packet) {s : State X}
     → IsInvariant caching s → (s.link c).b ≡ packet Probe n ∷ rest → ((s.block n).pair c).probing ≡ ProbeSent k

@@ -1,20 +1,19 @@
 -- A ProbeAck that is taken while others are missing, and a Release that is taken, keep the invariant.
-use Rattle.std.proofs.Common.{◌≡◌, arith, refl, ap, inl, inr, ℕ, Bool, true, false, List, ◌∷◌, ◌&&◌, if◌then◌else◌}
+use Rattle.std.proofs.Common.{◌≡◌, arith, refl, ap, inl, inr, ℕ, Bool, true, false, List, ◌∷◌, if◌then◌else◌}
 use Rattle.tl_coherence.proofs
 use proofs.Imports.{cases_eq, Channel, Prune, Report, Perm, prune_left, report_left, report_right, prune_right}
-use proofs.Imports.{same_perm, one_if, is_out, IsWell, IsInvariant, Kind, Acquire, Probe, ProbeAck, Release, Grant}
-use proofs.Imports.{ReleaseAck, GrantAck, Packet, set, count, ClientBlock, View, ProbeAnswered, ReleaseSent}
-use proofs.Imports.{is_unreleased, is_unprobed, after_report, after_release_taken, Service, Block, State, view, packet}
-use proofs.Imports.{reported_block, report_taken, let_block, let_link, release_taken, shows, is_transfer, is_wanting}
-use proofs.Imports.{is_unserved, is_sent, is_answered, is_releasing, is_acked, is_granting, is_acknowledging, Move}
-use proofs.Imports.{Stays, Pushes, Pops, AreMoved, agrees, is_own_move, channel_for}
+use proofs.Imports.{same_perm, one_if, is_out, IsWell, IsInvariant, Kind, Probe, ProbeAck, Release, ReleaseAck, Packet}
+use proofs.Imports.{set, count, ClientBlock, View, ProbeAnswered, ReleaseSent, is_unreleased, is_unprobed, ok}
+use proofs.Imports.{after_report, after_release_taken, Service, Block, State, view, packet, reported_block}
+use proofs.Imports.{report_taken, let_block, let_link, release_taken, shows, is_transfer, is_answered, is_releasing}
+use proofs.Imports.{Move, Stays, Pushes, Pops, AreMoved, agrees, is_own_move, channel_for}
 use Rattle.tl_coherence.specs.protocol.Protocol.{Link, written_from}
 use proofs.queues.{Moves.event-at, Moves.bare-at, Moves.names-kept, Moves.invariant-moved, KindMoves.same_again}
 use proofs.queues.{PhaseSteps.report-ok, PhaseSteps.release_taken-ok, Facts.report_begins, Facts.release_begins}
-use proofs.queues.{Perms.not_out, Tokens.same_number, Tokens.set-same, Tokens.set-other, Tokens.set-part}
-use proofs.queues.{Tokens.ordered-first}
+use proofs.queues.{Perms.not_out, Tokens.same_number, Tokens.set-same, Tokens.set-each, Tokens.set-other}
+use proofs.queues.{Tokens.set-part, Tokens.ordered-first}
 use proofs.protocol.Granted.{both_trunk}
-use proofs.protocol.Blocks.{IsGentle, awaited_by, awaited-same, asked_cap-same, alone-set, owned-set, outside-set}
+use proofs.protocol.Blocks.{IsGentle, awaited_by, awaited-set, asked_cap-set, alone-set, owned-set, outside-set}
 use proofs.protocol.Blocks.{busy-inside}
 
 -- ---- what is recorded falls
@@ -24,22 +23,16 @@ report_trunk : (r : Report) (p : Perm) → same_perm (report_left r) p ≡ true
 report_trunk Report.TtoT Perm.Trunk e f = refl
 report_trunk r p e f = absurd cc
 
-report_none : (r : Report) (p : Perm) → same_perm (report_left r) p ≡ true → same_perm p Perm.None ≡ true
+report_none : (p : Perm) (r : Report) → same_perm (report_left r) p ≡ true → same_perm p Perm.None ≡ true
     → same_perm (report_right r) Perm.None ≡ true
-report_none Report.TtoB Perm.None e f = absurd cc
-report_none Report.TtoN Perm.None e f = absurd cc
-report_none Report.BtoN Perm.None e f = absurd cc
-report_none Report.TtoT Perm.None e f = absurd cc
-report_none Report.BtoB Perm.None e f = absurd cc
-report_none Report.NtoN Perm.None e f = refl
-report_none r Perm.Branch e f = absurd cc
-report_none r Perm.Trunk e f = absurd cc
+report_none Perm.None Report.NtoN e f = refl
+report_none p r e f = absurd cc
 
 pub gentle-report : (r : Report) (p : ClientBlock) → same_perm (report_left r) p.recorded ≡ true
     → IsGentle p (after_report r p)
 gentle-report r p e = record {
   trunk = λ f. report_trunk r p.recorded e f;
-  none = λ f. report_none r p.recorded e f;
+  none = λ f. report_none p.recorded r e f;
   quiet = λ f. refl;
 }
 
@@ -48,19 +41,16 @@ prune_trunk : (r : Prune) (p : Perm) → same_perm (prune_left r) p ≡ true →
 prune_trunk Prune.TtoB p e f = absurd cc
 prune_trunk r p e f = absurd cc
 
-prune_none : (r : Prune) (p : Perm) → same_perm (prune_left r) p ≡ true → same_perm p Perm.None ≡ true
+prune_none : (p : Perm) (r : Prune) → same_perm (prune_left r) p ≡ true → same_perm p Perm.None ≡ true
     → same_perm (prune_right r) Perm.None ≡ true
-prune_none Prune.TtoB Perm.None e f = absurd cc
-prune_none Prune.TtoN Perm.None e f = absurd cc
-prune_none Prune.BtoN Perm.None e f = absurd cc
-prune_none r Perm.Branch e f = absurd cc
-prune_none r Perm.Trunk e f = absurd cc
+prune_none Perm.None Prune.TtoB e f = absurd cc
+prune_none p r e f = absurd cc
 
 gentle-prune : (r : Prune) (p : ClientBlock) → same_perm (prune_left r) p.recorded ≡ true
     → IsGentle p (after_release_taken r p)
 gentle-prune r p e = record {
   trunk = λ f. prune_trunk r p.recorded e f;
-  none = λ f. prune_none r p.recorded e f;
+  none = λ f. prune_none p.recorded r e f;
   quiet = λ f. f;
 }
 
@@ -91,14 +81,10 @@ reported-block {caching} c r {b} h answered w apart missing =
     let begins = report_begins r (b.pair c) (view b.service c) (h.phases c) answered in
     let held_same = set-part (λ (p : ClientBlock). p.held) c after b.pair refl in
     record {
-      phases = λ d. elim (cases_eq d c) [
-        | inl same ↦ rw (same, set-same c after b.pair) (report-ok r (b.pair c) (view b.service c) (h.phases c)
-            answered).0
-        | inr other ↦ rw (set-other c d after b.pair other) (h.phases d)
-      ];
+      phases = set-each (λ d q. ok q (view b.service d) ≡ true) c after b.pair
+          (report-ok r (b.pair c) (view b.service c) (h.phases c) answered).0 (λ d ne. h.phases d);
       awaited = awaited_by b.service (set c after b.pair) w (rw (set-other c w after b.pair apart) missing);
-      asked_cap = asked_cap-same b.service b.pair (set c after b.pair)
-          (set-part (λ (p : ClientBlock). p.acquiring) c after b.pair refl) h.asked_cap;
+      asked_cap = asked_cap-set b.service c after b.pair refl h.asked_cap;
       own_source = h.own_source;
       alone = alone-set c b.pair (gentle-report r (b.pair c) begins) h.alone;
       one_owner = owned-set c b.pair (gentle-report r (b.pair c) begins) h.one_owner;
@@ -115,15 +101,10 @@ let-block {caching} c r {b} h releasing first =
     let begins = release_begins r (b.pair c) (view b.service c) (h.phases c) releasing first in
     let held_same = set-part (λ (p : ClientBlock). p.held) c after b.pair refl in
     record {
-      phases = λ d. elim (cases_eq d c) [
-        | inl same ↦ rw (same, set-same c after b.pair) (release_taken-ok r (b.pair c) (view b.service c) (h.phases c)
-            releasing first)
-        | inr other ↦ rw (set-other c d after b.pair other) (h.phases d)
-      ];
-      awaited = awaited-same b.service b.pair (set c after b.pair)
-          (set-part (λ (p : ClientBlock). is_unprobed p.probing) c after b.pair refl) h.awaited;
-      asked_cap = asked_cap-same b.service b.pair (set c after b.pair)
-          (set-part (λ (p : ClientBlock). p.acquiring) c after b.pair refl) h.asked_cap;
+      phases = set-each (λ d q. ok q (view b.service d) ≡ true) c after b.pair
+          (release_taken-ok r (b.pair c) (view b.service c) (h.phases c) releasing first) (λ d ne. h.phases d);
+      awaited = awaited-set b.service c after b.pair refl h.awaited;
+      asked_cap = asked_cap-set b.service c after b.pair refl h.asked_cap;
       own_source = h.own_source;
       alone = alone-set c b.pair (gentle-prune r (b.pair c) begins) h.alone;
       one_owner = owned-set c b.pair (gentle-prune r (b.pair c) begins) h.one_owner;
@@ -142,14 +123,9 @@ report_moves n _ = Stays
 pub report_shows : (n : ℕ) (k : Kind) (r : Report) (p : ClientBlock) (v : View) → is_transfer k ≡ true
     → p.probing ≡ ProbeAnswered r
     → agrees (report_moves n (channel_for k)) k n (shows k p v) (shows k (after_report r p) v) ≡ true
-report_shows n Acquire r p v t e = same_again (is_wanting p.acquiring && is_unserved v)
 report_shows n Probe r p v t e = rw e refl
 report_shows n ProbeAck r p v t e = rw (same_number n) refl
-report_shows n Release r p v t e = same_again (is_releasing p.letting)
-report_shows n Grant r p v t e = same_again (is_granting v)
-report_shows n ReleaseAck r p v t e = same_again (is_acked p.letting)
-report_shows n GrantAck r p v t e = same_again (is_acknowledging v)
-report_shows n k r p v t e = absurd cc
+report_shows n k r p v t e = same_again (shows k p v)
 
 pub report_taken-kept : {X : Type 0} {caching : ℕ → Bool} (c n : ℕ) (r : Report) (rest : List Packet) {s : State X}
     → IsInvariant caching s → (s.link c).c ≡ packet ProbeAck n ∷ rest
@@ -187,14 +163,9 @@ let_moves n _ = Stays
 let_shows : (n : ℕ) (k : Kind) (r : Prune) (p : ClientBlock) (v : View) → is_transfer k ≡ true
     → p.letting ≡ ReleaseSent r
     → agrees (let_moves n (channel_for k)) k n (shows k p v) (shows k (after_release_taken r p) v) ≡ true
-let_shows n Acquire r p v t e = same_again (is_wanting p.acquiring && is_unserved v)
-let_shows n Probe r p v t e = same_again (is_sent p.probing)
-let_shows n ProbeAck r p v t e = same_again (is_answered p.probing)
 let_shows n Release r p v t e = rw (same_number n) refl
-let_shows n Grant r p v t e = same_again (is_granting v)
 let_shows n ReleaseAck r p v t e = rw (e, same_number n) refl
-let_shows n GrantAck r p v t e = same_again (is_acknowledging v)
-let_shows n k r p v t e = absurd cc
+let_shows n k r p v t e = same_again (shows k p v)
 
 -- a Release that is first has no ProbeAck of its block beside it
 pub release_first : {X : Type 0} {caching : ℕ → Bool} (c n : ℕ) (rest : List Packet) {s : State X}

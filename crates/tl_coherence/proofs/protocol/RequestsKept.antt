@@ -161,7 +161,8 @@ module _ {w : ℕ} {caching : ℕ → Bool} (config : Config) (c : ℕ) (rest : 
       → some_below clients (λ d. is_probed c false k ((h.state.block (block_at m.address)).pair d).recorded d) ≡ true
       → IsInvariant caching (access_served c (block_at m.address) source tracker k rest h.state)
   access_served-followed tracker source m k first free unused caps some =
-      let one = some-one clients (λ d. is_probed c false k ((h.state.block (block_at m.address)).pair d).recorded d) some
+      let one = some-one clients (λ d. is_probed c false k ((h.state.block (block_at m.address)).pair d).recorded d)
+      some
       in
       access_served-kept c (block_at m.address) source tracker k rest inv first free (first-request inv first)
       (low_cap m.opcode m.param k caps) unused one.0 one.1

@@ -1,20 +1,20 @@
 -- A request that is taken, and for which clients are probed, keeps the invariant.
-use Rattle.std.proofs.Common.{◌≡◌, refl, sym, ◌∙◌, ℕ, Bool, true, false, not, List, ◌∷◌, ◌++◌, [], ◌&&◌, Some, None}
+use Rattle.std.proofs.Common.{◌≡◌, refl, sym, ◌∙◌, ℕ, Bool, true, false, not, List, ◌∷◌, ◌&&◌, Some, None}
 use Rattle.std.proofs.Common.{eqb-true, ne_eqb, ◌==◌, if◌then◌else◌}
 use Rattle.tl_coherence.proofs
 use proofs.Imports.{Channel, Cap, Grow, Perm, same_perm, cap_asked, resting, is_out, is_of, acquires_of, serves_of}
 use proofs.Imports.{acquires_with, serves_with, releases_with, tracks_with, IsAskedCap, IsWell, IsInvariant}
-use proofs.Imports.{IsOwnSource, Kind, Request, Acquire, Probe, ProbeAck, Release, Answer, Grant, ReleaseAck, GrantAck}
-use proofs.Imports.{Packet, set, ClientBlock, View, Idle, Own, Other, ProbePhase, ProbeSent, AcquireOpen, ok, same_cap}
-use proofs.Imports.{is_unprobed, is_above, after_served, Free, Waits, Block, State, Asked, InService, view, packet}
-use proofs.Imports.{packets_on, is_probed, served_pair, served_block, with_probe, served_link, acquire_served}
-use proofs.Imports.{access_served, shows, shown, is_transfer, is_granting, is_wanting, is_sent, is_answered}
-use proofs.Imports.{is_releasing, is_acked, Move, Stays, Pushes, Pops, IsMoved, agrees, is_own_move, channel_for}
+use proofs.Imports.{IsOwnSource, Kind, Request, Acquire, Probe, ProbeAck, Answer, Packet, set, ClientBlock, View, Idle}
+use proofs.Imports.{Own, Other, ProbePhase, ProbeSent, AcquireOpen, ok, same_cap, is_unprobed, is_above, after_served}
+use proofs.Imports.{Free, Waits, Block, State, Asked, InService, view, packet, packets_on, is_probed, served_pair}
+use proofs.Imports.{served_block, with_probe, served_link, acquire_served, access_served, shows, shown, is_transfer}
+use proofs.Imports.{is_granting, is_wanting, is_sent, is_answered, Move, Stays, Pushes, Pops, IsMoved, agrees}
+use proofs.Imports.{is_own_move, channel_for}
 use Rattle.tl_coherence.specs.protocol.Protocol.{Link}
 use proofs.queues.{Phases.and_left, Phases.and_right, PhaseSteps.serve-ok, PhaseSteps.served-ok}
 use proofs.queues.{PhaseFacts.quiet_at_rest, Tokens.same_number, KindMoves.same_again, KindMoves.spares}
 use proofs.queues.{KindMoves.spared-agrees}
-use proofs.protocol.BothParts.{quiet_unanswered}
+use proofs.protocol.BothParts.{quiet_unanswered, waits_ungranted}
 use proofs.queues.Moves.{IsEvent, names-block, names-set, names-set_at, invariant-moved, invariant-moved_use}
 
 -- ---- who is probed
@@ -41,11 +41,6 @@ none_above k Perm.Trunk e = absurd cc
 out_same : (p q : ClientBlock) (v u : View) → q.recorded ≡ p.recorded → is_granting u ≡ is_granting v
     → is_out q u ≡ is_out p v
 out_same p q v u e f = rw (e, f) refl
-
-never_granting : (r s : ℕ) (own : Bool) (k : Cap) (d : ℕ) → is_granting (view (Waits r own s k) d) ≡ false
-never_granting r s own k d =
-    let go : (b : Bool) → is_granting (if b then Own else Other k) ≡ false = elim [ true ↦ refl | false ↦ refl ] in
-    go (own && (d == r))
 
 never_top : (k : Cap) (whole : Bool) (g : Grow) → same_cap k (cap_asked (AcquireOpen whole g)) ≡ true
     → same_cap k Cap.ToT ≡ false
@@ -93,7 +88,7 @@ served-block r {own} source tracker {k} {b} h free asks sourced w probed =
       memory = λ none. h.memory (λ d.
           let before : is_granting (view b.service d) ≡ false = rw (idle d) refl in
           sym (out_same (b.pair d) (served_pair r own k b.pair d) (view b.service d) (view (Waits r own source k) d)
-          (recorded_same d) (never_granting r source own k d ∙ sym before)) ∙ none d);
+          (recorded_same d) (waits_ungranted own r source k d ∙ sym before)) ∙ none d);
     }
   where
     idle : (d : ℕ) → view b.service d ≡ Idle
@@ -138,13 +133,7 @@ served_moves r own n source k pair d =
 sender_shows : (n : ℕ) (j : Kind) (p : ClientBlock) → is_transfer j ≡ true → is_wanting p.acquiring ≡ true
     → agrees (request_move (Pops Acquire n) false n (channel_for j)) j n (shows j p Idle) (shows j p Own) ≡ true
 sender_shows n Acquire p t e = rw (e, same_number n) refl
-sender_shows n Probe p t e = same_again (is_sent p.probing)
-sender_shows n ProbeAck p t e = same_again (is_answered p.probing)
-sender_shows n Release p t e = same_again (is_releasing p.letting)
-sender_shows n Grant p t e = refl
-sender_shows n ReleaseAck p t e = same_again (is_acked p.letting)
-sender_shows n GrantAck p t e = refl
-sender_shows n j p t e = absurd cc
+sender_shows n j p t e = same_again (shows j p Idle)
 
 -- what another shows, or the sender of an access
 other_shows : (n : ℕ) (j : Kind) (m : Move) (k : Cap) (p : ClientBlock) (above : Bool) → is_transfer j ≡ true
@@ -158,11 +147,8 @@ other_shows n Probe m k p true t u q e =
 other_shows n Probe m k p false t u q e = rw e (same_again (is_sent p.probing))
 other_shows n ProbeAck m k p true t u q e = rw (e, quiet_unanswered p.probing q) refl
 other_shows n ProbeAck m k p false t u q e = rw e (same_again (is_answered p.probing))
-other_shows n Release m k p above t u q e = same_again (is_releasing p.letting)
-other_shows n Grant m k p above t u q e = refl
-other_shows n ReleaseAck m k p above t u q e = same_again (is_acked p.letting)
-other_shows n GrantAck m k p above t u q e = refl
-other_shows n j m k p above t u q e = absurd cc
+other_shows n Request m k p above t u q e = absurd cc
+other_shows n j m k p above t u q e = same_again (shows j p Idle)
 
 -- both, by whether it is an Acquire, and whether this is the sender
 any_shows : (n source : ℕ) (j : Kind) (own x : Bool) (k : Cap) (p : ClientBlock) → is_transfer j ≡ true
@@ -176,29 +162,15 @@ any_shows n source j false true k p t wants q = other_shows n j (Pops Request so
     q refl
 any_shows n source j false false k p t wants q = other_shows n j Stays k p (is_above k p.recorded) t refl q refl
 
--- channels that stay
-leaves : (part : Link → List Packet) (n : ℕ) (l : Link) (rest : List Packet) (x p : Bool)
-    → ((y z : List Packet) → part (record l { a = y; b = z }) ≡ part l)
-    → part (with_probe n p (if x then record l { a = rest } else l)) ≡ part l
-leaves part n l rest true true e = e rest (l.b ++ packet Probe n ∷ [])
-leaves part n l rest true false e = e rest l.b
-leaves part n l rest false true e = e l.a (l.b ++ packet Probe n ∷ [])
-leaves part n l rest false false e = refl
-
-any_moved : (ch : Channel) (m : Move) (n : ℕ) (l : Link) (rest : List Packet) (x p : Bool)
-    → (x ≡ true → IsMoved m l.a rest) → (x ≡ false → m ≡ Stays) → IsMoved (request_move m p n ch) (packets_on ch l)
-    (packets_on ch (with_probe n p (if x then record l { a = rest } else l)))
-any_moved Channel.A m n l rest true true pops stays = pops refl
-any_moved Channel.A m n l rest true false pops stays = pops refl
-any_moved Channel.A m n l rest false true pops stays = rw (stays refl) refl
-any_moved Channel.A m n l rest false false pops stays = rw (stays refl) refl
-any_moved Channel.B m n l rest true true pops stays = refl
-any_moved Channel.B m n l rest true false pops stays = refl
-any_moved Channel.B m n l rest false true pops stays = refl
-any_moved Channel.B m n l rest false false pops stays = refl
-any_moved Channel.C m n l rest x p pops stays = leaves (λ i. i.c) n l rest x p (λ y z. refl)
-any_moved Channel.D m n l rest x p pops stays = leaves (λ i. i.d) n l rest x p (λ y z. refl)
-any_moved Channel.E m n l rest x p pops stays = leaves (λ i. i.e) n l rest x p (λ y z. refl)
+-- the channels of a client, by whether it asked, and whether it is probed
+pub any_moved : (x y : Bool) (ch : Channel) (j : Kind) (i n : ℕ) (l : Link) (rest : List Packet)
+    → (x ≡ true → l.a ≡ packet j i ∷ rest) → IsMoved (request_move (if x then Pops j i else Stays) y n ch)
+    (packets_on ch l) (packets_on ch (with_probe n y (if x then record l { a = rest } else l)))
+any_moved true true Channel.A j i n l rest e = e refl
+any_moved true false Channel.A j i n l rest e = e refl
+any_moved false true Channel.A j i n l rest e = refl
+any_moved false false Channel.A j i n l rest e = refl
+any_moved x y ch j i n l rest e = refl
 
 any_own : (ch : Channel) (n source : ℕ) (own x p : Bool)
     → is_own_move ch (request_move (if x then Pops (kind_served own) (number_served own n source) else Stays) p n ch)
@@ -208,9 +180,7 @@ any_own Channel.A n source false true p = refl
 any_own Channel.A n source own false p = refl
 any_own Channel.B n source own x true = refl
 any_own Channel.B n source own x false = refl
-any_own Channel.C n source own x p = refl
-any_own Channel.D n source own x p = refl
-any_own Channel.E n source own x p = refl
+any_own ch n source own x p = refl
 
 -- ---- the whole
 
@@ -225,19 +195,14 @@ served-event {caching} r n {own} source tracker {k} rest {s} inv first free asks
     let wants : (o : Bool) → Probes o k ((s.block n).pair r) → (d : ℕ) → o ≡ true → (d == r) ≡ true
     → is_wanting ((s.block n).pair d).acquiring ≡ true =
     elim [ false ↦ λ a d e f. absurd cc | true ↦ λ a d e f. rw (eqb-true d r f, a.2) refl ] in
-    let stays : (x : Bool) → x ≡ false → (if x then Pops (kind_served own) (number_served own n source) else Stays)
-    ≡ Stays = elim [ true ↦ λ e. absurd cc | false ↦ λ e. refl ] in
     let before : (j : Kind) (d : ℕ) (after : Bool) (m : Move) → agrees m j n (shows j ((s.block n).pair d) Idle) after
     ≡ true → agrees m j n (shown j d (s.block n)) after ≡ true = λ j d after m h. rw free h in
     let quiet : (d : ℕ) → is_unprobed ((s.block n).pair d).probing ≡ true =
     λ d. quiet_at_rest ((s.block n).pair d) (view (s.block n).service d) ((inv.blocks n).phases d) (rw free refl) in
-    let pops : (d : ℕ) → (d == r) ≡ true
-    → IsMoved (if d == r then Pops (kind_served own) (number_served own n source) else Stays) (s.link d).a rest =
-    λ d e. rw (e, eqb-true d r e) first in
     record {
       well = served-block r source tracker (inv.blocks n) free asks sourced w probed;
-      moved = λ d ch. any_moved ch (if d == r then Pops (kind_served own) (number_served own n source) else Stays) n
-          (s.link d) rest (d == r) (is_probed r own k ((s.block n).pair d).recorded d) (pops d) (stays (d == r));
+      moved = λ d ch. any_moved (d == r) (is_probed r own k ((s.block n).pair d).recorded d) ch (kind_served own)
+          (number_served own n source) n (s.link d) rest (λ e. rw (eqb-true d r e) first);
       own = λ d ch. any_own ch n source own (d == r) (is_probed r own k ((s.block n).pair d).recorded d);
       fits = λ d j t. before j d (shown j d (served_block r own source tracker k (s.block n)))
           (served_moves r own n source k (s.block n).pair d (channel_for j))

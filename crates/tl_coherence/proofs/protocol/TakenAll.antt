@@ -2,11 +2,10 @@
 use Rattle.std.proofs.Common.{◌≡◌, refl, sym, ◌∙◌, ℕ, Bool, true, false, List, ◌∷◌, ◌&&◌, ne_eqb}
 use Rattle.tl_coherence.proofs
 use proofs.Imports.{and-false, Channel, Cap, Grow, is_of, acquires_of, serves_of, acquires_with, serves_with}
-use proofs.Imports.{releases_with, tracks_with, IsInvariant, Kind, Acquire, Probe, ProbeAck, Release, Grant, ReleaseAck}
-use proofs.Imports.{GrantAck, Packet, ClientBlock, Granting, Acknowledging, AcquireOpen, after_grant, GrantSent, Block}
-use proofs.Imports.{State, SourceFree, Acquires, packet, taken_block, taken_link, grant_taken, shows, is_transfer}
-use proofs.Imports.{is_wanting, is_sent, is_answered, is_releasing, is_acked, Move, Stays, Pushes, Pops, AreMoved}
-use proofs.Imports.{agrees, is_own_move, channel_for}
+use proofs.Imports.{releases_with, tracks_with, IsInvariant, Kind, Acquire, ProbeAck, Grant, GrantAck, Packet}
+use proofs.Imports.{ClientBlock, Granting, Acknowledging, AcquireOpen, after_grant, GrantSent, Block, State, SourceFree}
+use proofs.Imports.{Acquires, packet, taken_block, taken_link, grant_taken, shows, is_transfer, is_wanting, Move, Stays}
+use proofs.Imports.{Pushes, Pops, AreMoved, agrees, is_own_move, channel_for}
 use Rattle.tl_coherence.specs.protocol.Protocol.{Link}
 use proofs.queues.Moves.{event-at, bare-elsewhere, names-block, names-set_at, invariant-moved_use}
 use proofs.queues.{KindMoves.same_again, Tokens.same_number, Tokens.set-same, Tokens.set-other, Tokens.set-part}
@@ -23,13 +22,9 @@ taken_shows : (n : ℕ) (j : Kind) (d : Bool) (k : Cap) (p : ClientBlock) → is
 taken_shows n Acquire d k p t =
     let go : (b : Bool) → agrees Stays Acquire n (b && false) false ≡ true = elim [ true ↦ refl | false ↦ refl ] in
     go (is_wanting p.acquiring)
-taken_shows n Probe d k p t = same_again (is_sent p.probing)
-taken_shows n ProbeAck d k p t = same_again (is_answered p.probing)
-taken_shows n Release d k p t = same_again (is_releasing p.letting)
 taken_shows n Grant d k p t = rw (same_number n) refl
-taken_shows n ReleaseAck d k p t = same_again (is_acked p.letting)
 taken_shows n GrantAck d k p t = rw (same_number n) refl
-taken_shows n j d k p t = absurd cc
+taken_shows n j d k p t = same_again (shows j p Acknowledging)
 
 pub grant_taken-kept : {X : Type 0} {caching : ℕ → Bool} (c n : ℕ) (d whole : Bool) (g : Grow) (k : Cap)
     (rest : List Packet) {s : State X} → IsInvariant caching s → (s.link c).d ≡ packet Grant n ∷ rest

@@ -36,7 +36,8 @@ trunk_below p q e f = absurd (let no : false ≡ true = rw f at e in cc)
 -- what is granted fits what was asked for: Trunk alone, where the whole block is to be stored
 pub fits_cap : (recorded held : Perm) (d : Bool) (k : Cap) (whole : Bool) (g : Grow)
     → grant_fits recorded held d k (AcquireOpen whole g) ≡ true → cap_fits whole g k ≡ true
-fits_cap recorded held d k whole g f = and_left (cap_fits whole g k) _ (and_right (same_perm recorded (cap_right k)) _ f)
+fits_cap recorded held d k whole g f =
+    and_left (cap_fits whole g k) _ (and_right (same_perm recorded (cap_right k)) _ f)
 
 pub whole_cap : (g : Grow) (k : Cap) → cap_fits true g k ≡ true → k ≡ Cap.ToT
 whole_cap g Cap.ToT e = refl

@@ -1,6 +1,6 @@
 -- Tokens that are pushed and popped.
 use Rattle.std.proofs.Common.{◌≡◌, refl, ◌∙◌, inl, inr, arith, ℕ, Bool, true, false, List, [], ◌∷◌, ◌++◌, ◌+◌, ne_eqb}
-use Rattle.std.proofs.Common.{◌==◌}
+use Rattle.std.proofs.Common.{◌==◌, if◌then◌else◌}
 use Rattle.tl_coherence.proofs
 use proofs.Imports.{cases_eq, one_if, Kind, ProbeAck, Release, Packet, same_kind, is, count, set, Holds, set_at}
 use Rattle.tl_coherence.specs.protocol.Packet.{IsOrdered}
@@ -23,6 +23,12 @@ set-each P k y f here others n = elim (cases_eq n k) [
   | inl same ↦ rw (same, set-same k y f) here
   | inr other ↦ rw (set-other k n y f other) (others n other)
 ]
+
+-- a part that two values have in common is that of the chosen one
+pub if-part : {A Y : Type 0} (part : Y → A) {a : A} (b : Bool) {x y : Y} → part x ≡ a → part y ≡ a
+    → part (if b then x else y) ≡ a
+if-part part true e f = e
+if-part part false e f = f
 
 -- a part that the new value has in common with the old one is everywhere as before
 pub set-part : {A Y : Type 0} (part : Y → A) (k : ℕ) (y : Y) (f : ℕ → Y) → part y ≡ part (f k) → (n : ℕ)

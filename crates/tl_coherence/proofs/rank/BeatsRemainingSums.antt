@@ -74,14 +74,7 @@ answer_opcode _ _ n e f = absurd cc
 pub answer-is : {w : ℕ} (source : ℕ) (m x : Message w) → IsAnswer source m x → beats_of x ≡ answer_beats m
 answer-is {w} source (Message.A m) (Message.D x) h =
     rw h.3 (answer_opcode x.opcode m.opcode (data_beats w m.size) h.0 h.1)
-answer-is source (Message.A m) (Message.A x) h = absurd h
-answer-is source (Message.A m) (Message.B x) h = absurd h
-answer-is source (Message.A m) (Message.C x) h = absurd h
-answer-is source (Message.A m) (Message.E x) h = absurd h
-answer-is source (Message.B m) x h = absurd h
-answer-is source (Message.C m) x h = absurd h
-answer-is source (Message.D m) x h = absurd h
-answer-is source (Message.E m) x h = absurd h
+answer-is source m x h = absurd h
 
 -- ---- an access and its answer
 

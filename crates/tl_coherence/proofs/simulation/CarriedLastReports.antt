@@ -1,6 +1,6 @@
 -- The channels carry the messages of the tokens after the last report, for which a service ends.
 use Rattle.std.proofs.Common.{◌≡◌, ℕ, Bool, true, false, ◌&&◌, List, [], ◌∷◌, ◌++◌, Some, None, refl, sym, ◌∙◌, ap, ◌⊎◌}
-use Rattle.std.proofs.Common.{inl, inr, ne_eqb, ◌==◌, if◌then◌else◌}
+use Rattle.std.proofs.Common.{inl, inr, ne_eqb, ◌==◌, if◌then◌else◌, eqb-true}
 use Rattle.tl_coherence.proofs
 use proofs.Imports.{cases_eq, Channel, Message, Cap, Report, IsInvariant, is_replied, Kind, ProbeAck, Answer, Grant}
 use proofs.Imports.{Packet, set, set_at, Waits, Block, State, packet, packets_on, popped_link, granted_link}
@@ -15,38 +15,20 @@ use proofs.queues.{Showing.showing-block, Tokens.same_number, Tokens.set-same, T
 
 -- ---- the last report, for which an access is answered
 
-ended_fits : {w : ℕ} (n source : ℕ) (m : Message w) (at : Channel) (x y : Bool) (render : Kind → ℕ → Message w)
+ended_fits : {w : ℕ} (x y : Bool) (n source : ℕ) (m : Message w) (at : Channel) (render : Kind → ℕ → Message w)
     → (y ≡ true → render Answer source ≡ m)
     → Fits (x && same_channel at Channel.C) (if y then only_on Channel.D m at else None) (ended_move x y n source at)
     render
-ended_fits n source m Channel.A true true render e = tt
-ended_fits n source m Channel.A true false render e = tt
-ended_fits n source m Channel.A false true render e = tt
-ended_fits n source m Channel.A false false render e = tt
-ended_fits n source m Channel.B true true render e = tt
-ended_fits n source m Channel.B true false render e = tt
-ended_fits n source m Channel.B false true render e = tt
-ended_fits n source m Channel.B false false render e = tt
-ended_fits n source m Channel.C true true render e = tt
-ended_fits n source m Channel.C true false render e = tt
-ended_fits n source m Channel.C false true render e = tt
-ended_fits n source m Channel.C false false render e = tt
-ended_fits n source m Channel.D true true render e = e refl
-ended_fits n source m Channel.D true false render e = tt
-ended_fits n source m Channel.D false true render e = e refl
-ended_fits n source m Channel.D false false render e = tt
-ended_fits n source m Channel.E true true render e = tt
-ended_fits n source m Channel.E true false render e = tt
-ended_fits n source m Channel.E false true render e = tt
-ended_fits n source m Channel.E false false render e = tt
+ended_fits true true n source m Channel.D render e = e refl
+ended_fits true false n source m Channel.D render e = tt
+ended_fits false true n source m Channel.D render e = e refl
+ended_fits false false n source m Channel.D render e = tt
+ended_fits x y n source m at render e = tt
 
 -- the first token of c's channel C, wherever it is looked for
 first_of_c : (c d : ℕ) (t : Packet) (rest : List Packet) (link : ℕ → Link) → (link c).c ≡ t ∷ rest → (d == c) ≡ true
     → (link d).c ≡ t ∷ rest
-first_of_c c d t rest link first e = elim (cases_eq d c) [
-  | inl same ↦ rw same first
-  | inr other ↦ absurd (let f : false ≡ true = sym (ne_eqb d c other) ∙ e in cc)
-]
+first_of_c c d t rest link first e = rw (eqb-true d c e) first
 
 popped_is : (c d : ℕ) (rest : List Packet) (link : ℕ → Link)
     → popped_link c rest link d ≡ (if d == c then record (link d) { c = rest } else link d)
@@ -70,13 +52,13 @@ report_answers-shown {w} {caching} c q n source r k f rest m mail {s} inv inv' f
     let s' : State (List ℕ) = report_answers c q n source r f rest s in
     let moves : ℕ → Channel → Move = λ d. ended_move (d == c) (d == q) n source in
     let moved : (d : ℕ) (ch : Channel) → IsMoved (moves d ch) (packets_on ch (s.link d)) (packets_on ch (s'.link d)) =
-    λ d ch. rw (popped_is c d rest s.link) (ended_moved ch (d == c) (d == q) n source (s.link d) rest
+    λ d ch. rw (popped_is c d rest s.link) (ended_moved (d == c) (d == q) ch n source (s.link d) rest
     (first_of_c c d (packet ProbeAck n) rest s.link first)) in
     let answer_is : (d : ℕ) → (d == q) ≡ true → set_at q source m mail.answer d source ≡ m =
     λ d e. rw (e, same_number source) refl in
     let fits : (d : ℕ) (at : Channel) → Fits ((d == c) && same_channel at Channel.C) (pushes_at q (pushes_of (Some m)) d
-    at) (moves d at) (λ j l. message_of mail' s' d (packet j l)) = λ d at. rw chan (ended_fits n source m at (d ==
-    c) (d == q) (λ j l. message_of mail' s' d (packet j l)) (answer_is d)) in
+    at) (moves d at) (λ j l. message_of mail' s' d (packet j l)) = λ d at. rw chan (ended_fits (d == c)
+    (d == q) n source m at (λ j l. message_of mail' s' d (packet j l)) (answer_is d)) in
     record {
       moves = moves;
       showing = showing-block n new moves mail mail' inv inv' (λ d ch. moved d ch) (λ i. refl)
@@ -138,35 +120,20 @@ granted_fits : {w : ℕ} (n : ℕ) (m : Message w) (at : Channel) (c q d : ℕ) 
 granted_fits {w} n m at c q d render e =
     let same : (at : Channel) → granted_moves n c q d at ≡ moves (d == c) (d == q) at =
     elim [ Channel.A ↦ refl | at ↦ refl ] in
-    rw (same at) (cases at (d == c) (d == q) e)
+    rw (same at) (cases (d == c) (d == q) at e)
   where
     moves : Bool → Bool → Channel → Move
     moves x y Channel.C = if x then Pops ProbeAck n else Stays
     moves x y Channel.D = if y then Pushes Grant n else Stays
     moves x y _ = Stays
 
-    cases : (at : Channel) (x y : Bool) → (y ≡ true → render Grant n ≡ m)
+    cases : (x y : Bool) (at : Channel) → (y ≡ true → render Grant n ≡ m)
         → Fits (x && same_channel at Channel.C) (if y then only_on Channel.D m at else None) (moves x y at) render
-    cases Channel.A true true e = tt
-    cases Channel.A true false e = tt
-    cases Channel.A false true e = tt
-    cases Channel.A false false e = tt
-    cases Channel.B true true e = tt
-    cases Channel.B true false e = tt
-    cases Channel.B false true e = tt
-    cases Channel.B false false e = tt
-    cases Channel.C true true e = tt
-    cases Channel.C true false e = tt
-    cases Channel.C false true e = tt
-    cases Channel.C false false e = tt
-    cases Channel.D true true e = e refl
-    cases Channel.D true false e = tt
-    cases Channel.D false true e = e refl
-    cases Channel.D false false e = tt
-    cases Channel.E true true e = tt
-    cases Channel.E true false e = tt
-    cases Channel.E false true e = tt
-    cases Channel.E false false e = tt
+    cases true true Channel.D e = e refl
+    cases true false Channel.D e = tt
+    cases false true Channel.D e = e refl
+    cases false false Channel.D e = tt
+    cases x y at e = tt
 
 pub report_grants-shown : {w : ℕ} {caching : ℕ → Bool} (c q n source : ℕ) (r : Report) (d : Bool) (k gift : Cap)
     (rest : List Packet) (m : Message w) (mail : AccessMessages w) {s : State (List ℕ)} → IsInvariant caching s

@@ -1,16 +1,16 @@
 -- The channels carry the messages of the tokens after an event at two clients or more: a request that probes, and the
 -- last report, for which an access is answered or an Acquire is granted.
 use Rattle.std.proofs.Common.{◌≡◌, ℕ, zero, suc, ◌+◌, ◌<◌, ◌≤◌, Bool, true, false, not, ◌&&◌, List, [], ◌∷◌, ◌++◌}
-use Rattle.std.proofs.Common.{Option, Some, None, refl, sym, ◌∙◌, ◌⊎◌, inl, inr, arith, ne_eqb, ◌==◌, if◌then◌else◌}
+use Rattle.std.proofs.Common.{Option, Some, None, refl, ◌∙◌, ◌⊎◌, inl, inr, arith, ne_eqb, ◌==◌, if◌then◌else◌}
+use Rattle.std.proofs.Common.{eqb-true}
 use Rattle.tl_coherence.proofs
 use proofs.Imports.{cases_eq, cases_lt, Channel, Message, beats_of, Cap, beats_from, probes, probe_of_block}
 use proofs.Imports.{clients_from, IsInvariant, Kind, Request, Acquire, Probe, Packet, set, ClientBlock, is_above}
-use proofs.Imports.{after_served, Free, Block, State, packet, packets_on, with_probe, is_probed, served_link}
+use proofs.Imports.{after_served, Free, Block, State, packet, packets_on, is_probed, served_link}
 use proofs.Imports.{served_block, acquire_served, access_served, Move, Stays, Pops, IsMoved, AccessMessages}
 use proofs.Imports.{block_message, message_of, cap_sent, System, same_channel, with_messages, with_message}
-use Rattle.tl_coherence.specs.protocol.Protocol.{Link}
-use proofs.protocol.{AlikeRequests.alike-served, Served.request_move, Served.served_moves, Served.kind_served}
-use proofs.protocol.{Served.number_served}
+use proofs.protocol.{AlikeRequests.alike-served, Served.request_move, Served.any_moved, Served.served_moves}
+use proofs.protocol.{Served.kind_served, Served.number_served}
 use proofs.queues.{Channels.Fits, Channels.behind, Shown.IsShown, Showing.showing-block, Tokens.same_number}
 use proofs.queues.{Tokens.set-same}
 
@@ -40,37 +40,29 @@ probes-aside n k [] d at s aside = refl
 probes-aside n k (c ∷ clients) d at s aside = probes-aside n k clients d at (with_message c (probe_of_block n k) s)
     aside ∙ aside_probe n k c d at s aside
 
-probes_below : {w : ℕ} (n : ℕ) (k : Cap) (first count : ℕ) (test : ℕ → Bool) (d : ℕ) (s : System w) → d < first
+-- none goes to one who isn't among those clients
+pub probes-outside : {w : ℕ} (n : ℕ) (k : Cap) (first count : ℕ) (test : ℕ → Bool) (d : ℕ) (s : System w)
+    → (d < first) ⊎ (first + count ≤ d)
     → (with_messages (probes n k (clients_from first count test)) s).channels d Channel.B ≡ s.channels d Channel.B
 unfolding with_messages clients_from
-probes_below n k first zero test d s lt = refl
-probes_below {w} n k first (suc count) test d s lt =
-    go (λ u. probes_below n k (first + 1) count test d u (omega (arith, lt))) (test first)
+probes-outside n k first zero test d s out = refl
+probes-outside {w} n k first (suc count) test d s out =
+    go (λ u. probes-outside n k (first + 1) count test d u (later out)) (test first)
   where
-    go : ((u : System w) → (with_messages (probes n k (clients_from (first + 1) count test)) u).channels d
-        Channel.B ≡ u.channels d Channel.B) → (b : Bool)
-        → (with_messages (probes n k (if b then first ∷ clients_from (first + 1) count test else clients_from
-        (first + 1) count test)) s).channels d Channel.B ≡ s.channels d Channel.B
-    go rest true =
-        let ne : d ≡ first → ⊥ = λ e. absurd (omega (arith, e, lt)) in
-        rest (with_message first (probe_of_block n k) s) ∙ other_probe n k first d Channel.B s ne
-    go rest false = rest s
+    later : (d < first) ⊎ (first + suc count ≤ d) → (d < first + 1) ⊎ (first + 1 + count ≤ d)
+    later (inl lt) = inl (omega (arith, lt))
+    later (inr le) = inr (omega (arith, le))
 
-pub probes-past : {w : ℕ} (n : ℕ) (k : Cap) (first count : ℕ) (test : ℕ → Bool) (d : ℕ) (s : System w)
-    → first + count ≤ d
-    → (with_messages (probes n k (clients_from first count test)) s).channels d Channel.B ≡ s.channels d Channel.B
-unfolding with_messages clients_from
-probes-past n k first zero test d s le = refl
-probes-past {w} n k first (suc count) test d s le =
-    go (λ u. probes-past n k (first + 1) count test d u (omega (arith, le))) (test first)
-  where
+    apart : (d < first) ⊎ (first + suc count ≤ d) → d ≡ first → ⊥
+    apart (inl lt) e = absurd (omega (arith, e, lt))
+    apart (inr le) e = absurd (omega (arith, e, le))
+
     go : ((u : System w) → (with_messages (probes n k (clients_from (first + 1) count test)) u).channels d
         Channel.B ≡ u.channels d Channel.B) → (b : Bool)
         → (with_messages (probes n k (if b then first ∷ clients_from (first + 1) count test else clients_from
         (first + 1) count test)) s).channels d Channel.B ≡ s.channels d Channel.B
     go rest true =
-        let ne : d ≡ first → ⊥ = λ e. absurd (omega (arith, e, le)) in
-        rest (with_message first (probe_of_block n k) s) ∙ other_probe n k first d Channel.B s ne
+        rest (with_message first (probe_of_block n k) s) ∙ other_probe n k first d Channel.B s (apart out)
     go rest false = rest s
 
 pub probes-among : {w : ℕ} (n : ℕ) (k : Cap) (first count : ℕ) (test : ℕ → Bool) (d : ℕ) (s : System w) → first ≤ d
@@ -93,9 +85,9 @@ probes-among {w} n k first (suc count) test d s le lt =
     at_first : (b : Bool) → (with_messages
         (probes n k (if b then d ∷ clients_from (d + 1) count test else clients_from (d + 1) count test)) s).channels d
         Channel.B ≡ behind (if b then Some (probe_of_block n k) else None) (s.channels d Channel.B)
-    at_first true = probes_below n k (d + 1) count test d (with_message d (probe_of_block n k) s) (omega arith)
+    at_first true = probes-outside n k (d + 1) count test d (with_message d (probe_of_block n k) s) (inl (omega arith))
         ∙ own_probe n k d s
-    at_first false = probes_below n k (d + 1) count test d s (omega arith)
+    at_first false = probes-outside n k (d + 1) count test d s (inl (omega arith))
 
     later : (d ≡ first → ⊥) → Rest → (b : Bool)
         → (with_messages (probes n k (if b then first ∷ clients_from (first + 1) count test else clients_from
@@ -115,52 +107,21 @@ pub channels-probes : {w : ℕ} (n : ℕ) (k : Cap) (count : ℕ) (test probed :
     (s.channels d at)
 channels-probes {w} n k count test probed s same none d Channel.B = elim (cases_lt d count) [
   | inl lt ↦ probes-among n k 0 count test d s (omega arith) (omega (arith, lt)) ∙ rw (same d lt) refl
-  | inr le ↦ probes-past n k 0 count test d s (omega (arith, le)) ∙ rw (none d le) refl
+  | inr le ↦ probes-outside n k 0 count test d s (inr (omega (arith, le))) ∙ rw (none d le) refl
 ]
 channels-probes n k count test probed s same none d at = probes-aside n k (clients_from 0 count test) d at s refl
 
 -- ---- a request that probes
 
-served_moved : (ch : Channel) (x y : Bool) (j : Kind) (i n : ℕ) (l : Link) (rest : List Packet)
-    → (x ≡ true → l.a ≡ packet j i ∷ rest) → IsMoved (request_move (if x then Pops j i else Stays) y n ch)
-    (packets_on ch l) (packets_on ch (with_probe n y (if x then record l { a = rest } else l)))
-served_moved Channel.A true true j i n l rest e = e refl
-served_moved Channel.A true false j i n l rest e = e refl
-served_moved Channel.A false true j i n l rest e = refl
-served_moved Channel.A false false j i n l rest e = refl
-served_moved Channel.B true true j i n l rest e = refl
-served_moved Channel.B true false j i n l rest e = refl
-served_moved Channel.B false true j i n l rest e = refl
-served_moved Channel.B false false j i n l rest e = refl
-served_moved Channel.C true true j i n l rest e = refl
-served_moved Channel.C true false j i n l rest e = refl
-served_moved Channel.C false true j i n l rest e = refl
-served_moved Channel.C false false j i n l rest e = refl
-served_moved Channel.D true true j i n l rest e = refl
-served_moved Channel.D true false j i n l rest e = refl
-served_moved Channel.D false true j i n l rest e = refl
-served_moved Channel.D false false j i n l rest e = refl
-served_moved Channel.E true true j i n l rest e = refl
-served_moved Channel.E true false j i n l rest e = refl
-served_moved Channel.E false true j i n l rest e = refl
-served_moved Channel.E false false j i n l rest e = refl
-
-served_fits : {w : ℕ} (n : ℕ) (k : Cap) (at : Channel) (x y : Bool) (j : Kind) (i : ℕ) (render : Kind → ℕ → Message w)
+served_fits : {w : ℕ} (n : ℕ) (k : Cap) (x y : Bool) (at : Channel) (j : Kind) (i : ℕ) (render : Kind → ℕ → Message w)
     → (y ≡ true → render Probe n ≡ probe_of_block n k)
     → Fits (x && same_channel at Channel.A) (probe_pushes n k (λ d. y) 0 at)
     (request_move (if x then Pops j i else Stays) y n at) render
-served_fits n k Channel.A true y j i render e = tt
-served_fits n k Channel.A false y j i render e = tt
-served_fits n k Channel.B true true j i render e = e refl
-served_fits n k Channel.B true false j i render e = tt
-served_fits n k Channel.B false true j i render e = e refl
-served_fits n k Channel.B false false j i render e = tt
-served_fits n k Channel.C true y j i render e = tt
-served_fits n k Channel.C false y j i render e = tt
-served_fits n k Channel.D true y j i render e = tt
-served_fits n k Channel.D false y j i render e = tt
-served_fits n k Channel.E true y j i render e = tt
-served_fits n k Channel.E false y j i render e = tt
+served_fits n k true true Channel.B j i render e = e refl
+served_fits n k true false Channel.B j i render e = tt
+served_fits n k false true Channel.B j i render e = e refl
+served_fits n k false false Channel.B j i render e = tt
+served_fits n k x y at j i render e = tt
 
 -- the channel decides, and then whether one is probed
 pushes_is : {w : ℕ} (n : ℕ) (k : Cap) (test : ℕ → Bool) (d : ℕ) (at : Channel)
@@ -196,18 +157,15 @@ served-shown {w} {caching} r n own source tracker k rest mail {s} {s'} inv inv' 
     let test : ℕ → Bool = λ d. is_probed r own k ((s.block n).pair d).recorded d in
     let moves : ℕ → Channel → Move = served_moves r own n source k (s.block n).pair in
     let first_at : (d : ℕ) → (d == r) ≡ true → (s.link d).a ≡ packet (kind_served own) (number_served own n source)
-    ∷ rest = λ d e. elim (cases_eq d r) [
-      | inl same ↦ rw same first
-      | inr other ↦ absurd (let f : false ≡ true = sym (ne_eqb d r other) ∙ e in cc)
-    ] in
+    ∷ rest = λ d e. rw (eqb-true d r e) first in
     let moved : (d : ℕ) (ch : Channel) → IsMoved (moves d ch) (packets_on ch (s.link d)) (packets_on ch (s'.link d)) =
-    λ d ch. rw (links d) (served_moved ch (d == r) (test d) (kind_served own) (number_served own n source) n
+    λ d ch. rw (links d) (any_moved (d == r) (test d) ch (kind_served own) (number_served own n source) n
     (s.link d) rest (first_at d)) in
     let render_is : (d : ℕ) → test d ≡ true → block_message {w = w} Probe d n (s'.block n) ≡ probe_of_block n k =
     λ d e. cc (blocks n, set-same n new s.block, sent_rendered r own source tracker n k d (s.block n) e) in
     let fits : (d : ℕ) (at : Channel) → Fits ((d == r) && same_channel at Channel.A) (probe_pushes n k test d at)
     (moves d at) (λ j l. message_of mail s' d (packet j l)) =
-    λ d at. rw (pushes_is {w = w} n k test d at) (served_fits n k at (d == r) (test d) (kind_served own)
+    λ d at. rw (pushes_is {w = w} n k test d at) (served_fits n k (d == r) (test d) at (kind_served own)
     (number_served own n source) (λ j l. message_of mail s' d (packet j l)) (render_is d)) in
     record {
       moves = moves;

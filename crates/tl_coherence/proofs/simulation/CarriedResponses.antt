@@ -97,18 +97,14 @@ grant_ack_taken-shown {w} {caching} c n rest mail {s} inv inv' first sent =
       showing = showing-block n new (moves_at c (freed_moves n)) mail mail inv inv'
           (moved-at c (freed_moves n) (record (s.link c) { e = rest }) s.link moved) (λ i. refl)
           (alike-freed c (s.block n) sent) (λ i j e f. refl) (λ i j e f. refl);
-      fits = λ d at. fits d at (d == c);
+      fits = λ d at. fits d (d == c) at;
     }
   where
     s' : State (List ℕ)
     s' = grant_ack_taken c n rest s
 
-    fits : (d : ℕ) (at : Channel) (b : Bool)
+    fits : (d : ℕ) (b : Bool) (at : Channel)
         → Fits (b && same_channel at Channel.E) None (if b then freed_moves n at else Stays)
         (λ j l. message_of mail s' d (packet j l))
-    fits d at false = tt
-    fits d Channel.A true = tt
-    fits d Channel.B true = tt
-    fits d Channel.C true = tt
-    fits d Channel.D true = tt
-    fits d Channel.E true = tt
+    fits d true Channel.E = tt
+    fits d b at = tt

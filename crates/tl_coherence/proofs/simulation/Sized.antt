@@ -45,7 +45,8 @@ pub strangers-kind_taken : {w : ℕ} {caching : ℕ → Bool} (config : Config) 
     → IsInvariant caching h.state → terms_at config c ≡ Some terms
     → AreStrange config h.state.uses → AreStrange config (kind_taken config tracker c k i rest h).state.uses
 strangers-kind_taken {w} {caching} config tracker c k i rest h terms inv known before =
-    true-taken config tracker c rest h (λ j n. ⊤) (λ (x : AbstractState w). AreStrange config x.state.uses) k i (record {
+    true-taken config tracker c rest h (λ j n. ⊤) (λ (x : AbstractState w). AreStrange config x.state.uses) k i
+    (record {
       nothing = λ j n first idle. before;
       access_answered = λ source m o first from caps none.
           strange_set config c source Replied h.state.uses terms known before;

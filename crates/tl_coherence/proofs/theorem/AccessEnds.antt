@@ -9,7 +9,7 @@ use proofs.Imports.{Level, control_of_legal, control_aligned, payload-d, payload
 use proofs.Imports.{request_of, Access, Finish, finish_of, open_beat, sourced, illegal_message_at, access_answer}
 use proofs.Imports.{no_payload, level_of, Kind, Acquire, Answer, SourceState, packet, Replied, AbstractState, Answers}
 use proofs.Imports.{IsOpened, IsReach, message_of_kind, block_message, SimulationRelation, is_caching, IsRequest}
-use proofs.Imports.{IsSourced, asked_for, block_used, first_of, Log, system_after, Ends, Machine, pool_of, Requests}
+use proofs.Imports.{IsSourced, block_used, first_of, Log, system_after, Ends, Machine, pool_of, Requests}
 use proofs.Imports.{finish_with, one_memory_after, System}
 use Rattle.tl_client.specs.statement.Offer.{padded}
 use Rattle.tl_manager.proofs.messages.Filled.{data_room, payload-long, payload-zero, room_in_beats}
@@ -17,6 +17,7 @@ use Rattle.tl_rules.specs.statement.Effect as memory
 use proofs.client.AnswersKept.{answer_message}
 use proofs.protocol.HeadOfD.{IsAnswerDue, answer-due}
 use proofs.links.{Ending.IsEnding, Granting.same-response}
+use proofs.flow.Windowed.{asked_replied}
 
 -- ---- the bytes of an answer
 
@@ -98,9 +99,6 @@ request_open {w} source x t e =
 sourced_request : {w : ℕ} (config : Config) (c source : ℕ) (m : Message w) (u : SourceState) → u ≡ Replied
     → IsSourced config c source m u → IsRequest config c source m
 sourced_request config c source m u e h = rw e at h
-
-asked_replied : {w : ℕ} (u : SourceState) (m acquire : Message w) → u ≡ Replied → asked_for u m acquire ≡ first_of m
-asked_replied u m acquire e = rw e refl
 
 -- what is open of an access that was answered
 record IsOver {w : ℕ} (config : Config) (log : Log w) (c source : ℕ) (h : AbstractState w) : Type 0 where

@@ -5,7 +5,8 @@ import os
 import re
 import sys
 
-from harness import HERE, HOME_BUGS, TLTOOL, WATCH, icarus, path, test, want, run
+from harness import HERE, HOME_BUGS, TLTOOL, liberal, path, test, want, run
+from liberal import NEEDED
 
 FORMAL = os.path.join(HERE, "formal")
 PATIENCE = 1800  # seconds of wall time, on a machine that does much else
@@ -78,29 +79,17 @@ def the_cache_that_takes_liberties_is_proved():
 
 
 @test
-def a_cache_as_rockets_is_proved_under_three_liberties():
-    told = formal("other/early_cache.toml", "--search", "0", "--prove", "600", "--block-bits", "2")
-    want(len(re.findall(r"^\w+ +proved ", told, re.M)) == 16, told)
-
-
-# The liberties that the cache needs, and the rule that its trace breaks first without each.
-NEEDED = {"early": "H8", "drops": "H12", "ids": "L2"}
-
-
-@test
-def the_trace_of_a_cache_as_rockets_is_clean_under_three_liberties():
+def the_modules_judge_the_cache_that_takes_liberties_as_the_reference_does():
     sys.path.insert(0, os.path.join(FORMAL, "agreement"))
     import agree
-    built = icarus("early_bench", "early_bench", WATCH + [
-        "sv/tl_manager_recorder.sv", "example/tl_home.sv", "formal/other/early_cache.sv", "formal/other/early_bench.sv"])
-    trace = path("early.trace")
-    run(["vvp", "-n", built, f"+trace={trace}", "+cycles=8000"])
-    for free in (set(NEEDED), *(set(NEEDED) - {it} for it in NEEDED)):
-        case = agree.recorded(trace, free)
-        missing = set(NEEDED) - free
-        rule = NEEDED[missing.pop()] if missing else None
-        found = agree.first_faults(agree.grouped([case]), agree.MODULES, 1).get(0, (0, None))
-        want(found[1] == rule and agree.referred(case)[1] == rule, f"{free}: the module {found}, reference.py {agree.referred(case)}")
+    trace = path("liberties.trace")
+    run([liberal(), "+seed=1", "+cycles=1000", f"+trace={trace}"])
+    for missing in (None, *NEEDED):
+        case = agree.recorded(trace, set(NEEDED) - {missing})
+        line, rule = agree.referred(case)
+        found = agree.first_faults(agree.grouped([case]), agree.MODULES, 1).get(0, (line, None))
+        want(found == (line, rule) and rule == NEEDED.get(missing),
+             f"without {missing}: the modules {found}, reference.py {(line, rule)}")
 
 
 @test

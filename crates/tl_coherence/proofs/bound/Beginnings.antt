@@ -130,11 +130,8 @@ module _ {X : Type 0} (config : Config) (size : ℕ) (left left' : Left) (answer
       report_less : (m : ℕ) → left' c ProbeAck m + 1 ≤ left c ProbeAck m → shown ProbeAck c (s.block m) ≡ true → Falls
       report_less m less e = falls who.own who.is asker.used
         where
-          probed : is_unprobed ((s.block m).pair c).probing ≡ false
-          probed = not-answered ((s.block m).pair c).probing e
-
           who : IsWaited (s.block m).service
-          who = waited-probing c m inv probed
+          who = waited-probing c m inv (not-answered ((s.block m).pair c).probing e)
 
           asker : IsAsking m who.client who.own who.source s
           asker = asking m who.client who.own who.source who.cap inv who.is
@@ -217,14 +214,10 @@ beat-falls {w} {config} {caching} {ch} {c} {mail} {s} {sys} sys' {x} {queue} siz
       same_number first.number,
     ) refl
 
-    one_more : length (unfinished_at sys' c (channel_for first.kind)) ≡ length
-        (unfinished_at sys c (channel_for first.kind)) + 1
-    one_more = rw (kind_channel ch first.kind first.own, begun.here) (omega arith)
-
     -- of the first message one beat more was taken
     taken : (b : Bool) → b ≡ true → taken_of (unfinished_at sys' c (channel_for first.kind)) b ≡ taken_of
         (unfinished_at sys c (channel_for first.kind)) b + 1
-    taken true e = one_more
+    taken true e = rw (kind_channel ch first.kind first.own, begun.here) (omega arith)
     taken false e = absurd cc
 
     one_less : beats_left mail s (unfinished_at sys') c first.kind first.number + 1 ≤ beats_left mail s

@@ -112,10 +112,8 @@ module _ {w : ℕ} {config : Config} {log : Log w} (h : AbstractState w) (width 
       left : System w → ℕ → Kind → ℕ → ℕ
       left i = beats_left h.mail h.state (unfinished_at i)
 
-      same : IsUnmoved sys (stepped config (Deliver link ch) sys)
-      same = unmoved config link ch sys still
-
       less : (c : ℕ) (k : Kind) (m : ℕ) → left sys' c k m ≤ left sys c k m
       less c k m =
-          let as_much : left sys' c k m ≡ left sys c k m = cc (same.rests c (channel_for k)) in
+          let as_much : left sys' c k m ≡ left sys c k m =
+          cc ((unmoved config link ch sys still).rests c (channel_for k)) in
           omega (arith, as_much)

@@ -54,18 +54,14 @@ module _ {w : ℕ} {config : Config} {log : Log w} (h : AbstractState w) (sys' :
       (inv.blocks n).outside last) for.0 for.3 (matched.sized n).truth) (answer_on_d v _) known.1 is
 
   granted : (n : ℕ) → IsEnding Grant n → Falls (kind_taken config tracker c Grant n rest h)
-  granted n known = subst Falls same (grant_taken-owed sys' width matched c n rest lt due.whole due.data_too due.k
-      known.0
-      due.service (bare h due matched.invariant) known.1)
+  granted n known = subst Falls
+      (sym (ap (λ (v : Service). taken_by_client c n v rest h) due.service ∙ ap (λ (a : AcquirePhase). record h
+      { state = grant_taken c n (is_whole a) due.data_too due.k rest h.state }) due.wants))
+      (grant_taken-owed sys' width matched c n rest lt due.whole due.data_too due.k known.0 due.service
+      (bare h due matched.invariant) known.1)
     where
       due : IsGrantDue c n h.state
       due = grant-due (is_caching config) c n rest h.state matched.invariant known.0
-
-      same : record h { state = grant_taken c n due.whole due.data_too due.k rest h.state } ≡ kind_taken config tracker
-          c Grant n rest h
-      same = sym (ap (λ (v : Service). taken_by_client c n v rest h) due.service ∙ ap
-          (λ (a : AcquirePhase). record h { state = grant_taken c n (is_whole a) due.data_too due.k rest h.state })
-          due.wants)
 
   pub kind-owed : (k : Kind) (i : ℕ) → length config.clients.items ≤ 16 → IsEnding k i
       → Falls (kind_taken config tracker c k i rest h)

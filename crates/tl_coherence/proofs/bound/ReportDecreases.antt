@@ -200,18 +200,13 @@ module _ {w : ℕ} {config : Config} {mail mail' : AccessMessages w} {s s' : Sta
           let few = is.few d Grant n in
           rw (after, before) (omega (arith, owed, few))
 
-      waiting_else : (d : ℕ) → (d ≡ q → ⊥) → is_unserved (view (s.block n).service d) ≡ true
-      waiting_else d ne = rw (waits, ne_eqb d q ne) refl
-
-      given_else : (d : ℕ) → (d ≡ q → ⊥) → is_unserved (view (s'.block n).service d) ≡ true
-      given_else d ne = rw (given, ne_eqb d q ne) refl
-
       acquire : (d i : ℕ) → s.uses d i ≡ Acquires n → s'.uses d i ≡ Acquires n → (d ≡ q) ⊎ (d ≡ q → ⊥)
           → acquire_weight size (left' d Acquire n) (left' d Grant n) (probes_weight number size left' n (s'.block n))
           (view (s'.block n).service d) ≤ acquire_weight size (left d Acquire n) (left d Grant n)
           (probes_weight number size left n (s.block n)) (view (s.block n).service d)
       acquire d i e g (inl same) = let less = falls-at d same in omega (arith, less)
-      acquire d i e g (inr other) = unserved-stays taking d i n e g (waiting_else d other) (given_else d other)
+      acquire d i e g (inr other) =
+          unserved-stays taking d i n e g (rw (waits, ne_eqb d q other) refl) (rw (given, ne_eqb d q other) refl)
 
       letting : (d : ℕ) → ((s'.block n).pair d).letting ≡ ((s.block n).pair d).letting
       letting d = cc (

@@ -83,14 +83,11 @@ module _ {w : ℕ} {config : Config} {mail mail' : AccessMessages w} {s s' : Sta
 
   module _ (free : (s.block n).service ≡ Free) (letting : (d : ℕ)
       → ((s'.block n).pair d).letting ≡ ((s.block n).pair d).letting) where
-    none_before : is_for_access (s.block n).service ≡ false
-    none_before = ap is_for_access free
-
     -- where it owes no more to those who acquire it
     come-into-service : ((d : ℕ) → (is_unserved (view (s'.block n).service d) ≡ true) ⊎ (owed_for' d ≤ owed_for d))
         → IsBlockNoMore taking
     come-into-service each = record {
-      serves = λ d i e f. absurd (nobody-serving n d i showing.before none_before e);
+      serves = λ d i e f. absurd (nobody-serving n d i showing.before (ap is_for_access free) e);
       acquires = λ d i e f. acquire d i e f (each d);
       lets = λ d i e f. let-stays taking d n (letting d);
     }

@@ -87,9 +87,6 @@ module _ {w : ℕ} {config : Config} {mail mail' : AccessMessages w} {s s' : Sta
       before : view (s.block n).service c ≡ Granting was_data cap
       before = rw (given, same_number c) refl
 
-      waiting : (d : ℕ) → (d ≡ c → ⊥) → is_unserved (view (s.block n).service d) ≡ true
-      waiting d ne = rw (given, ne_eqb d c ne) refl
-
       acquire : (d i : ℕ) → s.uses d i ≡ Acquires n → s'.uses d i ≡ Acquires n → (d ≡ c) ⊎ (d ≡ c → ⊥)
           → acquire_weight size (left' d Acquire n) (left' d Grant n) (probes_weight number size left' n (s'.block n))
           (view (s'.block n).service d) ≤ acquire_weight size (left d Acquire n) (left d Grant n)
@@ -100,9 +97,8 @@ module _ {w : ℕ} {config : Config} {mail mail' : AccessMessages w} {s s' : Sta
           let end : s'.uses c i ≡ SourceFree = rw at closed in
           let still : s'.uses c i ≡ Acquires n = rw same at f in
           absurd (let both : Acquires n ≡ SourceFree = sym still ∙ end in cc)
-      acquire d i e f (inr other) =
-          unserved-stays taking d i n e f (waiting d other) (ap (λ (u : Service). is_unserved (view u d)) taken
-          ∙ granted_unserved c d)
+      acquire d i e f (inr other) = unserved-stays taking d i n e f (rw (given, ne_eqb d c other) refl)
+          (ap (λ (u : Service). is_unserved (view u d)) taken ∙ granted_unserved c d)
 
       block : IsBlockNoMore taking
       block = record {
@@ -147,12 +143,9 @@ module _ {w : ℕ} {config : Config} {mail mail' : AccessMessages w} {s s' : Sta
           in
           omega (arith, same)
 
-      here : pair_weight size left' n c ((s'.block n).pair c) ≤ pair_weight size left n c ((s.block n).pair c)
-      here = rw own (told_as was.probing refl)
-
       each : (d : ℕ) → (d ≡ c) ⊎ (d ≡ c → ⊥) → pair_weight size left' n d ((s'.block n).pair d) ≤ pair_weight size left
           n d ((s.block n).pair d)
-      each d (inl same) = rw same here
+      each d (inl same) = rw same (rw own (told_as was.probing refl))
       each d (inr ne) = pair-stays taking d n
           (ap (λ (p : ClientBlock). p.probing) (other d ne)) (ap (λ (p : ClientBlock). p.recorded) (other d ne))
 

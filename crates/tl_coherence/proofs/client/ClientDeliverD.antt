@@ -25,14 +25,6 @@ release_now : {w : ℕ} (k : ℕ) (x : BeatD w) (t : History w) → pending (Rel
     (pending (ReleaseOf k) t)
 release_now k x t = pending-closed (ReleaseOf k) (Beat.D x) t refl
 
-source_now : {w : ℕ} (i : ℕ) (x : BeatD w) (t : History w) → pending (RequestSource i) (Beat.D x ∷ t)
-    ≡ cond (ends (Beat.D x) t && (not (is_release_ack x.opcode) && (x.source == i))) false (pending (RequestSource i) t)
-source_now i x t = pending-closed (RequestSource i) (Beat.D x) t refl
-
-release_source_now : {w : ℕ} (i : ℕ) (x : BeatD w) (t : History w) → pending (ReleaseSource i) (Beat.D x ∷ t)
-    ≡ cond (ends (Beat.D x) t && (is_release_ack x.opcode && (x.source == i))) false (pending (ReleaseSource i) t)
-release_source_now i x t = pending-closed (ReleaseSource i) (Beat.D x) t refl
-
 -- ---- by what the beat closes
 
 -- What the protocol says of client c's end after a beat that gives p of each block that it grants, and closes a block's
@@ -128,7 +120,7 @@ opened-heard {w} {c} {x} {t} {closes_source} {closes_let} {asked} {s} echo event
     record {
       requests = λ i. cc (
         echo.requests i,
-        source_now i x t,
+        pending-closed (RequestSource i) (Beat.D x) t refl,
         event.source_is i,
         open_.requests i,
         none_cond (closes_source i) (asked i),
@@ -136,7 +128,7 @@ opened-heard {w} {c} {x} {t} {closes_source} {closes_let} {asked} {s} echo event
       );
       releases = λ i. cc (
         echo.release_sources i,
-        release_source_now i x t,
+        pending-closed (ReleaseSource i) (Beat.D x) t refl,
         event.let_is i,
         open_.releases i,
         none_cond (closes_let i) (s.lets c i),

@@ -19,10 +19,6 @@ use proofs.protocol.HeadOfD.{answer-due, IsGrantDue, grant-due, grant_message, g
 
 -- ---- what a client does at a beat of channel D
 
-part_end : {w : ℕ} (y : BeatD w) (e : Endpoint w) → ends (Beat.D y) e.past ≡ false
-    → (taken (Beat.D y) e).after ≡ with_past (Beat.D y ∷ e.past) e
-part_end {w} y e more = cc more
-
 last_end : {w : ℕ} (y : BeatD w) (e : Endpoint w) → ends (Beat.D y) e.past ≡ true
     → (taken (Beat.D y) e).after ≡ (responded y (request_of y.source e.past)
     (payload_of (Beat.D y ∷ unfinished Channel.D e.past)) e).after
@@ -83,7 +79,7 @@ taken-by {w} config terms tracker c h m {x} e width end next takes lasts =
     record {
       takes = takes;
       more = λ goes. subst (λ (z : Beat w). IsEndOf c h (taken z e).after) (sym x_is)
-          (end-part y (part_end y e (sym (ends_at x_is) ∙ goes)) (sym (ends_at x_is) ∙ goes) (well_y well) end);
+          (end-part y (cc (sym (ends_at x_is) ∙ goes)) (sym (ends_at x_is) ∙ goes) (well_y well) end);
       last = λ done. rw x_is (lasts y x_is refl refl refl (sym (ends_at x_is) ∙ done)
           (next.last (eqb-true (next.k + 1) (beats_of (Message.D m)) (sym next.completes_is ∙ done))).1 (well_y well));
     }

@@ -58,9 +58,6 @@ end-probe_taken {w} {c} n k rest mail {s} {e} width well end =
     pair_is : new.pair c ≡ after_probe k ((s.block n).pair c)
     pair_is = set-same c (after_probe k ((s.block n).pair c)) (s.block n).pair
 
-    left_is : left ≡ (new.pair c).held
-    left_is = cc (report_is w n k p, end.known.held_is n, pair_is)
-
     some_held : (q : Perm) → same_perm q Perm.None ≡ false → holds q ≡ true
     some_held Perm.None e = absurd cc
     some_held q e = refl
@@ -71,7 +68,8 @@ end-probe_taken {w} {c} n k rest mail {s} {e} width well end =
     copy_of i false is some = end.copies i some
     copy_of i true is some =
         let keeps : (z : Bool) → z ≡ true → cond (not z) None (e.copies i) ≡ e.copies i = λ z q. rw q refl in
-        let stays : holds left ≡ true = ap holds left_is ∙ some_held (new.pair c).held some in
+        let stays : holds left ≡ true =
+        ap holds (cc (report_is w n k p, end.known.held_is n, pair_is)) ∙ some_held (new.pair c).held some in
         let before : holds p ≡ true =
         reports_held k p (ap (λ (r : Perm). holds r) (ap report_right (sym (report_is w n k p))) ∙ stays) in
         let here : i ≡ n = eqb-true i n is in

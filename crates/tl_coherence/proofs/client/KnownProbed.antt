@@ -29,20 +29,12 @@ pub in_order : {w : ℕ} (profile : Profile) (n : ℕ) (k : Cap) (t : History w)
 unfolding broken_order
 in_order profile n k t none unprobed ungranted = rw (none, same_block n, unprobed, ungranted) refl
 
-before-none : {w : ℕ} (terms : EndConfig) (x : BeatB w) (e : Endpoint w) → e.closed ≡ false
-    → illegal terms.level Channel.B (Beat.B x) ≡ None → broken_before terms Channel.B (Beat.B x) e ≡ None
-before-none terms x e live lawful = rw (live, lawful) refl
-
 later-none : {w : ℕ} (terms : EndConfig) (n : ℕ) (k : Cap) (e : Endpoint w)
     → broken_in_order terms.profile (Beat.B (probe_beat n k)) e.past ≡ None → nat_le terms.blocks n ≡ false
     → broken_later terms (Beat.B (probe_beat n k)) e ≡ None
 later-none {w} terms n k e order inside =
     let outside : is_outside terms.blocks (Beat.B (probe_beat {w = w} n k)) ≡ false = rw (same_block n) inside in
     rw (order, outside) refl
-
-waits-not : {w : ℕ} (n : ℕ) (k : Cap) (t : History w) → pending (Key.ReleaseOf n) t ≡ false
-    → waits (Beat.B (probe_beat n k)) t ≡ false
-waits-not n k t released = rw (same_block n, released) refl
 
 -- a Probe of a block of the map that breaks no L rule is taken, where the client holds no more of its block on its way
 pub probe-taken : {w : ℕ} (terms : EndConfig) (n : ℕ) (k : Cap) (e : Endpoint w) → e.closed ≡ false
@@ -61,8 +53,8 @@ probe-taken {w} terms n k e live lawful inside none released unprobed ungranted 
     let later : (o : Option Rule) (x : Beat w) (e : Endpoint w) → o ≡ None → judged_later o x e ≡ taken x e =
     λ o x e f. rw f refl in
     let x : Beat w = Beat.B (probe_beat n k) in
-    judged_none (broken_before terms Channel.B x e) terms x e (before-none terms (probe_beat n k) e live lawful)
-    ∙ unstalled (waits x e.past) terms x e (waits-not n k e.past released)
+    judged_none (broken_before terms Channel.B x e) terms x e (rw (live, lawful) refl)
+    ∙ unstalled (waits x e.past) terms x e (rw (same_block n, released) refl)
     ∙ later (broken_later terms x e) x e
     (later-none terms n k e (in_order terms.profile n k e.past none unprobed ungranted) inside)
     ∙ ap (λ (i : ℕ). probed (probe_beat n k) i (held_at e i) e) (same_block n)
@@ -156,20 +148,14 @@ known-probed {w} {asked} {c} n k rest {s} e width well none known =
     (λ source. ap (open_beat source) past ∙ open_beat-c source a.0 (Beat.B x ∷ t) width (still_whole x t ∙ none)
     ∙ open_beat-b source x t ∙ known.opens source)
   where
-    now_here : (((probe_taken c n k rest s).block n).pair c).held ≡ report_right (report_at k ((s.block n).pair c).held)
-    now_here = ap (λ (bl : Block (List ℕ)). (bl.pair c).held) (set-same n (probed_block c k (s.block n)) s.block)
-        ∙ ap (λ (q : ClientBlock). q.held) (set-same c (after_probe k ((s.block n).pair c)) (s.block n).pair)
-
-    told : report_right (report_for (probe_beat {w = w} n k) (held_at e n)) ≡ report_right
-        (report_at k ((s.block n).pair c).held)
-    told = cc (report_is w n k (held_at e n), known.held_is n)
-
     held_now : (i : ℕ) → (i ≡ n) ⊎ (i ≡ n → ⊥)
         → cond (i == n) (report_right (report_for (probe_beat {w = w} n k) (held_at e n)))
         (held i (Beat.B (probe_beat n k) ∷ e.past)) ≡ (((probe_taken c n k rest s).block i).pair c).held
     held_now i (inl same) =
-        rw same (ap (λ (z : Bool). cond z (report_right (report_for (probe_beat {w = w} n k) (held_at e n)))
-        (held n (Beat.B (probe_beat n k) ∷ e.past))) (same_number n) ∙ told ∙ sym now_here)
+        rw same (ap (λ (z : Bool). cond z (report_right (report_for (probe_beat {w = w} n k) (held_at e n))) (held n
+        (Beat.B (probe_beat n k) ∷ e.past))) (same_number n) ∙ (cc (report_is w n k (held_at e n), known.held_is n))
+        ∙ sym (ap (λ (bl : Block (List ℕ)). (bl.pair c).held) (set-same n (probed_block c k (s.block n)) s.block)
+        ∙ ap (λ (q : ClientBlock). q.held) (set-same c (after_probe k ((s.block n).pair c)) (s.block n).pair)))
     held_now i (inr other) =
         rw (ne_eqb i n other) (held_unsaid i (Beat.B (probe_beat n k)) e.past refl ∙ known.held_is i)
 

@@ -52,10 +52,6 @@ not_granted {caching} c n i rest {s} inv first sent = go (i == n) refl
         (eqb-true i n e) ∙ not-sent ((s.block n).pair c).probing sent in
         absurd (let no : true ≡ false = sym quiet ∙ loud in cc)
 
-plain : {w : ℕ} (n : ℕ) (asked : ℕ → Option (BeatA w)) (o : OpD) (source : ℕ) → is_grant o ≡ false
-    → (is_grant o && asks_for n (asked source)) ≡ false
-plain n asked o source e = rw e refl
-
 else_answer : {w : ℕ} {config : Config} {log : Log w} {mail : AccessMessages w} {request : ℕ → MessageA w}
     {s : State (List ℕ)} {sys : System w} (c n i : ℕ)
     (rest : List Packet) → SimulationRelation config log mail request s sys → (s.link c).d ≡ packet Answer i ∷ rest
@@ -65,8 +61,7 @@ else_answer {config} {mail} {s} c n i rest h first =
     let due = answer-due (is_caching config) c i rest mail s h.invariant (h.answered c i) first in (
       due.answer,
       due.answer_is,
-      plain n (asked_by mail s c) due.answer.opcode due.answer.source
-          (access_kind due.answer.opcode due.answers_access).0,
+      rw (access_kind due.answer.opcode due.answers_access).0 refl,
     )
 
 else_grant : {w : ℕ} {config : Config} {log : Log w} {mail : AccessMessages w} {request : ℕ → MessageA w}
@@ -156,9 +151,6 @@ probe_rendered : {w : ℕ} (c n : ℕ) (s : State (List ℕ)) → block_message 
 unfolding block_message
 probe_rendered c n s = refl
 
-one_beat : (w n : ℕ) (k : Cap) → beats_of (probe_of_block {w = w} n k) ≡ 1
-one_beat w n k = refl
-
 -- the beat of a Probe that comes
 pub probe-beat : {w : ℕ} (c n : ℕ) (s : State (List ℕ)) {x : Beat w} {rest : List (Beat w)} {ms : List (Message w)}
     {queue : List (Beat w)} → IsNext x rest (block_message Probe c n (s.block n)) ms queue
@@ -167,8 +159,8 @@ probe-beat {w} c n s {x} {rest} {ms} {queue} next =
     let k = cap_sent ((s.block n).pair c).probing in
     let here : IsNext x rest (probe_of_block n k) ms queue = subst (λ (m : Message w). IsNext x rest m ms queue)
     (probe_rendered c n s) next in
-    here.beat_is ∙ ap (beat_of (probe_of_block n k)) (first_beat here.k (beats_of (probe_of_block {w = w} n k))
-    here.within (one_beat w n k))
+    here.beat_is ∙ ap (beat_of (probe_of_block n k))
+    (first_beat here.k (beats_of (probe_of_block {w = w} n k)) here.within (refl))
 
 pub probe-delivered : {w : ℕ} {config : Config} {log : Log w} {mail : AccessMessages w} {request : ℕ → MessageA w}
     {s : State (List ℕ)} {sys : System w} (terms : EndConfig)
@@ -184,10 +176,11 @@ probe-delivered {w} {config} {log} {mail} {request} {s} {sys} terms tracker c n 
     λ f. cc (f, passes_before terms Channel.B (Beat.B (probe_beat n k)) e (h.live c) refl lawful) in
     let pends : is_unreleased ((s.block n).pair c).letting ≡ false → waits (Beat.B (probe_beat n k)) e.past ≡ true =
     λ open_. ap (λ (i : ℕ). pending (ReleaseOf i) e.past) (same_block n) ∙ end.known.releases n ∙ ap not open_ in
-    let taken_is : is_unreleased ((s.block n).pair c).letting ≡ true → offered terms Channel.B (Beat.B (probe_beat n k))
-    e ≡ probed (probe_beat n k) n (held_at e n) e =
-    λ kept. cc (probe-taken terms n k e (h.live c) lawful inside end.kept.b_whole (end.known.releases n
-    ∙ ap not kept) (end.known.probes n) (end.known.grants n ∙ not_coming c n h sent)) in
+    let taken_is : is_unreleased ((s.block n).pair c).letting ≡ true
+    → offered terms Channel.B (Beat.B (probe_beat n k)) e ≡ probed (probe_beat n k) n (held_at e n) e =
+    λ kept. cc (probe-taken terms n k e (h.live c) lawful
+    (cc (is.blocks, same_block n, beat_is, (sound-beat c Channel.B x queue h beats).inside)) end.kept.b_whole
+    (end.known.releases n ∙ ap not kept) (end.known.probes n) (end.known.grants n ∙ not_coming c n h sent)) in
     let same_taken = ap (λ (i : ℕ). probed (probe_beat n k) i (held_at e i) e) (same_block n) in
     let takes : is_unreleased ((s.block n).pair c).letting ≡ true → offered terms Channel.B x e ≡ taken x e =
     λ kept. cc (beat_is, taken_is kept, same_taken) in
@@ -232,15 +225,8 @@ probe-delivered {w} {config} {log} {mail} {request} {s} {sys} terms tracker c n 
     is : AreTermsOf config c terms
     is = terms-are config c terms at
 
-    lawful_at : level_of config c ≡ Some terms.level → manager.illegal_at (level_of config c) x ≡ None
-        → x ≡ Beat.B (probe_beat n k) → illegal terms.level Channel.B (Beat.B (probe_beat {w = w} n k)) ≡ None
-    lawful_at f g i = cc (f, i, g)
-
     lawful : illegal terms.level Channel.B (Beat.B (probe_beat {w = w} n k)) ≡ None
-    lawful = lawful_at is.level (sound-beat c Channel.B x queue h beats).lawful beat_is
-
-    inside : nat_le terms.blocks n ≡ false
-    inside = cc (is.blocks, same_block n, beat_is, (sound-beat c Channel.B x queue h beats).inside)
+    lawful = cc (is.level, beat_is, (sound-beat c Channel.B x queue h beats).lawful)
 
 -- ---- all of channel B
 

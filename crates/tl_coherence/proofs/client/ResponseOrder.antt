@@ -10,17 +10,11 @@ use Rattle.tl_params.specs.declared.rule.Rule.TheVariants.{H2, H3, H6, H7}
 use Rattle.tl_rules.specs.statement.Conformance.{answers, has_request, misgrants, size_asked, size_of_release}
 use proofs.queues.Tokens.{same_number}
 
-rules : (asked sized amiss twice : Bool) → asked ≡ true → sized ≡ true → amiss ≡ false → twice ≡ false
-    → first_if (not asked) H2 (first_if (not sized) H3 (first_if amiss H6 (first_if twice H7 None))) ≡ None
-rules asked sized amiss twice e f g h = rw (e, f, g, h) refl
-
 begun : {w : ℕ} (p : Profile) (x : BeatD w) (t : History w) → unfinished Channel.D t ≡ [] → has_request x t ≡ true
     → (x.size == size_asked x t) ≡ true → (is_grant x.opcode && misgrants p x (request_of x.source t) t) ≡ false
     → (is_grant x.opcode && pending (GrantSink x.sink) t) ≡ false → broken_in_order p (Beat.D x) t ≡ None
 unfolding broken_order
-begun p x t none asked sized fits once = rw none (rules (has_request x t) (x.size == size_asked x t)
-    (is_grant x.opcode && misgrants p x (request_of x.source t) t) (is_grant x.opcode && pending (GrantSink x.sink) t)
-    asked sized fits once)
+begun p x t none asked sized fits once = rw none (rw (asked, sized, fits, once) refl)
 
 -- ---- requests
 

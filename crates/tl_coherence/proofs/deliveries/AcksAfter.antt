@@ -44,16 +44,6 @@ delivered-e {w} {config} {log} link h terms x queue width matched known beats mo
     tokens : (h.state.link link.0).e ≡ packet GrantAck n ∷ is.first.rest
     tokens = is.first.tokens ∙ ap (λ (k : Kind). packet k n ∷ is.first.rest) kind
 
-    x_is : x ≡ beat_of (block_message GrantAck link.0 n (h.state.block n)) is.first.next.k
-    x_is = cc (is.first.next.beat_is, kind)
-
-    y : BeatE
-    y = record { sink = (h.state.block n).tracker }
-
-    gives : (reaction config link x sys.manager).handed ≡ []
-    gives = ap (λ (z : Beat w). (reaction config link z sys.manager).handed) x_is ∙ ap (λ d. d.handed)
-        (reaction-ack config link y sys.manager)
-
     sent : (h.state.block n).service ≡ GrantTaken link.0
     sent = first-grant_ack matched.invariant tokens
 
@@ -65,7 +55,9 @@ delivered-e {w} {config} {log} link h terms x queue width matched known beats mo
         ≡ (with_channel link.0 Channel.E queue sys).channels d at = λ d at. refl in
         let quiet = beside_block n (freed_block (h.state.block n)) (grant_ack_taken link.0 n is.first.rest h.state)
         (λ i. refl) (λ d i. refl) (λ d i. refl) refl (λ d. refl) (λ d. refl) matched.beside in
-        delivered-last [] (λ d at. None) refl is last gives (λ d at. unpushed d at)
+        delivered-last [] (λ d at. None) refl is last (ap (λ (z : Beat w). (reaction config link z sys.manager).handed)
+        (cc (is.first.next.beat_is, kind)) ∙ ap (λ d. d.handed) (reaction-ack config link
+        (record { sink = (h.state.block n).tracker }) sys.manager)) (λ d at. unpushed d at)
         (λ taken. subst (λ (k : Kind). ChannelRelation (kind_taken config (next_tracker sys) link.0 k n is.first.rest
         h).mail (kind_taken config (next_tracker sys) link.0 k n is.first.rest h).state
         (after_taken config link Channel.E x queue sys [])) (sym kind)

@@ -276,9 +276,6 @@ carried-request_taken {w} {config} {log} h {sys} {c} {source} {k} rest queue is 
     tracker : ℕ
     tracker = next_tracker sys
 
-    free : b.service ≡ Free
-    free = free-last is comes last moves
-
     answered : probes_some clients c false (cap_probed m.opcode m.param) b.pair ≡ false
         → IsInvariant (is_caching config) (access_taken c source m tracker false None rest h).state
         → Carries (access_taken c source m tracker false None rest h)
@@ -296,7 +293,8 @@ carried-request_taken {w} {config} {log} h {sys} {c} {source} {k} rest queue is 
     go true None f g kept = absurd (let no : false ≡ true = rw g at f in cc)
     go true (Some j) f g kept =
         let some : some_below clients (λ d. is_probed c false j (b.pair d).recorded d) ≡ true = rw g at f in
-        carried-shown comes.width (access_served-shown c n source tracker j rest h.mail is.invariant kept first free)
+        carried-shown comes.width (access_served-shown c n source tracker j rest h.mail is.invariant kept first
+        (free-last is comes last moves))
         (taken-probing n false j queue is comes beats last asked.access refl
         (ap (λ (d : Reaction w). d.handed) (reaction-probing config c k n j m sys.manager comes last refl g
         (probed-some c k n false j m is asked.access refl ∙ ap not some))))

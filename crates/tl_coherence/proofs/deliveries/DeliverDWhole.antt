@@ -107,12 +107,10 @@ part_d {w} {config} {log} link h {terms} {x} {queue} mm k width is first x_is pa
     now = handing (Outcome.Moved x) (handed_by link.0 None)
         (with_client link.0 (offer.taken x e).after (with_channel link.0 Channel.D queue sys))
 
-    unended : completes (Beat.D y) (unfinished Channel.D e.past) ≡ false
-    unended = sym (ap (λ (z : Beat w). completes z (unfinished Channel.D e.past)) x_is) ∙ part
-
     same_parts : (t.verdict_is ≡ Verdict.Taken) × (t.message ≡ None)
     same_parts = same_answers t.verdict_is Verdict.Taken t.message None (offer.taken x e).answer t.answer
-        (ap (λ (z : Beat w). (offer.taken z e).answer) x_is ∙ answer-part y e unended)
+        (ap (λ (z : Beat w). (offer.taken z e).answer) x_is ∙ answer-part y e
+        (sym (ap (λ (z : Beat w). completes z (unfinished Channel.D e.past)) x_is) ∙ part))
 
     step_is : stepped config (Deliver link Channel.D) sys ≡ now
     step_is = cc (t.step_is, same_parts.0, same_parts.1)

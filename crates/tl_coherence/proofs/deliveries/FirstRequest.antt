@@ -134,17 +134,6 @@ pub arrival-first : {w : ℕ} {config : Config} {log : Log w} (h : AbstractState
     → sys.channels c Channel.A ≡ x ∷ queue → IsArrival config h sys c x queue
 arrival-first {w} {config} {log} h {sys} c x queue width is beats = go (h.state.link c).a refl
   where
-    Here : List Packet → Type 0
-    Here xs = IsCarried (unfinished Channel.A (on_link c sys.manager.trace)) (map (message_of h.mail h.state c) xs)
-        (sys.channels c Channel.A)
-
-    nothing : (y : Beat w) (ys : List (Beat w)) → [] ≡ y ∷ ys → ⊥
-    nothing y ys e = cc
-
-    apart : (k : Kind) (i : ℕ) (rest : List Packet) → (h.state.link c).a ≡ packet k i ∷ rest → is_on Channel.A k ≡ false
-        → ⊥
-    apart k i rest e off = first_counts (packet k i) rest (rw e at (is.invariant.own_kinds c Channel.A k i off))
-
     arrived : (k : Kind) (i : ℕ) (rest : List Packet) (m : MessageA w) → IsOnLink config h sys c k i rest m
         → IsArrival config h sys c x queue
     arrived k i rest m on = record {
@@ -164,10 +153,12 @@ arrival-first {w} {config} {log} h {sys} c x queue width is beats = go (h.state.
     of_kind Acquire i rest e =
         let wanted = wanted-first c i rest is e in
         arrived Acquire i rest (acquire_wanted c i h.state wanted) (on_link-acquire h rest width is e wanted)
-    of_kind k i rest e = absurd (apart k i rest e refl)
+    of_kind k i rest e = absurd (first_counts (packet k i) rest (rw e at (is.invariant.own_kinds c Channel.A k i refl)))
 
     go : (xs : List Packet) → (h.state.link c).a ≡ xs → IsArrival config h sys c x queue
-    go [] e = let none : Here [] = rw e at (is.carried c Channel.A) in absurd (nothing x queue (sym none.1 ∙ beats))
+    go [] e = let none : (IsCarried (unfinished Channel.A (on_link c sys.manager.trace))
+        (map (message_of h.mail h.state c) []) (sys.channels c Channel.A)) = rw e at (is.carried c Channel.A) in
+        absurd (cc)
     go (y ∷ ys) e = of_kind y.kind y.number ys e
 
 -- ---- it is taken, or has to wait

@@ -45,9 +45,6 @@ request-moves {w} {config} {log} {mail} {request} {s} {sys} link {x} {queue} h m
     go false e = refl
     go true e = absurd (let no : true ≡ false = sym moving ∙ at_terms (terms_at config link.0) refl e in cc)
 
-head_is : (x y : Packet) (xs ys : List Packet) → x ∷ xs ≡ y ∷ ys → x ≡ y
-head_is x y xs ys e = cc
-
 ready-a : {w : ℕ} {config : Config} {log : Log w} {mail : AccessMessages w} {request : ℕ → MessageA w}
     {s : State (List ℕ)} {sys : System w} {link : Link} {x : Beat w} {queue : List (Beat w)} → IsWidth w
     → SimulationRelation config log mail request s sys → (d : IsDelivery config mail s sys link Channel.A x queue)
@@ -62,8 +59,7 @@ ready-a {w} {config} {log} {mail} {request} {s} {sys} {link} {x} {queue} width h
     let moves_so : must_wait config (record { 0 = link.0 }) (Beat.A (a_beat_of arrives.request arrives.next.k))
     sys.manager.trace ≡ false = cc (arrives.next.beat_is, moves) in
     subst (λ (y : Packet). IsReady (next_tracker sys) link.0 y.kind y.number (shadow_of mail request s))
-    (head_is (packet arrives.kind arrives.number) (packet d.first.kind d.first.number) arrives.rest d.first.rest
-    (sym arrives.is_it.tokens ∙ d.first.tokens))
+    (cc)
     (arrives.is_it.ready arrives.next.k comes (next_number arrives.next.k (beats_of (Message.A arrives.request)) last)
     moves_so)
 

@@ -136,9 +136,6 @@ reported-last {w} {config} {log} h {sys} {c} {n} {k} rest {m} is tokens answered
         used = acquires_of-is n (h.state.uses q source)
             (is.invariant.named.acquires q source n ∙ rw (wants, ← own_source, same_number source) refl)
 
-        acquired : block_message Acquire q n b ≡ Message.A (h.request n)
-        acquired = subst (λ (v : Service). IsAcquireOf n b v (h.request n)) f (is.acquired n)
-
         go : (y : AcquirePhase) → (b.pair q).acquiring ≡ y
             → IsInvariant (is_caching config) (granted_after (length config.clients.items) config.profile c q n r y rest
             h).state → Result (granted_after (length config.clients.items) config.profile c q n r y rest h)
@@ -149,7 +146,8 @@ reported-last {w} {config} {log} h {sys} {c} {n} {k} rest {m} is tokens answered
             ) ∷ [])
         go NoAcquire g after = absurd (let none : false ≡ true = rw g at wants in cc)
         go (AcquireOpen whole grow) g after =
-            let fields = wanted_fields q n whole grow b (h.request n) g acquired in
+            let fields = wanted_fields q n whole grow b (h.request n) g
+            (subst (λ (v : Service). IsAcquireOf n b v (h.request n)) f (is.acquired n)) in
             let at : IsSettling config c q n source k true low r m h e =
             record {
               up = up;

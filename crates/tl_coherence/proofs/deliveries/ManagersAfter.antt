@@ -214,10 +214,7 @@ delivered-part {w} {config} {log} {link} {ch} {h} {x} {queue} width matched down
     now : Step w
     now = handing (Outcome.Moved x) [] (with_manager e (with_channel link.0 ch queue sys))
 
-    unended : ends x (on_link link.0 sys.manager.trace) ≡ false
-    unended = cc (is.of_it, receiver_down ch link.0 sys down, part)
-
     step_is : stepped config (Deliver link ch) sys ≡ now
-    step_is = is.step_is ∙ ap
-        (λ (l : Handed w). handing (Outcome.Moved x) l (with_manager e (with_channel link.0 ch queue sys)))
-        (ap (λ d. d.handed) (reaction-part config link x sys.manager unended))
+    step_is = is.step_is ∙ ap (λ (l : Handed w). handing (Outcome.Moved x) l
+        (with_manager e (with_channel link.0 ch queue sys))) (ap (λ d. d.handed)
+        (reaction-part config link x sys.manager (cc (is.of_it, receiver_down ch link.0 sys down, part))))

@@ -56,13 +56,6 @@ abbrev handed_for : {w : ℕ} → BeatB w → client.Endpoint w → Message w
 handed_for x e = probe_ack x.opcode (held_at e (block_at x.address)) (report_for x (held_at e (block_at x.address)))
     (block_at x.address) (copy_at e (block_at x.address))
 
-answer_b : {w : ℕ} (x : BeatB w) (e : client.Endpoint w)
-    → (offer.taken (Beat.B x) e).answer ≡ Ok (Verdict.Taken, Some (handed_for x e))
-answer_b x e = refl
-
-taken_stalls : Verdict.Taken ≡ Verdict.Stalled → ⊥
-taken_stalls f = absurd cc
-
 pub delivered-b : {w : ℕ} {config : Config} {log : Log w} (link : Link) (h : AbstractState w) (terms : client.EndConfig)
     (x : Beat w) (queue : List (Beat w)) → IsWidth w
     → SimulationRelation config log h.mail h.request h.state (system_after config log)
@@ -114,7 +107,7 @@ delivered-b {w} {config} {log} link h terms x queue width is known beats moving 
         probed = probe-delivered terms (next_tracker sys) c n first.rest width is known beats tokens next
 
         answers : (offer.taken x e).answer ≡ Ok (Verdict.Taken, Some (handed_for y e))
-        answers = ap (λ (z : Beat w). (offer.taken z e).answer) probed.beat_is ∙ answer_b y e
+        answers = ap (λ (z : Beat w). (offer.taken z e).answer) probed.beat_is ∙ refl
 
         same_parts : (t.verdict_is ≡ Verdict.Taken) × (t.message ≡ Some (handed_for y e))
         same_parts = same_answers t.verdict_is Verdict.Taken t.message (Some (handed_for y e)) (offer.taken x e).answer
@@ -135,18 +128,12 @@ delivered-b {w} {config} {log} link h terms x queue width is known beats moving 
           ack_same b_pair.held (report_at k b_pair.held) n (copy_at e n) (h.state.block n).truth copied,
         )
 
-        message_is : t.message ≡ Some ack
-        message_is = same_parts.1 ∙ ap Some (handed_at (block_at (64 * n)) (same_block n))
-
         now : Step w
         now = handing (Outcome.Moved x) (handed_by c (Some ack))
             (with_client c (offer.taken x e).after (with_channel c Channel.B queue sys))
 
         step_is : stepped config (Deliver link Channel.B) sys ≡ now
-        step_is = cc (t.step_is, same_parts.0, message_is)
-
-        sent : b_pair.probing ≡ ProbeSent k
-        sent = first-probe is.invariant tokens
+        step_is = cc (t.step_is, same_parts.0, same_parts.1 ∙ ap Some (handed_at (block_at (64 * n)) (same_block n)))
 
         taken : IsTaken c Channel.B x queue (pushes_at c (pushes_of (Some ack))) sys now.after
         taken = taken-landed (landed-client c Channel.B x queue (Some ack) (offer.taken x e).after sys refl beats
@@ -154,19 +141,15 @@ delivered-b {w} {config} {log} link h terms x queue width is known beats moving 
             (client-heard width (is.kept c) t))
             probed.whole
 
-        follows : abstract_step config (Deliver link Channel.B) sys h ≡ kind_taken config (next_tracker sys) c Probe n
-            first.rest h
-        follows = cc (followed-moving config link Channel.B sys h x queue moving beats, probed.whole, tokens)
-
         by_letting : (b : Bool) → is_unreleased b_pair.letting ≡ b → IsDelivered config log link Channel.B h
         by_letting true kept =
             let inv = invariant-taken h c Probe n first.rest is tokens (kept-is b_pair.letting kept) in
             delivered_as config log link Channel.B h (kind_taken config (next_tracker sys) c Probe n first.rest h)
-            follows
+            cc (followed-moving config link Channel.B sys h x queue moving beats, probed.whole, tokens)
             (subst (λ (z : Step w). ChannelRelation h.mail (probe_taken c n k first.rest h.state) z.after) (sym step_is)
-            (carried-shown width (probe_taken-shown c n k first.rest ack h.mail is.invariant
-            inv tokens sent (ack_channel w b_pair.held (report_at k b_pair.held) n (h.state.block n).truth)
-            (rendered_probed c n k (h.state.block n))) taken is.carried))
+            (carried-shown width (probe_taken-shown c n k first.rest ack h.mail is.invariant inv tokens
+            (first-probe is.invariant tokens) (ack_channel w b_pair.held (report_at k b_pair.held) n
+            (h.state.block n).truth) (rendered_probed c n k (h.state.block n))) taken is.carried))
             (subst (λ (m : Machine w). MemoryRelation h.mail (probe_taken c n k first.rest h.state) m)
             (sym (remembered_after config log link Channel.B now step_is ∙ ap
             (λ (l : List (ℕ × ℕ)). performing l
@@ -179,4 +162,4 @@ delivered-b {w} {config} {log} link h terms x queue width is known beats moving 
             let stalled = ap (λ (o : offer.Offered w). o.answer) (sym t.takes ∙ probed.waits_for open_) in
             let differ = (same_answers Verdict.Taken Verdict.Stalled (Some (handed_for y e)) None
             (offer.taken x e).answer answers stalled).0 in
-            absurd (taken_stalls differ)
+            absurd (absurd cc)

@@ -71,11 +71,6 @@ report-answered {w} config c n r rest h for =
 
 -- ---- the access that waits can be performed
 
-served-open : {w : ℕ} (q source n : ℕ) (h : AbstractState w) (m : Machine w) (u : SourceState) → u ≡ InService n
-    → IsOpened q source h.mail h.state u (m.opened q Requests source)
-    → IsAccess source (h.mail.request q source) None (m.opened q Requests source)
-served-open q source n h m u e is = rw e at is
-
 waiting-one : {w : ℕ} {config : Config} {log : Log w} (h : AbstractState w) {sys : System w} (n : ℕ) {m : Machine w}
     (service : Service) → IsWidth w → SimulationRelation config log h.mail h.request h.state sys
     → MemoryRelation h.mail h.state m → (h.state.block n).service ≡ service → IsFor service n (h.request n)
@@ -92,7 +87,7 @@ waiting-one {w} {config} h n {m} (Waits q false source k) width is beside e for 
         sent = subst (IsRequest config q source) with (served-request config q source n (h.mail.request q source)
             (h.state.uses q source) used (is.sourced q source));
         access = for.0;
-        opened = served-open q source n h m (h.state.uses q source) used (beside.requests q source);
+        opened = rw used at (beside.requests q source);
         long = (is.sized _).truth;
       },
       for.2,

@@ -19,11 +19,6 @@ use proofs.deliveries.FirstRequest.{IsArrival, arrival-first, coming-arrival, re
 
 -- ---- what a delivery on channel A comes to
 
-token_taken-first : {w : ℕ} (config : Config) (tracker c : ℕ) (kind : Kind) (i : ℕ) (rest xs : List Packet)
-    (h : AbstractState w) → xs ≡ packet kind i ∷ rest
-    → packet_taken config tracker c xs h ≡ kind_taken config tracker c kind i rest h
-token_taken-first config tracker c kind i rest xs h e = rw e refl
-
 more_beats : (k n : ℕ) → (k + 1 == n) ≡ false → k < n → k + 1 < n
 more_beats k n e lt = elim (cases_eq (k + 1) n) [
   | inl same ↦ absurd (let yes : (k + 1 == n) ≡ true = rw same (same_number n) in let no : true ≡ false = sym yes ∙ e in
@@ -53,8 +48,7 @@ moved-a {w} {config} {h} {sys} {c} {x} P beats arrives last more =
         → P (if b then packet_taken config (next_tracker sys) c (h.state.link c).a h else h)
     go true e =
         let all = eqb-true (k + 1) (beats_of (Message.A arrives.request)) (sym arrives.next.completes_is ∙ e) in
-        subst P (sym (token_taken-first config (next_tracker sys) c arrives.kind arrives.number arrives.rest
-        (h.state.link c).a h arrives.is_it.tokens)) (last (omega (arith, all)))
+        subst P (sym (rw arrives.is_it.tokens refl)) (last (omega (arith, all)))
     go false e = more (more_beats k (beats_of (Message.A arrives.request)) (sym arrives.next.completes_is ∙ e)
         arrives.next.within)
 

@@ -103,11 +103,6 @@ module _ {w : ℕ} {config : Config} {log : Log w} (h : AbstractState w) {sys : 
         (and_left (is_unprobed ((s.block n).pair c).probing && is_unreleased ((s.block n).pair c).letting)
         (same_perm ((s.block n).pair c).recorded ((s.block n).pair c).held) settled))
 
-    even : ((s.block n).pair c).held ≡ ((s.block n).pair c).recorded
-    even = same_perms ((s.block n).pair c).recorded ((s.block n).pair c).held
-        (and_right (is_unprobed ((s.block n).pair c).probing && is_unreleased ((s.block n).pair c).letting)
-        (same_perm ((s.block n).pair c).recorded ((s.block n).pair c).held) settled)
-
     -- the block afterwards
     record IsTakenUp (new : Block (List ℕ)) : Type 0 where
       pair_acquiring : (new.pair c).acquiring ≡ ((s.block n).pair c).acquiring
@@ -231,8 +226,11 @@ module _ {w : ℕ} {config : Config} {log : Log w} (h : AbstractState w) {sys : 
           pair_letting = ap (λ (p : ClientBlock). p.letting) pair;
           pair_probing = ap (λ (p : ClientBlock). p.probing) pair;
           keeps_source = refl;
-          keeps_held = ap (λ (v : View). if is_granting v then (new.pair c).held else (new.pair c).recorded) seen ∙ ap
-              (λ (p : ClientBlock). p.held) pair ∙ even ∙ sym held_free;
+          keeps_held = ap (λ (v : View). if is_granting v then (new.pair c).held else (new.pair c).recorded) seen
+              ∙ ap (λ (p : ClientBlock). p.held) pair
+              ∙ (same_perms ((s.block n).pair c).recorded ((s.block n).pair c).held
+              (and_right (is_unprobed ((s.block n).pair c).probing && is_unreleased ((s.block n).pair c).letting)
+              (same_perm ((s.block n).pair c).recorded ((s.block n).pair c).held) settled)) ∙ sym held_free;
           serves = ap is_unserved seen;
           waits_so = ap is_acknowledging seen;
         })

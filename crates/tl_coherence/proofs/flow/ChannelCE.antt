@@ -101,13 +101,11 @@ module _ {w : ℕ} {config : Config} {log : Log w} (h : AbstractState w) {sys : 
     last_y : completes (Beat.C (c_beat_of m next.k)) (unfinished_at sys c Channel.C) ≡ b
     last_y = sym (ap (λ (z : Beat w). completes z (unfinished_at sys c Channel.C)) next.beat_is) ∙ last
 
-    next_y : IsNext (Beat.C (c_beat_of m next.k)) (unfinished_at sys c Channel.C) (Message.C m) ms queue
-    next_y = subst (λ (z : Beat w). IsNext z (unfinished_at sys c Channel.C) (Message.C m) ms queue) next.beat_is next
-
     -- what of a Release with source i was delivered, before and afterwards
     came : (i : ℕ) → comes_in_release i (unfinished_at sys c Channel.C)
         ≡ (not (is_empty (unfinished_at sys c Channel.C)) && (is_release m.opcode && (m.source == i)))
-    came i = came-so (comes_in_release i) (is_release m.opcode && (m.source == i)) next_y refl (λ j. refl)
+    came i = came-so (comes_in_release i) (is_release m.opcode && (m.source == i)) (subst (λ (z : Beat w). IsNext z
+        (unfinished_at sys c Channel.C) (Message.C m) ms queue) next.beat_is next) refl (λ j. refl)
 
     comes : (i : ℕ) → comes_in_release i (rest' Channel.C) ≡ (not b && (is_release m.opcode && (m.source == i)))
     comes i = cc (

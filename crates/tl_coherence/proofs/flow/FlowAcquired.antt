@@ -93,9 +93,6 @@ flowed-acquire {w} {X} {c} {n} {y} {asked} {asked'} {rest} {rest'} {s} {s'} {t} 
       sunk = λ m e. grant_sink-a m y t ∙ tracked m e;
     }) before
   where
-    now : (i : ℕ) → (y.source == i) ≡ true → is_requested c i (rest' Channel.A) (s'.uses c i) s' ≡ true
-    now i e = cc (is.uses i, is.use_is i e, is.served)
-
     same : (i : ℕ) → (y.source == i) ≡ false → is_requested c i (rest' Channel.A) (s'.uses c i) s' ≡ is_requested c i
         (rest Channel.A) (s.uses c i) s
     same i e = cc (
@@ -106,8 +103,8 @@ flowed-acquire {w} {X} {c} {n} {y} {asked} {asked'} {rest} {rest'} {s} {s'} {t} 
 
     requests : (i : ℕ) (here : Bool) → (y.source == i) ≡ here → is_requested c i (rest' Channel.A) (s'.uses c i) s'
         ≡ step true true (y.source == i) false (is_requested c i (rest Channel.A) (s.uses c i) s)
-    requests i true e = now i e ∙ sym (whole_opened (y.source == i) (is_requested c i (rest Channel.A) (s.uses c i) s)
-        e)
+    requests i true e = (cc (is.uses i, is.use_is i e, is.served))
+        ∙ sym (whole_opened (y.source == i) (is_requested c i (rest Channel.A) (s.uses c i) s) e)
     requests i false e = same i e ∙ sym
         (whole_unopened (y.source == i) (is_requested c i (rest Channel.A) (s.uses c i) s) e)
 

@@ -100,7 +100,7 @@ flowed-aside {w} {X} {asked} {asked'} {rest} {d} {s} {s'} {t} is = flowed-untouc
   held_is = λ n. (is.blocks n).held;
   requests = λ i. requested-same d i (rest Channel.A) s s' (λ n. (is.blocks n).unserved) (is.uses i);
   asked_is = λ i e. is.asked_is i;
-  acquires = λ n. both_same (is.blocks n).wanting (is.blocks n).unserved;
+  acquires = λ n. rw ((is.blocks n).wanting, (is.blocks n).unserved) refl;
   release_sources = λ i. ap (λ (o : Option ℕ). is_let_by d i (rest Channel.C) o s') (is.lets i) ∙ let_by-same d i
       (rest Channel.C) (s.lets d i) s s' (λ n. (is.blocks n).letting);
   lets = λ i n e f. sym (is.lets i) ∙ f;
@@ -108,18 +108,12 @@ flowed-aside {w} {X} {asked} {asked'} {rest} {d} {s} {s'} {t} is = flowed-untouc
       (is.blocks n).source ∙ ap (λ (l : ReleasePhase). is_release_pending ((s.block n).release_source d)
       (rest Channel.C) l) (is.blocks n).letting;
   sinks = is.sinks;
-  grants = λ n. either_same (is.blocks n).acknowledging (comes-same n asked asked' (rest Channel.D) is.asked_is);
+  grants = λ n. rw ((is.blocks n).acknowledging, (comes-same n asked asked' (rest Channel.D) is.asked_is)) refl;
   probes = λ n. (is.blocks n).answered;
   caps = λ n e. (is.blocks n).cap ((is.blocks n).answered ∙ e);
   trackers = λ n e. tracked n e (is.blocks n).tracker;
 })
   where
-    both_same : {a b a' b' : Bool} → a' ≡ a → b' ≡ b → (a' && not b') ≡ (a && not b)
-    both_same e f = rw (e, f) refl
-
-    either_same : {a b a' b' : Bool} → a' ≡ a → b' ≡ b → (a' || b') ≡ (a || b)
-    either_same e f = rw (e, f) refl
-
     tracked : (n : ℕ) → granted_by d n asked (rest Channel.D) (s.block n) ≡ true
         → ((s'.block n).tracker ≡ (s.block n).tracker)
         ⊎ ((is_acknowledging (view (s.block n).service d) || is_granting (view (s.block n).service d)) ≡ false)

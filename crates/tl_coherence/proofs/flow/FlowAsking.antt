@@ -116,12 +116,6 @@ module _ {w : ℕ} {config : Config} {log : Log w} (h : AbstractState w) {sys : 
       (λ k. coming-asked c k before after is
       (λ i n used. asks i (λ e. acquires_not (h.state.uses c i) n (ap (h.state.uses c) e ∙ closed) used))))
 
-  asked-own : (t : History w) (o : Op w) (r : Reply) → IsReply o r → IsAskedOn c t o r
-  asked-own t o r may_be = reply-cases (IsAskedOn c t) o r may_be (own-stored t)
-      (λ n g source may. own-acquire {t = t} n source false g ((h.state.block n).waiting c) may.1 may.2)
-      (λ n bytes source may. own-acquire {t = t} n source true (whole_grow ((h.state.block n).pair c).held) bytes may.1
-      may.2) (λ n p source. own-release t n source p) (own-access t) (asked-nothing c t)
-
   -- ---- another one
 
   asked-other : (d : ℕ) (t : History w) (o : Op w) (r : Reply) → (d ≡ c → ⊥) → IsReply o r → IsAskedOn d t o r
@@ -150,6 +144,9 @@ module _ {w : ℕ} {config : Config} {log : Log w} (h : AbstractState w) {sys : 
 
   pub flowed-asked : (d : ℕ) (t : History w) (o : Op w) (r : Reply) → IsReply o r → IsAskedOn d t o r
   flowed-asked d t o r may_be = elim (cases_eq d c) [
-    | inl same ↦ rw same (asked-own t o r may_be)
+    | inl same ↦ rw same (reply-cases (IsAskedOn c t) o r may_be (own-stored t) (λ n g source may. own-acquire {t =
+        t} n source false g ((h.state.block n).waiting c) may.1 may.2) (λ n bytes source may. own-acquire {t =
+        t} n source true (whole_grow ((h.state.block n).pair c).held) bytes may.1 may.2)
+        (λ n p source. own-release t n source p) (own-access t) (asked-nothing c t))
     | inr ne ↦ asked-other d t o r ne may_be
   ]

@@ -73,9 +73,6 @@ ended : (first last g p : Bool) → g ≡ true → p ≡ true → step first las
 ended first true g p e f = rw e (closes_last first true p)
 ended first false g p e f = not_last first g p ∙ f
 
-unended : (first last g p : Bool) → g ≡ false → step first last false g p ≡ p
-unended first last g p e = rw e (step_quiet first last p)
-
 pub begun : (first last g p : Bool) → g ≡ true → p ≡ not first → step first last g false p ≡ true
 begun first last g p e f = opened first last true g p refl e f
 
@@ -170,12 +167,11 @@ flowed-grant {w} {X} {c} {n} {d} {k} {y} {first} {last} {asked} {asked'} {rest} 
           (λ m ne. sym (unsaid last (grants_at m) (capped y.param) (held_by c (s.block m)) (apart m ne)));
       requests = λ i. use_at i ∙ requests i last (y.source == i) refl refl;
       asked_is = λ i e. asked_still i e (last && (y.source == i)) refl;
-      acquires = each-block (λ m z. acquired_by c z ≡ step first last false
-          (is_grant y.opcode && asks_for m (request_of y.source t)) (acquired_by c (s.block m))) n s s' is.elsewhere
-          (now_acquired last d k (view new.service c) (is_wanting (new.pair c).acquiring) is.seen_is is.wants_is
-          ∙ sym (ended first last (grants_at n) (acquired_by c b) (names n ∙ same_number n)
-          (rw (is.wants, is.seen) refl)))
-          (λ m ne. sym (unended first last (grants_at m) (acquired_by c (s.block m)) (apart m ne)));
+      acquires = each-block (λ m z. acquired_by c z ≡ step first last false (is_grant y.opcode && asks_for m
+          (request_of y.source t)) (acquired_by c (s.block m))) n s s' is.elsewhere (now_acquired last d k
+          (view new.service c) (is_wanting (new.pair c).acquiring) is.seen_is is.wants_is ∙ sym (ended first last
+          (grants_at n) (acquired_by c b) (names n ∙ same_number n) (rw (is.wants, is.seen) refl)))
+          (λ m ne. sym (rw (apart m ne) (step_quiet first last (acquired_by c (s.block m)))));
       release_sources = λ i. lets i ∙ sym (unclosed first last (is_release_ack y.opcode) (y.source == i)
           (is_let_by c i (rest Channel.C) (s.lets c i) s) is.ack);
       released = λ i m e f. ap (option_map (λ z. block_at z.address)) (release_of-d i y t) ∙ before.released i m

@@ -104,13 +104,10 @@ module _ {w : ℕ} {config : Config} {log : Log w} (h : AbstractState w) {sys : 
         own : view (s.block n).service q ≡ Own
         own = rw (waits, same_number q) refl
 
-        seen : is_other (view (s.block n).service c) ≡ true
-        seen = answered_other _ ((s.block n).pair c) (view (s.block n).service c) ((is.invariant.blocks n).phases c)
-            (first-report is.invariant known.0)
-
         apart : q ≡ c → ⊥
-        apart same = let no : is_other Own ≡ true =
-            sym (ap is_other own) ∙ ap (λ (i : ℕ). is_other (view (s.block n).service i)) same ∙ seen in cc
+        apart same = let no : is_other Own ≡ true = sym (ap is_other own)
+            ∙ ap (λ (i : ℕ). is_other (view (s.block n).service i)) same ∙ (answered_other _ ((s.block n).pair c)
+            (view (s.block n).service c) ((is.invariant.blocks n).phases c) (first-report is.invariant known.0)) in cc
 
         -- no Grant that was delivered in part is of a block that waits
         none_comes : (i : ℕ) → s.tracked i ≡ Some n → comes_in_grant i (rest Channel.D) ≡ false

@@ -89,10 +89,6 @@ report-flows {w} p {c} n k r x {asked} {rest} {s} {t} flowed whole acks other bl
     (flowed.probed n answers ∙ ap (λ (j : Cap). Some (probe_beat n j)) waited)
     (held_as n flowed ungranted) told
 
-releases : (taken acquires again prunes : Bool) → taken ≡ false → acquires ≡ false → again ≡ false → prunes ≡ true
-    → first_if taken H1 (first_if (acquires || (again || not prunes)) H13 None) ≡ None
-releases taken acquires again prunes e f g h = rw (e, f, g, h) refl
-
 pub release-flows : {w : ℕ} {X : Type 0} (p : Profile) {c : ℕ} (n : ℕ) (r : Prune) (x : BeatC w) {asked : ℕ
     → Option (BeatA w)} {rest : Channel → List (Beat w)} {s : State X} {t : History w}
     → MonitorRelation asked rest c s t → rest Channel.C ≡ [] → is_release x.opcode ≡ true → block_at x.address ≡ n
@@ -110,8 +106,7 @@ release-flows {w} p {c} n r x {asked} {rest} {s} {t} flowed whole is block param
     (rest Channel.C) ((s.block n).pair c).letting whole (ap is_acked lets) in
     let prunes : prunes_from (prune_of x.param) (held n t) ≡ true =
     rw (param, prune_again r, held_as n flowed ungranted) left in
-    rw (none, is, block) (releases (pending (Key.ReleaseSource x.source) t) (pending (Key.AcquireOf n) t)
-    (pending (Key.ReleaseOf n) t) (prunes_from (prune_of x.param) (held n t)) free once again prunes)
+    rw (none, is, block) (rw (free, once, again, prunes) refl)
 
 -- ---- channel E
 

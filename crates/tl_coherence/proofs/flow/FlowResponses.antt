@@ -281,19 +281,14 @@ legal_d {w} {config} {log} {mail} {request} {s} {sys} c x queue width h flowed b
         (subst (λ (m : Message w). IsNext x rest_now m ms queue) (grant-rendered c n s due) next)
         (flow-grant h flowed due (given n due))
 
-    ack : (n : ℕ) → (s.link c).d ≡ packet ReleaseAck n ∷ first.rest
-        → IsNext x rest_now (block_message ReleaseAck c n (s.block n)) ms queue
-        → broken_in_order config.profile x (flow c log) ≡ None
-    ack n tokens next = legal_next c (ack_message ((s.block n).release_source c)) h flowed (ack_next c n s next)
-        (flow-ack c n h flowed (ack-due c n first.rest h.invariant tokens)
-        (first-shown h.invariant c ReleaseAck refl tokens))
-
     go : (k : Kind) (i : ℕ) → (s.link c).d ≡ packet k i ∷ first.rest → is_on Channel.D k ≡ true
         → IsNext x rest_now (message_of_kind k mail s c i) ms queue
         → broken_in_order config.profile x (flow c log) ≡ None
     go Answer i tokens own next = answer i tokens next
     go Grant i tokens own next = grant i tokens next
-    go ReleaseAck i tokens own next = ack i tokens next
+    go ReleaseAck i tokens own next =
+        legal_next c (ack_message ((s.block i).release_source c)) h flowed (ack_next c i s next) (flow-ack c i h flowed
+        (ack-due c i first.rest h.invariant tokens) (first-shown h.invariant c ReleaseAck refl tokens))
     go k i tokens own next = absurd cc
 
 in_order : {w : ℕ} (l : Level) (p : Profile) (x : Beat w) (t : History w) → illegal l (channel_of x) x ≡ None

@@ -93,18 +93,13 @@ stepped : {w : ℕ} (k : Key) (x : Beat w) (t : History w) (first last p p' : Bo
     → pending k t ≡ p → p' ≡ step first last (opens k x t) (closes k x t) p → pending k (x ∷ t) ≡ p'
 stepped k x t first last p p' e f before after = cc (pending-next k x t first last e f, before, after)
 
-held_stepped : {w : ℕ} (n : ℕ) (x : Beat w) (t : History w) (last : Bool) (p p' : Perm) → ends x t ≡ last → held n t ≡ p
-    → p' ≡ (if last then unwrap_or (says_held n x t) p else p) → held n (x ∷ t) ≡ p'
-held_stepped n x t last p p' f before after = cc (held-next n x t last f, before, after)
-
 pub flowed-next : {w : ℕ} {X : Type 0} {x : Beat w} {first last : Bool} {asked asked' : ℕ → Option (BeatA w)}
     {rest rest' : Channel → List (Beat w)} {c : ℕ} {s s' : State X} {t : History w}
     → IsStepped x first last asked asked' rest rest' c s s' t → MonitorRelation asked rest c s t
     → MonitorRelation asked' rest' c s' (x ∷ t)
 flowed-next {w} {X} {x} {first} {last} {asked} {asked'} {rest} {rest'} {c} {s} {s'} {t} is before = record {
   rest_is = λ ch. cc (unfinished-next ch x t, before.rest_is ch, is.rests ch);
-  held_is = λ n. held_stepped n x t last (held_by c (s.block n)) (held_by c (s'.block n)) is.last_is (before.held_is n)
-      (is.held_is n);
+  held_is = λ n. cc (held-next n x t last is.last_is, (before.held_is n), (is.held_is n));
   requests = requests;
   asked_is = λ i e. is.asked_is i (sym (requests i) ∙ e);
   acquires = λ n. stepped (AcquireOf n) x t first last (acquired_by c (s.block n)) (acquired_by c (s'.block n))

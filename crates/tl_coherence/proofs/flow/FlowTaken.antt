@@ -13,9 +13,6 @@ use proofs.links.{FromInvariant.matched-given, HeadsOfLinks.first-of}
 use proofs.outstanding.Outstanding.{first-moved}
 use proofs.queues.Tokens.{same_number}
 
-first_of_two : {w : ℕ} (x y : Beat w) (t : History w) → x ∷ t ≡ y ∷ t → y ≡ x
-first_of_two x y t e = cc
-
 -- a beat that is moved was first on its channel
 moved-first : {w : ℕ} {config : Config} {log : Log w} (h : AbstractState w) (link : Link) (ch : Channel) (o : Outcome w)
     (x : Beat w) → IsWidth w → SimulationRelation config log h.mail h.request h.state (system_after config log)
@@ -23,9 +20,8 @@ moved-first : {w : ℕ} {config : Config} {log : Log w} (h : AbstractState w) (l
     → ((d : ℕ) → flow d ((Deliver link ch, o) ∷ log) ≡ (if link.0 == d then x ∷ flow d log else flow d log))
     → (queue : List (Beat w)) × ((system_after config log).channels link.0 (channel_of x) ≡ x ∷ queue)
 moved-first {w} {config} {log} h link ch o x width is o_is moves delivered =
-    let head : (b : Bool) → b ≡ true → (if b then x ∷ flow link.0 log else flow link.0 log)
-    ≡ (if b then at.0 ∷ flow link.0 log else flow link.0 log) → at.0 ≡ x =
-    elim [ true ↦ λ e f. first_of_two x at.0 (flow link.0 log) f | false ↦ λ e f. absurd cc ] in
+    let head : (b : Bool) → b ≡ true → (if b then x ∷ flow link.0 log else flow link.0 log) ≡ (if b then at.0
+    ∷ flow link.0 log else flow link.0 log) → at.0 ≡ x = elim [ true ↦ λ e f. cc | false ↦ λ e f. absurd cc ] in
     let moved = moved-on link ch h at.0 at.1 at.2 width is at.3.0 at.3.1 moving (is_to_client ch) refl in
     let both : (if link.0 == link.0 then x ∷ flow link.0 log else flow link.0 log)
     ≡ (if link.0 == link.0 then at.0 ∷ flow link.0 log else flow link.0 log) =

@@ -69,9 +69,6 @@ moved-flowed {w} {config} {log} {link} {ch} {h} {x} {queue} width is flowed beat
     ready e = ready-delivered {link = link} ch {x = x} {queue = queue} width is
         (record { moves = moving; beats = beats; whole = e; first = at.first })
 
-    on_kind : on at.first.kind (h.state.link c) ≡ packet at.first.kind at.first.number ∷ at.first.rest
-    on_kind = on_same ch at.first.kind (h.state.link c) at.first.own ∙ at.first.tokens
-
     own : MonitorRelation (asked_by h'.mail h'.state c) (unfinished_at sys' c) c h'.state
         (if c == c then x ∷ flow c log else flow c log)
     own = rw (same_number c) (own-kind h width is (next_tracker sys) (flowed c)
@@ -90,8 +87,9 @@ moved-flowed {w} {config} {log} {link} {ch} {h} {x} {queue} width is flowed beat
 
         either : (b : Bool) → last ≡ b → FlowsAs h c is (next_tracker sys) d ne (flow d log)
             (if b then kind_taken config (next_tracker sys) c at.first.kind at.first.number at.first.rest h else h)
-        either true e = other-kind h c is (next_tracker sys) d ne (flow d log) at.first.kind
-            at.first.number at.first.rest on_kind (ready e) (flowed d)
+        either true e =
+            other-kind h c is (next_tracker sys) d ne (flow d log) at.first.kind at.first.number at.first.rest
+            (on_same ch at.first.kind (h.state.link c) at.first.own ∙ at.first.tokens) (ready e) (flowed d)
         either false e = flowed d
 
 delivered-flowed : {w : ℕ} {config : Config} {log : Log w} (link : Link) (ch : Channel) (h : AbstractState w)

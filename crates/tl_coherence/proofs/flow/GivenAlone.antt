@@ -36,10 +36,6 @@ other_view c other d k service e ne = cc (e, here (other == c) (ne_eqb other c n
     here : (x : Bool) → x ≡ false → is_granting (if x then Granting d k else GrantedOther) ≡ false
     here x f = rw f refl
 
-ungranted_holds : {X : Type 0} (c : ℕ) (b : Block X) → is_granting (view b.service c) ≡ false
-    → held_by c b ≡ (b.pair c).recorded
-ungranted_holds c b e = rw e refl
-
 -- what is held by what was delivered is at most what is recorded
 pub held_by_most : {X : Type 0} (c : ℕ) (b : Block X) (v : View) → perm_le (b.pair c).held (b.pair c).recorded ≡ true
     → perm_le (if is_granting v then (b.pair c).held else (b.pair c).recorded) (b.pair c).recorded ≡ true
@@ -58,8 +54,8 @@ given-next : {w : ℕ} {config : Config} {log : Log w} → IsGiven config log �
 given-next {w} {config} {log} given c y queue beats n other granted ne =
     let seen : view b.service c ≡ Granting due.data_too due.k = own_view c due.data_too due.k b.service due.service in
     let gives : capped y.param ≡ cap_right due.k = cc (grant.beat_is, cap-gives due.k) in
-    let holds : held n (flow other log) ≡ (b.pair other).recorded = (values other).held_is n
-    ∙ ungranted_holds other b (other_view c other due.data_too due.k b.service due.service ne) in
+    let holds : held n (flow other log) ≡ (b.pair other).recorded =
+    (values other).held_is n ∙ (rw (other_view c other due.data_too due.k b.service due.service ne) refl) in
     let even : (b.pair c).recorded ≡ cap_right due.k = sym (same_perms (b.pair c).recorded (cap_right due.k) (and_right
     (is_unreleased (b.pair c).letting) _ (and_right (is_unprobed (b.pair c).probing) _ (granting_alone due.data_too
     due.k (b.pair c) (view b.service c) ((is.invariant.blocks n).phases c) seen)))) in

@@ -199,13 +199,11 @@ renewed-kind_taken {w} {config} tracker c k i rest h is first ready =
         other : (d : ℕ) → view b.service d ≡ Other j
         other d = rw waits refl
 
-        low : (d : ℕ) → perm_le (set c (after_report r (b.pair c)) b.pair d).recorded (cap_right j) ≡ true
-        low d = recorded_within c r j (is.invariant.blocks n) answer quiet (other c) d (other d)
-
         settled : IsSettledFor m (last_taken clients config.profile c n r (Waits q false source j) rest h).state
         settled d = ap (λ (i : ℕ). leaves (needs m.opcode) ((set n new h.state.block i).pair d).recorded) for.2
             ∙ ap (λ (z : Block (List ℕ)). leaves (needs m.opcode) (z.pair d).recorded) (set-same n new h.state.block)
-            ∙ leaves_within m.opcode m.param j (set c (after_report r (b.pair c)) b.pair d).recorded for.0 for.3 (low d)
+            ∙ leaves_within m.opcode m.param j (set c (after_report r (b.pair c)) b.pair d).recorded for.0 for.3
+            (recorded_within c r j (is.invariant.blocks n) answer quiet (other c) d (other d))
           where
             new : Block (List ℕ)
             new = ended_block c r (performs m) b

@@ -20,7 +20,8 @@ pub true-next : {w : ℕ} (config : Config) (log : Log w) → IsGiven config log
     → (bytes : List ℕ) × (length bytes ≡ 64) × IsBlock (one_memory_after config log).memory n bytes
     × (y.lanes ≡ lanes_at true w bytes (length (unfinished Channel.D (flow c log))))
 true-next {w} config log given c y queue beats n granted with_data =
-    let lanes : y.lanes ≡ lanes_at true w (h.state.block n).truth k = cc (grant.beat_is, data_too) in
+    let lanes : y.lanes ≡ lanes_at true w (h.state.block n).truth k =
+    cc (grant.beat_is, with_data_only due.data_too (sym (ap (λ (z : BeatD w). z.opcode) grant.beat_is) ∙ with_data)) in
     ((h.state.block n).truth, (is.sized n).truth, is.beside.memory n, lanes)
   where
     h : AbstractState w
@@ -38,9 +39,6 @@ true-next {w} config log given c y queue beats n granted with_data =
 
     due : IsGrantDue c n h.state
     due = grant.due
-
-    data_too : due.data_too ≡ true
-    data_too = with_data_only due.data_too (sym (ap (λ (z : BeatD w). z.opcode) grant.beat_is) ∙ with_data)
 
 true-moved : {w : ℕ} (config : Config) (log : Log w) → IsGiven config log → (c : ℕ) (x : Beat w) (queue : List (Beat w))
     → (system_after config log).channels c (channel_of x) ≡ x ∷ queue

@@ -30,11 +30,6 @@ WasAnswered config c source m reply [] = ⊥
 WasAnswered config c source m reply (e ∷ log) = (is_some (open_request source (on_link c (trace_of (e ∷ log)))) ≡ true)
     × (IsAnswered config m reply (e ∷ log) log ⊎ WasAnswered config c source m reply log)
 
-lawful_request : {w : ℕ} (config : Config) (c source : ℕ) (m : MessageA w) (r : Message w) (u : SourceState)
-    → IsSourced config c source r u → u ≡ Replied → r ≡ Message.A m
-    → illegal_message_at (level_of config c) (Message.A m) ≡ None
-lawful_request config c source m r u sourced used is = (rw (used, is) at sourced).1
-
 -- each access that is answered was so
 answered : {w : ℕ} {config : Config} (log : Log w) → IsGiven config log → (c source : ℕ) (m : MessageA w)
     → (shadow config log).state.uses c source ≡ Replied → (shadow config log).mail.request c source ≡ Message.A m
@@ -54,13 +49,11 @@ answered {w} {config} (x ∷ log) given c source m used request =
     → IsAnswered config m (h'.mail.answer c source) (x ∷ log) log = λ i asked settled replied same. record {
       free = λ n. free-now config (x ∷ log) h' sys' is' values c source m used request
           (subst (λ (j : MessageA w). IsSettledFor j h'.state) same settled) n;
-      reply_is = subst (λ (j : MessageA w). h'.mail.answer c source
-          ≡ answers j (h.state.block (block_at j.address)).truth) same replied
-          ∙ ap (λ r. access_answer m (answer_of (Message.A m) r))
-          (sym (reply-performed (level_of config c) m (one_memory_after config log).memory
-          (h.state.block (block_at m.address)).truth given.width
-          (lawful_request config c source m (h'.mail.request c source) (h'.state.uses c source) (is'.sourced c source)
-          used request) (is.beside.memory (block_at m.address)) (is.sized (block_at m.address)).truth));
+      reply_is = subst (λ (j : MessageA w). h'.mail.answer c source ≡ answers j
+          (h.state.block (block_at j.address)).truth) same replied ∙ ap (λ r. access_answer m
+          (answer_of (Message.A m) r)) (sym (reply-performed (level_of config c) m (one_memory_after config log).memory
+          (h.state.block (block_at m.address)).truth given.width ((rw (used, request) at (is'.sourced c source)).1)
+          (is.beside.memory (block_at m.address)) (is.sized (block_at m.address)).truth));
     } in (
       opened-now config (x ∷ log) h' sys' is' values c source m used request,
       elim (renewed-followed config log x.0 h given.width is c source used) [

@@ -12,9 +12,6 @@ use proofs.links.FromInvariant.{matched-given}
 use proofs.manager.{ManagerTakes.by-first_c, Reporting.IsAbout}
 use proofs.queues.FirstToken.{first-token}
 
-same_beat : {w : ℕ} (x y : BeatC w) → Beat.C x ≡ Beat.C y → x ≡ y
-same_beat x y e = cc
-
 true-next : {w : ℕ} {config : Config} {log : Log w} → IsGiven config log → (c : ℕ) (y : BeatC w) (queue : List (Beat w))
     → (system_after config log).channels c Channel.C ≡ Beat.C y ∷ queue → c_carries_data y.opcode ≡ true
     → (bytes : List ℕ) × IsBlock (one_memory_after config log).memory (block_at y.address) bytes
@@ -50,7 +47,7 @@ true-next {w} {config} {log} given c y queue beats with_data =
         → IsAbout b n param carries (h.state.block n).truth m → (k : ℕ) → Beat.C y ≡ beat_of (Message.C m) k
         → k ≡ length (unfinished Channel.C (flow c log)) → True
     about n b param carries m says k beat_is at =
-        let same : y ≡ c_beat_of m k = same_beat y (c_beat_of m k) beat_is in
+        let same : y ≡ c_beat_of m k = cc in
         let of_block : block_at y.address ≡ n = ap (λ (z : BeatC w). block_at z.address) same ∙ says.block in
         let data_too : c_carries_data m.opcode ≡ true = cc (same, with_data) in
         let lanes : y.lanes ≡ lanes_at true w (h.state.block n).truth (length (unfinished Channel.C (flow c log))) =

@@ -116,11 +116,6 @@ granted-holds {w} {config} {log} link ch h x source p op width is done asked = g
     response_is : (k : Kind) → end.first.kind ≡ k → message_of_kind k h.mail h.state c n ≡ Message.D end.response
     response_is k e = ap (λ (i : Kind). message_of_kind i h.mail h.state c n) (sym e) ∙ end.response_is
 
-    then_matched : SimulationRelation config ((Deliver link ch, (stepped config (Deliver link ch) sys).outcome) ∷ log)
-        (abstract_step config (Deliver link ch) sys h).mail (abstract_step config (Deliver link ch) sys h).request
-        (abstract_step config (Deliver link ch) sys h).state (stepped config (Deliver link ch) sys).after
-    then_matched = matched-event h (Deliver link ch) width tt is
-
     grant : (e : end.first.kind ≡ Grant)
         → held (op_block op) ((stepped config (Deliver link ch) sys).after.clients c).past ≡ p
     grant e =
@@ -139,7 +134,7 @@ granted-holds {w} {config} {log} link ch h x source p op width is done asked = g
         let block_is : op_block op ≡ n = ap op_block op_is ∙ acquired_block w ((h.state.block n).pair c).acquiring n
         ((h.state.block n).waiting c) in
         ap (λ (i : ℕ). held i ((stepped config (Deliver link ch) sys).after.clients c).past)
-        block_is ∙ (then_matched.known c).held_is n
+        block_is ∙ ((matched-event h (Deliver link ch) width tt is).known c).held_is n
         ∙ ap (λ (at : Channel). (((abstract_step config (Deliver link at) sys h).state.block n).pair c).held) end.on_d
         ∙ ap (λ (i : AbstractState w). ((i.state.block n).pair c).held) end.follows ∙ ap
         (λ (k : Kind). (((kind_taken config (next_tracker sys) c k n end.first.rest h).state.block n).pair c).held)

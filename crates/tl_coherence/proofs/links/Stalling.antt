@@ -64,9 +64,6 @@ stalled-as-it-waits terms ch x e taken = rw (up-unbroken terms ch x e taken) ref
 
 -- ---- what is outstanding of a Release
 
-is_some_of : (n : ℕ) (o : Option ℕ) → o ≡ Some n → is_of n o ≡ true
-is_some_of n o e = rw e (same_number n)
-
 module _ {w : ℕ} {config : Config} {log : Log w} {mail : AccessMessages w} {request : ℕ → MessageA w}
     {s : State (List ℕ)} (matched : SimulationRelation config log mail request s (system_after config log))
     (coherent : IsCoherent (system_after config log) log (one_memory_after config log)) (c n : ℕ) where
@@ -108,8 +105,8 @@ module _ {w : ℕ} {config : Config} {log : Log w} {mail : AccessMessages w} {re
           let asked : option_map (λ x. x.asked) ((one_memory_after config log).opened c Releases source) ≡ Some
           (Release m p) = rw opened refl in
           let same : m ≡ n = same_release m p _ _ asked asked_is refl in
-          let named : releases_with c source (s.block n) ≡ true = sym (matched.invariant.named.releases c source n)
-          ∙ is_some_of n (s.lets c source) (e ∙ ap (λ (i : ℕ). Some i) same) in
+          let named : releases_with c source (s.block n) ≡ true =
+          sym (matched.invariant.named.releases c source n) ∙ (rw (e ∙ ap (λ (i : ℕ). Some i) same) (same_number n)) in
           (matched.known c).releases n ∙ and_left (not (is_unreleased ((s.block n).pair c).letting)) _ named
 
 -- ---- deliveries

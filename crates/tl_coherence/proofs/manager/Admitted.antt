@@ -61,9 +61,6 @@ release-comes {w} {mail} {s} {sys} c n is kept = go (s.link c).c refl
         → IsCarried t (map (message_of mail s c) xs) (sys.channels c Channel.C)
     carried xs e = rw e at (is.carried c Channel.C)
 
-    apart : (x : Packet) (xs : List Packet) → (s.link c).c ≡ x ∷ xs → is_on Channel.C x.kind ≡ false → ⊥
-    apart x xs e off = first_counts x xs (rw e at (is.invariant.own_kinds c Channel.C x.kind x.number off))
-
     kinds : (k : Kind) (x : Packet) (xs : List Packet) → (s.link c).c ≡ x ∷ xs → x.kind ≡ k → (i : ℕ)
         → comes_of n (begun (message_of mail s c x) i) ≡ false
     kinds ProbeAck x xs e f i =
@@ -76,7 +73,8 @@ release-comes {w} {mail} {s} {sys} c n is kept = go (s.link c).c refl
         let shows = first-shown is.invariant c Release refl first in
         let no : true ≡ false = sym shows ∙ ap (λ j. is_releasing ((s.block j).pair c).letting) same ∙ kept in
         cc))
-    kinds k x xs e f i = absurd (apart x xs e (rw f refl))
+    kinds k x xs e f i =
+        absurd (first_counts x xs (rw e at (is.invariant.own_kinds c Channel.C x.kind x.number (rw f refl))))
 
     go : (xs : List Packet) → (s.link c).c ≡ xs → comes_of n t ≡ false
     go [] e = rw (carried [] e).0 refl

@@ -17,12 +17,9 @@ use proofs.manager.Memories.{byte_in}
 abbrev pub block_in : Memory → ℕ → List ℕ
 block_in memory n = bytes_from memory (64 * n) 64
 
-in_block : (n i : ℕ) → i < 64 → block_at (64 * n + i) ≡ n
-in_block n i lt = omega (arith, lt)
-
 -- memories that have the same bytes in a block
 pub block-alike : (n : ℕ) (f g : Memory) → SameBlock n f g → block_in f n ≡ block_in g n
-block-alike n f g same = bytes_same f g (64 * n) 64 (λ i lt. same (64 * n + i) (in_block n i lt))
+block-alike n f g same = bytes_same f g (64 * n) 64 (λ i lt. same (64 * n + i) (omega (arith, lt)))
 
 -- ---- other blocks than the one of a beat
 

@@ -130,11 +130,6 @@ report-order {w} {config} c {n} k r {m} {s} {e} inv managed served kept answered
     b : Block (List ℕ)
     b = s.block n
 
-    told : r ≡ report_at (cap_waited b.service) (b.pair c).recorded
-    told = cc (same_report-is r (report_at (cap_waited b.service) (b.pair c).recorded)
-        (seen_cap (λ k. same_report r (report_at k (b.pair c).recorded)) b.service c
-        (report_fits r (b.pair c) (view b.service c) ((inv.blocks n).phases c) answered)))
-
     first : unfinished Channel.C t ≡ [] → NextOrder config.profile m 0 t
     first none =
         let missing : pending (Key.ProbeOf n) t ≡ true = managed.probes c n ∙ rw answered refl in
@@ -142,17 +137,15 @@ report-order {w} {config} c {n} k r {m} {s} {e} inv managed served kept answered
         let probe = served.probes c n (rw answered refl) in
         report-legal config.profile n (cap_waited b.service) r (b.pair c).recorded
         (c_beat_of m 0) t about.reports about.releases about.block about.param_is none missing released probe
-        (managed.recorded_is c n) told
+        (managed.recorded_is c n) (cc (same_report-is r (report_at (cap_waited b.service) (b.pair c).recorded)
+        (seen_cap (λ k. same_report r (report_at k (b.pair c).recorded)) b.service c
+        (report_fits r (b.pair c) (view b.service c) ((inv.blocks n).phases c) answered))))
 
 -- ---- a Release
 
 abbrev first_release : Bool → Bool → Bool → Bool → Type 0
 first_release used acquires releases fits = first_if used H1 (first_if (acquires || (releases || not fits)) H13 None)
     ≡ None
-
-release_rules : (used acquires releases fits : Bool) → used ≡ false → acquires ≡ false → releases ≡ false → fits ≡ true
-    → first_release used acquires releases fits
-release_rules used acquires releases fits e f g h = rw (e, f, g, h) refl
 
 pruned : (r : Prune) (p : Perm) → same_perm (prune_left r) p ≡ true → prunes_from (prune_of (prune_code r)) p ≡ true
 pruned Prune.TtoB p e = e
@@ -208,9 +201,7 @@ release-order {w} {config} {caching} c {n} k r rest {m} {s} {e} inv managed kept
         let legal : prunes_from (prune_of (prune_code r)) (held n t) ≡ true =
         rw (managed.recorded_is c n) (pruned r (b.pair c).recorded fits) in
         rw (none, about.releases, about.block, about.param_is)
-        (release_rules (pending (Key.ReleaseSource m.source) t) (pending (Key.AcquireOf n) t)
-        (pending (Key.ReleaseOf n) t)
-        (prunes_from (prune_of (prune_code r)) (held n t)) used acquires releases legal)
+        (rw (used, acquires, releases, legal) refl)
 
 -- ---- a GrantAck
 

@@ -11,18 +11,6 @@ use proofs.queues.{Tokens.same_number, Codes.cap-again}
 
 -- ---- a ProbeAck: H10, H11 and H12
 
-rules : (wrong late bad : Bool) → wrong ≡ false → late ≡ false → bad ≡ false
-    → first_if wrong H10 (first_if late H11 (first_if bad H12 None)) ≡ None
-rules wrong late bad e f g = rw (e, f, g) refl
-
-answers_it : {w : ℕ} (x : BeatC w) (n : ℕ) (k : Cap) (o : Option (BeatB w)) → o ≡ Some (probe_beat n k)
-    → answers_wrong_probe x o ≡ false
-answers_it x n k o e = rw e (and-false (c_carries_data x.opcode))
-
-reports_it : {w : ℕ} (x : BeatC w) (n : ℕ) (k : Cap) (r : Report) (p : Perm) (o : Option (BeatB w))
-    → o ≡ Some (probe_beat n k) → x.param ≡ report_code r → r ≡ report_at k p → misreports x o p ≡ false
-reports_it x n k r p o e param told = rw (e, cap-again k, param, told, same_number (report_code (report_at k p))) refl
-
 pub report-legal : {w : ℕ} (profile : Profile) (n : ℕ) (k : Cap) (r : Report) (p : Perm) (x : BeatC w) (t : History w)
     → is_probe_ack x.opcode ≡ true → is_release x.opcode ≡ false → block_at x.address ≡ n → x.param ≡ report_code r
     → unfinished Channel.C t ≡ [] → pending (Key.ProbeOf n) t ≡ true → pending (Key.ReleaseOf n) t ≡ false
@@ -32,14 +20,12 @@ unfolding broken_order
 report-legal {w} profile n k r p x t acks not_release block param none probed released probe is told =
     let found : probe_of (block_at x.address) t ≡ Some (probe_beat n k) = rw block probe in
     let wrong : (not (pending (Key.ProbeOf (block_at x.address)) t) || answers_wrong_probe x
-    (probe_of (block_at x.address) t)) ≡ false = rw (block, probed) (answers_it x n k (probe_of n t) probe) in
+    (probe_of (block_at x.address) t)) ≡ false = rw (block, probed) (rw probe (and-false (c_carries_data x.opcode))) in
     let late : pending (Key.ReleaseOf (block_at x.address)) t ≡ false = rw block released in
     let bad : misreports x (probe_of (block_at x.address) t) (held (block_at x.address) t) ≡ false =
-    rw (block, is) (reports_it x n k r p (probe_of n t) probe param told) in
+    rw (block, is) (rw (probe, cap-again k, param, told, same_number (report_code (report_at k p))) refl) in
     rw (none, not_release, acks)
-    (rules (not (pending (Key.ProbeOf (block_at x.address)) t) || answers_wrong_probe x
-    (probe_of (block_at x.address) t)) (pending (Key.ReleaseOf (block_at x.address)) t)
-    (misreports x (probe_of (block_at x.address) t) (held (block_at x.address) t)) wrong late bad)
+    (rw (wrong, late, bad) refl)
 
 -- ---- an Acquire: H1, H4 and H5
 

@@ -110,28 +110,12 @@ at_manager-request_taken {w} {config} {log} h {sys} {c} {source} {k} rest is ask
       unwaited = λ i src own j f same. unwaited i src own j f (sym asked.source_is ∙ same);
     }
 
-    answered : (p : Bool) (o : Option Cap)
-        → access_taken c source m tracker p o rest h ≡ access_taken c source m tracker false None rest h
-        → reaction config (link_of c) (Beat.A (a_beat_of m k)) e ≡ performed config (service_for c m e.trace)
-        (with_beat c m k e.trace) e.memory → IsManagerOf config (access_taken c source m tracker p o rest h) after
-    answered p o same done = subst (λ (i : AbstractState w). IsManagerOf config i after) (sym same)
-        (at_manager-answered (λ i. refl) answering asked.lawful done
-        (at_manager-answers (access_taken c source m tracker false None rest h).mail refl (at_manager-matched is)))
-
-    done : probes_some clients c false (cap_probed m.opcode m.param) b.pair ≡ false
-        → reaction config (link_of c) (Beat.A (a_beat_of m k)) e ≡ performed config (service_for c m e.trace)
-        (with_beat c m k e.trace) e.memory
-    done none = reaction-performed c k n false m is comes last asked.access refl none
-
-    some_cap : (x y : Option Cap) (i j : Cap) → x ≡ Some i → x ≡ y → y ≡ Some j → i ≡ j
-    some_cap x y i j f g l = let same : Some i ≡ Some j = sym f ∙ g ∙ l in cc
-
     go : (p : Bool) (o : Option Cap) → probes_some clients c false (cap_probed m.opcode m.param) b.pair ≡ p
         → cap_probed m.opcode m.param ≡ o → IsManagerOf config (access_taken c source m tracker p o rest h) after
     go true None f g = absurd (let no : false ≡ true = rw g at f in cc)
     go true (Some j) f g =
         let some = somebody-probed c k n false m is asked.access refl f in
-        let same : some.0 ≡ j = some_cap (cap_probed m.opcode m.param) (Some j) some.0 j some.1 g refl in
+        let same : some.0 ≡ j = (let same : Some some.0 ≡ Some j = sym some.1 ∙ g ∙ refl in cc) in
         at_manager-probing (λ i. refl)
         (record {
           comes = comes;
@@ -143,7 +127,9 @@ at_manager-request_taken {w} {config} {log} h {sys} {c} {source} {k} rest is ask
           unwaited = unwaited;
         })
         (rw same at some.2) asked.is_it (at_manager-matched is)
-    go false o f g = answered false o refl (done f)
+    go false o f g = subst (λ (i : AbstractState w). IsManagerOf config i after) (sym refl) (at_manager-answered
+        (λ i. refl) answering asked.lawful (reaction-performed c k n false m is comes last asked.access refl f)
+        (at_manager-answers (access_taken c source m tracker false None rest h).mail refl (at_manager-matched is)))
 
 -- ---- an Acquire
 
@@ -156,11 +142,8 @@ unwaited-acquires {w} {config} {s} c source n is used free i src own j e same =
     here : s.uses c src ≡ Acquires n
     here = ap (s.uses c) (sym same) ∙ used
 
-    number_is : (a b : ℕ) → Acquires a ≡ Acquires b → b ≡ a
-    number_is a b f = cc
-
     go : (b : Bool) → (s.block i).service ≡ Waits c b src j → s.uses c src ≡ (if b then Acquires i else InService i) → ⊥
-    go true f g = let at_n : i ≡ n = number_is n i (sym here ∙ g) in let no : Free ≡ Waits c true src j =
+    go true f g = let at_n : i ≡ n = cc in let no : Free ≡ Waits c true src j =
         sym free ∙ ap (λ l. (s.block l).service) (sym at_n) ∙ f in cc
     go false f g = let no : Acquires n ≡ InService i = sym here ∙ g in cc
 
@@ -233,10 +216,6 @@ at_manager-acquire_taken {w} {config} {log} h {sys} {c} {n} {k} rest is asked co
     unwaited : IsUnwaited c m.source h.state
     unwaited = unwaited-acquires c m.source n is asked.used ready.0
 
-    nobody : is_nobody (probed config (service_for c m e.trace) j (with_beat c m k e.trace)) ≡ not
-        (some_below clients (λ d. is_probed c true j (b.pair d).recorded d))
-    nobody = probed-some c k n true j m is acquires (same_block n)
-
     given : Cap
     given = gift config.profile asked.whole asked.grow (is_unheld clients b.pair)
 
@@ -258,7 +237,7 @@ at_manager-acquire_taken {w} {config} {log} h {sys} {c} {n} {k} rest is asked co
           beyond = beyond-none n is;
           unwaited = unwaited;
         })
-        (nobody ∙ ap not f) tt (at_manager-matched is)
+        ((probed-some c k n true j m is acquires (same_block n)) ∙ ap not f) tt (at_manager-matched is)
     go false f =
         at_manager-granted (is_granted_data asked.whole asked.grow (b.pair c).recorded) (λ i. refl)
         (record {

@@ -85,10 +85,6 @@ same-acquiring : {X : Type 0} (c source : ℕ) (whole : Bool) (g : Grow) (bytes 
 same-acquiring c source whole g bytes b = same-pair c (after_acquire whole g (b.pair c)) b refl refl
     (acquiring_block c source whole g bytes b) refl refl (same-again b.service) refl
 
-same-releasing : {X : Type 0} (c source : ℕ) (r : Prune) (b : Block X) → IsSameBlock b (releasing_block c source r b)
-same-releasing c source r b = same-pair c (after_release r (b.pair c)) b refl refl (releasing_block c source r b) refl
-    refl (same-again b.service) refl
-
 same-stored : {X : Type 0} (c : ℕ) (bytes : X) (b : Block X) → IsSameBlock b (stored_block c bytes b)
 same-stored c bytes b = record {
   recorded_same = λ d. refl;
@@ -98,19 +94,10 @@ same-stored c bytes b = record {
   memory_same = refl;
 }
 
-same-probed : {X : Type 0} (c : ℕ) (k j : Cap) (b : Block X) → (b.pair c).probing ≡ ProbeSent j
-    → IsSameBlock b (probed_block c k b)
-same-probed c k j b sent = same-pair c (after_probe k (b.pair c)) b refl (sym (ap is_unprobed sent))
-    (probed_block c k b) refl refl (same-again b.service) refl
-
 same-taken : {X : Type 0} (c : ℕ) (whole d : Bool) (k j : Cap) (b : Block X) → b.service ≡ GrantSent c d j
     → IsSameBlock b (taken_block c whole d k b)
 same-taken c whole d k j b sent = same-pair c (after_grant k (b.pair c)) b refl refl (taken_block c whole d k b) refl
     refl (rw sent refl) refl
-
-same-let_go : {X : Type 0} (c : ℕ) (b : Block X) → IsSameBlock b (let_go_block c b)
-same-let_go c b = same-pair c (after_release_ack (b.pair c)) b refl refl (let_go_block c b) refl refl
-    (same-again b.service) refl
 
 -- ---- a client is asked
 
@@ -160,8 +147,9 @@ at_manager-asked config c (Op.Acquire n g) (Reply.Started source) h e inv may is
 at_manager-asked config c (Op.AcquireWhole n bytes) (Reply.Started source) h e inv may is =
     let g = whole_grow ((h.state.block n).pair c).held in
     at_manager-unseen n (λ i. refl) (same-acquiring c source true g bytes (h.state.block n)) is
-at_manager-asked config c (Op.Release n p) (Reply.Started source) h e inv may is =
-    at_manager-unseen n (λ i. refl) (same-releasing c source p (h.state.block n)) is
+at_manager-asked config c (Op.Release n p) (Reply.Started source) h e inv may is = at_manager-unseen n (λ i. refl)
+    (same-pair c (after_release p ((h.state.block n).pair c)) (h.state.block n) refl refl
+    (releasing_block c source p (h.state.block n)) refl refl (same-again (h.state.block n).service) refl) is
 at_manager-asked config c (Op.Access (Message.A m)) (Reply.Started source) h e inv may is =
     at_manager-access config c source m h e inv may is
 at_manager-asked config c o r h e inv may is = is
@@ -180,10 +168,13 @@ pub at_manager-client_taken : {w : ℕ} {caching : ℕ → Bool} (config : Confi
 at_manager-client_taken config tracker c Probe n rest h e kind inv first is =
     let k = cap_sent ((h.state.block n).pair c).probing in
     let sent = first-probe inv first in
-    at_manager-unseen n (λ i. refl) (same-probed c k k (h.state.block n) sent) is
+    at_manager-unseen n (λ i. refl)
+    (same-pair c (after_probe k ((h.state.block n).pair c)) (h.state.block n) refl (sym (ap is_unprobed sent))
+    (probed_block c k (h.state.block n)) refl refl (same-again (h.state.block n).service) refl) is
 at_manager-client_taken config tracker c Answer n rest h e kind inv first is = at_manager-untouched (λ i. refl) is
-at_manager-client_taken config tracker c ReleaseAck n rest h e kind inv first is =
-    at_manager-unseen n (λ i. refl) (same-let_go c (h.state.block n)) is
+at_manager-client_taken config tracker c ReleaseAck n rest h e kind inv first is = at_manager-unseen n (λ i. refl)
+    (same-pair c (after_release_ack ((h.state.block n).pair c)) (h.state.block n) refl refl
+    (let_go_block c (h.state.block n)) refl refl (same-again (h.state.block n).service) refl) is
 at_manager-client_taken {w} config tracker c Grant n rest h e kind inv first is = go (h.state.block n).service refl
   where
     go : (service : Service) → (h.state.block n).service ≡ service

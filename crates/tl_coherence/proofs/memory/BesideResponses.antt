@@ -146,11 +146,9 @@ beside-release_ack {w} c n rest {mail} {s} {m} inv acked h =
     source : ℕ
     source = (s.block n).release_source c
 
-    let_is : s.lets c source ≡ Some n
-    let_is = is_of-is n (s.lets c source) (inv.named.releases c source n ∙ rw (acked, same_number source) refl)
-
     released : IsLet (Some n) (m.opened c Releases source)
     released =
         let go : (l : Option ℕ) → l ≡ Some n → IsLet l (m.opened c Releases source)
         → IsLet (Some n) (m.opened c Releases source) = λ l e i. rw e at i in
-        go (s.lets c source) let_is (h.releases c source)
+        go (s.lets c source) (is_of-is n (s.lets c source)
+        (inv.named.releases c source n ∙ rw (acked, same_number source) refl)) (h.releases c source)

@@ -71,11 +71,6 @@ memory-reported c q source r k {b} well waits answered settled =
     quiet_low NoProbe e = refl
     quiet_low x e = absurd cc
 
-    told_low : same_perm (report_left r) Perm.Trunk ≡ false
-        → (not (same_perm (report_left (report_told (b.pair c).probing)) Perm.Trunk) && not
-        (is_sent (b.pair c).probing)) ≡ true
-    told_low e = rw (answered, e) refl
-
     low : (d : ℕ) → same_perm (report_left r) Perm.Trunk ≡ false → same_perm (b.pair d).recorded Perm.Trunk ≡ false
     low d e = not-true (same_perm (b.pair d).recorded Perm.Trunk)
         (low_recorded (b.pair d) (view b.service d) (well.phases d) (both d (cases_eq d c)))
@@ -83,9 +78,8 @@ memory-reported c q source r k {b} well waits answered settled =
         both : (d : ℕ) → (d ≡ c) ⊎ (d ≡ c → ⊥)
             → (is_other (view b.service d) && (not (same_perm (report_left (report_told (b.pair d).probing)) Perm.Trunk)
             && not (is_sent (b.pair d).probing))) ≡ true
-        both d (inl same) = rw (seen d)
-            (ap (λ (j : ℕ). not (same_perm (report_left (report_told (b.pair j).probing)) Perm.Trunk) && not
-            (is_sent (b.pair j).probing)) same ∙ told_low e)
+        both d (inl same) = rw (seen d) (ap (λ (j : ℕ). not (same_perm (report_left (report_told
+            (b.pair j).probing)) Perm.Trunk) && not (is_sent (b.pair j).probing)) same ∙ (rw (answered, e) refl))
         both d (inr other) = rw (seen d) (quiet_low (b.pair d).probing (settled d other))
 
 -- ---- an access is performed
@@ -184,11 +178,9 @@ beside-performed {w} {config} {c} {source} {a} bytes {mail} {s} s' {m} is same_r
     n : ℕ
     n = block_at a.address
 
-    as_asked : a ≡ sourced source is.opened.0
-    as_asked = same_message a (sourced source is.opened.0) (sym is.request ∙ is.opened.1)
-
     effect_is : effect (Message.A is.opened.0) m.memory ≡ effect (Message.A a) m.memory
-    effect_is = effect_asked source a is.opened.0 m.memory as_asked
+    effect_is = effect_asked source a is.opened.0 m.memory
+        (same_message a (sourced source is.opened.0) (sym is.request ∙ is.opened.1))
 
     blocks : IsBlock (effect (Message.A a) m.memory).0 n (performs a (s.block n).truth)
         × ((i : ℕ) → (i ≡ n → ⊥) → IsBlock (effect (Message.A a) m.memory).0 i (s.block i).truth)

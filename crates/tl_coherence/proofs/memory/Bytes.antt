@@ -107,9 +107,6 @@ pub record IsRangedMachine {w : ℕ} (m : Machine w) : Type 0 where
   pub memory : HasBytes m.memory
   pub opened : (c : ℕ) (pool : Pool) (source : ℕ) → IsRangedOpen (m.opened c pool source)
 
-first-ranged : {w : ℕ} → IsRangedMachine (first {w = w})
-first-ranged = record { memory = λ address. lit< tt; opened = λ c pool source. tt }
-
 opened-ranged : {w : ℕ} (client : ℕ) (at : Pool) (n : ℕ) (o : Option (Open w)) (f : Memory) {m : Machine w} → HasBytes f
     → IsRangedOpen o → IsRangedMachine m → IsRangedMachine (with_open client at n o (with_memory f m))
 opened-ranged {w} client at n o f {m} bytes is was =
@@ -188,7 +185,7 @@ performing-ranged (x ∷ accesses) {m} was = performing-ranged accesses
 pub remembered-ranged : {w : ℕ} (config : Config) (log : Log w) → AreRanged log
     → IsRangedMachine (one_memory_after config log)
 unfolding one_memory_after AreRanged
-remembered-ranged config [] ranged = first-ranged
+remembered-ranged config [] ranged = record { memory = λ address. lit< tt; opened = λ c pool source. tt }
 remembered-ranged config (x ∷ log) ranged =
     performing-ranged (accesses_answered (stepped config x.0 (system_after config log)).handed)
     (moved-ranged x.0 x.1 ranged.0 (remembered-ranged config log ranged.1))

@@ -37,10 +37,6 @@ module _ {w : ℕ} {config : Config} {log : Log w} (h : AbstractState w) (width 
   IsCounted event o h' = IsBalance config h.state h'.state (starts_request event o) (ends_request o)
       (starts_release event o) (ends_release o)
 
-  bounds : (c : ℕ) → AreBounded c (sources_in config c) config.trackers h.state
-  bounds c = matched-bounded config log h.mail h.request h.state (system_after config log) matched c
-      (sources-own config log c width)
-
   counted-as : (link : Link) (ch : Channel) (o : Outcome w) (h' : AbstractState w) {ends lets : Bool} → Ends o ends lets
       → IsBalance config h.state h'.state false ends false lets → IsCounted (Deliver link ch) o h'
   counted-as link ch o h' e b = record {
@@ -58,7 +54,8 @@ module _ {w : ℕ} {config : Config} {log : Log w} (h : AbstractState w) (width 
       → IsCounted (Deliver link ch) o (if b then kind_taken config tracker link.0 k i rest h else h)
   counted-either link ch o tracker k i rest true few first last part =
       counted-as link ch o (kind_taken config tracker link.0 k i rest h) (last refl)
-      (balance-kind tracker k i rest h matched few (bounds link.0) first)
+      (balance-kind tracker k i rest h matched few (matched-bounded config log h.mail h.request h.state
+      (system_after config log) matched link.0 (sources-own config log link.0 width)) first)
   counted-either link ch o tracker k i rest false few first last part =
       counted-as link ch o h (part refl) unopened
 

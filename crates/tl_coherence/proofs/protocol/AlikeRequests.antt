@@ -96,19 +96,13 @@ alike-acquiring c source whole g bytes {b} well calm i = elim (cases_eq i c) [
     new : Block (List ℕ)
     new = acquiring_block c source whole g bytes b
 
-    uncalm : (x : AcquirePhase) → x ≡ NoAcquire → not (is_unacquired x) ≡ true → ⊥
-    uncalm x e f = let h : false ≡ true = rw e at f in cc
-
-    unwanted : (x : AcquirePhase) (y : Bool) → x ≡ NoAcquire → (is_wanting x && y) ≡ true → ⊥
-    unwanted x y e f = let h : false ≡ true = rw e at f in cc
-
     granted : (v : View) → view b.service c ≡ v → is_granting v ≡ true → ⊥
     granted (Granting d k) e f =
-        uncalm (b.pair c).acquiring calm (granting_asks d k (b.pair c) (view b.service c) (well.phases c) e)
+        (let h : false ≡ true = rw calm at (granting_asks d k (b.pair c) (view b.service c) (well.phases c) e) in cc)
     granted v e f = cc
 
     here : AreAlike c b new
-    here Acquire e f = absurd (unwanted (b.pair c).acquiring _ calm e)
+    here Acquire e f = absurd (let h : false ≡ true = rw calm at e in cc)
     here Probe e f = (ap (λ (p : ClientBlock). p.probing) (pair_at c after b.pair), inr refl)
     here ProbeAck e f = (ap (λ (p : ClientBlock). p.probing) (pair_at c after b.pair), inr refl)
     here Release e f = ((ap (λ (p : ClientBlock). p.letting) (pair_at c after b.pair), refl), inr refl)
@@ -140,19 +134,13 @@ alike-releasing c source r b kept i = elim (cases_eq i c) [ inl same ↦ rw same
     new : Block (List ℕ)
     new = releasing_block c source r b
 
-    unreleased : (x : ReleasePhase) → x ≡ NoRelease → is_releasing x ≡ true → ⊥
-    unreleased x e f = let h : false ≡ true = rw e at f in cc
-
-    unacked : (x : ReleasePhase) → x ≡ NoRelease → is_acked x ≡ true → ⊥
-    unacked x e f = let h : false ≡ true = rw e at f in cc
-
     here : AreAlike c b new
     here Acquire e f = ((ap (λ (p : ClientBlock). p.acquiring) (pair_at c after b.pair), refl), inr refl)
     here Probe e f = (ap (λ (p : ClientBlock). p.probing) (pair_at c after b.pair), inr refl)
     here ProbeAck e f = (ap (λ (p : ClientBlock). p.probing) (pair_at c after b.pair), inr refl)
-    here Release e f = absurd (unreleased (b.pair c).letting kept e)
+    here Release e f = absurd (let h : false ≡ true = rw kept at e in cc)
     here Grant e f = ((refl, refl, refl), inr refl)
-    here ReleaseAck e f = absurd (unacked (b.pair c).letting kept e)
+    here ReleaseAck e f = absurd (let h : false ≡ true = rw kept at e in cc)
     here GrantAck e f = (refl, inr refl)
     here _ e f = (tt, inr refl)
 

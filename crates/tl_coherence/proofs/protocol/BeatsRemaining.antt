@@ -60,11 +60,8 @@ taken-none : {w : ℕ} (k : Kind) (m : ℕ) (x : Packet) (xs ys : List Packet) (
 unfolding count
 taken-none {w} k m x xs ys rest rest' e none once there = rw e (go (is k m x) refl (is_front k m ys))
   where
-    all : count k m (x ∷ ys) ≤ 1
-    all = rw e at once
-
     go : (b : Bool) → is k m x ≡ b → (c : Bool) → taken_of rest' c ≡ taken_of rest b
-    go true f c = absurd (let one : one_if (is k m x) ≡ 1 = rw f refl in omega (arith, all, there, one))
+    go true f c = absurd (let one : one_if (is k m x) ≡ 1 = rw f refl in omega (arith, rw e at once, there, one))
     go false f true = rw none refl
     go false f false = refl
 

@@ -70,9 +70,6 @@ ended-block {X} {caching} {c} {r} {f} {k} {b} h last =
           (quiet-is (b.pair d).probing (last.settled d ne))).0
     ]
 
-    held_same : (d : ℕ) → (set c after b.pair d).held ≡ (b.pair d).held
-    held_same = set-part (λ (p : ClientBlock). p.held) c after b.pair refl
-
     -- where all were probed, nobody is recorded any more
     nobody : k ≡ Cap.ToN → (d : ℕ) → same_perm (set c after b.pair d).recorded Perm.None ≡ true
     nobody e d = low_none k (set c after b.pair d).recorded e
@@ -80,7 +77,8 @@ ended-block {X} {caching} {c} {r} {f} {k} {b} h last =
 
     copy_is : (d : ℕ) → same_perm (set c after b.pair d).held Perm.None ≡ false → (f b.truth ≡ b.truth) ⊎ (k ≡ Cap.ToN)
         → b.copy d ≡ f b.truth
-    copy_is d some (inl same) = h.copies d (rw (held_same d) at some) ∙ sym same
+    copy_is d some (inl same) =
+        h.copies d (rw ((set-part (λ (p : ClientBlock). p.held) c after b.pair refl) d) at some) ∙ sym same
     copy_is d some (inr all) =
         let no = nothing_below (set c after b.pair d).held (set c after b.pair d).recorded
         (held_at_most (set c after b.pair d) Idle (phase d)) (nobody all d) in
@@ -168,9 +166,9 @@ report_answers-kept {X} {c} {q} n {r} {f} {source} {k} rest {s} inv first last =
           (λ d i ne. rw (last.waits, ne_eqb d q ne) refl) inv.named.serves;
       releases = λ d. names-block is_of (releases_with d) (s.lets d) n new s.block
           (λ i. rw (set-part (λ (p : ClientBlock). p.letting) c after old refl d) refl) (inv.named.releases d);
-      trackers = names-set is_of tracks_with s.tracked tracker None n new s.block refl
-          (λ m ne. rw tracked (sym (ne_eqb m n ne)))
-          (λ i ne. rw (last.waits, ne_eqb i tracker ne) refl) inv.named.trackers;
+      trackers = names-set is_of tracks_with s.tracked tracker None n new s.block refl (λ m ne. rw (is_of-is n
+          (s.tracked tracker) (inv.named.trackers tracker n ∙ rw (last.waits, same_number tracker) refl))
+          (sym (ne_eqb m n ne))) (λ i ne. rw (last.waits, ne_eqb i tracker ne) refl) inv.named.trackers;
     })
   where
     old : ℕ → ClientBlock
@@ -185,16 +183,11 @@ report_answers-kept {X} {c} {q} n {r} {f} {source} {k} rest {s} inv first last =
     tracker : ℕ
     tracker = (s.block n).tracker
 
-    tracked : s.tracked tracker ≡ Some n
-    tracked = is_of-is n (s.tracked tracker) (inv.named.trackers tracker n ∙ rw (last.waits, same_number tracker) refl)
-
-    pair_is : (d : ℕ) → set c after old d ≡ (if d == c then after_report r (old d) else old d)
-    pair_is d = elim (cases_eq d c) [ inl same ↦ rw (same, same_number c) refl | inr ne ↦ rw (ne_eqb d c ne) refl ]
-
     by_pair : (d : ℕ) (j : Kind) (m : Move)
         → agrees m j n (shows j (old d) (Other k)) (shows j (if d == c then after_report r (old d) else old d) Idle)
         ≡ true → agrees m j n (shown j d (s.block n)) (shown j d new) ≡ true
     by_pair d j m h =
         let seen : view (s.block n).service d ≡ Other k = rw last.waits refl in
-        rw seen (subst (λ (p : ClientBlock). agrees m j n (shows j (old d) (Other k)) (shows j p Idle) ≡ true)
-        (sym (pair_is d)) h)
+        rw seen
+        (subst (λ (p : ClientBlock). agrees m j n (shows j (old d) (Other k)) (shows j p Idle) ≡ true) (sym (elim
+        (cases_eq d c) [ inl same ↦ rw (same, same_number c) refl | inr ne ↦ rw (ne_eqb d c ne) refl ])) h)

@@ -87,7 +87,8 @@ module _ {w : ℕ} {caching : ℕ → Bool} (config : Config) (c : ℕ) (rest : 
           differ
           d ne
       | inr unheld ↦ unheld_none clients caching after plain
-          (outside-set caching c (after_report (r n) (b.pair c)) b.pair inside (inv.blocks n).outside) unheld d
+          (outside-set caching c (after_report (r n) (b.pair c)) b.pair (busy-inside caching c b.pair
+          (λ x. is_answered x.probing) refl (rw answered refl) (inv.blocks n).outside) (inv.blocks n).outside) unheld d
     ];
   })
     where
@@ -102,9 +103,6 @@ module _ {w : ℕ} {caching : ℕ → Bool} (config : Config) (c : ℕ) (rest : 
 
       answered : (b.pair c).probing ≡ ProbeAnswered (r n)
       answered = first-report inv first
-
-      inside : caching c ≡ false → ⊥
-      inside = busy-inside caching c b.pair (λ x. is_answered x.probing) refl (rw answered refl) (inv.blocks n).outside
 
       differ : c ≡ q → ⊥
       differ e =

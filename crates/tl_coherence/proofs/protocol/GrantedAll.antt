@@ -151,23 +151,8 @@ report_grants-kept {X} {caching} {c} {q} n {r} {whole} {g} {gift} {source} {k} r
     after : ClientBlock
     after = after_report r (old c)
 
-    pair_q : new.pair q ≡ after_grant_sent gift (old q)
-    pair_q = set-same q (after_grant_sent gift (old q)) (set c after old)
-
-    pair_c : new.pair c ≡ after
-    pair_c = set-other q c (after_grant_sent gift (old q)) (set c after old) apart ∙ set-same c after old
-
-    pair_other : (d : ℕ) → (d ≡ q → ⊥) → (d ≡ c → ⊥) → new.pair d ≡ old d
-    pair_other d m o = set-other q d (after_grant_sent gift (old q)) (set c after old) m ∙ set-other c d after old o
-
-    view_q : view (s.block n).service q ≡ Own
-    view_q = rw (last.waits, same_number q) refl
-
     view_other : (d : ℕ) → (d ≡ q → ⊥) → view (s.block n).service d ≡ Other k
     view_other d m = rw (last.waits, ne_eqb d q m) refl
-
-    new_q : view new.service q ≡ Granting with_data gift
-    new_q = rw (same_number q) refl
 
     new_other : (d : ℕ) → (d ≡ q → ⊥) → view new.service d ≡ GrantedOther
     new_other d m = rw (ne_eqb d q m) refl
@@ -186,18 +171,18 @@ report_grants-kept {X} {caching} {c} {q} n {r} {whole} {g} {gift} {source} {k} r
 
     fits : (d : ℕ) (j : Kind) → is_transfer j ≡ true → (d ≡ q) ⊎ (d ≡ q → ⊥) → (d ≡ c) ⊎ (d ≡ c → ⊥)
         → agrees (granted_moves n c q d (channel_for j)) j n (shown j d (s.block n)) (shown j d new) ≡ true
-    fits d j t (inl same) o =
-        rw same (agrees_as j (granted_moves n c q q (channel_for j)) (granted_moves n 0 1 1 (channel_for j))
-        (shown j q (s.block n)) (shown j q new)
-        (shows j (old q) Own) (shows j (after_grant_sent gift (old q)) (Granting with_data gift))
-        (moves_of_sender n c q (channel_for j) apart_too) (ap (shows j (old q)) view_q) (ap₂ (shows j) pair_q new_q)
-        (at_sender n j (old q) with_data gift t))
-    fits d j t (inr m) (inl same) =
-        rw same (agrees_as j (granted_moves n c q c (channel_for j)) (granted_moves n 1 0 1 (channel_for j))
-        (shown j c (s.block n)) (shown j c new) (shows j (old c) (Other k)) (shows j after GrantedOther)
-        (moves_of_reporter n c q (channel_for j) apart) (ap (shows j (old c)) (view_other c apart))
-        (ap₂ (shows j) pair_c (new_other c apart)) (at_reporter n j r (old c) k t last.answered))
+    fits d j t (inl same) o = rw same (agrees_as j (granted_moves n c q q (channel_for j))
+        (granted_moves n 0 1 1 (channel_for j)) (shown j q (s.block n)) (shown j q new) (shows j (old q) Own) (shows j
+        (after_grant_sent gift (old q)) (Granting with_data gift)) (moves_of_sender n c q (channel_for j) apart_too)
+        (ap (shows j (old q)) (rw (last.waits, same_number q) refl)) (ap₂ (shows j) (set-same q (after_grant_sent gift
+        (old q)) (set c after old)) (rw (same_number q) refl)) (at_sender n j (old q) with_data gift t))
+    fits d j t (inr m) (inl same) = rw same (agrees_as j (granted_moves n c q c (channel_for j))
+        (granted_moves n 1 0 1 (channel_for j)) (shown j c (s.block n)) (shown j c new) (shows j (old c) (Other k))
+        (shows j after GrantedOther) (moves_of_reporter n c q (channel_for j) apart) (ap (shows j (old c))
+        (view_other c apart)) (ap₂ (shows j) (set-other q c (after_grant_sent gift (old q)) (set c after old) apart
+        ∙ set-same c after old) (new_other c apart)) (at_reporter n j r (old c) k t last.answered))
     fits d j t (inr m) (inr o) = agrees_as j (granted_moves n c q d (channel_for j)) Stays (shown j d (s.block n))
         (shown j d new) (shows j (old d) (Other k)) (shows j (old d) GrantedOther)
-        (moves_of_other n c q d (channel_for j) o m) (ap (shows j (old d)) (view_other d m))
-        (ap₂ (shows j) (pair_other d m o) (new_other d m)) (at_other n j (old d) k t)
+        (moves_of_other n c q d (channel_for j) o m) (ap (shows j (old d)) (view_other d m)) (ap₂ (shows j)
+        (set-other q d (after_grant_sent gift (old q)) (set c after old) m ∙ set-other c d after old o) (new_other d m))
+        (at_other n j (old d) k t)

@@ -62,10 +62,6 @@ settled_all clients caching c pair plain outside none d ne = elim (cases_lt d cl
 
 -- ---- what accesses do to the bytes of a block
 
-block_again : (n : ℕ) (bytes : List ℕ) → length bytes ≡ 64 → bytes_from (bytes_at n bytes) (64 * n) 64 ≡ bytes
-block_again n bytes e = rw e at
-    (bytes_are (bytes_at n bytes) (64 * n) bytes (λ i lt. ap (slice_index bytes) (omega arith)))
-
 -- an access that doesn't probe all leaves the memory
 leaves_memory : {w : ℕ} (m : MessageA w) (memory : Memory) → is_acquire m.opcode ≡ false
     → (cap_probed m.opcode m.param ≡ Some Cap.ToN) ⊎ ((effect (Message.A m) memory).0 ≡ memory)
@@ -84,8 +80,9 @@ pub leaves-bytes : {w : ℕ} (m : MessageA w) (bytes : List ℕ) → is_acquire 
     → (performs m bytes ≡ bytes) ⊎ (cap_probed m.opcode m.param ≡ Some Cap.ToN)
 leaves-bytes m bytes e long = elim (leaves_memory m (bytes_at (block_at m.address) bytes) e) [
   | inl all ↦ inr all
-  | inr same ↦ inl (ap (λ (f : Memory). bytes_from f (64 * block_at m.address) 64) same ∙ block_again
-      (block_at m.address) bytes long)
+  | inr same ↦ inl (ap (λ (f : Memory). bytes_from f (64 * block_at m.address) 64) same
+      ∙ (rw long at (bytes_are (bytes_at (block_at m.address) bytes) (64 * (block_at m.address)) bytes
+      (λ i lt. ap (slice_index bytes) (omega arith)))))
 ]
 
 -- ---- what is granted
@@ -144,16 +141,13 @@ module _ {w : ℕ} {caching : ℕ → Bool} (config : Config) (c : ℕ) (rest : 
       access_answered-kept c (block_at m.address) source (performs m) rest inv first (first-request inv first)
       (elim (leaves-bytes m b.truth access long) [
         | inl same ↦ inl same
-        | inr all ↦ inr (λ d. none-above (b.pair d).recorded (unprobed clients caching c false Cap.ToN b.pair plain
-            (inv.blocks (block_at m.address)).outside (asked_all all) d refl))
+        | inr all ↦ inr (λ d. none-above (b.pair d).recorded
+            (unprobed clients caching c false Cap.ToN b.pair plain (inv.blocks (block_at m.address)).outside
+            (let same : o ≡ Some Cap.ToN = sym caps ∙ all in rw same at none) d refl))
       ])
     where
       b : Block (List ℕ)
       b = h.state.block (block_at m.address)
-
-      asked_all : cap_probed m.opcode m.param ≡ Some Cap.ToN
-          → some_below clients (λ d. is_probed c false Cap.ToN (b.pair d).recorded d) ≡ false
-      asked_all all = let same : o ≡ Some Cap.ToN = sym caps ∙ all in rw same at none
 
   pub access_served-followed : (tracker source : ℕ) (m : MessageA w) (k : Cap)
       → (h.state.link c).a ≡ packet Request source ∷ rest → (h.state.block (block_at m.address)).service ≡ Free

@@ -82,16 +82,13 @@ taken-block {X} c d whole g k {b} h granting wants = record {
         (rw e at (and_left (cap_fits whole g k)
         (not (whole && d) && (whole || (d || same_perm (b.pair c).held Perm.Branch))) fit_rest))
 
-    had_branch : whole ≡ false → d ≡ false → same_perm (b.pair c).held Perm.Branch ≡ true
-    had_branch e f = rw (e, f) at (and_right (not (whole && d)) (whole || (d || same_perm (b.pair c).held Perm.Branch))
-        (and_right (cap_fits whole g k) (not (whole && d) && (whole || (d || same_perm (b.pair c).held Perm.Branch)))
-        fit_rest))
-
     own_copy : (all : Bool) → whole ≡ all → (data_too : Bool) → d ≡ data_too
         → granted_copy whole d (b.waiting c) b.truth (b.copy c) ≡ granted_truth whole (b.waiting c) b.truth
     own_copy true e data_too f = rw e refl
     own_copy false e true f = rw (e, f) refl
-    own_copy false e false f = let had = some_held (b.pair c).held (had_branch e f) in rw (e, f) (h.copies c had)
+    own_copy false e false f = let had = some_held (b.pair c).held (rw (e, f) at (and_right (not (whole && d))
+        (whole || (d || same_perm (b.pair c).held Perm.Branch)) (and_right (cap_fits whole g k) (not (whole && d)
+        && (whole || (d || same_perm (b.pair c).held Perm.Branch))) fit_rest))) in rw (e, f) (h.copies c had)
 
     other_copy : (i : ℕ) → (i ≡ c → ⊥) → (all : Bool) → whole ≡ all → same_perm (b.pair i).held Perm.None ≡ false
         → b.copy i ≡ granted_truth whole (b.waiting c) b.truth

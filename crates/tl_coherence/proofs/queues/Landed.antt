@@ -219,9 +219,6 @@ rests-manager {w} c ch x queue handed e sys to_manager is heard = rests
     manager_is : after.manager ≡ e
     manager_is = manager-with_messages handed base
 
-    swapped : (d : ℕ) → (d ≡ c → ⊥) → (c == d) ≡ false
-    swapped d ne = ne_eqb c d (λ f. ne (sym f))
-
     theirs : (d : ℕ) (at : Channel) → is_to_client at ≡ false → (d ≡ c) ⊎ (d ≡ c → ⊥)
         → unfinished at (on_link d after.manager.trace) ≡ (if (d == c) && same_channel at ch then grown x
         (unfinished at (on_link d sys.manager.trace)) else unfinished at (on_link d sys.manager.trace))
@@ -230,7 +227,7 @@ rests-manager {w} c ch x queue handed e sys to_manager is heard = rests
         sys.manager.trace)) (same_number c) ∙ grown_history ch at x (on_link c sys.manager.trace) is
         ∙ sym (ap (λ (b : Bool). if b && same_channel at ch then grown x (unfinished at (on_link c sys.manager.trace))
         else unfinished at (on_link c sys.manager.trace)) (same_number c)))
-    theirs d at up (inr other) = cc (manager_is, heard d at up, swapped d other, ne_eqb d c other)
+    theirs d at up (inr other) = cc (manager_is, heard d at up, ne_eqb c d (λ f. other (sym f)), ne_eqb d c other)
 
     not_here : (ch at : Channel) → is_to_client ch ≡ false → is_to_client at ≡ true → same_channel at ch ≡ false
     not_here ch at a b = apart_channels at ch (λ e. cc)

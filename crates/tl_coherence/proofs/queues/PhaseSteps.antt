@@ -228,15 +228,12 @@ probe_all : each_phase probe_test ≡ true
 unfolding each_phase probe_test ok
 probe_all = refl
 
-kept_is : (x : ReleasePhase) → x ≡ NoRelease → is_unreleased x ≡ true
-kept_is x e = rw e refl
-
 pub probe-ok : (k : Cap) (p : ClientBlock) (v : View) → ok p v ≡ true → p.probing ≡ ProbeSent k → p.letting ≡ NoRelease
     → ok (after_probe k p) v ≡ true
 unfolding probe_test
 probe-ok k p v h sent kept = where_is (is_unreleased p.letting) (λ u. ok (after_probe k p) v)
     (sent_is p.probing (λ j. where_true (is_unreleased p.letting) (λ u. ok (after_probe j p) v)) k sent
-    (of_phase probe_test probe_all p v h)) (kept_is p.letting kept)
+    (of_phase probe_test probe_all p v h)) (rw kept refl)
 
 -- a ProbeAck is taken: others are missing, the access is answered, or another's Acquire is granted
 report_test : ClientBlock → View → Bool

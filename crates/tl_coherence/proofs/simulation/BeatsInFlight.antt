@@ -152,13 +152,10 @@ pub level-terms : (config : Config) (c : ℕ) (terms : EndConfig) → terms_at c
     → (level_of config c ≡ Some terms.level) × (terms.blocks ≡ config.blocks)
 level-terms config c terms e = go (slice_get config.clients.items c) e
   where
-    some_is : (t u : EndConfig) → Some t ≡ Some u → t ≡ u
-    some_is t u f = cc
-
     go : (o : Option ClientConfig) → option_map (terms_in config) o ≡ Some terms
         → (option_map (λ x. x.level) o ≡ Some terms.level) × (terms.blocks ≡ config.blocks)
     go None f = absurd cc
-    go (Some x) f = let g : terms_in config x ≡ terms = some_is (terms_in config x) terms f in
+    go (Some x) f = let g : terms_in config x ≡ terms = cc in
         (ap (λ (t : EndConfig). Some t.level) g, sym (ap (λ (t : EndConfig). t.blocks) g))
 
 -- ---- what a client is asked for

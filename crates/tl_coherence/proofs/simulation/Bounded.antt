@@ -21,9 +21,6 @@ pub record IsOwn {w : ℕ} (config : Config) (c : ℕ) (sys : System w) : Type 0
 
 -- ---- an open request has a first beat
 
-has_first : {w : ℕ} (m : Message w) (n : MessageA w) → m ≡ Message.A n → is_some (first_of m) ≡ true
-has_first m n e = rw e refl
-
 source_known : {w : ℕ} (m : Message w) (source : ℕ) → request_source m ≡ Some source → is_some (first_of m) ≡ true
 source_known (Message.A m) source e = refl
 source_known m source e = absurd cc
@@ -63,7 +60,7 @@ module _ {w : ℕ} (config : Config) (log : Log w) (mail : AccessMessages w) (re
   asked_of source Replied e used =
       let opened : IsOpened c source mail s Replied ((one_memory_after config log).opened c Requests source) =
       rw e at (matched.beside.requests c source) in
-      rw e (has_first (mail.request c source) _ opened.1.1)
+      rw e (rw opened.1.1 refl)
   asked_of source (Acquires n) e used =
       rw e (acquires_something w ((s.block n).pair c).acquiring ((s.block n).source c) n)
 

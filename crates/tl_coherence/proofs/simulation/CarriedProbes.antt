@@ -16,10 +16,6 @@ use proofs.queues.{Tokens.set-same}
 
 -- ---- Probes that are handed out
 
-own_probe : {w : ℕ} (n : ℕ) (k : Cap) (d : ℕ) (s : System w) → (with_message d (probe_of_block n k) s).channels d
-    Channel.B ≡ s.channels d Channel.B ++ beats_from (probe_of_block n k) 0 (beats_of (probe_of_block {w = w} n k))
-own_probe n k d s = rw (same_number d) refl
-
 other_probe : {w : ℕ} (n : ℕ) (k : Cap) (c d : ℕ) (at : Channel) (s : System w) → (d ≡ c → ⊥)
     → (with_message c (probe_of_block n k) s).channels d at ≡ s.channels d at
 other_probe n k c d at s ne = rw (ne_eqb d c ne) refl
@@ -85,8 +81,8 @@ probes-among {w} n k first (suc count) test d s le lt =
     at_first : (b : Bool) → (with_messages
         (probes n k (if b then d ∷ clients_from (d + 1) count test else clients_from (d + 1) count test)) s).channels d
         Channel.B ≡ behind (if b then Some (probe_of_block n k) else None) (s.channels d Channel.B)
-    at_first true = probes-outside n k (d + 1) count test d (with_message d (probe_of_block n k) s) (inl (omega arith))
-        ∙ own_probe n k d s
+    at_first true = probes-outside n k (d + 1) count test d (with_message d (probe_of_block n k) s)
+        (inl (omega arith)) ∙ (rw (same_number d) refl)
     at_first false = probes-outside n k (d + 1) count test d s (inl (omega arith))
 
     later : (d ≡ first → ⊥) → Rest → (b : Bool)

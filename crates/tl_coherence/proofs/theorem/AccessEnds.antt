@@ -96,10 +96,6 @@ request_open {w} source x t e =
     elim [ true ↦ λ f. f | false ↦ λ f. absurd cc ] in
     go (pending (RequestSource source) t) e
 
-sourced_request : {w : ℕ} (config : Config) (c source : ℕ) (m : Message w) (u : SourceState) → u ≡ Replied
-    → IsSourced config c source m u → IsRequest config c source m
-sourced_request config c source m u e h = rw e at h
-
 -- what is open of an access that was answered
 record IsOver {w : ℕ} (config : Config) (log : Log w) (c source : ℕ) (h : AbstractState w) : Type 0 where
   pub asked : MessageA w
@@ -129,8 +125,7 @@ over {w} {config} {log} c source h is used =
       asked = open_.1.0;
       reply = open_.0;
       request = open_.1.1;
-      lawful = (subst (IsRequest config c source) open_.1.1 (sourced_request config c source (h.mail.request c source)
-          (h.state.uses c source) used (is.sourced c source))).1;
+      lawful = (subst (IsRequest config c source) open_.1.1 (rw used at (is.sourced c source))).1;
       opened = open_.1.2;
       answer = answers.0;
       reach = answers.1;

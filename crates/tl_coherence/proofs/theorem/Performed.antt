@@ -41,12 +41,6 @@ unreplied : {w : ℕ} (c source : ℕ) (mail : AccessMessages w) (s : State (Lis
 unreplied c source mail s Replied opened m is e f = unanswered opened (Op.Access m) _ is.0 e is.1.2
 unreplied c source mail s u opened m is e f = cc
 
-same_one : (a b : ℕ × ℕ) (rest : List (ℕ × ℕ)) → a ∷ rest ≡ b ∷ [] → (b ≡ a) × (rest ≡ [])
-same_one a b rest e = (cc, cc)
-
-nothing_one : (a : ℕ × ℕ) (rest : List (ℕ × ℕ)) → a ∷ rest ≡ [] → ⊥
-nothing_one a rest e = cc
-
 module _ {w : ℕ} {config : Config} (log : Log w) (link : Link) (ch : Channel) (o : Outcome w)
     (given : IsGiven config ((Deliver link ch, o) ∷ log)) where
   abbrev event : Event w
@@ -138,6 +132,6 @@ performed_free {w} config log link ch o given c source rest x answers asks =
           (ap (λ (a : ℕ × ℕ). request_of a.1 (on_link a.0 (trace_of ((Deliver link ch, o) ∷ log)))) same.0 ∙ asks) n,
     ) in
     elim (answering-delivered config log link ch (shadow config log) given.width (is log link ch o given)) [
-      | inl none ↦ absurd (nothing_one (c, source) rest (sym answers ∙ none))
-      | inr one ↦ found one.0 one.1 one.2 one.3 one.4 (same_one (c, source) (one.0, one.1) rest (sym answers ∙ one.2))
+      | inl none ↦ absurd (cc)
+      | inr one ↦ found one.0 one.1 one.2 one.3 one.4 ((cc, cc))
     ]

@@ -223,6 +223,5 @@ beat-falls {w} {config} {caching} {ch} {c} {mail} {s} {sys} sys' {x} {queue} siz
     one_less : beats_left mail s (unfinished_at sys') c first.kind first.number + 1 ≤ beats_left mail s
         (unfinished_at sys) c first.kind first.number
     one_less =
-        let all = first-left first in
         let t = taken (is_front first.kind first.number (packets_on (channel_for first.kind) (s.link c))) front in
-        omega (arith, all, t, more)
+        omega (arith, first-left first, t, more)

@@ -199,9 +199,8 @@ module _ {w : ℕ} {config : Config} {log : Log w} {mail : AccessMessages w} {re
     where
       more : length (set c (taken_link n rest (s.link c)) s.link c).e ≡ length (s.link c).e + 1
       more =
-          let same = ap (λ (l : Link). length l.e) (set-same c (taken_link n rest (s.link c)) s.link) in
           let behind = length-append (s.link c).e (packet GrantAck n ∷ []) in
-          omega (arith, same, behind)
+          omega (arith, ap (λ (l : Link). length l.e) (set-same c (taken_link n rest (s.link c)) s.link), behind)
 
   pub grant_ack_taken-owed : (s.link c).e ≡ packet GrantAck n ∷ rest → (s.block n).service ≡ GrantTaken c
       → IsReceived c Channel.E sys sys' → IsKeptAfter config mail (grant_ack_taken c n rest s)
@@ -213,9 +212,8 @@ module _ {w : ℕ} {config : Config} {log : Log w} {mail : AccessMessages w} {re
     where
       less : length (set c (record (s.link c) { e = rest }) s.link c).e + 1 ≤ length (s.link c).e
       less =
-          let same = ap (λ (l : Link). length l.e) (set-same c (record (s.link c) { e = rest }) s.link) in
           let before = ap length first in
-          omega (arith, same, before)
+          omega (arith, ap (λ (l : Link). length l.e) (set-same c (record (s.link c) { e = rest }) s.link), before)
 
       fewer : (d : ℕ) → (d ≡ c) ⊎ (d ≡ c → ⊥) → length (set c (record (s.link c) { e = rest }) s.link d).e ≤ length
           (s.link d).e

@@ -94,12 +94,11 @@ module _ {w : ℕ} {config : Config} {mail mail' : AccessMessages w} {s s' : Sta
       → AreAsBefore s'.lets s.lets → AreNoMore s'.link s.link → Falls taking
   probe-falls k lt sent new is uses lets acks =
       let pairs = ap (λ (b : Block (List ℕ)). b.pair) new in
-      let is_pair : (s'.block n).pair c ≡ after_probe k was = own_at (after_probe k was) pairs in
       pair-falls taking lt (rw sent refl)
       (ap (λ (b : Block (List ℕ)). b.service) new)
       (other_at (after_probe k was) pairs) (kept_at (λ p. p.acquiring) (after_probe k was) refl pairs c)
       (kept_at (λ p. p.letting) (after_probe k was) refl pairs c)
-      uses lets acks (less ((s'.block n).pair c) is_pair (is.reports c n))
+      uses lets acks (less ((s'.block n).pair c) (own_at (after_probe k was) pairs) (is.reports c n))
     where
       was : ClientBlock
       was = (s.block n).pair c
@@ -130,8 +129,7 @@ module _ {w : ℕ} {config : Config} {mail mail' : AccessMessages w} {s s' : Sta
       less =
           let after = quiet_weight size (left' c ProbeAck n) ((s'.block n).pair c).recorded
           ((s'.block n).pair c).probing (ap (λ (p : ClientBlock). p.probing) (own_at (after_report r was) pairs)) in
-          let before = answered_weight size (left c ProbeAck n) was.recorded was.probing told answered in
-          omega (arith, after, before, some)
+          omega (arith, after, answered_weight size (left c ProbeAck n) was.recorded was.probing told answered, some)
 
   -- ---- the last report
 
@@ -141,8 +139,7 @@ module _ {w : ℕ} {config : Config} {mail mail' : AccessMessages w} {s s' : Sta
   report-owed told lt answered some =
       let one = answered_weight size (left c ProbeAck n) ((s.block n).pair c).recorded ((s.block n).pair c).probing told
       answered in
-      let all = summand-few number c (λ d. pair_weight size left n d ((s.block n).pair d)) lt in
-      omega (arith, one, all, some)
+      omega (arith, one, summand-few number c (λ d. pair_weight size left n d ((s.block n).pair d)) lt, some)
 
   pub answering-falls : (q source : ℕ) (k : Cap) (told r : Report) (f : List ℕ → List ℕ) → c < number
       → ((s.block n).pair c).probing ≡ ProbeAnswered told → 1 ≤ left c ProbeAck n
@@ -156,10 +153,9 @@ module _ {w : ℕ} {config : Config} {mail mail' : AccessMessages w} {s s' : Sta
       cc) in
       let pairs = ap (λ (b : Block (List ℕ)). b.pair) new in
       let free : (s'.block n).service ≡ Free = ap (λ (b : Block (List ℕ)). b.service) new in
-      let gone : is_for_access (s'.block n).service ≡ false = ap is_for_access free in
       let block : IsBlockNoMore taking =
       record {
-        serves = λ d i e g. absurd (nobody-serving n d i showing.after gone g);
+        serves = λ d i e g. absurd (nobody-serving n d i showing.after (ap is_for_access free) g);
         acquires = λ d i e g. unserved-stays taking d i n e g (ap (λ (u : Service). is_unserved (view u d)) waits)
             (ap (λ (u : Service). is_unserved (view u d)) free);
         lets = λ d i e g. let-stays taking d n (kept_at (λ p. p.letting) (after_report r was) refl pairs d);
@@ -197,8 +193,7 @@ module _ {w : ℕ} {config : Config} {mail mail' : AccessMessages w} {s s' : Sta
           let after : view (s'.block n).service d ≡ Granting data_too gift = rw (given, e, same_number q) refl in
           let before : view (s.block n).service d ≡ Own = rw (waits, e, same_number q) refl in
           let owed = report-owed told lt answered some in
-          let few = is.few d Grant n in
-          rw (after, before) (omega (arith, owed, few))
+          rw (after, before) (omega (arith, owed, is.few d Grant n))
 
       acquire : (d i : ℕ) → s.uses d i ≡ Acquires n → s'.uses d i ≡ Acquires n → (d ≡ q) ⊎ (d ≡ q → ⊥)
           → acquire_weight size (left' d Acquire n) (left' d Grant n) (probes_weight number size left' n (s'.block n))

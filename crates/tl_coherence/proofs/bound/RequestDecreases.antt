@@ -126,8 +126,7 @@ module _ {w : ℕ} {config : Config} {mail mail' : AccessMessages w} {s s' : Sta
         less : (d : ℕ) → d ≡ c → owed_for' d + 1 ≤ owed_for d
         less d e =
             let after : view (s'.block n).service d ≡ Granting data_too k = rw (given, e, same_number c) refl in
-            let few = is.few d Grant n in
-            rw (after, idle d) (omega (arith, few))
+            rw (after, idle d) (omega (arith, is.few d Grant n))
 
         at : (d : ℕ) → (d ≡ c) ⊎ (d ≡ c → ⊥) → (is_unserved (view (s'.block n).service d) ≡ true)
             ⊎ (owed_for' d ≤ owed_for d)

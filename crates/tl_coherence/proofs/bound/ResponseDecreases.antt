@@ -40,9 +40,8 @@ granted_unserved q d =
 acquired_with : {caching : ℕ → Bool} {s : State (List ℕ)} (n c i : ℕ) → IsInvariant caching s → s.uses c i ≡ Acquires n
     → i ≡ (s.block n).source c
 acquired_with {s} n c i inv e =
-    let named : acquires_with c i (s.block n) ≡ true = cc (inv.named.acquires c i n, e, same_number n) in
     eqb-true i ((s.block n).source c) (and_right (is_wanting ((s.block n).pair c).acquiring) (i == (s.block n).source c)
-    named)
+    (cc (inv.named.acquires c i n, e, same_number n)))
 
 module _ {w : ℕ} {config : Config} {mail mail' : AccessMessages w} {s s' : State (List ℕ)}
     (taking : Taking config mail mail' s s') where
@@ -76,10 +75,8 @@ module _ {w : ℕ} {config : Config} {mail mail' : AccessMessages w} {s s' : Sta
   grant-taken-falls data_too was_data whole k cap given used closed some new unlike lets acks more =
       let opened : s.uses c ((s.block n).source c) ≡ SourceFree → ⊥ =
       λ e. absurd (let both : Acquires n ≡ SourceFree = sym used ∙ e in cc) in
-      let less : owed_use' config size left left' answer answer s s' c ((s.block n).source c) + 2 ≤ owed_use config size
-      left left' answer answer s s' c ((s.block n).source c) = rw (used, closed, before) (omega (arith, some)) in
       granted-falls taking block c
-      ((s.block n).source c) opened unlike lets acks more less
+      ((s.block n).source c) opened unlike lets acks more (rw (used, closed, before) (omega (arith, some)))
     where
       taken : (s'.block n).service ≡ GrantTaken c
       taken = ap (λ (b : Block (List ℕ)). b.service) new
@@ -136,11 +133,8 @@ module _ {w : ℕ} {config : Config} {mail mail' : AccessMessages w} {s s' : Sta
       told_as (ProbeSent k) e = pruned-weight size (left c ProbeAck n) 0 was.recorded r (ProbeSent k) wide
           (λ a. omega arith)
       told_as (ProbeAnswered t) e =
-          let before = report-here showing.before c n (rw e refl) in
-          let after = report-here showing.after c n (ap (λ (p : ClientBlock). is_answered p.probing) own ∙ ap
-          is_answered e) in
-          let same = left-same showing popped c ProbeAck n before after
-          in
+          let same = left-same showing popped c ProbeAck n (report-here showing.before c n (rw e refl))
+          (report-here showing.after c n (ap (λ (p : ClientBlock). is_answered p.probing) own ∙ ap is_answered e)) in
           omega (arith, same)
 
       each : (d : ℕ) → (d ≡ c) ⊎ (d ≡ c → ⊥) → pair_weight size left' n d ((s'.block n).pair d) ≤ pair_weight size left

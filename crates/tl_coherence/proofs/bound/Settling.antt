@@ -115,16 +115,13 @@ bounding [] log given all = omega arith
 bounding {config} (x ∷ more) log given all =
     let rest = bounding more log (given-before config x (more ++ log) given)
     (All-tail (λ y. is_delivery y.0 ≡ true) x more all) in
-    let here = owed-delivered x (more ++ log) given (All-head (λ y. is_delivery y.0 ≡ true) x more all) in
     let count = moved-more x more in
-    omega (arith, rest, here, count)
+    omega (arith, rest, owed-delivered x (more ++ log) given (All-head (λ y. is_delivery y.0 ≡ true) x more all), count)
 
 pub bound : {w : ℕ} {config : Config} (more log : Log w) → IsGiven config (more ++ log)
     → All (λ x. is_delivery x.0 ≡ true) more → beats_moved more ≤ load log
 bound more log given all =
-    let beats = bounding more log given all in
-    let few = owed-load (given-older more log given) in
-    omega (arith, beats, few)
+    omega (arith, bounding more log given all, owed-load (given-older more log given))
 
 -- ---- draining
 

@@ -95,9 +95,8 @@ leaves-grant : {w : ℕ} (c n : ℕ) (service : Service) (rest : List Packet) (h
     → Leaves d h (taken_by_client c n service rest h)
 leaves-grant c n (GrantSent q x k) rest h d ne =
     let b : Block (List ℕ) = h.state.block n in
-    let whole : Bool = is_whole (b.pair c).acquiring in
-    aside-block n refl (others-aside (set-other c d (after_grant k (b.pair c)) b.pair ne) refl
-    (set-other c d (granted_copy whole x (b.waiting c) b.truth (b.copy c)) b.copy ne) refl) (λ i. refl)
+    aside-block n refl (others-aside (set-other c d (after_grant k (b.pair c)) b.pair ne) refl (set-other c d
+    (granted_copy (is_whole (b.pair c).acquiring) x (b.waiting c) b.truth (b.copy c)) b.copy ne) refl) (λ i. refl)
     (λ i. inl (set_at-other c d (b.source c) i SourceFree h.state.uses ne)) (λ i. refl)
 leaves-grant c n service rest h d ne = leaves-none d h
 

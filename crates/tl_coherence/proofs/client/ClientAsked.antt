@@ -126,11 +126,9 @@ end-release_asked {w} {c} n source r copy mail {s} {e} width begins kept end =
     copy_of : (i : ℕ) (b : Bool) → (i == n) ≡ b → same_perm (cond b (prune_right r) ((s.block i).pair c).held) Perm.None
         ≡ false → cond (b && not (holds (prune_right r))) None (e.copies i) ≡ Some ((s.block i).copy c)
     copy_of i true same some =
-        let before : holds ((s.block n).pair c).held ≡ true =
-        ap holds (sym (end.known.held_is n)) ∙ falls_to r (held n e.past) begins in
-        let here : i ≡ n = eqb-true i n same in
         kept_some (prune_right r) None (e.copies i) some ∙ end.copies i
-        (held-some ((s.block i).pair c).held (ap (λ (j : ℕ). holds ((s.block j).pair c).held) here ∙ before))
+        (held-some ((s.block i).pair c).held (ap (λ (j : ℕ). holds ((s.block j).pair c).held)
+        (eqb-true i n same) ∙ (ap holds (sym (end.known.held_is n)) ∙ falls_to r (held n e.past) begins)))
     copy_of i false same some = end.copies i some
 
 -- ---- a store
@@ -216,8 +214,7 @@ end_done c (Op.Store address size value) h {e} width named end free kept =
     kept
 end_done {terms} c (Op.Acquire n g) h {e} width named end free kept =
     let idle = or_parts (pending (AcquireOf n) e.past) (pending (ReleaseOf n) e.past) free.b2 in
-    let source = source_or_0 (free_request terms e.past) in
-    end-acquire_asked n source false g ((h.state.block n).waiting c) h.mail
+    end-acquire_asked n (source_or_0 (free_request terms e.past)) false g ((h.state.block n).waiting c) h.mail
     width named
     idle.0 refl refl refl (λ i other. refl) (λ whole. absurd cc) kept end
 end_done {w} {terms} c (Op.AcquireWhole n bytes) h {e} width named end free kept =
@@ -233,9 +230,8 @@ end_done {terms} c (Op.Release n r) h {e} width named end free kept =
     end-release_asked n (source_or_0 (free_release terms e.past)) r (copy_at e n) h.mail width
     (not-false (same_perm (prune_left r) (held_at e n)) free.b3) kept end
 end_done {terms} c (Op.Access (Message.A m)) h {e} width named end free kept =
-    let source = source_or_0 (free_request terms e.past) in
     let plain = no_acquire terms.level m.opcode (not-false (is_access_of terms.level m.opcode) free.b4) in
-    end-access_asked (sourced source m) h.mail width plain.0 kept end
+    end-access_asked (sourced (source_or_0 (free_request terms e.past)) m) h.mail width plain.0 kept end
 end_done c (Op.Access (Message.B m)) h width named end free kept = end
 end_done c (Op.Access (Message.C m)) h width named end free kept = end
 end_done c (Op.Access (Message.D m)) h width named end free kept = end

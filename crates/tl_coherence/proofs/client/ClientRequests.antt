@@ -75,10 +75,7 @@ end-access_asked {w} {c} m mail {s} {e} width plain kept end =
 pub unused : (c n i : ℕ) {s : State (List ℕ)} → AreNamed s → is_wanting ((s.block n).pair c).acquiring ≡ false
     → s.uses c i ≡ Acquires n → ⊥
 unused c n i {s} named calm used =
-    let one : acquires_of n (s.uses c i) ≡ true = ap (acquires_of n) used ∙ same_number n in
-    let both : (is_wanting ((s.block n).pair c).acquiring && (i == (s.block n).source c)) ≡ true =
-    sym (named.acquires c i n) ∙ one in
-    let no : false ≡ true = rw calm at both in
+    let no : false ≡ true = rw calm at (sym (named.acquires c i n) ∙ (ap (acquires_of n) used ∙ same_number n)) in
     cc
 
 pub asks_acquire : {w : ℕ} (c n source i : ℕ) (whole : Bool) (g : Grow) (bytes : List ℕ) (mail : AccessMessages w)
@@ -116,7 +113,6 @@ end-acquire_asked {w} {c} n source whole g bytes mail {s} {e} {f} width named id
     end =
     let m : MessageA w = acquisition (acquire_opcode whole) g source n in
     let asked' : ℕ → Option (BeatA w) = asked_by mail s' c in
-    let calm : is_wanting ((s.block n).pair c).acquiring ≡ false = sym (end.known.acquires n) ∙ idle in
     let of_block : (i : ℕ) → (is_acquire (acquire_opcode whole) && (block_at (64 * n) == i)) ≡ (i == n) =
     λ i. rw (acquires-so whole, same_block n) (swapped n i) in
     let event : IsRequested c m (asked_by mail s c) asked' s s' = record {
@@ -130,7 +126,7 @@ end-acquire_asked {w} {c} n source whole g bytes mail {s} {e} {f} width named id
         pair_is,
         of_block i,
       );
-      asks = λ i. asks_acquire c n source i whole g bytes mail named calm;
+      asks = λ i. asks_acquire c n source i whole g bytes mail named (sym (end.known.acquires n) ∙ idle);
     } in
     record {
       known = known-requested width past end.kept.a_whole kept event end.known;
@@ -158,10 +154,8 @@ end-acquire_asked {w} {c} n source whole g bytes mail {s} {e} {f} width named id
     go : (i : ℕ) → is_whole (((s'.block i).pair c).acquiring) ≡ true → (i ≡ n) ⊎ (i ≡ n → ⊥)
         → f.waiting i ≡ Some ((s'.block i).waiting c)
     go i storing (inl same) =
-        let now : is_whole (AcquireOpen whole g) ≡ true =
-        sym (ap (λ (b : Block (List ℕ)). is_whole (b.pair c).acquiring) (ap s'.block same ∙ set-same n new s.block)
-        ∙ ap (λ (p : ClientBlock). is_whole p.acquiring) pair_is) ∙ storing in
-        ap f.waiting same ∙ here now ∙ ap Some
+        ap f.waiting same ∙ here (sym (ap (λ (b : Block (List ℕ)). is_whole (b.pair c).acquiring) (ap s'.block same
+        ∙ set-same n new s.block) ∙ ap (λ (p : ClientBlock). is_whole p.acquiring) pair_is) ∙ storing) ∙ ap Some
         (sym (ap (λ (b : Block (List ℕ)). b.waiting c) (ap s'.block same ∙ set-same n new s.block) ∙ set-same c
         bytes (s.block n).waiting))
     go i storing (inr other) =

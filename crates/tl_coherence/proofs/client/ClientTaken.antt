@@ -262,10 +262,8 @@ end-grant_taken {w} {c} {n} {whole} {data_too} {g} {k} {x} {payload} rest mail {
     -- no other source is of the block
     apart : (i j : ℕ) → (i ≡ source → ⊥) → s.uses c i ≡ Acquires j → j ≡ n → ⊥
     apart i j ne used same =
-        let one : acquires_of n (s.uses c i) ≡ true = ap (acquires_of n) (used ∙ ap Acquires same) ∙ same_number n in
-        let both : (is_wanting ((s.block n).pair c).acquiring && (i == source)) ≡ true =
-        sym (named.acquires c i n) ∙ one in
-        ne (eqb-true i source (and_right (is_wanting ((s.block n).pair c).acquiring) (i == source) both))
+        ne (eqb-true i source (and_right (is_wanting ((s.block n).pair c).acquiring) (i == source)
+        (sym (named.acquires c i n) ∙ (ap (acquires_of n) (used ∙ ap Acquires same) ∙ same_number n))))
 
     asks_now : (i : ℕ) → (i ≡ source) ⊎ (i ≡ source → ⊥) → asked_by mail s' c i ≡ cond (x.source == i) None
         (asked_by mail s c i)

@@ -47,10 +47,9 @@ not_granted {caching} c n i rest {s} inv first sent = go (i == n) refl
         let due = grant-due caching c i rest s inv first in
         let alone = granting_alone due.data_too due.k ((s.block i).pair c) (view (s.block i).service c)
         ((inv.blocks i).phases c) (own_view c due.data_too due.k (s.block i).service due.service) in
-        let quiet : is_unprobed ((s.block i).pair c).probing ≡ true = and_left _ _ alone in
         let loud : is_unprobed ((s.block i).pair c).probing ≡ false = ap (λ j. is_unprobed ((s.block j).pair c).probing)
         (eqb-true i n e) ∙ not-sent ((s.block n).pair c).probing sent in
-        absurd (let no : true ≡ false = sym quiet ∙ loud in cc)
+        absurd (let no : true ≡ false = sym (and_left _ _ alone) ∙ loud in cc)
 
 else_answer : {w : ℕ} {config : Config} {log : Log w} {mail : AccessMessages w} {request : ℕ → MessageA w}
     {s : State (List ℕ)} {sys : System w} (c n i : ℕ)
@@ -219,8 +218,7 @@ probe-delivered {w} {config} {log} {mail} {request} {s} {sys} terms tracker c n 
 
     whole : completes x (unfinished Channel.B e.past) ≡ true
     whole =
-        let h_whole : unfinished Channel.B e.past ≡ [] = end.kept.b_whole in
-        ap (completes x) h_whole ∙ ap (λ (y : Beat w). completes y []) beat_is
+        ap (completes x) end.kept.b_whole ∙ ap (λ (y : Beat w). completes y []) beat_is
 
     is : AreTermsOf config c terms
     is = terms-are config c terms at

@@ -134,8 +134,7 @@ acquiring-acquired {w} c n source whole g bytes h inv calm is =
     apart : (r from : ℕ) (k : Cap) → b.service ≡ Waits r true from k → r ≡ c → ⊥
     apart r from k e same =
         let wants = own_wants (b.pair r) (view b.service r) ((inv.blocks n).phases r) (rw (e, same_number r) refl) in
-        let here : not (is_unacquired (b.pair c).acquiring) ≡ true = rw same at wants in
-        let no : false ≡ true = rw calm at here in
+        let no : false ≡ true = rw calm at (rw same at wants) in
         cc
 
 pub asked-acquired : {w : ℕ} {caching : ℕ → Bool} (c : ℕ) (o : Op w) (r : Reply) (h : AbstractState w)

@@ -163,9 +163,8 @@ asked-well {w} config log h sys c terms o width is known = asked-cases terms o e
     well (Op.AcquireWhole n bytes) free =
         let closed = free_source free.b1 in
         let still = transfers n free.b2 in
-        let begins : same_perm Perm.Trunk ((s.block n).pair c).held ≡ false = cc (held_is n, free.b3) in
         record {
-          may = (caching free.b4, closed, still.0, still.1, begins);
+          may = (caching free.b4, closed, still.0, still.1, cc (held_is n, free.b3));
           word = tt;
           source = tt;
           reply = tt;

@@ -204,12 +204,10 @@ carried-acquire_taken {w} {config} {log} h {sys} {c} {n} {k} rest queue is first
         caps (probed-some c k n true j m is (acquires-so asked.whole) (same_block n) ∙ ap not f)))) is.carried
     go false f kept =
         let new = granted_at_once c tracker data_too given b in
-        let well : IsWell (is_caching config) new = subst (IsWell (is_caching config)) (set-same n new h.state.block)
-        (kept.blocks n) in
         carried-shown comes.width (acquire_granted-shown c n tracker data_too given rest (block_message Grant c n new)
         h.mail is.invariant kept first ready.0 (once_on_d w c n tracker data_too given b) refl)
-        (taken-answering (block_message Grant c n new) queue sys comes beats last
-        (handed-granted is asked comes last (rw caps f) well)) is.carried
+        (taken-answering (block_message Grant c n new) queue sys comes beats last (handed-granted is asked comes last
+        (rw caps f) (subst (IsWell (is_caching config)) (set-same n new h.state.block) (kept.blocks n)))) is.carried
 
 -- ---- an access
 

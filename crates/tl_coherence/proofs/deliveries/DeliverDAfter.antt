@@ -88,14 +88,12 @@ responded-answer {w} {config} {log} h {sys} {c} {source} rest {x} {queue} due wi
     let plain = access_kind due.answer.opcode due.answers_access in
     let none = acked_none is.y.opcode is.y.sink (ap is_grant is.opcode ∙ plain.0) in
     let pool : pool_of (finish_at is.y (sys.clients c)) ≡ Requests = finish_pool_is is ∙ rw plain.1 refl in
-    let from : is.y.source ≡ source = is.source ∙ due.from in
-    let inv = invariant-taken h c Answer source rest matched first tt in
     record {
-      carried = rw none (carried-shown width (answer_taken-shown c source rest h.mail matched.invariant inv first)
-          (taken_d None is) matched.carried);
+      carried = rw none (carried-shown width (answer_taken-shown c source rest h.mail matched.invariant
+          (invariant-taken h c Answer source rest matched first tt) first) (taken_d None is) matched.carried);
       beside = rw pool (subst (λ (i : ℕ). MemoryRelation h.mail (answer_taken c source rest h.state)
           (after_end c Requests i ((one_memory_after config log).opened c Requests i) (one_memory_after config log)))
-          (sym from) (beside-answer c source rest due.used matched.beside));
+          (sym (is.source ∙ due.from)) (beside-answer c source rest due.used matched.beside));
       quiet = ap (λ (m : Option (Message w)). accesses_answered (handed_by c m)) none;
     }
 
@@ -109,12 +107,10 @@ pub responded-release_ack : {w : ℕ} {config : Config} {log : Log w} (h : Abstr
 unfolding accesses_answered
 responded-release_ack {w} {config} {log} h {sys} {c} n rest {x} {queue} width matched first open_ is =
     let none : acked {w = w} is.y.opcode is.y.sink ≡ None = acked_none is.y.opcode is.y.sink (ap is_grant is.opcode) in
-    let pool = finish_pool_is is in
-    let inv = invariant-taken h c ReleaseAck n rest matched first tt in
     record {
-      carried = rw none (carried-shown width (release_ack_taken-shown c n rest h.mail matched.invariant inv first)
-          (taken_d None is) matched.carried);
-      beside = rw pool (subst (λ (i : ℕ). MemoryRelation h.mail (release_ack_taken c n rest h.state)
+      carried = rw none (carried-shown width (release_ack_taken-shown c n rest h.mail matched.invariant
+          (invariant-taken h c ReleaseAck n rest matched first tt) first) (taken_d None is) matched.carried);
+      beside = rw (finish_pool_is is) (subst (λ (i : ℕ). MemoryRelation h.mail (release_ack_taken c n rest h.state)
           (after_end c Releases i ((one_memory_after config log).opened c Releases i) (one_memory_after config log)))
           (sym is.source) (beside-release_ack c n rest matched.invariant open_ matched.beside));
       quiet = ap (λ (m : Option (Message w)). accesses_answered (handed_by c m)) none;

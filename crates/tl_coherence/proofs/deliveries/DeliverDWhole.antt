@@ -196,9 +196,8 @@ delivered-d {w} {config} {log} link h terms x queue width is known beats moving 
         (h.state.block n).truth) tokens (grant-rendered c n h.state due) next
         (λ last. responded-grant h first.rest due width is tokens (bare h due is.invariant) last)
     kinds ReleaseAck n tokens own next =
-        let acked_there = first-shown is.invariant c ReleaseAck refl tokens in
         by_message ReleaseAck n (ack_message ((h.state.block n).release_source c)) tokens
         (rendered_release_ack c n (h.state.block n)) next
         (λ last. responded-release_ack h n first.rest width is tokens
-        (acked-open ((h.state.block n).pair c).letting acked_there) last)
+        (acked-open ((h.state.block n).pair c).letting (first-shown is.invariant c ReleaseAck refl tokens)) last)
     kinds k i tokens own next = absurd cc

@@ -206,8 +206,6 @@ pub request-stalled : {w : ℕ} {config : Config} {log : Log w} {h : AbstractSta
     → offered config (link_of c) Channel.A x sys.manager ≡ (manager.Stalled, sys.manager)
 request-stalled {w} {config} {log} {h} {sys} {c} {queue} is beats arrives waits =
     let y = a_beat_of arrives.request arrives.next.k in
-    let first = first-beat c y queue is (beats ∙ ap (λ (z : Beat w). z ∷ queue) arrives.next.beat_is) in
-    let waits_so : must_wait config (link_of c) (Beat.A y) sys.manager.trace ≡ true =
-    rw arrives.next.beat_is at waits in
     rw arrives.next.beat_is (offered-stalled config (link_of c) Channel.A (Beat.A y) sys.manager
-    (waits-first is.all_live first (arrives.is_it.early arrives.next.k arrives.next.rest_is) waits_so))
+    (waits-first is.all_live (first-beat c y queue is (beats ∙ ap (λ (z : Beat w). z ∷ queue) arrives.next.beat_is))
+    (arrives.is_it.early arrives.next.k arrives.next.rest_is) (rw arrives.next.beat_is at waits)))

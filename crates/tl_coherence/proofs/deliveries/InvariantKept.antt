@@ -53,15 +53,11 @@ ready-a {w} {config} {log} {mail} {request} {s} {sys} {link} {x} {queue} width h
     let next_number : (k n : ℕ) → k + 1 ≡ n → n ≡ suc k = λ k n e. omega (arith, e) in
     let arrives = arrival-first (shadow_of mail request s) link.0 x queue width h d.beats in
     let moves = request-moves link h d.moves d.beats arrives in
-    let comes = coming-arrival width h d.beats arrives moves in
-    let last = eqb-true (arrives.next.k + 1) (beats_of (Message.A arrives.request)) (sym arrives.next.completes_is
-    ∙ d.whole) in
-    let moves_so : must_wait config (record { 0 = link.0 }) (Beat.A (a_beat_of arrives.request arrives.next.k))
-    sys.manager.trace ≡ false = cc (arrives.next.beat_is, moves) in
     subst (λ (y : Packet). IsReady (next_tracker sys) link.0 y.kind y.number (shadow_of mail request s))
     (cc)
-    (arrives.is_it.ready arrives.next.k comes (next_number arrives.next.k (beats_of (Message.A arrives.request)) last)
-    moves_so)
+    (arrives.is_it.ready arrives.next.k (coming-arrival width h d.beats arrives moves) (next_number arrives.next.k
+    (beats_of (Message.A arrives.request)) (eqb-true (arrives.next.k + 1) (beats_of (Message.A arrives.request))
+    (sym arrives.next.completes_is ∙ d.whole))) (cc (arrives.next.beat_is, moves)))
 
 -- ---- channels C and E
 

@@ -82,12 +82,11 @@ landed-taken {w} {config} {c} {ch} {x} queue sys t handed pushes width kept type
     let e : End w = left c x (reaction config (record { 0 = c }) x sys.manager) sys.manager in
     let base : System w = with_manager e (with_channel c ch queue sys) in
     let step = step-taken config c ch x queue sys t terms beats down up in
-    let heard : HasTaken c x sys.manager e = manager-heard config (record { 0 = c }) ch x queue sys
-    (stepped config (Deliver (record { 0 = c }) ch) sys) width typed kept
-    (record { takes = up.answer; step_is = step }) in
     subst (λ (i : Step w). IsLanded c ch x queue pushes sys i.after)
     (sym (step ∙ ap (λ (i : Handed w). handing (Outcome.Moved x) i base) is))
-    (landed-manager c ch x queue pushes handed e sys down beats on_ch heard (pushed base))
+    (landed-manager c ch x queue pushes handed e sys down beats on_ch (manager-heard config
+    (record { 0 = c }) ch x queue sys (stepped config (Deliver (record { 0 = c }) ch) sys) width typed kept
+    (record { takes = up.answer; step_is = step })) (pushed base))
 
 -- a beat of channel C, or of channel E, is of that channel
 -- what holds before a delivery to the manager

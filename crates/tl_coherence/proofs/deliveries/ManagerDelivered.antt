@@ -94,10 +94,9 @@ unfolding block_message
 reports-delivered {w} {config} {log} h {sys} c n rest {x} {queue} {ms} width is beats tokens next =
     let r : Report = report_told ((h.state.block n).pair c).probing in
     let about = report-about r n (h.state.block n).truth width (is.sized n).truth in
-    let m : MessageC w = about.0 in
     let answered : ((h.state.block n).pair c).probing ≡ ProbeAnswered r =
     first-report is.invariant tokens in
-    delivered-c config h _ ProbeAck c n m sys.manager width
+    delivered-c config h _ ProbeAck c n about.0 sys.manager width
     (at_manager-matched is)
     (head_all (λ y. manager.IsSound config (record { 0 = c }, y)) x queue (sys.channels c Channel.C) beats
     (is.sound c Channel.C))
@@ -123,14 +122,13 @@ releases-delivered {w} {config} {log} h {sys} c n rest {x} {queue} {ms} width is
     let about = release-about r ((h.state.block n).release_source c) n (h.state.block n).truth width (is.sized n).truth
     in
     let m : MessageC w = about.0 in
-    let releasing : ((h.state.block n).pair c).letting ≡ ReleaseSent r =
-    first-release is.invariant tokens in
     delivered-c config h _ Release c n m sys.manager width
     (at_manager-matched is)
     (head_all (λ y. manager.IsSound config (record { 0 = c }, y)) x queue (sys.channels c Channel.C) beats
     (is.sound c Channel.C))
     (subst (λ (i : Message w). IsNext x (unfinished Channel.C (on_link c sys.manager.trace)) i ms queue) about.1 next)
-    (λ k before. release-order c k r rest is.invariant is.managed is.manager_kept tokens releasing about.2 before)
+    (λ k before. release-order c k r rest is.invariant is.managed is.manager_kept tokens
+    (first-release is.invariant tokens) about.2 before)
     (λ k all before up.
     let end : IsEnd false c n (prune_code r) (same_perm (prune_left r) Perm.Trunk) (h.state.block n).truth k m
     sys.manager =

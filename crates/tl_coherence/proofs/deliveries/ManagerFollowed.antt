@@ -26,8 +26,7 @@ client-of {w} config c ch x queue sys beats sound =
     }) o ≡ Some t) =
     elim [ None ↦ λ e. absurd cc | Some i ↦ λ e. (_, refl) ] in
     let all : All (λ y. manager.IsSound config (record { 0 = c }, y)) (x ∷ queue) = rw beats at sound in
-    let first : manager.IsSound config (record { 0 = c }, x) = all 0 x (omega arith) in
-    go (slice_get config.clients.items c) first.lawful
+    go (slice_get config.clients.items c) (all 0 x (omega arith)).lawful
 
 -- what the step is
 pub step-taken : {w : ℕ} (config : Config) (c : ℕ) (ch : Channel) (x : Beat w) (queue : List (Beat w)) (sys : System w)

@@ -125,10 +125,9 @@ at-manager {w} {config} {log} link ch h terms x queue width is known down beats 
         asked : (at : Channel) → packets_on at (h.state.link link.0) ≡ packet Request i ∷ rest → is_on at Request ≡ true
             → channel_of_message (h.mail.request link.0 i) ≡ at
         asked Channel.A e f =
-            let used = first-asked link.0 i rest h is.invariant e in
             request_channel config link.0 i (h.mail.request link.0 i)
-            (subst (λ (u : SourceState). IsSourced config link.0 i (h.mail.request link.0 i) u) used
-            (is.sourced link.0 i))
+            (subst (λ (u : SourceState). IsSourced config link.0 i (h.mail.request link.0 i) u)
+            (first-asked link.0 i rest h is.invariant e) (is.sourced link.0 i))
         asked at e f = absurd cc
     message_channel Answer i tokens own =
         let never : (at : Channel) → is_to_client at ≡ false → is_on at Answer ≡ true

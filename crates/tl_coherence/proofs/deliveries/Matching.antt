@@ -45,9 +45,8 @@ unfolding one_memory_after
 delivered-a {w} {config} {log} c h terms width is at =
     let sys : System w = system_after config log in
     let m : Machine w = one_memory_after config log in
-    let event : Event w = Deliver (record { 0 = c }) Channel.A in
-    let still = delivery-a h c terms (λ (step : Step w). moved event step.outcome m ≡ m) width is at
-    (λ e. refl) (λ x queue e waits. refl) (λ x queue e arrives moves. refl) in
+    let still = delivery-a h c terms (λ (step : Step w). moved (Deliver (record { 0 = c }) Channel.A) step.outcome m
+    ≡ m) width is at (λ e. refl) (λ x queue e waits. refl) (λ x queue e arrives moves. refl) in
     record {
       carried = carried-delivered_a h c terms width is at;
       beside = beside-delivered_a h c terms width is at (subst (MemoryRelation h.mail h.state) (sym still) is.beside);

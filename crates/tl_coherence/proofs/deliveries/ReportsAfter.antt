@@ -140,14 +140,13 @@ beside-followed_c {w} {config} {log} h {sys} c x queue {m} width is beats beside
     reported n rest tokens =
         let b : Block (List ℕ) = h.state.block n in
         let r : Report = report_told (b.pair c).probing in
-        let answered = first-report is.invariant tokens in
         subst (λ (l : List (ℕ × ℕ)). MemoryRelation (kind_taken config (next_tracker sys) c ProbeAck n rest h).mail
         (kind_taken config (next_tracker sys) c ProbeAck n rest h).state (performing l m))
         (sym (report-answered config c n r rest h (is.served.requests n)))
-        (beside-report config c n r rest h is.invariant answered
+        (beside-report config c n r rest h is.invariant (first-report is.invariant tokens)
         (settled_all (length config.clients.items) (is_caching config) c b.pair (plain-past config)
-        (is.invariant.blocks n).outside) (waiting-one h n b.service width is beside refl (is.served.requests n)
-        (is.served_with n)) beside)
+        (is.invariant.blocks n).outside)
+        (waiting-one h n b.service width is beside refl (is.served.requests n) (is.served_with n)) beside)
 
     released : (n : ℕ) (rest : List Packet)
         → MemoryRelation (kind_taken config (next_tracker sys) c Release n rest h).mail

@@ -196,10 +196,8 @@ pub flowed-let_go : {w : ℕ} {X : Type 0} {c n : ℕ} {y : BeatD w} {asked aske
 flowed-let_go {w} {X} {c} {n} {y} {asked} {asked'} {rest} {rest'} {s} {s'} {t} first_is last_is rests named is before =
     let of_block = is_of-is n (s.lets c y.source) (named y.source n
     ∙ rw (is.letting, is.source) (same_number (b.release_source c))) in
-    let was_let : pending (ReleaseSource y.source) t ≡ true = cc (before.release_sources y.source, of_block, is.letting)
-    in
-    let names : (m : ℕ) → releases m (release_of y.source t) ≡ (n == m) =
-    λ m. of_releases n m (release_of y.source t) (before.released y.source n of_block was_let) in
+    let names : (m : ℕ) → releases m (release_of y.source t) ≡ (n == m) = λ m. of_releases n m (release_of y.source t)
+    (before.released y.source n of_block (cc (before.release_sources y.source, of_block, is.letting))) in
     let releases_at = each-block (λ m z. let_of c (rest Channel.C) z ≡ step true true false
     (is_release_ack y.opcode && releases m (release_of y.source t)) (let_of c (rest Channel.C) (s.block m))) n s s'
     is.elsewhere (ap (is_release_pending ((s'.block n).release_source c) (rest Channel.C)) is.letting_is
@@ -276,8 +274,7 @@ flowed-let_go {w} {X} {c} {n} {y} {asked} {asked'} {rest} {rest'} {s} {s'} {t} f
     other_source : (i m : ℕ) → s.lets c i ≡ Some m → (y.source == i) ≡ false → m ≡ n → ⊥
     other_source i m e f same =
         let g : is_of n (s.lets c i) ≡ true = rw (e, same) (same_number n) in
-        let h : releases_with c i b ≡ true = sym (named i n) ∙ g in
-        let k : (i == b.release_source c) ≡ true = sym (rw is.letting refl) ∙ h in
+        let k : (i == b.release_source c) ≡ true = sym (rw is.letting refl) ∙ (sym (named i n) ∙ g) in
         let l : (y.source == i) ≡ true =
         rw (is.source, eqb-true i (b.release_source c) k) (same_number (b.release_source c)) in
         let u : true ≡ false = sym l ∙ f in cc

@@ -157,11 +157,10 @@ module _ {w : ℕ} {X : Type 0} (d : ℕ) (asked asked' : ℕ → Option (BeatA 
       → (s.block n).service ≡ Free → is_answered ((s.block n).pair d).probing ≡ false → s.tracked tracker ≡ None
       → IsLeft (acquire_granted r n tracker x k toks s)
   left-acquire_granted r n tracker x k toks ne free quiet unused =
-      let new : Block X = granted_at_once r tracker x k (s.block n) in
       apart-at n (acquire_granted r n tracker x k toks s) (λ m. refl)
       (same-granted_at_once d r tracker x k (s.block n) ne free quiet) (λ i. inl refl) (λ i. refl)
-      (sinks-outside n new (acquire_granted r n tracker x k toks s) (λ m. refl) (free-outside n free)
-      (outside-sent d r x k ne) (tracked-new n tracker s.tracked unused))
+      (sinks-outside n (granted_at_once r tracker x k (s.block n)) (acquire_granted r n tracker x k toks s) (λ m. refl)
+      (free-outside n free) (outside-sent d r x k ne) (tracked-new n tracker s.tracked unused))
 
   -- ---- Probes, ProbeAcks and Releases
 

@@ -153,8 +153,6 @@ flowed-grant {w} {X} {c} {n} {d} {k} {y} {first} {last} {asked} {asked'} {rest} 
       is.granted m,
       and_right (not first) (n == m) (ne_eqb n m (λ e. ne (sym e))),
     ) in
-    let let_same : (m : ℕ) → let_of c (rest Channel.C) (s'.block m) ≡ let_of c (rest Channel.C) (s.block m) =
-    part-block (let_of c (rest Channel.C)) n s s' is.elsewhere (rw (is.release_source, is.letting_is) refl) in
     flowed-next (record {
       first_is = first_is;
       last_is = last_is;
@@ -178,7 +176,8 @@ flowed-grant {w} {X} {c} {n} {d} {k} {y} {first} {last} {asked} {asked'} {rest} 
           (sym (is.lets i) ∙ e) (before.release_sources i ∙ sym (lets i) ∙ f);
       sizes = λ i m e f. ap (option_map (λ z. z.size)) (release_of-d i y t) ∙ before.sizes i m (sym (is.lets i) ∙ e)
           (before.release_sources i ∙ sym (lets i) ∙ f);
-      releases = λ m. ap (λ (l : List (Beat w)). let_of c l (s'.block m)) (rests Channel.C) ∙ let_same m
+      releases = λ m. ap (λ (l : List (Beat w)). let_of c l (s'.block m)) (rests Channel.C)
+          ∙ (part-block (let_of c (rest Channel.C)) n s s' is.elsewhere (rw (is.release_source, is.letting_is) refl)) m
           ∙ sym (unclosed first last (is_release_ack y.opcode) (releases m (release_of y.source t))
           (let_of c (rest Channel.C) (s.block m)) is.ack);
       sinks = λ i. ap (λ (o : Option ℕ). is_sunk c i (rest' Channel.D) o s') (is.tracked i) ∙ sinks i (y.sink == i)
@@ -265,13 +264,12 @@ flowed-grant {w} {X} {c} {n} {d} {k} {y} {first} {last} {asked} {asked'} {rest} 
         ≡ step first last (is_grant y.opcode && (y.sink == i)) false (is_sunk c i (rest Channel.D) o s)
     sinks i true o e f =
         let at_n : o ≡ Some n = sym f ∙ is.tracks i e in
-        let then_sunk : is_sunk c i (rest Channel.D) o s ≡ not first =
-        cc (at_n, is.seen, is.came i, with_true (not first) (y.sink == i) e) in
         cc (
           at_n,
           now_sunk last d k (view new.service c) (comes_in_grant i (rest' Channel.D)) is.seen_is (is.comes i
               ∙ with_true (not last) (y.sink == i) e),
-          opened first last (is_grant y.opcode) (y.sink == i) (is_sunk c i (rest Channel.D) o s) is.grant e then_sunk,
+          opened first last (is_grant y.opcode) (y.sink == i) (is_sunk c i (rest Channel.D) o s) is.grant e
+              (cc (at_n, is.seen, is.came i, with_true (not first) (y.sink == i) e)),
         )
     sinks i false None e f =
         sym (unbegun first last (is_grant y.opcode && (y.sink == i)) false

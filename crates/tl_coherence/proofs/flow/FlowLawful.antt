@@ -93,16 +93,14 @@ unfolding block_message
 release-lawful {w} {config} {log} {mail} {s} {sys} c n toks l {x} {ms} {queue} width is flowed lawful tokens next =
     let rest : List (Beat w) = unfinished Channel.C (on_link c sys.manager.trace) in
     let about = release-about r (b.release_source c) n b.truth width (is.sized n).truth in
-    let m : MessageC w = about.0 in
     let used = is_of-is n (s.lets c (b.release_source c)) (is.invariant.named.releases c (b.release_source c) n
     ∙ rw (releasing, same_number (b.release_source c)) refl) in
-    let fits = release_begins r (b.pair c) (view b.service c) ok_is releasing
-    (unanswered (is_caching config) c n toks s is.invariant tokens) in
     next-flows l config.profile (flow c log) lawful
     (subst (λ (i : Message w). IsNext x rest i ms queue) about.1 next) ((flowed c).rest_is Channel.C)
-    (λ none. release-flows config.profile n r (c_beat_of m 0)
-    (flowed c) none about.2.releases about.2.block about.2.param_is
-    (ap (s.lets c) about.3 ∙ used) releasing (calm (b.pair c).acquiring refl) (ungranted (view b.service c) refl) fits)
+    (λ none. release-flows config.profile n r (c_beat_of about.0 0)
+    (flowed c) none about.2.releases about.2.block about.2.param_is (ap (s.lets c) about.3 ∙ used) releasing
+    (calm (b.pair c).acquiring refl) (ungranted (view b.service c) refl) (release_begins r (b.pair c)
+    (view b.service c) ok_is releasing (unanswered (is_caching config) c n toks s is.invariant tokens)))
   where
     b : Block (List ℕ)
     b = s.block n
@@ -123,9 +121,8 @@ release-lawful {w} {config} {log} {mail} {s} {sys} c n toks l {x} {ms} {queue} w
 
     ungranted : (v : View) → view b.service c ≡ v → is_granting v ≡ false
     ungranted (Granting d k) f =
-        let alone = granting_alone d k (b.pair c) (view b.service c) ok_is f in
-        let held_back : is_unreleased (b.pair c).letting ≡ true =
-        and_left (is_unreleased (b.pair c).letting) _ (and_right (is_unprobed (b.pair c).probing) _ alone) in
+        let held_back : is_unreleased (b.pair c).letting ≡ true = and_left (is_unreleased (b.pair c).letting) _
+        (and_right (is_unprobed (b.pair c).probing) _ (granting_alone d k (b.pair c) (view b.service c) ok_is f)) in
         absurd (let no : false ≡ true = rw releasing at held_back in cc)
     ungranted v f = refl
 

@@ -28,9 +28,8 @@ pub request-flows : {w : ℕ} {X : Type 0} (p : Profile) {c : ℕ} (x : BeatA w)
     ≡ None
 unfolding broken_order
 request-flows {w} p x {t} flowed whole plain used =
-    let none : unfinished Channel.A t ≡ [] = flowed.rest_is Channel.A ∙ whole in
     let free : pending (Key.RequestSource x.source) t ≡ false = cc (flowed.requests x.source, used, whole) in
-    rw (none, plain, free) refl
+    rw (flowed.rest_is Channel.A ∙ whole, plain, free) refl
 
 pub acquire-flows : {w : ℕ} {X : Type 0} (p : Profile) {c : ℕ} (n : ℕ) (x : BeatA w) {asked : ℕ → Option (BeatA w)}
     {rest : Channel → List (Beat w)} {s : State X} {t : History w} → MonitorRelation asked rest c s t
@@ -58,11 +57,8 @@ pub probe-flows : {w : ℕ} {X : Type 0} (p : Profile) {c : ℕ} (n : ℕ) (x : 
     → broken_in_order p (Beat.B x) t ≡ None
 unfolding broken_order
 probe-flows {w} p n x {t} flowed whole block unanswered open_ none_comes =
-    let none : unfinished Channel.B t ≡ [] = flowed.rest_is Channel.B ∙ whole in
-    let probes : pending (Key.ProbeOf n) t ≡ false = flowed.probes n ∙ unanswered in
-    let grants : pending (Key.GrantAckOf n) t ≡ false = cc (flowed.grants n, open_, none_comes) in
-    rw (none, block) (unprobed (is_probe x.opcode) (pending (Key.ProbeOf n) t) (pending (Key.GrantAckOf n) t) probes
-    grants)
+    rw (flowed.rest_is Channel.B ∙ whole, block) (unprobed (is_probe x.opcode) (pending (Key.ProbeOf n) t)
+    (pending (Key.GrantAckOf n) t) (flowed.probes n ∙ unanswered) (cc (flowed.grants n, open_, none_comes)))
 
 -- ---- channel C
 
@@ -116,10 +112,9 @@ pub grant_ack-flows : {w : ℕ} {X : Type 0} (p : Profile) {c : ℕ} (n : ℕ) (
     → comes_in_grant x.sink (rest Channel.D) ≡ false → broken_in_order p (Beat.E x) t ≡ None
 unfolding broken_order
 grant_ack-flows {w} p n x {t} flowed whole tracked acknowledging none_comes =
-    let none : unfinished Channel.E t ≡ [] = flowed.rest_is Channel.E ∙ whole in
     let sunk : pending (Key.GrantSink x.sink) t ≡ true = cc (flowed.sinks x.sink, tracked, acknowledging) in
     let apart : comes_in_grant x.sink (unfinished Channel.D t) ≡ false = cc (flowed.rest_is Channel.D, none_comes) in
-    rw (none, sunk, apart) refl
+    rw (flowed.rest_is Channel.E ∙ whole, sunk, apart) refl
 
 -- ---- each beat of a message
 

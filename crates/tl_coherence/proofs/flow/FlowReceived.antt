@@ -51,14 +51,13 @@ unfolding with_messages
 moved-to_manager {w} {config} {log} link ch h terms x queue width is known down beats moving =
     let at = at-manager link ch h terms x queue width is known down beats moving in
     let e : manager_end.End w = manager_offer.taken link x (reaction config link x sys.manager) sys.manager in
-    let base : System w = with_manager e (with_channel link.0 ch queue sys) in
     record {
       first = at.first;
       on_ch = at.on_it;
       delivered = λ d. cc (at.step_is, flow_moved link ch (Outcome.Moved x) x log d refl);
       rests = λ d i. cc (
         at.step_is,
-        receiver_handed handed base d i,
+        receiver_handed handed (with_manager e (with_channel link.0 ch queue sys)) d i,
         (landed-manager link.0 ch x queue (λ k j. None) [] e
             sys down at.beats at.on_it at.heard (λ k j. refl)).rests d i,
       );

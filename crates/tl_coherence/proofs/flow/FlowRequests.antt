@@ -56,12 +56,11 @@ acquire-lawful {w} {config} {log} {mail} {request} {s} {sys} {c} {n} l {x} {ms} 
 
     free : (s.block n).service ≡ Free
     free =
-        let one = acquisition_beats w wanted.whole wanted.grow ((s.block n).source c) n in
         let moves_so : must_wait config (record { 0 = c }) (Beat.A (a_beat_of m next.k)) sys.manager.trace ≡ false =
         rw next.beat_is at moves in
         let ended : ends (Beat.A (a_beat_of m next.k)) (on_link c sys.manager.trace) ≡ true =
-        ends-burst c next.k m sys.manager next.rest_is
-        ∙ is_last next.k (beats_of (Message.A m)) (omega (arith, next.within, one)) in
+        ends-burst c next.k m sys.manager next.rest_is ∙ is_last next.k (beats_of (Message.A m))
+        (omega (arith, next.within, acquisition_beats w wanted.whole wanted.grow ((s.block n).source c) n)) in
         let free_at = unserved-free (block_at m.address) is.managed
         (or_parts (is_in_service (block_at m.address) (services sys.manager.trace))
         (nat_le config.trackers (length (services sys.manager.trace))) (rw ended at moves_so)).0 in

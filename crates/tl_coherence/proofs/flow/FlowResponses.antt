@@ -61,9 +61,8 @@ none_of w = []
 pub grant_quiet : {caching : ℕ → Bool} {c n : ℕ} {s : State (List ℕ)} → IsInvariant caching s → (due : IsGrantDue c n s)
     → is_answered ((s.block n).pair c).probing ≡ false
 grant_quiet {c} {n} {s} inv due =
-    let mine = own_view c due.data_too due.k (s.block n).service due.service in
     let alone = granting_alone due.data_too due.k ((s.block n).pair c) (view (s.block n).service c)
-    ((inv.blocks n).phases c) mine in
+    ((inv.blocks n).phases c) (own_view c due.data_too due.k (s.block n).service due.service) in
     quiet_unanswered ((s.block n).pair c).probing (and_left _ _ alone)
 
 -- the tracker of a Grant is of its block

@@ -74,13 +74,11 @@ unfolding is_legal
 delivered-unbroken {w} config log link ch o x given moving flowing =
     let whole : Log w = (Deliver link ch, o) ∷ log in
     let is = levelled config log link ch o given moving in
-    let legal : is_legal is.level config.profile (x ∷ flow link.0 log) ≡ true =
-    subst (λ (t : History w). is_legal is.level config.profile t ≡ true) flowing
-    (flows given link.0 is.level is.of_link) in
     ap (λ (l : Option Level). broken_at_level l config.profile x (on_link link.0 (trace_of log))) is.in_levels
     ∙ ap (λ (t : History w). broken_after is.level config.profile x t) (trace-flows link.0 log)
     ∙ unbroken (broken_after is.level config.profile x (flow link.0 log))
-    (is_legal is.level config.profile (flow link.0 log)) legal
+    (is_legal is.level config.profile (flow link.0 log)) (subst
+    (λ (t : History w). is_legal is.level config.profile t ≡ true) flowing (flows given link.0 is.level is.of_link))
 
 -- ---- nor does any
 
@@ -100,9 +98,8 @@ no-fault : {w : ℕ} (levels : List Level) (p : Profile) (before trace : Trace w
 unfolding AreGood fault_from
 no-fault levels p before [] good = refl
 no-fault {w} levels p before (x ∷ trace) good =
-    let turned : reverse (x ∷ trace) ++ before ≡ reverse trace ++ (x ∷ before) =
-    ap (λ (t : Trace w). t ++ before) (reverse-append (x ∷ []) trace) ∙ append_assoc (reverse trace) (x ∷ []) before in
-    let all : AreGood levels p (reverse trace ++ (x ∷ before)) = subst (AreGood levels p) turned good in
+    let all : AreGood levels p (reverse trace ++ (x ∷ before)) = subst (AreGood levels p) (ap (λ (t : Trace w). t
+    ++ before) (reverse-append (x ∷ []) trace) ∙ append_assoc (reverse trace) (x ∷ []) before) good in
     rw (older-good levels p (reverse trace) (x ∷ before) all).0 (no-fault levels p (x ∷ before) trace all)
 
 all-good : {w : ℕ} {config : Config} (log : Log w) → IsGiven config log

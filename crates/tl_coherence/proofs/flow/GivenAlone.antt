@@ -54,13 +54,12 @@ given-next : {w : ℕ} {config : Config} {log : Log w} → IsGiven config log �
 given-next {w} {config} {log} given c y queue beats n other granted ne =
     let seen : view b.service c ≡ Granting due.data_too due.k = own_view c due.data_too due.k b.service due.service in
     let gives : capped y.param ≡ cap_right due.k = cc (grant.beat_is, cap-gives due.k) in
-    let holds : held n (flow other log) ≡ (b.pair other).recorded =
-    (values other).held_is n ∙ (rw (other_view c other due.data_too due.k b.service due.service ne) refl) in
     let even : (b.pair c).recorded ≡ cap_right due.k = sym (same_perms (b.pair c).recorded (cap_right due.k) (and_right
     (is_unreleased (b.pair c).letting) _ (and_right (is_unprobed (b.pair c).probing) _ (granting_alone due.data_too
     due.k (b.pair c) (view b.service c) ((is.invariant.blocks n).phases c) seen)))) in
     subst (λ (p : Perm). leaves p (held n (flow other log)) ≡ true) (sym gives)
-    (subst (λ (p : Perm). leaves (cap_right due.k) p ≡ true) (sym holds)
+    (subst (λ (p : Perm). leaves (cap_right due.k) p ≡ true)
+    (sym ((values other).held_is n ∙ (rw (other_view c other due.data_too due.k b.service due.service ne) refl)))
     (left (cap_right due.k) (b.pair other).recorded even refl))
   where
     h : AbstractState w
@@ -115,8 +114,7 @@ given-moved config log given c (Beat.E y) queue beats = tt
 
 one-writer : {w : ℕ} {config : Config} {log : Log w} → IsGiven config log → IsOneWriter (trace_of log)
 one-writer {w} {config} {log} given one other n ne trunk =
-    let h : AbstractState w = shadow config log in
-    let b : Block (List ℕ) = h.state.block n in
+    let b : Block (List ℕ) = (shadow config log).state.block n in
     let at = matched-given config log given in
     let values : (c : ℕ) → held n (flow c log) ≡ held_by c b =
     λ c. (flowed config log given.width given.typed given.is_log c).held_is n in

@@ -17,10 +17,9 @@ true-next : {w : ℕ} {config : Config} {log : Log w} → IsGiven config log →
     → (bytes : List ℕ) × IsBlock (one_memory_after config log).memory (block_at y.address) bytes
     × (y.lanes ≡ lanes_at true w bytes (length (unfinished Channel.C (flow c log))))
 true-next {w} {config} {log} given c y queue beats with_data =
-    let values = flowed config log given.width given.typed given.is_log in
     let place : (m : Message w) (k : ℕ) → unfinished Channel.C (on_link c (system_after config log).manager.trace)
-    ≡ begun m k → k ≡ length (unfinished Channel.C (flow c log)) =
-    λ m k e. sym (ap length ((values c).rest_is Channel.C ∙ e) ∙ length-begun m k) in
+    ≡ begun m k → k ≡ length (unfinished Channel.C (flow c log)) = λ m k e. sym (ap length
+    (((flowed config log given.width given.typed given.is_log) c).rest_is Channel.C ∙ e) ∙ length-begun m k) in
     by-first_c (λ i. True) c h.mail h.state (system_after config log) (Beat.C y) queue
     (first-token (is_caching config) Channel.C c h.mail h.state (system_after config log) (Beat.C y) queue given.width
     is.invariant is.carried beats)

@@ -40,14 +40,13 @@ module _ {w : ℕ} {config : Config} {log : Log w} (given : IsGiven config log) 
   pub first-in_range : AreRanged log → IsInRange x
   first-in_range ranged =
       let few = limits config given.fits in
-      let sound = sound-beat c ch x queue is beats in
       let lanes : AreLanes x =
       All-head AreLanes x queue (subst (λ (l : List (Beat w)). All AreLanes l) beats (is.typed c ch)) in
       let bounds = matched-bounded config log (shadow config log).mail (shadow config log).request
       (shadow config log).state (system_after config log) is c (sources-own config log c given.width) in
       subst IsInRange (sym first.next.beat_is)
-      (ranged-beat config.blocks _ first.next.k few.1
-      (ap (λ (y : Beat w). is_outside config.blocks y) (sym first.next.beat_is) ∙ sound.inside)
+      (ranged-beat config.blocks _ first.next.k few.1 (ap (λ (y : Beat w). is_outside config.blocks y)
+      (sym first.next.beat_is) ∙ (sound-beat c ch x queue is beats).inside)
       (subst AreLanes first.next.beat_is lanes) (first-ranged is (remembered-ranged config log ranged) bounds
       (few-sources config c given.fits) few.2 ch first.kind first.number first.rest first.own first.tokens))
 

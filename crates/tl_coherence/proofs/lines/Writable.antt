@@ -83,9 +83,7 @@ record Keeps {w : ℕ} (l : Level) (x : Beat w) : Type 0 where
 keeps : {w : ℕ} (l : Level) (ch : Channel) (x : Beat w) → illegal l ch x ≡ None → Keeps l x
 unfolding illegal
 keeps l ch x e =
-    let one = next_rule (breaks_l1 l ch x) L1 _ e in
-    let seven = next_rule (breaks_l7 x) L7 _ one.1 in
-    let two = next_rule (breaks_l2 x) L2 _ seven.1 in
+    let two = next_rule (breaks_l2 x) L2 _ (next_rule (breaks_l7 x) L7 _ (next_rule (breaks_l1 l ch x) L1 _ e).1).1 in
     let three = next_rule (breaks_l3 l x) L3 _ two.1 in
     record { two = two.0; three = three.0 }
 
@@ -101,8 +99,7 @@ roomy {w} l ch (B x) width mask e =
     let both = and_parts (is_some (cap_of x.param)) (x.source == 0)
     (not-false (is_some (cap_of x.param) && (x.source == 0)) k.two) in
     let param : x.param < 4 = below x.param 4 (is_some (cap_of x.param)) (cap-large x.param) both.0 in
-    let is : x.size ≡ 6 = eqb-true x.size 6 (not-false (x.size == 6) k.three) in
-    (omega arith, omega (arith, is), mask)
+    (omega arith, omega (arith, eqb-true x.size 6 (not-false (x.size == 6) k.three)), mask)
 roomy {w} l ch (C x) width mask e =
     let k = keeps l ch (C x) e in
     let both = and_parts (c_has_param x.opcode x.param) (c_has_source x.opcode x.source)
@@ -110,9 +107,8 @@ roomy {w} l ch (C x) width mask e =
     let is : x.size ≡ 6 = eqb-true x.size 6 (not-false (x.size == 6) k.three) in
     (below x.param 8 (c_has_param x.opcode x.param) (c-large x.opcode x.param) both.0, omega (arith, is))
 roomy {w} l ch (D x) width mask e =
-    let k = keeps l ch (D x) e in
     let both = and_parts (d_has_param x.opcode x.param) (d_has_sink x.opcode x.sink)
-    (not-false (d_has_param x.opcode x.param && d_has_sink x.opcode x.sink) k.two) in
+    (not-false (d_has_param x.opcode x.param && d_has_sink x.opcode x.sink) (keeps l ch (D x) e).two) in
     let size = response-small l ch x width e in
     (below x.param 4 (d_has_param x.opcode x.param) (d-large x.opcode x.param) both.0, omega (arith, size))
 roomy l ch (E x) width mask e = tt

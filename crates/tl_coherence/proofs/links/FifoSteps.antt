@@ -178,9 +178,7 @@ heard_here {w} c ch x queue p q f d at sent on first is =
           (λ e. ap (q c) (same_channel-is at ch e) ∙ first) (rw here at is.0))
       | inr other ↦ rw (heard_history c ch x p d at on, ne_eqb d c other, ne_eqb c d (λ e. other (sym e))) is.0
     ] in
-    let same : carried_on at (heard_at c x p d) ≡ carried_on at (heard_at c x f d) =
-    cc (heard_history c ch x p d at on, is.1, heard_history c ch x f d at on) in
-    (order, same)
+    (order, cc (heard_history c ch x p d at on, is.1, heard_history c ch x f d at on))
 
 unheard : {w : ℕ} (c : ℕ) (ch : Channel) (x : Beat w) (p : ℕ → History w) (d : ℕ) (at : Channel) → IsOn ch x
     → same_channel at ch ≡ false → carried_on at (heard_at c x p d) ≡ carried_on at (p d)

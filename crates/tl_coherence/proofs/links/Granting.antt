@@ -123,23 +123,20 @@ granted-holds {w} {config} {log} link ch h x source p op width is done asked = g
         let m : MessageD w = grant_message due.data_too due.k ((h.state.block n).source c) (h.state.block n).tracker
         (h.state.block n).truth in
         let same = same-response end.response m (sym (response_is Grant e) ∙ grant-rendered c n h.state due) in
-        let cap_is : p ≡ cap_right due.k = same_grant p (cap_right due.k)
-        (end.finish_is ∙ granted-at (d_beat_of end.response end.first.next.k) (sys.clients c) due.data_too due.k
-        (ap (λ (i : MessageD w). i.opcode) same) (ap (λ (i : MessageD w). i.param) same)) in
-        let from : source ≡ (h.state.block n).source c = end.source_is ∙ ap (λ (i : MessageD w). i.source) same in
         let opened = opened-acquire config log h sys c source n (h.state.uses c source) is refl
-        (ap (h.state.uses c) from ∙ due.used) in
+        (ap (h.state.uses c) (end.source_is ∙ ap (λ (i : MessageD w). i.source) same) ∙ due.used) in
         let op_is = same_op op _ (sym asked ∙ sym (opened-started config log c Requests source)
         ∙ ap (λ (o : Option (Open w)). option_map (λ i. i.asked) o) opened) in
-        let block_is : op_block op ≡ n = ap op_block op_is ∙ acquired_block w ((h.state.block n).pair c).acquiring n
-        ((h.state.block n).waiting c) in
         ap (λ (i : ℕ). held i ((stepped config (Deliver link ch) sys).after.clients c).past)
-        block_is ∙ ((matched-event h (Deliver link ch) width tt is).known c).held_is n
+        (ap op_block op_is ∙ acquired_block w ((h.state.block n).pair c).acquiring n ((h.state.block n).waiting c))
+        ∙ ((matched-event h (Deliver link ch) width tt is).known c).held_is n
         ∙ ap (λ (at : Channel). (((abstract_step config (Deliver link at) sys h).state.block n).pair c).held) end.on_d
         ∙ ap (λ (i : AbstractState w). ((i.state.block n).pair c).held) end.follows ∙ ap
         (λ (k : Kind). (((kind_taken config (next_tracker sys) c k n end.first.rest h).state.block n).pair c).held)
         e
-        ∙ held_granted config (next_tracker sys) end.first.rest h due ∙ sym cap_is
+        ∙ held_granted config (next_tracker sys) end.first.rest h due ∙ sym (same_grant p (cap_right due.k)
+        (end.finish_is ∙ granted-at (d_beat_of end.response end.first.next.k) (sys.clients c) due.data_too due.k
+        (ap (λ (i : MessageD w). i.opcode) same) (ap (λ (i : MessageD w). i.param) same)))
 
     go : (k : Kind) → end.first.kind ≡ k → is_on Channel.D end.first.kind ≡ true
         → held (op_block op) ((stepped config (Deliver link ch) sys).after.clients c).past ≡ p
@@ -152,7 +149,6 @@ granted-holds {w} {config} {log} link ch h x source p op width is done asked = g
         (ap (λ (i : MessageD w). is_access_answer i.opcode) same ∙ due.answers_access) end.finish_is)
     go ReleaseAck e own =
         let m : MessageD w = ack_message ((h.state.block n).release_source c) in
-        let same : end.response ≡ m = same-response end.response m (sym (response_is ReleaseAck e)) in
         absurd (ack_grants p (end.finish_is ∙ released-at (d_beat_of end.response end.first.next.k) (sys.clients c)
-        (ap (λ (i : MessageD w). i.opcode) same)))
+        (ap (λ (i : MessageD w). i.opcode) (same-response end.response m (sym (response_is ReleaseAck e))))))
     go k e own = absurd (let f : false ≡ true = rw e at own in cc)

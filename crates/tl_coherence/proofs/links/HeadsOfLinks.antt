@@ -70,9 +70,8 @@ on_d {w} {config} h {sys} c x queue width is beats = go first.kind first.number 
         let due = answer-due (is_caching config) c i first.rest h.mail h.state is.invariant (is.answered c i) tokens in
         ap (λ (y : Beat w). channel_of y) (next.beat_is ∙ ap (λ (m : Message w). beat_of m next.k) due.answer_is)
     go Grant n tokens own next =
-        let due = grant-due (is_caching config) c n first.rest h.state is.invariant tokens in
         ap (λ (y : Beat w). channel_of y) (next.beat_is ∙ ap (λ (m : Message w). beat_of m next.k)
-        (grant-rendered c n h.state due))
+        (grant-rendered c n h.state (grant-due (is_caching config) c n first.rest h.state is.invariant tokens)))
     go ReleaseAck n tokens own next = ap (λ (y : Beat w). channel_of y) next.beat_is
     go k i tokens own next = absurd cc
 
@@ -142,9 +141,8 @@ first-of {w} config log h c terms Channel.B x queue width is at beats =
     either false e = taken_up (offered terms Channel.B x (sys.clients c)) (silent Verdict.Stalled (sys.clients c))
         (probed.1.waits_for e) tt
 first-of {w} config log h c terms Channel.C x queue width is at beats =
-    let sys : System w = system_after config log in
     let on = on_c h c x queue width is beats in
-    let d = channel_c-delivered (next_tracker sys) h c x queue width is beats in
+    let d = channel_c-delivered (next_tracker (system_after config log)) h c x queue width is beats in
     record {
       on = on;
       taken = (λ e. absurd cc, λ e. taken_in _ _ d.up.answer tt);
@@ -164,9 +162,8 @@ first-of {w} config log h c terms Channel.D x queue width is at beats =
       probes = λ y e. not_probe x y Channel.D on (λ f. absurd cc) e;
     }
 first-of {w} config log h c terms Channel.E x queue width is at beats =
-    let sys : System w = system_after config log in
     let on = on_e h c x queue width is beats in
-    let d = channel_e-delivered (next_tracker sys) h c x queue width is beats in
+    let d = channel_e-delivered (next_tracker (system_after config log)) h c x queue width is beats in
     record {
       on = on;
       taken = (λ e. absurd cc, λ e. taken_in _ _ d.up.answer tt);

@@ -104,9 +104,8 @@ module _ {w : ℕ} {config : Config} {log : Log w} {mail : AccessMessages w} {re
       go (Some m) e (p, opened) =
           let asked : option_map (λ x. x.asked) ((one_memory_after config log).opened c Releases source) ≡ Some
           (Release m p) = rw opened refl in
-          let same : m ≡ n = same_release m p _ _ asked asked_is refl in
-          let named : releases_with c source (s.block n) ≡ true =
-          sym (matched.invariant.named.releases c source n) ∙ (rw (e ∙ ap (λ (i : ℕ). Some i) same) (same_number n)) in
+          let named : releases_with c source (s.block n) ≡ true = sym (matched.invariant.named.releases c source n)
+          ∙ (rw (e ∙ ap (λ (i : ℕ). Some i) (same_release m p _ _ asked asked_is refl)) (same_number n)) in
           (matched.known c).releases n ∙ and_left (not (is_unreleased ((s.block n).pair c).letting)) _ named
 
 -- ---- deliveries
@@ -194,9 +193,7 @@ module _ {w : ℕ} {config : Config} {log : Log w} {mail : AccessMessages w} {re
       let there : is_movable config c Channel.B (system_after config log) ≡ false
       → IsReleasing c (block_at y.address) log = λ h. releasing-started matched coherent c
       (block_at y.address) (not-false _ (sym waits ∙ h)) in
-      let back : IsReleasing c (block_at y.address) log → is_movable config c Channel.B (system_after config log)
-      ≡ false = λ h. waits ∙ ap not (started-releasing matched coherent c (block_at y.address) h) in
-      (there, back)
+      (there, (λ h. waits ∙ ap not (started-releasing matched coherent c (block_at y.address) h)))
   moves-exactly ch x rest e first = absurd (let on = first.on in cc)
 
   pub exact : (ch : Channel) → ((x : Beat w) (rest : List (Beat w)) → (system_after config log).channels c ch ≡ x ∷ rest

@@ -69,8 +69,7 @@ release-comes {w} {mail} {s} {sys} c n is kept = go (s.link c).c refl
     kinds Release x xs e f i =
         rw f (release_comes w (prune_told ((s.block x.number).pair c).letting) ((s.block x.number).release_source c)
         x.number n i (s.block x.number).truth (λ same.
-        let first : (s.link c).c ≡ packet Release x.number ∷ xs = e ∙ ap (λ (k : Kind). packet k x.number ∷ xs) f in
-        let shows = first-shown is.invariant c Release refl first in
+        let shows = first-shown is.invariant c Release refl (e ∙ ap (λ (k : Kind). packet k x.number ∷ xs) f) in
         let no : true ≡ false = sym shows ∙ ap (λ j. is_releasing ((s.block j).pair c).letting) same ∙ kept in
         cc))
     kinds k x xs e f i =

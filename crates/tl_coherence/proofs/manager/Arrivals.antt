@@ -99,12 +99,10 @@ payload-from : (from w : ℕ) (payload : List ℕ) → 0 < w → from + w ≤ 64
 payload-from from w payload some room lanes blank =
     let none : ℕ = 0 in
     let cut = length-take (from + w - from) (drop from payload) in
-    let dropped = length-drop from payload in
-    let rest = length-drop (from + w) payload in
     let zeros = length-replicate (64 - (from + w)) none in
     let total : length (drop (from + w) payload) ≡ length (replicate (64 - (from + w)) none) = ap length blank in
     let few : min (from + w - from) (length (drop from payload)) ≤ length (drop from payload) = omega arith in
-    omega (arith, cut, dropped, rest, zeros, total, room, lanes, few, some)
+    omega (arith, cut, length-drop from payload, length-drop (from + w) payload, zeros, total, room, lanes, few, some)
 
 payload-length : (w k n : ℕ) (carries : Bool) (payload : List ℕ) → 0 < w → n ≡ suc k → w * n ≤ 64
     → IfSome (lanes_at carries w payload k) (λ lanes. length lanes ≡ w)
@@ -114,9 +112,8 @@ payload-length w k n true payload some last room lanes blank =
     payload-from (w * k) w payload some (rw whole at room) lanes (rw whole at blank)
 payload-length w k n false payload some last room lanes blank =
     let none : ℕ = 0 in
-    let zeros = length-replicate 64 none in
     let total : length payload ≡ length (replicate 64 none) = ap length blank in
-    omega (arith, zeros, total)
+    omega (arith, length-replicate 64 none, total)
 
 pub request-filled : {w : ℕ} (m : MessageA w) (k : ℕ) → IsWidth w → beats_of (A m) ≡ suc k
     → IsTyped (Beat.A (a_beat_of m k)) → IsBlankAfter (beats_of (A m)) (A m) → length m.payload ≡ 64
@@ -175,7 +172,6 @@ pub ready-last : {w : ℕ} {config : Config} {c k : ℕ} {m : MessageA w} {e : E
 ready-last {w} {config} {c} {k} {m} {e} is last =
     let served = served-last is last in
     let found = made (link_of c) (a_beat_of m k) e.trace served.last (le-leb m.size 6 m.small) in
-    let same = some_is (service_made (link_of c) (a_beat_of m k) e.trace found.0) (service_for c m e.trace)
-    (sym found.1.made ∙ served.made) in
-    subst (λ (v : Service w). IsReady config (block_at m.address) v (with_beat c m k e.trace)) same
+    subst (λ (v : Service w). IsReady config (block_at m.address) v (with_beat c m k e.trace)) (some_is (service_made
+    (link_of c) (a_beat_of m k) e.trace found.0) (service_for c m e.trace) (sym found.1.made ∙ served.made))
     (request-ready config (link_of c) (a_beat_of m k) e found.0 (taken-coming is) found.1)

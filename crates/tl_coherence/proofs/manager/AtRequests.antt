@@ -51,16 +51,13 @@ pub at_manager-more : {w : ℕ} {config : Config} {mail : AccessMessages w} {req
     → IsAtManager config mail request s (end_after config c k m e)
 unfolding with_handed
 at_manager-more {w} {config} {mail} {request} {s} {c} {k} {m} {e} is more unwaited known =
-    let part : ends (Beat.A (a_beat_of m k)) (on_link c e.trace) ≡ false =
-    ends-coming is ∙ not_last k (beats_of (A m)) more in
-    let done = reaction-part config (link_of c) (Beat.A (a_beat_of m k)) e part in
-    let kept : IsKept config (end_with c k m (nothing e.memory) e) =
-    subst (λ (d : Reaction w). IsKept config (end_with c k m d e)) done (kept-coming is) in
+    let done =
+    reaction-part config (link_of c) (Beat.A (a_beat_of m k)) e (ends-coming is ∙ not_last k (beats_of (A m)) more) in
     subst (λ (d : Reaction w). IsAtManager config mail request s (end_with c k m d e)) (sym done)
     (record {
       traced = traced-more is more unwaited known.traced;
       served_with = known.served_with;
-      manager_kept = kept;
+      manager_kept = subst (λ (d : Reaction w). IsKept config (end_with c k m d e)) done (kept-coming is);
       memory = known.memory;
       all_live = known.all_live;
     })
@@ -100,13 +97,11 @@ at_manager-probing {w} {config} {mail} {request} {c} {k} {n} {own} {source} {j} 
       | inr other ↦ rw (blocks i, set-other n i new s.block other, set-other n i m request other) (known.served_with i)
     ] in
     let done = reaction-probing config c k n j m e is.comes is.last is.for.2 is.for.3 someone in
-    let kept : IsKept config (end_with c k m probing e) = subst (λ (d : Reaction w). IsKept config (end_with c k m d e))
-    done (kept-coming is.comes) in
     subst (λ (d : Reaction w). IsAtManager config mail (set n m request) u (end_with c k m d e)) (sym done)
     (record {
       traced = traced-probing u blocks is known.traced;
       served_with = λ i. served_now i;
-      manager_kept = kept;
+      manager_kept = subst (λ (d : Reaction w). IsKept config (end_with c k m d e)) done (kept-coming is.comes);
       memory = λ i. known.memory i ∙ sym (ap (λ (b : Block (List ℕ)). b.memory) (blocks i) ∙ set-part
           (λ (b : Block (List ℕ)). b.memory) n new s.block refl i);
       all_live = known.all_live;
@@ -138,13 +133,11 @@ at_manager-answered {w} {config} {mail} {request} {c} {k} {n} {m} {s} {u} {e} bl
       | inl same ↦ rw (same, blocks n, set-same n new s.block) memory_here
       | inr other ↦ rw (blocks i, set-other n i new s.block other) (memory_else i other ∙ known.memory i)
     ] in
-    let kept : IsKept config (end_with c k m answering e) =
-    subst (λ (d : Reaction w). IsKept config (end_with c k m d e)) done (kept-coming is.comes) in
     subst (λ (d : Reaction w). IsAtManager config mail request u (end_with c k m d e)) (sym done)
     (record {
       traced = traced-answered (performs m) u e.memory blocks is known.traced;
       served_with = λ i. served_now i;
-      manager_kept = kept;
+      manager_kept = subst (λ (d : Reaction w). IsKept config (end_with c k m d e)) done (kept-coming is.comes);
       memory = λ i. memory_now i;
       all_live = known.all_live;
     })
@@ -172,13 +165,11 @@ at_manager-granted {w} {config} {mail} {request} {c} {k} {n} b {j} {m} {s} {u} {
       blocks i,
       set-part (λ (y : Block (List ℕ)). y.memory) n new s.block refl i,
     ) in
-    let kept : IsKept config (end_with c k m granting e) =
-    subst (λ (d : Reaction w). IsKept config (end_with c k m d e)) done (kept-coming is.comes) in
     subst (λ (d : Reaction w). IsAtManager config mail (set n m request) u (end_with c k m d e)) (sym done)
     (record {
       traced = traced-granted b u e.memory blocks is known.traced;
       served_with = λ i. served_now i;
-      manager_kept = kept;
+      manager_kept = subst (λ (d : Reaction w). IsKept config (end_with c k m d e)) done (kept-coming is.comes);
       memory = λ i. memory_now i;
       all_live = known.all_live;
     })

@@ -110,12 +110,10 @@ granted-is {w} {X} {config} {s} {e} inv kept is n v found = go (s.block n).servi
     granted : is_granted_in (s.block n).service ≡ true → waits.is_granted t v ≡ true
     granted f =
         let only : (b : Bool) → (b || false) ≡ true → b ≡ true = elim [ true ↦ λ g. refl | false ↦ λ g. absurd cc ] in
-        let settled = all-settled config n t (λ c. is.probes c n
-        ∙ ap not (quiet_unless ((s.block n).pair c) (view (s.block n).service c) ((inv.blocks n).phases c)
-        (granted_views (s.block n).service c f)))
-        in
         let awaited : is_awaited config n t (Some v) ≡ true = cc (found, kept.steady.awaited n) in
-        only (waits.is_granted t v) (rw settled at awaited)
+        only (waits.is_granted t v)
+        (rw (all-settled config n t (λ c. is.probes c n ∙ ap not (quiet_unless ((s.block n).pair c) (view
+        (s.block n).service c) ((inv.blocks n).phases c) (granted_views (s.block n).service c f)))) at awaited)
 
     waiting : (service : Service) → (s.block n).service ≡ service → IsAwaited service (s.block n).pair
         → is_granted_in service ≡ false → (service ≡ Free → ⊥) → waits.is_granted t v ≡ false
@@ -123,8 +121,7 @@ granted-is {w} {X} {config} {s} {e} inv kept is n v found = go (s.block n).servi
     waiting (Waits r own source k) f someone g busy =
         let missing : pending (ProbeOf n) (on_link someone.0 t) ≡ true = is.probes someone.0 n ∙ ap not someone.1 in
         let probed : IsProbed someone.0 n t = (kept.steady.accounted.blocks n).probes someone.0 missing in
-        let same : probed.service ≡ v = some_is probed.service v (sym probed.serves ∙ found) in
-        rw same at probed.unanswered
+        rw (some_is probed.service v (sym probed.serves ∙ found)) at probed.unanswered
     waiting service f someone g busy = absurd cc
 
     go : (service : Service) → (s.block n).service ≡ service → waits.is_granted t v ≡ is_granted_in service

@@ -65,9 +65,8 @@ pub waits-used : {X : Type 0} {caching : ℕ → Bool} {s : State X} (n r source
     → s.uses r source ≡ (if own then Acquires n else InService n)
 waits-used {s} n r source true k inv e =
     let sourced : IsOwnSource (Waits r true source k) (s.block n).source = rw e at (inv.blocks n).own_source in
-    let own_view : view (s.block n).service r ≡ Own = rw (e, same_number r) refl in
     let wants = not-calm ((s.block n).pair r).acquiring (own_wants ((s.block n).pair r) (view (s.block n).service r)
-    ((inv.blocks n).phases r) own_view) in
+    ((inv.blocks n).phases r) (rw (e, same_number r) refl)) in
     acquires_of-is n (s.uses r source) (inv.named.acquires r source n ∙ rw (wants, ← sourced, same_number source) refl)
 waits-used {s} n r source false k inv e =
     serves_of-is n (s.uses r source) (inv.named.serves r source n ∙ rw (e, same_number r, same_number source) refl)

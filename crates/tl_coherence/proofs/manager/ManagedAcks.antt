@@ -41,11 +41,9 @@ serving-acked : {w : ℕ} {X : Type 0} {c n : ℕ} {x : BeatE} {request : ℕ �
 serving-acked {w} {c} {n} {x} {request} {s} {t} is known i =
     let passed : service_of_block i (services (acked c x t)) ≡ if_passes keeps (service_of_block i (services t)) =
     ap (service_of_block i) (services-e (record { 0 = c }) x t) ∙ serving-filter i keeps (services t) is.apart in
-    let here : if_passes keeps (service_with (Some c) (s.block n).tracker (request n))
-    ≡ (if n == n then None else service_with (Some c) (s.block n).tracker (request n)) =
-    rw (same_number c, is.acquires, is.sink_is, same_number (s.block n).tracker, same_number n) refl in
     passed ∙ elim (cases_eq i n) [
-      | inl same ↦ rw (same, known.serving_is n, is.taken) here
+      | inl same ↦ rw (same, known.serving_is n, is.taken)
+          (rw (same_number c, is.acquires, is.sink_is, same_number (s.block n).tracker, same_number n) refl)
       | inr other ↦ rw (ne_eqb i n other, known.serving_is i) (kept other (client_in (s.block i).service) refl)
     ]
   where

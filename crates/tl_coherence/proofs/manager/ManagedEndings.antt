@@ -48,15 +48,14 @@ pub traced-ended : {w : ℕ} {X : Type 0} {request : ℕ → MessageA w} {c q n 
 traced-ended {w} {X} {request} {c} {q} {n} {r} f rest {x} {m} {s} {t} is known =
     let u : Trace w = taken c x t in
     let new : Block X = ended_block c r f (s.block n) in
-    let other : is_grant m.opcode ≡ false = answer_kind m.opcode is.answers in
     let asked_now : (i p source : ℕ) (own : Bool) (cap : Cap) → (set n new s.block i).service ≡ Waits p own source cap
     → request_of source (on_link p t) ≡ Some (a_beat_of (request i) 0) =
     λ i p source own cap. set-each (λ j z. z.service ≡ Waits p own source cap
     → request_of source (on_link p t) ≡ Some (a_beat_of (request j) 0)) n new s.block (λ e. absurd cc)
     (λ j ne. known.asked j p source own cap) i in
     record {
-      recorded_is = λ d i. recorded-answer (record { 0 = q }) m u is.reply.width is.reply.whole other d i
-          ∙ reported-records r new is.last (λ j. refl) known d i;
+      recorded_is = λ d i. recorded-answer (record { 0 = q }) m u is.reply.width is.reply.whole
+          (answer_kind m.opcode is.answers) d i ∙ reported-records r new is.last (λ j. refl) known d i;
       probes = λ d i. reply-quiet (Key.ProbeOf i) (record { 0 = q }) m u d is.reply.width is.reply.whole
           (λ e. (refl, refl)) ∙ reported-missing r new is.last is.report (λ j. refl) known d i;
       serving_is = λ i. ap (service_of_block i) (services-answer n (service_for q n request s) m u is.reply is.answers
@@ -64,8 +63,7 @@ traced-ended {w} {X} {request} {c} {q} {n} {r} f rest {x} {m} {s} {t} is known =
           ∙ elim (cases_eq n i) [
             | inl same ↦ rw (← same, same_number n) refl
             | inr apart ↦
-                let differ : i ≡ n → ⊥ = λ e. apart (sym e) in
-                rw (ne_eqb n i apart, ne_eqb i n differ)
+                rw (ne_eqb n i apart, ne_eqb i n (λ e. apart (sym e)))
                 (ap (service_of_block i) (quiet-c (record { 0 = c }) x t).serves ∙ known.serving_is i)
           ];
       requests = set-each (λ i z. IsFor z.service i (request i)) n new s.block tt (λ i ne. known.requests i);

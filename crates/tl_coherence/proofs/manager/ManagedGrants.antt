@@ -92,10 +92,9 @@ traced-conceded {w} {X} {request} {c} {q} {n} {gift} {r} dt rest {x} {m} {s} {t}
     probing_same d i false e = refl
     probing_same d i true e =
         let p = and_parts (q == d) (n == i) e in
-        let others : q ≡ c → ⊥ = λ f. is.apart (sym f) in
         rw (
           ← eqb-true q d p.0,
           ← eqb-true n i p.1,
           set-same n mid s.block,
-          set-other c q (after_report r ((s.block n).pair c)) (s.block n).pair others,
+          set-other c q (after_report r ((s.block n).pair c)) (s.block n).pair (λ f. is.apart (sym f)),
         ) refl

@@ -140,7 +140,6 @@ pub released-left : {w : ℕ} {config : Config} {c n k : ℕ} (r : Prune) (rest 
 unfolding with_handed
 released-left {w} {config} {c} {n} {k} r rest {m} h {e} up end is =
     let x : BeatC w = c_beat_of m k in
-    let carries : Bool = same_perm (prune_left r) Perm.Trunk in
     let after : State (List ℕ) = release_taken c n r rest h.state in
     let does : Reaction w = record {
       handed = (record { 0 = c }, release_ack x.source) ∷ [];
@@ -163,8 +162,8 @@ released-left {w} {config} {c} {n} {k} r rest {m} h {e} up end is =
           (traced-released r rest (last-of (prune_right r) end (reported-prune r)) released is.traced);
       served_with = λ i. still i;
       manager_kept = kept-left x does end.width up done is.manager_kept;
-      memory = λ i. cc (blocks-now e.memory does.memory n (let_block c r (h.state.block n)) h.state (memory-end end
-          ∙ ap (λ z. if carries then truth else z) (is.memory n))
+      memory = λ i. cc (blocks-now e.memory does.memory n (let_block c r (h.state.block n)) h.state
+          (memory-end end ∙ ap (λ z. if (same_perm (prune_left r) Perm.Trunk) then truth else z) (is.memory n))
           (others-left n x does end.width up done is.manager_kept end.about.block) is.memory i);
       all_live = is.all_live;
     })
@@ -221,19 +220,17 @@ pub reported-left : {w : ℕ} {config : Config} {c n k : ℕ} (r : Report) (rest
 unfolding with_handed
 reported-left {w} {config} {c} {n} {k} r rest {m} h {e} up end others is =
     let x : BeatC w = c_beat_of m k in
-    let carries : Bool = same_perm (report_left r) Perm.Trunk in
     let after : State (List ℕ) = report_taken c n r rest h.state in
     let does : Reaction w = nothing (memory_with (record { 0 = c }) x e) in
-    let last = last-of (report_right r) end (reported-report r) in
     let done = reaction-reported config r h end others is.traced in
     let still = set-each (λ i z. IsServedWith h.mail z.service (h.request i)) n (reported_block c r (h.state.block n))
     h.state.block (is.served_with n) (λ i ne. is.served_with i) in
     subst (λ (d : Reaction w). IsManagerOf config (with_state after h) (left c (Beat.C x) d e)) (sym done) (record {
-      traced = traced-reported r rest last end.about.reports is.traced;
+      traced = traced-reported r rest (last-of (report_right r) end (reported-report r)) end.about.reports is.traced;
       served_with = λ i. still i;
       manager_kept = kept-left x does end.width up done is.manager_kept;
-      memory = λ i. cc (blocks-now e.memory does.memory n (reported_block c r (h.state.block n)) h.state (memory-end end
-          ∙ ap (λ z. if carries then truth else z) (is.memory n))
+      memory = λ i. cc (blocks-now e.memory does.memory n (reported_block c r (h.state.block n)) h.state
+          (memory-end end ∙ ap (λ z. if (same_perm (report_left r) Perm.Trunk) then truth else z) (is.memory n))
           (others-left n x does end.width up done is.manager_kept end.about.block) is.memory i);
       all_live = is.all_live;
     })

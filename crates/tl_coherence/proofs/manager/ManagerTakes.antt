@@ -196,12 +196,11 @@ release-order {w} {config} {caching} c {n} k r rest {m} {s} {e} inv managed kept
     first : unfinished Channel.C t ≡ [] → NextOrder config.profile m 0 t
     first none =
         let used : pending (Key.ReleaseSource m.source) t ≡ false = (kept.releases c).sources m.source ∙ rw none refl in
-        let acquires : pending (Key.AcquireOf n) t ≡ false = managed.acquires c n ∙ not_own (view b.service c) refl in
         let releases : pending (Key.ReleaseOf n) t ≡ false = (kept.releases c).blocks n ∙ rw none refl in
         let legal : prunes_from (prune_of (prune_code r)) (held n t) ≡ true =
         rw (managed.recorded_is c n) (pruned r (b.pair c).recorded fits) in
         rw (none, about.releases, about.block, about.param_is)
-        (rw (used, acquires, releases, legal) refl)
+        (rw (used, managed.acquires c n ∙ not_own (view b.service c) refl, releases, legal) refl)
 
 -- ---- a GrantAck
 

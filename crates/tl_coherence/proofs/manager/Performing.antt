@@ -216,14 +216,12 @@ traced-granted {w} {X} {config} {request} {c} {k} {n} b {j} {m} {s} u memory {e}
 
     recorded_apart : (d i : ℕ) → (d ≡ c → ⊥) → recorded d i after ≡ recorded d i e.trace
     recorded_apart d i ne =
-        let differ : c ≡ d → ⊥ = λ f. ne (sym f) in
-        ap (recorded d i) after_is ∙ ap (held i) (other_link d (link_of c) (D reply.0) t (ne_eqb c d differ))
+        ap (recorded d i) after_is ∙ ap (held i) (other_link d (link_of c) (D reply.0) t (ne_eqb c d (λ f. ne (sym f))))
         ∙ recorded-beat c k m e.trace d i
 
     recorded_other : (d i : ℕ) → (i ≡ n → ⊥) → recorded d i after ≡ recorded d i e.trace
     recorded_other d i ne =
-        let differ : n ≡ i → ⊥ = λ f. ne (sym f) in
         elim (cases_eq d c) [
-          | inl same ↦ rw same (recorded_own i ∙ rw (ne_eqb n i differ) refl)
+          | inl same ↦ rw same (recorded_own i ∙ rw (ne_eqb n i (λ f. ne (sym f))) refl)
           | inr apart ↦ recorded_apart d i apart
         ]

@@ -82,5 +82,4 @@ pub serving-others : {w : ℕ} {config : Config} {c k : ℕ} (n i : ℕ) {m : Me
     → IsComing config c k m e → beats_of (A m) ≡ suc k → block_at m.address ≡ n → (i ≡ n → ⊥)
     → service_of_block i (services (with_beat c m k e.trace)) ≡ service_of_block i (services e.trace)
 serving-others {config} {c} {k} n i {m} {e} is last block other =
-    let differ : n ≡ i → ⊥ = λ f. other (sym f) in
-    ap (service_of_block i) (services-last is last) ∙ rw (block, ne_eqb n i differ) refl
+    ap (service_of_block i) (services-last is last) ∙ rw (block, ne_eqb n i (λ f. other (sym f))) refl

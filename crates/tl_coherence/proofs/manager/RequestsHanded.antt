@@ -33,12 +33,11 @@ handed-answered {w} {config} {log} {mail} {request} {s} {sys} {c} {k} is asked c
     let m : MessageA w = asked.request in
     let n : ℕ = block_at m.address in
     let e : End w = sys.manager in
-    let bytes_are : bytes_from e.memory (64 * n) 64 ≡ (s.block n).memory = is.memory n in
     ap (λ (d : Reaction w). d.handed) (reaction-performed c k n false m is comes last asked.access refl
     none ∙ performed-access config (service_for c m e.trace) (with_beat c m k e.trace) e.memory asked.access)
     ∙ ap (λ (i : Message w). (link_of c, i) ∷ [])
     (ap (λ (r : memory.AccessResult). access_answer m (answer_of (Message.A m) r))
-    (performed-reply (level_of config c) m e.memory comes.width asked.lawful) ∙ ap (answers m) bytes_are)
+    (performed-reply (level_of config c) m e.memory comes.width asked.lawful) ∙ ap (answers m) (is.memory n))
 
 -- ---- a Grant
 

@@ -180,9 +180,7 @@ at_manager-client_taken {w} config tracker c Grant n rest h e kind inv first is 
     go : (service : Service) → (h.state.block n).service ≡ service
         → IsManagerOf config (taken_by_client c n service rest h) e
     go (GrantSent q d k) f =
-        let seen : is_granting (view (GrantSent q d k) c) ≡ true =
-        rw f at (first-shown inv c Grant refl first) in
-        let same : c ≡ q = eqb-true c q (granting-own (c == q) d k seen) in
+        let same : c ≡ q = eqb-true c q (granting-own (c == q) d k (rw f at (first-shown inv c Grant refl first))) in
         let whole = is_whole ((h.state.block n).pair c).acquiring in
         at_manager-unseen n (λ i. refl) (same-taken c whole d k k (h.state.block n) (f ∙ rw same refl)) is
     go service f = is

@@ -101,7 +101,6 @@ at_manager-to_client {w} {config} {log} h {sys} link ch terms is there up =
     taken (y ∷ ys) e =
         let here : is_on ch y.kind ≡ false → ⊥ =
         λ off. first_counts y ys (rw e at (is.invariant.own_kinds c ch y.kind y.number off)) in
-        let first : on y.kind (h.state.link c) ≡ packet y.kind y.number ∷ ys =
-        on_same ch y.kind (h.state.link c) (true_from_ne_false (is_on ch y.kind) here) ∙ e in
         at_manager-client_taken config (next_tracker sys) c y.kind y.number ys h sys.manager
-        (to_clients ch y.kind up here) is.invariant first known
+        (to_clients ch y.kind up here) is.invariant
+        (on_same ch y.kind (h.state.link c) (true_from_ne_false (is_on ch y.kind) here) ∙ e) known

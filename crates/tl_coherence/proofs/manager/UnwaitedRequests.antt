@@ -128,11 +128,10 @@ reaction-performed {w} {config} {log} {mail} {request} {s} {sys} c k n own m is 
     go None f = reaction-intent config (link_of c) (a_beat_of m k) (service_for c m e.trace) e
         (served-last comes last) f
     go (Some j) f =
-        let nobody : is_nobody (probed config (service_for c m e.trace) j (with_beat c m k e.trace)) ≡ true =
-        probed-some c k n own j m is kind block ∙ ap not (rw f at none) in
         reaction-unprobed config (link_of c) (a_beat_of m k) (service_for c m e.trace) j e
         (served-last comes last) f
-        (no-clients (probed config (service_for c m e.trace) j (with_beat c m k e.trace)) nobody)
+        (no-clients (probed config (service_for c m e.trace) j (with_beat c m k e.trace))
+        (probed-some c k n own j m is kind block ∙ ap not (rw f at none)))
 
 -- somebody is, with this cap
 pub somebody-probed : {w : ℕ} {config : Config} {log : Log w} {mail : AccessMessages w} {request : ℕ → MessageA w}

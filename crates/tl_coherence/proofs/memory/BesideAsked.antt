@@ -57,10 +57,8 @@ acquires-else c n source new p s s' blocks pairs waits alone d i else_ = go (s.u
 pub calm-none : {caching : ℕ → Bool} {s : State (List ℕ)} (c n i : ℕ) → IsInvariant caching s
     → ((s.block n).pair c).acquiring ≡ NoAcquire → s.uses c i ≡ Acquires n → ⊥
 calm-none {s} c n i inv calm e =
-    let named = inv.named.acquires c i n in
-    let yes : acquires_of n (s.uses c i) ≡ true = ap (acquires_of n) e ∙ same_number n in
     let no = ap (λ (x : AcquirePhase). is_wanting x && (i == (s.block n).source c)) calm in
-    let differ : true ≡ false = sym yes ∙ named ∙ no in cc
+    let differ : true ≡ false = sym (ap (acquires_of n) e ∙ same_number n) ∙ (inv.named.acquires c i n) ∙ no in cc
 
 -- ---- what is asked
 
@@ -86,7 +84,6 @@ pub beside-acquire_asked : {w : ℕ} {caching : ℕ → Bool} (c n source : ℕ)
 beside-acquire_asked {w} {caching} c n source whole g bytes o {mail} {s} {m} inv calm is h =
     let after : ClientBlock = after_acquire whole g ((s.block n).pair c) in
     let new : Block (List ℕ) = acquiring_block c source whole g bytes (s.block n) in
-    let s' : State (List ℕ) = acquire_asked c n source whole g bytes s in
     let m' : Machine w = with_open c Requests source (Some (record { asked = o; answer = None })) m in
     let opened_as : AcquirePhase → List ℕ → Option (Open w) =
     λ x y. Some (record { asked = op_of x n y; answer = None }) in
@@ -105,7 +102,7 @@ beside-acquire_asked {w} {caching} c n source whole g bytes o {mail} {s} {m} inv
       releases = λ d i. open-releases c source (Some (record { asked = o; answer = None })) m d i;
       requests = λ d i else_. refl;
       answers = λ d i else_. refl;
-      acquires = acquires-else c n source new after s s' (λ i. refl) (λ d. refl)
+      acquires = acquires-else c n source new after s (acquire_asked c n source whole g bytes s) (λ i. refl) (λ d. refl)
           (λ d ne. set-other c d bytes (s.block n).waiting ne) (λ i ne e. calm-none c n i inv calm e);
     }) h
 

@@ -163,10 +163,9 @@ beside-request {w} {caching} {config} {c} {source} tracker {x} rest h {m} inv pl
     go true None e f = beside_answered rest is (inr f) beside
     go false None e f = beside_answered rest is (inr f) beside
     go false (Some k) e f =
-        let none : some_below clients (λ d. is_probed c false k (b.pair d).recorded d) ≡ false = rw f at e in
         beside_answered rest is
-        (inl (memory-unprobed clients c k plain (inv.blocks (block_at x.address))
-        (low_cap x.opcode x.param k f) none)) beside
+        (inl (memory-unprobed clients c k plain (inv.blocks (block_at x.address)) (low_cap x.opcode x.param k f)
+        (rw f at e))) beside
 
 -- ---- an Acquire
 
@@ -211,9 +210,7 @@ beside_ended {w} {caching} {config} c {q} n {source} r k rest h {m} inv waits an
     let new : Block (List ℕ) = ended_block c r (performs x) b in
     let s' : State (List ℕ) = report_answers c q n source r (performs x) rest h.state in
     let told = memory-reported c q source r k (inv.blocks n) waits answered settled in
-    let reply_same : (effect (Message.A x) (bytes_at (block_at x.address) (h.state.block (block_at x.address)).truth)).1
-    ≡ (effect (Message.A x) (bytes_at (block_at x.address) (written r b.truth b.memory))).1 = cc (at, told) in
-    beside-performed (written r b.truth b.memory) s' is (λ f block. reply_same)
+    beside-performed (written r b.truth b.memory) s' is (λ f block. cc (at, told))
     (λ i ne. ap (λ (y : Block (List ℕ)). y.truth) (set-other n i new h.state.block (λ e. ne (e ∙ sym at))))
     (subst (λ (j : ℕ). (set n new h.state.block j).truth ≡ performs x (h.state.block j).truth) (sym at)
     (ap (λ (y : Block (List ℕ)). y.truth) (set-same n new h.state.block)))

@@ -140,7 +140,6 @@ beside-request_taken {w} {config} {log} h {sys} {c} {source} {k} rest {machine} 
     let n : ℕ = block_at m.address in
     let b : Block (List ℕ) = h.state.block n in
     let tracker : ℕ = next_tracker sys in
-    let done : Handed w = (reaction config (link_of c) (Beat.A (a_beat_of m k)) sys.manager).handed in
     let performed_so : IsPerformed config c source m h.mail h.state machine = record {
       width = comes.width;
       request = asked.is_it;
@@ -150,8 +149,8 @@ beside-request_taken {w} {config} {log} h {sys} {c} {source} {k} rest {machine} 
       long = (is.sized n).truth;
     } in
     subst (λ (i : Message w). MemoryRelation (request_taken clients c source i tracker rest h).mail
-    (request_taken clients c source i tracker rest h).state
-    (performing (accesses_answered done) machine)) (sym asked.is_it)
+    (request_taken clients c source i tracker rest h).state (performing (accesses_answered
+    (reaction config (link_of c) (Beat.A (a_beat_of m k)) sys.manager).handed) machine)) (sym asked.is_it)
     (subst (λ (l : List (ℕ × ℕ)). MemoryRelation (request_taken clients c source (Message.A m) tracker rest h).mail
     (request_taken clients c source (Message.A m) tracker rest h).state (performing l machine))
     (sym (request-accesses h is asked comes last)) (beside-request tracker rest h is.invariant (plain-past config)

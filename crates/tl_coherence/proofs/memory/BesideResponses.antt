@@ -50,11 +50,9 @@ beside-answer {w} c source rest {mail} {s} {m} used h =
 only_source : {caching : ℕ → Bool} {s : State (List ℕ)} (c n i : ℕ) → IsInvariant caching s
     → (i ≡ (s.block n).source c → ⊥) → s.uses c i ≡ Acquires n → ⊥
 only_source {s} c n i inv ne e =
-    let yes : acquires_of n (s.uses c i) ≡ true = ap (acquires_of n) e ∙ same_number n in
-    let named = inv.named.acquires c i n in
     let no : (is_wanting ((s.block n).pair c).acquiring && (i == (s.block n).source c)) ≡ false =
     cc (ne_eqb i ((s.block n).source c) ne, and-false (is_wanting ((s.block n).pair c).acquiring)) in
-    let differ : true ≡ false = sym yes ∙ named ∙ no in cc
+    let differ : true ≡ false = sym (ap (acquires_of n) e ∙ same_number n) ∙ (inv.named.acquires c i n) ∙ no in cc
 
 pub beside-grant : {w : ℕ} {caching : ℕ → Bool} (c n : ℕ) (d : Bool) (k : Cap) (rest : List Packet)
     {mail : AccessMessages w} {s : State (List ℕ)} {m : Machine w}

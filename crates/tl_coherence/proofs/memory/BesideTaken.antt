@@ -143,8 +143,6 @@ beside-performed {w} {config} {c} {source} {a} bytes {mail} {s} s' {m} is same_r
       reply-performed (level_of config c) a m.memory (s.block n).truth is.width is.sent.1 (h.memory n) is.long,
       same_reply m.memory (h.memory n),
     ) in
-    let reaches : IsReach a (effect (Message.A is.opened.0) m.memory).1 =
-    subst (λ (y : Memory × memory.AccessResult). IsReach a y.1) (sym effect_is) (reply_reach a m.memory) in
     subst (λ (z : Machine w). MemoryRelation mail' s' z)
     (sym (performing-one c source (Message.A is.opened.0) m is.opened.2))
     (beside-used (record {
@@ -163,7 +161,7 @@ beside-performed {w} {config} {c} {source} {a} bytes {mail} {s} s' {m} is same_r
             (sym is.request) (
               set_at-same c source (answers a bytes) mail.answer
                   ∙ ap (λ r. access_answer a (answer_of (Message.A a) r)) (sym reply_is),
-              reaches,
+              subst (λ (y : Memory × memory.AccessResult). IsReach a y.1) (sym effect_is) (reply_reach a m.memory),
             ),
       );
       there = λ d i else_. open-there c Requests source (Some now)

@@ -136,10 +136,9 @@ coherent-matched {w} {config} {log} {s} h =
     let some_is : (x y : List ℕ) → Some x ≡ Some y → x ≡ y = λ x y e. cc in
     record {
       one_writer = λ c d n differ writes.
-          let top = trunk_below ((s.block n).pair c).held ((s.block n).pair c).recorded
-          (held_at_most ((s.block n).pair c) (view (s.block n).service c) ((h.invariant.blocks n).phases c))
-          (sym ((h.known c).held_is n) ∙ writes) in
-          let none = (h.invariant.blocks n).one_owner c d top (λ e. differ (sym e)) in
+          let none = (h.invariant.blocks n).one_owner c d (trunk_below ((s.block n).pair c).held
+          ((s.block n).pair c).recorded (held_at_most ((s.block n).pair c) (view (s.block n).service c)
+          ((h.invariant.blocks n).phases c)) (sym ((h.known c).held_is n) ∙ writes)) (λ e. differ (sym e)) in
           (h.known d).held_is n ∙ none_below ((s.block n).pair d).held ((s.block n).pair d).recorded
           (held_at_most ((s.block n).pair d) (view (s.block n).service d) ((h.invariant.blocks n).phases d)) none;
       copies = λ c n bytes copy.

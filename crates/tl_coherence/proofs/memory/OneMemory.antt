@@ -122,6 +122,5 @@ block-unstored address size value k old f room ne is i lt = go (reaches address 
     go false e = is i lt
     go true e =
         let parts = and_parts (nat_le address (64 * k + i)) (nat_lt (64 * k + i) (address + 2 ^ size)) e in
-        let from = leb-true address (64 * k + i) parts.0 in
         let to = ltb-true (64 * k + i) (address + 2 ^ size) parts.1 in
-        absurd (ne (omega (arith, lt, from, to, room)))
+        absurd (ne (omega (arith, lt, leb-true address (64 * k + i) parts.0, to, room)))

@@ -168,8 +168,7 @@ module _ {w : ℕ} {config : Config} {log : Log w} {mail : AccessMessages w} {re
           go : (x : Beat w) → IsFirst config terms c Channel.A x (system_after config log) → Moves config log c x
               → is_movable config c Channel.A (system_after config log) ≡ true
           go (Beat.A y) first m =
-              let free : nat_le config.trackers 0 ≡ false = few_test config.trackers trackers in
-              m ∙ rw (none_in_service, free)
+              m ∙ rw (none_in_service, few_test config.trackers trackers)
               (rw (and-false (ends (Beat.A y) (on_link c (system_after config log).manager.trace))) refl)
           go x first m = absurd (let on = first.on in cc)
 

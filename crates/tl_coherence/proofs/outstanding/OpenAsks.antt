@@ -19,16 +19,13 @@ module _ {X : Type 0} (config : Config) (s : State X) where
   access-asked : (c source : ℕ) → c < clients_in config → source < sources_in config c → s.uses c source ≡ SourceFree
       → IsBalance config s (access_asked c source s) true false false false
   access-asked c source few lt free =
-      let u = marked-set is_used (clients_in config) (sources_in config) c source Asked s.uses few lt in
-      let was : one_if (is_used (s.uses c source)) ≡ 0 = ap (λ (x : SourceState). one_if (is_used x)) free in
-      let a = acks-same (clients_in config) (access_asked c source s).link s.link
-      (λ d. set-part (λ x. x.e) c (with_a (packet Request source) (s.link c)) s.link refl d) in
       record {
         requests = omega (
           arith,
-          u,
-          was,
-          a,
+          marked-set is_used (clients_in config) (sources_in config) c source Asked s.uses few lt,
+          ap (λ (x : SourceState). one_if (is_used x)) free,
+          acks-same (clients_in config) (access_asked c source s).link s.link
+              (λ d. set-part (λ x. x.e) c (with_a (packet Request source) (s.link c)) s.link refl d),
           requests-split config s,
           requests-split config (access_asked c source s),
         );
@@ -39,16 +36,13 @@ module _ {X : Type 0} (config : Config) (s : State X) where
       → source < sources_in config c → s.uses c source ≡ SourceFree
       → IsBalance config s (acquire_asked c n source whole g bytes s) true false false false
   acquire-asked c n source whole g bytes few lt free =
-      let u = marked-set is_used (clients_in config) (sources_in config) c source (Acquires n) s.uses few lt in
-      let was : one_if (is_used (s.uses c source)) ≡ 0 = ap (λ (x : SourceState). one_if (is_used x)) free in
-      let a = acks-same (clients_in config) (acquire_asked c n source whole g bytes s).link s.link
-      (λ d. set-part (λ x. x.e) c (with_a (packet Acquire n) (s.link c)) s.link refl d) in
       record {
         requests = omega (
           arith,
-          u,
-          was,
-          a,
+          marked-set is_used (clients_in config) (sources_in config) c source (Acquires n) s.uses few lt,
+          ap (λ (x : SourceState). one_if (is_used x)) free,
+          acks-same (clients_in config) (acquire_asked c n source whole g bytes s).link s.link
+              (λ d. set-part (λ x. x.e) c (with_a (packet Acquire n) (s.link c)) s.link refl d),
           requests-split config s,
           requests-split config (acquire_asked c n source whole g bytes s),
         );
@@ -59,12 +53,11 @@ module _ {X : Type 0} (config : Config) (s : State X) where
       → s.lets c source ≡ None → IsBalance config s (release_asked c n source r s) false false true false
   release-asked c n source r few lt free =
       let l = marked-set is_let (clients_in config) (sources_in config) c source (Some n) s.lets few lt in
-      let was : one_if (is_let (s.lets c source)) ≡ 0 = ap (λ (x : Option ℕ). one_if (is_let x)) free in
       let a = acks-same (clients_in config) (release_asked c n source r s).link s.link
       (λ d. set-part (λ x. x.e) c (with_c (packet Release n) (s.link c)) s.link refl d) in
       record {
         requests = omega (arith, a, requests-split config s, requests-split config (release_asked c n source r s));
-        releases = omega (arith, l, was);
+        releases = omega (arith, l, ap (λ (x : Option ℕ). one_if (is_let x)) free);
       }
 
 module _ {w : ℕ} (config : Config) (c : ℕ) (h : AbstractState w) where

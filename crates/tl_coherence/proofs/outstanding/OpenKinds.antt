@@ -109,16 +109,13 @@ module _ {X : Type 0} (config : Config) (s : State X) where
   answer-taken : (c source : ℕ) (rest : List Packet) → c < clients_in config → source < sources_in config c
       → s.uses c source ≡ Replied → IsBalance config s (answer_taken c source rest s) false true false false
   answer-taken c source rest few lt used =
-      let u = marked-set is_used (clients_in config) (sources_in config) c source SourceFree s.uses few lt in
-      let was : one_if (is_used (s.uses c source)) ≡ 1 = ap (λ (x : SourceState). one_if (is_used x)) used in
-      let a = acks-same (clients_in config) (answer_taken c source rest s).link s.link
-      (set_e c (record (s.link c) { d = rest }) s.link refl) in
       record {
         requests = omega (
           arith,
-          u,
-          was,
-          a,
+          marked-set is_used (clients_in config) (sources_in config) c source SourceFree s.uses few lt,
+          ap (λ (x : SourceState). one_if (is_used x)) used,
+          acks-same (clients_in config) (answer_taken c source rest s).link s.link
+              (set_e c (record (s.link c) { d = rest }) s.link refl),
           requests-split config s,
           requests-split config (answer_taken c source rest s),
         );
@@ -129,18 +126,13 @@ module _ {X : Type 0} (config : Config) (s : State X) where
       → (s.block n).source c < sources_in config c → s.uses c ((s.block n).source c) ≡ Acquires n
       → IsBalance config s (grant_taken c n whole d k rest s) false false false false
   grant-taken c n whole d k rest few lt used =
-      let u = marked-set is_used (clients_in config) (sources_in config) c ((s.block n).source c) SourceFree s.uses few
-      lt in
-      let was = ap (λ (x : SourceState). one_if (is_used x)) used in
-      let a = acks-set (clients_in config) c (taken_link n rest (s.link c)) s.link few in
-      let more = length-append (s.link c).e (packet GrantAck n ∷ []) in
       record {
         requests = omega (
           arith,
-          u,
-          was,
-          a,
-          more,
+          marked-set is_used (clients_in config) (sources_in config) c ((s.block n).source c) SourceFree s.uses few lt,
+          ap (λ (x : SourceState). one_if (is_used x)) used,
+          acks-set (clients_in config) c (taken_link n rest (s.link c)) s.link few,
+          length-append (s.link c).e (packet GrantAck n ∷ []),
           requests-split config s,
           requests-split config (grant_taken c n whole d k rest s),
         );
@@ -153,12 +145,11 @@ module _ {X : Type 0} (config : Config) (s : State X) where
   release-ack-taken c n rest few lt used =
       let l = marked-set is_let (clients_in config) (sources_in config) c ((s.block n).release_source c) None s.lets few
       lt in
-      let was = ap (λ (x : Option ℕ). one_if (is_let x)) used in
       let a = acks-same (clients_in config) (release_ack_taken c n rest s).link s.link
       (set_e c (record (s.link c) { d = rest }) s.link refl) in
       record {
         requests = omega (arith, a, requests-split config s, requests-split config (release_ack_taken c n rest s));
-        releases = omega (arith, l, was);
+        releases = omega (arith, l, ap (λ (x : Option ℕ). one_if (is_let x)) used);
       }
 
   grant-ack-taken : (c n : ℕ) (rest : List Packet) → c < clients_in config → (s.link c).e ≡ packet GrantAck n ∷ rest

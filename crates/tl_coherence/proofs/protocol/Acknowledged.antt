@@ -21,7 +21,6 @@ pub let_go-block : {X : Type 0} {caching : ℕ → Bool} (c : ℕ) {b : Block X}
     → (b.pair c).letting ≡ ReleaseAcked → IsWell caching (let_go_block c b)
 let_go-block {caching} c {b} h acked =
     let after : ClientBlock = after_release_ack (b.pair c) in
-    let held_same = set-part (λ (p : ClientBlock). p.held) c after b.pair refl in
     let recorded_same = set-part (λ (p : ClientBlock). p.recorded) c after b.pair refl in
     record {
       phases = set-each (λ d q. ok q (view b.service d) ≡ true) c after b.pair
@@ -33,7 +32,7 @@ let_go-block {caching} c {b} h acked =
       one_owner = owned-set c b.pair (gentle-same (b.pair c) after refl refl) h.one_owner;
       outside = outside-set caching c after b.pair (busy-inside caching c b.pair (λ p. is_acked p.letting) refl
           (rw acked refl) h.outside) h.outside;
-      copies = λ d some. h.copies d (rw (held_same d) at some);
+      copies = λ d some. h.copies d (rw ((set-part (λ (p : ClientBlock). p.held) c after b.pair refl) d) at some);
       memory = λ none. h.memory (λ d. rw (recorded_same d) at (none d));
     }
 

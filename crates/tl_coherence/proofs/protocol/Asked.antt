@@ -26,7 +26,6 @@ pub acquiring-block : {X : Type 0} {caching : ℕ → Bool} (c source : ℕ) (wh
     → grow_fits (b.pair c).held (AcquireOpen whole g) ≡ true → IsWell caching (acquiring_block c source whole g bytes b)
 acquiring-block {caching} c source whole g bytes {b} h inside calm kept fits =
     let after : ClientBlock = after_acquire whole g (b.pair c) in
-    let held_same = set-part (λ (p : ClientBlock). p.held) c after b.pair refl in
     let recorded_same = set-part (λ (p : ClientBlock). p.recorded) c after b.pair refl in
     record {
       phases = set-each (λ d q. ok q (view b.service d) ≡ true) c after b.pair
@@ -38,7 +37,7 @@ acquiring-block {caching} c source whole g bytes {b} h inside calm kept fits =
       one_owner = owned-set c b.pair (gentle-same (b.pair c) after refl refl) h.one_owner;
       outside = outside-set caching c after b.pair (λ e. absurd (let f : true ≡ false = sym inside ∙ e in cc))
           h.outside;
-      copies = λ d some. h.copies d (rw (held_same d) at some);
+      copies = λ d some. h.copies d (rw ((set-part (λ (p : ClientBlock). p.held) c after b.pair refl) d) at some);
       memory = λ none. h.memory (λ d. rw (recorded_same d) at (none d));
     }
   where

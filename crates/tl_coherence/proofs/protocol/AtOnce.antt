@@ -34,7 +34,6 @@ granted_at_once-block {caching} {r} tracker {whole} {g} {gift} {b} h is =
     let quiet : (d : ℕ) → is_unprobed (b.pair d).probing ≡ true =
     λ d. quiet_at_rest (b.pair d) (view b.service d) (h.phases d) (idle d) in
     let quiet_same = set-part (λ (p : ClientBlock). is_unprobed p.probing) r after b.pair refl in
-    let held_same = set-part (λ (p : ClientBlock). p.held) r after b.pair refl in
     record {
       phases = λ d. elim (cases_eq d r) [
         | inl same ↦ rw (same, set-same r after b.pair, same_number r)
@@ -49,7 +48,7 @@ granted_at_once-block {caching} {r} tracker {whole} {g} {gift} {b} h is =
       one_owner = λ i j trunk ne. owner (gives whole g gift is.fits) i j trunk ne;
       outside = outside-set caching r after b.pair (busy-inside caching r b.pair (λ p. not (is_unacquired p.acquiring))
           refl (rw is.wants refl) h.outside) h.outside;
-      copies = λ d some. h.copies d (rw (held_same d) at some);
+      copies = λ d some. h.copies d (rw ((set-part (λ (p : ClientBlock). p.held) r after b.pair refl) d) at some);
       memory = λ none. h.memory (λ d. not_out (b.pair d) (view b.service d) (low d (cases_eq d r)));
     }
   where

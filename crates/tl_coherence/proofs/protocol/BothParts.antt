@@ -129,11 +129,9 @@ cap-waited k (Waits r own source j) c e =
     elim [ true ↦ λ f. absurd cc | false ↦ λ f. cc ] in
     go (own && (c == r)) e
 cap-waited k (GrantSent r d j) c e =
-    let no : is_other (view (GrantSent r d j) c) ≡ false = if-part is_other (c == r) refl refl in
-    absurd (let yes : false ≡ true = sym no ∙ ap is_other e in cc)
+    absurd (let yes : false ≡ true = sym (if-part is_other (c == r) refl refl) ∙ ap is_other e in cc)
 cap-waited k (GrantTaken r) c e =
-    let no : is_other (view (GrantTaken r) c) ≡ false = if-part is_other (c == r) refl refl in
-    absurd (let yes : false ≡ true = sym no ∙ ap is_other e in cc)
+    absurd (let yes : false ≡ true = sym (if-part is_other (c == r) refl refl) ∙ ap is_other e in cc)
 
 -- who sees its GrantAck under way
 pub acknowledging-is : (s : Service) (c : ℕ) → is_acknowledging (view s c) ≡ true → s ≡ GrantTaken c

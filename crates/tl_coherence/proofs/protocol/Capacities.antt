@@ -98,9 +98,8 @@ module _ {X : Type 0} (caching : ℕ → Bool) (s : State X) (c sources trackers
 
   pub few_on_a : length (s.link c).a ≤ sources
   few_on_a =
-      let all = few (λ x. true) (λ x. name s c x.kind x.number) (λ i. asked_by i (s.uses c i)) sources (s.link c).a
-      (once c Channel.A inv) (λ x there pass. asked_token x there) in
-      rw (all-pass (s.link c).a) at all
+      rw (all-pass (s.link c).a) at (few (λ x. true) (λ x. name s c x.kind x.number) (λ i. asked_by i
+      (s.uses c i)) sources (s.link c).a (once c Channel.A inv) (λ x there pass. asked_token x there))
 
   -- what is answered on D, the ReleaseAcks aside
   answered_token : (x : Packet) → IsThere x (s.link c).d → not (same_kind x.kind ReleaseAck) ≡ true

@@ -118,12 +118,10 @@ pub grant-followed : {w : ℕ} {caching : ℕ → Bool} (c n q : ℕ) (d : Bool)
     → IsInvariant caching (grant_taken c n (is_whole ((h.state.block n).pair c).acquiring) d k rest h.state)
 grant-followed {w} {caching} c n q d k rest h inv first e =
     let b : Block (List ℕ) = h.state.block n in
-    let seen : is_granting (view (GrantSent q d k) c) ≡ true = rw e at (first-shown inv c Grant refl first) in
-    let same : c ≡ q = eqb-true c q (granting-own (c == q) d k seen) in
+    let same : c ≡ q = eqb-true c q (granting-own (c == q) d k (rw e at (first-shown inv c Grant refl first))) in
     let here : b.service ≡ GrantSent c d k = rw same e in
-    let asks = granting_asks d k (b.pair c) (view b.service c) ((inv.blocks n).phases c)
-    (rw (here, same_number c) refl) in
-    let wants = wanting-is (b.pair c).acquiring (not-calm (b.pair c).acquiring asks) in
+    let wants = wanting-is (b.pair c).acquiring (not-calm (b.pair c).acquiring
+    (granting_asks d k (b.pair c) (view b.service c) ((inv.blocks n).phases c) (rw (here, same_number c) refl))) in
     rw wants.2 (grant_taken-kept c n d wants.0 wants.1 k rest inv first here wants.2)
 
 -- ---- all messages that are taken

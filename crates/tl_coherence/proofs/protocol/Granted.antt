@@ -139,8 +139,7 @@ granted-block {X} {c} {q} {r} {whole} {g} {gift} {source} {k} {b} h last =
     apart : c ≡ q → ⊥
     apart e =
         let quiet : is_unprobed (b.pair q).probing ≡ true = own_quiet (b.pair q) (view b.service q) (h.phases q) own in
-        let answered : (b.pair q).probing ≡ ProbeAnswered r = rw e at last.answered in
-        let no : is_unprobed (ProbeAnswered r) ≡ true = rw answered at quiet in
+        let no : is_unprobed (ProbeAnswered r) ≡ true = rw (rw e at last.answered) at quiet in
         absurd cc
 
     low : same_cap k Cap.ToT ≡ false
@@ -225,6 +224,5 @@ room-trunk c q r whole g source k {b} h waits answered settled wants trunk apart
     let seen : (i : ℕ) → (i ≡ q → ⊥) → view b.service i ≡ Other k =
     λ i differs. rw waits (other_view q source i k differs) in
     let asked : IsAskedCap (Waits q true source k) b.pair = rw waits at h.asked_cap in
-    let cap_is : k ≡ Cap.ToN = asks_none k whole g trunk (rw wants at asked) in
-    low_none k (set c (after_report r (b.pair c)) b.pair d).recorded cap_is
+    low_none k (set c (after_report r (b.pair c)) b.pair d).recorded (asks_none k whole g trunk (rw wants at asked))
     (recorded_within c r k h answered settled (seen c apart) d (seen d ne))

@@ -62,19 +62,17 @@ pub report_grants-kept : {X : Type 0} {caching : ℕ → Bool} {c q : ℕ} (n : 
     → IsInvariant caching (report_grants c q n r (is_granted_data whole g ((s.block n).pair q).recorded) gift rest s)
 report_grants-kept {X} {caching} {c} {q} n {r} {whole} {g} {gift} {source} {k} rest {s} inv first last =
     let links : ℕ → Link = granted_link c q n rest s.link in
-    let links_q : links q ≡ at_q = set-same q at_q (set c at_c s.link) in
-    let links_c : links c ≡ at_c = set-other q c at_q (set c at_c s.link) apart ∙ set-same c at_c s.link in
     let links_other : (d : ℕ) → (d ≡ q → ⊥) → (d ≡ c → ⊥) → links d ≡ s.link d =
     λ d m o. set-other q d at_q (set c at_c s.link) m ∙ set-other c d at_c s.link o in
     let moved : (d : ℕ) (ch : Channel) → IsMoved (granted_moves n c q d ch) (packets_on ch (s.link d))
     (packets_on ch (links d)) = λ d ch. elim (cases_eq d q) [
       | inl same ↦ rw same (moved_as (granted_moves n c q q ch) (granted_moves n 0 1 1 ch) (packets_on ch (s.link q))
-          (packets_on ch (links q))
-          (packets_on ch at_q) (moves_of_sender n c q ch apart_too) (ap (packets_on ch) links_q) (moved_q ch))
+          (packets_on ch (links q)) (packets_on ch at_q) (moves_of_sender n c q ch apart_too)
+          (ap (packets_on ch) (set-same q at_q (set c at_c s.link))) (moved_q ch))
       | inr m ↦ elim (cases_eq d c) [
         | inl same ↦ rw same (moved_as (granted_moves n c q c ch) (granted_moves n 1 0 1 ch) (packets_on ch (s.link c))
-            (packets_on ch (links c))
-            (packets_on ch at_c) (moves_of_reporter n c q ch apart) (ap (packets_on ch) links_c) (moved_c ch))
+            (packets_on ch (links c)) (packets_on ch at_c) (moves_of_reporter n c q ch apart)
+            (ap (packets_on ch) (set-other q c at_q (set c at_c s.link) apart ∙ set-same c at_c s.link)) (moved_c ch))
         | inr o ↦ moved_as (granted_moves n c q d ch) Stays (packets_on ch (s.link d)) (packets_on ch (links d))
             (packets_on ch (s.link d)) (moves_of_other n c q d ch o m) (ap (packets_on ch) (links_other d m o)) refl
       ]
@@ -99,8 +97,7 @@ report_grants-kept {X} {caching} {c} {q} n {r} {whole} {g} {gift} {source} {k} r
     apart e =
         let own : view (s.block n).service q ≡ Own = rw (last.waits, same_number q) refl in
         let quiet = own_quiet ((s.block n).pair q) (view (s.block n).service q) ((inv.blocks n).phases q) own in
-        let answered : ((s.block n).pair q).probing ≡ ProbeAnswered r = rw e at last.answered in
-        let differs : is_unprobed (ProbeAnswered r) ≡ true = rw answered at quiet in
+        let differs : is_unprobed (ProbeAnswered r) ≡ true = rw (rw e at last.answered) at quiet in
         absurd cc
 
     apart_too : q ≡ c → ⊥

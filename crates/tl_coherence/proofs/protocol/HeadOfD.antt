@@ -95,8 +95,7 @@ pub grant-due : (caching : ℕ → Bool) (c n : ℕ) (rest : List Packet) (s : S
     → (s.link c).d ≡ packet Grant n ∷ rest → IsGrantDue c n s
 grant-due caching c n rest s inv first =
     let b = s.block n in
-    let seen : is_granting (view b.service c) ≡ true = first-shown inv c Grant refl first in
-    let sent = granting-service b.service c seen in
+    let sent = granting-service b.service c (first-shown inv c Grant refl first) in
     let mine : view b.service c ≡ Granting sent.0 sent.1 = own_view c sent.0 sent.1 b.service sent.2 in
     let wants = wanting_is (b.pair c).acquiring (granting_asks sent.0 sent.1 (b.pair c) (view b.service c)
     ((inv.blocks n).phases c) mine) in
@@ -155,9 +154,7 @@ acked_open x e = absurd cc
 pub ack-due : {caching : ℕ → Bool} (c n : ℕ) (rest : List Packet) {s : State (List ℕ)} → IsInvariant caching s
     → (s.link c).d ≡ packet ReleaseAck n ∷ rest → s.lets c ((s.block n).release_source c) ≡ Some n
 ack-due c n rest {s} inv first =
-    let acked = first-shown inv c ReleaseAck refl first in
-    let live = acked_open ((s.block n).pair c).letting acked in
     is_of-is n (s.lets c ((s.block n).release_source c))
     (inv.named.releases c ((s.block n).release_source c) n ∙ and_from (not (is_unreleased ((s.block n).pair c).letting))
-    ((s.block n).release_source c == (s.block n).release_source c) live
-    (same_number ((s.block n).release_source c)))
+    ((s.block n).release_source c == (s.block n).release_source c) (acked_open ((s.block n).pair c).letting
+    (first-shown inv c ReleaseAck refl first)) (same_number ((s.block n).release_source c)))

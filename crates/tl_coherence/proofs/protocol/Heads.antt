@@ -72,10 +72,8 @@ asked-access {w} {s} {sys} c source m is used mailed =
         let opens_too : open_beat (b.source c) (sys.clients c).past ≡ Some
         (a_beat_of (acquisition (acquire_opcode asks.0) asks.1 (b.source c) n) 0) =
         (is.known c).opens (b.source c) ∙ rw used_too (ap first_of (rendered-acquire c n b asks.0 asks.1 asks.2)) in
-        let theirs : acquires n (open_beat (b.source c) (sys.clients c).past) ≡ true =
-        rw (opens_too, acquires-so asks.0, same_block n, same_number n) refl in
-        let same : source ≡ b.source c = (is.kept c).once source (b.source c) n mine theirs in
-        let no : Asked ≡ Acquires n = sym used ∙ ap (s.uses c) same ∙ used_too in
+        let no : Asked ≡ Acquires n = sym used ∙ ap (s.uses c) ((is.kept c).once source (b.source c) n mine
+        (rw (opens_too, acquires-so asks.0, same_block n, same_number n) refl)) ∙ used_too in
         cc
 
 pub asked-first : {w : ℕ} {config : Config} {log : Log w} {mail : AccessMessages w} {request : ℕ → MessageA w}

@@ -74,10 +74,9 @@ module _ {X : Type 0} {caching : ℕ → Bool} {s : State X} (inv : IsInvariant 
           absurd (none_there source (is_replied (s.uses c source)) (rw (bare.silent.d c) at (inv.answers c source))
           (rw e refl))
       use_is c source (InService n) e =
-          let named : serves_of n (s.uses c source) ≡ serves_with c source (s.block n) = inv.named.serves c source n in
           let it : serves_of n (s.uses c source) ≡ true = rw e (same_number n) in
           let not_it : serves_with c source (s.block n) ≡ false = rw (free n) refl in
-          absurd (let both : true ≡ false = sym it ∙ named ∙ not_it in cc)
+          absurd (let both : true ≡ false = sym it ∙ (inv.named.serves c source n) ∙ not_it in cc)
       use_is c source (Acquires n) e =
           let named = inv.named.acquires c source n in
           let it : acquires_of n (s.uses c source) ≡ true = rw e (same_number n) in
@@ -92,10 +91,9 @@ module _ {X : Type 0} {caching : ℕ → Bool} {s : State X} (inv : IsInvariant 
       let_is : (c source : ℕ) (o : Option ℕ) → s.lets c source ≡ o → o ≡ None
       let_is c source None e = refl
       let_is c source (Some n) e =
-          let named : is_of n (s.lets c source) ≡ releases_with c source (s.block n) = inv.named.releases c source n in
           let it : is_of n (s.lets c source) ≡ true = rw e (same_number n) in
-          absurd (let_of c n ((s.block n).pair c).letting refl
-          (and_left (not (is_unreleased ((s.block n).pair c).letting)) _ (sym named ∙ it)))
+          absurd (let_of c n ((s.block n).pair c).letting refl (and_left
+          (not (is_unreleased ((s.block n).pair c).letting)) _ (sym (inv.named.releases c source n) ∙ it)))
 
   -- ---- the other way round
 
@@ -111,15 +109,13 @@ module _ {X : Type 0} {caching : ℕ → Bool} {s : State X} (inv : IsInvariant 
       go (GrantTaken q) e is = taken-unseen (c == q) is
       go (Waits r true source k) e is =
           let own : view (s.block n).service r ≡ Own = rw (e, same_number r) refl in
-          let wants = owns_ask ((s.block n).pair r) (view (s.block n).service r) ((inv.blocks n).phases r) (rw own refl)
-          in
-          let used : s.uses r ((s.block n).source r) ≡ Acquires n = source_of_acquire r n inv wants in
+          let used : s.uses r ((s.block n).source r) ≡ Acquires n = source_of_acquire r n inv
+          (owns_ask ((s.block n).pair r) (view (s.block n).service r) ((inv.blocks n).phases r) (rw own refl)) in
           absurd (let both : Acquires n ≡ SourceFree = sym used ∙ closed.uses r ((s.block n).source r) in cc)
       go (Waits r false source k) e is =
-          let named : serves_of n (s.uses r source) ≡ serves_with r source (s.block n) = inv.named.serves r source n in
           let it : serves_with r source (s.block n) ≡ true = rw (e, same_number r, same_number source) refl in
           let none : serves_of n (s.uses r source) ≡ false = rw (closed.uses r source) refl in
-          absurd (let both : true ≡ false = sym it ∙ sym named ∙ none in cc)
+          absurd (let both : true ≡ false = sym it ∙ sym (inv.named.serves r source n) ∙ none in cc)
 
   no_use : (c source n : ℕ) → s.uses c source ≡ Acquires n → IsClosed s → ⊥
   no_use c source n e closed = absurd (let both : Acquires n ≡ SourceFree = sym e ∙ closed.uses c source in cc)

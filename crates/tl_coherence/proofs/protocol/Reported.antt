@@ -79,7 +79,6 @@ pub reported-block : {X : Type 0} {caching : ℕ → Bool} (c : ℕ) (r : Report
 reported-block {caching} c r {b} h answered w apart missing =
     let after : ClientBlock = after_report r (b.pair c) in
     let begins = report_begins r (b.pair c) (view b.service c) (h.phases c) answered in
-    let held_same = set-part (λ (p : ClientBlock). p.held) c after b.pair refl in
     record {
       phases = set-each (λ d q. ok q (view b.service d) ≡ true) c after b.pair
           (report-ok r (b.pair c) (view b.service c) (h.phases c) answered).0 (λ d ne. h.phases d);
@@ -90,7 +89,7 @@ reported-block {caching} c r {b} h answered w apart missing =
       one_owner = owned-set c b.pair (gentle-report r (b.pair c) begins) h.one_owner;
       outside = outside-set caching c after b.pair (busy-inside caching c b.pair (λ p. is_answered p.probing) refl
           (rw answered refl) h.outside) h.outside;
-      copies = λ d some. h.copies d (rw (held_same d) at some);
+      copies = λ d some. h.copies d (rw ((set-part (λ (p : ClientBlock). p.held) c after b.pair refl) d) at some);
       memory = λ none. memory-written c (report_left r) after b.service b.pair b.memory b.truth begins h.memory none;
     }
 
@@ -99,7 +98,6 @@ pub let-block : {X : Type 0} {caching : ℕ → Bool} (c : ℕ) (r : Prune) {b :
 let-block {caching} c r {b} h releasing first =
     let after : ClientBlock = after_release_taken r (b.pair c) in
     let begins = release_begins r (b.pair c) (view b.service c) (h.phases c) releasing first in
-    let held_same = set-part (λ (p : ClientBlock). p.held) c after b.pair refl in
     record {
       phases = set-each (λ d q. ok q (view b.service d) ≡ true) c after b.pair
           (release_taken-ok r (b.pair c) (view b.service c) (h.phases c) releasing first) (λ d ne. h.phases d);
@@ -110,7 +108,7 @@ let-block {caching} c r {b} h releasing first =
       one_owner = owned-set c b.pair (gentle-prune r (b.pair c) begins) h.one_owner;
       outside = outside-set caching c after b.pair (busy-inside caching c b.pair (λ p. is_releasing p.letting) refl
           (rw releasing refl) h.outside) h.outside;
-      copies = λ d some. h.copies d (rw (held_same d) at some);
+      copies = λ d some. h.copies d (rw ((set-part (λ (p : ClientBlock). p.held) c after b.pair refl) d) at some);
       memory = λ none. memory-written c (prune_left r) after b.service b.pair b.memory b.truth begins h.memory none;
     }
 
@@ -176,9 +174,7 @@ release_first c n rest {s} inv first =
     in
     let behind : count ProbeAck n rest ≡ 0 = ordered-first n (s.link c).c rest (packet Release n) first
     (rw (same_number n) refl) (inv.ordered c n) in
-    let all : count ProbeAck n (packet Release n ∷ rest) ≡ one_if (is_answered ((s.block n).pair c).probing) =
-    rw first at (inv.transfers c ProbeAck refl n) in
-    go (is_answered ((s.block n).pair c).probing) (omega (arith, behind, all))
+    go (is_answered ((s.block n).pair c).probing) (omega (arith, behind, rw first at (inv.transfers c ProbeAck refl n)))
 
 pub release_taken-kept : {X : Type 0} {caching : ℕ → Bool} (c n : ℕ) (r : Prune) (rest : List Packet) {s : State X}
     → IsInvariant caching s → (s.link c).c ≡ packet Release n ∷ rest

@@ -31,14 +31,11 @@ length-carried : {w : ℕ} (rest : List (Beat w)) (ms : List (Message w)) (queue
 unfolding spelled
 length-carried rest [] queue h = let none : length queue ≡ 0 = ap length h.1 in omega (arith, none)
 length-carried {w} rest (m ∷ ms) queue (k, lt, r, q) =
-    let all : length queue ≡ length (beats_from m k (beats_of m - k) ++ spelled ms) = ap length q in
-    let first = length-beats_from m k (beats_of m - k) in
-    let whole = length-beats_from m 0 (beats_of m) in
     omega (
       arith,
-      all,
-      first,
-      whole,
+      ap length q,
+      length-beats_from m k (beats_of m - k),
+      length-beats_from m 0 (beats_of m),
       length-append (beats_from m k (beats_of m - k)) (spelled ms),
       length-append (beats_from m 0 (beats_of m)) (spelled ms),
     )
@@ -60,9 +57,8 @@ spelled-few {w} message light (x ∷ xs) width one =
     sums : (n b heavy few : ℕ) (l : Bool) (rest all : ℕ) → b ≤ n → (l ≡ true → b ≡ 1) → rest ≤ n * heavy + few
         → all ≡ b + rest → all ≤ n * (one_if (not l) + heavy) + (one_if l + few)
     sums n b heavy few true rest all le is_one le2 e =
-        let one_beat : b ≡ 1 = is_one refl in
         let same : n * (0 + heavy) ≡ n * heavy = grind arith in
-        omega (arith, one_beat, le2, e, same)
+        omega (arith, is_one refl, le2, e, same)
     sums n b heavy few false rest all le is_one le2 e =
         let more : n * (1 + heavy) ≡ n + n * heavy = grind arith in
         omega (arith, le, le2, e, more)
@@ -125,23 +121,20 @@ channel-few {w} {caching} mail {s} {c} {sources} {trackers} ch rest queue width 
     go : (d : Channel) → IsCarried rest (messages_on d mail s c) queue
         → length queue ≤ capacity (64 / w) sources trackers d
     go Channel.A h =
-        let le = length-carried rest (messages_on Channel.A mail s c) queue h in
         let all = spelled-few (message_of mail s c) (λ x. false) (s.link c).a width (λ x there e. absurd cc) in
         times (64 / w) (passing (λ x. true) (s.link c).a) (passing (λ x. false) (s.link c).a) sources (length queue) _
-        le all (none-pass (s.link c).a)
+        (length-carried rest (messages_on Channel.A mail s c) queue h) all (none-pass (s.link c).a)
         (rw (all-pass (s.link c).a) (few_on_a caching s c sources trackers inv bounds))
     go Channel.B h =
-        let le = length-carried rest (messages_on Channel.B mail s c) queue h in
         let all = spelled-few (message_of mail s c) (λ x. true) (s.link c).b width
         (λ x there e. one Channel.B x there (light_on_b x.kind)) in
         no_heavy (64 / w) (passing (λ x. false) (s.link c).b) (passing (λ x. true) (s.link c).b) trackers (length queue)
-        _ le all (none-pass (s.link c).b)
+        _ (length-carried rest (messages_on Channel.B mail s c) queue h) all (none-pass (s.link c).b)
         (rw (all-pass (s.link c).b) (few_on_b caching s c sources trackers inv bounds))
     go Channel.C h =
-        let le = length-carried rest (messages_on Channel.C mail s c) queue h in
         let all = spelled-few (message_of mail s c) (λ x. false) (s.link c).c width (λ x there e. absurd cc) in
         times (64 / w) (passing (λ x. true) (s.link c).c) (passing (λ x. false) (s.link c).c) (sources + trackers)
-        (length queue) _ le all
+        (length queue) _ (length-carried rest (messages_on Channel.C mail s c) queue h) all
         (none-pass (s.link c).c) (rw (all-pass (s.link c).c) (few_on_c caching s c sources trackers inv bounds))
     go Channel.D h =
         let le = length-carried rest (messages_on Channel.D mail s c) queue h in
@@ -151,9 +144,8 @@ channel-few {w} {caching} mail {s} {c} {sources} {trackers} ch rest queue width 
         (few_responses_on_d caching s c sources trackers inv bounds)
         (few_acks_on_d caching s c sources trackers inv bounds)
     go Channel.E h =
-        let le = length-carried rest (messages_on Channel.E mail s c) queue h in
         let all = spelled-few (message_of mail s c) (λ x. true) (s.link c).e width
         (λ x there e. one Channel.E x there (light_on_e x.kind)) in
         no_heavy (64 / w) (passing (λ x. false) (s.link c).e) (passing (λ x. true) (s.link c).e) trackers (length queue)
-        _ le all (none-pass (s.link c).e)
+        _ (length-carried rest (messages_on Channel.E mail s c) queue h) all (none-pass (s.link c).e)
         (rw (all-pass (s.link c).e) (few_on_e caching s c sources trackers inv bounds))

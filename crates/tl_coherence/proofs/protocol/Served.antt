@@ -75,7 +75,6 @@ served-block r {own} source tracker {k} {b} h free asks sourced w probed =
     let bare : (d : ℕ) (x : Bool) → b.pair d ≡ resting → (if x then b.pair d else after_served k (b.pair d)) ≡ resting =
     λ d. elim [ true ↦ λ e. e | false ↦ λ e. rw (e, none_above k Perm.None refl) refl ] in
     let recorded_same = unprobed_part (λ p. p.recorded) r own k b.pair (λ p. refl) in
-    let held_same = unprobed_part (λ p. p.held) r own k b.pair (λ p. refl) in
     record {
       phases = λ d. phase d (own && (d == r)) refl;
       awaited = (w, sent (own && (w == r)) probed);
@@ -84,7 +83,7 @@ served-block r {own} source tracker {k} {b} h free asks sourced w probed =
       alone = λ i j trunk sent_ ne. left j (own && (j == r)) (h.one_owner i j (rw (recorded_same i) at trunk) ne);
       one_owner = λ i j trunk ne. rw (recorded_same j) (h.one_owner i j (rw (recorded_same i) at trunk) ne);
       outside = λ d plain. bare d (own && (d == r)) (h.outside d plain);
-      copies = λ d some. h.copies d (rw (held_same d) at some);
+      copies = λ d some. h.copies d (rw ((unprobed_part (λ p. p.held) r own k b.pair (λ p. refl)) d) at some);
       memory = λ none. h.memory (λ d.
           let before : is_granting (view b.service d) ≡ false = rw (idle d) refl in
           sym (out_same (b.pair d) (served_pair r own k b.pair d) (view b.service d) (view (Waits r own source k) d)

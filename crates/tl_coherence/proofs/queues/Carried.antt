@@ -74,9 +74,8 @@ carried-next {w} x rest m ms queue pos (k, lt, r, q) =
     let ap₂_from : (a b c d : ℕ) → a ≡ b → c ≡ d → (beats_from m a c ++ spelled ms) ≡ (beats_from m b d ++ spelled ms) =
     λ a b c d e f. rw (e, f) refl in
     let n = beats_of m in
-    let some : n - k ≡ suc (n - k - 1) = omega (arith, lt) in
     let parts = tail_is x (beat_of m k) queue (beats_from m (k + 1) (n - k - 1) ++ spelled ms)
-    (q ∙ ap (λ (b : List (Beat w)). b ++ spelled ms) (from_next m k (n - k) some)) in
+    (q ∙ ap (λ (b : List (Beat w)). b ++ spelled ms) (from_next m k (n - k) (omega (arith, lt)))) in
     let left : n - k - 1 ≡ n - (k + 1) = omega arith in
     record {
       k = k;
@@ -111,6 +110,5 @@ pub carried-none : {w : ℕ} (rest : List (Beat w)) (ms : List (Message w)) → 
 carried-none rest [] h = refl
 carried-none {w} rest (m ∷ ms) (k, lt, r, q) =
     let nothing_is : (x : Beat w) (xs : List (Beat w)) → [] ≡ x ∷ xs → ⊥ = λ x xs e. absurd cc in
-    let some : beats_of m - k ≡ suc (beats_of m - k - 1) = omega (arith, lt) in
     absurd (nothing_is (beat_of m k) (beats_from m (k + 1) (beats_of m - k - 1) ++ spelled ms)
-    (q ∙ ap (λ (b : List (Beat w)). b ++ spelled ms) (from_next m k (beats_of m - k) some)))
+    (q ∙ ap (λ (b : List (Beat w)). b ++ spelled ms) (from_next m k (beats_of m - k) (omega (arith, lt)))))

@@ -35,5 +35,4 @@ carried-moved {w} (Pops k n) xs ys f g m q after r rest width moved (x, beats, w
     λ ms ns e i. rw (← e, ← beats) i in
     let before = same (map f xs) (f (packet k n) ∷ map f ys) (ap (map f) moved) h in
     let next = carried-next x r (f (packet k n)) (map f ys) after (λ i. beats-positive i width) before in
-    let last = next.last (eqb-true (next.k + 1) (beats_of (f (packet k n))) (sym next.completes_is ∙ whole)) in
-    rw (none, kept) last.2
+    rw (none, kept) (next.last (eqb-true (next.k + 1) (beats_of (f (packet k n))) (sym next.completes_is ∙ whole))).2

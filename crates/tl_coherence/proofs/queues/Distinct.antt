@@ -98,15 +98,13 @@ few test name owner bound xs once own =
   where
     at : (i : ℕ) (o : Option Packet) → owner i ≡ o → passing (named test name i) xs ≤ 1
     at i None e =
-        let none = passing-none (named test name i) xs (λ x there. unnamed x there (named test name i x) refl) in
-        omega (arith, none)
+        omega (arith, passing-none (named test name i) xs (λ x there. unnamed x there (named test name i x) refl))
       where
         unnamed : (x : Packet) → IsThere x xs → (b : Bool) → named test name i x ≡ b → b ≡ false
         unnamed x there false h = refl
         unnamed x there true h =
             let parts = and_parts (test x) (name x == i) h in
-            let same : name x ≡ i = eqb-true (name x) i parts.1 in
-            let is : owner i ≡ Some x = ap owner (sym same) ∙ (own x there parts.0).0 in
+            let is : owner i ≡ Some x = ap owner (sym (eqb-true (name x) i parts.1)) ∙ (own x there parts.0).0 in
             absurd cc
     at i (Some t) e =
         let one = passing-one (named test name i) t.kind t.number xs
@@ -116,8 +114,5 @@ few test name owner bound xs once own =
         same_token : (x : Packet) → IsThere x xs → (test x ≡ true) × ((name x == i) ≡ true)
             → is t.kind t.number x ≡ true
         same_token x there parts =
-            let same : name x ≡ i = eqb-true (name x) i parts.1 in
-            let is_it : owner i ≡ Some x = ap owner (sym same) ∙ (own x there parts.0).0 in
-            let it : Some t ≡ Some x = sym e ∙ is_it in
-            let that : t ≡ x = same_Some _ _ it in
-            rw that (is-itself x)
+            let is_it : owner i ≡ Some x = ap owner (sym (eqb-true (name x) i parts.1)) ∙ (own x there parts.0).0 in
+            rw (same_Some _ _ (sym e ∙ is_it)) (is-itself x)

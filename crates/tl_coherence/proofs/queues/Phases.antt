@@ -173,7 +173,6 @@ unfolding each_phase ok
 of_phase f e p v h =
     let rest = and_right (ok_first p.probing v) (ok_second p.probing p.letting p.acquiring v && ok_third p v) h in
     let first = and_left (ok_first p.probing v) (ok_second p.probing p.letting p.acquiring v && ok_third p v) h in
-    let second = and_left (ok_second p.probing p.letting p.acquiring v) (ok_third p v) rest in
     let third : ok_third p v ≡ true = and_right (ok_second p.probing p.letting p.acquiring v) (ok_third p v) rest in
     let last = λ (probing : ProbePhase) (letting : ReleasePhase) (acquiring : AcquirePhase) (u : View)
     (recorded held : Perm).
@@ -185,20 +184,18 @@ of_phase f e p v h =
     let outer = λ (u : View) (probing : ProbePhase).
     where_true (ok_first probing u)
     (λ a. each_letting (λ letting. each_acquiring (λ acquiring. middle probing u letting acquiring))) in
-    let one = of_probing (λ probing. outer v probing) (of_view (λ u. each_probing (λ probing. outer u probing)) e v)
-    p.probing in
     let two = where_is (ok_first p.probing v)
-    (λ a. each_letting (λ letting. each_acquiring (λ acquiring. middle p.probing v letting acquiring))) one first in
+    (λ a. each_letting (λ letting. each_acquiring (λ acquiring. middle p.probing v letting acquiring))) (of_probing
+    (λ probing. outer v probing) (of_view (λ u. each_probing (λ probing. outer u probing)) e v) p.probing) first in
     let three_ = of_acquiring (λ acquiring. middle p.probing v p.letting acquiring)
     (of_letting (λ letting. each_acquiring (λ acquiring. middle p.probing v letting acquiring)) two p.letting)
     p.acquiring in
     let four = where_is (ok_second p.probing p.letting p.acquiring v)
     (λ b. each_perm (λ recorded. each_perm (λ held. last p.probing p.letting p.acquiring v recorded held))) three_
-    second in
-    let five = of_perm (λ held. last p.probing p.letting p.acquiring v p.recorded held)
-    (of_perm (λ recorded. each_perm (λ held. last p.probing p.letting p.acquiring v recorded held)) four p.recorded)
-    p.held in
-    where_is (ok_third p v) (λ c. f p v) five third
+    (and_left (ok_second p.probing p.letting p.acquiring v) (ok_third p v) rest) in
+    where_is (ok_third p v) (λ c. f p v)
+    (of_perm (λ held. last p.probing p.letting p.acquiring v p.recorded held) (of_perm (λ recorded. each_perm
+    (λ held. last p.probing p.letting p.acquiring v recorded held)) four p.recorded) p.held) third
 
 -- ---- tests that are tried only where another one holds
 

@@ -41,9 +41,7 @@ total-set (suc n) m v f lt = go (cases_eq n m) (λ below. total-set n m v f belo
         let was : f n ≡ f m = ap f same in
         omega (arith, others, here, was)
     go (inr differs) rest =
-        let here : set m v f n ≡ f n = set-other m n v f differs in
-        let before : total n (set m v f) + f m ≡ total n f + v = rest (omega (arith, lt, differs)) in
-        omega (arith, here, before)
+        omega (arith, set-other m n v f differs, rest (omega (arith, lt, differs)))
 
 -- only one summand counts
 pub total-one : (n m v : ℕ) → m < n → total n (λ i. if i == m then v else 0) ≡ v

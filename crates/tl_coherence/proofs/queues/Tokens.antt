@@ -111,8 +111,7 @@ holds-pop k xs rest x q f m y e on at now h n =
     elim (cases_eq n m) [
       | inl same ↦
           let yes : one_if (is k m x) ≡ 1 = rw (on, at, same_number m) refl in
-          let all : count k m (x ∷ rest) ≡ one_if (q (f m)) = rw e at (h m) in
-          rw (same, set-same m y f, now) (none_left (q (f m)) (count k m rest) (omega (arith, all, yes)))
+          rw (same, set-same m y f, now) (none_left (q (f m)) (count k m rest) (omega (arith, rw e at (h m), yes)))
       | inr other ↦
           let no : one_if (is k n x) ≡ 0 = rw (on, at, ne_eqb n m other) refl in
           let all : count k n (x ∷ rest) ≡ one_if (q (f n)) = rw e at (h n) in

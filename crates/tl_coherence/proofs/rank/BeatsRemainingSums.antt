@@ -108,8 +108,7 @@ access_at : {w : ℕ} (o : Option Level) (m : MessageA w) → IsWidth w → ille
     → beats_of (Message.A m) + answer_beats (Message.A m) ≤ 64 / w + 1
 access_at None m width e = absurd cc
 access_at {w} (Some l) m width e =
-    let control = control_of_legal l m width e in
-    let one = next_rule (not (a_of_level l m.opcode)) L1 _ control in
+    let one = next_rule (not (a_of_level l m.opcode)) L1 _ (control_of_legal l m width e) in
     let two = next_rule (not (a_has_param m.opcode m.param)) L2 _ one.1 in
     let three = next_rule (not (a_has_size w l m.opcode m.size)) L3 _ two.1 in
     both-few w m.size l m.opcode width (not-false _ three.0) (data-few m width)
@@ -157,16 +156,13 @@ module _ {w : ℕ} (config : Config) {caching : ℕ → Bool} (mail : AccessMess
     acquires = λ c m. let all = left-few mail s rest c Acquire m in let one =
         acquire-one w ((s.block m).pair c).acquiring ((s.block m).source c) m in omega (arith, all, one);
     reports = λ c m probed spared.
-        let all = left-few mail s rest c ProbeAck m in
         let told = untold ((s.block m).pair c) (view (s.block m).service c) ((inv.blocks m).phases c) spared in
         let one = report-one w (report_left (report_told ((s.block m).pair c).probing))
         (report_told ((s.block m).pair c).probing) m (s.block m).truth told in
-        omega (arith, all, one);
+        omega (arith, left-few mail s rest c ProbeAck m, one);
     accesses = λ c source asked.
-        let all = left-few mail s rest c Request source in
-        let request : IsSourced config c source (mail.request c source) Asked = rw asked at (sourced c source) in
-        let few = access-few config c source (mail.request c source) width request in
-        omega (arith, all, few);
+        let few = access-few config c source (mail.request c source) width (rw asked at (sourced c source)) in
+        omega (arith, left-few mail s rest c Request source, few);
     answers = λ c source. answer-few (mail.request c source) width;
   }
 
@@ -174,7 +170,5 @@ module _ {w : ℕ} (config : Config) {caching : ℕ → Bool} (mail : AccessMess
   pub answer-left : (c source : ℕ) → IsAnswered source (mail.request c source) (mail.answer c source) (s.uses c source)
       → s.uses c source ≡ Replied → beats_left mail s rest c Answer source ≤ answer_to mail c source
   answer-left c source answered replied =
-      let all = left-few mail s rest c Answer source in
-      let it : IsAnswered source (mail.request c source) (mail.answer c source) Replied = rw replied at answered in
-      let same = answer-is source (mail.request c source) (mail.answer c source) it in
-      omega (arith, all, same)
+      let same = answer-is source (mail.request c source) (mail.answer c source) (rw replied at answered) in
+      omega (arith, left-few mail s rest c Answer source, same)

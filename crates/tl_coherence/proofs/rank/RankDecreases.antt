@@ -21,9 +21,7 @@ total-falls (suc n) m k f g lt le less =
         let here : g n + k ≤ f n = rw same less in
         omega (arith, others, here)
     go (inr differs) rest =
-        let others = rest (omega (arith, lt, differs)) in
-        let here = le n (omega arith) in
-        omega (arith, others, here)
+        omega (arith, rest (omega (arith, lt, differs)), le n (omega arith))
 
 module _ {X : Type 0} (config : Config) (n : ℕ) (left left' : Left) (answer answer' : ℕ → ℕ → ℕ) (s s' : State X) where
   abbrev pub clients : ℕ
@@ -62,8 +60,7 @@ module _ {X : Type 0} (config : Config) (n : ℕ) (left left' : Left) (answer an
   no-more-client is d =
       let uses = total-le (sources_of (terms_at config d)) (owed_use' d) (owed_use d) (λ i h. is.uses d i) in
       let lets = total-le (sources_of (terms_at config d)) (owed_let' d) (owed_let d) (λ i h. is.lets d i) in
-      let acks = is.acks d in
-      omega (arith, uses, lets, acks)
+      omega (arith, uses, lets, is.acks d)
 
   pub stays : IsNoMore → rank config n left' answer' s' ≤ rank config n left answer s
   stays is = total-le clients (λ d. client_weight clients n left' answer' s' (sources_of (terms_at config d)) d)
@@ -76,8 +73,7 @@ module _ {X : Type 0} (config : Config) (n : ℕ) (left left' : Left) (answer an
       let uses = total-falls (sources_of (terms_at config c)) i 1 (owed_use c) (owed_use' c) below (λ j h. is.uses c j)
       less in
       let lets = total-le (sources_of (terms_at config c)) (owed_let' c) (owed_let c) (λ j h. is.lets c j) in
-      let acks = is.acks c in
-      falls c lt (no-more-client is) (omega (arith, uses, lets, acks))
+      falls c lt (no-more-client is) (omega (arith, uses, lets, is.acks c))
 
   -- what is owed for one Release falls
   pub let-falls : (c i : ℕ) → c < clients → i < sources_of (terms_at config c) → IsNoMore
@@ -86,8 +82,7 @@ module _ {X : Type 0} (config : Config) (n : ℕ) (left left' : Left) (answer an
       let uses = total-le (sources_of (terms_at config c)) (owed_use' c) (owed_use c) (λ j h. is.uses c j) in
       let lets = total-falls (sources_of (terms_at config c)) i 1 (owed_let c) (owed_let' c) below (λ j h. is.lets c j)
       less in
-      let acks = is.acks c in
-      falls c lt (no-more-client is) (omega (arith, uses, lets, acks))
+      falls c lt (no-more-client is) (omega (arith, uses, lets, is.acks c))
 
   -- a GrantAck is taken
   pub ack-falls : (c : ℕ) → c < clients → IsNoMore → length (s'.link c).e + 1 ≤ length (s.link c).e
@@ -110,17 +105,15 @@ module _ {X : Type 0} (config : Config) (n : ℕ) (left left' : Left) (answer an
       here =
           let u = total-falls (sources_of (terms_at config c)) i 2 (owed_use c) (owed_use' c) below (λ j h. uses c j)
           less in
-          let l = total-le (sources_of (terms_at config c)) (owed_let' c) (owed_let c) (λ j h. lets c j) in
-          omega (arith, u, l, more)
+          omega (arith, u, total-le (sources_of (terms_at config c)) (owed_let' c) (owed_let c) (λ j h. lets c j), more)
 
       each : (d : ℕ) → (d ≡ c) ⊎ (d ≡ c → ⊥) → client_weight clients n left' answer' s' (sources_of (terms_at config d))
           d ≤ client_weight clients n left answer s (sources_of (terms_at config d)) d
       each d (inl same) = rw same (let h = here in omega (arith, h))
       each d (inr differs) =
-          let u = total-le (sources_of (terms_at config d)) (owed_use' d) (owed_use d) (λ j h. uses d j) in
           let l = total-le (sources_of (terms_at config d)) (owed_let' d) (owed_let d) (λ j h. lets d j) in
           let a = acks d differs in
-          omega (arith, u, l, a)
+          omega (arith, total-le (sources_of (terms_at config d)) (owed_use' d) (owed_use d) (λ j h. uses d j), l, a)
 
   -- ---- one request, or Release, that is used as before
 

@@ -50,9 +50,7 @@ total-less (suc bound) m f lt le none =
         let here : f bound ≡ 0 = rw (← same) none in
         omega (arith, others, all, here)
     go (inr differs) rest =
-        let others = rest (omega (arith, lt, differs)) in
-        let here = le bound (omega arith) in
-        omega (arith, others, here)
+        omega (arith, rest (omega (arith, lt, differs)), le bound (omega arith))
 
 -- ---- the Probes and reports of a block
 
@@ -150,9 +148,8 @@ module _ {X : Type 0} {caching : ℕ → Bool} {s : State X} (inv : IsInvariant 
       without : ((d : ℕ) → d < clients → pair_weight n left m d ((s.block m).pair d) ≤ 2)
           → probes_weight clients n left m (s.block m) ≤ 30
       without light =
-          let none = quiet-pair n (left r ProbeAck m) ((s.block m).pair r).recorded ((s.block m).pair r).probing quiet
-          in
-          let others = total-less clients r (λ d. pair_weight n left m d ((s.block m).pair d)) lt light none in
+          let others = total-less clients r (λ d. pair_weight n left m d ((s.block m).pair d)) lt light
+          (quiet-pair n (left r ProbeAck m) ((s.block m).pair r).recorded ((s.block m).pair r).probing quiet) in
           omega (arith, others, sixteen)
 
   -- ---- each open request, and each Release
@@ -204,11 +201,10 @@ module _ {X : Type 0} {caching : ℕ → Bool} {s : State X} (inv : IsInvariant 
       (λ i. one_if (is_used (s.uses c i))) (λ i. use-few c i (s.uses c i) refl) in
       let lets = times-total (n + 1) sources (λ i. let_weight left s c (s.lets c i)) (λ i. one_if (is_let (s.lets c i)))
       (λ i. let-few c i (s.lets c i) refl) in
-      let acks = one-each (n + 33) (length (s.link c).e) (omega arith) in
       let split : (n + 33) * (total sources (λ i. one_if (is_used (s.uses c i))) + length (s.link c).e)
       ≡ (n + 33) * total sources
       (λ i. one_if (is_used (s.uses c i))) + (n + 33) * length (s.link c).e = grind arith in
-      omega (arith, uses, lets, acks, split)
+      omega (arith, uses, lets, one-each (n + 33) (length (s.link c).e) (omega arith), split)
 
   pub potential-few : (config : Config) → length config.clients.items ≡ clients
       → rank config n left answer s ≤ (n + 33) * open_requests config s + (n + 1) * open_releases config s

@@ -66,16 +66,13 @@ module _ {w : ℕ} (config : Config) (log : Log w) (mail : AccessMessages w) (re
 
   tracker_below : (i n : ℕ) → s.tracked i ≡ Some n → i < config.trackers
   tracker_below i n e =
-      let named : tracks_with i (s.block n) ≡ true = sym (matched.invariant.named.trackers i n) ∙ rw e (same_number n)
-      in
-      let parts = and_parts (is_busy (s.block n).service) (i == (s.block n).tracker) named in
+      let parts = and_parts (is_busy (s.block n).service) (i == (s.block n).tracker)
+      (sym (matched.invariant.named.trackers i n) ∙ rw e (same_number n)) in
       let q = someone (s.block n).service parts.0 in
-      let is : service_of_block n (services sys.manager.trace) ≡ Some
-      (record { tracker = (s.block n).tracker; link = record { 0 = q.0 }; request = request n }) =
-      matched.managed.serving_is n ∙ ap (λ (o : Option ℕ). service_with o (s.block n).tracker (request n)) q.1 in
       let same : i ≡ (s.block n).tracker = eqb-true i (s.block n).tracker parts.1 in
       rw same (of_each (λ k. k < config.trackers) (trackers_of (services sys.manager.trace)) (s.block n).tracker
-      (tracker_among n (services sys.manager.trace) _ is) matched.manager_kept.tracked)
+      (tracker_among n (services sys.manager.trace) _ (matched.managed.serving_is n
+      ∙ ap (λ (o : Option ℕ). service_with o (s.block n).tracker (request n)) q.1)) matched.manager_kept.tracked)
 
   pub matched-bounded : IsOwn config c sys → AreBounded c (sources_of (terms_at config c)) config.trackers s
   matched-bounded own = record {

@@ -85,14 +85,12 @@ acquire_asked-carried {w} {caching} c n source whole g bytes m mail {s} {sys} {s
     h =
     let new : Block (List ℕ) = acquiring_block c source whole g bytes (s.block n) in
     let s' : State (List ℕ) = acquire_asked c n source whole g bytes s in
-    let moved : AreMoved (acquire_moves n) (s.link c) (with_a (packet Acquire n) (s.link c)) =
-    elim [ Channel.A ↦ refl | _ ↦ refl ] in
     let fits : (at : Channel) → Fits false (only_on Channel.A m at) (acquire_moves n at)
     (λ k i. message_of mail s' c (packet k i)) =
     elim [ Channel.A ↦ new_there Acquire c n new s.block m is | at ↦ tt ] in
     carried-event sys sys' width
-    (showing-block n new (moves_at c (acquire_moves n)) mail mail inv inv'
-    (moved-at c (acquire_moves n) (with_a (packet Acquire n) (s.link c)) s.link moved) (λ i. refl)
+    (showing-block n new (moves_at c (acquire_moves n)) mail mail inv inv' (moved-at c (acquire_moves n)
+    (with_a (packet Acquire n) (s.link c)) s.link (elim [ Channel.A ↦ refl | _ ↦ refl ])) (λ i. refl)
     (λ d. alike-acquiring c source whole g bytes (inv.blocks n) calm d) (λ d i e f. refl) (λ d i e f. refl))
     (queued-handed (moves_at c (acquire_moves n)) mail s' handed (fits-handed c (pushes_of (Some m)) (acquire_moves n)
     (λ d k i. message_of mail s' d (packet k i)) (λ at. fits_pushed false m Channel.A at (acquire_moves n at)
@@ -107,14 +105,12 @@ pub release_asked-carried : {w : ℕ} {caching : ℕ → Bool} (c n source : ℕ
 release_asked-carried {w} {caching} c n source r m mail {s} {sys} {sys'} width inv inv' kept chan is handed h =
     let new : Block (List ℕ) = releasing_block c source r (s.block n) in
     let s' : State (List ℕ) = release_asked c n source r s in
-    let moved : AreMoved (release_moves n) (s.link c) (with_c (packet Release n) (s.link c)) =
-    elim [ Channel.A ↦ refl | _ ↦ refl ] in
     let fits : (at : Channel) → Fits false (only_on Channel.C m at) (release_moves n at)
     (λ k i. message_of mail s' c (packet k i)) =
     elim [ Channel.C ↦ new_there Release c n new s.block m is | at ↦ tt ] in
     carried-event sys sys' width
-    (showing-block n new (moves_at c (release_moves n)) mail mail inv inv'
-    (moved-at c (release_moves n) (with_c (packet Release n) (s.link c)) s.link moved) (λ i. refl)
+    (showing-block n new (moves_at c (release_moves n)) mail mail inv inv' (moved-at c (release_moves n)
+    (with_c (packet Release n) (s.link c)) s.link (elim [ Channel.A ↦ refl | _ ↦ refl ])) (λ i. refl)
     (λ d. alike-releasing c source r (s.block n) kept d) (λ d i e f. refl) (λ d i e f. refl))
     (queued-handed (moves_at c (release_moves n)) mail s' handed (fits-handed c (pushes_of (Some m)) (release_moves n)
     (λ d k i. message_of mail s' d (packet k i)) (λ at. fits_pushed false m Channel.C at (release_moves n at)

@@ -47,7 +47,6 @@ pub report_answers-shown : {w : ℕ} {caching : ℕ → Bool} (c q n source : �
     (record { request = mail.request; answer = set_at q source m mail.answer }) s
     (report_answers c q n source r f rest s)
 report_answers-shown {w} {caching} c q n source r k f rest m mail {s} inv inv' first waits used bytes chan =
-    let new : Block (List ℕ) = ended_block c r f (s.block n) in
     let mail' : AccessMessages w = record { request = mail.request; answer = set_at q source m mail.answer } in
     let s' : State (List ℕ) = report_answers c q n source r f rest s in
     let moves : ℕ → Channel → Move = λ d. ended_move (d == c) (d == q) n source in
@@ -61,8 +60,8 @@ report_answers-shown {w} {caching} c q n source r k f rest m mail {s} inv inv' f
     (d == q) n source m at (λ j l. message_of mail' s' d (packet j l)) (answer_is d)) in
     record {
       moves = moves;
-      showing = showing-block n new moves mail mail' inv inv' (λ d ch. moved d ch) (λ i. refl)
-          (alike-ended c q source r k f (s.block n) waits bytes) (λ d i e g. refl)
+      showing = showing-block n (ended_block c r f (s.block n)) moves mail mail' inv inv' (λ d ch. moved d ch)
+          (λ i. refl) (alike-ended c q source r k f (s.block n) waits bytes) (λ d i e g. refl)
           (λ d i e g. answers d i e (cases_eq d q) (cases_eq i source));
       fits = λ d at. fits d at;
     }

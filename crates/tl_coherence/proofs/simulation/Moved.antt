@@ -229,10 +229,9 @@ carried-part {w} mail s {c} {ch} {x} {queue} {sys} {sys'} width is none part h d
     go : (d ≡ c) ⊎ (d ≡ c → ⊥) → (b : Bool) → same_channel at ch ≡ b
         → IsCarried (unfinished at (receiver at d sys')) (messages_on at mail s d) (sys'.channels d at)
     go (inl same) true e =
-        let there : at ≡ ch = same_channel-is at ch e in
         moved (grown x (rest d at)) queue (is.rests d at ∙ rw (same, same_number c, e) refl)
         (channel_is ∙ rw (same, same_number c, e) refl)
-        (rw (same, there) (first (messages_on ch mail s c) (rw is.first at (h c ch))))
+        (rw (same, same_channel-is at ch e) (first (messages_on ch mail s c) (rw is.first at (h c ch))))
     go (inl same) false e = moved (rest d at) (sys.channels d at) (is.rests d at ∙ rw (same, same_number c, e) refl)
         (channel_is ∙ rw (same, same_number c, e) refl) (h d at)
     go (inr other) b e = moved (rest d at) (sys.channels d at) (is.rests d at ∙ rw (ne_eqb d c other) refl)

@@ -114,5 +114,4 @@ first-left {w} {ch} {c} {mail} {s} {sys} first =
       same_number first.number,
       first.next.rest_is,
     ) (length-begun (message_of_kind first.kind mail s c first.number) first.next.k) in
-    let within = first.next.within in
-    omega (arith, taken, within)
+    omega (arith, taken, first.next.within)

@@ -139,9 +139,8 @@ sized_acquiring c source whole g bytes {b} long h = record { truth = h.truth; wa
     go : (d : ℕ) → (d ≡ c) ⊎ (d ≡ c → ⊥) → is_whole (set c after b.pair d).acquiring ≡ true
         → length (set c bytes b.waiting d) ≡ 64
     go d (inl same) e =
-        let f : whole ≡ true = sym (ap (λ (p : ClientBlock). is_whole p.acquiring) (set-same c after b.pair)) ∙ ap
-        (λ (j : ℕ). is_whole (set c after b.pair j).acquiring) (sym same) ∙ e in
-        rw same (ap length (set-same c bytes b.waiting) ∙ long f)
+        rw same (ap length (set-same c bytes b.waiting) ∙ long (sym (ap (λ (p : ClientBlock). is_whole p.acquiring)
+        (set-same c after b.pair)) ∙ ap (λ (j : ℕ). is_whole (set c after b.pair j).acquiring) (sym same) ∙ e))
     go d (inr other) e = ap length (set-other c d bytes b.waiting other) ∙ h.waiting d
         (sym (ap (λ (p : ClientBlock). is_whole p.acquiring) (set-other c d after b.pair other)) ∙ e)
 
@@ -150,11 +149,10 @@ pub sized-asked : {w : ℕ} {caching : ℕ → Bool} (c : ℕ) (o : Op w) (r : R
 sized-asked c (Op.Store address size value) Reply.Stored h inv typed ask before = λ i.
     let n : ℕ = block_at address in
     let b : Block (List ℕ) = h.state.block n in
-    let long : length (b.copy c) ≡ 64 = ap length ((inv.blocks n).copies c (trunk-some (b.pair c).held ask.1))
-    ∙ (before n).truth in
     sized_block n h.state.block
-    (sized_same (stored_block c (copy_stored address size value (b.copy c)) b)
-    (length-stored address size value (b.copy c) long (word_room address size ask.0)) (λ d. refl) (λ d e. e) (before n))
+    (sized_same (stored_block c (copy_stored address size value (b.copy c)) b) (length-stored address size value
+    (b.copy c) (ap length ((inv.blocks n).copies c (trunk-some (b.pair c).held ask.1)) ∙ (before n).truth)
+    (word_room address size ask.0)) (λ d. refl) (λ d e. e) (before n))
     before i
 sized-asked c (Op.Acquire n g) (Reply.Started source) h inv typed ask before = λ i.
     sized_block n h.state.block (sized_acquiring c source false g ((h.state.block n).waiting c)

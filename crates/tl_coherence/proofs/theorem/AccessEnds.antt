@@ -156,14 +156,12 @@ ends-answer {w} {config} {log} {link} {ch} {h} {x} {source} {f} width is end e =
     let sys : System w = system_after config log in
     let m : Machine w = one_memory_after config log in
     let it : IsOver config log c n h = over c n h is due.used in
-    let asked_is : request_of end.response.source (sys.clients c).past ≡ Some (a_beat_of (sourced n it.asked) 0) =
-    ap (λ (i : ℕ). request_of i (sys.clients c).past) (sym end.source_is ∙ from) ∙ it.pending_is in
     let payload : List ℕ = payload_of (Beat.D (d_beat_of end.response end.first.next.k) ∷ unfinished Channel.D
     (sys.clients c).past) in
     let fin : f ≡ finish_with (Message.A it.asked) it.reply =
     cc (
       end.finish_is,
-      asked_is,
+      ap (λ (i : ℕ). request_of i (sys.clients c).past) (sym end.source_is ∙ from) ∙ it.pending_is,
       ends_answered (level_of config c) (sourced n it.asked) end.response it.reply _
           width it.lawful (response_is ∙ it.answer) it.reach (whole_response end),
       finish_sourced n it.asked it.reply,

@@ -67,9 +67,8 @@ ends-transfer {w} {config} {log} {link} {h} {x} {source} {f} is end other = go e
           granted-at (d_beat_of end.response end.first.next.k) (sys.clients c) due.data_too due.k
               (ap (λ (i : MessageD w). i.opcode) same) (ap (λ (i : MessageD w). i.param) same),
         ) in
-        let from : source ≡ (h.state.block n).source c = end.source_is ∙ ap (λ (i : MessageD w). i.source) same in
         let opened = opened-acquire config log h sys c source n (h.state.uses c source) is refl
-        (ap (h.state.uses c) from ∙ due.used) in
+        (ap (h.state.uses c) (end.source_is ∙ ap (λ (i : MessageD w). i.source) same) ∙ due.used) in
         let named : cap_named x ≡ cap_right due.k = cc (end.beat_is, same, cap-gives due.k) in
         let fits = due.fits in
         subst (λ (i : Finish). Ends (m.opened c (pool_of i) source) x i) (sym fin)
@@ -85,9 +84,8 @@ ends-transfer {w} {config} {log} {link} {h} {x} {source} {f} is end other = go e
         let fin : f ≡ Finish.Released = end.finish_is ∙ released-at (d_beat_of end.response end.first.next.k)
         (sys.clients c) (ap (λ (i : MessageD w). i.opcode) same) in
         let from : source ≡ (h.state.block n).release_source c = cc (end.source_is, same) in
-        let lets : h.state.lets c source ≡ Some n = ap (h.state.lets c) from ∙ ack-due c n
-        end.first.rest is.invariant (tokens ReleaseAck e) in
         subst (λ (i : Finish). Ends (m.opened c (pool_of i) source) x i) (sym fin)
-        (let_open n (h.state.lets c source) (m.opened c Releases source) x lets (is.beside.releases c source))
+        (let_open n (h.state.lets c source) (m.opened c Releases source) x (ap (h.state.lets c) from
+        ∙ ack-due c n end.first.rest is.invariant (tokens ReleaseAck e)) (is.beside.releases c source))
     go Answer e own = absurd (other e)
     go k e own = absurd (let g : false ≡ true = rw e at own in cc)

@@ -98,11 +98,9 @@ answering-delivered {w} config log link ch h width is = go (is_moving (stepped c
         → sys.channels c at ≡ x ∷ queue → is_moving (stepped config (Deliver link at) sys).outcome ≡ true → Then at
     down at terms x queue theirs known beats moving =
         let t = client-moves config link at sys terms x queue known beats theirs moving in
-        let fit : IsFitAnswer config.blocks (Ok (t.verdict_is, t.message)) =
-        subst (IsFitAnswer config.blocks) t.answer
-        (fit-taken config.blocks x (sys.clients c) (head at x queue beats).inside (copy-long is c)) in
         inl (ap (λ (s : Step w). accesses_answered s.handed) t.step_is
-        ∙ fit-quiet config.blocks c t.verdict_is t.message fit)
+        ∙ fit-quiet config.blocks c t.verdict_is t.message (subst (IsFitAnswer config.blocks) t.answer
+        (fit-taken config.blocks x (sys.clients c) (head at x queue beats).inside (copy-long is c))))
 
     -- the manager takes it
     up : (at : Channel) (terms : EndConfig) (x : Beat w) (queue : List (Beat w)) → is_to_client at ≡ false

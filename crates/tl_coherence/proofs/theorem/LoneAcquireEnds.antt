@@ -113,24 +113,21 @@ alone-drained : {w : ℕ} {config : Config} {log : Log w} {c block source n : �
     (held_at ((system_after config (drained config n ((Ask c op, Replied (Started source)) ∷ log))).clients c) block)
     ≡ true
 alone-drained {w} {config} {log} {c} {block} {source} {n} {op} {a} is drains =
-    let start : Log w = (Ask c op, Replied (Started source)) ∷ log in
-    let end : Log w = drained config n start in
+    let end : Log w = drained config n ((Ask c op, Replied (Started source)) ∷ log) in
     let lone = lone_drained n (record { given = is.given; lone = lone_started is }) in
-    let closed = nothing_open lone.given drains.nothing_left in
     ap (grown config.profile a) (((matched-given config end lone.given).known c).held_is block)
     ∙ brought config.profile block a ((shadow config end).state.uses c source)
     (((shadow config end).state.block block).pair c)
-    (closed.uses c source) lone.lone.brings
+    ((nothing_open lone.given drains.nothing_left).uses c source) lone.lone.brings
 
 pub alone : {w : ℕ} → LoneAcquire w
 alone config log client block source n grow none given drains =
-    let s = (shadow config log).state in
     alone-drained
     (record {
       given = given;
       alone = none;
       begins = λ closed. lone_asked config.profile client block source false grow
-          ((s.block block).waiting client) closed;
+          (((shadow config log).state.block block).waiting client) closed;
     }) drains
 
 is_trunk : (held : Perm) → same_perm Perm.Trunk held ≡ true → held ≡ Perm.Trunk
@@ -147,8 +144,7 @@ whole-brings Profile.Two Perm.Trunk held e = is_trunk held e
 
 pub alone_whole : {w : ℕ} → LoneAcquireWhole w
 alone_whole config log client block source n bytes none given drains =
-    let s = (shadow config log).state in
-    let before : Perm = ((s.block block).pair client).held in
+    let before : Perm = (((shadow config log).state.block block).pair client).held in
     whole-brings config.profile before _
     (alone-drained
     (record {

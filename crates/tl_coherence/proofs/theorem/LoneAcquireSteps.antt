@@ -153,9 +153,8 @@ module _ (p : Profile) (c n source : ℕ) (a : AcquirePhase) where
           let never : (b : Bool) → b ≡ true → is_other (if b then Own else Other k) ≡ true → ⊥ =
           elim [ true ↦ λ e f. absurd cc | false ↦ λ e f. absurd cc ] in
           let own : view (s.block n).service r ≡ Own = rw (e, same_number r) refl in
-          let wants = owns_ask ((s.block n).pair r) (view (s.block n).service r) ((inv.blocks n).phases r) (rw own refl)
-          in
-          let mine = own_acquire r ((s.block n).source r) n is (source_of_acquire r n inv wants) in
+          let mine = own_acquire r ((s.block n).source r) n is (source_of_acquire r n inv
+          (owns_ask ((s.block n).pair r) (view (s.block n).service r) ((inv.blocks n).phases r) (rw own refl))) in
           never (c == r) (ap (λ (j : ℕ). c == j) mine.0.0 ∙ same_number c) other
 
   -- ---- messages that are taken
@@ -179,9 +178,8 @@ module _ (p : Profile) (c n source : ℕ) (a : AcquirePhase) where
       let after : State (List ℕ) = (kind_taken config tracker d Grant m rest h).state in
       let uses_are : (e i : ℕ) → after.uses e i ≡ set_at d src SourceFree h.state.uses e i =
       λ e i. ap (λ (v : Service). (taken_by_client d m v rest h).state.uses e i) due.service in
-      let given_as : IsGivenAsked p (GrantSent d due.data_too due.k) (h.state.block m).pair =
-      subst (λ (v : Service). IsGivenAsked p v (h.state.block m).pair) due.service (given m) in
-      let gives : gives_asked p (AcquireOpen due.whole due.g) due.k ≡ true = cc (due.wants, given_as) in
+      let gives : gives_asked p (AcquireOpen due.whole due.g) due.k ≡ true =
+      cc (due.wants, subst (λ (v : Service). IsGivenAsked p v (h.state.block m).pair) due.service (given m)) in
       record {
         others = λ e i else_. uses_are e i ∙ each-set_at (λ j k (v : SourceState). IsElsewhere c source j k
             → v ≡ SourceFree) d src SourceFree h.state.uses (λ any. refl) is.others e i else_;

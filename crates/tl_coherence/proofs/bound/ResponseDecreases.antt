@@ -73,6 +73,7 @@ module _ {w : ℕ} {config : Config} {mail mail' : AccessMessages w} {s s' : Sta
       → AreAsBefore s'.lets s.lets → ((d : ℕ) → (d ≡ c → ⊥) → length (s'.link d).e ≤ length (s.link d).e)
       → length (s'.link c).e ≡ length (s.link c).e + 1 → Falls taking
   grant-taken-falls data_too was_data whole k cap given used closed some new unlike lets acks more =
+      let before : view (s.block n).service c ≡ Granting was_data cap = rw (given, same_number c) refl in
       let opened : s.uses c ((s.block n).source c) ≡ SourceFree → ⊥ =
       λ e. absurd (let both : Acquires n ≡ SourceFree = sym used ∙ e in cc) in
       granted-falls taking block c
@@ -80,9 +81,6 @@ module _ {w : ℕ} {config : Config} {mail mail' : AccessMessages w} {s s' : Sta
     where
       taken : (s'.block n).service ≡ GrantTaken c
       taken = ap (λ (b : Block (List ℕ)). b.service) new
-
-      before : view (s.block n).service c ≡ Granting was_data cap
-      before = rw (given, same_number c) refl
 
       acquire : (d i : ℕ) → s.uses d i ≡ Acquires n → s'.uses d i ≡ Acquires n → (d ≡ c) ⊎ (d ≡ c → ⊥)
           → acquire_weight size (left' d Acquire n) (left' d Grant n) (probes_weight number size left' n (s'.block n))

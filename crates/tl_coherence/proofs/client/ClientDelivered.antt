@@ -163,8 +163,10 @@ pub grant-delivered : {w : ℕ} {config : Config} {log : Log w} {mail : AccessMe
     → sys.channels c Channel.D ≡ x ∷ queue → (s.link c).d ≡ packet Grant n ∷ rest
     → IsNext x (unfinished Channel.D (sys.clients c).past) (block_message Grant c n (s.block n)) ms queue
     → IsTakenBy config terms tracker c (shadow_of mail request s) x (sys.clients c)
-grant-delivered {w} {config} {log} {mail} {request} {s} {sys} terms tracker c n rest {ms} {x} {queue} width h at beats
-    first next =
+grant-delivered {w} {config} {log} {mail} {request} {s} {sys} terms tracker c n rest {ms} {x}
+    {queue} width h at beats first next =
+    let fits =
+    fitting ((s.block n).pair c).recorded ((s.block n).pair c).held due.data_too due.k due.whole due.g due.fits in
     let e : Endpoint w = sys.clients c in
     let m = grant_message due.data_too due.k ((s.block n).source c) (s.block n).tracker (s.block n).truth in
     let end : IsEnd (asked_by mail s c) c s e = end-matched h c in
@@ -196,9 +198,6 @@ grant-delivered {w} {config} {log} {mail} {request} {s} {sys} terms tracker c n 
   where
     due : IsGrantDue c n s
     due = grant-due (λ i. is_caching config i) c n rest s h.invariant first
-
-    fits : IsFitting ((s.block n).pair c).held due.data_too due.k due.whole due.g
-    fits = fitting ((s.block n).pair c).recorded ((s.block n).pair c).held due.data_too due.k due.whole due.g due.fits
 
     given : gives_asked config.profile (AcquireOpen due.whole due.g) due.k ≡ true
     given =

@@ -168,8 +168,16 @@ pub probe-delivered : {w : ℕ} {config : Config} {log : Log w} {mail : AccessMe
     → sys.channels c Channel.B ≡ x ∷ queue → (s.link c).b ≡ packet Probe n ∷ rest
     → IsNext x (unfinished Channel.B (sys.clients c).past) (block_message Probe c n (s.block n)) ms queue
     → IsProbed config terms tracker c n (shadow_of mail request s) x (sys.clients c)
-probe-delivered {w} {config} {log} {mail} {request} {s} {sys} terms tracker c n rest {ms} {x} {queue} width h at beats
-    first next =
+probe-delivered {w} {config} {log} {mail} {request} {s} {sys} terms tracker c n rest {ms} {x}
+    {queue} width h at beats first next =
+    let is = terms-are config c terms at in
+    let k = cap_sent ((s.block n).pair c).probing in
+    let beat_is = probe-beat c n s next in
+    let lawful : illegal terms.level Channel.B (Beat.B (probe_beat {w = w} n k)) ≡ None =
+    cc (is.level, beat_is, (sound-beat c Channel.B x queue h beats).lawful) in
+    let e = sys.clients c in
+    let end = end-matched h c in
+    let whole = ap (completes x) end.kept.b_whole ∙ ap (λ (y : Beat w). completes y []) beat_is in
     let sent : is_sent ((s.block n).pair c).probing ≡ true = first-shown h.invariant c Probe refl first in
     let before : x ≡ Beat.B (probe_beat n k) → broken_before terms Channel.B x e ≡ None =
     λ f. cc (f, passes_before terms Channel.B (Beat.B (probe_beat n k)) e (h.live c) refl lawful) in
@@ -203,28 +211,6 @@ probe-delivered {w} {config} {log} {mail} {request} {s} {sys} terms tracker c n 
       takes = takes;
       last = last;
     }
-  where
-    e : Endpoint w
-    e = sys.clients c
-
-    k : Cap
-    k = cap_sent ((s.block n).pair c).probing
-
-    end : IsEnd (asked_by mail s c) c s e
-    end = end-matched h c
-
-    beat_is : x ≡ Beat.B (probe_beat n k)
-    beat_is = probe-beat c n s next
-
-    whole : completes x (unfinished Channel.B e.past) ≡ true
-    whole =
-        ap (completes x) end.kept.b_whole ∙ ap (λ (y : Beat w). completes y []) beat_is
-
-    is : AreTermsOf config c terms
-    is = terms-are config c terms at
-
-    lawful : illegal terms.level Channel.B (Beat.B (probe_beat {w = w} n k)) ≡ None
-    lawful = cc (is.level, beat_is, (sound-beat c Channel.B x queue h beats).lawful)
 
 -- ---- all of channel B
 

@@ -42,33 +42,19 @@ last_d : {w : ℕ} (config : Config) (log : Log w) (link : Link) (h : AbstractSt
     → IsDelivered config log link Channel.D h
 unfolding performing
 last_d {w} config log link h {h'} {x} {queue} is t same responded =
+    let sys = system_after config log in
+    let e = sys.clients link.0 in
+    let last = sym (ap (λ (z : Beat w). completes z (unfinished Channel.D e.past)) is.x_is) ∙ is.last in
+    let same_parts = same_answers t.verdict_is (Verdict.Done is.y.source (finish_at is.y e)) t.message
+    (acked is.y.opcode is.y.sink) (offer.taken x e).answer t.answer
+    (ap (λ (z : Beat w). (offer.taken z e).answer) is.x_is ∙ answer-last is.y e last) in
+    let now = handing (Outcome.Done x is.y.source (finish_at is.y e)) (handed_by link.0 (acked is.y.opcode is.y.sink))
+    (with_client link.0 (offer.taken x e).after (with_channel link.0 Channel.D queue sys)) in
+    let step_is : stepped config (Deliver link Channel.D) sys ≡ now = cc (t.step_is, same_parts.0, same_parts.1) in
     delivered_as config log link Channel.D h h' same (subst (λ (y : Step w). ChannelRelation h'.mail h'.state y.after)
     (sym step_is) responded.carried) (subst (λ (m : Machine w). MemoryRelation h'.mail h'.state m)
-    (sym (remembered_after config log link Channel.D now step_is
-    ∙ ap (λ (l : List (ℕ × ℕ)). performing l (moved (Deliver link Channel.D) now.outcome (one_memory_after config log)))
-    responded.quiet)) responded.beside)
-  where
-    sys : System w
-    sys = system_after config log
-
-    e : client.Endpoint w
-    e = sys.clients link.0
-
-    last : completes (Beat.D is.y) (unfinished Channel.D e.past) ≡ true
-    last = sym (ap (λ (z : Beat w). completes z (unfinished Channel.D e.past)) is.x_is) ∙ is.last
-
-    now : Step w
-    now = handing (Outcome.Done x is.y.source (finish_at is.y e)) (handed_by link.0 (acked is.y.opcode is.y.sink))
-        (with_client link.0 (offer.taken x e).after (with_channel link.0 Channel.D queue sys))
-
-    same_parts : (t.verdict_is ≡ Verdict.Done is.y.source (finish_at is.y e))
-        × (t.message ≡ acked is.y.opcode is.y.sink)
-    same_parts = same_answers t.verdict_is (Verdict.Done is.y.source (finish_at is.y e)) t.message
-        (acked is.y.opcode is.y.sink) (offer.taken x e).answer t.answer
-        (ap (λ (z : Beat w). (offer.taken z e).answer) is.x_is ∙ answer-last is.y e last)
-
-    step_is : stepped config (Deliver link Channel.D) sys ≡ now
-    step_is = cc (t.step_is, same_parts.0, same_parts.1)
+    (sym (remembered_after config log link Channel.D now step_is ∙ ap (λ (l : List (ℕ × ℕ)). performing l
+    (moved (Deliver link Channel.D) now.outcome (one_memory_after config log))) responded.quiet)) responded.beside)
 
 none_pushed : (w : ℕ) (at : Channel) (b : Bool) → (if b then pushes_of {w = w} None at else None) ≡ None
 none_pushed w at true = refl
@@ -85,35 +71,21 @@ part_d : {w : ℕ} {config : Config} {log : Log w} (link : Link) (h : AbstractSt
     → IsDelivered config log link Channel.D h
 unfolding performing accesses_answered
 part_d {w} {config} {log} link h {terms} {x} {queue} mm k width is first x_is part t same =
+    let y = d_beat_of mm k in
+    let sys = system_after config log in
+    let e = sys.clients link.0 in
+    let same_parts = same_answers t.verdict_is Verdict.Taken t.message None (offer.taken x e).answer t.answer
+    (ap (λ (z : Beat w). (offer.taken z e).answer) x_is ∙ answer-part y e
+    (sym (ap (λ (z : Beat w). completes z (unfinished Channel.D e.past)) x_is) ∙ part)) in
+    let now = handing (Outcome.Moved x) (handed_by link.0 None)
+    (with_client link.0 (offer.taken x e).after (with_channel link.0 Channel.D queue sys)) in
+    let step_is : stepped config (Deliver link Channel.D) sys ≡ now = cc (t.step_is, same_parts.0, same_parts.1) in
     delivered_as config log link Channel.D h h same (subst (λ (y : Step w). ChannelRelation h.mail h.state y.after)
-    (sym step_is) (carried-part h.mail h.state width
-    (landed-client link.0 Channel.D x queue None (offer.taken x e).after sys refl first
-    (subst (λ (z : Beat w). IsOn Channel.D z) (sym x_is) (on_own_channel (Beat.D y)))
-    (client-heard width (is.kept link.0) t))
-    (λ d at. none_pushed w at (d == link.0)) part is.carried))
+    (sym step_is) (carried-part h.mail h.state width (landed-client link.0 Channel.D x queue None
+    (offer.taken x e).after sys refl first (subst (λ (z : Beat w). IsOn Channel.D z) (sym x_is) (on_own_channel
+    (Beat.D y))) (client-heard width (is.kept link.0) t)) (λ d at. none_pushed w at (d == link.0)) part is.carried))
     (subst (λ (m : Machine w). MemoryRelation h.mail h.state m)
     (sym (remembered_after config log link Channel.D now step_is)) is.beside)
-  where
-    sys : System w
-    sys = system_after config log
-
-    e : client.Endpoint w
-    e = sys.clients link.0
-
-    y : BeatD w
-    y = d_beat_of mm k
-
-    now : Step w
-    now = handing (Outcome.Moved x) (handed_by link.0 None)
-        (with_client link.0 (offer.taken x e).after (with_channel link.0 Channel.D queue sys))
-
-    same_parts : (t.verdict_is ≡ Verdict.Taken) × (t.message ≡ None)
-    same_parts = same_answers t.verdict_is Verdict.Taken t.message None (offer.taken x e).answer t.answer
-        (ap (λ (z : Beat w). (offer.taken z e).answer) x_is ∙ answer-part y e
-        (sym (ap (λ (z : Beat w). completes z (unfinished Channel.D e.past)) x_is) ∙ part))
-
-    step_is : stepped config (Deliver link Channel.D) sys ≡ now
-    step_is = cc (t.step_is, same_parts.0, same_parts.1)
 
 pub rendered_release_ack : {w : ℕ} (c n : ℕ) (b : Block (List ℕ)) → block_message {w = w} ReleaseAck c n b ≡ Message.D
     (ack_message (b.release_source c))

@@ -151,6 +151,7 @@ pub acks-delivered : {w : ℕ} {config : Config} {log : Log w} (h : AbstractStat
     (with_state (grant_ack_taken c n rest h.state) h) [] sys.manager x
 unfolding block_message
 acks-delivered {w} {config} {log} h {sys} c n rest {x} {queue} width is beats tokens next =
+    let order = ack-order c n y is.invariant.named is.served is.manager_kept taken_is refl in
     let before : List (Beat w) = unfinished Channel.E (on_link c e.trace) in
     let after : AbstractState w = with_state (grant_ack_taken c n rest h.state) h in
     let up = takes c Channel.E (Beat.E y) e (subst (λ (i : Beat w). manager.IsSound config (record { 0 = c }, i))
@@ -172,10 +173,6 @@ acks-delivered {w} {config} {log} h {sys} c n rest {x} {queue} width is beats to
 
     taken_is : (h.state.block n).service ≡ GrantTaken c
     taken_is = first-grant_ack is.invariant tokens
-
-    order : (pending (GrantSink y.sink) (on_link c e.trace) ≡ true)
-        × (broken_in_order {w = w} config.profile (Beat.E y) (on_link c e.trace) ≡ None)
-    order = ack-order c n y is.invariant.named is.served is.manager_kept taken_is refl
 
     acks : IsAcked c n y h.request h.state e.trace
     acks = record {

@@ -47,6 +47,11 @@ pub flowed-acquire : {w : ℕ} {X : Type 0} {c n : ℕ} {y : BeatA w} {asked ask
     → ends (Beat.A y) t ≡ true → AreRests (Beat.A y) rest rest' → IsAcquired c n y asked asked' rest rest' s s'
     → MonitorRelation asked rest c s t → MonitorRelation asked' rest' c s' (Beat.A y ∷ t)
 flowed-acquire {w} {X} {c} {n} {y} {asked} {asked'} {rest} {rest'} {s} {s'} {t} first_is last_is rests is before =
+    let probed = each-block (λ m z. is_answered (z.pair c).probing ≡ true
+    → probe_of m t ≡ Some (probe_beat m (cap_waited z.service))) n s s' is.elsewhere
+    (λ e. absurd (let f : false ≡ true = sym is.answered ∙ e in cc)) (λ m ne e. before.probed m e) in
+    let answered =
+    part-block (λ (z : Block X). is_answered (z.pair c).probing) n s s' is.elsewhere (is.answered ∙ sym is.quiet) in
     let b : Block X = s.block n in
     let new : Block X = s'.block n in
     let none_comes = no_coming (is_granting (view b.service c)) (comes_granting n asked (rest Channel.D))
@@ -122,13 +127,3 @@ flowed-acquire {w} {X} {c} {n} {y} {asked} {asked'} {rest} {rest'} {s} {s'} {t} 
       let_by-same c i (rest Channel.C) (s.lets c i) s s'
           (part-block (λ (z : Block X). (z.pair c).letting) n s s' is.elsewhere is.letting_is),
     )
-
-    answered : (m : ℕ) → is_answered ((s'.block m).pair c).probing ≡ is_answered ((s.block m).pair c).probing
-    answered = part-block (λ (z : Block X). is_answered (z.pair c).probing) n s s' is.elsewhere
-        (is.answered ∙ sym is.quiet)
-
-    probed : (m : ℕ) → is_answered ((s'.block m).pair c).probing ≡ true
-        → probe_of m t ≡ Some (probe_beat m (cap_waited (s'.block m).service))
-    probed = each-block (λ m z. is_answered (z.pair c).probing ≡ true
-        → probe_of m t ≡ Some (probe_beat m (cap_waited z.service))) n s s' is.elsewhere
-        (λ e. absurd (let f : false ≡ true = sym is.answered ∙ e in cc)) (λ m ne e. before.probed m e)

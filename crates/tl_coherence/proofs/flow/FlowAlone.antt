@@ -46,9 +46,21 @@ pub flowed-grant_ack : {w : ℕ} {X : Type 0} {c : ℕ} (n : ℕ) (toks : List P
     → IsComing asked (rest Channel.D) c s
     → ((m : ℕ) → comes_granting m asked' (rest Channel.D) ≡ comes_granting m asked (rest Channel.D))
     → MonitorRelation asked rest c s t → MonitorRelation asked' rest' c (grant_ack_taken c n toks s) (Beat.E y ∷ t)
-flowed-grant_ack {w} {X} {c} n toks y {asked} asked' {rest} rest' {s} {t} first last rests asks sink seen named busy
-    busy_a busy_g
-    coming comes before =
+flowed-grant_ack {w} {X} {c} n toks y {asked} asked' {rest} rest' {s}
+    {t} first last rests asks sink seen named busy busy_a busy_g coming comes before =
+    let none_comes = no_coming (is_granting (view b.service c)) (comes_granting n asked (rest Channel.D))
+    (not_granting (view b.service c) seen) (coming n) in
+    let tracked = set-each (λ m z. granted_by c m asked' (rest' Channel.D) z ≡ true → grant_sink m t
+    ≡ Some z.tracker) n new s.block (λ e. absurd (let f : false ≡ true = sym (grants_rest n ∙ none_comes) ∙ e in cc))
+    (λ m ne e. before.sunk m (before.grants m
+    ∙ sym (ap (λ (z : Bool). is_acknowledging (view (s.block m).service c) || z) (grants_rest m)) ∙ e)) in
+    let acks_here = ap (λ (v : View). is_acknowledging v || comes_granting n asked (rest Channel.D)) seen in
+    let grants = set-each (λ m z. granted_by c m asked' (rest' Channel.D) z ≡ step true true false
+    (is_sink y.sink (grant_sink m t)) (granted_by c m asked (rest Channel.D) (s.block m))) n new s.block
+    (grants_rest n ∙ none_comes ∙ sym (closes_it (granted_by c n asked (rest Channel.D) b) (is_sink y.sink
+    (grant_sink n t)) (rw sink (is_own_sink b.tracker (grant_sink n t) (before.sunk n (before.grants n ∙ acks_here))))))
+    (λ m ne. ap (λ (z : Bool). is_acknowledging (view (s.block m).service c) || z) (grants_rest m) ∙ sym (leaves_it
+    (granted_by c m asked (rest Channel.D) (s.block m)) (is_sink y.sink (grant_sink m t)) (other_closed m ne))) in
     let requests : (i : ℕ) → is_requested c i (rest' Channel.A) (s'.uses c i) s' ≡ is_requested c i (rest Channel.A)
     (s.uses c i) s = λ i. cc (
       rests Channel.A,
@@ -132,10 +144,6 @@ flowed-grant_ack {w} {X} {c} n toks y {asked} asked' {rest} rest' {s} {t} first 
         ne (is_same (s.tracked b.tracker) (named.trackers b.tracker n ∙ rw (busy, same_number b.tracker) refl)
         (named.trackers b.tracker m ∙ rw (also, same, same_number b.tracker) refl))
 
-    none_comes : comes_granting n asked (rest Channel.D) ≡ false
-    none_comes = no_coming (is_granting (view b.service c)) (comes_granting n asked (rest Channel.D))
-        (not_granting (view b.service c) seen) (coming n)
-
     grants_rest : (m : ℕ) → comes_granting m asked' (rest' Channel.D) ≡ comes_granting m asked (rest Channel.D)
     grants_rest m = ap (comes_granting m asked') (rests Channel.D) ∙ comes m
 
@@ -151,27 +159,6 @@ flowed-grant_ack {w} {X} {c} n toks y {asked} asked' {rest} rest' {s} {t} first 
         → is_sink y.sink (grant_sink m t) ≡ false
     other_closed m ne e = rw sink (other_sink b.tracker (s.block m).tracker (grant_sink m t)
         (before.sunk m (before.grants m ∙ e)) (apart m (of_block m e) ne))
-
-    acks_here : granted_by c n asked (rest Channel.D) b ≡ true
-    acks_here = ap (λ (v : View). is_acknowledging v || comes_granting n asked (rest Channel.D)) seen
-
-    grants : (m : ℕ) → granted_by c m asked' (rest' Channel.D) (s'.block m) ≡ step true true false
-        (is_sink y.sink (grant_sink m t)) (granted_by c m asked (rest Channel.D) (s.block m))
-    grants = set-each (λ m z. granted_by c m asked' (rest' Channel.D) z ≡ step true true false
-        (is_sink y.sink (grant_sink m t)) (granted_by c m asked (rest Channel.D) (s.block m))) n new s.block
-        (grants_rest n ∙ none_comes ∙ sym (closes_it (granted_by c n asked (rest Channel.D) b)
-        (is_sink y.sink (grant_sink n t))
-        (rw sink (is_own_sink b.tracker (grant_sink n t) (before.sunk n (before.grants n ∙ acks_here))))))
-        (λ m ne. ap (λ (z : Bool). is_acknowledging (view (s.block m).service c) || z) (grants_rest m)
-        ∙ sym (leaves_it (granted_by c m asked (rest Channel.D) (s.block m)) (is_sink y.sink (grant_sink m t))
-        (other_closed m ne)))
-
-    tracked : (m : ℕ) → granted_by c m asked' (rest' Channel.D) (s'.block m) ≡ true
-        → grant_sink m t ≡ Some (s'.block m).tracker
-    tracked = set-each (λ m z. granted_by c m asked' (rest' Channel.D) z ≡ true → grant_sink m t ≡ Some z.tracker) n new
-        s.block (λ e. absurd (let f : false ≡ true = sym (grants_rest n ∙ none_comes) ∙ e in cc))
-        (λ m ne e. before.sunk m (before.grants m
-        ∙ sym (ap (λ (z : Bool). is_acknowledging (view (s.block m).service c) || z) (grants_rest m)) ∙ e))
 
     sinks : (i : ℕ) → is_sunk c i (rest' Channel.D) (s'.tracked i) s' ≡ step true true false (y.sink == i)
         (is_sunk c i (rest Channel.D) (s.tracked i) s)

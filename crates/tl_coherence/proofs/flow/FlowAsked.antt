@@ -66,6 +66,9 @@ pub untouched-acquire_asked : {w : ℕ} {X : Type 0} (c n source : ℕ) (whole :
     → ((m : ℕ) → comes_granting m asked' (rest Channel.D) ≡ comes_granting m asked (rest Channel.D))
     → IsUntouched asked asked' rest c s (acquire_asked c n source whole g bytes s)
 untouched-acquire_asked {w} {X} c n source whole g bytes asked asked' rest s closed calm unserved asks grants =
+    let b = s.block n in
+    let new = acquiring_block c source whole g bytes b in
+    let pair = set-same c (after_acquire whole g (b.pair c)) b.pair in
     let served : (p q : Bool) → q ≡ true → (p && not q) ≡ false = elim [ true ↦ λ q e. rw e refl | false ↦ λ q e. refl ]
     in
     let s' : State X = acquire_asked c n source whole g bytes s in
@@ -93,15 +96,6 @@ untouched-acquire_asked {w} {X} c n source whole g bytes asked asked' rest s clo
       caps = λ m e. set-part (λ (z : Block X). cap_waited z.service) n new s.block refl m;
       trackers = λ m e. set-part (λ (z : Block X). z.tracker) n new s.block refl m;
     }
-  where
-    b : Block X
-    b = s.block n
-
-    new : Block X
-    new = acquiring_block c source whole g bytes b
-
-    pair : new.pair c ≡ after_acquire whole g (b.pair c)
-    pair = set-same c (after_acquire whole g (b.pair c)) b.pair
 
 -- ---- a Release
 

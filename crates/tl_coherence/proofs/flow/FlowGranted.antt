@@ -131,8 +131,12 @@ pub flowed-grant : {w : ℕ} {X : Type 0} {c n : ℕ} {d : Bool} {k : Cap} {y : 
     → begins (Beat.D y) t ≡ first → ends (Beat.D y) t ≡ last → AreRests (Beat.D y) rest rest'
     → IsGranting c n d k y first last asked asked' rest rest' s s' → MonitorRelation asked rest c s t
     → MonitorRelation asked' rest' c s' (Beat.D y ∷ t)
-flowed-grant {w} {X} {c} {n} {d} {k} {y} {first} {last} {asked} {asked'} {rest} {rest'} {s} {s'} {t} first_is last_is
-    rests is before =
+flowed-grant {w} {X} {c} {n} {d} {k} {y} {first} {last} {asked} {asked'} {rest} {rest'} {s} {s'}
+    {t} first_is last_is rests is before =
+    let probed = each-block (λ m z. is_answered (z.pair c).probing ≡ true
+    → probe_of m t ≡ Some (probe_beat m (cap_waited z.service))) n s s' is.elsewhere
+    (λ e. absurd (let f : false ≡ true = sym is.quiet ∙ sym is.answered ∙ e in cc)) (λ m ne e. before.probed m e) in
+    let answered = part-block (λ (z : Block X). is_answered (z.pair c).probing) n s s' is.elsewhere is.answered in
     let b : Block X = s.block n in
     let grants_at : ℕ → Bool = λ m. is_grant y.opcode && asks_for m (request_of y.source t) in
     let names : (m : ℕ) → (is_grant y.opcode && asks_for m (request_of y.source t)) ≡ (n == m) =
@@ -285,12 +289,3 @@ flowed-grant {w} {X} {c} {n} {d} {k} {y} {first} {last} {asked} {asked'} {rest} 
           unbegun first last (is_grant y.opcode && (y.sink == i))
               (is_sunk c i (rest Channel.D) (Some m) s) (and_right (is_grant y.opcode) (y.sink == i) e),
         )
-
-    answered : (m : ℕ) → is_answered ((s'.block m).pair c).probing ≡ is_answered ((s.block m).pair c).probing
-    answered = part-block (λ (z : Block X). is_answered (z.pair c).probing) n s s' is.elsewhere is.answered
-
-    probed : (m : ℕ) → is_answered ((s'.block m).pair c).probing ≡ true
-        → probe_of m t ≡ Some (probe_beat m (cap_waited (s'.block m).service))
-    probed = each-block (λ m z. is_answered (z.pair c).probing ≡ true
-        → probe_of m t ≡ Some (probe_beat m (cap_waited z.service))) n s s' is.elsewhere
-        (λ e. absurd (let f : false ≡ true = sym is.quiet ∙ sym is.answered ∙ e in cc)) (λ m ne e. before.probed m e)

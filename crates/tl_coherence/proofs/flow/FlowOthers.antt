@@ -161,6 +161,8 @@ pub same-given : {X : Type 0} (c q source : ℕ) (r : Report) (j k : Cap) (x : B
     → b.service ≡ Waits q true source j → (b.pair q).held ≡ (b.pair q).recorded → is_answered (b.pair q).probing ≡ false
     → IsSameBlock q (reported_block c r b) (granted_block c q r x k b)
 same-given {X} c q source r j k x b other waits even quiet =
+    let new = granted_block c q r x k b in
+    let pair = set-same q (after_grant_sent k (b.pair q)) (set c (after_report r (b.pair c)) b.pair) in
     let old : Block X = reported_block c r b in
     let same : old.pair q ≡ b.pair q = set-other c q (after_report r (b.pair c)) b.pair other in
     let now : view new.service q ≡ Granting x k = rw (same_number q) refl in
@@ -178,12 +180,6 @@ same-given {X} c q source r j k x b other waits even quiet =
           ∙ e in cc);
       tracker = inl refl;
     }
-  where
-    new : Block X
-    new = granted_block c q r x k b
-
-    pair : new.pair q ≡ after_grant_sent k (b.pair q)
-    pair = set-same q (after_grant_sent k (b.pair q)) (set c (after_report r (b.pair c)) b.pair)
 
 pub same-let : {X : Type 0} (d c : ℕ) (r : Prune) (b : Block X) → (d ≡ c → ⊥) → IsSameBlock d b (let_block c r b)
 same-let d c r b ne = others-same d b (let_block c r b) (set-other c d (after_release_taken r (b.pair c)) b.pair ne)

@@ -49,6 +49,8 @@ moved-to_manager : {w : ℕ} {config : Config} {log : Log w} (link : Link) (ch :
     → IsMovedOn config log link ch h x queue
 unfolding with_messages
 moved-to_manager {w} {config} {log} link ch h terms x queue width is known down beats moving =
+    let sys = system_after config log in
+    let handed : Handed w = (reaction config link x sys.manager).handed in
     let at = at-manager link ch h terms x queue width is known down beats moving in
     let e : manager_end.End w = manager_offer.taken link x (reaction config link x sys.manager) sys.manager in
     record {
@@ -63,12 +65,6 @@ moved-to_manager {w} {config} {log} link ch h terms x queue width is known down 
       );
       follows = at.follows;
     }
-  where
-    sys : System w
-    sys = system_after config log
-
-    handed : Handed w
-    handed = (reaction config link x sys.manager).handed
 
 moved-to_client : {w : ℕ} {config : Config} {log : Log w} (link : Link) (ch : Channel) (h : AbstractState w)
     (terms : EndConfig) (x : Beat w) (queue : List (Beat w)) → IsWidth w

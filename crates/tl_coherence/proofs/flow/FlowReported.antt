@@ -39,9 +39,13 @@ pub flowed-report : {w : ℕ} {X : Type 0} {c : ℕ} (n : ℕ) (r : Report) (tok
     → ((i : ℕ) → comes_in_release i (rest' Channel.C) ≡ comes_in_release i (rest Channel.C)) → block_at y.address ≡ n
     → reported y.param ≡ report_right r → is_granting (view (s.block n).service c) ≡ false
     → MonitorRelation asked rest c s t → MonitorRelation asked rest' c (report_taken c n r toks s) (Beat.C y ∷ t)
-flowed-report {w} {X} {c} n r toks y first {asked} {rest} rest' {s} {t} first_is last_is rests ack other comes at says
-    alone
-    before =
+flowed-report {w} {X} {c} n r toks y first {asked} {rest} rest' {s}
+    {t} first_is last_is rests ack other comes at says alone before =
+    let quiet = ap (λ (p : ClientBlock). is_answered p.probing) (set-same c (after_report r (b.pair c)) b.pair) in
+    let probed = set-each (λ m z. is_answered (z.pair c).probing ≡ true
+    → probe_of m t ≡ Some (probe_beat m (cap_waited z.service))) n new s.block
+    (λ e. absurd (let f : false ≡ true = sym quiet ∙ e in cc)) (λ m ne e. before.probed m e) in
+    let recorded = ap (λ (p : ClientBlock). p.recorded) (set-same c (after_report r (b.pair c)) b.pair) in
     let sunk_same : (i : ℕ) (o : Option ℕ) → is_sunk c i (rest Channel.D) o s' ≡ is_sunk c i (rest Channel.D) o s =
     λ i. elim [ None ↦ refl | Some m ↦ cc (set-part (λ (z : Block X). z.service) n new s.block refl m) ] in
     let apart : (m : ℕ) → (m ≡ n → ⊥) → (block_at y.address == m) ≡ false =
@@ -110,21 +114,9 @@ flowed-report {w} {X} {c} n r toks y first {asked} {rest} rest' {s} {t} first_is
     s' : State X
     s' = report_taken c n r toks s
 
-    recorded : (new.pair c).recorded ≡ report_right r
-    recorded = ap (λ (p : ClientBlock). p.recorded) (set-same c (after_report r (b.pair c)) b.pair)
-
-    quiet : is_answered (new.pair c).probing ≡ false
-    quiet = ap (λ (p : ClientBlock). is_answered p.probing) (set-same c (after_report r (b.pair c)) b.pair)
-
     letting_same : (new.pair c).letting ≡ (b.pair c).letting
     letting_same = part_of (λ (p : ClientBlock). p.letting) c (after_report r (b.pair c)) b.pair refl
 
     lets : (i : ℕ) → is_let_by c i (rest' Channel.C) (s'.lets c i) s' ≡ is_let_by c i (rest Channel.C) (s.lets c i) s
     lets i = let_by_rest c i (rest Channel.C) (rest' Channel.C) (s.lets c i) s' (comes i) ∙ let_by-same c i
         (rest Channel.C) (s.lets c i) s s' (set-part (λ (z : Block X). (z.pair c).letting) n new s.block letting_same)
-
-    probed : (m : ℕ) → is_answered ((s'.block m).pair c).probing ≡ true
-        → probe_of m t ≡ Some (probe_beat m (cap_waited (s'.block m).service))
-    probed = set-each (λ m z. is_answered (z.pair c).probing ≡ true
-        → probe_of m t ≡ Some (probe_beat m (cap_waited z.service))) n new s.block
-        (λ e. absurd (let f : false ≡ true = sym quiet ∙ e in cc)) (λ m ne e. before.probed m e)

@@ -20,6 +20,9 @@ moved-first : {w : ℕ} {config : Config} {log : Log w} (h : AbstractState w) (l
     → ((d : ℕ) → flow d ((Deliver link ch, o) ∷ log) ≡ (if link.0 == d then x ∷ flow d log else flow d log))
     → (queue : List (Beat w)) × ((system_after config log).channels link.0 (channel_of x) ≡ x ∷ queue)
 moved-first {w} {config} {log} h link ch o x width is o_is moves delivered =
+    let moving = sym (ap is_moving o_is) ∙ moves in
+    let at = first-moved config link ch (system_after config log) moving in
+    let on : channel_of at.0 ≡ ch = (first-of config log h link.0 at.2 ch at.0 at.1 width is at.3.1 at.3.0).on in
     let head : (b : Bool) → b ≡ true → (if b then x ∷ flow link.0 log else flow link.0 log) ≡ (if b then at.0
     ∷ flow link.0 log else flow link.0 log) → at.0 ≡ x = elim [ true ↦ λ e f. cc | false ↦ λ e f. absurd cc ] in
     let moved = moved-on link ch h at.0 at.1 at.2 width is at.3.0 at.3.1 moving (is_to_client ch) refl in
@@ -31,16 +34,6 @@ moved-first {w} {config} {log} h link ch o x width is o_is moves delivered =
       ap ((system_after config log).channels link.0) (sym (ap (λ (z : Beat w). channel_of z) same) ∙ on) ∙ at.3.0
           ∙ ap (λ (z : Beat w). z ∷ at.1) same,
     )
-  where
-    moving : is_moving (stepped config (Deliver link ch) (system_after config log)).outcome ≡ true
-    moving = sym (ap is_moving o_is) ∙ moves
-
-    at : (z : Beat w) × (queue : List (Beat w)) × (terms : EndConfig)
-        × (((system_after config log).channels link.0 ch ≡ z ∷ queue) × (terms_at config link.0 ≡ Some terms))
-    at = first-moved config link ch (system_after config log) moving
-
-    on : channel_of at.0 ≡ ch
-    on = (first-of config log h link.0 at.2 ch at.0 at.1 width is at.3.1 at.3.0).on
 
 -- the beat of an outcome
 moved-beat : {w : ℕ} {config : Config} {log : Log w} (h : AbstractState w) (link : Link) (ch : Channel) (x : Beat w)

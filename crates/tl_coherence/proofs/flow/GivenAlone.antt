@@ -52,6 +52,9 @@ given-next : {w : ℕ} {config : Config} {log : Log w} → IsGiven config log �
     → (n other : ℕ) → grants n y (flow c log) ≡ true → (other ≡ c → ⊥)
     → leaves (capped y.param) (held n (flow other log)) ≡ true
 given-next {w} {config} {log} given c y queue beats n other granted ne =
+    let values = flowed config log given.width given.typed given.is_log in
+    let grant = grant-next config log h c y queue given.width is values beats n granted in
+    let due = grant.due in
     let seen : view b.service c ≡ Granting due.data_too due.k = own_view c due.data_too due.k b.service due.service in
     let gives : capped y.param ≡ cap_right due.k = cc (grant.beat_is, cap-gives due.k) in
     let even : (b.pair c).recorded ≡ cap_right due.k = sym (same_perms (b.pair c).recorded (cap_right due.k) (and_right
@@ -67,15 +70,6 @@ given-next {w} {config} {log} given c y queue beats n other granted ne =
 
     is : SimulationRelation config log h.mail h.request h.state (system_after config log)
     is = matched-given config log given
-
-    values : MonitorRelations log h.mail h.state (system_after config log)
-    values = flowed config log given.width given.typed given.is_log
-
-    grant : IsGrantBeat c n h.state y (length (unfinished Channel.D (flow c log)))
-    grant = grant-next config log h c y queue given.width is values beats n granted
-
-    due : IsGrantDue c n h.state
-    due = grant.due
 
     b : Block (List ℕ)
     b = h.state.block n

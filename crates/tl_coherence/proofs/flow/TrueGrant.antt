@@ -20,25 +20,15 @@ pub true-next : {w : ℕ} (config : Config) (log : Log w) → IsGiven config log
     → (bytes : List ℕ) × (length bytes ≡ 64) × IsBlock (one_memory_after config log).memory n bytes
     × (y.lanes ≡ lanes_at true w bytes (length (unfinished Channel.D (flow c log))))
 true-next {w} config log given c y queue beats n granted with_data =
+    let k = length (unfinished Channel.D (flow c log)) in
+    let h = shadow config log in
+    let is = matched-given config log given in
+    let grant = grant-next config log h c y queue given.width is
+    (flowed config log given.width given.typed given.is_log) beats n granted in
+    let due = grant.due in
     let lanes : y.lanes ≡ lanes_at true w (h.state.block n).truth k =
     cc (grant.beat_is, with_data_only due.data_too (sym (ap (λ (z : BeatD w). z.opcode) grant.beat_is) ∙ with_data)) in
     ((h.state.block n).truth, (is.sized n).truth, is.beside.memory n, lanes)
-  where
-    h : AbstractState w
-    h = shadow config log
-
-    is : SimulationRelation config log h.mail h.request h.state (system_after config log)
-    is = matched-given config log given
-
-    k : ℕ
-    k = length (unfinished Channel.D (flow c log))
-
-    grant : IsGrantBeat c n h.state y k
-    grant = grant-next config log h c y queue given.width is (flowed config log given.width given.typed given.is_log)
-        beats n granted
-
-    due : IsGrantDue c n h.state
-    due = grant.due
 
 true-moved : {w : ℕ} (config : Config) (log : Log w) → IsGiven config log → (c : ℕ) (x : Beat w) (queue : List (Beat w))
     → (system_after config log).channels c (channel_of x) ≡ x ∷ queue

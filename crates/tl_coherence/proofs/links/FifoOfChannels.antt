@@ -223,6 +223,7 @@ moved-passing {w} config log link ch terms x queue width typed logged known beat
         by_manager : IsTakenByManager config link ch x queue sys (stepped config (Deliver link ch) sys)
             → IsPassing (stepped config (Deliver link ch) sys).after f'
         by_manager t =
+            let handed : Handed w = (manager_reaction.reaction config link x sys.manager).handed in
             let e = manager_offer.taken link x (manager_reaction.reaction config link x sys.manager) sys.manager in
             let now : System w = with_manager e (with_channel c ch queue sys) in
             subst (λ (y : Step w). IsPassing y.after (λ d. flow d ((Deliver link ch, y.outcome) ∷ log))) (sym t.step_is)
@@ -234,9 +235,6 @@ moved-passing {w} config log link ch terms x queue width typed logged known beat
             (reaction_handable config link x sys.manager width head h.manager_kept.sound)
             (passing-same _ _ _ _ (λ d. refl) (λ d. refl) (λ d at. refl) (λ d. refl)
             (manager-hears c ch x queue down on_ch beats is))))
-          where
-            handed : Handed w
-            handed = (manager_reaction.reaction config link x sys.manager).handed
 
 -- ---- after every log
 

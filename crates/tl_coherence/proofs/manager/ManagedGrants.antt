@@ -47,6 +47,8 @@ pub traced-conceded : {w : ℕ} {X : Type 0} {request : ℕ → MessageA w} {c q
     → IsConceded c q n source k gift r x m request s t → IsTraced request s t
     → IsTraced request (report_grants c q n r dt gift rest s) (after_sent (record { 0 = q }) (D m) (taken c x t))
 traced-conceded {w} {X} {request} {c} {q} {n} {gift} {r} dt rest {x} {m} {s} {t} is known =
+    let new = granted_block c q r dt gift (s.block n) in
+    let u = taken c x t in
     let given : IsGiven q n m u = conceded-given is in
     let records_now : (d i : ℕ) → (if (q == d) && (n == i) then capped m.param else recorded d i u)
     ≡ (if (q == d) && (n == i) then cap_right gift else ((set n mid s.block i).pair d).recorded) =
@@ -74,14 +76,8 @@ traced-conceded {w} {X} {request} {c} {q} {n} {gift} {r} dt rest {x} {m} {s} {t}
           ∙ (quiet-c (record { 0 = c }) x t).requests p from ∙ asked_now i p from own low e;
     }
   where
-    u : Trace w
-    u = taken c x t
-
     mid : Block X
     mid = reported_block c r (s.block n)
-
-    new : Block X
-    new = granted_block c q r dt gift (s.block n)
 
     gives : ClientBlock
     gives = after_grant_sent gift ((s.block n).pair q)

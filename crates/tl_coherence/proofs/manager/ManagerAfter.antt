@@ -139,6 +139,7 @@ pub released-left : {w : ℕ} {config : Config} {c n k : ℕ} (r : Prune) (rest 
     (left c (Beat.C (c_beat_of m k)) (reaction config (record { 0 = c }) (Beat.C (c_beat_of m k)) e) e)
 unfolding with_handed
 released-left {w} {config} {c} {n} {k} r rest {m} h {e} up end is =
+    let truth : List ℕ = (h.state.block n).truth in
     let x : BeatC w = c_beat_of m k in
     let after : State (List ℕ) = release_taken c n r rest h.state in
     let does : Reaction w = record {
@@ -167,9 +168,6 @@ released-left {w} {config} {c} {n} {k} r rest {m} h {e} up end is =
           (others-left n x does end.width up done is.manager_kept end.about.block) is.memory i);
       all_live = is.all_live;
     })
-  where
-    truth : List ℕ
-    truth = (h.state.block n).truth
 
 -- ---- which ProbeAcks are missing
 
@@ -219,6 +217,7 @@ pub reported-left : {w : ℕ} {config : Config} {c n k : ℕ} (r : Report) (rest
     (left c (Beat.C (c_beat_of m k)) (reaction config (record { 0 = c }) (Beat.C (c_beat_of m k)) e) e)
 unfolding with_handed
 reported-left {w} {config} {c} {n} {k} r rest {m} h {e} up end others is =
+    let truth : List ℕ = (h.state.block n).truth in
     let x : BeatC w = c_beat_of m k in
     let after : State (List ℕ) = report_taken c n r rest h.state in
     let does : Reaction w = nothing (memory_with (record { 0 = c }) x e) in
@@ -234,9 +233,6 @@ reported-left {w} {config} {c} {n} {k} r rest {m} h {e} up end others is =
           (others-left n x does end.width up done is.manager_kept end.about.block) is.memory i);
       all_live = is.all_live;
     })
-  where
-    truth : List ℕ
-    truth = (h.state.block n).truth
 
 -- ---- a GrantAck
 

@@ -136,6 +136,7 @@ pub beside-request_taken : {w : ℕ} {config : Config} {log : Log w} (h : Abstra
     (performing (accesses_answered (reaction config (link_of c) (Beat.A (a_beat_of asked.request k))
     sys.manager).handed) machine)
 beside-request_taken {w} {config} {log} h {sys} {c} {source} {k} rest {machine} is asked comes last beside =
+    let clients = length config.clients.items in
     let m : MessageA w = asked.request in
     let n : ℕ = block_at m.address in
     let b : Block (List ℕ) = h.state.block n in
@@ -155,9 +156,6 @@ beside-request_taken {w} {config} {log} h {sys} {c} {source} {k} rest {machine} 
     (request_taken clients c source (Message.A m) tracker rest h).state (performing l machine))
     (sym (request-accesses h is asked comes last)) (beside-request tracker rest h is.invariant (plain-past config)
     performed_so beside))
-  where
-    clients : ℕ
-    clients = length config.clients.items
 
 -- ---- an Acquire
 

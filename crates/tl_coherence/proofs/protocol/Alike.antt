@@ -62,16 +62,13 @@ alike-ended c q source r k f b waits bytes = alike-pairs b (ended_block c r f b)
 
 pub alike-granted : (c q source : ℕ) (r : Report) (own d : Bool) (k gift : Cap) (b : Block (List ℕ))
     → b.service ≡ Waits q own source k → (c ≡ q → ⊥) → (i : ℕ) → AreAlike i b (granted_block c q r d gift b)
-alike-granted c q source r own d k gift b waits apart = alike-pairs b (granted_block c q r d gift b) pairs refl refl
+alike-granted c q source r own d k gift b waits apart =
+    let reported = set c (after_report r (b.pair c)) b.pair in
+    let pairs = set-each (λ i x. IsAlikePair (b.pair i) x) q (after_grant_sent gift (b.pair q)) reported
+    (alike-parts (b.pair q) (after_grant_sent gift (b.pair q)) refl refl refl)
+    (λ i ne. alike-pair c (after_report r (b.pair c)) b.pair (reported-pair r (b.pair c)) i) in
+    alike-pairs b (granted_block c q r d gift b) pairs refl refl
     (waiting-grants q source own k b (granted_block c q r d gift b) waits) (λ j i e f. inr refl)
-  where
-    reported : ℕ → ClientBlock
-    reported = set c (after_report r (b.pair c)) b.pair
-
-    pairs : (i : ℕ) → IsAlikePair (b.pair i) (granted_pair c q r gift b.pair i)
-    pairs = set-each (λ i x. IsAlikePair (b.pair i) x) q (after_grant_sent gift (b.pair q)) reported
-        (alike-parts (b.pair q) (after_grant_sent gift (b.pair q)) refl refl refl)
-        (λ i ne. alike-pair c (after_report r (b.pair c)) b.pair (reported-pair r (b.pair c)) i)
 
 -- ---- a Release, and its answer
 

@@ -81,6 +81,8 @@ pub asked-first : {w : ℕ} {config : Config} {log : Log w} {mail : AccessMessag
     → SimulationRelation config log mail request s sys → (s.link c).a ≡ packet Request source ∷ rest
     → IsAsked config c source mail s
 asked-first {w} {config} {log} {mail} {request} {s} {sys} c source rest is first =
+    let used = first-request is.invariant first in
+    let sourced : IsRequest config c source (mail.request c source) = rw used at (is.sourced c source) in
     let of : IsOfSource source (mail.request c source) = of_source source (mail.request c source) sourced.0 in
     record {
       request = of.request;
@@ -91,12 +93,6 @@ asked-first {w} {config} {log} {mail} {request} {s} {sys} c source rest is first
       lawful = rw of.is_it at sourced.1;
       blank = rw of.is_it at sourced.2;
     }
-  where
-    used : s.uses c source ≡ Asked
-    used = first-request is.invariant first
-
-    sourced : IsRequest config c source (mail.request c source)
-    sourced = rw used at (is.sourced c source)
 
 -- ---- an Acquire that is wanted
 

@@ -91,6 +91,11 @@ module _ {w : ℕ} {config : Config} (log : Log w) (link : Link) (ch : Channel) 
       → is_free n None (needs x.opcode) (block_at x.address) (trace_of after) ≡ true
   unfolding shadow system_after
   free-after q source one access still x asks n =
+      let answer : AccessResult = (effect (Message.A access.0) (one_memory_after config log).memory).1 in
+      let opened = ap (λ (m : Machine w). m.opened q Requests source)
+      (machine_after q source one access still) ∙ open-here q Requests source
+      (Some (record { asked = Op.Access (Message.A access.0); answer = Some answer })) (with_memory
+      (effect (Message.A access.0) (one_memory_after config log).memory).0 (one_memory_after config log)) in
       let used : h'.state.uses q source ≡ Replied = replied q source h'.mail h'.state (h'.state.uses q source)
       ((one_memory_after config after).opened q Requests source) (Message.A access.0) answer
       (is'.beside.requests q source) opened in
@@ -107,16 +112,6 @@ module _ {w : ℕ} {config : Config} (log : Log w) (link : Link) (ch : Channel) 
             access.2 old.0)
         | inr new ↦ free new.0 new.1 new.2
       ]
-    where
-      answer : AccessResult
-      answer = (effect (Message.A access.0) (one_memory_after config log).memory).1
-
-      opened : (one_memory_after config after).opened q Requests source
-          ≡ Some (record { asked = Op.Access (Message.A access.0); answer = Some answer })
-      opened = ap (λ (m : Machine w). m.opened q Requests source) (machine_after q source one access still)
-          ∙ open-here q Requests source (Some (record { asked = Op.Access (Message.A access.0); answer = Some answer }))
-          (with_memory (effect (Message.A access.0) (one_memory_after config log).memory).0
-          (one_memory_after config log))
 
 pub performed_free : {w : ℕ} → PerformedFree w
 performed_free {w} config log link ch o given c source rest x answers asks =

@@ -38,8 +38,7 @@ module _ {w : ℕ} {config : Config} {log : Log w} (h : AbstractState w) (width 
   by-first {link} {ch} sys' d lt sixteen received kept = kind-owed h sys' width matched
       (next_tracker (system_after config log)) link.0 d.first.rest lt d.first.kind d.first.number sixteen (
         on_same ch d.first.kind (h.state.link link.0) d.first.own ∙ d.first.tokens,
-        subst (λ (i : Channel). IsReceived link.0 i (system_after config log) sys') (sym (kind_channel ch d.first.kind
-            d.first.own)) received,
+        rw (kind_channel ch d.first.kind d.first.own) received,
         ready-delivered ch width matched d,
       ) kept
 

@@ -22,9 +22,7 @@ use proofs.simulation.Popped.{unfinished_at}
 pub left-first : {w : ℕ} (ch : Channel) (c : ℕ) (k : Kind) (n : ℕ) (tokens : List Packet) (mail : AccessMessages w)
     (s : State (List ℕ)) (sys : System w) → ChannelRelation mail s sys → is_on ch k ≡ true
     → packets_on ch (s.link c) ≡ packet k n ∷ tokens → 1 ≤ beats_left mail s (unfinished_at sys) c k n
-left-first {w} ch c k n tokens mail s sys carried own first =
-    go (subst (λ (ts : List Packet). IsCarried (unfinished_at sys c ch) (map (message_of mail s c) ts)
-    (sys.channels c ch)) first (carried c ch))
+left-first {w} ch c k n tokens mail s sys carried own first = go (rw first at (carried c ch))
   where
     go : IsCarried (unfinished_at sys c ch) (map (message_of mail s c) (packet k n ∷ tokens)) (sys.channels c ch)
         → 1 ≤ beats_left mail s (unfinished_at sys) c k n

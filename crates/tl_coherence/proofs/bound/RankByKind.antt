@@ -66,8 +66,7 @@ module _ {w : ℕ} {config : Config} {log : Log w} (h : AbstractState w) (sys' :
   pub kind-owed : (k : Kind) (i : ℕ) → length config.clients.items ≤ 16 → IsEnding k i
       → Falls (kind_taken config tracker c k i rest h)
   kind-owed k i sixteen ending = true-taken config tracker c rest h IsEnding Falls k i (record {
-    nothing = λ j n known idle. absurd (let busy = never-idle config tracker c j n rest h matched.invariant known.0
-        known.2 in let no : false ≡ true = sym busy ∙ idle in cc);
+    nothing = λ j n known idle. absurd (cc (never-idle config tracker c j n rest h matched.invariant known.0 known.2));
     access_answered = λ source m o known from caps none.
         access_answered-owed sys' width matched c _ rest lt source (performs m) _ known.0
         (first-request matched.invariant known.0) (unread-bytes c _ m matched

@@ -73,8 +73,7 @@ module _ {w : ℕ} {config : Config} {mail mail' : AccessMessages w} {s s' : Sta
       → left' c Answer source ≤ answer c source → s'.block n ≡ performed_block f (s.block n)
       → AreElsewhere c source s'.uses s.uses → AreAsBefore s'.lets s.lets → AreNoMore s'.link s.link → Falls taking
   answered-falls source f asked replied few new unlike lets acks =
-      let opened : s.uses c source ≡ SourceFree → ⊥ = λ e. absurd (let both : Asked ≡ SourceFree = sym asked ∙ e in cc)
-      in
+      let opened : s.uses c source ≡ SourceFree → ⊥ = λ e. absurd cc in
       request-falls taking
       (block-alike (ap (λ (b : Block (List ℕ)). b.pair) new) (ap (λ (b : Block (List ℕ)). b.service) new))
       c source opened unlike lets acks (rw (asked, replied) (omega (arith, few)))
@@ -117,8 +116,7 @@ module _ {w : ℕ} {config : Config} {mail mail' : AccessMessages w} {s s' : Sta
         → s.uses c source ≡ Acquires n → IsLeft size left' answer s' → AreAsBefore s'.uses s.uses
         → AreAsBefore s'.lets s.lets → AreNoMore s'.link s.link → Falls taking
     acquire-granted-falls source data_too k given used is uses lets acks =
-        let opened : s.uses c source ≡ SourceFree → ⊥ =
-        λ e. absurd (let both : Acquires n ≡ SourceFree = sym used ∙ e in cc) in
+        let opened : s.uses c source ≡ SourceFree → ⊥ = λ e. absurd cc in
         request-falls taking
         (come-into-service (λ d. at d (cases_eq d c)))
         c source opened (λ d i ne. uses d i) lets acks (rw (uses c source, used) (less c refl))

@@ -74,8 +74,7 @@ module _ {w : ℕ} {config : Config} {mail mail' : AccessMessages w} {s s' : Sta
       → length (s'.link c).e ≡ length (s.link c).e + 1 → Falls taking
   grant-taken-falls data_too was_data whole k cap given used closed some new unlike lets acks more =
       let before : view (s.block n).service c ≡ Granting was_data cap = rw (given, same_number c) refl in
-      let opened : s.uses c ((s.block n).source c) ≡ SourceFree → ⊥ =
-      λ e. absurd (let both : Acquires n ≡ SourceFree = sym used ∙ e in cc) in
+      let opened : s.uses c ((s.block n).source c) ≡ SourceFree → ⊥ = λ e. absurd cc in
       granted-falls taking block c
       ((s.block n).source c) opened unlike lets acks more (rw (used, closed, before) (omega (arith, some)))
     where

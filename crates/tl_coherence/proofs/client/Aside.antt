@@ -26,8 +26,7 @@ pub aside-block : {w : ℕ} {c : ℕ} (n : ℕ) {b : Block (List ℕ)} {mail mai
 aside-block {c} n {b} {s} changed aside lets uses request = record {
   held = λ i. cc (changed, set-part (λ (x : Block (List ℕ)). (x.pair c).held) n b s.block aside.held i);
   acquiring = λ i. cc (changed, set-part (λ (x : Block (List ℕ)). (x.pair c).acquiring) n b s.block aside.acquiring i);
-  letting = λ i. ap (λ (f : ℕ → Block (List ℕ)). is_unreleased ((f i).pair c).letting) changed ∙ set-part
-      (λ (x : Block (List ℕ)). is_unreleased (x.pair c).letting) n b s.block aside.letting i;
+  letting = λ i. cc (set-part (λ (x : Block (List ℕ)). is_unreleased (x.pair c).letting) n b s.block aside.letting i);
   source = λ i. cc (changed, set-part (λ (x : Block (List ℕ)). x.source c) n b s.block aside.source i);
   copy = λ i. cc (changed, set-part (λ (x : Block (List ℕ)). x.copy c) n b s.block aside.copy i);
   waiting = λ i. cc (changed, set-part (λ (x : Block (List ℕ)). x.waiting c) n b s.block aside.waiting i);
@@ -83,11 +82,10 @@ pub entry-aside : (c : ℕ) {d : ℕ} (p : ClientBlock) {b b' : Block (List ℕ)
     → p.held ≡ (b.pair c).held → p.acquiring ≡ (b.pair c).acquiring
     → is_unreleased p.letting ≡ is_unreleased (b.pair c).letting
     → b'.source ≡ b.source → b'.copy ≡ b.copy → b'.waiting ≡ b.waiting → IsAsideBlock d b b'
-entry-aside c {d} p {b} pair held acquiring letting source copy waiting =
-    pair-aside (ap (λ (f : ℕ → ClientBlock). (f d).held) pair ∙ set-part (λ (q : ClientBlock). q.held) c p b.pair held
-    d) (ap (λ (f : ℕ → ClientBlock). (f d).acquiring) pair ∙ set-part (λ (q : ClientBlock). q.acquiring) c p b.pair
-    acquiring d) (ap (λ (f : ℕ → ClientBlock). is_unreleased (f d).letting) pair
-    ∙ set-part (λ (q : ClientBlock). is_unreleased q.letting) c p b.pair letting d) source copy waiting
+entry-aside c {d} p {b} pair held acquiring letting source copy waiting = pair-aside (ap (λ (f : ℕ → ClientBlock).
+    (f d).held) pair ∙ set-part (λ (q : ClientBlock). q.held) c p b.pair held d) (ap (λ (f : ℕ → ClientBlock).
+    (f d).acquiring) pair ∙ set-part (λ (q : ClientBlock). q.acquiring) c p b.pair acquiring d)
+    (cc (set-part (λ (q : ClientBlock). is_unreleased q.letting) c p b.pair letting d)) source copy waiting
 
 served_aside : {A : Type 0} (part : ClientBlock → A) (r : ℕ) (own : Bool) (k : Cap) (pair : ℕ → ClientBlock) (d : ℕ)
     → part (after_served k (pair d)) ≡ part (pair d) → part (served_pair r own k pair d) ≡ part (pair d)

@@ -86,8 +86,7 @@ leaves-at_manager {w} config tracker c k i rest h d for inv first =
     served : (n q source : ℕ) (j : Cap) → (block n).service ≡ Waits q false source j
         → is_access (h.state.uses q source) ≡ true
     served n q source j e = served_access n (h.state.uses q source)
-        (inv.named.serves q source n ∙ ap (λ (x : Service). is_serving q source x) e
-        ∙ and_from (q == q) (source == source) (same_number q) (same_number source))
+        (cc (inv.named.serves q source n, and_from (q == q) (source == source) (same_number q) (same_number source)))
 
 -- ---- messages that a client takes, as another sees it
 

@@ -114,8 +114,7 @@ done_may {config} {c} {terms} (Op.Acquire n g) {h} {e} at free =
           (least_free-some (λ s. pending (RequestSource s) e.past) 0 terms.sources free.b1).0,
       calm-is ((h.state.block n).pair c).acquiring (sym (at.end.known.acquires n) ∙ idle.0),
       kept-letting ((h.state.block n).pair c).letting (sym (at.end.known.releases n) ∙ idle.1),
-      ap (same_perm (grow_left g)) (sym (at.end.known.held_is n)) ∙ not-false (same_perm (grow_left g) (held_at e n))
-          free.b3,
+      cc (at.end.known.held_is n, not-false (same_perm (grow_left g) (held_at e n)) free.b3),
     )
 done_may {config} {c} {terms} (Op.AcquireWhole n bytes) {h} {e} at free =
     let idle = or_parts (pending (AcquireOf n) e.past) (pending (ReleaseOf n) e.past) free.b2 in (

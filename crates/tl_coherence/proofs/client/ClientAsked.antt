@@ -62,16 +62,14 @@ end-release_asked {w} {c} n source r copy mail {s} {e} width begins kept end =
     let past : f.past ≡ sent (Message.C p.0) e.past = kept_past n (prune_right r) (sending (release r source n copy) e)
     ∙ ap (λ (x : Message w). sent x e.past) p.1 in
     let left : (i : ℕ) → held i (sent (Message.C p.0) e.past) ≡ cond (i == n) (prune_right r) (held i e.past) =
-    λ i. ap (λ (x : Message w). held i (sent x e.past)) (sym p.1) ∙ held-release i r source n copy e.past width
-    end.kept.c_whole in
+    λ i. cc (p.1, held-release i r source n copy e.past width end.kept.c_whole) in
     record {
       known = known-released width past end.kept.c_whole left kept event end.known;
       opened = rw past (opened-released width end.kept.c_whole event end.opened);
       kept = kept.kept;
       accounted = kept.accounted;
-      copies = λ i some. kept_copies n (prune_right r) (sending (release r source n copy) e) i
-          ∙ copy_of i (i == n) refl (sym (ap (λ (q : Perm). same_perm q Perm.None) (event.held i)) ∙ some) ∙ ap Some
-          (sym (set-part (λ (b : Block (List ℕ)). b.copy c) n new s.block refl i));
+      copies = λ i some. kept_copies n (prune_right r) (sending (release r source n copy) e) i ∙ copy_of i (i == n) refl
+          (cc (event.held i)) ∙ ap Some (sym (set-part (λ (b : Block (List ℕ)). b.copy c) n new s.block refl i));
       waiting = λ i storing. kept_waiting n (prune_right r) (sending (release r source n copy) e) i
           ∙ end.waiting i (sym (set-part (λ (b : Block (List ℕ)). is_whole (b.pair c).acquiring) n new s.block
           (ap (λ (q : ClientBlock). is_whole q.acquiring) pair_is) i) ∙ storing)
@@ -125,10 +123,8 @@ end-release_asked {w} {c} n source r copy mail {s} {e} width begins kept end =
 
     copy_of : (i : ℕ) (b : Bool) → (i == n) ≡ b → same_perm (cond b (prune_right r) ((s.block i).pair c).held) Perm.None
         ≡ false → cond (b && not (holds (prune_right r))) None (e.copies i) ≡ Some ((s.block i).copy c)
-    copy_of i true same some =
-        kept_some (prune_right r) None (e.copies i) some ∙ end.copies i
-        (held-some ((s.block i).pair c).held (ap (λ (j : ℕ). holds ((s.block j).pair c).held)
-        (eqb-true i n same) ∙ (ap holds (sym (end.known.held_is n)) ∙ falls_to r (held n e.past) begins)))
+    copy_of i true same some = kept_some (prune_right r) None (e.copies i) some ∙ end.copies i (held-some
+        ((s.block i).pair c).held (cc (eqb-true i n same, end.known.held_is n, falls_to r (held n e.past) begins)))
     copy_of i false same some = end.copies i some
 
 -- ---- a store

@@ -100,17 +100,14 @@ pub known-heard : {w : ℕ} {c : ℕ} {x : BeatD w} {t : History w} {p : Perm}
     → IsHeard c x t p closes_block closes_release closes_source closes_let asked asked' s s'
     → ClientRelation asked (unfinished Channel.D t) c s t → ClientRelation asked' (unfinished Channel.D f.past) c s'
     f.past
-known-heard {w} {c} {x} {t} {p} {closes_block} {closes_release} {closes_source} {asked'} {s'} {f} echo well event
-    known = known-kept asked' c s' well (λ k. echo.held_is k ∙ held-beat_d k x t
-    ∙ given_cond (ends_grant x t k) (closes_block k) (capped x.param) p (held k t) (event.grants_is k) (event.gives k)
-    ∙ ap (λ (q : Perm). cond (closes_block k) p q) (known.held_is k) ∙ sym (event.held k)) (λ k. echo.acquires k
-    ∙ acquire_of-d k x t ∙ ap (λ (b : Bool). cond b false (pending (AcquireOf k) t)) (event.grants_is k)
-    ∙ ap (λ (b : Bool). cond (closes_block k) false b) (known.acquires k) ∙ sym (event.acquiring k))
-    (λ k. echo.releases k ∙ release_now k x t ∙ ap (λ (b : Bool). cond b false (pending (ReleaseOf k) t))
-    (event.releases_is k) ∙ ap (λ (b : Bool). cond (closes_release k) false b) (known.releases k)
-    ∙ sym (event.letting k)) (λ i. echo.opens i ∙ open_beat-d i x t ∙ ap (λ (b : Bool). cond b None (open_beat i t))
-    (event.source_is i) ∙ ap (λ (o : Option (BeatA w)). cond (closes_source i) None o) (known.opens i)
-    ∙ sym (event.asks i))
+known-heard {w} {c} {x} {t} {p} {closes_block} {closes_release} {closes_source} {asked'} {s'}
+    {f} echo well event known = known-kept asked' c s' well (λ k. echo.held_is k ∙ held-beat_d k x t ∙ given_cond
+    (ends_grant x t k) (closes_block k) (capped x.param) p (held k t) (event.grants_is k)
+    (event.gives k) ∙ ap (λ (q : Perm). cond (closes_block k) p q) (known.held_is k) ∙ sym (event.held k))
+    (λ k. echo.acquires k ∙ acquire_of-d k x t ∙ ap (λ (b : Bool). cond b false (pending (AcquireOf k) t))
+    (event.grants_is k) ∙ ap (λ (b : Bool). cond (closes_block k) false b) (known.acquires k) ∙ sym (event.acquiring k))
+    (λ k. cc (echo.releases k, release_now k x t, event.releases_is k, known.releases k, event.letting k))
+    (λ i. cc (echo.opens i, open_beat-d i x t, event.source_is i, known.opens i, event.asks i))
 
 pub opened-heard : {w : ℕ} {c : ℕ} {x : BeatD w} {t u : History w} {p : Perm}
     {closes_block closes_release closes_source closes_let : ℕ → Bool} {asked asked' : ℕ → Option (BeatA w)}

@@ -108,8 +108,7 @@ answer-delivered {w} {config} {log} {mail} {request} {s} {sys} terms tracker c s
     let e : Endpoint w = sys.clients c in
     let due = answer-due (λ i. is_caching config i) c source rest mail s h.invariant (h.answered c source) first in
     let end = end-matched h c in
-    let here : IsNext x (unfinished Channel.D e.past) (Message.D due.answer) ms queue =
-    subst (λ (m : Message w). IsNext x (unfinished Channel.D e.past) m ms queue) due.answer_is next in
+    let here : IsNext x (unfinished Channel.D e.past) (Message.D due.answer) ms queue = rw due.answer_is at next in
     let kind = access_kind due.answer.opcode due.answers_access in
     taken-by config terms tracker c (shadow_of mail request s) due.answer e width end here
     (taken-d terms c due.answer h at beats here (answer-first config.profile end due))
@@ -173,12 +172,8 @@ grant-delivered {w} {config} {log} {mail} {request} {s} {sys} terms tracker c n 
     let served : (y : BeatD w) → IsEnd (asked_by mail (grant_taken c n due.whole due.data_too due.k rest s) c) c
     (grant_taken c n due.whole due.data_too due.k rest s) (taken (Beat.D y) e).after
     → IsEndOf c (kind_taken config tracker c Grant n rest (shadow_of mail request s)) (taken (Beat.D y) e).after =
-    λ y is. subst (λ (i : Service). IsEndOf c (taken_by_client c n i rest (shadow_of mail request s))
-    (taken (Beat.D y) e).after) (sym due.service)
-    (subst (λ (i : AcquirePhase). IsEnd (asked_by mail (grant_taken c n (is_whole i) due.data_too due.k rest s) c) c
-    (grant_taken c n (is_whole i) due.data_too due.k rest s) (taken (Beat.D y) e).after) (sym due.wants) is) in
-    let here : IsNext x (unfinished Channel.D e.past) (Message.D m) ms queue =
-    subst (λ (i : Message w). IsNext x (unfinished Channel.D e.past) i ms queue) (grant-rendered c n s due) next in
+    λ y is. rw due.service (rw due.wants is) in
+    let here : IsNext x (unfinished Channel.D e.past) (Message.D m) ms queue = rw (grant-rendered c n s due) at next in
     taken-by config terms tracker c (shadow_of mail request s) m e width end here
     (taken-d terms c m h at beats here (grant-first config.profile mail end due given))
     (λ y y_is opcode from param last burst well. taken_token config tracker c Grant n rest (shadow_of mail request s)
@@ -192,8 +187,7 @@ grant-delivered {w} {config} {log} {mail} {request} {s} {sys} terms tracker c n 
       bare = fits.bare;
       has_copy = λ a b. holds_copy due.whole due.data_too ((s.block n).pair c).held a b fits.carried;
       bytes = λ carries. grant_bytes due.data_too due.k ((s.block n).source c) (s.block n).tracker (s.block n).truth
-          (Beat.D y ∷ unfinished Channel.D e.past) width (h.sized n).truth
-          (ap (λ (z : Beat w). z ∷ unfinished Channel.D e.past) (sym y_is) ∙ burst) carries;
+          (Beat.D y ∷ unfinished Channel.D e.past) width (h.sized n).truth (cc) carries;
     }) (last_end y e last) last well end)))
   where
     due : IsGrantDue c n s

@@ -196,9 +196,8 @@ asks-closed {w} c source mail s used = ap (λ (u : SourceState). asked_with u (m
 pub asks-access : {w : ℕ} (c source : ℕ) (m : MessageA w) (mail : AccessMessages w) (s : State (List ℕ))
     → is_access (s.uses c source) ≡ true
     → mail.request c source ≡ Message.A m → asked_by mail s c source ≡ Some (a_beat_of m 0)
-asks-access {w} c source m mail s used request =
-    access_asks (s.uses c source) (mail.request c source) used (block_message Acquire c (block_used (s.uses c source))
-    (s.block (block_used (s.uses c source)))) ∙ ap first_of request
+asks-access {w} c source m mail s used request = cc (access_asks (s.uses c source) (mail.request c source) used
+    (block_message Acquire c (block_used (s.uses c source)) (s.block (block_used (s.uses c source)))))
 
 acquire-first : {w : ℕ} (whole : Bool) (g : Grow) (source n : ℕ)
     → first_of (acquire_of {w = w} (AcquireOpen whole g) source n) ≡ Some

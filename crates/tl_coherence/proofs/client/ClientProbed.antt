@@ -70,8 +70,6 @@ end-probe_taken {w} {c} n k rest mail {s} {e} width well end =
         let keeps : (z : Bool) → z ≡ true → cond (not z) None (e.copies i) ≡ e.copies i = λ z q. rw q refl in
         let stays : holds left ≡ true =
         ap holds (cc (report_is w n k p, end.known.held_is n, pair_is)) ∙ some_held (new.pair c).held some in
-        let before : holds p ≡ true =
-        reports_held k p (ap (λ (r : Perm). holds r) (ap report_right (sym (report_is w n k p))) ∙ stays) in
+        let before : holds p ≡ true = reports_held k p (cc (report_is w n k p)) in
         keeps (holds left) stays ∙ end.copies i
-        (held-some ((s.block i).pair c).held (ap (λ (j : ℕ). holds ((s.block j).pair c).held)
-        (eqb-true i n is) ∙ ap holds (sym (end.known.held_is n)) ∙ before))
+        (held-some ((s.block i).pair c).held (cc (eqb-true i n is, end.known.held_is n)))

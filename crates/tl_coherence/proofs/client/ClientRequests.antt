@@ -85,8 +85,7 @@ pub asks_acquire : {w : ℕ} (c n source i : ℕ) (whole : Bool) (g : Grow) (byt
 asks_acquire {w} c n source i whole g bytes mail {s} named calm =
     let new : Block (List ℕ) = acquiring_block c source whole g bytes (s.block n) in
     let s' : State (List ℕ) = acquire_asked c n source whole g bytes s in
-    let apart : (j : ℕ) → s.uses c i ≡ Acquires j → j ≡ n → ⊥ =
-    λ j used same. unused c n i named calm (used ∙ ap Acquires same) in
+    let apart : (j : ℕ) → s.uses c i ≡ Acquires j → j ≡ n → ⊥ = λ j used same. unused c n i named calm (cc) in
     elim (cases_eq i source) [
       | inl same ↦ ap (asked_by mail s' c) same ∙ asks-acquire c source n source whole g mail s'
           (set_at-same c source (Acquires n) s.uses) (ap (λ (b : Block (List ℕ)). (b.pair c).acquiring)
@@ -160,5 +159,4 @@ end-acquire_asked {w} {c} n source whole g bytes mail {s} {e} {f} width named id
         bytes (s.block n).waiting))
     go i storing (inr other) =
         let old : s'.block i ≡ s.block i = set-other n i new s.block other in
-        others i other ∙ end.waiting i (sym (ap (λ (b : Block (List ℕ)). is_whole (b.pair c).acquiring) old)
-        ∙ storing) ∙ ap Some (sym (ap (λ (b : Block (List ℕ)). b.waiting c) old))
+        others i other ∙ end.waiting i (cc) ∙ ap Some (sym (ap (λ (b : Block (List ℕ)). b.waiting c) old))

@@ -31,14 +31,9 @@ known-requested {w} {c} {m} {asked'} {s'} {t} {f} width past none well event kno
     let some = beats-positive (A m) width in
     known-kept asked' c s' well
     (λ n. ap (held n) past ∙ held-whole n (A m) t none some ∙ known.held_is n ∙ sym (event.held n))
-    (λ n. ap (pending (AcquireOf n)) past ∙ pending-whole (AcquireOf n) (A m) t none some
-    ∙ ap (λ (b : Bool). cond (is_acquire m.opcode && (block_at m.address == n)) true b) (known.acquires n) ∙ sym
-    (event.acquiring n))
-    (λ n. ap (pending (ReleaseOf n)) past ∙ pending-whole (ReleaseOf n) (A m) t none some ∙ known.releases n ∙ ap not
-    (sym (event.letting n)))
-    (λ source. ap (open_beat source) past ∙ open_beat-a source m t width none
-    ∙ ap (λ (o : Option (BeatA w)). cond (m.source == source) (Some (a_beat_of m 0)) o) (known.opens source) ∙ sym
-    (event.asks source))
+    (λ n. cc (pending-whole (AcquireOf n) (A m) t none some, known.acquires n, event.acquiring n))
+    (λ n. cc (pending-whole (ReleaseOf n) (A m) t none some, known.releases n, event.letting n))
+    (λ source. cc (open_beat-a source m t width none, known.opens source, event.asks source))
 
 some_cond : {X : Type 0} (b : Bool) (x : X) (o : Option X) → is_some (cond b (Some x) o) ≡ cond b true (is_some o)
 some_cond true x o = refl
@@ -90,12 +85,9 @@ known-released {w} {c} {i} {m} {p} {asked'} {s'} {t} {f} width past none left we
     let some = beats-positive (C m) width in
     known-kept asked' c s' well
     (λ n. ap (held n) past ∙ left n ∙ ap (λ (q : Perm). cond (n == i) p q) (known.held_is n) ∙ sym (event.held n))
-    (λ n. ap (pending (AcquireOf n)) past ∙ pending-whole (AcquireOf n) (C m) t none some ∙ known.acquires n ∙ sym
-    (event.acquiring n))
-    (λ n. ap (pending (ReleaseOf n)) past ∙ pending-whole (ReleaseOf n) (C m) t none some ∙ opens n ∙ ap
-    (λ (b : Bool). cond (i == n) true b) (known.releases n) ∙ sym (event.letting n))
-    (λ source. ap (open_beat source) past ∙ open_beat-c source m t width none ∙ known.opens source ∙ sym
-    (event.asks source))
+    (λ n. cc (pending-whole (AcquireOf n) (C m) t none some, known.acquires n, event.acquiring n))
+    (λ n. cc (pending-whole (ReleaseOf n) (C m) t none some, opens n, known.releases n, event.letting n))
+    (λ source. cc (open_beat-c source m t width none, known.opens source, event.asks source))
 
 pub opened-released : {w : ℕ} {c i : ℕ} {m : MessageC w} {p : Perm} {asked asked' : ℕ → Option (BeatA w)}
     {s s' : State (List ℕ)} {t : History w} → IsWidth w → unfinished Channel.C t ≡ []

@@ -56,12 +56,8 @@ taken_ends {w} {config} {log} {mail} {request} {s} {sys} link ch k x queue o wid
     (taken_now x (sys.clients link.0)) in
     subst (λ (y : Offered w). AreEnds config (Deliver link ch) sys before k (client_took link.0 ch x queue y sys))
     (sym takes)
-    (subst (λ (b : Bool). IsEndOf k (if b && is_last (sys.channels link.0 ch) rest_now then event else before)
-    ((client_took link.0 ch x queue t sys).after.clients k)) (sym moves.0)
-    (subst (λ (f : ℕ → Endpoint w). IsEndOf k (if is_last (sys.channels link.0 ch) rest_now then event else before)
-    (f k)) (sym moves.1) (subst (λ (b : Bool). IsEndOf k (if b then event else before)
-    ((with_client link.0 t.after (with_channel link.0 ch queue sys)).clients k))
-    (sym (ap (λ (beats_ : List (Beat w)). is_last beats_ rest_now) beats))
+    (rw moves.0 (subst (λ (f : ℕ → Endpoint w). IsEndOf k (if is_last (sys.channels link.0 ch) rest_now then event
+    else before) (f k)) (sym moves.1) (rw (ap (λ (beats_ : List (Beat w)). is_last beats_ rest_now) beats)
     (go (completes x rest_now) refl (cases_eq k link.0)))))
   where
     before : AbstractState w

@@ -26,8 +26,7 @@ pub end-part : {w : ℕ} {asked : ℕ → Option (BeatA w)} {c : ℕ} (x : BeatD
     → IsEnd asked c s e → IsEnd asked c s f
 end-part {w} {asked} {c} x {s} {e} {f} is more well end =
     let event = heard-part c x e.past Perm.None asked s more in
-    let echo : IsEcho x e.past f.past = subst (IsEcho x e.past) (sym (ap (λ (g : Endpoint w). g.past) is))
-    (echo-none x e.past) in
+    let echo : IsEcho x e.past f.past = rw (ap (λ (g : Endpoint w). g.past) is) (echo-none x e.past) in
     record {
       known = known-heard echo well event end.known;
       opened = opened-heard echo event end.opened;
@@ -60,8 +59,7 @@ end-answer_taken {w} {c} source x rest mail {s} {e} {f} is last plain other from
       lets = λ i. refl;
       asks = λ i. asks_now i (cases_eq i source);
     } in
-    let echo : IsEcho x e.past f.past = subst (IsEcho x e.past) (sym (ap (λ (g : Endpoint w). g.past) is))
-    (echo-none x e.past) in
+    let echo : IsEcho x e.past f.past = rw (ap (λ (g : Endpoint w). g.past) is) (echo-none x e.past) in
     record {
       known = known-heard echo well event end.known;
       opened = opened-heard echo event end.opened;
@@ -116,8 +114,7 @@ end-release_ack_taken {w} {c} n x rest mail {s} {e} {f} is last plain acks from 
           (ap (λ (q : ClientBlock). q.acquiring) pair_is) j)
           (λ j used. set-part (λ (b : Block (List ℕ)). b.source c) n new s.block refl j);
     } in
-    let echo : IsEcho x e.past f.past = subst (IsEcho x e.past) (sym (ap (λ (g : Endpoint w). g.past) is))
-    (echo-none x e.past) in
+    let echo : IsEcho x e.past f.past = rw (ap (λ (g : Endpoint w). g.past) is) (echo-none x e.past) in
     record {
       known = known-heard echo well event end.known;
       opened = opened-heard echo event end.opened;
@@ -206,10 +203,8 @@ end-grant_taken {w} {c} {n} {whole} {data_too} {g} {k} {x} {payload} rest mail {
     let asks : asked_by mail s c x.source ≡ Some r = ap (asked_by mail s c) is.from ∙ asks-acquire c source n source
     whole g mail s is.used is.wants refl in
     let open_ : open_beat x.source e.past ≡ Some r = end.known.opens x.source ∙ asks in
-    let request : request_of x.source e.past ≡ Some r =
-    open-is x.source e.past (ap is_acquire_beat open_ ∙ acquires-so whole) ∙ open_ in
-    let does = grant_end data_too x r payload e f is.opcode
-    (taken ∙ ap (λ (o : Option (BeatA w)). (responded x o payload e).after) request) in
+    let request : request_of x.source e.past ≡ Some r = open-is x.source e.past (cc (acquires-so whole)) ∙ open_ in
+    let does = grant_end data_too x r payload e f is.opcode (cc) in
     let kind = grants_by_opcode data_too in
     let closes = grant_closes n x r e.past last (ap is_grant is.opcode ∙ kind.0) (ap is_release_ack is.opcode ∙ kind.1)
     request (same_block n) in

@@ -97,9 +97,7 @@ taken-d {w} {config} {log} {mail} {request} {s} {sys} terms c m {x} {queue} h at
     let sound = sound-beat c Channel.D x queue h beats in
     client-takes terms Channel.D x (sys.clients c) (h.live c) refl (lawful is.level next.beat_is sound.lawful)
     (moves next.beat_is)
-    (ap (λ (p : Profile). broken_in_order p x (sys.clients c).past) is.profile
-    ∙ ap (λ (y : Beat w). broken_in_order config.profile y (sys.clients c).past) next.beat_is
-    ∙ next-legal config.profile m next.k (sys.clients c).past next.rest_is first)
+    (cc (is.profile, next.beat_is, next-legal config.profile m next.k (sys.clients c).past next.rest_is first))
     (ap (λ (b : ℕ). is_outside b x) is.blocks ∙ sound.inside) sound.clean
   where
     lawful : level_of config c ≡ Some terms.level → x ≡ beat_of (Message.D m) next.k
@@ -210,11 +208,8 @@ grant-first {w} p {c} {n} mail {s} {e} end due given whole =
       admits = answers_acquire due.whole due.data_too fits.bare;
       size = refl;
     }) (same_block n) (fits_asked p due.whole due.g due.k fits.cap_is given)
-    (ap (λ (q : Perm). is_grant_without_data (grant_opcode due.data_too)
-    && (is_acquire_block (acquire_opcode due.whole) && not (same_perm q Perm.Branch)))
-    (end.known.held_is n) ∙ has_data due.whole due.data_too ((s.block n).pair c).held fits.carried)
-    (end.known.probes n) (end.known.sinks (s.block n).tracker ∙ ap
-    (λ (b : List (Beat w)). rules.comes_in_grant (s.block n).tracker b) whole)
+    (cc (end.known.held_is n, has_data due.whole due.data_too ((s.block n).pair c).held fits.carried))
+    (end.known.probes n) (cc (end.known.sinks (s.block n).tracker))
 
 -- ---- a ReleaseAck
 

@@ -82,9 +82,7 @@ given-asked p c o r h inv may given = given
 given_granted : (p : Profile) (q : ℕ) (whole : Bool) (g : Grow) (unheld : Bool) (x : ClientBlock)
     (pair : ℕ → ClientBlock) → x.acquiring ≡ AcquireOpen whole g
     → gives_asked p (set q x pair q).acquiring (gift p whole g unheld) ≡ true
-given_granted p q whole g unheld x pair is =
-    ap (λ (y : ClientBlock). gives_asked p y.acquiring (gift p whole g unheld)) (set-same q x pair)
-    ∙ ap (λ (a : AcquirePhase). gives_asked p a (gift p whole g unheld)) is ∙ gift_given p whole g unheld
+given_granted p q whole g unheld x pair is = cc (set-same q x pair, gift_given p whole g unheld)
 
 pub given-kind_taken : {w : ℕ} (config : Config) (tracker c : ℕ) (k : Kind) (i : ℕ) (rest : List Packet)
     (h : AbstractState w) → AreGiven config.profile h.state

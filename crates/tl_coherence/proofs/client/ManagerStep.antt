@@ -49,10 +49,8 @@ asked_ends {w} {config} {log} {mail} {request} {s} {sys} terms c k o width h =
     λ i. ap (λ (f : ℕ → Endpoint w). f i)
     (clients-with_messages (handed_by c a.message) (with_client c a.after sys)) in
     elim (cases_eq k c) [
-      | inl same ↦ subst (λ (i : ℕ). AreEnds config (Ask c o) sys (shadow_of mail request s) i (replied c a sys))
-          (sym same) (subst (λ (x : Endpoint w). IsEndOf c (asked c o a.reply (shadow_of mail request s)) x)
-          (sym (now c ∙ own_client c a.after sys)) (end-asked terms c o (shadow_of mail request s) (sys.clients c) width
-          h.invariant.named (end-matched h c)))
+      | inl same ↦ rw same (rw (now c ∙ own_client c a.after sys)
+          (end-asked terms c o (shadow_of mail request s) (sys.clients c) width h.invariant.named (end-matched h c)))
       | inr other ↦ left_alone k (shadow_of mail request s) (asked c o a.reply (shadow_of mail request s))
           (sys.clients k) ((replied c a sys).after.clients k) (leaves-asked c o a.reply (shadow_of mail request s) k
           other) (now k ∙ other_client k c a.after sys other) (end-matched h k)

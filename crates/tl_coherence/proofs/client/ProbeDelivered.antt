@@ -106,14 +106,11 @@ not_coming {w} {config} {log} {mail} {request} {s} {sys} c n h sent = go (s.link
         (sys.channels c Channel.D) → comes_granting n (asked_by mail s c) rest_now ≡ false
     go [] first carried =
         let none : IsCarried rest_now [] (sys.channels c Channel.D) =
-        subst (λ (ms : List (Message w)). IsCarried rest_now ms (sys.channels c Channel.D))
-        (ap (map (message_of mail s c)) first) carried in
+        rw (ap (map (message_of mail s c)) first) at carried in
         ap (comes_granting n (asked_by mail s c)) none.0
     go (x ∷ xs) first carried =
         let some : IsCarried rest_now (message_of mail s c x ∷ map (message_of mail s c) xs)
-        (sys.channels c Channel.D) =
-        subst (λ (ms : List (Message w)). IsCarried rest_now ms (sys.channels c Channel.D))
-        (ap (map (message_of mail s c)) first) carried in
+        (sys.channels c Channel.D) = rw (ap (map (message_of mail s c)) first) at carried in
         comes_else n (asked_by mail s c) (message_of mail s c x) some.0 rest_now some.2
         (elses x.kind x.number xs first (own_kind (is_caching config) s c Channel.D x.kind x.number xs h.invariant
         first))
@@ -156,8 +153,7 @@ pub probe-beat : {w : ℕ} (c n : ℕ) (s : State (List ℕ)) {x : Beat w} {rest
     → x ≡ Beat.B (probe_beat n (cap_sent ((s.block n).pair c).probing))
 probe-beat {w} c n s {x} {rest} {ms} {queue} next =
     let k = cap_sent ((s.block n).pair c).probing in
-    let here : IsNext x rest (probe_of_block n k) ms queue = subst (λ (m : Message w). IsNext x rest m ms queue)
-    (probe_rendered c n s) next in
+    let here : IsNext x rest (probe_of_block n k) ms queue = rw (probe_rendered c n s) at next in
     here.beat_is ∙ ap (beat_of (probe_of_block n k))
     (first_beat here.k (beats_of (probe_of_block {w = w} n k)) here.within (refl))
 
@@ -198,16 +194,13 @@ probe-delivered {w} {config} {log} {mail} {request} {s} {sys} terms tracker c n 
       kept = kept-offered terms Channel.B (Beat.B (probe_beat n k)) e width end.kept;
       accounted = accounted-offered terms Channel.B (Beat.B (probe_beat n k)) e width end.kept end.accounted;
     }) in
-    let last : is_unreleased ((s.block n).pair c).letting ≡ true → IsEndOf c (packet_taken config tracker c (s.link c).b
-    (shadow_of mail request s)) (taken x e).after = λ kept. subst (λ (xs : List Packet). IsEndOf c (packet_taken
-    config tracker c xs (shadow_of mail request s)) (taken x e).after) (sym first) (subst (λ (o : Offered w).
-    IsEndOf c (kind_taken config tracker c Probe n rest (shadow_of mail request s)) o.after) (sym (ap (λ (y : Beat
-    w). taken y e) beat_is ∙ same_taken)) (end-probe_taken n k rest mail width (well kept) end)) in
+    let last : is_unreleased ((s.block n).pair c).letting ≡ true → IsEndOf c
+    (packet_taken config tracker c (s.link c).b (shadow_of mail request s)) (taken x e).after = λ kept. rw first
+    (rw (ap (λ (y : Beat w). taken y e) beat_is ∙ same_taken) (end-probe_taken n k rest mail width (well kept) end)) in
     record {
       beat_is = beat_is;
       whole = whole;
-      waits_for =
-          λ open_. stalls terms x e (before beat_is) (ap (λ (y : Beat w). waits y e.past) beat_is ∙ pends open_);
+      waits_for = λ open_. stalls terms x e (before beat_is) (cc (pends open_));
       takes = takes;
       last = last;
     }

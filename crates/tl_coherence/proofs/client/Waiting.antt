@@ -36,16 +36,14 @@ replaced : {w : ℕ} (n : ℕ) (new : Block (List ℕ)) (block : ℕ → Block (
     → MessageA w) → IsAcquireOf n new new.service m
     → AreAcquired request block → AreAcquired (set n m request) (set n new block)
 replaced {w} n new block m request here others i = elim (cases_eq i n) [
-  | inl same ↦ subst (λ (j : ℕ). IsAcquireOf j (set n new block j) (set n new block j).service (set n m request j))
-      (sym same) (rw (set-same n new block, set-same n m request) here)
+  | inl same ↦ rw same (rw (set-same n new block, set-same n m request) here)
   | inr other ↦ rw (set-other n i new block other, set-other n i m request other) (others i)
 ]
 
 kept : {w : ℕ} (n : ℕ) (new : Block (List ℕ)) (block : ℕ → Block (List ℕ)) (request : ℕ → MessageA w)
     → IsAcquireOf n new new.service (request n) → AreAcquired request block → AreAcquired request (set n new block)
 kept {w} n new block request here others i = elim (cases_eq i n) [
-  | inl same ↦ subst (λ (j : ℕ). IsAcquireOf j (set n new block j) (set n new block j).service (request j)) (sym same)
-      (rw (set-same n new block) here)
+  | inl same ↦ rw same (rw (set-same n new block) here)
   | inr other ↦ rw (set-other n i new block other) (others i)
 ]
 

@@ -58,11 +58,6 @@ delivered-e {w} {config} {log} link h terms x queue width matched known beats mo
         delivered-last [] (λ d at. None) refl is last (ap (λ (z : Beat w). (reaction config link z sys.manager).handed)
         (cc (is.first.next.beat_is, kind)) ∙ ap (λ d. d.handed) (reaction-ack config link
         (record { sink = (h.state.block n).tracker }) sys.manager)) (λ d at. unpushed d at)
-        (λ taken. subst (λ (k : Kind). ChannelRelation (kind_taken config (next_tracker sys) link.0 k n is.first.rest
-        h).mail (kind_taken config (next_tracker sys) link.0 k n is.first.rest h).state
-        (after_taken config link Channel.E x queue sys [])) (sym kind)
-        (carried-shown width (grant_ack_taken-shown link.0 n is.first.rest h.mail matched.invariant
+        (λ taken. rw kind (carried-shown width (grant_ack_taken-shown link.0 n is.first.rest h.mail matched.invariant
         (invariant-taken h link.0 GrantAck n is.first.rest matched tokens tt) tokens sent) taken matched.carried))
-        (subst (λ (k : Kind). MemoryRelation (kind_taken config (next_tracker sys) link.0 k n is.first.rest h).mail
-        (kind_taken config (next_tracker sys) link.0 k n is.first.rest h).state
-        (performing [] (one_memory_after config log))) (sym kind) quiet)
+        (rw kind quiet)

@@ -101,11 +101,9 @@ reports-last {w} {config} {log} {h} {sys} {c} n rest {x} {queue} at tokens whole
             let gift = gift_after config c n r whole_block grow h in
             let new : Block (List ℕ) = granted_block c q r d gift b in
             carried-shown at.width (report_grants-shown c q n source r d low gift rest
-            (block_message Grant q n new) h.mail inv then_well tokens f (seen_apart q source low c (rw f at
-            seen)) (grant_on_d w q n new d gift refl) refl) (last-handing q
-            (block_message Grant q n new) at
-            (one ∙ ap (λ (i : Block (List ℕ)). (record { 0 = q }, block_message Grant q n i) ∷ [])
-            (set-same n new h.state.block)) whole) at.is.carried
+            (block_message Grant q n new) h.mail inv then_well tokens f (seen_apart q source low c (rw f at seen))
+            (grant_on_d w q n new d gift refl) refl) (last-handing q (block_message Grant q n new) at
+            (cc (set-same n new h.state.block)) whole) at.is.carried
 
     others : (y : Bool) → some_below (length config.clients.items) (others_probed c b.pair) ≡ y
         → IsInvariant (is_caching config) (if y then with_state (report_taken c n r rest h.state) h else last_taken
@@ -204,7 +202,6 @@ carried-followed_c {w} {config} {log} h {sys} c x queue width is beats =
     releases-last n rest tokens whole one =
         let new : Block (List ℕ) = let_block c (prune_told ((h.state.block n).pair c).letting) (h.state.block n) in
         carried-shown width (release_taken-shown c n (prune_told ((h.state.block n).pair c).letting) rest
-        (block_message ReleaseAck c n new) h.mail is.invariant (invariant-taken h c Release n rest is tokens tt)
-        tokens (ack_on_d w c n new) refl) (last-handing c (block_message ReleaseAck c n new) at
-        (one ∙ ap (λ (i : Block (List ℕ)). (record { 0 = c }, block_message ReleaseAck c n i) ∷ [])
-        (set-same n new h.state.block)) whole) is.carried
+        (block_message ReleaseAck c n new) h.mail is.invariant
+        (invariant-taken h c Release n rest is tokens tt) tokens (ack_on_d w c n new) refl)
+        (last-handing c (block_message ReleaseAck c n new) at (cc (set-same n new h.state.block)) whole) is.carried

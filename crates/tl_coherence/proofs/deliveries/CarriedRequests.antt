@@ -155,9 +155,7 @@ carried-acquire_taken {w} {config} {log} h {sys} {c} {n} {k} rest queue is first
     let inv = invariant-taken h c Acquire n rest is first ready in
     subst (λ (i : AcquirePhase). ChannelRelation (acquire_taken clients config.profile c n i tracker rest h).mail
     (acquire_taken clients config.profile c n i tracker rest h).state after) (sym asked.wants)
-    (go (some_below clients (λ d. is_probed c true j (b.pair d).recorded d)) refl
-    (subst (λ (i : AcquirePhase). IsInvariant (is_caching config) (acquire_taken clients config.profile c n i tracker
-    rest h).state) asked.wants inv))
+    (go (some_below clients (λ d. is_probed c true j (b.pair d).recorded d)) refl (rw asked.wants at inv))
   where
     b : Block (List ℕ)
     b = h.state.block n
@@ -250,8 +248,7 @@ carried-request_taken {w} {config} {log} h {sys} {c} {source} {k} rest queue is 
     let inv = invariant-taken h c Request source rest is first (ready-request h is asked comes last moves) in
     subst (λ (i : Message w). Carries (request_taken clients c source i tracker rest h)) (sym asked.is_it)
     (go (probes_some clients c false (cap_probed m.opcode m.param) b.pair) (cap_probed m.opcode m.param) refl refl
-    (subst (λ (i : Message w). IsInvariant (is_caching config) (request_taken clients c source i tracker rest h).state)
-    asked.is_it inv))
+    (rw asked.is_it at inv))
   where
     m : MessageA w
     m = asked.request

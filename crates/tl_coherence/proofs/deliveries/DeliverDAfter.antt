@@ -91,9 +91,7 @@ responded-answer {w} {config} {log} h {sys} {c} {source} rest {x} {queue} due wi
     record {
       carried = rw none (carried-shown width (answer_taken-shown c source rest h.mail matched.invariant
           (invariant-taken h c Answer source rest matched first tt) first) (taken_d None is) matched.carried);
-      beside = rw pool (subst (λ (i : ℕ). MemoryRelation h.mail (answer_taken c source rest h.state)
-          (after_end c Requests i ((one_memory_after config log).opened c Requests i) (one_memory_after config log)))
-          (sym (is.source ∙ due.from)) (beside-answer c source rest due.used matched.beside));
+      beside = rw pool (rw (is.source ∙ due.from) (beside-answer c source rest due.used matched.beside));
       quiet = ap (λ (m : Option (Message w)). accesses_answered (handed_by c m)) none;
     }
 
@@ -110,9 +108,8 @@ responded-release_ack {w} {config} {log} h {sys} {c} n rest {x} {queue} width ma
     record {
       carried = rw none (carried-shown width (release_ack_taken-shown c n rest h.mail matched.invariant
           (invariant-taken h c ReleaseAck n rest matched first tt) first) (taken_d None is) matched.carried);
-      beside = rw (finish_pool_is is) (subst (λ (i : ℕ). MemoryRelation h.mail (release_ack_taken c n rest h.state)
-          (after_end c Releases i ((one_memory_after config log).opened c Releases i) (one_memory_after config log)))
-          (sym is.source) (beside-release_ack c n rest matched.invariant open_ matched.beside));
+      beside =
+          rw (finish_pool_is is) (rw is.source (beside-release_ack c n rest matched.invariant open_ matched.beside));
       quiet = ap (λ (m : Option (Message w)). accesses_answered (handed_by c m)) none;
     }
 
@@ -136,19 +133,13 @@ pub responded-grant : {w : ℕ} {config : Config} {log : Log w} (h : AbstractSta
     (kind_taken config (next_tracker sys) c Grant n rest h)
 unfolding accesses_answered
 responded-grant {w} {config} {log} h {sys} {c} {n} rest {x} {queue} due width matched first bare is = rw same (record {
-  carried = subst (λ (m : Option (Message w)). ChannelRelation h.mail (grant_taken c n due.whole due.data_too due.k
-      rest h.state) (after_heard c Channel.D x queue sys m)) (sym some) (carried-shown width (grant_taken-shown c n
-      due.whole due.data_too due.k rest (grant_ack (h.state.block n).tracker) h.mail matched.invariant inv first
-      due.service bare refl (rendered_ack c n due.whole due.data_too due.k (h.state.block n))) (taken_d (Some (grant_ack
-      (h.state.block n).tracker)) is) matched.carried);
-  beside = subst (λ (p : Pool). MemoryRelation h.mail (grant_taken c
-      n due.whole due.data_too due.k rest h.state) (after_end c p is.y.source ((one_memory_after config log).opened c p
-      is.y.source) (one_memory_after config log))) (sym pool) (subst (λ (i : ℕ). MemoryRelation h.mail (grant_taken c n
-      due.whole due.data_too due.k rest h.state)
-      (after_end c Requests i ((one_memory_after config log).opened c Requests
-      i) (one_memory_after config log))) (sym is.source) (subst (λ (b : Bool). MemoryRelation h.mail (grant_taken c n b
-      due.data_too due.k rest h.state) (after_end c Requests ((h.state.block n).source c) ((one_memory_after config
-      log).opened c Requests ((h.state.block n).source c)) (one_memory_after config log))) (ap is_whole due.wants)
+  carried = rw some (carried-shown width (grant_taken-shown c n due.whole due.data_too due.k rest
+      (grant_ack (h.state.block n).tracker) h.mail matched.invariant inv first due.service bare refl
+      (rendered_ack c n due.whole due.data_too due.k (h.state.block n)))
+      (taken_d (Some (grant_ack (h.state.block n).tracker)) is) matched.carried);
+  beside = rw pool (subst (λ (i : ℕ). MemoryRelation h.mail (grant_taken c n due.whole due.data_too due.k rest h.state)
+      (after_end c Requests i ((one_memory_after config log).opened c Requests i) (one_memory_after config log)))
+      (sym is.source) (rw (ap is_whole due.wants) at
       (beside-grant c n due.data_too due.k rest matched.invariant (ap is_wanting due.wants) matched.beside)));
   quiet = ap (λ (m : Option (Message w)). accesses_answered (handed_by c m)) some;
 })
@@ -165,9 +156,7 @@ responded-grant {w} {config} {log} h {sys} {c} {n} rest {x} {queue} due width ma
     same : kind_taken config (next_tracker sys) c Grant n rest h ≡ record h {
       state = grant_taken c n due.whole due.data_too due.k rest h.state;
     }
-    same = ap (λ (v : Service). taken_by_client c n v rest h) due.service ∙ ap
-        (λ (a : AcquirePhase). record h { state = grant_taken c n (is_whole a) due.data_too due.k rest h.state })
-        due.wants
+    same = cc (due.service, due.wants)
 
     inv : IsInvariant (is_caching config) (grant_taken c n due.whole due.data_too due.k rest h.state)
     inv = rw same at (invariant-taken h c Grant n rest matched first tt)

@@ -42,9 +42,7 @@ bare {w} {c} {n} h due inv j i before now = go due.whole refl
 
     told : due.whole ≡ true → (i ≡ c) ⊎ (i ≡ c → ⊥) → carries j i b ≡ false
     told e at =
-        let fits = whole_fits (b.pair c).recorded (b.pair c).held due.data_too due.k due.g
-        (sym (ap (λ (x : Bool). grant_fits (b.pair c).recorded (b.pair c).held due.data_too due.k (AcquireOpen x due.g))
-        e) ∙ due.fits) in
+        let fits = whole_fits (b.pair c).recorded (b.pair c).held due.data_too due.k due.g (cc due.fits) in
         uncarried j i b (quiet fits.0 at) (ap is_given due.service ∙ fits.1)
       where
         quiet : same_perm (b.pair c).recorded Perm.Trunk ≡ true → (i ≡ c) ⊎ (i ≡ c → ⊥) → is_told (b.pair i) ≡ false

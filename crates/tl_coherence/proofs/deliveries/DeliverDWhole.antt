@@ -46,15 +46,13 @@ last_d {w} config log link h {h'} {x} {queue} is t same responded =
     let e = sys.clients link.0 in
     let last = sym (ap (λ (z : Beat w). completes z (unfinished Channel.D e.past)) is.x_is) ∙ is.last in
     let same_parts = same_answers t.verdict_is (Verdict.Done is.y.source (finish_at is.y e)) t.message
-    (acked is.y.opcode is.y.sink) (offer.taken x e).answer t.answer
-    (ap (λ (z : Beat w). (offer.taken z e).answer) is.x_is ∙ answer-last is.y e last) in
+    (acked is.y.opcode is.y.sink) (offer.taken x e).answer t.answer (cc (is.x_is, answer-last is.y e last)) in
     let now = handing (Outcome.Done x is.y.source (finish_at is.y e)) (handed_by link.0 (acked is.y.opcode is.y.sink))
     (with_client link.0 (offer.taken x e).after (with_channel link.0 Channel.D queue sys)) in
     let step_is : stepped config (Deliver link Channel.D) sys ≡ now = cc (t.step_is, same_parts.0, same_parts.1) in
     delivered_as config log link Channel.D h h' same (subst (λ (y : Step w). ChannelRelation h'.mail h'.state y.after)
     (sym step_is) responded.carried) (subst (λ (m : Machine w). MemoryRelation h'.mail h'.state m)
-    (sym (remembered_after config log link Channel.D now step_is ∙ ap (λ (l : List (ℕ × ℕ)). performing l
-    (moved (Deliver link Channel.D) now.outcome (one_memory_after config log))) responded.quiet)) responded.beside)
+    (sym (cc (remembered_after config log link Channel.D now step_is, responded.quiet))) responded.beside)
 
 none_pushed : (w : ℕ) (at : Channel) (b : Bool) → (if b then pushes_of {w = w} None at else None) ≡ None
 none_pushed w at true = refl
@@ -75,8 +73,7 @@ part_d {w} {config} {log} link h {terms} {x} {queue} mm k width is first x_is pa
     let sys = system_after config log in
     let e = sys.clients link.0 in
     let same_parts = same_answers t.verdict_is Verdict.Taken t.message None (offer.taken x e).answer t.answer
-    (ap (λ (z : Beat w). (offer.taken z e).answer) x_is ∙ answer-part y e
-    (sym (ap (λ (z : Beat w). completes z (unfinished Channel.D e.past)) x_is) ∙ part)) in
+    (ap (λ (z : Beat w). (offer.taken z e).answer) x_is ∙ answer-part y e (cc)) in
     let now = handing (Outcome.Moved x) (handed_by link.0 None)
     (with_client link.0 (offer.taken x e).after (with_channel link.0 Channel.D queue sys)) in
     let step_is : stepped config (Deliver link Channel.D) sys ≡ now = cc (t.step_is, same_parts.0, same_parts.1) in
@@ -84,8 +81,7 @@ part_d {w} {config} {log} link h {terms} {x} {queue} mm k width is first x_is pa
     (sym step_is) (carried-part h.mail h.state width (landed-client link.0 Channel.D x queue None
     (offer.taken x e).after sys refl first (subst (λ (z : Beat w). IsOn Channel.D z) (sym x_is) (on_own_channel
     (Beat.D y))) (client-heard width (is.kept link.0) t)) (λ d at. none_pushed w at (d == link.0)) part is.carried))
-    (subst (λ (m : Machine w). MemoryRelation h.mail h.state m)
-    (sym (remembered_after config log link Channel.D now step_is)) is.beside)
+    (rw (remembered_after config log link Channel.D now step_is) is.beside)
 
 pub rendered_release_ack : {w : ℕ} (c n : ℕ) (b : Block (List ℕ)) → block_message {w = w} ReleaseAck c n b ≡ Message.D
     (ack_message (b.release_source c))
@@ -151,9 +147,7 @@ delivered-d {w} {config} {log} link h terms x queue width is known beats moving 
             last_d config log link h last t
             (follows ∙ ap (λ (b : Bool). if b then packet_taken config (next_tracker sys) c (h.state.link c).d h else h)
             done ∙ ap (λ (l : List Packet). packet_taken config (next_tracker sys) c l h) tokens) (responds last)
-        go false part = part_d link h mm next.k width is beats x_is part t
-            (follows ∙ ap (λ (b : Bool). if b then packet_taken config (next_tracker sys) c (h.state.link c).d h else h)
-            part)
+        go false part = part_d link h mm next.k width is beats x_is part t (cc)
 
     kinds : (k : Kind) (i : ℕ) → (h.state.link c).d ≡ packet k i ∷ first.rest → is_on Channel.D k ≡ true
         → IsNext x (unfinished Channel.D e.past) (message_of_kind k h.mail h.state c i)

@@ -72,8 +72,7 @@ on_link-access {w} {config} {log} h {sys} {c} {source} rest is first asked = rec
   order = λ k lt burst moves. order-access c source asked.request k is asked.used asked.source_is asked.access burst;
   early = λ k burst. ap before_stall (order-access c source asked.request k is
       asked.used asked.source_is asked.access burst);
-  unwaited = λ k more i src own j f same. unwaited-asked c source is asked.used
-      i src own j f (sym asked.source_is ∙ same);
+  unwaited = λ k more i src own j f same. unwaited-asked c source is asked.used i src own j f (cc asked.source_is);
   ready = λ k comes last moves. ready-request h is asked comes last moves;
   after = λ k comes last moves. at_manager-request_taken h rest is asked comes last moves;
   carried = λ k queue comes beats last moves. carried-request_taken h rest queue is first asked comes beats last moves;

@@ -45,8 +45,7 @@ delivered-c : {w : ℕ} (config : Config) (h h' : AbstractState w) (kind : Kind)
     → IsTakenUp config c Channel.C (Beat.C (c_beat_of m k)) e → Does config c h h' kind n e (Beat.C (c_beat_of m k)))
     → Delivered config c Channel.C (unfinished Channel.C (on_link c e.trace)) h h' (pushed config c kind n h h') e x
 delivered-c {w} config h h' kind c n m e width is sound next order last =
-    subst (Delivered config c Channel.C rest h h' pushes e) (sym next.beat_is)
-    (go (next.k + 1 == beats_of (Message.C m)) refl)
+    rw next.beat_is (go (next.k + 1 == beats_of (Message.C m)) refl)
   where
     rest : List (Beat w)
     rest = unfinished Channel.C (on_link c e.trace)
@@ -58,8 +57,7 @@ delivered-c {w} config h h' kind c n m e width is sound next order last =
     y = Beat.C (c_beat_of m next.k)
 
     up : IsTakenUp config c Channel.C y e
-    up = takes c Channel.C y e (subst (λ (i : Beat w). manager.IsSound config (record { 0 = c }, i)) next.beat_is
-        sound) refl refl is.all_live (order next.k next.rest_is) refl
+    up = takes c Channel.C y e (rw next.beat_is at sound) refl refl is.all_live (order next.k next.rest_is) refl
 
     completes_it : completes y rest ≡ (next.k + 1 == beats_of (Message.C m))
     completes_it = ap (λ (i : Beat w). completes i rest) (sym next.beat_is) ∙ next.completes_is
@@ -134,10 +132,7 @@ releases-delivered {w} {config} {log} h {sys} c n rest {x} {queue} {ms} width is
     sys.manager =
     record { width = width; about = about.2; rest = before; last = all; long = (is.sized n).truth } in (
       released-left r rest h up end (at_manager-matched is),
-      ap (λ (d : Reaction w). d.handed) (reaction-released config r h end)
-          ∙ ap (λ (i : ℕ). (record { 0 = c }, release_ack {w = w} i) ∷ []) about.3
-          ∙ sym (ap (λ (b : Block (List ℕ)). (record { 0 = c }, block_message {w = w} ReleaseAck c n b) ∷ [])
-          (set-same n (let_block c r (h.state.block n)) h.state.block)),
+      cc (reaction-released config r h end, about.3, set-same n (let_block c r (h.state.block n)) h.state.block),
     ))
 
 -- ---- a GrantAck
@@ -161,8 +156,7 @@ acks-delivered {w} {config} {log} h {sys} c n rest {x} {queue} width is beats to
     subst (Delivered config c Channel.E before h after [] e) (sym next.beat_is) (record {
       up = up;
       manager = rw whole (acked-left rest h width up acks (at_manager-matched is));
-      handed = ap (λ (d : Reaction w). d.handed) (reaction-ack config (record { 0 = c }) y e) ∙ sym
-          (ap (λ (b : Bool). if b then [] else []) whole);
+      handed = cc (reaction-ack config (record { 0 = c }) y e);
     })
   where
     e : End w

@@ -74,8 +74,7 @@ manager-followed_c {w} {config} {log} h {sys} c x queue width is beats =
     let d = channel_c-delivered (least_untaken (trackers_of (services sys.manager.trace))) h c x queue width is beats in
     subst (λ (i : End w). IsManagerOf config (abstract_step config (Deliver (record { 0 = c }) Channel.C) sys h) i)
     (sym (manager-taken config c Channel.C x queue sys t.0 t.1 beats refl d.up))
-    (subst (λ (i : AbstractState w). IsManagerOf config i (left c x (reaction config (record { 0 = c }) x sys.manager)
-    sys.manager)) (sym (followed-taken queue sys h t.0 t.1 beats refl d.up)) d.manager)
+    (rw (followed-taken queue sys h t.0 t.1 beats refl d.up) d.manager)
 
 pub manager-followed_e : {w : ℕ} {config : Config} {log : Log w} (h : AbstractState w) {sys : System w} (c : ℕ)
     (x : Beat w) (queue : List (Beat w)) → IsWidth w
@@ -87,5 +86,4 @@ manager-followed_e {w} {config} {log} h {sys} c x queue width is beats =
     let d = channel_e-delivered (least_untaken (trackers_of (services sys.manager.trace))) h c x queue width is beats in
     subst (λ (i : End w). IsManagerOf config (abstract_step config (Deliver (record { 0 = c }) Channel.E) sys h) i)
     (sym (manager-taken config c Channel.E x queue sys t.0 t.1 beats refl d.up))
-    (subst (λ (i : AbstractState w). IsManagerOf config i (left c x (reaction config (record { 0 = c }) x sys.manager)
-    sys.manager)) (sym (followed-taken queue sys h t.0 t.1 beats refl d.up)) d.manager)
+    (rw (followed-taken queue sys h t.0 t.1 beats refl d.up) d.manager)

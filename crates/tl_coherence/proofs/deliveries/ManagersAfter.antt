@@ -124,10 +124,8 @@ at-manager {w} {config} {log} link ch h terms x queue width is known down beats 
       where
         asked : (at : Channel) → packets_on at (h.state.link link.0) ≡ packet Request i ∷ rest → is_on at Request ≡ true
             → channel_of_message (h.mail.request link.0 i) ≡ at
-        asked Channel.A e f =
-            request_channel config link.0 i (h.mail.request link.0 i)
-            (subst (λ (u : SourceState). IsSourced config link.0 i (h.mail.request link.0 i) u)
-            (first-asked link.0 i rest h is.invariant e) (is.sourced link.0 i))
+        asked Channel.A e f = request_channel config link.0 i (h.mail.request link.0 i)
+            (rw (first-asked link.0 i rest h is.invariant e) at (is.sourced link.0 i))
         asked at e f = absurd cc
     message_channel Answer i tokens own =
         let never : (at : Channel) → is_to_client at ≡ false → is_on at Answer ≡ true
@@ -166,8 +164,7 @@ delivered-last {w} {config} {log} {link} {ch} {h} {x} {queue} handed pushes down
     (subst (λ (y : Step w). ChannelRelation h'.mail h'.state y.after) (sym step_is)
     (carried (taken-landed
     (landed-manager link.0 ch x queue pushes handed e sys down is.beats is.on_it is.heard pushed) last)))
-    (subst (λ (m : Machine w). MemoryRelation h'.mail h'.state m)
-    (sym (remembered_after config log link ch now step_is)) beside)
+    (rw (remembered_after config log link ch now step_is) beside)
   where
     sys : System w
     sys = system_after config log
@@ -196,13 +193,10 @@ pub delivered-part : {w : ℕ} {config : Config} {log : Log w} {link : Link} {ch
     → IsDelivered config log link ch h
 unfolding with_messages performing accesses_answered
 delivered-part {w} {config} {log} {link} {ch} {h} {x} {queue} width matched down is part =
-    delivered_as config log link ch h h (is.follows
-    ∙ ap (λ (b : Bool). if b then kind_taken config (next_tracker sys) link.0 is.first.kind is.first.number
-    is.first.rest h else h) part) (subst (λ (y : Step w). ChannelRelation h.mail h.state y.after) (sym step_is)
-    (carried-part h.mail h.state width (landed-manager link.0 ch x queue (λ d at. None) [] e sys down is.beats is.on_it
-    is.heard (λ d at. refl)) (λ d at. refl) part matched.carried))
-    (subst (λ (m : Machine w). MemoryRelation h.mail h.state m) (sym (remembered_after config log link ch now step_is))
-    matched.beside)
+    delivered_as config log link ch h h (cc is.follows) (rw step_is (carried-part h.mail h.state width
+    (landed-manager link.0 ch x queue (λ d at. None) [] e sys down is.beats is.on_it is.heard (λ d at. refl))
+    (λ d at. refl) part matched.carried)) (subst (λ (m : Machine w). MemoryRelation h.mail h.state m)
+    (sym (remembered_after config log link ch now step_is)) matched.beside)
   where
     sys : System w
     sys = system_after config log

@@ -33,8 +33,7 @@ stepped-nobody config (Ask c o) sys e = rw e refl
 stepped-nobody config (Deliver link ch) sys e = rw e refl
 
 pub not_moving : {w : ℕ} (x y : Step w) → x ≡ y → is_moving x.outcome ≡ true → is_moving y.outcome ≡ false → ⊥
-not_moving {w} x y e moving still = let no : true ≡ false = sym moving ∙ ap (λ (s : Step w). is_moving s.outcome)
-    e ∙ still in cc
+not_moving {w} x y e moving still = let no : true ≡ false = cc in cc
 
 -- ---- the channels and the one memory after any delivery
 
@@ -110,19 +109,13 @@ asked-all {w} {config} {log} c o h width is = go (terms_at config c) refl
 
     go : (i : Option EndConfig) → terms_at config c ≡ i
         → FollowedBy config log (Ask c o) h (stepped config (Ask c o) sys)
-    go None none = subst (FollowedBy config log (Ask c o) h) (sym (stepped-nobody config (Ask c o) sys none))
-        (is.carried, is.beside)
+    go None none = rw (stepped-nobody config (Ask c o) sys none) (is.carried, is.beside)
     go (Some terms) known =
         let r = (ask.asked terms o (sys.clients c)).reply in
         let replied : (stepped config (Ask c o) sys).outcome ≡ Outcome.Replied r =
         ap (λ (x : Step w). x.outcome) (stepped-asked config c o sys terms known) in (
-          subst (λ (x : Outcome w). ChannelRelation (abstract_step_by config (Ask c o) x sys h).mail
-              (abstract_step_by config (Ask c o) x sys h).state (stepped config (Ask c o) sys).after) (sym replied)
-              (carried-ask h c terms o width is known),
-          subst (λ (x : Outcome w). MemoryRelation (abstract_step_by config (Ask c o) x sys h).mail
-              (abstract_step_by config (Ask c o) x sys h).state
-              (performing (accesses_answered (stepped config (Ask c o) sys).handed)
-              (moved (Ask c o) x (one_memory_after config log)))) (sym replied) (beside-ask h c terms o width is known),
+          rw replied (carried-ask h c terms o width is known),
+          rw replied (beside-ask h c terms o width is known),
         )
 
 followed-all : {w : ℕ} {config : Config} {log : Log w} (event : Event w) (h : AbstractState w) → IsWidth w

@@ -137,27 +137,21 @@ delivered-b {w} {config} {log} link h terms x queue width is known beats moving 
 
         taken : IsTaken c Channel.B x queue (pushes_at c (pushes_of (Some ack))) sys now.after
         taken = taken-landed (landed-client c Channel.B x queue (Some ack) (offer.taken x e).after sys refl beats
-            (subst (λ (z : Beat w). IsOn Channel.B z) (sym probed.beat_is) (on_own_channel (Beat.B y)))
-            (client-heard width (is.kept c) t))
-            probed.whole
+            (rw probed.beat_is (on_own_channel (Beat.B y))) (client-heard width (is.kept c) t)) probed.whole
 
         by_letting : (b : Bool) → is_unreleased b_pair.letting ≡ b → IsDelivered config log link Channel.B h
         by_letting true kept =
             let inv = invariant-taken h c Probe n first.rest is tokens (kept-is b_pair.letting kept) in
             delivered_as config log link Channel.B h (kind_taken config (next_tracker sys) c Probe n first.rest h)
             cc (followed-moving config link Channel.B sys h x queue moving beats, probed.whole, tokens)
-            (subst (λ (z : Step w). ChannelRelation h.mail (probe_taken c n k first.rest h.state) z.after) (sym step_is)
-            (carried-shown width (probe_taken-shown c n k first.rest ack h.mail is.invariant inv tokens
+            (rw step_is (carried-shown width (probe_taken-shown c n k first.rest ack h.mail is.invariant inv tokens
             (first-probe is.invariant tokens) (ack_channel w b_pair.held (report_at k b_pair.held) n
             (h.state.block n).truth) (rendered_probed c n k (h.state.block n))) taken is.carried))
-            (subst (λ (m : Machine w). MemoryRelation h.mail (probe_taken c n k first.rest h.state) m)
-            (sym (remembered_after config log link Channel.B now step_is ∙ ap
-            (λ (l : List (ℕ × ℕ)). performing l
-            (moved (Deliver link Channel.B) now.outcome (one_memory_after config log)))
-            (ack_quiet w c b_pair.held (report_at k b_pair.held) n (h.state.block n).truth)))
-            (beside_block n (probed_block c k (h.state.block n)) (probe_taken c n k first.rest h.state) (λ i. refl)
-            (λ d i. refl) (λ d i. refl) refl (λ d. same_acquiring c (after_probe k b_pair) (h.state.block n).pair
-            refl d) (λ d. refl) is.beside))
+            (rw (remembered_after config log link Channel.B now step_is ∙ ap (λ (l : List (ℕ × ℕ)). performing l
+            (moved (Deliver link Channel.B) now.outcome (one_memory_after config log))) (ack_quiet w c b_pair.held
+            (report_at k b_pair.held) n (h.state.block n).truth)) (beside_block n (probed_block c k
+            (h.state.block n)) (probe_taken c n k first.rest h.state) (λ i. refl) (λ d i. refl) (λ d i. refl) refl
+            (λ d. same_acquiring c (after_probe k b_pair) (h.state.block n).pair refl d) (λ d. refl) is.beside))
         by_letting false open_ =
             let stalled = ap (λ (o : offer.Offered w). o.answer) (sym t.takes ∙ probed.waits_for open_) in
             let differ = (same_answers Verdict.Taken Verdict.Stalled (Some (handed_for y e)) None

@@ -126,9 +126,7 @@ carried-delivered_a {w} {config} {log} h {sys} c terms width is client =
     let same = ap (λ (y : Beat w). (step_moved config c k m y queue sys).after) (sym arrives.next.beat_is) in
     moved-a (λ (i : AbstractState w). ChannelRelation i.mail i.state
     (step_moved config c k m x queue sys).after) beats arrives
-    (λ last. subst (ChannelRelation (kind_taken config (next_tracker sys) c arrives.kind arrives.number arrives.rest
-    h).mail (kind_taken config (next_tracker sys) c arrives.kind arrives.number arrives.rest h).state) same
-    (arrives.is_it.carried k queue comes first last (rw arrives.next.beat_is at moves)))
+    (λ last. rw same at (arrives.is_it.carried k queue comes first last (rw arrives.next.beat_is at moves)))
     (λ more. subst (ChannelRelation h.mail h.state) same
     (carried-more queue is comes first (ends-coming comes ∙ not_last k (beats_of (Message.A m)) more))))
 
@@ -152,9 +150,7 @@ beside-delivered_a {w} {config} {log} h {sys} c terms {machine} width is client 
     let same = ap (λ (y : Beat w). (reaction config (link_of c) y sys.manager).handed) (sym arrives.next.beat_is) in
     moved-a (λ (i : AbstractState w). MemoryRelation i.mail i.state
     (performing (accesses_answered (reaction config (link_of c) x sys.manager).handed) machine)) beats arrives
-    (λ last. subst (λ (i : Handed w). MemoryRelation (kind_taken config (next_tracker sys) c arrives.kind arrives.number
-    arrives.rest h).mail (kind_taken config (next_tracker sys) c arrives.kind arrives.number arrives.rest h).state
-    (performing (accesses_answered i) machine)) same (arrives.is_it.beside k machine comes last beside))
+    (λ last. rw same at (arrives.is_it.beside k machine comes last beside))
     (λ more.
     let part = ap (λ (d : Reaction w). d.handed) (reaction-part config (link_of c) (Beat.A (a_beat_of m k)) sys.manager
     (ends-coming comes ∙ not_last k (beats_of (Message.A m)) more)) in
@@ -178,8 +174,7 @@ once-delivered_a {w} {config} {log} h {sys} c terms {machine} width is client be
     moved-a
     (λ (i : AbstractState w). IsOnce (accesses_answered (reaction config (link_of c) x sys.manager).handed) h
     machine) beats arrives
-    (λ last. subst (λ (i : Handed w). IsOnce (accesses_answered i) h machine) same
-    (arrives.is_it.once k machine comes last beside))
+    (λ last. rw same at (arrives.is_it.once k machine comes last beside))
     (λ more.
     let part = ap (λ (d : Reaction w). d.handed) (reaction-part config (link_of c) (Beat.A (a_beat_of m k)) sys.manager
     (ends-coming comes ∙ not_last k (beats_of (Message.A m)) more)) in

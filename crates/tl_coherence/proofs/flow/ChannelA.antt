@@ -76,11 +76,8 @@ module _ {w : ℕ} {config : Config} {log : Log w} (h : AbstractState w) {sys : 
       subst (λ (z : Beat w). AreRests z (unfinished_at sys c) rest') next.beat_is rests in
       subst (λ (z : Beat w). MonitorRelation (asked_by h.mail h.state c) rest' c (replied_if source b) (z ∷ t))
       (sym next.beat_is)
-      (flowed-access (ap is_empty (flowed.rest_is Channel.A)) (ap (completes (Beat.A (a_beat_of asked.request next.k)))
-      (flowed.rest_is Channel.A) ∙ last_y) rests_y
-      (access_of source asked next.k ms queue
-      (subst (λ (z : Beat w). IsNext z (unfinished_at sys c Channel.A) (Message.A asked.request) ms queue)
-      next.beat_is next) rests_y b last_y (first-zero next)) flowed)
+      (flowed-access (ap is_empty (flowed.rest_is Channel.A)) (cc (flowed.rest_is Channel.A)) rests_y
+      (access_of source asked next.k ms queue (rw next.beat_is at next) rests_y b last_y (first-zero next)) flowed)
 
   -- ---- an Acquire
 
@@ -124,8 +121,7 @@ module _ {w : ℕ} {config : Config} {log : Log w} (h : AbstractState w) {sys : 
         let one = one-beat next (acquisition_beats w wanted.whole wanted.grow ((s.block n).source c) n) in
         let x_is : x ≡ Beat.A y = cc (next.beat_is, one.0) in
         let last_y : completes (Beat.A y) (unfinished_at sys c Channel.A) ≡ true = cc (x_is, one.2) in
-        let rests_y : AreRests (Beat.A y) (unfinished_at sys c) rest' =
-        subst (λ (z : Beat w). AreRests z (unfinished_at sys c) rest') x_is rests in
+        let rests_y : AreRests (Beat.A y) (unfinished_at sys c) rest' = rw x_is at rests in
         let now : s'.block n ≡ new = changed n ∙ set-same n new s.block in
         let unsunk : (i : ℕ) → set tracker (Some n) s.tracked i ≡ Some n
         → sunk_in c i (unfinished_at sys c Channel.D) (s'.block n) ≡ false =
@@ -160,8 +156,7 @@ module _ {w : ℕ} {config : Config} {log : Log w} (h : AbstractState w) {sys : 
           uses = uses;
           lets = lets;
           sinks = λ i. sunk-elsewhere c i n (unfinished_at sys c Channel.D) (s.tracked i) (s'.tracked i) s s'
-              (λ m ne. changed m ∙ set-other n m new s.block ne)
-              (subst (λ (o : Option ℕ). (o ≡ s.tracked i) ⊎ (IsWithin n (s.tracked i) × IsWithin n o)) (sym (tracked i))
+              (λ m ne. changed m ∙ set-other n m new s.block ne) (rw (tracked i)
               (tracked-new n tracker s.tracked unused i)) (λ e. rw free refl) (λ e. unsunk i (sym (tracked i) ∙ e));
           held_is = ap (held_by c) now ∙ taken.keeps_held;
           served = ap (λ (b : Block (List ℕ)). is_unserved (view b.service c)) now ∙ taken.serves;
@@ -207,8 +202,7 @@ module _ {w : ℕ} {config : Config} {log : Log w} (h : AbstractState w) {sys : 
           pair_letting = ap (λ (p : ClientBlock). p.letting) pair;
           pair_probing = ap (λ (p : ClientBlock). p.probing) pair;
           keeps_source = refl;
-          keeps_held = ap (λ (v : View). if is_granting v then (new.pair c).held else (new.pair c).recorded) seen ∙ ap
-              (λ (p : ClientBlock). p.recorded) pair ∙ sym held_free;
+          keeps_held = cc (seen, pair, held_free);
           serves = ap is_unserved seen;
           waits_so = ap is_acknowledging seen;
         })

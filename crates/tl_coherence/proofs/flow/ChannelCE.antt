@@ -155,10 +155,9 @@ module _ {w : ℕ} {config : Config} {log : Log w} (h : AbstractState w) {sys : 
 
       go : (z : Bool) → completes x (unfinished_at sys c Channel.C) ≡ z
           → MonitorRelation before rest' c (reported_if r z) (Beat.C (c_beat_of m here.k) ∷ t)
-      go false e = flowed-report_part (c_beat_of m here.k) (is_empty (unfinished_at sys c Channel.C)) rest'
-          (ap is_empty (flowed.rest_is Channel.C))
-          (ap (completes (Beat.C (c_beat_of m here.k))) (flowed.rest_is Channel.C) ∙ last_y m x ms queue here rests
-          false e) (rests_y m x ms queue here rests false e) about.2.releases (same false e) flowed
+      go false e = flowed-report_part (c_beat_of m here.k) (is_empty (unfinished_at sys c Channel.C)) rest' (ap is_empty
+          (flowed.rest_is Channel.C)) (cc (flowed.rest_is Channel.C, last_y m x ms queue here rests false e))
+          (rests_y m x ms queue here rests false e) about.2.releases (same false e) flowed
       go true e = flowed-report n r toks (c_beat_of m here.k) (is_empty (unfinished_at sys c Channel.C)) rest'
           (ap is_empty (flowed.rest_is Channel.C))
           (ap (completes (Beat.C (c_beat_of m here.k))) (flowed.rest_is Channel.C)
@@ -189,8 +188,7 @@ module _ {w : ℕ} {config : Config} {log : Log w} (h : AbstractState w) {sys : 
       elim [ true ↦ part_is (λ p. p.letting) | false ↦ releasing ] in
       let about = release_rendered c n (s.block n) width (is.sized n).truth in
       let m : MessageC w = about.0 in
-      let here : IsNext x (unfinished_at sys c Channel.C) (Message.C m) ms queue =
-      subst (λ (i : Message w). IsNext x (unfinished_at sys c Channel.C) i ms queue) about.1 next in
+      let here : IsNext x (unfinished_at sys c Channel.C) (Message.C m) ms queue = rw about.1 at next in
       subst (λ (z : Beat w). MonitorRelation before rest' c (released_if r b) (z ∷ t)) (sym here.beat_is)
       (flowed-release (ap is_empty (flowed.rest_is Channel.C))
       (ap (completes (Beat.C (c_beat_of m here.k))) (flowed.rest_is Channel.C) ∙ last_y m x ms queue here rests b
@@ -243,17 +241,14 @@ module _ {w : ℕ} {config : Config} {log : Log w} (h : AbstractState w) {sys : 
   own-grant_ack tokens x ms queue next rests asked' asks =
       let y : BeatE = record { sink = (s.block n).tracker } in
       let here : IsNext x (unfinished_at sys c Channel.E) (Message.E (record { sink = (s.block n).tracker })) ms queue =
-      subst (λ (i : Message w). IsNext x (unfinished_at sys c Channel.E) i ms queue) (ack_rendered c n (s.block n))
-      next in
+      rw (ack_rendered c n (s.block n)) at next in
       let one = one-beat here refl in
       let x_is : x ≡ Beat.E y = here.beat_is in
       subst (λ (z : Beat w). MonitorRelation asked' rest' c (grant_ack_taken c n toks s) (z ∷ t)) (sym x_is)
-      (flowed-grant_ack n toks y asked' rest' (ap is_empty (flowed.rest_is Channel.E ∙ one.1))
-      (ap (completes {w = w} (Beat.E y)) (flowed.rest_is Channel.E ∙ one.1))
-      (subst (λ (z : Beat w). AreRests z (unfinished_at sys c) rest') x_is rests) asks refl seen is.invariant.named
-      (busy_seen is_acknowledging refl (s.block n).service c shows)
-      (λ k e. busy_seen is_acknowledging refl (s.block k).service c e)
-      (λ k e. busy_seen is_granting refl (s.block k).service c e) (coming-granting c is)
+      (flowed-grant_ack n toks y asked' rest' (ap is_empty (flowed.rest_is Channel.E ∙ one.1)) (ap (completes {w = w}
+      (Beat.E y)) (flowed.rest_is Channel.E ∙ one.1)) (rw x_is at rests) asks refl seen is.invariant.named
+      (busy_seen is_acknowledging refl (s.block n).service c shows) (λ k e. busy_seen is_acknowledging refl
+      (s.block k).service c e) (λ k e. busy_seen is_granting refl (s.block k).service c e) (coming-granting c is)
       (λ k. comes-same k before asked' (unfinished_at sys c Channel.D) asks) flowed)
     where
       shows : is_acknowledging (view (s.block n).service c) ≡ true

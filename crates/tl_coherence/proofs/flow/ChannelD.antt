@@ -119,8 +119,7 @@ module _ {w : ℕ} {config : Config} {log : Log w} (h : AbstractState w) {sys : 
       → MonitorRelation (asked_by h.mail (answered_if source b) c) rest' c (answered_if source b) (x ∷ t)
   own-answer source tokens x ms queue next rests b last =
       let due = answer-due (is_caching config) c source toks h.mail s is.invariant (is.answered c source) tokens in
-      let here : IsNext x (unfinished_at sys c Channel.D) (Message.D due.answer) ms queue =
-      subst (λ (i : Message w). IsNext x (unfinished_at sys c Channel.D) i ms queue) due.answer_is next in
+      let here : IsNext x (unfinished_at sys c Channel.D) (Message.D due.answer) ms queue = rw due.answer_is at next in
       let kind = access_kind due.answer.opcode due.answers_access in
       subst (λ (z : Beat w). MonitorRelation (asked_by h.mail (answered_if source b) c) rest' c (answered_if source b)
       (z ∷ t)) (sym here.beat_is)

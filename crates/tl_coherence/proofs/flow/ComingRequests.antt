@@ -31,8 +31,7 @@ waiting_request {config} {log} {mail} {request} {s} {sys} c i rest h first =
     let asked = asked-first c i rest h first in (
       asked.request,
       asked.is_it,
-      ap (λ (j : ℕ). waits_on_a c (s.uses c j) s) asked.source_is ∙ ap
-          (λ (u : SourceState). waits_on_a c u s) asked.used,
+      cc (asked.source_is, asked.used),
     )
 
 waiting_acquire : {w : ℕ} {config : Config} {log : Log w} {mail : AccessMessages w} {request : ℕ → MessageA w}
@@ -85,14 +84,11 @@ not-coming_a {w} {config} {log} {mail} {request} {s} {sys} c source h none =
         (sys.channels c Channel.A) → comes_in_request source rest_now ≡ false
     go [] first carried =
         let nothing : IsCarried rest_now [] (sys.channels c Channel.A) =
-        subst (λ (ms : List (Message w)). IsCarried rest_now ms (sys.channels c Channel.A))
-        (ap (map (message_of mail s c)) first) carried in
+        rw (ap (map (message_of mail s c)) first) at carried in
         ap (comes_in_request source) nothing.0
     go (x ∷ xs) first carried =
         let some : IsCarried rest_now (message_of mail s c x ∷ map (message_of mail s c) xs)
-        (sys.channels c Channel.A) =
-        subst (λ (ms : List (Message w)). IsCarried rest_now ms (sys.channels c Channel.A))
-        (ap (map (message_of mail s c)) first) carried in
+        (sys.channels c Channel.A) = rw (ap (map (message_of mail s c)) first) at carried in
         comes_not c source s (message_of mail s c x) some.0 rest_now some.2
         (each x.kind x.number xs first (own_kind (is_caching config) s c Channel.A x.kind x.number xs h.invariant
         first)) none

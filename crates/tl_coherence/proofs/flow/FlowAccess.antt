@@ -79,20 +79,16 @@ flowed-access {w} {X} {c} {y} {first} {last} {asked} {rest} {rest'} {s} {s'} {t}
           (sym (is.lets i) ∙ e) (before.release_sources i ∙ sym (lets i) ∙ f);
       sizes = λ i m e f. ap (option_map (λ z. z.size)) (released-of i y t) ∙ before.sizes i m (sym (is.lets i) ∙ e)
           (before.release_sources i ∙ sym (lets i) ∙ f);
-      releases = λ m. ap (λ (l : List (Beat w)). let_of c l (s'.block m)) (rests Channel.C) ∙ ap
-          (let_of c (rest Channel.C)) (is.blocks m)
-          ∙ sym (step_quiet first last (let_of c (rest Channel.C) (s.block m)));
+      releases = λ m. cc (rests Channel.C, is.blocks m, step_quiet first last (let_of c (rest Channel.C) (s.block m)));
       sinks = λ i. ap (λ (l : List (Beat w)). is_sunk c i l (s'.tracked i) s') (rests Channel.D)
           ∙ ap (λ (o : Option ℕ). is_sunk c i (rest Channel.D) o s') (is.tracked i) ∙ sinks i (s.tracked i)
           ∙ sym (step_quiet first last (is_sunk c i (rest Channel.D) (s.tracked i) s));
       grants = λ m. grants m ∙ sym (step_quiet first last (granted_by c m asked (rest Channel.D) (s.block m)));
-      probes = λ m. ap (λ (z : Block X). is_answered (z.pair c).probing) (is.blocks m) ∙ sym
-          (step_quiet first last (is_answered ((s.block m).pair c).probing));
+      probes = λ m. cc (is.blocks m, step_quiet first last (is_answered ((s.block m).pair c).probing));
       probed = λ m e. probe_of-a m y t ∙ before.probed m
           (sym (ap (λ (z : Block X). is_answered (z.pair c).probing) (is.blocks m)) ∙ e)
           ∙ sym (ap (λ (z : Block X). Some (probe_beat m (cap_waited z.service))) (is.blocks m));
-      sunk = λ m e. grant_sink-a m y t ∙ before.sunk m (before.grants m ∙ sym (grants m) ∙ e) ∙ ap
-          (λ (z : Block X). Some z.tracker) (sym (is.blocks m));
+      sunk = λ m e. cc (grant_sink-a m y t, before.sunk m (before.grants m ∙ sym (grants m) ∙ e), is.blocks m);
     }) before
   where
     was : (i : ℕ) → (y.source == i) ≡ true → is_requested c i (rest Channel.A) (s.uses c i) s ≡ not first

@@ -47,9 +47,8 @@ pub flowed-acquire : {w : ℕ} {X : Type 0} {c n : ℕ} {y : BeatA w} {asked ask
     → ends (Beat.A y) t ≡ true → AreRests (Beat.A y) rest rest' → IsAcquired c n y asked asked' rest rest' s s'
     → MonitorRelation asked rest c s t → MonitorRelation asked' rest' c s' (Beat.A y ∷ t)
 flowed-acquire {w} {X} {c} {n} {y} {asked} {asked'} {rest} {rest'} {s} {s'} {t} first_is last_is rests is before =
-    let probed = each-block (λ m z. is_answered (z.pair c).probing ≡ true
-    → probe_of m t ≡ Some (probe_beat m (cap_waited z.service))) n s s' is.elsewhere
-    (λ e. absurd (let f : false ≡ true = sym is.answered ∙ e in cc)) (λ m ne e. before.probed m e) in
+    let probed = each-block (λ m z. is_answered (z.pair c).probing ≡ true → probe_of m t ≡ Some (probe_beat m
+    (cap_waited z.service))) n s s' is.elsewhere (λ e. absurd (cc is.answered)) (λ m ne e. before.probed m e) in
     let answered =
     part-block (λ (z : Block X). is_answered (z.pair c).probing) n s s' is.elsewhere (is.answered ∙ sym is.quiet) in
     let b : Block X = s.block n in

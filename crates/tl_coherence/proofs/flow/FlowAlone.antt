@@ -52,8 +52,7 @@ flowed-grant_ack {w} {X} {c} n toks y {asked} asked' {rest} rest' {s}
     (not_granting (view b.service c) seen) (coming n) in
     let tracked = set-each (λ m z. granted_by c m asked' (rest' Channel.D) z ≡ true → grant_sink m t
     ≡ Some z.tracker) n new s.block (λ e. absurd (let f : false ≡ true = sym (grants_rest n ∙ none_comes) ∙ e in cc))
-    (λ m ne e. before.sunk m (before.grants m
-    ∙ sym (ap (λ (z : Bool). is_acknowledging (view (s.block m).service c) || z) (grants_rest m)) ∙ e)) in
+    (λ m ne e. before.sunk m (cc (before.grants m, grants_rest m))) in
     let acks_here = ap (λ (v : View). is_acknowledging v || comes_granting n asked (rest Channel.D)) seen in
     let grants = set-each (λ m z. granted_by c m asked' (rest' Channel.D) z ≡ step true true false
     (is_sink y.sink (grant_sink m t)) (granted_by c m asked (rest Channel.D) (s.block m))) n new s.block
@@ -74,17 +73,13 @@ flowed-grant_ack {w} {X} {c} n toks y {asked} asked' {rest} rest' {s}
       held_is = set-part (held_by c) n new s.block
           (sym (ap (λ (v : View). if is_granting v then (b.pair c).held else (b.pair c).recorded) seen));
       requests = requests;
-      asked_is = λ i e. request_of-e i y t ∙ before.asked_is i (before.requests i ∙ sym (requests i) ∙ e) ∙ sym
-          (asks i);
+      asked_is = λ i e. request_of-e i y t ∙ before.asked_is i (cc (before.requests i, requests i)) ∙ sym (asks i);
       acquires = set-part (acquired_by c) n new s.block
           (sym (ap (λ (v : View). is_wanting (b.pair c).acquiring && not (is_unserved v)) seen));
       release_sources = lets;
-      released = λ i m e f. ap (option_map (λ z. block_at z.address)) (released-of i y t) ∙ before.released i m e
-          (before.release_sources i ∙ sym (lets i) ∙ f);
-      sizes = λ i m e f. ap (option_map (λ z. z.size)) (released-of i y t) ∙ before.sizes i m e
-          (before.release_sources i ∙ sym (lets i) ∙ f);
-      releases = λ m. ap (λ (r : List (Beat w)). let_of c r (s'.block m)) (rests Channel.C) ∙ set-part
-          (let_of c (rest Channel.C)) n new s.block refl m;
+      released = λ i m e f. cc (released-of i y t, before.released i m e (before.release_sources i ∙ sym (lets i) ∙ f));
+      sizes = λ i m e f. cc (released-of i y t, before.sizes i m e (before.release_sources i ∙ sym (lets i) ∙ f));
+      releases = λ m. cc (rests Channel.C, set-part (let_of c (rest Channel.C)) n new s.block refl m);
       sinks = sinks;
       grants = grants;
       probes = set-part (λ (z : Block X). is_answered (z.pair c).probing) n new s.block refl;

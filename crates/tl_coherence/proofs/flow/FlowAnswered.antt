@@ -98,13 +98,11 @@ flowed-answer {w} {X} {c} {y} first {last} {asked} {asked'} {rest} {rest'} {s} {
           is.grant);
       grants = λ m. grants m ∙ sym (unopened first last (is_grant y.opcode) (asks_for m (request_of y.source t))
           (granted_by c m asked (rest Channel.D) (s.block m)) is.grant);
-      probes = λ m. ap (λ (z : Block X). is_answered (z.pair c).probing) (is.blocks m) ∙ sym
-          (step_quiet first last (is_answered ((s.block m).pair c).probing));
+      probes = λ m. cc (is.blocks m, step_quiet first last (is_answered ((s.block m).pair c).probing));
       probed = λ m e. probed-of m y t ∙ before.probed m
           (sym (ap (λ (z : Block X). is_answered (z.pair c).probing) (is.blocks m)) ∙ e)
           ∙ sym (ap (λ (z : Block X). Some (probe_beat m (cap_waited z.service))) (is.blocks m));
-      sunk = λ m e. sunk-of m y t is.grant ∙ before.sunk m (before.grants m ∙ sym (grants m) ∙ e) ∙ ap
-          (λ (z : Block X). Some z.tracker) (sym (is.blocks m));
+      sunk = λ m e. cc (sunk-of m y t is.grant, before.sunk m (before.grants m ∙ sym (grants m) ∙ e), is.blocks m);
     }) before
   where
     same_requested : (i : ℕ) (u : SourceState) → is_requested c i (rest Channel.A) u s' ≡ is_requested c i
@@ -136,9 +134,7 @@ flowed-answer {w} {X} {c} {y} first {last} {asked} {asked'} {rest} {rest'} {s} {
     asked_still i e false f =
         cc (
           request_of-d i y t,
-          before.asked_is i (before.requests i ∙ sym (same_requested i (s.uses c i)) ∙ sym
-              (use_at i ∙ ap (λ (z : Bool). is_requested c i (rest Channel.A) (if z then SourceFree else s.uses c i) s')
-              f) ∙ e),
+          before.asked_is i (cc (before.requests i, same_requested i (s.uses c i), use_at i)),
           is.asked_is i f,
         )
 
@@ -213,9 +209,7 @@ flowed-let_go {w} {X} {c} {n} {y} {asked} {asked'} {rest} {rest'} {s} {s'} {t} f
           (part-block (λ (z : Block X). is_unserved (view z.service c)) n s s' is.elsewhere
           (ap (λ (q : Service). is_unserved (view q c)) is.service)),
     ) in
-    let acquires = part-block (acquired_by c) n s s' is.elsewhere
-    (ap (λ (l : AcquirePhase). is_wanting l && not (is_unserved (view (s'.block n).service c))) is.acquiring
-    ∙ ap (λ (q : Service). is_wanting (b.pair c).acquiring && not (is_unserved (view q c))) is.service) in
+    let acquires = part-block (acquired_by c) n s s' is.elsewhere (cc (is.acquiring, is.service)) in
     let answered : (m : ℕ) → is_answered ((s'.block m).pair c).probing ≡ is_answered ((s.block m).pair c).probing =
     part-block (λ (z : Block X). is_answered (z.pair c).probing) n s s' is.elsewhere (ap is_answered is.probing) in
     let still_pending : (i m : ℕ) → s'.lets c i ≡ Some m → is_let_by c i (rest' Channel.C) (s'.lets c i) s' ≡ true
@@ -300,6 +294,5 @@ flowed-let_go {w} {X} {c} {n} {y} {asked} {asked'} {rest} {rest'} {s} {s'} {t} f
 
     is_another : (i m : ℕ) → s'.lets c i ≡ Some m → (z : Bool) → (y.source == i) ≡ z → ((y.source == i) ≡ false)
         × (s.lets c i ≡ Some m)
-    is_another i m e true f =
-        absurd (let g : None ≡ Some m = sym (is.lets i ∙ ap (λ (z : Bool). if z then None else s.lets c i) f) ∙ e in cc)
+    is_another i m e true f = absurd (cc (is.lets i))
     is_another i m e false f = (f, sym (is.lets i ∙ ap (λ (z : Bool). if z then None else s.lets c i) f) ∙ e)

@@ -150,8 +150,7 @@ module _ {w : ℕ} {X : Type 0} (d : ℕ) (asked asked' : ℕ → Option (BeatA 
       let new : Block X = served_block r own source tracker k (s.block n) in
       apart-at n s' changed (same-served d r source tracker own k (s.block n) other free quiet) uses lets
       (sinks-outside n new s' changed (free-outside n free) (outside-waits d r source own k other)
-      (λ i. subst (λ (o : Option ℕ). (o ≡ s.tracked i) ⊎ (IsWithin n (s.tracked i) × IsWithin n o)) (sym (tracked i))
-      (tracked-new n tracker s.tracked unused i)))
+      (λ i. rw (tracked i) (tracked-new n tracker s.tracked unused i)))
 
   pub left-acquire_granted : (r n tracker : ℕ) (x : Bool) (k : Cap) (toks : List Packet) → (d ≡ r → ⊥)
       → (s.block n).service ≡ Free → is_answered ((s.block n).pair d).probing ≡ false → s.tracked tracker ≡ None
@@ -194,12 +193,10 @@ module _ {w : ℕ} {X : Type 0} (d : ℕ) (asked asked' : ℕ → Option (BeatA 
 
   pub left-grant_taken : (c n : ℕ) (whole x : Bool) (k : Cap) (toks : List Packet) → (d ≡ c → ⊥)
       → (s.block n).service ≡ GrantSent c x k → IsLeft (grant_taken c n whole x k toks s)
-  left-grant_taken c n whole x k toks ne sent =
-      apart-at n (grant_taken c n whole x k toks s) (λ m. refl)
+  left-grant_taken c n whole x k toks ne sent = apart-at n (grant_taken c n whole x k toks s) (λ m. refl)
       (same-taken d c whole x k (s.block n) ne sent) (λ i. inl (set_at-other c d ((s.block n).source c) i _ s.uses ne))
       (λ i. refl) (sinks-outside n (taken_block c whole x k (s.block n)) (grant_taken c n whole x k toks s) (λ m. refl)
-      (ap (λ (q : Service). is_outside (view q d)) sent ∙ outside-sent d c x k ne) (outside-taken d c ne)
-      (λ i. inl refl))
+      (cc (outside-sent d c x k ne)) (outside-taken d c ne) (λ i. inl refl))
 
   pub left-release_ack_taken : (c n : ℕ) (toks : List Packet) → (d ≡ c → ⊥) → IsLeft (release_ack_taken c n toks s)
   left-release_ack_taken c n toks ne = apart-at n (release_ack_taken c n toks s) (λ m. refl)
@@ -258,15 +255,12 @@ module _ {w : ℕ} {X : Type 0} (d : ℕ) (asked asked' : ℕ → Option (BeatA 
         ≡ Some n → is_heard (s.uses q source) ≡ true → IsAside asked asked' rest d (report_taken c n r toks s)
         (report_answers c q n source r f toks s)
     left-report_answers q source k f waits quiet tracks heard = apart-at d asked asked' rest between asks coming_still n
-        (report_answers c q n source r f toks s)
-        (set-again n (reported_block c r (s.block n)) (ended_block c r f (s.block n)) s.block)
-        (subst (λ (z : Block X). IsSameBlock d z (ended_block c r f (s.block n))) (sym new_is)
-        (same-settled d c q source r k f (s.block n) waits (unanswered quiet))) uses (λ i. refl)
-        (sinks-outside d asked asked' rest between asks coming_still n (ended_block c r f (s.block n))
-        (report_answers c q n source r f toks s)
-        (set-again n (reported_block c r (s.block n)) (ended_block c r f (s.block n)) s.block)
-        (ap is_outside (seen (Waits q false source k) waits) ∙ outside-waits d q source false k refl) refl
-        (tracked-free n (s.block n).tracker s.tracked tracks))
+        (report_answers c q n source r f toks s) (set-again n (reported_block c r (s.block n)) (ended_block c r f
+        (s.block n)) s.block) (rw new_is (same-settled d c q source r k f (s.block n) waits (unanswered quiet))) uses
+        (λ i. refl) (sinks-outside d asked asked' rest between asks coming_still n (ended_block c r f (s.block n))
+        (report_answers c q n source r f toks s) (set-again n (reported_block c r (s.block n))
+        (ended_block c r f (s.block n)) s.block) (ap is_outside (seen (Waits q false source k) waits)
+        ∙ outside-waits d q source false k refl) refl (tracked-free n (s.block n).tracker s.tracked tracks))
       where
         uses : (i : ℕ) → IsSameUse (s.uses d i) (set_at q source Replied s.uses d i)
         uses i = elim (cases_eq i source) [
@@ -304,8 +298,7 @@ module _ {w : ℕ} {X : Type 0} (d : ℕ) (asked asked' : ℕ → Option (BeatA 
             let granted : (z : Bool) → (is_acknowledging (if z then Granting x k else GrantedOther) || (is_granting (if
             z then Granting x k else GrantedOther) && false)) ≡ false = elim [ true ↦ refl | false ↦ refl ] in
             elim (cases_eq d q) [
-              | inl here ↦ ap (λ (z : Bool). is_acknowledging (view new.service d)
-                  || (is_granting (view new.service d) && z)) (none i e) ∙ granted (d == q)
+              | inl here ↦ cc (none i e, granted (d == q))
               | inr other ↦ outside-unsunk (view new.service d) (comes_in_grant i (rest Channel.D))
                   (outside-sent d q x k other)
             ]

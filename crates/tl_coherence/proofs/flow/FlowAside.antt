@@ -104,9 +104,7 @@ flowed-aside {w} {X} {asked} {asked'} {rest} {d} {s} {s'} {t} is = flowed-untouc
   release_sources = λ i. ap (λ (o : Option ℕ). is_let_by d i (rest Channel.C) o s') (is.lets i) ∙ let_by-same d i
       (rest Channel.C) (s.lets d i) s s' (λ n. (is.blocks n).letting);
   lets = λ i n e f. sym (is.lets i) ∙ f;
-  releases = λ n. ap (λ (i : ℕ). is_release_pending i (rest Channel.C) ((s'.block n).pair d).letting)
-      (is.blocks n).source ∙ ap (λ (l : ReleasePhase). is_release_pending ((s.block n).release_source d)
-      (rest Channel.C) l) (is.blocks n).letting;
+  releases = λ n. cc ((is.blocks n).source, (is.blocks n).letting);
   sinks = is.sinks;
   grants = λ n. rw ((is.blocks n).acknowledging, (comes-same n asked asked' (rest Channel.D) is.asked_is)) refl;
   probes = λ n. (is.blocks n).answered;

@@ -21,11 +21,8 @@ requested-now : {w : ℕ} {X : Type 0} (c source : ℕ) (u : SourceState) (rest 
     → ((n : ℕ) → is_unserved (view (s'.block n).service c) ≡ is_unserved (view (s.block n).service c)) → (i : ℕ)
     → is_requested c i rest (s'.uses c i) s' ≡ is_requested c i rest (s.uses c i) s
 requested-now c source u rest s s' closed uses none same i = elim (cases_eq i source) [
-  | inl here ↦ rw here (ap (λ (v : SourceState). is_requested c source rest v s')
-      (uses source ∙ set_at-same c source u s.uses) ∙ none ∙ sym
-      (ap (λ (v : SourceState). is_requested c source rest v s) closed))
-  | inr other ↦ ap (λ (v : SourceState). is_requested c i rest v s') (uses i ∙ set_at-else c source i u s.uses other c)
-      ∙ requested-blocks c i rest (s.uses c i) s s' same
+  | inl here ↦ rw here (cc (uses source, set_at-same c source u s.uses))
+  | inr other ↦ cc (uses i, set_at-else c source i u s.uses other c, requested-blocks c i rest (s.uses c i) s s' same)
 ]
 
 asked-now : {w : ℕ} {X : Type 0} (c source : ℕ) (asked asked' : ℕ → Option (BeatA w)) (rest : List (Beat w))
@@ -113,10 +110,7 @@ untouched-release_asked {w} {X} c n source r asked asked' rest s free none kept 
       | inr other ↦ sym (set_at-else c source i (Some n) s.lets other c) ∙ f
     ] in
     record {
-      held_is = set-part (held_by c) n new s.block
-          (ap (λ (z : Bool). if z then (new.pair c).held else (new.pair c).recorded) ungranted
-          ∙ ap (λ (p : ClientBlock). p.recorded) pair ∙ sym
-          (ap (λ (z : Bool). if z then (b.pair c).held else (b.pair c).recorded) ungranted));
+      held_is = set-part (held_by c) n new s.block (cc (ungranted, pair));
       requests = λ i. requested-blocks c i (rest Channel.A) (s.uses c i) s s'
           (set-part (λ (z : Block X). is_unserved (view z.service c)) n new s.block refl);
       asked_is = λ i e. asks i;
@@ -125,9 +119,7 @@ untouched-release_asked {w} {X} c n source r asked asked' rest s free none kept 
       release_sources = lets;
       lets = λ i m e f. still i m e f;
       releases = set-part (let_of c (rest Channel.C)) n new s.block
-          (ap (λ (l : ReleasePhase). is_release_pending (new.release_source c) (rest Channel.C) l) letting_is
-          ∙ ap (λ (j : ℕ). comes_in_release j (rest Channel.C)) (set-same c source b.release_source) ∙ none
-          ∙ sym (ap (is_release_pending (b.release_source c) (rest Channel.C)) kept));
+          (cc (letting_is, set-same c source b.release_source, none, kept));
       sinks = λ i. sunk-as c i (rest Channel.D) (s.tracked i) s s'
           (set-part (sunk_in c i (rest Channel.D)) n new s.block refl);
       grants = λ m. cc (
@@ -168,10 +160,6 @@ untouched-release_asked {w} {X} c n source r asked asked' rest s free none kept 
 
     lets : (i : ℕ) → is_let_by c i (rest Channel.C) (s'.lets c i) s' ≡ is_let_by c i (rest Channel.C) (s.lets c i) s
     lets i = elim (cases_eq i source) [
-      | inl here ↦ rw here (ap (λ (o : Option ℕ). is_let_by c source (rest Channel.C) o s')
-          (set_at-same c source (Some n) s.lets) ∙ ap (λ (z : Block X). is_release_pending source (rest Channel.C)
-          (z.pair c).letting) (set-same n new s.block) ∙ ap (is_release_pending source (rest Channel.C)) letting_is
-          ∙ none ∙ sym (ap (λ (o : Option ℕ). is_let_by c source (rest Channel.C) o s) free))
-      | inr other ↦ ap (λ (o : Option ℕ). is_let_by c i (rest Channel.C) o s')
-          (set_at-else c source i (Some n) s.lets other c) ∙ others i (s.lets c i) (unused i)
+      | inl here ↦ rw here (cc (set_at-same c source (Some n) s.lets, set-same n new s.block, letting_is, none, free))
+      | inr other ↦ cc (set_at-else c source i (Some n) s.lets other c, others i (s.lets c i) (unused i))
     ]

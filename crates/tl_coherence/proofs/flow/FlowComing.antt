@@ -96,14 +96,11 @@ half-granted {w} {config} {log} {mail} {request} {s} {sys} c x more h is grants 
         (sys.channels c Channel.D) → IsOfGrant c s x
     go [] first carried =
         let none : IsCarried rest_now [] (sys.channels c Channel.D) =
-        subst (λ (ms : List (Message w)). IsCarried rest_now ms (sys.channels c Channel.D))
-        (ap (map (message_of mail s c)) first) carried in
+        rw (ap (map (message_of mail s c)) first) at carried in
         absurd (let no : [] ≡ Beat.D x ∷ more = sym none.0 ∙ is in cc)
     go (y ∷ ys) first carried =
         let some : IsCarried rest_now (message_of mail s c y ∷ map (message_of mail s c) ys)
-        (sys.channels c Channel.D) =
-        subst (λ (ms : List (Message w)). IsCarried rest_now ms (sys.channels c Channel.D))
-        (ap (map (message_of mail s c)) first) carried in
+        (sys.channels c Channel.D) = rw (ap (map (message_of mail s c)) first) at carried in
         begun_alone c s (message_of mail s c y) some.0 x more
         (each y.kind y.number ys first (own_kind (is_caching config) s c Channel.D y.kind y.number ys h.invariant
         first)) (sym is ∙ some.2) grants
@@ -237,14 +234,11 @@ half-released {w} {config} {log} {mail} {request} {s} {sys} c x more width h is 
         (sys.channels c Channel.C) → Here
     go [] first carried =
         let none : IsCarried rest_now [] (sys.channels c Channel.C) =
-        subst (λ (ms : List (Message w)). IsCarried rest_now ms (sys.channels c Channel.C))
-        (ap (map (message_of mail s c)) first) carried in
+        rw (ap (map (message_of mail s c)) first) at carried in
         absurd (let no : [] ≡ Beat.C x ∷ more = sym none.0 ∙ is in cc)
     go (y ∷ ys) first carried =
         let some : IsCarried rest_now (message_of mail s c y ∷ map (message_of mail s c) ys)
-        (sys.channels c Channel.C) =
-        subst (λ (ms : List (Message w)). IsCarried rest_now ms (sys.channels c Channel.C))
-        (ap (map (message_of mail s c)) first) carried in
+        (sys.channels c Channel.C) = rw (ap (map (message_of mail s c)) first) at carried in
         begun_release c s (message_of mail s c y) some.0 x more
         (each y.kind y.number ys first (own_kind (is_caching config) s c Channel.C y.kind y.number ys h.invariant
         first)) (sym is ∙ some.2) releases

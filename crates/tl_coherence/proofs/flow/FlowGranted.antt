@@ -250,9 +250,7 @@ flowed-grant {w} {X} {c} {n} {d} {k} {y} {first} {last} {asked} {asked'} {rest} 
     asked_still i e false f =
         cc (
           request_of-d i y t,
-          before.asked_is i (was_pending i
-              (sym (use_at i ∙ ap (λ (z : Bool). is_requested c i (rest Channel.A)
-              (if z then SourceFree else s.uses c i) s') f) ∙ e) (y.source == i) refl),
+          before.asked_is i (was_pending i (cc (use_at i)) (y.source == i) refl),
           is.asked_is i f,
         )
 

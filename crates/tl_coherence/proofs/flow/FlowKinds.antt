@@ -125,9 +125,7 @@ module _ {w : ℕ} {config : Config} {log : Log w} (h : AbstractState w) {sys : 
         → IsReady tracker c k i h → Begins toks k i → Leaves d h (kind_taken config tracker c k i toks h)
         → FlowedAs (kind_taken config tracker c k i toks h)
     settled k i toks first ready begins = true-taken config tracker c toks h (IsSettling toks) Follows k i (record {
-      nothing = λ j n known idle l. absurd (let busy = never-idle config tracker c j n toks h is.invariant known.0
-          known.1
-          in let no : false ≡ true = sym busy ∙ idle in cc);
+      nothing = λ j n known idle l. absurd (cc (never-idle config tracker c j n toks h is.invariant known.0 known.1));
       access_answered = λ source m o known from caps none l.
           let after = access_taken c source m tracker false None toks h in
           flowed-aside (left-access_answered d before (asked_by after.mail after.state d) rest s (asks-left d h after l)

@@ -27,8 +27,7 @@ pub next-flows : {w : ℕ} (l : Level) (p : Profile) {m : Message w} {x : Beat w
 next-flows {w} l p {m} t lawful next is first =
     cc (
       next.beat_is,
-      beat-flows l p m next.k t (sym (ap (λ (y : Beat w). illegal l (channel_of y) y) next.beat_is)
-          ∙ lawful) (is ∙ next.rest_is) (λ e. first (sym is ∙ e)),
+      beat-flows l p m next.k t (cc next.beat_is) (is ∙ next.rest_is) (λ e. first (sym is ∙ e)),
     )
 
 pub lawful-beat : {w : ℕ} {config : Config} {log : Log w} {mail : AccessMessages w} {request : ℕ → MessageA w}

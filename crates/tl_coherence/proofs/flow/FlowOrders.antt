@@ -37,12 +37,10 @@ pub acquire-flows : {w : ℕ} {X : Type 0} (p : Profile) {c : ℕ} (n : ℕ) (x 
     → view (s.block n).service c ≡ Idle → ((s.block n).pair c).letting ≡ NoRelease
     → grows_from x.param ((s.block n).pair c).recorded ≡ true → broken_in_order p (Beat.A x) t ≡ None
 acquire-flows {w} p {c} n x {asked} {rest} {s} {t} flowed whole acquires block used idle kept grows =
-    cc (acquire-legal p n
-    ((s.block n).pair c).recorded x t acquires block (flowed.rest_is Channel.A ∙ whole) (flowed.requests x.source ∙ ap
-    (λ (u : SourceState). is_requested c x.source (rest Channel.A) u s) used ∙ ap (λ (v : View). not (is_unserved v))
-    idle) (flowed.acquires n ∙ ap (λ (v : View). is_wanting ((s.block n).pair c).acquiring && not (is_unserved v)) idle
-    ∙ and-false (is_wanting ((s.block n).pair c).acquiring)) (flowed.releases n ∙ ap (is_release_pending ((s.block
-    n).release_source c) (rest Channel.C)) kept) (held_as n flowed (ap is_granting idle)) grows)
+    cc (acquire-legal p n ((s.block n).pair c).recorded x t acquires block (flowed.rest_is Channel.A ∙ whole)
+    (cc (flowed.requests x.source)) (cc (flowed.acquires n, and-false (is_wanting ((s.block n).pair c).acquiring)))
+    (flowed.releases n ∙ ap (is_release_pending ((s.block n).release_source c) (rest Channel.C)) kept)
+    (held_as n flowed (ap is_granting idle)) grows)
 
 -- ---- channel B
 

@@ -169,8 +169,7 @@ same-given {X} c q source r j k x b other waits even quiet =
     let then_ : view old.service q ≡ Own = rw (waits, same_number q) refl in
     record {
       held = cc (now, pair, even, then_, same);
-      wanting = ap (λ (p : ClientBlock). is_wanting p.acquiring) pair ∙ sym
-          (ap (λ (p : ClientBlock). is_wanting p.acquiring) same);
+      wanting = cc;
       unserved = ap is_unserved now ∙ sym (ap is_unserved then_);
       letting = ap (λ (p : ClientBlock). p.letting) pair ∙ sym (ap (λ (p : ClientBlock). p.letting) same);
       source = refl;
@@ -191,16 +190,14 @@ same-let_go d c b ne = others-same d b (let_go_block c b) (set-other c d (after_
 
 pub same-taken : {X : Type 0} (d c : ℕ) (whole x : Bool) (k : Cap) (b : Block X) → (d ≡ c → ⊥)
     → b.service ≡ GrantSent c x k → IsSameBlock d b (taken_block c whole x k b)
-same-taken {X} d c whole x k b ne sent =
-    others-same d b (taken_block c whole x k b) (set-other c d (after_grant k (b.pair c)) b.pair ne) refl (inl refl)
-    (outside-same (view b.service d) (view (GrantTaken c) d) (ap (λ (i : Service). is_outside (view i d)) sent
-    ∙ outside-sent d c x k ne) (outside-taken d c ne)) (λ e. sym (ap cap_waited sent))
+same-taken {X} d c whole x k b ne sent = others-same d b (taken_block c whole x k b)
+    (set-other c d (after_grant k (b.pair c)) b.pair ne) refl (inl refl) (outside-same (view b.service d)
+    (view (GrantTaken c) d) (cc (outside-sent d c x k ne)) (outside-taken d c ne)) (λ e. sym (ap cap_waited sent))
 
 pub same-freed : {X : Type 0} (d c : ℕ) (b : Block X) → (d ≡ c → ⊥) → b.service ≡ GrantTaken c
     → IsSameBlock d b (freed_block b)
 same-freed {X} d c b ne taken = others-same d b (freed_block b) refl refl (inl refl)
-    (outside-same (view b.service d) (view Free d) (ap (λ (i : Service). is_outside (view i d)) taken
-    ∙ outside-taken d c ne) refl) (λ e. sym (ap cap_waited taken))
+    (outside-same (view b.service d) (view Free d) (cc (outside-taken d c ne)) refl) (λ e. sym (ap cap_waited taken))
 
 -- ---- what another client is asked for
 

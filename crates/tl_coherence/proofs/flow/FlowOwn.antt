@@ -115,10 +115,8 @@ module _ {w : ℕ} {config : Config} {log : Log w} (h : AbstractState w) {sys : 
         go : (z : Bool) → completes x (unfinished_at sys c Channel.A) ≡ z → (z ≡ true → IsReady tracker c Acquire i h)
             → FlowsWith x (if z then kind_taken config tracker c Acquire i toks h else h)
         go false e r = contrary (completes x (unfinished_at sys c Channel.A)) one e
-        go true e r = rw wanted.wants
-            (taken (r refl) (subst (λ (a : AcquirePhase). Leaves c h
-            (acquire_taken (length config.clients.items) config.profile c i a tracker toks h)) wanted.wants
-            (leaves-at_manager config tracker c Acquire i toks h c refl is.invariant tokens)))
+        go true e r = rw wanted.wants (taken (r refl)
+            (rw wanted.wants at (leaves-at_manager config tracker c Acquire i toks h c refl is.invariant tokens)))
 
     -- ---- channel B
 

@@ -59,19 +59,14 @@ flowed-probe {w} {X} {c} n k toks {asked} asked' {rest} rest' {s} {t} first last
       last_is = last;
       rests = rests;
       held_is = set-part (held_by c) n new s.block
-          (ap (λ (v : View). if is_granting v then (new.pair c).held else (new.pair c).recorded) seen ∙ part_of
-          (λ (p : ClientBlock). p.recorded) c (after_probe k (b.pair c)) b.pair refl
-          ∙ sym (ap (λ (v : View). if is_granting v then (b.pair c).held else (b.pair c).recorded) seen));
+          (cc (part_of (λ (p : ClientBlock). p.recorded) c (after_probe k (b.pair c)) b.pair refl));
       requests = requests;
-      asked_is = λ i e. request_of-b i y t ∙ before.asked_is i (before.requests i ∙ sym (requests i) ∙ e) ∙ sym
-          (asks i);
+      asked_is = λ i e. request_of-b i y t ∙ before.asked_is i (cc (before.requests i, requests i)) ∙ sym (asks i);
       acquires = set-part (acquired_by c) n new s.block (ap (λ (z : Bool). z && not (is_unserved (view b.service c)))
           (part_of (λ (p : ClientBlock). is_wanting p.acquiring) c (after_probe k (b.pair c)) b.pair refl));
       release_sources = lets;
-      released = λ i m e f. ap (option_map (λ z. block_at z.address)) (released-of i y t) ∙ before.released i m e
-          (before.release_sources i ∙ sym (lets i) ∙ f);
-      sizes = λ i m e f. ap (option_map (λ z. z.size)) (released-of i y t) ∙ before.sizes i m e
-          (before.release_sources i ∙ sym (lets i) ∙ f);
+      released = λ i m e f. cc (released-of i y t, before.released i m e (before.release_sources i ∙ sym (lets i) ∙ f));
+      sizes = λ i m e f. cc (released-of i y t, before.sizes i m e (before.release_sources i ∙ sym (lets i) ∙ f));
       releases = λ m. ap (λ (r : List (Beat w)). let_of c r (s'.block m)) (rests Channel.C)
           ∙ set-part (let_of c (rest Channel.C)) n new s.block
           (ap (is_release_pending (b.release_source c) (rest Channel.C)) letting_same) m;

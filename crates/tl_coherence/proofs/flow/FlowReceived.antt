@@ -82,9 +82,8 @@ moved-to_client {w} {config} {log} link ch h terms x queue width is known up bea
     record {
       first = first;
       on_ch = on_ch;
-      delivered = λ d. ap (λ (y : Step w). flow d ((Deliver link ch, y.outcome) ∷ log)) t.step_is
-          ∙ flow_moved link ch (outcome_of x t.verdict_is) x log d
-          (taken_at link ch x t.verdict_is d (sym (ap (λ (y : Step w). is_moving y.outcome) t.step_is) ∙ moving));
+      delivered = λ d. ap (λ (y : Step w). flow d ((Deliver link ch, y.outcome) ∷ log)) t.step_is ∙ flow_moved link ch
+          (outcome_of x t.verdict_is) x log d (taken_at link ch x t.verdict_is d (cc t.step_is));
       rests = λ d i. ap (λ (y : Step w). unfinished_at y.after d i) t.step_is
           ∙ (landed-client link.0 ch x queue t.message (offer.taken x (sys.clients link.0)).after sys up beats on_ch
           (client-heard width (is.kept link.0) t)).rests d i;

@@ -150,9 +150,7 @@ flowed-release {w} {X} {c} {n} {r} {y} {first} {last} {asked} {rest} {rest'} {s}
           (part-block (λ (z : Block X). is_unserved (view z.service c)) n s s' is.elsewhere
           (ap (λ (q : Service). is_unserved (view q c)) is.service)),
     ) in
-    let acquires = part-block (acquired_by c) n s s' is.elsewhere
-    (ap (λ (l : AcquirePhase). is_wanting l && not (is_unserved (view new.service c))) is.acquiring
-    ∙ ap (λ (q : Service). is_wanting (b.pair c).acquiring && not (is_unserved (view q c))) is.service) in
+    let acquires = part-block (acquired_by c) n s s' is.elsewhere (cc (is.acquiring, is.service)) in
     let answered : (m : ℕ) → is_answered ((s'.block m).pair c).probing ≡ is_answered ((s.block m).pair c).probing =
     part-block (λ (z : Block X). is_answered (z.pair c).probing) n s s' is.elsewhere (ap is_answered is.probing) in
     let not_closed : (m : ℕ) → step first last false (is_probe_ack y.opcode && (block_at y.address == m))
@@ -211,8 +209,7 @@ flowed-release {w} {X} {c} {n} {r} {y} {first} {last} {asked} {rest} {rest'} {s}
 
     -- the source is that of the block's Release, and of no other
     of_block : (i : ℕ) → i ≡ y.source → s.lets c i ≡ Some n
-    of_block i e = is_of-is n (s.lets c i)
-        (named i n ∙ rw (is.letting, e, is.source) (same_number (b.release_source c)))
+    of_block i e = is_of-is n (s.lets c i) (cc (named i n, is.letting, is.source, same_number (b.release_source c)))
 
     of_no_block : (i : ℕ) → (i ≡ y.source → ⊥) → is_of n (s.lets c i) ≡ false
     of_no_block i ne = named i n ∙ rw is.letting (ne_eqb i (b.release_source c) (λ e. ne (e ∙ sym is.source)))

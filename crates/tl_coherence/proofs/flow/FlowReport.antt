@@ -59,8 +59,7 @@ flowed-report_part {w} {X} {c} y first {asked} {rest} rest' {s} {t} first_is las
           (is_let_by c i (rest Channel.C) (s.lets c i) s) other);
       released = λ i m e f. ap (option_map (λ z. block_at z.address)) (released-of i y t other) ∙ before.released i m e
           (before.release_sources i ∙ sym (lets i) ∙ f);
-      sizes = λ i m e f. ap (option_map (λ z. z.size)) (released-of i y t other) ∙ before.sizes i m e
-          (before.release_sources i ∙ sym (lets i) ∙ f);
+      sizes = λ i m e f. cc (released-of i y t other, before.sizes i m e (before.release_sources i ∙ sym (lets i) ∙ f));
       releases = λ n. let_rest ((s.block n).release_source c) (rest Channel.C) (rest' Channel.C)
           ((s.block n).pair c).letting (comes ((s.block n).release_source c))
           ∙ sym (unopened first false (is_release y.opcode) (block_at y.address == n)

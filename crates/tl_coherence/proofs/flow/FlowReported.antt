@@ -42,9 +42,8 @@ pub flowed-report : {w : ℕ} {X : Type 0} {c : ℕ} (n : ℕ) (r : Report) (tok
 flowed-report {w} {X} {c} n r toks y first {asked} {rest} rest' {s}
     {t} first_is last_is rests ack other comes at says alone before =
     let quiet = ap (λ (p : ClientBlock). is_answered p.probing) (set-same c (after_report r (b.pair c)) b.pair) in
-    let probed = set-each (λ m z. is_answered (z.pair c).probing ≡ true
-    → probe_of m t ≡ Some (probe_beat m (cap_waited z.service))) n new s.block
-    (λ e. absurd (let f : false ≡ true = sym quiet ∙ e in cc)) (λ m ne e. before.probed m e) in
+    let probed = set-each (λ m z. is_answered (z.pair c).probing ≡ true → probe_of m t
+    ≡ Some (probe_beat m (cap_waited z.service))) n new s.block (λ e. absurd cc) (λ m ne e. before.probed m e) in
     let recorded = ap (λ (p : ClientBlock). p.recorded) (set-same c (after_report r (b.pair c)) b.pair) in
     let sunk_same : (i : ℕ) (o : Option ℕ) → is_sunk c i (rest Channel.D) o s' ≡ is_sunk c i (rest Channel.D) o s =
     λ i. elim [ None ↦ refl | Some m ↦ cc (set-part (λ (z : Block X). z.service) n new s.block refl m) ] in
@@ -72,14 +71,11 @@ flowed-report {w} {X} {c} n r toks y first {asked} {rest} rest' {s}
       first_is = first_is;
       last_is = last_is;
       rests = rests;
-      held_is = set-each (λ m z. held_by c z
-          ≡ unwrap_or (if (is_probe_ack y.opcode || is_release y.opcode) && (block_at y.address == m) then Some
-          (reported y.param) else None) (held_by c (s.block m))) n new s.block
-          (ap (λ (g : Bool). if g then (new.pair c).held else (new.pair c).recorded) alone ∙ recorded ∙ sym says
-          ∙ sym (said (is_probe_ack y.opcode) (is_release y.opcode) (block_at y.address == n) (reported y.param)
-          (held_by c b) ack (rw at (same_number n))))
-          (λ m ne. sym (unsaid (is_probe_ack y.opcode) (is_release y.opcode) (block_at y.address == m)
-          (reported y.param) (held_by c (s.block m)) (apart m ne)));
+      held_is = set-each (λ m z. held_by c z ≡ unwrap_or (if (is_probe_ack y.opcode || is_release y.opcode)
+          && (block_at y.address == m) then Some (reported y.param) else None) (held_by c (s.block m))) n new s.block
+          (cc (said (is_probe_ack y.opcode) (is_release y.opcode) (block_at y.address == n) (reported y.param)
+          (held_by c b) ack (rw at (same_number n)))) (λ m ne. sym (unsaid (is_probe_ack y.opcode) (is_release y.opcode)
+          (block_at y.address == m) (reported y.param) (held_by c (s.block m)) (apart m ne)));
       requests = λ i. requests i ∙ sym (step_quiet first true (is_requested c i (rest Channel.A) (s.uses c i) s));
       asked_is = λ i e. request_of-c i y t ∙ before.asked_is i (before.requests i ∙ sym (requests i) ∙ e);
       acquires = λ m. acquires m ∙ sym (step_quiet first true (acquired_by c (s.block m)));
@@ -87,8 +83,7 @@ flowed-report {w} {X} {c} n r toks y first {asked} {rest} rest' {s}
           (is_let_by c i (rest Channel.C) (s.lets c i) s) other);
       released = λ i m e f. ap (option_map (λ z. block_at z.address)) (released-of i y t other) ∙ before.released i m e
           (before.release_sources i ∙ sym (lets i) ∙ f);
-      sizes = λ i m e f. ap (option_map (λ z. z.size)) (released-of i y t other) ∙ before.sizes i m e
-          (before.release_sources i ∙ sym (lets i) ∙ f);
+      sizes = λ i m e f. cc (released-of i y t other, before.sizes i m e (before.release_sources i ∙ sym (lets i) ∙ f));
       releases = λ m. releases m ∙ sym (unopened first true (is_release y.opcode) (block_at y.address == m)
           (let_of c (rest Channel.C) (s.block m)) other);
       sinks = λ i. ap (λ (l : List (Beat w)). is_sunk c i l (s.tracked i) s') (rests Channel.D)

@@ -68,9 +68,8 @@ grant_quiet {c} {n} {s} inv due =
 -- the tracker of a Grant is of its block
 pub grant_tracked : {caching : ℕ → Bool} {c n : ℕ} {s : State (List ℕ)} → IsInvariant caching s → IsGrantDue c n s
     → s.tracked (s.block n).tracker ≡ Some n
-grant_tracked {n} {s} inv due = is_of-is n (s.tracked (s.block n).tracker) (inv.named.trackers (s.block n).tracker n
-    ∙ ap (λ (x : Service). is_busy x && ((s.block n).tracker == (s.block n).tracker)) due.service
-    ∙ same_number (s.block n).tracker)
+grant_tracked {n} {s} inv due = is_of-is n (s.tracked (s.block n).tracker)
+    (cc (inv.named.trackers (s.block n).tracker n, due.service, same_number (s.block n).tracker))
 
 flow-grant : {w : ℕ} {config : Config} {log : Log w} {mail : AccessMessages w} {request : ℕ → MessageA w}
     {s : State (List ℕ)} {sys : System w} {c n : ℕ} → SimulationRelation config log mail request s sys
@@ -102,13 +101,9 @@ flow-grant {w} {config} {log} {mail} {request} {s} {sys} {c} {n} h flowed due gi
       admits = answers_acquire due.whole due.data_too fits.bare;
       size = refl;
     }) (same_block n) (fits_asked config.profile due.whole due.g due.k fits.cap_is given)
-    (ap (λ (q : Perm). rules.is_grant_without_data (grant_opcode due.data_too)
-    && (rules.is_acquire_block (acquire_opcode due.whole) && not (same_perm q Perm.Branch))) held_now
-    ∙ has_data due.whole due.data_too ((s.block n).pair c).held fits.carried)
+    (cc (has_data due.whole due.data_too ((s.block n).pair c).held fits.carried))
     ((flowed c).probes n ∙ grant_quiet h.invariant due)
-    ((flowed c).sinks sink ∙ ap (λ (b : List (Beat w)). is_sunk c sink b (s.tracked sink) s) whole
-    ∙ ap (λ (o : Option ℕ). is_sunk c sink (none_of w) o s) (grant_tracked h.invariant due)
-    ∙ ap (λ (v : View). is_acknowledging v || (is_granting v && false)) mine)
+    (cc ((flowed c).sinks sink, grant_tracked h.invariant due))
 
 -- ---- a ReleaseAck
 
@@ -179,8 +174,7 @@ not-coming_c {w} {config} {mail} {s} {sys} c n h let_ acked = go (s.link c).c re
         i).release_source c) i ∙ and_from (not (is_unreleased ((s.block i).pair c).letting)) ((s.block
         i).release_source c == (s.block i).release_source c) open_ (same_number ((s.block i).release_source c))) in
         let same = same_Some i n (sym lets ∙ ap (s.lets c) (eqb-true ((s.block i).release_source c) source e) ∙ let_) in
-        absurd (apart ((s.block n).pair c).letting acked
-        (sym (ap (λ (j : ℕ). is_releasing ((s.block j).pair c).letting) same) ∙ releasing))
+        absurd (apart ((s.block n).pair c).letting acked (cc))
 
     each : (k : Kind) (i : ℕ) (rest : List Packet) → (s.link c).c ≡ packet k i ∷ rest → is_on Channel.C k ≡ true
         → IsUnreleased source (message_of_kind k mail s c i)
@@ -194,14 +188,11 @@ not-coming_c {w} {config} {mail} {s} {sys} c n h let_ acked = go (s.link c).c re
         (sys.channels c Channel.C) → comes_in_release source rest_now ≡ false
     go [] first carried =
         let nothing : IsCarried rest_now [] (sys.channels c Channel.C) =
-        subst (λ (ms : List (Message w)). IsCarried rest_now ms (sys.channels c Channel.C))
-        (ap (map (message_of mail s c)) first) carried in
+        rw (ap (map (message_of mail s c)) first) at carried in
         ap (comes_in_release source) nothing.0
     go (x ∷ xs) first carried =
         let some : IsCarried rest_now (message_of mail s c x ∷ map (message_of mail s c) xs)
-        (sys.channels c Channel.C) =
-        subst (λ (ms : List (Message w)). IsCarried rest_now ms (sys.channels c Channel.C))
-        (ap (map (message_of mail s c)) first) carried in
+        (sys.channels c Channel.C) = rw (ap (map (message_of mail s c)) first) at carried in
         unreleased source (message_of mail s c x) some.0 rest_now some.2
         (each x.kind x.number xs first (own_kind (is_caching config) s c Channel.C x.kind x.number xs h.invariant
         first))
@@ -221,8 +212,7 @@ flow-ack {w} {config} {log} {mail} {request} {s} {sys} c n h flowed let_ acked w
     let live : pending (ReleaseSource source) (flow c log) ≡ true =
     cc ((flowed c).release_sources source, let_, let_acked ((s.block n).pair c).letting source rest acked) in
     ack-legal config.profile (d_beat_of (ack_message source) 0) (flow c log) ((flowed c).rest_is Channel.D ∙ whole)
-    (ap (λ (b : List (Beat w)). comes_in_release source b) ((flowed c).rest_is Channel.C) ∙ not-coming_c
-    c n h let_ acked)
+    (cc ((flowed c).rest_is Channel.C, not-coming_c c n h let_ acked))
     refl live
     ((flowed c).sizes source n let_ live)
 

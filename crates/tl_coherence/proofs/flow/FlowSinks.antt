@@ -89,14 +89,11 @@ no_grant_coming {w} {config} {log} {mail} {request} {s} {sys} c n h taken = go (
         (sys.channels c Channel.D) → comes_in_grant sink rest_now ≡ false
     go [] first carried =
         let none : IsCarried rest_now [] (sys.channels c Channel.D) =
-        subst (λ (ms : List (Message w)). IsCarried rest_now ms (sys.channels c Channel.D))
-        (ap (map (message_of mail s c)) first) carried in
+        rw (ap (map (message_of mail s c)) first) at carried in
         ap (comes_in_grant sink) none.0
     go (x ∷ xs) first carried =
         let some : IsCarried rest_now (message_of mail s c x ∷ map (message_of mail s c) xs)
-        (sys.channels c Channel.D) =
-        subst (λ (ms : List (Message w)). IsCarried rest_now ms (sys.channels c Channel.D))
-        (ap (map (message_of mail s c)) first) carried in
+        (sys.channels c Channel.D) = rw (ap (map (message_of mail s c)) first) at carried in
         comes_else sink (message_of mail s c x) some.0 rest_now some.2
         (elses x.kind x.number xs first (own_kind (is_caching config) s c Channel.D x.kind x.number xs h.invariant
         first))

@@ -41,8 +41,7 @@ sunk-elsewhere {w} {X} c i n rest o o' s s' same (inl e) before now = cc (e, go 
         → (p ≡ Some n → sunk_in c i rest (s'.block n) ≡ false) → is_sunk c i rest p s' ≡ is_sunk c i rest p s
     go None f g = refl
     go (Some m) f g = elim (cases_eq m n) [
-      | inl here ↦ ap (λ (j : ℕ). sunk_in c i rest (s'.block j)) here ∙ g (ap Some here) ∙ sym
-          (ap (λ (j : ℕ). sunk_in c i rest (s.block j)) here ∙ f (ap Some here))
+      | inl here ↦ cc (g (ap Some here), f (ap Some here))
       | inr other ↦ ap (λ (b : Block X). sunk_in c i rest b) (same m other)
     ]
 

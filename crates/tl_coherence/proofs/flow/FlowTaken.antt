@@ -31,8 +31,7 @@ moved-first {w} {config} {log} h link ch o x width is o_is moves delivered =
     cc (delivered link.0, o_is, moved.delivered link.0) in
     let same : at.0 ≡ x = head (link.0 == link.0) (same_number link.0) both in (
       at.1,
-      ap ((system_after config log).channels link.0) (sym (ap (λ (z : Beat w). channel_of z) same) ∙ on) ∙ at.3.0
-          ∙ ap (λ (z : Beat w). z ∷ at.1) same,
+      cc at.3.0,
     )
 
 -- the beat of an outcome

@@ -77,8 +77,7 @@ delivered-unbroken {w} config log link ch o x given moving flowing =
     ap (λ (l : Option Level). broken_at_level l config.profile x (on_link link.0 (trace_of log))) is.in_levels
     ∙ ap (λ (t : History w). broken_after is.level config.profile x t) (trace-flows link.0 log)
     ∙ unbroken (broken_after is.level config.profile x (flow link.0 log))
-    (is_legal is.level config.profile (flow link.0 log)) (subst
-    (λ (t : History w). is_legal is.level config.profile t ≡ true) flowing (flows given link.0 is.level is.of_link))
+    (is_legal is.level config.profile (flow link.0 log)) (rw flowing at (flows given link.0 is.level is.of_link))
 
 -- ---- nor does any
 
@@ -127,5 +126,4 @@ all-good {config} ((Deliver link ch, Outcome.NoSuchClient) ∷ log) given =
 
 pub faultless : {w : ℕ} → Faultless w
 faultless {w} config log given = no-fault (levels_of config) config.profile [] (reverse (trace_of log))
-    (subst (AreGood (levels_of config) config.profile)
-    (sym (append-nil (reverse (reverse (trace_of log))) ∙ reverse-reverse (trace_of log))) (all-good log given))
+    (rw (append-nil (reverse (reverse (trace_of log))) ∙ reverse-reverse (trace_of log)) (all-good log given))

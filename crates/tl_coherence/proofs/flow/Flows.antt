@@ -45,8 +45,7 @@ moved-flowed {w} {config} {log} {link} {ch} {h} {x} {queue} width is flowed beat
     (flow d ((Deliver link ch, (stepped config (Deliver link ch) sys).outcome) ∷ log))) (sym at.follows)
     (subst (λ (t : History w). Here h' t) (sym (at.delivered d))
     (elim (cases_eq d c) [
-      | inl same ↦ subst (λ (i : ℕ). MonitorRelation (asked_by h'.mail h'.state i) (unfinished_at sys' i) i h'.state
-          (if c == i then x ∷ flow i log else flow i log)) (sym same) own
+      | inl same ↦ rw same own
       | inr other ↦ others other
     ]))
   where
@@ -107,15 +106,9 @@ delivered-flowed {w} {config} {log} link ch h width is flowed =
         let at = first-moved config link ch sys moving in
         moved-flowed width is flowed at.3.0 moving
         (moved-on link ch h at.0 at.1 at.2 width is at.3.0 at.3.1 moving (is_to_client ch) refl)
-    go false still = λ d. subst (λ (z : AbstractState w). MonitorRelation (asked_by z.mail z.state d)
-        (unfinished_at (stepped config (Deliver link ch) sys).after d) d z.state
-        (flow d ((Deliver link ch, (stepped config (Deliver link ch) sys).outcome) ∷ log)))
-        (sym (followed-still config link ch sys h still))
-        (subst (λ (t : History w). MonitorRelation (asked_by h.mail h.state d)
-        (unfinished_at (stepped config (Deliver link ch) sys).after d) d h.state t)
-        (sym (flow_still (Deliver link ch) (stepped config (Deliver link ch) sys).outcome log d still))
-        (flowed-rests (unfinished_at (stepped config (Deliver link ch) sys).after d)
-        (λ i. (unmoved config link ch sys still).rests d i) (flowed d)))
+    go false still = λ d. rw (followed-still config link ch sys h still) (rw (flow_still (Deliver link ch)
+        (stepped config (Deliver link ch) sys).outcome log d still) (flowed-rests (unfinished_at
+        (stepped config (Deliver link ch) sys).after d) (λ i. (unmoved config link ch sys still).rests d i) (flowed d)))
 
 -- ---- and after a client was asked
 
@@ -133,8 +126,7 @@ asked-flowed {w} {config} {log} c o h width is flowed = go (terms_at config c) r
 
     go : (i : Option EndConfig) → terms_at config c ≡ i → After (stepped config (Ask c o) sys)
     go None none = subst After (sym (stepped-nobody config (Ask c o) sys none))
-        (λ d. subst (λ (t : History w). MonitorRelation (asked_by h.mail h.state d) (unfinished_at sys d) d h.state t)
-        (sym (flow_still (Ask c o) Outcome.NoSuchClient log d refl)) (flowed d))
+        (λ d. rw (flow_still (Ask c o) Outcome.NoSuchClient log d refl) (flowed d))
     go (Some terms) known =
         let a : ask.Asked w = ask.asked terms o (sys.clients c) in
         let h' : AbstractState w = asked c o a.reply h in

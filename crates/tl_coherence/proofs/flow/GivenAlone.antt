@@ -93,11 +93,9 @@ beside link other given held left = elim (cases_eq other link) [
 given-moved : {w : ℕ} (config : Config) (log : Log w) → IsGiven config log → (c : ℕ) (x : Beat w)
     (queue : List (Beat w)) → (system_after config log).channels c (channel_of x) ≡ x ∷ queue
     → IsGivenAlone c x (trace_of log)
-given-moved {w} config log given c (Beat.D y) queue beats = λ n block begun granted.
-    free-where n (Some c) (capped y.param) block (trace_of log)
-    (λ other. beside c other (capped y.param) (held block (on_link other (trace_of log)))
-    (λ ne. subst (λ (t : History w). leaves (capped y.param) (held block t) ≡ true) (sym (trace-flows other log))
-    (given-next given c y queue beats block other
+given-moved {w} config log given c (Beat.D y) queue beats = λ n block begun granted. free-where n (Some c)
+    (capped y.param) block (trace_of log) (λ other. beside c other (capped y.param) (held block
+    (on_link other (trace_of log))) (λ ne. rw (trace-flows other log) (given-next given c y queue beats block other
     (subst (λ (t : History w). grants block y t ≡ true) (trace-flows c log) granted) ne)))
 given-moved config log given c (Beat.A y) queue beats = tt
 given-moved config log given c (Beat.B y) queue beats = tt
@@ -118,9 +116,8 @@ one-writer {w} {config} {log} given one other n ne trunk =
     cc (
       trace-flows other log,
       values other,
-      none_below (held_by other b) (b.pair other).recorded (most other)
-          ((at.invariant.blocks n).one_owner one other (trunk_below (held_by one b) (b.pair one).recorded (most one)
-          (sym (values one) ∙ sym (ap (held n) (trace-flows one log)) ∙ trunk)) ne),
+      none_below (held_by other b) (b.pair other).recorded (most other) ((at.invariant.blocks n).one_owner one other
+          (trunk_below (held_by one b) (b.pair one).recorded (most one) (cc (values one, trace-flows one log))) ne),
     )
 
 pub apart : {w : ℕ} (config : Config) (log : Log w) → IsGiven config log → IsApart log

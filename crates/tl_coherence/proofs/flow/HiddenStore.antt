@@ -52,8 +52,7 @@ hidden_stores {w} config log given c address size value stored =
     go None nobody = absurd (not_nobody {w = w} Reply.Stored
         (sym (ap (λ (s : Step w). s.outcome) (stepped-nobody config (Ask c store) (system_after config log) nobody))
         ∙ stored))
-    go (Some terms) known = cc
-        (same_perms (b.pair c).held Perm.Trunk (subst (λ (r : Reply). IsAskable (is_caching config) c store r h)
-        (same_reply {w = w} (ask.asked terms store ((system_after config log).clients c)).reply Reply.Stored
+    go (Some terms) known = cc (same_perms (b.pair c).held Perm.Trunk
+        (rw (same_reply {w = w} (ask.asked terms store ((system_after config log).clients c)).reply Reply.Stored
         (sym (ap (λ (s : Step w). s.outcome) (stepped-asked config c store (system_after config log) terms known))
-        ∙ stored)) (askable terms c store is known)))
+        ∙ stored)) at (askable terms c store is known)))

@@ -55,16 +55,14 @@ module _ {w : ℕ} (config : Config) (log : Log w) (h : AbstractState w) (c : �
       go : (k : Kind) (i : ℕ) → (s.link c).d ≡ packet k i ∷ first.rest → is_on Channel.D k ≡ true → Next k i → P
       go Answer i tokens own next =
           let due = answer-due (is_caching config) c i first.rest h.mail s is.invariant (is.answered c i) tokens in
-          answer i due (same_beat y (d_beat_of due.answer next.k)
-          (next.beat_is ∙ ap (λ (m : Message w). beat_of m next.k) due.answer_is)
+          answer i due (same_beat y (d_beat_of due.answer next.k) (cc (next.beat_is, due.answer_is))
           ∙ ap (d_beat_of due.answer) (place (message_of_kind Answer h.mail s c i) next.k next.rest_is))
       go Grant i tokens own next =
           let due = grant-due (is_caching config) c i first.rest s is.invariant tokens in
           grant i (record {
             due = due;
             beat_is = cc (
-              same_beat y (d_beat_of (grant_sent c i s due) next.k) (next.beat_is
-                  ∙ ap (λ (z : Message w). beat_of z next.k) (grant-rendered c i s due)),
+              same_beat y (d_beat_of (grant_sent c i s due) next.k) (cc (next.beat_is, grant-rendered c i s due)),
               place (message_of_kind Grant h.mail s c i) next.k next.rest_is,
             );
           })
@@ -98,11 +96,9 @@ module _ {w : ℕ} (config : Config) (log : Log w) (h : AbstractState w) (c : �
   -- a beat that grants a block is one of that block's Grant
   pub grant-next : (n : ℕ) → grants n y (flow c log) ≡ true
       → IsGrantBeat c n s y (length (unfinished Channel.D (flow c log)))
-  grant-next n granted = next-on_d Of (λ i due e. not_granted (ap (λ (z : BeatD w). is_grant z.opcode) e
-      ∙ (access_kind due.answer.opcode due.answers_access).0))
-      (λ i grant. subst (λ (j : ℕ). IsGrantBeat c j s y (length (unfinished Channel.D (flow c log))))
-      (granted_block n grant (and_right (is_grant y.opcode) (asks_for n (request_of y.source (flow c log))) granted))
-      grant) (λ i k e. not_granted (ap (λ (z : BeatD w). is_grant z.opcode) e))
+  grant-next n granted = next-on_d Of (λ i due e. not_granted (cc (access_kind due.answer.opcode due.answers_access).0))
+      (λ i grant. rw (granted_block n grant (and_right (is_grant y.opcode) (asks_for n (request_of y.source
+      (flow c log))) granted)) at grant) (λ i k e. not_granted (ap (λ (z : BeatD w). is_grant z.opcode) e))
     where
       Of : Type 0
       Of = IsGrantBeat c n s y (length (unfinished Channel.D (flow c log)))

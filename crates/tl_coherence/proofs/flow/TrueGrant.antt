@@ -34,10 +34,8 @@ true-moved : {w : ℕ} (config : Config) (log : Log w) → IsGiven config log �
     → (system_after config log).channels c (channel_of x) ≡ x ∷ queue
     → IsTrueGrant (one_memory_after config log).memory c x (trace_of log)
 true-moved {w} config log given c (Beat.D y) queue beats =
-    λ n granted with_data. subst (λ (t : History w). (bytes : List ℕ) × IsBlock (one_memory_after config log).memory n
-    bytes × (y.lanes ≡ lanes_at true w bytes (length (unfinished Channel.D t)))) (sym (trace-flows c log)) (let found =
-    true-next config log given c y queue beats n (subst (λ (t : History w). grants n y t ≡ true) (trace-flows c log)
-    granted) with_data in (found.0, found.2, found.3))
+    λ n granted with_data. rw (trace-flows c log) (let found = true-next config log given c y queue beats n (subst
+    (λ (t : History w). grants n y t ≡ true) (trace-flows c log) granted) with_data in (found.0, found.2, found.3))
 true-moved config log given c (Beat.A y) queue beats = tt
 true-moved config log given c (Beat.B y) queue beats = tt
 true-moved config log given c (Beat.C y) queue beats = tt

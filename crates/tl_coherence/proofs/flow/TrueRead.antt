@@ -47,8 +47,7 @@ answered {w} {config} (x ∷ log) given c source m used request =
     let now : (i : MessageA w) → h'.mail.request c source ≡ Message.A i → IsSettledFor i h'.state
     → h'.mail.answer c source ≡ answers i (h.state.block (block_at i.address)).truth → i ≡ m
     → IsAnswered config m (h'.mail.answer c source) (x ∷ log) log = λ i asked settled replied same. record {
-      free = λ n. free-now config (x ∷ log) h' sys' is' values c source m used request
-          (subst (λ (j : MessageA w). IsSettledFor j h'.state) same settled) n;
+      free = λ n. free-now config (x ∷ log) h' sys' is' values c source m used request (rw same at settled) n;
       reply_is = subst (λ (j : MessageA w). h'.mail.answer c source ≡ answers j
           (h.state.block (block_at j.address)).truth) same replied ∙ ap (λ r. access_answer m
           (answer_of (Message.A m) r)) (sym (reply-performed (level_of config c) m (one_memory_after config log).memory
@@ -147,17 +146,13 @@ true-next {w} {config} {log} given c y queue beats x with_data asks =
         subst (λ (u : BeatA w). WasFound config c y.source u y.lanes k log)
         (same_first x (a_beat_of m 0) (sym asks
         ∙ asked_flow config log h (system_after config log) is values c y.source m used_y request_y))
-        (subst (λ (l : Option (List ℕ)). WasFound config c y.source (a_beat_of m 0) l k log)
-        (sym (ap (λ (u : BeatD w). u.lanes) e))
+        (rw (ap (λ (u : BeatD w). u.lanes) e)
         (found-beat config c y.source m z k log (sym (ap (λ (u : BeatD w). u.opcode) e) ∙ with_data)
-        (subst (λ (r : Message w). WasAnswered config c y.source m r log) (ap (h.mail.answer c) from ∙ reply)
-        (answered log given c y.source m used_y request_y))))
+        (rw (ap (h.mail.answer c) from ∙ reply) at (answered log given c y.source m used_y request_y))))
 
 true-moved : {w : ℕ} (config : Config) (log : Log w) → IsGiven config log → (c : ℕ) (x : Beat w) (queue : List (Beat w))
     → (system_after config log).channels c (channel_of x) ≡ x ∷ queue → IsTrueRead config c x log
-true-moved {w} config log given c (Beat.D y) queue beats = λ x with_data asks.
-    subst (λ (t : List (Beat w)). WasFound config c y.source x y.lanes (length (unfinished Channel.D t)) log)
-    (sym (trace-flows c log))
+true-moved {w} config log given c (Beat.D y) queue beats = λ x with_data asks. rw (trace-flows c log)
     (true-next given c y queue beats x with_data (ap (request_of y.source) (sym (trace-flows c log)) ∙ asks))
 true-moved config log given c (Beat.A y) queue beats = tt
 true-moved config log given c (Beat.B y) queue beats = tt

@@ -52,18 +52,15 @@ true-next {w} {config} {log} given c y queue beats with_data =
         let lanes : y.lanes ≡ lanes_at true w (h.state.block n).truth (length (unfinished Channel.C (flow c log))) =
         cc (same, data_too, says.payload_is (sym says.carries_is ∙ data_too), at) in (
           (h.state.block n).truth,
-          subst (λ (i : ℕ). IsBlock (one_memory_after config log).memory i
-              (h.state.block n).truth) (sym of_block) (is.beside.memory n),
+          rw of_block (is.beside.memory n),
           lanes,
         )
 
 true-moved : {w : ℕ} (config : Config) (log : Log w) → IsGiven config log → (c : ℕ) (x : Beat w) (queue : List (Beat w))
     → (system_after config log).channels c (channel_of x) ≡ x ∷ queue
     → IsTrueReturn (one_memory_after config log).memory c x (trace_of log)
-true-moved {w} config log given c (Beat.C y) queue beats = λ with_data.
-    subst (λ (t : History w). (bytes : List ℕ) × IsBlock (one_memory_after config log).memory (block_at y.address) bytes
-    × (y.lanes ≡ lanes_at true w bytes (length (unfinished Channel.C t)))) (sym (trace-flows c log))
-    (true-next given c y queue beats with_data)
+true-moved {w} config log given c (Beat.C y) queue beats =
+    λ with_data. rw (trace-flows c log) (true-next given c y queue beats with_data)
 true-moved config log given c (Beat.A y) queue beats = tt
 true-moved config log given c (Beat.B y) queue beats = tt
 true-moved config log given c (Beat.D y) queue beats = tt

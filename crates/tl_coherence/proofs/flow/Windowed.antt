@@ -97,8 +97,7 @@ windowed-more : {w : ℕ} {config : Config} {log' : Log w} (h h' : AbstractState
 unfolding has_window
 windowed-more {w} {config} {log'} h h' {sys'} y t is values more renewed before n c source m used request =
     let opened : is_some (open_request source (on_link c (y ∷ t))) ≡ true =
-    subst (λ (s : Trace w). is_some (open_request source (on_link c s)) ≡ true) more
-    (opened-now config log' h' sys' is values c source m used request) in
+    rw more at (opened-now config log' h' sys' is values c source m used request) in
     rw opened (elim (renewed c source used) [
       | inl old ↦ or_right (is_free n None (needs m.opcode) (block_at m.address) (y ∷ t))
           (has_window n c source (needs m.opcode) (block_at m.address) t)
@@ -192,8 +191,7 @@ answered-next : {w : ℕ} {config : Config} {log : Log w} → IsGiven config log
     → (n : ℕ) (x : BeatA w) → is_access_answer y.opcode ≡ true → request_of y.source (on_link c (trace_of log)) ≡ Some x
     → has_window n c y.source (needs x.opcode) (block_at x.address) (trace_of log) ≡ true
 answered-next {w} {config} {log} given c y queue beats n x answers asks =
-    let no_answer : is_access_answer y.opcode ≡ false → Windowed x =
-    λ e. absurd (let no : false ≡ true = sym e ∙ answers in cc) in
+    let no_answer : is_access_answer y.opcode ≡ false → Windowed x = λ e. absurd cc in
     cc (next-on_d config log h c y queue given.width is values beats (Windowed x)
     (λ i due e. answer i due.request (ap (λ (z : BeatD w). z.source) e ∙ due.from) due.used due.request_is)
     (λ i grant. no_answer (ap (λ (z : BeatD w). is_access_answer z.opcode) grant.beat_is

@@ -40,8 +40,7 @@ module _ {w : ℕ} {config : Config} {log : Log w} (given : IsGiven config log) 
   pub first-in_range : AreRanged log → IsInRange x
   first-in_range ranged =
       let few = limits config given.fits in
-      let lanes : AreLanes x =
-      All-head AreLanes x queue (subst (λ (l : List (Beat w)). All AreLanes l) beats (is.typed c ch)) in
+      let lanes : AreLanes x = All-head AreLanes x queue (rw beats at (is.typed c ch)) in
       let bounds = matched-bounded config log (shadow config log).mail (shadow config log).request
       (shadow config log).state (system_after config log) is c (sources-own config log c given.width) in
       subst IsInRange (sym first.next.beat_is)

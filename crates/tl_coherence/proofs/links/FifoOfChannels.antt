@@ -201,14 +201,13 @@ moved-passing {w} config log link ch terms x queue width typed logged known beat
                 let handed_is : (v : Verdict) (m : Option (Message w)) → is_moving (outcome_of x v) ≡ true
                 → sent_if_any (client_after.handed (Ok (v, m))) (x ∷ (sys.clients c).past) ≡ sent_if_any m
                 (x ∷ (sys.clients c).past) = elim [ Verdict.Stalled ↦ λ m e. absurd cc | v ↦ λ m e. refl ] in
-                passing-same _ _ _ _ (λ d. refl) (λ d. refl) (λ d at. refl) (λ d. flow_moved link ch (outcome_of x v) x
-                log d (taken_at link ch x v d moves)) (says-passing c m (offer.taken x (sys.clients c)).after
-                (sys.clients c).past (with_channel c ch queue sys) (ours v m answer) (ap (λ (o : offer.Offered w).
-                o.after.past) (sym t.takes) ∙ past-offered terms ch x (sys.clients c) ∙ ap (sent_if_any
-                (client_after.handed (offer.offered terms ch x (sys.clients c)).answer)) t.heard ∙ ap (λ a.
-                sent_if_any (client_after.handed a) (x ∷ (sys.clients c).past)) (ap (λ (o : offer.Offered w).
-                o.answer) t.takes ∙ answer) ∙ handed_is v m moves ∙ rw (same_number c) refl) (λ d other. rw (ne_eqb
-                c d (λ i. other (sym i))) refl) (client-hears c ch x queue up on_ch beats is))
+                passing-same _ _ _ _ (λ d. refl) (λ d. refl) (λ d at. refl)
+                (λ d. flow_moved link ch (outcome_of x v) x log d (taken_at link ch x v d moves))
+                (says-passing c m (offer.taken x (sys.clients c)).after (sys.clients c).past
+                (with_channel c ch queue sys) (ours v m answer)
+                (cc (t.takes, past-offered terms ch x (sys.clients c), t.heard, handed_is v m moves, same_number c))
+                (λ d other. rw (ne_eqb c d (λ i. other (sym i))) refl)
+                (client-hears c ch x queue up on_ch beats is))
               where
                 ours : (v : Verdict) (m : Option (Message w)) → (offer.taken x (sys.clients c)).answer ≡ Ok (v, m)
                     → IsOurs m

@@ -190,9 +190,8 @@ module _ {w : ℕ} {config : Config} {log : Log w} {mail : AccessMessages w} {re
       movable-is Channel.B (Beat.B y) rest e
       ∙ ap not (stalled-as-it-waits terms Channel.B (Beat.B y) ((system_after config log).clients c)
       (first.taken.0 refl) ∙ rw (first.probes y refl) refl) in
-      let there : is_movable config c Channel.B (system_after config log) ≡ false
-      → IsReleasing c (block_at y.address) log = λ h. releasing-started matched coherent c
-      (block_at y.address) (not-false _ (sym waits ∙ h)) in
+      let there : is_movable config c Channel.B (system_after config log) ≡ false → IsReleasing c
+      (block_at y.address) log = λ h. releasing-started matched coherent c (block_at y.address) (not-false _ (cc)) in
       (there, (λ h. waits ∙ ap not (started-releasing matched coherent c (block_at y.address) h)))
   moves-exactly ch x rest e first = absurd (let on = first.on in cc)
 

@@ -49,8 +49,7 @@ asking-served {w} {X} request {s} c source n tracker (Waits q own src k) inv f f
         rw (used, own_view) refl
     go false g =
         let waits_so : (s.block n).service ≡ Waits c false source k = f ∙ rw (q_is, src_is, g) refl in
-        rw (serves_of-is n (s.uses c source)
-        (inv.named.serves c source n ∙ rw (waits_so, same_number c, same_number source) refl)) refl
+        rw (serves_of-is n (s.uses c source) (cc (inv.named.serves c source n, same_number c, same_number source))) refl
 
 -- the block whose service a served use is of
 pub record IsServing {X : Type 0} (c source : ℕ) (s : State X) : Type 0 where

@@ -193,10 +193,8 @@ free-untracked {w} {request} {s} {t} inv is = go (s.tracked i) refl
     taken : (n : ℕ) (service : Service) → (s.block n).service ≡ service → is_busy service ≡ true
         → (i == (s.block n).tracker) ≡ true → ⊥
     taken n Free f busy same = cc
-    taken n (Waits r own source k) f busy same =
-        among n r (is.serving_is n ∙ rw f refl) (eqb-true i (s.block n).tracker same)
-    taken n (GrantSent q d k) f busy same =
-        among n q (is.serving_is n ∙ rw f refl) (eqb-true i (s.block n).tracker same)
+    taken n (Waits r own source k) f busy same = among n r (cc (is.serving_is n)) (eqb-true i (s.block n).tracker same)
+    taken n (GrantSent q d k) f busy same = among n q (cc (is.serving_is n)) (eqb-true i (s.block n).tracker same)
     taken n (GrantTaken q) f busy same = among n q (is.serving_is n ∙ rw f refl) (eqb-true i (s.block n).tracker same)
 
     go : (o : Option ℕ) → s.tracked i ≡ o → o ≡ None

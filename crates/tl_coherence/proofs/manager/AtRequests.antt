@@ -102,8 +102,7 @@ at_manager-probing {w} {config} {mail} {request} {c} {k} {n} {own} {source} {j} 
       traced = traced-probing u blocks is known.traced;
       served_with = λ i. served_now i;
       manager_kept = subst (λ (d : Reaction w). IsKept config (end_with c k m d e)) done (kept-coming is.comes);
-      memory = λ i. known.memory i ∙ sym (ap (λ (b : Block (List ℕ)). b.memory) (blocks i) ∙ set-part
-          (λ (b : Block (List ℕ)). b.memory) n new s.block refl i);
+      memory = λ i. cc (known.memory i, blocks i, set-part (λ (b : Block (List ℕ)). b.memory) n new s.block refl i);
       all_live = known.all_live;
     })
 

@@ -33,8 +33,7 @@ given-records {w} {q} {n} {m} {u} is d i = go (q == d) refl
         ≡ (if b && (n == i) then capped m.param else recorded d i u)
     go true e = cc (
       own_link d (record { 0 = q }) (D m) u e,
-      held-sent_d i m (on_link d u) (subst (λ (j : ℕ). unfinished Channel.D (on_link j u) ≡ []) (eqb-true q d e)
-          is.whole) (beats-positive (D m) is.width),
+      held-sent_d i m (on_link d u) (rw (eqb-true q d e) at is.whole) (beats-positive (D m) is.width),
       grants_it is d i e,
       said (n == i),
     )

@@ -87,14 +87,11 @@ traced-answered {w} {X} {config} {request} {c} {k} {n} f {m} {s} u memory {e} bl
     traced-at (record {
       other_blocks = λ i ne. blocks i ∙ set-other n i new s.block ne;
       other_requests = λ i ne. refl;
-      recorded_here = λ d. recorded_same d n ∙ known.recorded_is d n ∙ sym
-          (ap (λ (b : Block X). (b.pair d).recorded) here);
+      recorded_here = λ d. cc (recorded_same d n, known.recorded_is d n);
       recorded_else = λ d i ne. recorded_same d i;
-      probes_here = λ d. missing_same d n ∙ known.probes d n ∙ sym
-          (ap (λ (b : Block X). not (is_unprobed (b.pair d).probing)) here);
+      probes_here = λ d. cc (missing_same d n, known.probes d n);
       probes_else = λ d i ne. missing_same d i;
-      serving_here = served n ∙ rw (is.access, is.block, same_number n)
-          (sym (ap (λ (b : Block X). service_with (client_in b.service) b.tracker (request n)) here ∙ rw is.free refl));
+      serving_here = cc (served n, is.access, is.block, same_number n, is.free);
       serving_else = λ i ne. let differ : n ≡ i → ⊥ = λ g. ne (sym g) in
           served i ∙ rw (is.access, is.block, ne_eqb n i differ) (serving-others n i is.comes is.last is.block ne);
       request_here = rw (here, is.free) tt;

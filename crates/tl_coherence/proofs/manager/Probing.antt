@@ -91,13 +91,8 @@ traced-probing {w} {X} {config} {request} {c} {k} {n} {own} {source} {j} {m} {s}
           probes-keep (pending (ProbeOf i)) d n j asked_clients t (λ h. missing-else_b i n j h (ne_eqb n i differ))
           ∙ missing-beat c k m e.trace d i;
       serving_here =
-          ap (service_of_block n) (services-probes n j asked_clients t) ∙ serving-last n is.comes is.last
-          is.for.2
-          ∙ sym (ap (λ (b : Block X). service_now b) here ∙ ap
-          (λ (r : MessageA w). Some (record { tracker = tracker; link = link_of c; request = r }))
-          (set-same n m request));
-      serving_else = λ i ne. ap (service_of_block i) (services-probes n j asked_clients t)
-          ∙ serving-others n i is.comes is.last is.for.2 ne;
+          cc (services-probes n j asked_clients t, serving-last n is.comes is.last is.for.2, set-same n m request);
+      serving_else = λ i ne. cc (services-probes n j asked_clients t, serving-others n i is.comes is.last is.for.2 ne);
       request_here = rw (here, set-same n m request) is.for;
       asked_here = λ r src o l f. asked_now r src o l (ap (λ (b : Block X). b.service) (sym here) ∙ f);
       asked_else = λ i r src o l ne f. asked_same r src ∙ request-beat c k m e.trace r src

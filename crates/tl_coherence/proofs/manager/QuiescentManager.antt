@@ -130,9 +130,8 @@ pub recorded-answer : {w : ℕ} (link : Link) (m : MessageD w) (t : Trace w) →
 recorded-answer {w} link m t width none other d i = go (link.0 == d) refl
   where
     go : (b : Bool) → (link.0 == d) ≡ b → recorded d i (after_sent link (D m) t) ≡ recorded d i t
-    go true e = ap (held i) (own_link d link (D m) t e)
-        ∙ held-sent_d i m (on_link d t) (subst (λ (j : ℕ). unfinished Channel.D (on_link j t) ≡ [])
-        (eqb-true link.0 d e) none) (beats-positive (D m) width) ∙ rw other refl
+    go true e = ap (held i) (own_link d link (D m) t e) ∙ held-sent_d i m (on_link d t)
+        (rw (eqb-true link.0 d e) at none) (beats-positive (D m) width) ∙ rw other refl
     go false e = ap (held i) (other_link d link (D m) t e)
 
 -- ---- the protocol: no service or tracker changes
@@ -148,8 +147,7 @@ pub traced-still : {w : ℕ} {X : Type 0} {request : ℕ → MessageA w} {s z : 
 traced-still quiet still records missing known = record {
   recorded_is = records;
   probes = missing;
-  serving_is = λ n. ap (service_of_block n) quiet.serves ∙ known.serving_is n ∙ rw (still.services n, still.trackers n)
-      refl;
+  serving_is = λ n. cc (quiet.serves, known.serving_is n, still.services n, still.trackers n);
   requests = λ n. rw (still.services n) (known.requests n);
   asked = λ n r source own k e. quiet.requests r source ∙ known.asked n r source own k (sym (still.services n) ∙ e);
 }

@@ -75,8 +75,7 @@ services-last {config} {c} {k} {m} {e} is last = services-request (link_of c) (a
 pub serving-last : {w : ℕ} {config : Config} {c k : ℕ} (n : ℕ) {m : MessageA w} {e : End w} → IsComing config c k m e
     → beats_of (A m) ≡ suc k
     → block_at m.address ≡ n → service_of_block n (services (with_beat c m k e.trace)) ≡ Some (service_for c m e.trace)
-serving-last {config} {c} {k} n {m} {e} is last block = ap (service_of_block n) (services-last is last) ∙ rw
-    (block, same_number n) refl
+serving-last {config} {c} {k} n {m} {e} is last block = cc (services-last is last, same_number n)
 
 pub serving-others : {w : ℕ} {config : Config} {c k : ℕ} (n i : ℕ) {m : MessageA w} {e : End w}
     → IsComing config c k m e → beats_of (A m) ≡ suc k → block_at m.address ≡ n → (i ≡ n → ⊥)

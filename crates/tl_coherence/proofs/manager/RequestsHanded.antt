@@ -36,8 +36,7 @@ handed-answered {w} {config} {log} {mail} {request} {s} {sys} {c} {k} is asked c
     ap (λ (d : Reaction w). d.handed) (reaction-performed c k n false m is comes last asked.access refl
     none ∙ performed-access config (service_for c m e.trace) (with_beat c m k e.trace) e.memory asked.access)
     ∙ ap (λ (i : Message w). (link_of c, i) ∷ [])
-    (ap (λ (r : memory.AccessResult). access_answer m (answer_of (Message.A m) r))
-    (performed-reply (level_of config c) m e.memory comes.width asked.lawful) ∙ ap (answers m) (is.memory n))
+    (cc (performed-reply (level_of config c) m e.memory comes.width asked.lawful, is.memory n))
 
 -- ---- a Grant
 
@@ -49,8 +48,7 @@ pub memory-granted : {caching : ℕ → Bool} (q : ℕ) (d : Bool) (k : Cap) {ne
 memory-granted q d k {new} well granted given some =
     let own_view : is_granting (view new.service q) ≡ true = rw (granted, same_number q) refl in
     let nobody : (i : ℕ) → is_out (new.pair i) (view new.service i) ≡ false = λ i. elim (cases_eq i q) [
-      | inl same ↦ rw same (ap (λ x. same_perm (new.pair q).recorded Perm.Trunk && not x) own_view ∙ and-false
-          (same_perm (new.pair q).recorded Perm.Trunk))
+      | inl same ↦ rw same (cc (and-false (same_perm (new.pair q).recorded Perm.Trunk)))
       | inr other ↦ ap (λ x. x && not (is_granting (view new.service i))) (not_trunk i other)
     ] in
     well.memory nobody

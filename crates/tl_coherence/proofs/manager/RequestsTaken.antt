@@ -68,9 +68,7 @@ pub at_manager-request_taken : {w : ℕ} {config : Config} {log : Log w} (h : Ab
     → beats_of (Message.A asked.request) ≡ suc k → must_wait config (link_of c) (Beat.A (a_beat_of asked.request k))
     sys.manager.trace ≡ false → IsManagerOf config (kind_taken config (next_tracker sys) c Request source rest h)
     (end_after config c k asked.request sys.manager)
-at_manager-request_taken {w} {config} {log} h {sys} {c} {source} {k} rest is asked comes last moves =
-    subst (λ (i : Message w). IsManagerOf config (request_taken clients c source i tracker rest h) after)
-    (sym asked.is_it)
+at_manager-request_taken {w} {config} {log} h {sys} {c} {source} {k} rest is asked comes last moves = rw asked.is_it
     (go (probes_some clients c false (cap_probed m.opcode m.param) b.pair) (cap_probed m.opcode m.param) refl refl)
   where
     m : MessageA w
@@ -143,8 +141,7 @@ unwaited-acquires {w} {config} {s} c source n is used free i src own j e same =
     here = ap (s.uses c) (sym same) ∙ used
 
     go : (b : Bool) → (s.block i).service ≡ Waits c b src j → s.uses c src ≡ (if b then Acquires i else InService i) → ⊥
-    go true f g = let at_n : i ≡ n = cc in let no : Free ≡ Waits c true src j =
-        sym free ∙ ap (λ l. (s.block l).service) (sym at_n) ∙ f in cc
+    go true f g = let at_n : i ≡ n = cc in let no : Free ≡ Waits c true src j = cc in cc
     go false f g = let no : Acquires n ≡ InService i = sym here ∙ g in cc
 
 pub caps_asked : (w : ℕ) (whole : Bool) (g : Grow) (source n : ℕ)
@@ -179,9 +176,7 @@ pub at_manager-acquire_taken : {w : ℕ} {config : Config} {log : Log w} (h : Ab
     → IsManagerOf config (kind_taken config (next_tracker sys) c Acquire n rest h)
     (end_after config c k (acquire_wanted c n h.state asked) sys.manager)
 at_manager-acquire_taken {w} {config} {log} h {sys} {c} {n} {k} rest is asked comes last moves =
-    subst (λ (i : AcquirePhase). IsManagerOf config (acquire_taken clients config.profile c n i tracker rest h) after)
-    (sym asked.wants)
-    (go (some_below clients (λ d. is_probed c true j (b.pair d).recorded d)) refl)
+    rw asked.wants (go (some_below clients (λ d. is_probed c true j (b.pair d).recorded d)) refl)
   where
     b : Block (List ℕ)
     b = h.state.block n

@@ -102,5 +102,4 @@ pub settling-memory : {w : ℕ} {config : Config} {c q n source k : ℕ} {own : 
     {m : MessageC w} {h : AbstractState w} {e : End w} → IsSettling config c q n source k own low r m h e
     → block_in (memory_with (record { 0 = c }) (c_beat_of m k) e) n ≡ protocol.written r (h.state.block n).truth
     (h.state.block n).memory
-settling-memory {c} {n} {k} {r} {m} {h} {e} at = memory-end at.end
-    ∙ ap (λ z. if same_perm (report_left r) Perm.Trunk then (h.state.block n).truth else z) (at.is.memory n)
+settling-memory {c} {n} {k} {r} {m} {h} {e} at = cc (memory-end at.end, at.is.memory n)

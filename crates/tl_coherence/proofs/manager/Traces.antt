@@ -31,19 +31,15 @@ pub traced-at : {w : ℕ} {X : Type 0} {n : ℕ} {request after : ℕ → Messag
 traced-at {w} {X} {n} {s} {u} at is = record {
   recorded_is = λ c i. elim (cases_eq i n) [
     | inl same ↦ rw same (at.recorded_here c)
-    | inr other ↦ at.recorded_else c i other ∙ is.recorded_is c i ∙ ap (λ (b : Block X). (b.pair c).recorded)
-        (sym (at.other_blocks i other))
+    | inr other ↦ cc (at.recorded_else c i other, is.recorded_is c i, at.other_blocks i other)
   ];
   probes = λ c i. elim (cases_eq i n) [
     | inl same ↦ rw same (at.probes_here c)
-    | inr other ↦ at.probes_else c i other ∙ is.probes c i ∙ ap (λ (b : Block X). not (is_unprobed (b.pair c).probing))
-        (sym (at.other_blocks i other))
+    | inr other ↦ cc (at.probes_else c i other, is.probes c i, at.other_blocks i other)
   ];
   serving_is = λ i. elim (cases_eq i n) [
     | inl same ↦ rw same at.serving_here
-    | inr other ↦ at.serving_else i other ∙ is.serving_is i ∙ ap₂
-        (λ (b : Block X) (m : MessageA w). service_with (client_in b.service) b.tracker m)
-        (sym (at.other_blocks i other)) (sym (at.other_requests i other))
+    | inr other ↦ cc (at.serving_else i other, is.serving_is i, at.other_blocks i other, at.other_requests i other)
   ];
   requests = λ i. elim (cases_eq i n) [
     | inl same ↦ rw same at.request_here

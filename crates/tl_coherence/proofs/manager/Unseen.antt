@@ -115,8 +115,7 @@ asked_with {w} {caching} c source n i mail {s} m inv closed (Waits r false src k
     | inr other ↦ rw client (ap (λ (f : ℕ → Message w). f src) (set-same c (set source i (mail.request c)) mail.request)
         ∙ set-other source src i (mail.request c) other ∙ ap (λ j. mail.request j src) (sym client) ∙ ok)
   ]
-  | inr other ↦ ap (λ (f : ℕ → Message w). f src) (set-other c r (set source i (mail.request c)) mail.request other)
-      ∙ ok
+  | inr other ↦ cc (set-other c r (set source i (mail.request c)) mail.request other)
 ]
 asked_with c source n i mail m inv closed (GrantSent q d k) e ok = tt
 asked_with c source n i mail m inv closed (GrantTaken q) e ok = tt

@@ -41,8 +41,7 @@ at_manager-ask {w} {config} {log} h {sys} c o terms is there may =
     let a = client_ask.asked terms o (sys.clients c) in
     subst (λ (s : Step w). IsManagerOf config (abstract_step_by config (Ask c o) s.outcome sys h) s.after.manager)
     (sym (stepped-asked config c o sys terms there))
-    (subst (IsManagerOf config (follow.asked c o a.reply h))
-    (sym (manager-with_messages (handed_by c a.message) (with_client c a.after sys)))
+    (rw (manager-with_messages (handed_by c a.message) (with_client c a.after sys))
     (at_manager-asked config c o a.reply h sys.manager is.invariant may (at_manager-matched is)))
 
 -- ---- a delivery to a client

@@ -86,8 +86,7 @@ opened-still {w} c source mail mail' s s' (InService n) o request answer acquire
 opened-still {w} c source mail mail' s s' Replied o request answer acquire h = (
   h.0,
   subst (λ (m : Message w). IsAccess source m (Some h.0) o) (sym request) h.1,
-  subst (λ (m : Message w). Answers m h.0 (mail'.answer c source)) (sym request)
-      (subst (λ (x : Message w). Answers (mail.request c source) h.0 x) (sym answer) h.2),
+  rw request (subst (λ (x : Message w). Answers (mail.request c source) h.0 x) (sym answer) h.2),
 )
 opened-still {w} c source mail mail' s s' (Acquires n) o request answer acquire h = h ∙ rw (acquire.0, acquire.1) refl
 

@@ -47,8 +47,7 @@ acquires-else c n source new p s s' blocks pairs waits alone d i else_ = go (s.u
 
     go : (u : SourceState) → s.uses d i ≡ u → IsSameAcquire d s s' u
     go (Acquires k) e = elim (cases_eq k n) [
-      | inl same ↦ subst (λ (j : ℕ). (((s'.block j).pair d).acquiring ≡ ((s.block j).pair d).acquiring)
-          × ((s'.block j).waiting d ≡ (s.block j).waiting d)) (sym same) (here (apart k e same))
+      | inl same ↦ rw same (here (apart k e same))
       | inr other ↦ there k other
     ]
     go u e = tt
@@ -192,9 +191,7 @@ beside-block_stored {w} c address size value {mail} {s} {m} inv sized word trunk
 
     bytes : (i : ℕ) → (i ≡ n) ⊎ (i ≡ n → ⊥) → IsBlock (with_number address size value m.memory) i
         (set n new s.block i).truth
-    bytes i (inl at) = rw at
-        (subst (λ (b : Block (List ℕ)). IsBlock (with_number address size value m.memory) n b.truth)
-        (sym (set-same n new s.block)) here)
+    bytes i (inl at) = rw at (rw (set-same n new s.block) here)
     bytes i (inr other) = rw (set-other n i new s.block other) (block-unstored address size value i (s.block i).truth
         m.memory (word_room address size word) other (h.memory i))
 

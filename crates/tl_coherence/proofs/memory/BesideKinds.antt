@@ -53,10 +53,8 @@ beside_block {w} n new {mail} {s} s' {m} blocks uses lets truth acquiring waitin
   lets = lets;
   opened = λ d pool i. refl;
   acquires = λ d i. (
-    ap (λ (b : Block (List ℕ)). (b.pair d).acquiring) (blocks i) ∙ set-part
-        (λ (b : Block (List ℕ)). (b.pair d).acquiring) n new s.block (acquiring d) i,
-    ap (λ (b : Block (List ℕ)). b.waiting d) (blocks i) ∙ set-part (λ (b : Block (List ℕ)). b.waiting d) n new s.block
-        (waiting d) i,
+    cc (blocks i, set-part (λ (b : Block (List ℕ)). (b.pair d).acquiring) n new s.block (acquiring d) i),
+    cc (blocks i, set-part (λ (b : Block (List ℕ)). b.waiting d) n new s.block (waiting d) i),
   );
 }) h
 

@@ -152,10 +152,8 @@ beside-request_taken {w} {config} {log} h {sys} {c} {source} {k} rest {machine} 
     subst (λ (i : Message w). MemoryRelation (request_taken clients c source i tracker rest h).mail
     (request_taken clients c source i tracker rest h).state (performing (accesses_answered
     (reaction config (link_of c) (Beat.A (a_beat_of m k)) sys.manager).handed) machine)) (sym asked.is_it)
-    (subst (λ (l : List (ℕ × ℕ)). MemoryRelation (request_taken clients c source (Message.A m) tracker rest h).mail
-    (request_taken clients c source (Message.A m) tracker rest h).state (performing l machine))
-    (sym (request-accesses h is asked comes last)) (beside-request tracker rest h is.invariant (plain-past config)
-    performed_so beside))
+    (rw (request-accesses h is asked comes last)
+    (beside-request tracker rest h is.invariant (plain-past config) performed_so beside))
 
 -- ---- an Acquire
 

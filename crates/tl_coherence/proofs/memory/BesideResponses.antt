@@ -26,8 +26,7 @@ beside-answer {w} c source rest {mail} {s} {m} used h =
     go : (o : Option (Open w)) → m.opened c Requests source ≡ o
         → IsOpened c source mail s Replied (m.opened c Requests source)
         → MemoryRelation mail (answer_taken c source rest s) (after_end c Requests source o m)
-    go None e i = absurd (let no : Some (record { asked = Op.Access (Message.A i.1.0); answer = Some i.0 }) ≡ None =
-        sym i.1.2 ∙ e in cc)
+    go None e i = absurd (cc i.1.2)
     go (Some o) e i =
         let some_is : (x y : Open w) → Some x ≡ Some y → x ≡ y = λ x y e. cc in
         let asked = some_is o (record { asked = Op.Access (Message.A i.1.0); answer = Some i.0 }) (sym e ∙ i.1.2) in
@@ -113,9 +112,7 @@ beside-grant {w} {caching} c n d k rest {mail} {s} {m} inv wants h =
     there (AcquireOpen false g) waits i e ne = h.memory i
 
     block_now : (i : ℕ) → (i ≡ n) ⊎ (i ≡ n → ⊥) → IsBlock (memory_after asked m.memory) i (set n new s.block i).truth
-    block_now i (inl same) = subst (λ (j : ℕ). IsBlock (memory_after asked m.memory) j (set n new s.block j).truth)
-        (sym same) (subst (λ (y : Block (List ℕ)). IsBlock (memory_after asked m.memory) n y.truth)
-        (sym (set-same n new s.block)) (here (b.pair c).acquiring (b.waiting c) wants))
+    block_now i (inl same) = rw same (rw (set-same n new s.block) (here (b.pair c).acquiring (b.waiting c) wants))
     block_now i (inr other) = subst (λ (y : Block (List ℕ)). IsBlock (memory_after asked m.memory) i y.truth)
         (sym (set-other n i new s.block other)) (there (b.pair c).acquiring (b.waiting c) i wants other)
 

@@ -78,8 +78,7 @@ memory-reported c q source r k {b} well waits answered settled =
         both : (d : ℕ) → (d ≡ c) ⊎ (d ≡ c → ⊥)
             → (is_other (view b.service d) && (not (same_perm (report_left (report_told (b.pair d).probing)) Perm.Trunk)
             && not (is_sent (b.pair d).probing))) ≡ true
-        both d (inl same) = rw (seen d) (ap (λ (j : ℕ). not (same_perm (report_left (report_told
-            (b.pair j).probing)) Perm.Trunk) && not (is_sent (b.pair j).probing)) same ∙ (rw (answered, e) refl))
+        both d (inl same) = rw (seen d) (cc)
         both d (inr other) = rw (seen d) (quiet_low (b.pair d).probing (settled d other))
 
 -- ---- an access is performed
@@ -159,8 +158,7 @@ beside-performed {w} {config} {c} {source} {a} bytes {mail} {s} s' {m} is same_r
         subst (λ (x : Message w). Answers x (effect (Message.A is.opened.0) m.memory).1
             (set_at c source (answers a bytes) mail.answer c source))
             (sym is.request) (
-              set_at-same c source (answers a bytes) mail.answer
-                  ∙ ap (λ r. access_answer a (answer_of (Message.A a) r)) (sym reply_is),
+              cc (set_at-same c source (answers a bytes) mail.answer),
               subst (λ (y : Memory × memory.AccessResult). IsReach a y.1) (sym effect_is) (reply_reach a m.memory),
             ),
       );
@@ -187,12 +185,9 @@ beside-performed {w} {config} {c} {source} {a} bytes {mail} {s} s' {m} is same_r
 
     block_now : (i : ℕ) → (i ≡ n) ⊎ (i ≡ n → ⊥) → IsBlock (effect (Message.A is.opened.0) m.memory).0 i
         (s'.block i).truth
-    block_now i (inl same) = subst (λ (j : ℕ). IsBlock (effect (Message.A is.opened.0) m.memory).0 j (s'.block j).truth)
-        (sym same) (subst (λ (y : Memory × memory.AccessResult). IsBlock y.0 n (s'.block n).truth) (sym effect_is)
-        (subst (λ (z : List ℕ). IsBlock (effect (Message.A a) m.memory).0 n z) (sym changed) blocks.0))
-    block_now i (inr other) = subst (λ (y : Memory × memory.AccessResult). IsBlock y.0 i (s'.block i).truth)
-        (sym effect_is) (subst (λ (z : List ℕ). IsBlock (effect (Message.A a) m.memory).0 i z) (sym (others i other))
-        (blocks.1 i other))
+    block_now i (inl same) = rw same (subst (λ (y : Memory × memory.AccessResult). IsBlock y.0 n (s'.block n).truth)
+        (sym effect_is) (subst (λ (z : List ℕ). IsBlock (effect (Message.A a) m.memory).0 n z) (sym changed) blocks.0))
+    block_now i (inr other) = rw effect_is (rw (others i other) (blocks.1 i other))
 
 -- what an Intent is answered doesn't depend on the bytes
 pub intent-reply : {w : ℕ} (x : MessageA w) (f g : Memory) → cap_probed x.opcode x.param ≡ None

@@ -142,8 +142,7 @@ coherent-matched {w} {config} {log} {s} h =
           (h.known d).held_is n ∙ none_below ((s.block n).pair d).held ((s.block n).pair d).recorded
           (held_at_most ((s.block n).pair d) (view (s.block n).service d) ((h.invariant.blocks n).phases d)) none;
       copies = λ c n bytes copy.
-          let some = held-some ((s.block n).pair c).held
-          (sym (sym (ap is_some copy) ∙ (h.kept c).copies_held n ∙ ap holds ((h.known c).held_is n))) in
+          let some = held-some ((s.block n).pair c).held (sym (cc ((h.kept c).copies_held n, (h.known c).held_is n))) in
           let same : (s.block n).truth ≡ bytes = sym ((h.invariant.blocks n).copies c some)
           ∙ some_is ((s.block n).copy c) bytes (sym (h.copies c n some) ∙ copy) in
           subst (λ (b : List ℕ). IsBlock (one_memory_after config log).memory n b) same (h.beside.memory n);

@@ -93,8 +93,7 @@ block-stored address size value copy f room long is i lt = go (reaches address s
     inside : address ≤ x → x < address + 2 ^ size → byte_of value (x - address) ≡ slice_index new i
     inside from to =
         let place : address % 64 + (x - address) ≡ i = omega (arith, lt, from, to) in
-        sym (slice_new ∙ ap (λ j. get_or new j 0) (sym place) ∙ stored-inside address size value (x - address) copy long
-        room (omega (arith, from, to)))
+        sym (cc (stored-inside address size value (x - address) copy long room (omega (arith, from, to))))
 
     outside : (i < address % 64) ⊎ (address % 64 + 2 ^ size ≤ i) → f x ≡ slice_index new i
     outside side = is i lt ∙ get_slice copy i (omega (arith, lt, long)) ∙ sym

@@ -81,8 +81,7 @@ module _ {w : ℕ} {config : Config} {log : Log w} {mail : AccessMessages w} {re
           total-none (sources_in config c) (λ i. one_if (is_used (s.uses c i))) (omega (arith, both)) source lt
 
       used : (u : SourceState) → s.uses c source ≡ u → (u ≡ SourceFree → ⊥) → s.uses c source ≡ SourceFree
-      used u e open_ = not_used (s.uses c source)
-          (zero_there ((bounds c).requests source (λ closed. open_ (sym e ∙ closed))))
+      used u e open_ = not_used (s.uses c source) (zero_there ((bounds c).requests source (λ closed. open_ (cc))))
 
       go : (u : SourceState) → s.uses c source ≡ u → s.uses c source ≡ SourceFree
       go SourceFree e = e

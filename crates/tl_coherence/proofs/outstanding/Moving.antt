@@ -156,9 +156,8 @@ module _ {w : ℕ} {config : Config} {log : Log w} {mail : AccessMessages w} {re
       }
 
       none_in_service : services (system_after config log).manager.trace ≡ []
-      none_in_service = none_served (services (system_after config log).manager.trace) (λ n.
-          matched.managed.serving_is n ∙ ap (λ (x : Service). service_with (client_in x) (s.block n).tracker
-          (request n)) (free-when_silent n matched.invariant silent))
+      none_in_service = none_served (services (system_after config log).manager.trace)
+          (λ n. cc (matched.managed.serving_is n, free-when_silent n matched.invariant silent))
 
       empty_a : (c : ℕ) (terms : EndConfig) → terms_at config c ≡ Some terms
           → (system_after config log).channels c Channel.A ≡ []

@@ -82,8 +82,7 @@ module _ {w : ℕ} {config : Config} {log : Log w} (h : AbstractState w) (width 
       (abstract_step config (Deliver link ch) (system_after config log) h)
   counted-manager link ch terms x queue known down beats moving =
       let at = at-manager link ch h terms x queue width matched known down beats moving in
-      let ends : Ends (Outcome.Moved x) (is_e ch) false = subst (λ (i : Channel). Ends (Outcome.Moved x) (is_e i) false)
-      at.of_it (moved-ends x) in
+      let ends : Ends (Outcome.Moved x) (is_e ch) false = rw at.of_it at (moved-ends x) in
       let kinds = manager-kind ch at.first.kind down at.first.own in
       subst (λ (o : Outcome w). IsCounted (Deliver link ch) o
       (abstract_step config (Deliver link ch) (system_after config log) h))
@@ -122,11 +121,10 @@ module _ {w : ℕ} {config : Config} {log : Log w} (h : AbstractState w) (width 
       subst (λ (o : Outcome w). IsCounted (Deliver link ch) o
       (abstract_step config (Deliver link ch) (system_after config log) h))
       (sym (ap (λ (y : Step w). y.outcome) t.step_is))
-      (subst (λ (z : AbstractState w). IsCounted (Deliver link ch) (outcome_of x t.verdict_is) z) (sym follows)
-      (counted-either link ch (outcome_of x t.verdict_is) (next_tracker (system_after config log)) first.kind
-      first.number first.rest done (client_below config link.0 terms known)
-      (on_same ch first.kind (h.state.link link.0) first.own ∙ first.tokens) (ends t.verdict_is t.message t.answer).0
-      (ends t.verdict_is t.message t.answer).1))
+      (rw follows (counted-either link ch (outcome_of x t.verdict_is) (next_tracker
+      (system_after config log)) first.kind first.number first.rest done (client_below config link.0 terms known)
+      (on_same ch first.kind (h.state.link link.0) first.own ∙ first.tokens)
+      (ends t.verdict_is t.message t.answer).0 (ends t.verdict_is t.message t.answer).1))
 
   counted-b : (link : Link) (terms : EndConfig) (x : Beat w) (queue : List (Beat w))
       → terms_at config link.0 ≡ Some terms → (system_after config log).channels link.0 Channel.B ≡ x ∷ queue
@@ -220,8 +218,7 @@ module _ {w : ℕ} {config : Config} {log : Log w} (h : AbstractState w) (width 
           (grant_kind due.data_too).0 (grant_kind due.data_too).1
       kinds ReleaseAck tokens own next =
           response-ends c ReleaseAck (ack_message ((h.state.block first.number).release_source c)) next.k x
-          (next.beat_is ∙ ap (λ (m : Message w). beat_of m next.k)
-          (rendered_release_ack c first.number (h.state.block first.number))) refl refl
+          (cc (next.beat_is, rendered_release_ack c first.number (h.state.block first.number))) refl refl
       kinds k tokens own next = absurd cc
 
   -- ---- any event

@@ -19,8 +19,7 @@ ungranted v i u e f g = let h : is_granting (view u i) ≡ true = rw e at g in l
 
 pub unacknowledged : (v : Service) (i : ℕ) (u : Service) → v ≡ u → is_acknowledging (view u i) ≡ false
     → is_acknowledging (view v i) ≡ true → ⊥
-unacknowledged v i u e f g = let h : is_acknowledging (view u i) ≡ true = rw e at g in let k : false ≡ true =
-    sym f ∙ h in cc
+unacknowledged v i u e f g = let h : is_acknowledging (view u i) ≡ true = rw e at g in let k : false ≡ true = cc in cc
 
 -- a part of pairs where one client's changes
 pub pair_at : (c : ℕ) (p : ClientBlock) (f : ℕ → ClientBlock) → set c p f c ≡ p

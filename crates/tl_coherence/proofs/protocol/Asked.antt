@@ -35,8 +35,7 @@ acquiring-block {caching} c source whole g bytes {b} h inside calm kept fits =
       own_source = own_source-other b.service c source b.source (λ e. not_own e) h.own_source;
       alone = alone-set c b.pair (gentle-same (b.pair c) after refl refl) h.alone;
       one_owner = owned-set c b.pair (gentle-same (b.pair c) after refl refl) h.one_owner;
-      outside = outside-set caching c after b.pair (λ e. absurd (let f : true ≡ false = sym inside ∙ e in cc))
-          h.outside;
+      outside = outside-set caching c after b.pair (λ e. absurd cc) h.outside;
       copies = λ d some. h.copies d (rw ((set-part (λ (p : ClientBlock). p.held) c after b.pair refl) d) at some);
       memory = λ none. h.memory (λ d. rw (recorded_same d) at (none d));
     }
@@ -67,8 +66,7 @@ releasing-block {caching} c source r {b} h inside calm kept fits =
       own_source = h.own_source;
       alone = alone-set c b.pair (gentle-same (b.pair c) after refl refl) h.alone;
       one_owner = owned-set c b.pair (gentle-same (b.pair c) after refl refl) h.one_owner;
-      outside = outside-set caching c after b.pair (λ e. absurd (let f : true ≡ false = sym inside ∙ e in cc))
-          h.outside;
+      outside = outside-set caching c after b.pair (λ e. absurd cc) h.outside;
       copies = λ d some. elim (cases_eq d c) [
         | inl same ↦ rw same (h.copies c (left_some r (b.pair c).held fits))
         | inr other ↦ h.copies d (rw (set-other c d after b.pair other) at some)
@@ -91,9 +89,8 @@ stored-block c bytes {b} h may =
       outside = h.outside;
       copies = λ d some. elim (cases_eq d c) [
         | inl same ↦ rw same (set-same c bytes b.copy)
-        | inr other ↦ absurd (let none =
-            nothing_below (b.pair d).held (b.pair d).recorded (held_at_most (b.pair d) (view b.service d) (h.phases d))
-            (h.one_owner c d owns other) in let differs : true ≡ false = sym none ∙ some in cc)
+        | inr other ↦ absurd (cc (nothing_below (b.pair d).held (b.pair d).recorded
+            (held_at_most (b.pair d) (view b.service d) (h.phases d)) (h.one_owner c d owns other)))
       ];
       memory = λ none. absurd (let differs : true ≡ false = sym out ∙ none c in cc);
     }

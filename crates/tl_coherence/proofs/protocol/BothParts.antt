@@ -136,8 +136,7 @@ cap-waited k (GrantTaken r) c e =
 -- who sees its GrantAck under way
 pub acknowledging-is : (s : Service) (c : ℕ) → is_acknowledging (view s c) ≡ true → s ≡ GrantTaken c
 acknowledging-is Free c e = absurd cc
-acknowledging-is (Waits q o source k) c e =
-    absurd (let no : false ≡ true = sym (waits_unacknowledged o q source k c) ∙ e in cc)
+acknowledging-is (Waits q o source k) c e = absurd (cc (waits_unacknowledged o q source k c))
 acknowledging-is (GrantSent q d k) c e =
     absurd (let no : false ≡ true = sym (sent_unacknowledged q d k c) ∙ e in cc)
 acknowledging-is (GrantTaken q) c e =

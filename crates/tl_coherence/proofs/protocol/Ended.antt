@@ -142,11 +142,9 @@ report_answers-kept {X} {c} {q} n {r} {f} {source} {k} rest {s} inv first last =
     let popped : (d : ℕ) → popped_link c rest s.link d ≡ (if d == c then record (s.link d) { c = rest } else s.link d) =
     λ d. elim (cases_eq d c) [ inl same ↦ rw (same, same_number c) refl | inr ne ↦ rw (ne_eqb d c ne) refl ] in
     let by_link : (d : ℕ) (ch : Channel) → IsMoved (ended_move (d == c) (d == q) n source ch) (packets_on ch (s.link d))
-    (packets_on ch (if d == q then with_d (packet Answer source) (if d == c then record (s.link d) { c = rest } else
-    s.link d) else (if d == c then record (s.link d) { c = rest } else s.link d)))
-    → IsMoved (ended_move (d == c) (d == q) n source ch) (packets_on ch (s.link d)) (packets_on ch (links d)) =
-    λ d ch h. subst (λ (l : Link). IsMoved (ended_move (d == c) (d == q) n source ch) (packets_on ch (s.link d))
-    (packets_on ch (if d == q then with_d (packet Answer source) l else l))) (sym (popped d)) h in
+    (packets_on ch (if d == q then with_d (packet Answer source) (if d == c then record (s.link d) { c = rest }
+    else s.link d) else (if d == c then record (s.link d) { c = rest } else s.link d))) → IsMoved (ended_move (d == c)
+    (d == q) n source ch) (packets_on ch (s.link d)) (packets_on ch (links d)) = λ d ch h. rw (popped d) h in
     invariant-moved_use q source Replied
     (set tracker None s.tracked) inv (record {
       well = ended-block (inv.blocks n) last;

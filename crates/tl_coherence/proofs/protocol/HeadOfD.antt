@@ -65,8 +65,7 @@ pub record IsGrantDue (c n : ℕ) (s : State (List ℕ)) : Type 0 where
 pub granting-service : (s : Service) (c : ℕ) → is_granting (view s c) ≡ true → (d : Bool) × (k : Cap)
     × (s ≡ GrantSent c d k)
 granting-service Free c e = absurd cc
-granting-service (Waits q o source k) c e =
-    absurd (let no : false ≡ true = sym (waits_ungranted o q source k c) ∙ e in cc)
+granting-service (Waits q o source k) c e = absurd (cc (waits_ungranted o q source k c))
 granting-service (GrantTaken q) c e = absurd (let no : false ≡ true = sym (taken_ungranted q c) ∙ e in cc)
 granting-service (GrantSent q d k) c e =
     let own : (x : Bool) → is_granting (if x then Granting d k else GrantedOther) ≡ true → x ≡ true =

@@ -160,6 +160,4 @@ front-of {w} {mail} {s} {sys} c first rest m x queue width is tokens is_it beats
     carried-next x (unfinished Channel.A (on_link c sys.manager.trace)) (Message.A m) (map (message_of mail s c) rest)
     queue (λ i. beats-positive i width)
     (carried_so (messages_on Channel.A mail s c) (Message.A m ∷ map (message_of mail s c) rest)
-    (sys.channels c Channel.A) (x ∷ queue)
-    (ap (map (message_of mail s c)) tokens ∙ ap (λ (i : Message w). i ∷ map (message_of mail s c) rest) is_it) beats
-    (is.carried c Channel.A))
+    (sys.channels c Channel.A) (x ∷ queue) (cc) beats (is.carried c Channel.A))

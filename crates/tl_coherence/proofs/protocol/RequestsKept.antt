@@ -141,9 +141,8 @@ module _ {w : ℕ} {caching : ℕ → Bool} (config : Config) (c : ℕ) (rest : 
       access_answered-kept c (block_at m.address) source (performs m) rest inv first (first-request inv first)
       (elim (leaves-bytes m b.truth access long) [
         | inl same ↦ inl same
-        | inr all ↦ inr (λ d. none-above (b.pair d).recorded
-            (unprobed clients caching c false Cap.ToN b.pair plain (inv.blocks (block_at m.address)).outside
-            (let same : o ≡ Some Cap.ToN = sym caps ∙ all in rw same at none) d refl))
+        | inr all ↦ inr (λ d. none-above (b.pair d).recorded (unprobed clients caching c false Cap.ToN b.pair plain
+            (inv.blocks (block_at m.address)).outside (let same : o ≡ Some Cap.ToN = cc in rw same at none) d refl))
       ])
     where
       b : Block (List ℕ)

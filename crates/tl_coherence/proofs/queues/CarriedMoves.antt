@@ -27,8 +27,7 @@ pub carried-moved : {w : ℕ} (move : Move) (xs ys : List Packet) (f g : Packet 
 carried-moved {w} Stays xs ys f g m q after r rest width moved queued new kept h =
     rw (moved, kept, queued.0, queued.1) h
 carried-moved {w} (Pushes k n) xs ys f g m q after r rest width moved queued new kept h =
-    let messages : map g ys ≡ map f xs ++ m k n ∷ [] = ap (map g) moved ∙ map-append g xs (packet k n ∷ [])
-    ∙ ap₂ (λ (i j : List (Message w)). i ++ j) kept (ap (λ (i : Message w). i ∷ []) (new k n refl)) in
+    let messages : map g ys ≡ map f xs ++ m k n ∷ [] = cc (map-append g xs (packet k n ∷ []), new k n refl) in
     rw (messages, queued.0, queued.1) (carried-push r (map f xs) q (m k n) (beats-positive (m k n) width) h)
 carried-moved {w} (Pops k n) xs ys f g m q after r rest width moved (x, beats, whole, none) new kept h =
     let same : (ms ns : List (Message w)) → ms ≡ ns → IsCarried r ms q → IsCarried r ns (x ∷ after) =

@@ -176,8 +176,7 @@ pub queued-by : {w : ℕ} (pop : Bool) (push : Option (Message w)) (move : Move)
     (x : Beat w) (queue q after r rest : List (Beat w)) → Fits pop push move render
     → after ≡ behind push (if pop then queue else q) → rest ≡ (if pop then [] else r)
     → (pop ≡ true → (q ≡ x ∷ queue) × (completes x r ≡ true)) → IsQueued move render q after r rest
-queued-by true None (Pops k n) render x queue q after r rest fits e f taken =
-    (x, (taken refl).0 ∙ ap (λ l. x ∷ l) (sym e), (taken refl).1, f)
+queued-by true None (Pops k n) render x queue q after r rest fits e f taken = (x, cc (taken refl).0, (taken refl).1, f)
 queued-by false None Stays render x queue q after r rest fits e f taken = (e, f)
 queued-by false (Some m) (Pushes k n) render x queue q after r rest fits e f taken = (rw fits e, f)
 queued-by pop push move render x queue q after r rest fits e f taken = absurd fits

@@ -239,8 +239,7 @@ rests-manager {w} c ch x queue handed e sys to_manager is heard = rests
         let unless : (b : Bool) → unfinished at (sys.clients d).past
         ≡ (if b && false then grown x (unfinished at (sys.clients d).past) else unfinished at (sys.clients d).past)
         = elim [ true ↦ refl | false ↦ refl ] in
-        rw f (ap (λ (g : ℕ → client.Endpoint w). unfinished at (g d).past) (clients-with_messages handed base)
-        ∙ unless (d == c))
+        rw f (cc (clients-with_messages handed base, unless (d == c)))
 
     rests : (d : ℕ) (at : Channel)
         → unfinished at (receiver at d after) ≡ (if (d == c) && same_channel at ch then grown x

@@ -121,8 +121,7 @@ good-message {w} config c {l} {m} width level sound ours inside long i lt =
     let typed : rules.IsTyped (beat_of m i) = typed-beat m i width long lt in
     record {
       sound = record {
-        lawful = rw level (ap (λ ch. illegal l ch (beat_of m i)) (same_channel_of m i) ∙ legal_beat l
-            (channel_of (beat_of m 0)) m i sound.is_legal lt);
+        lawful = rw level (cc (same_channel_of m i, legal_beat l (channel_of (beat_of m 0)) m i sound.is_legal lt));
         inside = same_outside config.blocks m i ∙ inside;
         clean = unspoiled m i ours sound.is_clean;
         typed = typed_is (beat_of m i) typed;

@@ -92,9 +92,7 @@ module _ {w : ℕ} {config : Config} {log : Log w} {mail : AccessMessages w} {re
 
       letter : (d i n : ℕ) (o : Option EndConfig) → terms_at config d ≡ o → s.lets d i ≡ Some n
           → d < length config.clients.items
-      letter d i n None is e =
-          absurd (let none : s.lets d i ≡ None = no_let matched width d is i in let both =
-          sym e ∙ none in cc)
+      letter d i n None is e = absurd (cc (no_let matched width d is i))
       letter d i n (Some terms) is e = client_below config d terms is
 
 -- ---- what is taken

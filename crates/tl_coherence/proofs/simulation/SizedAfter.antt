@@ -35,10 +35,8 @@ still_acquires c p f same d e = sym (ap is_whole (set-part (λ (q : ClientBlock)
 sized_pair : (c : ℕ) (p : ClientBlock) {old : Block (List ℕ)} (new : Block (List ℕ)) → new.pair ≡ set c p old.pair
     → p.acquiring ≡ (old.pair c).acquiring → new.truth ≡ old.truth
     → new.waiting ≡ old.waiting → AreSized old → AreSized new
-sized_pair c p {old} new pairs same truth waiting h =
-    sized_same new (ap length truth ∙ h.truth) (λ d. ap (λ (f : ℕ → List ℕ). f d) waiting)
-    (λ d e. still_acquires c p old.pair same d (ap (λ (f : ℕ → ClientBlock). is_whole (f d).acquiring) (sym pairs)
-    ∙ e)) h
+sized_pair c p {old} new pairs same truth waiting h = sized_same new (ap length truth ∙ h.truth)
+    (λ d. ap (λ (f : ℕ → List ℕ). f d) waiting) (λ d e. still_acquires c p old.pair same d (cc)) h
 
 sized_served : (r : ℕ) (own : Bool) (source tracker : ℕ) (k : Cap) {b : Block (List ℕ)} → AreSized b
     → AreSized (served_block r own source tracker k b)

@@ -35,8 +35,7 @@ copy-long {w} {s} {sys} h c n = go ((s.block n).pair c).held refl
     there e = cc (h.copies c n e, (h.invariant.blocks n).copies c e, (h.sized n).truth)
 
     go : (p : Perm) → ((s.block n).pair c).held ≡ p → length (copy_at (sys.clients c) n) ≡ 64
-    go Perm.None e = copy_of ((sys.clients c).copies n)
-        ((h.kept c).copies_held n ∙ ap holds ((h.known c).held_is n ∙ e))
+    go Perm.None e = copy_of ((sys.clients c).copies n) (cc ((h.kept c).copies_held n, (h.known c).held_is n))
     go p e = there (ap (λ p. same_perm p Perm.None) e)
 
 -- ---- what is handed out

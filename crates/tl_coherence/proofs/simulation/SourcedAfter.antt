@@ -81,11 +81,9 @@ sourced-asked config c (Op.AcquireWhole n bytes) (Reply.Started source) h ask be
     sourced_set config h.mail.request c source (Acquires n) h.state.uses tt before
 sourced-asked {w} config c (Op.Access (Message.A m)) (Reply.Started source) h ask before = λ d i. elim (cases_eq d c) [
   | inl same ↦ elim (cases_eq i source) [
-    | inl also ↦ rw (same, also)
-        (now _ _ (ap (λ (f : ℕ → Message w). f source) (set-same c (set source (access source m) (h.mail.request c))
-        h.mail.request) ∙ set-same source (access source m) (h.mail.request c))
-        (ap (λ (f : ℕ → SourceState). f source) (set-same c (set source Asked (h.state.uses c)) h.state.uses) ∙ set-same
-        source Asked (h.state.uses c)))
+    | inl also ↦ rw (same, also) (now _ _ (ap (λ (f : ℕ → Message w). f source) (set-same c (set source
+        (access source m) (h.mail.request c)) h.mail.request) ∙ set-same source (access source m) (h.mail.request c))
+        (cc (set-same c (set source Asked (h.state.uses c)) h.state.uses, set-same source Asked (h.state.uses c))))
     | inr other ↦ rw (same, same_number c, ne_eqb i source other) (before c i)
   ]
   | inr other ↦ rw (ne_eqb d c other) (before d i)

@@ -57,8 +57,7 @@ module _ {w : ℕ} {config : Config} {log : Log w} {mail : AccessMessages w} {re
       go : (o : Option ℕ) → s.lets c source ≡ o → o ≡ None
       go None e = refl
       go (Some n) e =
-          let below = (sources-own config log c width).releases source ((matched.opened c).releases source ∙ rw e refl)
-          in
+          let below = (sources-own config log c width).releases source (cc ((matched.opened c).releases source)) in
           absurd (let none : source < 0 = rw is at below in omega (arith, none))
 
   at_rest : (n : ℕ) → (s.block n).pair c ≡ resting
@@ -76,9 +75,8 @@ module _ {w : ℕ} {config : Config} {log : Log w} {mail : AccessMessages w} {re
       lawless (level_of config c) (Message.A (request n)) (no_level config c is) performable.lawful
 
   nothing_shown : (ch : Channel) (k : Kind) (n : ℕ) → is_on ch k ≡ true → 0 < count k n (packets_on ch (s.link c)) → ⊥
-  nothing_shown ch Request n on_it there =
-      absurd (let e = request_named c n matched.invariant (shown_there c ch Request n matched.invariant on_it
-      there) in let both : Asked ≡ SourceFree = sym e ∙ no_use n in cc)
+  nothing_shown ch Request n on_it there = absurd (let e = request_named c n matched.invariant
+      (shown_there c ch Request n matched.invariant on_it there) in let both : Asked ≡ SourceFree = cc (no_use n) in cc)
   nothing_shown ch Answer n on_it there =
       absurd (let e = answer_named c n matched.invariant (shown_there c ch Answer n matched.invariant on_it
       there) in let both = sym e ∙ no_use n in cc)

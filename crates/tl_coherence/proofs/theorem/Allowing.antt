@@ -72,12 +72,9 @@ ends-transfer {w} {config} {log} {link} {h} {x} {source} {f} is end other = go e
         let named : cap_named x ≡ cap_right due.k = cc (end.beat_is, same, cap-gives due.k) in
         let fits = due.fits in
         subst (λ (i : Finish). Ends (m.opened c (pool_of i) source) x i) (sym fin)
-        (subst (λ (o : Option (Open w)). Ends o x (Finish.Granted (cap_right due.k))) (sym opened)
-        (ends_granted n ((h.state.block n).waiting c) x due.k due.whole due.g ((h.state.block n).pair c).acquiring
-        due.wants named (λ whole. whole_trunk ((h.state.block n).pair c).recorded ((h.state.block n).pair c).held
-        due.data_too due.k due.g
-        (ap (λ (b : Bool). grant_fits ((h.state.block n).pair c).recorded ((h.state.block n).pair c).held
-        due.data_too due.k (AcquireOpen b due.g)) (sym whole) ∙ fits))))
+        (rw opened (ends_granted n ((h.state.block n).waiting c) x due.k due.whole due.g
+        ((h.state.block n).pair c).acquiring due.wants named (λ whole. whole_trunk
+        ((h.state.block n).pair c).recorded ((h.state.block n).pair c).held due.data_too due.k due.g (cc))))
     go ReleaseAck e own =
         let sent : MessageD w = ack_message ((h.state.block n).release_source c) in
         let same : end.response ≡ sent = same-response end.response sent (sym (response_is ReleaseAck e)) in

@@ -120,8 +120,7 @@ answering-delivered {w} config log link ch h width is = go (is_moving (stepped c
     moves Channel.A terms (x ∷ queue) known beats moving =
         let t = manager-moves config link Channel.A sys terms x queue known beats refl moving in
         up Channel.A terms x queue refl known beats moving
-        (subst (λ (s : Step w). IsOnce (accesses_answered s.handed) h m) t.step_is
-        (once-delivered_a h c terms width is known is.beside))
+        (rw t.step_is at (once-delivered_a h c terms width is known is.beside))
     moves Channel.B terms (x ∷ queue) known beats moving = down Channel.B terms x queue refl known beats moving
     moves Channel.C terms (x ∷ queue) known beats moving = up Channel.C terms x queue refl known beats moving
         (once-followed_c h c x queue width is beats is.beside)

@@ -167,8 +167,7 @@ module _ (p : Profile) (c n source : ℕ) (a : AcquirePhase) where
     where
       go : n ≡ m → (c ≡ d) ⊎ (c ≡ d → ⊥)
           → IsSteady ((s.block m).pair c) (set d (after_probe k ((s.block m).pair d)) (s.block m).pair c)
-      go here (inl same) = absurd
-          (unprobed inv is (ap₂ (λ (i j : ℕ). is_sent ((s.block i).pair j).probing) here same ∙ sent))
+      go here (inl same) = absurd (unprobed inv is (cc))
       go here (inr other) = rw (set-other d c (after_probe k ((s.block m).pair d)) (s.block m).pair other) (refl, refl)
 
   lone_grant : {w : ℕ} (config : Config) (tracker : ℕ) {d m : ℕ} (rest : List Packet) (h : AbstractState w)
@@ -227,8 +226,7 @@ module _ (p : Profile) (c n source : ℕ) (a : AcquirePhase) where
         release = λ m known. steady m (let_block d _ (block m)) _ (λ e j. refl) (λ j. refl)
             (steady_pair d _ (block m).pair (refl, refl) c);
         answer = λ src known. absurd (no_access d src Replied is (first-answer inv known) refl);
-        grant = λ m q x j known sent. subst
-            (λ (v : Service). IsLone p c n source a (taken_by_client d m v rest h).state) sent
+        grant = λ m q x j known sent. rw sent at
             (lone_grant config tracker rest h given (grant-due caching d m rest h.state inv known) is);
         release_ack = λ m known. steady m (let_go_block d (block m)) _ (λ e j. refl) (λ j. refl)
             (steady_pair d _ (block m).pair (refl, refl) c);
@@ -245,5 +243,4 @@ module _ (p : Profile) (c n source : ℕ) (a : AcquirePhase) where
       steady : (m : ℕ) (new : Block (List ℕ)) (t : State (List ℕ)) → ((e j : ℕ) → t.uses e j ≡ h.state.uses e j)
           → ((j : ℕ) → t.block j ≡ set m new block j) → IsSteady ((block m).pair c) (new.pair c)
           → IsLone p c n source a t
-      steady m new t uses blocks same = lone_steady t uses (subst (λ (b : Block (List ℕ)). IsSteady ((block n).pair c)
-          (b.pair c)) (sym (blocks n)) (steady_at m new block n c (λ here. same))) is
+      steady m new t uses blocks same = lone_steady t uses (rw (blocks n) (steady_at m new block n c (λ here. same))) is

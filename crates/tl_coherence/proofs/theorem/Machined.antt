@@ -92,9 +92,8 @@ continues_event {w} {config} {log} event h width is = go event (terms_at config 
         → Continues config (e, (stepped config e (system_after config log)).outcome) log
     go e None none = nobody-continues config log e none
     go (Deliver link ch) (Some terms) known = continues-delivered link ch h terms width is known
-    go (Ask c o) (Some terms) known = subst (λ (i : Outcome w). Continues config (Ask c o, i) log)
-        (sym (ap (λ (x : Step w). x.outcome) (stepped-asked config c o (system_after config log) terms known)))
-        (continues-ask h c terms o width is known)
+    go (Ask c o) (Some terms) known = rw (ap (λ (x : Step w). x.outcome)
+        (stepped-asked config c o (system_after config log) terms known)) (continues-ask h c terms o width is known)
 
 -- Each event goes on from the machine before it.
 pub continues : {w : ℕ} (config : Config) (log : Log w) (x : Event w × Outcome w) → IsWidth w → AreTyped log

@@ -138,10 +138,9 @@ module _ {X : Type 0} (config : Config) (size : ℕ) (left left' : Left) (answer
 
           here : pair_weight size left' m c ((s.block m).pair c) + 1 ≤ pair_weight size left m c ((s.block m).pair c)
           here =
-              let go : (x : ProbePhase) → is_answered x ≡ true
-              → probing_weight size (left' c ProbeAck m) ((s.block m).pair c).recorded x + 1 ≤ probing_weight size
-              (left c ProbeAck m) ((s.block m).pair c).recorded x =
-              elim [ ProbeAnswered r ↦ λ f. less | x ↦ λ f. absurd cc ] in
+              let go : (x : ProbePhase) → is_answered x ≡ true → probing_weight size (left' c ProbeAck m)
+              ((s.block m).pair c).recorded x + 1 ≤ probing_weight size (left c ProbeAck m)
+              ((s.block m).pair c).recorded x = elim [ ProbeAnswered r ↦ λ f. less | x ↦ λ f. absurd cc ] in
               go ((s.block m).pair c).probing e
 
           probes : probes_weight number size left' m (s.block m) + 1 ≤ probes_weight number size left m (s.block m)

@@ -74,9 +74,8 @@ module _ {w : ℕ} {config : Config} {log : Log w} (h : AbstractState w) (width 
           first.kind first.number first.rest h =
           cc (followed-moving config link ch sys h x queue moving beats, last, first.tokens) in
           subst (λ (z : AbstractState w). IsLess z sys') (sym follows)
-          (by-first sys' d (client_below config link.0 terms known) sixteen
-          (grown-received link.0 ch x sys sys' (grown-moved h link ch terms x queue width matched known beats
-          moving) last) (subst Kept follows kept))
+          (by-first sys' d (client_below config link.0 terms known) sixteen (grown-received link.0 ch x sys sys'
+          (grown-moved h link ch terms x queue width matched known beats moving) last) (subst Kept follows kept))
       taken x queue terms known beats false part =
           let follows : abstract_step config (Deliver link ch) sys h ≡ h =
           cc (followed-moving config link ch sys h x queue moving beats, part) in
@@ -97,10 +96,9 @@ module _ {w : ℕ} {config : Config} {log : Log w} (h : AbstractState w) (width 
       (abstract_step config (Deliver link ch) (system_after config log) h).state
       (stepped config (Deliver link ch) (system_after config log)).after ≤ owed config h.mail h.state
       (system_after config log)
-  still-owed link ch still =
-      rw (followed-still config link ch sys h still) (stays config (64 / w) (left sys) (left sys') (answer_to h.mail)
-      (answer_to h.mail) h.state h.state (none-more config (64 / w) (left sys) (left sys') (answer_to h.mail) h.state
-      less))
+  still-owed link ch still = rw (followed-still config link ch sys h still)
+      (stays config (64 / w) (left sys) (left sys') (answer_to h.mail) (answer_to h.mail) h.state h.state
+      (none-more config (64 / w) (left sys) (left sys') (answer_to h.mail) h.state less))
     where
       sys : System w
       sys = system_after config log

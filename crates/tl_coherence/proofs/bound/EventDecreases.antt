@@ -27,9 +27,8 @@ left-first {w} ch c k n tokens mail s sys carried own first = go (rw first at (c
     go : IsCarried (unfinished_at sys c ch) (map (message_of mail s c) (packet k n ∷ tokens)) (sys.channels c ch)
         → 1 ≤ beats_left mail s (unfinished_at sys) c k n
     go (i, within, rest, queue) =
-        let taken : taken_of (unfinished_at sys c (channel_for k))
-        (is_front k n (packets_on (channel_for k) (s.link c))) ≡ i =
-        rw (kind_channel ch k own, first, same_kind_again k, same_number n, rest)
+        let taken : taken_of (unfinished_at sys c (channel_for k)) (is_front k n (packets_on (channel_for k)
+        (s.link c))) ≡ i = rw (kind_channel ch k own, first, same_kind_again k, same_number n, rest)
         (length-begun (message_of_kind k mail s c n) i) in
         omega (arith, taken, within)
 
@@ -37,8 +36,7 @@ left-first {w} ch c k n tokens mail s sys carried own first = go (rw first at (c
 pub shown-first : {X : Type 0} {caching : ℕ → Bool} (ch : Channel) (c : ℕ) (k : Kind) (n : ℕ) (tokens : List Packet)
     {s : State X} → IsInvariant caching s
     → is_on ch k ≡ true → packets_on ch (s.link c) ≡ packet k n ∷ tokens → shows_it s c k n ≡ true
-shown-first ch c k n tokens inv own first =
-    shown_there c ch k n inv own (rw first (first-there (packet k n) tokens))
+shown-first ch c k n tokens inv own first = shown_there c ch k n inv own (rw first (first-there (packet k n) tokens))
 
 -- ---- what stays
 

@@ -88,8 +88,7 @@ module _ {w : ℕ} {config : Config} {log : Log w} {mail : AccessMessages w} {re
 
   left_after : {mail' : AccessMessages w} {s' : State (List ℕ)} → IsKeptAfter config mail' s'
       → IsLeft (64 / w) (beats_left mail' s' (unfinished_at sys')) (answer_to mail') s'
-  left_after {mail'} {s'} kept =
-      is-left config mail' (unfinished_at sys') width kept.invariant kept.sourced
+  left_after {mail'} {s'} kept = is-left config mail' (unfinished_at sys') width kept.invariant kept.sourced
 
   some_beats : 1 ≤ 64 / w
   some_beats = let wide = wide-block w width in omega (arith, wide)
@@ -108,8 +107,7 @@ module _ {w : ℕ} {config : Config} {log : Log w} {mail : AccessMessages w} {re
   report_first first = answered_with ((s.block n).pair c).probing (it_shows Channel.C ProbeAck n refl first)
 
   acquire_first : (s.link c).a ≡ packet Acquire n ∷ rest → s.uses c ((s.block n).source c) ≡ Acquires n
-  acquire_first first =
-      acquire_named c n matched.invariant (it_shows Channel.A Acquire n refl first)
+  acquire_first first = acquire_named c n matched.invariant (it_shows Channel.A Acquire n refl first)
 
   -- the event, for all that is owed
   abbrev taking : {k : ℕ} {ch : Channel} {pushes : ℕ → Channel → Option (Message w)} {mail' : AccessMessages w}
@@ -164,10 +162,9 @@ module _ {w : ℕ} {config : Config} {log : Log w} {mail : AccessMessages w} {re
       → IsKeptAfter config mail (answer_taken c n rest s) → Falls mail (answer_taken c n rest s)
   answer_taken-owed first received kept =
       answer-falls (taking (answer_taken-shown c n rest mail matched.invariant kept.invariant first) received) n
-      (answer_named c n matched.invariant (it_shows Channel.D Answer n refl first))
-      (set_at-same c n SourceFree s.uses) (some_left Channel.D Answer n refl first) refl
-      (λ d i ne. set_at-unlike c n SourceFree s.uses d i ne) (λ d i. refl)
-      (acks_set c (record (s.link c) { d = rest }) s.link refl)
+      (answer_named c n matched.invariant (it_shows Channel.D Answer n refl first)) (set_at-same c n SourceFree s.uses)
+      (some_left Channel.D Answer n refl first) refl (λ d i ne. set_at-unlike c n SourceFree s.uses d i ne)
+      (λ d i. refl) (acks_set c (record (s.link c) { d = rest }) s.link refl)
 
   pub release_ack_taken-owed : (s.link c).d ≡ packet ReleaseAck n ∷ rest → IsReceived c Channel.D sys sys'
       → IsKeptAfter config mail (release_ack_taken c n rest s) → Falls mail (release_ack_taken c n rest s)
@@ -205,10 +202,9 @@ module _ {w : ℕ} {config : Config} {log : Log w} {mail : AccessMessages w} {re
   pub grant_ack_taken-owed : (s.link c).e ≡ packet GrantAck n ∷ rest → (s.block n).service ≡ GrantTaken c
       → IsReceived c Channel.E sys sys' → IsKeptAfter config mail (grant_ack_taken c n rest s)
       → Falls mail (grant_ack_taken c n rest s)
-  grant_ack_taken-owed first given received kept =
-      grant-ack-falls (taking (grant_ack_taken-shown c n rest mail matched.invariant kept.invariant first given)
-      received) c lt given (set-same n (freed_block (s.block n)) s.block) (λ d i. refl) (λ d i. refl)
-      (λ d. fewer d (cases_eq d c)) less
+  grant_ack_taken-owed first given received kept = grant-ack-falls
+      (taking (grant_ack_taken-shown c n rest mail matched.invariant kept.invariant first given) received) c lt given
+      (set-same n (freed_block (s.block n)) s.block) (λ d i. refl) (λ d i. refl) (λ d. fewer d (cases_eq d c)) less
     where
       less : length (set c (record (s.link c) { e = rest }) s.link c).e + 1 ≤ length (s.link c).e
       less =
@@ -290,9 +286,8 @@ module _ {w : ℕ} {config : Config} {log : Log w} {mail : AccessMessages w} {re
   pub access_answered-owed : (source : ℕ) (f : List ℕ → List ℕ) (m : Message w)
       → (s.link c).a ≡ packet Request source ∷ rest → s.uses c source ≡ Asked
       → ((k : Kind) (d : ℕ) → (carries k d (s.block n) ≡ false) ⊎ (f (s.block n).truth ≡ (s.block n).truth))
-      → channel_of_message m ≡ Channel.D → IsReceived c Channel.A sys sys'
-      → IsKeptAfter config (with_reply c source m) (access_answered c n source f rest s)
-      → Falls (with_reply c source m) (access_answered c n source f rest s)
+      → channel_of_message m ≡ Channel.D → IsReceived c Channel.A sys sys' → IsKeptAfter config (with_reply c source m)
+      (access_answered c n source f rest s) → Falls (with_reply c source m) (access_answered c n source f rest s)
   access_answered-owed source f m first used bytes chan received kept =
       answered-falls (taking (access_answered-shown c n source f rest m mail matched.invariant kept.invariant first used
       bytes chan) received) source f used (set_at-same c source Replied s.uses)

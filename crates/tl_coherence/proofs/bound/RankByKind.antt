@@ -47,9 +47,8 @@ module _ {w : ℕ} {config : Config} {log : Log w} (h : AbstractState w) (sys' :
       let for : IsFor (Waits q false source k) n v = rw waits at (matched.served.requests n) in
       report_answers-owed sys' width matched c n rest lt q source r k (performs v)
       (answers v (protocol.written r b.truth b.memory)) known.0 waits (rw (serving-use n q source k inv waits) refl)
-      (ended-bytes c q source r k v (inv.blocks n)
-      (subst (IsWell (is_caching config)) (set-same n (ended_block c r (performs v) b) h.state.block)
-      (is.invariant.blocks n)) waits (first-report inv known.0)
+      (ended-bytes c q source r k v (inv.blocks n) (subst (IsWell (is_caching config)) (set-same n
+      (ended_block c r (performs v) b) h.state.block) (is.invariant.blocks n)) waits (first-report inv known.0)
       (settled_all (length config.clients.items) (is_caching config) c b.pair (plain-past config)
       (inv.blocks n).outside last) for.0 for.3 (matched.sized n).truth) (answer_on_d v _) known.1 is
 
@@ -67,9 +66,8 @@ module _ {w : ℕ} {config : Config} {log : Log w} (h : AbstractState w) (sys' :
       → Falls (kind_taken config tracker c k i rest h)
   kind-owed k i sixteen ending = true-taken config tracker c rest h IsEnding Falls k i (record {
     nothing = λ j n known idle. absurd (cc (never-idle config tracker c j n rest h matched.invariant known.0 known.2));
-    access_answered = λ source m o known from caps none.
-        access_answered-owed sys' width matched c _ rest lt source (performs m) _ known.0
-        (first-request matched.invariant known.0) (unread-bytes c _ m matched
+    access_answered = λ source m o known from caps none. access_answered-owed sys' width matched c _ rest lt source
+        (performs m) _ known.0 (first-request matched.invariant known.0) (unread-bytes c _ m matched
         (ready-access tracker c source m h known.2 from).0 (rw caps none)) (answer_on_d m _) known.1;
     access_served = λ source m k known from caps some. access_served-owed sys' width matched c _ rest lt source tracker
         k

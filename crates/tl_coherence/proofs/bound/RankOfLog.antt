@@ -31,10 +31,9 @@ pub owed-few : {w : ℕ} {config : Config} {log : Log w} {mail : AccessMessages 
     {s : State (List ℕ)} {sys : System w} → IsWidth w
     → SimulationRelation config log mail request s sys → length config.clients.items ≤ 16
     → owed config mail s sys ≤ (64 / w + 33) * open_requests config s + (64 / w + 1) * open_releases config s
-owed-few {w} {config} {log} {mail} {request} {s} {sys} width matched sixteen =
-    potential-few matched.invariant (64 / w) (beats_left mail s (unfinished_at sys))
-    (answer_to mail) (left-matched width matched) (let wide = wide-block w width in omega (arith, wide))
-    (narrow-block w width) (length config.clients.items) sixteen config refl
+owed-few {w} {config} {log} {mail} {request} {s} {sys} width matched sixteen = potential-few matched.invariant (64 / w)
+    (beats_left mail s (unfinished_at sys)) (answer_to mail) (left-matched width matched) (let wide =
+    wide-block w width in omega (arith, wide)) (narrow-block w width) (length config.clients.items) sixteen config refl
 
 not_last : (b : Bool) (k n : ℕ) → b ≡ (k + 1 == n) → b ≡ false → k < n → k + 1 < n
 not_last b k n e f lt = go (cases_eq (k + 1) n)

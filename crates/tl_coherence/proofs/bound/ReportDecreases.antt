@@ -153,8 +153,7 @@ module _ {w : ℕ} {config : Config} {mail mail' : AccessMessages w} {s s' : Sta
       cc) in
       let pairs = ap (λ (b : Block (List ℕ)). b.pair) new in
       let free : (s'.block n).service ≡ Free = ap (λ (b : Block (List ℕ)). b.service) new in
-      let block : IsBlockNoMore taking =
-      record {
+      let block : IsBlockNoMore taking = record {
         serves = λ d i e g. absurd (nobody-serving n d i showing.after (ap is_for_access free) g);
         acquires = λ d i e g. unserved-stays taking d i n e g (ap (λ (u : Service). is_unserved (view u d)) waits)
             (ap (λ (u : Service). is_unserved (view u d)) free);
@@ -206,9 +205,8 @@ module _ {w : ℕ} {config : Config} {mail mail' : AccessMessages w} {s s' : Sta
       letting : (d : ℕ) → ((s'.block n).pair d).letting ≡ ((s.block n).pair d).letting
       letting d = cc (
         new,
-        set-part (λ p. p.letting) q (after_grant_sent gift ((s.block n).pair q))
-            (set c (after_report r was) (s.block n).pair)
-            (sym (set-part (λ p. p.letting) c (after_report r was) (s.block n).pair refl q)) d,
+        set-part (λ p. p.letting) q (after_grant_sent gift ((s.block n).pair q)) (set c (after_report r was)
+            (s.block n).pair) (sym (set-part (λ p. p.letting) c (after_report r was) (s.block n).pair refl q)) d,
         set-part (λ p. p.letting) c (after_report r was) (s.block n).pair refl d,
       )
 

@@ -59,9 +59,8 @@ module _ {w : ℕ} {config : Config} {mail mail' : AccessMessages w} {s s' : Sta
       → IsBlockNoMore taking
   block-alike pairs service =
       let probes = total-le number (λ d. pair_weight size left' n d ((s'.block n).pair d))
-      (λ d. pair_weight size left n d ((s.block n).pair d))
-      (λ d lt. pair-stays taking d n (ap (λ (p : ℕ → ClientBlock). (p d).probing) pairs)
-      (ap (λ (p : ℕ → ClientBlock). (p d).recorded) pairs)) in
+      (λ d. pair_weight size left n d ((s.block n).pair d)) (λ d lt. pair-stays taking d n
+      (ap (λ (p : ℕ → ClientBlock). (p d).probing) pairs) (ap (λ (p : ℕ → ClientBlock). (p d).recorded) pairs)) in
       record {
         serves = λ d i e f. probes;
         acquires = λ d i e f. acquire-stays taking d n (wants-used showing.before d i n e)
@@ -136,9 +135,8 @@ module _ {w : ℕ} {config : Config} {mail mail' : AccessMessages w} {s s' : Sta
         → IsLeft size left' answer s' → AreAsBefore s'.uses s.uses → AreAsBefore s'.lets s.lets
         → AreNoMore s'.link s.link → Falls taking
     acquire-served-falls source at k wide narrow sixteen waits used some is uses lets acks =
-        request-falls taking
-        (come-into-service (λ d. each d (cases_eq d c)))
-        c source opened (λ d i ne. uses d i) lets acks (rw (uses c source, used) less)
+        request-falls taking (come-into-service (λ d. each d (cases_eq d c))) c source opened
+        (λ d i ne. uses d i) lets acks (rw (uses c source, used) less)
       where
         opened : s.uses c source ≡ SourceFree → ⊥
         opened e = absurd (let both : Acquires n ≡ SourceFree = sym used ∙ e in cc)

@@ -39,9 +39,8 @@ granted_unserved q d =
 -- an Acquire has one source
 acquired_with : {caching : ℕ → Bool} {s : State (List ℕ)} (n c i : ℕ) → IsInvariant caching s → s.uses c i ≡ Acquires n
     → i ≡ (s.block n).source c
-acquired_with {s} n c i inv e =
-    eqb-true i ((s.block n).source c) (and_right (is_wanting ((s.block n).pair c).acquiring) (i == (s.block n).source c)
-    (cc (inv.named.acquires c i n, e, same_number n)))
+acquired_with {s} n c i inv e = eqb-true i ((s.block n).source c) (and_right (is_wanting ((s.block n).pair c).acquiring)
+    (i == (s.block n).source c) (cc (inv.named.acquires c i n, e, same_number n)))
 
 module _ {w : ℕ} {config : Config} {mail mail' : AccessMessages w} {s s' : State (List ℕ)}
     (taking : Taking config mail mail' s s') where
@@ -162,8 +161,7 @@ module _ {w : ℕ} {config : Config} {mail mail' : AccessMessages w} {s s' : Sta
       → ((s.block n).pair c).letting ≡ ReleaseAcked → s'.block n ≡ let_go_block c (s.block n)
       → AreAsBefore s'.uses s.uses → AreElsewhere c source s'.lets s.lets → AreNoMore s'.link s.link → Falls taking
   release-ack-falls source used gone acked new uses unlike acks =
-      release-falls taking block c source
-      n used uses unlike acks (rw (gone, used, acked) (omega arith))
+      release-falls taking block c source n used uses unlike acks (rw (gone, used, acked) (omega arith))
     where
       was : ClientBlock
       was = (s.block n).pair c
@@ -179,10 +177,9 @@ module _ {w : ℕ} {config : Config} {mail mail' : AccessMessages w} {s s' : Sta
       other d ne = ap (λ (f : ℕ → ClientBlock). f d) pairs ∙ set-other c d (after_release_ack was) (s.block n).pair ne
 
       probes : probes_weight number size left' n (s'.block n) ≤ probes_weight number size left n (s.block n)
-      probes = total-le number (λ d. pair_weight size left' n d ((s'.block n).pair d))
-          (λ d. pair_weight size left n d ((s.block n).pair d))
-          (λ d lt. pair-stays taking d n (kept_at taking (λ p. p.probing) (after_release_ack was) refl pairs
-          d) (kept_at taking (λ p. p.recorded) (after_release_ack was) refl pairs d))
+      probes = total-le number (λ d. pair_weight size left' n d ((s'.block n).pair d)) (λ d. pair_weight size left n d
+          ((s.block n).pair d)) (λ d lt. pair-stays taking d n (kept_at taking (λ p. p.probing)
+          (after_release_ack was) refl pairs d) (kept_at taking (λ p. p.recorded) (after_release_ack was) refl pairs d))
 
       letting : (d : ℕ) → (d ≡ c) ⊎ (d ≡ c → ⊥) → letting_weight (left' d Release n) ((s'.block n).pair d).letting
           ≤ letting_weight (left d Release n) ((s.block n).pair d).letting
@@ -203,12 +200,10 @@ module _ {w : ℕ} {config : Config} {mail mail' : AccessMessages w} {s s' : Sta
       → length (s'.link c).e + 1 ≤ length (s.link c).e → Falls taking
   grant-ack-falls q lt taken new uses lets acks less =
       let free : (s'.block n).service ≡ Free = ap (λ (b : Block (List ℕ)). b.service) new in
-      let block : IsBlockNoMore taking =
-      record {
+      let block : IsBlockNoMore taking = record {
         serves = λ d i e f. absurd (nobody-serving n d i showing.before (ap is_for_access taken) e);
-        acquires = λ d i e f. unserved-stays taking d i n e f
-            (ap (λ (u : Service). is_unserved (view u d)) taken ∙ granted_unserved q d)
-            (ap (λ (u : Service). is_unserved (view u d)) free);
+        acquires = λ d i e f. unserved-stays taking d i n e f (ap (λ (u : Service). is_unserved (view u d)) taken
+            ∙ granted_unserved q d) (ap (λ (u : Service). is_unserved (view u d)) free);
         lets = λ d i e f. let-stays taking d n (ap (λ (b : Block (List ℕ)). (b.pair d).letting) new);
       } in
       acknowledged-falls taking block c

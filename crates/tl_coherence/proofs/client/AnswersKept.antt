@@ -121,12 +121,9 @@ unanswered source request answer u e = tt
 -- a source whose use is now another that is no answer's, whatever its request
 answered-used : {w : ℕ} (c source : ℕ) (u : SourceState) (mail : AccessMessages w) (s s' : State (List ℕ))
     → is_unanswered u ≡ true → s'.uses ≡ set_at c source u s.uses → AreAnswered mail s → AreAnswered mail s'
-answered-used c source u mail s s' none uses h =
-    answered-at c source mail mail s s' (λ d i other. (
-      refl,
-      refl,
-      ap (λ (f : ℕ → ℕ → SourceState). f d i) uses ∙ set_at-apart c source u s.uses d i other,
-    )) (unanswered source (mail.request c source) (mail.answer c source) (s'.uses c source)
+answered-used c source u mail s s' none uses h = answered-at c source mail mail s s'
+    (λ d i other. (refl, refl, ap (λ (f : ℕ → ℕ → SourceState). f d i) uses ∙ set_at-apart c source u s.uses d i other))
+    (unanswered source (mail.request c source) (mail.answer c source) (s'.uses c source)
     (ap is_unanswered (ap (λ (f : ℕ → ℕ → SourceState). f c source) uses ∙ set_at-same c source u s.uses) ∙ none)) h
 
 -- an access that is answered
@@ -154,9 +151,8 @@ pub answered-asked : {w : ℕ} (c : ℕ) (o : Op w) (r : Reply) (h : AbstractSta
     → AreAnswered (asked c o r h).mail (asked c o r h).state
 answered-asked c (Op.Acquire n g) (Reply.Started source) h all = answered-used c source (Acquires n) h.mail h.state
     (asked c (Op.Acquire n g) (Reply.Started source) h).state refl refl all
-answered-asked c (Op.AcquireWhole n bytes) (Reply.Started source) h all =
-    answered-used c source (Acquires n) h.mail h.state (asked c (Op.AcquireWhole n bytes) (Reply.Started source)
-    h).state refl refl all
+answered-asked c (Op.AcquireWhole n bytes) (Reply.Started source) h all = answered-used c source
+    (Acquires n) h.mail h.state (asked c (Op.AcquireWhole n bytes) (Reply.Started source) h).state refl refl all
 answered-asked {w} c (Op.Access (Message.A m)) (Reply.Started source) h all =
     let h' : AbstractState w = asked c (Op.Access (Message.A m)) (Reply.Started source) h in
     answered-at c source h.mail h'.mail h.state h'.state
@@ -184,8 +180,7 @@ answered-kind_taken {w} {config} tracker c k i rest h is first =
           let due = asked-first c source rest is known in
           let same : due.request ≡ m = let both = sym due.is_it ∙ from in cc in
           answered-now c source _ h.mail h.state (access_taken c source m tracker false None rest h).state refl
-          (rw from (answers-access source m _
-          (ap (λ (x : MessageA w). is_acquire x.opcode) (sym same) ∙ due.access)
+          (rw from (answers-access source m _ (ap (λ (x : MessageA w). is_acquire x.opcode) (sym same) ∙ due.access)
           (ap (λ (x : MessageA w). x.source) (sym same) ∙ due.source_is))) is.answered;
       access_served = λ source m j known from caps some. used c source (InService (block_at m.address))
           (access_taken c source m tracker true (Some j) rest h).state refl refl;

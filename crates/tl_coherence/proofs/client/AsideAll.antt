@@ -50,16 +50,14 @@ leaves-at_manager {w} config tracker c k i rest h d for inv first =
       access_served = λ source m j known from caps some. aside-block (block_at m.address) refl
           (served-aside c source tracker false j (block (block_at m.address))) (λ e. refl)
           (uses-moved c source (InService (block_at m.address)) h.state.uses (asked source known.1) refl d) (λ e. refl);
-      acquire_granted = λ n whole g known wants none. aside-block n refl
-          (entry-aside c (after_grant_sent _ ((block n).pair c)) refl refl refl refl refl refl refl) (λ e. refl)
-          (λ e. inl refl) (λ e. refl);
+      acquire_granted = λ n whole g known wants none. aside-block n refl (entry-aside c (after_grant_sent _
+          ((block n).pair c)) refl refl refl refl refl refl refl) (λ e. refl) (λ e. inl refl) (λ e. refl);
       acquire_served = λ n whole g known wants some. aside-block n refl
           (served-aside c ((block n).source c) tracker true (cap_asked (AcquireOpen whole g)) (block n)) (λ e. refl)
           (λ e. inl refl) (λ e. refl);
       probe = λ n known. absurd cc;
-      report = λ n known more. aside-block n refl
-          (entry-aside c (after_report _ ((block n).pair c)) refl refl refl refl refl refl refl) (λ e. refl)
-          (λ e. inl refl) (λ e. refl);
+      report = λ n known more. aside-block n refl (entry-aside c (after_report _
+          ((block n).pair c)) refl refl refl refl refl refl refl) (λ e. refl) (λ e. inl refl) (λ e. refl);
       report_answers = λ n q source j known last waits. aside-block n refl
           (entry-aside c (after_report _ ((block n).pair c)) refl refl refl refl refl refl refl) (λ e. refl)
           (uses-moved q source Replied h.state.uses (served n q source j waits) refl d) (λ e. refl);
@@ -79,8 +77,7 @@ leaves-at_manager {w} config tracker c k i rest h d for inv first =
     block : ℕ → Block (List ℕ)
     block = h.state.block
 
-    asked : (source : ℕ) → (h.state.link c).a ≡ packet Request source ∷ rest
-        → is_access (h.state.uses c source) ≡ true
+    asked : (source : ℕ) → (h.state.link c).a ≡ packet Request source ∷ rest → is_access (h.state.uses c source) ≡ true
     asked source known = asked_access (h.state.uses c source) (ap is_asked (first-request inv known))
 
     served : (n q source : ℕ) (j : Cap) → (block n).service ≡ Waits q false source j

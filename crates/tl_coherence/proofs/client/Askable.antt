@@ -43,9 +43,8 @@ acquires_something w (AcquireOpen false g) source n = refl
 
 -- a source that asks for nothing is closed
 pub closed-source : {w : ℕ} (config : Config) (c : ℕ) {source : ℕ} (mail : AccessMessages w) (s : State (List ℕ))
-    → IsSourced config c source (mail.request c source) (s.uses c source)
-    → IsAnswered source (mail.request c source) (mail.answer c source) (s.uses c source)
-    → is_some (asked_by mail s c source) ≡ false → s.uses c source ≡ SourceFree
+    → IsSourced config c source (mail.request c source) (s.uses c source) → IsAnswered source (mail.request c source)
+    (mail.answer c source) (s.uses c source) → is_some (asked_by mail s c source) ≡ false → s.uses c source ≡ SourceFree
 unfolding block_message
 closed-source {w} config c {source} mail s sourced answered none = go (s.uses c source) refl sourced answered none
   where
@@ -129,9 +128,8 @@ done_may {config} {c} {terms} (Op.Release n r) {h} {e} at free =
     let idle = or_parts (pending (AcquireOf n) e.past) (pending (ReleaseOf n) e.past) free.b2 in
     let source = source_or_0 (free_release terms e.past) in (
       caches config c terms.level at.level_is (not-false (has_transfers terms.level) free.b4),
-      no_let (h.state.lets c source)
-          (sym (at.end.opened.releases source) ∙ (least_free-some (λ s. pending (ReleaseSource s) e.past) 0
-          terms.sources free.b1).0),
+      no_let (h.state.lets c source) (sym (at.end.opened.releases source)
+          ∙ (least_free-some (λ s. pending (ReleaseSource s) e.past) 0 terms.sources free.b1).0),
       calm-is ((h.state.block n).pair c).acquiring (sym (at.end.known.acquires n) ∙ idle.0),
       kept-letting ((h.state.block n).pair c).letting (sym (at.end.known.releases n) ∙ idle.1),
       swap_perms ((h.state.block n).pair c).held (prune_left r) ∙ ap (same_perm (prune_left r))

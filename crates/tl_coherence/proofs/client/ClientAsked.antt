@@ -104,9 +104,8 @@ end-release_asked {w} {c} n source r copy mail {s} {e} width begins kept end =
       lets = λ i. lets_now i is.from (cases_eq i source);
       acquiring = λ i. set-part (λ (b : Block (List ℕ)). is_wanting (b.pair c).acquiring) n new s.block
           (ap (λ (q : ClientBlock). is_wanting q.acquiring) pair_is) i;
-      asks = λ i. asks-same c i mail mail s s' refl (inl refl)
-          (λ j used. set-part (λ (b : Block (List ℕ)). (b.pair c).acquiring) n new s.block
-          (ap (λ (q : ClientBlock). q.acquiring) pair_is) j)
+      asks = λ i. asks-same c i mail mail s s' refl (inl refl) (λ j used. set-part (λ (b : Block (List ℕ)).
+          (b.pair c).acquiring) n new s.block (ap (λ (q : ClientBlock). q.acquiring) pair_is) j)
           (λ j used. set-part (λ (b : Block (List ℕ)). b.source c) n new s.block refl j);
     }
       where
@@ -205,9 +204,8 @@ end_done : {w : ℕ} {terms : EndConfig} (c : ℕ) (o : Op w) (h : AbstractState
     → AreNamed h.state → IsEndOf c h e → NotBusy terms o e → IsAfter c o h (done terms o e)
 end_done c (Op.Load address size) h {e} width named end free kept =
     end_load c address size (held_at e (block_at address)) h e end kept
-end_done c (Op.Store address size value) h {e} width named end free kept =
-    end_store c address size value (held_at e (block_at address)) h e (sym (end.known.held_is (block_at address))) end
-    kept
+end_done c (Op.Store address size value) h {e} width named end free kept = end_store c address size value
+    (held_at e (block_at address)) h e (sym (end.known.held_is (block_at address))) end kept
 end_done {terms} c (Op.Acquire n g) h {e} width named end free kept =
     let idle = or_parts (pending (AcquireOf n) e.past) (pending (ReleaseOf n) e.past) free.b2 in
     end-acquire_asked n (source_or_0 (free_request terms e.past)) false g ((h.state.block n).waiting c) h.mail

@@ -47,8 +47,7 @@ pub open-is : {w : ℕ} (source : ℕ) (t : History w) → is_acquire_beat (open
     → request_of source t ≡ open_beat source t
 open-is {w} source t some =
     let go : (b : Bool) → is_acquire_beat (cond b (request_of source t) None) ≡ true
-    → request_of source t ≡ cond b (request_of source t) None = elim [ true ↦ λ e. refl | false ↦ λ e. absurd cc ]
-    in
+    → request_of source t ≡ cond b (request_of source t) None = elim [ true ↦ λ e. refl | false ↦ λ e. absurd cc ] in
     go (pending (RequestSource source) t) some
 
 coming_is : {w : ℕ} (asked : ℕ → Option (BeatA w)) (n : ℕ) (rest : List (Beat w)) (t : History w) → IsGranting rest t
@@ -179,14 +178,13 @@ pub asks-same : {w : ℕ} (c source : ℕ) (mail mail' : AccessMessages w) (s s'
     → asked_by mail' s' c source ≡ asked_by mail s c source
 asks-same {w} c source mail mail' s s' request (inl same) a b =
     cc (same, request, acquires_same (s.uses c source) (mail.request c source) s.block s'.block c a b)
-asks-same {w} c source mail mail' s s' request (inr both) a b =
-    cc (
-      access_asks (s'.uses c source) (mail'.request c source) both.1
-          (block_message Acquire c (block_used (s'.uses c source)) (s'.block (block_used (s'.uses c source)))),
-      request,
-      access_asks (s.uses c source) (mail.request c source) both.0
-          (block_message Acquire c (block_used (s.uses c source)) (s.block (block_used (s.uses c source)))),
-    )
+asks-same {w} c source mail mail' s s' request (inr both) a b = cc (
+  access_asks (s'.uses c source) (mail'.request c source) both.1
+      (block_message Acquire c (block_used (s'.uses c source)) (s'.block (block_used (s'.uses c source)))),
+  request,
+  access_asks (s.uses c source) (mail.request c source) both.0
+      (block_message Acquire c (block_used (s.uses c source)) (s.block (block_used (s.uses c source)))),
+)
 
 -- a source that is closed asks for nothing, and the use that is an access for it, and that of an Acquire for that
 pub asks-closed : {w : ℕ} (c source : ℕ) (mail : AccessMessages w) (s : State (List ℕ)) → s.uses c source ≡ SourceFree

@@ -24,9 +24,8 @@ end-probe_taken {w} {c} n k rest mail {s} {e} width well end =
       acquiring = λ i. refl;
       letting = λ i. refl;
       lets = λ i. refl;
-      asks = λ i. asks-same c i mail mail s s' refl (inl refl)
-          (λ j used. set-part (λ (b : Block (List ℕ)). (b.pair c).acquiring) n new s.block
-          (ap (λ (q : ClientBlock). q.acquiring) pair_is) j)
+      asks = λ i. asks-same c i mail mail s s' refl (inl refl) (λ j used. set-part (λ (b : Block (List ℕ)).
+          (b.pair c).acquiring) n new s.block (ap (λ (q : ClientBlock). q.acquiring) pair_is) j)
           (λ j used. set-part (λ (b : Block (List ℕ)). b.source c) n new s.block refl j);
     } in
     record {

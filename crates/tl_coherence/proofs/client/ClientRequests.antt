@@ -26,10 +26,8 @@ asks_access : {w : ℕ} (c i : ℕ) (m : MessageA w) (mail : AccessMessages w) (
     → asked_by (record { request = set_at c m.source (Message.A m) mail.request; answer = mail.answer })
     (access_asked c m.source s) c i ≡ cond (m.source == i) (Some (a_beat_of m 0)) (asked_by mail s c i)
 asks_access {w} c i m mail s =
-    let mail' : AccessMessages w = record {
-      request = set_at c m.source (Message.A m) mail.request;
-      answer = mail.answer;
-    } in
+    let mail' : AccessMessages w =
+    record { request = set_at c m.source (Message.A m) mail.request; answer = mail.answer } in
     let s' : State (List ℕ) = access_asked c m.source s in
     elim (cases_eq i m.source) [
       | inl same ↦ ap (asked_by mail' s' c) same ∙ asks-access c m.source m mail' s'
@@ -48,11 +46,9 @@ end-access_asked {w} {c} m mail {s} {e} width plain kept end =
     let s' : State (List ℕ) = access_asked c m.source s in
     let asked' : ℕ → Option (BeatA w) =
     asked_by (record { request = set_at c m.source (Message.A m) mail.request; answer = mail.answer }) s' c in
-    let same : (n : ℕ) → is_wanting ((s.block n).pair c).acquiring
-    ≡ cond (is_acquire m.opcode && (block_at m.address == n)) true (is_wanting ((s.block n).pair c).acquiring) =
-    λ n. rw plain refl in
-    let event : IsRequested c m (asked_by mail s c) asked' s s' =
-    record {
+    let same : (n : ℕ) → is_wanting ((s.block n).pair c).acquiring ≡ cond (is_acquire m.opcode
+    && (block_at m.address == n)) true (is_wanting ((s.block n).pair c).acquiring) = λ n. rw plain refl in
+    let event : IsRequested c m (asked_by mail s c) asked' s s' = record {
       held = λ n. refl;
       letting = λ n. refl;
       lets = λ source. refl;
@@ -89,11 +85,10 @@ asks_acquire {w} c n source i whole g bytes mail {s} named calm =
     elim (cases_eq i source) [
       | inl same ↦ ap (asked_by mail s' c) same ∙ asks-acquire c source n source whole g mail s'
           (set_at-same c source (Acquires n) s.uses) (ap (λ (b : Block (List ℕ)). (b.pair c).acquiring)
-          (set-same n new s.block) ∙ ap (λ (p : ClientBlock). p.acquiring)
-          (set-same c (after_acquire whole g ((s.block n).pair c)) (s.block n).pair))
-          (ap (λ (b : Block (List ℕ)). b.source c) (set-same n new s.block) ∙ set-same c source (s.block n).source)
-          ∙ sym (chosen (source == i) (Some (a_beat_of (acquisition (acquire_opcode whole) g source n) 0))
-          (asked_by mail s c i) (rw same (same_number source)))
+          (set-same n new s.block) ∙ ap (λ (p : ClientBlock). p.acquiring) (set-same c
+          (after_acquire whole g ((s.block n).pair c)) (s.block n).pair)) (ap (λ (b : Block (List ℕ)). b.source c)
+          (set-same n new s.block) ∙ set-same c source (s.block n).source) ∙ sym (chosen (source == i) (Some (a_beat_of
+          (acquisition (acquire_opcode whole) g source n) 0)) (asked_by mail s c i) (rw same (same_number source)))
       | inr other ↦ asks-same c i mail mail s s' refl (inl (set_at-else c source i (Acquires n) s.uses other c))
           (λ j used. ap (λ (b : Block (List ℕ)). (b.pair c).acquiring) (set-other n j new s.block (apart j used)))
           (λ j used. ap (λ (b : Block (List ℕ)). b.source c) (set-other n j new s.block (apart j used)))
@@ -152,11 +147,10 @@ end-acquire_asked {w} {c} n source whole g bytes mail {s} {e} {f} width named id
 
     go : (i : ℕ) → is_whole (((s'.block i).pair c).acquiring) ≡ true → (i ≡ n) ⊎ (i ≡ n → ⊥)
         → f.waiting i ≡ Some ((s'.block i).waiting c)
-    go i storing (inl same) =
-        ap f.waiting same ∙ here (sym (ap (λ (b : Block (List ℕ)). is_whole (b.pair c).acquiring) (ap s'.block same
-        ∙ set-same n new s.block) ∙ ap (λ (p : ClientBlock). is_whole p.acquiring) pair_is) ∙ storing) ∙ ap Some
-        (sym (ap (λ (b : Block (List ℕ)). b.waiting c) (ap s'.block same ∙ set-same n new s.block) ∙ set-same c
-        bytes (s.block n).waiting))
+    go i storing (inl same) = ap f.waiting same ∙ here (sym (ap (λ (b : Block (List ℕ)). is_whole (b.pair c).acquiring)
+        (ap s'.block same ∙ set-same n new s.block) ∙ ap (λ (p : ClientBlock). is_whole p.acquiring) pair_is) ∙ storing)
+        ∙ ap Some (sym (ap (λ (b : Block (List ℕ)). b.waiting c)
+        (ap s'.block same ∙ set-same n new s.block) ∙ set-same c bytes (s.block n).waiting))
     go i storing (inr other) =
         let old : s'.block i ≡ s.block i = set-other n i new s.block other in
         others i other ∙ end.waiting i (cc) ∙ ap Some (sym (ap (λ (b : Block (List ℕ)). b.waiting c) old))

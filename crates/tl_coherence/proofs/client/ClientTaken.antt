@@ -109,9 +109,8 @@ end-release_ack_taken {w} {c} n x rest mail {s} {e} {f} is last plain acks from 
         swapped k n,
       );
       lets = λ i. lets_now i (cases_eq i ((s.block n).release_source c));
-      asks = λ i. asks-same c i mail mail s s' refl (inl refl)
-          (λ j used. set-part (λ (b : Block (List ℕ)). (b.pair c).acquiring) n new s.block
-          (ap (λ (q : ClientBlock). q.acquiring) pair_is) j)
+      asks = λ i. asks-same c i mail mail s s' refl (inl refl) (λ j used. set-part (λ (b : Block (List ℕ)).
+          (b.pair c).acquiring) n new s.block (ap (λ (q : ClientBlock). q.acquiring) pair_is) j)
           (λ j used. set-part (λ (b : Block (List ℕ)). b.source c) n new s.block refl j);
     } in
     let echo : IsEcho x e.past f.past = rw (ap (λ (g : Endpoint w). g.past) is) (echo-none x e.past) in
@@ -183,9 +182,8 @@ grant_end {w} data_too x r payload e f opcode is =
     let before : Endpoint w = with_past (Beat.D x ∷ e.past) e in
     let g : Endpoint w = granted x.opcode (Some r) payload before in
     let does = granted_is x.opcode (Some r) payload before in
-    let sends : f ≡ sending (grant_ack x.sink) g =
-    is ∙ ended_end x.opcode data_too x (finish_of w x.opcode x.param x.size (address_asked (Some r)) payload) g
-    opcode in
+    let sends : f ≡ sending (grant_ack x.sink) g = is ∙ ended_end x.opcode data_too x
+    (finish_of w x.opcode x.param x.size (address_asked (Some r)) payload) g opcode in
     record {
       past_is = cc (sends, does.same_past);
       same_closed = ap (λ (h : Endpoint w). h.closed) sends ∙ does.same_closed;
@@ -227,8 +225,7 @@ end-grant_taken {w} {c} {n} {whole} {data_too} {g} {k} {x} {payload} rest mail {
       asks = λ i. asks_now i (cases_eq i source);
     } in
     let echo : IsEcho x e.past f.past =
-    subst (IsEcho x e.past) (sym does.past_is) (echo-e x (record { sink = x.sink }) e.past width end.kept.e_whole)
-    in
+    subst (IsEcho x e.past) (sym does.past_is) (echo-e x (record { sink = x.sink }) e.past width end.kept.e_whole) in
     record {
       known = known-heard echo well event end.known;
       opened = opened-heard echo event end.opened;
@@ -256,8 +253,7 @@ end-grant_taken {w} {c} {n} {whole} {data_too} {g} {k} {x} {payload} rest mail {
 
     -- no other source is of the block
     apart : (i j : ℕ) → (i ≡ source → ⊥) → s.uses c i ≡ Acquires j → j ≡ n → ⊥
-    apart i j ne used same =
-        ne (eqb-true i source (and_right (is_wanting ((s.block n).pair c).acquiring) (i == source)
+    apart i j ne used same = ne (eqb-true i source (and_right (is_wanting ((s.block n).pair c).acquiring) (i == source)
         (sym (named.acquires c i n) ∙ (ap (acquires_of n) (used ∙ ap Acquires same) ∙ same_number n))))
 
     asks_now : (i : ℕ) → (i ≡ source) ⊎ (i ≡ source → ⊥) → asked_by mail s' c i ≡ cond (x.source == i) None

@@ -33,22 +33,16 @@ terms-are config c terms e = go (slice_get config.clients.items c) refl
     some_is x y f = cc
 
     go : (o : Option ClientConfig) → slice_get config.clients.items c ≡ o → AreTermsOf config c terms
-    go None f = absurd (let no : None ≡ Some terms = sym
-        (ap (option_map (λ (x : ClientConfig). record {
-          level = x.level;
-          profile = config.profile;
-          sources = x.sources;
-          blocks = config.blocks;
-        })) f) ∙ e in cc)
+    go None f = absurd (let no : None ≡ Some terms = sym (ap (option_map (λ (x : ClientConfig). record {
+      level = x.level;
+      profile = config.profile;
+      sources = x.sources;
+      blocks = config.blocks;
+    })) f) ∙ e in cc)
     go (Some x) f =
         let is : record { level = x.level; profile = config.profile; sources = x.sources; blocks = config.blocks }
-        ≡ terms = some_is (record {
-          level = x.level;
-          profile = config.profile;
-          sources = x.sources;
-          blocks =
-              config.blocks;
-        }) terms
+        ≡ terms = some_is
+        (record { level = x.level; profile = config.profile; sources = x.sources; blocks = config.blocks }) terms
         (sym (ap (option_map (λ (y : ClientConfig). record {
           level = y.level;
           profile = config.profile;

@@ -70,9 +70,8 @@ given-asked {caching} p c (Op.AcquireWhole n bytes) (Reply.Started source) h inv
     given-set p n (acquiring_block c source true g bytes (h.state.block n)) h.state given
     (given-acquiring p c true g (h.state.block n).service (h.state.block n).pair (not_granting c n inv may.2) (given n))
 given-asked p c (Op.Release n r) (Reply.Started source) h inv may given =
-    given-set p n (releasing_block c source r (h.state.block n)) h.state given
-    (given-pair p (h.state.block n).service c (after_release r ((h.state.block n).pair c)) (h.state.block n).pair refl
-    (given n))
+    given-set p n (releasing_block c source r (h.state.block n)) h.state given (given-pair p (h.state.block n).service c
+    (after_release r ((h.state.block n).pair c)) (h.state.block n).pair refl (given n))
 given-asked p c (Op.Access (Message.A m)) (Reply.Started source) h inv may given = given
 given-asked p c o r h inv may given = given
 

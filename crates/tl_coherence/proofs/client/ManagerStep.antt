@@ -46,8 +46,7 @@ pub asked_ends : {w : ℕ} {config : Config} {log : Log w} {mail : AccessMessage
 asked_ends {w} {config} {log} {mail} {request} {s} {sys} terms c k o width h =
     let a : ask.Asked w = ask.asked terms o (sys.clients c) in
     let now : (i : ℕ) → (replied c a sys).after.clients i ≡ (with_client c a.after sys).clients i =
-    λ i. ap (λ (f : ℕ → Endpoint w). f i)
-    (clients-with_messages (handed_by c a.message) (with_client c a.after sys)) in
+    λ i. ap (λ (f : ℕ → Endpoint w). f i) (clients-with_messages (handed_by c a.message) (with_client c a.after sys)) in
     elim (cases_eq k c) [
       | inl same ↦ rw same (rw (now c ∙ own_client c a.after sys)
           (end-asked terms c o (shadow_of mail request s) (sys.clients c) width h.invariant.named (end-matched h c)))

@@ -57,11 +57,8 @@ else_answer : {w : ℕ} {config : Config} {log : Log w} {mail : AccessMessages w
     → IsElse n (asked_by mail s c) (mail.answer c i)
 unfolding IsElse
 else_answer {config} {mail} {s} c n i rest h first =
-    let due = answer-due (is_caching config) c i rest mail s h.invariant (h.answered c i) first in (
-      due.answer,
-      due.answer_is,
-      rw (access_kind due.answer.opcode due.answers_access).0 refl,
-    )
+    let due = answer-due (is_caching config) c i rest mail s h.invariant (h.answered c i) first in
+    (due.answer, due.answer_is, rw (access_kind due.answer.opcode due.answers_access).0 refl)
 
 else_grant : {w : ℕ} {config : Config} {log : Log w} {mail : AccessMessages w} {request : ℕ → MessageA w}
     {s : State (List ℕ)} {sys : System w} (c n i : ℕ)
@@ -132,9 +129,8 @@ stalls : {w : ℕ} (terms : EndConfig) (x : Beat w) (e : Endpoint w) → broken_
     → waits x e.past ≡ true → offered terms Channel.B x e ≡ silent Verdict.Stalled e
 unfolding offered
 stalls {w} terms x e lawful held =
-    let judged_none : (o : Option Rule) → o ≡ None
-    → judged o terms x e ≡ cond (waits x e.past) (silent Verdict.Stalled e)
-    (judged_later (broken_later terms x e) x e) = λ o f. rw f refl in
+    let judged_none : (o : Option Rule) → o ≡ None → judged o terms x e ≡ cond (waits x e.past)
+    (silent Verdict.Stalled e) (judged_later (broken_later terms x e) x e) = λ o f. rw f refl in
     let stalled : (b : Bool) → b ≡ true → cond b (silent Verdict.Stalled e) (judged_later (broken_later terms x e) x e)
     ≡ silent Verdict.Stalled e = λ b f. rw f refl in
     judged_none (broken_before terms Channel.B x e) lawful ∙ stalled (waits x e.past) held

@@ -44,10 +44,8 @@ pub grant-legal : {w : ℕ} (p : Profile) (n : ℕ) {x : BeatD w} {r : BeatA w} 
     → block_at r.address ≡ n → fits_grow p r.opcode r.param x.param ≡ true
     → (is_grant_without_data x.opcode && (is_acquire_block r.opcode && not (same_perm (held n t) Perm.Branch))) ≡ false
     → pending (ProbeOf n) t ≡ false → pending (GrantSink x.sink) t ≡ false → broken_in_order p (Beat.D x) t ≡ None
-grant-legal {w} p n {x} {r} {t} is block fits carried unprobed once =
-    begun p x t is.whole (asked_for is) (size_for is)
-    (never (is_grant x.opcode) (rw (is.request, block, fits, carried, unprobed) refl))
-    (never (is_grant x.opcode) once)
+grant-legal {w} p n {x} {r} {t} is block fits carried unprobed once = begun p x t is.whole (asked_for is) (size_for is)
+    (never (is_grant x.opcode) (rw (is.request, block, fits, carried, unprobed) refl)) (never (is_grant x.opcode) once)
   where
     never : (a : Bool) {b : Bool} → b ≡ false → (a && b) ≡ false
     never true e = e

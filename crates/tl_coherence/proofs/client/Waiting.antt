@@ -118,8 +118,7 @@ acquiring-acquired : {w : ℕ} {caching : ℕ → Bool} (c n source : ℕ) (whol
     → ((h.state.block n).pair c).acquiring ≡ NoAcquire → AreAcquired h.request h.state.block
     → AreAcquired h.request (set n (acquiring_block c source whole g bytes (h.state.block n)) h.state.block)
 acquiring-acquired {w} c n source whole g bytes h inv calm is =
-    let keeps : KeepsOpen b (acquiring_block c source whole g bytes b) =
-    λ r from k e. (
+    let keeps : KeepsOpen b (acquiring_block c source whole g bytes b) = λ r from k e. (
       ap (λ (p : ClientBlock). p.acquiring) (set-other c r (after_acquire whole g (b.pair c)) b.pair
           (apart r from k e)),
       set-other c r source b.source (apart r from k e),
@@ -138,17 +137,15 @@ acquiring-acquired {w} c n source whole g bytes h inv calm is =
 pub asked-acquired : {w : ℕ} {caching : ℕ → Bool} (c : ℕ) (o : Op w) (r : Reply) (h : AbstractState w)
     → IsInvariant caching h.state → IsAskable caching c o r h
     → AreAcquired h.request h.state.block → AreAcquired (asked c o r h).request (asked c o r h).state.block
-asked-acquired c (Op.Store address size value) Reply.Stored h inv may is =
-    unmoved (block_at address)
+asked-acquired c (Op.Store address size value) Reply.Stored h inv may is = unmoved (block_at address)
     (stored_block c (copy_stored address size value ((h.state.block (block_at address)).copy c))
     (h.state.block (block_at address))) h.state.block h.request refl (λ r from k e. (refl, refl)) is
 asked-acquired {caching} c (Op.Acquire n g) (Reply.Started source) h inv may is =
     acquiring-acquired c n source false g ((h.state.block n).waiting c) h inv may.2 is
 asked-acquired {caching} c (Op.AcquireWhole n bytes) (Reply.Started source) h inv may is =
     acquiring-acquired c n source true (whole_grow ((h.state.block n).pair c).held) bytes h inv may.2 is
-asked-acquired c (Op.Release n p) (Reply.Started source) h inv may is =
-    unmoved n (releasing_block c source p (h.state.block n)) h.state.block h.request refl
-    (unwanting c (after_release p ((h.state.block n).pair c)) (h.state.block n)
-    (releasing_block c source p (h.state.block n)) (λ d. refl) refl (λ d. refl)) is
+asked-acquired c (Op.Release n p) (Reply.Started source) h inv may is = unmoved n (releasing_block c source p
+    (h.state.block n)) h.state.block h.request refl (unwanting c (after_release p ((h.state.block n).pair c))
+    (h.state.block n) (releasing_block c source p (h.state.block n)) (λ d. refl) refl (λ d. refl)) is
 asked-acquired c (Op.Access (Message.A m)) (Reply.Started source) h inv may is = is
 asked-acquired c o r h inv may is = is

@@ -63,9 +63,8 @@ rendered_releasing {w} c n source p b =
     rw (set-same c (after_release p (b.pair c)) b.pair, set-same c source b.release_source) refl
 
 abbrev CarriesAsked : {w : ℕ} → Config → ℕ → AbstractState w → System w → Op w → Reply → Type 0
-CarriesAsked {w} config c h sys o r = (m : Option (Message w)) (e : client.Endpoint w)
-    → IsAskable (is_caching config) c o r h
-    → IsInvariant (is_caching config) (asked c o r h).state → IsHandedOut c o r h m
+CarriesAsked {w} config c h sys o r = (m : Option (Message w)) (e : client.Endpoint w) → IsAskable
+    (is_caching config) c o r h → IsInvariant (is_caching config) (asked c o r h).state → IsHandedOut c o r h m
     → IsHanded (pushes_at c (pushes_of m)) sys (with_messages (handed_by c m) (with_client c e sys))
     → ChannelRelation (asked c o r h).mail (asked c o r h).state (with_messages (handed_by c m) (with_client c e sys))
 
@@ -74,14 +73,12 @@ carried_asked : {w : ℕ} {config : Config} {log : Log w} (h : AbstractState w) 
     → SimulationRelation config log h.mail h.request h.state sys → IsReply o r → CarriesAsked config c h sys o r
 carried_asked {w} {config} h {sys} c o r width is may_be =
     let stored : (address size value : ℕ) → CarriesAsked config c h sys (Op.Store address size value) Reply.Stored =
-    λ address size value m e may inv handed queued. carried_as m None _ _ e handed
-    (block_stored-carried c (block_at address) _ h.mail width is.invariant inv
-    (none-carried (is.invariant.blocks (block_at address))
+    λ address size value m e may inv handed queued. carried_as m None _ _ e handed (block_stored-carried c
+    (block_at address) _ h.mail width is.invariant inv (none-carried (is.invariant.blocks (block_at address))
     (low (block_at address) may)) (handed_as m None e handed queued) is.carried) in
     let acquires : (n : ℕ) (g : Grow) (source : ℕ)
     → CarriesAsked config c h sys (Op.Acquire n g) (Reply.Started source) =
-    λ n g source m e may inv handed queued. carried_as m _ _ _ e handed
-    (acquire_asked-carried c n source false g _
+    λ n g source m e may inv handed queued. carried_as m _ _ _ e handed (acquire_asked-carried c n source false g _
     (Message.A (acquisition OpA.AcquireBlock g source n)) h.mail width is.invariant inv may.2 refl
     (rendered_acquiring c n source false g _ (s.block n)) (handed_as m _ e handed queued) is.carried) in
     let stores : (n : ℕ) (bytes : List ℕ) (source : ℕ) → CarriesAsked config c h sys (Op.AcquireWhole n bytes)
@@ -92,10 +89,9 @@ carried_asked {w} {config} h {sys} c o r width is may_be =
     (s.block n)) (handed_as m _ e handed queued) is.carried) in
     let releases : (n : ℕ) (p : Prune) (source : ℕ)
     → CarriesAsked config c h sys (Op.Release n p) (Reply.Started source) =
-    λ n p source m e may inv handed queued. carried_as m _ _ _ e handed
-    (release_asked-carried c n source p (release p source n (s.block n).truth) h.mail
-    width is.invariant inv may.3 (release_channel w p source n (s.block n).truth)
-    (rendered_releasing c n source p (s.block n)) (handed_as m _ e handed queued) is.carried) in
+    λ n p source m e may inv handed queued. carried_as m _ _ _ e handed (release_asked-carried c n source p
+    (release p source n (s.block n).truth) h.mail width is.invariant inv may.3 (release_channel w p source n
+    (s.block n).truth) (rendered_releasing c n source p (s.block n)) (handed_as m _ e handed queued) is.carried) in
     let accesses : (x : MessageA w) (source : ℕ) → CarriesAsked config c h sys (Op.Access (Message.A x))
     (Reply.Started source) = λ x source m e may inv handed queued. carried_as m _ _ _ e handed
     (access_asked-carried c source (access source x) h.mail width is.invariant inv may
@@ -119,9 +115,8 @@ carried_asked {w} {config} h {sys} c o r width is may_be =
         → (same_perm ((s.block n).pair d).held Perm.Trunk || same_perm ((s.block n).pair d).recorded Perm.None) ≡ true
     low n trunk d = elim (cases_eq d c) [
       | inl same ↦ rw (same, trunk) refl
-      | inr other ↦ or_right (same_perm ((s.block n).pair d).held Perm.Trunk)
-          (same_perm ((s.block n).pair d).recorded Perm.None) ((is.invariant.blocks n).one_owner c d (owned n trunk)
-          other)
+      | inr other ↦ or_right (same_perm ((s.block n).pair d).held Perm.Trunk) (same_perm
+          ((s.block n).pair d).recorded Perm.None) ((is.invariant.blocks n).one_owner c d (owned n trunk) other)
     ]
       where
         owned : (n : ℕ) → same_perm ((s.block n).pair c).held Perm.Trunk ≡ true
@@ -156,9 +151,8 @@ pub none_answered : {w : ℕ} (c : ℕ) (o : Op w) (r : Reply) (h : AbstractStat
     → IsHandedOut c o r h m → accesses_answered (handed_by c m) ≡ []
 unfolding accesses_answered
 none_answered {w} c o r h m may_be =
-    let released : (p : Prune) (source n : ℕ) (bytes : List ℕ) → m ≡ Some (release p source n bytes)
-    → accesses_answered (handed_by c m) ≡ [] =
-    elim [ Prune.TtoB ↦ λ source n bytes e. rw e refl | p ↦ λ source n bytes e. rw e refl ] in
+    let released : (p : Prune) (source n : ℕ) (bytes : List ℕ) → m ≡ Some (release p source n bytes) → accesses_answered
+    (handed_by c m) ≡ [] = elim [ Prune.TtoB ↦ λ source n bytes e. rw e refl | p ↦ λ source n bytes e. rw e refl ] in
     let none : m ≡ None → accesses_answered (handed_by c m) ≡ [] = λ e. rw e refl in
     let one_a : (x : MessageA w) → m ≡ Some (Message.A x) → accesses_answered (handed_by c m) ≡ [] = λ x e. rw e refl in
     reply-cases (λ i j. IsHandedOut c i j h m → accesses_answered (handed_by c m) ≡ []) o r may_be

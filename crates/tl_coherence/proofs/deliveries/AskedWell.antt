@@ -74,14 +74,8 @@ asked-well {w} config log h sys c terms o width is known = asked-cases terms o e
 
     load_well : (address size : ℕ) (p : Perm) → ((s.block (block_at address)).pair c).held ≡ p
         → is_word address size ≡ true → IsAskedWell config c (Op.Load address size) h m (load address size p e)
-    load_well address size Perm.None f word = record {
-      may = tt;
-      word = tt;
-      source = tt;
-      reply = tt;
-      replies = refl;
-      message = refl;
-    }
+    load_well address size Perm.None f word =
+        record { may = tt; word = tt; source = tt; reply = tt; replies = refl; message = refl }
     load_well address size Perm.Branch f word =
         let read : (address size : ℕ) → is_word address size ≡ true → same_perm ((s.block (block_at address)).pair
         c).held Perm.None ≡ false → IsAskedWell config c (Op.Load address size) h m (only (Reply.Value (loaded
@@ -117,14 +111,8 @@ asked-well {w} config log h sys c terms o width is known = asked-cases terms o e
     store_well address size value Perm.Trunk f word =
         let trunk = ap (λ p. same_perm p Perm.Trunk) f in
         record { may = trunk; word = (word, trunk); source = tt; reply = tt; replies = tt; message = refl }
-    store_well address size value p f word = record {
-      may = tt;
-      word = tt;
-      source = tt;
-      reply = tt;
-      replies = refl;
-      message = refl;
-    }
+    store_well address size value p f word =
+        record { may = tt; word = tt; source = tt; reply = tt; replies = refl; message = refl }
 
     -- an access that starts breaks no rule
     access_sent : (x : MessageA w) → NotBusy terms (Op.Access (Message.A x)) e
@@ -141,12 +129,10 @@ asked-well {w} config log h sys c terms o width is known = asked-cases terms o e
         )
 
     well : (i : Op w) → NotBusy terms i e → IsAskedWell config c i h m (done terms i e)
-    well (Op.Load address size) free =
-        rw (held_is (block_at address)) (load_well address size ((s.block (block_at address)).pair c).held refl
-        (formed (Op.Load address size) free))
-    well (Op.Store address size value) free =
-        rw (held_is (block_at address)) (store_well address size value ((s.block (block_at address)).pair c).held refl
-        (formed (Op.Store address size value) free))
+    well (Op.Load address size) free = rw (held_is (block_at address))
+        (load_well address size ((s.block (block_at address)).pair c).held refl (formed (Op.Load address size) free))
+    well (Op.Store address size value) free = rw (held_is (block_at address)) (store_well address size value
+        ((s.block (block_at address)).pair c).held refl (formed (Op.Store address size value) free))
     well (Op.Acquire n g) free =
         let closed = free_source free.b1 in
         let still = transfers n free.b2 in
@@ -172,9 +158,8 @@ asked-well {w} config log h sys c terms o width is known = asked-cases terms o e
           message = cc (held_is n);
         }
     well (Op.Release n p) free =
-        let unlet : (source : ℕ) → s.lets c source ≡ None → m.opened c Releases source ≡ None =
-        λ source none. subst (λ (l : Option ℕ). IsLet l (m.opened c Releases source)) none
-        (is.beside.releases c source) in
+        let unlet : (source : ℕ) → s.lets c source ≡ None → m.opened c Releases source ≡ None = λ source none. subst
+        (λ (l : Option ℕ). IsLet l (m.opened c Releases source)) none (is.beside.releases c source) in
         let source = source_or_0 (free_release terms e.past) in
         let open_ = (least_free-some (λ i. pending (ReleaseSource i) e.past) 0 terms.sources free.b1).0 in
         let none = no_let (s.lets c source) (sym ((is.opened c).releases source) ∙ open_) in

@@ -48,14 +48,8 @@ pub record IsAskedWell {w : ℕ} (config : Config) (c : ℕ) (o : Op w) (h : Abs
 
 pub busy_well : {w : ℕ} (config : Config) (c : ℕ) (o : Op w) (why : Busy) (h : AbstractState w) (m : Machine w)
     (e : Endpoint w) → IsAskedWell config c o h m (only (Reply.Busy why) e)
-busy_well config c (Op.Access (Message.A x)) why h m e = record {
-  may = tt;
-  word = tt;
-  source = tt;
-  reply = tt;
-  replies = tt;
-  message = refl;
-}
+busy_well config c (Op.Access (Message.A x)) why h m e =
+    record { may = tt; word = tt; source = tt; reply = tt; replies = tt; message = refl }
 busy_well config c o why h m e = record { may = tt; word = tt; source = tt; reply = tt; replies = tt; message = refl }
 
 -- the number that a Load reads is the one memory's

@@ -76,8 +76,7 @@ reports-last {w} {config} {log} {h} {sys} {c} n rest {x} {queue} at tokens whole
         let said : Message w = answers v (protocol.written r b.truth b.memory) in
         let for : IsFor (Waits q false source low) n v = rw f at (at.is.served.requests n) in
         carried-shown at.width (report_answers-shown c q n source r low (performs v) rest said h.mail inv later tokens f
-        (rw (serving-use n q source low inv f) refl)
-        (ended-bytes c q source r low v (inv.blocks n)
+        (rw (serving-use n q source low inv f) refl) (ended-bytes c q source r low v (inv.blocks n)
         (subst (IsWell (is_caching config)) (set-same n (ended_block c r (performs v) b) h.state.block)
         (later.blocks n)) f answered (settled_all (length config.clients.items) (is_caching config) c b.pair
         (plain-past config) (inv.blocks n).outside alone) for.0 for.3 (at.is.sized n).truth) (answer_on_d v _))
@@ -93,9 +92,8 @@ reports-last {w} {config} {log} {h} {sys} {c} n rest {x} {queue} at tokens whole
             ) ∷ [])
             → CarriesAfter config c Channel.C sys (granted_after (length config.clients.items) config.profile c q n r y
             rest h)
-        go NoAcquire g then_well one =
-            absurd (let wants = own_wants (b.pair q) (view b.service q) ((inv.blocks n).phases q)
-            (rw (f, same_number q) refl) in let none : false ≡ true = rw g at wants in cc)
+        go NoAcquire g then_well one = absurd (let wants = own_wants (b.pair q) (view b.service q)
+            ((inv.blocks n).phases q) (rw (f, same_number q) refl) in let none : false ≡ true = rw g at wants in cc)
         go (AcquireOpen whole_block grow) g then_well one =
             let d = is_granted_data whole_block grow (b.pair q).recorded in
             let gift = gift_after config c n r whole_block grow h in

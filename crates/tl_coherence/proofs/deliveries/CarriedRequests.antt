@@ -219,9 +219,8 @@ unread-bytes {w} {config} {s} c n m is access none k d =
     let unheld : (i : ℕ) → cap_probed m.opcode m.param ≡ Some Cap.ToN
     → same_perm ((s.block n).pair i).recorded Perm.None ≡ true =
     λ i all. elim (cases_lt i (length config.clients.items)) [
-      | inl lt ↦ none-above ((s.block n).pair i).recorded
-          (some-none (length config.clients.items) (λ j. is_probed c false Cap.ToN ((s.block n).pair j).recorded j)
-          (rw all at none) i lt)
+      | inl lt ↦ none-above ((s.block n).pair i).recorded (some-none (length config.clients.items)
+          (λ j. is_probed c false Cap.ToN ((s.block n).pair j).recorded j) (rw all at none) i lt)
       | inr past ↦ rw (beyond-none n is i past) refl
     ] in
     elim (leaves-bytes m (s.block n).truth access (is.sized n).truth) [
@@ -274,17 +273,14 @@ carried-request_taken {w} {config} {log} h {sys} {c} {source} {k} rest queue is 
     answered : probes_some clients c false (cap_probed m.opcode m.param) b.pair ≡ false
         → IsInvariant (is_caching config) (access_taken c source m tracker false None rest h).state
         → Carries (access_taken c source m tracker false None rest h)
-    answered none kept =
-        carried-shown comes.width (access_answered-shown c n source (performs m) rest (answers m
-        b.memory) h.mail is.invariant kept first asked.used (unread-bytes c n m is asked.access none)
-        (answer_on_d m (answer_of (Message.A m) (effect (Message.A m) (bytes_at n
-        b.memory)).1))) (taken-answering (answers m b.memory) queue sys comes beats last
-        (handed-answered is asked comes last none)) is.carried
+    answered none kept = carried-shown comes.width (access_answered-shown c n source (performs m) rest
+        (answers m b.memory) h.mail is.invariant kept first asked.used (unread-bytes c n m is asked.access none)
+        (answer_on_d m (answer_of (Message.A m) (effect (Message.A m) (bytes_at n b.memory)).1))) (taken-answering
+        (answers m b.memory) queue sys comes beats last (handed-answered is asked comes last none)) is.carried
 
     go : (p : Bool) (o : Option Cap) → probes_some clients c false (cap_probed m.opcode m.param) b.pair ≡ p
-        → cap_probed m.opcode m.param ≡ o
-        → IsInvariant (is_caching config) (access_taken c source m tracker p o rest h).state
-        → Carries (access_taken c source m tracker p o rest h)
+        → cap_probed m.opcode m.param ≡ o → IsInvariant (is_caching config)
+        (access_taken c source m tracker p o rest h).state → Carries (access_taken c source m tracker p o rest h)
     go true None f g kept = absurd (let no : false ≡ true = rw g at f in cc)
     go true (Some j) f g kept =
         let some : some_below clients (λ d. is_probed c false j (b.pair d).recorded d) ≡ true = rw g at f in

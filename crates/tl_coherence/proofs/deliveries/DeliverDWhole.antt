@@ -35,11 +35,10 @@ last_d : {w : ℕ} (config : Config) (log : Log w) (link : Link) (h : AbstractSt
     {terms : client.EndConfig} {x : Beat w} {queue : List (Beat w)} {mm : MessageD w}
     (is : IsLastBeat link.0 x queue (system_after config log) mm)
     → IsTakenByClient terms link.0 Channel.D x queue (system_after config log)
-    (stepped config (Deliver link Channel.D) (system_after config log))
-    → abstract_step config (Deliver link Channel.D) (system_after config log) h ≡ h'
-    → IsResponded link.0 x queue (system_after config log) (one_memory_after config log) is.y.source
-    (finish_at is.y ((system_after config log).clients link.0)) (acked is.y.opcode is.y.sink) h'
-    → IsDelivered config log link Channel.D h
+    (stepped config (Deliver link Channel.D) (system_after config log)) → abstract_step config (Deliver link Channel.D)
+    (system_after config log) h ≡ h' → IsResponded link.0 x queue (system_after config log)
+    (one_memory_after config log) is.y.source (finish_at is.y ((system_after config log).clients link.0))
+    (acked is.y.opcode is.y.sink) h' → IsDelivered config log link Channel.D h
 unfolding performing
 last_d {w} config log link h {h'} {x} {queue} is t same responded =
     let sys = system_after config log in
@@ -59,14 +58,13 @@ none_pushed w at true = refl
 none_pushed w at false = refl
 
 part_d : {w : ℕ} {config : Config} {log : Log w} (link : Link) (h : AbstractState w) {terms : client.EndConfig}
-    {x : Beat w} {queue : List (Beat w)} (mm : MessageD w)
-    (k : ℕ) → IsWidth w → SimulationRelation config log h.mail h.request h.state (system_after config log)
+    {x : Beat w} {queue : List (Beat w)} (mm : MessageD w) (k : ℕ) → IsWidth w
+    → SimulationRelation config log h.mail h.request h.state (system_after config log)
     → (system_after config log).channels link.0 Channel.D ≡ x ∷ queue → x ≡ Beat.D (d_beat_of mm k)
     → completes x (unfinished Channel.D ((system_after config log).clients link.0).past) ≡ false
     → IsTakenByClient terms link.0 Channel.D x queue (system_after config log)
-    (stepped config (Deliver link Channel.D) (system_after config log))
-    → abstract_step config (Deliver link Channel.D) (system_after config log) h ≡ h
-    → IsDelivered config log link Channel.D h
+    (stepped config (Deliver link Channel.D) (system_after config log)) → abstract_step config (Deliver link Channel.D)
+    (system_after config log) h ≡ h → IsDelivered config log link Channel.D h
 unfolding performing accesses_answered
 part_d {w} {config} {log} link h {terms} {x} {queue} mm k width is first x_is part t same =
     let y = d_beat_of mm k in
@@ -163,7 +161,6 @@ delivered-d {w} {config} {log} link h terms x queue width is known beats moving 
         (λ last. responded-grant h first.rest due width is tokens (bare h due is.invariant) last)
     kinds ReleaseAck n tokens own next =
         by_message ReleaseAck n (ack_message ((h.state.block n).release_source c)) tokens
-        (rendered_release_ack c n (h.state.block n)) next
-        (λ last. responded-release_ack h n first.rest width is tokens
+        (rendered_release_ack c n (h.state.block n)) next (λ last. responded-release_ack h n first.rest width is tokens
         (acked-open ((h.state.block n).pair c).letting (first-shown is.invariant c ReleaseAck refl tokens)) last)
     kinds k i tokens own next = absurd cc

@@ -91,8 +91,7 @@ landed-taken {w} {config} {c} {ch} {x} queue sys t handed pushes width kept type
 -- a beat of channel C, or of channel E, is of that channel
 -- what holds before a delivery to the manager
 pub record IsReceived {w : ℕ} (config : Config) (log : Log w) (h : AbstractState w) (sys : System w) (c : ℕ)
-    (ch : Channel)
-    (x : Beat w) (queue : List (Beat w)) : Type 0 where
+    (ch : Channel) (x : Beat w) (queue : List (Beat w)) : Type 0 where
   pub width : IsWidth w
   pub is : SimulationRelation config log h.mail h.request h.state sys
   pub beats : sys.channels c ch ≡ x ∷ queue
@@ -122,9 +121,8 @@ pub part-carried : {w : ℕ} {config : Config} {log : Log w} {h : AbstractState 
     {x : Beat w} {queue : List (Beat w)}
     → IsReceived config log h sys c ch x queue → (reaction config (record { 0 = c }) x sys.manager).handed ≡ []
     → completes x (unfinished ch (receiver ch c sys)) ≡ false → CarriesAfter config c ch sys h
-part-carried {config} {log} {h} {sys} {c} {ch} {x} {queue} at none part =
-    carried-part h.mail h.state at.width (landed-received [] no_pushes at none no-messages) (λ d i. refl) part
-    at.is.carried
+part-carried {config} {log} {h} {sys} {c} {ch} {x} {queue} at none part = carried-part h.mail h.state at.width
+    (landed-received [] no_pushes at none no-messages) (λ d i. refl) part at.is.carried
 
 -- its last beat, for which one message is handed out, or none
 pub last-quietly : {w : ℕ} {config : Config} {log : Log w} {h : AbstractState w} {sys : System w} {c : ℕ} {ch : Channel}

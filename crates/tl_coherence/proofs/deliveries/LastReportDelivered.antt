@@ -71,9 +71,8 @@ pub reported-last : {w : ℕ} {config : Config} {log : Log w} (h : AbstractState
     (same_perm (report_left (report_told ((h.state.block n).pair c).probing)) Perm.Trunk) (h.state.block n).truth k m
     sys.manager → Does config c h (ack_taken (length config.clients.items) config.profile c n
     (report_told ((h.state.block n).pair c).probing) rest h) ProbeAck n sys.manager (Beat.C (c_beat_of m k))
-reported-last {w} {config} {log} h {sys} {c} {n} {k} rest {m} is tokens answered up end =
-    others (some_below (length config.clients.items) (others_probed c b.pair)) refl
-    (invariant-taken h c ProbeAck n rest is tokens tt)
+reported-last {w} {config} {log} h {sys} {c} {n} {k} rest {m} is tokens answered up end = others (some_below
+    (length config.clients.items) (others_probed c b.pair)) refl (invariant-taken h c ProbeAck n rest is tokens tt)
   where
     b : Block (List ℕ)
     b = h.state.block n
@@ -110,8 +109,7 @@ reported-last {w} {config} {log} h {sys} {c} {n} {k} rest {m} is tokens answered
         absurd (unseen (c == q) (Granting d low) GrantedOther refl refl (rw f at seen))
     last alone (GrantTaken q) f inv = absurd (unseen (c == q) Acknowledging GrantedOther refl refl (rw f at seen))
     last alone (Waits q false source low) f inv =
-        let at : IsSettling config c q n source k false low r m h e =
-        record {
+        let at : IsSettling config c q n source k false low r m h e = record {
           up = up;
           end = end;
           alone = alone;
@@ -149,15 +147,8 @@ reported-last {w} {config} {log} h {sys} {c} {n} {k} rest {m} is tokens answered
             let fields = wanted_fields q n whole grow b (h.request n) g
             (subst (λ (v : Service). IsAcquireOf n b v (h.request n)) f (is.acquired n)) in
             let at : IsSettling config c q n source k true low r m h e =
-            record {
-              up = up;
-              end = end;
-              alone = alone;
-              waits = f;
-              is = at_manager-matched is;
-            } in
-            let wanted : IsWanted c q n source whole grow h =
-            record {
+            record { up = up; end = end; alone = alone; waits = f; is = at_manager-matched is } in
+            let wanted : IsWanted c q n source whole grow h = record {
               apart = seen_apart q source low c (rw f at seen);
               used = used;
               opcode_is = fields.0;
@@ -167,10 +158,9 @@ reported-last {w} {config} {log} h {sys} {c} {n} {k} rest {m} is tokens answered
             (gift_after config c n r whole grow h) b in
             let here : set n new h.state.block n ≡ new = set-same n new h.state.block in (
               conceded-left rest at wanted,
-              ap (λ (d : Reaction w). d.handed) (reaction-conceded at wanted) ∙ ap
-                  (λ (i : Message w). (record { 0 = q }, i) ∷ []) (grant-rendered config c q n source r whole grow h
-                  own_source (subst (IsWell (is_caching config)) here (after.blocks n)) ∙ ap (block_message Grant q n)
-                  (sym here)),
+              ap (λ (d : Reaction w). d.handed) (reaction-conceded at wanted) ∙ ap (λ (i : Message w).
+                  (record { 0 = q }, i) ∷ []) (grant-rendered config c q n source r whole grow h own_source
+                  (subst (IsWell (is_caching config)) here (after.blocks n)) ∙ ap (block_message Grant q n) (sym here)),
             )
 
     others : (y : Bool) → some_below (length config.clients.items) (others_probed c b.pair) ≡ y

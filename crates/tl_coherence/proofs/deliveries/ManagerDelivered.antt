@@ -92,8 +92,7 @@ unfolding block_message
 reports-delivered {w} {config} {log} h {sys} c n rest {x} {queue} {ms} width is beats tokens next =
     let r : Report = report_told ((h.state.block n).pair c).probing in
     let about = report-about r n (h.state.block n).truth width (is.sized n).truth in
-    let answered : ((h.state.block n).pair c).probing ≡ ProbeAnswered r =
-    first-report is.invariant tokens in
+    let answered : ((h.state.block n).pair c).probing ≡ ProbeAnswered r = first-report is.invariant tokens in
     delivered-c config h _ ProbeAck c n about.0 sys.manager width
     (at_manager-matched is)
     (head_all (λ y. manager.IsSound config (record { 0 = c }, y)) x queue (sys.channels c Channel.C) beats

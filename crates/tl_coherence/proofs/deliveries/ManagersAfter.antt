@@ -97,9 +97,8 @@ at-manager {w} {config} {log} link ch h terms x queue width is known down beats 
     let chan = message_channel first.kind first.number first.tokens first.own in
     record {
       first = first;
-      on_it = subst (λ (i : Channel). IsOn i x) chan (subst
-          (λ (z : Beat w). IsOn (channel_of_message (message_of_kind first.kind h.mail h.state link.0 first.number)) z)
-          (sym first.next.beat_is)
+      on_it = subst (λ (i : Channel). IsOn i x) chan (subst (λ (z : Beat w). IsOn (channel_of_message
+          (message_of_kind first.kind h.mail h.state link.0 first.number)) z) (sym first.next.beat_is)
           (on_message (message_of_kind first.kind h.mail h.state link.0 first.number) first.next.k));
       of_it = ap (λ (z : Beat w). channel_of z) first.next.beat_is ∙ channel_of_beat
           (message_of_kind first.kind h.mail h.state link.0 first.number) first.next.k ∙ chan;
@@ -113,8 +112,7 @@ at-manager {w} {config} {log} link ch h terms x queue width is known down beats 
     head : manager.IsSound config (record { 0 = link.0 }, x)
     head =
         let same : (system_after config log).channels link.0 ch ≡ x ∷ queue
-        → All (λ y. manager.IsSound config (record { 0 = link.0 }, y))
-        ((system_after config log).channels link.0 ch)
+        → All (λ y. manager.IsSound config (record { 0 = link.0 }, y)) ((system_after config log).channels link.0 ch)
         → All (λ y. manager.IsSound config (record { 0 = link.0 }, y)) (x ∷ queue) = λ e f. rw e at f in
         All-head (λ y. manager.IsSound config (record { 0 = link.0 }, y)) x queue (same beats (is.sound link.0 ch))
 
@@ -128,17 +126,15 @@ at-manager {w} {config} {log} link ch h terms x queue width is known down beats 
             (rw (first-asked link.0 i rest h is.invariant e) at (is.sourced link.0 i))
         asked at e f = absurd cc
     message_channel Answer i tokens own =
-        let never : (at : Channel) → is_to_client at ≡ false → is_on at Answer ≡ true
-        → channel_of_message (h.mail.answer link.0 i) ≡ at =
-        elim [ Channel.D ↦ λ e f. absurd cc | at ↦ λ e f. absurd cc ] in
+        let never : (at : Channel) → is_to_client at ≡ false → is_on at Answer ≡ true → channel_of_message
+        (h.mail.answer link.0 i) ≡ at = elim [ Channel.D ↦ λ e f. absurd cc | at ↦ λ e f. absurd cc ] in
         never ch down own
     message_channel k i tokens own = rendered_channel w ch k link.0 i (h.state.block i) down own (λ e. absurd cc)
 
 -- the whole where these messages were handed out
 abbrev pub after_taken : {w : ℕ} → Config → Link → Channel → Beat w → List (Beat w) → System w → Handed w → System w
-after_taken config link ch x queue sys handed =
-    with_messages handed (with_manager (manager_offer.taken link x (reaction config link x sys.manager) sys.manager)
-    (with_channel link.0 ch queue sys))
+after_taken config link ch x queue sys handed = with_messages handed (with_manager
+    (manager_offer.taken link x (reaction config link x sys.manager) sys.manager) (with_channel link.0 ch queue sys))
 
 -- What is left to show of the last beat of a message: what the manager hands out, and that the channels and the one
 -- memory are those of the protocol then.
@@ -161,8 +157,7 @@ pub delivered-last : {w : ℕ} {config : Config} {log : Log w} {link : Link} {ch
 delivered-last {w} {config} {log} {link} {ch} {h} {x} {queue} handed pushes down is last gives pushed carried beside =
     let h' = kind_taken config (next_tracker sys) link.0 is.first.kind is.first.number is.first.rest h in
     delivered_as config log link ch h h' (is.follows ∙ ap (λ (b : Bool). if b then h' else h) last)
-    (subst (λ (y : Step w). ChannelRelation h'.mail h'.state y.after) (sym step_is)
-    (carried (taken-landed
+    (subst (λ (y : Step w). ChannelRelation h'.mail h'.state y.after) (sym step_is) (carried (taken-landed
     (landed-manager link.0 ch x queue pushes handed e sys down is.beats is.on_it is.heard pushed) last)))
     (rw (remembered_after config log link ch now step_is) beside)
   where

@@ -113,10 +113,8 @@ asked-all {w} {config} {log} c o h width is = go (terms_at config c) refl
     go (Some terms) known =
         let r = (ask.asked terms o (sys.clients c)).reply in
         let replied : (stepped config (Ask c o) sys).outcome ≡ Outcome.Replied r =
-        ap (λ (x : Step w). x.outcome) (stepped-asked config c o sys terms known) in (
-          rw replied (carried-ask h c terms o width is known),
-          rw replied (beside-ask h c terms o width is known),
-        )
+        ap (λ (x : Step w). x.outcome) (stepped-asked config c o sys terms known) in
+        (rw replied (carried-ask h c terms o width is known), rw replied (beside-ask h c terms o width is known))
 
 followed-all : {w : ℕ} {config : Config} {log : Log w} (event : Event w) (h : AbstractState w) → IsWidth w
     → SimulationRelation config log h.mail h.request h.state (system_after config log) → IsFollowed config log event h

@@ -165,8 +165,7 @@ beside-followed_c {w} {config} {log} h {sys} c x queue {m} width is beats beside
 report-once : {w : ℕ} {config : Config} {log : Log w} (h : AbstractState w) {sys : System w} (c n : ℕ) {m : Machine w}
     → IsWidth w → SimulationRelation config log h.mail h.request h.state sys → MemoryRelation h.mail h.state m
     → IsOnce (accesses_by config c ProbeAck n h) h m
-report-once {w} {config} {log} h {sys} c n {m} width is beside =
-    go (some_below (length config.clients.items)
+report-once {w} {config} {log} h {sys} c n {m} width is beside = go (some_below (length config.clients.items)
     (λ d. not (d == c) && not (is_unprobed ((h.state.block n).pair d).probing)))
   where
     of_service : (service : Service) → IsWaiting config n service h m → IsOnce (last_accesses service) h m

@@ -74,14 +74,12 @@ delivery-a {w} {config} {log} h {sys} c terms P width is client empty stalled mo
 
     taken_or_not : (x : Beat w) (queue : List (Beat w)) → sys.channels c Channel.A ≡ x ∷ queue
         → IsArrival config h sys c x queue → (b : Bool) → must_wait config (link_of c) x sys.manager.trace ≡ b → P step
-    taken_or_not x queue e arrives true waits =
-        subst P (sym (stepped-to-manager config (link_of c) Channel.A sys terms x queue client e refl
-        ∙ ap (λ p. manager_took c Channel.A x queue p sys) (request-stalled is e arrives waits)))
-        (stalled x queue e waits)
-    taken_or_not x queue e arrives false moves =
-        subst P (sym (stepped-to-manager config (link_of c) Channel.A sys terms x queue client e refl
-        ∙ ap (λ p. manager_took c Channel.A x queue p sys) (request-taken width is e arrives moves)))
-        (moved x queue e arrives moves)
+    taken_or_not x queue e arrives true waits = subst P (sym (stepped-to-manager config
+        (link_of c) Channel.A sys terms x queue client e refl ∙ ap (λ p. manager_took c Channel.A x queue p sys)
+        (request-stalled is e arrives waits))) (stalled x queue e waits)
+    taken_or_not x queue e arrives false moves = subst P (sym (stepped-to-manager config
+        (link_of c) Channel.A sys terms x queue client e refl ∙ ap (λ p. manager_took c Channel.A x queue p sys)
+        (request-taken width is e arrives moves))) (moved x queue e arrives moves)
 
     go : (xs : List (Beat w)) → sys.channels c Channel.A ≡ xs → P step
     go [] e = subst P (sym (stepped-empty config (link_of c) Channel.A sys terms client e)) (empty e)

@@ -119,85 +119,74 @@ abbrev pub release : {w : ℕ} → ℕ → ℕ → Prune → Line w
 release client block prune = Does (Ask client (Op.Release block prune))
 
 abbrev pub access : {w : ℕ} → ℕ → OpA → ℕ → (size : ℕ) → size ≤ 6 → ℕ → ℕ → List ℕ → Line w
-access client opcode param size small address mask payload =
-    Does (Ask client (Op.Access
-    (Message.A (record {
-      opcode = opcode;
-      param = param;
-      size = size;
-      source = 0;
-      address = address;
-      payload =
-          payload;
-      mask = mask;
-      corrupt = 0;
-      small = small;
-    }))))
+access client opcode param size small address mask payload = Does (Ask client (Op.Access (Message.A (record {
+  opcode = opcode;
+  param = param;
+  size = size;
+  source = 0;
+  address = address;
+  payload = payload;
+  mask = mask;
+  corrupt = 0;
+  small = small;
+}))))
 
 -- ---- beats by their fields
 
 abbrev pub a_beat : {w : ℕ} → (opcode : OpA) → ℕ → ℕ → ℕ → ℕ → ℕ → (lanes : Option (List ℕ))
     → is_some lanes ≡ a_carries_data opcode → Beat w
-a_beat opcode param size source address mask lanes carries =
-    A (record {
-      opcode = opcode;
-      param = param;
-      size = size;
-      source = source;
-      address = address;
-      mask = mask;
-      lanes =
-          lanes;
-      corrupt = false;
-      carries = carries;
-    })
+a_beat opcode param size source address mask lanes carries = A (record {
+  opcode = opcode;
+  param = param;
+  size = size;
+  source = source;
+  address = address;
+  mask = mask;
+  lanes = lanes;
+  corrupt = false;
+  carries = carries;
+})
 
 abbrev pub b_beat : {w : ℕ} → (opcode : OpB) → ℕ → ℕ → ℕ → ℕ → ℕ → (lanes : Option (List ℕ))
     → is_some lanes ≡ b_carries_data opcode → Beat w
-b_beat opcode param size source address mask lanes carries =
-    B (record {
-      opcode = opcode;
-      param = param;
-      size = size;
-      source = source;
-      address = address;
-      mask = mask;
-      lanes =
-          lanes;
-      corrupt = false;
-      carries = carries;
-    })
+b_beat opcode param size source address mask lanes carries = B (record {
+  opcode = opcode;
+  param = param;
+  size = size;
+  source = source;
+  address = address;
+  mask = mask;
+  lanes = lanes;
+  corrupt = false;
+  carries = carries;
+})
 
 abbrev pub c_beat : {w : ℕ} → (opcode : OpC) → ℕ → ℕ → ℕ → ℕ → (lanes : Option (List ℕ))
     → is_some lanes ≡ c_carries_data opcode → Beat w
-c_beat opcode param size source address lanes carries =
-    C (record {
-      opcode = opcode;
-      param = param;
-      size = size;
-      source = source;
-      address = address;
-      lanes =
-          lanes;
-      corrupt = false;
-      carries = carries;
-    })
+c_beat opcode param size source address lanes carries = C (record {
+  opcode = opcode;
+  param = param;
+  size = size;
+  source = source;
+  address = address;
+  lanes = lanes;
+  corrupt = false;
+  carries = carries;
+})
 
 abbrev pub d_beat : {w : ℕ} → (opcode : OpD) → ℕ → ℕ → ℕ → ℕ → (lanes : Option (List ℕ))
     → is_some lanes ≡ d_carries_data opcode → Beat w
-d_beat opcode param size source sink lanes carries =
-    D (record {
-      opcode = opcode;
-      param = param;
-      size = size;
-      source = source;
-      sink = sink;
-      denied = false;
-      lanes =
-          lanes;
-      corrupt = false;
-      carries = carries;
-    })
+d_beat opcode param size source sink lanes carries = D (record {
+  opcode = opcode;
+  param = param;
+  size = size;
+  source = source;
+  sink = sink;
+  denied = false;
+  lanes = lanes;
+  corrupt = false;
+  carries = carries;
+})
 
 abbrev pub e_beat : {w : ℕ} → ℕ → Beat w
 e_beat sink = E (record { sink = sink })

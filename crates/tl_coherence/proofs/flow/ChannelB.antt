@@ -41,9 +41,8 @@ module _ {w : ℕ} {config : Config} {log : Log w} (h : AbstractState w) {sys : 
 
   -- ---- a Probe
 
-  pub own-probe : (n : ℕ) → (s.link c).b ≡ packet Probe n ∷ toks
-      → (x : Beat w) (ms : List (Message w)) (queue : List (Beat w))
-      → IsNext x (unfinished_at sys c Channel.B) (block_message Probe c n (s.block n)) ms queue
+  pub own-probe : (n : ℕ) → (s.link c).b ≡ packet Probe n ∷ toks → (x : Beat w) (ms : List (Message w))
+      (queue : List (Beat w)) → IsNext x (unfinished_at sys c Channel.B) (block_message Probe c n (s.block n)) ms queue
       → AreRests x (unfinished_at sys c) rest' → (asked' : ℕ → Option (BeatA w)) → ((i : ℕ) → asked' i ≡ before i)
       → MonitorRelation asked' rest' c (probe_taken c n (cap_sent ((s.block n).pair c).probing) toks s) (x ∷ t)
   own-probe n tokens x ms queue next rests asked' asks =
@@ -54,7 +53,6 @@ module _ {w : ℕ} {config : Config} {log : Log w} (h : AbstractState w) {sys : 
       (first-probe is.invariant tokens) in
       subst (λ (z : Beat w). MonitorRelation asked' rest' c (probe_taken c n k toks s) (z ∷ t)) (sym x_is)
       (flowed-probe n k toks asked' rest' (ap is_empty (flowed.rest_is Channel.B ∙ whole))
-      (ap (completes {w = w} (Beat.B (probe_beat n k))) (flowed.rest_is Channel.B ∙ whole))
-      (subst (λ (z : Beat w). AreRests z (unfinished_at sys c) rest') x_is rests) asks (same_block n) seen
-      (cap-waited k (s.block n).service c seen) (λ m. comes-same m before asked' (unfinished_at sys c Channel.D)
-      asks) flowed)
+      (ap (completes {w = w} (Beat.B (probe_beat n k))) (flowed.rest_is Channel.B ∙ whole)) (subst
+      (λ (z : Beat w). AreRests z (unfinished_at sys c) rest') x_is rests) asks (same_block n) seen (cap-waited k
+      (s.block n).service c seen) (λ m. comes-same m before asked' (unfinished_at sys c Channel.D) asks) flowed)

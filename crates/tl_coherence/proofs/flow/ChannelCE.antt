@@ -143,8 +143,7 @@ module _ {w : ℕ} {config : Config} {log : Log w} (h : AbstractState w) {sys : 
 
       alone : is_granting (view (s.block n).service c) ≡ false
       alone = other_ungranted (view (s.block n).service c)
-          (answered_other r ((s.block n).pair c) (view (s.block n).service c) well
-          (first-report is.invariant tokens))
+          (answered_other r ((s.block n).pair c) (view (s.block n).service c) well (first-report is.invariant tokens))
 
       same : (z : Bool) → completes x (unfinished_at sys c Channel.C) ≡ z → (i : ℕ)
           → comes_in_release i (rest' Channel.C) ≡ comes_in_release i (unfinished_at sys c Channel.C)
@@ -176,14 +175,12 @@ module _ {w : ℕ} {config : Config} {log : Log w} (h : AbstractState w) {sys : 
       → MonitorRelation before rest' c (if b then release_taken c n (prune_told ((s.block n).pair c).letting) toks s
       else s) (x ∷ t)
   own-release tokens x ms queue next rests b last =
-      let releasing : ((s.block n).pair c).letting ≡ ReleaseSent r =
-      first-release is.invariant tokens in
+      let releasing : ((s.block n).pair c).letting ≡ ReleaseSent r = first-release is.invariant tokens in
       let ungranted : is_granting (view (s.block n).service c) ≡ false =
       released_ungranted r ((s.block n).pair c) (view (s.block n).service c) well releasing in
       let now : (release_taken c n r toks s).block n ≡ new = set-same n new s.block in
-      let held_is : (z : Bool) → held_by c ((released_if r z).block n)
-      ≡ (if z then prune_right r else held_by c (s.block n)) =
-      elim [ true ↦ cc (now, ungranted, pair) | false ↦ refl ] in
+      let held_is : (z : Bool) → held_by c ((released_if r z).block n) ≡ (if z then prune_right r else held_by c
+      (s.block n)) = elim [ true ↦ cc (now, ungranted, pair) | false ↦ refl ] in
       let letting_is : (z : Bool) → (((released_if r z).block n).pair c).letting ≡ letting_after z r =
       elim [ true ↦ part_is (λ p. p.letting) | false ↦ releasing ] in
       let about = release_rendered c n (s.block n) width (is.sized n).truth in

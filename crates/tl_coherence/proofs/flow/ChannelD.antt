@@ -82,17 +82,15 @@ module _ {w : ℕ} {config : Config} {log : Log w} (h : AbstractState w) {sys : 
     -- nothing comes of a message that is no Grant
     none_came : is_grant m.opcode ≡ false → (i : ℕ) → comes_in_grant i (rest' Channel.D) ≡ comes_in_grant i
         (unfinished_at sys c Channel.D)
-    none_came e i = comes i ∙ with_false (not b) (is_grant m.opcode && (m.sink == i))
-        (first_false (is_grant m.opcode) (m.sink == i) e)
-        ∙ sym (came i ∙ with_false (not (is_empty (unfinished_at sys c Channel.D))) (is_grant m.opcode && (m.sink == i))
-        (first_false (is_grant m.opcode) (m.sink == i) e))
+    none_came e i = comes i ∙ with_false (not b) (is_grant m.opcode && (m.sink == i)) (first_false (is_grant m.opcode)
+        (m.sink == i) e) ∙ sym (came i ∙ with_false (not (is_empty (unfinished_at sys c Channel.D)))
+        (is_grant m.opcode && (m.sink == i)) (first_false (is_grant m.opcode) (m.sink == i) e))
 
     none_granted : is_grant m.opcode ≡ false → (asked' : ℕ → Option (BeatA w)) (j : ℕ)
         → comes_granting j asked' (rest' Channel.D) ≡ comes_granting j before (unfinished_at sys c Channel.D)
     none_granted e asked' j = grants asked' j ∙ with_false (not b) (is_grant m.opcode && asks_for j (asked' m.source))
-        (first_false (is_grant m.opcode) (asks_for j (asked' m.source)) e)
-        ∙ sym (granted j ∙ with_false (not (is_empty (unfinished_at sys c Channel.D)))
-        (is_grant m.opcode && asks_for j (before m.source))
+        (first_false (is_grant m.opcode) (asks_for j (asked' m.source)) e) ∙ sym (granted j ∙ with_false
+        (not (is_empty (unfinished_at sys c Channel.D))) (is_grant m.opcode && asks_for j (before m.source))
         (first_false (is_grant m.opcode) (asks_for j (before m.source)) e))
 
   -- ---- an answer
@@ -112,9 +110,8 @@ module _ {w : ℕ} {config : Config} {log : Log w} (h : AbstractState w) {sys : 
       (sym same)) c)) (λ n used. refl) (λ n used. refl)
   answer_asks source false i j e f = refl
 
-  pub own-answer : (source : ℕ) → (s.link c).d ≡ packet Answer source ∷ toks
-      → (x : Beat w) (ms : List (Message w)) (queue : List (Beat w))
-      → IsNext x (unfinished_at sys c Channel.D) (h.mail.answer c source) ms queue
+  pub own-answer : (source : ℕ) → (s.link c).d ≡ packet Answer source ∷ toks → (x : Beat w) (ms : List (Message w))
+      (queue : List (Beat w)) → IsNext x (unfinished_at sys c Channel.D) (h.mail.answer c source) ms queue
       → AreRests x (unfinished_at sys c) rest' → (b : Bool) → completes x (unfinished_at sys c Channel.D) ≡ b
       → MonitorRelation (asked_by h.mail (answered_if source b) c) rest' c (answered_if source b) (x ∷ t)
   own-answer source tokens x ms queue next rests b last =
@@ -214,9 +211,8 @@ module _ {w : ℕ} {config : Config} {log : Log w} (h : AbstractState w) {sys : 
       let asks : (j : ℕ) → asks_for j (before ((s.block n).source c)) ≡ (n == j) =
       λ j. ap (asks_for j) (asks-acquire c ((s.block n).source c) n ((s.block n).source c) due.whole due.g h.mail s
       due.used due.wants refl) ∙ ap (λ (i : ℕ). i == j) (same_block n) in
-      let asks_now : (z : Bool) (j : ℕ)
-      → (not z && (true && asks_for j (asked_by h.mail (s_if z) c ((s.block n).source c)))) ≡ (not z && (n == j)) =
-      elim [ true ↦ λ j. refl | false ↦ λ j. asks j ] in
+      let asks_now : (z : Bool) (j : ℕ) → (not z && (true && asks_for j (asked_by h.mail (s_if z) c
+      ((s.block n).source c)))) ≡ (not z && (n == j)) = elim [ true ↦ λ j. refl | false ↦ λ j. asks j ] in
       let now : (s_if true).block n ≡ new = set-same n new s.block in
       let seen_is : (z : Bool) → view ((s_if z).block n).service c ≡ seen_after z due.data_too due.k =
       elim [ true ↦ rw (now, same_number c) refl | false ↦ seen ] in
@@ -227,8 +223,7 @@ module _ {w : ℕ} {config : Config} {log : Log w} (h : AbstractState w) {sys : 
       let m : MessageD w = grant_message due.data_too due.k ((s.block n).source c) (s.block n).tracker (s.block n).truth
       in
       let here : IsNext x (unfinished_at sys c Channel.D) (Message.D m) ms queue =
-      subst (λ (i : Message w). IsNext x (unfinished_at sys c Channel.D) i ms queue) (grant-rendered c n s due) next
-      in
+      subst (λ (i : Message w). IsNext x (unfinished_at sys c Channel.D) i ms queue) (grant-rendered c n s due) next in
       subst (λ (z : Beat w). MonitorRelation (asked_by h.mail (s_if b) c) rest' c (s_if b) (z ∷ t)) (sym here.beat_is)
       (flowed-grant (begins_y m x ms queue here rests b last) (ends_y m x ms queue here rests b last)
       (rests_y m x ms queue here rests b last) (record {

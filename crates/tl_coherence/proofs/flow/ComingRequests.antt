@@ -28,11 +28,7 @@ waiting_request : {w : ℕ} {config : Config} {log : Log w} {mail : AccessMessag
     → (s.link c).a ≡ packet Request i ∷ rest → IsWaiting c s (mail.request c i)
 unfolding IsWaiting
 waiting_request {config} {log} {mail} {request} {s} {sys} c i rest h first =
-    let asked = asked-first c i rest h first in (
-      asked.request,
-      asked.is_it,
-      cc (asked.source_is, asked.used),
-    )
+    let asked = asked-first c i rest h first in (asked.request, asked.is_it, cc (asked.source_is, asked.used))
 
 waiting_acquire : {w : ℕ} {config : Config} {log : Log w} {mail : AccessMessages w} {request : ℕ → MessageA w}
     {s : State (List ℕ)} {sys : System w} (c n : ℕ)

@@ -85,9 +85,8 @@ flowed-access {w} {X} {c} {y} {first} {last} {asked} {rest} {rest'} {s} {s'} {t}
           ∙ sym (step_quiet first last (is_sunk c i (rest Channel.D) (s.tracked i) s));
       grants = λ m. grants m ∙ sym (step_quiet first last (granted_by c m asked (rest Channel.D) (s.block m)));
       probes = λ m. cc (is.blocks m, step_quiet first last (is_answered ((s.block m).pair c).probing));
-      probed = λ m e. probe_of-a m y t ∙ before.probed m
-          (sym (ap (λ (z : Block X). is_answered (z.pair c).probing) (is.blocks m)) ∙ e)
-          ∙ sym (ap (λ (z : Block X). Some (probe_beat m (cap_waited z.service))) (is.blocks m));
+      probed = λ m e. probe_of-a m y t ∙ before.probed m (sym (ap (λ (z : Block X). is_answered (z.pair c).probing)
+          (is.blocks m)) ∙ e) ∙ sym (ap (λ (z : Block X). Some (probe_beat m (cap_waited z.service))) (is.blocks m));
       sunk = λ m e. cc (grant_sink-a m y t, before.sunk m (before.grants m ∙ sym (grants m) ∙ e), is.blocks m);
     }) before
   where
@@ -112,9 +111,8 @@ flowed-access {w} {X} {c} {y} {first} {last} {asked} {rest} {rest'} {s} {s'} {t}
     same i e = cc (
       use_at i false e,
       off last (s.uses c i) Replied,
-      requested-rest c i (rest Channel.A)
-          (rest' Channel.A) (s.uses c i) s s' is.blocks (is.comes i ∙ and_right (not last) (y.source == i) e
-          ∙ sym (is.came i ∙ and_right (not first) (y.source == i) e)),
+      requested-rest c i (rest Channel.A) (rest' Channel.A) (s.uses c i) s s' is.blocks (is.comes i ∙ and_right
+          (not last) (y.source == i) e ∙ sym (is.came i ∙ and_right (not first) (y.source == i) e)),
     )
 
     requests : (i : ℕ) (here : Bool) → (y.source == i) ≡ here → is_requested c i (rest' Channel.A) (s'.uses c i) s'

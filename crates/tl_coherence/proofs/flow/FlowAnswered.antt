@@ -58,12 +58,11 @@ pub record IsAnswering {w : ℕ} {X : Type 0} (c : ℕ) (y : BeatD w) (last : Bo
   pub tracked : (i : ℕ) → s'.tracked i ≡ s.tracked i
   pub asked_is : (i : ℕ) → (last && (y.source == i)) ≡ false → asked' i ≡ asked i
 
-pub flowed-answer : {w : ℕ} {X : Type 0} {c : ℕ} {y : BeatD w} (first : Bool) {last : Bool} {asked asked' : ℕ
-    → Option (BeatA w)}
-    {rest rest' : Channel → List (Beat w)} {s s' : State X} {t : History w}
+pub flowed-answer : {w : ℕ} {X : Type 0} {c : ℕ} {y : BeatD w} (first : Bool) {last : Bool}
+    {asked asked' : ℕ → Option (BeatA w)} {rest rest' : Channel → List (Beat w)} {s s' : State X} {t : History w}
     → begins (Beat.D y) t ≡ first → ends (Beat.D y) t ≡ last → AreRests (Beat.D y) rest rest'
-    → IsAnswering c y last asked asked' rest rest' s s'
-    → MonitorRelation asked rest c s t → MonitorRelation asked' rest' c s' (Beat.D y ∷ t)
+    → IsAnswering c y last asked asked' rest rest' s s' → MonitorRelation asked rest c s t
+    → MonitorRelation asked' rest' c s' (Beat.D y ∷ t)
 flowed-answer {w} {X} {c} {y} first {last} {asked} {asked'} {rest} {rest'} {s} {s'} {t} first_is last_is rests is
     before =
     let sinks : (i : ℕ) (o : Option ℕ) → is_sunk c i (rest' Channel.D) o s' ≡ is_sunk c i (rest Channel.D) o s =
@@ -72,36 +71,32 @@ flowed-answer {w} {X} {c} {y} first {last} {asked} {asked'} {rest} {rest'} {s} {
       first_is = first_is;
       last_is = last_is;
       rests = rests;
-      held_is = λ m. ap (held_by c) (is.blocks m) ∙ sym
-          (unsaid last (is_grant y.opcode) (asks_for m (request_of y.source t)) (capped y.param) (held_by c (s.block m))
-          is.grant);
+      held_is = λ m. ap (held_by c) (is.blocks m) ∙ sym (unsaid last (is_grant y.opcode)
+          (asks_for m (request_of y.source t)) (capped y.param) (held_by c (s.block m)) is.grant);
       requests = λ i. ap (λ (l : List (Beat w)). is_requested c i l (s'.uses c i) s') (rests Channel.A) ∙ ap
           (λ (u : SourceState). is_requested c i (rest Channel.A) u s') (is.uses i) ∙ requests i last (y.source == i)
           ∙ sym (ap (λ (z : Bool). step first last false (not z && (y.source == i))
           (is_requested c i (rest Channel.A) (s.uses c i) s)) is.ack);
       asked_is = λ i e. asked_still i e (last && (y.source == i)) refl;
-      acquires = λ m. ap (acquired_by c) (is.blocks m) ∙ sym
-          (unclosed first last (is_grant y.opcode) (asks_for m (request_of y.source t)) (acquired_by c (s.block m))
-          is.grant);
+      acquires = λ m. ap (acquired_by c) (is.blocks m) ∙ sym (unclosed first last (is_grant y.opcode)
+          (asks_for m (request_of y.source t)) (acquired_by c (s.block m)) is.grant);
       release_sources = λ i. lets i ∙ sym (unclosed first last (is_release_ack y.opcode) (y.source == i)
           (is_let_by c i (rest Channel.C) (s.lets c i) s) is.ack);
       released = λ i m e f. ap (option_map (λ z. block_at z.address)) (release_of-d i y t) ∙ before.released i m
           (sym (is.lets i) ∙ e) (before.release_sources i ∙ sym (lets i) ∙ f);
       sizes = λ i m e f. ap (option_map (λ z. z.size)) (release_of-d i y t) ∙ before.sizes i m (sym (is.lets i) ∙ e)
           (before.release_sources i ∙ sym (lets i) ∙ f);
-      releases = λ m. ap (λ (l : List (Beat w)). let_of c l (s'.block m)) (rests Channel.C) ∙ ap
-          (let_of c (rest Channel.C)) (is.blocks m)
-          ∙ sym (unclosed first last (is_release_ack y.opcode) (releases m (release_of y.source t))
-          (let_of c (rest Channel.C) (s.block m)) is.ack);
+      releases = λ m. ap (λ (l : List (Beat w)). let_of c l (s'.block m)) (rests Channel.C)
+          ∙ ap (let_of c (rest Channel.C)) (is.blocks m) ∙ sym (unclosed first last (is_release_ack y.opcode)
+          (releases m (release_of y.source t)) (let_of c (rest Channel.C) (s.block m)) is.ack);
       sinks = λ i. ap (λ (o : Option ℕ). is_sunk c i (rest' Channel.D) o s') (is.tracked i) ∙ sinks i (s.tracked i)
           ∙ sym (unopened first last (is_grant y.opcode) (y.sink == i) (is_sunk c i (rest Channel.D) (s.tracked i) s)
           is.grant);
       grants = λ m. grants m ∙ sym (unopened first last (is_grant y.opcode) (asks_for m (request_of y.source t))
           (granted_by c m asked (rest Channel.D) (s.block m)) is.grant);
       probes = λ m. cc (is.blocks m, step_quiet first last (is_answered ((s.block m).pair c).probing));
-      probed = λ m e. probed-of m y t ∙ before.probed m
-          (sym (ap (λ (z : Block X). is_answered (z.pair c).probing) (is.blocks m)) ∙ e)
-          ∙ sym (ap (λ (z : Block X). Some (probe_beat m (cap_waited z.service))) (is.blocks m));
+      probed = λ m e. probed-of m y t ∙ before.probed m (sym (ap (λ (z : Block X). is_answered (z.pair c).probing)
+          (is.blocks m)) ∙ e) ∙ sym (ap (λ (z : Block X). Some (probe_beat m (cap_waited z.service))) (is.blocks m));
       sunk = λ m e. cc (sunk-of m y t is.grant, before.sunk m (before.grants m ∙ sym (grants m) ∙ e), is.blocks m);
     }) before
   where
@@ -131,12 +126,11 @@ flowed-answer {w} {X} {c} {y} first {last} {asked} {asked'} {rest} {rest'} {s} {
         absurd (let g : false ≡ true =
         sym (use_at i ∙ ap (λ (z : Bool). is_requested c i (rest Channel.A) (if z then SourceFree else s.uses c i) s')
         f) ∙ e in cc)
-    asked_still i e false f =
-        cc (
-          request_of-d i y t,
-          before.asked_is i (cc (before.requests i, same_requested i (s.uses c i), use_at i)),
-          is.asked_is i f,
-        )
+    asked_still i e false f = cc (
+      request_of-d i y t,
+      before.asked_is i (cc (before.requests i, same_requested i (s.uses c i), use_at i)),
+      is.asked_is i f,
+    )
 
     lets : (i : ℕ) → is_let_by c i (rest' Channel.C) (s'.lets c i) s' ≡ is_let_by c i (rest Channel.C) (s.lets c i) s
     lets i = cc (
@@ -194,20 +188,18 @@ flowed-let_go {w} {X} {c} {n} {y} {asked} {asked'} {rest} {rest'} {s} {s'} {t} f
     ∙ rw (is.letting, is.source) (same_number (b.release_source c))) in
     let names : (m : ℕ) → releases m (release_of y.source t) ≡ (n == m) = λ m. of_releases n m (release_of y.source t)
     (before.released y.source n of_block (cc (before.release_sources y.source, of_block, is.letting))) in
-    let releases_at = each-block (λ m z. let_of c (rest Channel.C) z ≡ step true true false
-    (is_release_ack y.opcode && releases m (release_of y.source t)) (let_of c (rest Channel.C) (s.block m))) n s s'
-    is.elsewhere (ap (is_release_pending ((s'.block n).release_source c) (rest Channel.C)) is.letting_is
-    ∙ sym (closed (is_release_ack y.opcode) (releases n (release_of y.source t)) (let_of c (rest Channel.C) b)
-    is.ack (names n ∙ same_number n)))
-    (λ m ne. sym (unclosed_by (is_release_ack y.opcode) (releases m (release_of y.source t))
+    let releases_at = each-block (λ m z. let_of c (rest Channel.C) z ≡ step true true false (is_release_ack y.opcode
+    && releases m (release_of y.source t)) (let_of c (rest Channel.C) (s.block m))) n s s' is.elsewhere
+    (ap (is_release_pending ((s'.block n).release_source c) (rest Channel.C)) is.letting_is
+    ∙ sym (closed (is_release_ack y.opcode) (releases n (release_of y.source t)) (let_of c (rest Channel.C) b) is.ack
+    (names n ∙ same_number n))) (λ m ne. sym (unclosed_by (is_release_ack y.opcode) (releases m (release_of y.source t))
     (let_of c (rest Channel.C) (s.block m)) (names m ∙ ne_eqb n m (λ e. ne (sym e))))) in
     let requests : (i : ℕ) → is_requested c i (rest' Channel.A) (s'.uses c i) s' ≡ is_requested c i (rest Channel.A)
     (s.uses c i) s = λ i. cc (
       rests Channel.A,
       is.uses i,
-      requested-blocks c i (rest Channel.A) (s.uses c i) s s'
-          (part-block (λ (z : Block X). is_unserved (view z.service c)) n s s' is.elsewhere
-          (ap (λ (q : Service). is_unserved (view q c)) is.service)),
+      requested-blocks c i (rest Channel.A) (s.uses c i) s s' (part-block (λ (z : Block X). is_unserved
+          (view z.service c)) n s s' is.elsewhere (ap (λ (q : Service). is_unserved (view q c)) is.service)),
     ) in
     let acquires = part-block (acquired_by c) n s s' is.elsewhere (cc (is.acquiring, is.service)) in
     let answered : (m : ℕ) → is_answered ((s'.block m).pair c).probing ≡ is_answered ((s.block m).pair c).probing =
@@ -220,11 +212,9 @@ flowed-let_go {w} {X} {c} {n} {y} {asked} {asked'} {rest} {rest'} {s} {s'} {t} f
       first_is = first_is;
       last_is = last_is;
       rests = rests;
-      held_is = λ m. part-block (held_by c) n s s' is.elsewhere is.held_is m
-          ∙ sym (unsaid true (is_grant y.opcode) (asks_for m (request_of y.source t)) (capped y.param)
-          (held_by c (s.block m)) is.grant);
-      requests = λ i. requests i ∙ sym
-          (ap (λ (z : Bool). step true true false (not z && (y.source == i))
+      held_is = λ m. part-block (held_by c) n s s' is.elsewhere is.held_is m ∙ sym (unsaid true (is_grant y.opcode)
+          (asks_for m (request_of y.source t)) (capped y.param) (held_by c (s.block m)) is.grant);
+      requests = λ i. requests i ∙ sym (ap (λ (z : Bool). step true true false (not z && (y.source == i))
           (is_requested c i (rest Channel.A) (s.uses c i) s)) is.ack);
       asked_is = λ i e. request_of-d i y t ∙ before.asked_is i (before.requests i ∙ sym (requests i) ∙ e) ∙ sym
           (is.asked_is i);
@@ -242,9 +232,8 @@ flowed-let_go {w} {X} {c} {n} {y} {asked} {asked'} {rest} {rest'} {s} {s'} {t} f
       grants = λ m. grants m ∙ sym (unopened true true (is_grant y.opcode) (asks_for m (request_of y.source t))
           (granted_by c m asked (rest Channel.D) (s.block m)) is.grant);
       probes = answered;
-      probed = λ m e. probed-of m y t ∙ before.probed m (sym (answered m) ∙ e)
-          ∙ sym (ap (λ k. Some (probe_beat m k)) (part-block (λ (z : Block X). cap_waited z.service) n s s' is.elsewhere
-          (ap cap_waited is.service) m));
+      probed = λ m e. probed-of m y t ∙ before.probed m (sym (answered m) ∙ e) ∙ sym (ap (λ k. Some (probe_beat m k))
+          (part-block (λ (z : Block X). cap_waited z.service) n s s' is.elsewhere (ap cap_waited is.service) m));
       sunk = λ m e. sunk-of m y t is.grant ∙ before.sunk m (before.grants m ∙ sym (grants m) ∙ e) ∙ ap Some
           (sym (part-block (λ (z : Block X). z.tracker) n s s' is.elsewhere is.tracker m));
     }) before

@@ -71,14 +71,12 @@ module _ {w : ℕ} {X : Type 0} (d : ℕ) (asked asked' : ℕ → Option (BeatA 
 
   sinks-same : (n : ℕ) (b : Block X) (s' : State X) → IsChanged n b s' → b.service ≡ (s.block n).service
       → ((i : ℕ) → s'.tracked i ≡ s.tracked i) → AreSameSinks s'
-  sinks-same n b s' changed same tracked i =
-      cc (
-        tracked i,
-        sunk-as d i (rest Channel.D) (s.tracked i) s s' (λ m. ap (sunk_in d i (rest Channel.D)) (changed m)
-            ∙ set-part (sunk_in d i (rest Channel.D)) n b s.block
-            (ap (λ (q : Service). is_acknowledging (view q d) || (is_granting (view q d) && comes_in_grant i
-            (rest Channel.D))) same) m),
-      )
+  sinks-same n b s' changed same tracked i = cc (
+    tracked i,
+    sunk-as d i (rest Channel.D) (s.tracked i) s s' (λ m. ap (sunk_in d i (rest Channel.D)) (changed m) ∙ set-part
+        (sunk_in d i (rest Channel.D)) n b s.block (ap (λ (q : Service). is_acknowledging
+        (view q d) || (is_granting (view q d) && comes_in_grant i (rest Channel.D))) same) m),
+  )
 
   sinks-outside : (n : ℕ) (b : Block X) (s' : State X) → IsChanged n b s'
       → is_outside (view (s.block n).service d) ≡ true → is_outside (view b.service d) ≡ true
@@ -106,11 +104,10 @@ module _ {w : ℕ} {X : Type 0} (d : ℕ) (asked asked' : ℕ → Option (BeatA 
 
   pub left-acquire_asked : (c n source : ℕ) (whole : Bool) (g : Grow) (bytes : X) → (d ≡ c → ⊥)
       → IsLeft (acquire_asked c n source whole g bytes s)
-  left-acquire_asked c n source whole g bytes ne = apart-at n
-      (acquire_asked c n source whole g bytes s) (λ m. refl) (same-acquiring d c source whole g bytes (s.block n) ne)
-      (λ i. inl (set_at-other c d source i (Acquires n) s.uses ne)) (λ i. refl)
-      (sinks-same n (acquiring_block c source whole g bytes (s.block n)) (acquire_asked c n source whole g bytes s)
-      (λ m. refl) refl (λ i. refl))
+  left-acquire_asked c n source whole g bytes ne = apart-at n (acquire_asked c n source whole g bytes s) (λ m. refl)
+      (same-acquiring d c source whole g bytes (s.block n) ne) (λ i. inl (set_at-other c d source i
+      (Acquires n) s.uses ne)) (λ i. refl) (sinks-same n (acquiring_block c source whole g bytes (s.block n))
+      (acquire_asked c n source whole g bytes s) (λ m. refl) refl (λ i. refl))
 
   pub left-release_asked : (c n source : ℕ) (r : Prune) → (d ≡ c → ⊥) → IsLeft (release_asked c n source r s)
   left-release_asked c n source r ne = apart-at n
@@ -155,9 +152,8 @@ module _ {w : ℕ} {X : Type 0} (d : ℕ) (asked asked' : ℕ → Option (BeatA 
   pub left-acquire_granted : (r n tracker : ℕ) (x : Bool) (k : Cap) (toks : List Packet) → (d ≡ r → ⊥)
       → (s.block n).service ≡ Free → is_answered ((s.block n).pair d).probing ≡ false → s.tracked tracker ≡ None
       → IsLeft (acquire_granted r n tracker x k toks s)
-  left-acquire_granted r n tracker x k toks ne free quiet unused =
-      apart-at n (acquire_granted r n tracker x k toks s) (λ m. refl)
-      (same-granted_at_once d r tracker x k (s.block n) ne free quiet) (λ i. inl refl) (λ i. refl)
+  left-acquire_granted r n tracker x k toks ne free quiet unused = apart-at n (acquire_granted r n tracker x k toks s)
+      (λ m. refl) (same-granted_at_once d r tracker x k (s.block n) ne free quiet) (λ i. inl refl) (λ i. refl)
       (sinks-outside n (granted_at_once r tracker x k (s.block n)) (acquire_granted r n tracker x k toks s) (λ m. refl)
       (free-outside n free) (outside-sent d r x k ne) (tracked-new n tracker s.tracked unused))
 
@@ -205,11 +201,10 @@ module _ {w : ℕ} {X : Type 0} (d : ℕ) (asked asked' : ℕ → Option (BeatA 
 
   pub left-grant_ack_taken : (c n : ℕ) (toks : List Packet) → (d ≡ c → ⊥) → (s.block n).service ≡ GrantTaken c
       → s.tracked (s.block n).tracker ≡ Some n → IsLeft (grant_ack_taken c n toks s)
-  left-grant_ack_taken c n toks ne taken tracks = apart-at n (grant_ack_taken c n toks s)
-      (λ m. refl) (same-freed d c (s.block n) ne taken) (λ i. inl refl) (λ i. refl)
-      (sinks-outside n (freed_block (s.block n)) (grant_ack_taken c n toks s) (λ m. refl)
-      (ap (λ (q : Service). is_outside (view q d)) taken ∙ outside-taken d c ne) refl
-      (tracked-free n (s.block n).tracker s.tracked tracks))
+  left-grant_ack_taken c n toks ne taken tracks = apart-at n (grant_ack_taken c n toks s) (λ m. refl)
+      (same-freed d c (s.block n) ne taken) (λ i. inl refl) (λ i. refl) (sinks-outside n (freed_block (s.block n))
+      (grant_ack_taken c n toks s) (λ m. refl) (ap (λ (q : Service). is_outside (view q d)) taken
+      ∙ outside-taken d c ne) refl (tracked-free n (s.block n).tracker s.tracked tracks))
 
 -- ---- an access, after its last beat
 

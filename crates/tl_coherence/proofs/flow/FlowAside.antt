@@ -117,15 +117,13 @@ flowed-aside {w} {X} {asked} {asked'} {rest} {d} {s} {s'} {t} is = flowed-untouc
         ⊎ ((is_acknowledging (view (s.block n).service d) || is_granting (view (s.block n).service d)) ≡ false)
         → (s'.block n).tracker ≡ (s.block n).tracker
     tracked n e (inl same) = same
-    tracked n e (inr none) =
-        absurd (either_is (is_acknowledging (view (s.block n).service d)) (comes_granting n asked (rest Channel.D))
-        (is_granting (view (s.block n).service d)) e (is.coming n) none)
+    tracked n e (inr none) = absurd (either_is (is_acknowledging (view (s.block n).service d))
+        (comes_granting n asked (rest Channel.D)) (is_granting (view (s.block n).service d)) e (is.coming n) none)
 
 -- where the same requests are given in another way, nothing changes
-pub flowed-asks : {w : ℕ} {X : Type 0} {asked : ℕ → Option (BeatA w)} (asked' : ℕ → Option (BeatA w)) {rest : Channel
-    → List (Beat w)} {d : ℕ}
-    {s : State X} {t : History w}
-    → ((i : ℕ) → asked' i ≡ asked i) → MonitorRelation asked rest d s t → MonitorRelation asked' rest d s t
+pub flowed-asks : {w : ℕ} {X : Type 0} {asked : ℕ → Option (BeatA w)} (asked' : ℕ → Option (BeatA w))
+    {rest : Channel → List (Beat w)} {d : ℕ} {s : State X} {t : History w} → ((i : ℕ) → asked' i ≡ asked i)
+    → MonitorRelation asked rest d s t → MonitorRelation asked' rest d s t
 flowed-asks {asked} asked' {rest} {d} {s} {t} asks = flowed-untouched (record {
   held_is = λ n. refl;
   requests = λ i. refl;

@@ -36,9 +36,8 @@ module _ {w : ℕ} {config : Config} {log : Log w} (h : AbstractState w) {sys : 
   -- what is delivered on client d's link is as it was
   abbrev pub IsAskedOn : ℕ → History w → Op w → Reply → Type 0
   IsAskedOn d t o r = IsAskable (is_caching config) c o r h
-      → MonitorRelation (asked_by h.mail h.state d) (unfinished_at sys d) d h.state t
-      → MonitorRelation (asked_by (asked c o r h).mail (asked c o r h).state d) (unfinished_at sys d) d
-      (asked c o r h).state t
+      → MonitorRelation (asked_by h.mail h.state d) (unfinished_at sys d) d h.state t → MonitorRelation
+      (asked_by (asked c o r h).mail (asked c o r h).state d) (unfinished_at sys d) d (asked c o r h).state t
 
   asked-nothing : (d : ℕ) (t : History w) (o : Op w) (r : Reply) → IsPlain o r → IsAskedOn d t o r
   asked-nothing d t o r plain may before = rw (plain c h).0 before
@@ -62,11 +61,10 @@ module _ {w : ℕ} {config : Config} {log : Log w} (h : AbstractState w) {sys : 
       → MonitorRelation (asked_by h.mail h.state c) (unfinished_at sys c) c h.state t
       → MonitorRelation (asked_by h.mail (acquire_asked c n source whole g bytes h.state) c) (unfinished_at sys c) c
       (acquire_asked c n source whole g bytes h.state) t
-  own-acquire n source whole g bytes closed calm =
-      flowed-untouched (untouched-acquire_asked c n source whole g bytes before after (unfinished_at sys c) h.state
-      closed calm (unserved_calm ((h.state.block n).pair c) (view (h.state.block n).service c)
-      ((is.invariant.blocks n).phases c) calm) asks
-      (λ m. coming-asked c m before after is
+  own-acquire n source whole g bytes closed calm = flowed-untouched
+      (untouched-acquire_asked c n source whole g bytes before after (unfinished_at sys c) h.state closed calm
+      (unserved_calm ((h.state.block n).pair c) (view (h.state.block n).service c)
+      ((is.invariant.blocks n).phases c) calm) asks (λ m. coming-asked c m before after is
       (λ i k used. asks i (λ e. acquires_not (h.state.uses c i) k (ap (h.state.uses c) e ∙ closed) used))))
     where
       before : ℕ → Option (BeatA w)
@@ -85,35 +83,29 @@ module _ {w : ℕ} {config : Config} {log : Log w} (h : AbstractState w) {sys : 
       let after : ℕ → Option (BeatA w) = asked_by h.mail (release_asked c n source r h.state) c in
       let new : Block (List ℕ) = releasing_block c source r (h.state.block n) in
       let asks : (i : ℕ) → after i ≡ before i =
-      λ i. asks-same c i h.mail h.mail h.state (release_asked c n source r h.state) refl (inl refl)
-      (λ j used. set-part (λ (b : Block (List ℕ)). (b.pair c).acquiring) n new h.state.block
-      (ap (λ (p : ClientBlock). p.acquiring) (set-same c (after_release r ((h.state.block n).pair c))
-      (h.state.block n).pair)) j) (λ j used. set-part (λ (b : Block (List ℕ)). b.source c) n new h.state.block refl
-      j) in
+      λ i. asks-same c i h.mail h.mail h.state (release_asked c n source r h.state) refl (inl refl) (λ j used. set-part
+      (λ (b : Block (List ℕ)). (b.pair c).acquiring) n new h.state.block (ap (λ (p : ClientBlock). p.acquiring)
+      (set-same c (after_release r ((h.state.block n).pair c)) (h.state.block n).pair)) j)
+      (λ j used. set-part (λ (b : Block (List ℕ)). b.source c) n new h.state.block refl j) in
       flowed-untouched
       (untouched-release_asked c n source r before after (unfinished_at sys c) h.state may.1
       (coming-free c source width is may.1) may.3 (λ i. is.invariant.named.releases c i n ∙ rw may.3 refl)
-      (unserved_ungranted (view (h.state.block n).service c)
-      (unserved_calm ((h.state.block n).pair c) (view (h.state.block n).service c)
-      ((is.invariant.blocks n).phases c) may.2)) asks)
+      (unserved_ungranted (view (h.state.block n).service c) (unserved_calm ((h.state.block n).pair c)
+      (view (h.state.block n).service c) ((is.invariant.blocks n).phases c) may.2)) asks)
 
   own-access : (t : History w) (m : MessageA w) (source : ℕ)
       → IsAskedOn c t (Op.Access (Message.A m)) (Reply.Started source)
   own-access t m source closed =
-      let mail' : AccessMessages w = record {
-        request = set_at c source (access source m) h.mail.request;
-        answer = h.mail.answer;
-      } in
+      let mail' : AccessMessages w =
+      record { request = set_at c source (access source m) h.mail.request; answer = h.mail.answer } in
       let before : ℕ → Option (BeatA w) = asked_by h.mail h.state c in
       let after : ℕ → Option (BeatA w) = asked_by mail' (access_asked c source h.state) c in
-      let asks : (i : ℕ) → (i ≡ source → ⊥) → after i ≡ before i =
-      λ i ne. asks-same c i h.mail mail' h.state (access_asked c source h.state)
-      (set_at-else c source i (access source m) h.mail.request ne c)
+      let asks : (i : ℕ) → (i ≡ source → ⊥) → after i ≡ before i = λ i ne. asks-same c i h.mail mail' h.state
+      (access_asked c source h.state) (set_at-else c source i (access source m) h.mail.request ne c)
       (inl (set_at-else c source i Asked h.state.uses ne c)) (λ n used. refl) (λ n used. refl) in
       flowed-untouched
-      (untouched-access_asked c source before after (unfinished_at sys c) h.state closed
-      (not-coming_a c source is (ap (λ (u : SourceState). waits_on_a c u h.state) closed)) asks
-      (λ k. coming-asked c k before after is
+      (untouched-access_asked c source before after (unfinished_at sys c) h.state closed (not-coming_a c source is
+      (ap (λ (u : SourceState). waits_on_a c u h.state) closed)) asks (λ k. coming-asked c k before after is
       (λ i n used. asks i (λ e. acquires_not (h.state.uses c i) n (ap (h.state.uses c) e ∙ closed) used))))
 
   -- ---- another one
@@ -123,9 +115,8 @@ module _ {w : ℕ} {config : Config} {log : Log w} (h : AbstractState w) {sys : 
       let before : ℕ → Option (BeatA w) = asked_by h.mail h.state d in
       let after : Op w → Reply → ℕ → Option (BeatA w) = λ i j. asked_by (asked c i j h).mail (asked c i j h).state d in
       let coming = coming-granting d is in
-      let left : (i : Op w) (j : Reply)
-      → (((k : ℕ) → after i j k ≡ before k) → IsAside before (after i j) (unfinished_at sys d) d h.state
-      (asked c i j h).state) → MonitorRelation before (unfinished_at sys d) d h.state t
+      let left : (i : Op w) (j : Reply) → (((k : ℕ) → after i j k ≡ before k) → IsAside before (after i j)
+      (unfinished_at sys d) d h.state (asked c i j h).state) → MonitorRelation before (unfinished_at sys d) d h.state t
       → MonitorRelation (after i j) (unfinished_at sys d) d (asked c i j h).state t =
       λ i j aside. flowed-aside (aside (asks-left d h (asked c i j h) (leaves-asked c i j h d ne))) in
       reply-cases (IsAskedOn d t) o r may_be (λ address size value may. left (Op.Store address size value) Reply.Stored

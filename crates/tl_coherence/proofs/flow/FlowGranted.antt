@@ -21,8 +21,7 @@ seen_after false d k = Granting d k
 
 -- a beat of the Grant of block n to client c
 pub record IsGranting {w : ℕ} {X : Type 0} (c n : ℕ) (d : Bool) (k : Cap) (y : BeatD w) (first last : Bool)
-    (asked asked' : ℕ → Option (BeatA w))
-    (rest rest' : Channel → List (Beat w)) (s s' : State X) : Type 0 where
+    (asked asked' : ℕ → Option (BeatA w)) (rest rest' : Channel → List (Beat w)) (s s' : State X) : Type 0 where
   pub grant : is_grant y.opcode ≡ true
   pub ack : is_release_ack y.opcode ≡ false
   pub sink : y.sink ≡ (s.block n).tracker
@@ -139,8 +138,7 @@ flowed-grant {w} {X} {c} {n} {d} {k} {y} {first} {last} {asked} {asked'} {rest} 
     let answered = part-block (λ (z : Block X). is_answered (z.pair c).probing) n s s' is.elsewhere is.answered in
     let b : Block X = s.block n in
     let grants_at : ℕ → Bool = λ m. is_grant y.opcode && asks_for m (request_of y.source t) in
-    let names : (m : ℕ) → (is_grant y.opcode && asks_for m (request_of y.source t)) ≡ (n == m) =
-    λ m. cc (
+    let names : (m : ℕ) → (is_grant y.opcode && asks_for m (request_of y.source t)) ≡ (n == m) = λ m. cc (
       is.grant,
       before.asked_is y.source (before.requests y.source ∙ was_requested y.source (same_number y.source)),
       is.asks m,
@@ -161,11 +159,10 @@ flowed-grant {w} {X} {c} {n} {d} {k} {y} {first} {last} {asked} {asked'} {rest} 
       first_is = first_is;
       last_is = last_is;
       rests = rests;
-      held_is = each-block (λ m z. held_by c z
-          ≡ (if last then unwrap_or (if is_grant y.opcode && asks_for m (request_of y.source t) then Some
-          (capped y.param) else None) (held_by c (s.block m)) else held_by c (s.block m))) n s s' is.elsewhere
-          (is.held_is ∙ ap (λ (q : Perm). if last then q else held_by c b) (sym is.says)
-          ∙ sym (said last (grants_at n) (capped y.param) (held_by c b) (names n ∙ same_number n)))
+      held_is = each-block (λ m z. held_by c z ≡ (if last then unwrap_or (if is_grant y.opcode && asks_for m
+          (request_of y.source t) then Some (capped y.param) else None) (held_by c (s.block m)) else held_by c
+          (s.block m))) n s s' is.elsewhere (is.held_is ∙ ap (λ (q : Perm). if last then q else held_by c b)
+          (sym is.says) ∙ sym (said last (grants_at n) (capped y.param) (held_by c b) (names n ∙ same_number n)))
           (λ m ne. sym (unsaid last (grants_at m) (capped y.param) (held_by c (s.block m)) (apart m ne)));
       requests = λ i. use_at i ∙ requests i last (y.source == i) refl refl;
       asked_is = λ i e. asked_still i e (last && (y.source == i)) refl;
@@ -186,13 +183,12 @@ flowed-grant {w} {X} {c} {n} {d} {k} {y} {first} {last} {asked} {asked'} {rest} 
           (let_of c (rest Channel.C) (s.block m)) is.ack);
       sinks = λ i. ap (λ (o : Option ℕ). is_sunk c i (rest' Channel.D) o s') (is.tracked i) ∙ sinks i (y.sink == i)
           (s.tracked i) refl refl;
-      grants = each-block (λ m z. granted_by c m asked' (rest' Channel.D) z
-          ≡ step first last (is_grant y.opcode && asks_for m (request_of y.source t)) false
+      grants = each-block (λ m z. granted_by c m asked' (rest' Channel.D) z ≡ step first last
+          (is_grant y.opcode && asks_for m (request_of y.source t)) false
           (granted_by c m asked (rest Channel.D) (s.block m))) n s s' is.elsewhere
-          (now_granted last d k (view new.service c) (comes_granting n asked' (rest' Channel.D)) is.seen_is (is.grants n
-          ∙ with_true (not last) (n == n) (same_number n))
-          ∙ sym (begun first last (grants_at n) (granted_by c n asked (rest Channel.D) b) (names n ∙ same_number n)
-          granted_then)) (λ m ne. grants_other m ne
+          (now_granted last d k (view new.service c) (comes_granting n asked' (rest' Channel.D)) is.seen_is
+          (is.grants n ∙ with_true (not last) (n == n) (same_number n)) ∙ sym (begun first last (grants_at n)
+          (granted_by c n asked (rest Channel.D) b) (names n ∙ same_number n) granted_then)) (λ m ne. grants_other m ne
           ∙ sym (unbegun first last (grants_at m) (granted_by c m asked (rest Channel.D) (s.block m)) (apart m ne)));
       probes = λ m. answered m ∙ sym (step_quiet first last (is_answered ((s.block m).pair c).probing));
       probed = λ m e. probed-of m y t ∙ probed m e;
@@ -216,17 +212,15 @@ flowed-grant {w} {X} {c} {n} {d} {k} {y} {first} {last} {asked} {asked'} {rest} 
     requests : (i : ℕ) (z here : Bool) → last ≡ z → (y.source == i) ≡ here
         → is_requested c i (rest Channel.A) (if z && here then SourceFree else s.uses c i) s' ≡ step first last false
         (not (is_release_ack y.opcode) && (y.source == i)) (is_requested c i (rest Channel.A) (s.uses c i) s)
-    requests i true true e f =
-        ap not (sym e) ∙ sym (closed first last (is_release_ack y.opcode) (y.source == i)
+    requests i true true e f = ap not (sym e) ∙ sym (closed first last (is_release_ack y.opcode) (y.source == i)
         (is_requested c i (rest Channel.A) (s.uses c i) s) is.ack f (was_requested i f))
-    requests i false true e f =
-        cc (
-          is.use_is i f,
-          now_requested last d k (view new.service c) is.seen_is e,
-          e,
-          closed first last (is_release_ack y.opcode) (y.source == i) (is_requested c i (rest Channel.A) (s.uses c i) s)
-              is.ack f (was_requested i f),
-        )
+    requests i false true e f = cc (
+      is.use_is i f,
+      now_requested last d k (view new.service c) is.seen_is e,
+      e,
+      closed first last (is_release_ack y.opcode) (y.source == i) (is_requested c i (rest Channel.A) (s.uses c i) s)
+          is.ack f (was_requested i f),
+    )
     requests i true false e f = requested-apart c i n (rest Channel.A) (rest Channel.A) (s.uses c i) s s' is.elsewhere
         refl (is.no_use i f) ∙ sym (unclosed_by first last (not (is_release_ack y.opcode)) (y.source == i)
         (is_requested c i (rest Channel.A) (s.uses c i) s) f)
@@ -237,9 +231,8 @@ flowed-grant {w} {X} {c} {n} {d} {k} {y} {first} {last} {asked} {asked'} {rest} 
     was_pending : (i : ℕ) → is_requested c i (rest Channel.A) (s.uses c i) s' ≡ true → (here : Bool)
         → (y.source == i) ≡ here → pending (RequestSource i) t ≡ true
     was_pending i e true f = before.requests i ∙ was_requested i f
-    was_pending i e false f =
-        before.requests i ∙ sym (requested-apart c i n (rest Channel.A) (rest Channel.A) (s.uses c i) s s' is.elsewhere
-        refl (is.no_use i f)) ∙ e
+    was_pending i e false f = before.requests i ∙ sym (requested-apart c i n (rest Channel.A) (rest Channel.A)
+        (s.uses c i) s s' is.elsewhere refl (is.no_use i f)) ∙ e
 
     asked_still : (i : ℕ) → is_requested c i (rest' Channel.A) (s'.uses c i) s' ≡ true → (z : Bool)
         → (last && (y.source == i)) ≡ z → request_of i (Beat.D y ∷ t) ≡ asked' i
@@ -248,11 +241,7 @@ flowed-grant {w} {X} {c} {n} {d} {k} {y} {first} {last} {asked} {asked'} {rest} 
         sym (use_at i ∙ ap (λ (z : Bool). is_requested c i (rest Channel.A) (if z then SourceFree else s.uses c i) s')
         f) ∙ e in cc)
     asked_still i e false f =
-        cc (
-          request_of-d i y t,
-          before.asked_is i (was_pending i (cc (use_at i)) (y.source == i) refl),
-          is.asked_is i f,
-        )
+        cc (request_of-d i y t, before.asked_is i (was_pending i (cc (use_at i)) (y.source == i) refl), is.asked_is i f)
 
     lets : (i : ℕ) → is_let_by c i (rest' Channel.C) (s'.lets c i) s' ≡ is_let_by c i (rest Channel.C) (s.lets c i) s
     lets i = cc (
@@ -273,17 +262,15 @@ flowed-grant {w} {X} {c} {n} {d} {k} {y} {first} {last} {asked} {asked'} {rest} 
           opened first last (is_grant y.opcode) (y.sink == i) (is_sunk c i (rest Channel.D) o s) is.grant e
               (cc (at_n, is.seen, is.came i, with_true (not first) (y.sink == i) e)),
         )
-    sinks i false None e f =
-        sym (unbegun first last (is_grant y.opcode && (y.sink == i)) false
+    sinks i false None e f = sym (unbegun first last (is_grant y.opcode && (y.sink == i)) false
         (and_right (is_grant y.opcode) (y.sink == i) e))
-    sinks i false (Some m) e f =
-        cc (
-          is.elsewhere m (λ g. let h : (n == n) ≡ false = sym (rw (f, g) refl) ∙ is.tracks_not i e in
-              let j : true ≡ false = sym (same_number n) ∙ h in cc),
-          is.comes i,
-          and_right (not last) (y.sink == i) e,
-          is.came i,
-          and_right (not first) (y.sink == i) e,
-          unbegun first last (is_grant y.opcode && (y.sink == i))
-              (is_sunk c i (rest Channel.D) (Some m) s) (and_right (is_grant y.opcode) (y.sink == i) e),
-        )
+    sinks i false (Some m) e f = cc (
+      is.elsewhere m (λ g. let h : (n == n) ≡ false = sym (rw (f, g) refl) ∙ is.tracks_not i e in
+          let j : true ≡ false = sym (same_number n) ∙ h in cc),
+      is.comes i,
+      and_right (not last) (y.sink == i) e,
+      is.came i,
+      and_right (not first) (y.sink == i) e,
+      unbegun first last (is_grant y.opcode && (y.sink == i))
+          (is_sunk c i (rest Channel.D) (Some m) s) (and_right (is_grant y.opcode) (y.sink == i) e),
+    )

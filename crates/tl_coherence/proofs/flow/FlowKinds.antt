@@ -205,9 +205,8 @@ module _ {w : ℕ} {config : Config} {log : Log w} (h : AbstractState w) {sys : 
           grant = λ n q x j taken sent l.
               let due = grant-due (is_caching config) c n toks s is.invariant taken.0 in
               let same : q ≡ c = let both = sym sent ∙ due.service in cc in
-              flowed-aside (left-grant_taken d then_asked _ (unfinished_at sys d) s
-              (asks-left d h (taken_by_client c n (GrantSent q x j) toks h) l) comes c n _ x j toks ne
-              (sent ∙ ap (λ (i : ℕ). GrantSent i x j) same))
+              flowed-aside (left-grant_taken d then_asked _ (unfinished_at sys d) s (asks-left d h (taken_by_client c n
+              (GrantSent q x j) toks h) l) comes c n _ x j toks ne (sent ∙ ap (λ (i : ℕ). GrantSent i x j) same))
               flowed;
           release_ack = λ n taken l. flowed-aside (left-release_ack_taken d then_asked _ (unfinished_at sys d) s
               (asks-left d h (kind_taken config tracker c ReleaseAck n toks h) l) comes c n toks ne) flowed;

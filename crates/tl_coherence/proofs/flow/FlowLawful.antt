@@ -25,10 +25,7 @@ pub next-flows : {w : ℕ} (l : Level) (p : Profile) {m : Message w} {x : Beat w
     (t : History w) → illegal l (channel_of x) x ≡ None → IsNext x rest m ms queue → unfinished (channel_in m) t ≡ rest
     → (rest ≡ [] → broken_in_order p (beat_of m 0) t ≡ None) → broken_after l p x t ≡ None
 next-flows {w} l p {m} t lawful next is first =
-    cc (
-      next.beat_is,
-      beat-flows l p m next.k t (cc next.beat_is) (is ∙ next.rest_is) (λ e. first (sym is ∙ e)),
-    )
+    cc (next.beat_is, beat-flows l p m next.k t (cc next.beat_is) (is ∙ next.rest_is) (λ e. first (sym is ∙ e)))
 
 pub lawful-beat : {w : ℕ} {config : Config} {log : Log w} {mail : AccessMessages w} {request : ℕ → MessageA w}
     {s : State (List ℕ)} {sys : System w} (c : ℕ)
@@ -56,9 +53,8 @@ report-lawful {w} {config} {log} {mail} {s} {sys} c n toks l {x} {ms} {queue} wi
     let about = report-about r n b.truth width (is.sized n).truth in
     let m : MessageC w = about.0 in
     let told : r ≡ report_at (cap_waited b.service) (b.pair c).recorded =
-    cc (same_report-is r (report_at (cap_waited b.service) (b.pair c).recorded)
-    (seen_cap (λ k. same_report r (report_at k (b.pair c).recorded)) b.service c
-    (report_fits r (b.pair c) (view b.service c) ok_is answered))) in
+    cc (same_report-is r (report_at (cap_waited b.service) (b.pair c).recorded) (seen_cap (λ k. same_report r
+    (report_at k (b.pair c).recorded)) b.service c (report_fits r (b.pair c) (view b.service c) ok_is answered))) in
     next-flows l config.profile (flow c log) lawful
     (subst (λ (i : Message w). IsNext x rest i ms queue) about.1 next) ((flowed c).rest_is Channel.C)
     (λ none. report-flows config.profile n (cap_waited b.service) r (c_beat_of m 0) (flowed c) none about.2.reports

@@ -150,11 +150,10 @@ pub same-granted : {X : Type 0} (d c q source : ℕ) (r : Report) (j k : Cap) (x
     → b.service ≡ Waits q true source j → is_answered ((reported_block c r b).pair d).probing ≡ false
     → IsSameBlock d (reported_block c r b) (granted_block c q r x k b)
 same-granted {X} d c q source r j k x b other waits quiet =
-    others-same d (reported_block c r b) (granted_block c q r x k b)
-    (set-other q d (after_grant_sent k (b.pair q)) (set c (after_report r (b.pair c)) b.pair) other) refl (inl refl)
-    (outside-same (view b.service d) (view (GrantSent q x k) d) (ap (λ (i : Service). is_outside (view i d)) waits
-    ∙ outside-waits d q source true j (ne_eqb d q other)) (outside-sent d q x k other))
-    (λ e. absurd (let g : false ≡ true = sym quiet ∙ e in cc))
+    others-same d (reported_block c r b) (granted_block c q r x k b) (set-other q d (after_grant_sent k (b.pair q))
+    (set c (after_report r (b.pair c)) b.pair) other) refl (inl refl) (outside-same (view b.service d)
+    (view (GrantSent q x k) d) (ap (λ (i : Service). is_outside (view i d)) waits ∙ outside-waits d q source true j
+    (ne_eqb d q other)) (outside-sent d q x k other)) (λ e. absurd (let g : false ≡ true = sym quiet ∙ e in cc))
 
 -- who asked for the block had as much of it as was recorded
 pub same-given : {X : Type 0} (c q source : ℕ) (r : Report) (j k : Cap) (x : Bool) (b : Block X) → (q ≡ c → ⊥)
@@ -203,9 +202,8 @@ same-freed {X} d c b ne taken = others-same d b (freed_block b) refl refl (inl r
 
 pub same-acquiring : {X : Type 0} (d c source : ℕ) (whole : Bool) (g : Grow) (bytes : X) (b : Block X) → (d ≡ c → ⊥)
     → IsSameBlock d b (acquiring_block c source whole g bytes b)
-same-acquiring d c source whole g bytes b ne = others-same d b (acquiring_block c source whole g bytes b)
-    (set-other c d (after_acquire whole g (b.pair c)) b.pair ne) refl (inl refl) (same-view (view b.service d))
-    (λ e. refl)
+same-acquiring d c source whole g bytes b ne = others-same d b (acquiring_block c source whole g bytes b) (set-other c d
+    (after_acquire whole g (b.pair c)) b.pair ne) refl (inl refl) (same-view (view b.service d)) (λ e. refl)
 
 pub same-releasing : {X : Type 0} (d c source : ℕ) (r : Prune) (b : Block X) → (d ≡ c → ⊥)
     → IsSameBlock d b (releasing_block c source r b)

@@ -37,10 +37,9 @@ module _ {w : ℕ} {config : Config} {log : Log w} (h : AbstractState w) {sys : 
       (rests : AreRests x (unfinished_at sys c) rest') where
     -- after the beat, which was the last of its message or not
     abbrev Goes : Channel → Kind → Type 0
-    Goes ch k = packets_on ch (h.state.link c) ≡ packet k i ∷ toks
-        → IsNext x (unfinished_at sys c ch) (message_of_kind k h.mail h.state c i) ms queue → (b : Bool)
-        → completes x (unfinished_at sys c ch) ≡ b → (b ≡ true → IsReady tracker c k i h)
-        → FlowsWith x (if b then kind_taken config tracker c k i toks h else h)
+    Goes ch k = packets_on ch (h.state.link c) ≡ packet k i ∷ toks → IsNext x (unfinished_at sys c ch)
+        (message_of_kind k h.mail h.state c i) ms queue → (b : Bool) → completes x (unfinished_at sys c ch) ≡ b
+        → (b ≡ true → IsReady tracker c k i h) → FlowsWith x (if b then kind_taken config tracker c k i toks h else h)
 
     contrary : {A : Type 0} (b : Bool) → b ≡ true → b ≡ false → A
     contrary b e f = absurd (let no : true ≡ false = sym e ∙ f in cc)
@@ -96,9 +95,8 @@ module _ {w : ℕ} {config : Config} {log : Log w} (h : AbstractState w) {sys : 
                 (cap_asked (AcquireOpen wanted.whole wanted.grow)) toks s
 
             granted : State (List ℕ)
-            granted = acquire_granted c i tracker
-                (is_granted_data wanted.whole wanted.grow ((s.block i).pair c).recorded)
-                (gift config.profile wanted.whole wanted.grow
+            granted = acquire_granted c i tracker (is_granted_data wanted.whole wanted.grow
+                ((s.block i).pair c).recorded) (gift config.profile wanted.whole wanted.grow
                 (is_unheld (length config.clients.items) (s.block i).pair)) toks s
 
             either : (z : Bool) → Leaves c h (with_state (if z then served else granted) h)
@@ -106,10 +104,9 @@ module _ {w : ℕ} {config : Config} {log : Log w} (h : AbstractState w) {sys : 
             either true l = own-acquire_served h is flowed rest' wanted r.0 tracker r.1
                 (asked_by h.mail served c) (asks-left c h (with_state served h) l)
                 (cap_asked (AcquireOpen wanted.whole wanted.grow)) toks x ms queue here rests
-            either false l = own-acquire_granted h is flowed rest' wanted r.0 tracker r.1
-                (asked_by h.mail granted c) (asks-left c h (with_state granted h) l)
-                (is_granted_data wanted.whole wanted.grow ((s.block i).pair c).recorded)
-                (gift config.profile wanted.whole wanted.grow
+            either false l = own-acquire_granted h is flowed rest' wanted r.0 tracker r.1 (asked_by h.mail granted c)
+                (asks-left c h (with_state granted h) l) (is_granted_data wanted.whole wanted.grow
+                ((s.block i).pair c).recorded) (gift config.profile wanted.whole wanted.grow
                 (is_unheld (length config.clients.items) (s.block i).pair)) toks x ms queue here rests
 
         go : (z : Bool) → completes x (unfinished_at sys c Channel.A) ≡ z → (z ≡ true → IsReady tracker c Acquire i h)

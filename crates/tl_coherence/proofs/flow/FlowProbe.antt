@@ -48,12 +48,9 @@ flowed-probe {w} {X} {c} n k toks {asked} asked' {rest} rest' {s} {t} first last
       requested-blocks c i (rest Channel.A) (s.uses c i) s s'
           (set-part (λ (z : Block X). is_unserved (view z.service c)) n new s.block refl),
     ) in
-    let grants : (m : ℕ) → granted_by c m asked' (rest' Channel.D) (s'.block m) ≡ granted_by c m asked (rest Channel.D)
-    (s.block m) = λ m. cc (
-      rests Channel.D,
-      comes m,
-      set-part (granted_by c m asked (rest Channel.D)) n new s.block refl m,
-    ) in
+    let grants : (m : ℕ)
+    → granted_by c m asked' (rest' Channel.D) (s'.block m) ≡ granted_by c m asked (rest Channel.D) (s.block m) =
+    λ m. cc (rests Channel.D, comes m, set-part (granted_by c m asked (rest Channel.D)) n new s.block refl m) in
     flowed-next (record {
       first_is = first;
       last_is = last;
@@ -74,10 +71,9 @@ flowed-probe {w} {X} {c} n k toks {asked} asked' {rest} rest' {s} {t} first last
           (s.tracked i);
       grants = grants;
       probes = set-each (λ m z. is_answered (z.pair c).probing ≡ step true true (block_at (64 * n) == m) false
-          (is_answered ((s.block m).pair c).probing)) n new s.block (part_true
-          ∙ sym (whole_opened (block_at (64 * n) == n) (is_answered (b.pair c).probing) (rw at (same_number n))))
-          (λ m ne. sym (whole_unopened (block_at (64 * n) == m) (is_answered ((s.block m).pair c).probing)
-          (rw at (ne_eqb n m (λ e. ne (sym e))))));
+          (is_answered ((s.block m).pair c).probing)) n new s.block (part_true ∙ sym (whole_opened (block_at
+          (64 * n) == n) (is_answered (b.pair c).probing) (rw at (same_number n)))) (λ m ne. sym (whole_unopened
+          (block_at (64 * n) == m) (is_answered ((s.block m).pair c).probing) (rw at (ne_eqb n m (λ e. ne (sym e))))));
       probed = λ m e. probed-of m y t first ∙ probed m e;
       sunk = λ m e. sunk-of m y t ∙ before.sunk m (before.grants m ∙ sym (grants m) ∙ e) ∙ ap Some
           (sym (set-part (λ (z : Block X). z.tracker) n new s.block refl m));

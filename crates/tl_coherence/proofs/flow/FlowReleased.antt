@@ -146,9 +146,8 @@ flowed-release {w} {X} {c} {n} {r} {y} {first} {last} {asked} {rest} {rest'} {s}
     (s.uses c i) s = λ i. cc (
       rests Channel.A,
       is.uses i,
-      requested-blocks c i (rest Channel.A) (s.uses c i) s s'
-          (part-block (λ (z : Block X). is_unserved (view z.service c)) n s s' is.elsewhere
-          (ap (λ (q : Service). is_unserved (view q c)) is.service)),
+      requested-blocks c i (rest Channel.A) (s.uses c i) s s' (part-block (λ (z : Block X). is_unserved
+          (view z.service c)) n s s' is.elsewhere (ap (λ (q : Service). is_unserved (view q c)) is.service)),
     ) in
     let acquires = part-block (acquired_by c) n s s' is.elsewhere (cc (is.acquiring, is.service)) in
     let answered : (m : ℕ) → is_answered ((s'.block m).pair c).probing ≡ is_answered ((s.block m).pair c).probing =
@@ -161,42 +160,37 @@ flowed-release {w} {X} {c} {n} {r} {y} {first} {last} {asked} {rest} {rest'} {s}
       rests Channel.D,
       part-block (granted_by c m asked (rest Channel.D)) n s s' is.elsewhere
           (ap (λ (q : Service). is_acknowledging (view q c) || comes_granting m asked (rest Channel.D)) is.service) m,
-    )
-    in
+    ) in
     flowed-next (record {
       first_is = first_is;
       last_is = last_is;
       rests = rests;
-      held_is = each-block (λ m z. held_by c z
-          ≡ (if last then unwrap_or (if (is_probe_ack y.opcode || is_release y.opcode) && (block_at y.address == m) then
-          Some (reported y.param) else None) (held_by c (s.block m)) else held_by c (s.block m))) n s s' is.elsewhere
-          (is.held_is ∙ ap (λ (q : Perm). if last then q else held_by c b) (sym is.says)
-          ∙ sym (said last (is_probe_ack y.opcode) (is_release y.opcode) (block_at y.address == n) (reported y.param)
-          (held_by c b) is.release here_at))
-          (λ m ne. sym (unsaid_any last (is_probe_ack y.opcode) (is_release y.opcode) (block_at y.address == m)
-          (reported y.param) (held_by c (s.block m)) (apart m ne)));
+      held_is =
+          each-block (λ m z. held_by c z ≡ (if last then unwrap_or (if (is_probe_ack y.opcode || is_release y.opcode)
+          && (block_at y.address == m) then Some (reported y.param) else None) (held_by c (s.block m)) else held_by c
+          (s.block m))) n s s' is.elsewhere (is.held_is ∙ ap (λ (q : Perm). if last then q else held_by c b)
+          (sym is.says) ∙ sym (said last (is_probe_ack y.opcode) (is_release y.opcode) (block_at y.address == n)
+          (reported y.param) (held_by c b) is.release here_at)) (λ m ne. sym (unsaid_any last (is_probe_ack y.opcode)
+          (is_release y.opcode) (block_at y.address == m) (reported y.param) (held_by c (s.block m)) (apart m ne)));
       requests = λ i. requests i ∙ sym (step_quiet first last (is_requested c i (rest Channel.A) (s.uses c i) s));
       asked_is = λ i e. request_of-c i y t ∙ before.asked_is i (before.requests i ∙ sym (requests i) ∙ e);
       acquires = λ m. acquires m ∙ sym (step_quiet first last (acquired_by c (s.block m)));
       release_sources = lets;
       released = λ i m e f. released i m (sym (is.lets i) ∙ e) f (cases_eq i y.source);
       sizes = λ i m e f. sizes i m (sym (is.lets i) ∙ e) f (cases_eq i y.source);
-      releases = each-block (λ m z. let_of c (rest' Channel.C) z ≡ step first last
-          (is_release y.opcode && (block_at y.address == m)) false (let_of c (rest Channel.C) (s.block m))) n s s'
-          is.elsewhere
+      releases = each-block (λ m z. let_of c (rest' Channel.C) z ≡ step first last (is_release y.opcode
+          && (block_at y.address == m)) false (let_of c (rest Channel.C) (s.block m))) n s s' is.elsewhere
           (let_now (new.release_source c) last r (rest' Channel.C) (new.pair c).letting is.letting_is
           (is.comes (new.release_source c) ∙ with_true (not last) (y.source == new.release_source c)
-          (rw (is.release_source, is.source) (same_number (b.release_source c))))
-          ∙ sym (opened first last (is_release y.opcode) (block_at y.address == n) (let_of c (rest Channel.C) b)
-          is.release here_at then_here))
+          (rw (is.release_source, is.source) (same_number (b.release_source c)))) ∙ sym (opened first last
+          (is_release y.opcode) (block_at y.address == n) (let_of c (rest Channel.C) b) is.release here_at then_here))
           (λ m ne. let_rest m ne ∙ sym (unopened first last (is_release y.opcode) (block_at y.address == m)
           (let_of c (rest Channel.C) (s.block m)) (apart m ne)));
       sinks = λ i. sinks i ∙ sym (step_quiet first last (is_sunk c i (rest Channel.D) (s.tracked i) s));
       grants = λ m. grants m ∙ sym (step_quiet first last (granted_by c m asked (rest Channel.D) (s.block m)));
       probes = λ m. answered m ∙ sym (not_closed m);
-      probed = λ m e. probe_of-c m y t ∙ before.probed m (sym (answered m) ∙ e)
-          ∙ sym (ap (λ k. Some (probe_beat m k)) (part-block (λ (z : Block X). cap_waited z.service) n s s' is.elsewhere
-          (ap cap_waited is.service) m));
+      probed = λ m e. probe_of-c m y t ∙ before.probed m (sym (answered m) ∙ e) ∙ sym (ap (λ k. Some (probe_beat m k))
+          (part-block (λ (z : Block X). cap_waited z.service) n s s' is.elsewhere (ap cap_waited is.service) m));
       sunk = λ m e. grant_sink-c m y t ∙ before.sunk m (before.grants m ∙ sym (grants m) ∙ e) ∙ ap Some
           (sym (part-block (λ (z : Block X). z.tracker) n s s' is.elsewhere is.tracker m));
     }) before
@@ -240,24 +234,22 @@ flowed-release {w} {X} {c} {n} {r} {y} {first} {last} {asked} {rest} {rest'} {s}
     lets_with : (i : ℕ) (o : Option ℕ) → s.lets c i ≡ o → (i ≡ y.source) ⊎ (i ≡ y.source → ⊥)
         → is_let_by c i (rest' Channel.C) o s' ≡ step first last (is_release y.opcode && (y.source == i)) false
         (is_let_by c i (rest Channel.C) o s)
-    lets_with i o e (inl same) =
-        cc (
-          e,
-          of_block i same,
-          let_now i last r (rest' Channel.C) (new.pair c).letting is.letting_is (is.comes i
-              ∙ with_true (not last) (y.source == i) (rw same (same_number y.source))),
-          opened first last (is_release y.opcode) (y.source == i) (is_let_by c i (rest Channel.C) o s) is.release
-              (rw same (same_number y.source)) (then_by i o e same),
-        )
+    lets_with i o e (inl same) = cc (
+      e,
+      of_block i same,
+      let_now i last r (rest' Channel.C) (new.pair c).letting is.letting_is (is.comes i
+          ∙ with_true (not last) (y.source == i) (rw same (same_number y.source))),
+      opened first last (is_release y.opcode) (y.source == i) (is_let_by c i (rest Channel.C) o s) is.release
+          (rw same (same_number y.source)) (then_by i o e same),
+    )
     lets_with i None e (inr ne) = sym (unopened first last (is_release y.opcode) (y.source == i) false (another i ne))
-    lets_with i (Some m) e (inr ne) =
-        cc (
-          is.elsewhere m (λ f. let g : (n == n) ≡ false = sym (rw (e, f) refl) ∙ of_no_block i ne in
-              let h : true ≡ false = sym (same_number n) ∙ g in cc),
-          let_other i (rest Channel.C) (rest' Channel.C) ((s.block m).pair c).letting (λ begun. comes_other i ne),
-          unopened first last (is_release y.opcode)
-              (y.source == i) (is_release_pending i (rest Channel.C) ((s.block m).pair c).letting) (another i ne),
-        )
+    lets_with i (Some m) e (inr ne) = cc (
+      is.elsewhere m (λ f. let g : (n == n) ≡ false = sym (rw (e, f) refl) ∙ of_no_block i ne in
+          let h : true ≡ false = sym (same_number n) ∙ g in cc),
+      let_other i (rest Channel.C) (rest' Channel.C) ((s.block m).pair c).letting (λ begun. comes_other i ne),
+      unopened first last (is_release y.opcode)
+          (y.source == i) (is_release_pending i (rest Channel.C) ((s.block m).pair c).letting) (another i ne),
+    )
 
     lets : (i : ℕ) → is_let_by c i (rest' Channel.C) (s'.lets c i) s' ≡ step first last
         (is_release y.opcode && (y.source == i)) false (is_let_by c i (rest Channel.C) (s.lets c i) s)

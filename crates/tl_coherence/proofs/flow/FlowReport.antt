@@ -61,9 +61,8 @@ flowed-report_part {w} {X} {c} y first {asked} {rest} rest' {s} {t} first_is las
           (before.release_sources i ∙ sym (lets i) ∙ f);
       sizes = λ i m e f. cc (released-of i y t other, before.sizes i m e (before.release_sources i ∙ sym (lets i) ∙ f));
       releases = λ n. let_rest ((s.block n).release_source c) (rest Channel.C) (rest' Channel.C)
-          ((s.block n).pair c).letting (comes ((s.block n).release_source c))
-          ∙ sym (unopened first false (is_release y.opcode) (block_at y.address == n)
-          (let_of c (rest Channel.C) (s.block n)) other);
+          ((s.block n).pair c).letting (comes ((s.block n).release_source c)) ∙ sym (unopened first false
+          (is_release y.opcode) (block_at y.address == n) (let_of c (rest Channel.C) (s.block n)) other);
       sinks = λ i. ap (λ (r : List (Beat w)). is_sunk c i r (s.tracked i) s) (rests Channel.D) ∙ sym
           (step_quiet first false (is_sunk c i (rest Channel.D) (s.tracked i) s));
       grants = λ n. grants n ∙ sym (step_quiet first false (granted_by c n asked (rest Channel.D) (s.block n)));

@@ -57,16 +57,14 @@ flowed-report {w} {X} {c} n r toks y first {asked} {rest} rest' {s}
     ) in
     let acquires = set-part (acquired_by c) n new s.block (ap (λ (z : Bool). z && not (is_unserved (view b.service c)))
     (part_of (λ (p : ClientBlock). is_wanting p.acquiring) c (after_report r (b.pair c)) b.pair refl)) in
-    let releases : (m : ℕ) → let_of c (rest' Channel.C) (s'.block m) ≡ let_of c (rest Channel.C) (s.block m) =
-    λ m. cc (
+    let releases : (m : ℕ) → let_of c (rest' Channel.C) (s'.block m) ≡ let_of c (rest Channel.C) (s.block m) = λ m. cc (
       let_rest ((s'.block m).release_source c) (rest Channel.C) (rest' Channel.C)
           ((s'.block m).pair c).letting (comes ((s'.block m).release_source c)),
       set-part (let_of c (rest Channel.C)) n
           new s.block (ap (is_release_pending (b.release_source c) (rest Channel.C)) letting_same) m,
     ) in
     let grants : (m : ℕ) → granted_by c m asked (rest' Channel.D) (s'.block m) ≡ granted_by c m asked (rest Channel.D)
-    (s.block m) = λ m. cc (rests Channel.D, set-part (granted_by c m asked (rest Channel.D)) n new s.block refl m)
-    in
+    (s.block m) = λ m. cc (rests Channel.D, set-part (granted_by c m asked (rest Channel.D)) n new s.block refl m) in
     flowed-next (record {
       first_is = first_is;
       last_is = last_is;
@@ -91,10 +89,9 @@ flowed-report {w} {X} {c} n r toks y first {asked} {rest} rest' {s}
       grants = λ m. grants m ∙ sym (step_quiet first true (granted_by c m asked (rest Channel.D) (s.block m)));
       probes = set-each (λ m z. is_answered (z.pair c).probing ≡ step first true false
           (is_probe_ack y.opcode && (block_at y.address == m)) (is_answered ((s.block m).pair c).probing)) n new s.block
-          (quiet ∙ sym (closed first (is_probe_ack y.opcode) (block_at y.address == n) (is_answered (b.pair c).probing)
-          ack (rw at (same_number n))))
-          (λ m ne. sym (elsewhere first (is_probe_ack y.opcode) (block_at y.address == m)
-          (is_answered ((s.block m).pair c).probing) (apart m ne)));
+          (quiet ∙ sym (closed first (is_probe_ack y.opcode) (block_at y.address == n)
+          (is_answered (b.pair c).probing) ack (rw at (same_number n)))) (λ m ne. sym (elsewhere first
+          (is_probe_ack y.opcode) (block_at y.address == m) (is_answered ((s.block m).pair c).probing) (apart m ne)));
       probed = λ m e. probe_of-c m y t ∙ probed m e;
       sunk = λ m e. grant_sink-c m y t ∙ before.sunk m (before.grants m ∙ sym (grants m) ∙ e) ∙ ap Some
           (sym (set-part (λ (z : Block X). z.tracker) n new s.block refl m));

@@ -35,9 +35,8 @@ flow-answer : {w : ℕ} {config : Config} {log : Log w} {mail : AccessMessages w
 flow-answer {w} {config} {log} {mail} {request} {s} {sys} {c} {source} h flowed due whole =
     let kind = access_kind due.answer.opcode due.answers_access in
     let asks = asks-access c source due.request mail s (ap is_access due.used) due.request_is in
-    let live = (flowed c).requests source ∙ ap
-    (λ (u : SourceState). is_requested c source (unfinished Channel.A (on_link c sys.manager.trace)) u s) due.used
-    in
+    let live = (flowed c).requests source ∙ ap (λ (u : SourceState). is_requested c source
+    (unfinished Channel.A (on_link c sys.manager.trace)) u s) due.used in
     answer-legal config.profile (record {
       whole = (flowed c).rest_is Channel.D ∙ whole;
       complete = cc (
@@ -179,8 +178,7 @@ not-coming_c {w} {config} {mail} {s} {sys} c n h let_ acked = go (s.link c).c re
     each : (k : Kind) (i : ℕ) (rest : List Packet) → (s.link c).c ≡ packet k i ∷ rest → is_on Channel.C k ≡ true
         → IsUnreleased source (message_of_kind k mail s c i)
     each ProbeAck i rest first own = rendered_report w c i source s
-    each Release i rest first own =
-        rendered_release w c i source s
+    each Release i rest first own = rendered_release w c i source s
         (differ i (first-shown h.invariant c Release refl first) ((s.block i).release_source c == source) refl)
     each k i rest first own = absurd cc
 
@@ -290,6 +288,5 @@ pub flows-d : {w : ℕ} {config : Config} {log : Log w} {mail : AccessMessages w
     → SimulationRelation config log mail request s sys → MonitorRelations log mail s sys
     → sys.channels c Channel.D ≡ x ∷ queue → level_of config c ≡ Some l → broken_after l config.profile x (flow c log)
     ≡ None
-flows-d {config} {log} {mail} {request} {s} {sys} c l x queue width h flowed beats level =
-    in_order l config.profile x (flow c log) (lawful-beat c Channel.D l x queue h beats
-    level) (legal_d c x queue width h flowed beats)
+flows-d {config} {log} {mail} {request} {s} {sys} c l x queue width h flowed beats level = in_order l config.profile x
+    (flow c log) (lawful-beat c Channel.D l x queue h beats level) (legal_d c x queue width h flowed beats)

@@ -58,8 +58,7 @@ granted_by c n asked rest b = is_acknowledging (view b.service c) || comes_grant
 
 -- each value after the beat, given those before it
 pub record IsStepped {w : ℕ} {X : Type 0} (x : Beat w) (first last : Bool) (asked asked' : ℕ → Option (BeatA w))
-    (rest rest' : Channel → List (Beat w)) (c : ℕ)
-    (s s' : State X) (t : History w) : Type 0 where
+    (rest rest' : Channel → List (Beat w)) (c : ℕ) (s s' : State X) (t : History w) : Type 0 where
   pub first_is : begins x t ≡ first
   pub last_is : ends x t ≡ last
   pub rests : (ch : Channel) → rest' ch ≡ (if on ch x then grown x (rest ch) else rest ch)
@@ -123,9 +122,8 @@ flowed-next {w} {X} {x} {first} {last} {asked} {asked'} {rest} {rest'} {c} {s} {
         (is_requested c i (rest' Channel.A) (s'.uses c i) s') is.first_is is.last_is (before.requests i) (is.requests i)
 
     lets : (i : ℕ) → pending (ReleaseSource i) (x ∷ t) ≡ is_let_by c i (rest' Channel.C) (s'.lets c i) s'
-    lets i = stepped (ReleaseSource i) x t first last (is_let_by c i (rest Channel.C) (s.lets c i) s)
-        (is_let_by c i (rest' Channel.C) (s'.lets c i) s') is.first_is is.last_is (before.release_sources i)
-        (is.release_sources i)
+    lets i = stepped (ReleaseSource i) x t first last (is_let_by c i (rest Channel.C) (s.lets c i) s) (is_let_by c i
+        (rest' Channel.C) (s'.lets c i) s') is.first_is is.last_is (before.release_sources i) (is.release_sources i)
 
     grants : (n : ℕ) → pending (GrantAckOf n) (x ∷ t) ≡ granted_by c n asked' (rest' Channel.D) (s'.block n)
     grants n = stepped (GrantAckOf n) x t first last (granted_by c n asked (rest Channel.D) (s.block n))

@@ -26,13 +26,9 @@ moved-first {w} {config} {log} h link ch o x width is o_is moves delivered =
     let head : (b : Bool) → b ≡ true → (if b then x ∷ flow link.0 log else flow link.0 log) ≡ (if b then at.0
     ∷ flow link.0 log else flow link.0 log) → at.0 ≡ x = elim [ true ↦ λ e f. cc | false ↦ λ e f. absurd cc ] in
     let moved = moved-on link ch h at.0 at.1 at.2 width is at.3.0 at.3.1 moving (is_to_client ch) refl in
-    let both : (if link.0 == link.0 then x ∷ flow link.0 log else flow link.0 log)
-    ≡ (if link.0 == link.0 then at.0 ∷ flow link.0 log else flow link.0 log) =
-    cc (delivered link.0, o_is, moved.delivered link.0) in
-    let same : at.0 ≡ x = head (link.0 == link.0) (same_number link.0) both in (
-      at.1,
-      cc at.3.0,
-    )
+    let both : (if link.0 == link.0 then x ∷ flow link.0 log else flow link.0 log) ≡ (if link.0 == link.0 then at.0
+    ∷ flow link.0 log else flow link.0 log) = cc (delivered link.0, o_is, moved.delivered link.0) in
+    let same : at.0 ≡ x = head (link.0 == link.0) (same_number link.0) both in (at.1, cc at.3.0)
 
 -- the beat of an outcome
 moved-beat : {w : ℕ} {config : Config} {log : Log w} (h : AbstractState w) (link : Link) (ch : Channel) (x : Beat w)

@@ -105,8 +105,7 @@ all-good : {w : ℕ} {config : Config} (log : Log w) → IsGiven config log
     → AreGood (levels_of config) config.profile (trace_of log)
 unfolding AreGood trace_of flow
 all-good [] given = tt
-all-good {config} ((Ask client op, o) ∷ log) given =
-    all-good log (given-before config (Ask client op, o) log given)
+all-good {config} ((Ask client op, o) ∷ log) given = all-good log (given-before config (Ask client op, o) log given)
 all-good {config} ((Deliver link ch, Outcome.Moved x) ∷ log) given = (
   delivered-unbroken config log link ch (Outcome.Moved x) x given refl (taken link x (flow link.0 log)),
   all-good log (given-before config (Deliver link ch, Outcome.Moved x) log given),

@@ -43,8 +43,7 @@ moved-flowed {w} {config} {log} {link} {ch} {h} {x} {queue} width is flowed beat
     (unfinished_at sys' d) d z.state t in
     subst (λ (z : AbstractState w). Here z
     (flow d ((Deliver link ch, (stepped config (Deliver link ch) sys).outcome) ∷ log))) (sym at.follows)
-    (subst (λ (t : History w). Here h' t) (sym (at.delivered d))
-    (elim (cases_eq d c) [
+    (subst (λ (t : History w). Here h' t) (sym (at.delivered d)) (elim (cases_eq d c) [
       | inl same ↦ rw same own
       | inr other ↦ others other
     ]))
@@ -199,9 +198,8 @@ legal-event : {w : ℕ} {config : Config} {log : Log w} (h : AbstractState w) (e
     → is_legal l config.profile (flow d log) ≡ true
     → is_legal l config.profile (flow d ((event, (stepped config event (system_after config log)).outcome) ∷ log))
     ≡ true
-legal-event {w} {config} {log} h (Ask c o) d l width is values level legal =
-    ap (is_legal l config.profile) (flow_still (Ask c o) (stepped config (Ask c o) (system_after config log)).outcome
-    log d (asked-still config log c o)) ∙ legal
+legal-event {w} {config} {log} h (Ask c o) d l width is values level legal = ap (is_legal l config.profile) (flow_still
+    (Ask c o) (stepped config (Ask c o) (system_after config log)).outcome log d (asked-still config log c o)) ∙ legal
 legal-event {w} {config} {log} h (Deliver link ch) d l width is values level legal =
     go (is_moving (stepped config (Deliver link ch) sys).outcome) refl
   where

@@ -48,9 +48,8 @@ held_by_most c b v e =
 -- ---- a beat of a Grant that is next on channel D
 
 given-next : {w : ℕ} {config : Config} {log : Log w} → IsGiven config log → (c : ℕ) (y : BeatD w)
-    (queue : List (Beat w)) → (system_after config log).channels c Channel.D ≡ Beat.D y ∷ queue
-    → (n other : ℕ) → grants n y (flow c log) ≡ true → (other ≡ c → ⊥)
-    → leaves (capped y.param) (held n (flow other log)) ≡ true
+    (queue : List (Beat w)) → (system_after config log).channels c Channel.D ≡ Beat.D y ∷ queue → (n other : ℕ)
+    → grants n y (flow c log) ≡ true → (other ≡ c → ⊥) → leaves (capped y.param) (held n (flow other log)) ≡ true
 given-next {w} {config} {log} given c y queue beats n other granted ne =
     let values = flowed config log given.width given.typed given.is_log in
     let grant = grant-next config log h c y queue given.width is values beats n granted in
@@ -110,8 +109,7 @@ one-writer {w} {config} {log} given one other n ne trunk =
     let at = matched-given config log given in
     let values : (c : ℕ) → held n (flow c log) ≡ held_by c b =
     λ c. (flowed config log given.width given.typed given.is_log c).held_is n in
-    let most : (c : ℕ) → perm_le (held_by c b) (b.pair c).recorded ≡ true =
-    λ c. held_by_most c b (view b.service c)
+    let most : (c : ℕ) → perm_le (held_by c b) (b.pair c).recorded ≡ true = λ c. held_by_most c b (view b.service c)
     (held_at_most (b.pair c) (view b.service c) ((at.invariant.blocks n).phases c)) in
     cc (
       trace-flows other log,

@@ -27,14 +27,12 @@ not_nobody : {w : ℕ} (r : Reply) → ◌≡◌ {A = Outcome w} Outcome.NoSuchC
 not_nobody r e = cc
 
 pub hidden_stores : {w : ℕ} → HiddenStores w
-hidden_stores {w} config log given c address size value stored =
-    cc (
-      trace-flows c log,
-      (flowed config log given.width given.typed given.is_log c).held_is (block_at address),
-      still_trunk (is_granting (view b.service c)) (b.pair c).held (b.pair c).recorded
-          (held_at_most (b.pair c) (view b.service c) ((is.invariant.blocks (block_at address)).phases c))
-          (go (terms_at config c) refl),
-    )
+hidden_stores {w} config log given c address size value stored = cc (
+  trace-flows c log,
+  (flowed config log given.width given.typed given.is_log c).held_is (block_at address),
+  still_trunk (is_granting (view b.service c)) (b.pair c).held (b.pair c).recorded (held_at_most (b.pair c)
+      (view b.service c) ((is.invariant.blocks (block_at address)).phases c)) (go (terms_at config c) refl),
+)
   where
     h : AbstractState w
     h = shadow config log
@@ -49,9 +47,8 @@ hidden_stores {w} config log given c address size value stored =
     store = Op.Store address size value
 
     go : (o : Option EndConfig) → terms_at config c ≡ o → (b.pair c).held ≡ Perm.Trunk
-    go None nobody = absurd (not_nobody {w = w} Reply.Stored
-        (sym (ap (λ (s : Step w). s.outcome) (stepped-nobody config (Ask c store) (system_after config log) nobody))
-        ∙ stored))
+    go None nobody = absurd (not_nobody {w = w} Reply.Stored (sym (ap (λ (s : Step w). s.outcome)
+        (stepped-nobody config (Ask c store) (system_after config log) nobody)) ∙ stored))
     go (Some terms) known = cc (same_perms (b.pair c).held Perm.Trunk
         (rw (same_reply {w = w} (ask.asked terms store ((system_after config log).clients c)).reply Reply.Stored
         (sym (ap (λ (s : Step w). s.outcome) (stepped-asked config c store (system_after config log) terms known))

@@ -40,10 +40,9 @@ AreSameMessages h i c source = (i.mail.request c source ≡ h.mail.request c sou
 -- Each was answered before, or is answered now: nobody is recorded any more with what excludes it, and it is answered
 -- what the block had.
 abbrev pub AreRenewed : {w : ℕ} → AbstractState w → AbstractState w → Type 0
-AreRenewed {w} h i = (c source : ℕ) → i.state.uses c source ≡ Replied
-    → ((h.state.uses c source ≡ Replied) × AreSameMessages h i c source)
-    ⊎ ((m : MessageA w) × (i.mail.request c source ≡ Message.A m) × IsSettledFor m i.state
-    × (i.mail.answer c source ≡ answers m (h.state.block (block_at m.address)).truth))
+AreRenewed {w} h i = (c source : ℕ) → i.state.uses c source ≡ Replied → ((h.state.uses c source ≡ Replied)
+    × AreSameMessages h i c source) ⊎ ((m : MessageA w) × (i.mail.request c source ≡ Message.A m)
+    × IsSettledFor m i.state × (i.mail.answer c source ≡ answers m (h.state.block (block_at m.address)).truth))
 
 -- each was answered before
 abbrev pub AreKept : {w : ℕ} → AbstractState w → AbstractState w → Type 0
@@ -87,12 +86,10 @@ renewed-reply c k m bytes h i uses requests replies is settled found d j e = eli
 -- ---- a client is asked
 
 pub kept-asked : {w : ℕ} (c : ℕ) (o : Op w) (r : Reply) (h : AbstractState w) → AreKept h (asked c o r h)
-kept-asked c (Op.Acquire n g) (Reply.Started source) h =
-    kept-set c source (Acquires n) h (asked c (Op.Acquire n g) (Reply.Started source) h) (λ e. cc)
-    (λ d j. refl) (λ d j other. (refl, refl))
-kept-asked c (Op.AcquireWhole n bytes) (Reply.Started source) h =
-    kept-set c source (Acquires n) h (asked c (Op.AcquireWhole n bytes) (Reply.Started source) h) (λ e. cc)
-    (λ d j. refl) (λ d j other. (refl, refl))
+kept-asked c (Op.Acquire n g) (Reply.Started source) h = kept-set c source (Acquires n) h
+    (asked c (Op.Acquire n g) (Reply.Started source) h) (λ e. cc) (λ d j. refl) (λ d j other. (refl, refl))
+kept-asked c (Op.AcquireWhole n bytes) (Reply.Started source) h = kept-set c source (Acquires n) h
+    (asked c (Op.AcquireWhole n bytes) (Reply.Started source) h) (λ e. cc) (λ d j. refl) (λ d j other. (refl, refl))
 kept-asked c (Op.Access (Message.A m)) (Reply.Started source) h =
     kept-set c source Asked h (asked c (Op.Access (Message.A m)) (Reply.Started source) h)
     (λ e. cc) (λ d j. refl) (λ d j other. (set_at-apart c source (access source m) h.mail.request d j other, refl))
@@ -150,8 +147,7 @@ renewed-kind_taken {w} {config} tracker c k i rest h is first ready =
         b = h.state.block n
 
         found : (x : Option Cap) → cap_probed m.opcode m.param ≡ x → probes_some clients c false x b.pair ≡ false
-            → ((d : ℕ) → leaves (needs m.opcode) (b.pair d).recorded ≡ true)
-            × (answers m b.memory ≡ answers m b.truth)
+            → ((d : ℕ) → leaves (needs m.opcode) (b.pair d).recorded ≡ true) × (answers m b.memory ≡ answers m b.truth)
         found None f e = (
           λ d. leaves_all m.opcode m.param (b.pair d).recorded plain f,
           ap (λ r. access_answer m (answer_of (Message.A m) r))
@@ -170,12 +166,10 @@ renewed-kind_taken {w} {config} tracker c k i rest h is first ready =
         → (h.state.block n).service ≡ Waits q false source j
         → AreRenewed h (last_taken clients config.profile c n (report_told ((h.state.block n).pair c).probing)
         (Waits q false source j) rest h)
-    reported n q source j known last waits =
-        renewed-reply q source m (written r b.truth b.memory) h
+    reported n q source j known last waits = renewed-reply q source m (written r b.truth b.memory) h
         (last_taken clients config.profile c n r (Waits q false source j) rest h) (λ d i. refl) (λ d i. refl)
-        (λ d i. refl) (rw waits at (is.served_with n)) settled (ap (answers m)
-        (memory-reported c q source r j (is.invariant.blocks n) waits answer quiet ∙ ap
-        (λ (i : ℕ). (h.state.block i).truth) (sym for.2)))
+        (λ d i. refl) (rw waits at (is.served_with n)) settled (ap (answers m) (memory-reported c q source r j
+        (is.invariant.blocks n) waits answer quiet ∙ ap (λ (i : ℕ). (h.state.block i).truth) (sym for.2)))
       where
         b : Block (List ℕ)
         b = h.state.block n

@@ -42,6 +42,5 @@ true-moved config log given c (Beat.C y) queue beats = tt
 true-moved config log given c (Beat.E y) queue beats = tt
 
 pub true_grants : {w : ℕ} → TrueGrants w
-true_grants config log given =
-    each-taken config (λ earlier link x. IsTrueGrant (one_memory_after config earlier).memory link x (trace_of earlier))
-    (true-moved config) log given
+true_grants config log given = each-taken config (λ earlier link x. IsTrueGrant
+    (one_memory_after config earlier).memory link x (trace_of earlier)) (true-moved config) log given

@@ -50,11 +50,8 @@ true-next {w} {config} {log} given c y queue beats with_data =
         let of_block : block_at y.address ≡ n = ap (λ (z : BeatC w). block_at z.address) same ∙ says.block in
         let data_too : c_carries_data m.opcode ≡ true = cc (same, with_data) in
         let lanes : y.lanes ≡ lanes_at true w (h.state.block n).truth (length (unfinished Channel.C (flow c log))) =
-        cc (same, data_too, says.payload_is (sym says.carries_is ∙ data_too), at) in (
-          (h.state.block n).truth,
-          rw of_block (is.beside.memory n),
-          lanes,
-        )
+        cc (same, data_too, says.payload_is (sym says.carries_is ∙ data_too), at) in
+        ((h.state.block n).truth, rw of_block (is.beside.memory n), lanes)
 
 true-moved : {w : ℕ} (config : Config) (log : Log w) → IsGiven config log → (c : ℕ) (x : Beat w) (queue : List (Beat w))
     → (system_after config log).channels c (channel_of x) ≡ x ∷ queue
@@ -67,6 +64,5 @@ true-moved config log given c (Beat.D y) queue beats = tt
 true-moved config log given c (Beat.E y) queue beats = tt
 
 pub true_returns : {w : ℕ} → TrueReturns w
-true_returns config log given =
-    each-taken config (λ earlier link x. IsTrueReturn (one_memory_after config earlier).memory link x
-    (trace_of earlier)) (true-moved config) log given
+true_returns config log given = each-taken config (λ earlier link x. IsTrueReturn
+    (one_memory_after config earlier).memory link x (trace_of earlier)) (true-moved config) log given

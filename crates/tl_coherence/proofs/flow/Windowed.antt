@@ -59,17 +59,15 @@ module _ {w : ℕ} (config : Config) (log : Log w) (h : AbstractState w) (sys : 
   pub asked_flow : request_of source (flow c log) ≡ Some (a_beat_of m 0)
   asked_flow = cc (
     (values c).asked_is source pending_flow,
-    asked_replied (h.state.uses c source)
-        (h.mail.request c source) (block_message Acquire c (block_used (h.state.uses c source))
-        (h.state.block (block_used (h.state.uses c source)))) used,
+    asked_replied (h.state.uses c source) (h.mail.request c source) (block_message Acquire c
+        (block_used (h.state.uses c source)) (h.state.block (block_used (h.state.uses c source)))) used,
     request,
   )
 
   -- its request is pending and complete
   pub opened-now : is_some (open_request source (on_link c (trace_of log))) ≡ true
   opened-now =
-      let whole : comes_in_request source (unfinished Channel.A (flow c log)) ≡ false =
-      cc (
+      let whole : comes_in_request source (unfinished Channel.A (flow c log)) ≡ false = cc (
         (values c).rest_is Channel.A,
         not-coming_a c source is (ap (λ (u : SourceState). waits_on_a c u h.state) used),
       ) in
@@ -81,10 +79,9 @@ module _ {w : ℕ} (config : Config) (log : Log w) (h : AbstractState w) (sys : 
   free-now settled n =
       let k : ℕ = block_at m.address in
       let b : Block (List ℕ) = h.state.block k in
-      cc (free-where n None (needs m.opcode) k (trace_of log)
-      (λ other. ap (λ (t : History w). leaves (needs m.opcode) (held k t)) (trace-flows other log)
-      ∙ ap (leaves (needs m.opcode)) ((values other).held_is k) ∙ leaves_below m.opcode (held_by other b)
-      (b.pair other).recorded (held_by_most other b (view b.service other)
+      cc (free-where n None (needs m.opcode) k (trace_of log) (λ other. ap (λ (t : History w). leaves (needs m.opcode)
+      (held k t)) (trace-flows other log) ∙ ap (leaves (needs m.opcode)) ((values other).held_is k)
+      ∙ leaves_below m.opcode (held_by other b) (b.pair other).recorded (held_by_most other b (view b.service other)
       (held_at_most (b.pair other) (view b.service other) ((is.invariant.blocks k).phases other))) (settled other)))
 
 -- ---- after one more event
@@ -99,13 +96,11 @@ windowed-more {w} {config} {log'} h h' {sys'} y t is values more renewed before 
     let opened : is_some (open_request source (on_link c (y ∷ t))) ≡ true =
     rw more at (opened-now config log' h' sys' is values c source m used request) in
     rw opened (elim (renewed c source used) [
-      | inl old ↦ or_right (is_free n None (needs m.opcode) (block_at m.address) (y ∷ t))
-          (has_window n c source (needs m.opcode) (block_at m.address) t)
-          (before n c source m old.0 (sym old.1.0 ∙ request))
-      | inr new ↦ or_left (is_free n None (needs m.opcode) (block_at m.address) (y ∷ t))
-          (has_window n c source (needs m.opcode) (block_at m.address) t)
-          (subst (λ (s : Trace w). is_free n None (needs m.opcode) (block_at m.address) s ≡ true) more
-          (free-now config log' h' sys' is values c source m used request
+      | inl old ↦ or_right (is_free n None (needs m.opcode) (block_at m.address) (y ∷ t)) (has_window n c source
+          (needs m.opcode) (block_at m.address) t) (before n c source m old.0 (sym old.1.0 ∙ request))
+      | inr new ↦ or_left (is_free n None (needs m.opcode) (block_at m.address) (y ∷ t)) (has_window n c source
+          (needs m.opcode) (block_at m.address) t) (subst (λ (s : Trace w). is_free n None (needs m.opcode)
+          (block_at m.address) s ≡ true) more (free-now config log' h' sys' is values c source m used request
           (subst (λ (i : MessageA w). IsSettledFor i h'.state) (same_message new.0 m (sym new.1 ∙ request)) new.2) n))
     ])
 
@@ -122,8 +117,7 @@ kept-ask {w} config c o sys h = go (terms_at config c) refl
     After x = AreKept h (abstract_step_by config (Ask c o) x.outcome sys h)
 
     go : (i : Option EndConfig) → terms_at config c ≡ i → After (stepped config (Ask c o) sys)
-    go None none = subst After (sym (stepped-nobody config (Ask c o) sys none))
-        (λ d j e. (e, (refl, refl)))
+    go None none = subst After (sym (stepped-nobody config (Ask c o) sys none)) (λ d j e. (e, (refl, refl)))
     go (Some terms) known = subst After (sym (stepped-asked config c o sys terms known))
         (kept-asked c o (ask.asked terms o (sys.clients c)).reply h)
 
@@ -150,9 +144,8 @@ windowed-event : {w : ℕ} {config : Config} {log : Log w} (h : AbstractState w)
     (stepped config event (system_after config log)).after → AreWindowed h (trace_of log)
     → AreWindowed (abstract_step config event (system_after config log) h) (taken_at event o ++ trace_of log)
 unfolding trace_of
-windowed-event {config} {log} h (Ask c i) o width is o_is is' values before =
-    windowed-kept h (abstract_step config (Ask c i) (system_after config log) h) (trace_of log)
-    (kept-ask config c i (system_after config log) h) before
+windowed-event {config} {log} h (Ask c i) o width is o_is is' values before = windowed-kept h (abstract_step config
+    (Ask c i) (system_after config log) h) (trace_of log) (kept-ask config c i (system_after config log) h) before
 windowed-event {config} {log} h (Deliver link ch) (Outcome.Moved x) width is o_is is' values before =
     windowed-more h (abstract_step config (Deliver link ch) (system_after config log) h) (link, x) (trace_of log) is'
     values refl (renewed-followed config log (Deliver link ch) h width is) before
@@ -175,10 +168,9 @@ windowed : {w : ℕ} (config : Config) (log : Log w) → IsWidth w → AreTyped 
     → AreWindowed (shadow config log) (trace_of log)
 unfolding shadow system_after AreTyped IsLog trace_of
 windowed config [] width typed is = λ n c source m used request. absurd (closed_first used)
-windowed {w} config (x ∷ log) width typed is =
-    windowed-event (shadow config log) x.0 x.1 width (matched config log width typed.1 is.1) is.0
-    (matched config (x ∷ log) width typed is) (flowed config (x ∷ log) width typed is)
-    (windowed config log width typed.1 is.1)
+windowed {w} config (x ∷ log) width typed is = windowed-event (shadow config log) x.0 x.1 width
+    (matched config log width typed.1 is.1) is.0 (matched config (x ∷ log) width typed is)
+    (flowed config (x ∷ log) width typed is) (windowed config log width typed.1 is.1)
 
 -- ---- an answer that begins
 

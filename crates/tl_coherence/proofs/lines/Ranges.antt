@@ -178,17 +178,14 @@ module _ {w : ℕ} {config : Config} {log : Log w} {mail : AccessMessages w} {re
       (truth-bytes n)
   kind-ranged Release n shows =
       release-ranged w (prune_told ((s.block n).pair c).letting) ((s.block n).release_source c) n (s.block n).truth
-      (let-small ((s.block n).release_source c) n (release_named c n matched.invariant shows))
-      (truth-bytes n)
+      (let-small ((s.block n).release_source c) n (release_named c n matched.invariant shows)) (truth-bytes n)
   kind-ranged Grant n shows = grant-ranged w (s.block n).service ((s.block n).source c) (s.block n).tracker
       (s.block n).truth (used-small ((s.block n).source c) (Acquires n) (grant_named c n matched.invariant shows)
       (λ e. absurd cc)) (λ q d k e. tracker-small (s.block n).tracker n
       (tracker_of_service n matched.invariant (rw e refl))) (truth-bytes n)
-  kind-ranged ReleaseAck n shows =
-      ack-ranged w ((s.block n).release_source c)
+  kind-ranged ReleaseAck n shows = ack-ranged w ((s.block n).release_source c)
       (let-small ((s.block n).release_source c) n (release_ack_named c n matched.invariant shows))
-  kind-ranged GrantAck n shows =
-      tracker-small (s.block n).tracker n (grant_ack_named c n matched.invariant shows)
+  kind-ranged GrantAck n shows = tracker-small (s.block n).tracker n (grant_ack_named c n matched.invariant shows)
 
   pub first-ranged : (ch : Channel) (k : Kind) (n : ℕ) (rest : List Packet) → is_on ch k ≡ true
       → packets_on ch (s.link c) ≡ packet k n ∷ rest → IsRangedMessage (message_of_kind k mail s c n)

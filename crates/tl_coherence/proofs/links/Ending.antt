@@ -91,8 +91,7 @@ ending_d {w} {config} {log} link h terms y queue x source f width is known beats
         (ap (λ (i : Beat w). (offer.taken i e).answer) y_is ∙ answer)).0
 
     go : (b : Bool) → completes y (unfinished Channel.D e.past) ≡ b → IsEnding config log link Channel.D h x source f
-    go false part =
-        absurd (done_moved x y source f (outcome_is Verdict.Taken None (answer-part z e (cc (y_is, part)))))
+    go false part = absurd (done_moved x y source f (outcome_is Verdict.Taken None (answer-part z e (cc (y_is, part)))))
     go true last =
         let same : x ≡ y → source ≡ z.source → f ≡ finish_at z e → completes y (unfinished Channel.D e.past) ≡ true
         → IsEnding config log link Channel.D h x source f =

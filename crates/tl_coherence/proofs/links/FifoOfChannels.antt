@@ -76,11 +76,10 @@ manages-passing : {w : ℕ} (config : Config) (handed : Handed w) (t : Trace w) 
     → ArePassing p (λ d. on_link d (with_handed handed t)) (with_messages handed s).channels f
 unfolding with_messages with_handed
 manages-passing config [] t s each is = is
-manages-passing {w} config (x ∷ handed) t s {p} {f} each is =
-    manages-passing config handed (map (λ b. (x.0, b)) (burst_of x.1) ++ t) (with_message x.0.0 x.1 s) each.1
-    (passing-same p (λ d. on_link d (map (λ b. (x.0, b)) (burst_of x.1) ++ t)) (with_message x.0.0 x.1 s).channels f
-    (λ d. refl) (λ d. beats_on_link d x.0 (burst_of x.1) t) (λ d at. refl) (λ d. refl)
-    (manager-says x.0.0 x.1 each.0.ours is))
+manages-passing {w} config (x ∷ handed) t s {p} {f} each is = manages-passing config handed
+    (map (λ b. (x.0, b)) (burst_of x.1) ++ t) (with_message x.0.0 x.1 s) each.1 (passing-same p
+    (λ d. on_link d (map (λ b. (x.0, b)) (burst_of x.1) ++ t)) (with_message x.0.0 x.1 s).channels f (λ d. refl)
+    (λ d. beats_on_link d x.0 (burst_of x.1) t) (λ d at. refl) (λ d. refl) (manager-says x.0.0 x.1 each.0.ours is))
 
 -- ---- what is delivered
 
@@ -140,9 +139,8 @@ asked-passing {w} {config} {log} c o {mail} {request} {s} matched typed is = go 
     go (Some terms) known =
         let x = ask.asked terms o (sys.clients c) in
         subst (λ (i : Step w). IsPassing i.after f) (sym (stepped-asked config c o sys terms known))
-        (says-passing c x.message x.after (sys.clients c).past sys
-        (ours x.message (fit-asked terms o (sys.clients c) typed (copy-long matched c)))
-        (past-asked terms o (sys.clients c)) (λ d other. refl) is)
+        (says-passing c x.message x.after (sys.clients c).past sys (ours x.message (fit-asked terms o
+        (sys.clients c) typed (copy-long matched c))) (past-asked terms o (sys.clients c)) (λ d other. refl) is)
       where
         ours : (m : Option (Message w)) → IsFitIfAny terms.blocks m → IsOurs m
         ours None fit = tt
@@ -213,9 +211,8 @@ moved-passing {w} config log link ch terms x queue width typed logged known beat
                     → IsOurs m
                 ours v None e = tt
                 ours v (Some m) e =
-                    let fit : IsFitAnswer config.blocks (Ok (v, Some m)) =
-                    subst (IsFitAnswer config.blocks) e (fit-taken config.blocks x (sys.clients c) head.inside
-                    (copy-long h c)) in
+                    let fit : IsFitAnswer config.blocks (Ok (v, Some m)) = subst (IsFitAnswer config.blocks) e
+                    (fit-taken config.blocks x (sys.clients c) head.inside (copy-long h c)) in
                     ours_from m fit.ours
     go false down = by_manager (manager-moves config link ch sys terms x queue known beats down moving)
       where
@@ -226,14 +223,12 @@ moved-passing {w} config log link ch terms x queue width typed logged known beat
             let e = manager_offer.taken link x (manager_reaction.reaction config link x sys.manager) sys.manager in
             let now : System w = with_manager e (with_channel c ch queue sys) in
             subst (λ (y : Step w). IsPassing y.after (λ d. flow d ((Deliver link ch, y.outcome) ∷ log))) (sym t.step_is)
-            (passing-same _ _ (with_messages handed now).channels _
-            (λ d. ap (λ (i : ℕ → Endpoint w). (i d).past) (clients-with_messages handed now))
-            (λ d. ap (λ (i : manager_end.End w). on_link d i.trace) (manager-with_messages handed now))
-            (λ d at. refl) (λ d. flow_moved link ch (Outcome.Moved x) x log d refl)
-            (manages-passing config handed ((link, x) ∷ sys.manager.trace) now
-            (reaction_handable config link x sys.manager width head h.manager_kept.sound)
-            (passing-same _ _ _ _ (λ d. refl) (λ d. refl) (λ d at. refl) (λ d. refl)
-            (manager-hears c ch x queue down on_ch beats is))))
+            (passing-same _ _ (with_messages handed now).channels _ (λ d. ap (λ (i : ℕ → Endpoint w). (i d).past)
+            (clients-with_messages handed now)) (λ d. ap (λ (i : manager_end.End w). on_link d i.trace)
+            (manager-with_messages handed now)) (λ d at. refl) (λ d. flow_moved link ch
+            (Outcome.Moved x) x log d refl) (manages-passing config handed ((link, x) ∷ sys.manager.trace) now
+            (reaction_handable config link x sys.manager width head h.manager_kept.sound) (passing-same _ _ _ _
+            (λ d. refl) (λ d. refl) (λ d at. refl) (λ d. refl) (manager-hears c ch x queue down on_ch beats is))))
 
 -- ---- after every log
 
@@ -277,9 +272,8 @@ pub passing : {w : ℕ} (config : Config) (log : Log w) → IsWidth w → AreTyp
     → IsPassing (system_after config log) (λ d. flow d log)
 unfolding system_after AreTyped IsLog
 passing {w} config [] width typed logged = first-passing w
-passing {w} config (x ∷ log) width typed logged =
-    rw logged.0 (passing-event config log x.0 width typed.1 logged.1 typed.0
-    (passing config log width typed.1 logged.1))
+passing {w} config (x ∷ log) width typed logged = rw logged.0
+    (passing-event config log x.0 width typed.1 logged.1 typed.0 (passing config log width typed.1 logged.1))
 
 pub carried-passing : {w : ℕ} (config : Config) (log : Log w) (link : ℕ) (ch : Channel)
     → IsPassing (system_after config log) (λ d. flow d log) → IsFifo (system_after config log) log link ch

@@ -17,14 +17,13 @@ IsInOrder sent queue taken = sent ≡ reverse queue ++ taken
 push_order : {w : ℕ} (b : Bool) (m : Message w) (sent queue own taken : List (Beat w)) → (b ≡ true → own ≡ queue)
     → IsInOrder sent queue taken
     → IsInOrder (if b then burst_of m ++ sent else sent) (if b then own ++ beats_from m 0 (beats_of m) else queue) taken
-push_order true m sent queue own taken same is =
-    cc (
-      is,
-      append_assoc (burst_of m) (reverse queue) taken,
-      reverse-beats_from m (beats_of m),
-      reverse-append queue (beats_from m 0 (beats_of m)),
-      same refl,
-    )
+push_order true m sent queue own taken same is = cc (
+  is,
+  append_assoc (burst_of m) (reverse queue) taken,
+  reverse-beats_from m (beats_of m),
+  reverse-append queue (beats_from m 0 (beats_of m)),
+  same refl,
+)
 push_order false m sent queue own taken same is = is
 
 pop_order : {w : ℕ} (b : Bool) (x : Beat w) (rest sent queue taken : List (Beat w)) → (b ≡ true → queue ≡ x ∷ rest)
@@ -173,9 +172,8 @@ heard_here : {w : ℕ} (c : ℕ) (ch : Channel) (x : Beat w) (queue : List (Beat
     × (carried_on at (heard_at c x p d) ≡ carried_on at (heard_at c x f d))
 heard_here {w} c ch x queue p q f d at sent on first is =
     let order : IsInOrder sent (popped_at c ch queue q d at) (carried_on at (heard_at c x p d)) = elim (cases_eq d c) [
-      | inl here ↦ rw (here, heard_history c ch x p c at on, same_number c)
-          (pop_order (same_channel at ch) x queue sent (q c at) (carried_on at (p c))
-          (λ e. ap (q c) (same_channel-is at ch e) ∙ first) (rw here at is.0))
+      | inl here ↦ rw (here, heard_history c ch x p c at on, same_number c) (pop_order (same_channel at ch) x queue sent
+          (q c at) (carried_on at (p c)) (λ e. ap (q c) (same_channel-is at ch e) ∙ first) (rw here at is.0))
       | inr other ↦ rw (heard_history c ch x p d at on, ne_eqb d c other, ne_eqb c d (λ e. other (sym e))) is.0
     ] in
     (order, cc (heard_history c ch x p d at on, is.1, heard_history c ch x f d at on))

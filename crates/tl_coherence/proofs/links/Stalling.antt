@@ -79,10 +79,8 @@ module _ {w : ℕ} {config : Config} {log : Log w} {mail : AccessMessages w} {re
 
       of_let : IsLet (Some n) ((one_memory_after config log).opened c Releases source)
           → (prune : Prune) × (started c Releases source log ≡ Some (Release n prune))
-      of_let (p, is) = (
-        p,
-        sym (coherent.opened c Releases source) ∙ ap (λ (o : Option (Open w)). option_map (λ x. x.asked) o) is,
-      )
+      of_let (p, is) =
+          (p, sym (coherent.opened c Releases source) ∙ ap (λ (o : Option (Open w)). option_map (λ x. x.asked) o) is)
 
   pub started-releasing : IsReleasing c n log → pending (ReleaseOf n) ((system_after config log).clients c).past ≡ true
   started-releasing (source, prune, is) = go (s.lets c source) refl (matched.beside.releases c source)
@@ -122,9 +120,8 @@ moving-else : {w : ℕ} (config : Config) (terms : EndConfig) (link : ℕ) (ch :
     → is_stall (delivered config terms link ch beats s).outcome ≡ false
     → is_moving (delivered config terms link ch beats s).outcome ≡ true
 moving-else config terms link ch [] s some unstalled = absurd cc
-moving-else config terms link ch (x ∷ rest) s some unstalled =
-    first-outcome (λ o. is_stall o ≡ false → is_moving o ≡ true) config terms link ch x rest s (λ e. absurd cc)
-    (λ e. refl) (λ source f e. refl) unstalled
+moving-else config terms link ch (x ∷ rest) s some unstalled = first-outcome (λ o. is_stall o ≡ false
+    → is_moving o ≡ true) config terms link ch x rest s (λ e. absurd cc) (λ e. refl) (λ source f e. refl) unstalled
 
 -- a movable delivery moves a beat, where empty and stalled ones are what they should be
 pub movable-moves : {w : ℕ} (config : Config) (log : Log w) (c : ℕ) (ch : Channel)
@@ -187,9 +184,8 @@ module _ {w : ℕ} {config : Config} {log : Log w} {mail : AccessMessages w} {re
   moves-exactly Channel.B (Beat.B y) rest e first =
       let waits : is_movable config c Channel.B (system_after config log)
       ≡ not (pending (ReleaseOf (block_at y.address)) ((system_after config log).clients c).past) =
-      movable-is Channel.B (Beat.B y) rest e
-      ∙ ap not (stalled-as-it-waits terms Channel.B (Beat.B y) ((system_after config log).clients c)
-      (first.taken.0 refl) ∙ rw (first.probes y refl) refl) in
+      movable-is Channel.B (Beat.B y) rest e ∙ ap not (stalled-as-it-waits terms Channel.B (Beat.B y)
+      ((system_after config log).clients c) (first.taken.0 refl) ∙ rw (first.probes y refl) refl) in
       let there : is_movable config c Channel.B (system_after config log) ≡ false → IsReleasing c
       (block_at y.address) log = λ h. releasing-started matched coherent c (block_at y.address) (not-false _ (cc)) in
       (there, (λ h. waits ∙ ap not (started-releasing matched coherent c (block_at y.address) h)))

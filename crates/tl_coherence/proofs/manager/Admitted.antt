@@ -63,8 +63,7 @@ release-comes {w} {mail} {s} {sys} c n is kept = go (s.link c).c refl
 
     kinds : (k : Kind) (x : Packet) (xs : List Packet) → (s.link c).c ≡ x ∷ xs → x.kind ≡ k → (i : ℕ)
         → comes_of n (begun (message_of mail s c x) i) ≡ false
-    kinds ProbeAck x xs e f i =
-        rw f (ack_comes w (report_left (report_told ((s.block x.number).pair c).probing))
+    kinds ProbeAck x xs e f i = rw f (ack_comes w (report_left (report_told ((s.block x.number).pair c).probing))
         (report_told ((s.block x.number).pair c).probing) x.number n i (s.block x.number).truth)
     kinds Release x xs e f i =
         rw f (release_comes w (prune_told ((s.block x.number).pair c).letting) ((s.block x.number).release_source c)
@@ -155,8 +154,7 @@ order-acquire {w} {config} {log} {mail} {request} {s} {sys} {c} {n} zero is is_i
     (grows is_it.whole p.recorded p.held is_it.grow (acquire_fits is_it.whole is_it.grow p (view (s.block n).service c)
     well is_it.wants)
     (and_right (is_unprobed p.probing && is_unreleased p.letting) (same_perm p.recorded p.held) settled))
-order-acquire {w} {config} {s} {sys} {c} {n} (suc i) is is_it free burst =
-    later-legal config.profile
+order-acquire {w} {config} {s} {sys} {c} {n} (suc i) is is_it free burst = later-legal config.profile
     (Message.A (acquisition (acquire_opcode is_it.whole) is_it.grow ((s.block n).source c) n)) i
     (on_link c sys.manager.trace) burst
 
@@ -180,12 +178,8 @@ free-untracked {w} {request} {s} {t} inv is = go (s.tracked i) refl
     among : (n r : ℕ) → service_of_block n (services t) ≡ service_with (Some r) (s.block n).tracker (request n)
         → i ≡ (s.block n).tracker → ⊥
     among n r found same =
-        let one : is_one_of (s.block n).tracker (trackers_of (services t)) ≡ true =
-        tracker_among n (services t) (record {
-          tracker = (s.block n).tracker;
-          link = record { 0 = r };
-          request = request n;
-        }) found in
+        let one : is_one_of (s.block n).tracker (trackers_of (services t)) ≡ true = tracker_among n (services t)
+        (record { tracker = (s.block n).tracker; link = record { 0 = r }; request = request n }) found in
         let none : is_one_of (s.block n).tracker (trackers_of (services t)) ≡ false =
         cc (same, least_free-is_free (trackers_of (services t))) in
         cc
@@ -268,9 +262,8 @@ early_none false false = refl
 early_first : {w : ℕ} (p : Profile) (x : BeatA w) (t : History w) → unfinished Channel.A t ≡ []
     → pending (Key.RequestSource x.source) t ≡ false → before_stall (broken_in_order p (Beat.A x) t) ≡ None
 unfolding broken_order
-early_first p x t none free = rw (none, free) (early_none
-    (is_acquire x.opcode && (pending (Key.AcquireOf (block_at x.address)) t || pending
-    (Key.ReleaseOf (block_at x.address)) t))
+early_first p x t none free = rw (none, free) (early_none (is_acquire x.opcode
+    && (pending (Key.AcquireOf (block_at x.address)) t || pending (Key.ReleaseOf (block_at x.address)) t))
     (is_acquire x.opcode && not (grows_from x.param (held (block_at x.address) t))))
 
 pub early-acquire : {w : ℕ} {config : Config} {log : Log w} {mail : AccessMessages w} {request : ℕ → MessageA w}
@@ -287,8 +280,7 @@ early-acquire {w} {config} {log} {mail} {request} {s} {sys} {c} {n} zero is is_i
     0) (on_link c sys.manager.trace) burst
     (source-free c ((s.block n).source c) is
     (rw is_it.used (unserved_own (view (s.block n).service c) is_it.unserved)) burst)
-early-acquire {w} {config} {s} {sys} {c} {n} (suc i) is is_it burst =
-    ap before_stall (later-legal config.profile
+early-acquire {w} {config} {s} {sys} {c} {n} (suc i) is is_it burst = ap before_stall (later-legal config.profile
     (Message.A (acquisition (acquire_opcode is_it.whole) is_it.grow ((s.block n).source c) n)) i
     (on_link c sys.manager.trace) burst)
 

@@ -108,15 +108,13 @@ at_manager-probing {w} {config} {mail} {request} {c} {k} {n} {own} {source} {j} 
 
 -- ---- the last one: the access is answered
 
-pub at_manager-answered : {w : ℕ} {config : Config} {mail : AccessMessages w} {request : ℕ
-    → MessageA w} {c k n : ℕ} {m : MessageA w} {s u : State (List ℕ)} {e : End w}
+pub at_manager-answered : {w : ℕ} {config : Config} {mail : AccessMessages w} {request : ℕ → MessageA w} {c k n : ℕ}
+    {m : MessageA w} {s u : State (List ℕ)} {e : End w}
     → ((i : ℕ) → u.block i ≡ set n (performed_block (performs m) (s.block n)) s.block i)
-    → IsAnswering config c k n m s e → illegal_message_at (level_of config c) (A m) ≡ None
-    → reaction config (link_of c) (Beat.A (a_beat_of m k)) e ≡ performed config (service_for c m e.trace)
-    (with_beat c m k e.trace) e.memory
+    → IsAnswering config c k n m s e → illegal_message_at (level_of config c) (A m) ≡ None → reaction config (link_of c)
+    (Beat.A (a_beat_of m k)) e ≡ performed config (service_for c m e.trace) (with_beat c m k e.trace) e.memory
     → IsAtManager config mail request s e → IsAtManager config mail request u (end_after config c k m e)
-at_manager-answered {w} {config} {mail} {request} {c} {k} {n} {m} {s} {u} {e} blocks is lawful done
-    known =
+at_manager-answered {w} {config} {mail} {request} {c} {k} {n} {m} {s} {u} {e} blocks is lawful done known =
     let answering : Reaction w = performed config (service_for c m e.trace) (with_beat c m k e.trace) e.memory in
     let new : Block (List ℕ) = performed_block (performs m) (s.block n) in
     let served_now : (i : ℕ) → IsServedWith mail (u.block i).service (request i) =
@@ -157,8 +155,7 @@ at_manager-granted {w} {config} {mail} {request} {c} {k} {n} b {j} {m} {s} {u} {
       | inl same ↦ rw (same, blocks n, set-same n new s.block) tt
       | inr other ↦ rw (blocks i, set-other n i new s.block other, set-other n i m request other) (known.served_with i)
     ] in
-    let memory_now : (i : ℕ) → bytes_from granting.memory (64 * i) 64 ≡ (u.block i).memory =
-    λ i. cc (
+    let memory_now : (i : ℕ) → bytes_from granting.memory (64 * i) 64 ≡ (u.block i).memory = λ i. cc (
       performed-acquire config (service_for c m e.trace) (with_beat c m k e.trace) e.memory is.acquires,
       known.memory i,
       blocks i,

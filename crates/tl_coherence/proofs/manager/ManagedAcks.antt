@@ -52,10 +52,9 @@ serving-acked {w} {c} {n} {x} {request} {s} {t} is known i =
 
     -- no two blocks have one tracker
     differ : (r : ℕ) → (i ≡ n → ⊥) → client_in (s.block i).service ≡ Some r → ((s.block i).tracker == x.sink) ≡ false
-    differ r other e = cc (ne_eqb (s.block i).tracker x.sink (λ same. let first =
-        tracker-of i is.named (client_busy (s.block i).service r e) in let second =
-        tracker-of n is.named (rw is.taken refl) in let both : Some i ≡ Some n =
-        sym first ∙ ap s.tracked (same ∙ is.sink_is) ∙ second in other (same_Some i n both)))
+    differ r other e = cc (ne_eqb (s.block i).tracker x.sink (λ same. let first = tracker-of i is.named (client_busy
+        (s.block i).service r e) in let second = tracker-of n is.named (rw is.taken refl) in let both : Some i
+        ≡ Some n = sym first ∙ ap s.tracked (same ∙ is.sink_is) ∙ second in other (same_Some i n both)))
 
     never : (a b : Bool) → (a && (b && false)) ≡ false
     never true true = refl
@@ -68,8 +67,7 @@ serving-acked {w} {c} {n} {x} {request} {s} {t} is known i =
         → if_passes keeps (service_with o (s.block i).tracker (request i)) ≡ service_with o (s.block i).tracker
         (request i)
     kept other None e = refl
-    kept other (Some r) e =
-        stays (is_ended_by (record { 0 = c }, Beat.E x)
+    kept other (Some r) e = stays (is_ended_by (record { 0 = c }, Beat.E x)
         (record { tracker = (s.block i).tracker; link = record { 0 = r }; request = request i })) _
         (rw (differ r other e) (never (r == c) (is_acquire (request i).opcode)))
 

@@ -50,9 +50,8 @@ traced-ended {w} {X} {request} {c} {q} {n} {r} f rest {x} {m} {s} {t} is known =
     let new : Block X = ended_block c r f (s.block n) in
     let asked_now : (i p source : ℕ) (own : Bool) (cap : Cap) → (set n new s.block i).service ≡ Waits p own source cap
     → request_of source (on_link p t) ≡ Some (a_beat_of (request i) 0) =
-    λ i p source own cap. set-each (λ j z. z.service ≡ Waits p own source cap
-    → request_of source (on_link p t) ≡ Some (a_beat_of (request j) 0)) n new s.block (λ e. absurd cc)
-    (λ j ne. known.asked j p source own cap) i in
+    λ i p source own cap. set-each (λ j z. z.service ≡ Waits p own source cap → request_of source (on_link p t)
+    ≡ Some (a_beat_of (request j) 0)) n new s.block (λ e. absurd cc) (λ j ne. known.asked j p source own cap) i in
     record {
       recorded_is = λ d i. recorded-answer (record { 0 = q }) m u is.reply.width is.reply.whole
           (answer_kind m.opcode is.answers) d i ∙ reported-records r new is.last (λ j. refl) known d i;
@@ -62,8 +61,7 @@ traced-ended {w} {X} {request} {c} {q} {n} {r} f rest {x} {m} {s} {t} is known =
           is.access is.accounted) ∙ serving-without n i (services u)
           ∙ elim (cases_eq n i) [
             | inl same ↦ rw (← same, same_number n) refl
-            | inr apart ↦
-                rw (ne_eqb n i apart, ne_eqb i n (λ e. apart (sym e)))
+            | inr apart ↦ rw (ne_eqb n i apart, ne_eqb i n (λ e. apart (sym e)))
                 (ap (service_of_block i) (quiet-c (record { 0 = c }) x t).serves ∙ known.serving_is i)
           ];
       requests = set-each (λ i z. IsFor z.service i (request i)) n new s.block tt (λ i ne. known.requests i);

@@ -47,9 +47,8 @@ kept-left {config} {c} x d {e} width up is kept = subst (IsKept config) (left-is
 pub others-left : {w : ℕ} {config : Config} {c : ℕ} (n : ℕ) (x : BeatC w) (d : Reaction w) {e : End w} → IsWidth w
     → IsTakenUp config c Channel.C (Beat.C x) e → reaction config (record { 0 = c }) (Beat.C x) e ≡ d → IsKept config e
     → block_at x.address ≡ n → (i : ℕ) → (i ≡ n → ⊥) → block_in d.memory i ≡ block_in e.memory i
-others-left {w} {config} {c} n x d {e} width up is kept block i other =
-    ap (λ (z : End w). block_in z.memory i) (sym (left-is d up is)) ∙ other-blocks
-    (record { 0 = c }) Channel.C x n width kept block i other
+others-left {w} {config} {c} n x d {e} width up is kept block i other = ap (λ (z : End w). block_in z.memory i)
+    (sym (left-is d up is)) ∙ other-blocks (record { 0 = c }) Channel.C x n width kept block i other
 
 -- ---- a beat of channel C that isn't the last of its message
 
@@ -86,12 +85,11 @@ ends-it {k} {m} is = rw (is.rest, length-begun (Message.C m) k) (is_last k (beat
 pub payload-end : {w : ℕ} {b : Bool} {c n param : ℕ} {carries : Bool} {truth : List ℕ} {k : ℕ} {m : MessageC w}
     {e : End w} → IsEnd b c n param carries truth k m e → carries ≡ true
     → payload_of (Beat.C (c_beat_of m k) ∷ unfinished Channel.C (on_link c e.trace)) ≡ truth
-payload-end {w} {k} {m} is some =
-    cc (
-      is.rest,
-      payload-c m (begun (Message.C m) (suc k)) is.width is.about.long (whole, is.about.blank),
-      is.about.payload_is some,
-    )
+payload-end {w} {k} {m} is some = cc (
+  is.rest,
+  payload-c m (begun (Message.C m) (suc k)) is.width is.about.long (whole, is.about.blank),
+  is.about.payload_is some,
+)
   where
     whole : begun (Message.C m) (suc k) ≡ burst_of (Message.C m)
     whole = let all : suc k ≡ beats_of (Message.C m) = omega (arith, is.last) in
@@ -142,10 +140,8 @@ released-left {w} {config} {c} {n} {k} r rest {m} h {e} up end is =
     let truth : List ℕ = (h.state.block n).truth in
     let x : BeatC w = c_beat_of m k in
     let after : State (List ℕ) = release_taken c n r rest h.state in
-    let does : Reaction w = record {
-      handed = (record { 0 = c }, release_ack x.source) ∷ [];
-      memory = memory_with (record { 0 = c }) x e;
-    } in
+    let does : Reaction w =
+    record { handed = (record { 0 = c }, release_ack x.source) ∷ []; memory = memory_with (record { 0 = c }) x e } in
     let done : reaction config (record { 0 = c }) (Beat.C x) e ≡ does = reaction-released config r h end in
     let answer = release_is x.source in
     let released : IsReleased c x answer.0 e.trace = record {

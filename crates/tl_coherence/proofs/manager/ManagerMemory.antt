@@ -45,9 +45,8 @@ pub block-taken : {w : ℕ} (x : BeatC w) (beats : List (Beat w)) (memory : Memo
     → c_carries_data x.opcode ≡ carries → (carries ≡ true → payload_of beats ≡ truth) → length truth ≡ 64
     → block_in (written x beats memory) n ≡ (if carries then truth else block_in memory n)
 block-taken x beats memory n carries truth block is payload long =
-    let go : (b : Bool) → (b ≡ true → payload_of beats ≡ truth)
-    → block_in (if b then with_block (block_at x.address) (payload_of beats) memory else memory) n
-    ≡ (if b then truth else block_in memory n) =
+    let go : (b : Bool) → (b ≡ true → payload_of beats ≡ truth) → block_in (if b then with_block (block_at x.address)
+    (payload_of beats) memory else memory) n ≡ (if b then truth else block_in memory n) =
     elim [ true ↦ λ p. rw (block, p refl) (block-written n truth memory long) | false ↦ λ p. refl ] in
     rw is (go carries payload)
 
@@ -57,10 +56,8 @@ block-taken x beats memory n carries truth block is payload long =
 pub room-lawful : {w : ℕ} (o : Option Level) (m : MessageA w) → IsWidth w → illegal_message_at o (Message.A m) ≡ None
     → m.address % 64 + 2 ^ m.size ≤ 64
 room-lawful None m width e = absurd cc
-room-lawful {w} (Some l) m width e =
-    room_in_block m.size m.address m.small
-    (eqb-true (m.address % 2 ^ m.size) 0 (control_aligned w l m.opcode m.param m.size m.address
-    (control_of_legal l m width e)))
+room-lawful {w} (Some l) m width e = room_in_block m.size m.address m.small (eqb-true (m.address % 2 ^ m.size) 0
+    (control_aligned w l m.opcode m.param m.size m.address (control_of_legal l m width e)))
 
 bytes_at-same : (n : ℕ) (memory : Memory) → SameBlock n memory (bytes_at n (block_in memory n))
 bytes_at-same n memory address here =
@@ -74,16 +71,14 @@ pub block-performed : {w : ℕ} (o : Option Level) (m : MessageA w) (memory : Me
     → block_in (effect (Message.A m) memory).0 n ≡ performs m (block_in memory n)
 unfolding effect
 block-performed {w} o m memory n width lawful block =
-    rw (← block) (block-alike (block_at m.address) _ _
-    (after-local m.opcode m memory (bytes_at (block_at m.address) (block_in memory (block_at m.address)))
-    (room-lawful o m width lawful) (bytes_at-same (block_at m.address) memory)))
+    rw (← block) (block-alike (block_at m.address) _ _ (after-local m.opcode m memory (bytes_at (block_at m.address)
+    (block_in memory (block_at m.address))) (room-lawful o m width lawful) (bytes_at-same (block_at m.address) memory)))
 
 -- and so does what it is answered
 pub answer-performed : {w : ℕ} (o : Option Level) (m : MessageA w) (memory : Memory) (n : ℕ) → IsWidth w
     → illegal_message_at o (Message.A m) ≡ None → block_at m.address ≡ n
     → access_answer m (answer_of (Message.A m) (effect (Message.A m) memory).1) ≡ answers m (block_in memory n)
 unfolding effect
-answer-performed {w} o m memory n width lawful block =
-    rw (← block) (ap (λ (r : AccessResult). access_answer m (answer_of (Message.A m) r))
-    (reply-local m.opcode m memory (bytes_at (block_at m.address) (block_in memory (block_at m.address)))
-    (room-lawful o m width lawful) (bytes_at-same (block_at m.address) memory)))
+answer-performed {w} o m memory n width lawful block = rw (← block) (ap (λ (r : AccessResult). access_answer m
+    (answer_of (Message.A m) r)) (reply-local m.opcode m memory (bytes_at (block_at m.address)
+    (block_in memory (block_at m.address))) (room-lawful o m width lawful) (bytes_at-same (block_at m.address) memory)))

@@ -85,9 +85,8 @@ ended-left {w} {config} {c} {q} {n} {source} {k} {low} {r} rest {m} {h} {e} at =
     (λ i ne. at.is.served_with i) in
     subst (λ (d : Reaction w). IsManagerOf config (with_answer q source said (with_state after h))
     (left c (Beat.C x) d e)) (sym done) (record {
-      traced = subst (λ (i : Message w). IsTraced h.request after
-          (with_handed ((record { 0 = q }, i) ∷ []) (trace_with c k m e))) (sym reply.1)
-          (traced-ended (performs (h.request n)) rest ending at.is.traced);
+      traced = subst (λ (i : Message w). IsTraced h.request after (with_handed ((record { 0 = q }, i) ∷ [])
+          (trace_with c k m e))) (sym reply.1) (traced-ended (performs (h.request n)) rest ending at.is.traced);
       served_with = λ i. still i;
       manager_kept = kept-left x does at.end.width at.up done at.is.manager_kept;
       memory = λ i. cc (blocks-now e.memory does.memory n new h.state (block-performed (level_of config q) (h.request n)
@@ -149,10 +148,9 @@ gift_after config c n r whole g h =
     gift config.profile whole g (is_unheld (length config.clients.items) (pairs_after c r (h.state.block n).pair))
 
 abbrev pub grant_after : {w : ℕ} → Config → ℕ → ℕ → ℕ → ℕ → Report → Bool → Grow → AbstractState w → Message w
-grant_after config c q n source r whole g h =
-    grant_of (GrantSent q (is_granted_data whole g ((h.state.block n).pair q).recorded)
-    (gift_after config c n r whole g h)) source (h.state.block n).tracker
-    (protocol.written r (h.state.block n).truth (h.state.block n).memory)
+grant_after config c q n source r whole g h = grant_of (GrantSent q
+    (is_granted_data whole g ((h.state.block n).pair q).recorded) (gift_after config c n r whole g h)) source
+    (h.state.block n).tracker (protocol.written r (h.state.block n).truth (h.state.block n).memory)
 
 -- what is done: the Grant is handed out, with what the ProbeAcks left of the block
 pub reaction-conceded : {w : ℕ} {config : Config} {c q n source k : ℕ} {low : Cap} {r : Report} {whole : Bool}
@@ -167,8 +165,7 @@ reaction-conceded {w} {config} {c} {q} {n} {source} {k} {low} {r} {whole} {g} {m
     let memory : Memory = memory_with (record { 0 = c }) (c_beat_of m k) e in
     let unheld : Bool = is_unheld (length config.clients.items) (pairs_after c r (h.state.block n).pair) in
     let for = settling-for at in
-    let none : holders.is_unheld config n u ≡ unheld =
-    cc (nobody-same config (λ d. has_copy (recorded d n u))
+    let none : holders.is_unheld config n u ≡ unheld = cc (nobody-same config (λ d. has_copy (recorded d n u))
     (λ d. not (same_perm (pairs_after c r (h.state.block n).pair d).recorded Perm.None))
     (λ d. ap has_copy (settling-records at d) ∙ has_copy-is (pairs_after c r (h.state.block n).pair d).recorded)) in
     let sent : grant_of (GrantSent q (is_granted_data whole g ((h.state.block n).pair q).recorded)
@@ -225,9 +222,8 @@ conceded-left {w} {config} {c} {q} {n} {source} {k} {low} {r} {whole} {g} rest {
     let still = set-each (λ i z. IsServedWith h.mail z.service (h.request i)) n new h.state.block tt
     (λ i ne. at.is.served_with i) in
     subst (λ (d : Reaction w). IsManagerOf config (with_state after h) (left c (Beat.C x) d e)) (sym done) (record {
-      traced = subst (λ (i : Message w). IsTraced h.request after
-          (with_handed ((record { 0 = q }, i) ∷ []) (trace_with c k m e))) (sym reply.1)
-          (traced-conceded data_too rest conceded at.is.traced);
+      traced = subst (λ (i : Message w). IsTraced h.request after (with_handed ((record { 0 = q }, i) ∷ [])
+          (trace_with c k m e))) (sym reply.1) (traced-conceded data_too rest conceded at.is.traced);
       served_with = λ i. still i;
       manager_kept = kept-left x does at.end.width at.up done at.is.manager_kept;
       memory = λ i. blocks-now e.memory does.memory n new h.state (settling-memory at)

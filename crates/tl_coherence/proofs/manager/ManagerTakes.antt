@@ -63,11 +63,10 @@ by-first_e {w} P {c} {mail} {s} {sys} {x} {queue} at ack =
 
 pub record IsTakenUp {w : ℕ} (config : Config) (c : ℕ) (ch : Channel) (x : Beat w) (e : End w) : Type 0 where
   pub passes : judged config (record { 0 = c }) ch x e ≡ Passes
-  pub answer : offered config (record { 0 = c }) ch x e
-      ≡ (
-        manager_offer.Sent (reaction config (record { 0 = c }) x e).handed,
-        taken (record { 0 = c }) x (reaction config (record { 0 = c }) x e) e,
-      )
+  pub answer : offered config (record { 0 = c }) ch x e ≡ (
+    manager_offer.Sent (reaction config (record { 0 = c }) x e).handed,
+    taken (record { 0 = c }) x (reaction config (record { 0 = c }) x e) e,
+  )
 
 pub takes : {w : ℕ} {config : Config} (c : ℕ) (ch : Channel) (x : Beat w) (e : End w)
     → IsSound config (record { 0 = c }, x) → is_from_client x ≡ true → channel_of x ≡ ch → e.closed ≡ []
@@ -214,8 +213,7 @@ pub ack-order : {w : ℕ} {config : Config} {request : ℕ → MessageA w} (c n 
     × (broken_in_order {w = w} config.profile (Beat.E x) (on_link c e.trace) ≡ None)
 unfolding broken_order
 ack-order {w} c n x {s} {e} named served kept taken_is sink =
-    let awaits : (b : Bool) → b ≡ true
-    → (is_granting (if b then Acknowledging else GrantedOther) || is_acknowledging
+    let awaits : (b : Bool) → b ≡ true → (is_granting (if b then Acknowledging else GrantedOther) || is_acknowledging
     (if b then Acknowledging else GrantedOther)) ≡ true = λ b f. rw f refl in
     let pends : pending (Key.GrantSink x.sink) (on_link c e.trace) ≡ true = served.sinks c x.sink
     ∙ ap (λ i. is_granted c (s.tracked i) s) sink

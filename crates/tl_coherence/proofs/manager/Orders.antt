@@ -39,7 +39,6 @@ pub acquire-legal : {w : ℕ} (profile : Profile) (n : ℕ) (p : Perm) (x : Beat
     → pending (Key.ReleaseOf n) t ≡ false → held n t ≡ p → grows_from x.param p ≡ true
     → broken_in_order profile (Beat.A x) t ≡ None
 unfolding broken_order
-acquire-legal profile n p x t acquires block none free once released is grows =
-    rw (none, acquires, block, is) (requests (pending (Key.RequestSource x.source) t)
-    (pending (Key.AcquireOf n) t || pending (Key.ReleaseOf n) t)
+acquire-legal profile n p x t acquires block none free once released is grows = rw (none, acquires, block, is)
+    (requests (pending (Key.RequestSource x.source) t) (pending (Key.AcquireOf n) t || pending (Key.ReleaseOf n) t)
     (grows_from x.param p) free (rw (once, released) refl) grows)

@@ -61,8 +61,7 @@ traced-probing {w} {X} {config} {request} {c} {k} {n} {own} {source} {j} {m} {s}
     -- who is probed
     let test : ℕ → Bool = λ d. holders.is_above j (recorded d (block_at m.address) t) && not
     (is_spared (service_for c m e.trace) d) in
-    let test_is : (d : ℕ) → test d ≡ (is_above j ((s.block n).pair d).recorded && not (own && (d == c))) =
-    λ d. rw (
+    let test_is : (d : ℕ) → test d ≡ (is_above j ((s.block n).pair d).recorded && not (own && (d == c))) = λ d. rw (
       is.for.2,
       recorded-beat c k m e.trace d n,
       known.recorded_is d n,

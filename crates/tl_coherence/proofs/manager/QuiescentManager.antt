@@ -21,10 +21,7 @@ pub record AreQuiet {w : ℕ} (t u : Trace w) : Type 0 where
 
 -- one after another
 pub quiet-then : {w : ℕ} {t u v : Trace w} → AreQuiet t u → AreQuiet u v → AreQuiet t v
-quiet-then a b = record {
-  serves = b.serves ∙ a.serves;
-  requests = λ c q. b.requests c q ∙ a.requests c q;
-}
+quiet-then a b = record { serves = b.serves ∙ a.serves; requests = λ c q. b.requests c q ∙ a.requests c q }
 
 -- ---- a beat of channel C
 
@@ -118,10 +115,8 @@ missing-part {w} c x t part d i = missing-c c x t d i ∙ elim (cases_eq c d) [
 pub quiet-release_ack : {w : ℕ} (link : Link) (m : MessageD w) (t : Trace w) → IsWidth w
     → unfinished Channel.D (on_link link.0 t) ≡ [] → is_release_ack m.opcode ≡ true → is_grant m.opcode ≡ false
     → AreQuiet t (after_sent link (D m) t)
-quiet-release_ack link m t width none ack other = record {
-  serves = services-release_ack link m t width none ack;
-  requests = λ c q. request-reply link m t c q;
-}
+quiet-release_ack link m t width none ack other =
+    record { serves = services-release_ack link m t width none ack; requests = λ c q. request-reply link m t c q }
 
 -- what is recorded after an answer that is no Grant
 pub recorded-answer : {w : ℕ} (link : Link) (m : MessageD w) (t : Trace w) → IsWidth w

@@ -34,9 +34,8 @@ request-beat c k m t d src other = elim (cases_eq c d) [
 -- and this is the last one with its own
 pub request-own : {w : ℕ} {config : Config} {c k : ℕ} {m : MessageA w} {e : End w} → IsComing config c k m e
     → request_of m.source (on_link c (with_beat c m k e.trace)) ≡ Some (a_beat_of m 0)
-request-own {c} {k} {m} {e} is =
-    ap (request_of m.source) (own_beat c (link_of c) (Beat.A (a_beat_of m k)) e.trace (same_number c)) ∙ request-taken m
-    k (on_link c e.trace) is.burst
+request-own {c} {k} {m} {e} is = ap (request_of m.source) (own_beat c (link_of c) (Beat.A (a_beat_of m k)) e.trace
+    (same_number c)) ∙ request-taken m k (on_link c e.trace) is.burst
 
 -- ---- which source a request in service has
 
@@ -59,9 +58,8 @@ traced-more {w} {X} {config} {s} {c} {k} {m} {e} is more unwaited known = record
   probes = λ d i. missing-beat c k m e.trace d i ∙ known.probes d i;
   serving_is = λ i. ap (service_of_block i) (services-more is more) ∙ known.serving_is i;
   requests = known.requests;
-  asked = λ i r src own j f. request-beat c k m e.trace r src
-      (λ same g. unwaited i src own j (ap (λ z. (s.block i).service) same ∙ f ∙ ap (λ z. Waits z own src j) same) g)
-      ∙ known.asked i r src own j f;
+  asked = λ i r src own j f. request-beat c k m e.trace r src (λ same g. unwaited i src own j
+      (ap (λ z. (s.block i).service) same ∙ f ∙ ap (λ z. Waits z own src j) same) g) ∙ known.asked i r src own j f;
 }
 
 -- ---- the last beat

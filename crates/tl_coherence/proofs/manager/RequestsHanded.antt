@@ -84,10 +84,9 @@ pub handed-granted : {w : ℕ} {config : Config} {log : Log w} {mail : AccessMes
     → (reaction config (link_of c) (Beat.A (a_beat_of (acquire_wanted c n s asked) k)) sys.manager).handed
     ≡ (
       link_of c,
-      block_message Grant c n
-          (granted_at_once c (next_tracker sys) (is_granted_data asked.whole asked.grow ((s.block n).pair c).recorded)
-          (gift config.profile asked.whole asked.grow (is_unheld (length config.clients.items) (s.block n).pair))
-          (s.block n)),
+      block_message Grant c n (granted_at_once c (next_tracker sys) (is_granted_data asked.whole asked.grow
+          ((s.block n).pair c).recorded) (gift config.profile asked.whole asked.grow
+          (is_unheld (length config.clients.items) (s.block n).pair)) (s.block n)),
     ) ∷ []
 unfolding block_message
 handed-granted {w} {config} {log} {mail} {request} {s} {sys} {caching} {c} {n} {k} is asked comes last none well =
@@ -102,8 +101,7 @@ handed-granted {w} {config} {log} {mail} {request} {s} {sys} {caching} {c} {n} {
     let recorded_now = ap (λ (p : ClientBlock). p.recorded) (set-same c (after_grant_sent gift_is (b.pair c)) b.pair) in
     let given : cap_granted config.profile m.opcode m.param (holders.is_unheld config (block_at m.address) u)
     ≡ gift_is = cc (same_block n, unheld-same c k n m is) in
-    let carried : handing.is_granted_data m.opcode m.param (recorded c (block_at m.address) u) ≡ data_too =
-    cc (
+    let carried : handing.is_granted_data m.opcode m.param (recorded c (block_at m.address) u) ≡ data_too = cc (
       same_block n,
       recorded-beat c k m e.trace c n,
       is.managed.recorded_is c n,

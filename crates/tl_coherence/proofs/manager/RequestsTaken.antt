@@ -41,10 +41,9 @@ with-same mail after (GrantSent q d k) m same ok = tt
 with-same mail after (GrantTaken q) m same ok = tt
 
 -- other answers change nothing
-pub at_manager-answers : {w : ℕ} {config : Config} {mail : AccessMessages w} (after : AccessMessages w) {request : ℕ
-    → MessageA w}
-    {s : State (List ℕ)} {e : End w}
-    → after.request ≡ mail.request → IsAtManager config mail request s e → IsAtManager config after request s e
+pub at_manager-answers : {w : ℕ} {config : Config} {mail : AccessMessages w} (after : AccessMessages w)
+    {request : ℕ → MessageA w} {s : State (List ℕ)} {e : End w} → after.request ≡ mail.request
+    → IsAtManager config mail request s e → IsAtManager config after request s e
 at_manager-answers {mail} after {request} {s} same is = record {
   traced = is.traced;
   served_with = λ n. with-same mail after (s.block n).service (request n) same (is.served_with n);
@@ -221,27 +220,20 @@ at_manager-acquire_taken {w} {config} {log} h {sys} {c} {n} {k} rest is asked co
 
     go : (x : Bool) → some_below clients (λ d. is_probed c true j (b.pair d).recorded d) ≡ x
         → IsAtManager config h.mail (set n m h.request) (state_of x) after
-    go true f =
-        at_manager-probing (λ i. refl)
-        (record {
-          comes = comes;
-          last = last;
-          for = (acquires, refl, same_block n, caps);
-          free = ready.0;
-          quiet = quiet-free n is ready.0;
-          beyond = beyond-none n is;
-          unwaited = unwaited;
-        })
-        ((probed-some c k n true j m is acquires (same_block n)) ∙ ap not f) tt (at_manager-matched is)
-    go false f =
-        at_manager-granted (is_granted_data asked.whole asked.grow (b.pair c).recorded) (λ i. refl)
-        (record {
-          comes = comes;
-          last = last;
-          acquires = acquires;
-          block = same_block n;
-          given = ap (cap_granted config.profile m.opcode m.param) (unheld-same c k n m is);
-          unwaited = unwaited;
-        })
-        (reaction-performed c k n true m is comes last acquires (same_block n) (rw caps f))
-        (at_manager-matched is)
+    go true f = at_manager-probing (λ i. refl) (record {
+      comes = comes;
+      last = last;
+      for = (acquires, refl, same_block n, caps);
+      free = ready.0;
+      quiet = quiet-free n is ready.0;
+      beyond = beyond-none n is;
+      unwaited = unwaited;
+    }) ((probed-some c k n true j m is acquires (same_block n)) ∙ ap not f) tt (at_manager-matched is)
+    go false f = at_manager-granted (is_granted_data asked.whole asked.grow (b.pair c).recorded) (λ i. refl) (record {
+      comes = comes;
+      last = last;
+      acquires = acquires;
+      block = same_block n;
+      given = ap (cap_granted config.profile m.opcode m.param) (unheld-same c k n m is);
+      unwaited = unwaited;
+    }) (reaction-performed c k n true m is comes last acquires (same_block n) (rw caps f)) (at_manager-matched is)

@@ -41,20 +41,18 @@ settling-all {config} {c} {q} {n} {source} {k} {own} {low} {r} {m} {h} {e} at =
 settling-found : {w : ℕ} {config : Config} {c q n source k : ℕ} {own : Bool} {low : Cap} {r : Report} {m : MessageC w}
     {h : AbstractState w} {e : End w} → IsSettling config c q n source k own low r m h e
     → service_of_block n (services (trace_with c k m e)) ≡ Some (service_for q n h.request h.state)
-settling-found {c} {n} {k} {m} {e} at =
-    ap (service_of_block n) ((quiet-c (record { 0 = c }) (c_beat_of m k) e.trace).serves) ∙ at.is.traced.serving_is
-    n ∙ rw at.waits refl
+settling-found {c} {n} {k} {m} {e} at = ap (service_of_block n)
+    ((quiet-c (record { 0 = c }) (c_beat_of m k) e.trace).serves) ∙ at.is.traced.serving_is n ∙ rw at.waits refl
 
 pub settling-ready : {w : ℕ} {config : Config} {c q n source k : ℕ} {own : Bool} {low : Cap} {r : Report}
     {m : MessageC w} {h : AbstractState w} {e : End w} → IsSettling config c q n source k own low r m h e
     → IsReady config n (service_for q n h.request h.state) (trace_with c k m e)
-settling-ready {w} {config} {c} {q} {n} {source} {k} {own} {low} {r} {m} {h} {e} at =
-    rw at.end.about.block at (report-ready config (record { 0 = c }) (c_beat_of m k) (service_for q n h.request h.state)
-    e (is_taken config (record { 0 = c }) (Beat.C (c_beat_of m k)) e at.end.width
-    (passed config (record { 0 = c }) Channel.C (Beat.C (c_beat_of m k)) e tt at.up.passes) at.is.manager_kept)
-    at.end.about.reports (ap (λ (i : ℕ). service_of_block i (services (trace_with c k m e))) at.end.about.block
-    ∙ settling-found at) (ap (λ (i : ℕ). is_settled config i (trace_with c k m e)) at.end.about.block
-    ∙ settling-all at))
+settling-ready {w} {config} {c} {q} {n} {source} {k} {own} {low} {r} {m} {h} {e} at = rw at.end.about.block at
+    (report-ready config (record { 0 = c }) (c_beat_of m k) (service_for q n h.request h.state) e
+    (is_taken config (record { 0 = c }) (Beat.C (c_beat_of m k)) e at.end.width (passed config
+    (record { 0 = c }) Channel.C (Beat.C (c_beat_of m k)) e tt at.up.passes) at.is.manager_kept) at.end.about.reports
+    (ap (λ (i : ℕ). service_of_block i (services (trace_with c k m e))) at.end.about.block ∙ settling-found at)
+    (ap (λ (i : ℕ). is_settled config i (trace_with c k m e)) at.end.about.block ∙ settling-all at))
 
 pub settling-reaction : {w : ℕ} {config : Config} {c q n source k : ℕ} {own : Bool} {low : Cap} {r : Report}
     {m : MessageC w} {h : AbstractState w} {e : End w} → IsSettling config c q n source k own low r m h e

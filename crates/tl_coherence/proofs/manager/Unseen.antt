@@ -47,10 +47,9 @@ same-blocks {X} n {new} s u blocks is = (
     same part e i = ap part (blocks i) ∙ set-part part n new s.block e i
 
 -- and what is kept of the manager's end stays
-pub at_manager-unseen : {w : ℕ} {config : Config} {mail : AccessMessages w} {request : ℕ
-    → MessageA w} (n : ℕ) {new : Block (List ℕ)} {s u : State (List ℕ)} {e : End w}
-    → ((i : ℕ) → u.block i ≡ set n new s.block i) → IsSameBlock (s.block n) new → IsAtManager config mail request s e
-    → IsAtManager config mail request u e
+pub at_manager-unseen : {w : ℕ} {config : Config} {mail : AccessMessages w} {request : ℕ → MessageA w} (n : ℕ)
+    {new : Block (List ℕ)} {s u : State (List ℕ)} {e : End w} → ((i : ℕ) → u.block i ≡ set n new s.block i)
+    → IsSameBlock (s.block n) new → IsAtManager config mail request s e → IsAtManager config mail request u e
 at_manager-unseen n {new} {s} {u} blocks same is =
     let all = same-blocks n s u blocks same in
     at_manager-same all.0 all.1 is
@@ -59,14 +58,12 @@ at_manager-unseen n {new} {s} {u} blocks same is =
 pub at_manager-untouched : {w : ℕ} {config : Config} {mail : AccessMessages w} {request : ℕ
     → MessageA w} {s u : State (List ℕ)} {e : End w} → ((i : ℕ) → u.block i ≡ s.block i)
     → IsAtManager config mail request s e → IsAtManager config mail request u e
-at_manager-untouched {s} {u} blocks is =
-    at_manager-same (record {
-      recorded_same = λ c i. ap (λ (b : Block (List ℕ)). (b.pair c).recorded) (blocks i);
-      quiet_same = λ c i. ap (λ (b : Block (List ℕ)). is_unprobed (b.pair c).probing) (blocks i);
-      tracker_same = λ i. ap (λ (b : Block (List ℕ)). b.tracker) (blocks i);
-      service_same = λ i. rw (blocks i) (same-again (s.block i).service);
-    })
-    (λ i. ap (λ (b : Block (List ℕ)). b.memory) (blocks i)) is
+at_manager-untouched {s} {u} blocks is = at_manager-same (record {
+  recorded_same = λ c i. ap (λ (b : Block (List ℕ)). (b.pair c).recorded) (blocks i);
+  quiet_same = λ c i. ap (λ (b : Block (List ℕ)). is_unprobed (b.pair c).probing) (blocks i);
+  tracker_same = λ i. ap (λ (b : Block (List ℕ)). b.tracker) (blocks i);
+  service_same = λ i. rw (blocks i) (same-again (s.block i).service);
+}) (λ i. ap (λ (b : Block (List ℕ)). b.memory) (blocks i)) is
 
 -- a client's pair in place of one that is the same to the manager
 same-pair : {X : Type 0} (c : ℕ) (p : ClientBlock) (b : Block X) → p.recorded ≡ (b.pair c).recorded

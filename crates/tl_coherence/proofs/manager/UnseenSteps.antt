@@ -70,8 +70,7 @@ manager-to-client {w} config link ch sys terms there up = go (sys.channels link.
 
 -- the kinds of a channel to clients
 to_clients : (ch : Channel) (k : Kind) → is_to_client ch ≡ true → (is_on ch k ≡ false → ⊥) → is_to_clients k ≡ true
-to_clients ch k up on_it =
-    ap is_to_client (kind_channel ch k (true_from_ne_false (is_on ch k) on_it)) ∙ up
+to_clients ch k up on_it = ap is_to_client (kind_channel ch k (true_from_ne_false (is_on ch k) on_it)) ∙ up
 
 -- where the invariant is kept, so is what is kept of the manager's end
 pub at_manager-to_client : {w : ℕ} {config : Config} {log : Log w} (h : AbstractState w) {sys : System w} (link : Link)

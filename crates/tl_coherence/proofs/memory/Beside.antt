@@ -77,9 +77,8 @@ IsSameAnswer Replied x y = y ≡ x
 IsSameAnswer u x y = ⊤
 
 pub opened-still : {w : ℕ} (c source : ℕ) (mail mail' : AccessMessages w) (s s' : State (List ℕ)) (u : SourceState)
-    (o : Option (Open w))
-    → mail'.request c source ≡ mail.request c source → IsSameAnswer u (mail.answer c source) (mail'.answer c source)
-    → IsSameAcquire c s s' u → IsOpened c source mail s u o → IsOpened c source mail' s' u o
+    (o : Option (Open w)) → mail'.request c source ≡ mail.request c source → IsSameAnswer u (mail.answer c source)
+    (mail'.answer c source) → IsSameAcquire c s s' u → IsOpened c source mail s u o → IsOpened c source mail' s' u o
 opened-still c source mail mail' s s' SourceFree o request answer acquire h = h
 opened-still {w} c source mail mail' s s' Asked o request answer acquire h = rw request h
 opened-still {w} c source mail mail' s s' (InService n) o request answer acquire h = rw request h
@@ -155,10 +154,9 @@ beside-used {w} {c} {source} {u} {mail} {mail'} {s} {s'} {m} {m'} is h = record 
     | inl same ↦ rw (same.0, same.1) (moved_opened c source mail' s' u (s'.uses c source) (m'.opened c Requests source)
         (m'.opened c Requests source) (is.uses c source ∙ set_at-same c source u s.uses) refl is.here)
     | inr else_ ↦ moved_opened d i mail' s' (s.uses d i) (s'.uses d i) (m.opened d Requests i) (m'.opened d Requests i)
-        (is.uses d i ∙ set_at-there u s.uses else_) (is.there d i else_)
-        (opened-still d i mail mail' s s' (s.uses d i) (m.opened d Requests i) (is.requests d i else_)
-        (answer_as (s.uses d i) (mail.answer d i) (mail'.answer d i) (is.answers d i else_)) (is.acquires d i else_)
-        (h.requests d i))
+        (is.uses d i ∙ set_at-there u s.uses else_) (is.there d i else_) (opened-still d i mail mail' s s' (s.uses d i)
+        (m.opened d Requests i) (is.requests d i else_) (answer_as (s.uses d i) (mail.answer d i) (mail'.answer d i)
+        (is.answers d i else_)) (is.acquires d i else_) (h.requests d i))
   ];
   releases = λ d i. moved_let (s.lets d i) (s'.lets d i) (m.opened d Releases i) (m'.opened d Releases i) (is.lets d i)
       (is.releases d i) (h.releases d i);

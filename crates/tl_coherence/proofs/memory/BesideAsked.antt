@@ -90,13 +90,11 @@ beside-acquire_asked {w} {caching} c n source whole g bytes o {mail} {s} {m} inv
       memory = λ i. truth_as m.memory n i new s.block refl (h.memory i);
       uses = λ d i. refl;
       lets = λ d i. refl;
-      here =
-          open-here c Requests source (Some (record { asked = o; answer = None })) m
+      here = open-here c Requests source (Some (record { asked = o; answer = None })) m
           ∙ ap (λ (y : Op w). Some (record { asked = y; answer = None })) (sym is)
           ∙ sym (ap (λ (b : Block (List ℕ)). opened_as (b.pair c).acquiring (b.waiting c)) (set-same n new s.block)
-          ∙ ap (λ (p : ClientBlock). opened_as p.acquiring (set c bytes (s.block n).waiting c))
-          (set-same c after (s.block n).pair)
-          ∙ ap (opened_as (AcquireOpen whole g)) (set-same c bytes (s.block n).waiting));
+          ∙ ap (λ (p : ClientBlock). opened_as p.acquiring (set c bytes (s.block n).waiting c)) (set-same c after
+          (s.block n).pair) ∙ ap (opened_as (AcquireOpen whole g)) (set-same c bytes (s.block n).waiting));
       there = λ d i else_. open-there c Requests source (Some (record { asked = o; answer = None })) m d i else_;
       releases = λ d i. open-releases c source (Some (record { asked = o; answer = None })) m d i;
       requests = λ d i else_. refl;
@@ -120,9 +118,8 @@ beside-release_asked {w} c n source r {mail} {s} {m} h =
           else_;
       requests = λ d i. open-requests c source (Some (record { asked = Op.Release n r; answer = None })) m d i;
       acquires = λ d i. (
-        set-part (λ (b : Block (List ℕ)). (b.pair d).acquiring) n new s.block
-            (set-part (λ (p : ClientBlock). p.acquiring) c (after_release r ((s.block n).pair c)) (s.block n).pair refl
-            d) i,
+        set-part (λ (b : Block (List ℕ)). (b.pair d).acquiring) n new s.block (set-part
+            (λ (p : ClientBlock). p.acquiring) c (after_release r ((s.block n).pair c)) (s.block n).pair refl d) i,
         set-part (λ (b : Block (List ℕ)). b.waiting d) n new s.block refl i,
       );
     }) h
@@ -206,8 +203,7 @@ beside-asked c (Op.Acquire n g) (Reply.Started source) h inv sized is may word b
 beside-asked c (Op.AcquireWhole n bytes) (Reply.Started source) h inv sized is may word b =
     beside-acquire_asked c n source true (whole_grow ((h.state.block n).pair c).held) bytes
     (Op.AcquireWhole n bytes) inv may.2 refl b
-beside-asked c (Op.Release n p) (Reply.Started source) h inv sized is may word b =
-    beside-release_asked c n source p b
+beside-asked c (Op.Release n p) (Reply.Started source) h inv sized is may word b = beside-release_asked c n source p b
 beside-asked c (Op.Access (Message.A a)) (Reply.Started source) h inv sized is may word b =
     beside-access_asked c source a b
 beside-asked c o (Reply.Started source) h inv sized is may word b = absurd is

@@ -21,9 +21,8 @@ access_list c source true (Some k) = []
 access_list c source _ _ = (c, source) ∷ []
 
 abbrev pub request_accesses : {w : ℕ} → ℕ → ℕ → ℕ → Message w → AbstractState w → List (ℕ × ℕ)
-request_accesses clients c source (Message.A m) h =
-    access_list c source (probes_some clients c false (cap_probed m.opcode m.param)
-    (h.state.block (block_at m.address)).pair) (cap_probed m.opcode m.param)
+request_accesses clients c source (Message.A m) h = access_list c source (probes_some clients c false
+    (cap_probed m.opcode m.param) (h.state.block (block_at m.address)).pair) (cap_probed m.opcode m.param)
 request_accesses clients c source _ h = []
 
 abbrev pub last_accesses : Service → List (ℕ × ℕ)
@@ -33,10 +32,8 @@ last_accesses _ = []
 -- the accesses that are answered as this message is taken
 abbrev pub accesses_by : {w : ℕ} → Config → ℕ → Kind → ℕ → AbstractState w → List (ℕ × ℕ)
 accesses_by config c Request i h = request_accesses (length config.clients.items) c i (h.mail.request c i) h
-accesses_by config c ProbeAck n h =
-    if some_below (length config.clients.items)
-    (λ d. not (d == c) && not (is_unprobed ((h.state.block n).pair d).probing)) then [] else last_accesses
-    (h.state.block n).service
+accesses_by config c ProbeAck n h = if some_below (length config.clients.items) (λ d. not (d == c)
+    && not (is_unprobed ((h.state.block n).pair d).probing)) then [] else last_accesses (h.state.block n).service
 accesses_by config c _ i h = []
 
 -- ---- one block changes, and no source
@@ -76,9 +73,8 @@ granted_acquiring c q r k pair d = elim (cases_eq d q) [
   | inl same ↦ ap (λ (j : ℕ). (granted_pair c q r k pair j).acquiring) same ∙ ap (λ (p : ClientBlock). p.acquiring)
       (set-same q (after_grant_sent k (pair q)) (set c (after_report r (pair c)) pair)) ∙ sym
       (ap (λ (j : ℕ). (pair j).acquiring) same)
-  | inr other ↦ ap (λ (p : ClientBlock). p.acquiring)
-      (set-other q d (after_grant_sent k (pair q)) (set c (after_report r (pair c)) pair) other) ∙ same_acquiring c
-      (after_report r (pair c)) pair refl d
+  | inr other ↦ ap (λ (p : ClientBlock). p.acquiring) (set-other q d (after_grant_sent k (pair q))
+      (set c (after_report r (pair c)) pair) other) ∙ same_acquiring c (after_report r (pair c)) pair refl d
 ]
 
 -- ---- a request
@@ -99,12 +95,11 @@ beside_served {w} {c} {source} {x} tracker k rest {mail} {s} {m} is h =
       releases = λ d i. refl;
       requests = λ d i else_. refl;
       answers = λ d i else_. refl;
-      acquires = λ d i else_. same_acquire d s s' (s.uses d i)
-          (λ j. (
-            set-part (λ (b : Block (List ℕ)). (b.pair d).acquiring) n new s.block
-                (served_acquiring c false k (s.block n).pair d) j,
-            set-part (λ (b : Block (List ℕ)). b.waiting d) n new s.block refl j,
-          ));
+      acquires = λ d i else_. same_acquire d s s' (s.uses d i) (λ j. (
+        set-part (λ (b : Block (List ℕ)). (b.pair d).acquiring) n new s.block
+            (served_acquiring c false k (s.block n).pair d) j,
+        set-part (λ (b : Block (List ℕ)). b.waiting d) n new s.block refl j,
+      ));
     }) h
 
 beside_answered : {w : ℕ} {config : Config} {c source : ℕ} {x : MessageA w} (rest : List Packet)
@@ -160,10 +155,8 @@ beside-request {w} {caching} {config} {c} {source} tracker {x} rest h {m} inv pl
     go true (Some k) e f = beside_served tracker k rest is beside
     go true None e f = beside_answered rest is (inr f) beside
     go false None e f = beside_answered rest is (inr f) beside
-    go false (Some k) e f =
-        beside_answered rest is
-        (inl (memory-unprobed clients c k plain (inv.blocks (block_at x.address)) (low_cap x.opcode x.param k f)
-        (rw f at e))) beside
+    go false (Some k) e f = beside_answered rest is (inl (memory-unprobed clients c k plain
+        (inv.blocks (block_at x.address)) (low_cap x.opcode x.param k f) (rw f at e))) beside
 
 -- ---- an Acquire
 
@@ -248,9 +241,8 @@ pub beside-report : {w : ℕ} {caching : ℕ → Bool} (config : Config) (c n : 
     (ack_taken (length config.clients.items) config.profile c n r rest h).state
     (performing (accesses_by config c ProbeAck n h) m)
 unfolding performing
-beside-report {w} {caching} config c n r rest h {m} inv answered settled is beside =
-    go (some_below (length config.clients.items)
-    (λ d. not (d == c) && not (is_unprobed ((h.state.block n).pair d).probing))) refl
+beside-report {w} {caching} config c n r rest h {m} inv answered settled is beside = go (some_below
+    (length config.clients.items) (λ d. not (d == c) && not (is_unprobed ((h.state.block n).pair d).probing))) refl
   where
     reported : AbstractState w
     reported = record h { state = report_taken c n r rest h.state }

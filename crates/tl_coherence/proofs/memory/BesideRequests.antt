@@ -54,12 +54,11 @@ pub once-performs : {w : ℕ} (l : List (ℕ × ℕ)) (h : AbstractState w) (m :
     → Performs l m (performing l m)
 unfolding Performs performing
 once-performs l h m (inl none) = rw none refl
-once-performs l h m (inr (q, source, one, opened)) =
-    rw one (
-      done_at q source (Message.A opened.0) m,
-      performed-open q source (Message.A opened.0) m opened.2,
-      performing-one q source (Message.A opened.0) m opened.2,
-    )
+once-performs l h m (inr (q, source, one, opened)) = rw one (
+  done_at q source (Message.A opened.0) m,
+  performed-open q source (Message.A opened.0) m opened.2,
+  performing-one q source (Message.A opened.0) m opened.2,
+)
 
 pub request-accesses : {w : ℕ} {config : Config} {log : Log w} (h : AbstractState w) {sys : System w} {c source k : ℕ}
     → SimulationRelation config log h.mail h.request h.state sys → (asked : IsAsked config c source h.mail h.state)
@@ -206,6 +205,5 @@ pub beside-acquire_taken : {w : ℕ} {config : Config} {log : Log w} (h : Abstra
     (reaction config (link_of c) (Beat.A (a_beat_of (acquire_wanted c n h.state asked) k)) sys.manager).handed) machine)
 unfolding performing
 beside-acquire_taken {w} {config} {log} h {sys} {c} {n} {k} rest {machine} is asked comes last beside =
-    rw (acquire-accesses h k is asked comes last)
-    (beside-acquire (length config.clients.items) config.profile c n ((h.state.block n).pair c).acquiring
-    (next_tracker sys) rest h beside)
+    rw (acquire-accesses h k is asked comes last) (beside-acquire (length config.clients.items) config.profile c n
+    ((h.state.block n).pair c).acquiring (next_tracker sys) rest h beside)

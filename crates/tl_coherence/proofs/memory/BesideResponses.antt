@@ -32,8 +32,7 @@ beside-answer {w} c source rest {mail} {s} {m} used h =
         let asked = some_is o (record { asked = Op.Access (Message.A i.1.0); answer = Some i.0 }) (sym e ∙ i.1.2) in
         subst (λ (y : Open w). MemoryRelation mail (answer_taken c source rest s)
         (after_end c Requests source (Some y) m)) (sym asked)
-        (beside-used
-        (record {
+        (beside-used (record {
           memory = h.memory;
           uses = λ d j. refl;
           lets = λ d j. refl;

@@ -50,9 +50,8 @@ low_recorded : (p : ClientBlock) (v : View) → ok p v ≡ true
     → (is_other v && (not (same_perm (report_left (report_told p.probing)) Perm.Trunk) && not (is_sent p.probing)))
     ≡ true → not (same_perm p.recorded Perm.Trunk) ≡ true
 unfolding low_test
-low_recorded p v h e = implies_is
-    (is_other v && (not (same_perm (report_left (report_told p.probing)) Perm.Trunk) && not (is_sent p.probing)))
-    (not (same_perm p.recorded Perm.Trunk)) (of_phase low_test low_all p v h) e
+low_recorded p v h e = implies_is (is_other v && (not (same_perm (report_left (report_told p.probing)) Perm.Trunk)
+    && not (is_sent p.probing))) (not (same_perm p.recorded Perm.Trunk)) (of_phase low_test low_all p v h) e
 
 -- the last report has been told
 pub memory-reported : {caching : ℕ → Bool} (c q source : ℕ) (r : Report) (k : Cap) {b : Block (List ℕ)}
@@ -132,12 +131,9 @@ beside-performed {w} {config} {c} {source} {a} bytes {mail} {s} s' {m} is same_r
     λ d. elim [ Acquires k ↦ acquires d k | u ↦ tt ] in
     let mail' : AccessMessages w =
     record { request = mail.request; answer = set_at c source (answers a bytes) mail.answer } in
-    let now : Open w = record {
-      asked = Op.Access (Message.A is.opened.0);
-      answer = Some (effect (Message.A is.opened.0) m.memory).1;
-    } in
-    let reply_is : (effect (Message.A is.opened.0) m.memory).1 ≡ (effect (Message.A a) (bytes_at n bytes)).1 =
-    cc (
+    let now : Open w =
+    record { asked = Op.Access (Message.A is.opened.0); answer = Some (effect (Message.A is.opened.0) m.memory).1 } in
+    let reply_is : (effect (Message.A is.opened.0) m.memory).1 ≡ (effect (Message.A a) (bytes_at n bytes)).1 = cc (
       effect_is,
       reply-performed (level_of config c) a m.memory (s.block n).truth is.width is.sent.1 (h.memory n) is.long,
       same_reply m.memory (h.memory n),

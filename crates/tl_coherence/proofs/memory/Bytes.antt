@@ -120,8 +120,7 @@ opened-ranged {w} client at n o f {m} bytes is was =
 started-ranged : {w : ℕ} (client : ℕ) (o : Op w) (n : ℕ) {m : Machine w} → IsRangedOp o → IsRangedMachine m
     → IsRangedMachine (with_open client (pool_of_op o) n (Some (record { asked = o; answer = None })) m)
 started-ranged client o n {m} is was =
-    opened-ranged client (pool_of_op o) n (Some (record { asked = o; answer = None }))
-    m.memory was.memory (is, tt) was
+    opened-ranged client (pool_of_op o) n (Some (record { asked = o; answer = None })) m.memory was.memory (is, tt) was
 
 reply-ranged : {w : ℕ} (client : ℕ) (o : Op w) (r : Reply) {m : Machine w} → IsRangedOp o → IsRangedMachine m
     → IsRangedMachine (after_reply client o r m)
@@ -134,19 +133,17 @@ reply-ranged client (Op.AcquireWhole k bytes) (Reply.Started n) {m} is was =
     started-ranged client (Op.AcquireWhole k bytes) n is was
 reply-ranged client (Op.Release k p) (Reply.Started n) {m} is was = started-ranged client (Op.Release k p) n is was
 reply-ranged client (Op.Access x) (Reply.Started n) {m} is was = started-ranged client (Op.Access x) n is was
-reply-ranged client (Op.Store address size value) Reply.Stored {m} is was =
-    record {
-      memory = λ i. either (reaches address size i) (byte_of value (i - address)) (m.memory i)
-          (of-number value (i - address)) (was.memory i);
-      opened = was.opened;
-    }
+reply-ranged client (Op.Store address size value) Reply.Stored {m} is was = record {
+  memory = λ i. either (reaches address size i) (byte_of value (i - address)) (m.memory i)
+      (of-number value (i - address)) (was.memory i);
+  opened = was.opened;
+}
 reply-ranged client o r is was = was
 
 -- a whole block is stored as it is granted
 stored-ranged : {w : ℕ} (o : Op w) {f : Memory} → IsRangedOp o → HasBytes f → HasBytes (memory_after o f)
-stored-ranged (Op.AcquireWhole k bytes) {f} is are =
-    λ address. either (block_at address == k) (slice_index bytes (address % 64)) (f address)
-    (byte-at bytes (address % 64) is) (are address)
+stored-ranged (Op.AcquireWhole k bytes) {f} is are = λ address. either (block_at address == k)
+    (slice_index bytes (address % 64)) (f address) (byte-at bytes (address % 64) is) (are address)
 stored-ranged o is are = are
 
 end-ranged : {w : ℕ} (client : ℕ) (at : Pool) (n : ℕ) (o : Option (Open w)) {m : Machine w} → IsRangedOpen o

@@ -92,8 +92,7 @@ op_opened {w} client n o m c pool source e = go o.asked o.answer (ap (option_map
   where
     go : (x : Op w) (r : Option memory.AccessResult) → asked_at client Requests n m ≡ Some x
         → asked_at c pool source (unwrap_or (performed_op client n x r m) m) ≡ asked_at c pool source m
-    go (Op.Access a) None f =
-        opened_with client Requests n
+    go (Op.Access a) None f = opened_with client Requests n
         (Some (record { asked = Op.Access a; answer = Some (memory.effect a m.memory).1 }))
         (with_memory (memory.effect a m.memory).0 m) c pool source
         ∙ sym (same_there client Requests n (Some (Op.Access a)) m c pool source f)
@@ -119,13 +118,12 @@ pub opened-started : {w : ℕ} (config : Config) (log : Log w) (c : ℕ) (pool :
     → option_map (λ o. o.asked) ((one_memory_after config log).opened c pool source) ≡ started c pool source log
 unfolding one_memory_after started
 opened-started config [] c pool source = refl
-opened-started {w} config (x ∷ log) c pool source =
-    cc (
-      performing_opened (accesses_answered (stepped config x.0 (system_after config log)).handed)
-          (moved x.0 x.1 (one_memory_after config log)) c pool source,
-      moved_opened x.0 x.1 (one_memory_after config log) c pool source,
-      opened-started config log c pool source,
-    )
+opened-started {w} config (x ∷ log) c pool source = cc (
+  performing_opened (accesses_answered (stepped config x.0 (system_after config log)).handed)
+      (moved x.0 x.1 (one_memory_after config log)) c pool source,
+  moved_opened x.0 x.1 (one_memory_after config log) c pool source,
+  opened-started config log c pool source,
+)
 
 -- ---- coherent copies
 

@@ -25,9 +25,8 @@ number-next {w} test event o log =
 -- nothing has started, and nothing is open
 pub counted-first : {w : ℕ} (config : Config) → AreCounted {w = w} config [] first_state
 counted-first config =
-    let requests_none : open_requests config first_state ≡ 0 =
-    total-zero (clients_in config) (λ c. total (sources_in config c) (λ i. 0) + 0)
-    (λ c few. let none : total (sources_in config c) (λ i. 0) ≡ 0 =
+    let requests_none : open_requests config first_state ≡ 0 = total-zero (clients_in config)
+    (λ c. total (sources_in config c) (λ i. 0) + 0) (λ c few. let none : total (sources_in config c) (λ i. 0) ≡ 0 =
     total-zero (sources_in config c) (λ i. 0) (λ i lt. refl) in omega (arith, none)) in
     let releases_none = total-zero (clients_in config) (λ c. total (sources_in config c) (λ i. 0))
     (λ c few. total-zero (sources_in config c) (λ i. 0) (λ i lt. refl)) in
@@ -58,9 +57,8 @@ pub counted-next : {w : ℕ} {config : Config} {log : Log w} (h : AbstractState 
     → SimulationRelation config log h.mail h.request h.state (system_after config log) → AreCounted config log h.state
     → AreCounted config ((event, (stepped config event (system_after config log)).outcome) ∷ log)
     (abstract_step config event (system_after config log) h).state
-counted-next {config} {log} h event width matched before =
-    counted-balance event (stepped config event (system_after config log)).outcome
-    (counted-followed h width matched event) before
+counted-next {config} {log} h event width matched before = counted-balance event
+    (stepped config event (system_after config log)).outcome (counted-followed h width matched event) before
 
 -- what is outstanding is what is open
 pub requests-open : {w : ℕ} {X : Type 0} (config : Config) (log : Log w) (s : State X) → AreCounted config log s

@@ -44,9 +44,8 @@ none-counted config {s} closed no_acks =
     let requests : open_requests config s ≡ 0 =
     total-zero (clients_in config) (λ c. total (sources_in config c) (λ i. one_if (is_used (s.uses c i))) + length
     (s.link c).e) (λ c few.
-    let uses : total (sources_in config c) (λ i. one_if (is_used (s.uses c i))) ≡ 0 =
-    total-zero (sources_in config c) (λ i. one_if (is_used (s.uses c i)))
-    (λ i lt. ap (λ (u : SourceState). one_if (is_used u)) (closed.uses c i)) in
+    let uses : total (sources_in config c) (λ i. one_if (is_used (s.uses c i))) ≡ 0 = total-zero (sources_in config c)
+    (λ i. one_if (is_used (s.uses c i))) (λ i lt. ap (λ (u : SourceState). one_if (is_used u)) (closed.uses c i)) in
     let acks : length (s.link c).e ≡ 0 = ap length (no_acks c) in
     omega (arith, uses, acks)) in
     let releases = total-zero (clients_in config) (λ c. total (sources_in config c) (λ i. one_if (is_let (s.lets c i))))

@@ -166,8 +166,7 @@ module _ {w : ℕ} {config : Config} {log : Log w} {mail : AccessMessages w} {re
         where
           go : (x : Beat w) → IsFirst config terms c Channel.A x (system_after config log) → Moves config log c x
               → is_movable config c Channel.A (system_after config log) ≡ true
-          go (Beat.A y) first m =
-              m ∙ rw (none_in_service, few_test config.trackers trackers)
+          go (Beat.A y) first m = m ∙ rw (none_in_service, few_test config.trackers trackers)
               (rw (and-false (ends (Beat.A y) (on_link c (system_after config log).manager.trace))) refl)
           go x first m = absurd (let on = first.on in cc)
 
@@ -181,9 +180,8 @@ module _ {w : ℕ} {config : Config} {log : Log w} {mail : AccessMessages w} {re
   -- where nothing is open, and no GrantAck is on its way, no delivery is next
   pub standing-when-closed : IsClosed s → ((c : ℕ) → (s.link c).e ≡ [])
       → next_delivery config (system_after config log) ≡ None
-  standing-when-closed closed no_acks = no-next config (system_after config log)
-      (λ c ch. empty-still config (system_after config log) c ch
-      (no_beat c ch (bare_on ch c (bare-when-closed matched.invariant closed no_acks))))
+  standing-when-closed closed no_acks = no-next config (system_after config log) (λ c ch. empty-still config
+      (system_after config log) c ch (no_beat c ch (bare_on ch c (bare-when-closed matched.invariant closed no_acks))))
     where
       bare_on : (ch : Channel) (c : ℕ) → IsBare s → packets_on ch (s.link c) ≡ []
       bare_on Channel.A c bare = bare.a c

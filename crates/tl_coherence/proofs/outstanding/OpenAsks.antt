@@ -18,36 +18,34 @@ use proofs.protocol.OpenCounts.{marked-set, acks-same, clients_in, sources_in, I
 module _ {X : Type 0} (config : Config) (s : State X) where
   access-asked : (c source : ℕ) → c < clients_in config → source < sources_in config c → s.uses c source ≡ SourceFree
       → IsBalance config s (access_asked c source s) true false false false
-  access-asked c source few lt free =
-      record {
-        requests = omega (
-          arith,
-          marked-set is_used (clients_in config) (sources_in config) c source Asked s.uses few lt,
-          ap (λ (x : SourceState). one_if (is_used x)) free,
-          acks-same (clients_in config) (access_asked c source s).link s.link
-              (λ d. set-part (λ x. x.e) c (with_a (packet Request source) (s.link c)) s.link refl d),
-          requests-split config s,
-          requests-split config (access_asked c source s),
-        );
-        releases = refl;
-      }
+  access-asked c source few lt free = record {
+    requests = omega (
+      arith,
+      marked-set is_used (clients_in config) (sources_in config) c source Asked s.uses few lt,
+      ap (λ (x : SourceState). one_if (is_used x)) free,
+      acks-same (clients_in config) (access_asked c source s).link s.link
+          (λ d. set-part (λ x. x.e) c (with_a (packet Request source) (s.link c)) s.link refl d),
+      requests-split config s,
+      requests-split config (access_asked c source s),
+    );
+    releases = refl;
+  }
 
   acquire-asked : (c n source : ℕ) (whole : Bool) (g : Grow) (bytes : X) → c < clients_in config
       → source < sources_in config c → s.uses c source ≡ SourceFree
       → IsBalance config s (acquire_asked c n source whole g bytes s) true false false false
-  acquire-asked c n source whole g bytes few lt free =
-      record {
-        requests = omega (
-          arith,
-          marked-set is_used (clients_in config) (sources_in config) c source (Acquires n) s.uses few lt,
-          ap (λ (x : SourceState). one_if (is_used x)) free,
-          acks-same (clients_in config) (acquire_asked c n source whole g bytes s).link s.link
-              (λ d. set-part (λ x. x.e) c (with_a (packet Acquire n) (s.link c)) s.link refl d),
-          requests-split config s,
-          requests-split config (acquire_asked c n source whole g bytes s),
-        );
-        releases = refl;
-      }
+  acquire-asked c n source whole g bytes few lt free = record {
+    requests = omega (
+      arith,
+      marked-set is_used (clients_in config) (sources_in config) c source (Acquires n) s.uses few lt,
+      ap (λ (x : SourceState). one_if (is_used x)) free,
+      acks-same (clients_in config) (acquire_asked c n source whole g bytes s).link s.link
+          (λ d. set-part (λ x. x.e) c (with_a (packet Acquire n) (s.link c)) s.link refl d),
+      requests-split config s,
+      requests-split config (acquire_asked c n source whole g bytes s),
+    );
+    releases = refl;
+  }
 
   release-asked : (c n source : ℕ) (r : Prune) → c < clients_in config → source < sources_in config c
       → s.lets c source ≡ None → IsBalance config s (release_asked c n source r s) false false true false

@@ -108,36 +108,34 @@ module _ {X : Type 0} (config : Config) (s : State X) where
 
   answer-taken : (c source : ℕ) (rest : List Packet) → c < clients_in config → source < sources_in config c
       → s.uses c source ≡ Replied → IsBalance config s (answer_taken c source rest s) false true false false
-  answer-taken c source rest few lt used =
-      record {
-        requests = omega (
-          arith,
-          marked-set is_used (clients_in config) (sources_in config) c source SourceFree s.uses few lt,
-          ap (λ (x : SourceState). one_if (is_used x)) used,
-          acks-same (clients_in config) (answer_taken c source rest s).link s.link
-              (set_e c (record (s.link c) { d = rest }) s.link refl),
-          requests-split config s,
-          requests-split config (answer_taken c source rest s),
-        );
-        releases = refl;
-      }
+  answer-taken c source rest few lt used = record {
+    requests = omega (
+      arith,
+      marked-set is_used (clients_in config) (sources_in config) c source SourceFree s.uses few lt,
+      ap (λ (x : SourceState). one_if (is_used x)) used,
+      acks-same (clients_in config) (answer_taken c source rest s).link s.link
+          (set_e c (record (s.link c) { d = rest }) s.link refl),
+      requests-split config s,
+      requests-split config (answer_taken c source rest s),
+    );
+    releases = refl;
+  }
 
   grant-taken : (c n : ℕ) (whole d : Bool) (k : Cap) (rest : List Packet) → c < clients_in config
       → (s.block n).source c < sources_in config c → s.uses c ((s.block n).source c) ≡ Acquires n
       → IsBalance config s (grant_taken c n whole d k rest s) false false false false
-  grant-taken c n whole d k rest few lt used =
-      record {
-        requests = omega (
-          arith,
-          marked-set is_used (clients_in config) (sources_in config) c ((s.block n).source c) SourceFree s.uses few lt,
-          ap (λ (x : SourceState). one_if (is_used x)) used,
-          acks-set (clients_in config) c (taken_link n rest (s.link c)) s.link few,
-          length-append (s.link c).e (packet GrantAck n ∷ []),
-          requests-split config s,
-          requests-split config (grant_taken c n whole d k rest s),
-        );
-        releases = refl;
-      }
+  grant-taken c n whole d k rest few lt used = record {
+    requests = omega (
+      arith,
+      marked-set is_used (clients_in config) (sources_in config) c ((s.block n).source c) SourceFree s.uses few lt,
+      ap (λ (x : SourceState). one_if (is_used x)) used,
+      acks-set (clients_in config) c (taken_link n rest (s.link c)) s.link few,
+      length-append (s.link c).e (packet GrantAck n ∷ []),
+      requests-split config s,
+      requests-split config (grant_taken c n whole d k rest s),
+    );
+    releases = refl;
+  }
 
   release-ack-taken : (c n : ℕ) (rest : List Packet) → c < clients_in config
       → (s.block n).release_source c < sources_in config c → s.lets c ((s.block n).release_source c) ≡ Some n
@@ -177,10 +175,9 @@ is_letting_go _ = false
 
 -- a message of another kind ends nothing
 still-kind : {w : ℕ} {config : Config} {log : Log w} (tracker c : ℕ) (k : Kind) (i : ℕ) (rest : List Packet)
-    (h : AbstractState w) {sys : System w}
-    → SimulationRelation config log h.mail h.request h.state sys → c < clients_in config
-    → AreBounded c (sources_in config c) config.trackers h.state → on k (h.state.link c) ≡ packet k i ∷ rest
-    → is_ending k ≡ false → is_letting_go k ≡ false
+    (h : AbstractState w) {sys : System w} → SimulationRelation config log h.mail h.request h.state sys
+    → c < clients_in config → AreBounded c (sources_in config c) config.trackers h.state
+    → on k (h.state.link c) ≡ packet k i ∷ rest → is_ending k ≡ false → is_letting_go k ≡ false
     → IsBalance config h.state (kind_taken config tracker c k i rest h).state false false false false
 still-kind {w} {config} tracker c k i rest h is few own first ends lets = true-taken config tracker c rest h
     (λ j n. (on j (h.state.link c) ≡ packet j n ∷ rest) × (is_ending j ≡ false) × (is_letting_go j ≡ false))

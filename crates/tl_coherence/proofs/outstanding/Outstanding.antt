@@ -56,8 +56,7 @@ module _ {w : ℕ} {config : Config} {log : Log w} (h : AbstractState w) (width 
       counted-as link ch o (kind_taken config tracker link.0 k i rest h) (last refl)
       (balance-kind tracker k i rest h matched few (matched-bounded config log h.mail h.request h.state
       (system_after config log) matched link.0 (sources-own config log link.0 width)) first)
-  counted-either link ch o tracker k i rest false few first last part =
-      counted-as link ch o h (part refl) unopened
+  counted-either link ch o tracker k i rest false few first last part = counted-as link ch o h (part refl) unopened
 
   -- ---- what the manager takes
 
@@ -112,12 +111,9 @@ module _ {w : ℕ} {config : Config} {log : Log w} (h : AbstractState w) (width 
       (abstract_step config (Deliver link ch) (system_after config log) h)
   counted-client link {ch} {terms} {x} {queue} known beats moving first t ends =
       let done : Bool = completes x (unfinished ch (receiver ch link.0 (system_after config log))) in
-      let follows : abstract_step config (Deliver link ch) (system_after config log) h
-      ≡ (if done then kind_taken config (next_tracker (system_after config log)) link.0 first.kind first.number
-      first.rest h else h) = cc (
-        followed-moving config link ch (system_after config log) h x queue moving beats,
-        first.tokens,
-      ) in
+      let follows : abstract_step config (Deliver link ch) (system_after config log) h ≡ (if done then kind_taken config
+      (next_tracker (system_after config log)) link.0 first.kind first.number first.rest h else h) =
+      cc (followed-moving config link ch (system_after config log) h x queue moving beats, first.tokens) in
       subst (λ (o : Outcome w). IsCounted (Deliver link ch) o
       (abstract_step config (Deliver link ch) (system_after config log) h))
       (sym (ap (λ (y : Step w). y.outcome) t.step_is))
@@ -197,9 +193,8 @@ module _ {w : ℕ} {config : Config} {log : Log w} (h : AbstractState w) (width 
       Here : Kind → Type 0
       Here k = (v : Verdict) (m : Option (Message w)) → (offer.taken x ((system_after config log).clients c)).answer
           ≡ Ok (v, m) → (completes x (unfinished Channel.D ((system_after config log).clients c).past) ≡ true
-          → Ends (outcome_of x v) (is_ending k) (is_letting_go k))
-          × (completes x (unfinished Channel.D ((system_after config log).clients c).past) ≡ false
-          → Ends (outcome_of x v) false false)
+          → Ends (outcome_of x v) (is_ending k) (is_letting_go k)) × (completes x
+          (unfinished Channel.D ((system_after config log).clients c).past) ≡ false → Ends (outcome_of x v) false false)
 
       kinds : (k : Kind) → (h.state.link c).d ≡ packet k first.number ∷ first.rest → is_on Channel.D k ≡ true
           → IsNext x (unfinished Channel.D (receiver Channel.D c (system_after config log)))

@@ -17,9 +17,8 @@ pub counted : {w : ℕ} (config : Config) (log : Log w) → IsWidth w → AreTyp
     → AreCounted config log (shadow config log).state
 unfolding shadow AreTyped IsLog
 counted config [] width typed is = counted-first config
-counted {w} config (x ∷ log) width typed is =
-    rw is.0 (counted-next (shadow config log) x.0 width (matched config log width typed.1 is.1)
-    (counted config log width typed.1 is.1))
+counted {w} config (x ∷ log) width typed is = rw is.0 (counted-next (shadow config log) x.0 width
+    (matched config log width typed.1 is.1) (counted config log width typed.1 is.1))
 
 -- a configuration without a fault has a tracker
 some_tracker : (n : ℕ) → trackers_fit n ≡ true → 0 < n

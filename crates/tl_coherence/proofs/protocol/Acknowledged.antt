@@ -75,9 +75,8 @@ release_ack_taken-kept {X} {caching} c n rest {s} inv first acked =
           (λ i. rw (set-part (λ (p : ClientBlock). p.acquiring) c after old refl d) refl) (inv.named.acquires d);
       serves = λ d. names-block serves_of (serves_with d) (s.uses d) n new s.block (λ i. refl) (inv.named.serves d);
       releases = names-set_at is_of releases_with c source None s.lets n new s.block (rw (set-same c after old) refl)
-          (λ m ne. rw used (sym (ne_eqb m n ne))) (λ i ne. rw (set-same c after old, ne_eqb i source ne)
-          (sym (and-false (not (is_unreleased (old c).letting))))) (λ d i ne. rw (set-other c d after old ne) refl)
-          inv.named.releases;
+          (λ m ne. rw used (sym (ne_eqb m n ne))) (λ i ne. rw (set-same c after old, ne_eqb i source ne) (sym (and-false
+          (not (is_unreleased (old c).letting))))) (λ d i ne. rw (set-other c d after old ne) refl) inv.named.releases;
       trackers = names-block is_of tracks_with s.tracked n new s.block (λ i. refl) inv.named.trackers;
     })
 

@@ -28,8 +28,7 @@ waiting-grants q source own k b b' waits i = (
 pub alike-probed : (c : ℕ) (k : Cap) (b : Block (List ℕ)) → (b.pair c).probing ≡ ProbeSent k → (i : ℕ)
     → AreAlike i b (probed_block c k b)
 alike-probed c k b sent =
-    let here : IsAlikePair (b.pair c) (after_probe k (b.pair c)) =
-    record {
+    let here : IsAlikePair (b.pair c) (after_probe k (b.pair c)) = record {
       acquiring = λ e f. refl;
       sent = λ e f. absurd cc;
       answered = λ e f. absurd (let no : false ≡ true = rw sent at e in cc);
@@ -39,17 +38,12 @@ alike-probed c k b sent =
     (same-grants b (probed_block c k b) refl refl) (λ j i e f. inr refl)
 
 reported-pair : (r : Report) (p : ClientBlock) → IsAlikePair p (after_report r p)
-reported-pair r p = record {
-  acquiring = λ e f. refl;
-  sent = λ e f. absurd cc;
-  answered = λ e f. absurd cc;
-  letting = λ e f. refl;
-}
+reported-pair r p =
+    record { acquiring = λ e f. refl; sent = λ e f. absurd cc; answered = λ e f. absurd cc; letting = λ e f. refl }
 
 pub alike-reported : (c : ℕ) (r : Report) (b : Block (List ℕ)) → (i : ℕ) → AreAlike i b (reported_block c r b)
-alike-reported c r b = alike-pairs b (reported_block c r b)
-    (alike-pair c (after_report r (b.pair c)) b.pair (reported-pair r (b.pair c))) refl refl
-    (same-grants b (reported_block c r b) refl refl) (λ j i e f. inr refl)
+alike-reported c r b = alike-pairs b (reported_block c r b) (alike-pair c (after_report r (b.pair c)) b.pair
+    (reported-pair r (b.pair c))) refl refl (same-grants b (reported_block c r b) refl refl) (λ j i e f. inr refl)
 
 -- the bytes change only where nothing that is left carries them
 pub alike-ended : (c q source : ℕ) (r : Report) (k : Cap) (f : List ℕ → List ℕ) (b : Block (List ℕ))

@@ -46,11 +46,9 @@ alike-pair c q pair here = set-each (λ i x. IsAlikePair (pair i) x) c q pair he
 
 -- nor is anything shown of a Grant both before and after, or its service and tracker stay
 abbrev pub AreAlikeGrants : Block (List ℕ) → Block (List ℕ) → Type 0
-AreAlikeGrants b b' = (i : ℕ)
-    → (is_granting (view b.service i) ≡ true → is_granting (view b'.service i) ≡ true
-    → (b'.service ≡ b.service) × (b'.tracker ≡ b.tracker))
-    × (is_acknowledging (view b.service i) ≡ true → is_acknowledging (view b'.service i) ≡ true
-    → b'.tracker ≡ b.tracker)
+AreAlikeGrants b b' = (i : ℕ) → (is_granting (view b.service i) ≡ true → is_granting (view b'.service i) ≡ true
+    → (b'.service ≡ b.service) × (b'.tracker ≡ b.tracker)) × (is_acknowledging (view b.service i) ≡ true
+    → is_acknowledging (view b'.service i) ≡ true → b'.tracker ≡ b.tracker)
 
 pub alike-pairs : (b b' : Block (List ℕ)) → ((i : ℕ) → IsAlikePair (b.pair i) (b'.pair i))
     → b'.source ≡ b.source → b'.release_source ≡ b.release_source → AreAlikeGrants b b'

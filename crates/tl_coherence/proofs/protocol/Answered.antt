@@ -33,10 +33,8 @@ performed-block {X} f {b} h spared = record {
   where
     copy_is : (d : ℕ) → same_perm (b.pair d).held Perm.None ≡ false → Spares f b → b.copy d ≡ f b.truth
     copy_is d some (inl same) = h.copies d some ∙ sym same
-    copy_is d some (inr none) =
-        absurd (let no = nothing_below (b.pair d).held (b.pair d).recorded
-        (held_at_most (b.pair d) (view b.service d) (h.phases d)) (none d) in let differs : true ≡ false =
-        sym no ∙ some in cc)
+    copy_is d some (inr none) = absurd (let no = nothing_below (b.pair d).held (b.pair d).recorded (held_at_most
+        (b.pair d) (view b.service d) (h.phases d)) (none d) in let differs : true ≡ false = sym no ∙ some in cc)
 
 -- ---- the whole
 
@@ -73,12 +71,10 @@ access_answered-kept {X} {caching} c n source f rest {s} inv first asked spared 
     (rw (same_number c, same_number source) refl) (rw (same_number c, asked, same_number source) refl)
     (bare-elsewhere c (answer_moves source))
     (record {
-      acquires = names-set_at acquires_of acquires_with c source Replied s.uses n new s.block
-          (rw asked at (inv.named.acquires c source n))
-          (λ m ne. rw asked refl) (λ i ne. refl) (λ d i ne. refl) inv.named.acquires;
-      serves = names-set_at serves_of serves_with c source Replied s.uses n new s.block
-          (rw asked at (inv.named.serves c source n)) (λ m ne. rw asked refl)
-          (λ i ne. refl) (λ d i ne. refl) inv.named.serves;
+      acquires = names-set_at acquires_of acquires_with c source Replied s.uses n new s.block (rw asked at
+          (inv.named.acquires c source n)) (λ m ne. rw asked refl) (λ i ne. refl) (λ d i ne. refl) inv.named.acquires;
+      serves = names-set_at serves_of serves_with c source Replied s.uses n new s.block (rw asked at
+          (inv.named.serves c source n)) (λ m ne. rw asked refl) (λ i ne. refl) (λ d i ne. refl) inv.named.serves;
       releases = λ d. names-block is_of (releases_with d) (s.lets d) n new s.block (λ i. refl) (inv.named.releases d);
       trackers = names-block is_of tracks_with s.tracked n new s.block (λ i. refl) inv.named.trackers;
     })

@@ -169,9 +169,8 @@ acquire_asked-kept {X} {caching} c n source whole g bytes {s} inv inside closed 
           (λ i ne. rw (set-same c after old, set-same c source (s.block n).source, ne_eqb i source ne, calm) refl)
           (λ d i ne. rw (set-other c d after old ne, set-other c d source (s.block n).source ne) refl)
           inv.named.acquires;
-      serves = names-set_at serves_of serves_with c source (Acquires n) s.uses n new s.block
-          (rw closed at (inv.named.serves c source n))
-          (λ m ne. rw closed refl) (λ i ne. refl) (λ d i ne. refl) inv.named.serves;
+      serves = names-set_at serves_of serves_with c source (Acquires n) s.uses n new s.block (rw closed at
+          (inv.named.serves c source n)) (λ m ne. rw closed refl) (λ i ne. refl) (λ d i ne. refl) inv.named.serves;
       releases = λ d. names-block is_of (releases_with d) (s.lets d) n new s.block
           (λ i. rw (set-part (λ (p : ClientBlock). p.letting) c after old refl d) refl) (inv.named.releases d);
       trackers = names-block is_of tracks_with s.tracked n new s.block (λ i. refl) inv.named.trackers;

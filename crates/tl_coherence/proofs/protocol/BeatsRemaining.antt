@@ -99,9 +99,8 @@ module _ {w : ℕ} {caching : ℕ → Bool} {n : ℕ} {moves : ℕ → Channel �
   transfer_same d k m t before after = go (cases_eq m n)
     where
       go : (m ≡ n) ⊎ (m ≡ n → ⊥) → block_message {w = w} k d m (s'.block m) ≡ block_message k d m (s.block m)
-      go (inl same) = subst (λ (i : ℕ). shown k d (s.block i) ≡ true → shown k d (s'.block i) ≡ true
-          → block_message {w = w} k d i (s'.block i) ≡ block_message k d i (s.block i)) (sym same) (showing.same d k t)
-          before after
+      go (inl same) = subst (λ (i : ℕ). shown k d (s.block i) ≡ true → shown k d (s'.block i) ≡ true → block_message
+          {w = w} k d i (s'.block i) ≡ block_message k d i (s.block i)) (sym same) (showing.same d k t) before after
       go (inr other) = rw (showing.blocks m other) refl
 
   pub message-same : (d : ℕ) (k : Kind) (m : ℕ) → IsHere s d k m → IsHere s' d k m

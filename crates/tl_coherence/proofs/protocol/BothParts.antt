@@ -137,8 +137,7 @@ cap-waited k (GrantTaken r) c e =
 pub acknowledging-is : (s : Service) (c : ℕ) → is_acknowledging (view s c) ≡ true → s ≡ GrantTaken c
 acknowledging-is Free c e = absurd cc
 acknowledging-is (Waits q o source k) c e = absurd (cc (waits_unacknowledged o q source k c))
-acknowledging-is (GrantSent q d k) c e =
-    absurd (let no : false ≡ true = sym (sent_unacknowledged q d k c) ∙ e in cc)
+acknowledging-is (GrantSent q d k) c e = absurd (let no : false ≡ true = sym (sent_unacknowledged q d k c) ∙ e in cc)
 acknowledging-is (GrantTaken q) c e =
     let own : (x : Bool) → is_acknowledging (if x then Acknowledging else GrantedOther) ≡ true → x ≡ true =
     elim [ true ↦ λ f. refl | false ↦ λ f. absurd cc ] in

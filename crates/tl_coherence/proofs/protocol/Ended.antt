@@ -40,9 +40,8 @@ ended-block {X} {caching} {c} {r} {f} {k} {b} h last =
       | inr ne ↦ low_within (b.pair d).recorded k (spared_within k (b.pair d) (view b.service d) (h.phases d) (other d)
           (quiet-is (b.pair d).probing (last.settled d ne))) low
     ]) in
-    let memory_is : (data_too : Bool) → same_perm (report_left r) Perm.Trunk ≡ data_too
-    → written r b.truth b.memory ≡ b.truth =
-    elim [ true ↦ λ e. rw e refl | false ↦ λ e. rw e (h.memory (none_out e)) ] in
+    let memory_is : (data_too : Bool) → same_perm (report_left r) Perm.Trunk ≡ data_too → written r b.truth b.memory
+    ≡ b.truth = elim [ true ↦ λ e. rw e refl | false ↦ λ e. rw e (h.memory (none_out e)) ] in
     record {
       phases = phase;
       awaited = tt;

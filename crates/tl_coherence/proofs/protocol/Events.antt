@@ -60,8 +60,7 @@ module _ {w : ℕ} (config : Config) (c : ℕ) (h : AbstractState w) where
 
   -- others than client c have still to report
   abbrev pub waits_for_others : ℕ → Bool
-  waits_for_others n =
-      some_below clients (λ i. not (i == c) && not (is_unprobed ((h.state.block n).pair i).probing))
+  waits_for_others n = some_below clients (λ i. not (i == c) && not (is_unprobed ((h.state.block n).pair i).probing))
 
   abbrev pub told : ℕ → Report
   told n = report_told ((h.state.block n).pair c).probing
@@ -134,9 +133,8 @@ module _ {w : ℕ} (config : Config) (tracker c : ℕ) (rest : List Packet) (h :
 
   true-request : (source : ℕ) (m : Message w) → IsTrueAfterEach → IsKnown Request source
       → h.mail.request c source ≡ m → P (request_taken all_clients c source m tracker rest h)
-  true-request source (Message.A m) each known is =
-      true-access source m (cap_probed m.opcode m.param) (probes_for_access config c h m (cap_probed m.opcode m.param))
-      each known is refl refl
+  true-request source (Message.A m) each known is = true-access source m (cap_probed m.opcode m.param)
+      (probes_for_access config c h m (cap_probed m.opcode m.param)) each known is refl refl
   true-request source m each known is = each.nothing Request source known (rw is refl)
 
   true-acquire : (n : ℕ) (a : AcquirePhase) → IsTrueAfterEach → IsKnown Acquire n
@@ -165,8 +163,7 @@ module _ {w : ℕ} (config : Config) (tracker c : ℕ) (rest : List Packet) (h :
       each.report_grants n q source k whole g known last waits is
 
   true-last : (n : ℕ) (v : Service) → IsTrueAfterEach → IsKnown ProbeAck n → waits_for_others config c h n ≡ false
-      → (h.state.block n).service ≡ v
-      → P (last_taken all_clients config.profile c n (told config c h n) v rest h)
+      → (h.state.block n).service ≡ v → P (last_taken all_clients config.profile c n (told config c h n) v rest h)
   true-last n (Waits q true source k) each known last is =
       true-granted n q source k ((h.state.block n).pair q).acquiring each known last is refl
   true-last n (Waits q false source k) each known last is = each.report_answers n q source k known last is

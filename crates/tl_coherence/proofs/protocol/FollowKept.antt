@@ -45,8 +45,7 @@ module _ {w : ℕ} {caching : ℕ → Bool} (config : Config) (c : ℕ) (rest : 
   quiet n last = settled_all clients caching c (h.state.block n).pair plain (inv.blocks n).outside last
 
   report-followed : (n : ℕ) → (h.state.link c).c ≡ packet ProbeAck n ∷ rest
-      → some_below clients (others_probed n) ≡ true
-      → IsInvariant caching (report_taken c n (r n) rest h.state)
+      → some_below clients (others_probed n) ≡ true → IsInvariant caching (report_taken c n (r n) rest h.state)
   report-followed n first more =
       let one = some-one clients (others_probed n) more in
       let apart : (d : ℕ) → others_probed n d ≡ true → d ≡ c → ⊥ =
@@ -83,9 +82,8 @@ module _ {w : ℕ} {caching : ℕ → Bool} (config : Config) (c : ℕ) (rest : 
     wants = wants;
     fits = gift_fits config.profile whole g (b.pair q).held (is_unheld clients after) fits;
     room = λ top d ne. elim (gift_trunk config.profile whole g (b.pair q).held (is_unheld clients after) fits top) [
-      | inl grows ↦ room-trunk c q (r n) whole g source k (inv.blocks n) waits answered (quiet n last) wants grows
-          differ
-          d ne
+      | inl grows ↦ room-trunk c q (r n) whole g source k (inv.blocks n) waits answered
+          (quiet n last) wants grows differ d ne
       | inr unheld ↦ unheld_none clients caching after plain
           (outside-set caching c (after_report (r n) (b.pair c)) b.pair (busy-inside caching c b.pair
           (λ x. is_answered x.probing) refl (rw answered refl) (inv.blocks n).outside) (inv.blocks n).outside) unheld d
@@ -137,11 +135,10 @@ kind_taken-kept {w} {caching} config tracker c k i rest h inv plain long serving
       nothing = λ j n known idle. inv;
       access_answered = λ source m o known from caps none. access_answered-followed config c rest h inv plain source m o
           known.0 (ready-access tracker c source m h known.1 from).0 (long (block_at m.address)) caps none;
-      access_served = λ source m j known from caps some. access_served-followed config c rest h inv plain tracker source
-          m
-          j known.0 (ready-access tracker c source m h known.1 from).1
-          (ready-access tracker c source m h known.1 from).2
-          caps some;
+      access_served =
+          λ source m j known from caps some. access_served-followed config c rest h inv plain tracker source m j known.0
+          (ready-access tracker c source m h known.1 from).1
+          (ready-access tracker c source m h known.1 from).2 caps some;
       acquire_granted = λ n whole g known wants none. acquire_granted-followed config c rest h inv plain tracker n whole
           g
           known.0 known.1.0 known.1.1 wants none;
@@ -167,10 +164,9 @@ kind_taken-kept {w} {caching} config tracker c k i rest h inv plain long serving
 abbrev pub IsAskable : {w : ℕ} → (ℕ → Bool) → ℕ → Op w → Reply → AbstractState w → Type 0
 IsAskable caching c (Op.Store address size value) Reply.Stored h =
     same_perm ((h.state.block (block_at address)).pair c).held Perm.Trunk ≡ true
-IsAskable caching c (Op.Acquire n g) (Reply.Started source) h =
-    (caching c ≡ true) × (h.state.uses c source ≡ SourceFree) × (((h.state.block n).pair c).acquiring ≡ NoAcquire)
-    × (((h.state.block n).pair c).letting ≡ NoRelease)
-    × (same_perm (grow_left g) ((h.state.block n).pair c).held ≡ true)
+IsAskable caching c (Op.Acquire n g) (Reply.Started source) h = (caching c ≡ true) × (h.state.uses c source
+    ≡ SourceFree) × (((h.state.block n).pair c).acquiring ≡ NoAcquire) × (((h.state.block n).pair c).letting
+    ≡ NoRelease) × (same_perm (grow_left g) ((h.state.block n).pair c).held ≡ true)
 IsAskable caching c (Op.AcquireWhole n bytes) (Reply.Started source) h =
     (caching c ≡ true) × (h.state.uses c source ≡ SourceFree) × (((h.state.block n).pair c).acquiring ≡ NoAcquire)
     × (((h.state.block n).pair c).letting ≡ NoRelease) × (same_perm Perm.Trunk ((h.state.block n).pair c).held ≡ false)
@@ -192,12 +188,10 @@ whole_fits p e = refl
 
 pub asked-kept : {w : ℕ} {caching : ℕ → Bool} (c : ℕ) (o : Op w) (r : Reply) (h : AbstractState w)
     → IsInvariant caching h.state → IsAskable caching c o r h → IsInvariant caching (asked c o r h).state
-asked-kept {caching} c (Op.Store address size value) Reply.Stored h inv may =
-    block_stored-kept c (block_at address)
+asked-kept {caching} c (Op.Store address size value) Reply.Stored h inv may = block_stored-kept c (block_at address)
     (copy_stored address size value ((h.state.block (block_at address)).copy c)) inv may
-asked-kept {caching} c (Op.Acquire n g) (Reply.Started source) h inv is =
-    acquire_asked-kept c n source false g ((h.state.block n).waiting c) inv is.0 is.1 is.2 is.3
-    (begins_fit g ((h.state.block n).pair c).held is.4)
+asked-kept {caching} c (Op.Acquire n g) (Reply.Started source) h inv is = acquire_asked-kept c n source false g
+    ((h.state.block n).waiting c) inv is.0 is.1 is.2 is.3 (begins_fit g ((h.state.block n).pair c).held is.4)
 asked-kept {caching} c (Op.AcquireWhole n bytes) (Reply.Started source) h inv is =
     acquire_asked-kept c n source true (whole_grow ((h.state.block n).pair c).held) bytes inv is.0 is.1
     is.2 is.3 (whole_fits ((h.state.block n).pair c).held is.4)

@@ -94,9 +94,8 @@ granted-block {X} {c} {q} {r} {whole} {g} {gift} {source} {k} {b} h last =
             (other d ne) (quiet-is (b.pair d).probing (last.settled d neither))) low
       ]
     ]) in
-    let memory_is : (data_too : Bool) → same_perm (report_left r) Perm.Trunk ≡ data_too
-    → written r b.truth b.memory ≡ b.truth =
-    elim [ true ↦ λ e. rw e refl | false ↦ λ e. rw e (h.memory (none_out e)) ] in
+    let memory_is : (data_too : Bool) → same_perm (report_left r) Perm.Trunk ≡ data_too → written r b.truth b.memory
+    ≡ b.truth = elim [ true ↦ λ e. rw e refl | false ↦ λ e. rw e (h.memory (none_out e)) ] in
     let with_data : Bool = is_granted_data whole g (b.pair q).recorded in
     let all_quiet : (j : ℕ) → is_unprobed (granted_pair c q r gift b.pair j).probing ≡ true = λ j. elim (cases_eq j q) [
       | inl same ↦ rw (same, granted_here) (own_quiet (b.pair q) (view b.service q) (h.phases q) own)

@@ -152,8 +152,7 @@ acked_open x e = absurd cc
 
 pub ack-due : {caching : ℕ → Bool} (c n : ℕ) (rest : List Packet) {s : State (List ℕ)} → IsInvariant caching s
     → (s.link c).d ≡ packet ReleaseAck n ∷ rest → s.lets c ((s.block n).release_source c) ≡ Some n
-ack-due c n rest {s} inv first =
-    is_of-is n (s.lets c ((s.block n).release_source c))
+ack-due c n rest {s} inv first = is_of-is n (s.lets c ((s.block n).release_source c))
     (inv.named.releases c ((s.block n).release_source c) n ∙ and_from (not (is_unreleased ((s.block n).pair c).letting))
     ((s.block n).release_source c == (s.block n).release_source c) (acked_open ((s.block n).pair c).letting
     (first-shown inv c ReleaseAck refl first)) (same_number ((s.block n).release_source c)))

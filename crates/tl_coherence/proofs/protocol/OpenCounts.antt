@@ -37,8 +37,7 @@ marked-set {B} test clients sources c k x f few lt =
 -- no place changes, as the test has it
 pub marked-same : {B : Type 0} (test : B → Bool) (clients : ℕ) (sources : ℕ → ℕ) (f g : ℕ → ℕ → B)
     → ((c i : ℕ) → test (f c i) ≡ test (g c i)) → marked test clients sources f ≡ marked test clients sources g
-marked-same test clients sources f g same =
-    cc (total-same clients (λ c. total (sources c) (λ i. one_if (test (f c i))))
+marked-same test clients sources f g same = cc (total-same clients (λ c. total (sources c) (λ i. one_if (test (f c i))))
     (λ c. total (sources c) (λ i. one_if (test (g c i)))) (λ c few. total-same (sources c) (λ i. one_if (test (f c i)))
     (λ i. one_if (test (g c i))) (λ i lt. ap one_if (same c i))))
 
@@ -82,9 +81,8 @@ pub record IsBalance {X : Type 0} (config : Config) (s s' : State X) (starts end
 pub requests-split : {X : Type 0} (config : Config) (s : State X)
     → open_requests config s ≡ marked is_used (clients_in config) (sources_in config) s.uses + acks (clients_in config)
     s.link
-requests-split config s =
-    total-plus (clients_in config) (λ c. total (sources_in config c) (λ i. one_if (is_used (s.uses c i))))
-    (λ c. length (s.link c).e)
+requests-split config s = total-plus (clients_in config)
+    (λ c. total (sources_in config c) (λ i. one_if (is_used (s.uses c i)))) (λ c. length (s.link c).e)
 
 -- nothing is opened or ended
 pub balance-same : {X : Type 0} (config : Config) (s s' : State X)

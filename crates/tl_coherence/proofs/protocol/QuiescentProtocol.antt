@@ -70,9 +70,8 @@ module _ {X : Type 0} {caching : ℕ → Bool} {s : State X} (inv : IsInvariant 
       use_is c source SourceFree e = refl
       use_is c source Asked e =
           absurd (none_there source (is_asked (s.uses c source)) (rw (bare.a c) at (inv.requests c source)) (rw e refl))
-      use_is c source Replied e =
-          absurd (none_there source (is_replied (s.uses c source)) (rw (bare.silent.d c) at (inv.answers c source))
-          (rw e refl))
+      use_is c source Replied e = absurd (none_there source (is_replied (s.uses c source))
+          (rw (bare.silent.d c) at (inv.answers c source)) (rw e refl))
       use_is c source (InService n) e =
           let it : serves_of n (s.uses c source) ≡ true = rw e (same_number n) in
           let not_it : serves_with c source (s.block n) ≡ false = rw (free n) refl in
@@ -99,9 +98,8 @@ module _ {X : Type 0} {caching : ℕ → Bool} {s : State X} (inv : IsInvariant 
 
   -- a client that is probed is probed for a request that is open
   probed-for : (c n : ℕ) → is_unprobed ((s.block n).pair c).probing ≡ false → IsClosed s → ⊥
-  probed-for c n probed closed =
-      go (s.block n).service refl (serves_another ((s.block n).pair c) (view (s.block n).service c)
-      ((inv.blocks n).phases c) probed)
+  probed-for c n probed closed = go (s.block n).service refl
+      (serves_another ((s.block n).pair c) (view (s.block n).service c) ((inv.blocks n).phases c) probed)
     where
       go : (service : Service) → (s.block n).service ≡ service → is_other (view service c) ≡ true → ⊥
       go Free e is = absurd cc

@@ -30,11 +30,8 @@ report_none p r e f = absurd cc
 
 pub gentle-report : (r : Report) (p : ClientBlock) → same_perm (report_left r) p.recorded ≡ true
     → IsGentle p (after_report r p)
-gentle-report r p e = record {
-  trunk = λ f. report_trunk r p.recorded e f;
-  none = λ f. report_none p.recorded r e f;
-  quiet = λ f. refl;
-}
+gentle-report r p e =
+    record { trunk = λ f. report_trunk r p.recorded e f; none = λ f. report_none p.recorded r e f; quiet = λ f. refl }
 
 prune_trunk : (r : Prune) (p : Perm) → same_perm (prune_left r) p ≡ true → same_perm (prune_right r) Perm.Trunk ≡ true
     → same_perm p Perm.Trunk ≡ true
@@ -48,11 +45,8 @@ prune_none p r e f = absurd cc
 
 gentle-prune : (r : Prune) (p : ClientBlock) → same_perm (prune_left r) p.recorded ≡ true
     → IsGentle p (after_release_taken r p)
-gentle-prune r p e = record {
-  trunk = λ f. prune_trunk r p.recorded e f;
-  none = λ f. prune_none p.recorded r e f;
-  quiet = λ f. f;
-}
+gentle-prune r p e =
+    record { trunk = λ f. prune_trunk r p.recorded e f; none = λ f. prune_none p.recorded r e f; quiet = λ f. f }
 
 -- ---- memory: who gives Trunk up brings the data, and whoever else is out stays so
 
@@ -197,7 +191,6 @@ release_taken-kept {X} {caching} c n r rest {s} inv first releasing =
       in_order = λ m e. absurd (let f : Pops Release n ≡ Pushes ProbeAck m = e in cc);
     }))
     (bare-at c (let_moves n) refl refl)
-    (names-kept n new (set c here s.link) s inv.named
-    (λ d i. rw (set-part (λ (p : ClientBlock). p.acquiring) c after old refl d) refl) (λ d i. refl)
-    (λ d i. rw (set-part (λ (p : ClientBlock). is_unreleased p.letting) c after old (rw releasing refl) d) refl)
-    (λ i. refl))
+    (names-kept n new (set c here s.link) s inv.named (λ d i. rw (set-part
+    (λ (p : ClientBlock). p.acquiring) c after old refl d) refl) (λ d i. refl) (λ d i. rw (set-part
+    (λ (p : ClientBlock). is_unreleased p.letting) c after old (rw releasing refl) d) refl) (λ i. refl))

@@ -32,9 +32,8 @@ pub some-one : (n : ℕ) (test : ℕ → Bool) → some_below n test ≡ true �
 unfolding some_below
 some-one zero test e = absurd cc
 some-one (suc n) test e =
-    let go : (b : Bool) → test n ≡ b → (b || some_below n test) ≡ true
-    → (some_below n test ≡ true → (i : ℕ) × (test i ≡ true)) → (i : ℕ) × (test i ≡ true) =
-    elim [ true ↦ λ f g h. (n, f) | false ↦ λ f g h. h g ] in
+    let go : (b : Bool) → test n ≡ b → (b || some_below n test) ≡ true → (some_below n test ≡ true
+    → (i : ℕ) × (test i ≡ true)) → (i : ℕ) × (test i ≡ true) = elim [ true ↦ λ f g h. (n, f) | false ↦ λ f g h. h g ] in
     go (test n) refl e (λ f. some-one n test f)
 
 -- who isn't a client has nothing, and isn't probed
@@ -132,9 +131,8 @@ module _ {w : ℕ} {caching : ℕ → Bool} (config : Config) (c : ℕ) (rest : 
       is_probed c true (cap_asked (AcquireOpen whole g)) ((h.state.block n).pair d).recorded d
 
   pub access_answered-followed : (source : ℕ) (m : MessageA w) (o : Option Cap)
-      → (h.state.link c).a ≡ packet Request source ∷ rest
-      → is_acquire m.opcode ≡ false → length (h.state.block (block_at m.address)).truth ≡ 64
-      → cap_probed m.opcode m.param ≡ o
+      → (h.state.link c).a ≡ packet Request source ∷ rest → is_acquire m.opcode ≡ false
+      → length (h.state.block (block_at m.address)).truth ≡ 64 → cap_probed m.opcode m.param ≡ o
       → probes_some clients c false o (h.state.block (block_at m.address)).pair ≡ false
       → IsInvariant caching (access_answered c (block_at m.address) source (performs m) rest h.state)
   access_answered-followed source m o first access long caps none =
@@ -154,9 +152,8 @@ module _ {w : ℕ} {caching : ℕ → Bool} (config : Config) (c : ℕ) (rest : 
       → some_below clients (λ d. is_probed c false k ((h.state.block (block_at m.address)).pair d).recorded d) ≡ true
       → IsInvariant caching (access_served c (block_at m.address) source tracker k rest h.state)
   access_served-followed tracker source m k first free unused caps some =
-      let one = some-one clients (λ d. is_probed c false k ((h.state.block (block_at m.address)).pair d).recorded d)
-      some
-      in
+      let one =
+      some-one clients (λ d. is_probed c false k ((h.state.block (block_at m.address)).pair d).recorded d) some in
       access_served-kept c (block_at m.address) source tracker k rest inv first free (first-request inv first)
       (low_cap m.opcode m.param k caps) unused one.0 one.1
 

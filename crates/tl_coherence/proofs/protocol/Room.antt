@@ -30,15 +30,14 @@ length-carried : {w : ℕ} (rest : List (Beat w)) (ms : List (Message w)) (queue
     → IsCarried rest ms queue → length queue ≤ length (spelled ms)
 unfolding spelled
 length-carried rest [] queue h = let none : length queue ≡ 0 = ap length h.1 in omega (arith, none)
-length-carried {w} rest (m ∷ ms) queue (k, lt, r, q) =
-    omega (
-      arith,
-      ap length q,
-      length-beats_from m k (beats_of m - k),
-      length-beats_from m 0 (beats_of m),
-      length-append (beats_from m k (beats_of m - k)) (spelled ms),
-      length-append (beats_from m 0 (beats_of m)) (spelled ms),
-    )
+length-carried {w} rest (m ∷ ms) queue (k, lt, r, q) = omega (
+  arith,
+  ap length q,
+  length-beats_from m k (beats_of m - k),
+  length-beats_from m 0 (beats_of m),
+  length-append (beats_from m k (beats_of m - k)) (spelled ms),
+  length-append (beats_from m 0 (beats_of m)) (spelled ms),
+)
 
 -- those of light tokens have one beat each
 spelled-few : {w : ℕ} (message : Packet → Message w) (light : Packet → Bool) (xs : List Packet) → IsWidth w

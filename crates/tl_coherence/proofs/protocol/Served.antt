@@ -124,9 +124,8 @@ number_served true n source = n
 number_served false n source = source
 
 abbrev pub served_moves : ℕ → Bool → ℕ → ℕ → Cap → (ℕ → ClientBlock) → ℕ → Channel → Move
-served_moves r own n source k pair d =
-    request_move (if d == r then Pops (kind_served own) (number_served own n source) else Stays)
-    (is_probed r own k (pair d).recorded d) n
+served_moves r own n source k pair d = request_move (if d == r then Pops (kind_served own) (number_served own n source)
+    else Stays) (is_probed r own k (pair d).recorded d) n
 
 -- what the sender of an Acquire shows
 sender_shows : (n : ℕ) (j : Kind) (p : ClientBlock) → is_transfer j ≡ true → is_wanting p.acquiring ≡ true

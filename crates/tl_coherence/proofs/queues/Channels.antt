@@ -76,9 +76,8 @@ pub messages-stay : {w : ℕ} {caching : ℕ → Bool} {n : ℕ} {moves : ℕ �
     {s s' : State (List ℕ)} → IsShowing caching n moves mail mail' s s' → (d : ℕ) (ch : Channel)
     → map (message_of mail' s' d) (staying (moves d ch) (packets_on ch (s.link d)) (packets_on ch (s'.link d)))
     ≡ map (message_of mail s d) (staying (moves d ch) (packets_on ch (s.link d)) (packets_on ch (s'.link d)))
-messages-stay {w} {n} {moves} {mail} {mail'} {s} {s'} event d ch =
-    map_kept (λ k i. message_of_kind k mail s d i) (λ k i. message_of_kind k mail' s' d i) stay
-    (λ k i. each k i (is_on ch k) refl)
+messages-stay {w} {n} {moves} {mail} {mail'} {s} {s'} event d ch = map_kept (λ k i. message_of_kind k mail s d i)
+    (λ k i. message_of_kind k mail' s' d i) stay (λ k i. each k i (is_on ch k) refl)
   where
     xs : List Packet
     xs = packets_on ch (s.link d)
@@ -225,9 +224,8 @@ pub queued-handed : {w : ℕ} {pushes : ℕ → Channel → Option (Message w)} 
     (mail : AccessMessages w) (s : State (List ℕ)) {sys sys' : System w} → IsHanded pushes sys sys'
     → ((d : ℕ) (at : Channel) → Fits false (pushes d at) (moves d at) (λ k i. message_of mail s d (packet k i)))
     → AreQueued moves mail s sys sys'
-queued-handed {w} {pushes} moves mail s {sys} {sys'} is fits d at =
-    queued-with (pushes d at) (moves d at) (sys.channels d at)
-    (sys'.channels d at) (unfinished at (receiver at d sys)) (unfinished at (receiver at d sys'))
+queued-handed {w} {pushes} moves mail s {sys} {sys'} is fits d at = queued-with (pushes d at) (moves d at)
+    (sys.channels d at) (sys'.channels d at) (unfinished at (receiver at d sys)) (unfinished at (receiver at d sys'))
     (λ k i. message_of mail s d (packet k i)) (fits d at) (is.channels d at) (is.rests d at)
   where
     queued-with : (push : Option (Message w)) (move : Move) (q after r rest : List (Beat w)) (render : Kind → ℕ
@@ -246,12 +244,10 @@ pushes_at c pushes d ch = if d == c then pushes ch else None
 pub moved-at : (c : ℕ) (moves : Channel → Move) (l : Link) (link : ℕ → Link) → AreMoved moves (link c) l → (d : ℕ)
     → AreMoved (moves_at c moves d) (link d) (set c l link d)
 moved-at c moves l link h d ch =
-    let popped : (b : Bool) (k : Link) → b ≡ true → k ≡ l
-    → IsMoved (if b then moves ch else Stays) (packets_on ch (link c)) (packets_on ch k) =
-    λ b k e f. rw (e, f) (h ch) in
+    let popped : (b : Bool) (k : Link) → b ≡ true → k ≡ l → IsMoved (if b then moves ch else Stays)
+    (packets_on ch (link c)) (packets_on ch k) = λ b k e f. rw (e, f) (h ch) in
     let still : (b : Bool) (k : Link) → b ≡ false → k ≡ link d
-    → IsMoved (if b then moves ch else Stays) (packets_on ch (link d)) (packets_on ch k) =
-    λ b k e f. rw (e, f) refl in
+    → IsMoved (if b then moves ch else Stays) (packets_on ch (link d)) (packets_on ch k) = λ b k e f. rw (e, f) refl in
     elim (cases_eq d c) [
       | inl same ↦ rw same (popped (c == c) (set c l link c) (same_number c) (set-same c l link))
       | inr other ↦ still (d == c) (set c l link d) (ne_eqb d c other) (set-other c d l link other)

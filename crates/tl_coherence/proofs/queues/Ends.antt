@@ -33,12 +33,10 @@ module _ {w : ℕ} (config : Config) (P : ℕ → Endpoint w → Type 0) (keep :
       → (c : ℕ) → P c ((judged r k ch x rest e s).after.clients c)
   judged-kept (Err rule) k ch x rest e s here all c = other_end k e s here all c
   judged-kept (Ok (Verdict.Stalled, m)) k ch x rest e s here all c = all c
-  judged-kept (Ok (Verdict.Taken, m)) k ch x rest e s here all c =
-      rw (clients-with_messages (handed_by k m) (with_client k e (with_channel k ch rest s)))
-      (other_end k e (with_channel k ch rest s) here all c)
-  judged-kept (Ok (Verdict.Done source f, m)) k ch x rest e s here all c =
-      rw (clients-with_messages (handed_by k m) (with_client k e (with_channel k ch rest s)))
-      (other_end k e (with_channel k ch rest s) here all c)
+  judged-kept (Ok (Verdict.Taken, m)) k ch x rest e s here all c = rw (clients-with_messages (handed_by k m)
+      (with_client k e (with_channel k ch rest s))) (other_end k e (with_channel k ch rest s) here all c)
+  judged-kept (Ok (Verdict.Done source f, m)) k ch x rest e s here all c = rw (clients-with_messages (handed_by k m)
+      (with_client k e (with_channel k ch rest s))) (other_end k e (with_channel k ch rest s) here all c)
 
   managed-kept : (a : manager.Reception w × manager_end.End w) (k : ℕ) (ch : Channel) (x : Beat w)
       (rest : List (Beat w)) (s : System w) → ((c : ℕ) → P c (s.clients c))
@@ -68,8 +66,7 @@ module _ {w : ℕ} (config : Config) (P : ℕ → Endpoint w → Type 0) (keep :
       go : (x : Event w) (o : Option EndConfig) → terms_at config (client_of x) ≡ o
           → P c ((stepped_at config o x s).after.clients c)
       go x None is = all c
-      go (Ask k op) (Some terms) is =
-          rw (clients-with_messages (handed_by k (asked terms op (s.clients k)).message)
+      go (Ask k op) (Some terms) is = rw (clients-with_messages (handed_by k (asked terms op (s.clients k)).message)
           (with_client k (asked terms op (s.clients k)).after s))
           (other_end k (asked terms op (s.clients k)).after s (keep.asked k terms op (s.clients k) is (all k)) all c)
       go (Deliver link ch) (Some terms) is = delivered-kept terms link.0 ch (s.channels link.0 ch) s is all c

@@ -23,9 +23,8 @@ first_left_all = refl
 -- ---- one who isn't probed, or has answered, keeps no more than the cap
 
 within_test : ClientBlock → View → Bool
-within_test p v =
-    on_other v (λ k. not (same_cap k Cap.ToT) && (on_quiet p.probing (perm_le p.recorded (cap_right k)) && on_answered
-    p.probing (λ r. perm_le (report_right r) (cap_right k))))
+within_test p v = on_other v (λ k. not (same_cap k Cap.ToT) && (on_quiet p.probing
+    (perm_le p.recorded (cap_right k)) && on_answered p.probing (λ r. perm_le (report_right r) (cap_right k))))
 
 within_all : each_phase within_test ≡ true
 unfolding each_phase within_test

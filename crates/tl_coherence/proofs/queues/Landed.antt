@@ -114,11 +114,8 @@ pub landed-client : {w : ℕ} (c : ℕ) (ch : Channel) (x : Beat w) (queue : Lis
     (e : client.Endpoint w) (sys : System w) → is_to_client ch ≡ true → sys.channels c ch ≡ x ∷ queue → IsOn ch x
     → HasHeard x (sys.clients c) e → IsLanded c ch x queue (pushes_at c (pushes_of m)) sys
     (with_messages (handed_by c m) (with_client c e (with_channel c ch queue sys)))
-landed-client {w} c ch x queue m e sys to_client first is heard = record {
-  first = first;
-  channels = λ d at. channels-handed c m base d at;
-  rests = rests;
-}
+landed-client {w} c ch x queue m e sys to_client first is heard =
+    record { first = first; channels = λ d at. channels-handed c m base d at; rests = rests }
   where
     base : System w
     base = with_client c e (with_channel c ch queue sys)
@@ -137,9 +134,8 @@ landed-client {w} c ch x queue m e sys to_client first is heard = record {
         (unfinished at (sys.clients d).past) else unfinished at (sys.clients d).past)
     ours d at (inl same) = rw same (ap (λ (f : ℕ → client.Endpoint w). unfinished at (f c).past) clients_are
         ∙ ap (λ (b : Bool). unfinished at (if b then e else sys.clients c).past) (same_number c) ∙ heard at
-        ∙ grown_history ch at x (sys.clients c).past is
-        ∙ sym (ap (λ (b : Bool). if b && same_channel at ch then grown x (unfinished at (sys.clients c).past) else
-        unfinished at (sys.clients c).past) (same_number c)))
+        ∙ grown_history ch at x (sys.clients c).past is ∙ sym (ap (λ (b : Bool). if b && same_channel at ch then grown x
+        (unfinished at (sys.clients c).past) else unfinished at (sys.clients c).past) (same_number c)))
     ours d at (inr other) = ap (λ (f : ℕ → client.Endpoint w). unfinished at (f d).past) clients_are
         ∙ ap (λ (b : Bool). unfinished at (if b then e else sys.clients d).past) (ne_eqb d c other)
         ∙ sym (ap (λ (b : Bool). if b && same_channel at ch then grown x (unfinished at (sys.clients d).past) else
@@ -236,9 +232,8 @@ rests-manager {w} c ch x queue handed e sys to_manager is heard = rests
         → unfinished at (after.clients d).past ≡ (if (d == c) && same_channel at ch then grown x
         (unfinished at (sys.clients d).past) else unfinished at (sys.clients d).past)
     ours d at f =
-        let unless : (b : Bool) → unfinished at (sys.clients d).past
-        ≡ (if b && false then grown x (unfinished at (sys.clients d).past) else unfinished at (sys.clients d).past)
-        = elim [ true ↦ refl | false ↦ refl ] in
+        let unless : (b : Bool) → unfinished at (sys.clients d).past ≡ (if b && false then grown x (unfinished at
+        (sys.clients d).past) else unfinished at (sys.clients d).past) = elim [ true ↦ refl | false ↦ refl ] in
         rw f (cc (clients-with_messages handed base, unless (d == c)))
 
     rests : (d : ℕ) (at : Channel)
@@ -254,8 +249,5 @@ pub landed-manager : {w : ℕ} (c : ℕ) (ch : Channel) (x : Beat w) (queue : Li
     → ((d : ℕ) (at : Channel) → (with_messages handed (with_manager e (with_channel c ch queue sys))).channels d at
     ≡ behind (pushes d at) ((with_channel c ch queue sys).channels d at))
     → IsLanded c ch x queue pushes sys (with_messages handed (with_manager e (with_channel c ch queue sys)))
-landed-manager c ch x queue pushes handed e sys to_manager first is heard pushed = record {
-  first = first;
-  channels = pushed;
-  rests = rests-manager c ch x queue handed e sys to_manager is heard;
-}
+landed-manager c ch x queue pushes handed e sys to_manager first is heard pushed =
+    record { first = first; channels = pushed; rests = rests-manager c ch x queue handed e sys to_manager is heard }

@@ -251,10 +251,9 @@ pub invariant-moved_access : {X : Type 0} {caching : ℕ → Bool} {c source : �
 invariant-moved_access {c} {source} {u} {l} {moves} {s} inv event = record {
   blocks = inv.blocks;
   transfers = λ d k t. elim (cases_eq d c) [
-    | inl same ↦ rw (same, set-same c l s.link)
-        (rw (on_is k l) (holds-spared k (moves (channel_for k)) (packets_on (channel_for k) (s.link c))
-        (packets_on (channel_for k) l) (λ i. shown k c (s.block i)) (event.moved (channel_for k)) (event.spared k t)
-        (rw (on_is k (s.link c)) at (inv.transfers c k t))))
+    | inl same ↦ rw (same, set-same c l s.link) (rw (on_is k l) (holds-spared k (moves (channel_for k))
+        (packets_on (channel_for k) (s.link c)) (packets_on (channel_for k) l) (λ i. shown k c (s.block i))
+        (event.moved (channel_for k)) (event.spared k t) (rw (on_is k (s.link c)) at (inv.transfers c k t))))
     | inr other ↦ rw (set-other c d l s.link other) (inv.transfers d k t)
   ];
   requests = holds-set_at Request (λ d. moves_at c moves d Channel.A) (λ d. (s.link d).a) (λ d. (set c l s.link d).a)

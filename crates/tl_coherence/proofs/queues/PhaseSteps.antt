@@ -189,10 +189,9 @@ granted_from : (p : ClientBlock) (whole : Bool) (g : Grow) (k : Cap) → p.acqui
     → cap_fits whole g k ≡ true → granted_well p ≡ true
     → ok (after_grant_sent k p) (Granting (is_granted_data whole g p.recorded) k) ≡ true
 unfolding granted_well granted_to
-granted_from p whole g k wants fits h =
-    where_is (cap_fits whole g k) (λ u. ok (after_grant_sent k p) (Granting (is_granted_data whole g p.recorded) k))
-    (of_cap (λ j. granted_to p whole g j) (wants_is p.acquiring (λ w i. each_cap (λ j. granted_to p w i j)) whole g
-    wants h) k) fits
+granted_from p whole g k wants fits h = where_is (cap_fits whole g k) (λ u. ok (after_grant_sent k p)
+    (Granting (is_granted_data whole g p.recorded) k)) (of_cap (λ j. granted_to p whole g j)
+    (wants_is p.acquiring (λ w i. each_cap (λ j. granted_to p w i j)) whole g wants h) k) fits
 
 grant_test : ClientBlock → View → Bool
 grant_test p v = on_idle v (granted_well p) && on_own v (granted_well p)
@@ -205,19 +204,15 @@ pub grant_at_once-ok : (whole : Bool) (g : Grow) (k : Cap) (p : ClientBlock) (v 
     → p.acquiring ≡ AcquireOpen whole g → cap_fits whole g k ≡ true
     → ok (after_grant_sent k p) (Granting (is_granted_data whole g p.recorded) k) ≡ true
 unfolding grant_test
-grant_at_once-ok whole g k p v h idle wants fits =
-    granted_from p whole g k wants fits
-    (idle_is v (granted_well p) idle (and_left (on_idle v (granted_well p)) (on_own v (granted_well p))
-    (of_phase grant_test grant_all p v h)))
+grant_at_once-ok whole g k p v h idle wants fits = granted_from p whole g k wants fits (idle_is v (granted_well p) idle
+    (and_left (on_idle v (granted_well p)) (on_own v (granted_well p)) (of_phase grant_test grant_all p v h)))
 
 pub grant_last-ok : (whole : Bool) (g : Grow) (k : Cap) (p : ClientBlock) (v : View) → ok p v ≡ true → v ≡ Own
     → p.acquiring ≡ AcquireOpen whole g → cap_fits whole g k ≡ true
     → ok (after_grant_sent k p) (Granting (is_granted_data whole g p.recorded) k) ≡ true
 unfolding grant_test
-grant_last-ok whole g k p v h own wants fits =
-    granted_from p whole g k wants fits
-    (own_is v (granted_well p) own (and_right (on_idle v (granted_well p)) (on_own v (granted_well p))
-    (of_phase grant_test grant_all p v h)))
+grant_last-ok whole g k p v h own wants fits = granted_from p whole g k wants fits (own_is v (granted_well p) own
+    (and_right (on_idle v (granted_well p)) (on_own v (granted_well p)) (of_phase grant_test grant_all p v h)))
 
 -- ---- messages that are taken
 
@@ -249,10 +244,10 @@ pub report-ok : (r : Report) (p : ClientBlock) (v : View) → ok p v ≡ true �
     × (ok (after_report r p) GrantedOther ≡ true)
 unfolding report_test
 report-ok r p v h answered =
-    let t = answered_is p.probing
-    (λ j. ok (after_report j p) v && (ok (after_report j p) Idle && ok (after_report j p) GrantedOther)) r answered
-    (of_phase report_test report_all p v h) in
-    let u = and_right (ok (after_report r p) v) (ok (after_report r p) Idle && ok (after_report r p) GrantedOther) t in (
+    let t = answered_is p.probing (λ j. ok (after_report j p) v && (ok (after_report j p) Idle && ok
+    (after_report j p) GrantedOther)) r answered (of_phase report_test report_all p v h) in
+    let u = and_right (ok (after_report r p) v) (ok (after_report r p) Idle && ok (after_report r p) GrantedOther) t
+    in (
       and_left (ok (after_report r p) v) (ok (after_report r p) Idle && ok (after_report r p) GrantedOther) t,
       and_left (ok (after_report r p) Idle) (ok (after_report r p) GrantedOther) u,
       and_right (ok (after_report r p) Idle) (ok (after_report r p) GrantedOther) u,
@@ -308,15 +303,13 @@ ack_taken_all = refl
 
 pub ack_taken-ok : (p : ClientBlock) (v : View) → ok p v ≡ true → v ≡ Acknowledging → ok p Idle ≡ true
 unfolding ack_taken_test
-ack_taken-ok p v h e = acknowledging_is v (ok p Idle) e
-    (and_left (on_acknowledging v (ok p Idle)) (on_granted_other v (ok p Idle))
-    (of_phase ack_taken_test ack_taken_all p v h))
+ack_taken-ok p v h e = acknowledging_is v (ok p Idle) e (and_left (on_acknowledging v (ok p Idle))
+    (on_granted_other v (ok p Idle)) (of_phase ack_taken_test ack_taken_all p v h))
 
 pub ack_taken_other-ok : (p : ClientBlock) (v : View) → ok p v ≡ true → v ≡ GrantedOther → ok p Idle ≡ true
 unfolding ack_taken_test
-ack_taken_other-ok p v h e =
-    granted_other_is v (ok p Idle) e (and_right (on_acknowledging v (ok p Idle)) (on_granted_other v (ok p Idle))
-    (of_phase ack_taken_test ack_taken_all p v h))
+ack_taken_other-ok p v h e = granted_other_is v (ok p Idle) e (and_right (on_acknowledging v (ok p Idle))
+    (on_granted_other v (ok p Idle)) (of_phase ack_taken_test ack_taken_all p v h))
 
 -- ---- what others do
 
@@ -347,7 +340,6 @@ pub ended-ok : (k : Cap) (p : ClientBlock) (v : View) → ok p v ≡ true → v 
     → (ok p Idle ≡ true) × (ok p GrantedOther ≡ true)
 unfolding ended_test
 ended-ok k p v h other quiet =
-    let t = quiet_is p.probing (ok p Idle && ok p GrantedOther) quiet
-    (other_is v (λ j. on_quiet p.probing (ok p Idle && ok p GrantedOther)) k other
-    (of_phase ended_test ended_all p v h)) in
+    let t = quiet_is p.probing (ok p Idle && ok p GrantedOther) quiet (other_is v
+    (λ j. on_quiet p.probing (ok p Idle && ok p GrantedOther)) k other (of_phase ended_test ended_all p v h)) in
     (and_left (ok p Idle) (ok p GrantedOther) t, and_right (ok p Idle) (ok p GrantedOther) t)

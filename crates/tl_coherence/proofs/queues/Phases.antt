@@ -42,9 +42,8 @@ abbrev pub each_acquiring : (AcquirePhase → Bool) → Bool
 each_acquiring f = f NoAcquire && each_bool (λ whole. each_grow (λ g. f (AcquireOpen whole g)))
 
 abbrev pub each_view : (View → Bool) → Bool
-each_view f =
-    f Idle && (f Own && (each_cap (λ k. f (Other k)) && (each_bool (λ d. each_cap (λ k. f (Granting d k)))
-    && (f Acknowledging && f GrantedOther))))
+each_view f = f Idle && (f Own && (each_cap
+    (λ k. f (Other k)) && (each_bool (λ d. each_cap (λ k. f (Granting d k))) && (f Acknowledging && f GrantedOther))))
 
 abbrev pub pair_of : Perm → ProbePhase → ReleasePhase → Perm → AcquirePhase → ClientBlock
 pair_of recorded probing letting held acquiring =
@@ -52,10 +51,9 @@ pair_of recorded probing letting held acquiring =
 
 -- the test holds in each phase that is well
 unfoldable pub each_phase : (ClientBlock → View → Bool) → Bool
-each_phase f =
-    each_view (λ v. each_probing (λ probing. where_true (ok_first probing v) (λ a.
-    each_letting (λ letting. each_acquiring (λ acquiring. where_true (ok_second probing letting acquiring v) (λ b.
-    each_perm (λ recorded. each_perm (λ held. where_true (ok_third (pair_of recorded probing letting held acquiring) v)
+each_phase f = each_view (λ v. each_probing (λ probing. where_true (ok_first probing v) (λ a. each_letting
+    (λ letting. each_acquiring (λ acquiring. where_true (ok_second probing letting acquiring v) (λ b. each_perm
+    (λ recorded. each_perm (λ held. where_true (ok_third (pair_of recorded probing letting held acquiring) v)
     (λ c. f (pair_of recorded probing letting held acquiring) v)))))))))
 
 -- ---- a test that holds of all holds of each
@@ -130,12 +128,10 @@ of_report f e Report.NtoN = (six_reports f e).5
 pub of_probing : (f : ProbePhase → Bool) → each_probing f ≡ true → (x : ProbePhase) → f x ≡ true
 of_probing f e NoProbe =
     (three (f NoProbe) (each_cap (λ k. f (ProbeSent k))) (each_report (λ r. f (ProbeAnswered r))) e).0
-of_probing f e (ProbeSent k) =
-    of_cap (λ j. f (ProbeSent j)) (three (f NoProbe) (each_cap (λ j. f (ProbeSent j)))
-    (each_report (λ r. f (ProbeAnswered r))) e).1 k
-of_probing f e (ProbeAnswered r) =
-    of_report (λ j. f (ProbeAnswered j)) (three (f NoProbe) (each_cap (λ k. f (ProbeSent k)))
-    (each_report (λ j. f (ProbeAnswered j))) e).2 r
+of_probing f e (ProbeSent k) = of_cap (λ j. f (ProbeSent j))
+    (three (f NoProbe) (each_cap (λ j. f (ProbeSent j))) (each_report (λ r. f (ProbeAnswered r))) e).1 k
+of_probing f e (ProbeAnswered r) = of_report (λ j. f (ProbeAnswered j))
+    (three (f NoProbe) (each_cap (λ k. f (ProbeSent k))) (each_report (λ j. f (ProbeAnswered j))) e).2 r
 
 pub of_letting : (f : ReleasePhase → Bool) → each_letting f ≡ true → (x : ReleasePhase) → f x ≡ true
 of_letting f e NoRelease = (three (f NoRelease) (each_prune (λ r. f (ReleaseSent r))) (f ReleaseAcked) e).0
@@ -145,9 +141,8 @@ of_letting f e ReleaseAcked = (three (f NoRelease) (each_prune (λ r. f (Release
 
 pub of_acquiring : (f : AcquirePhase → Bool) → each_acquiring f ≡ true → (x : AcquirePhase) → f x ≡ true
 of_acquiring f e NoAcquire = and_left (f NoAcquire) (each_bool (λ whole. each_grow (λ g. f (AcquireOpen whole g)))) e
-of_acquiring f e (AcquireOpen whole g) =
-    of_grow (λ h. f (AcquireOpen whole h)) (of_bool (λ b. each_grow (λ h. f (AcquireOpen b h)))
-    (and_right (f NoAcquire) (each_bool (λ b. each_grow (λ h. f (AcquireOpen b h)))) e) whole) g
+of_acquiring f e (AcquireOpen whole g) = of_grow (λ h. f (AcquireOpen whole h)) (of_bool (λ b. each_grow (λ h. f
+    (AcquireOpen b h))) (and_right (f NoAcquire) (each_bool (λ b. each_grow (λ h. f (AcquireOpen b h)))) e) whole) g
 
 abbrev SixViews : (View → Bool) → Type 0
 SixViews f = IsSix (f Idle) (f Own) (each_cap (λ k. f (Other k))) (each_bool (λ d. each_cap (λ k. f (Granting d k))))
@@ -181,15 +176,13 @@ of_phase f e p v h =
     let middle = λ (probing : ProbePhase) (u : View) (letting : ReleasePhase) (acquiring : AcquirePhase).
     where_true (ok_second probing letting acquiring u)
     (λ b. each_perm (λ recorded. each_perm (λ held. last probing letting acquiring u recorded held))) in
-    let outer = λ (u : View) (probing : ProbePhase).
-    where_true (ok_first probing u)
+    let outer = λ (u : View) (probing : ProbePhase). where_true (ok_first probing u)
     (λ a. each_letting (λ letting. each_acquiring (λ acquiring. middle probing u letting acquiring))) in
     let two = where_is (ok_first p.probing v)
     (λ a. each_letting (λ letting. each_acquiring (λ acquiring. middle p.probing v letting acquiring))) (of_probing
     (λ probing. outer v probing) (of_view (λ u. each_probing (λ probing. outer u probing)) e v) p.probing) first in
-    let three_ = of_acquiring (λ acquiring. middle p.probing v p.letting acquiring)
-    (of_letting (λ letting. each_acquiring (λ acquiring. middle p.probing v letting acquiring)) two p.letting)
-    p.acquiring in
+    let three_ = of_acquiring (λ acquiring. middle p.probing v p.letting acquiring) (of_letting
+    (λ letting. each_acquiring (λ acquiring. middle p.probing v letting acquiring)) two p.letting) p.acquiring in
     let four = where_is (ok_second p.probing p.letting p.acquiring v)
     (λ b. each_perm (λ recorded. each_perm (λ held. last p.probing p.letting p.acquiring v recorded held))) three_
     (and_left (ok_second p.probing p.letting p.acquiring v) (ok_third p v) rest) in

@@ -35,13 +35,9 @@ first-none config ch link (suc n) s none = rw (none link) (first-none config ch 
 pub client_below : (config : Config) (c : ℕ) (terms : EndConfig) → terms_at config c ≡ Some terms
     → c < length config.clients.items
 client_below config c terms is =
-    let go : (o : Option ClientConfig) → slice_get config.clients.items c ≡ o
-    → option_map (λ x. record {
-      level = x.level;
-      profile = config.profile;
-      sources = x.sources;
-      blocks = config.blocks;
-    }) o ≡ Some terms → c < length config.clients.items =
+    let go : (o : Option ClientConfig) → slice_get config.clients.items c ≡ o → option_map
+    (λ x. record { level = x.level; profile = config.profile; sources = x.sources; blocks = config.blocks }) o
+    ≡ Some terms → c < length config.clients.items =
     elim [ None ↦ λ e f. absurd cc | Some x ↦ λ e f. slice_get_within config.clients.items c x e ] in
     go (slice_get config.clients.items c) refl is
 

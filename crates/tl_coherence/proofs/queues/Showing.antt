@@ -56,9 +56,8 @@ unfolding block_message
 rendered-alike w Request d n b b' same bytes = refl
 rendered-alike w Answer d n b b' same bytes = refl
 rendered-alike w Acquire d n b b' same bytes = rw (same.0, same.1) refl
-rendered-alike w ProbeAck d n b b' same (inl none) =
-    rw same (ack_bytes w (report_left (report_told (b.pair d).probing)) (report_told (b.pair d).probing) n b'.truth
-    b.truth none)
+rendered-alike w ProbeAck d n b b' same (inl none) = rw same (ack_bytes w (report_left (report_told (b.pair d).probing))
+    (report_told (b.pair d).probing) n b'.truth b.truth none)
 rendered-alike w ProbeAck d n b b' same (inr e) = rw (same, e) refl
 rendered-alike w Release d n b b' same (inl none) =
     rw (same.0, same.1) (release_bytes w (prune_told (b.pair d).letting) (b.release_source d) n b'.truth b.truth none)

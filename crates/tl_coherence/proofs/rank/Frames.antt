@@ -111,9 +111,8 @@ module _ {w : ℕ} {config : Config} {mail mail' : AccessMessages w} {s s' : Sta
       → pair_weight size left' m d ((s'.block m).pair d) ≤ pair_weight size left m d ((s.block m).pair d)
   pair-stays d m probing recorded = rw (probing, recorded) (go ((s.block m).pair d).probing refl)
     where
-      go : (x : ProbePhase) → ((s.block m).pair d).probing ≡ x
-          → probing_weight size (left' d ProbeAck m) ((s.block m).pair d).recorded x ≤ probing_weight size
-          (left d ProbeAck m) ((s.block m).pair d).recorded x
+      go : (x : ProbePhase) → ((s.block m).pair d).probing ≡ x → probing_weight size (left' d ProbeAck m)
+          ((s.block m).pair d).recorded x ≤ probing_weight size (left d ProbeAck m) ((s.block m).pair d).recorded x
       go (ProbeAnswered r) e = same d ProbeAck m (report-here showing.before d m (rw e refl))
           (report-here showing.after d m (rw (probing, e) refl))
       go x e = omega arith
@@ -166,9 +165,8 @@ module _ {w : ℕ} {config : Config} {mail mail' : AccessMessages w} {s s' : Sta
         → acquire_weight size (left' d Acquire n) (left' d Grant n) (probes_weight number size left' n (s'.block n))
         (view (s'.block n).service d) ≤ acquire_weight size (left d Acquire n) (left d Grant n)
         (probes_weight number size left n (s.block n)) (view (s.block n).service d)
-    pub lets : (d i : ℕ) → s.lets d i ≡ Some n → s'.lets d i ≡ Some n
-        → letting_weight (left' d Release n) ((s'.block n).pair d).letting ≤ letting_weight (left d Release n)
-        ((s.block n).pair d).letting
+    pub lets : (d i : ℕ) → s.lets d i ≡ Some n → s'.lets d i ≡ Some n → letting_weight (left' d Release n)
+        ((s'.block n).pair d).letting ≤ letting_weight (left d Release n) ((s.block n).pair d).letting
 
   probes-else : (m : ℕ) → (m ≡ n → ⊥) → probes_weight number size left' m (s'.block m) ≤ probes_weight number size left
       m (s.block m)
@@ -196,8 +194,7 @@ module _ {w : ℕ} {config : Config} {mail mail' : AccessMessages w} {s s' : Sta
     -- a request that is used as before
     pub use-stays : (d i : ℕ) → s'.uses d i ≡ s.uses d i → owed_use' config size left left' answer answer s s' d
         i ≤ owed_use config size left left' answer answer s s' d i
-    use-stays d i e =
-        use-no-more config size left left' answer answer s s' d i (s.uses d i) refl e (omega arith)
+    use-stays d i e = use-no-more config size left left' answer answer s s' d i (s.uses d i) refl e (omega arith)
         (λ u. same d Request i (request-here showing.before d i u) (request-here showing.after d i (e ∙ u)))
         (λ u. same d Answer i (answer-here showing.before d i u) (answer-here showing.after d i (e ∙ u)))
         (λ m u. serve m u (cases_eq m n)) (λ m u. acquire m u (cases_eq m n))

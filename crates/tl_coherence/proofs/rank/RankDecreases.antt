@@ -20,8 +20,7 @@ total-falls (suc n) m k f g lt le less =
         let others = total-le n g f (λ i h. le i (omega (arith, h))) in
         let here : g n + k ≤ f n = rw same less in
         omega (arith, others, here)
-    go (inr differs) rest =
-        omega (arith, rest (omega (arith, lt, differs)), le n (omega arith))
+    go (inr differs) rest = omega (arith, rest (omega (arith, lt, differs)), le n (omega arith))
 
 module _ {X : Type 0} (config : Config) (n : ℕ) (left left' : Left) (answer answer' : ℕ → ℕ → ℕ) (s s' : State X) where
   abbrev pub clients : ℕ

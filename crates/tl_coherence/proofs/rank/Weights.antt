@@ -49,8 +49,7 @@ total-less (suc bound) m f lt le none =
         let all = total-const bound 2 in
         let here : f bound ≡ 0 = rw (← same) none in
         omega (arith, others, all, here)
-    go (inr differs) rest =
-        omega (arith, rest (omega (arith, lt, differs)), le bound (omega arith))
+    go (inr differs) rest = omega (arith, rest (omega (arith, lt, differs)), le bound (omega arith))
 
 -- ---- the Probes and reports of a block
 
@@ -202,14 +201,12 @@ module _ {X : Type 0} {caching : ℕ → Bool} {s : State X} (inv : IsInvariant 
       let lets = times-total (n + 1) sources (λ i. let_weight left s c (s.lets c i)) (λ i. one_if (is_let (s.lets c i)))
       (λ i. let-few c i (s.lets c i) refl) in
       let split : (n + 33) * (total sources (λ i. one_if (is_used (s.uses c i))) + length (s.link c).e)
-      ≡ (n + 33) * total sources
-      (λ i. one_if (is_used (s.uses c i))) + (n + 33) * length (s.link c).e = grind arith in
+      ≡ (n + 33) * total sources (λ i. one_if (is_used (s.uses c i))) + (n + 33) * length (s.link c).e = grind arith in
       omega (arith, uses, lets, one-each (n + 33) (length (s.link c).e) (omega arith), split)
 
   pub potential-few : (config : Config) → length config.clients.items ≡ clients
       → rank config n left answer s ≤ (n + 33) * open_requests config s + (n + 1) * open_releases config s
-  potential-few config e =
-      rw e (two-totals clients (λ c. client_weight clients n left answer s (sources_of (terms_at config c)) c)
-      (λ c. total (sources_of (terms_at config c)) (λ i. one_if (is_used (s.uses c i))) + length (s.link c).e)
-      (λ c. total (sources_of (terms_at config c)) (λ i. one_if (is_let (s.lets c i)))) (n + 33) (n + 1)
+  potential-few config e = rw e (two-totals clients (λ c. client_weight clients n left answer s (sources_of
+      (terms_at config c)) c) (λ c. total (sources_of (terms_at config c)) (λ i. one_if (is_used (s.uses c i))) + length
+      (s.link c).e) (λ c. total (sources_of (terms_at config c)) (λ i. one_if (is_let (s.lets c i)))) (n + 33) (n + 1)
       (λ c. client-few (sources_of (terms_at config c)) c))

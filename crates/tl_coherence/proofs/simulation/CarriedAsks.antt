@@ -50,10 +50,9 @@ access_asked-carried {w} {caching} c source m mail {s} {sys} {sys'} width inv in
       requests = λ d i e f. requests d i e (cases_eq d c) (cases_eq i source);
       answers = λ d i e f. refl;
     })
-    (queued-handed (moves_at c (access_moves source)) mail' s' handed
-    (fits-handed c (pushes_of (Some m)) (access_moves source) (λ d k i. message_of mail' s' d (packet k i))
-    (λ at. fits_pushed false m Channel.A at (access_moves source at) (λ k i. message_of mail' s' c (packet k i)) chan
-    (fits at))))
+    (queued-handed (moves_at c (access_moves source)) mail' s' handed (fits-handed c (pushes_of (Some m))
+    (access_moves source) (λ d k i. message_of mail' s' d (packet k i)) (λ at. fits_pushed false m Channel.A at
+    (access_moves source at) (λ k i. message_of mail' s' c (packet k i)) chan (fits at))))
     h
   where
     mail' : AccessMessages w
@@ -85,9 +84,8 @@ acquire_asked-carried {w} {caching} c n source whole g bytes m mail {s} {sys} {s
     h =
     let new : Block (List ℕ) = acquiring_block c source whole g bytes (s.block n) in
     let s' : State (List ℕ) = acquire_asked c n source whole g bytes s in
-    let fits : (at : Channel) → Fits false (only_on Channel.A m at) (acquire_moves n at)
-    (λ k i. message_of mail s' c (packet k i)) =
-    elim [ Channel.A ↦ new_there Acquire c n new s.block m is | at ↦ tt ] in
+    let fits : (at : Channel) → Fits false (only_on Channel.A m at) (acquire_moves n at) (λ k i. message_of mail s' c
+    (packet k i)) = elim [ Channel.A ↦ new_there Acquire c n new s.block m is | at ↦ tt ] in
     carried-event sys sys' width
     (showing-block n new (moves_at c (acquire_moves n)) mail mail inv inv' (moved-at c (acquire_moves n)
     (with_a (packet Acquire n) (s.link c)) s.link (elim [ Channel.A ↦ refl | _ ↦ refl ])) (λ i. refl)
@@ -105,9 +103,8 @@ pub release_asked-carried : {w : ℕ} {caching : ℕ → Bool} (c n source : ℕ
 release_asked-carried {w} {caching} c n source r m mail {s} {sys} {sys'} width inv inv' kept chan is handed h =
     let new : Block (List ℕ) = releasing_block c source r (s.block n) in
     let s' : State (List ℕ) = release_asked c n source r s in
-    let fits : (at : Channel) → Fits false (only_on Channel.C m at) (release_moves n at)
-    (λ k i. message_of mail s' c (packet k i)) =
-    elim [ Channel.C ↦ new_there Release c n new s.block m is | at ↦ tt ] in
+    let fits : (at : Channel) → Fits false (only_on Channel.C m at) (release_moves n at) (λ k i. message_of mail s' c
+    (packet k i)) = elim [ Channel.C ↦ new_there Release c n new s.block m is | at ↦ tt ] in
     carried-event sys sys' width
     (showing-block n new (moves_at c (release_moves n)) mail mail inv inv' (moved-at c (release_moves n)
     (with_c (packet Release n) (s.link c)) s.link (elim [ Channel.A ↦ refl | _ ↦ refl ])) (λ i. refl)

@@ -67,8 +67,7 @@ acquire_granted-shown {w} {caching} r n tracker d k rest m mail {s} inv inv' fir
     let new : Block (List ℕ) = granted_at_once r tracker d k (s.block n) in
     let s' : State (List ℕ) = acquire_granted r n tracker d k rest s in
     let fits : (at : Channel) → Fits (same_channel at Channel.A) (only_on Channel.D m at) (once_moves n at)
-    (λ j l. message_of mail s' r (packet j l)) = elim [ Channel.D ↦ new_there Grant r n new s.block m is | at ↦ tt ]
-    in
+    (λ j l. message_of mail s' r (packet j l)) = elim [ Channel.D ↦ new_there Grant r n new s.block m is | at ↦ tt ] in
     record {
       moves = (moves_at r (once_moves n));
       showing = showing-block n new (moves_at r (once_moves n)) mail mail inv inv' (moved-at r (once_moves n)
@@ -109,14 +108,13 @@ pub report_taken-shown : {w : ℕ} {caching : ℕ → Bool} (c n : ℕ) (r : Rep
     (mail : AccessMessages w) {s : State (List ℕ)} → IsInvariant caching s
     → IsInvariant caching (report_taken c n r rest s) → (s.link c).c ≡ packet ProbeAck n ∷ rest
     → IsShown caching n c Channel.C (λ d at. None) mail mail s (report_taken c n r rest s)
-report_taken-shown {w} {caching} c n r rest mail {s} inv inv' first =
-    record {
-      moves = (moves_at c (report_moves n));
-      showing = showing-block n (reported_block c r (s.block n)) (moves_at c (report_moves n)) mail mail inv inv'
-          (moved-at c (report_moves n) (record (s.link c) { c = rest }) s.link (elim [ Channel.C ↦ first | _ ↦ refl ]))
-          (λ i. refl) (alike-reported c r (s.block n)) (λ i j e f. refl) (λ i j e f. refl);
-      fits = λ d at. fits d at (d == c);
-    }
+report_taken-shown {w} {caching} c n r rest mail {s} inv inv' first = record {
+  moves = (moves_at c (report_moves n));
+  showing = showing-block n (reported_block c r (s.block n)) (moves_at c (report_moves n)) mail mail inv inv'
+      (moved-at c (report_moves n) (record (s.link c) { c = rest }) s.link (elim [ Channel.C ↦ first | _ ↦ refl ]))
+      (λ i. refl) (alike-reported c r (s.block n)) (λ i j e f. refl) (λ i j e f. refl);
+  fits = λ d at. fits d at (d == c);
+}
   where
     s' : State (List ℕ)
     s' = report_taken c n r rest s

@@ -16,9 +16,8 @@ use proofs.queues.{Showing.showing-block, Tokens.same_number, Tokens.set-same, T
 -- ---- the last report, for which an access is answered
 
 ended_fits : {w : ℕ} (x y : Bool) (n source : ℕ) (m : Message w) (at : Channel) (render : Kind → ℕ → Message w)
-    → (y ≡ true → render Answer source ≡ m)
-    → Fits (x && same_channel at Channel.C) (if y then only_on Channel.D m at else None) (ended_move x y n source at)
-    render
+    → (y ≡ true → render Answer source ≡ m) → Fits (x && same_channel at Channel.C)
+    (if y then only_on Channel.D m at else None) (ended_move x y n source at) render
 ended_fits true true n source m Channel.D render e = e refl
 ended_fits true false n source m Channel.D render e = tt
 ended_fits false true n source m Channel.D render e = e refl
@@ -113,9 +112,8 @@ granted_moved n c q d ch rest link apart first = elim (cases_eq d q) [
     at_other ch l o i e = rw e refl
 
 granted_fits : {w : ℕ} (n : ℕ) (m : Message w) (at : Channel) (c q d : ℕ) (render : Kind → ℕ → Message w)
-    → ((d == q) ≡ true → render Grant n ≡ m)
-    → Fits ((d == c) && same_channel at Channel.C) (if d == q then only_on Channel.D m at else None)
-    (granted_moves n c q d at) render
+    → ((d == q) ≡ true → render Grant n ≡ m) → Fits ((d == c) && same_channel at Channel.C)
+    (if d == q then only_on Channel.D m at else None) (granted_moves n c q d at) render
 granted_fits {w} n m at c q d render e =
     let same : (at : Channel) → granted_moves n c q d at ≡ moves (d == c) (d == q) at =
     elim [ Channel.A ↦ refl | at ↦ refl ] in
@@ -149,9 +147,8 @@ report_grants-shown {w} {caching} c q n source r d k gift rest m mail {s} inv in
       | inl same ↦ rw same (ap (block_message Grant q n) (set-same n new s.block) ∙ is)
       | inr other ↦ absurd (let f : false ≡ true = sym (ne_eqb i q other) ∙ e in cc)
     ] in
-    let fits : (i : ℕ) (at : Channel)
-    → Fits ((i == c) && same_channel at Channel.C) (pushes_at q (pushes_of (Some m)) i at) (moves i at)
-    (λ j l. message_of mail s' i (packet j l)) =
+    let fits : (i : ℕ) (at : Channel) → Fits ((i == c) && same_channel at Channel.C)
+    (pushes_at q (pushes_of (Some m)) i at) (moves i at) (λ j l. message_of mail s' i (packet j l)) =
     λ i at. rw chan (granted_fits n m at c q i (λ j l. message_of mail s' i (packet j l)) (grant_is i)) in
     record {
       moves = moves;

@@ -23,9 +23,8 @@ other_probe n k c d at s ne = rw (ne_eqb d c ne) refl
 aside_probe : {w : ℕ} (n : ℕ) (k : Cap) (c d : ℕ) (at : Channel) (s : System w) → same_channel at Channel.B ≡ false
     → (with_message c (probe_of_block n k) s).channels d at ≡ s.channels d at
 aside_probe {w} n k c d at s aside =
-    let go : (b : Bool) → (if b && false then s.channels c Channel.B ++ beats_from (probe_of_block n k) 0
-    (beats_of (probe_of_block {w = w} n k)) else s.channels d at) ≡ s.channels d at =
-    elim [ true ↦ refl | false ↦ refl ] in
+    let go : (b : Bool) → (if b && false then s.channels c Channel.B ++ beats_from (probe_of_block n k) 0 (beats_of
+    (probe_of_block {w = w} n k)) else s.channels d at) ≡ s.channels d at = elim [ true ↦ refl | false ↦ refl ] in
     rw aside (go (d == c))
 
 -- Probes go on channel B
@@ -57,8 +56,7 @@ probes-outside {w} n k first (suc count) test d s out =
         Channel.B ≡ u.channels d Channel.B) → (b : Bool)
         → (with_messages (probes n k (if b then first ∷ clients_from (first + 1) count test else clients_from
         (first + 1) count test)) s).channels d Channel.B ≡ s.channels d Channel.B
-    go rest true =
-        rest (with_message first (probe_of_block n k) s) ∙ other_probe n k first d Channel.B s (apart out)
+    go rest true = rest (with_message first (probe_of_block n k) s) ∙ other_probe n k first d Channel.B s (apart out)
     go rest false = rest s
 
 pub probes-among : {w : ℕ} (n : ℕ) (k : Cap) (first count : ℕ) (test : ℕ → Bool) (d : ℕ) (s : System w) → first ≤ d
@@ -110,9 +108,8 @@ channels-probes n k count test probed s same none d at = probes-aside n k (clien
 -- ---- a request that probes
 
 served_fits : {w : ℕ} (n : ℕ) (k : Cap) (x y : Bool) (at : Channel) (j : Kind) (i : ℕ) (render : Kind → ℕ → Message w)
-    → (y ≡ true → render Probe n ≡ probe_of_block n k)
-    → Fits (x && same_channel at Channel.A) (probe_pushes n k (λ d. y) 0 at)
-    (request_move (if x then Pops j i else Stays) y n at) render
+    → (y ≡ true → render Probe n ≡ probe_of_block n k) → Fits (x && same_channel at Channel.A)
+    (probe_pushes n k (λ d. y) 0 at) (request_move (if x then Pops j i else Stays) y n at) render
 served_fits n k true true Channel.B j i render e = e refl
 served_fits n k true false Channel.B j i render e = tt
 served_fits n k false true Channel.B j i render e = e refl

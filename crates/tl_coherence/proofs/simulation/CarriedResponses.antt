@@ -83,14 +83,13 @@ pub grant_ack_taken-shown : {w : ℕ} {caching : ℕ → Bool} (c n : ℕ) (rest
     {s : State (List ℕ)} → IsInvariant caching s → IsInvariant caching (grant_ack_taken c n rest s)
     → (s.link c).e ≡ packet GrantAck n ∷ rest → (s.block n).service ≡ GrantTaken c
     → IsShown caching n c Channel.E (λ d at. None) mail mail s (grant_ack_taken c n rest s)
-grant_ack_taken-shown {w} {caching} c n rest mail {s} inv inv' first sent =
-    record {
-      moves = (moves_at c (freed_moves n));
-      showing = showing-block n (freed_block (s.block n)) (moves_at c (freed_moves n)) mail mail inv inv'
-          (moved-at c (freed_moves n) (record (s.link c) { e = rest }) s.link (elim [ Channel.E ↦ first | _ ↦ refl ]))
-          (λ i. refl) (alike-freed c (s.block n) sent) (λ i j e f. refl) (λ i j e f. refl);
-      fits = λ d at. fits d (d == c) at;
-    }
+grant_ack_taken-shown {w} {caching} c n rest mail {s} inv inv' first sent = record {
+  moves = (moves_at c (freed_moves n));
+  showing = showing-block n (freed_block (s.block n)) (moves_at c (freed_moves n)) mail mail inv inv'
+      (moved-at c (freed_moves n) (record (s.link c) { e = rest }) s.link (elim [ Channel.E ↦ first | _ ↦ refl ]))
+      (λ i. refl) (alike-freed c (s.block n) sent) (λ i j e f. refl) (λ i j e f. refl);
+  fits = λ d at. fits d (d == c) at;
+}
   where
     s' : State (List ℕ)
     s' = grant_ack_taken c n rest s

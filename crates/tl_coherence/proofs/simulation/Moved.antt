@@ -35,14 +35,12 @@ unfolding offer.offered
 offered-taken {w} terms ch x e is =
     let later : (o : Option Rule) → is_taken (offer.judged_later o x e).answer ≡ true
     → offer.judged_later o x e ≡ offer.taken x e = elim [ None ↦ λ h. refl | Some rule ↦ λ h. absurd cc ] in
-    let waiting : (b : Bool)
-    → is_taken (if b then offer.silent Verdict.Stalled e else offer.judged_later (offer.broken_later terms x e) x
-    e).answer ≡ true → (if b then offer.silent Verdict.Stalled e else offer.judged_later
-    (offer.broken_later terms x e) x e) ≡ offer.taken x e =
-    elim [ true ↦ λ h. absurd cc | false ↦ λ h. later (offer.broken_later terms x e) h ] in
-    let before : (o : Option Rule) → is_taken (offer.judged o terms x e).answer ≡ true
-    → offer.judged o terms x e ≡ offer.taken x e =
-    elim [ None ↦ λ h. waiting (offer.waits x e.past) h | Some rule ↦ λ h. absurd cc ] in
+    let waiting : (b : Bool) → is_taken
+    (if b then offer.silent Verdict.Stalled e else offer.judged_later (offer.broken_later terms x e) x e).answer ≡ true
+    → (if b then offer.silent Verdict.Stalled e else offer.judged_later (offer.broken_later terms x e) x e)
+    ≡ offer.taken x e = elim [ true ↦ λ h. absurd cc | false ↦ λ h. later (offer.broken_later terms x e) h ] in
+    let before : (o : Option Rule) → is_taken (offer.judged o terms x e).answer ≡ true → offer.judged o terms x e
+    ≡ offer.taken x e = elim [ None ↦ λ h. waiting (offer.waits x e.past) h | Some rule ↦ λ h. absurd cc ] in
     before (offer.broken_before terms ch x e) is
 
 -- the step, where a client takes the beat
@@ -129,11 +127,10 @@ offered-passes {w} config link ch x e handed is =
 -- the step, where the manager takes the beat
 pub record IsTakenByManager {w : ℕ} (config : Config) (link : Link) (ch : Channel) (x : Beat w) (queue : List (Beat w))
     (sys : System w) (step : Step w) : Type 0 where
-  pub takes : manager_offer.offered config link ch x sys.manager
-      ≡ (
-        manager_offer.Sent (manager_reaction.reaction config link x sys.manager).handed,
-        manager_offer.taken link x (manager_reaction.reaction config link x sys.manager) sys.manager,
-      )
+  pub takes : manager_offer.offered config link ch x sys.manager ≡ (
+    manager_offer.Sent (manager_reaction.reaction config link x sys.manager).handed,
+    manager_offer.taken link x (manager_reaction.reaction config link x sys.manager) sys.manager,
+  )
   pub step_is : step ≡ handing (Outcome.Moved x) (manager_reaction.reaction config link x sys.manager).handed
       (with_manager (manager_offer.taken link x (manager_reaction.reaction config link x sys.manager) sys.manager)
       (with_channel link.0 ch queue sys))
@@ -228,8 +225,7 @@ carried-part {w} mail s {c} {ch} {x} {queue} {sys} {sys'} width is none part h d
 
     go : (d ≡ c) ⊎ (d ≡ c → ⊥) → (b : Bool) → same_channel at ch ≡ b
         → IsCarried (unfinished at (receiver at d sys')) (messages_on at mail s d) (sys'.channels d at)
-    go (inl same) true e =
-        moved (grown x (rest d at)) queue (is.rests d at ∙ rw (same, same_number c, e) refl)
+    go (inl same) true e = moved (grown x (rest d at)) queue (is.rests d at ∙ rw (same, same_number c, e) refl)
         (channel_is ∙ rw (same, same_number c, e) refl)
         (rw (same, same_channel-is at ch e) (first (messages_on ch mail s c) (rw is.first at (h c ch))))
     go (inl same) false e = moved (rest d at) (sys.channels d at) (is.rests d at ∙ rw (same, same_number c, e) refl)

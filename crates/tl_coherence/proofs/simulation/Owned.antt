@@ -71,6 +71,5 @@ pub channels-few : {w : ℕ} {config : Config} {log : Log w} {mail : AccessMessa
     → (c : ℕ) (ch : Channel) → length ((system_after config log).channels c ch) ≤ capacity (64 / w)
     (sources_of (terms_at config c)) config.trackers ch
 channels-few {w} {config} {log} {mail} {request} {s} width matched c ch =
-    channel-few mail ch _ _ width
-    matched.invariant (matched-bounded config log mail request s (system_after config log) matched c
-    (sources-own config log c width)) (matched.carried c ch)
+    channel-few mail ch _ _ width matched.invariant (matched-bounded config log mail request s
+    (system_after config log) matched c (sources-own config log c width)) (matched.carried c ch)

@@ -64,9 +64,8 @@ popped-received {w} c ch pushes moves render s s' sys sys' received fits moved =
       first = head.first;
       tokens = head.is;
       none = received c ch ∙ ap (λ (b : Bool). if b then [] else unfinished_at sys c ch) here;
-      unpopped = λ d at ne. not_popped (pushes d at) (moves d at) (render d)
-          (fits_by ((d == c) && same_channel at ch) false (pushes d at) (moves d at) (render d) (elsewhere c d ch at ne)
-          (fits d at));
+      unpopped = λ d at ne. not_popped (pushes d at) (moves d at) (render d) (fits_by ((d == c)
+          && same_channel at ch) false (pushes d at) (moves d at) (render d) (elsewhere c d ch at ne) (fits d at));
       rests = λ d at ne. cc (received d at, elsewhere c d ch at ne);
     }
 

@@ -25,9 +25,8 @@ AreStrange config uses = (c source : ℕ) → terms_at config c ≡ None → use
 
 strange_set : (config : Config) (c source : ℕ) (u : SourceState) (uses : ℕ → ℕ → SourceState) (terms : EndConfig)
     → terms_at config c ≡ Some terms → AreStrange config uses → AreStrange config (set_at c source u uses)
-strange_set config c source u uses terms known before d i =
-    each-set_at (λ j k v. terms_at config j ≡ None → v ≡ SourceFree) c source u uses
-    (λ none. absurd (let e : Some terms ≡ None = sym known ∙ none in cc)) before d i
+strange_set config c source u uses terms known before d i = each-set_at (λ j k v. terms_at config j ≡ None
+    → v ≡ SourceFree) c source u uses (λ none. absurd (let e : Some terms ≡ None = sym known ∙ none in cc)) before d i
 
 strange_closed : (config : Config) (c source : ℕ) (uses : ℕ → ℕ → SourceState) → AreStrange config uses
     → AreStrange config (set_at c source SourceFree uses)

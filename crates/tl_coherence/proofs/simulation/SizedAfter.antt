@@ -66,9 +66,8 @@ sized_granted_block c q r d k {b} h = sized_same (granted_block c q r d k b) h.t
 sized_taken_block : (c : ℕ) (d : Bool) (k : Cap) {b : Block (List ℕ)} → AreSized b
     → AreSized (taken_block c (is_whole (b.pair c).acquiring) d k b)
 sized_taken_block c d k {b} h =
-    let bytes : (x : AcquirePhase) → (b.pair c).acquiring ≡ x
-    → length (granted_truth (is_whole x) (b.waiting c) b.truth) ≡ 64 =
-    elim [ AcquireOpen true g ↦ λ e. h.waiting c (ap is_whole e) | x ↦ λ e. h.truth ] in
+    let bytes : (x : AcquirePhase) → (b.pair c).acquiring ≡ x → length (granted_truth (is_whole x)
+    (b.waiting c) b.truth) ≡ 64 = elim [ AcquireOpen true g ↦ λ e. h.waiting c (ap is_whole e) | x ↦ λ e. h.truth ] in
     sized_same (taken_block c (is_whole (b.pair c).acquiring) d k b) (bytes (b.pair c).acquiring refl) (λ i. refl)
     (λ i e. storing i (cases_eq i c) e) h
   where
@@ -86,9 +85,8 @@ pub sized-kind_taken : {w : ℕ} (config : Config) (tracker c : ℕ) (k : Kind) 
 sized-kind_taken {w} config tracker c k i rest h before =
     true-taken config tracker c rest h (λ j n. ⊤) (λ (x : AbstractState w). AllSized x.state) k i (record {
       nothing = λ j n known idle. before;
-      access_answered = λ source m o known from caps none. changed (block_at m.address)
-          (sized_same _ (length-bytes _ (64 * block_at m.address) 64) (λ d. refl) (λ d e. e)
-          (before (block_at m.address)));
+      access_answered = λ source m o known from caps none. changed (block_at m.address) (sized_same _
+          (length-bytes _ (64 * block_at m.address) 64) (λ d. refl) (λ d e. e) (before (block_at m.address)));
       access_served = λ source m j known from caps some. changed (block_at m.address)
           (sized_served c false source tracker j (before (block_at m.address)));
       acquire_granted = λ n whole g known wants none. one n (after_grant_sent _ (pair n c)) _ refl refl refl refl;
@@ -152,13 +150,11 @@ sized-asked c (Op.Store address size value) Reply.Stored h inv typed ask before 
     (b.copy c) (ap length ((inv.blocks n).copies c (trunk-some (b.pair c).held ask.1)) ∙ (before n).truth)
     (word_room address size ask.0)) (λ d. refl) (λ d e. e) (before n))
     before i
-sized-asked c (Op.Acquire n g) (Reply.Started source) h inv typed ask before = λ i.
-    sized_block n h.state.block (sized_acquiring c source false g ((h.state.block n).waiting c)
-    (λ e. absurd cc) (before n)) before i
+sized-asked c (Op.Acquire n g) (Reply.Started source) h inv typed ask before = λ i. sized_block n h.state.block
+    (sized_acquiring c source false g ((h.state.block n).waiting c) (λ e. absurd cc) (before n)) before i
 sized-asked c (Op.AcquireWhole n bytes) (Reply.Started source) h inv typed ask before =
     λ i. sized_block n h.state.block (sized_acquiring c source true _ bytes (λ e. typed) (before n)) before i
-sized-asked c (Op.Release n p) (Reply.Started source) h inv typed ask before = λ i.
-    sized_block n h.state.block (sized_pair c (after_release p ((h.state.block n).pair c)) _ refl
-    refl refl refl (before n)) before i
+sized-asked c (Op.Release n p) (Reply.Started source) h inv typed ask before = λ i. sized_block n h.state.block
+    (sized_pair c (after_release p ((h.state.block n).pair c)) _ refl refl refl refl (before n)) before i
 sized-asked c (Op.Access (Message.A m)) (Reply.Started source) h inv typed ask before = before
 sized-asked c o r h inv typed ask before = before

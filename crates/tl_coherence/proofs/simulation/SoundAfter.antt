@@ -72,12 +72,11 @@ manager_good : {w : ℕ} (config : Config) (link : Link) (ch : Channel) (x : Bea
     → AllGood config (manager_took link.0 ch x queue (manager_offer.offered_as j config link x e) sys).after
 manager_good config link ch x queue (manager_offer.Breaks rule) e sys width sound trace first before d at = before d at
 manager_good config link ch x queue manager_offer.Waits e sys width sound trace first before d at = before d at
-manager_good {w} config link ch x queue manager_offer.Passes e sys width sound trace first before d at =
-    all-messages (IsGood config) (manager_reaction.reaction config link x e).handed
-    (with_manager (manager_offer.taken link x (manager_reaction.reaction config link x e) e)
-    (with_channel link.0 ch queue sys)) (good-handed config (manager_reaction.reaction config link x e).handed width
-    (reaction_handable config link x e width sound trace)) (all-popped (IsGood config) link.0 ch x queue sys first
-    before) d at
+manager_good {w} config link ch x queue manager_offer.Passes e sys width sound trace first before d at = all-messages
+    (IsGood config) (manager_reaction.reaction config link x e).handed (with_manager (manager_offer.taken link x
+    (manager_reaction.reaction config link x e) e) (with_channel link.0 ch queue sys)) (good-handed config
+    (manager_reaction.reaction config link x e).handed width (reaction_handable config link x e width sound trace))
+    (all-popped (IsGood config) link.0 ch x queue sys first before) d at
 
 -- ---- an event
 

@@ -32,8 +32,7 @@ served-request config q source n m u e h = rw e at h
 
 pub first-asked : {w : ℕ} {caching : ℕ → Bool} (c i : ℕ) (rest : List Packet) (h : AbstractState w)
     → IsInvariant caching h.state → on Request (h.state.link c) ≡ packet Request i ∷ rest → h.state.uses c i ≡ Asked
-first-asked c i rest h inv first =
-    first-request inv first
+first-asked c i rest h inv first = first-request inv first
 
 pub sourced-kind_taken : {w : ℕ} {caching : ℕ → Bool} (config : Config) (tracker c : ℕ) (k : Kind) (i : ℕ)
     (rest : List Packet) (h : AbstractState w) → IsInvariant caching h.state → on k (h.state.link c) ≡ packet k i ∷ rest

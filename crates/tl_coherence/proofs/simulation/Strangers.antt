@@ -17,14 +17,9 @@ use proofs.simulation.Owned.{sources-own}
 
 no_level : (config : Config) (c : ℕ) → terms_at config c ≡ None → level_of config c ≡ None
 no_level config c is =
-    let go : (o : Option ClientConfig)
-    → option_map {U = EndConfig} (λ x. record {
-      level = x.level;
-      profile = config.profile;
-      sources = x.sources;
-      blocks = config.blocks;
-    }) o ≡ None → option_map (λ x. x.level) o ≡ None =
-    elim [ None ↦ λ e. refl | Some x ↦ λ e. absurd cc ] in
+    let go : (o : Option ClientConfig) → option_map {U = EndConfig}
+    (λ x. record { level = x.level; profile = config.profile; sources = x.sources; blocks = config.blocks }) o ≡ None
+    → option_map (λ x. x.level) o ≡ None = elim [ None ↦ λ e. refl | Some x ↦ λ e. absurd cc ] in
     go (slice_get config.clients.items c) is
 
 acknowledged_to : (service : Service) (c : ℕ) → is_acknowledging (view service c) ≡ true → client_in service ≡ Some c
@@ -68,8 +63,7 @@ module _ {w : ℕ} {config : Config} {log : Log w} {mail : AccessMessages w} {re
       let lawless : (o : Option Level) (m : Message w) → o ≡ None → kept.illegal_message_at o m ≡ None → ⊥ =
       elim [ None ↦ λ m h f. absurd cc | Some l ↦ λ m h f. absurd cc ] in
       let served : service_of_block n (services (system_after config log).manager.trace) ≡ service_with (Some c)
-      (s.block n).tracker (request n) = cc (matched.managed.serving_is n, acknowledged_to (s.block n).service c e)
-      in
+      (s.block n).tracker (request n) = cc (matched.managed.serving_is n, acknowledged_to (s.block n).service c e) in
       let performable = of_served (kept.IsPerformable config) n (services (system_after config log).manager.trace) _
       served matched.manager_kept.requests in
       lawless (level_of config c) (Message.A (request n)) (no_level config c is) performable.lawful
@@ -77,23 +71,17 @@ module _ {w : ℕ} {config : Config} {log : Log w} {mail : AccessMessages w} {re
   nothing_shown : (ch : Channel) (k : Kind) (n : ℕ) → is_on ch k ≡ true → 0 < count k n (packets_on ch (s.link c)) → ⊥
   nothing_shown ch Request n on_it there = absurd (let e = request_named c n matched.invariant
       (shown_there c ch Request n matched.invariant on_it there) in let both : Asked ≡ SourceFree = cc (no_use n) in cc)
-  nothing_shown ch Answer n on_it there =
-      absurd (let e = answer_named c n matched.invariant (shown_there c ch Answer n matched.invariant on_it
-      there) in let both = sym e ∙ no_use n in cc)
-  nothing_shown ch Acquire n on_it there =
-      absurd (let e = acquire_named c n matched.invariant (shown_there c ch Acquire n matched.invariant on_it
-      there) in let both = sym e ∙ no_use _ in cc)
-  nothing_shown ch Grant n on_it there =
-      absurd (let e = grant_named c n matched.invariant (shown_there c ch Grant n matched.invariant on_it there)
-      in let both = sym e ∙ no_use _ in cc)
-  nothing_shown ch Release n on_it there =
-      absurd (let e = release_named c n matched.invariant (shown_there c ch Release n matched.invariant on_it
-      there) in let both = sym e ∙ no_let _ in cc)
-  nothing_shown ch ReleaseAck n on_it there =
-      absurd (let e = release_ack_named c n matched.invariant (shown_there c ch ReleaseAck n matched.invariant
-      on_it there) in let both = sym e ∙ no_let _ in cc)
-  nothing_shown ch Probe n on_it there =
-      absurd (let it = shown_there c ch Probe n matched.invariant on_it there in
+  nothing_shown ch Answer n on_it there = absurd (let e = answer_named c n matched.invariant
+      (shown_there c ch Answer n matched.invariant on_it there) in let both = sym e ∙ no_use n in cc)
+  nothing_shown ch Acquire n on_it there = absurd (let e = acquire_named c n matched.invariant
+      (shown_there c ch Acquire n matched.invariant on_it there) in let both = sym e ∙ no_use _ in cc)
+  nothing_shown ch Grant n on_it there = absurd (let e = grant_named c n matched.invariant
+      (shown_there c ch Grant n matched.invariant on_it there) in let both = sym e ∙ no_use _ in cc)
+  nothing_shown ch Release n on_it there = absurd (let e = release_named c n matched.invariant
+      (shown_there c ch Release n matched.invariant on_it there) in let both = sym e ∙ no_let _ in cc)
+  nothing_shown ch ReleaseAck n on_it there = absurd (let e = release_ack_named c n matched.invariant
+      (shown_there c ch ReleaseAck n matched.invariant on_it there) in let both = sym e ∙ no_let _ in cc)
+  nothing_shown ch Probe n on_it there = absurd (let it = shown_there c ch Probe n matched.invariant on_it there in
       let none : shown Probe c (s.block n) ≡ false =
       rw (at_rest n) refl in let both : true ≡ false = sym it ∙ none in cc)
   nothing_shown ch ProbeAck n on_it there =

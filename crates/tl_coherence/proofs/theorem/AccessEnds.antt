@@ -36,9 +36,8 @@ bytes_again first bytes =
 aligned : {w : ℕ} (o : Option Level) (m : MessageA w) → IsWidth w → illegal_message_at o (Message.A m) ≡ None
     → m.address % 2 ^ m.size ≡ 0
 aligned None m width lawful = absurd cc
-aligned {w} (Some l) m width lawful =
-    eqb-true (m.address % 2 ^ m.size) 0 (control_aligned w l m.opcode m.param m.size m.address
-    (control_of_legal l m width lawful))
+aligned {w} (Some l) m width lawful = eqb-true (m.address % 2 ^ m.size) 0
+    (control_aligned w l m.opcode m.param m.size m.address (control_of_legal l m width lawful))
 
 -- the bytes that come are those of the reply
 bytes_come : {w : ℕ} (o : Option Level) (m : MessageA w) (bytes : List ℕ) (beats : List (Beat w)) → IsWidth w
@@ -114,10 +113,9 @@ over : {w : ℕ} {config : Config} {log : Log w} (c source : ℕ) (h : AbstractS
     → SimulationRelation config log h.mail h.request h.state (system_after config log)
     → h.state.uses c source ≡ Replied → IsOver config log c source h
 over {w} {config} {log} c source h is used =
-    let opened_as : (u : SourceState) → u ≡ Replied
-    → IsOpened c source h.mail h.state u ((one_memory_after config log).opened c Requests source)
-    → IsOpened c source h.mail h.state Replied ((one_memory_after config log).opened c Requests source) =
-    λ u e i. rw e at i in
+    let opened_as : (u : SourceState) → u ≡ Replied → IsOpened c source h.mail h.state u
+    ((one_memory_after config log).opened c Requests source) → IsOpened c source h.mail h.state Replied
+    ((one_memory_after config log).opened c Requests source) = λ u e i. rw e at i in
     let open_ = opened_as (h.state.uses c source) used (is.beside.requests c source) in
     let answers : Answers (Message.A (sourced source open_.1.0)) open_.0 (h.mail.answer c source) =
     subst (λ (i : Message w). Answers i open_.0 (h.mail.answer c source)) open_.1.1 open_.2 in
@@ -140,12 +138,11 @@ whole_response : {w : ℕ} {config : Config} {log : Log w} {link : Link} {ch : C
     {source : ℕ} {f : Finish} (end : IsEnding config log link ch h x source f)
     → Beat.D (d_beat_of end.response end.first.next.k) ∷ unfinished Channel.D
     ((system_after config log).clients link.0).past ≡ burst_of (Message.D end.response)
-whole_response {w} end =
-    cc (
-      end.beat_is,
-      (end.first.next.last (eqb-true (end.first.next.k + 1) _ (sym end.first.next.completes_is ∙ end.last))).1,
-      end.response_is,
-    )
+whole_response {w} end = cc (
+  end.beat_is,
+  (end.first.next.last (eqb-true (end.first.next.k + 1) _ (sym end.first.next.completes_is ∙ end.last))).1,
+  end.response_is,
+)
 
 -- an answer ends its access as the machine allows
 pub ends-answer : {w : ℕ} {config : Config} {log : Log w} {link : Link} {ch : Channel} {h : AbstractState w}
@@ -158,15 +155,13 @@ ends-answer {w} {config} {log} {link} {ch} {h} {x} {source} {f} width is end e =
     let it : IsOver config log c n h = over c n h is due.used in
     let payload : List ℕ = payload_of (Beat.D (d_beat_of end.response end.first.next.k) ∷ unfinished Channel.D
     (sys.clients c).past) in
-    let fin : f ≡ finish_with (Message.A it.asked) it.reply =
-    cc (
+    let fin : f ≡ finish_with (Message.A it.asked) it.reply = cc (
       end.finish_is,
       ap (λ (i : ℕ). request_of i (sys.clients c).past) (sym end.source_is ∙ from) ∙ it.pending_is,
       ends_answered (level_of config c) (sourced n it.asked) end.response it.reply _
           width it.lawful (response_is ∙ it.answer) it.reach (whole_response end),
       finish_sourced n it.asked it.reply,
-    )
-    in
+    ) in
     subst (λ (i : Finish). Ends (m.opened c (pool_of i) source) x i) (sym fin)
     (subst (λ (i : ℕ). Ends (m.opened c (pool_of (finish_with (Message.A it.asked) it.reply)) i) x
     (finish_with (Message.A it.asked) it.reply)) (sym from) (open_ends c n m it.asked it.reply x it.opened))

@@ -61,8 +61,7 @@ ends-transfer {w} {config} {log} {link} {h} {x} {source} {f} is end other = go e
         let sent : MessageD w = grant_message due.data_too due.k ((h.state.block n).source c) (h.state.block n).tracker
         (h.state.block n).truth in
         let same = same-response end.response sent (sym (response_is Grant e) ∙ grant-rendered c n h.state due) in
-        let fin : f ≡ Finish.Granted (cap_right due.k) =
-        cc (
+        let fin : f ≡ Finish.Granted (cap_right due.k) = cc (
           end.finish_is,
           granted-at (d_beat_of end.response end.first.next.k) (sys.clients c) due.data_too due.k
               (ap (λ (i : MessageD w). i.opcode) same) (ap (λ (i : MessageD w). i.param) same),

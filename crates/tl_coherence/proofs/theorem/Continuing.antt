@@ -41,8 +41,7 @@ performs-none l m e = rw e refl
 
 -- at most one access is answered, which the step of the machine leaves as it is
 abbrev pub IsAnswering : {w : ℕ} → List (ℕ × ℕ) → AbstractState w → Machine w → Machine w → Type 0
-IsAnswering l h before next = (l ≡ [])
-    ⊎ ((q : ℕ) × (source : ℕ) × (l ≡ (q, source) ∷ [])
+IsAnswering l h before next = (l ≡ []) ⊎ ((q : ℕ) × (source : ℕ) × (l ≡ (q, source) ∷ [])
     × IsAccess source (h.mail.request q source) None (before.opened q Requests source) × (next ≡ before))
 
 performs-answering : {w : ℕ} (l : List (ℕ × ℕ)) (h : AbstractState w) (before next : Machine w)
@@ -88,8 +87,7 @@ answering-delivered {w} config log link ch h width is = go (is_moving (stepped c
         → manager.IsSound config (record { 0 = c }, x)
     head at x queue beats =
         let same : sys.channels c at ≡ x ∷ queue → All (λ y. manager.IsSound config (record { 0 = c }, y))
-        (sys.channels c at) → All (λ y. manager.IsSound config (record { 0 = c }, y)) (x ∷ queue) =
-        λ e f. rw e at f in
+        (sys.channels c at) → All (λ y. manager.IsSound config (record { 0 = c }, y)) (x ∷ queue) = λ e f. rw e at f in
         All-head (λ y. manager.IsSound config (record { 0 = c }, y)) x queue (same beats (is.sound c at))
 
     -- a client takes it
@@ -149,8 +147,7 @@ pub performs-delivered : {w : ℕ} {config : Config} {log : Log w} (link : Link)
     (one_memory_after config ((Deliver link ch, (stepped config (Deliver link ch) (system_after config log)).outcome)
     ∷ log))
 unfolding one_memory_after
-performs-delivered {config} {log} link ch h width is =
-    performs-answering (accesses_answered (stepped config (Deliver link ch) (system_after config log)).handed) h
-    (one_memory_after config log)
+performs-delivered {config} {log} link ch h width is = performs-answering (accesses_answered
+    (stepped config (Deliver link ch) (system_after config log)).handed) h (one_memory_after config log)
     (moved (Deliver link ch) (stepped config (Deliver link ch) (system_after config log)).outcome
     (one_memory_after config log)) (answering-delivered config log link ch h width is)

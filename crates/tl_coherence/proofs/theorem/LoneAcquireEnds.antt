@@ -43,10 +43,9 @@ lone_asked p c n source whole g bytes {s} closed =
     record {
       others = λ d i else_. set_at-there (Acquires n) s.uses else_ ∙ closed.uses d i;
       brings = wanting (s'.uses c source) ((s'.block n).pair c) (set_at-same c source (Acquires n) s.uses)
-          (ap (λ (b : Block (List ℕ)). (b.pair c).acquiring)
-          (set-same n (acquiring_block c source whole g bytes (s.block n)) s.block)
-          ∙ ap (λ (x : ClientBlock). x.acquiring) (set-same c (after_acquire whole g ((s.block n).pair c))
-          (s.block n).pair));
+          (ap (λ (b : Block (List ℕ)). (b.pair c).acquiring) (set-same n
+          (acquiring_block c source whole g bytes (s.block n)) s.block) ∙ ap (λ (x : ClientBlock). x.acquiring)
+          (set-same c (after_acquire whole g ((s.block n).pair c)) (s.block n).pair));
     }
 
 -- what is asked for wants this, and is alone
@@ -60,8 +59,7 @@ lone_started : {w : ℕ} {config : Config} {log : Log w} {c n source : ℕ} {op 
     → Begins config log c n source op a
     → IsLone config.profile c n source a (shadow config ((Ask c op, Replied (Started source)) ∷ log)).state
 unfolding shadow IsLog
-lone_started {w} {config} {log} {c} {n} {source} {op} {a} is =
-    rw (← is.given.is_log.0)
+lone_started {w} {config} {log} {c} {n} {source} {op} {a} is = rw (← is.given.is_log.0)
     (is.begins (nothing_open (given-before config (Ask c op, Replied (Started source)) log is.given) is.alone))
 
 -- ---- as it is drained
@@ -121,14 +119,12 @@ alone-drained {w} {config} {log} {c} {block} {source} {n} {op} {a} is drains =
     ((nothing_open lone.given drains.nothing_left).uses c source) lone.lone.brings
 
 pub alone : {w : ℕ} → LoneAcquire w
-alone config log client block source n grow none given drains =
-    alone-drained
-    (record {
-      given = given;
-      alone = none;
-      begins = λ closed. lone_asked config.profile client block source false grow
-          (((shadow config log).state.block block).waiting client) closed;
-    }) drains
+alone config log client block source n grow none given drains = alone-drained (record {
+  given = given;
+  alone = none;
+  begins = λ closed. lone_asked config.profile client block source false grow
+      (((shadow config log).state.block block).waiting client) closed;
+}) drains
 
 is_trunk : (held : Perm) → same_perm Perm.Trunk held ≡ true → held ≡ Perm.Trunk
 is_trunk Perm.Trunk e = refl
@@ -146,8 +142,7 @@ pub alone_whole : {w : ℕ} → LoneAcquireWhole w
 alone_whole config log client block source n bytes none given drains =
     let before : Perm = (((shadow config log).state.block block).pair client).held in
     whole-brings config.profile before _
-    (alone-drained
-    (record {
+    (alone-drained (record {
       given = given;
       alone = none;
       begins = λ closed. lone_asked config.profile client block source true (whole_grow before) bytes closed;

@@ -63,9 +63,8 @@ steady_served : (r : ℕ) (own : Bool) (k : Cap) (pair : ℕ → ClientBlock) (d
     → IsSteady (pair d) (served_pair r own k pair d)
 steady_served r own k pair d = go (own && (d == r))
   where
-    go : (b : Bool) → IsSteady (pair d) (if b then pair d else record (pair d) {
-      probing = (served_pair r false k pair d).probing;
-    })
+    go : (b : Bool)
+        → IsSteady (pair d) (if b then pair d else record (pair d) { probing = (served_pair r false k pair d).probing })
     go true = (refl, refl)
     go false = (refl, refl)
 
@@ -140,9 +139,8 @@ module _ (p : Profile) (c n source : ℕ) (a : AcquirePhase) where
   -- its client isn't probed
   unprobed : {caching : ℕ → Bool} {s : State (List ℕ)} → IsInvariant caching s → IsLone p c n source a s
       → is_sent ((s.block n).pair c).probing ≡ true → ⊥
-  unprobed {caching} {s} inv is sent =
-      go (s.block n).service refl (serves_another ((s.block n).pair c) (view (s.block n).service c)
-      ((inv.blocks n).phases c) (not-sent ((s.block n).pair c).probing sent))
+  unprobed {caching} {s} inv is sent = go (s.block n).service refl (serves_another ((s.block n).pair c)
+      (view (s.block n).service c) ((inv.blocks n).phases c) (not-sent ((s.block n).pair c).probing sent))
     where
       go : (service : Service) → (s.block n).service ≡ service → is_other (view service c) ≡ true → ⊥
       go Free e other = absurd cc
@@ -185,10 +183,9 @@ module _ (p : Profile) (c n source : ℕ) (a : AcquirePhase) where
         brings = brings_granted p n a (after.uses c source) ((after.block n).pair c) (cap_right due.k)
             (uses_are c source ∙ ap₂ (set_at d src SourceFree h.state.uses) (sym mine.0.0) (sym mine.0.1)
             ∙ set_at-same d src SourceFree h.state.uses) (ap₂ (λ (i j : ℕ). ((after.block i).pair j).held) (sym mine.1)
-            (sym mine.0.0) ∙ held_granted config tracker rest h due)
-            (subst (λ (x : AcquirePhase). grown p x (cap_right due.k) ≡ true) wants
-            (grows p due.whole due.g due.k (fits_cap ((h.state.block m).pair d).recorded ((h.state.block m).pair d).held
-            due.data_too due.k due.whole due.g due.fits) gives));
+            (sym mine.0.0) ∙ held_granted config tracker rest h due) (subst (λ (x : AcquirePhase). grown p x
+            (cap_right due.k) ≡ true) wants (grows p due.whole due.g due.k (fits_cap ((h.state.block m).pair d).recorded
+            ((h.state.block m).pair d).held due.data_too due.k due.whole due.g due.fits) gives));
       }
     where
       src : ℕ

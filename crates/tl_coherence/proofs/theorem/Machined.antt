@@ -40,8 +40,7 @@ step_allowed : {w : ℕ} (config : Config) (link : Link) (ch : Channel) (o : Out
     → IsStep config (Deliver link ch) o m (moved (Deliver link ch) o m)
 unfolding is_delivered
 step_allowed config link Channel.D (Outcome.Done x source f) m so known done = (known, (done x source f refl).1, refl)
-step_allowed config link ch (Outcome.Done x source f) m so known done =
-    absurd (let e = (done x source f refl).0 in cc)
+step_allowed config link ch (Outcome.Done x source f) m so known done = absurd (let e = (done x source f refl).0 in cc)
 step_allowed config link ch (Outcome.Replied r) m so known done = absurd cc
 step_allowed config link ch Outcome.NoSuchClient m so known done = absurd cc
 step_allowed config link ch o m so known done = (known, tt, refl)

@@ -75,13 +75,12 @@ module _ {w : ℕ} {config : Config} (log : Log w) (link : Link) (ch : Channel) 
       ≡ one_memory_after config log
       → one_memory_after config after ≡ done_at q source (Message.A access.0) (one_memory_after config log)
   unfolding one_memory_after IsLog
-  machine_after q source one access still =
-      cc (
-        given.is_log.0,
-        still,
-        one,
-        performing-one q source (Message.A access.0) (one_memory_after config log) access.2,
-      )
+  machine_after q source one access still = cc (
+    given.is_log.0,
+    still,
+    one,
+    performing-one q source (Message.A access.0) (one_memory_after config log) access.2,
+  )
 
   free-after : (q source : ℕ) → accesses ≡ (q, source) ∷ []
       → (access : IsAccess source (h.mail.request q source) None
@@ -100,9 +99,8 @@ module _ {w : ℕ} {config : Config} (log : Log w) (link : Link) (ch : Channel) 
       ((one_memory_after config after).opened q Requests source) (Message.A access.0) answer
       (is'.beside.requests q source) opened in
       let free : (m : MessageA w) → h'.mail.request q source ≡ Message.A m → IsSettledFor m h'.state
-      → is_free n None (needs x.opcode) (block_at x.address) (trace_of after) ≡ true =
-      λ m request settled. subst (λ (z : BeatA w). is_free n None (needs z.opcode) (block_at z.address)
-      (trace_of after) ≡ true)
+      → is_free n None (needs x.opcode) (block_at x.address) (trace_of after) ≡ true = λ m request settled. subst
+      (λ (z : BeatA w). is_free n None (needs z.opcode) (block_at z.address) (trace_of after) ≡ true)
       (same_first x (a_beat_of m 0) (sym asks ∙ ap (request_of source) (trace-flows q after)
       ∙ asked_flow config after h' (system_after config after) is' values q source m used request))
       (free-now config after h' (system_after config after) is' values q source m used request settled n) in

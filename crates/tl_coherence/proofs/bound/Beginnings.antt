@@ -5,17 +5,16 @@ use Rattle.tl_coherence.proofs
 use proofs.Imports.{cases_eq, Beat, Channel, beats_of, Config, Left, probing_weight, pair_weight, probes_weight}
 use proofs.Imports.{acquire_weight, letting_weight, rank, let_weight, IsInvariant, is_asked, is_replied, Kind, Request}
 use proofs.Imports.{Acquire, ProbeAck, Release, Answer, Grant, ClientBlock, Own, Granting, ProbePhase, ProbeAnswered}
-use proofs.Imports.{ReleaseSent, is_unprobed, View, ReleasePhase, Waits, State, SourceFree, Asked, InService, Replied}
-use proofs.Imports.{Acquires, packet, view, packets_on, is_unserved, is_wanting, is_answered, is_granting, is_releasing}
-use proofs.Imports.{shown, channel_for, AccessMessages, message_of_kind, System}
-use proofs.protocol.Capacities.{request_named, answer_named, acquire_named, grant_named, release_named}
+use proofs.Imports.{ReleaseSent, View, ReleasePhase, Waits, State, SourceFree, Asked, InService, Replied, Acquires}
+use proofs.Imports.{packet, view, packets_on, is_unserved, is_wanting, is_answered, is_granting, is_releasing, shown}
+use proofs.Imports.{channel_for, AccessMessages, message_of_kind, System}
 use proofs.protocol.{TokenNames.shown_there, TokenNames.shows_it, Room.is_light, Room.light-one, BothParts.not-answered}
-use proofs.protocol.{BeatsRemaining.beats_left, BeatsRemaining.taken_of, BeatsRemaining.is_front}
-use proofs.protocol.{BeatsRemaining.same_channels}
+use proofs.protocol.Capacities.{request_named, answer_named, acquire_named, grant_named, release_named}
+use proofs.protocol.BeatsRemaining.{beats_left, taken_of, is_front, same_channels}
 use proofs.queues.{Distinct.first-there, FirstToken.IsFirst, Phases.and_right, Rendered.same_kind_again}
 use proofs.queues.{Tokens.same_number, KindMoves.kind_channel}
-use proofs.rank.{Frames.unserved-weight, Frames.AreClients, RankParts.IsAsking, RankParts.asking, RankParts.IsWaited}
-use proofs.rank.{RankParts.waited-probing, RankParts.open_use}
+use proofs.rank.Frames.{unserved-weight, AreClients}
+use proofs.rank.RankParts.{IsAsking, asking, IsWaited, waited-probing, open_use}
 use proofs.rank.RankDecreases.{IsNoMore, owed_use, owed_use', use-falls, let-falls, use-no-more, probes-no-more}
 use proofs.rank.RankDecreases.{acquire-no-more, total-falls}
 use proofs.simulation.Popped.{unfinished_at, first-left}

@@ -12,7 +12,7 @@ use proofs.rank.{RankDecreases.stays, BeatsRemainingSums.answer_to}
 use proofs.simulation.{FollowCases.IsDelivery, Popped.unfinished_at, Popped.IsReceived}
 use proofs.queues.{FirstToken.first-token, QuiescentQueues.client_below, KindMoves.on_same, KindMoves.kind_channel}
 use proofs.deliveries.{InvariantKept.ready-delivered, Matching.matched-event, DeliverDAfter.followed-moving}
-use proofs.deliveries.{DeliverDAfter.followed-still, DeliverDUnmoved.IsUnmoved, DeliverDUnmoved.unmoved}
+use proofs.deliveries.{DeliverDAfter.followed-still, DeliverDUnmoved.unmoved}
 use proofs.outstanding.Outstanding.{first-moved}
 use proofs.manager.UnwaitedRequests.{next_tracker}
 use proofs.protocol.BeatsRemaining.{beats_left}

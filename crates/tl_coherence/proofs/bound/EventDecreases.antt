@@ -1,20 +1,17 @@
 -- What an event at which the last beat of a message is taken finds, and what it leaves as it was.
-use Rattle.std.proofs.Common.{◌≡◌, ℕ, ◌≤◌, Bool, true, List, ◌∷◌, refl, ap, subst, arith, ◌⊎◌}
-use Rattle.std.proofs.Common.{inl, inr, length, map}
+use Rattle.std.proofs.Common.{◌≡◌, ℕ, ◌≤◌, Bool, true, List, ◌∷◌, refl, ap, arith, ◌⊎◌, inl, inr, length, map}
 use Rattle.tl_coherence.proofs
 use proofs.Imports.{cases_eq, Channel, length-begun, Cap, Prune, Report, IsInvariant, Kind, Packet, set, set_at}
-use proofs.Imports.{ProbePhase, ProbeAnswered, ReleaseSent, ReleasePhase, Block, State, packet, packets_on}
-use proofs.Imports.{is_on, ended_link, granted_link, served_link, is_answered}
-use proofs.Imports.{is_releasing, IsCarried, ChannelRelation, channel_for, AccessMessages, message_of_kind, message_of}
-use proofs.Imports.{System}
-use Rattle.tl_coherence.specs.protocol.Protocol.{Link}
+use proofs.Imports.{ProbePhase, ProbeAnswered, ReleaseSent, ReleasePhase, Block, State, packet, packets_on, is_on}
+use proofs.Imports.{ended_link, granted_link, served_link, is_answered, is_releasing, IsCarried, ChannelRelation}
+use proofs.Imports.{channel_for, AccessMessages, message_of_kind, message_of, System}
+use Rattle.tl_coherence.{specs.protocol.Protocol.Link}
 use proofs.client.Aside.{set_at-other, set_at-else}
-use proofs.protocol.{TokenNames.shown_there, TokenNames.shows_it, BeatsRemaining.beats_left, BeatsRemaining.taken_of}
-use proofs.protocol.{BeatsRemaining.is_front}
+use proofs.protocol.TokenNames.{shown_there, shows_it}
+use proofs.protocol.BeatsRemaining.{beats_left, taken_of, is_front}
 use proofs.outstanding.OpenKinds.{set_e, ended_e, granted_e, served_e}
-use proofs.queues.{Distinct.first-there, Rendered.same_kind_again, Tokens.same_number}
-use proofs.queues.{KindMoves.kind_channel}
-use proofs.simulation.Popped.{unfinished_at}
+use proofs.queues.{Distinct.first-there, Rendered.same_kind_again, Tokens.same_number, KindMoves.kind_channel}
+use proofs.simulation.{Popped.unfinished_at}
 
 -- ---- the token that is taken
 

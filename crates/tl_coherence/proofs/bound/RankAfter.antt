@@ -2,41 +2,39 @@
 use Rattle.std.proofs.Common.{◌≡◌, ℕ, ◌+◌, ◌/◌, ◌<◌, ◌≤◌, Bool, true, false, List, ◌∷◌, refl, arith, ◌⊎◌, inl, inr, ap}
 use Rattle.std.proofs.Common.{[], None, length, Option, length-append}
 use Rattle.tl_coherence.proofs
-use proofs.Imports.{cases_eq, Channel, IsWidth, Message, MessageA, Config, Cap, Prune, Report}
-use proofs.Imports.{IsInvariant, is_replied, Kind, Request, Acquire, Probe, ProbeAck, Release, Answer, Grant}
-use proofs.Imports.{ReleaseAck, GrantAck, Packet, set, set_at, ProbeSent, ProbeAnswered, probe_taken, report_answers}
-use proofs.Imports.{report_grants, access_answered, access_served, release_taken, answer_taken, release_ack_taken}
-use proofs.Imports.{grant_ack_taken, answered_link, freed_block, is_on, let_go_block, let_link, performed_block}
-use proofs.Imports.{probed_link, reported_block, served_block, taken_link, Free, Waits, GrantSent, GrantTaken, Block}
-use proofs.Imports.{State, Asked, Replied, packet, probed_block, report_taken, ended_block, granted_block}
-use proofs.Imports.{granted_at_once, acquire_granted, acquire_served, let_block, taken_block, grant_taken, Acquires}
-use proofs.Imports.{InService, SourceFree, packets_on, shown, AccessMessages, block_message, message_of}
-use proofs.Imports.{SimulationRelation, is_caching, IsSourced, IsAnswered, Log, system_after, System}
-use proofs.Imports.{channel_of_message}
-use Rattle.tl_coherence.specs.protocol.Protocol.{Link}
-use proofs.rank.{Frames.Taking, Weights.IsLeft, BeatsRemainingSums.answer_to, BeatsRemainingSums.is-left}
-use proofs.rank.{BeatsRemainingSums.answer-left, BeatsRemainingSums.wide-block, RankParts.IsAsking, RankParts.asking}
-use proofs.rank.{RankParts.serving-use}
+use proofs.Imports.{cases_eq, Channel, IsWidth, Message, MessageA, Config, Cap, Prune, Report, IsInvariant, is_replied}
+use proofs.Imports.{Kind, Request, Acquire, Probe, ProbeAck, Release, Answer, Grant, ReleaseAck, GrantAck, Packet, set}
+use proofs.Imports.{set_at, ProbeSent, ProbeAnswered, probe_taken, report_answers, report_grants, access_answered}
+use proofs.Imports.{access_served, release_taken, answer_taken, release_ack_taken, grant_ack_taken, answered_link}
+use proofs.Imports.{freed_block, is_on, let_go_block, let_link, performed_block, probed_link, reported_block}
+use proofs.Imports.{served_block, taken_link, Free, Waits, GrantSent, GrantTaken, Block, State, Asked, Replied, packet}
+use proofs.Imports.{probed_block, report_taken, ended_block, granted_block, granted_at_once, acquire_granted}
+use proofs.Imports.{acquire_served, let_block, taken_block, grant_taken, Acquires, InService, SourceFree, packets_on}
+use proofs.Imports.{shown, AccessMessages, block_message, message_of, SimulationRelation, is_caching, IsSourced}
+use proofs.Imports.{IsAnswered, Log, system_after, System, channel_of_message}
+use Rattle.tl_coherence.{specs.protocol.Protocol.Link}
+use proofs.rank.{Frames.Taking, Weights.IsLeft, RankParts.IsAsking, RankParts.asking, RankParts.serving-use}
+use proofs.rank.BeatsRemainingSums.{answer_to, is-left, answer-left, wide-block}
 use proofs.queues.{Shown.IsShown, Tokens.set-other, Tokens.set-same, Tokens.set_at-same, Showing.carries}
 use proofs.protocol.{BothParts.acked-is, TokenNames.shows_it, BeatsRemaining.beats_left}
-use proofs.bound.{RankOfLog.owed, RankOfLog.narrow-block, ReportDecreases.report-falls, ReportDecreases.answering-falls}
-use proofs.bound.{ReportDecreases.granting-falls, ReportDecreases.probe-falls}
+use proofs.protocol.Capacities.{acquire_named, answer_named, grant_named, release_ack_named, release_named}
+use proofs.protocol.Capacities.{request_named}
+use proofs.bound.RankOfLog.{owed, narrow-block}
+use proofs.bound.ReportDecreases.{report-falls, answering-falls, granting-falls, probe-falls}
 use proofs.bound.EventDecreases.{left-first, set_at-unlike, acks_as, acks_set, acks_ended, acks_granted, acks_served}
 use proofs.bound.EventDecreases.{answered_with, releasing_with, shown-first}
 use proofs.bound.RequestDecreases.{answered-falls, acquire-granted-falls, acquire-served-falls, granted-letting}
 use proofs.bound.RequestDecreases.{served-letting, serving-falls}
 use proofs.bound.ResponseDecreases.{answer-falls, grant-taken-falls, release-taken-falls, release-ack-falls}
 use proofs.bound.ResponseDecreases.{grant-ack-falls}
-use proofs.protocol.Capacities.{acquire_named, answer_named, grant_named, release_ack_named, release_named}
-use proofs.protocol.Capacities.{request_named}
-use proofs.simulation.{Popped.are-clients, Popped.unfinished_at, Popped.IsReceived, Popped.popped-received}
-use proofs.simulation.{CarriedProbes.access_served-shown, CarriedProbes.acquire_served-shown}
-use proofs.simulation.{CarriedLastReports.report_answers-shown, CarriedLastReports.report_grants-shown}
+use proofs.simulation.Popped.{are-clients, unfinished_at, IsReceived, popped-received}
+use proofs.simulation.CarriedProbes.{access_served-shown, acquire_served-shown}
+use proofs.simulation.CarriedLastReports.{report_answers-shown, report_grants-shown}
 use proofs.simulation.CarriedEvents.{probe_taken-shown, report_taken-shown, access_answered-shown}
 use proofs.simulation.CarriedEvents.{acquire_granted-shown, release_taken-shown}
 use proofs.simulation.CarriedResponses.{answer_taken-shown, release_ack_taken-shown, grant_taken-shown}
 use proofs.simulation.CarriedResponses.{grant_ack_taken-shown}
-use proofs.deliveries.ManagersAfter.{ack_channel}
+use proofs.deliveries.{ManagersAfter.ack_channel}
 
 -- ---- the channels of what is handed out
 

@@ -1,26 +1,25 @@
 -- What is owed in a world falls as the last beat of a message is taken.
-use Rattle.std.proofs.Common.{◌≡◌, ℕ, ◌+◌, ◌<◌, ◌≤◌, true, false, List, ◌∷◌, refl, ◌∙◌, ap, subst, sym, length}
+use Rattle.std.proofs.Common.{◌≡◌, ℕ, ◌+◌, ◌<◌, ◌≤◌, false, List, ◌∷◌, refl, ◌∙◌, ap, subst, sym, length}
 use Rattle.tl_coherence.proofs
 use proofs.Imports.{IsWidth, MessageA, Config, Cap, Report, IsInvariant, IsWell, Kind, ProbeAck, Grant, Packet}
 use proofs.Imports.{AcquirePhase, is_whole, Service, Block, packet, ended_block, grant_taken, Waits, view, on}
 use proofs.Imports.{AbstractState, kind_taken, last_taken, performs, answers, taken_by_client, channel_for}
 use proofs.Imports.{SimulationRelation, is_caching, IsFor, Log, system_after, System}
 use Rattle.tl_coherence.specs.protocol.Protocol as protocol
+use proofs.bound.{RankOfLog.owed}
 use proofs.bound.RankAfter.{IsKeptAfter, access_answered-owed, access_served-owed, acquire_granted-owed}
 use proofs.bound.RankAfter.{acquire_served-owed, probe_taken-owed, report_taken-owed, report_answers-owed}
 use proofs.bound.RankAfter.{report_grants-owed, release_taken-owed, answer_taken-owed, grant_taken-owed}
 use proofs.bound.RankAfter.{release_ack_taken-owed, grant_ack_taken-owed}
-use proofs.bound.RankOfLog.{owed}
-use proofs.rank.RankParts.{serving-use}
-use proofs.simulation.Popped.{IsReceived}
-use proofs.deliveries.{CarriedRequests.unread-bytes, LandedReports.answer_on_d, LandedReports.ended-bytes}
-use proofs.deliveries.{DeliverDUnmoved.bare, LastReportDelivered.seen_apart}
-use proofs.manager.Choices.{plain-past}
+use proofs.rank.{RankParts.serving-use}
+use proofs.simulation.{Popped.IsReceived}
+use proofs.deliveries.{CarriedRequests.unread-bytes, DeliverDUnmoved.bare, LastReportDelivered.seen_apart}
+use proofs.deliveries.LandedReports.{answer_on_d, ended-bytes}
+use proofs.manager.{Choices.plain-past}
 use proofs.queues.{Facts.answered_other, Tokens.set-same}
 use proofs.protocol.{HeadOfD.IsGrantDue, HeadOfD.grant-due, NeverIdle.never-idle, RequestsKept.settled_all}
-use proofs.protocol.{Events.IsReady, Events.ready-access, Events.waits_for_others, Events.told, Events.true-taken}
-use proofs.protocol.{FirstTokens.first-request, FirstTokens.first-probe, FirstTokens.first-report}
-use proofs.protocol.{FirstTokens.first-grant_ack}
+use proofs.protocol.Events.{IsReady, ready-access, waits_for_others, told, true-taken}
+use proofs.protocol.FirstTokens.{first-request, first-probe, first-report, first-grant_ack}
 
 module _ {w : ℕ} {config : Config} {log : Log w} (h : AbstractState w) (sys' : System w) (width : IsWidth w)
     (matched : SimulationRelation config log h.mail h.request h.state (system_after config log)) (tracker c : ℕ)

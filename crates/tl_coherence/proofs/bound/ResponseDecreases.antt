@@ -3,7 +3,7 @@ use Rattle.std.proofs.Common.{◌≡◌, ℕ, ◌+◌, ◌<◌, ◌≤◌, Bool,
 use Rattle.std.proofs.Common.{Some, None, length, ne_eqb, eqb-true, ◌==◌, if◌then◌else◌}
 use Rattle.tl_coherence.proofs
 use proofs.Imports.{cases_eq, Config, Cap, Prune, Perm, prune_right, same_perm, Left, probing_weight, pair_weight}
-use proofs.Imports.{probes_weight, acquire_weight, letting_weight, IsInvariant, acquires_with, Acquire, Grant, ProbeAck}
+use proofs.Imports.{probes_weight, acquire_weight, letting_weight, IsInvariant, Acquire, Grant, ProbeAck}
 use proofs.Imports.{Release, Answer, set, ClientBlock, Granting, ProbePhase, NoProbe, ProbeSent, ProbeAnswered}
 use proofs.Imports.{NoRelease, ReleaseSent, ReleaseAcked, Acknowledging, GrantedOther, after_release_taken}
 use proofs.Imports.{after_release_ack, after_grant, Service, Free, GrantSent, GrantTaken, Block, State, SourceFree}
@@ -12,7 +12,6 @@ use proofs.Imports.{is_answered, AccessMessages}
 use proofs.bound.ReportDecreases.{kept_at, nobody-serving, is_for_access}
 use proofs.rank.Frames.{Taking, Falls, AreAsBefore, AreNoMore, AreElsewhere, IsBlockNoMore, acquire-stays, let-stays}
 use proofs.rank.Frames.{pair-stays, unserved-stays, wants-used, report-here}
-use proofs.rank.RankDecreases.{owed_use, owed_use'}
 use proofs.queues.{Phases.and_right, Sums.total-le, Tokens.same_number, Tokens.set-same, Tokens.set-other}
 use proofs.protocol.BeatsRemaining.{beats_left, left-same}
 use proofs.rank.RankParts.{request-falls, release-falls, acknowledged-falls, granted-falls, block-same}

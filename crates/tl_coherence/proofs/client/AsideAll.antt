@@ -1,9 +1,9 @@
 -- Which clients' ends are left alone as a message is taken, and as a client is asked: all of that is
 -- what `followed` does.
-use Rattle.std.proofs.Common.{sym, None, ◌≡◌, ℕ, Bool, true, false, List, ◌∷◌, Some, refl, ◌∙◌, ap, inl, not, ◌==◌}
+use Rattle.std.proofs.Common.{sym, None, ◌≡◌, ℕ, Bool, true, false, List, ◌∷◌, Some, refl, ap, inl, not, ◌==◌}
 use Rattle.tl_coherence.proofs
 use proofs.Imports.{and_from, Message, Config, Cap, Grow, block_at, Op, Reply, copy_stored, whole_grow, access}
-use proofs.Imports.{cap_asked, IsInvariant, is_asked, serves_of, is_serving, Kind, Request, Probe, Release, Answer}
+use proofs.Imports.{cap_asked, IsInvariant, is_asked, serves_of, Kind, Request, Probe, Release, Answer}
 use proofs.Imports.{Grant, ReleaseAck, Packet, is_whole, AcquireOpen, after_grant_sent, after_grant}
 use proofs.Imports.{after_release_taken, after_acquire, after_release, after_probe, after_release_ack, after_report}
 use proofs.Imports.{InService, Replied, SourceFree, Acquires, Service, Waits, GrantSent, Block, SourceState, Asked}

@@ -11,17 +11,16 @@ use proofs.Imports.{acquisition, sourced, about, release, AreNamed, ClientBlock,
 use proofs.Imports.{Block, State, releasing_block, stored_block, release_asked, block_stored, is_wanting, AbstractState}
 use proofs.Imports.{AccessMessages, asked_by}
 use Rattle.tl_client.{proofs.endpoint.HeldAfter.held-release, proofs.pending.Accounted.accounted-asked}
-use Rattle.tl_client.{proofs.pending.KeptAsked.no_acquire, proofs.pending.KeptAsked.falls_to, specs.statement.Ask.load}
-use Rattle.tl_client.{specs.statement.Ask.is_access_of, specs.statement.Endpoint.with_copy}
-use Rattle.tl_client.{specs.statement.Endpoint.with_waiting, specs.statement.Endpoint.kept_for}
+use Rattle.tl_client.proofs.pending.KeptAsked.{no_acquire, falls_to}
+use Rattle.tl_client.specs.statement.Ask.{load, is_access_of}
+use Rattle.tl_client.specs.statement.Endpoint.{with_copy, with_waiting, kept_for}
 use Rattle.tl_client.specs.statement.Ask as ask
 use Rattle.tl_coherence.specs.refinement.AbstractStep as world
 use proofs.client.{Aside.set_at-else, ClientSent.IsReleased, ClientSent.known-released, ClientSent.opened-released}
-use proofs.client.{ClientRequests.chosen, ClientRequests.passed, ClientRequests.end-access_asked}
-use proofs.client.{ClientRequests.end-acquire_asked}
-use proofs.queues.{Perms.held-some, Tokens.same_number, Tokens.set-same, Tokens.set-other, Tokens.set-part}
-use proofs.queues.{Tokens.set_at-same}
+use proofs.client.ClientRequests.{chosen, passed, end-access_asked, end-acquire_asked}
 use proofs.client.ClientEnd.{IsWellKept, IsEnd, IsSame, known-same, opened-same, asks-same, column}
+use proofs.queues.{Perms.held-some}
+use proofs.queues.Tokens.{same_number, set-same, set-other, set-part, set_at-same}
 
 -- ---- a Release
 

@@ -8,9 +8,8 @@ use proofs.Imports.{release_of-whole, held-whole, sent, block_at, ends, is_grant
 use proofs.Imports.{request_of, release_of, grants, capped, release_of-d, Endpoint, open_beat, is_unreleased, State}
 use proofs.Imports.{is_wanting, ClientRelation, OpenSourceRelation}
 use Rattle.tl_rules.{proofs.Sent.pending-closed, specs.statement.History.releases}
-use Rattle.tl_client.{proofs.endpoint.HeldAfter.held-beat_d, proofs.pending.Opens.acquire_of-d}
-use Rattle.tl_client.{proofs.pending.Opens.open_beat-d, proofs.pending.Opens.open_beat-e}
-use Rattle.tl_client.{proofs.pending.Opens.unfinished-d}
+use Rattle.tl_client.{proofs.endpoint.HeldAfter.held-beat_d}
+use Rattle.tl_client.proofs.pending.Opens.{acquire_of-d, open_beat-d, open_beat-e, unfinished-d}
 use proofs.client.ClientEnd.{IsWellKept, known-kept}
 
 -- ---- what a beat says

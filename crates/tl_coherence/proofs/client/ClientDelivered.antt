@@ -6,15 +6,14 @@ use proofs.Imports.{drop_all, Beat, BeatA, BeatD, Channel, OpD, IsWidth, Message
 use proofs.Imports.{beats_of, burst_of, data_beats, IsBlankAfter, IsZeroFrom, unfinished, completes, Config, Cap, Perm}
 use proofs.Imports.{payload-d, whole_block, payload_of, same_perm, ends, is_grant, is_release_ack, request_of}
 use proofs.Imports.{accounted-offered, kept-offered, Finish, EndConfig, Endpoint, with_past, Offered, offered, taken}
-use proofs.Imports.{ended, responded, granted, Kind, Answer, Grant, ReleaseAck, Packet, is_whole, AcquirePhase}
-use proofs.Imports.{AcquireOpen, Service, GrantSent, State, packet, is_on, grant_taken, AbstractState, taken_by_client}
-use proofs.Imports.{kind_taken, packet_taken, AccessMessages, block_message, message_of, message_of_kind}
-use proofs.Imports.{SimulationRelation, gives_asked, asked_by, is_caching, IsGivenAsked, Log, System, terms_at}
+use proofs.Imports.{ended, responded, granted, Kind, Answer, Grant, ReleaseAck, Packet, AcquirePhase, AcquireOpen}
+use proofs.Imports.{Service, GrantSent, State, packet, is_on, grant_taken, AbstractState, kind_taken, packet_taken}
+use proofs.Imports.{AccessMessages, block_message, message_of, message_of_kind, SimulationRelation, gives_asked}
+use proofs.Imports.{asked_by, is_caching, IsGivenAsked, Log, System, terms_at}
 use proofs.queues.{Carried.IsNext, FirstToken.IsFirst, FirstToken.first-token, Codes.access_kind}
 use proofs.client.{ClientAsked.IsEndOf, ClientEnd.IsWellKept, ClientEnd.IsEnd, ClientEnd.end-matched}
-use proofs.client.{ClientTaken.end-part, ClientTaken.end-answer_taken, ClientTaken.end-release_ack_taken}
-use proofs.client.{ClientTaken.end-grant_taken, ClientTakes.answer-first, ClientTakes.IsFitting, ClientTakes.fitting}
-use proofs.client.{ClientTakes.grant-first, ClientTakes.ack-first, ClientTakes.taken-d}
+use proofs.client.ClientTaken.{end-part, end-answer_taken, end-release_ack_taken, end-grant_taken}
+use proofs.client.ClientTakes.{answer-first, fitting, grant-first, ack-first, taken-d}
 use proofs.protocol.HeadOfD.{answer-due, IsGrantDue, grant-due, grant_message, grant-rendered, ack-due, ack_message}
 
 -- ---- what a client does at a beat of channel D
@@ -124,8 +123,7 @@ pub ack-delivered : {w : ℕ} {config : Config} {log : Log w} {mail : AccessMess
     → sys.channels c Channel.D ≡ x ∷ queue → (s.link c).d ≡ packet ReleaseAck n ∷ rest
     → IsNext x (unfinished Channel.D (sys.clients c).past) (Message.D (ack_message ((s.block n).release_source c))) ms
     queue → IsTakenBy config terms tracker c (shadow_of mail request s) x (sys.clients c)
-ack-delivered {w} {config} {log} {mail} {request} {s} {sys} terms tracker c n rest {ms} {x} {queue} width h at beats
-    first next =
+ack-delivered {w} {config} {mail} {request} {s} {sys} terms tracker c n rest width h at beats first next =
     let e : Endpoint w = sys.clients c in
     let m : MessageD w = ack_message ((s.block n).release_source c) in
     let let_ = ack-due c n rest h.invariant first in

@@ -4,13 +4,12 @@ use Rattle.std.proofs.Common.{inr, ◌*◌, ne_eqb, ◌==◌}
 use Rattle.tl_coherence.proofs
 use proofs.Imports.{cases_eq, BeatA, IsWidth, Message, MessageA, a_beat_of, AcquireOf, Grow, Perm, same_perm, block_at}
 use proofs.Imports.{is_acquire, pending, same_block, swapped, Endpoint, sending, acquisition, acquires_of, AreNamed}
-use proofs.Imports.{set_at, ClientBlock, AcquireOpen, is_unreleased, is_whole, after_acquire, Block, State, Asked}
-use proofs.Imports.{Acquires, acquiring_block, access_asked, acquire_asked, is_wanting, acquire_opcode, AccessMessages}
-use proofs.Imports.{asked_by}
+use proofs.Imports.{set_at, ClientBlock, is_unreleased, is_whole, after_acquire, Block, State, Asked, Acquires}
+use proofs.Imports.{acquiring_block, access_asked, acquire_asked, is_wanting, acquire_opcode, AccessMessages, asked_by}
 use proofs.client.{Aside.set_at-else, ClientSent.IsRequested, ClientSent.known-requested, ClientSent.opened-requested}
-use proofs.queues.{Codes.acquires-so, Tokens.same_number, Tokens.set-same, Tokens.set-other, Tokens.set-part}
-use proofs.queues.{Tokens.set_at-same}
 use proofs.client.ClientEnd.{is_access, IsWellKept, IsEnd, asks-same, asks-access, asks-acquire, column}
+use proofs.queues.{Codes.acquires-so}
+use proofs.queues.Tokens.{same_number, set-same, set-other, set-part, set_at-same}
 
 -- a condition that is known
 pub chosen : {X : Type 0} (b : Bool) (x y : X) → b ≡ true → cond b x y ≡ x
@@ -103,8 +102,7 @@ pub end-acquire_asked : {w : ℕ} {c : ℕ} (n source : ℕ) (whole : Bool) (g :
     → f.closed ≡ e.closed → ((i : ℕ) → (i ≡ n → ⊥) → f.waiting i ≡ e.waiting i)
     → (whole ≡ true → f.waiting n ≡ Some bytes) → IsWellKept f → IsEnd (asked_by mail s c) c s e
     → IsEnd (asked_by mail (acquire_asked c n source whole g bytes s) c) c (acquire_asked c n source whole g bytes s) f
-end-acquire_asked {w} {c} n source whole g bytes mail {s} {e} {f} width named idle past copies closed others here kept
-    end =
+end-acquire_asked {w} {c} n source whole g bytes mail {s} {f} width named idle past copies closed others here kept end =
     let m : MessageA w = acquisition (acquire_opcode whole) g source n in
     let asked' : ℕ → Option (BeatA w) = asked_by mail s' c in
     let of_block : (i : ℕ) → (is_acquire (acquire_opcode whole) && (block_at (64 * n) == i)) ≡ (i == n) =

@@ -5,10 +5,9 @@ use Rattle.tl_coherence.proofs
 use proofs.Imports.{BeatA, BeatC, Channel, IsWidth, beats-positive, A, MessageA, MessageC, a_beat_of, c_beat_of}
 use proofs.Imports.{History, unfinished, RequestSource, ReleaseSource, AcquireOf, ReleaseOf, Perm, pending-whole}
 use proofs.Imports.{release_of-whole, held-whole, sent, block_at, is_acquire, is_release, held, pending, release_of}
-use proofs.Imports.{open_beat-c, Endpoint, open_beat, is_unreleased, State, is_wanting, ClientRelation}
-use proofs.Imports.{OpenSourceRelation}
-use Rattle.tl_burst.specs.declared.message.Message.TheVariants.{C}
-use Rattle.tl_client.proofs.pending.Opens.{open_beat-a}
+use proofs.Imports.{open_beat-c, Endpoint, is_unreleased, State, is_wanting, ClientRelation, OpenSourceRelation}
+use Rattle.tl_burst.{specs.declared.message.Message.TheVariants.C}
+use Rattle.tl_client.{proofs.pending.Opens.open_beat-a}
 use proofs.client.ClientEnd.{IsWellKept, known-kept}
 
 -- ---- a request

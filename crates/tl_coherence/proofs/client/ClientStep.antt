@@ -1,5 +1,5 @@
 -- Clients' ends after every event: each is that of the protocol as it follows.
-use Rattle.std.proofs.Common.{◌≡◌, subst, ℕ, Bool, true, false, ◌&&◌, List, [], ◌∷◌, Option, Some, None, refl, sym, ◌∙◌}
+use Rattle.std.proofs.Common.{◌≡◌, subst, ℕ, Bool, true, false, List, [], ◌∷◌, Option, Some, None, refl, sym, ◌∙◌}
 use Rattle.std.proofs.Common.{ap, ◌⊎◌, inl, inr, if◌then◌else◌, Result, Ok}
 use Rattle.tl_coherence.proofs
 use proofs.Imports.{cases_eq, Beat, Link, Channel, IsWidth, Message, MessageA, unfinished, completes, Config, Rule}
@@ -133,10 +133,8 @@ delivered_ends : {w : ℕ} {config : Config} {log : Log w} {mail : AccessMessage
     → AreEnds config (Deliver link ch) sys (shadow_of mail request s) k
     (step.delivered config terms link.0 ch beats sys)
 delivered_ends {config} {log} {mail} {request} {s} {sys} terms link ch k [] width h at beats = end-matched h k
-delivered_ends {config} {log} {mail} {request} {s} {sys} terms link Channel.B k (x ∷ queue) width h at beats =
-    b_ends terms link k x queue width h at beats
-delivered_ends {config} {log} {mail} {request} {s} {sys} terms link Channel.D k (x ∷ queue) width h at beats =
-    d_ends terms link k x queue width h at beats
+delivered_ends terms link Channel.B k (x ∷ queue) width h at beats = b_ends terms link k x queue width h at beats
+delivered_ends terms link Channel.D k (x ∷ queue) width h at beats = d_ends terms link k x queue width h at beats
 delivered_ends {config} {log} {mail} {request} {s} {sys} terms link ch k (x ∷ queue) width h at beats =
     manager_ends link ch k x queue (manager.offered config (record { 0 = link.0 }) ch x sys.manager) width h beats refl
 
@@ -146,8 +144,7 @@ event_ends : {w : ℕ} {config : Config} {log : Log w} {mail : AccessMessages w}
     → AreEnds config event sys (shadow_of mail request s) k (stepped_at config o event sys)
 event_ends {config} {log} {mail} {request} {s} {sys} (Ask c o) None k width h at = end-matched h k
 event_ends {config} {log} {mail} {request} {s} {sys} (Deliver link ch) None k width h at = end-matched h k
-event_ends {config} {log} {mail} {request} {s} {sys} (Ask c o) (Some terms) k width h at =
-    asked_ends terms c k o width h
+event_ends (Ask c o) (Some terms) k width h at = asked_ends terms c k o width h
 event_ends {config} {log} {mail} {request} {s} {sys} (Deliver link ch) (Some terms) k width h at =
     delivered_ends terms link ch k (sys.channels link.0 ch) width h at refl
 
@@ -157,5 +154,4 @@ pub clients-kept : {w : ℕ} {config : Config} {log : Log w} {mail : AccessMessa
     → IsWidth w → SimulationRelation config log mail request s sys → (k : ℕ)
     → IsEndOf k (abstract_step config event sys (shadow_of mail request s)) ((stepped config event sys).after.clients k)
 unfolding stepped
-clients-kept {config} {log} {mail} {request} {s} {sys} event width h k =
-    event_ends event (terms_at config (client_of event)) k width h refl
+clients-kept {config} event width h k = event_ends event (terms_at config (client_of event)) k width h refl

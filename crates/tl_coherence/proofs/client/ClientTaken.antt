@@ -4,20 +4,19 @@ use Rattle.std.proofs.Common.{sym, ◌∙◌, ap, ◌⊎◌, inl, inr, ◌*◌, 
 use Rattle.tl_coherence.proofs
 use proofs.Imports.{and-false, cases_eq, Beat, BeatA, BeatD, OpD, IsWidth, E, a_beat_of, History, Cap, Grow, Perm}
 use proofs.Imports.{cap_code, cap_right, sent, same_perm, block_at, ends, is_grant, is_release_ack, request_of, capped}
-use proofs.Imports.{same_block, swapped, Finish, Endpoint, with_past, sending, is_acquire_beat, ended, responded}
-use proofs.Imports.{address_asked, finish_of, granted, open_beat, acquisition, grant_ack, cap-gives, grants_by_opcode}
-use proofs.Imports.{grant_opcode, acquires_of, AreNamed, Packet, ClientBlock, AcquireOpen, is_unreleased, is_whole}
-use proofs.Imports.{after_release_ack, after_grant, Block, State, SourceFree, Acquires, taken_block, grant_taken}
-use proofs.Imports.{let_go_block, answer_taken, granted_copy, release_ack_taken, is_wanting, acquire_opcode}
-use proofs.Imports.{AccessMessages, asked_by}
-use Rattle.tl_client.{proofs.endpoint.AfterOffered.granted_is, specs.laws.After.copy_granted}
-use Rattle.tl_client.{specs.laws.After.waiting_granted, specs.statement.EndpointInvariant.is_acquire_perm}
+use proofs.Imports.{same_block, swapped, Finish, Endpoint, with_past, sending, ended, responded, address_asked}
+use proofs.Imports.{finish_of, granted, open_beat, acquisition, grant_ack, cap-gives, grants_by_opcode, grant_opcode}
+use proofs.Imports.{acquires_of, AreNamed, Packet, ClientBlock, AcquireOpen, is_unreleased, is_whole, after_release_ack}
+use proofs.Imports.{after_grant, Block, State, SourceFree, Acquires, taken_block, grant_taken, let_go_block}
+use proofs.Imports.{answer_taken, granted_copy, release_ack_taken, is_wanting, acquire_opcode, AccessMessages, asked_by}
+use Rattle.tl_client.{proofs.endpoint.AfterOffered.granted_is, specs.statement.EndpointInvariant.is_acquire_perm}
+use Rattle.tl_client.specs.laws.After.{copy_granted, waiting_granted}
 use proofs.client.{Aside.set_at-else, ClientRequests.chosen, ClientRequests.passed}
-use proofs.queues.{Phases.and_right, Codes.acquires-so, Tokens.same_number, Tokens.set-same, Tokens.set-other}
-use proofs.queues.{Tokens.set-part, Tokens.set_at-same}
 use proofs.client.ClientEnd.{IsWellKept, IsEnd, asks-same, asks-closed, asks-acquire, open-is, column}
 use proofs.client.ClientDeliverD.{IsHeard, IsEcho, echo-none, echo-e, known-heard, opened-heard, heard-part}
 use proofs.client.ClientDeliverD.{answer_closes, ack_closes, grant_closes}
+use proofs.queues.{Phases.and_right, Codes.acquires-so}
+use proofs.queues.Tokens.{same_number, set-same, set-other, set-part, set_at-same}
 
 -- ---- a beat that isn't the last of its message
 

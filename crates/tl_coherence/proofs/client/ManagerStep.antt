@@ -78,12 +78,9 @@ pub manager_ends : {w : ℕ} {config : Config} {log : Log w} {mail : AccessMessa
     (a : manager.Reception w × manager_end.End w) → IsWidth w → SimulationRelation config log mail request s sys
     → sys.channels link.0 ch ≡ x ∷ queue → is_to_client ch ≡ false
     → AreEnds config (Deliver link ch) sys (shadow_of mail request s) k (manager_took link.0 ch x queue a sys)
-manager_ends {config} {log} {mail} {request} {s} {sys} link ch k x queue (manager.Refused rule, e) width h beats down =
-    end-matched h k
-manager_ends {config} {log} {mail} {request} {s} {sys} link ch k x queue (manager.Stalled, e) width h beats down =
-    end-matched h k
-manager_ends {w} {config} {log} {mail} {request} {s} {sys} link ch k x queue (manager.Sent handed, e) width h beats
-    down =
+manager_ends link ch k x queue (manager.Refused rule, e) width h beats down = end-matched h k
+manager_ends link ch k x queue (manager.Stalled, e) width h beats down = end-matched h k
+manager_ends {w} {config} {mail} {request} {s} {sys} link ch k x queue (manager.Sent handed, e) width h beats down =
     go (is_last (sys.channels link.0 ch) (unfinished ch (receiver ch link.0 sys)))
   where
     before : AbstractState w

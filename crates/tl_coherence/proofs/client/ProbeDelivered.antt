@@ -1,23 +1,22 @@
 -- A Probe that is delivered to a client waits for its Release, or is taken, and the client's end is
 -- then that of the protocol.
 use Rattle.std.proofs.Common.{◌≡◌, subst, ℕ, zero, suc, ◌<◌, Bool, true, false, not, ◌&&◌, cond, List, [], ◌∷◌, Option}
-use Rattle.std.proofs.Common.{Some, None, refl, sym, ◌∙◌, ap, arith, eqb-true, ◌==◌, map, nat_le}
+use Rattle.std.proofs.Common.{Some, None, refl, sym, ◌∙◌, ap, arith, eqb-true, ◌==◌, map}
 use Rattle.tl_coherence.proofs
-use proofs.Imports.{and_right, Beat, BeatA, Channel, OpD, IsWidth, Message, MessageA, MessageD, beat_of, beats_of}
-use proofs.Imports.{begun, unfinished, completes, Config, ReleaseOf, Cap, Rule, is_grant, pending, asks_for, illegal}
+use proofs.Imports.{and_right, Beat, BeatA, Channel, IsWidth, Message, MessageA, MessageD, beat_of, beats_of}
+use proofs.Imports.{begun, unfinished, completes, Config, ReleaseOf, Rule, is_grant, pending, asks_for, illegal}
 use proofs.Imports.{same_block, accounted-offered, kept-offered, Verdict, EndConfig, Endpoint, held_at, Offered}
 use proofs.Imports.{offered, taken, silent, waits, judged_later, broken_before, broken_later, grant_opcode}
-use proofs.Imports.{probe_of_block, level_of, IsInvariant, Kind, Probe, Answer, Grant, ReleaseAck, Packet, is_unprobed}
-use proofs.Imports.{is_unreleased, State, packet, is_on, view, is_sent, AbstractState, packet_taken, kind_taken}
+use proofs.Imports.{probe_of_block, IsInvariant, Kind, Probe, Answer, Grant, ReleaseAck, Packet, is_unprobed}
+use proofs.Imports.{is_unreleased, State, packet, is_on, view, is_sent, AbstractState, packet_taken}
 use proofs.Imports.{IsCarried, comes_granting, AccessMessages, cap_sent, block_message, probe_beat, message_of}
 use proofs.Imports.{message_of_kind, SimulationRelation, asked_by, is_caching, Log, System, terms_at}
 use Rattle.tl_client.{proofs.endpoint.Cases.passes_before, specs.statement.Offer.probed, specs.statement.Offer.judged}
-use Rattle.tl_manager.specs.code.Kept as manager
 use proofs.queues.{Carried.IsNext, Facts.granting_alone, Phases.and_left, Codes.access_kind, FirstToken.IsFirst}
 use proofs.queues.{FirstToken.first-token, FirstToken.own_kind}
 use proofs.client.{ClientAsked.IsEndOf, ClientDelivered.shadow_of, ClientProbed.end-probe_taken}
-use proofs.client.{KnownProbed.probe-taken, ClientEnd.IsWellKept, ClientEnd.IsEnd, ClientEnd.end-matched}
-use proofs.client.{ClientEnd.asks-acquire, ClientTakes.AreTermsOf, ClientTakes.terms-are, ClientTakes.sound-beat}
+use proofs.client.{KnownProbed.probe-taken, ClientEnd.IsWellKept, ClientEnd.end-matched}
+use proofs.client.{ClientEnd.asks-acquire, ClientTakes.terms-are, ClientTakes.sound-beat}
 use proofs.protocol.{BothParts.not-sent, FirstTokens.first-shown}
 use proofs.protocol.HeadOfD.{answer-due, grant-due, grant_message, grant-rendered, ack_message, own_view}
 
@@ -160,8 +159,7 @@ pub probe-delivered : {w : ℕ} {config : Config} {log : Log w} {mail : AccessMe
     → sys.channels c Channel.B ≡ x ∷ queue → (s.link c).b ≡ packet Probe n ∷ rest
     → IsNext x (unfinished Channel.B (sys.clients c).past) (block_message Probe c n (s.block n)) ms queue
     → IsProbed config terms tracker c n (shadow_of mail request s) x (sys.clients c)
-probe-delivered {w} {config} {log} {mail} {request} {s} {sys} terms tracker c n rest {ms} {x}
-    {queue} width h at beats first next =
+probe-delivered {w} {config} {mail} {request} {s} {sys} terms tracker c n rest {x} {queue} width h at beats first next =
     let is = terms-are config c terms at in
     let k = cap_sent ((s.block n).pair c).probing in
     let beat_is = probe-beat c n s next in

@@ -2,11 +2,10 @@
 -- delivered alike.
 use Rattle.std.proofs.Common.{◌≡◌, ℕ, Bool, true, false, not, ◌&&◌, [], Option, Some, None, refl, ap, ◌==◌, option_map}
 use Rattle.tl_coherence.proofs
-use proofs.Imports.{same_Some, Beat, BeatA, BeatC, BeatD, Channel, OpD, first_if, History, unfinished, RequestSource}
+use proofs.Imports.{same_Some, Beat, BeatA, BeatC, BeatD, Channel, OpD, History, unfinished, RequestSource}
 use proofs.Imports.{ReleaseSource, GrantSink, ProbeOf, Perm, Profile, same_perm, broken_in_order, comes_in_request}
 use proofs.Imports.{comes_in_release, fits_grow, is_acquire_block, is_grant_without_data, broken_order, block_at, held}
 use proofs.Imports.{is_grant, is_release_ack, pending, request_of, release_of}
-use Rattle.tl_params.specs.declared.rule.Rule.TheVariants.{H2, H3, H6, H7}
 use Rattle.tl_rules.specs.statement.Conformance.{answers, has_request, misgrants, size_asked, size_of_release}
 use proofs.queues.Tokens.{same_number}
 

@@ -1,13 +1,12 @@
 -- The Acquire that waits is the one that its client has open: after any event.
-use Rattle.std.proofs.Common.{◌≡◌, ℕ, Bool, true, false, not, ◌&&◌, List, refl, sym, ◌∙◌, ap, subst, inl, inr, ◌==◌}
+use Rattle.std.proofs.Common.{◌≡◌, ℕ, Bool, true, false, ◌&&◌, List, refl, sym, ◌∙◌, ap, subst, inl, inr, ◌==◌}
 use Rattle.std.proofs.Common.{if◌then◌else◌}
 use Rattle.tl_coherence.proofs
 use proofs.Imports.{cases_eq, ⊤, Message, MessageA, Config, Cap, Grow, block_at, Op, Reply, copy_stored, whole_grow}
 use proofs.Imports.{acquisition, IsInvariant, Kind, Acquire, Packet, set, ClientBlock, NoAcquire, AcquireOpen}
-use proofs.Imports.{is_unacquired, after_acquire, after_probe, after_release, after_release_ack, after_release_taken}
-use proofs.Imports.{after_report, after_served, Service, Waits, Block, acquiring_block, releasing_block, served_block}
-use proofs.Imports.{stored_block, view, AbstractState, acquire_opcode, asked, kind_taken, acquire_of, block_message}
-use proofs.Imports.{IsAcquireOf}
+use proofs.Imports.{after_acquire, after_probe, after_release, after_release_ack, after_release_taken, after_report}
+use proofs.Imports.{after_served, Service, Waits, Block, acquiring_block, releasing_block, served_block, stored_block}
+use proofs.Imports.{view, AbstractState, acquire_opcode, asked, kind_taken, acquire_of, block_message, IsAcquireOf}
 use proofs.queues.{Facts.own_wants, Tokens.same_number, Tokens.set-same, Tokens.set-other, Tokens.set-part}
 use proofs.protocol.{FollowKept.IsAskable, Events.true-taken}
 

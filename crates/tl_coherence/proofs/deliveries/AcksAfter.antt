@@ -1,19 +1,18 @@
 -- A GrantAck that is delivered to the manager: the channels and the one memory afterwards.
-use Rattle.std.proofs.Common.{◌≡◌, ℕ, Bool, true, false, List, [], ◌∷◌, Some, None, refl, sym, ◌∙◌, ap, subst}
+use Rattle.std.proofs.Common.{◌≡◌, ℕ, Bool, true, false, List, [], ◌∷◌, Some, None, refl, ◌∙◌, ap}
 use Rattle.tl_coherence.proofs
-use proofs.Imports.{Beat, BeatE, Link, Channel, IsWidth, beat_of, unfinished, completes, Config, on_link, reaction-ack}
-use proofs.Imports.{reaction, Deliver, Kind, GrantAck, GrantTaken, packet, is_on, freed_block, grant_ack_taken}
-use proofs.Imports.{AbstractState, kind_taken, ChannelRelation, MemoryRelation, block_message, SimulationRelation}
-use proofs.Imports.{is_moving, Log, system_after, one_memory_after, performing, accesses_answered, stepped, System}
-use proofs.Imports.{terms_at, with_channel, with_messages}
+use proofs.Imports.{Beat, Link, Channel, IsWidth, unfinished, completes, Config, on_link, reaction-ack, reaction}
+use proofs.Imports.{Deliver, Kind, GrantAck, GrantTaken, packet, is_on, freed_block, grant_ack_taken, AbstractState}
+use proofs.Imports.{block_message, SimulationRelation, is_moving, Log, system_after, performing, accesses_answered}
+use proofs.Imports.{stepped, System, terms_at, with_channel, with_messages}
 use Rattle.tl_client.specs.statement.Endpoint as client
-use proofs.memory.BesideKinds.{beside_block}
-use proofs.queues.Shown.{carried-shown}
-use proofs.simulation.CarriedResponses.{grant_ack_taken-shown}
-use proofs.deliveries.{DeliverDUnmoved.IsDelivered, ManagersAfter.IsAtManager, ManagersAfter.at-manager}
-use proofs.deliveries.{ManagersAfter.after_taken, ManagersAfter.delivered-last, ManagersAfter.delivered-part}
-use proofs.manager.UnwaitedRequests.{next_tracker, invariant-taken}
-use proofs.protocol.FirstTokens.{first-grant_ack}
+use proofs.memory.{BesideKinds.beside_block}
+use proofs.queues.{Shown.carried-shown}
+use proofs.simulation.{CarriedResponses.grant_ack_taken-shown}
+use proofs.deliveries.{DeliverDUnmoved.IsDelivered}
+use proofs.deliveries.ManagersAfter.{IsAtManager, at-manager, after_taken, delivered-last, delivered-part}
+use proofs.manager.{UnwaitedRequests.invariant-taken}
+use proofs.protocol.{FirstTokens.first-grant_ack}
 
 ack_kind : (k : Kind) → is_on Channel.E k ≡ true → k ≡ GrantAck
 ack_kind GrantAck e = refl

@@ -10,14 +10,13 @@ use proofs.Imports.{store, is_word, op_block, free_request, free_release, source
 use proofs.Imports.{held_at, access, level_of, NoAcquire, NoRelease, State, SourceState, SourceFree, AbstractState}
 use proofs.Imports.{IsOpened, IsLet, SimulationRelation, is_caching, IsRequest, Log, Machine, Requests, Releases}
 use proofs.Imports.{one_memory_after, System, terms_at}
-use Rattle.tl_client.{proofs.messages.Clean.to_blank, proofs.messages.Sound.formed_access, specs.statement.Ask.asked}
-use Rattle.tl_client.{specs.statement.Ask.only, specs.statement.Ask.load, specs.statement.Ask.loaded}
-use Rattle.tl_client.{specs.statement.Ask.is_clean, specs.statement.Ask.is_formed}
+use Rattle.tl_client.{proofs.messages.Clean.to_blank, proofs.messages.Sound.formed_access}
+use Rattle.tl_client.specs.statement.Ask.{asked, only, load, loaded, is_clean, is_formed}
+pub use Rattle.tl_coherence.proofs.deliveries.BusyWell.{IsAskedWell}
 use proofs.client.Askable.{swap_perms, no_let, caches}
-use proofs.simulation.BeatsInFlight.{level-terms}
+use proofs.simulation.{BeatsInFlight.level-terms}
 use proofs.protocol.BothParts.{calm-is, kept-letting}
 use proofs.deliveries.BusyWell.{unused, busy_well, loaded_number, some_held, none_rule, sourced_legal}
-pub use Rattle.tl_coherence.proofs.deliveries.BusyWell.{IsAskedWell}
 
 pub asked-well : {w : ℕ} (config : Config) (log : Log w) (h : AbstractState w) (sys : System w) (c : ℕ)
     (terms : EndConfig) (o : Op w) → IsWidth w

@@ -1,20 +1,18 @@
 -- What a client that is busy answers, and what that says of the protocol.
-use Rattle.std.proofs.Common.{◌≡◌, ℕ, ◌+◌, ◌*◌, ◌/◌, ◌%◌, ◌^◌, ◌≤◌, true, false, List, Option, Some, None, refl}
-use Rattle.std.proofs.Common.{sym, ◌∙◌, ap, arith, is_none, slice_index}
+use Rattle.std.proofs.Common.{◌≡◌, ℕ, ◌+◌, ◌*◌, ◌/◌, ◌%◌, ◌^◌, ◌≤◌, true, false, List, Option, Some, None, refl, sym}
+use Rattle.std.proofs.Common.{◌∙◌, ap, arith, is_none, slice_index}
 use Rattle.tl_coherence.proofs
 use proofs.Imports.{Channel, OpA, Message, MessageA, beat_of, Config, RequestSource, Level, Prune, Perm, Rule}
 use proofs.Imports.{prune_left, legal_beat, same_perm, Memory, IsBlock, number_from, block_at, pending, illegal}
-use proofs.Imports.{illegal_message, Busy, Op, Reply, whole_grow, Endpoint, release, access, acquisition}
-use proofs.Imports.{State, SourceFree}
-use proofs.Imports.{AbstractState, AccessMessages, SimulationRelation, is_caching}
-use proofs.Imports.{Log, Machine, System}
+use proofs.Imports.{illegal_message, Busy, Op, Reply, whole_grow, Endpoint, release, access, acquisition, State}
+use proofs.Imports.{SourceFree, AbstractState, AccessMessages, SimulationRelation, is_caching, Log, Machine, System}
 use Rattle.tl_rules.{proofs.Legal.legal_from_beats, proofs.Places.number_same}
 use Rattle.tl_client.specs.statement.Ask.{Asked, only}
-use Rattle.tl_coherence.specs.statement.Machine.{Replies}
-use proofs.memory.BesideAsked.{IsReply}
-use proofs.protocol.FollowKept.{IsAskable}
+use Rattle.tl_coherence.{specs.statement.Machine.Replies}
+use proofs.memory.{BesideAsked.IsReply}
+use proofs.protocol.{FollowKept.IsAskable}
 use proofs.simulation.{SizedAfter.IsSizedAsk, SourcedAfter.IsSourcedAsk}
-use proofs.client.Askable.{closed-source}
+use proofs.client.{Askable.closed-source}
 
 -- ---- what the protocol has, by what the end has
 

@@ -6,28 +6,27 @@ use proofs.Imports.{and_comm, cases_lt, Beat, Channel, Message, MessageA, a_beat
 use proofs.Imports.{Config, Cap, Perm, is_last, on_link, same_perm, effect, answer_of, block_at, is_acquire, same_block}
 use proofs.Imports.{swapped, reaction-part, Handed, Reaction, probes, recorded, probed, cap_probed, is_spared}
 use proofs.Imports.{must_wait, reaction, Outcome, IsInvariant, IsWell, cap_asked, Kind, Request, Acquire, Grant, Packet}
-use proofs.Imports.{AcquirePhase, AcquireOpen, is_granted_data, is_above, Free, Block, State, packet, is_probed}
+use proofs.Imports.{AcquirePhase, AcquireOpen, is_granted_data, is_above, Block, State, packet, is_probed}
 use proofs.Imports.{granted_at_once, acquire_served, acquire_granted, AbstractState, some_below, answers, kind_taken}
 use proofs.Imports.{bytes_at, probes_some, access_taken, request_taken, performs, gift, is_unheld, acquire_taken}
 use proofs.Imports.{ChannelRelation, AccessMessages, block_message, SimulationRelation, is_caching, Log, Step, handing}
 use proofs.Imports.{System, with_manager, with_channel, with_messages}
 use Rattle.tl_manager.specs.statement.Holders as holders
 use proofs.manager.{Admitted.offered-taken, AtRequests.end_after, AtRequests.reaction-probing, ManagedServed.same_above}
-use proofs.manager.{Requests.recorded-beat, Arrivals.link_of, Arrivals.with_beat, Arrivals.IsComing}
-use proofs.manager.{Arrivals.ends-coming, Arrivals.service_for, RequestsHanded.handed-answered}
-use proofs.manager.{RequestsHanded.handed-granted, RequestsTaken.caps_asked, RequestsTaken.acquire_wanted}
-use proofs.manager.{RequestsTaken.ready-request, RequestsTaken.ready-acquire}
-use proofs.queues.{Shown.carried-shown, Showing.carries, Showing.none-carried, Tokens.set-same, Codes.acquires-so}
-use proofs.queues.{Perms.none-above, Channels.behind, Channels.IsTaken, Channels.pushes_at}
-use proofs.protocol.{Events.IsReady, RequestsKept.some-none, RequestsKept.leaves-bytes, Heads.IsAsked, Heads.IsWanted}
-use proofs.simulation.{Moved.manager-heard, Moved.carried-part, CarriedEvents.access_answered-shown}
-use proofs.simulation.{CarriedEvents.acquire_granted-shown}
-use proofs.bound.RankAfter.{once_on_d}
-use proofs.simulation.CarriedProbes.{probe_pushes, channels-probes, access_served-shown, acquire_served-shown}
+use proofs.manager.{Requests.recorded-beat, RequestsHanded.handed-answered, RequestsHanded.handed-granted}
+use proofs.manager.Arrivals.{link_of, with_beat, IsComing, ends-coming, service_for}
+use proofs.manager.RequestsTaken.{caps_asked, acquire_wanted, ready-request, ready-acquire}
 use proofs.manager.UnwaitedRequests.{next_tracker, free-last, invariant-taken, probed-some, somebody-probed}
 use proofs.manager.UnwaitedRequests.{beyond-none}
+use proofs.queues.{Shown.carried-shown, Showing.carries, Showing.none-carried, Tokens.set-same, Codes.acquires-so}
+use proofs.queues.{Perms.none-above, Channels.behind, Channels.IsTaken, Channels.pushes_at}
 use proofs.queues.Landed.{pushes_of, IsLanded, taken-landed, HasTaken, landed-manager, channels-handed, on_own_channel}
-use proofs.deliveries.LandedReports.{answer_on_d}
+use proofs.protocol.{Events.IsReady, RequestsKept.some-none, RequestsKept.leaves-bytes, Heads.IsAsked, Heads.IsWanted}
+use proofs.simulation.Moved.{manager-heard, carried-part}
+use proofs.simulation.CarriedEvents.{access_answered-shown, acquire_granted-shown}
+use proofs.simulation.CarriedProbes.{probe_pushes, channels-probes, access_served-shown, acquire_served-shown}
+use proofs.bound.{RankAfter.once_on_d}
+use proofs.deliveries.{LandedReports.answer_on_d}
 
 -- ---- the whole after a beat of a request
 
@@ -103,8 +102,7 @@ pub taken-probing : {w : ℕ} {config : Config} {log : Log w} {mail : AccessMess
     → IsTaken c Channel.A (Beat.A (a_beat_of m k)) queue
     (probe_pushes n j (λ d. is_probed c own j ((s.block n).pair d).recorded d)) sys
     (system_after config c k m queue sys)
-taken-probing {w} {config} {log} {mail} {request} {s} {sys} {c} {k} n own j {m} queue is comes beats last kind block
-    done =
+taken-probing {w} {config} {s} {sys} {c} {k} n own j {m} queue is comes beats last kind block done =
     let test : ℕ → Bool = λ d. is_probed c own j ((s.block n).pair d).recorded d in
     let pushes : ℕ → Channel → Option (Message w) = probe_pushes n j test in
     let same : (i : ℕ) → (holders.is_above j (recorded i (block_at m.address) (with_beat c m k sys.manager.trace))

@@ -4,16 +4,15 @@ use Rattle.std.proofs.Common.{◌⊎◌, if◌then◌else◌}
 use Rattle.tl_coherence.proofs
 use proofs.Imports.{Beat, BeatD, Link, Channel, OpD, IsWidth, Message, MessageD, unfinished, completes, Config, Cap}
 use proofs.Imports.{is_grant, is_release_ack, Finish, grant_ack, no_ack_grant, Deliver, IsInvariant, Kind, Answer}
-use proofs.Imports.{Grant, ReleaseAck, GrantAck, Packet, AcquirePhase, is_unreleased, is_whole, Service, Block, packet}
-use proofs.Imports.{packets_on, answer_taken, grant_taken, release_ack_taken, taken_block, shown, is_wanting}
-use proofs.Imports.{AbstractState, abstract_step, packet_taken, kind_taken, taken_by_client, ChannelRelation}
-use proofs.Imports.{MemoryRelation, block_message, SimulationRelation, is_caching, receiver, is_moving, Log, Machine}
-use proofs.Imports.{Requests, Pool, Releases, pool_of, after_end, one_memory_after, accesses_answered, stepped}
+use proofs.Imports.{Grant, ReleaseAck, GrantAck, Packet, is_unreleased, is_whole, Block, packet, packets_on}
+use proofs.Imports.{grant_taken, taken_block, shown, is_wanting, AbstractState, abstract_step, packet_taken, kind_taken}
+use proofs.Imports.{ChannelRelation, MemoryRelation, block_message, SimulationRelation, is_caching, receiver, is_moving}
+use proofs.Imports.{Log, Machine, Requests, Releases, pool_of, after_end, one_memory_after, accesses_answered, stepped}
 use proofs.Imports.{handed_by, System, with_client, with_channel, with_messages}
 use Rattle.tl_client.specs.statement.Offer as offer
 use proofs.memory.BesideResponses.{beside-answer, beside-grant, beside-release_ack}
-use proofs.queues.{Shown.carried-shown, Channels.IsTaken, Channels.pushes_at, Showing.carries, Codes.grants-so}
-use proofs.queues.{Codes.access_kind}
+use proofs.queues.{Shown.carried-shown, Showing.carries, Codes.grants-so, Codes.access_kind}
+use proofs.queues.Channels.{IsTaken, pushes_at}
 use proofs.queues.Landed.{pushes_of, IsOn, HasHeard, landed-client, taken-landed, on_own_channel}
 use proofs.simulation.CarriedResponses.{answer_taken-shown, grant_taken-shown, release_ack_taken-shown}
 use proofs.protocol.HeadOfD.{IsAnswerDue, IsGrantDue, grant_message, ack_message}

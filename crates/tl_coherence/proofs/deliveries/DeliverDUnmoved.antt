@@ -9,16 +9,15 @@ use proofs.Imports.{IsCarried, ChannelRelation, MemoryRelation, AccessMessages, 
 use proofs.Imports.{receiver, is_moving, Log, system_after, Machine, moved, one_memory_after, performing}
 use proofs.Imports.{accesses_answered, Step, stepped, only, manager_took, is_to_client, stepped_at, judged, client_took}
 use proofs.Imports.{System, terms_at, with_client, with_manager}
-use Rattle.tl_client.proofs.messages.Calls.{refusal-offered}
+use Rattle.tl_client.{proofs.messages.Calls.refusal-offered}
 use Rattle.tl_client.specs.statement.Endpoint as client
 use Rattle.tl_client.specs.statement.Offer as offer
 use Rattle.tl_manager.specs.statement.End as manager_end
 use Rattle.tl_manager.specs.statement.Offer as manager_offer
 use Rattle.tl_coherence.specs.statement.Step as step
 use proofs.protocol.HeadOfD.{IsGrantDue, own_view}
-use proofs.queues.{Phases.and_left, Phases.and_right, Tokens.same_number, Showing.is_given, Showing.is_told}
-use proofs.queues.{Showing.carries, Showing.untold, Showing.uncarried, Showing.granted-untold, Perms.fits_cap}
-use proofs.queues.{Perms.whole_cap}
+use proofs.queues.{Phases.and_left, Phases.and_right, Tokens.same_number, Perms.fits_cap, Perms.whole_cap}
+use proofs.queues.Showing.{is_given, is_told, carries, untold, uncarried, granted-untold}
 use proofs.deliveries.DeliverDAfter.{IsBare, followed-still}
 
 -- ---- a Grant of a whole block

@@ -2,7 +2,7 @@
 use Rattle.std.proofs.Common.{◌≡◌, ℕ, Bool, true, false, List, ◌∷◌, Some, None, refl, sym, ◌∙◌, ap, subst, ◌==◌}
 use Rattle.std.proofs.Common.{if◌then◌else◌, map}
 use Rattle.tl_coherence.proofs
-use proofs.Imports.{Beat, BeatD, Link, Channel, IsWidth, Message, MessageD, beat_of, d_beat_of, unfinished, completes}
+use proofs.Imports.{Beat, Link, Channel, IsWidth, Message, MessageD, beat_of, d_beat_of, unfinished, completes}
 use proofs.Imports.{Config, Verdict, Deliver, Outcome, Kind, Answer, Grant, ReleaseAck, Packet, Block, packet, is_on}
 use proofs.Imports.{AbstractState, abstract_step, packet_taken, kind_taken, ChannelRelation, MemoryRelation}
 use proofs.Imports.{block_message, message_of, message_of_kind, SimulationRelation, is_caching, is_moving, Log}

@@ -5,7 +5,7 @@ use Rattle.tl_coherence.proofs
 use proofs.Imports.{or_parts, Beat, Channel, IsWidth, length-begun, Message, MessageA, a_beat_of, beats_of, begun}
 use proofs.Imports.{IsBlankAfter, unfinished, Config, is_last, on_link, broken_in_order, block_at, ends, same_block}
 use proofs.Imports.{End, must_wait, before_stall, reaction, services, is_in_service, Kind, Request, Acquire, Packet}
-use proofs.Imports.{Free, packet, is_on, on, AbstractState, kind_taken, IsCarried, ChannelRelation, MemoryRelation}
+use proofs.Imports.{Free, packet, on, AbstractState, kind_taken, IsCarried, ChannelRelation, MemoryRelation}
 use proofs.Imports.{message_of, SimulationRelation, Log, Machine, accesses_answered, performing, System}
 use Rattle.tl_manager.specs.statement.Offer.{offered}
 use Rattle.tl_manager.specs.statement.Offer as manager

@@ -2,18 +2,17 @@
 use Rattle.std.proofs.Common.{◌≡◌, subst, ℕ, suc, ◌+◌, Bool, true, false, List, ◌∷◌, Option, Some, None, refl, sym, ◌∙◌}
 use Rattle.std.proofs.Common.{ap, arith, eqb-true}
 use Rattle.tl_coherence.proofs
-use proofs.Imports.{Beat, Link, Channel, IsWidth, Message, MessageA, a_beat_of, beats_of, Config, EndConfig, must_wait}
-use proofs.Imports.{Event, Deliver, IsInvariant, Kind, ProbeAck, Release, GrantAck, Packet, State, packet, is_on}
-use proofs.Imports.{AbstractState, abstract_step, AccessMessages, SimulationRelation, is_caching, is_moving, Log, Step}
-use proofs.Imports.{stepped, manager_took, System, terms_at}
+use proofs.Imports.{Beat, Link, Channel, IsWidth, Message, MessageA, beats_of, Config, EndConfig, must_wait, Event}
+use proofs.Imports.{Deliver, IsInvariant, Kind, ProbeAck, Release, GrantAck, Packet, State, is_on, AbstractState}
+use proofs.Imports.{abstract_step, AccessMessages, SimulationRelation, is_caching, is_moving, Log, Step, stepped}
+use proofs.Imports.{manager_took, System, terms_at}
 use Rattle.tl_manager.specs.statement.End as manager_end
 use Rattle.tl_manager.specs.statement.Offer as manager
-use proofs.client.ClientDelivered.{shadow_of}
-use proofs.protocol.Events.{IsReady}
-use proofs.queues.Steps.{stepped-to-manager}
-use proofs.simulation.{FollowCases.IsDelivery, FollowCases.taken_of, FollowCases.followed-cases, FollowCases.on-first}
-use proofs.simulation.{InvariantAtClients.invariant-asked, InvariantAtClients.ready-client}
-use proofs.simulation.{InvariantAtClients.nobody_moves}
+use proofs.client.{ClientDelivered.shadow_of}
+use proofs.protocol.{Events.IsReady}
+use proofs.queues.{Steps.stepped-to-manager}
+use proofs.simulation.FollowCases.{IsDelivery, taken_of, followed-cases, on-first}
+use proofs.simulation.InvariantAtClients.{invariant-asked, ready-client, nobody_moves}
 use proofs.deliveries.FirstRequest.{IsArrival, arrival-first, coming-arrival, request-stalled}
 use proofs.manager.UnwaitedRequests.{next_tracker, invariant-taken}
 

@@ -14,7 +14,7 @@ use Rattle.tl_rules.specs.declared.answer.Answer as answers_of
 use Rattle.tl_manager.specs.code.Kept as manager
 use proofs.queues.{Channels.behind, Channels.IsTaken, Channels.pushes_at, Showing.carries, Showing.none-carried}
 use proofs.queues.{Tokens.set-same, Tokens.set-other, Tokens.set-part, Perms.nothing_below}
-use proofs.queues.Landed.{HasTaken, IsLanded, IsOn, landed-manager, channels-handed, pushes_of, taken-landed}
+use proofs.queues.Landed.{IsLanded, IsOn, landed-manager, channels-handed, pushes_of, taken-landed}
 use proofs.manager.{ManagerAfter.left, ManagerTakes.IsTakenUp, Admitted.head_all}
 use proofs.deliveries.{LastReportDelivered.pushed, ManagerFollowed.client-of, ManagerFollowed.step-taken}
 use proofs.simulation.Moved.{carried-part, manager-heard}
@@ -129,17 +129,15 @@ pub last-quietly : {w : ℕ} {config : Config} {log : Log w} {h : AbstractState 
     {x : Beat w} {queue : List (Beat w)} → IsReceived config log h sys c ch x queue
     → (reaction config (record { 0 = c }) x sys.manager).handed ≡ [] → completes x (unfinished ch (receiver ch c sys))
     ≡ true → IsTaken c ch x queue no_pushes sys (stepped config (Deliver (record { 0 = c }) ch) sys).after
-last-quietly {config} {log} {h} {sys} {c} {ch} {x} {queue} at none last =
-    taken-landed (landed-received [] no_pushes at none no-messages) last
+last-quietly at none last = taken-landed (landed-received [] no_pushes at none no-messages) last
 
 pub last-handing : {w : ℕ} {config : Config} {log : Log w} {h : AbstractState w} {sys : System w} {c : ℕ} (q : ℕ)
     {ch : Channel} {x : Beat w} {queue : List (Beat w)} (m : Message w) → IsReceived config log h sys c ch x queue
     → (reaction config (record { 0 = c }) x sys.manager).handed ≡ (record { 0 = q }, m) ∷ []
     → completes x (unfinished ch (receiver ch c sys)) ≡ true → IsTaken c ch x queue (pushes_at q (pushes_of (Some m)))
     sys (stepped config (Deliver (record { 0 = c }) ch) sys).after
-last-handing {config} {log} {h} {sys} {c} q {ch} {x} {queue} m at one last =
-    taken-landed (landed-received ((record { 0 = q }, m) ∷ []) (pushes_at q (pushes_of (Some m))) at one
-    (λ s d i. channels-handed q (Some m) s d i)) last
+last-handing q m at one last = taken-landed (landed-received ((record { 0 = q }, m) ∷ [])
+    (pushes_at q (pushes_of (Some m))) at one (λ s d i. channels-handed q (Some m) s d i)) last
 
 -- ---- which messages are of channel D
 

@@ -4,16 +4,15 @@ use Rattle.std.proofs.Common.{[], ◌≡◌, ℕ, ◌+◌, Bool, true, false, Li
 use Rattle.std.proofs.Common.{eqb-true, ◌==◌, if◌then◌else◌}
 use Rattle.tl_coherence.proofs
 use proofs.Imports.{Beat, BeatE, Channel, IsWidth, Message, MessageC, beats_of, begun, c_beat_of, unfinished, completes}
-use proofs.Imports.{Config, GrantSink, Prune, Report, Perm, prune_left, prune_code, on_link, same_perm, broken_in_order}
-use proofs.Imports.{pending, reaction-part, reaction-ack, whole-e, End, Reaction, Handed, release_ack, reaction, Kind}
-use proofs.Imports.{ProbeAck, Release, GrantAck, Packet, ReleaseAck, ProbeAnswered, ReleaseSent, GrantTaken, Block}
-use proofs.Imports.{release_taken, packet, let_block, grant_ack_taken, AbstractState, ack_taken, packet_taken}
-use proofs.Imports.{with_state, prune_told, block_message, report_told, SimulationRelation, is_caching, IsFor, Log}
-use proofs.Imports.{System}
+use proofs.Imports.{Config, Prune, Report, Perm, prune_left, prune_code, on_link, same_perm, broken_in_order}
+use proofs.Imports.{reaction-part, reaction-ack, whole-e, End, Handed, reaction, Kind, ProbeAck, Release, GrantAck}
+use proofs.Imports.{Packet, ProbeAnswered, GrantTaken, release_taken, packet, let_block, grant_ack_taken, AbstractState}
+use proofs.Imports.{ack_taken, packet_taken, with_state, prune_told, block_message, report_told, SimulationRelation}
+use proofs.Imports.{is_caching, IsFor, Log, System}
 use Rattle.tl_manager.specs.code.Kept as manager
 use proofs.queues.{FirstToken.first-token, Carried.IsNext, Tokens.set-same}
-use proofs.manager.{ManagersEnd.at_manager-matched, ManagedAcks.IsAcked, Admitted.head_all, Reporting.report-about}
-use proofs.manager.{Reporting.release-about}
+use proofs.manager.{ManagersEnd.at_manager-matched, ManagedAcks.IsAcked, Admitted.head_all}
+use proofs.manager.Reporting.{report-about, release-about}
 use proofs.manager.ManagerAfter.{IsManagerOf, left, IsEnd, report_part-left, released-left, acked-left}
 use proofs.manager.ManagerAfter.{reaction-released}
 use proofs.manager.ManagerTakes.{IsTakenUp, ack-order, by-first_c, by-first_e, release-order, report-order, takes}

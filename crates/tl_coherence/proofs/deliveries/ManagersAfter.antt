@@ -3,23 +3,22 @@ use Rattle.std.proofs.Common.{◌≡◌, ℕ, Bool, true, false, List, [], ◌�
 use Rattle.std.proofs.Common.{if◌then◌else◌, All}
 use Rattle.tl_coherence.proofs
 use proofs.Imports.{All-head, Beat, Link, Channel, OpB, IsWidth, Message, beat_of, unfinished, channel_of, completes}
-use proofs.Imports.{Config, Prune, Report, Perm, report_left, on_link, ends, release, probe_ack, reaction-part, Handed}
+use proofs.Imports.{Config, Prune, Report, Perm, report_left, on_link, release, probe_ack, reaction-part, Handed}
 use proofs.Imports.{reaction, Deliver, Outcome, Kind, Request, Acquire, ProbeAck, Release, Answer, GrantAck, Packet}
-use proofs.Imports.{AcquirePhase, NoAcquire, AcquireOpen, Block, SourceState, packet, packets_on, is_on, AbstractState}
+use proofs.Imports.{AcquirePhase, NoAcquire, AcquireOpen, Block, packet, packets_on, is_on, AbstractState}
 use proofs.Imports.{abstract_step, kind_taken, ChannelRelation, MemoryRelation, report_told, prune_told, block_message}
-use proofs.Imports.{message_of_kind, acquire_of, SimulationRelation, is_caching, IsRequest, IsSourced, receiver}
-use proofs.Imports.{is_moving, Log, system_after, Machine, one_memory_after, performing, accesses_answered, Step}
-use proofs.Imports.{stepped, handing, is_to_client, System, terms_at, channel_of_message, with_manager, with_channel}
-use proofs.Imports.{with_messages}
+use proofs.Imports.{message_of_kind, acquire_of, SimulationRelation, is_caching, IsRequest, receiver, is_moving, Log}
+use proofs.Imports.{system_after, Machine, one_memory_after, performing, accesses_answered, Step, stepped, handing}
+use proofs.Imports.{is_to_client, System, terms_at, channel_of_message, with_manager, with_channel, with_messages}
 use Rattle.tl_client.specs.statement.Endpoint as client
 use Rattle.tl_manager.specs.code.Kept as manager
 use Rattle.tl_manager.specs.statement.End as manager_end
 use Rattle.tl_manager.specs.statement.Offer as manager_offer
-use proofs.queues.{Channels.behind, Channels.IsTaken, FirstToken.IsFirst, FirstToken.first-token, Landed.IsOn}
-use proofs.queues.{Landed.HasTaken, Landed.landed-manager, Landed.taken-landed, Landed.on_own_channel}
-use proofs.deliveries.{DeliverDAfter.followed-moving, DeliverDWhole.remembered_after, DeliverDUnmoved.IsDelivered}
-use proofs.deliveries.{DeliverDUnmoved.delivered_as}
-use proofs.manager.UnwaitedRequests.{next_tracker}
+use proofs.queues.{Channels.behind, Channels.IsTaken, FirstToken.IsFirst, FirstToken.first-token}
+use proofs.queues.Landed.{IsOn, HasTaken, landed-manager, taken-landed, on_own_channel}
+use proofs.deliveries.{DeliverDAfter.followed-moving, DeliverDWhole.remembered_after}
+use proofs.deliveries.DeliverDUnmoved.{IsDelivered, delivered_as}
+use proofs.manager.{UnwaitedRequests.next_tracker}
 use proofs.simulation.{SourcedAfter.first-asked, Moved.manager-moves, Moved.manager-heard, Moved.carried-part}
 
 -- ---- the channel of a message, and of its beats

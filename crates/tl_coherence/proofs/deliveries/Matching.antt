@@ -1,28 +1,27 @@
 -- What is kept of the whole is kept by every event: so it holds after every log, beside the protocol as it follows.
-use Rattle.std.proofs.Common.{◌≡◌, ℕ, Bool, true, false, List, [], ◌∷◌, Option, Some, None, refl, sym, ◌∙◌, ap, subst}
+use Rattle.std.proofs.Common.{◌≡◌, ℕ, Bool, true, false, List, [], ◌∷◌, Option, Some, None, refl, sym, ap, subst}
 use Rattle.tl_coherence.proofs
 use proofs.Imports.{Beat, Link, Channel, IsWidth, Config, Op, EndConfig, Event, Ask, Deliver, Outcome, AbstractState}
 use proofs.Imports.{abstract_step, first_abstract_state, abstract_step_by, ChannelRelation, MemoryRelation}
 use proofs.Imports.{SimulationRelation, is_moving, IsTyped, Log, system_after, Machine, moved, one_memory_after}
 use proofs.Imports.{performing, accesses_answered, Step, stepped, only, client_of, System, terms_at}
-use Rattle.tl_coherence.specs.{statement.Headline.AreTyped, statement.Log.IsLog}
+use Rattle.tl_coherence.{specs.statement.Headline.AreTyped, specs.statement.Log.IsLog}
 use Rattle.tl_client.specs.statement.Ask as ask
 use proofs.manager.{BlockAccounts.managed-traced, Accounts.are_served-traced, UnwaitedRequests.next_tracker}
 use proofs.deliveries.{AcksAfter.delivered-e, AskedAfter.carried-ask, AskedAfter.beside-ask, AskedWell.asked-well}
 use proofs.deliveries.{DeliverDWhole.delivered-d, InvariantKept.invariant-followed, ManagerFollowed.client-of}
 use proofs.deliveries.{ManagerKept.IsAllowed, ManagerKept.manager-kept, ProbesAfter.delivered-b}
 use proofs.deliveries.{ReportsAfter.delivered-c, DeliverDUnmoved.IsDelivered, DeliverDUnmoved.delivered-unmoved}
-use proofs.deliveries.{RequestsDelivered.delivery-a, RequestsDelivered.carried-delivered_a}
-use proofs.deliveries.{RequestsDelivered.beside-delivered_a}
-use proofs.client.{Askable.askable, ClientAsked.IsEndOf, ClientStep.clients-kept, Waiting.AreAcquired}
-use proofs.client.{Waiting.asked-acquired, Waiting.kind_taken-acquired}
-use proofs.simulation.{Fresh.fresh-matched, SoundAfter.sound-after, SoundAfter.typed-after, Sized.AreStrange}
-use proofs.simulation.{Sized.strangers-asked, Sized.strangers-kind_taken, SizedAfter.AllSized, SizedAfter.sized-asked}
-use proofs.simulation.{SizedAfter.sized-kind_taken, SourcedAfter.AreSourced, SourcedAfter.sourced-asked}
-use proofs.simulation.{SourcedAfter.sourced-kind_taken}
-use proofs.queues.Steps.{stepped-asked, stepped-empty}
+use proofs.deliveries.RequestsDelivered.{delivery-a, carried-delivered_a, beside-delivered_a}
+use proofs.client.{Askable.askable, ClientAsked.IsEndOf, ClientStep.clients-kept}
+use proofs.client.Waiting.{AreAcquired, asked-acquired, kind_taken-acquired}
+use proofs.simulation.{Fresh.fresh-matched, SoundAfter.sound-after, SoundAfter.typed-after}
+use proofs.simulation.Sized.{AreStrange, strangers-asked, strangers-kind_taken}
+use proofs.simulation.SizedAfter.{AllSized, sized-asked, sized-kind_taken}
+use proofs.simulation.SourcedAfter.{AreSourced, sourced-asked, sourced-kind_taken}
 use proofs.simulation.FollowCases.{followed-cases, asked-cases, delivered-cases, answered-followed, given-followed}
 use proofs.simulation.FollowCases.{on-first}
+use proofs.queues.Steps.{stepped-asked, stepped-empty}
 
 -- ---- steps
 

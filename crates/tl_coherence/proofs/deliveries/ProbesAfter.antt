@@ -1,26 +1,24 @@
 -- A Probe that is delivered to a client: the channels and the one memory afterwards.
-use Rattle.std.proofs.Common.{◌≡◌, ℕ, ◌*◌, Bool, true, false, List, [], ◌∷◌, Some, None, refl, sym, ◌∙◌, ap, subst, map}
-use Rattle.std.proofs.Common.{Ok}
+use Rattle.std.proofs.Common.{◌≡◌, ℕ, ◌*◌, Bool, true, false, List, [], ◌∷◌, Some, None, refl, sym, ◌∙◌, ap, map, Ok}
 use Rattle.tl_coherence.proofs
 use proofs.Imports.{Beat, BeatB, Link, Channel, OpB, IsWidth, Message, unfinished, Config, Cap, Report, Perm}
 use proofs.Imports.{report_left, report_at, same_perm, block_at, same_block, Verdict, copy_at, held_at, report_for}
-use proofs.Imports.{probe_ack, Deliver, Outcome, Kind, Probe, ProbeAck, ClientBlock, ProbeSent, is_unreleased}
-use proofs.Imports.{after_probe, Block, packet, is_on, probed_block, probe_taken, AbstractState, abstract_step}
-use proofs.Imports.{kind_taken, ChannelRelation, MemoryRelation, block_message, message_of, message_of_kind, cap_sent}
-use proofs.Imports.{probe_beat, SimulationRelation, is_caching, is_moving, Log, system_after, Machine, moved}
-use proofs.Imports.{one_memory_after, performing, accesses_answered, Step, stepped, handing, handed_by, System}
+use proofs.Imports.{probe_ack, Deliver, Outcome, Kind, Probe, ProbeAck, ClientBlock, is_unreleased, after_probe, Block}
+use proofs.Imports.{packet, is_on, probed_block, probe_taken, AbstractState, kind_taken, block_message, message_of}
+use proofs.Imports.{message_of_kind, cap_sent, probe_beat, SimulationRelation, is_caching, is_moving, Log, system_after}
+use proofs.Imports.{moved, one_memory_after, performing, accesses_answered, Step, stepped, handing, handed_by, System}
 use proofs.Imports.{terms_at, with_client, with_channel}
 use Rattle.tl_client.specs.statement.Endpoint as client
 use Rattle.tl_client.specs.statement.Offer as offer
 use proofs.memory.BesideKinds.{beside_block, same_acquiring}
-use proofs.queues.{Carried.IsNext, Shown.carried-shown, Channels.IsTaken, Channels.pushes_at, FirstToken.IsFirst}
-use proofs.queues.{FirstToken.first-token, Tokens.set-same, Landed.pushes_of, Landed.IsOn, Landed.landed-client}
-use proofs.queues.{Landed.taken-landed, Landed.on_own_channel}
+use proofs.queues.{Carried.IsNext, Shown.carried-shown, Channels.IsTaken, Channels.pushes_at, Tokens.set-same}
+use proofs.queues.FirstToken.{IsFirst, first-token}
+use proofs.queues.Landed.{pushes_of, landed-client, taken-landed, on_own_channel}
 use proofs.simulation.{CarriedEvents.probe_taken-shown, Moved.IsTakenByClient, Moved.client-moves, Moved.client-heard}
-use proofs.client.{DeliverD.same_answers, ProbeDelivered.IsProbed, ProbeDelivered.probe-delivered}
-use proofs.client.{KnownProbed.report_is}
+use proofs.client.{DeliverD.same_answers, KnownProbed.report_is}
+use proofs.client.ProbeDelivered.{IsProbed, probe-delivered}
 use proofs.deliveries.{DeliverDAfter.followed-moving, DeliverDWhole.remembered_after, ManagersAfter.ack_channel}
-use proofs.deliveries.{DeliverDUnmoved.IsDelivered, DeliverDUnmoved.delivered_as}
+use proofs.deliveries.DeliverDUnmoved.{IsDelivered, delivered_as}
 use proofs.protocol.{BothParts.kept-is, FirstTokens.first-probe}
 use proofs.manager.UnwaitedRequests.{next_tracker, invariant-taken}
 

@@ -1,27 +1,26 @@
 -- A beat of channel C that is delivered to the manager: the channels and the one memory afterwards.
-use Rattle.std.proofs.Common.{◌≡◌, ℕ, Bool, true, false, List, [], ◌∷◌, None, refl, sym, ◌∙◌, ap, subst, inl, inr, not}
-use Rattle.std.proofs.Common.{◌&&◌, length, ◌==◌, if◌then◌else◌}
+use Rattle.std.proofs.Common.{◌≡◌, ℕ, Bool, true, false, List, [], ◌∷◌, refl, sym, ◌∙◌, ap, subst, inl, inr, not, ◌&&◌}
+use Rattle.std.proofs.Common.{length, ◌==◌, if◌then◌else◌}
 use Rattle.tl_coherence.proofs
 use proofs.Imports.{Beat, Link, Channel, IsWidth, Message, unfinished, completes, Config, Prune, Report, on_link}
 use proofs.Imports.{Handed, reaction, ProbeAck, Release, ReleaseAck, Grant, Packet, is_unprobed, after_release_taken}
-use proofs.Imports.{Service, Free, Waits, GrantSent, GrantTaken, Block, SourceState, packet, let_block, release_taken}
-use proofs.Imports.{report_taken, InService, AbstractState, ack_taken, answers, kind_taken, last_taken, some_below}
-use proofs.Imports.{packet_taken, with_state, MemoryRelation, IsAccess, IsOpened, prune_told, block_message}
-use proofs.Imports.{report_told, SimulationRelation, IsRequest, is_caching, IsServedWith, IsFor, Log, system_after}
-use proofs.Imports.{Machine, Requests, performing, accesses_answered, System}
+use proofs.Imports.{Service, Free, Waits, GrantSent, GrantTaken, Block, packet, let_block, release_taken, report_taken}
+use proofs.Imports.{AbstractState, ack_taken, answers, kind_taken, last_taken, some_below, packet_taken, with_state}
+use proofs.Imports.{MemoryRelation, prune_told, block_message, report_told, SimulationRelation, IsRequest, is_caching}
+use proofs.Imports.{IsServedWith, IsFor, Log, system_after, Machine, performing, accesses_answered, System}
 use Rattle.tl_coherence.specs.protocol.Protocol as protocol
 use proofs.memory.BesideKinds.{IsWaiting, accesses_by, beside-report, beside_block, last_accesses, same_acquiring}
 use proofs.memory.BesideRequests.{IsOnce, accesses-answer}
 use proofs.deliveries.{CarriedReports.carried-followed_c, DeliverDWhole.remembered_after, DeliverDUnmoved.IsDelivered}
-use proofs.deliveries.{ManagerDelivered.channel_c-delivered, ManagerDelivered.releases-delivered}
-use proofs.deliveries.{ManagerDelivered.reports-delivered, LastReportDelivered.pushed, LastReportDelivered.pushed_last}
-use proofs.deliveries.{ManagerFollowed.client-of, ManagerFollowed.followed-taken, ManagerFollowed.step-taken}
+use proofs.deliveries.ManagerDelivered.{channel_c-delivered, releases-delivered, reports-delivered}
+use proofs.deliveries.LastReportDelivered.{pushed, pushed_last}
+use proofs.deliveries.ManagerFollowed.{client-of, followed-taken, step-taken}
 use proofs.manager.{Choices.plain-past, ManagerAfter.others_probed, ManagerTakes.by-first_c}
 use proofs.manager.{UnwaitedRequests.next_tracker}
 use proofs.queues.{FirstToken.first-token, Tokens.set_at-same}
 use proofs.protocol.{RequestsKept.settled_all, FirstTokens.first-report}
-use proofs.simulation.SourcedAfter.{served-request}
-use proofs.rank.RankParts.{serving-use}
+use proofs.simulation.{SourcedAfter.served-request}
+use proofs.rank.{RankParts.serving-use}
 
 -- ---- which accesses are answered by what is handed out
 

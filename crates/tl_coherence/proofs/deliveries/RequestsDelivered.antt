@@ -5,16 +5,15 @@ use Rattle.std.proofs.Common.{inl, inr, arith, eqb-true, ◌==◌, if◌then◌e
 use Rattle.tl_coherence.proofs
 use proofs.Imports.{cases_eq, Beat, Channel, IsWidth, Message, MessageA, a_beat_of, beats_of, unfinished, completes}
 use proofs.Imports.{Config, not_last, on_link, EndConfig, reaction-part, End, Handed, Reaction, must_wait, reaction}
-use proofs.Imports.{Deliver, Outcome, Kind, Packet, packet, AbstractState, kind_taken, packet_taken, abstract_delivery}
-use proofs.Imports.{abstract_step, ChannelRelation, MemoryRelation, SimulationRelation, Log, Machine, accesses_answered}
-use proofs.Imports.{performing, Step, only, handing, manager_took, stepped, System, terms_at, with_manager}
-use proofs.Imports.{with_channel}
+use proofs.Imports.{Deliver, Outcome, AbstractState, kind_taken, packet_taken, abstract_delivery, abstract_step}
+use proofs.Imports.{ChannelRelation, MemoryRelation, SimulationRelation, Log, Machine, accesses_answered, performing}
+use proofs.Imports.{Step, only, handing, manager_took, stepped, System, terms_at, with_manager, with_channel}
 use Rattle.tl_coherence.specs.refinement.AbstractStep as follow
-use proofs.memory.BesideRequests.{IsOnce}
+use proofs.memory.{BesideRequests.IsOnce}
 use proofs.manager.{Arrivals.link_of, Arrivals.ends-coming, AtRequests.end_after, AtRequests.at_manager-more}
 use proofs.manager.{ManagersEnd.at_manager-matched, UnwaitedRequests.next_tracker, ManagerAfter.IsManagerOf}
 use proofs.queues.{Tokens.same_number, Steps.manager-with_messages, Steps.stepped-empty, Steps.stepped-to-manager}
-use proofs.deliveries.CarriedRequests.{carried-more}
+use proofs.deliveries.{CarriedRequests.carried-more}
 use proofs.deliveries.FirstRequest.{IsArrival, arrival-first, coming-arrival, request-taken, request-stalled}
 
 -- ---- what a delivery on channel A comes to

@@ -7,11 +7,10 @@ use proofs.Imports.{d_carries_data, Message, unfinished, Config, Level, Grow, Pr
 use proofs.Imports.{number_from, bytes_from, effect, request_of, release_of, probe_of, grant_sink, pending, held}
 use proofs.Imports.{illegal, beats_from, Op, Reply, Finish, with_handed, clients_from, Event, Ask, Deliver, Outcome}
 use proofs.Imports.{next_delivery, is_movable, first_movable, Step, stepped, System, with_messages, fresh}
-use Rattle.tl_beat.{specs.declared.beat.Beat.TheVariants.A, specs.declared.beat.Beat.TheVariants.D}
-use Rattle.tl_beat.{specs.declared.beat.Beat.TheVariants.E, specs.statement.Opcode.a_code}
-use Rattle.tl_beat.{specs.statement.Opcode.b_code, specs.statement.Opcode.c_code, specs.statement.Opcode.d_code}
-use Rattle.tl_rules.{specs.statement.Admission.bytes_carried, specs.statement.Legality.first_illegal}
-use Rattle.tl_rules.{specs.statement.Legality.each_below}
+use Rattle.tl_beat.specs.declared.beat.Beat.TheVariants.{A, D, E}
+use Rattle.tl_beat.specs.statement.Opcode.{a_code, b_code, c_code, d_code}
+use Rattle.tl_rules.{specs.statement.Admission.bytes_carried}
+use Rattle.tl_rules.specs.statement.Legality.{first_illegal, each_below}
 use Rattle.tl_manager.specs.statement.Request.{masks_carried, corrupt_carried, request_carried}
 use Rattle.tl_client.specs.statement.Ask as ask
 use Rattle.tl_client.specs.statement.Offer as offer

@@ -1,6 +1,6 @@
 -- What is delivered on a link, as a beat of channel A is: of an access, or of an Acquire.
 use Rattle.std.proofs.Common.{◌≡◌, subst, ℕ, Bool, true, false, ◌&&◌, List, ◌∷◌, Option, Some, None, refl, sym, ◌∙◌, ap}
-use Rattle.std.proofs.Common.{◌⊎◌, inl, inr, eqb-true, ◌==◌, if◌then◌else◌}
+use Rattle.std.proofs.Common.{inl, inr, eqb-true, ◌==◌, if◌then◌else◌}
 use Rattle.tl_coherence.proofs
 use proofs.Imports.{and-false, cases_eq, same_Some, Beat, BeatA, Channel, Message, a_beat_of, History, is_empty}
 use proofs.Imports.{completes, Config, Cap, comes_in_request, comes_in_grant, same_perm, same_block, Packet, set}
@@ -15,7 +15,7 @@ use proofs.protocol.{HeadOfD.IsGrantDue, BothParts.quiet_unanswered, Heads.acqui
 use proofs.protocol.{Heads.IsWanted}
 use proofs.flow.{FlowAccess.IsAccess, FlowAccess.flowed-access, FlowAcquired.flowed-acquire, FlowAlone.AreRests}
 use proofs.flow.{FlowApart.replied, FlowComing.coming-sink, FlowComing.coming-granting, FlowStep.held_by}
-use proofs.flow.{FlowSunk.sunk_in, FlowSunk.sunk-elsewhere, FlowSunk.IsWithin, FlowSunk.tracked-new}
+use proofs.flow.{FlowSunk.sunk_in, FlowSunk.sunk-elsewhere, FlowSunk.tracked-new}
 use proofs.simulation.Popped.{unfinished_at}
 use proofs.client.ClientEnd.{is_access, asks-access, asks-acquire}
 use proofs.flow.FlowBeats.{came-so, comes-so, first-zero, one-beat, set_at-if, same_perms, unused-else}

@@ -1,5 +1,5 @@
 -- What is half taken on channel A while a response is on its way.
-use Rattle.std.proofs.Common.{◌≡◌, subst, ℕ, zero, suc, Bool, true, false, List, [], ◌∷◌, refl, sym, ◌∙◌, ap, eqb-true}
+use Rattle.std.proofs.Common.{◌≡◌, ℕ, zero, suc, Bool, true, false, List, [], ◌∷◌, refl, sym, ◌∙◌, ap, eqb-true}
 use Rattle.std.proofs.Common.{◌==◌, map}
 use Rattle.tl_coherence.proofs
 use proofs.Imports.{Beat, Channel, Message, MessageA, begun, unfinished, Config, on_link, comes_in_request, acquisition}
@@ -64,8 +64,7 @@ pub not-coming_a : {w : ℕ} {config : Config} {log : Log w} {mail : AccessMessa
     {s : State (List ℕ)} {sys : System w} (c source : ℕ)
     → SimulationRelation config log mail request s sys → waits_on_a c (s.uses c source) s ≡ false
     → comes_in_request source (unfinished Channel.A (on_link c sys.manager.trace)) ≡ false
-not-coming_a {w} {config} {log} {mail} {request} {s} {sys} c source h none =
-    go (s.link c).a refl (h.carried c Channel.A)
+not-coming_a {w} {config} {mail} {s} {sys} c source h none = go (s.link c).a refl (h.carried c Channel.A)
   where
     rest_now : List (Beat w)
     rest_now = unfinished Channel.A (on_link c sys.manager.trace)

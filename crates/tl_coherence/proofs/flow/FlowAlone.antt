@@ -1,9 +1,9 @@
 -- What is delivered on a link, as a Probe or a GrantAck is: messages of one beat, which leave requests
 -- and Releases alone.
 use Rattle.std.proofs.Common.{◌≡◌, ℕ, Bool, true, false, not, ◌&&◌, ◌||◌, ◌∷◌, Option, Some, None, refl, sym, ◌∙◌, ap}
-use Rattle.std.proofs.Common.{List, ◌⊎◌, inl, inr, ne_eqb, eqb-true, ◌==◌, if◌then◌else◌, option_map}
+use Rattle.std.proofs.Common.{List, ◌⊎◌, inl, inr, ne_eqb, eqb-true, ◌==◌, if◌then◌else◌}
 use Rattle.tl_coherence.proofs
-use proofs.Imports.{cases_eq, Beat, BeatA, BeatE, Channel, History, grown, Cap, comes_in_grant, begins, ends, block_at}
+use proofs.Imports.{cases_eq, Beat, BeatA, BeatE, Channel, History, grown, Cap, comes_in_grant, begins, ends}
 use proofs.Imports.{release_of, probe_of, grant_sink, request_of-e, is_of, is_busy, AreNamed, Packet, View, Own}
 use proofs.Imports.{Acknowledging, Other, Service, Free, Waits, Block, State, view, grant_ack_taken, freed_block}
 use proofs.Imports.{is_granting, is_acknowledging, is_answered, is_wanting, is_unserved, comes_granting}

@@ -4,16 +4,15 @@ use Rattle.std.proofs.Common.{List, ne_eqb, eqb-true, ◌==◌, if◌then◌else
 use Rattle.tl_coherence.proofs
 use proofs.Imports.{Beat, BeatA, BeatC, BeatD, Channel, History, ReleaseSource, Perm, comes_in_grant, begins, ends}
 use proofs.Imports.{block_at, pending, is_grant, is_release_ack, asks_for, request_of, release_of, probe_of, grant_sink}
-use proofs.Imports.{capped, release_of-d, request_of-d, is_of, releases_with, NoRelease, ReleaseAcked, AcquirePhase}
-use proofs.Imports.{Service, Block, State, SourceState, SourceFree, view, is_acknowledging, is_answered, is_wanting}
-use proofs.Imports.{is_unserved, comes_granting, MonitorRelation, is_requested, is_release_pending, is_let_by, is_sunk}
-use proofs.Imports.{probe_beat, cap_waited}
-use Rattle.tl_rules.specs.statement.History.{releases}
+use proofs.Imports.{capped, release_of-d, request_of-d, is_of, releases_with, NoRelease, ReleaseAcked, Service, Block}
+use proofs.Imports.{State, SourceState, SourceFree, view, is_acknowledging, is_answered, is_unserved, comes_granting}
+use proofs.Imports.{MonitorRelation, is_requested, is_release_pending, is_let_by, is_sunk, probe_beat, cap_waited}
+use Rattle.tl_rules.{specs.statement.History.releases}
 use proofs.flow.{FlowAlone.AreRests, FlowAside.requested-blocks, FlowAside.let_by-same, FlowReport.unopened}
-use proofs.flow.{FlowReleased.AreElsewhere, FlowReleased.each-block, FlowReleased.part-block}
-use proofs.queues.Tokens.{same_number}
-use proofs.protocol.BothParts.{is_of-is}
+use proofs.flow.FlowReleased.{AreElsewhere, each-block, part-block}
 use proofs.flow.FlowStep.{flowed-next, held_by, acquired_by, let_of, granted_by, step, step_quiet}
+use proofs.queues.{Tokens.same_number}
+use proofs.protocol.{BothParts.is_of-is}
 
 pub probed-of : {w : ℕ} (n : ℕ) (y : BeatD w) (t : History w) → probe_of n (Beat.D y ∷ t) ≡ probe_of n t
 unfolding probe_of

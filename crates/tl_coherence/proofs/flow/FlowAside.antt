@@ -1,8 +1,8 @@
 -- What is delivered on a link, as an event leaves it alone: each value of it is as before.
-use Rattle.std.proofs.Common.{◌≡◌, ℕ, Bool, true, false, not, ◌&&◌, ◌||◌, Option, Some, None, refl, sym, ◌∙◌, ap}
+use Rattle.std.proofs.Common.{◌≡◌, ℕ, Bool, true, false, not, ◌||◌, Option, Some, None, refl, sym, ◌∙◌, ap}
 use Rattle.std.proofs.Common.{List, ◌⊎◌, inl, inr}
 use Rattle.tl_coherence.proofs
-use proofs.Imports.{Beat, BeatA, Channel, History, ReleasePhase, Block, State, SourceState, InService, Replied}
+use proofs.Imports.{Beat, BeatA, Channel, History, Block, State, SourceState, InService, Replied}
 use proofs.Imports.{Acquires, view, is_granting, is_acknowledging, is_answered, is_wanting, is_unserved, comes_granting}
 use proofs.Imports.{MonitorRelation, is_requested, is_release_pending, is_let_by, is_sunk, cap_waited}
 use proofs.flow.{FlowSame.flowed-untouched, FlowStep.held_by, FlowStep.granted_by}

@@ -3,7 +3,7 @@ use Rattle.std.proofs.Common.{◌≡◌, ℕ, Bool, true, false, not, ◌&&◌, 
 use Rattle.std.proofs.Common.{inl, inr, ◌==◌, if◌then◌else◌}
 use Rattle.tl_coherence.proofs
 use proofs.Imports.{cases_eq, Beat, BeatA, Channel, Grow, Prune, comes_in_request, comes_in_release, is_of, set_at}
-use proofs.Imports.{ClientBlock, NoAcquire, ReleasePhase, NoRelease, ReleaseSent, after_release, after_acquire, Block}
+use proofs.Imports.{ClientBlock, NoAcquire, NoRelease, ReleaseSent, after_release, after_acquire, Block}
 use proofs.Imports.{State, SourceState, SourceFree, Asked, Acquires, view, access_asked, acquire_asked, acquiring_block}
 use proofs.Imports.{release_asked, releasing_block, is_acknowledging, is_answered, is_granting, is_wanting, is_unserved}
 use proofs.Imports.{comes_granting, is_requested, is_release_pending, is_let_by, cap_waited}

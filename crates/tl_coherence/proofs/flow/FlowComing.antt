@@ -1,6 +1,6 @@
 -- What was delivered in part on a link: of which Grant, and of which Release.
 use Rattle.std.proofs.Common.{◌≡◌, ℕ, zero, suc, ◌*◌, Bool, true, false, ◌&&◌, List, [], ◌∷◌, Option, Some, None, refl}
-use Rattle.std.proofs.Common.{sym, ◌∙◌, ap, subst, eqb-true, ◌==◌, map}
+use Rattle.std.proofs.Common.{sym, ◌∙◌, ap, eqb-true, ◌==◌, map}
 use Rattle.tl_coherence.proofs
 use proofs.Imports.{Beat, BeatA, BeatC, BeatD, Channel, IsWidth, Message, MessageA, MessageC, MessageD, begun}
 use proofs.Imports.{unfinished, Config, on_link, comes_in_release, comes_in_grant, block_at, is_grant, is_release}
@@ -79,8 +79,7 @@ half-granted : {w : ℕ} {config : Config} {log : Log w} {mail : AccessMessages 
     {s : State (List ℕ)} {sys : System w} (c : ℕ) (x : BeatD w)
     (more : List (Beat w)) → SimulationRelation config log mail request s sys
     → unfinished Channel.D (sys.clients c).past ≡ Beat.D x ∷ more → is_grant x.opcode ≡ true → IsOfGrant c s x
-half-granted {w} {config} {log} {mail} {request} {s} {sys} c x more h is grants =
-    go (s.link c).d refl (h.carried c Channel.D)
+half-granted {w} {config} {mail} {s} {sys} c x more h is grants = go (s.link c).d refl (h.carried c Channel.D)
   where
     rest_now : List (Beat w)
     rest_now = unfinished Channel.D (sys.clients c).past
@@ -125,8 +124,7 @@ coming-sink {w} {config} {log} {mail} {request} {s} {sys} c i h = go (unfinished
 pub coming-granting : {w : ℕ} {config : Config} {log : Log w} {mail : AccessMessages w} {request : ℕ → MessageA w}
     {s : State (List ℕ)} {sys : System w} (c : ℕ) → SimulationRelation config log mail request s sys
     → IsComing (asked_by mail s c) (unfinished Channel.D (sys.clients c).past) c s
-coming-granting {w} {config} {log} {mail} {request} {s} {sys} c h n =
-    go (unfinished Channel.D (sys.clients c).past) refl
+coming-granting {w} {mail} {s} {sys} c h n = go (unfinished Channel.D (sys.clients c).past) refl
   where
     go : (beats : List (Beat w)) → unfinished Channel.D (sys.clients c).past ≡ beats
         → comes_granting n (asked_by mail s c) beats ≡ true → is_granting (view (s.block n).service c) ≡ true
@@ -147,8 +145,7 @@ pub coming-asked : {w : ℕ} {config : Config} {log : Log w} {mail : AccessMessa
     → SimulationRelation config log mail request s sys → ((i n : ℕ) → s.uses c i ≡ Acquires n → asked' i ≡ asked i)
     → comes_granting m asked' (unfinished Channel.D (sys.clients c).past) ≡ comes_granting m asked
     (unfinished Channel.D (sys.clients c).past)
-coming-asked {w} {config} {log} {mail} {request} {s} {sys} c m asked asked' h same =
-    go (unfinished Channel.D (sys.clients c).past) refl
+coming-asked {w} {s} {sys} c m asked asked' h same = go (unfinished Channel.D (sys.clients c).past) refl
   where
     go : (beats : List (Beat w)) → unfinished Channel.D (sys.clients c).past ≡ beats
         → comes_granting m asked' beats ≡ comes_granting m asked beats
@@ -212,8 +209,7 @@ half-released : {w : ℕ} {config : Config} {log : Log w} {mail : AccessMessages
     (more : List (Beat w)) → IsWidth w → SimulationRelation config log mail request s sys
     → unfinished Channel.C (on_link c sys.manager.trace) ≡ Beat.C x ∷ more → is_release x.opcode ≡ true → (n : ℕ)
     × (is_releasing ((s.block n).pair c).letting ≡ true) × (x.source ≡ (s.block n).release_source c)
-half-released {w} {config} {log} {mail} {request} {s} {sys} c x more width h is releases =
-    go (s.link c).c refl (h.carried c Channel.C)
+half-released {w} {config} {mail} {s} {sys} c x more width h is releases = go (s.link c).c refl (h.carried c Channel.C)
   where
     Here : Type 0
     Here = (n : ℕ) × (is_releasing ((s.block n).pair c).letting ≡ true) × (x.source ≡ (s.block n).release_source c)
@@ -244,8 +240,7 @@ half-released {w} {config} {log} {mail} {request} {s} {sys} c x more width h is 
 pub coming-free : {w : ℕ} {config : Config} {log : Log w} {mail : AccessMessages w} {request : ℕ → MessageA w}
     {s : State (List ℕ)} {sys : System w} (c source : ℕ) → IsWidth w → SimulationRelation config log mail request s sys
     → s.lets c source ≡ None → comes_in_release source (unfinished Channel.C (on_link c sys.manager.trace)) ≡ false
-coming-free {w} {config} {log} {mail} {request} {s} {sys} c source width h free =
-    go (unfinished Channel.C (on_link c sys.manager.trace)) refl
+coming-free {w} {s} {sys} c source width h free = go (unfinished Channel.C (on_link c sys.manager.trace)) refl
   where
     go : (beats : List (Beat w)) → unfinished Channel.C (on_link c sys.manager.trace) ≡ beats
         → comes_in_release source beats ≡ false

@@ -11,12 +11,11 @@ use proofs.Imports.{message_of, message_of_kind, block_message, prune_told, repo
 use proofs.Imports.{MonitorRelations, is_caching, cap_waited, flow, Log, System}
 use proofs.queues.{Carried.IsNext, FirstToken.IsFirst, FirstToken.first-token, Phases.and_left, Phases.and_right}
 use proofs.queues.{Tokens.same_number, Facts.answered_other, Facts.granting_alone, Facts.is_other, Facts.release_begins}
-use proofs.queues.{PhaseFacts.acknowledging_quiet, PhaseFacts.release_alone, PhaseFacts.report_first}
-use proofs.queues.{PhaseFacts.report_fits}
+use proofs.queues.PhaseFacts.{acknowledging_quiet, release_alone, report_first, report_fits}
 use proofs.client.{ClientTakes.sound-beat, ProbeDelivered.not_coming}
 use proofs.flow.FlowOrders.{beat-flows, probe-flows, report-flows, release-flows}
-use proofs.manager.{ManagerTakes.by-first_c, ManagerTakes.same_report-is, ManagerTakes.seen_cap}
-use proofs.manager.{ManagerTakes.unanswered, Reporting.report-about, Reporting.release-about}
+use proofs.manager.ManagerTakes.{by-first_c, same_report-is, seen_cap, unanswered}
+use proofs.manager.Reporting.{report-about, release-about}
 use proofs.protocol.{BothParts.is_of-is, FirstTokens.first-release, FirstTokens.first-report, FirstTokens.first-shown}
 
 -- the next beat of a message whose first breaks no rule of order
@@ -31,8 +30,7 @@ pub lawful-beat : {w : ℕ} {config : Config} {log : Log w} {mail : AccessMessag
     {s : State (List ℕ)} {sys : System w} (c : ℕ)
     (ch : Channel) (l : Level) (x : Beat w) (queue : List (Beat w)) → SimulationRelation config log mail request s sys
     → sys.channels c ch ≡ x ∷ queue → level_of config c ≡ Some l → illegal l (channel_of x) x ≡ None
-lawful-beat {w} {config} {log} {mail} {request} {s} {sys} c ch l x queue is beats level =
-    cc (level, (sound-beat c ch x queue is beats).lawful)
+lawful-beat c ch l x queue is beats level = cc (level, (sound-beat c ch x queue is beats).lawful)
 
 -- ---- channel C
 
@@ -147,8 +145,7 @@ probe-lawful : {w : ℕ} {config : Config} {log : Log w} {mail : AccessMessages 
     → is_acknowledging (view (s.block n).service c) ≡ false → IsNext x (unfinished Channel.B (sys.clients c).past)
     (block_message Probe c n (s.block n)) ms queue → broken_after l config.profile x (flow c log) ≡ None
 unfolding block_message
-probe-lawful {w} {config} {log} {mail} {request} {s} {sys} c n toks l {x} {ms} {queue} is flowed lawful tokens
-    unacknowledged next =
+probe-lawful {config} {log} {s} c n toks l is flowed lawful tokens unacknowledged next =
     let b : Block (List ℕ) = s.block n in
     let shows : is_sent (b.pair c).probing ≡ true = first-shown is.invariant c Probe refl tokens in
     next-flows l config.profile

@@ -1,15 +1,15 @@
 -- A message of channel A, B, C or E that is delivered breaks no rule of order after what was delivered before it.
-use Rattle.std.proofs.Common.{◌≡◌, ℕ, zero, suc, Bool, true, false, not, ◌&&◌, ◌||◌, [], Option, Some, None, refl, ◌∙◌}
+use Rattle.std.proofs.Common.{◌≡◌, ℕ, zero, suc, Bool, true, false, ◌&&◌, ◌||◌, [], Option, Some, None, refl, ◌∙◌}
 use Rattle.std.proofs.Common.{ap, List}
 use Rattle.tl_coherence.proofs
 use proofs.Imports.{and-false, Beat, BeatA, BeatB, BeatC, BeatE, Channel, first_if, Message, beat_of, begun, History}
-use proofs.Imports.{channel_of, unfinished, channel_in, Key, Level, Cap, Prune, Report, Profile, H1, H13, prune_code}
+use proofs.Imports.{channel_of, unfinished, channel_in, Key, Level, Cap, Prune, Report, Profile, prune_code}
 use proofs.Imports.{prune_left, report_code, prune_of, report_at, later-legal, broken_in_order, broken_after}
 use proofs.Imports.{comes_in_release, comes_in_grant, same_perm, broken_order, grows_from, prunes_from, block_at}
-use proofs.Imports.{is_acquire, is_probe_ack, is_release, held, pending, is_probe, illegal, View, Idle, ReleasePhase}
-use proofs.Imports.{NoRelease, ReleaseSent, ReleaseAcked, NoAcquire, ProbeAnswered, State, SourceState, Asked, Acquires}
-use proofs.Imports.{view, is_granting, is_acknowledging, is_answered, is_acked, is_wanting, is_unserved, comes_granting}
-use proofs.Imports.{MonitorRelation, is_requested, is_release_pending, is_let_by, probe_beat, cap_waited}
+use proofs.Imports.{is_acquire, is_probe_ack, is_release, held, pending, is_probe, illegal, Idle, ReleasePhase}
+use proofs.Imports.{NoRelease, ReleaseSent, ReleaseAcked, NoAcquire, ProbeAnswered, State, Asked, Acquires}
+use proofs.Imports.{view, is_granting, is_acknowledging, is_answered, is_acked, is_wanting, comes_granting}
+use proofs.Imports.{MonitorRelation, is_release_pending, is_let_by, probe_beat, cap_waited}
 use Rattle.tl_params.specs.declared.rule.Rule.TheVariants.{H9}
 use Rattle.tl_client.proofs.messages.InOrder.{prune_again}
 use proofs.manager.Orders.{report-legal, acquire-legal}
@@ -73,8 +73,7 @@ pub report-flows : {w : ℕ} {X : Type 0} (p : Profile) {c : ℕ} (n : ℕ) (k :
     ≡ ProbeAnswered r → cap_waited (s.block n).service ≡ k → is_acked ((s.block n).pair c).letting ≡ false
     → is_granting (view (s.block n).service c) ≡ false → r ≡ report_at k ((s.block n).pair c).recorded
     → broken_in_order p (Beat.C x) t ≡ None
-report-flows {w} p {c} n k r x {asked} {rest} {s} {t} flowed whole acks other block param answered waited unacked
-    ungranted told =
+report-flows p {c} n k r x {rest} {s} {t} flowed whole acks other block param answered waited unacked ungranted told =
     let answers : is_answered ((s.block n).pair c).probing ≡ true = ap is_answered answered in
     report-legal p n k r ((s.block n).pair c).recorded x t acks other block param (flowed.rest_is Channel.C ∙ whole)
     (flowed.probes n ∙ answers)

@@ -4,7 +4,7 @@ use Rattle.std.proofs.Common.{if◌then◌else◌}
 use Rattle.tl_coherence.proofs
 use proofs.Imports.{Beat, Channel, IsWidth, Message, MessageA, MessageC, MessageE, beat_of, History, completes, Config}
 use proofs.Imports.{Cap, cap_asked, Kind, Request, Acquire, Probe, ProbeAck, Release, Answer, Grant, ReleaseAck}
-use proofs.Imports.{GrantAck, Packet, is_whole, ClientBlock, AcquirePhase, AcquireOpen, is_granted_data, after_probe}
+use proofs.Imports.{GrantAck, Packet, is_whole, ClientBlock, AcquireOpen, is_granted_data, after_probe}
 use proofs.Imports.{after_release_ack, packets_on, is_probed, Block, State, packet, is_on, probed_block, probe_taken}
 use proofs.Imports.{let_go_block, release_ack_taken, release_taken, acquire_served, acquire_granted, AbstractState}
 use proofs.Imports.{kind_taken, with_state, some_below, is_unheld, gift, acquire_taken, MonitorRelation, cap_sent}

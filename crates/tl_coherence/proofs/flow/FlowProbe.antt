@@ -1,10 +1,10 @@
 -- What is delivered on a link, as a Probe is.
 use Rattle.std.proofs.Common.{◌≡◌, ℕ, ◌*◌, Bool, true, false, not, ◌&&◌, ◌∷◌, Option, Some, None, refl, sym, ◌∙◌, ap}
-use Rattle.std.proofs.Common.{List, ne_eqb, ◌==◌, if◌then◌else◌, option_map}
+use Rattle.std.proofs.Common.{List, ne_eqb, ◌==◌, if◌then◌else◌}
 use Rattle.tl_coherence.proofs
 use proofs.Imports.{Beat, BeatA, BeatB, Channel, History, Cap, begins, ends, block_at, release_of, probe_of, grant_sink}
-use proofs.Imports.{is_probe, Packet, set, View, Other, ClientBlock, after_probe, Block, State, view, probe_taken}
-use proofs.Imports.{probed_block, is_granting, is_answered, is_wanting, is_unserved, comes_granting, MonitorRelation}
+use proofs.Imports.{is_probe, Packet, set, Other, ClientBlock, after_probe, Block, State, view, probe_taken}
+use proofs.Imports.{probed_block, is_answered, is_wanting, is_unserved, comes_granting, MonitorRelation}
 use proofs.Imports.{is_requested, is_release_pending, is_let_by, is_sunk, probe_beat, cap_waited}
 use Rattle.tl_client.proofs.pending.Opens.{request_of-b}
 use proofs.flow.{FlowAlone.AreRests, FlowAside.requested-blocks, FlowAside.let_by-same}

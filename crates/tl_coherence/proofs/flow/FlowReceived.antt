@@ -1,5 +1,5 @@
 -- What the receivers have after a delivery.
-use Rattle.std.proofs.Common.{◌≡◌, subst, ℕ, Bool, true, false, ◌&&◌, List, [], ◌∷◌, Some, None, refl, sym, ◌∙◌, ap}
+use Rattle.std.proofs.Common.{◌≡◌, subst, ℕ, Bool, true, false, ◌&&◌, List, [], ◌∷◌, Some, None, refl, ◌∙◌, ap}
 use Rattle.std.proofs.Common.{◌==◌, if◌then◌else◌}
 use Rattle.tl_coherence.proofs
 use proofs.Imports.{Beat, Link, Channel, IsWidth, grown, completes, Config, EndConfig, Handed, reaction, Deliver}

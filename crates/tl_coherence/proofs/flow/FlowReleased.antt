@@ -5,8 +5,8 @@ use Rattle.tl_coherence.proofs
 use proofs.Imports.{cases_eq, and_right, Beat, BeatA, BeatC, Channel, History, ReleaseSource, Prune, Perm, prune_right}
 use proofs.Imports.{comes_in_release, begins, ends, block_at, pending, is_probe_ack, is_release, release_of, reported}
 use proofs.Imports.{grant_sink-c, probe_of-c, request_of-c, is_of, releases_with, ReleasePhase, ReleaseSent}
-use proofs.Imports.{ReleaseAcked, AcquirePhase, is_unreleased, Service, Block, State, view, is_acknowledging}
-use proofs.Imports.{is_answered, is_wanting, is_unserved, comes_granting, MonitorRelation, is_requested}
+use proofs.Imports.{ReleaseAcked, is_unreleased, Service, Block, State, view, is_acknowledging}
+use proofs.Imports.{is_answered, is_unserved, comes_granting, MonitorRelation, is_requested}
 use proofs.Imports.{is_release_pending, is_let_by, is_sunk, probe_beat, cap_waited}
 use proofs.flow.{FlowAlone.AreRests, FlowAside.requested-blocks, FlowReported.unsaid}
 use proofs.queues.Tokens.{same_number}

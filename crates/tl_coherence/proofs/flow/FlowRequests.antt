@@ -35,8 +35,7 @@ acquire-lawful : {w : ℕ} {config : Config} {log : Log w} {mail : AccessMessage
     → IsNext x (unfinished Channel.A (on_link c sys.manager.trace)) (Message.A (acquire_wanted c n s wanted)) ms queue
     → must_wait config (record { 0 = c }) x sys.manager.trace ≡ false → broken_after l config.profile x (flow c log)
     ≡ None
-acquire-lawful {w} {config} {log} {mail} {request} {s} {sys} {c} {n} l {x} {ms} {queue} is flowed lawful wanted next
-    moves =
+acquire-lawful {w} {config} {log} {s} {sys} {c} {n} l is flowed lawful wanted next moves =
     let p : ClientBlock = (s.block n).pair c in
     let well : ok p (view (s.block n).service c) ≡ true = (is.invariant.blocks n).phases c in
     let idle : view (s.block n).service c ≡ Idle = rw free refl in

@@ -1,26 +1,23 @@
 -- A response that is delivered breaks no rule of order after what was delivered on its link.
-use Rattle.std.proofs.Common.{◌≡◌, subst, ℕ, zero, suc, Bool, true, false, not, ◌&&◌, ◌||◌, List, [], ◌∷◌, Option, Some}
-use Rattle.std.proofs.Common.{None, refl, sym, ◌∙◌, ap, eqb-true, ◌==◌, map}
+use Rattle.std.proofs.Common.{◌≡◌, subst, ℕ, zero, suc, Bool, true, false, not, ◌&&◌, List, [], ◌∷◌, Some, None, refl}
+use Rattle.std.proofs.Common.{sym, ◌∙◌, ap, eqb-true, ◌==◌, map}
 use Rattle.tl_coherence.proofs
 use proofs.Imports.{and_from, same_Some, Beat, BeatA, Channel, OpB, OpC, IsWidth, Message, MessageA, MessageC, MessageD}
 use proofs.Imports.{a_beat_of, beat_of, begun, d_beat_of, unfinished, History, channel_of, Config, RequestSource}
 use proofs.Imports.{ReleaseSource, Level, Prune, Report, Perm, Profile, prune_code, report_code, report_left, on_link}
-use proofs.Imports.{comes_in_release, broken_in_order, same_perm, broken_after, is_release, held, pending, request_of}
-use proofs.Imports.{illegal, same_block, zeros, acquisition, about, release, probe_ack, no_ack_grant, grant_opcode}
-use proofs.Imports.{level_of, is_busy, IsInvariant, Kind, ProbeAck, Release, Answer, Grant, ReleaseAck, Packet, View}
-use proofs.Imports.{ReleasePhase, ReleaseSent, ReleaseAcked, AcquirePhase, AcquireOpen, is_unreleased, Service}
-use proofs.Imports.{GrantSent, State, SourceState, view, packet, is_on, is_answered, is_acked, is_granting}
-use proofs.Imports.{is_acknowledging, is_unserved, is_releasing, acquire_opcode, IsCarried, is_requested, is_sunk}
+use proofs.Imports.{comes_in_release, broken_in_order, broken_after, is_release, held, pending, request_of, illegal}
+use proofs.Imports.{same_block, zeros, acquisition, about, release, probe_ack, no_ack_grant, level_of, IsInvariant}
+use proofs.Imports.{Kind, ProbeAck, Release, Answer, Grant, ReleaseAck, Packet, ReleasePhase, ReleaseSent, ReleaseAcked}
+use proofs.Imports.{AcquirePhase, AcquireOpen, is_unreleased, Service, GrantSent, State, SourceState, view, packet}
+use proofs.Imports.{is_on, is_answered, is_acked, is_unserved, is_releasing, acquire_opcode, IsCarried, is_requested}
 use proofs.Imports.{is_release_pending, AccessMessages, report_told, prune_told, block_message, message_of}
 use proofs.Imports.{message_of_kind, SimulationRelation, MonitorRelations, is_caching, IsGivenAsked, gives_asked, flow}
 use proofs.Imports.{Log, System}
-use Rattle.tl_rules.specs.statement.Conformance as rules
 use proofs.queues.{Carried.IsNext, Facts.granting_alone, Phases.and_left, Tokens.same_number, Codes.access_kind}
-use proofs.queues.{FirstToken.IsFirst, FirstToken.first-token, FirstToken.own_kind}
+use proofs.queues.FirstToken.{IsFirst, first-token, own_kind}
 use proofs.client.{ClientDelivered.ack_next, ClientEnd.is_access, ClientEnd.asks-access, ClientEnd.asks-acquire}
-use proofs.client.{ClientTakes.answers_acquire, ClientTakes.fits_asked, ClientTakes.fitting, ClientTakes.has_data}
-use proofs.client.{ClientTakes.next-legal, ResponseOrder.answer-legal, ResponseOrder.grant-legal}
-use proofs.client.{ResponseOrder.ack-legal}
+use proofs.client.ClientTakes.{answers_acquire, fits_asked, fitting, has_data, next-legal}
+use proofs.client.ResponseOrder.{answer-legal, grant-legal, ack-legal}
 use proofs.flow.{FlowLawful.lawful-beat, ComingRequests.waits_on_a, ComingRequests.not-coming_a}
 use proofs.protocol.{BothParts.is_of-is, BothParts.quiet_unanswered, FirstTokens.first-shown}
 use proofs.protocol.HeadOfD.{IsAnswerDue, answer-due, IsGrantDue, grant-due, grant-rendered, ack-due, grant_message}

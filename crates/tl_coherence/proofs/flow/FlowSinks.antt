@@ -1,7 +1,7 @@
 -- A beat of channel E that is delivered breaks no rule after what was delivered before it: no Grant
 -- with its sink is still coming.
 use Rattle.std.proofs.Common.{◌≡◌, ℕ, zero, suc, Bool, true, false, ◌&&◌, List, [], ◌∷◌, Some, None, refl, sym, ◌∙◌, ap}
-use Rattle.std.proofs.Common.{subst, ne_eqb, ◌==◌, map}
+use Rattle.std.proofs.Common.{ne_eqb, ◌==◌, map}
 use Rattle.tl_coherence.proofs
 use proofs.Imports.{and_right, same_Some, Beat, BeatE, Channel, IsWidth, Message, MessageA, MessageD, begun, unfinished}
 use proofs.Imports.{channel_of, Config, Level, Cap, broken_after, comes_in_grant, on_link, is_grant, illegal}

@@ -3,7 +3,7 @@ use Rattle.std.proofs.Common.{◌≡◌, subst, ℕ, Bool, true, false, List, []
 use Rattle.std.proofs.Common.{inl, inr, ne_eqb, eqb-true, ◌==◌, if◌then◌else◌, map}
 use Rattle.tl_coherence.proofs
 use proofs.Imports.{cases_eq, Beat, Link, Channel, IsWidth, History, completes, Config, Level, Profile, broken_after}
-use proofs.Imports.{unfinished-asked, Op, EndConfig, level_of, Event, Ask, Deliver, Outcome, packet, on, AbstractState}
+use proofs.Imports.{unfinished-asked, Op, EndConfig, level_of, Event, Ask, Deliver, Outcome, AbstractState}
 use proofs.Imports.{kind_taken, abstract_step, abstract_step_by, asked, MonitorRelation, message_of, SimulationRelation}
 use proofs.Imports.{MonitorRelations, asked_by, is_moving, flow, IsGiven, Log, system_after, Step, stepped, replied}
 use proofs.Imports.{is_to_client, System, terms_at}

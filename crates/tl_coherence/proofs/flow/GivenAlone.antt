@@ -1,19 +1,18 @@
 -- What all links carry together: at a Grant the others hold no more than it leaves them.
 use Rattle.std.proofs.Common.{◌≡◌, ℕ, zero, suc, Bool, true, false, List, ◌∷◌, Some, refl, sym, ◌∙◌, ap, subst, inl}
-use Rattle.std.proofs.Common.{inr, ◌||◌, length, Option, ne_eqb, ◌==◌, if◌then◌else◌, eq-eqb}
+use Rattle.std.proofs.Common.{inr, ◌||◌, Option, ne_eqb, ◌==◌, if◌then◌else◌, eq-eqb}
 use Rattle.tl_coherence.proofs
-use proofs.Imports.{cases_eq, or_right, Beat, BeatD, Channel, History, channel_of, unfinished, Config, Cap, Perm}
-use proofs.Imports.{cap_right, on_link, same_perm, Trace, held, grants, capped, leaves, cap-gives, View, Granting}
-use proofs.Imports.{GrantedOther, is_unprobed, is_unreleased, Block, Service, GrantSent, view, is_granting}
-use proofs.Imports.{AbstractState, SimulationRelation, MonitorRelations, flow, trace_of, IsGiven, Log, system_after}
-use proofs.Imports.{perm_le}
+use proofs.Imports.{cases_eq, or_right, Beat, BeatD, Channel, History, channel_of, Config, Cap, Perm, cap_right}
+use proofs.Imports.{on_link, same_perm, Trace, held, grants, capped, leaves, cap-gives, View, Granting, GrantedOther}
+use proofs.Imports.{is_unprobed, is_unreleased, Block, Service, GrantSent, view, is_granting, AbstractState}
+use proofs.Imports.{SimulationRelation, flow, trace_of, IsGiven, Log, system_after, perm_le}
 use Rattle.tl_rules.specs.statement.Windows.{is_spared, is_free}
 use Rattle.tl_coherence.specs.statement.OneWriter.{IsGivenAlone, IsOneWriter, IsApart}
-use proofs.deliveries.Matching.{shadow}
+use proofs.deliveries.{Matching.shadow}
 use proofs.flow.{FlowBeats.same_perms, FlowStep.held_by, FlowTaken.each-taken, FlowTraces.trace-flows, Flows.flowed}
-use proofs.flow.{NextOnD.IsGrantBeat, NextOnD.grant-next}
-use proofs.links.FromInvariant.{matched-given}
-use proofs.protocol.HeadOfD.{IsGrantDue, own_view}
+use proofs.flow.{NextOnD.grant-next}
+use proofs.links.{FromInvariant.matched-given}
+use proofs.protocol.{HeadOfD.own_view}
 use proofs.queues.{Facts.granting_alone, Facts.held_at_most, Phases.and_right, Perms.none_below, Perms.trunk_below}
 
 -- ---- all links

@@ -1,15 +1,14 @@
 -- The beat that is next on channel D of a client's link: one of an answer, of a Grant, or of a ReleaseAck.
-use Rattle.std.proofs.Common.{◌≡◌, ℕ, true, false, not, List, ◌∷◌, refl, sym, ◌∙◌, ap, subst, length, eqb-true, ◌==◌}
-use Rattle.std.proofs.Common.{map}
+use Rattle.std.proofs.Common.{◌≡◌, ℕ, true, false, not, List, ◌∷◌, refl, sym, ◌∙◌, ap, length, eqb-true, ◌==◌, map}
 use Rattle.tl_coherence.proofs
-use proofs.Imports.{Beat, BeatD, Channel, IsWidth, length-begun, Message, MessageD, beat_of, begun, d_beat_of}
-use proofs.Imports.{unfinished, Config, is_grant, asks_for, request_of, grants, same_block, Kind, Answer, Grant}
-use proofs.Imports.{ReleaseAck, View, Block, State, SourceState, packet, is_on, is_unserved, AbstractState}
-use proofs.Imports.{is_requested, message_of, message_of_kind, block_message, SimulationRelation, MonitorRelations}
-use proofs.Imports.{is_caching, asked_by, receiver, flow, Log, system_after}
-use proofs.client.ClientEnd.{asks-acquire}
-use proofs.queues.{Carried.IsNext, Codes.access_kind, FirstToken.IsFirst, FirstToken.first-token, Phases.and_left}
-use proofs.queues.{Phases.and_right}
+use proofs.Imports.{Beat, BeatD, Channel, IsWidth, length-begun, Message, MessageD, begun, d_beat_of, unfinished}
+use proofs.Imports.{Config, is_grant, asks_for, request_of, grants, same_block, Kind, Answer, Grant, ReleaseAck, View}
+use proofs.Imports.{Block, State, SourceState, packet, is_on, is_unserved, AbstractState, is_requested, message_of}
+use proofs.Imports.{message_of_kind, block_message, SimulationRelation, MonitorRelations, is_caching, asked_by}
+use proofs.Imports.{receiver, flow, Log, system_after}
+use proofs.client.{ClientEnd.asks-acquire}
+use proofs.queues.{Carried.IsNext, Codes.access_kind, Phases.and_left, Phases.and_right}
+use proofs.queues.FirstToken.{IsFirst, first-token}
 use proofs.protocol.HeadOfD.{IsAnswerDue, IsGrantDue, ack_message, answer-due, grant-due, grant-rendered, grant_message}
 use proofs.protocol.HeadOfD.{own_view}
 

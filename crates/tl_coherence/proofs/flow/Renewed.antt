@@ -3,13 +3,13 @@
 use Rattle.std.proofs.Common.{◌≡◌, ℕ, true, false, not, ◌&&◌, List, ◌∷◌, ◌⊎◌, Option, Some, None, refl, sym, ◌∙◌, ap}
 use Rattle.std.proofs.Common.{inl, inr, length, ◌==◌}
 use Rattle.tl_coherence.proofs
-use proofs.Imports.{cases_eq, Message, MessageA, Config, Cap, Report, cap_right, answer_of, block_at, is_acquire}
+use proofs.Imports.{cases_eq, Message, MessageA, Config, Cap, Report, answer_of, block_at, is_acquire}
 use proofs.Imports.{leaves, needs, Op, Reply, access, access_answer, cap_probed, Kind, ProbeAck, Answer, Packet, set}
 use proofs.Imports.{set_at, Other, ProbeAnswered, is_unprobed, after_report, Block, Waits, GrantSent, State}
 use proofs.Imports.{SourceState, SourceFree, Asked, InService, Replied, Acquires, view, packet, on, written}
 use proofs.Imports.{performed_block, ended_block, AbstractState, asked, kind_taken, access_taken, last_taken}
 use proofs.Imports.{taken_by_client, some_below, probes_some, performs, answers, bytes_at, report_told}
-use proofs.Imports.{SimulationRelation, is_caching, IsFor, Log, perm_le, System}
+use proofs.Imports.{SimulationRelation, is_caching, IsFor, Log, System}
 use proofs.client.AnswersKept.{set_at-apart}
 use proofs.manager.Choices.{plain-past}
 use proofs.queues.{Codes.low_cap, Tokens.set-same, Tokens.set_at-same}

@@ -2,13 +2,11 @@
 use Rattle.std.proofs.Common.{◌≡◌, ℕ, Bool, true, false, List, ◌∷◌, refl, sym, ◌∙◌, ap, subst, length}
 use Rattle.tl_coherence.proofs
 use proofs.Imports.{Beat, BeatD, Channel, OpD, lanes_at, History, channel_of, unfinished, Config, IsBlock, grants}
-use proofs.Imports.{grant_opcode, AbstractState, SimulationRelation, flow, trace_of, IsGiven, Log, system_after}
-use proofs.Imports.{one_memory_after}
+use proofs.Imports.{grant_opcode, flow, trace_of, IsGiven, Log, system_after, one_memory_after}
 use Rattle.tl_coherence.specs.statement.TrueGrants.{IsTrueGrant, TrueGrants}
-use proofs.deliveries.Matching.{shadow}
-use proofs.flow.{FlowTaken.each-taken, FlowTraces.trace-flows, Flows.flowed, NextOnD.IsGrantBeat, NextOnD.grant-next}
-use proofs.links.FromInvariant.{matched-given}
-use proofs.protocol.HeadOfD.{IsGrantDue}
+use proofs.deliveries.{Matching.shadow}
+use proofs.flow.{FlowTaken.each-taken, FlowTraces.trace-flows, Flows.flowed, NextOnD.grant-next}
+use proofs.links.{FromInvariant.matched-given}
 
 with_data_only : (x : Bool) → grant_opcode x ≡ OpD.GrantData → x ≡ true
 with_data_only true e = refl

@@ -1,12 +1,12 @@
 -- Each beat of an AccessAckData has bytes that the one memory had in a window of its access.
 use Rattle.std.proofs.Common.{◌≡◌, ℕ, Bool, true, false, List, [], ◌∷◌, ◌⊎◌, Some, None, refl, sym, ◌∙◌, ap, subst, inl}
-use Rattle.std.proofs.Common.{inr, ◌%◌, ◌^◌, Option, length, is_some}
+use Rattle.std.proofs.Common.{inr, ◌%◌, ◌^◌, length, is_some}
 use Rattle.tl_coherence.proofs
 use proofs.Imports.{Beat, BeatA, BeatD, Channel, OpA, OpD, Message, MessageA, MessageD, a_beat_of, d_beat_of, lanes_at}
 use proofs.Imports.{channel_of, unfinished, Config, open_request, on_link, Memory, answer_of, as_payload, bytes_from}
-use proofs.Imports.{effect, block_at, request_of, is_free, needs, illegal_message_at, access_answer, grant_opcode}
-use proofs.Imports.{level_of, Replied, SourceState, AbstractState, answers, SimulationRelation, MonitorRelations}
-use proofs.Imports.{IsSourced, flow, trace_of, IsGiven, Log, system_after, one_memory_after, System}
+use proofs.Imports.{effect, block_at, request_of, is_free, needs, access_answer, grant_opcode}
+use proofs.Imports.{level_of, Replied, AbstractState, answers, SimulationRelation, MonitorRelations}
+use proofs.Imports.{flow, trace_of, IsGiven, Log, system_after, one_memory_after, System}
 use Rattle.tl_rules.specs.statement.Effect.{access_result}
 use Rattle.tl_coherence.specs.statement.TrueReads.{IsTrueRead, TrueReads, WasFound, lanes_found}
 use proofs.bound.Settling.{given-before}

@@ -1,8 +1,8 @@
 -- Each beat of data that are given back has bytes of the one memory.
-use Rattle.std.proofs.Common.{◌≡◌, ℕ, Bool, true, List, ◌∷◌, sym, ◌∙◌, ap, subst, length}
+use Rattle.std.proofs.Common.{◌≡◌, ℕ, Bool, true, List, ◌∷◌, sym, ◌∙◌, ap, length}
 use Rattle.tl_coherence.proofs
 use proofs.Imports.{Beat, BeatC, Channel, c_carries_data, length-begun, Message, MessageC, beat_of, begun, c_beat_of}
-use proofs.Imports.{lanes_at, History, channel_of, unfinished, Config, on_link, IsBlock, block_at, AbstractState}
+use proofs.Imports.{lanes_at, channel_of, unfinished, Config, on_link, IsBlock, block_at, AbstractState}
 use proofs.Imports.{SimulationRelation, is_caching, flow, trace_of, IsGiven, Log, system_after, one_memory_after}
 use Rattle.tl_coherence.specs.statement.TrueReturns.{IsTrueReturn, TrueReturns}
 use proofs.deliveries.Matching.{shadow}

@@ -12,16 +12,15 @@ use Rattle.tl_manager.specs.statement.End as manager_end
 use Rattle.tl_manager.specs.statement.Offer as manager
 use Rattle.tl_coherence.proofs.queues.FirstToken as packet
 use proofs.queues.{Carried.IsNext, FirstToken.first-token}
-use proofs.client.{ClientDelivered.shadow_of, ClientDelivered.delivered-d, ProbeDelivered.IsProbed}
-use proofs.client.{ProbeDelivered.delivered-b}
-use proofs.manager.{ManagerTakes.by-first_c, ManagerTakes.by-first_e, Reporting.report-about, Reporting.release-about}
-use proofs.manager.{UnwaitedRequests.next_tracker}
+use proofs.client.ClientDelivered.{shadow_of, delivered-d}
+use proofs.client.ProbeDelivered.{IsProbed, delivered-b}
+use proofs.manager.{Reporting.report-about, Reporting.release-about, UnwaitedRequests.next_tracker}
+use proofs.manager.ManagerTakes.{by-first_c, by-first_e}
 use proofs.memory.Runs.{IsTakenUp, IsTakenIn}
-use proofs.links.Stalling.{IsFirst}
+use proofs.links.{Stalling.IsFirst}
 use proofs.protocol.HeadOfD.{answer-due, grant-due, grant-rendered}
-use proofs.deliveries.{ManagerDelivered.channel_c-delivered, ManagerDelivered.channel_e-delivered}
-use proofs.deliveries.{FirstRequest.IsArrival, FirstRequest.arrival-first, FirstRequest.request-taken}
-use proofs.deliveries.{FirstRequest.request-stalled}
+use proofs.deliveries.ManagerDelivered.{channel_c-delivered, channel_e-delivered}
+use proofs.deliveries.FirstRequest.{IsArrival, arrival-first, request-taken, request-stalled}
 
 -- ---- the channel of the first beat
 

@@ -5,7 +5,7 @@ use Rattle.std.proofs.Common.{None, is_none, is_some, option_map}
 use Rattle.tl_coherence.proofs
 use proofs.Imports.{and-false, not-true, not-false, Beat, BeatB, Channel, MessageA, channel_of, is_empty, Config}
 use proofs.Imports.{ReleaseOf, Level, Prune, Rule, block_at, is_probe, pending, Op, EndConfig, offered, must_wait}
-use proofs.Imports.{Passes, offered_as, open_level, Deliver, is_of, releases_with, is_unreleased, State, IsLet}
+use proofs.Imports.{Passes, offered_as, open_level, Deliver, releases_with, is_unreleased, State, IsLet}
 use proofs.Imports.{AccessMessages, SimulationRelation, started, IsCoherent, IsExact, Moves, is_stall, is_moving, Log}
 use proofs.Imports.{system_after, Open, Releases, is_client, is_movable, moves, stalls, one_memory_after, stepped}
 use proofs.Imports.{delivered, stepped_at, System, terms_at}

@@ -5,7 +5,7 @@ use Rattle.std.proofs.Common.{eqb-true, ◌==◌, if◌then◌else◌}
 use Rattle.tl_coherence.proofs
 use proofs.Imports.{same_Some, Channel, MessageA, unfinished, Config, Cap, Trace, on_link, comes_in_request, probe_of}
 use proofs.Imports.{some_is, IsKept, is_any, IsProbed, End, cap_probed, services, service_of_block, IsInvariant}
-use proofs.Imports.{is_busy, IsOwnSource, is_serving, tracks_with, View, Own, Other, Granting, Acknowledging}
+use proofs.Imports.{is_busy, IsOwnSource, is_serving, View, Own, Other, Granting, Acknowledging}
 use proofs.Imports.{GrantedOther, is_unprobed, Service, Free, Waits, GrantSent, GrantTaken, State, SourceState}
 use proofs.Imports.{SourceFree, Asked, InService, Replied, Acquires, view, is_granting, is_acknowledging, is_wanting}
 use proofs.Imports.{ManagerRelation, is_own, client_in, service_with, probe_beat, ServedSourceRelation, IsFor}
@@ -29,8 +29,7 @@ asking-served : {w : ℕ} {X : Type 0} {caching : ℕ → Bool} (request : ℕ �
 asking-served request c source n tracker Free inv f for ungranted r client same here = absurd cc
 asking-served request c source n tracker (GrantSent q d k) inv f for ungranted r client same here = absurd cc
 asking-served request c source n tracker (GrantTaken q) inv f for ungranted r client same here = absurd cc
-asking-served {w} {X} request {s} c source n tracker (Waits q own src k) inv f for ungranted r client same here =
-    go own refl
+asking-served request {s} c source n tracker (Waits q own src k) inv f for ungranted r client same here = go own refl
   where
     q_is : q ≡ c
     q_is = same_Some q r client ∙ eqb-true r c same
@@ -191,8 +190,7 @@ busy-granted service e = refl
 sinks-traced : {w : ℕ} {X : Type 0} {caching : ℕ → Bool} {config : Config} {request : ℕ → MessageA w} {s : State X}
     {e : End w} → IsInvariant caching s → IsKept config e → IsTraced request s e.trace
     → (c sink : ℕ) → is_any (is_granted_with c sink e.trace) (services e.trace) ≡ is_granted c (s.tracked sink) s
-sinks-traced {w} {X} {caching} {config} {request} {s} {e} inv kept is c sink =
-    one_truth _ _ granted_with (with_granted (s.tracked sink) refl)
+sinks-traced {w} {request} {s} {e} inv kept is c sink = one_truth _ _ granted_with (with_granted (s.tracked sink) refl)
   where
     t : Trace w
     t = e.trace

@@ -10,7 +10,7 @@ use proofs.Imports.{release, judged-passes, tracker_among, IsSound, comes_of, on
 use proofs.Imports.{open_level, before_stall, offered_as, reaction, services, service_of_block, least_untaken}
 use proofs.Imports.{trackers_of, is_in_service, IsInvariant, is_busy, tracks_with, Kind, ProbeAck, Release, Packet}
 use proofs.Imports.{count, is, ClientBlock, View, Own, is_unprobed, ok, Idle, AcquireOpen, ReleasePhase, NoRelease}
-use proofs.Imports.{is_unreleased, grow_fits, Service, Free, Waits, GrantSent, GrantTaken, Asked, State, packet, is_on}
+use proofs.Imports.{is_unreleased, grow_fits, Service, Free, Waits, GrantSent, GrantTaken, Asked, State, packet}
 use proofs.Imports.{view, is_releasing, is_unserved, acquire_opcode, IsCarried, ManagerRelation, is_own, client_in}
 use proofs.Imports.{service_with, AccessMessages, block_message, message_of, report_told, prune_told}
 use proofs.Imports.{SimulationRelation, AreLanes, is_served, Log, System}
@@ -99,9 +99,8 @@ pub order-access : {w : ℕ} {config : Config} {log : Log w} {mail : AccessMessa
     → SimulationRelation config log mail request s sys → s.uses c source ≡ Asked → m.source ≡ source
     → is_acquire m.opcode ≡ false → unfinished Channel.A (on_link c sys.manager.trace) ≡ begun (Message.A m) k
     → broken_in_order config.profile (Beat.A (a_beat_of m k)) (on_link c sys.manager.trace) ≡ None
-order-access {w} {config} {log} {mail} {request} {s} {sys} c source m zero is used source_is access burst =
-    access-order config.profile (a_beat_of m 0) (on_link c sys.manager.trace) access burst
-    (rw source_is (source-free c source is (rw used refl) burst))
+order-access {config} {sys} c source m zero is used source_is access burst = access-order config.profile (a_beat_of m 0)
+    (on_link c sys.manager.trace) access burst (rw source_is (source-free c source is (rw used refl) burst))
 order-access {config} {sys} c source m (suc i) is used source_is access burst =
     later-legal config.profile (Message.A m) i (on_link c sys.manager.trace) burst
 

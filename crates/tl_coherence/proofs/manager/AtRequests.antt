@@ -3,19 +3,18 @@
 use Rattle.std.proofs.Common.{◌≡◌, subst, ℕ, suc, ◌+◌, ◌*◌, ◌<◌, Bool, false, List, Some, None, refl, sym, ◌∙◌, ap, ap₂}
 use Rattle.std.proofs.Common.{inl, inr, ne_eqb}
 use Rattle.tl_coherence.proofs
-use proofs.Imports.{cases_eq, Beat, Channel, A, MessageA, a_beat_of, beats_of, Config, Cap, not_last, on_link}
-use proofs.Imports.{bytes_from, effect, ends, block_at, memory-elsewhere, performed-access, performed-acquire}
-use proofs.Imports.{reaction-part, IsKept, illegal_message_at, End, Reaction, with_handed, probes, performed, nothing}
-use proofs.Imports.{is_nobody, probed, cap_probed, level_of, reaction, services, least_untaken, trackers_of, set, Waits}
-use proofs.Imports.{Block, State, granted_at_once, served_block, performed_block, performs, AccessMessages}
-use proofs.Imports.{IsServedWith}
+use proofs.Imports.{cases_eq, Beat, Channel, A, MessageA, a_beat_of, beats_of, Config, Cap, not_last, bytes_from}
+use proofs.Imports.{effect, block_at, memory-elsewhere, performed-access, performed-acquire, reaction-part, IsKept}
+use proofs.Imports.{illegal_message_at, End, Reaction, with_handed, probes, performed, is_nobody, probed, cap_probed}
+use proofs.Imports.{level_of, reaction, services, least_untaken, trackers_of, set, Waits, Block, State, granted_at_once}
+use proofs.Imports.{served_block, performed_block, performs, AccessMessages, IsServedWith}
 use Rattle.tl_manager.{proofs.calls.Events.reaction-probes, proofs.calls.Keeping.kept-offered}
-use Rattle.tl_manager.{specs.statement.Offer.taken, specs.statement.Offer.Reception}
+use Rattle.tl_manager.specs.statement.Offer.{taken, Reception}
 use proofs.manager.{Admitted.offered-taken, Choices.some-clients, Memories.block-same, Memories.performed-block}
-use proofs.manager.{Probing.IsProbing, Probing.traced-probing, Requests.IsUnwaited, Requests.traced-more}
-use proofs.manager.{Arrivals.link_of, Arrivals.with_beat, Arrivals.IsComing, Arrivals.ends-coming, Arrivals.service_for}
-use proofs.manager.{Arrivals.served-last, ManagersEnd.IsAtManager, Performing.IsAnswering, Performing.traced-answered}
-use proofs.manager.{Performing.IsGranting, Performing.traced-granted}
+use proofs.manager.{Probing.IsProbing, Probing.traced-probing, ManagersEnd.IsAtManager}
+use proofs.manager.Requests.{IsUnwaited, traced-more}
+use proofs.manager.Arrivals.{link_of, with_beat, IsComing, ends-coming, service_for, served-last}
+use proofs.manager.Performing.{IsAnswering, traced-answered, IsGranting, traced-granted}
 use proofs.queues.Tokens.{set-same, set-other, set-part}
 
 -- the manager's end after this beat

@@ -2,13 +2,12 @@
 -- request that waits has.
 use Rattle.std.proofs.Common.{◌≡◌, ℕ, zero, suc, ◌<◌, ◌≤◌, Bool, true, false, not, ◌||◌, List, [], ◌∷◌, length, refl}
 use Rattle.std.proofs.Common.{sym, ◌∙◌, ap, arith, lt-ltb, if◌then◌else◌}
-use Rattle.tl_coherence.proofs
-use proofs.Imports.{Config, Cap, is_one_of, is_nobody, IsInvariant, IsOwnSource, Own, Waits, State, Acquires, InService}
-use proofs.Imports.{view, some_below, is_caching}
 use Rattle.std.proofs.lemmas.Option.{slice_get_past}
-use Rattle.tl_manager.{proofs.words_of_clients.Clients.among-where, proofs.words_of_clients.Clients.nobody-is}
-use Rattle.tl_manager.{proofs.words_of_clients.Clients.nobody-where, proofs.words_of_clients.Clients.where-same}
+use Rattle.tl_coherence.proofs
+use proofs.Imports.{Config, Cap, is_one_of, is_nobody, IsInvariant, IsOwnSource, Waits, State, Acquires, InService}
+use proofs.Imports.{view, some_below, is_caching}
 use Rattle.tl_manager.{specs.statement.Holders.clients_where}
+use Rattle.tl_manager.proofs.words_of_clients.Clients.{among-where, nobody-is, nobody-where, where-same}
 use proofs.queues.{Facts.own_wants, Tokens.same_number}
 use proofs.protocol.{RequestsKept.some-none, BothParts.acquires_of-is, BothParts.serves_of-is, BothParts.not-calm}
 

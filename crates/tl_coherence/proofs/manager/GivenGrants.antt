@@ -1,5 +1,5 @@
 -- A Grant of a block to a client whose request asks for it: what is pending on the link after it.
-use Rattle.std.proofs.Common.{◌≡◌, ℕ, Bool, true, false, ◌&&◌, [], Some, None, refl, sym, ap, inl, inr, subst, eqb-true}
+use Rattle.std.proofs.Common.{◌≡◌, ℕ, Bool, true, false, ◌&&◌, [], Some, None, refl, sym, ap, inl, inr, eqb-true}
 use Rattle.std.proofs.Common.{ne_eqb, ◌==◌, if◌then◌else◌, unwrap_or}
 use Rattle.tl_coherence.proofs
 use proofs.Imports.{cases_eq, Channel, IsWidth, beats-positive, D, MessageD, unfinished, held-sent_d, Trace, on_link}

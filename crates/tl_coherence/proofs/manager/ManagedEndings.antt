@@ -2,7 +2,7 @@
 use Rattle.std.proofs.Common.{◌≡◌, ℕ, Bool, true, false, List, ◌∷◌, Some, refl, sym, ◌∙◌, ap, inl, inr, ne_eqb}
 use Rattle.tl_coherence.proofs
 use proofs.Imports.{cases_eq, Beat, BeatC, D, MessageA, MessageD, a_beat_of, Key, Cap, Report, report_right, Trace}
-use proofs.Imports.{on_link, is_acquire, is_grant, is_probe_ack, request_of, after_sent, IsReply, reply-quiet}
+use proofs.Imports.{on_link, is_acquire, is_probe_ack, request_of, after_sent, IsReply, reply-quiet}
 use proofs.Imports.{request-reply, services, service_of_block, is_access_answer, AreNamed, is_busy, Packet, set, Waits}
 use proofs.Imports.{Block, State, report_answers, ended_block, IsFor}
 use Rattle.tl_manager.{proofs.pending.Accesses.answer_kind, proofs.pending.Accesses.services-answer}

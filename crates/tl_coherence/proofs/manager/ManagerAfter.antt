@@ -12,16 +12,15 @@ use proofs.Imports.{reaction-ack, memory_with, whole-taken, IsKept, End, Reactio
 use proofs.Imports.{is_settled, reaction, Packet, ClientBlock, is_unprobed, Block, State, reported_block, let_block}
 use proofs.Imports.{report_taken, release_taken, grant_ack_taken, freed_block, AbstractState, some_below, with_state}
 use proofs.Imports.{IsServedWith}
-use Rattle.tl_rules.proofs.Payload.{payload-c}
-use Rattle.tl_manager.{proofs.calls.Events.reaction-release, proofs.calls.Events.reaction-report}
+use Rattle.tl_rules.{proofs.Payload.payload-c}
 use Rattle.tl_manager.{proofs.calls.Keeping.kept-offered, specs.statement.Holders.is_missing}
-use Rattle.tl_manager.{specs.statement.Offer.offered, specs.statement.Offer.taken}
-use proofs.manager.{BlockAccounts.IsTraced, ManagedAcks.traced-acked, ManagedAcks.IsAcked}
-use proofs.manager.{ManagedReports.traced-report_part, ManagedReports.traced-reported, ManagedReports.traced-released}
-use proofs.manager.{ManagedReports.IsReleased, ManagersEnd.IsAtManager, Choices.nobody-same, ManagerTakes.IsTakenUp}
-use proofs.manager.{Reporting.IsAbout, Reporting.reported-prune, ManagerMemory.block_in, ManagerMemory.other-blocks}
-use proofs.manager.{ManagerMemory.blocks-now, ManagerMemory.block-taken, QuiescentManager.IsLastOf}
-use proofs.manager.{QuiescentManager.missing-last}
+use Rattle.tl_manager.proofs.calls.Events.{reaction-release, reaction-report}
+use Rattle.tl_manager.specs.statement.Offer.{offered, taken}
+use proofs.manager.{BlockAccounts.IsTraced, ManagedAcks.traced-acked, ManagedAcks.IsAcked, ManagersEnd.IsAtManager}
+use proofs.manager.{Choices.nobody-same, ManagerTakes.IsTakenUp, Reporting.IsAbout, Reporting.reported-prune}
+use proofs.manager.ManagedReports.{traced-report_part, traced-reported, traced-released, IsReleased}
+use proofs.manager.ManagerMemory.{block_in, other-blocks, blocks-now, block-taken}
+use proofs.manager.QuiescentManager.{IsLastOf, missing-last}
 use proofs.queues.Tokens.{set-each, same_number, set-part}
 
 -- what is kept of the manager's end beside the protocol as it follows

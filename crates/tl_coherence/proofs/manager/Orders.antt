@@ -1,11 +1,10 @@
 -- A message that the values of a history allow breaks no rule of order after it: for the manager's end and for what
 -- is delivered alike.
-use Rattle.std.proofs.Common.{◌≡◌, ℕ, Bool, true, false, not, ◌&&◌, ◌||◌, [], Option, Some, None, refl}
+use Rattle.std.proofs.Common.{◌≡◌, ℕ, Bool, true, false, not, ◌&&◌, ◌||◌, [], Some, None, refl}
 use Rattle.tl_coherence.proofs
-use proofs.Imports.{and-false, Beat, BeatA, BeatB, BeatC, Channel, first_if, c_carries_data, History, unfinished, Key}
+use proofs.Imports.{and-false, Beat, BeatA, BeatC, Channel, first_if, c_carries_data, History, unfinished, Key}
 use proofs.Imports.{Cap, Report, Perm, Profile, H1, H4, H5, report_code, report_at, broken_order, broken_in_order}
 use proofs.Imports.{grows_from, block_at, is_acquire, is_probe_ack, is_release, held, pending, probe_of, probe_beat}
-use Rattle.tl_params.specs.declared.rule.Rule.TheVariants.{H10, H11, H12}
 use Rattle.tl_rules.specs.statement.Conformance.{answers_wrong_probe, misreports}
 use proofs.queues.{Tokens.same_number, Codes.cap-again}
 

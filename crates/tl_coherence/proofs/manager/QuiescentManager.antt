@@ -1,12 +1,12 @@
 -- Beats and answers after which the manager's end says the same of all but what is recorded and which
 -- ProbeAcks are missing.
 use Rattle.std.proofs.Common.{◌≡◌, ℕ, Bool, true, false, not, ◌&&◌, ◌||◌, [], ◌∷◌, Some, None, refl, sym, ◌∙◌, ap}
-use Rattle.std.proofs.Common.{subst, inl, inr, eqb-true, ne_eqb, ◌==◌, if◌then◌else◌, unwrap_or}
+use Rattle.std.proofs.Common.{inl, inr, eqb-true, ne_eqb, ◌==◌, if◌then◌else◌, unwrap_or}
 use Rattle.tl_coherence.proofs
 use proofs.Imports.{cases_eq, Beat, BeatC, Link, Channel, IsWidth, beats-positive, D, MessageA, MessageD, unfinished}
 use proofs.Imports.{Key, Perm, held-sent_d, Trace, on_link, ends, block_at, is_grant, is_probe_ack, is_release}
 use proofs.Imports.{is_release_ack, pending, reported, request_of, held, after_sent, own_link, other_link, own_beat}
-use proofs.Imports.{other_beat, beat-keeps, request_of-c, request-reply, recorded, services, service_of_block, set}
+use proofs.Imports.{other_beat, beat-keeps, request_of-c, request-reply, recorded, services, set}
 use proofs.Imports.{ClientBlock, is_unprobed, Block, State}
 use Rattle.tl_manager.{proofs.pending.Accesses.services-release_ack, proofs.pending.Handed.recorded-taken}
 use Rattle.tl_manager.{proofs.pending.LinkHistories.pending-closed, proofs.pending.Probing.services-c}
@@ -169,8 +169,7 @@ pair-part {X} {A} part c n p new block is d i =
 pub pair-still : {X A : Type 0} (part : ClientBlock → A) (c n : ℕ) (p : ClientBlock) (new : Block X) (block : ℕ
     → Block X) → ((d : ℕ) → new.pair d ≡ set c p (block n).pair d) → part p ≡ part ((block n).pair c) → (d i : ℕ)
     → part ((set n new block i).pair d) ≡ part ((block i).pair d)
-pair-still {X} {A} part c n p new block is same d i = pair-part part c n p new block is d i ∙ go (c == d) (n == i) refl
-    refl
+pair-still part c n p new block is same d i = pair-part part c n p new block is d i ∙ go (c == d) (n == i) refl refl
   where
     go : (a b : Bool) → (c == d) ≡ a → (n == i) ≡ b → (if a && b then part p else part ((block i).pair d)) ≡ part
         ((block i).pair d)

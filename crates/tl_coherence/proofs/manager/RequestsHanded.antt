@@ -3,14 +3,13 @@ use Rattle.std.proofs.Common.{◌≡◌, ℕ, suc, ◌*◌, Bool, true, false, n
 use Rattle.std.proofs.Common.{inl, inr, length, if◌then◌else◌}
 use Rattle.tl_coherence.proofs
 use proofs.Imports.{and-false, cases_eq, Beat, Message, MessageA, a_beat_of, beats_of, Config, Cap, Perm, cap_right}
-use proofs.Imports.{Trace, same_perm, Memory, bytes_from, answer_of, block_at, same_block, performed-access}
-use proofs.Imports.{performed-acquire, End, Reaction, access_answer, cap_granted, recorded, cap_probed, level_of}
+use proofs.Imports.{Trace, same_perm, Memory, bytes_from, block_at, same_block, performed-access}
+use proofs.Imports.{performed-acquire, End, Reaction, cap_granted, recorded, cap_probed, level_of}
 use proofs.Imports.{reaction, IsWell, is_out, Grant, ClientBlock, after_grant_sent, is_granted_data, GrantSent, Block}
 use proofs.Imports.{State, view, granted_at_once, is_granting, answers, gift, is_unheld, probes_some, AccessMessages}
 use proofs.Imports.{block_message, grant_of, SimulationRelation, Log, System}
 use Rattle.std.proofs.lemmas.Bool.{false_from_ne_true}
 use Rattle.tl_manager.specs.statement.Handing.{grant_with, grant_payload}
-use Rattle.tl_rules.specs.statement.Effect as memory
 use Rattle.tl_manager.specs.statement.Handing as handing
 use Rattle.tl_manager.specs.statement.Holders as holders
 use Rattle.tl_manager.specs.statement.Service as manager

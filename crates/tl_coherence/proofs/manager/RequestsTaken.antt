@@ -3,20 +3,19 @@ use Rattle.std.proofs.Common.{◌≡◌, subst, ℕ, suc, Bool, true, false, not
 use Rattle.std.proofs.Common.{◌∙◌, ap, if◌then◌else◌}
 use Rattle.tl_coherence.proofs
 use proofs.Imports.{Beat, Message, MessageA, a_beat_of, beats_of, Config, Cap, Grow, block_at, is_acquire, same_block}
-use proofs.Imports.{acquisition, End, performed, cap_granted, is_nobody, probed, cap_probed, must_wait, reaction}
-use proofs.Imports.{cap_asked, Request, Acquire, Packet, set, AcquirePhase, AcquireOpen, is_granted_data, Service, Free}
-use proofs.Imports.{Waits, GrantSent, GrantTaken, Block, State, Asked, InService, Acquires, is_probed, acquire_served}
-use proofs.Imports.{acquire_granted, AbstractState, some_below, acquire_opcode, is_unheld, gift, kind_taken}
-use proofs.Imports.{probes_some, access_taken, request_taken, acquire_taken, AccessMessages, SimulationRelation}
-use proofs.Imports.{IsServedWith, Log, System}
-use proofs.manager.{Arrivals.link_of, Arrivals.with_beat, Arrivals.IsComing, Arrivals.service_for, Choices.waits-used}
-use proofs.manager.{Performing.IsAnswering, Requests.IsUnwaited, ManagerAfter.IsManagerOf, ManagersEnd.IsAtManager}
-use proofs.manager.{ManagersEnd.at_manager-matched}
+use proofs.Imports.{acquisition, End, cap_granted, cap_probed, must_wait, cap_asked, Request, Acquire, Packet, set}
+use proofs.Imports.{AcquireOpen, is_granted_data, Service, Free, Waits, GrantSent, GrantTaken, Block, State, Asked}
+use proofs.Imports.{InService, Acquires, is_probed, acquire_served, acquire_granted, AbstractState, some_below}
+use proofs.Imports.{acquire_opcode, is_unheld, gift, kind_taken, probes_some, access_taken, AccessMessages}
+use proofs.Imports.{SimulationRelation, IsServedWith, Log, System}
+use proofs.manager.{Choices.waits-used, Performing.IsAnswering, Requests.IsUnwaited, ManagerAfter.IsManagerOf}
+use proofs.manager.Arrivals.{link_of, IsComing}
+use proofs.manager.ManagersEnd.{IsAtManager, at_manager-matched}
 use proofs.manager.AtRequests.{end_after, at_manager-probing, at_manager-answered, at_manager-granted}
-use proofs.protocol.{Events.IsReady, Heads.IsAsked, Heads.IsWanted}
-use proofs.queues.Codes.{acquires-so}
 use proofs.manager.UnwaitedRequests.{next_tracker, free-last, untracked-next, probed-some, unheld-same, quiet-free}
 use proofs.manager.UnwaitedRequests.{beyond-none, reaction-performed, somebody-probed}
+use proofs.protocol.{Events.IsReady, Heads.IsAsked, Heads.IsWanted}
+use proofs.queues.{Codes.acquires-so}
 
 -- ---- an access
 
@@ -133,8 +132,7 @@ at_manager-request_taken {w} {config} {log} h {sys} {c} {source} {k} rest is ask
 unwaited-acquires : {w : ℕ} {config : Config} {log : Log w} {mail : AccessMessages w} {request : ℕ → MessageA w}
     {s : State (List ℕ)} {sys : System w} (c source n : ℕ) → SimulationRelation config log mail request s sys
     → s.uses c source ≡ Acquires n → (s.block n).service ≡ Free → IsUnwaited c source s
-unwaited-acquires {w} {config} {s} c source n is used free i src own j e same =
-    go own e (waits-used i c src own j is.invariant e)
+unwaited-acquires {s} c source n is used free i src own j e same = go own e (waits-used i c src own j is.invariant e)
   where
     here : s.uses c src ≡ Acquires n
     here = ap (s.uses c) (sym same) ∙ used

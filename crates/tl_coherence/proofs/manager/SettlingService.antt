@@ -1,5 +1,5 @@
 -- The service that the last report of a block settles.
-use Rattle.std.proofs.Common.{◌≡◌, ℕ, Bool, true, false, not, Some, length, refl, ◌∙◌, ap, if◌then◌else◌}
+use Rattle.std.proofs.Common.{◌≡◌, ℕ, Bool, true, false, not, Some, length, refl, ◌∙◌, ap}
 use Rattle.tl_coherence.proofs
 use proofs.Imports.{Beat, Channel, MessageC, MessageD, c_beat_of, Config, Cap, Report, Perm, report_code, report_left}
 use proofs.Imports.{report_right, Trace, same_perm, is_release_ack, reported-report, memory_with, is_taken, passed}
@@ -58,9 +58,8 @@ pub settling-reaction : {w : ℕ} {config : Config} {c q n source k : ℕ} {own 
     {m : MessageC w} {h : AbstractState w} {e : End w} → IsSettling config c q n source k own low r m h e
     → reaction config (record { 0 = c }) (Beat.C (c_beat_of m k)) e ≡ performed config
     (service_for q n h.request h.state) (trace_with c k m e) (memory_with (record { 0 = c }) (c_beat_of m k) e)
-settling-reaction {w} {config} {c} {q} {n} {source} {k} {own} {low} {r} {m} {h} {e} at =
-    cc (reaction-settled config (record { 0 = c }) (c_beat_of m k) (service_for q n h.request h.state) e
-    (ends-it at.end) at.end.about.releases at.end.about.reports
+settling-reaction {config} {c} {q} {n} {k} {m} {h} {e} at = cc (reaction-settled config (record { 0 = c })
+    (c_beat_of m k) (service_for q n h.request h.state) e (ends-it at.end) at.end.about.releases at.end.about.reports
     (ap (λ (i : ℕ). is_settled config i (trace_with c k m e)) at.end.about.block ∙ settling-all at)
     (ap (λ (i : ℕ). service_of_block i (services (trace_with c k m e))) at.end.about.block ∙ settling-found at))
 

@@ -2,7 +2,7 @@
 use Rattle.std.proofs.Common.{◌≡◌, ℕ, Bool, not, Option, Some, sym, ◌∙◌, ap, ap₂, inl, inr}
 use Rattle.tl_coherence.proofs
 use proofs.Imports.{cases_eq, MessageA, a_beat_of, ProbeOf, Cap, Trace, on_link, pending, request_of, recorded}
-use proofs.Imports.{services, service_of_block, is_unprobed, ok, Service, Free, Waits, GrantSent, GrantTaken, Block}
+use proofs.Imports.{services, service_of_block, is_unprobed, ok, Service, Free, Waits, GrantSent, GrantTaken}
 use proofs.Imports.{State, client_in, service_with, IsFor}
 use proofs.manager.BlockAccounts.{IsTraced}
 

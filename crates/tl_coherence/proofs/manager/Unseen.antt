@@ -1,12 +1,12 @@
 -- Events that the manager doesn't see: clients that are asked, and beats that clients take. What it knows stays so.
 use Rattle.std.proofs.Common.{◌≡◌, ℕ, Bool, true, false, List, ◌∷◌, refl, sym, ◌∙◌, ap, ap₂, inl, inr, eqb-true, ◌==◌}
 use Rattle.tl_coherence.proofs
-use proofs.Imports.{cases_eq, Message, MessageA, Config, Cap, Grow, Prune, block_at, Op, Reply, copy_stored, whole_grow}
+use proofs.Imports.{cases_eq, Message, MessageA, Config, Cap, Grow, block_at, Op, Reply, copy_stored, whole_grow}
 use proofs.Imports.{access, End, IsInvariant, Kind, Probe, Answer, Grant, ReleaseAck, Packet, set, set_at, ClientBlock}
-use proofs.Imports.{is_unprobed, ProbeSent, is_whole, after_acquire, after_release, after_probe, after_grant}
+use proofs.Imports.{is_unprobed, is_whole, after_acquire, after_release, after_probe, after_grant}
 use proofs.Imports.{after_release_ack, Service, Free, Waits, GrantSent, GrantTaken, Block, State, SourceFree, InService}
-use proofs.Imports.{on, packet, view, acquiring_block, releasing_block, stored_block, probed_block, taken_block}
-use proofs.Imports.{let_go_block, is_granting, AbstractState, kind_taken, asked, taken_by_client, channel_for}
+use proofs.Imports.{on, packet, acquiring_block, releasing_block, stored_block, probed_block, taken_block}
+use proofs.Imports.{let_go_block, AbstractState, kind_taken, asked, taken_by_client, channel_for}
 use proofs.Imports.{AccessMessages, cap_sent, IsServedWith, is_to_client}
 use proofs.manager.{Traces.IsSameToManager, Traces.SameService, Choices.waits-used, ManagersEnd.IsAtManager}
 use proofs.manager.{ManagersEnd.at_manager-same, ManagerAfter.IsManagerOf}

@@ -4,18 +4,16 @@ use Rattle.std.proofs.Common.{◌≡◌, subst, ℕ, Bool, true, false, ◌&&◌
 use Rattle.std.proofs.Common.{ap, if◌then◌else◌, Result, Ok}
 use Rattle.tl_coherence.proofs
 use proofs.Imports.{true_from_ne_false, Beat, Link, Channel, Message, unfinished, Config, Rule, Op, Verdict, offered}
-use proofs.Imports.{Event, Ask, Deliver, Outcome, Kind, Packet, packet, is_on, on, packets_on, AbstractState}
-use proofs.Imports.{abstract_step_by, packet_taken, abstract_step, SimulationRelation, is_caching, receiver, is_moving}
-use proofs.Imports.{Log, Step, handed_by, judged, is_to_client, client_of, stepped, System, terms_at, with_client}
-use proofs.Imports.{with_channel}
-use Rattle.tl_coherence.specs.refinement.AbstractStep.{is_last}
+use proofs.Imports.{Event, Ask, Deliver, Outcome, Kind, Packet, is_on, packets_on, AbstractState, abstract_step_by}
+use proofs.Imports.{packet_taken, abstract_step, SimulationRelation, is_caching, receiver, is_moving, Log, Step}
+use proofs.Imports.{handed_by, judged, is_to_client, client_of, stepped, System, terms_at, with_client, with_channel}
+use Rattle.tl_coherence.{specs.refinement.AbstractStep.is_last}
 use Rattle.tl_client.specs.statement.Ask as client_ask
 use Rattle.tl_client.specs.statement.Endpoint as client
-use Rattle.tl_coherence.specs.refinement.AbstractStep as follow
 use proofs.manager.{Admitted.first_counts, ManagersEnd.at_manager-matched, UnwaitedRequests.next_tracker}
-use proofs.manager.{ManagerAfter.IsManagerOf, Unseen.at_manager-asked, Unseen.is_to_clients}
-use proofs.manager.{Unseen.at_manager-client_taken}
-use proofs.protocol.FollowKept.{IsAskable}
+use proofs.manager.{ManagerAfter.IsManagerOf}
+use proofs.manager.Unseen.{at_manager-asked, is_to_clients, at_manager-client_taken}
+use proofs.protocol.{FollowKept.IsAskable}
 use proofs.queues.Steps.{manager-with_messages, stepped-asked, stepped-to-client, stepped-empty}
 use proofs.queues.KindMoves.{kind_channel, on_same}
 

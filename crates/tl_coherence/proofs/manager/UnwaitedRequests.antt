@@ -114,8 +114,7 @@ pub reaction-performed : {w : ℕ} {config : Config} {log : Log w} {mail : Acces
     → probes_some (length config.clients.items) c own (cap_probed m.opcode m.param) (s.block n).pair ≡ false
     → reaction config (link_of c) (Beat.A (a_beat_of m k)) sys.manager
     ≡ performed config (service_for c m sys.manager.trace) (with_beat c m k sys.manager.trace) sys.manager.memory
-reaction-performed {w} {config} {log} {mail} {request} {s} {sys} c k n own m is comes last kind block none =
-    go (cap_probed m.opcode m.param) refl
+reaction-performed {w} {config} {sys} c k n own m is comes last kind block none = go (cap_probed m.opcode m.param) refl
   where
     e : End w
     e = sys.manager
@@ -135,8 +134,7 @@ pub somebody-probed : {w : ℕ} {config : Config} {log : Log w} {mail : AccessMe
     → probes_some (length config.clients.items) c own (cap_probed m.opcode m.param) (s.block n).pair ≡ true
     → (j : Cap) × (cap_probed m.opcode m.param ≡ Some j)
     × (is_nobody (probed config (service_for c m sys.manager.trace) j (with_beat c m k sys.manager.trace)) ≡ false)
-somebody-probed {w} {config} {log} {mail} {request} {s} {sys} c k n own m is kind block some =
-    go (cap_probed m.opcode m.param) refl
+somebody-probed {config} {sys} c k n own m is kind block some = go (cap_probed m.opcode m.param) refl
   where
     go : (o : Option Cap) → cap_probed m.opcode m.param ≡ o → (j : Cap) × (cap_probed m.opcode m.param ≡ Some j)
         × (is_nobody (probed config (service_for c m sys.manager.trace) j (with_beat c m k sys.manager.trace)) ≡ false)

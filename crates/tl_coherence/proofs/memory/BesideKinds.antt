@@ -5,7 +5,7 @@ use Rattle.tl_coherence.proofs
 use proofs.Imports.{cases_eq, ⊤, Message, MessageA, Config, Cap, Report, Profile, effect, block_at, cap_probed}
 use proofs.Imports.{IsInvariant, set_at, Kind, Request, ProbeAck, Packet, set, ClientBlock, AcquireOpen, ProbeAnswered}
 use proofs.Imports.{AcquirePhase, NoAcquire, is_unprobed, after_served, after_grant_sent, after_report, Block, State}
-use proofs.Imports.{is_probed, Service, Waits, written, performed_block, served_block, granted_at_once, reported_block}
+use proofs.Imports.{Service, Waits, written, performed_block, served_block, granted_at_once, reported_block}
 use proofs.Imports.{ended_block, granted_block, granted_pair, access_answered, access_served, report_taken}
 use proofs.Imports.{report_answers, AbstractState, some_below, bytes_at, performs, answers, probes_some, access_taken}
 use proofs.Imports.{request_taken, acquire_taken, granted_after, last_taken, ack_taken, MemoryRelation, AccessMessages}

@@ -4,19 +4,18 @@ use Rattle.std.proofs.Common.{◌≡◌, subst, ℕ, ◌^◌, ◌≤◌, Bool, t
 use Rattle.std.proofs.Common.{refl, sym, ◌∙◌, ap, ◌⊎◌, inl, inr, if◌then◌else◌}
 use Rattle.tl_coherence.proofs
 use proofs.Imports.{cases_eq, cases_lt, not-true, OpA, IsWidth, Message, MessageA, Config, Cap, Report, Perm}
-use proofs.Imports.{report_left, same_perm, Memory, IsBlock, effect, answer_of, block_at, is_acquire, Op, sourced}
-use proofs.Imports.{length-bytes, access_answer, cap_probed, level_of, IsWell, set_at, ClientBlock, View, ProbePhase}
-use proofs.Imports.{NoProbe, ProbeAnswered, ok, same_cap, is_unprobed, is_above, Block, State, SourceState, Replied}
-use proofs.Imports.{Acquires, is_probed, Waits, view, written, is_sent, some_below, bytes_at, performs, answers}
-use proofs.Imports.{IsAccess, MemoryRelation, IsReach, Answers, AccessMessages, report_told, IsRequest, Machine, Open}
-use proofs.Imports.{Requests, with_memory, performing}
+use proofs.Imports.{report_left, same_perm, Memory, IsBlock, effect, block_at, is_acquire, Op, sourced, length-bytes}
+use proofs.Imports.{cap_probed, level_of, IsWell, set_at, ClientBlock, View, ProbePhase, NoProbe, ProbeAnswered, ok}
+use proofs.Imports.{same_cap, is_unprobed, is_above, Block, State, SourceState, Replied, Acquires, is_probed, Waits}
+use proofs.Imports.{view, written, is_sent, some_below, bytes_at, performs, answers, IsAccess, MemoryRelation, IsReach}
+use proofs.Imports.{Answers, AccessMessages, report_told, IsRequest, Machine, Open, Requests, with_memory, performing}
 use Rattle.tl_rules.specs.statement.Effect as memory
 use proofs.memory.Beside.{IsSameAcquire, set_at-there, open-here, open-there, open-releases, performing-one}
 use proofs.memory.Beside.{beside-used}
-use proofs.queues.{Facts.is_other, Perms.nothing-above, Perms.not_out, Tokens.set_at-same, Phases.each_phase}
-use proofs.queues.{Phases.of_phase, Phases.implies, Phases.implies_is}
-use proofs.protocol.RequestsKept.{some-none}
 use proofs.memory.OneMemory.{blocks-performed, reply-performed, effect-sourced}
+use proofs.queues.{Facts.is_other, Perms.nothing-above, Perms.not_out, Tokens.set_at-same}
+use proofs.queues.Phases.{each_phase, of_phase, implies, implies_is}
+use proofs.protocol.{RequestsKept.some-none}
 
 -- ---- the manager's memory is the one memory, where nobody has what he was given to write
 

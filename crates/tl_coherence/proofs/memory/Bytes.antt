@@ -6,7 +6,7 @@ use Rattle.tl_coherence.proofs
 use proofs.Imports.{cases_lt, All-nil, All-cons, mod_below, OpA, a_carries_data, Message, MessageA, reaches, Config}
 use proofs.Imports.{Memory, effect, bytes_from, byte_of, block_at, Op, Reply, Event, Ask, Deliver, Outcome, Log}
 use proofs.Imports.{system_after, Machine, Open, Pool, Requests, after_end, after_reply, memory_after, same_pool}
-use proofs.Imports.{with_memory, with_open, first, moved, performed_op, performed_open, pool_of, pool_of_op}
+use proofs.Imports.{with_memory, with_open, moved, performed_op, performed_open, pool_of, pool_of_op}
 use proofs.Imports.{accesses_answered, performing, one_memory_after, AreBytes, stepped}
 use Rattle.std.{proofs.lemmas.List.get_or_past, proofs.lemmas.List.Elements.All-get_or}
 use Rattle.std.{proofs.lemmas.Option.get_or_from_slice_get}

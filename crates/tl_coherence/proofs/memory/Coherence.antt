@@ -1,8 +1,8 @@
 -- Copies are coherent with the one memory, and the open operations are those that were started.
 use Rattle.std.proofs.Common.{◌≡◌, ℕ, Bool, true, false, ◌&&◌, List, [], ◌∷◌, Option, Some, None, refl, sym, ◌∙◌, ap}
-use Rattle.std.proofs.Common.{subst, eqb-true, ◌==◌, if◌then◌else◌, option_map, unwrap_or, is_some}
+use Rattle.std.proofs.Common.{subst, eqb-true, ◌==◌, if◌then◌else◌, option_map, unwrap_or}
 use Rattle.tl_coherence.proofs
-use proofs.Imports.{MessageA, Config, IsBlock, swapped, Op, Reply, holds, Event, Ask, Deliver, Outcome, State, view}
+use proofs.Imports.{MessageA, Config, IsBlock, swapped, Op, Reply, Event, Ask, Deliver, Outcome, State, view}
 use proofs.Imports.{AccessMessages, SimulationRelation, started, IsCoherent, Log, system_after, Machine, Open, Pool}
 use proofs.Imports.{Requests, Releases, same_pool, with_open, with_memory, memory_after, after_reply, after_end}
 use proofs.Imports.{pool_of, moved, performed_op, performed_open, one_memory_after, performing, accesses_answered}

@@ -5,7 +5,7 @@ use Rattle.tl_coherence.proofs
 use proofs.Imports.{and-false, true_from_ne_false, nat_tests, Beat, Channel, IsWidth, Message, MessageA, unfinished}
 use proofs.Imports.{Config, ReleaseOf, on_link, block_at, ends, pending, EndConfig, one_if, services, service_of_block}
 use proofs.Imports.{Packet, Release, ReleaseAck, count, ReleasePhase, NoRelease, ReleaseSent, ReleaseAcked}
-use proofs.Imports.{is_unreleased, State, Service, shown, IsCarried, client_in, service_with, AccessMessages}
+use proofs.Imports.{is_unreleased, State, shown, IsCarried, AccessMessages}
 use proofs.Imports.{message_of, messages_on, SimulationRelation, IsCoherent, Moves, receiver, Log, system_after}
 use proofs.Imports.{next_delivery, is_movable, one_memory_after, terms_at}
 use Rattle.tl_coherence.specs.protocol.Protocol.{packets_on}

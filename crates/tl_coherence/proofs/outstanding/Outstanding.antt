@@ -13,20 +13,19 @@ use proofs.Imports.{starts_release, ends_request, ends_release, Log, system_afte
 use proofs.Imports.{stepped, stepped_at, terms_at}
 use Rattle.tl_client.specs.statement.Endpoint as client
 use Rattle.tl_client.specs.statement.Offer as offer
+pub use Rattle.tl_coherence.proofs.outstanding.OutcomeEnds.{first-moved}
 use proofs.simulation.{Bounded.matched-bounded, Moved.IsTakenByClient, Moved.client-moves, Owned.sources-own}
-use proofs.protocol.{TokenNames.AreBounded, HeadOfD.answer-due, HeadOfD.grant-due, HeadOfD.grant_message}
-use proofs.protocol.{HeadOfD.ack_message, HeadOfD.grant-rendered, OpenCounts.clients_in, OpenCounts.sources_in}
-use proofs.protocol.{OpenCounts.IsBalance}
-use proofs.queues.{Carried.IsNext, FirstToken.IsFirst, FirstToken.first-token, QuiescentQueues.client_below}
-use proofs.queues.{Codes.access_kind, KindMoves.on_same}
+use proofs.protocol.HeadOfD.{answer-due, grant-due, grant_message, ack_message, grant-rendered}
+use proofs.protocol.OpenCounts.{clients_in, IsBalance}
+use proofs.queues.{Carried.IsNext, QuiescentQueues.client_below, Codes.access_kind, KindMoves.on_same}
+use proofs.queues.FirstToken.{IsFirst, first-token}
 use proofs.client.DeliverD.{finish_at, answer-last, answer-part, same_answers, acked}
-use proofs.deliveries.{DeliverDWhole.rendered_release_ack, DeliverDAfter.followed-moving, DeliverDAfter.followed-still}
-use proofs.deliveries.{ManagersAfter.at-manager}
+use proofs.deliveries.{DeliverDWhole.rendered_release_ack, ManagersAfter.at-manager}
+use proofs.deliveries.DeliverDAfter.{followed-moving, followed-still}
 use proofs.outstanding.{OpenAsks.balance-asked, OpenKinds.is_ending, OpenKinds.is_letting_go, OpenKinds.balance-kind}
-use proofs.manager.UnwaitedRequests.{next_tracker}
 use proofs.outstanding.OutcomeEnds.{Ends, still-ends, is_e, moved-ends, finish-ends, manager-kind, ack_whole, one_whole}
 use proofs.outstanding.OutcomeEnds.{grant_kind, probe-ends, first-probe}
-pub use Rattle.tl_coherence.proofs.outstanding.OutcomeEnds.{first-moved}
+use proofs.manager.{UnwaitedRequests.next_tracker}
 
 -- ---- one event
 

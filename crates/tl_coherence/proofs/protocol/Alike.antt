@@ -4,7 +4,7 @@ use Rattle.tl_coherence.proofs
 use proofs.Imports.{Cap, Prune, Report, Kind, set, ClientBlock, ProbeSent, after_grant_sent, after_report, after_grant}
 use proofs.Imports.{after_probe, after_release_taken, after_release_ack, Free, Waits, GrantSent, GrantTaken, Block}
 use proofs.Imports.{granted_block, taken_block, probed_block, reported_block, ended_block, let_block, let_go_block}
-use proofs.Imports.{freed_block, granted_pair, shown}
+use proofs.Imports.{freed_block, shown}
 use proofs.queues.{Showing.AreAlike, Showing.carries, Tokens.set-each}
 use proofs.protocol.BothParts.{waits_ungranted, waits_unacknowledged, sent_unacknowledged, taken_ungranted}
 use proofs.protocol.AlikeRequests.{ungranted, unacknowledged, IsAlikePair, AreAlikeGrants, alike-parts, alike-pair}

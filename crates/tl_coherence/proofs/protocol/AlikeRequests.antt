@@ -1,13 +1,12 @@
 -- What is shown of a block stays where a client is asked, and where a request is taken.
-use Rattle.std.proofs.Common.{◌≡◌, ℕ, Bool, true, false, not, ◌&&◌, List, refl, sym, ◌∙◌, ap, ◌⊎◌, inl, inr, ◌==◌}
+use Rattle.std.proofs.Common.{◌≡◌, ℕ, Bool, true, false, ◌&&◌, List, refl, sym, ◌∙◌, ap, ◌⊎◌, inl, inr, ◌==◌}
 use Rattle.std.proofs.Common.{if◌then◌else◌}
 use Rattle.tl_coherence.proofs
 use proofs.Imports.{cases_eq, Cap, Grow, Prune, IsWell, Kind, Acquire, Probe, ProbeAck, Release, Grant, ReleaseAck}
-use proofs.Imports.{GrantAck, set, ClientBlock, View, Granting, ProbePhase, NoProbe, ReleasePhase, NoRelease}
-use proofs.Imports.{AcquirePhase, NoAcquire, is_unacquired, is_unprobed, after_grant_sent, after_acquire, after_release}
-use proofs.Imports.{after_served, Service, Free, Block, view, acquiring_block, releasing_block, granted_at_once}
-use proofs.Imports.{served_block, served_pair, is_wanting, is_sent, is_answered, is_releasing, is_acked, is_granting}
-use proofs.Imports.{is_acknowledging, shown, is_unserved}
+use proofs.Imports.{GrantAck, set, ClientBlock, View, Granting, ProbePhase, NoProbe, NoRelease, NoAcquire, is_unprobed}
+use proofs.Imports.{after_grant_sent, after_acquire, after_release, after_served, Service, Free, Block, view}
+use proofs.Imports.{acquiring_block, releasing_block, granted_at_once, served_block, served_pair, is_wanting, is_sent}
+use proofs.Imports.{is_answered, is_releasing, is_granting, is_acknowledging, shown, is_unserved}
 use proofs.queues.{Facts.granting_asks, PhaseFacts.quiet_at_rest, Showing.IsAlike, Showing.AreAlike, Showing.carries}
 use proofs.queues.{Tokens.set-same, Tokens.set-other, Tokens.set-each, Phases.and_left}
 

@@ -5,11 +5,10 @@ use proofs.Imports.{Channel, Perm, same_perm, is_of, acquires_of, serves_of, acq
 use proofs.Imports.{tracks_with, IsWell, IsInvariant, Kind, Request, ProbeAck, Answer, Packet, Block, State, Asked}
 use proofs.Imports.{Replied, view, packet, performed_block, answered_link, access_answered, answer_taken, shown}
 use proofs.Imports.{is_transfer, Move, Stays, Pushes, Pops, AreMoved, is_own_move, channel_for}
-use Rattle.tl_coherence.specs.protocol.Protocol.{Link}
-use proofs.queues.Moves.{event-at, bare-elsewhere, invariant-moved_access, names-block, names-set_at}
-use proofs.queues.Moves.{invariant-moved_use}
-use proofs.queues.{KindMoves.spares, KindMoves.spared-agrees, Tokens.same_number, Facts.held_at_most}
-use proofs.queues.{Perms.nothing_below}
+use Rattle.tl_coherence.{specs.protocol.Protocol.Link}
+use proofs.queues.{Moves.event-at, Moves.bare-elsewhere, Moves.invariant-moved_access, Moves.names-block}
+use proofs.queues.{Moves.names-set_at, Moves.invariant-moved_use, KindMoves.spares, KindMoves.spared-agrees}
+use proofs.queues.{Tokens.same_number, Facts.held_at_most, Perms.nothing_below}
 
 -- ---- the block
 

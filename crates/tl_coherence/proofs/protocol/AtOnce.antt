@@ -4,18 +4,17 @@ use Rattle.std.proofs.Common.{ne_eqb}
 use Rattle.tl_coherence.proofs
 use proofs.Imports.{cases_eq, Channel, Cap, Grow, Perm, cap_right, same_perm, is_of, acquires_of, serves_of}
 use proofs.Imports.{acquires_with, serves_with, releases_with, tracks_with, IsWell, IsInvariant, cap_asked, Kind}
-use proofs.Imports.{Acquire, ProbeAck, Grant, Packet, set, ClientBlock, Idle, Granting}
-use proofs.Imports.{AcquireOpen, same_cap, is_unacquired, is_unprobed, cap_fits, is_above, is_granted_data}
-use proofs.Imports.{after_grant_sent, Free, Block, State, view, packet, granted_at_once, answered_link, acquire_granted}
-use proofs.Imports.{shows, is_transfer, is_wanting, Move, Stays, Pushes, Pops, AreMoved, agrees, is_own_move}
-use proofs.Imports.{channel_for}
-use Rattle.tl_coherence.specs.protocol.Protocol.{Link}
-use proofs.queues.{Moves.event-at, Moves.bare-at, Moves.names-block, Moves.names-set, Moves.invariant-moved}
-use proofs.queues.{KindMoves.same_again, Facts.asked_low, PhaseFacts.quiet_at_rest, Perms.not_out, Tokens.same_number}
-use proofs.queues.{Tokens.set-same, Tokens.set-other, Tokens.set-part, PhaseSteps.grant_at_once-ok}
-use proofs.queues.{PhaseSteps.granted_other-ok}
-use proofs.protocol.{Blocks.busy-inside, Blocks.outside-set, Granted.gives, Granted.none_or_trunk}
-use proofs.protocol.{Granted.grows_to_trunk, BothParts.shows-beside}
+use proofs.Imports.{Acquire, ProbeAck, Grant, Packet, set, ClientBlock, Idle, Granting, AcquireOpen, same_cap}
+use proofs.Imports.{is_unacquired, is_unprobed, cap_fits, is_above, is_granted_data, after_grant_sent, Free, Block}
+use proofs.Imports.{State, view, packet, granted_at_once, answered_link, acquire_granted, shows, is_transfer}
+use proofs.Imports.{is_wanting, Move, Stays, Pushes, Pops, AreMoved, agrees, is_own_move, channel_for}
+use Rattle.tl_coherence.{specs.protocol.Protocol.Link}
+use proofs.queues.{KindMoves.same_again, Facts.asked_low, PhaseFacts.quiet_at_rest, Perms.not_out}
+use proofs.queues.Moves.{event-at, bare-at, names-block, names-set, invariant-moved}
+use proofs.queues.Tokens.{same_number, set-same, set-other, set-part}
+use proofs.queues.PhaseSteps.{grant_at_once-ok, granted_other-ok}
+use proofs.protocol.{Blocks.busy-inside, Blocks.outside-set, BothParts.shows-beside}
+use proofs.protocol.Granted.{gives, none_or_trunk, grows_to_trunk}
 
 -- ---- the block
 

@@ -1,5 +1,5 @@
 -- The last ProbeAck that is taken, with which the access that waited is answered, keeps the invariant.
-use Rattle.std.proofs.Common.{◌≡◌, refl, sym, subst, ◌∙◌, ap, ◌⊎◌, inl, inr, ℕ, Bool, true, false, List, ◌∷◌, Some}
+use Rattle.std.proofs.Common.{◌≡◌, refl, sym, subst, ◌∙◌, ap, ◌⊎◌, inl, inr, ℕ, Bool, true, false, List, ◌∷◌}
 use Rattle.std.proofs.Common.{None, ne_eqb, eqb-true, ◌==◌, if◌then◌else◌}
 use Rattle.tl_coherence.proofs
 use proofs.Imports.{cases_eq, Channel, Cap, Report, Perm, report_left, same_perm, is_out, is_of, acquires_of, serves_of}

@@ -7,7 +7,7 @@ use proofs.Imports.{not-true, same_Some, ⊤, Message, MessageA, Config, Cap, Gr
 use proofs.Imports.{same_perm, block_at, is_acquire, Op, Reply, copy_stored, whole_grow, cap_probed, IsInvariant, Kind}
 use proofs.Imports.{ProbeAck, Grant, Packet, set, ClientBlock, ProbeAnswered, NoRelease, NoAcquire, AcquireOpen}
 use proofs.Imports.{is_unprobed, grow_fits, is_whole, after_report, Service, Waits, GrantSent, Block, SourceFree, view}
-use proofs.Imports.{packet, on, report_taken, grant_taken, report_answers, is_granting, is_answered, AbstractState}
+use proofs.Imports.{packet, on, report_taken, grant_taken, report_answers, is_answered, AbstractState}
 use proofs.Imports.{asked, some_below, performs, is_unheld, granted_after, kind_taken, report_told}
 use proofs.queues.{Phases.and_right, Tokens.same_number, Facts.acquire_fits, Facts.answered_other, Facts.granting_asks}
 use proofs.protocol.{Blocks.outside-set, Blocks.busy-inside, Probed.probe_taken-kept, Answered.answer_taken-kept}
@@ -192,11 +192,9 @@ asked-kept {caching} c (Op.Store address size value) Reply.Stored h inv may = bl
     (copy_stored address size value ((h.state.block (block_at address)).copy c)) inv may
 asked-kept {caching} c (Op.Acquire n g) (Reply.Started source) h inv is = acquire_asked-kept c n source false g
     ((h.state.block n).waiting c) inv is.0 is.1 is.2 is.3 (begins_fit g ((h.state.block n).pair c).held is.4)
-asked-kept {caching} c (Op.AcquireWhole n bytes) (Reply.Started source) h inv is =
-    acquire_asked-kept c n source true (whole_grow ((h.state.block n).pair c).held) bytes inv is.0 is.1
-    is.2 is.3 (whole_fits ((h.state.block n).pair c).held is.4)
+asked-kept c (Op.AcquireWhole n bytes) (Reply.Started source) h inv is = acquire_asked-kept c n source true (whole_grow
+    ((h.state.block n).pair c).held) bytes inv is.0 is.1 is.2 is.3 (whole_fits ((h.state.block n).pair c).held is.4)
 asked-kept {caching} c (Op.Release n r) (Reply.Started source) h inv is =
     release_asked-kept c n source r inv is.0 is.1 is.2 is.3 is.4
-asked-kept {caching} c (Op.Access (Message.A m)) (Reply.Started source) h inv closed =
-    access_asked-kept c source inv closed
+asked-kept c (Op.Access (Message.A m)) (Reply.Started source) h inv closed = access_asked-kept c source inv closed
 asked-kept c o r h inv is = inv

@@ -5,7 +5,7 @@ use Rattle.std.proofs.Common.{◌≡◌, ℕ, ◌<◌, Bool, true, false, List, 
 use Rattle.std.proofs.Common.{Some, None, ◌==◌}
 use Rattle.tl_coherence.proofs
 use proofs.Imports.{Channel, part_bit, one_if, IsInvariant, acquires_of, serves_of, is_of, is_asked, is_replied}
-use proofs.Imports.{serves_with, releases_with, Kind, Request, Acquire, Probe, ProbeAck, Release, Answer, Grant}
+use proofs.Imports.{serves_with, Kind, Request, Acquire, Probe, ProbeAck, Release, Answer, Grant}
 use proofs.Imports.{ReleaseAck, GrantAck, Packet, count, ClientBlock, View, Own, ReleasePhase, NoRelease, ReleaseSent}
 use proofs.Imports.{ReleaseAcked, is_unprobed, is_unreleased, ok, Service, Free, Waits, GrantSent, GrantTaken, State}
 use proofs.Imports.{SourceState, SourceFree, Asked, InService, Replied, Acquires, view, on, packets_on, is_on}

@@ -8,13 +8,12 @@ use proofs.Imports.{after_report, after_release_taken, Service, Block, State, vi
 use proofs.Imports.{report_taken, let_block, let_link, release_taken, shows, is_transfer, is_answered, is_releasing}
 use proofs.Imports.{Move, Stays, Pushes, Pops, AreMoved, agrees, is_own_move, channel_for}
 use Rattle.tl_coherence.specs.protocol.Protocol.{Link, written_from}
-use proofs.queues.{Moves.event-at, Moves.bare-at, Moves.names-kept, Moves.invariant-moved, KindMoves.same_again}
-use proofs.queues.{PhaseSteps.report-ok, PhaseSteps.release_taken-ok, Facts.report_begins, Facts.release_begins}
-use proofs.queues.{Perms.not_out, Tokens.same_number, Tokens.set-same, Tokens.set-each, Tokens.set-other}
-use proofs.queues.{Tokens.set-part, Tokens.ordered-first}
-use proofs.protocol.Granted.{both_trunk}
-use proofs.protocol.Blocks.{IsGentle, awaited_by, awaited-set, asked_cap-set, alone-set, owned-set, outside-set}
-use proofs.protocol.Blocks.{busy-inside}
+use proofs.queues.{KindMoves.same_again, Facts.report_begins, Facts.release_begins, Perms.not_out}
+use proofs.queues.Moves.{event-at, bare-at, names-kept, invariant-moved}
+use proofs.queues.PhaseSteps.{report-ok, release_taken-ok}
+use proofs.queues.Tokens.{same_number, set-same, set-each, set-other, set-part, ordered-first}
+use proofs.protocol.{Granted.both_trunk, Blocks.IsGentle, Blocks.awaited_by, Blocks.awaited-set, Blocks.asked_cap-set}
+use proofs.protocol.{Blocks.alone-set, Blocks.owned-set, Blocks.outside-set, Blocks.busy-inside}
 
 -- ---- what is recorded falls
 

@@ -1,6 +1,6 @@
 -- Each request that is taken keeps the invariant of the protocol, and what that needs of the clients that are probed.
 use Rattle.std.proofs.Common.{◌≡◌, ℕ, zero, suc, ◌*◌, ◌<◌, ◌≤◌, Bool, true, false, not, ◌&&◌, ◌||◌, List, ◌∷◌, Option}
-use Rattle.std.proofs.Common.{Some, None, length, refl, sym, ◌∙◌, ap, ◌⊎◌, inl, inr, arith, ne_eqb, ◌==◌, slice_index}
+use Rattle.std.proofs.Common.{Some, None, length, refl, ◌∙◌, ap, ◌⊎◌, inl, inr, arith, ne_eqb, ◌==◌, slice_index}
 use Rattle.tl_coherence.proofs
 use proofs.Imports.{cases_lt, not-true, not-false, OpA, Message, MessageA, Config, Cap, Grow, Perm, Profile, same_perm}
 use proofs.Imports.{Memory, bytes_from, effect, block_at, is_acquire, bytes_are, cap_probed, cap_asked, IsInvariant}

@@ -235,8 +235,7 @@ pub acquire_served-kept : {X : Type 0} {caching : ℕ → Bool} (r n source trac
     → same_cap k (cap_asked (AcquireOpen whole g)) ≡ true → s.tracked tracker ≡ None → source ≡ (s.block n).source r
     → (w : ℕ) → is_probed r true k ((s.block n).pair w).recorded w ≡ true
     → IsInvariant caching (acquire_served r n source tracker k rest s)
-acquire_served-kept {X} {caching} r n source tracker whole g k rest {s} inv first free wants low unused sourced w
-    probed =
+acquire_served-kept {X} r n source tracker whole g k rest {s} inv first free wants low unused sourced w probed =
     let new : Block X = served_block r true source tracker k (s.block n) in
     invariant-moved s.lets (set tracker (Some n) s.tracked) inv
     (served-event r n source tracker rest inv first free (whole, g, wants, low) sourced w probed)

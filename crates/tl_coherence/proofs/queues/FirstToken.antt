@@ -1,5 +1,5 @@
 -- The beat that comes first on a channel belongs to the message of the first token there.
-use Rattle.std.proofs.Common.{◌≡◌, ℕ, ◌+◌, Bool, true, false, List, [], ◌∷◌, refl, sym, ◌∙◌, ap, arith, map}
+use Rattle.std.proofs.Common.{◌≡◌, ℕ, Bool, true, false, List, [], ◌∷◌, refl, sym, ◌∙◌, ap, arith, map}
 use Rattle.tl_coherence.proofs
 use proofs.Imports.{Beat, Channel, IsWidth, beats-positive, Message, unfinished, one_if, IsInvariant, Kind, Packet, is}
 use proofs.Imports.{count, State, packet, packets_on, is_on, IsCarried, ChannelRelation, AccessMessages, message_of}

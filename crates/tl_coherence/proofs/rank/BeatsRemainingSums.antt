@@ -8,7 +8,7 @@ use proofs.Imports.{not-false, Beat, Channel, OpA, OpB, OpD, a_carries_data, d_c
 use proofs.Imports.{beats_of, data_beats, Config, Level, Report, Perm, L1, L2, L3, report_left, control_of_legal}
 use proofs.Imports.{next_rule, same_perm, is_one_of, a_has_param, a_has_size, probe_ack, illegal_message_at, level_of}
 use proofs.Imports.{is_access_answer, IsInvariant, Request, Acquire, ProbeAck, Answer, View, ProbePhase, ProbeAnswered}
-use proofs.Imports.{ClientBlock, AcquirePhase, AcquireOpen, ok, State, Asked, Replied, view, AccessMessages, acquire_of}
+use proofs.Imports.{ClientBlock, AcquirePhase, AcquireOpen, ok, State, Replied, view, AccessMessages, acquire_of}
 use proofs.Imports.{report_told, block_message, message_of_kind, IsRequest, IsSourced, IsAnswer, IsAnswered}
 use Rattle.tl_rules.{specs.statement.Conformance.answers, specs.statement.Legality.a_of_level}
 use proofs.queues.{PhaseFacts.data_carried, Phases.and_left}

@@ -6,7 +6,7 @@ use Rattle.std.proofs.Common.{slice_get, nat_le, option_map, Result, Ok, Err}
 use Rattle.tl_coherence.proofs
 use proofs.Imports.{cases_eq, All-nil, All-cons, All-append, ⊤, Beat, BeatD, Channel, OpB, OpD, IsWidth, Message}
 use proofs.Imports.{beats_of, beat_of, unfinished, channel_of, ClientConfig, Config, Level, Prune, Report, Perm, Rule}
-use proofs.Imports.{legal_beat, is_outside, is_spoiled, payload_of, block_at, ends, request_of, beats_from, illegal}
+use proofs.Imports.{legal_beat, is_outside, is_spoiled, payload_of, block_at, ends, request_of, beats_from}
 use proofs.Imports.{NotBusy, asked-cases, same_block, Op, Finish, Verdict, done, store, free_release, source_or_0}
 use proofs.Imports.{EndConfig, Endpoint, copy_at, held_at, with_past, Offered, taken, ended, responded, silent}
 use proofs.Imports.{report_for, release, probe_ack, IsHandable, Each, Handed, level_of, AreLanes, IsTypedOp, System}

@@ -3,7 +3,7 @@ use Rattle.std.proofs.Common.{◌≡◌, ℕ, ◌<◌, Bool, true, false, List, 
 use Rattle.std.proofs.Common.{eqb-true, ◌==◌, is_some}
 use Rattle.tl_coherence.proofs
 use proofs.Imports.{and_parts, Message, MessageA, Config, RequestSource, ReleaseSource, pending, is_one_of}
-use proofs.Imports.{tracker_among, services, service_of_block, trackers_of, tracks_with, is_busy, Service, Free, Waits}
+use proofs.Imports.{tracker_among, services, trackers_of, is_busy, Service, Free, Waits}
 use proofs.Imports.{GrantSent, GrantTaken, State, SourceState, SourceFree, Asked, InService, Replied, Acquires}
 use proofs.Imports.{client_in, service_with, IsOpened, AccessMessages, block_message, SimulationRelation, asked_by}
 use proofs.Imports.{first_of, request_source, IsSourced, sources_of, Log, Requests, one_memory_after, System, terms_at}

@@ -80,8 +80,7 @@ pub acquire_asked-carried : {w : ℕ} {caching : ℕ → Bool} (c n source : ℕ
     → block_message Acquire c n (acquiring_block c source whole g bytes (s.block n)) ≡ m
     → IsHanded (pushes_at c (pushes_of (Some m))) sys sys' → ChannelRelation mail s sys
     → ChannelRelation mail (acquire_asked c n source whole g bytes s) sys'
-acquire_asked-carried {w} {caching} c n source whole g bytes m mail {s} {sys} {sys'} width inv inv' calm chan is handed
-    h =
+acquire_asked-carried c n source whole g bytes m mail {s} {sys} {sys'} width inv inv' calm chan is handed h =
     let new : Block (List ℕ) = acquiring_block c source whole g bytes (s.block n) in
     let s' : State (List ℕ) = acquire_asked c n source whole g bytes s in
     let fits : (at : Channel) → Fits false (only_on Channel.A m at) (acquire_moves n at) (λ k i. message_of mail s' c

@@ -6,7 +6,7 @@ use proofs.Imports.{cases_eq, Channel, Message, Cap, Prune, Report, IsInvariant,
 use proofs.Imports.{Probe, ProbeAck, Release, Answer, Grant, ReleaseAck, Packet, set, set_at, ProbeSent, Free, Block}
 use proofs.Imports.{State, Asked, packet, answered_link, let_link, probed_link, access_answered, performed_block}
 use proofs.Imports.{acquire_granted, granted_at_once, probe_taken, probed_block, report_taken, reported_block}
-use proofs.Imports.{release_taken, let_block, Stays, AreMoved, AccessMessages, block_message, message_of, same_channel}
+use proofs.Imports.{release_taken, let_block, Stays, AccessMessages, block_message, message_of, same_channel}
 use proofs.Imports.{channel_of_message}
 use proofs.protocol.{AlikeRequests.alike-bytes, AlikeRequests.alike-granted_at_once, Alike.alike-probed}
 use proofs.protocol.{Alike.alike-reported, Alike.alike-let, Answered.answer_moves, AtOnce.once_moves}

@@ -1,5 +1,5 @@
 -- What a delivery leaves on the channels, who has something open, and how much is left of what is taken.
-use Rattle.std.proofs.Common.{◌≡◌, ℕ, ◌+◌, ◌<◌, Bool, true, false, List, [], ◌∷◌, refl, sym, ◌∙◌, ap, arith, ◌&&◌}
+use Rattle.std.proofs.Common.{◌≡◌, ℕ, ◌+◌, ◌<◌, Bool, true, false, List, [], ◌∷◌, refl, ◌∙◌, ap, arith, ◌&&◌}
 use Rattle.std.proofs.Common.{Option, Some, None, length, eqb-true, ◌==◌, if◌then◌else◌}
 use Rattle.tl_coherence.proofs
 use proofs.Imports.{Beat, Channel, IsWidth, length-begun, Message, MessageA, beats_of, unfinished, Config, EndConfig}

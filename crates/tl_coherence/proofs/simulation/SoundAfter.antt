@@ -1,9 +1,9 @@
 -- Each beat on a channel is sound and has its lanes, after every event.
-use Rattle.std.proofs.Common.{◌≡◌, ℕ, Bool, true, false, List, [], ◌∷◌, Option, Some, None, refl, ◌∙◌, ap, subst}
+use Rattle.std.proofs.Common.{◌≡◌, ℕ, Bool, true, false, List, [], ◌∷◌, Option, Some, None, refl, ap, subst}
 use Rattle.std.proofs.Common.{length, if◌then◌else◌, All, Result, Ok, unwrap_or, is_some}
 use Rattle.tl_coherence.proofs
 use proofs.Imports.{All-head, Beat, Link, Channel, IsWidth, Message, MessageA, Config, Perm, Rule, same_perm, Op}
-use proofs.Imports.{Verdict, zeros, copy_at, holds, reaction_handable, Each, Event, Deliver, Ask, State, AccessMessages}
+use proofs.Imports.{Verdict, zeros, copy_at, reaction_handable, Each, Event, Deliver, Ask, State, AccessMessages}
 use proofs.Imports.{SimulationRelation, AreLanes, IsTypedOp, IsTyped, Log, stepped, stepped_at, client_took}
 use proofs.Imports.{is_to_client, client_of, delivered, handed_by, judged, manager_took, System, terms_at, with_channel}
 use proofs.Imports.{with_messages, with_client, with_manager}
@@ -46,8 +46,7 @@ AllGood config sys = (d : ℕ) (at : Channel) → All (IsGood config d) (sys.cha
 one_good : {w : ℕ} (config : Config) (c : ℕ) (m : Option (Message w)) (sys : System w) (terms : client.EndConfig)
     → IsWidth w → terms_at config c ≡ Some terms → IsSoundIfAny terms.level m → IsFitIfAny config.blocks m
     → AllGood config sys → AllGood config (with_messages (handed_by c m) sys)
-one_good {w} config c None sys terms width known sound fit before d at =
-    all-messages (IsGood config) [] sys tt before d at
+one_good config c None sys terms width known sound fit before d at = all-messages (IsGood config) [] sys tt before d at
 one_good {w} config c (Some m) sys terms width known sound fit before d at =
     all-messages (IsGood config) (handed_by c (Some m)) sys
     (good-message config c width (level-terms config c terms known).0 sound fit.ours fit.inside fit.long, tt) before d
@@ -84,8 +83,7 @@ pub good-after : {w : ℕ} {config : Config} {log : Log w} {mail : AccessMessage
     {s : State (List ℕ)} {sys : System w} → IsWidth w → SimulationRelation config log mail request s sys
     → (event : Event w) → IsTyped event → AllGood config (stepped config event sys).after
 unfolding stepped manager_offer.offered
-good-after {w} {config} {log} {mail} {request} {s} {sys} width h event typed =
-    go (terms_at config (client_of event)) refl event refl typed
+good-after {w} {config} {sys} width h event typed = go (terms_at config (client_of event)) refl event refl typed
   where
     before : AllGood config sys
     before d at k y lt = record { sound = h.sound d at k y lt; lanes = h.typed d at k y lt }
@@ -144,12 +142,10 @@ pub sound-after : {w : ℕ} {config : Config} {log : Log w} {mail : AccessMessag
     {s : State (List ℕ)} {sys : System w} → IsWidth w
     → SimulationRelation config log mail request s sys → (event : Event w) → IsTyped event → (c : ℕ) (ch : Channel)
     → All (λ x. manager.IsSound config (record { 0 = c }, x)) ((stepped config event sys).after.channels c ch)
-sound-after {config} {log} {mail} {request} {s} {sys} width h event typed c ch k y lt =
-    (good-after width h event typed c ch k y lt).sound
+sound-after width h event typed c ch k y lt = (good-after width h event typed c ch k y lt).sound
 
 pub typed-after : {w : ℕ} {config : Config} {log : Log w} {mail : AccessMessages w} {request : ℕ → MessageA w}
     {s : State (List ℕ)} {sys : System w} → IsWidth w
     → SimulationRelation config log mail request s sys → (event : Event w) → IsTyped event → (c : ℕ) (ch : Channel)
     → All AreLanes ((stepped config event sys).after.channels c ch)
-typed-after {config} {log} {mail} {request} {s} {sys} width h event typed c ch k y lt =
-    (good-after width h event typed c ch k y lt).lanes
+typed-after width h event typed c ch k y lt = (good-after width h event typed c ch k y lt).lanes

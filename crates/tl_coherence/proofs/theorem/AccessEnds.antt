@@ -9,7 +9,7 @@ use proofs.Imports.{Level, control_of_legal, control_aligned, payload-d, payload
 use proofs.Imports.{request_of, Access, Finish, finish_of, open_beat, sourced, illegal_message_at, access_answer}
 use proofs.Imports.{no_payload, level_of, Kind, Acquire, Answer, SourceState, packet, Replied, AbstractState, Answers}
 use proofs.Imports.{IsOpened, IsReach, message_of_kind, block_message, SimulationRelation, is_caching, IsRequest}
-use proofs.Imports.{IsSourced, block_used, first_of, Log, system_after, Ends, Machine, pool_of, Requests}
+use proofs.Imports.{block_used, first_of, Log, system_after, Ends, Machine, pool_of, Requests}
 use proofs.Imports.{finish_with, one_memory_after, System}
 use Rattle.tl_client.specs.statement.Offer.{padded}
 use Rattle.tl_manager.proofs.messages.Filled.{data_room, payload-long, payload-zero, room_in_beats}

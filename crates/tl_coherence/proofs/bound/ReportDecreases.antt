@@ -203,12 +203,10 @@ module _ {w : ℕ} {config : Config} {mail mail' : AccessMessages w} {s s' : Sta
           unserved-stays taking d i n e g (rw (waits, ne_eqb d q other) refl) (rw (given, ne_eqb d q other) refl)
 
       letting : (d : ℕ) → ((s'.block n).pair d).letting ≡ ((s.block n).pair d).letting
-      letting d = cc (
-        new,
-        set-part (λ p. p.letting) q (after_grant_sent gift ((s.block n).pair q)) (set c (after_report r was)
-            (s.block n).pair) (sym (set-part (λ p. p.letting) c (after_report r was) (s.block n).pair refl q)) d,
-        set-part (λ p. p.letting) c (after_report r was) (s.block n).pair refl d,
-      )
+      letting d = let fact = set-part (λ p. p.letting) q (after_grant_sent gift ((s.block n).pair q))
+          (set c (after_report r was) (s.block n).pair)
+          (sym (set-part (λ p. p.letting) c (after_report r was) (s.block n).pair refl q)) d in
+          cc (new, set-part (λ p. p.letting) c (after_report r was) (s.block n).pair refl d)
 
       block : IsBlockNoMore taking
       block = record {

@@ -43,30 +43,12 @@ answer_kind : {w : ℕ} (o : OpA) (m : MessageA w) (f : Memory) → is_acquire o
 unfolding IsAnswerTo
 answer_kind OpA.PutFullData m f e = (answer_message OpD.AccessAck no_payload m, refl, refl, refl, refl, refl)
 answer_kind OpA.PutPartialData m f e = (answer_message OpD.AccessAck no_payload m, refl, refl, refl, refl, refl)
-answer_kind {w} OpA.ArithmeticData m f e = (
-  answer_message OpD.AccessAckData (as_payload (m.address % w) (bytes_from f m.address (byte_count m))) m,
-  refl,
-  refl,
-  refl,
-  refl,
-  refl,
-)
-answer_kind {w} OpA.LogicalData m f e = (
-  answer_message OpD.AccessAckData (as_payload (m.address % w) (bytes_from f m.address (byte_count m))) m,
-  refl,
-  refl,
-  refl,
-  refl,
-  refl,
-)
-answer_kind {w} OpA.Get m f e = (
-  answer_message OpD.AccessAckData (as_payload (m.address % w) (bytes_from f m.address (byte_count m))) m,
-  refl,
-  refl,
-  refl,
-  refl,
-  refl,
-)
+answer_kind {w} OpA.ArithmeticData m f e = let fact = answer_message OpD.AccessAckData
+    (as_payload (m.address % w) (bytes_from f m.address (byte_count m))) m in (fact, refl, refl, refl, refl, refl)
+answer_kind {w} OpA.LogicalData m f e = let fact = answer_message OpD.AccessAckData
+    (as_payload (m.address % w) (bytes_from f m.address (byte_count m))) m in (fact, refl, refl, refl, refl, refl)
+answer_kind {w} OpA.Get m f e = let fact = answer_message OpD.AccessAckData
+    (as_payload (m.address % w) (bytes_from f m.address (byte_count m))) m in (fact, refl, refl, refl, refl, refl)
 answer_kind OpA.Intent m f e = (answer_message OpD.HintAck no_payload m, refl, refl, refl, refl, refl)
 answer_kind OpA.AcquireBlock m f e = absurd cc
 answer_kind OpA.AcquirePerm m f e = absurd cc

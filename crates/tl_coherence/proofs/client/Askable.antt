@@ -116,14 +116,13 @@ done_may {config} {c} {terms} (Op.Acquire n g) {h} {e} at free =
       cc (at.end.known.held_is n, not-false (same_perm (grow_left g) (held_at e n)) free.b3),
     )
 done_may {config} {c} {terms} (Op.AcquireWhole n bytes) {h} {e} at free =
-    let idle = or_parts (pending (AcquireOf n) e.past) (pending (ReleaseOf n) e.past) free.b2 in (
-      caches config c terms.level at.level_is (not-false (has_transfers terms.level) free.b4),
-      free_use (source_or_0 (free_request terms e.past)) at
-          (least_free-some (λ s. pending (RequestSource s) e.past) 0 terms.sources free.b1).0,
-      calm-is ((h.state.block n).pair c).acquiring (sym (at.end.known.acquires n) ∙ idle.0),
-      kept-letting ((h.state.block n).pair c).letting (sym (at.end.known.releases n) ∙ idle.1),
-      ap (same_perm Perm.Trunk) (sym (at.end.known.held_is n)) ∙ free.b3,
-    )
+    let idle = or_parts (pending (AcquireOf n) e.past) (pending (ReleaseOf n) e.past) free.b2 in
+    let fact = caches config c terms.level at.level_is (not-false (has_transfers terms.level) free.b4) in
+    let other_fact = free_use (source_or_0 (free_request terms e.past)) at
+    (least_free-some (λ s. pending (RequestSource s) e.past) 0 terms.sources free.b1).0 in
+    let third_fact = calm-is ((h.state.block n).pair c).acquiring (sym (at.end.known.acquires n) ∙ idle.0) in
+    let fourth_fact = kept-letting ((h.state.block n).pair c).letting (sym (at.end.known.releases n) ∙ idle.1) in
+    (fact, other_fact, third_fact, fourth_fact, ap (same_perm Perm.Trunk) (sym (at.end.known.held_is n)) ∙ free.b3)
 done_may {config} {c} {terms} (Op.Release n r) {h} {e} at free =
     let idle = or_parts (pending (AcquireOf n) e.past) (pending (ReleaseOf n) e.past) free.b2 in
     let source = source_or_0 (free_release terms e.past) in (

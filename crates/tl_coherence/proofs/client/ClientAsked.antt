@@ -95,11 +95,8 @@ end-release_asked {w} {c} n source r copy mail {s} {e} width begins kept end =
       of_block = is.of_block;
       whole = is.whole;
       held = λ i. cc (column (λ (b : Block (List ℕ)). (b.pair c).held) n new s.block i, pair_is);
-      letting = λ i. cc (
-        column (λ (b : Block (List ℕ)). not (is_unreleased (b.pair c).letting)) n new s.block i,
-        pair_is,
-        swapped i n,
-      );
+      letting = λ i. let fact = column
+          (λ (b : Block (List ℕ)). not (is_unreleased (b.pair c).letting)) n new s.block i in cc (pair_is, swapped i n);
       lets = λ i. lets_now i is.from (cases_eq i source);
       acquiring = λ i. set-part (λ (b : Block (List ℕ)). is_wanting (b.pair c).acquiring) n new s.block
           (ap (λ (q : ClientBlock). is_wanting q.acquiring) pair_is) i;

@@ -113,22 +113,10 @@ pub opened-heard : {w : ℕ} {c : ℕ} {x : BeatD w} {t u : History w} {p : Perm
     {s s' : State (List ℕ)} → IsEcho x t u → IsHeard c x t p closes_block closes_release closes_source closes_let asked
     asked' s s' → OpenSourceRelation asked c s t → OpenSourceRelation asked' c s' u
 opened-heard {w} {c} {x} {t} {closes_source} {closes_let} {asked} {s} echo event open_ = record {
-  requests = λ i. cc (
-    echo.requests i,
-    pending-closed (RequestSource i) (Beat.D x) t refl,
-    event.source_is i,
-    open_.requests i,
-    none_cond (closes_source i) (asked i),
-    event.asks i,
-  );
-  releases = λ i. cc (
-    echo.release_sources i,
-    pending-closed (ReleaseSource i) (Beat.D x) t refl,
-    event.let_is i,
-    open_.releases i,
-    none_cond (closes_let i) (s.lets c i),
-    event.lets i,
-  );
+  requests = λ i. let fact = pending-closed (RequestSource i) (Beat.D x) t refl in
+      cc (echo.requests i, event.source_is i, open_.requests i, none_cond (closes_source i) (asked i), event.asks i);
+  releases = λ i. let fact = pending-closed (ReleaseSource i) (Beat.D x) t refl in let other_fact = none_cond
+      (closes_let i) (s.lets c i) in cc (echo.release_sources i, event.let_is i, open_.releases i, event.lets i);
   released = λ i n some. ap (option_map (λ y. block_at y.address)) (echo.released i ∙ release_of-d i x t)
       ∙ open_.released i n (some_kept (closes_let i) (s.lets c i) n (sym (event.lets i) ∙ some));
   sizes = λ i n some. ap (option_map (λ y. y.size)) (echo.released i ∙ release_of-d i x t) ∙ open_.sizes i n

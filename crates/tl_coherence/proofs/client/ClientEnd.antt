@@ -178,13 +178,10 @@ pub asks-same : {w : ℕ} (c source : ℕ) (mail mail' : AccessMessages w) (s s'
     → asked_by mail' s' c source ≡ asked_by mail s c source
 asks-same {w} c source mail mail' s s' request (inl same) a b =
     cc (same, request, acquires_same (s.uses c source) (mail.request c source) s.block s'.block c a b)
-asks-same {w} c source mail mail' s s' request (inr both) a b = cc (
-  access_asks (s'.uses c source) (mail'.request c source) both.1
-      (block_message Acquire c (block_used (s'.uses c source)) (s'.block (block_used (s'.uses c source)))),
-  request,
-  access_asks (s.uses c source) (mail.request c source) both.0
-      (block_message Acquire c (block_used (s.uses c source)) (s.block (block_used (s.uses c source)))),
-)
+asks-same {w} c source mail mail' s s' request (inr both) a b = let fact = access_asks (s'.uses c source)
+    (mail'.request c source) both.1 (block_message Acquire c (block_used (s'.uses c source)) (s'.block
+    (block_used (s'.uses c source)))) in let other_fact = access_asks (s.uses c source) (mail.request c source) both.0
+    (block_message Acquire c (block_used (s.uses c source)) (s.block (block_used (s.uses c source)))) in cc request
 
 -- a source that is closed asks for nothing, and the use that is an access for it, and that of an Acquire for that
 pub asks-closed : {w : ℕ} (c source : ℕ) (mail : AccessMessages w) (s : State (List ℕ)) → s.uses c source ≡ SourceFree

@@ -36,12 +36,9 @@ end-probe_taken {w} {c} n k rest mail {s} {e} width well end =
       copies = λ i some. kept_copies n left g i ∙ copy_of i (i == n) refl
           (sym (column (λ (b : Block (List ℕ)). same_perm (b.pair c).held Perm.None) n new s.block i) ∙ some)
           ∙ ap Some (sym (set-part (λ (b : Block (List ℕ)). b.copy c) n new s.block refl i));
-      waiting = λ i storing. cc (
-        kept_waiting n left g i,
-        end.waiting i (sym (set-part (λ (b : Block (List ℕ)). is_whole
-            (b.pair c).acquiring) n new s.block (ap (λ (q : ClientBlock). is_whole q.acquiring) pair_is) i) ∙ storing),
-        set-part (λ (b : Block (List ℕ)). b.waiting c) n new s.block refl i,
-      );
+      waiting = λ i storing. let fact = end.waiting i (sym (set-part (λ (b : Block (List ℕ)). is_whole
+          (b.pair c).acquiring) n new s.block (ap (λ (q : ClientBlock). is_whole q.acquiring) pair_is) i) ∙ storing) in
+          cc (kept_waiting n left g i, set-part (λ (b : Block (List ℕ)). b.waiting c) n new s.block refl i);
       live = kept_closed n left g ∙ end.live;
     }
   where

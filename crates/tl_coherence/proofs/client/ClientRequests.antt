@@ -113,11 +113,8 @@ end-acquire_asked {w} {c} n source whole g bytes mail {s} {f} width named idle p
       letting = λ i. set-part (λ (b : Block (List ℕ)). is_unreleased (b.pair c).letting) n new s.block
           (ap (λ (p : ClientBlock). is_unreleased p.letting) pair_is) i;
       lets = λ i. refl;
-      acquiring = λ i. cc (
-        column (λ (b : Block (List ℕ)). is_wanting (b.pair c).acquiring) n new s.block i,
-        pair_is,
-        of_block i,
-      );
+      acquiring = λ i. let fact = column (λ (b : Block (List ℕ)). is_wanting (b.pair c).acquiring) n new s.block i in
+          cc (pair_is, of_block i);
       asks = λ i. asks_acquire c n source i whole g bytes mail named (sym (end.known.acquires n) ∙ idle);
     } in
     record {
@@ -125,11 +122,8 @@ end-acquire_asked {w} {c} n source whole g bytes mail {s} {f} width named idle p
       opened = rw past (opened-requested width end.kept.a_whole event end.opened);
       kept = kept.kept;
       accounted = kept.accounted;
-      copies = λ i some. cc (
-        copies,
-        end.copies i (sym (ap (λ (p : Perm). same_perm p Perm.None) (event.held i)) ∙ some),
-        set-part (λ (b : Block (List ℕ)). b.copy c) n new s.block refl i,
-      );
+      copies = λ i some. let fact = end.copies i (sym (ap (λ (p : Perm). same_perm p Perm.None) (event.held i))
+          ∙ some) in cc (copies, set-part (λ (b : Block (List ℕ)). b.copy c) n new s.block refl i);
       waiting = λ i storing. go i storing (cases_eq i n);
       live = closed ∙ end.live;
     }

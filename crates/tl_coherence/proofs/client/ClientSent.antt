@@ -44,12 +44,8 @@ pub opened-requested : {w : ℕ} {c : ℕ} {m : MessageA w} {asked asked' : ℕ 
 opened-requested {w} {m} {asked} {t} width none event open_ =
     let some = beats-positive (A m) width in
     record {
-      requests = λ source. cc (
-        pending-whole (RequestSource source) (A m) t none some,
-        open_.requests source,
-        some_cond (m.source == source) (a_beat_of m 0) (asked source),
-        event.asks source,
-      );
+      requests = λ source. let fact = some_cond (m.source == source) (a_beat_of m 0) (asked source) in
+          cc (pending-whole (RequestSource source) (A m) t none some, open_.requests source, event.asks source);
       releases = λ source. pending-whole (ReleaseSource source) (A m) t none some ∙ open_.releases source ∙ sym
           (ap is_some (event.lets source));
       released = λ source n is. ap (option_map (λ x. block_at x.address)) (release_of-whole source (A m) t none some)
@@ -107,19 +103,12 @@ opened-released {w} {c} {i} {m} {s} {t} width none event open_ =
     record {
       requests = λ source. pending-whole (RequestSource source) (C m) t none some ∙ open_.requests source ∙ sym
           (ap is_some (event.asks source));
-      releases = λ source. cc (
-        pending-whole (ReleaseSource source) (C m) t none some,
-        opens source,
-        open_.releases source,
-        some_cond (m.source == source) i (s.lets c source),
-        event.lets source,
-      );
-      released = λ source n is. cc (
-        release_of-whole source (C m) t none some,
-        names source,
-        last (m.source == source) n (λ x. block_at x.address) source (sym (event.lets source) ∙ is)
-            (λ e. event.of_block ∙ e) (open_.released source n),
-      );
+      releases = λ source. let fact = pending-whole (ReleaseSource source) (C m) t none some in let other_fact =
+          some_cond (m.source == source) i (s.lets c source) in
+          cc (opens source, open_.releases source, event.lets source);
+      released = λ source n is. let fact = last (m.source == source) n (λ x. block_at x.address) source
+          (sym (event.lets source) ∙ is) (λ e. event.of_block ∙ e) (open_.released source n) in
+          cc (release_of-whole source (C m) t none some, names source);
       sizes = λ source n is. ap (option_map (λ x. x.size)) (release_of-whole source (C m) t none some ∙ names source)
           ∙ size (m.source == source) n source (sym (event.lets source) ∙ is) (open_.sizes source n);
     }

@@ -102,11 +102,8 @@ end-release_ack_taken {w} {c} n x rest mail {s} {e} {f} is last plain acks from 
           (ap (λ (q : ClientBlock). q.held) pair_is) k;
       acquiring = λ k. set-part (λ (b : Block (List ℕ)). is_wanting (b.pair c).acquiring) n new s.block
           (ap (λ (q : ClientBlock). is_wanting q.acquiring) pair_is) k;
-      letting = λ k. cc (
-        column (λ (b : Block (List ℕ)). not (is_unreleased (b.pair c).letting)) n new s.block k,
-        pair_is,
-        swapped k n,
-      );
+      letting = λ k. let fact = column
+          (λ (b : Block (List ℕ)). not (is_unreleased (b.pair c).letting)) n new s.block k in cc (pair_is, swapped k n);
       lets = λ i. lets_now i (cases_eq i ((s.block n).release_source c));
       asks = λ i. asks-same c i mail mail s s' refl (inl refl) (λ j used. set-part (λ (b : Block (List ℕ)).
           (b.pair c).acquiring) n new s.block (ap (λ (q : ClientBlock). q.acquiring) pair_is) j)
@@ -118,12 +115,9 @@ end-release_ack_taken {w} {c} n x rest mail {s} {e} {f} is last plain acks from 
       opened = opened-heard echo event end.opened;
       kept = well.kept;
       accounted = well.accounted;
-      copies = λ k some. cc (
-        is,
-        end.copies k (sym (ap (λ (q : Perm). same_perm q Perm.None) (set-part (λ (b : Block (List ℕ)). (b.pair c).held)
-            n new s.block (ap (λ (q : ClientBlock). q.held) pair_is) k)) ∙ some),
-        set-part (λ (b : Block (List ℕ)). b.copy c) n new s.block refl k,
-      );
+      copies = λ k some. let fact = end.copies k (sym (ap (λ (q : Perm). same_perm q Perm.None) (set-part
+          (λ (b : Block (List ℕ)). (b.pair c).held) n new s.block (ap (λ (q : ClientBlock). q.held) pair_is) k))
+          ∙ some) in cc (is, set-part (λ (b : Block (List ℕ)). b.copy c) n new s.block refl k);
       waiting = λ k storing. ap (λ (g : Endpoint w). g.waiting k) is
           ∙ end.waiting k (sym (set-part (λ (b : Block (List ℕ)). is_whole (b.pair c).acquiring) n new s.block
           (ap (λ (q : ClientBlock). is_whole q.acquiring) pair_is) k) ∙ storing)
@@ -213,11 +207,8 @@ end-grant_taken {w} {c} {n} {whole} {data_too} {g} {k} {x} {payload} rest mail {
       source_is = closes.2;
       let_is = closes.3;
       held = λ i. cc (column (λ (b : Block (List ℕ)). (b.pair c).held) n new s.block i, pair_is, swapped i n);
-      acquiring = λ i. cc (
-        column (λ (b : Block (List ℕ)). is_wanting (b.pair c).acquiring) n new s.block i,
-        pair_is,
-        swapped i n,
-      );
+      acquiring = λ i. let fact = column (λ (b : Block (List ℕ)). is_wanting (b.pair c).acquiring) n new s.block i in
+          cc (pair_is, swapped i n);
       letting = λ i. ap not (set-part (λ (b : Block (List ℕ)). is_unreleased (b.pair c).letting) n new s.block
           (ap (λ (q : ClientBlock). is_unreleased q.letting) pair_is) i);
       lets = λ i. refl;
@@ -283,12 +274,8 @@ end-grant_taken {w} {c} {n} {whole} {data_too} {g} {k} {x} {payload} rest mail {
         ap₂_and p q = rw (p, q) refl
     copy_here i true false a b same =
         let and_true : (u : Bool) → u ≡ true → (u && true) ≡ true = λ u p. rw p refl in
-        cc (
-          chosen ((i == block_at (64 * n)) && true) (e.waiting i) (e.copies i)
-              (and_true (i == block_at (64 * n)) (here i same)),
-          same,
-          end.waiting n (ap is_whole is.wants ∙ a),
-        )
+        let fact = chosen ((i == block_at (64 * n)) && true) (e.waiting i) (e.copies i)
+        (and_true (i == block_at (64 * n)) (here i same)) in cc (same, end.waiting n (ap is_whole is.wants ∙ a))
     copy_here i false true a b same = chosen (i == block_at (64 * n)) (Some payload) (e.copies i) (here i same) ∙ ap
         Some (is.bytes b)
     copy_here i false false a b same = passed ((i == block_at (64 * n)) && false) (e.waiting i) (e.copies i)

@@ -69,13 +69,10 @@ else_grant {w} {config} {mail} {s} c n i rest h first sent =
     let asks = asks-acquire c ((s.block i).source c) i ((s.block i).source c) due.whole due.g mail s due.used due.wants
     refl in
     let elsewhere : asks_for n (asked_by mail s c ((s.block i).source c)) ≡ false =
-    ap (asks_for n) asks ∙ ap (λ (j : ℕ). j == n) (same_block i)
-    ∙ not_granted c n i rest h.invariant first sent in (
-      grant_message due.data_too due.k ((s.block i).source c) (s.block i).tracker (s.block i).truth,
-      grant-rendered c i s due,
-      and_right (is_grant (grant_opcode due.data_too)) (asks_for n (asked_by mail s c ((s.block i).source c)))
-          elsewhere,
-    )
+    ap (asks_for n) asks ∙ ap (λ (j : ℕ). j == n) (same_block i) ∙ not_granted c n i rest h.invariant first sent in
+    let fact = grant_message due.data_too due.k ((s.block i).source c) (s.block i).tracker (s.block i).truth in
+    let other_fact = and_right (is_grant (grant_opcode due.data_too))
+    (asks_for n (asked_by mail s c ((s.block i).source c))) elsewhere in (fact, grant-rendered c i s due, other_fact)
 
 else_ack : {w : ℕ} (mail : AccessMessages w) (s : State (List ℕ)) (c n i : ℕ)
     → IsElse n (asked_by mail s c) (block_message ReleaseAck c i (s.block i))

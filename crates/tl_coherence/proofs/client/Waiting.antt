@@ -56,10 +56,8 @@ unmoved n new block request same keeps is =
 -- one client's pair changes, and not what it wants
 unwanting : (c : ℕ) (p : ClientBlock) (b new : Block (List ℕ)) → ((d : ℕ) → new.pair d ≡ set c p b.pair d)
     → p.acquiring ≡ (b.pair c).acquiring → ((d : ℕ) → new.source d ≡ b.source d) → KeepsOpen b new
-unwanting c p b new pairs same sources r source k e = (
-  ap (λ (q : ClientBlock). q.acquiring) (pairs r) ∙ set-part (λ (q : ClientBlock). q.acquiring) c p b.pair same r,
-  sources r,
-)
+unwanting c p b new pairs same sources r source k e = let fact = ap (λ (q : ClientBlock). q.acquiring)
+    (pairs r) ∙ set-part (λ (q : ClientBlock). q.acquiring) c p b.pair same r in (fact, sources r)
 
 -- ---- requests
 

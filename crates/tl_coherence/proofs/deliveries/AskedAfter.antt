@@ -189,10 +189,7 @@ continues-ask {w} {config} {log} h c terms o width is known =
     let x = ask.asked terms o (sys.clients c) in
     let well = asked-well config log h sys c terms o width is known in
     let none : accesses_answered (stepped config (Ask c o) sys).handed ≡ [] =
-    ap (λ (y : Step w). accesses_answered y.handed) (stepped-asked config c o sys terms known)
-    ∙ none_answered c o x.reply h x.message well.reply well.message in (
-      after_reply c o x.reply (one_memory_after config log),
-      [],
-      (rw known refl, well.replies, refl),
-      ap (λ (l : List (ℕ × ℕ)). performing l (after_reply c o x.reply (one_memory_after config log))) none,
-    )
+    ap (λ (y : Step w). accesses_answered y.handed)
+    (stepped-asked config c o sys terms known) ∙ none_answered c o x.reply h x.message well.reply well.message in
+    let fact = ap (λ (l : List (ℕ × ℕ)). performing l (after_reply c o x.reply (one_memory_after config log))) none in
+    (after_reply c o x.reply (one_memory_after config log), [], (rw known refl, well.replies, refl), fact)

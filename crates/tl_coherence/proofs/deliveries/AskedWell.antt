@@ -63,10 +63,9 @@ asked-well {w} config log h sys c terms o width is known = asked-cases terms o e
     transfers : (n : ℕ) → (pending (AcquireOf n) e.past || pending (ReleaseOf n) e.past) ≡ false
         → (((s.block n).pair c).acquiring ≡ NoAcquire) × (((s.block n).pair c).letting ≡ NoRelease)
     transfers n none =
-        let parts = or_parts (pending (AcquireOf n) e.past) (pending (ReleaseOf n) e.past) none in (
-          calm-is ((s.block n).pair c).acquiring (sym ((is.known c).acquires n) ∙ parts.0),
-          kept-letting ((s.block n).pair c).letting (sym ((is.known c).releases n) ∙ parts.1),
-        )
+        let parts = or_parts (pending (AcquireOf n) e.past) (pending (ReleaseOf n) e.past) none in
+        let fact = kept-letting ((s.block n).pair c).letting (sym ((is.known c).releases n) ∙ parts.1) in
+        (calm-is ((s.block n).pair c).acquiring (sym ((is.known c).acquires n) ∙ parts.0), fact)
 
     caching : not (has_transfers terms.level) ≡ false → is_caching config c ≡ true
     caching four = caches config c terms.level level_is (not-false (has_transfers terms.level) four)
@@ -83,11 +82,9 @@ asked-well {w} config log h sys c terms o width is known = asked-cases terms o e
           word = tt;
           source = tt;
           reply = tt;
-          replies = cc (
-            copy_is (block_at address) some,
-            loaded_number m.memory address size
-                (s.block (block_at address)).truth (word_room address size word) (is.beside.memory (block_at address)),
-          );
+          replies = let fact = loaded_number m.memory address size (s.block (block_at address)).truth
+              (word_room address size word) (is.beside.memory (block_at address)) in
+              cc (copy_is (block_at address) some);
           message = refl;
         } in
         read address size word (ap (λ p. same_perm p Perm.None) f)
@@ -96,11 +93,9 @@ asked-well {w} config log h sys c terms o width is known = asked-cases terms o e
       word = tt;
       source = tt;
       reply = tt;
-      replies = cc (
-        copy_is (block_at address) (ap (λ p. same_perm p Perm.None) f),
-        loaded_number m.memory address size
-            (s.block (block_at address)).truth (word_room address size word) (is.beside.memory (block_at address)),
-      );
+      replies = let fact = loaded_number m.memory address size (s.block (block_at address)).truth
+          (word_room address size word) (is.beside.memory (block_at address)) in
+          cc (copy_is (block_at address) (ap (λ p. same_perm p Perm.None) f));
       message = refl;
     }
 

@@ -27,10 +27,9 @@ whole_fits : (recorded held : Perm) (d : Bool) (k : Cap) (g : Grow)
     → grant_fits recorded held d k (AcquireOpen true g) ≡ true → (same_perm recorded Perm.Trunk ≡ true) × (d ≡ false)
 whole_fits recorded held d k g e =
     let top = whole_cap g k (fits_cap recorded held d k true g e) in
-    let rest = and_right (cap_fits true g k) _ (and_right (same_perm recorded (cap_right k)) _ e) in (
-      sym (ap (λ (j : Cap). same_perm recorded (cap_right j)) top) ∙ and_left (same_perm recorded (cap_right k)) _ e,
-      not-true d (and_left (not d) _ rest),
-    )
+    let rest = and_right (cap_fits true g k) _ (and_right (same_perm recorded (cap_right k)) _ e) in let fact =
+    sym (ap (λ (j : Cap). same_perm recorded (cap_right j)) top) ∙ and_left (same_perm recorded (cap_right k)) _ e in
+    (fact, not-true d (and_left (not d) _ rest))
 
 pub bare : {w : ℕ} {caching : ℕ → Bool} {c n : ℕ} (h : AbstractState w) (due : IsGrantDue c n h.state)
     → IsInvariant caching h.state → IsBare c due.whole due.data_too due.k (h.state.block n)

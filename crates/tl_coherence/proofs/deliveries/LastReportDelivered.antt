@@ -156,12 +156,11 @@ reported-last {w} {config} {log} h {sys} {c} {n} {k} rest {m} is tokens answered
             } in
             let new : Block (List ℕ) = granted_block c q r (is_granted_data whole grow (b.pair q).recorded)
             (gift_after config c n r whole grow h) b in
-            let here : set n new h.state.block n ≡ new = set-same n new h.state.block in (
-              conceded-left rest at wanted,
-              ap (λ (d : Reaction w). d.handed) (reaction-conceded at wanted) ∙ ap (λ (i : Message w).
-                  (record { 0 = q }, i) ∷ []) (grant-rendered config c q n source r whole grow h own_source
-                  (subst (IsWell (is_caching config)) here (after.blocks n)) ∙ ap (block_message Grant q n) (sym here)),
-            )
+            let here : set n new h.state.block n ≡ new = set-same n new h.state.block in
+            let fact = ap (λ (d : Reaction w). d.handed) (reaction-conceded at wanted) ∙ ap (λ (i : Message w).
+            (record { 0 = q }, i) ∷ []) (grant-rendered config c q n source r whole grow h own_source
+            (subst (IsWell (is_caching config)) here (after.blocks n)) ∙ ap (block_message Grant q n) (sym here)) in
+            (conceded-left rest at wanted, fact)
 
     others : (y : Bool) → some_below (length config.clients.items) (others_probed c b.pair) ≡ y
         → IsInvariant (is_caching config) (if y then with_state (report_taken c n r rest h.state) h else last_taken
@@ -170,10 +169,9 @@ reported-last {w} {config} {log} h {sys} {c} {n} {k} rest {m} is tokens answered
         config.profile c n r b.service rest h) (if some_below (length config.clients.items) (others_probed c b.pair)
         then [] else pushed_last n b.service (if y then with_state (report_taken c n r rest h.state) h else last_taken
         (length config.clients.items) config.profile c n r b.service rest h))
-    others true f inv = (
-      reported-left r rest h up end f (at_manager-matched is),
-      ap (λ (d : Reaction w). d.handed) (reaction-reported config r h end f (at_manager-matched is).traced) ∙ rw f refl,
-    )
+    others true f inv = let fact = ap (λ (d : Reaction w). d.handed)
+        (reaction-reported config r h end f (at_manager-matched is).traced) ∙ rw f refl in
+        (reported-left r rest h up end f (at_manager-matched is), fact)
     others false f inv =
         let done = last f b.service refl inv in
         (done.0, done.1 ∙ rw f refl)

@@ -43,11 +43,10 @@ pub manager-taken : {w : ℕ} (config : Config) (c : ℕ) (ch : Channel) (x : Be
     → is_to_client ch ≡ false → IsTakenUp config c ch x sys.manager
     → (stepped config (Deliver (record { 0 = c }) ch) sys).after.manager
     ≡ left c x (reaction config (record { 0 = c }) x sys.manager) sys.manager
-manager-taken {w} config c ch x queue sys t terms beats down up = cc (
-  step-taken config c ch x queue sys t terms beats down up,
-  manager-with_messages (reaction config (record { 0 = c }) x sys.manager).handed (with_manager
-      (left c x (reaction config (record { 0 = c }) x sys.manager) sys.manager) (with_channel c ch queue sys)),
-)
+manager-taken {w} config c ch x queue sys t terms beats down up =
+    let fact = manager-with_messages (reaction config (record { 0 = c }) x sys.manager).handed (with_manager
+    (left c x (reaction config (record { 0 = c }) x sys.manager) sys.manager) (with_channel c ch queue sys)) in
+    cc (step-taken config c ch x queue sys t terms beats down up)
 
 -- and what the protocol does then
 pub followed-taken : {w : ℕ} {config : Config} {c : ℕ} {ch : Channel} {x : Beat w} (queue : List (Beat w))

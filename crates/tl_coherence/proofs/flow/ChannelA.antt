@@ -42,18 +42,12 @@ module _ {w : ℕ} {config : Config} {log : Log w} (h : AbstractState w) {sys : 
       record {
         access = asked.access;
         use_is = λ i e. ap (h.state.uses c) (sym (eqb-true asked.request.source i e) ∙ asked.source_is) ∙ asked.used;
-        asked_is = λ i e first. cc (
-          eqb-true asked.request.source i e,
-          asked.source_is,
-          asks-access c source asked.request h.mail h.state (ap is_access asked.used) asked.is_it,
-          zeroth first,
-        );
+        asked_is = λ i e first.
+            let fact = asks-access c source asked.request h.mail h.state (ap is_access asked.used) asked.is_it in
+            cc (eqb-true asked.request.source i e, asked.source_is, zeroth first);
         came = λ i. came-so (comes_in_request i) (asked.request.source == i) next refl (λ j. refl);
-        comes = λ i. cc (
-          rests Channel.A,
-          comes-so (comes_in_request i) y (unfinished_at sys c Channel.A) (asked.request.source == i) refl refl,
-          last,
-        );
+        comes = λ i. let fact = comes-so (comes_in_request i) y (unfinished_at sys c Channel.A)
+            (asked.request.source == i) refl refl in cc (rests Channel.A, last);
         blocks = λ m. if-part (λ (z : State (List ℕ)). z.block m) b refl refl;
         uses = λ i. uses b i;
         lets = λ i. if-part (λ (z : State (List ℕ)). z.lets c i) b refl refl;
@@ -136,21 +130,15 @@ module _ {w : ℕ} {config : Config} {log : Log w} (h : AbstractState w) {sys : 
           at = same_block n;
           use_is = λ i e. ap (s.uses c) (sym (eqb-true ((s.block n).source c) i e)) ∙ wanted.used;
           no_use = λ i e. unused-else c n i is.invariant.named e;
-          asks = λ i e. cc (
-            eqb-true ((s.block n).source c) i e,
-            asks-acquire c ((s.block n).source c) n
-                ((s.block n).source c) wanted.whole wanted.grow h.mail s wanted.used wanted.wants refl,
-          );
+          asks = λ i e. let fact = asks-acquire c ((s.block n).source c) n
+              ((s.block n).source c) wanted.whole wanted.grow h.mail s wanted.used wanted.wants refl in
+              cc (eqb-true ((s.block n).source c) i e);
           idle = rw free refl;
           quiet = quiet;
           coming = coming-granting c is;
           came = λ i. ap (comes_in_request i) one.1;
-          comes = λ i. cc (
-            rests_y Channel.A,
-            comes-so (comes_in_request i) (Beat.A y) (unfinished_at sys c Channel.A)
-                ((s.block n).source c == i) refl refl,
-            last_y,
-          );
+          comes = λ i. let fact = comes-so (comes_in_request i) (Beat.A y) (unfinished_at sys c Channel.A)
+              ((s.block n).source c == i) refl refl in cc (rests_y Channel.A, last_y);
           asked_is = asks;
           elsewhere = λ m ne. changed m ∙ set-other n m new s.block ne;
           uses = uses;

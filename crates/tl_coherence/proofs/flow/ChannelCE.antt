@@ -108,12 +108,8 @@ module _ {w : ℕ} {config : Config} {log : Log w} (h : AbstractState w) {sys : 
         (unfinished_at sys c Channel.C) (Message.C m) ms queue) next.beat_is next) refl (λ j. refl)
 
     comes : (i : ℕ) → comes_in_release i (rest' Channel.C) ≡ (not b && (is_release m.opcode && (m.source == i)))
-    comes i = cc (
-      rests_y Channel.C,
-      comes-so (comes_in_release i) (Beat.C (c_beat_of m next.k))
-          (unfinished_at sys c Channel.C) (is_release m.opcode && (m.source == i)) refl refl,
-      last_y,
-    )
+    comes i = let fact = comes-so (comes_in_release i) (Beat.C (c_beat_of m next.k)) (unfinished_at sys c Channel.C)
+        (is_release m.opcode && (m.source == i)) refl refl in cc (rests_y Channel.C, last_y)
 
   -- ---- a ProbeAck
 

@@ -51,12 +51,8 @@ module _ {w : ℕ} {config : Config} {log : Log w} (h : AbstractState w) {sys : 
     came i = came-so (comes_in_grant i) (is_grant m.opcode && (m.sink == i)) next_y refl (λ j. refl)
 
     comes : (i : ℕ) → comes_in_grant i (rest' Channel.D) ≡ (not b && (is_grant m.opcode && (m.sink == i)))
-    comes i = cc (
-      rests_y Channel.D,
-      comes-so (comes_in_grant i) (Beat.D (d_beat_of m next.k))
-          (unfinished_at sys c Channel.D) (is_grant m.opcode && (m.sink == i)) refl refl,
-      last_y,
-    )
+    comes i = let fact = comes-so (comes_in_grant i) (Beat.D (d_beat_of m next.k)) (unfinished_at sys c Channel.D)
+        (is_grant m.opcode && (m.sink == i)) refl refl in cc (rests_y Channel.D, last_y)
 
     -- and of a Grant of block j
     granted : (j : ℕ) → comes_granting j before (unfinished_at sys c Channel.D)
@@ -66,12 +62,9 @@ module _ {w : ℕ} {config : Config} {log : Log w} (h : AbstractState w) {sys : 
 
     grants : (asked' : ℕ → Option (BeatA w)) (j : ℕ)
         → comes_granting j asked' (rest' Channel.D) ≡ (not b && (is_grant m.opcode && asks_for j (asked' m.source)))
-    grants asked' j = cc (
-      rests_y Channel.D,
-      comes-so (comes_granting j asked') (Beat.D (d_beat_of m next.k))
-          (unfinished_at sys c Channel.D) (is_grant m.opcode && asks_for j (asked' m.source)) refl refl,
-      last_y,
-    )
+    grants asked' j = let fact = comes-so (comes_granting j asked') (Beat.D (d_beat_of m next.k))
+        (unfinished_at sys c Channel.D) (is_grant m.opcode && asks_for j (asked' m.source)) refl refl in
+        cc (rests_y Channel.D, last_y)
 
     begins_y : is_empty (unfinished Channel.D t) ≡ is_empty (unfinished_at sys c Channel.D)
     begins_y = ap is_empty (flowed.rest_is Channel.D)
@@ -243,11 +236,8 @@ module _ {w : ℕ} {config : Config} {log : Log w} (h : AbstractState w) {sys : 
         came = λ i. cc (came m x ms queue here rests b last i, grants-so due.data_too);
         comes = λ i. cc (comes m x ms queue here rests b last i, grants-so due.data_too);
         granted = λ j. cc (granted m x ms queue here rests b last j, grants-so due.data_too, asks j);
-        grants = λ j. cc (
-          grants m x ms queue here rests b last (asked_by h.mail (s_if b) c) j,
-          grants-so due.data_too,
-          asks_now b j,
-        );
+        grants = λ j. let fact = grants m x ms queue here rests b last (asked_by h.mail (s_if b) c) j in
+            cc (grants-so due.data_too, asks_now b j);
         asked_is = grant_asks n whole due.data_too due.k b;
         elsewhere = λ k ne. if-part (λ (z : State (List ℕ)). z.block k) b (set-other n k new s.block ne) refl;
         uses = uses b;

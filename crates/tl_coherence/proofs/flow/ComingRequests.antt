@@ -38,12 +38,10 @@ unfolding IsWaiting
 waiting_acquire {w} {config} {s} c n rest h first =
     let shows = first-shown h.invariant c Acquire refl first in
     let wants = and_left (is_wanting ((s.block n).pair c).acquiring) (is_unserved (view (s.block n).service c)) shows in
-    let asks = wanting-is ((s.block n).pair c).acquiring wants in (
-      acquisition (acquire_opcode asks.0) asks.1 ((s.block n).source c) n,
-      rendered-acquire c n (s.block n) asks.0 asks.1 asks.2,
-      ap (λ (u : SourceState). waits_on_a c u s) (acquire-used (is_caching config) c n s h.invariant wants)
-          ∙ and_right (is_wanting ((s.block n).pair c).acquiring) (is_unserved (view (s.block n).service c)) shows,
-    )
+    let asks = wanting-is ((s.block n).pair c).acquiring wants in let fact = acquisition (acquire_opcode asks.0) asks.1
+    ((s.block n).source c) n in let other_fact = ap (λ (u : SourceState). waits_on_a c u s) (acquire-used
+    (is_caching config) c n s h.invariant wants) ∙ and_right (is_wanting ((s.block n).pair c).acquiring) (is_unserved
+    (view (s.block n).service c)) shows in (fact, rendered-acquire c n (s.block n) asks.0 asks.1 asks.2, other_fact)
 
 comes_not : {w : ℕ} (c source : ℕ) (s : State (List ℕ)) (m : Message w) (k : ℕ) (rest : List (Beat w))
     → rest ≡ begun m k → IsWaiting c s m

@@ -108,12 +108,9 @@ flowed-access {w} {X} {c} {y} {first} {last} {asked} {rest} {rest'} {s} {s'} {t}
 
     same : (i : ℕ) → (y.source == i) ≡ false → is_requested c i (rest' Channel.A) (s'.uses c i) s' ≡ is_requested c i
         (rest Channel.A) (s.uses c i) s
-    same i e = cc (
-      use_at i false e,
-      off last (s.uses c i) Replied,
-      requested-rest c i (rest Channel.A) (rest' Channel.A) (s.uses c i) s s' is.blocks (is.comes i ∙ and_right
-          (not last) (y.source == i) e ∙ sym (is.came i ∙ and_right (not first) (y.source == i) e)),
-    )
+    same i e = let fact = requested-rest c i (rest Channel.A) (rest' Channel.A) (s.uses c i) s s' is.blocks (is.comes i
+        ∙ and_right (not last) (y.source == i) e ∙ sym (is.came i ∙ and_right (not first) (y.source == i) e)) in
+        cc (use_at i false e, off last (s.uses c i) Replied)
 
     requests : (i : ℕ) (here : Bool) → (y.source == i) ≡ here → is_requested c i (rest' Channel.A) (s'.uses c i) s'
         ≡ step first last (y.source == i) false (is_requested c i (rest Channel.A) (s.uses c i) s)
@@ -129,8 +126,5 @@ flowed-access {w} {X} {c} {y} {first} {last} {asked} {rest} {rest'} {s} {s'} {t}
     asked_still i e false f = of_other i y t f ∙ before.asked_is i (before.requests i ∙ sym (same i f) ∙ e)
 
     lets : (i : ℕ) → is_let_by c i (rest' Channel.C) (s'.lets c i) s' ≡ is_let_by c i (rest Channel.C) (s.lets c i) s
-    lets i = cc (
-      rests Channel.C,
-      is.lets i,
-      let_by-same c i (rest Channel.C) (s.lets c i) s s' (λ m. ap (λ (z : Block X). (z.pair c).letting) (is.blocks m)),
-    )
+    lets i = let fact = let_by-same c i (rest Channel.C) (s.lets c i) s s'
+        (λ m. ap (λ (z : Block X). (z.pair c).letting) (is.blocks m)) in cc (rests Channel.C, is.lets i)

@@ -99,11 +99,8 @@ flowed-acquire {w} {X} {c} {n} {y} {asked} {asked'} {rest} {rest'} {s} {s'} {t} 
   where
     same : (i : ℕ) → (y.source == i) ≡ false → is_requested c i (rest' Channel.A) (s'.uses c i) s' ≡ is_requested c i
         (rest Channel.A) (s.uses c i) s
-    same i e = cc (
-      is.uses i,
-      requested-apart c i n (rest Channel.A) (rest' Channel.A) (s.uses c i) s s' is.elsewhere
-          (is.comes i ∙ sym (is.came i)) (is.no_use i e),
-    )
+    same i e = let fact = requested-apart c i n (rest Channel.A) (rest' Channel.A) (s.uses c i) s s' is.elsewhere
+        (is.comes i ∙ sym (is.came i)) (is.no_use i e) in cc (is.uses i)
 
     requests : (i : ℕ) (here : Bool) → (y.source == i) ≡ here → is_requested c i (rest' Channel.A) (s'.uses c i) s'
         ≡ step true true (y.source == i) false (is_requested c i (rest Channel.A) (s.uses c i) s)
@@ -120,9 +117,5 @@ flowed-acquire {w} {X} {c} {n} {y} {asked} {asked'} {rest} {rest'} {s} {s'} {t} 
         (is.asked_is i)
 
     lets : (i : ℕ) → is_let_by c i (rest' Channel.C) (s'.lets c i) s' ≡ is_let_by c i (rest Channel.C) (s.lets c i) s
-    lets i = cc (
-      rests Channel.C,
-      is.lets i,
-      let_by-same c i (rest Channel.C) (s.lets c i) s s'
-          (part-block (λ (z : Block X). (z.pair c).letting) n s s' is.elsewhere is.letting_is),
-    )
+    lets i = let fact = let_by-same c i (rest Channel.C) (s.lets c i) s s' (part-block
+        (λ (z : Block X). (z.pair c).letting) n s s' is.elsewhere is.letting_is) in cc (rests Channel.C, is.lets i)

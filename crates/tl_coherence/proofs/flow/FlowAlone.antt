@@ -97,11 +97,8 @@ flowed-grant_ack {w} {X} {c} n toks y {asked} asked' {rest} rest' {s}
     s' = grant_ack_taken c n toks s
 
     lets : (i : ℕ) → is_let_by c i (rest' Channel.C) (s'.lets c i) s' ≡ is_let_by c i (rest Channel.C) (s.lets c i) s
-    lets i = cc (
-      rests Channel.C,
-      let_by-same c i (rest Channel.C) (s.lets c i) s s'
-          (set-part (λ (z : Block X). (z.pair c).letting) n new s.block refl),
-    )
+    lets i = let fact = let_by-same c i (rest Channel.C) (s.lets c i) s s'
+        (set-part (λ (z : Block X). (z.pair c).letting) n new s.block refl) in cc (rests Channel.C)
 
     answered_other : (m : ℕ) → is_answered ((s'.block m).pair c).probing ≡ true
         → is_answered ((s.block m).pair c).probing ≡ true
@@ -109,10 +106,8 @@ flowed-grant_ack {w} {X} {c} n toks y {asked} asked' {rest} rest' {s}
 
     probed : (m : ℕ) → is_answered ((s'.block m).pair c).probing ≡ true
         → probe_of m t ≡ Some (probe_beat m (cap_waited (s'.block m).service))
-    probed m e = cc (
-      before.probed m (answered_other m e),
-      set-part (λ (z : Block X). cap_waited z.service) n new s.block (no_cap b.service seen) m,
-    )
+    probed m e = let fact = set-part (λ (z : Block X). cap_waited z.service) n new s.block
+        (no_cap b.service seen) m in cc (before.probed m (answered_other m e))
       where
         no_cap : (q : Service) → view q c ≡ Acknowledging → cap_waited Free ≡ cap_waited q
         no_cap (Waits q own source k) f =
@@ -171,15 +166,9 @@ flowed-grant_ack {w} {X} {c} n toks y {asked} asked' {rest} rest' {s}
 
         go : (i ≡ b.tracker) ⊎ (i ≡ b.tracker → ⊥) → is_sunk c i (rest Channel.D) (s'.tracked i) s' ≡ step true true
             false (y.sink == i) (is_sunk c i (rest Channel.D) (s.tracked i) s)
-        go (inl same) = cc (
-          same,
-          set-same b.tracker None s.tracked,
-          closes_it
-              (is_sunk c i (rest Channel.D) (s.tracked i) s) (y.sink == i) (rw (sink, same) (same_number b.tracker)),
-        )
-        go (inr other) = cc (
-          set-other b.tracker i None s.tracked other,
-          others (s.tracked i) (named.trackers i n ∙ rw (busy, ne_eqb i b.tracker other) refl),
-          leaves_it (is_sunk c i (rest Channel.D) (s.tracked i) s)
-              (y.sink == i) (λ e. rw sink (ne_eqb b.tracker i (λ f. other (sym f)))),
-        )
+        go (inl same) = let fact = closes_it (is_sunk c i (rest Channel.D) (s.tracked i) s) (y.sink == i)
+            (rw (sink, same) (same_number b.tracker)) in cc (same, set-same b.tracker None s.tracked)
+        go (inr other) = let fact =
+            others (s.tracked i) (named.trackers i n ∙ rw (busy, ne_eqb i b.tracker other) refl) in let other_fact =
+            leaves_it (is_sunk c i (rest Channel.D) (s.tracked i) s) (y.sink == i)
+            (λ e. rw sink (ne_eqb b.tracker i (λ f. other (sym f)))) in cc (set-other b.tracker i None s.tracked other)

@@ -125,18 +125,12 @@ flowed-answer {w} {X} {c} {y} first {last} {asked} {asked'} {rest} {rest'} {s} {
         absurd (let g : false ≡ true =
         sym (use_at i ∙ ap (λ (z : Bool). is_requested c i (rest Channel.A) (if z then SourceFree else s.uses c i) s')
         f) ∙ e in cc)
-    asked_still i e false f = cc (
-      request_of-d i y t,
-      before.asked_is i (cc (before.requests i, same_requested i (s.uses c i), use_at i)),
-      is.asked_is i f,
-    )
+    asked_still i e false f = let fact = before.asked_is i
+        (cc (before.requests i, same_requested i (s.uses c i), use_at i)) in cc (request_of-d i y t, is.asked_is i f)
 
     lets : (i : ℕ) → is_let_by c i (rest' Channel.C) (s'.lets c i) s' ≡ is_let_by c i (rest Channel.C) (s.lets c i) s
-    lets i = cc (
-      rests Channel.C,
-      is.lets i,
-      let_by-same c i (rest Channel.C) (s.lets c i) s s' (λ m. ap (λ (z : Block X). (z.pair c).letting) (is.blocks m)),
-    )
+    lets i = let fact = let_by-same c i (rest Channel.C) (s.lets c i) s s'
+        (λ m. ap (λ (z : Block X). (z.pair c).letting) (is.blocks m)) in cc (rests Channel.C, is.lets i)
 
     grants : (m : ℕ) → granted_by c m asked' (rest' Channel.D) (s'.block m) ≡ granted_by c m asked (rest Channel.D)
         (s.block m)
@@ -246,11 +240,9 @@ flowed-let_go {w} {X} {c} {n} {y} {asked} {asked'} {rest} {rest'} {s} {s'} {t} f
 
     grants : (m : ℕ) → granted_by c m asked' (rest' Channel.D) (s'.block m) ≡ granted_by c m asked (rest Channel.D)
         (s.block m)
-    grants m = cc (
-      is.grants m,
-      part-block (granted_by c m asked (rest Channel.D)) n s s' is.elsewhere
-          (ap (λ (q : Service). is_acknowledging (view q c) || comes_granting m asked (rest Channel.D)) is.service) m,
-    )
+    grants m = let fact = part-block (granted_by c m asked (rest Channel.D)) n s s' is.elsewhere
+        (ap (λ (q : Service). is_acknowledging (view q c) || comes_granting m asked (rest Channel.D)) is.service) m in
+        cc (is.grants m)
 
     -- an open Release with another source is of another block
     other_source : (i m : ℕ) → s.lets c i ≡ Some m → (y.source == i) ≡ false → m ≡ n → ⊥
@@ -268,17 +260,10 @@ flowed-let_go {w} {X} {c} {n} {y} {asked} {asked'} {rest} {rest'} {s} {s'} {t} f
 
     lets : (i : ℕ) (z : Bool) → (y.source == i) ≡ z → is_let_by c i (rest' Channel.C) (s'.lets c i) s' ≡ step true true
         false (is_release_ack y.opcode && (y.source == i)) (is_let_by c i (rest Channel.C) (s.lets c i) s)
-    lets i true e = cc (
-      is.lets i,
-      e,
-      closed (is_release_ack y.opcode) (y.source == i) (is_let_by c i (rest Channel.C) (s.lets c i) s) is.ack e,
-    )
-    lets i false e = cc (
-      is.lets i,
-      e,
-      rest_same i (s.lets c i) refl e,
-      unclosed_by (is_release_ack y.opcode) (y.source == i) (is_let_by c i (rest Channel.C) (s.lets c i) s) e,
-    )
+    lets i true e = let fact = closed (is_release_ack y.opcode) (y.source == i)
+        (is_let_by c i (rest Channel.C) (s.lets c i) s) is.ack e in cc (is.lets i, e)
+    lets i false e = let fact = unclosed_by (is_release_ack y.opcode) (y.source == i)
+        (is_let_by c i (rest Channel.C) (s.lets c i) s) e in cc (is.lets i, e, rest_same i (s.lets c i) refl e)
 
     is_another : (i m : ℕ) → s'.lets c i ≡ Some m → (z : Bool) → (y.source == i) ≡ z → ((y.source == i) ≡ false)
         × (s.lets c i ≡ Some m)

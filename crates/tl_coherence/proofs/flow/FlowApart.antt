@@ -71,12 +71,10 @@ module _ {w : ℕ} {X : Type 0} (d : ℕ) (asked asked' : ℕ → Option (BeatA 
 
   sinks-same : (n : ℕ) (b : Block X) (s' : State X) → IsChanged n b s' → b.service ≡ (s.block n).service
       → ((i : ℕ) → s'.tracked i ≡ s.tracked i) → AreSameSinks s'
-  sinks-same n b s' changed same tracked i = cc (
-    tracked i,
-    sunk-as d i (rest Channel.D) (s.tracked i) s s' (λ m. ap (sunk_in d i (rest Channel.D)) (changed m) ∙ set-part
-        (sunk_in d i (rest Channel.D)) n b s.block (ap (λ (q : Service). is_acknowledging
-        (view q d) || (is_granting (view q d) && comes_in_grant i (rest Channel.D))) same) m),
-  )
+  sinks-same n b s' changed same tracked i = let fact =
+      sunk-as d i (rest Channel.D) (s.tracked i) s s' (λ m. ap (sunk_in d i (rest Channel.D)) (changed m) ∙ set-part
+      (sunk_in d i (rest Channel.D)) n b s.block (ap (λ (q : Service). is_acknowledging
+      (view q d) || (is_granting (view q d) && comes_in_grant i (rest Channel.D))) same) m) in cc (tracked i)
 
   sinks-outside : (n : ℕ) (b : Block X) (s' : State X) → IsChanged n b s'
       → is_outside (view (s.block n).service d) ≡ true → is_outside (view b.service d) ≡ true

@@ -122,10 +122,8 @@ untouched-release_asked {w} {X} c n source r asked asked' rest s free none kept 
           (cc (letting_is, set-same c source b.release_source, none, kept));
       sinks = λ i. sunk-as c i (rest Channel.D) (s.tracked i) s s'
           (set-part (sunk_in c i (rest Channel.D)) n new s.block refl);
-      grants = λ m. cc (
-        comes-same m asked asked' (rest Channel.D) asks,
-        set-part (granted_by c m asked (rest Channel.D)) n new s.block refl m,
-      );
+      grants = λ m. let fact = set-part (granted_by c m asked (rest Channel.D)) n new s.block refl m in
+          cc (comes-same m asked asked' (rest Channel.D) asks);
       probes = set-part (λ (z : Block X). is_answered (z.pair c).probing) n new s.block
           (ap (λ (p : ClientBlock). is_answered p.probing) pair);
       caps = λ m e. set-part (λ (z : Block X). cap_waited z.service) n new s.block refl m;

@@ -35,11 +35,9 @@ alone_answer : {w : ℕ} {config : Config} {log : Log w} {mail : AccessMessages 
     → IsGrantAlone c s (mail.answer c i)
 unfolding IsGrantAlone
 alone_answer {config} {mail} {s} c i rest h first =
-    let due = answer-due (is_caching config) c i rest mail s h.invariant (h.answered c i) first in (
-      due.answer,
-      due.answer_is,
-      never_grant (is_grant due.answer.opcode) (access_kind due.answer.opcode due.answers_access).0,
-    )
+    let due = answer-due (is_caching config) c i rest mail s h.invariant (h.answered c i) first in
+    let fact = never_grant (is_grant due.answer.opcode) (access_kind due.answer.opcode due.answers_access).0 in
+    (due.answer, due.answer_is, fact)
 
 alone_grant : {w : ℕ} {config : Config} {log : Log w} {mail : AccessMessages w} {request : ℕ → MessageA w}
     {s : State (List ℕ)} {sys : System w} (c n : ℕ)
@@ -47,11 +45,9 @@ alone_grant : {w : ℕ} {config : Config} {log : Log w} {mail : AccessMessages w
     → IsGrantAlone {w = w} c s (block_message Grant c n (s.block n))
 unfolding IsGrantAlone
 alone_grant {config} {s} c n rest h first =
-    let due = grant-due (is_caching config) c n rest s h.invariant first in (
-      grant_message due.data_too due.k ((s.block n).source c) (s.block n).tracker (s.block n).truth,
-      grant-rendered c n s due,
-      λ e. (n, due, refl, refl),
-    )
+    let due = grant-due (is_caching config) c n rest s h.invariant first in
+    let fact = grant_message due.data_too due.k ((s.block n).source c) (s.block n).tracker (s.block n).truth in
+    (fact, grant-rendered c n s due, λ e. (n, due, refl, refl))
 
 alone_ack : (w : ℕ) (s : State (List ℕ)) (c n : ℕ) → IsGrantAlone {w = w} c s (block_message ReleaseAck c n (s.block n))
 unfolding IsGrantAlone block_message

@@ -214,13 +214,9 @@ flowed-grant {w} {X} {c} {n} {d} {k} {y} {first} {last} {asked} {asked'} {rest} 
         (not (is_release_ack y.opcode) && (y.source == i)) (is_requested c i (rest Channel.A) (s.uses c i) s)
     requests i true true e f = ap not (sym e) ∙ sym (closed first last (is_release_ack y.opcode) (y.source == i)
         (is_requested c i (rest Channel.A) (s.uses c i) s) is.ack f (was_requested i f))
-    requests i false true e f = cc (
-      is.use_is i f,
-      now_requested last d k (view new.service c) is.seen_is e,
-      e,
-      closed first last (is_release_ack y.opcode) (y.source == i) (is_requested c i (rest Channel.A) (s.uses c i) s)
-          is.ack f (was_requested i f),
-    )
+    requests i false true e f = let fact = closed first last (is_release_ack y.opcode) (y.source == i)
+        (is_requested c i (rest Channel.A) (s.uses c i) s) is.ack f (was_requested i f) in
+        cc (is.use_is i f, now_requested last d k (view new.service c) is.seen_is e, e)
     requests i true false e f = requested-apart c i n (rest Channel.A) (rest Channel.A) (s.uses c i) s s' is.elsewhere
         refl (is.no_use i f) ∙ sym (unclosed_by first last (not (is_release_ack y.opcode)) (y.source == i)
         (is_requested c i (rest Channel.A) (s.uses c i) s) f)
@@ -244,24 +240,17 @@ flowed-grant {w} {X} {c} {n} {d} {k} {y} {first} {last} {asked} {asked'} {rest} 
         cc (request_of-d i y t, before.asked_is i (was_pending i (cc (use_at i)) (y.source == i) refl), is.asked_is i f)
 
     lets : (i : ℕ) → is_let_by c i (rest' Channel.C) (s'.lets c i) s' ≡ is_let_by c i (rest Channel.C) (s.lets c i) s
-    lets i = cc (
-      rests Channel.C,
-      is.lets i,
-      let_by-same c i (rest Channel.C) (s.lets c i) s s'
-          (part-block (λ (z : Block X). (z.pair c).letting) n s s' is.elsewhere is.letting_is),
-    )
+    lets i = let fact = let_by-same c i (rest Channel.C) (s.lets c i) s s' (part-block
+        (λ (z : Block X). (z.pair c).letting) n s s' is.elsewhere is.letting_is) in cc (rests Channel.C, is.lets i)
 
     sinks : (i : ℕ) (z : Bool) (o : Option ℕ) → (y.sink == i) ≡ z → s.tracked i ≡ o → is_sunk c i (rest' Channel.D) o s'
         ≡ step first last (is_grant y.opcode && (y.sink == i)) false (is_sunk c i (rest Channel.D) o s)
     sinks i true o e f =
         let at_n : o ≡ Some n = sym f ∙ is.tracks i e in
-        cc (
-          at_n,
-          now_sunk last d k (view new.service c) (comes_in_grant i (rest' Channel.D)) is.seen_is (is.comes i
-              ∙ with_true (not last) (y.sink == i) e),
-          opened first last (is_grant y.opcode) (y.sink == i) (is_sunk c i (rest Channel.D) o s) is.grant e
-              (cc (at_n, is.seen, is.came i, with_true (not first) (y.sink == i) e)),
-        )
+        let fact = now_sunk last d k (view new.service c) (comes_in_grant i (rest' Channel.D)) is.seen_is
+        (is.comes i ∙ with_true (not last) (y.sink == i) e) in let other_fact =
+        opened first last (is_grant y.opcode) (y.sink == i) (is_sunk c i (rest Channel.D) o s) is.grant e
+        (cc (at_n, is.seen, is.came i, with_true (not first) (y.sink == i) e)) in cc at_n
     sinks i false None e f = sym (unbegun first last (is_grant y.opcode && (y.sink == i)) false
         (and_right (is_grant y.opcode) (y.sink == i) e))
     sinks i false (Some m) e f = cc (

@@ -95,11 +95,8 @@ flowed-probe {w} {X} {c} n k toks {asked} asked' {rest} rest' {s} {t} first last
     letting_same = part_of (λ (p : ClientBlock). p.letting) c (after_probe k (b.pair c)) b.pair refl
 
     lets : (i : ℕ) → is_let_by c i (rest' Channel.C) (s'.lets c i) s' ≡ is_let_by c i (rest Channel.C) (s.lets c i) s
-    lets i = cc (
-      rests Channel.C,
-      let_by-same c i (rest Channel.C) (s.lets c i) s s'
-          (set-part (λ (z : Block X). (z.pair c).letting) n new s.block letting_same),
-    )
+    lets i = let fact = let_by-same c i (rest Channel.C) (s.lets c i) s s'
+        (set-part (λ (z : Block X). (z.pair c).letting) n new s.block letting_same) in cc (rests Channel.C)
 
     probed : (m : ℕ) → is_answered ((s'.block m).pair c).probing ≡ true
         → (if true && (block_at (64 * n) == m) then Some y else probe_of m t) ≡ Some

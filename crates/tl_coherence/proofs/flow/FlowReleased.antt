@@ -224,24 +224,16 @@ flowed-release {w} {X} {c} {n} {r} {y} {first} {last} {asked} {rest} {rest'} {s}
         same (Some m) = cc (part-block (λ (z : Block X). z.service) n s s' is.elsewhere is.service m)
 
     then_by : (i : ℕ) (o : Option ℕ) → s.lets c i ≡ o → i ≡ y.source → is_let_by c i (rest Channel.C) o s ≡ not first
-    then_by i o e same = cc (
-      e,
-      of_block i same,
-      let_then i first r (rest Channel.C) (b.pair c).letting is.letting
-          (is.came i ∙ with_true (not first) (y.source == i) (rw same (same_number y.source))),
-    )
+    then_by i o e same = let fact = let_then i first r (rest Channel.C) (b.pair c).letting is.letting
+        (is.came i ∙ with_true (not first) (y.source == i) (rw same (same_number y.source))) in cc (e, of_block i same)
 
     lets_with : (i : ℕ) (o : Option ℕ) → s.lets c i ≡ o → (i ≡ y.source) ⊎ (i ≡ y.source → ⊥)
         → is_let_by c i (rest' Channel.C) o s' ≡ step first last (is_release y.opcode && (y.source == i)) false
         (is_let_by c i (rest Channel.C) o s)
-    lets_with i o e (inl same) = cc (
-      e,
-      of_block i same,
-      let_now i last r (rest' Channel.C) (new.pair c).letting is.letting_is (is.comes i
-          ∙ with_true (not last) (y.source == i) (rw same (same_number y.source))),
-      opened first last (is_release y.opcode) (y.source == i) (is_let_by c i (rest Channel.C) o s) is.release
-          (rw same (same_number y.source)) (then_by i o e same),
-    )
+    lets_with i o e (inl same) = let fact = let_now i last r (rest' Channel.C) (new.pair c).letting is.letting_is
+        (is.comes i ∙ with_true (not last) (y.source == i) (rw same (same_number y.source))) in let other_fact =
+        opened first last (is_release y.opcode) (y.source == i) (is_let_by c i (rest Channel.C) o s) is.release
+        (rw same (same_number y.source)) (then_by i o e same) in cc (e, of_block i same)
     lets_with i None e (inr ne) = sym (unopened first last (is_release y.opcode) (y.source == i) false (another i ne))
     lets_with i (Some m) e (inr ne) = cc (
       is.elsewhere m (λ f. let g : (n == n) ≡ false = sym (rw (e, f) refl) ∙ of_no_block i ne in

@@ -36,11 +36,8 @@ flow-answer {w} {config} {log} {mail} {request} {s} {sys} {c} {source} h flowed 
     (unfinished Channel.A (on_link c sys.manager.trace)) u s) due.used in
     answer-legal config.profile (record {
       whole = (flowed c).rest_is Channel.D ∙ whole;
-      complete = cc (
-        (flowed c).rest_is Channel.A,
-        due.from,
-        not-coming_a c source h (ap (λ (u : SourceState). waits_on_a c u s) due.used),
-      );
+      complete = let fact = not-coming_a c source h (ap (λ (u : SourceState). waits_on_a c u s) due.used) in
+          cc ((flowed c).rest_is Channel.A, due.from);
       other = kind.1;
       live = ap (λ (i : ℕ). pending (RequestSource i) (flow c log)) due.from ∙ live;
       request = ap (λ (i : ℕ). request_of i (flow c log)) due.from ∙ (flowed c).asked_is source live ∙ asks;
@@ -87,10 +84,8 @@ flow-grant {w} {config} {log} {mail} {request} {s} {sys} {c} {n} h flowed due gi
     grant-legal config.profile n
     (record {
       whole = (flowed c).rest_is Channel.D ∙ whole;
-      complete = cc (
-        (flowed c).rest_is Channel.A,
-        not-coming_a c source h (ap (λ (u : SourceState). waits_on_a c u s) due.used ∙ ap is_unserved mine),
-      );
+      complete = let fact = not-coming_a c source h (ap (λ (u : SourceState). waits_on_a c u s) due.used
+          ∙ ap is_unserved mine) in cc ((flowed c).rest_is Channel.A);
       other = no_ack_grant due.data_too;
       live = live;
       request = (flowed c).asked_is source live ∙ asks;

@@ -34,12 +34,9 @@ else_answer : {w : ℕ} {config : Config} {log : Log w} {mail : AccessMessages w
     → IsElse sink (mail.answer c i)
 unfolding IsElse
 else_answer {config} {mail} {s} c sink i rest h first =
-    let due = answer-due (is_caching config) c i rest mail s h.invariant (h.answered c i) first in (
-      due.answer,
-      due.answer_is,
-      first_false (is_grant due.answer.opcode) (due.answer.sink == sink)
-          (access_kind due.answer.opcode due.answers_access).0,
-    )
+    let due = answer-due (is_caching config) c i rest mail s h.invariant (h.answered c i) first in let fact =
+    first_false (is_grant due.answer.opcode) (due.answer.sink == sink)
+    (access_kind due.answer.opcode due.answers_access).0 in (due.answer, due.answer_is, fact)
 
 -- a Grant that is on its way has another block's tracker for its sink
 else_grant : {w : ℕ} {config : Config} {log : Log w} {mail : AccessMessages w} {request : ℕ → MessageA w}
@@ -54,12 +51,10 @@ else_grant {w} {config} {s} c n i rest h first taken =
     let theirs : s.tracked (s.block n).tracker ≡ Some n = tracker-of n h.invariant.named (rw taken refl) in
     let apart : (s.block i).tracker ≡ (s.block n).tracker → ⊥ =
     λ e. not_both c due.data_too due.k (s.block i).service due.service
-    (ap (λ (j : ℕ). (s.block j).service) (same_Some i n (sym mine ∙ ap s.tracked e ∙ theirs)) ∙ taken) in (
-      grant_message due.data_too due.k ((s.block i).source c) (s.block i).tracker (s.block i).truth,
-      grant-rendered c i s due,
-      and_right (is_grant (grant_opcode due.data_too)) ((s.block i).tracker == (s.block n).tracker)
-          (ne_eqb (s.block i).tracker (s.block n).tracker apart),
-    )
+    (ap (λ (j : ℕ). (s.block j).service) (same_Some i n (sym mine ∙ ap s.tracked e ∙ theirs)) ∙ taken) in
+    let fact = grant_message due.data_too due.k ((s.block i).source c) (s.block i).tracker (s.block i).truth in
+    let other_fact = and_right (is_grant (grant_opcode due.data_too)) ((s.block i).tracker == (s.block n).tracker)
+    (ne_eqb (s.block i).tracker (s.block n).tracker apart) in (fact, grant-rendered c i s due, other_fact)
 
 else_ack : {w : ℕ} (mail : AccessMessages w) (s : State (List ℕ)) (c sink i : ℕ)
     → IsElse {w = w} sink (block_message {w = w} ReleaseAck c i (s.block i))

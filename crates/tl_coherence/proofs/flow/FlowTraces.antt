@@ -106,14 +106,12 @@ all-good : {w : ℕ} {config : Config} (log : Log w) → IsGiven config log
 unfolding AreGood trace_of flow
 all-good [] given = tt
 all-good {config} ((Ask client op, o) ∷ log) given = all-good log (given-before config (Ask client op, o) log given)
-all-good {config} ((Deliver link ch, Outcome.Moved x) ∷ log) given = (
-  delivered-unbroken config log link ch (Outcome.Moved x) x given refl (taken link x (flow link.0 log)),
-  all-good log (given-before config (Deliver link ch, Outcome.Moved x) log given),
-)
-all-good {config} ((Deliver link ch, Outcome.Done x source f) ∷ log) given = (
-  delivered-unbroken config log link ch (Outcome.Done x source f) x given refl (taken link x (flow link.0 log)),
-  all-good log (given-before config (Deliver link ch, Outcome.Done x source f) log given),
-)
+all-good {config} ((Deliver link ch, Outcome.Moved x) ∷ log) given =
+    let fact = delivered-unbroken config log link ch (Outcome.Moved x) x given refl (taken link x (flow link.0 log)) in
+    (fact, all-good log (given-before config (Deliver link ch, Outcome.Moved x) log given))
+all-good {config} ((Deliver link ch, Outcome.Done x source f) ∷ log) given = let fact =
+    delivered-unbroken config log link ch (Outcome.Done x source f) x given refl (taken link x (flow link.0 log)) in
+    (fact, all-good log (given-before config (Deliver link ch, Outcome.Done x source f) log given))
 all-good {config} ((Deliver link ch, Outcome.Replied r) ∷ log) given =
     all-good log (given-before config (Deliver link ch, Outcome.Replied r) log given)
 all-good {config} ((Deliver link ch, Outcome.Empty) ∷ log) given =

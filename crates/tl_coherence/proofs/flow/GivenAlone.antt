@@ -110,12 +110,9 @@ one-writer {w} {config} {log} given one other n ne trunk =
     λ c. (flowed config log given.width given.typed given.is_log c).held_is n in
     let most : (c : ℕ) → perm_le (held_by c b) (b.pair c).recorded ≡ true = λ c. held_by_most c b (view b.service c)
     (held_at_most (b.pair c) (view b.service c) ((at.invariant.blocks n).phases c)) in
-    cc (
-      trace-flows other log,
-      values other,
-      none_below (held_by other b) (b.pair other).recorded (most other) ((at.invariant.blocks n).one_owner one other
-          (trunk_below (held_by one b) (b.pair one).recorded (most one) (cc (values one, trace-flows one log))) ne),
-    )
+    let fact = none_below (held_by other b) (b.pair other).recorded (most other)
+    ((at.invariant.blocks n).one_owner one other (trunk_below (held_by one b) (b.pair one).recorded (most one)
+    (cc (values one, trace-flows one log))) ne) in cc (trace-flows other log, values other)
 
 pub apart : {w : ℕ} (config : Config) (log : Log w) → IsGiven config log → IsApart log
 apart config log given = record {

@@ -25,12 +25,10 @@ not_nobody : {w : ℕ} (r : Reply) → ◌≡◌ {A = Outcome w} Outcome.NoSuchC
 not_nobody r e = cc
 
 pub hidden_stores : {w : ℕ} → HiddenStores w
-hidden_stores {w} config log given c address size value stored = cc (
-  trace-flows c log,
-  (flowed config log given.width given.typed given.is_log c).held_is (block_at address),
-  still_trunk (is_granting (view b.service c)) (b.pair c).held (b.pair c).recorded (held_at_most (b.pair c)
-      (view b.service c) ((is.invariant.blocks (block_at address)).phases c)) (go (terms_at config c) refl),
-)
+hidden_stores {w} config log given c address size value stored =
+    let fact = still_trunk (is_granting (view b.service c)) (b.pair c).held (b.pair c).recorded (held_at_most (b.pair c)
+    (view b.service c) ((is.invariant.blocks (block_at address)).phases c)) (go (terms_at config c) refl) in
+    cc (trace-flows c log, (flowed config log given.width given.typed given.is_log c).held_is (block_at address))
   where
     h : AbstractState w
     h = shadow config log

@@ -60,10 +60,9 @@ module _ {w : â„•} (config : Config) (log : Log w) (h : AbstractState w) (c : â„
           let due = grant-due (is_caching config) c i first.rest s is.invariant tokens in
           grant i (record {
             due = due;
-            beat_is = cc (
-              same_beat y (d_beat_of (grant_sent c i s due) next.k) (cc (next.beat_is, grant-rendered c i s due)),
-              place (message_of_kind Grant h.mail s c i) next.k next.rest_is,
-            );
+            beat_is = let fact =
+                same_beat y (d_beat_of (grant_sent c i s due) next.k) (cc (next.beat_is, grant-rendered c i s due)) in
+                cc (place (message_of_kind Grant h.mail s c i) next.k next.rest_is);
           })
       go ReleaseAck i tokens own next =
           ack i next.k (same_beat y (d_beat_of (ack_message ((s.block i).release_source c)) next.k) next.beat_is)

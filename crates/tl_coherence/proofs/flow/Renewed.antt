@@ -148,11 +148,9 @@ renewed-kind_taken {w} {config} tracker c k i rest h is first ready =
 
         found : (x : Option Cap) → cap_probed m.opcode m.param ≡ x → probes_some clients c false x b.pair ≡ false
             → ((d : ℕ) → leaves (needs m.opcode) (b.pair d).recorded ≡ true) × (answers m b.memory ≡ answers m b.truth)
-        found None f e = (
-          λ d. leaves_all m.opcode m.param (b.pair d).recorded plain f,
-          ap (λ r. access_answer m (answer_of (Message.A m) r))
-              (intent-reply m (bytes_at n b.memory) (bytes_at n b.truth) f),
-        )
+        found None f e = let fact = ap (λ r. access_answer m (answer_of (Message.A m) r))
+            (intent-reply m (bytes_at n b.memory) (bytes_at n b.truth) f) in
+            (λ d. leaves_all m.opcode m.param (b.pair d).recorded plain f, fact)
         found (Some j) f e = (
           λ d. leaves_within m.opcode m.param j (b.pair d).recorded plain f (above_le j (b.pair d).recorded
               (unprobed clients (is_caching config) c false j b.pair (plain-past config) (is.invariant.blocks n).outside

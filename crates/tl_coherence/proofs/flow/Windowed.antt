@@ -57,12 +57,9 @@ module _ {w : ℕ} (config : Config) (log : Log w) (h : AbstractState w) (sys : 
   pending_flow = cc ((values c).requests source, used)
 
   pub asked_flow : request_of source (flow c log) ≡ Some (a_beat_of m 0)
-  asked_flow = cc (
-    (values c).asked_is source pending_flow,
-    asked_replied (h.state.uses c source) (h.mail.request c source) (block_message Acquire c
-        (block_used (h.state.uses c source)) (h.state.block (block_used (h.state.uses c source)))) used,
-    request,
-  )
+  asked_flow = let fact = asked_replied (h.state.uses c source) (h.mail.request c source) (block_message Acquire c
+      (block_used (h.state.uses c source)) (h.state.block (block_used (h.state.uses c source)))) used in
+      cc ((values c).asked_is source pending_flow, request)
 
   -- its request is pending and complete
   pub opened-now : is_some (open_request source (on_link c (trace_of log))) ≡ true

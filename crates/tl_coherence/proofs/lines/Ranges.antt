@@ -33,11 +33,8 @@ IsRangedMessage (Message.E m) = m.sink < 2 ^ 8
 
 ranged-lanes : (w : ℕ) (carries : Bool) (payload : List ℕ) (k : ℕ) → AreBytes payload
     → IfSome (lanes_at carries w payload k) (λ lanes. length lanes ≡ w) → HasLanes w (lanes_at carries w payload k)
-ranged-lanes w true payload k bytes long = (
-  long,
-  All-take (λ byte. byte < 2 ^ 8) (w * k + w - w * k) (drop (w * k) payload)
-      (All-drop (λ byte. byte < 2 ^ 8) (w * k) payload bytes),
-)
+ranged-lanes w true payload k bytes long = let fact = All-take (λ byte. byte < 2 ^ 8) (w * k + w - w * k)
+    (drop (w * k) payload) (All-drop (λ byte. byte < 2 ^ 8) (w * k) payload bytes) in (long, fact)
 ranged-lanes w false payload k bytes long = tt
 
 -- an address inside the map

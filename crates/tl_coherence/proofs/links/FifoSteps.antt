@@ -17,13 +17,8 @@ IsInOrder sent queue taken = sent ≡ reverse queue ++ taken
 push_order : {w : ℕ} (b : Bool) (m : Message w) (sent queue own taken : List (Beat w)) → (b ≡ true → own ≡ queue)
     → IsInOrder sent queue taken
     → IsInOrder (if b then burst_of m ++ sent else sent) (if b then own ++ beats_from m 0 (beats_of m) else queue) taken
-push_order true m sent queue own taken same is = cc (
-  is,
-  append_assoc (burst_of m) (reverse queue) taken,
-  reverse-beats_from m (beats_of m),
-  reverse-append queue (beats_from m 0 (beats_of m)),
-  same refl,
-)
+push_order true m sent queue own taken same is = let fact = reverse-append queue (beats_from m 0 (beats_of m)) in
+    cc (is, append_assoc (burst_of m) (reverse queue) taken, reverse-beats_from m (beats_of m), same refl)
 push_order false m sent queue own taken same is = is
 
 pop_order : {w : ℕ} (b : Bool) (x : Beat w) (rest sent queue taken : List (Beat w)) → (b ≡ true → queue ≡ x ∷ rest)

@@ -264,11 +264,9 @@ pub are_served-traced : {w : ℕ} {X : Type 0} {caching : ℕ → Bool} {config 
     {s : State X} {e : End w} → IsInvariant caching s
     → IsKept config e → IsTraced request s e.trace → ServedSourceRelation request s e.trace
 are_served-traced {w} {X} {caching} {config} {request} {s} {e} inv kept is = record {
-  sources = λ c source. cc (
-    source-pending c source e.trace kept.steady.accounted,
-    sources-traced inv kept is c source,
-    or_comm (comes_in_request source (unfinished Channel.A (on_link c e.trace))) (is_served c (s.uses c source) s),
-  );
+  sources = λ c source. let fact =
+      or_comm (comes_in_request source (unfinished Channel.A (on_link c e.trace))) (is_served c (s.uses c source) s) in
+      cc (source-pending c source e.trace kept.steady.accounted, sources-traced inv kept is c source);
   sinks = λ c sink. sink-pending c sink e.trace kept.sinks ∙ sinks-traced inv kept is c sink;
   requests = is.requests;
   asked = is.asked;

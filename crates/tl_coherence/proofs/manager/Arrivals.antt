@@ -156,11 +156,8 @@ pub served-last : {w : ℕ} {config : Config} {c k : ℕ} {m : MessageA w} {e : 
     → beats_of (A m) ≡ suc k → IsServed (link_of c) (a_beat_of m k) (service_for c m e.trace) e.trace
 served-last {w} {config} {c} {k} {m} {e} is last = record {
   last = ends-coming is ∙ rw last (is_last k (suc k) (omega arith));
-  made = cc (
-    is.burst,
-    request-again m (begun (A m) (suc k)) is.width
-        (request-filled m k is.width last is.typed is.blank) (ap (begun (A m)) (sym last), is.blank),
-  );
+  made = let fact = request-again m (begun (A m) (suc k)) is.width (request-filled m k is.width last is.typed is.blank)
+      (ap (begun (A m)) (sym last), is.blank) in cc is.burst;
 }
   where
     with_tracker : MessageA w → Service w

@@ -31,12 +31,8 @@ given-records {w} {q} {n} {m} {u} is d i = go (q == d) refl
 
     go : (b : Bool) → (q == d) ≡ b → recorded d i (after_sent (record { 0 = q }) (D m) u)
         ≡ (if b && (n == i) then capped m.param else recorded d i u)
-    go true e = cc (
-      own_link d (record { 0 = q }) (D m) u e,
-      held-sent_d i m (on_link d u) (rw (eqb-true q d e) at is.whole) (beats-positive (D m) is.width),
-      grants_it is d i e,
-      said (n == i),
-    )
+    go true e = let fact = held-sent_d i m (on_link d u) (rw (eqb-true q d e) at is.whole) (beats-positive
+        (D m) is.width) in cc (own_link d (record { 0 = q }) (D m) u e, grants_it is d i e, said (n == i))
     go false e = ap (held i) (other_link d (record { 0 = q }) (D m) u e)
 
 -- ---- one client of one block has another pair than it had in the block's place

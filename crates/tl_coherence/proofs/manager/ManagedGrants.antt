@@ -33,13 +33,8 @@ conceded-given {c} {q} {source} {x} {t} is = record {
   width = is.grant.reply.width;
   whole = is.grant.reply.whole;
   grants = is.grant.grants;
-  asks = λ i. cc (
-    is.grant.reply.source,
-    is.source_is,
-    (quiet-c (record { 0 = c }) x t).requests q source,
-    is.asked,
-    is.block_is,
-  );
+  asks = λ i. let fact = (quiet-c (record { 0 = c }) x t).requests q source in
+      cc (is.grant.reply.source, is.source_is, is.asked, is.block_is);
 }
 
 pub traced-conceded : {w : ℕ} {X : Type 0} {request : ℕ → MessageA w} {c q n source : ℕ} {k gift : Cap} {r : Report}

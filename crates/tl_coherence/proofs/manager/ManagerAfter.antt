@@ -84,11 +84,8 @@ ends-it {k} {m} is = rw (is.rest, length-begun (Message.C m) k) (is_last k (beat
 pub payload-end : {w : ℕ} {b : Bool} {c n param : ℕ} {carries : Bool} {truth : List ℕ} {k : ℕ} {m : MessageC w}
     {e : End w} → IsEnd b c n param carries truth k m e → carries ≡ true
     → payload_of (Beat.C (c_beat_of m k) ∷ unfinished Channel.C (on_link c e.trace)) ≡ truth
-payload-end {w} {k} {m} is some = cc (
-  is.rest,
-  payload-c m (begun (Message.C m) (suc k)) is.width is.about.long (whole, is.about.blank),
-  is.about.payload_is some,
-)
+payload-end {w} {k} {m} is some = let fact = payload-c m (begun (Message.C m) (suc k)) is.width is.about.long
+    (whole, is.about.blank) in cc (is.rest, is.about.payload_is some)
   where
     whole : begun (Message.C m) (suc k) ≡ burst_of (Message.C m)
     whole = let all : suc k ≡ beats_of (Message.C m) = omega (arith, is.last) in

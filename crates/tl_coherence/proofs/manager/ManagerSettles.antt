@@ -171,15 +171,11 @@ reaction-conceded {w} {config} {c} {q} {n} {source} {k} {low} {r} {whole} {g} {m
     let sent : grant_of (GrantSent q (is_granted_data whole g ((h.state.block n).pair q).recorded)
     (gift config.profile whole g unheld)) (h.request n).source (h.state.block n).tracker (block_in memory n)
     ≡ grant_after config c q n source r whole g h = rw (for.1, settling-memory at) refl in
-    cc (
-      settling-reaction at,
-      performed-acquire config (service_for q n h.request h.state) u memory for.0,
-      grant-made config q n (h.state.block n).tracker (h.request n) u memory whole g unheld
-          ((h.state.block n).pair q).recorded wanted.opcode_is wanted.param_is for.2 none
-          (settling-records at q ∙ (ap (λ (p : ClientBlock). p.recorded) (set-other c q
-          (after_report r ((h.state.block n).pair c)) (h.state.block n).pair (λ f. wanted.apart (sym f))))),
-      sent,
-    )
+    let fact = grant-made config q n (h.state.block n).tracker (h.request n) u memory whole g unheld
+    ((h.state.block n).pair q).recorded wanted.opcode_is wanted.param_is for.2 none
+    (settling-records at q ∙ (ap (λ (p : ClientBlock). p.recorded)
+    (set-other c q (after_report r ((h.state.block n).pair c)) (h.state.block n).pair (λ f. wanted.apart (sym f))))) in
+    cc (settling-reaction at, performed-acquire config (service_for q n h.request h.state) u memory for.0, sent)
 
 pub conceded-left : {w : ℕ} {config : Config} {c q n source k : ℕ} {low : Cap} {r : Report} {whole : Bool} {g : Grow}
     (rest : List Packet) {m : MessageC w} {h : AbstractState w} {e : End w}

@@ -120,13 +120,8 @@ grant_of_d : {w : ℕ} (config : Config) (n : ℕ) (j : Cap) (s : Service w) (t 
     → block_at s.request.address ≡ n → cap_granted config.profile s.request.opcode s.request.param
     (holders.is_unheld config n t) ≡ j → (m : MessageD w) × (grant config s t memory ≡ D m) × (is_grant m.opcode ≡ true)
     × (m.source ≡ s.request.source) × (capped m.param ≡ cap_right j)
-grant_of_d config n j s t memory block given = (
-  _,
-  refl,
-  grants-so (is_granted_data s.request.opcode s.request.param (recorded s.link.0 (block_at s.request.address) t)),
-  refl,
-  rw (block, given) (cap-gives j),
-)
+grant_of_d config n j s t memory block given = let fact = grants-so (is_granted_data s.request.opcode s.request.param
+    (recorded s.link.0 (block_at s.request.address) t)) in (_, refl, fact, refl, rw (block, given) (cap-gives j))
 
 pub traced-granted : {w : ℕ} {X : Type 0} {config : Config} {request : ℕ → MessageA w} {c k n : ℕ} (b : Bool) {j : Cap}
     {m : MessageA w} {s : State X} (u : State X) (memory : Memory) {e : End w}

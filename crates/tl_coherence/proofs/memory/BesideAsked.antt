@@ -30,11 +30,9 @@ acquires-else c n source new p s s' blocks pairs waits alone d i else_ = go (s.u
     here : (d ≡ c → ⊥) → (((s'.block n).pair d).acquiring ≡ ((s.block n).pair d).acquiring)
         × ((s'.block n).waiting d ≡ (s.block n).waiting d)
     here ne =
-        let at : s'.block n ≡ new = blocks n ∙ set-same n new s.block in (
-          ap (λ (b : Block (List ℕ)). (b.pair d).acquiring) at ∙ ap (λ (q : ClientBlock). q.acquiring)
-              (pairs d ∙ set-other c d p (s.block n).pair ne),
-          ap (λ (b : Block (List ℕ)). b.waiting d) at ∙ waits d ne,
-        )
+        let at : s'.block n ≡ new = blocks n ∙ set-same n new s.block in let fact =
+        ap (λ (b : Block (List ℕ)). (b.pair d).acquiring) at ∙ ap (λ (q : ClientBlock). q.acquiring) (pairs d
+        ∙ set-other c d p (s.block n).pair ne) in (fact, ap (λ (b : Block (List ℕ)). b.waiting d) at ∙ waits d ne)
 
     there : (k : ℕ) → (k ≡ n → ⊥) → (((s'.block k).pair d).acquiring ≡ ((s.block k).pair d).acquiring)
         × ((s'.block k).waiting d ≡ (s.block k).waiting d)
@@ -117,11 +115,9 @@ beside-release_asked {w} c n source r {mail} {s} {m} h =
       there = λ d i else_. open-there c Releases source (Some (record { asked = Op.Release n r; answer = None })) m d i
           else_;
       requests = λ d i. open-requests c source (Some (record { asked = Op.Release n r; answer = None })) m d i;
-      acquires = λ d i. (
-        set-part (λ (b : Block (List ℕ)). (b.pair d).acquiring) n new s.block (set-part
-            (λ (p : ClientBlock). p.acquiring) c (after_release r ((s.block n).pair c)) (s.block n).pair refl d) i,
-        set-part (λ (b : Block (List ℕ)). b.waiting d) n new s.block refl i,
-      );
+      acquires = λ d i. let fact = set-part (λ (b : Block (List ℕ)). (b.pair d).acquiring) n new s.block (set-part
+          (λ (p : ClientBlock). p.acquiring) c (after_release r ((s.block n).pair c)) (s.block n).pair refl d) i in
+          (fact, set-part (λ (b : Block (List ℕ)). b.waiting d) n new s.block refl i);
     }) h
 
 pub beside-access_asked : {w : ℕ} (c source : ℕ) (a : MessageA w) {mail : AccessMessages w} {s : State (List ℕ)}
@@ -137,11 +133,9 @@ beside-access_asked {w} c source a {mail} {s} {m} h =
       memory = h.memory;
       uses = λ d i. refl;
       lets = λ d i. refl;
-      here = (
-        a,
-        set_at-same c source (access source a) mail.request,
-        open-here c Requests source (Some (record { asked = Op.Access (Message.A a); answer = None })) m,
-      );
+      here =
+          let fact = open-here c Requests source (Some (record { asked = Op.Access (Message.A a); answer = None })) m in
+          (a, set_at-same c source (access source a) mail.request, fact);
       there = λ d i else_. open-there c Requests source
           (Some (record { asked = Op.Access (Message.A a); answer = None })) m d i else_;
       releases = λ d i. open-releases c source (Some (record { asked = Op.Access (Message.A a); answer = None })) m d i;
@@ -164,10 +158,8 @@ beside-block_stored {w} c address size value {mail} {s} {m} inv sized word trunk
       uses = λ d i. refl;
       lets = λ d i. refl;
       opened = λ d pool i. refl;
-      acquires = λ d i. (
-        set-part (λ (b : Block (List ℕ)). (b.pair d).acquiring) n new s.block refl i,
-        set-part (λ (b : Block (List ℕ)). b.waiting d) n new s.block refl i,
-      );
+      acquires = λ d i. let fact = set-part (λ (b : Block (List ℕ)). (b.pair d).acquiring) n new s.block refl i in
+          (fact, set-part (λ (b : Block (List ℕ)). b.waiting d) n new s.block refl i);
     }) h
   where
     n : ℕ

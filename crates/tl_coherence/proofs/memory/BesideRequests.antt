@@ -87,11 +87,8 @@ request-accesses {w} {config} {log} h {sys} {c} {source} {k} is asked comes last
 
     answered : probes_some clients c false (cap_probed m.opcode m.param) b.pair ≡ false
         → accesses_answered done ≡ (c, source) ∷ []
-    answered none = cc (
-      handed-answered is asked comes last none,
-      accesses-answer c m (answer_of (Message.A m) (effect (Message.A m) (bytes_at n b.memory)).1),
-      asked.source_is,
-    )
+    answered none = let fact = handed-answered is asked comes last none in let other_fact = accesses-answer c m
+        (answer_of (Message.A m) (effect (Message.A m) (bytes_at n b.memory)).1) in cc asked.source_is
 
     accesses : (p : Bool) (o : Option Cap) → probes_some clients c false (cap_probed m.opcode m.param) b.pair ≡ p
         → cap_probed m.opcode m.param ≡ o → accesses_answered done ≡ access_list c source p o
@@ -182,18 +179,14 @@ acquire-accesses {w} {config} {log} h {sys} {c} {n} k is asked comes last =
 
     none : (x : Bool) → some_below clients (λ d. is_probed c true j (b.pair d).recorded d) ≡ x
         → accesses_answered (reaction config (link_of c) (Beat.A (a_beat_of m k)) sys.manager).handed ≡ []
-    none true f = cc (
-      reaction-probing config c k n j m sys.manager comes last (same_block n) caps
-          (probed-some c k n true j m is (acquires-so asked.whole) (same_block n) ∙ ap not f),
-      accesses-probes w n j (probed config (service_for c m sys.manager.trace) j (with_beat c m k sys.manager.trace)),
-    )
-    none false f = cc (
-      reaction-performed c k n true m is comes last (acquires-so asked.whole) (same_block n) (rw caps f),
-      performed-acquire config (service_for c m sys.manager.trace) (with_beat c m k sys.manager.trace)
-          sys.manager.memory (acquires-so asked.whole),
-      accesses-grant config c (service_for c m sys.manager.trace)
-          (with_beat c m k sys.manager.trace) sys.manager.memory,
-    )
+    none true f = let fact = reaction-probing config c k n j m sys.manager comes last (same_block n) caps
+        (probed-some c k n true j m is (acquires-so asked.whole) (same_block n) ∙ ap not f) in cc (accesses-probes w n j
+        (probed config (service_for c m sys.manager.trace) j (with_beat c m k sys.manager.trace)))
+    none false f = let fact = performed-acquire config (service_for c m sys.manager.trace)
+        (with_beat c m k sys.manager.trace) sys.manager.memory (acquires-so asked.whole) in let other_fact =
+        accesses-grant config c (service_for c m sys.manager.trace)
+        (with_beat c m k sys.manager.trace) sys.manager.memory in
+        cc (reaction-performed c k n true m is comes last (acquires-so asked.whole) (same_block n) (rw caps f))
 
 pub beside-acquire_taken : {w : ℕ} {config : Config} {log : Log w} (h : AbstractState w) {sys : System w} {c n k : ℕ}
     (rest : List Packet) {machine : Machine w} → SimulationRelation config log h.mail h.request h.state sys

@@ -130,11 +130,9 @@ beside-release_ack {w} c n rest {mail} {s} {m} inv acked h =
       here = open-here c Releases source None m;
       there = λ e i else_. open-there c Releases source None m e i else_;
       requests = λ e i. open-requests c source None m e i;
-      acquires = λ e i. (
-        set-part (λ (y : Block (List ℕ)). (y.pair e).acquiring) n new s.block
-            (same_acquiring c (after_release_ack ((s.block n).pair c)) (s.block n).pair refl e) i,
-        set-part (λ (y : Block (List ℕ)). y.waiting e) n new s.block refl i,
-      );
+      acquires = λ e i. let fact = set-part (λ (y : Block (List ℕ)). (y.pair e).acquiring) n new s.block
+          (same_acquiring c (after_release_ack ((s.block n).pair c)) (s.block n).pair refl e) i in
+          (fact, set-part (λ (y : Block (List ℕ)). y.waiting e) n new s.block refl i);
     }) h)
   where
     source : ℕ

@@ -145,11 +145,8 @@ beside-performed {w} {config} {c} {source} {a} bytes {mail} {s} s' {m} is same_r
       lets = lets;
       here = (
         (effect (Message.A is.opened.0) m.memory).1,
-        (
-          is.opened.0,
-          is.opened.1,
-          open-here c Requests source (Some now) (with_memory (effect (Message.A is.opened.0) m.memory).0 m),
-        ),
+        let fact = open-here c Requests source (Some now) (with_memory (effect (Message.A is.opened.0) m.memory).0 m) in
+            (is.opened.0, is.opened.1, fact),
         subst (λ (x : Message w). Answers x (effect (Message.A is.opened.0) m.memory).1
             (set_at c source (answers a bytes) mail.answer c source))
             (sym is.request) (

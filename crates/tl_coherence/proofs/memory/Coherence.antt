@@ -118,12 +118,10 @@ pub opened-started : {w : ℕ} (config : Config) (log : Log w) (c : ℕ) (pool :
     → option_map (λ o. o.asked) ((one_memory_after config log).opened c pool source) ≡ started c pool source log
 unfolding one_memory_after started
 opened-started config [] c pool source = refl
-opened-started {w} config (x ∷ log) c pool source = cc (
-  performing_opened (accesses_answered (stepped config x.0 (system_after config log)).handed)
-      (moved x.0 x.1 (one_memory_after config log)) c pool source,
-  moved_opened x.0 x.1 (one_memory_after config log) c pool source,
-  opened-started config log c pool source,
-)
+opened-started {w} config (x ∷ log) c pool source =
+    let fact = performing_opened (accesses_answered (stepped config x.0 (system_after config log)).handed)
+    (moved x.0 x.1 (one_memory_after config log)) c pool source in
+    cc (moved_opened x.0 x.1 (one_memory_after config log) c pool source, opened-started config log c pool source)
 
 -- ---- coherent copies
 

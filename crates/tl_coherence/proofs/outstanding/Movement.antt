@@ -60,12 +60,10 @@ module _ {w : ℕ} {config : Config} {log : Log w} {mail : AccessMessages w} {re
   of_client : (c : ℕ) → c < clients_in config
       → (total (sources_in config c) (λ i. one_if (is_used (s.uses c i))) + length (s.link c).e ≡ 0)
       × (total (sources_in config c) (λ i. one_if (is_let (s.lets c i))) ≡ 0)
-  of_client c few = (
-    total-none (clients_in config) (λ d. total (sources_in config d) (λ i. one_if (is_used (s.uses d i))) + length
-        (s.link d).e) (omega (arith, none)) c few,
-    total-none (clients_in config)
-        (λ d. total (sources_in config d) (λ i. one_if (is_let (s.lets d i)))) (omega (arith, none)) c few,
-  )
+  of_client c few = let fact = total-none (clients_in config) (λ d. total (sources_in config d)
+      (λ i. one_if (is_used (s.uses d i))) + length (s.link d).e) (omega (arith, none)) c few in let other_fact =
+      total-none (clients_in config) (λ d. total (sources_in config d) (λ i. one_if (is_let (s.lets d i))))
+      (omega (arith, none)) c few in (fact, other_fact)
 
   bounds : (c : ℕ) → AreBounded c (sources_in config c) config.trackers s
   bounds c = matched-bounded config log mail request s (system_after config log) matched c

@@ -94,10 +94,8 @@ first-probe {w} {c} h {sys} {x} {queue} first = go first.kind first.own first.ne
     go : (k : Kind) → is_on Channel.B k ≡ true → IsNext x (unfinished Channel.B (receiver Channel.B c sys))
         (message_of_kind k h.mail h.state c first.number) (map (message_of h.mail h.state c) first.rest) queue
         → (channel_of x ≡ Channel.B) × ((is_ending k ≡ false) × (is_letting_go k ≡ false))
-    go Probe own next = (
-      ap (λ (z : Beat w). channel_of z) next.beat_is ∙ probe_on_b w c first.number next.k (h.state.block first.number),
-      (refl, refl),
-    )
+    go Probe own next = let fact = ap (λ (z : Beat w). channel_of z) next.beat_is ∙ probe_on_b w c first.number next.k
+        (h.state.block first.number) in (fact, (refl, refl))
     go k own next = absurd cc
 
 -- a delivery that moves a beat is one of a client's link, which has that beat

@@ -56,11 +56,8 @@ pub alike-pairs : (b b' : Block (List ℕ)) → ((i : ℕ) → IsAlikePair (b.pa
 alike-pairs b b' pairs source release grants bytes i k e f = (alike k e f, bytes k i e f)
   where
     alike : (k : Kind) → shown k i b ≡ true → shown k i b' ≡ true → IsAlike k i b b'
-    alike Acquire e f = (
-      (pairs i).acquiring (and_left _ (is_unserved (view b.service i)) e)
-          (and_left _ (is_unserved (view b'.service i)) f),
-      ap (λ (g : ℕ → ℕ). g i) source,
-    )
+    alike Acquire e f = let fact = (pairs i).acquiring (and_left _ (is_unserved (view b.service i)) e)
+        (and_left _ (is_unserved (view b'.service i)) f) in (fact, ap (λ (g : ℕ → ℕ). g i) source)
     alike Probe e f = (pairs i).sent e f
     alike ProbeAck e f = (pairs i).answered e f
     alike Release e f = ((pairs i).letting e f, ap (λ (g : ℕ → ℕ). g i) release)

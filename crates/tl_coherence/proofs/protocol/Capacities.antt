@@ -88,11 +88,9 @@ module _ {X : Type 0} (caching : ℕ → Bool) (s : State X) (c sources trackers
             used_below bounds x.number Asked used (λ h. absurd cc),
           )
       go Acquire e on_it =
-          let used = acquire_named c x.number inv (shown_there c Channel.A Acquire x.number inv refl
-          (rw e at there)) in (
-            rw used (ap (λ (y : Packet). Some y) (token-is x Acquire e)),
-            used_below bounds ((s.block x.number).source c) (Acquires x.number) used (λ h. absurd cc),
-          )
+          let used = acquire_named c x.number inv (shown_there c Channel.A Acquire x.number inv refl (rw e at there)) in
+          let fact = used_below bounds ((s.block x.number).source c) (Acquires x.number) used (λ h. absurd cc) in
+          (rw used (ap (λ (y : Packet). Some y) (token-is x Acquire e)), fact)
       go k e on_it = absurd cc
 
   pub few_on_a : length (s.link c).a ≤ sources
@@ -114,10 +112,9 @@ module _ {X : Type 0} (caching : ℕ → Bool) (s : State X) (c sources trackers
             used_below bounds x.number Replied used (λ h. absurd cc),
           )
       go Grant e on_it pass =
-          let used = grant_named c x.number inv (shown_there c Channel.D Grant x.number inv refl (rw e at there)) in (
-            rw used (ap (λ (y : Packet). Some y) (token-is x Grant e)),
-            used_below bounds ((s.block x.number).source c) (Acquires x.number) used (λ h. absurd cc),
-          )
+          let used = grant_named c x.number inv (shown_there c Channel.D Grant x.number inv refl (rw e at there)) in
+          let fact = used_below bounds ((s.block x.number).source c) (Acquires x.number) used (λ h. absurd cc) in
+          (rw used (ap (λ (y : Packet). Some y) (token-is x Grant e)), fact)
       go k e on_it pass = absurd cc
 
   -- a Release by its source, and its ReleaseAck

@@ -85,12 +85,8 @@ carried-next {w} x rest m ms queue pos (k, lt, r, q) =
       completes_is = rw (parts.0, r, length-begun m k, length-of_beat m k) refl;
       more = λ lt2. (
         rw (parts.0, r, length-begun m k, length-of_beat m k, not_last k n lt2) refl,
-        (
-          suc k,
-          next_lt lt2,
-          rw (parts.0, r) refl,
-          parts.1 ∙ ap₂_from (k + 1) (suc k) (n - k - 1) (n - suc k) (omega arith) (omega arith),
-        ),
+        let fact = parts.1 ∙ ap₂_from (k + 1) (suc k) (n - k - 1) (n - suc k) (omega arith) (omega arith) in
+            (suc k, next_lt lt2, rw (parts.0, r) refl, fact),
       );
       last = λ e.
           let none : n - k - 1 ≡ 0 = omega (arith, e) in

@@ -246,12 +246,11 @@ unfolding report_test
 report-ok r p v h answered =
     let t = answered_is p.probing (λ j. ok (after_report j p) v && (ok (after_report j p) Idle && ok
     (after_report j p) GrantedOther)) r answered (of_phase report_test report_all p v h) in
-    let u = and_right (ok (after_report r p) v) (ok (after_report r p) Idle && ok (after_report r p) GrantedOther) t
-    in (
-      and_left (ok (after_report r p) v) (ok (after_report r p) Idle && ok (after_report r p) GrantedOther) t,
-      and_left (ok (after_report r p) Idle) (ok (after_report r p) GrantedOther) u,
-      and_right (ok (after_report r p) Idle) (ok (after_report r p) GrantedOther) u,
-    )
+    let u = and_right (ok (after_report r p) v) (ok (after_report r p) Idle && ok (after_report r p) GrantedOther) t in
+    let fact =
+    and_left (ok (after_report r p) v) (ok (after_report r p) Idle && ok (after_report r p) GrantedOther) t in
+    let other_fact = and_right (ok (after_report r p) Idle) (ok (after_report r p) GrantedOther) u in
+    (fact, and_left (ok (after_report r p) Idle) (ok (after_report r p) GrantedOther) u, other_fact)
 
 release_taken_test : ClientBlock → View → Bool
 release_taken_test p v =

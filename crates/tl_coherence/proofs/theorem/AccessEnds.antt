@@ -138,11 +138,9 @@ whole_response : {w : ℕ} {config : Config} {log : Log w} {link : Link} {ch : C
     {source : ℕ} {f : Finish} (end : IsEnding config log link ch h x source f)
     → Beat.D (d_beat_of end.response end.first.next.k) ∷ unfinished Channel.D
     ((system_after config log).clients link.0).past ≡ burst_of (Message.D end.response)
-whole_response {w} end = cc (
-  end.beat_is,
-  (end.first.next.last (eqb-true (end.first.next.k + 1) _ (sym end.first.next.completes_is ∙ end.last))).1,
-  end.response_is,
-)
+whole_response {w} end = let fact =
+    (end.first.next.last (eqb-true (end.first.next.k + 1) _ (sym end.first.next.completes_is ∙ end.last))).1 in
+    cc (end.beat_is, end.response_is)
 
 -- an answer ends its access as the machine allows
 pub ends-answer : {w : ℕ} {config : Config} {log : Log w} {link : Link} {ch : Channel} {h : AbstractState w}

@@ -60,13 +60,12 @@ continues-delivered : {w : ℕ} {config : Config} {log : Log w} (link : Link) (c
     (terms : EndConfig) → IsWidth w → SimulationRelation config log h.mail h.request h.state (system_after config log)
     → terms_at config link.0 ≡ Some terms
     → Continues config (Deliver link ch, (stepped config (Deliver link ch) (system_after config log)).outcome) log
-continues-delivered {w} {config} {log} link ch h terms width is known = (
-  moved (Deliver link ch) (stepped config (Deliver link ch) (system_after config log)).outcome m,
-  accesses_answered (stepped config (Deliver link ch) (system_after config log)).handed,
-  step_allowed config link ch (stepped config (Deliver link ch) (system_after config log)).outcome m
-      (stepped-so config link ch terms (system_after config log) known) (ap is_some known) done,
-  performs-delivered link ch h width is,
-)
+continues-delivered {w} {config} {log} link ch h terms width is known =
+    let fact = moved (Deliver link ch) (stepped config (Deliver link ch) (system_after config log)).outcome m in
+    let other_fact = accesses_answered (stepped config (Deliver link ch) (system_after config log)).handed in
+    let third_fact = step_allowed config link ch (stepped config (Deliver link ch) (system_after config log)).outcome m
+    (stepped-so config link ch terms (system_after config log) known) (ap is_some known) done in
+    (fact, other_fact, third_fact, performs-delivered link ch h width is)
   where
     m : Machine w
     m = one_memory_after config log
@@ -112,10 +111,8 @@ all_continue : {w : ℕ} (config : Config) (log : Log w) → IsWidth w → AreTy
     → AllContinue config log
 unfolding AllContinue AreTyped
 all_continue config [] width typed logged = tt
-all_continue config (x ∷ log) width typed logged = (
-  continues config log x width typed.1 logged,
-  all_continue config log width typed.1 (logged_before config x log logged),
-)
+all_continue config (x ∷ log) width typed logged = let fact = all_continue config log width typed.1
+    (logged_before config x log logged) in (continues config log x width typed.1 logged, fact)
 
 -- The outcomes are a run of the one-memory machine.
 pub run : {w : ℕ} (config : Config) (log : Log w) → IsWidth w → AreTyped log → IsLog config log

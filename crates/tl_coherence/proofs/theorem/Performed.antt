@@ -75,12 +75,8 @@ module _ {w : ℕ} {config : Config} (log : Log w) (link : Link) (ch : Channel) 
       ≡ one_memory_after config log
       → one_memory_after config after ≡ done_at q source (Message.A access.0) (one_memory_after config log)
   unfolding one_memory_after IsLog
-  machine_after q source one access still = cc (
-    given.is_log.0,
-    still,
-    one,
-    performing-one q source (Message.A access.0) (one_memory_after config log) access.2,
-  )
+  machine_after q source one access still = let fact = performing-one q source (Message.A access.0)
+      (one_memory_after config log) access.2 in cc (given.is_log.0, still, one)
 
   free-after : (q source : ℕ) → accesses ≡ (q, source) ∷ []
       → (access : IsAccess source (h.mail.request q source) None

@@ -155,7 +155,7 @@ module _ {X : Type 0} (config : Config) (size : ℕ) (left left' : Left) (answer
               (rw used (omega (arith, probes)))
 
       -- whichever message it is, of those that have more than one beat
-      pub message-less : (k : Kind) (m : ℕ) → shows_it s c k m ≡ true → left' c k m + 1 ≤ left c k m
+      message-less : (k : Kind) (m : ℕ) → shows_it s c k m ≡ true → left' c k m + 1 ≤ left c k m
           → is_light k ≡ false → Falls
       message-less Request m e less heavy = request_less m less e
       message-less Answer m e less heavy = answer_less m less e

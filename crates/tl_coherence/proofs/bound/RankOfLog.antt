@@ -20,7 +20,7 @@ narrow-block w (inl e) = rw e (omega arith)
 narrow-block w (inr (inl e)) = rw e (omega arith)
 narrow-block w (inr (inr e)) = rw e (omega arith)
 
-pub left-matched : {w : ℕ} {config : Config} {log : Log w} {mail : AccessMessages w} {request : ℕ → MessageA w}
+left-matched : {w : ℕ} {config : Config} {log : Log w} {mail : AccessMessages w} {request : ℕ → MessageA w}
     {s : State (List ℕ)} {sys : System w} → IsWidth w → SimulationRelation config log mail request s sys
     → IsLeft (64 / w) (beats_left mail s (unfinished_at sys)) (answer_to mail) s
 left-matched {config} {mail} {s} {sys} width matched = is-left config mail (unfinished_at sys)

@@ -33,7 +33,7 @@ quiet_weight : (size l : ℕ) (recorded : Perm) (x : ProbePhase) → x ≡ NoPro
 quiet_weight size l recorded x e = rw e refl
 
 -- one summand is at most the sum
-pub summand-few : (bound m : ℕ) (f : ℕ → ℕ) → m < bound → f m ≤ total bound f
+summand-few : (bound m : ℕ) (f : ℕ → ℕ) → m < bound → f m ≤ total bound f
 unfolding total
 summand-few zero m f lt = absurd (omega (arith, lt))
 summand-few (suc bound) m f lt = go (cases_eq m bound) (λ below. summand-few bound m f below)
@@ -181,9 +181,6 @@ module _ {w : ℕ} {config : Config} {mail mail' : AccessMessages w} {s s' : Sta
       given : (s'.block n).service ≡ GrantSent q data_too gift
       given = ap (λ (b : Block (List ℕ)). b.service) new
 
-      gone : is_for_access (s'.block n).service ≡ false
-      gone = ap is_for_access given
-
       falls-at : (d : ℕ) → d ≡ q → acquire_weight size (left' d Acquire n) (left' d Grant n)
           (probes_weight number size left' n (s'.block n)) (view (s'.block n).service d) + 1 ≤ acquire_weight size
           (left d Acquire n) (left d Grant n) (probes_weight number size left n (s.block n))
@@ -210,7 +207,7 @@ module _ {w : ℕ} {config : Config} {mail mail' : AccessMessages w} {s s' : Sta
 
       block : IsBlockNoMore taking
       block = record {
-        serves = λ d i e g. absurd (nobody-serving n d i showing.after gone g);
+        serves = λ d i e g. absurd (nobody-serving n d i showing.after (ap is_for_access given) g);
         acquires = λ d i e g. acquire d i e g (cases_eq d q);
         lets = λ d i e g. let-stays taking d n (letting d);
       }

@@ -54,7 +54,7 @@ answer_kind OpA.AcquireBlock m f e = absurd cc
 answer_kind OpA.AcquirePerm m f e = absurd cc
 
 -- what the manager answers to an access, whatever the bytes of its block
-pub answers-access : {w : ℕ} (source : ℕ) (m : MessageA w) (bytes : List ℕ) → is_acquire m.opcode ≡ false
+answers-access : {w : ℕ} (source : ℕ) (m : MessageA w) (bytes : List ℕ) → is_acquire m.opcode ≡ false
     → m.source ≡ source → IsAnswer source (Message.A m) (follow.answers m bytes)
 unfolding effect IsAnswerTo
 answers-access {w} source m bytes access from =

@@ -49,7 +49,7 @@ release_message Prune.BtoN source n copy = (
   record { releases = refl; of_block = same_block n; whole = refl; from = refl },
 )
 
-pub end-release_asked : {w : ℕ} {c : ℕ} (n source : ℕ) (r : Prune) (copy : List ℕ) (mail : AccessMessages w)
+end-release_asked : {w : ℕ} {c : ℕ} (n source : ℕ) (r : Prune) (copy : List ℕ) (mail : AccessMessages w)
     {s : State (List ℕ)} {e : Endpoint w} → IsWidth w → same_perm (prune_left r) (held n e.past) ≡ true
     → IsWellKept (kept_for n (prune_right r) (sending (release r source n copy) e)) → IsEnd (asked_by mail s c) c s e
     → IsEnd (asked_by mail (release_asked c n source r s) c) c (release_asked c n source r s)
@@ -124,7 +124,7 @@ end-release_asked {w} {c} n source r copy mail {s} {e} width begins kept end =
 
 -- ---- a store
 
-pub end-stored : {w : ℕ} {c : ℕ} (n : ℕ) (bytes : List ℕ) (mail : AccessMessages w) {s : State (List ℕ)}
+end-stored : {w : ℕ} {c : ℕ} (n : ℕ) (bytes : List ℕ) (mail : AccessMessages w) {s : State (List ℕ)}
     {e : Endpoint w} → IsWellKept (with_copy n (Some bytes) e) → IsEnd (asked_by mail s c) c s e
     → IsEnd (asked_by mail (block_stored c n bytes s) c) c (block_stored c n bytes s) (with_copy n (Some bytes) e)
 end-stored {w} {c} n bytes mail {s} {e} kept end =

@@ -95,7 +95,7 @@ taken_token : {w : ℕ} (config : Config) (tracker c : ℕ) (k : Kind) (n : ℕ)
     → IsEndOf c (packet_taken config tracker c (h.state.link c).d h) e
 taken_token config tracker c k n rest h e first end = rw first end
 
-pub answer-delivered : {w : ℕ} {config : Config} {log : Log w} {mail : AccessMessages w} {request : ℕ → MessageA w}
+answer-delivered : {w : ℕ} {config : Config} {log : Log w} {mail : AccessMessages w} {request : ℕ → MessageA w}
     {s : State (List ℕ)} {sys : System w} (terms : EndConfig)
     (tracker c source : ℕ) (rest : List Packet) {ms : List (Message w)} {x : Beat w} {queue : List (Beat w)}
     → IsWidth w → SimulationRelation config log mail request s sys → terms_at config c ≡ Some terms
@@ -116,7 +116,7 @@ answer-delivered {w} {config} {log} {mail} {request} {s} {sys} terms tracker c s
     (end-answer_taken source y rest mail (plain_end y e last (ap is_grant opcode ∙ kind.0)) last
     (ap is_grant opcode ∙ kind.0) (ap is_release_ack opcode ∙ kind.1) (from ∙ due.from) well end))
 
-pub ack-delivered : {w : ℕ} {config : Config} {log : Log w} {mail : AccessMessages w} {request : ℕ → MessageA w}
+ack-delivered : {w : ℕ} {config : Config} {log : Log w} {mail : AccessMessages w} {request : ℕ → MessageA w}
     {s : State (List ℕ)} {sys : System w} (terms : EndConfig) (tracker c n : ℕ) (rest : List Packet)
     {ms : List (Message w)} {x : Beat w} {queue : List (Beat w)} → IsWidth w
     → SimulationRelation config log mail request s sys → terms_at config c ≡ Some terms
@@ -153,7 +153,7 @@ grant_bytes {w} true k source sink payload beats width long burst carries =
     (burst, grant_blank {w = w} true k source sink payload width long)
 grant_bytes false k source sink payload beats width long burst carries = absurd cc
 
-pub grant-delivered : {w : ℕ} {config : Config} {log : Log w} {mail : AccessMessages w} {request : ℕ → MessageA w}
+grant-delivered : {w : ℕ} {config : Config} {log : Log w} {mail : AccessMessages w} {request : ℕ → MessageA w}
     {s : State (List ℕ)} {sys : System w} (terms : EndConfig)
     (tracker c n : ℕ) (rest : List Packet) {ms : List (Message w)} {x : Beat w} {queue : List (Beat w)}
     → IsWidth w → SimulationRelation config log mail request s sys → terms_at config c ≡ Some terms

@@ -127,7 +127,7 @@ pub record IsSameCopy (c : ℕ) (s s' : State (List ℕ)) : Type 0 where
   pub waiting : (n : ℕ) → (s'.block n).waiting c ≡ (s.block n).waiting c
 
 -- an end of which the protocol says the same is kept
-pub end-same : {w : ℕ} {c : ℕ} {asked asked' : ℕ → Option (BeatA w)} {s s' : State (List ℕ)} {e : Endpoint w}
+end-same : {w : ℕ} {c : ℕ} {asked asked' : ℕ → Option (BeatA w)} {s s' : State (List ℕ)} {e : Endpoint w}
     → IsSame c asked asked' s s' → IsSameCopy c s s' → IsEnd asked c s e → IsEnd asked' c s' e
 end-same {c} {asked} {asked'} {s} {s'} {e} same bytes end = record {
   known = known-same same end.known;

@@ -43,9 +43,6 @@ delivered-e {w} {config} {log} link h terms x queue width matched known beats mo
     tokens : (h.state.link link.0).e ≡ packet GrantAck n ∷ is.first.rest
     tokens = is.first.tokens ∙ ap (λ (k : Kind). packet k n ∷ is.first.rest) kind
 
-    sent : (h.state.block n).service ≡ GrantTaken link.0
-    sent = first-grant_ack matched.invariant tokens
-
     go : (b : Bool) → completes x (unfinished Channel.E (on_link link.0 sys.manager.trace)) ≡ b
         → IsDelivered config log link Channel.E h
     go false part = delivered-part width matched refl is part
@@ -58,5 +55,6 @@ delivered-e {w} {config} {log} link h terms x queue width matched known beats mo
         (cc (is.first.next.beat_is, kind)) ∙ ap (λ d. d.handed) (reaction-ack config link
         (record { sink = (h.state.block n).tracker }) sys.manager)) (λ d at. unpushed d at)
         (λ taken. rw kind (carried-shown width (grant_ack_taken-shown link.0 n is.first.rest h.mail matched.invariant
-        (invariant-taken h link.0 GrantAck n is.first.rest matched tokens tt) tokens sent) taken matched.carried))
+        (invariant-taken h link.0 GrantAck n is.first.rest matched tokens tt) tokens
+        (first-grant_ack matched.invariant tokens)) taken matched.carried))
         (rw kind quiet)

@@ -47,7 +47,7 @@ heard-coming {w} config c k m queue sys is =
     (record { takes = offered-taken config (link_of c) Channel.A x sys.manager is.passes; step_is = refl })
 
 -- what is handed out stands behind what was on the channels
-pub landed-coming : {w : ℕ} {config : Config} {c k : ℕ} {m : MessageA w} (queue : List (Beat w)) (sys : System w)
+landed-coming : {w : ℕ} {config : Config} {c k : ℕ} {m : MessageA w} (queue : List (Beat w)) (sys : System w)
     (handed : Handed w) (pushes : ℕ → Channel → Option (Message w)) → IsComing config c k m sys.manager
     → sys.channels c Channel.A ≡ Beat.A (a_beat_of m k) ∷ queue
     → (reaction config (link_of c) (Beat.A (a_beat_of m k)) sys.manager).handed ≡ handed
@@ -92,7 +92,7 @@ nothing_above Cap.ToB false = refl
 nothing_above Cap.ToN true = refl
 nothing_above Cap.ToN false = refl
 
-pub taken-probing : {w : ℕ} {config : Config} {log : Log w} {mail : AccessMessages w} {request : ℕ → MessageA w}
+taken-probing : {w : ℕ} {config : Config} {log : Log w} {mail : AccessMessages w} {request : ℕ → MessageA w}
     {s : State (List ℕ)} {sys : System w} {c k : ℕ} (n : ℕ)
     (own : Bool) (j : Cap) {m : MessageA w} (queue : List (Beat w)) → SimulationRelation config log mail request s sys
     → IsComing config c k m sys.manager → sys.channels c Channel.A ≡ Beat.A (a_beat_of m k) ∷ queue
@@ -127,7 +127,7 @@ taken-probing {w} {config} {s} {sys} {c} {k} n own j {m} queue is comes beats la
 
 -- ---- one message is handed out
 
-pub taken-answering : {w : ℕ} {config : Config} {c k : ℕ} {m : MessageA w} (i : Message w) (queue : List (Beat w))
+taken-answering : {w : ℕ} {config : Config} {c k : ℕ} {m : MessageA w} (i : Message w) (queue : List (Beat w))
     (sys : System w) → IsComing config c k m sys.manager → sys.channels c Channel.A ≡ Beat.A (a_beat_of m k) ∷ queue
     → beats_of (Message.A m) ≡ suc k → (reaction config (link_of c) (Beat.A (a_beat_of m k)) sys.manager).handed
     ≡ (link_of c, i) ∷ [] → IsTaken c Channel.A (Beat.A (a_beat_of m k)) queue (pushes_at c (pushes_of (Some i))) sys

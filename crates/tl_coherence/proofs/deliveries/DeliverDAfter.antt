@@ -133,7 +133,8 @@ pub responded-grant : {w : ℕ} {config : Config} {log : Log w} (h : AbstractSta
 unfolding accesses_answered
 responded-grant {w} {config} {log} h {sys} {c} {n} rest {x} {queue} due width matched first bare is = rw same (record {
   carried = rw some (carried-shown width (grant_taken-shown c n due.whole due.data_too due.k rest
-      (grant_ack (h.state.block n).tracker) h.mail matched.invariant inv first due.service bare refl
+      (grant_ack (h.state.block n).tracker) h.mail matched.invariant
+      (rw same at (invariant-taken h c Grant n rest matched first tt)) first due.service bare refl
       (rendered_ack c n due.whole due.data_too due.k (h.state.block n)))
       (taken_d (Some (grant_ack (h.state.block n).tracker)) is) matched.carried);
   beside = rw pool (subst (λ (i : ℕ). MemoryRelation h.mail (grant_taken c n due.whole due.data_too due.k rest h.state)
@@ -156,6 +157,3 @@ responded-grant {w} {config} {log} h {sys} {c} {n} rest {x} {queue} due width ma
       state = grant_taken c n due.whole due.data_too due.k rest h.state;
     }
     same = cc (due.service, due.wants)
-
-    inv : IsInvariant (is_caching config) (grant_taken c n due.whole due.data_too due.k rest h.state)
-    inv = rw same at (invariant-taken h c Grant n rest matched first tt)

@@ -165,14 +165,14 @@ unmoved {w} config link ch sys still = at (terms_at config link.0) still
     at None s = only_unmoved Outcome.NoSuchClient sys (λ l i m. refl)
     at (Some terms) s = delivered_to terms (sys.channels c ch) s
 
-pub carried-unmoved : {w : ℕ} (mail : AccessMessages w) (s : State (List ℕ)) {sys : System w} {x : Step w}
+carried-unmoved : {w : ℕ} (mail : AccessMessages w) (s : State (List ℕ)) {sys : System w} {x : Step w}
     → IsUnmoved sys x → ChannelRelation mail s sys → ChannelRelation mail s x.after
 carried-unmoved {w} mail s {sys} {x} is h d at =
     let moved_to : (r q : List (Beat w)) → r ≡ unfinished at (receiver at d sys) → q ≡ sys.channels d at
     → IsCarried r (messages_on at mail s d) q = λ r q e f. rw (e, f) (h d at) in
     moved_to (unfinished at (receiver at d x.after)) (x.after.channels d at) (is.rests d at) (is.channels d at)
 
-pub beside-unmoved : {w : ℕ} (config : Config) (log : Log w) {mail : AccessMessages w} {s : State (List ℕ)}
+beside-unmoved : {w : ℕ} (config : Config) (log : Log w) {mail : AccessMessages w} {s : State (List ℕ)}
     (link : Link) (ch : Channel)
     → IsUnmoved (system_after config log) (stepped config (Deliver link ch) (system_after config log))
     → MemoryRelation mail s (one_memory_after config log)

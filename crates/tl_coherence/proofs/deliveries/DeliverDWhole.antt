@@ -113,10 +113,6 @@ delivered-d {w} {config} {log} link h terms x queue width is known beats moving 
     heard : HasHeard x e (offer.taken x e).after
     heard = client-heard width (is.kept c) t
 
-    follows : abstract_step config (Deliver link Channel.D) sys h ≡ (if completes x (unfinished Channel.D e.past) then
-        packet_taken config (next_tracker sys) c (h.state.link c).d h else h)
-    follows = followed-moving config link Channel.D sys h x queue moving beats
-
     -- a message of channel D, what its last beat makes, and its token
     by_message : (k : Kind) (i : ℕ) (mm : MessageD w) → (h.state.link c).d ≡ packet k i ∷ first.rest
         → message_of_kind k h.mail h.state c i ≡ Message.D mm
@@ -143,8 +139,9 @@ delivered-d {w} {config} {log} link h terms x queue width is known beats moving 
               heard = heard;
             } in
             last_d config log link h last t
-            (follows ∙ ap (λ (b : Bool). if b then packet_taken config (next_tracker sys) c (h.state.link c).d h else h)
-            done ∙ ap (λ (l : List Packet). packet_taken config (next_tracker sys) c l h) tokens) (responds last)
+            ((followed-moving config link Channel.D sys h x queue moving beats)
+            ∙ ap (λ (b : Bool). if b then packet_taken config (next_tracker sys) c (h.state.link c).d h else h) done
+            ∙ ap (λ (l : List Packet). packet_taken config (next_tracker sys) c l h) tokens) (responds last)
         go false part = part_d link h mm next.k width is beats x_is part t (cc)
 
     kinds : (k : Kind) (i : ℕ) → (h.state.link c).d ≡ packet k i ∷ first.rest → is_on Channel.D k ≡ true

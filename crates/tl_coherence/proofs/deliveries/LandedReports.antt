@@ -71,7 +71,7 @@ no-messages : {w : ℕ} (s : System w) (d : ℕ) (at : Channel)
 unfolding with_messages
 no-messages s d at = refl
 
-pub landed-taken : {w : ℕ} {config : Config} {c : ℕ} {ch : Channel} {x : Beat w} (queue : List (Beat w))
+landed-taken : {w : ℕ} {config : Config} {c : ℕ} {ch : Channel} {x : Beat w} (queue : List (Beat w))
     (sys : System w) (t : EndConfig) (handed : Handed w) (pushes : ℕ → Channel → Option (Message w)) → IsWidth w
     → manager.IsKept config sys.manager → manager.IsTyped x → is_to_client ch ≡ false → IsOn ch x
     → terms_at config c ≡ Some t → sys.channels c ch ≡ x ∷ queue → IsTakenUp config c ch x sys.manager

@@ -135,7 +135,7 @@ releases-delivered {w} {config} {log} h {sys} c n rest {x} {queue} {ms} width is
 
 -- ---- a GrantAck
 
-pub acks-delivered : {w : ℕ} {config : Config} {log : Log w} (h : AbstractState w) {sys : System w} (c n : ℕ)
+acks-delivered : {w : ℕ} {config : Config} {log : Log w} (h : AbstractState w) {sys : System w} (c n : ℕ)
     (rest : List Packet) {x : Beat w} {queue : List (Beat w)} {ms : List (Message w)} → IsWidth w
     → SimulationRelation config log h.mail h.request h.state sys → sys.channels c Channel.E ≡ x ∷ queue
     → (h.state.link c).e ≡ packet GrantAck n ∷ rest → IsNext x (unfinished Channel.E (on_link c sys.manager.trace))

@@ -38,7 +38,7 @@ pub step-taken : {w : ℕ} (config : Config) (c : ℕ) (ch : Channel) (x : Beat 
 step-taken {w} config c ch x queue sys t terms beats down up =
     cc (stepped-to-manager config (record { 0 = c }) ch sys t x queue terms beats down, up.answer)
 
-pub manager-taken : {w : ℕ} (config : Config) (c : ℕ) (ch : Channel) (x : Beat w) (queue : List (Beat w))
+manager-taken : {w : ℕ} (config : Config) (c : ℕ) (ch : Channel) (x : Beat w) (queue : List (Beat w))
     (sys : System w) (t : EndConfig) → terms_at config c ≡ Some t → sys.channels c ch ≡ x ∷ queue
     → is_to_client ch ≡ false → IsTakenUp config c ch x sys.manager
     → (stepped config (Deliver (record { 0 = c }) ch) sys).after.manager

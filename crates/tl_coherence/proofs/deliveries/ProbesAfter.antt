@@ -133,10 +133,6 @@ delivered-b {w} {config} {log} link h terms x queue width is known beats moving 
         step_is : stepped config (Deliver link Channel.B) sys ≡ now
         step_is = cc (t.step_is, same_parts.0, same_parts.1 ∙ ap Some (handed_at (block_at (64 * n)) (same_block n)))
 
-        taken : IsTaken c Channel.B x queue (pushes_at c (pushes_of (Some ack))) sys now.after
-        taken = taken-landed (landed-client c Channel.B x queue (Some ack) (offer.taken x e).after sys refl beats
-            (rw probed.beat_is (on_own_channel (Beat.B y))) (client-heard width (is.kept c) t)) probed.whole
-
         by_letting : (b : Bool) → is_unreleased b_pair.letting ≡ b → IsDelivered config log link Channel.B h
         by_letting true kept =
             let inv = invariant-taken h c Probe n first.rest is tokens (kept-is b_pair.letting kept) in
@@ -144,7 +140,9 @@ delivered-b {w} {config} {log} link h terms x queue width is known beats moving 
             cc (followed-moving config link Channel.B sys h x queue moving beats, probed.whole, tokens)
             (rw step_is (carried-shown width (probe_taken-shown c n k first.rest ack h.mail is.invariant inv tokens
             (first-probe is.invariant tokens) (ack_channel w b_pair.held (report_at k b_pair.held) n
-            (h.state.block n).truth) (rendered_probed c n k (h.state.block n))) taken is.carried))
+            (h.state.block n).truth) (rendered_probed c n k (h.state.block n))) (taken-landed
+            (landed-client c Channel.B x queue (Some ack) (offer.taken x e).after sys refl beats (rw probed.beat_is
+            (on_own_channel (Beat.B y))) (client-heard width (is.kept c) t)) probed.whole) is.carried))
             (rw (remembered_after config log link Channel.B now step_is ∙ ap (λ (l : List (ℕ × ℕ)). performing l
             (moved (Deliver link Channel.B) now.outcome (one_memory_after config log))) (ack_quiet w c b_pair.held
             (report_at k b_pair.held) n (h.state.block n).truth)) (beside_block n (probed_block c k

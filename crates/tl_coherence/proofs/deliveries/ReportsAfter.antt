@@ -102,7 +102,7 @@ unfolding performing accesses_answered
 by-place h h' pushes handed true e before last = rw e last
 by-place h h' pushes handed false e before last = rw e before
 
-pub beside-followed_c : {w : ℕ} {config : Config} {log : Log w} (h : AbstractState w) {sys : System w} (c : ℕ)
+beside-followed_c : {w : ℕ} {config : Config} {log : Log w} (h : AbstractState w) {sys : System w} (c : ℕ)
     (x : Beat w) (queue : List (Beat w)) {m : Machine w}
     → IsWidth w → SimulationRelation config log h.mail h.request h.state sys → sys.channels c Channel.C ≡ x ∷ queue
     → MemoryRelation h.mail h.state m

@@ -26,7 +26,7 @@ more_beats k n e lt = elim (cases_eq (k + 1) n) [
 ]
 
 -- The protocol after a beat that is taken: with the last one the request is, and with any other one nothing changes.
-pub moved-a : {w : ℕ} {config : Config} {h : AbstractState w} {sys : System w} {c : ℕ} {x : Beat w}
+moved-a : {w : ℕ} {config : Config} {h : AbstractState w} {sys : System w} {c : ℕ} {x : Beat w}
     {queue : List (Beat w)} (P : AbstractState w → Type 0) → sys.channels c Channel.A ≡ x ∷ queue
     → (arrives : IsArrival config h sys c x queue) → (beats_of (Message.A arrives.request) ≡ suc arrives.next.k
     → P (kind_taken config (next_tracker sys) c arrives.kind arrives.number arrives.rest h))

@@ -31,13 +31,13 @@ module _ {w : ℕ} {config : Config} {log : Log w} (given : IsGiven config log) 
   first = first-token (is_caching config) ch c (shadow config log).mail (shadow config log).state
       (system_after config log) x queue given.width is.invariant is.carried beats
 
-  pub first-writable : IsWritable x
+  first-writable : IsWritable x
   first-writable =
       let lawful = lawful-beat c ch terms.level x queue is beats (level-terms config c terms known).0 in
       subst IsWritable (sym first.next.beat_is) (legal-writable terms.level (channel_of x) _ first.next.k given.width
       (ap (λ (y : Beat w). illegal terms.level (channel_of x) y) (sym first.next.beat_is) ∙ lawful))
 
-  pub first-in_range : AreRanged log → IsInRange x
+  first-in_range : AreRanged log → IsInRange x
   first-in_range ranged =
       let few = limits config given.fits in
       let lanes : AreLanes x = All-head AreLanes x queue (rw beats at (is.typed c ch)) in
@@ -81,7 +81,7 @@ module _ {w : ℕ} (config : Config) (P : Beat w → Type 0) (Q : Log w → Type
         go false still = subst (All P) (sym (flow_still (Deliver link ch)
             (stepped config (Deliver link ch) (system_after config log)).outcome log d still)) rest
 
-    pub all-delivered : (log : Log w) → IsGiven config log → Q log → (d : ℕ) → All P (flow d log)
+    all-delivered : (log : Log w) → IsGiven config log → Q log → (d : ℕ) → All P (flow d log)
     unfolding AreTyped IsLog flow
     all-delivered [] given q d = All-nil P
     all-delivered (x ∷ log) given q d =

@@ -21,7 +21,7 @@ use proofs.protocol.HeadOfD.{IsGrantDue, ack_message, answer-due, grant-due, gra
 pub same-response : {w : ℕ} (m n : MessageD w) → Message.D m ≡ Message.D n → m ≡ n
 same-response m n e = cc
 
-pub granted-finish : (w : ℕ) (d : Bool) (k : Cap) (size address : ℕ) (payload : List ℕ)
+granted-finish : (w : ℕ) (d : Bool) (k : Cap) (size address : ℕ) (payload : List ℕ)
     → finish_of w (grant_opcode d) (cap_code k) size address payload ≡ Finish.Granted (cap_right k)
 granted-finish w true k size address payload = ap Finish.Granted (cap-gives k)
 granted-finish w false k size address payload = ap Finish.Granted (cap-gives k)

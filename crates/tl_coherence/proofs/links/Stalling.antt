@@ -67,7 +67,7 @@ stalled-as-it-waits terms ch x e taken = rw (up-unbroken terms ch x e taken) ref
 module _ {w : ℕ} {config : Config} {log : Log w} {mail : AccessMessages w} {request : ℕ → MessageA w}
     {s : State (List ℕ)} (matched : SimulationRelation config log mail request s (system_after config log))
     (coherent : IsCoherent (system_after config log) log (one_memory_after config log)) (c n : ℕ) where
-  pub releasing-started : pending (ReleaseOf n) ((system_after config log).clients c).past ≡ true → IsReleasing c n log
+  releasing-started : pending (ReleaseOf n) ((system_after config log).clients c).past ≡ true → IsReleasing c n log
   releasing-started p =
       let not_kept = not-true (is_unreleased ((s.block n).pair c).letting) (sym ((matched.known c).releases n) ∙ p) in
       let let_by : s.lets c source ≡ Some n = source_of_release c n matched.invariant not_kept in

@@ -47,7 +47,7 @@ unfolding count
 first_counts x xs none = let one : one_if (is x.kind x.number x) ≡ 1 =
     rw (same_kind_again x.kind, same_number x.number) refl in absurd (omega (arith, none, one))
 
-pub release-comes : {w : ℕ} {config : Config} {log : Log w} {mail : AccessMessages w} {request : ℕ → MessageA w}
+release-comes : {w : ℕ} {config : Config} {log : Log w} {mail : AccessMessages w} {request : ℕ → MessageA w}
     {s : State (List ℕ)} {sys : System w} (c n : ℕ)
     → SimulationRelation config log mail request s sys → is_releasing ((s.block n).pair c).letting ≡ false
     → comes_of n (unfinished Channel.C (on_link c sys.manager.trace)) ≡ false

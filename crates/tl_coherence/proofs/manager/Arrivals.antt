@@ -115,7 +115,7 @@ payload-length w k n false payload some last room lanes blank =
     let total : length payload ≡ length (replicate 64 none) = ap length blank in
     omega (arith, length-replicate 64 none, total)
 
-pub request-filled : {w : ℕ} (m : MessageA w) (k : ℕ) → IsWidth w → beats_of (A m) ≡ suc k
+request-filled : {w : ℕ} (m : MessageA w) (k : ℕ) → IsWidth w → beats_of (A m) ≡ suc k
     → IsTyped (Beat.A (a_beat_of m k)) → IsBlankAfter (beats_of (A m)) (A m) → length m.payload ≡ 64
 request-filled {w} m k width last typed blank = payload-length w k (beats_of (A m)) (a_carries_data m.opcode) m.payload
     (positive w width) last (beats_room (A m) width) typed.1 blank.0
@@ -139,7 +139,7 @@ pub record IsComing {w : ℕ} (config : Config) (c k : ℕ) (m : MessageA w) (e 
   pub blank : IsBlankAfter (beats_of (A m)) (A m)
   pub passes : judged config (link_of c) Channel.A (Beat.A (a_beat_of m k)) e ≡ Passes
 
-pub taken-coming : {w : ℕ} {config : Config} {c k : ℕ} {m : MessageA w} {e : End w} → IsComing config c k m e
+taken-coming : {w : ℕ} {config : Config} {c k : ℕ} {m : MessageA w} {e : End w} → IsComing config c k m e
     → IsTaken config (link_of c) (Beat.A (a_beat_of m k)) e
 taken-coming {config} {c} {k} {m} {e} is = is_taken config (link_of c) (Beat.A (a_beat_of m k)) e is.width
     (passed config (link_of c) Channel.A (Beat.A (a_beat_of m k)) e is.typed is.passes) is.kept

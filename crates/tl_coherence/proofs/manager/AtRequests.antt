@@ -26,14 +26,14 @@ end_after config c k m e =
 abbrev pub end_with : {w : ℕ} → ℕ → ℕ → MessageA w → Reaction w → End w → End w
 end_with c k m d e = taken (link_of c) (Beat.A (a_beat_of m k)) d e
 
-pub kept-coming : {w : ℕ} {config : Config} {c k : ℕ} {m : MessageA w} {e : End w} → IsComing config c k m e
+kept-coming : {w : ℕ} {config : Config} {c k : ℕ} {m : MessageA w} {e : End w} → IsComing config c k m e
     → IsKept config (end_after config c k m e)
 kept-coming {w} {config} {c} {k} {m} {e} is = subst (λ (p : Reception w × End w). IsKept config p.1)
     (offered-taken config (link_of c) Channel.A (Beat.A (a_beat_of m k)) e is.passes)
     (kept-offered config (link_of c) Channel.A (Beat.A (a_beat_of m k)) e is.width is.typed is.kept)
 
 -- other blocks of the memory stay
-pub memory-coming : {w : ℕ} {config : Config} {c k : ℕ} (i : ℕ) {m : MessageA w} {e : End w} → IsComing config c k m e
+memory-coming : {w : ℕ} {config : Config} {c k : ℕ} (i : ℕ) {m : MessageA w} {e : End w} → IsComing config c k m e
     → (i ≡ block_at m.address → ⊥)
     → bytes_from (end_after config c k m e).memory (64 * i) 64 ≡ bytes_from e.memory (64 * i) 64
 memory-coming {w} {config} {c} {k} i {m} {e} is other =

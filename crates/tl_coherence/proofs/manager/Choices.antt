@@ -24,7 +24,7 @@ some-found (suc n) test e = go (test n) refl e (λ f. some-found n test f)
     go false f g h = let one = h g in (one.0, omega (arith, one.1), one.2)
 
 -- nobody passes, as the manager finds them, where none does below the number of clients
-pub nobody-some : (config : Config) (test : ℕ → Bool)
+nobody-some : (config : Config) (test : ℕ → Bool)
     → is_nobody (clients_where config test) ≡ not (some_below (length config.clients.items) test)
 nobody-some config test = go (some_below (length config.clients.items) test) refl
     (is_nobody (clients_where config test)) refl

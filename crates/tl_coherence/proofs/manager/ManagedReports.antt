@@ -16,19 +16,16 @@ use proofs.manager.QuiescentManager.{recorded-answer, AreStill, pair-part, pair-
 
 -- ---- a beat that isn't the last one
 
-pub nothing-changes : {X : Type 0} (s : State X) → AreStill s s
-nothing-changes s = record { services = λ n. refl; trackers = λ n. refl }
-
 pub traced-report_part : {w : ℕ} {X : Type 0} {request : ℕ → MessageA w} (c : ℕ) (x : BeatC w) {s : State X}
     {t : Trace w} → ends (Beat.C x) (on_link c t) ≡ false → IsTraced request s t
     → IsTraced request s ((record { 0 = c }, Beat.C x) ∷ t)
-traced-report_part c x {s} {t} part known =
-    traced-still (quiet-c (record { 0 = c }) x t) (nothing-changes s) (λ d i. recorded-part c x t part d i
+traced-report_part c x {s} {t} part known = traced-still (quiet-c (record { 0 = c }) x t)
+    (record { services = λ n. refl; trackers = λ n. refl }) (λ d i. recorded-part c x t part d i
     ∙ known.recorded_is d i) (λ d i. missing-part c x t part d i ∙ known.probes d i) known
 
 -- ---- a ProbeAck, where others are missing
 
-pub still-reported : {X : Type 0} (c n : ℕ) (r : Report) (rest : List Packet) (s : State X)
+still-reported : {X : Type 0} (c n : ℕ) (r : Report) (rest : List Packet) (s : State X)
     → AreStill s (report_taken c n r rest s)
 still-reported {X} c n r rest s = record {
   services = λ i. set-part (λ (b : Block X). b.service) n (reported_block c r (s.block n)) s.block refl i;

@@ -81,7 +81,7 @@ pub ends-it : {w : ℕ} {b : Bool} {c n param : ℕ} {carries : Bool} {truth : L
 ends-it {k} {m} is = rw (is.rest, length-begun (Message.C m) k) (is_last k (beats_of (Message.C m)) is.last)
 
 -- the bytes that it carries
-pub payload-end : {w : ℕ} {b : Bool} {c n param : ℕ} {carries : Bool} {truth : List ℕ} {k : ℕ} {m : MessageC w}
+payload-end : {w : ℕ} {b : Bool} {c n param : ℕ} {carries : Bool} {truth : List ℕ} {k : ℕ} {m : MessageC w}
     {e : End w} → IsEnd b c n param carries truth k m e → carries ≡ true
     → payload_of (Beat.C (c_beat_of m k) ∷ unfinished Channel.C (on_link c e.trace)) ≡ truth
 payload-end {w} {k} {m} is some = let fact = payload-c m (begun (Message.C m) (suc k)) is.width is.about.long

@@ -11,7 +11,7 @@ use proofs.queues.{Tokens.set-same, Codes.gives-some}
 
 -- who is granted the block is recorded with what it is given, so that nobody else has it to write: the
 -- memory is its truth
-pub granted-memory : {caching : ℕ → Bool} (c q : ℕ) (r : Report) (d : Bool) (k : Cap) (b : Block (List ℕ))
+granted-memory : {caching : ℕ → Bool} (c q : ℕ) (r : Report) (d : Bool) (k : Cap) (b : Block (List ℕ))
     → same_perm (cap_right k) Perm.None ≡ false → IsWell caching (granted_block c q r d k b)
     → protocol.written r b.truth b.memory ≡ b.truth
 granted-memory {caching} c q r d k b some well = memory-granted q d k well refl (ap (λ (p : ClientBlock). p.recorded)

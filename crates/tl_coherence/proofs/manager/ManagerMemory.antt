@@ -53,7 +53,7 @@ block-taken x beats memory n carries truth block is payload long =
 -- ---- an access
 
 -- a lawful request ends within its block
-pub room-lawful : {w : ℕ} (o : Option Level) (m : MessageA w) → IsWidth w → illegal_message_at o (Message.A m) ≡ None
+room-lawful : {w : ℕ} (o : Option Level) (m : MessageA w) → IsWidth w → illegal_message_at o (Message.A m) ≡ None
     → m.address % 64 + 2 ^ m.size ≤ 64
 room-lawful None m width e = absurd cc
 room-lawful {w} (Some l) m width e = room_in_block m.size m.address m.small (eqb-true (m.address % 2 ^ m.size) 0

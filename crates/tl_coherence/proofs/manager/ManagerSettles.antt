@@ -99,7 +99,7 @@ ended-left {w} {config} {c} {q} {n} {source} {k} {low} {r} rest {m} {h} {e} at =
 -- ---- an Acquire
 
 -- the Grant of an Acquire, by what is recorded
-pub grant-made : {w : ℕ} (config : Config) (q n tracker : ℕ) (v : MessageA w) (t : Trace w) (memory : Memory)
+grant-made : {w : ℕ} (config : Config) (q n tracker : ℕ) (v : MessageA w) (t : Trace w) (memory : Memory)
     (whole : Bool) (g : Grow) (unheld : Bool) (p : Perm) → v.opcode ≡ acquire_opcode whole → v.param ≡ grow_code g
     → block_at v.address ≡ n → holders.is_unheld config n t ≡ unheld → recorded q n t ≡ p
     → grant config (record { tracker = tracker; link = record { 0 = q }; request = v }) t memory ≡ grant_of

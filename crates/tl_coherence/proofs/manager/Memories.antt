@@ -17,7 +17,7 @@ byte_in f x (suc n) zero lt = ap f (omega arith)
 byte_in f x (suc n) (suc i) lt = byte_in f (x + 1) n i (omega (arith, lt)) ∙ ap f (omega arith)
 
 -- the memory that has a block's bytes has that block
-pub again-same : (f : Memory) (n : ℕ) → SameBlock n f (bytes_at n (bytes_from f (64 * n) 64))
+again-same : (f : Memory) (n : ℕ) → SameBlock n f (bytes_at n (bytes_from f (64 * n) 64))
 again-same f n x e =
     let lt : x - 64 * n < 64 = omega (arith, e) in
     let place : 64 * n + (x - 64 * n) ≡ x = omega (arith, e) in

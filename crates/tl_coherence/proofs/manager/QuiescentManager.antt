@@ -99,7 +99,7 @@ pub missing-release : {w : ℕ} (c : ℕ) (x : BeatC w) (t : Trace w) → is_pro
 missing-release {w} c x t kind d i = missing-c c x t d i
     ∙ rw kind (none_or (c == d) (ends (Beat.C x) (on_link d t)) (pending (Key.ProbeOf i) (on_link d t)))
 
-pub part_none : (a b : Bool) → (if a && false then false else b) ≡ b
+part_none : (a b : Bool) → (if a && false then false else b) ≡ b
 part_none true b = refl
 part_none false b = refl
 

@@ -45,7 +45,7 @@ IsUnwaited c source s = (i src : ℕ) (own : Bool) (k : Cap) → (s.block i).ser
 
 -- ---- a beat that isn't the last
 
-pub services-more : {w : ℕ} {config : Config} {c k : ℕ} {m : MessageA w} {e : End w} → IsComing config c k m e
+services-more : {w : ℕ} {config : Config} {c k : ℕ} {m : MessageA w} {e : End w} → IsComing config c k m e
     → k + 1 < beats_of (A m) → services (with_beat c m k e.trace) ≡ services e.trace
 services-more {config} {c} {k} {m} {e} is more = services-part (link_of c, Beat.A (a_beat_of m k)) e.trace
     (ends-coming is ∙ not_last k (beats_of (A m)) more)
@@ -65,7 +65,7 @@ traced-more {w} {X} {config} {s} {c} {k} {m} {e} is more unwaited known = record
 -- ---- the last beat
 
 -- one service more
-pub services-last : {w : ℕ} {config : Config} {c k : ℕ} {m : MessageA w} {e : End w} → IsComing config c k m e
+services-last : {w : ℕ} {config : Config} {c k : ℕ} {m : MessageA w} {e : End w} → IsComing config c k m e
     → beats_of (A m) ≡ suc k → services (with_beat c m k e.trace) ≡ service_for c m e.trace ∷ services e.trace
 services-last {config} {c} {k} {m} {e} is last = services-request (link_of c) (a_beat_of m k) (service_for c m e.trace)
     e.trace (served-last is last)

@@ -40,7 +40,7 @@ with-same mail after (GrantSent q d k) m same ok = tt
 with-same mail after (GrantTaken q) m same ok = tt
 
 -- other answers change nothing
-pub at_manager-answers : {w : ℕ} {config : Config} {mail : AccessMessages w} (after : AccessMessages w)
+at_manager-answers : {w : ℕ} {config : Config} {mail : AccessMessages w} (after : AccessMessages w)
     {request : ℕ → MessageA w} {s : State (List ℕ)} {e : End w} → after.request ≡ mail.request
     → IsAtManager config mail request s e → IsAtManager config after request s e
 at_manager-answers {mail} after {request} {s} same is = record {

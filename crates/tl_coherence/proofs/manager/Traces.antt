@@ -82,7 +82,7 @@ same_for (GrantSent q d k) (Waits r own source j) n m e ok = absurd cc
 same_for (GrantSent q d k) after n m e ok = ok
 same_for service after n m e ok = rw e ok
 
-pub same_waits : (service after : Service) (r source : ℕ) (own : Bool) (k : Cap) → SameService service after
+same_waits : (service after : Service) (r source : ℕ) (own : Bool) (k : Cap) → SameService service after
     → after ≡ Waits r own source k → service ≡ Waits r own source k
 same_waits (GrantSent q d j) (GrantTaken i) r source own k e f = absurd cc
 same_waits (GrantSent q d j) Free r source own k e f = absurd cc

@@ -27,7 +27,7 @@ pub record IsSameBlock {X : Type 0} (b new : Block X) : Type 0 where
   pub service_same : SameService b.service new.service
   pub memory_same : new.memory ≡ b.memory
 
-pub same-blocks : {X : Type 0} (n : ℕ) {new : Block X} (s u : State X) → ((i : ℕ) → u.block i ≡ set n new s.block i)
+same-blocks : {X : Type 0} (n : ℕ) {new : Block X} (s u : State X) → ((i : ℕ) → u.block i ≡ set n new s.block i)
     → IsSameBlock (s.block n) new → IsSameToManager s u × ((i : ℕ) → (u.block i).memory ≡ (s.block i).memory)
 same-blocks {X} n {new} s u blocks is = (
   record {
@@ -47,7 +47,7 @@ same-blocks {X} n {new} s u blocks is = (
     same part e i = ap part (blocks i) ∙ set-part part n new s.block e i
 
 -- and what is kept of the manager's end stays
-pub at_manager-unseen : {w : ℕ} {config : Config} {mail : AccessMessages w} {request : ℕ → MessageA w} (n : ℕ)
+at_manager-unseen : {w : ℕ} {config : Config} {mail : AccessMessages w} {request : ℕ → MessageA w} (n : ℕ)
     {new : Block (List ℕ)} {s u : State (List ℕ)} {e : End w} → ((i : ℕ) → u.block i ≡ set n new s.block i)
     → IsSameBlock (s.block n) new → IsAtManager config mail request s e → IsAtManager config mail request u e
 at_manager-unseen n {new} {s} {u} blocks same is =
@@ -55,7 +55,7 @@ at_manager-unseen n {new} {s} {u} blocks same is =
     at_manager-same all.0 all.1 is
 
 -- where no block changes at all
-pub at_manager-untouched : {w : ℕ} {config : Config} {mail : AccessMessages w} {request : ℕ
+at_manager-untouched : {w : ℕ} {config : Config} {mail : AccessMessages w} {request : ℕ
     → MessageA w} {s u : State (List ℕ)} {e : End w} → ((i : ℕ) → u.block i ≡ s.block i)
     → IsAtManager config mail request s e → IsAtManager config mail request u e
 at_manager-untouched {s} {u} blocks is = at_manager-same (record {

@@ -53,7 +53,7 @@ manager-judged (Ok (Verdict.Done source f, m)) link ch x rest e s =
     manager-with_messages (handed_by link m) (with_client link e (with_channel link ch rest s))
 manager-judged r link ch x rest e s = refl
 
-pub manager-to-client : {w : ℕ} (config : Config) (link : Link) (ch : Channel) (sys : System w)
+manager-to-client : {w : ℕ} (config : Config) (link : Link) (ch : Channel) (sys : System w)
     (terms : client.EndConfig) → terms_at config link.0 ≡ Some terms
     → is_to_client ch ≡ true → (stepped config (Deliver link ch) sys).after.manager ≡ sys.manager
 manager-to-client {w} config link ch sys terms there up = go (sys.channels link.0 ch) refl

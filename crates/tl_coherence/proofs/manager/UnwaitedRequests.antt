@@ -43,7 +43,7 @@ serving-for : {w : ℕ} (service : Service) (n : ℕ) (m : MessageA w) → IsFor
 serving-for (Waits r false source k) n m for = (for.0, for.3)
 serving-for service n m for = tt
 
-pub serving-matched : {w : ℕ} {config : Config} {log : Log w} {mail : AccessMessages w} {request : ℕ → MessageA w}
+serving-matched : {w : ℕ} {config : Config} {log : Log w} {mail : AccessMessages w} {request : ℕ → MessageA w}
     {s : State (List ℕ)} {sys : System w}
     → SimulationRelation config log mail request s sys → (n : ℕ) → IsServing (s.block n).service (request n)
 serving-matched {request} {s} is n = serving-for (s.block n).service n (request n) (is.served.requests n)

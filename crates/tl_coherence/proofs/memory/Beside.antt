@@ -76,7 +76,7 @@ abbrev pub IsSameAnswer : {w : ℕ} → SourceState → Message w → Message w 
 IsSameAnswer Replied x y = y ≡ x
 IsSameAnswer u x y = ⊤
 
-pub opened-still : {w : ℕ} (c source : ℕ) (mail mail' : AccessMessages w) (s s' : State (List ℕ)) (u : SourceState)
+opened-still : {w : ℕ} (c source : ℕ) (mail mail' : AccessMessages w) (s s' : State (List ℕ)) (u : SourceState)
     (o : Option (Open w)) → mail'.request c source ≡ mail.request c source → IsSameAnswer u (mail.answer c source)
     (mail'.answer c source) → IsSameAcquire c s s' u → IsOpened c source mail s u o → IsOpened c source mail' s' u o
 opened-still c source mail mail' s s' SourceFree o request answer acquire h = h

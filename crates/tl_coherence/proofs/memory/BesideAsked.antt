@@ -51,7 +51,7 @@ acquires-else c n source new p s s' blocks pairs waits alone d i else_ = go (s.u
     go u e = tt
 
 -- who acquires nothing of a block has no source for it
-pub calm-none : {caching : ℕ → Bool} {s : State (List ℕ)} (c n i : ℕ) → IsInvariant caching s
+calm-none : {caching : ℕ → Bool} {s : State (List ℕ)} (c n i : ℕ) → IsInvariant caching s
     → ((s.block n).pair c).acquiring ≡ NoAcquire → s.uses c i ≡ Acquires n → ⊥
 calm-none {s} c n i inv calm e =
     let no = ap (λ (x : AcquirePhase). is_wanting x && (i == (s.block n).source c)) calm in
@@ -73,7 +73,7 @@ truth_as : (f : Memory) (n i : ℕ) (new : Block (List ℕ)) (block : ℕ → Bl
     → IsBlock f i (block i).truth → IsBlock f i (set n new block i).truth
 truth_as f n i new block e h = rw (set-part (λ (b : Block (List ℕ)). b.truth) n new block e i) h
 
-pub beside-acquire_asked : {w : ℕ} {caching : ℕ → Bool} (c n source : ℕ) (whole : Bool) (g : Grow) (bytes : List ℕ)
+beside-acquire_asked : {w : ℕ} {caching : ℕ → Bool} (c n source : ℕ) (whole : Bool) (g : Grow) (bytes : List ℕ)
     (o : Op w) {mail : AccessMessages w} {s : State (List ℕ)} {m : Machine w} → IsInvariant caching s
     → ((s.block n).pair c).acquiring ≡ NoAcquire → op_of (AcquireOpen whole g) n bytes ≡ o → MemoryRelation mail s m
     → MemoryRelation mail (acquire_asked c n source whole g bytes s)
@@ -101,7 +101,7 @@ beside-acquire_asked {w} {caching} c n source whole g bytes o {mail} {s} {m} inv
           (λ d ne. set-other c d bytes (s.block n).waiting ne) (λ i ne e. calm-none c n i inv calm e);
     }) h
 
-pub beside-release_asked : {w : ℕ} (c n source : ℕ) (r : Prune) {mail : AccessMessages w} {s : State (List ℕ)}
+beside-release_asked : {w : ℕ} (c n source : ℕ) (r : Prune) {mail : AccessMessages w} {s : State (List ℕ)}
     {m : Machine w} → MemoryRelation mail s m → MemoryRelation mail (release_asked c n source r s)
     (with_open c Releases source (Some (record { asked = Op.Release n r; answer = None })) m)
 beside-release_asked {w} c n source r {mail} {s} {m} h =
@@ -120,7 +120,7 @@ beside-release_asked {w} c n source r {mail} {s} {m} h =
           (fact, set-part (λ (b : Block (List ℕ)). b.waiting d) n new s.block refl i);
     }) h
 
-pub beside-access_asked : {w : ℕ} (c source : ℕ) (a : MessageA w) {mail : AccessMessages w} {s : State (List ℕ)}
+beside-access_asked : {w : ℕ} (c source : ℕ) (a : MessageA w) {mail : AccessMessages w} {s : State (List ℕ)}
     {m : Machine w} → MemoryRelation mail s m
     → MemoryRelation (record { request = set_at c source (access source a) mail.request; answer = mail.answer })
     (access_asked c source s)
@@ -144,7 +144,7 @@ beside-access_asked {w} c source a {mail} {s} {m} h =
       acquires = λ d i else_. same_blocks d (s.uses d i);
     }) h
 
-pub beside-block_stored : {w : ℕ} {caching : ℕ → Bool} (c address size value : ℕ) {mail : AccessMessages w}
+beside-block_stored : {w : ℕ} {caching : ℕ → Bool} (c address size value : ℕ) {mail : AccessMessages w}
     {s : State (List ℕ)} {m : Machine w} → IsInvariant caching s
     → AreSized (s.block (block_at address)) → is_word address size ≡ true
     → same_perm ((s.block (block_at address)).pair c).held Perm.Trunk ≡ true → MemoryRelation mail s m

@@ -14,10 +14,10 @@ use proofs.manager.Memories.{performed-block, performed-reply, byte_in}
 
 -- ---- a block's bytes, as a list and by their places
 
-pub block-of-bytes : (f : Memory) (n : ℕ) (bytes : List ℕ) → bytes_from f (64 * n) 64 ≡ bytes → IsBlock f n bytes
+block-of-bytes : (f : Memory) (n : ℕ) (bytes : List ℕ) → bytes_from f (64 * n) 64 ≡ bytes → IsBlock f n bytes
 block-of-bytes f n bytes e i lt = sym (ap (λ (b : List ℕ). slice_index b i) (sym e) ∙ byte_in f (64 * n) 64 i lt)
 
-pub bytes-of-block : (f : Memory) (n : ℕ) (bytes : List ℕ) → IsBlock f n bytes → length bytes ≡ 64
+bytes-of-block : (f : Memory) (n : ℕ) (bytes : List ℕ) → IsBlock f n bytes → length bytes ≡ 64
     → bytes_from f (64 * n) 64 ≡ bytes
 bytes-of-block f n bytes is long = rw long at (bytes_are f (64 * n) bytes (λ i lt. is i (omega (arith, lt, long))))
 
@@ -85,17 +85,15 @@ block-stored address size value copy f room long is i lt = go (reaches address s
     new : List ℕ
     new = copy_stored address size value copy
 
-    slice_new : slice_index new i ≡ get_or new i 0
-    slice_new = get_slice new i (omega (arith, lt, length-stored address size value copy long room))
-
     inside : address ≤ x → x < address + 2 ^ size → byte_of value (x - address) ≡ slice_index new i
     inside from to =
         let place : address % 64 + (x - address) ≡ i = omega (arith, lt, from, to) in
         sym (cc (stored-inside address size value (x - address) copy long room (omega (arith, from, to))))
 
     outside : (i < address % 64) ⊎ (address % 64 + 2 ^ size ≤ i) → f x ≡ slice_index new i
-    outside side = is i lt ∙ get_slice copy i (omega (arith, lt, long)) ∙ sym
-        (slice_new ∙ stored-outside address size value i copy long room side)
+    outside side = is i lt ∙ get_slice copy i (omega (arith, lt, long))
+        ∙ sym ((get_slice new i (omega (arith, lt, length-stored address size value copy long room)))
+        ∙ stored-outside address size value i copy long room side)
 
     go : (b : Bool) → reaches address size x ≡ b → (if b then byte_of value (x - address) else f x) ≡ slice_index new i
     go true e = let parts = and_parts (nat_le address x) (nat_lt x (address + 2 ^ size)) e in

@@ -16,7 +16,7 @@ use proofs.links.Stalling.{IsFirst}
 use proofs.queues.{QuiescentQueues.client_below, Sums.total-zero}
 
 -- a sum is 0 where each of its numbers is
-pub total-none : (n : ℕ) (f : ℕ → ℕ) → total n f ≡ 0 → (i : ℕ) → i < n → f i ≡ 0
+total-none : (n : ℕ) (f : ℕ → ℕ) → total n f ≡ 0 → (i : ℕ) → i < n → f i ≡ 0
 unfolding total
 total-none zero f e i lt = absurd (omega (arith, lt))
 total-none (suc n) f e i lt = go (cases_eq i n) (total-none n f (omega (arith, e)) i)
@@ -38,7 +38,7 @@ nothing_in [] e = refl
 nothing_in (x ∷ xs) e = absurd (omega (arith, e))
 
 -- nothing is counted where nothing is open
-pub none-counted : {X : Type 0} (config : Config) {s : State X} → IsClosed s → ((c : ℕ) → (s.link c).e ≡ [])
+none-counted : {X : Type 0} (config : Config) {s : State X} → IsClosed s → ((c : ℕ) → (s.link c).e ≡ [])
     → open_requests config s + open_releases config s ≡ 0
 none-counted config {s} closed no_acks =
     let requests : open_requests config s ≡ 0 =
@@ -110,7 +110,7 @@ module _ {w : ℕ} {config : Config} {log : Log w} {mail : AccessMessages w} {re
       let_is c source None at = strangers.no_let matched width c at source
       let_is c source (Some terms) at = closed_let c source terms at
 
-  pub no-acks-counted : (c : ℕ) → (s.link c).e ≡ []
+  no-acks-counted : (c : ℕ) → (s.link c).e ≡ []
   no-acks-counted c = go (terms_at config c) refl
     where
       go : (o : Option EndConfig) → terms_at config c ≡ o → (s.link c).e ≡ []

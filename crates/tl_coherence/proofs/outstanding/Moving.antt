@@ -102,12 +102,6 @@ module _ {w : ℕ} {config : Config} {log : Log w} {mail : AccessMessages w} {re
     unfolding count
     none_releasing c n terms is = (matched.known c).releases n ∙ go ((s.block n).pair c).letting refl
       where
-        no_c : packets_on Channel.C (s.link c) ≡ []
-        no_c = no_message c Channel.C (empty_c c terms is)
-
-        no_d : packets_on Channel.D (s.link c) ≡ []
-        no_d = no_message c Channel.D (empty_d c terms is)
-
         none_shown : (b : Bool) → 0 ≡ one_if b → b ≡ false
         none_shown true e = absurd (omega (arith, e))
         none_shown false e = refl
@@ -116,12 +110,12 @@ module _ {w : ℕ} {config : Config} {log : Log w} {mail : AccessMessages w} {re
         go NoRelease e = refl
         go (ReleaseSent r) e =
             let no = none_shown (shown Release c (s.block n))
-            (rw no_c at (matched.invariant.transfers c Release refl n)) in
+            (rw (no_message c Channel.C (empty_c c terms is)) at (matched.invariant.transfers c Release refl n)) in
             absurd (let it : shown Release c (s.block n) ≡ true = rw e refl in let both : true ≡ false = sym it ∙ no in
             cc)
         go ReleaseAcked e =
             let no = none_shown (shown ReleaseAck c (s.block n))
-            (rw no_d at (matched.invariant.transfers c ReleaseAck refl n)) in
+            (rw (no_message c Channel.D (empty_d c terms is)) at (matched.invariant.transfers c ReleaseAck refl n)) in
             absurd (let it : shown ReleaseAck c (s.block n) ≡ true = rw e refl in let both : true ≡ false =
             sym it ∙ no in cc)
 

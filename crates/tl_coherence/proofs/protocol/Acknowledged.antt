@@ -17,7 +17,7 @@ use proofs.protocol.Blocks.{gentle-same, awaited-set, asked_cap-set, alone-set, 
 
 -- ---- a ReleaseAck
 
-pub let_go-block : {X : Type 0} {caching : ℕ → Bool} (c : ℕ) {b : Block X} → IsWell caching b
+let_go-block : {X : Type 0} {caching : ℕ → Bool} (c : ℕ) {b : Block X} → IsWell caching b
     → (b.pair c).letting ≡ ReleaseAcked → IsWell caching (let_go_block c b)
 let_go-block {caching} c {b} h acked =
     let after : ClientBlock = after_release_ack (b.pair c) in
@@ -82,7 +82,7 @@ release_ack_taken-kept {X} {caching} c n rest {s} inv first acked =
 
 -- ---- a GrantAck
 
-pub freed-block : {X : Type 0} {caching : ℕ → Bool} (c : ℕ) {b : Block X} → IsWell caching b → b.service ≡ GrantTaken c
+freed-block : {X : Type 0} {caching : ℕ → Bool} (c : ℕ) {b : Block X} → IsWell caching b → b.service ≡ GrantTaken c
     → IsWell caching (freed_block b)
 freed-block c {b} h taken =
     let ungranted : (d : ℕ) (x : Bool) → (d == c) ≡ x → is_out (b.pair d) (view b.service d) ≡ is_out (b.pair d) Idle =

@@ -67,7 +67,7 @@ alike-pairs b b' pairs source release grants bytes i k e f = (alike k e f, bytes
     alike k e f = tt
 
 -- a service that is free shows nothing
-pub free-grants : (b b' : Block (List ℕ)) → b.service ≡ Free → AreAlikeGrants b b'
+free-grants : (b b' : Block (List ℕ)) → b.service ≡ Free → AreAlikeGrants b b'
 free-grants b b' free i = (
   λ e f. absurd (ungranted b.service i Free free refl e),
   λ e f. absurd (unacknowledged b.service i Free free refl e),

@@ -20,7 +20,7 @@ use proofs.queues.Moves.{names-set_at, invariant-moved, invariant-moved_use}
 
 -- ---- blocks
 
-pub acquiring-block : {X : Type 0} {caching : ℕ → Bool} (c source : ℕ) (whole : Bool) (g : Grow) (bytes : X)
+acquiring-block : {X : Type 0} {caching : ℕ → Bool} (c source : ℕ) (whole : Bool) (g : Grow) (bytes : X)
     {b : Block X} → IsWell caching b → caching c ≡ true → (b.pair c).acquiring ≡ NoAcquire
     → (b.pair c).letting ≡ NoRelease
     → grow_fits (b.pair c).held (AcquireOpen whole g) ≡ true → IsWell caching (acquiring_block c source whole g bytes b)
@@ -52,7 +52,7 @@ left_some Prune.BtoN Perm.None e = absurd cc
 left_some r Perm.Branch e = refl
 left_some r Perm.Trunk e = refl
 
-pub releasing-block : {X : Type 0} {caching : ℕ → Bool} (c source : ℕ) (r : Prune) {b : Block X} → IsWell caching b
+releasing-block : {X : Type 0} {caching : ℕ → Bool} (c source : ℕ) (r : Prune) {b : Block X} → IsWell caching b
     → caching c ≡ true → (b.pair c).acquiring ≡ NoAcquire → (b.pair c).letting ≡ NoRelease
     → same_perm (b.pair c).held (prune_left r) ≡ true → IsWell caching (releasing_block c source r b)
 releasing-block {caching} c source r {b} h inside calm kept fits =
@@ -74,7 +74,7 @@ releasing-block {caching} c source r {b} h inside calm kept fits =
       memory = λ none. h.memory (λ d. rw (recorded_same d) at (none d));
     }
 
-pub stored-block : {X : Type 0} {caching : ℕ → Bool} (c : ℕ) (bytes : X) {b : Block X} → IsWell caching b
+stored-block : {X : Type 0} {caching : ℕ → Bool} (c : ℕ) (bytes : X) {b : Block X} → IsWell caching b
     → same_perm (b.pair c).held Perm.Trunk ≡ true → IsWell caching (stored_block c bytes b)
 stored-block c bytes {b} h may =
     let out : is_out (b.pair c) (view b.service c) ≡ true = held_out (b.pair c) (view b.service c) (h.phases c) may in

@@ -26,7 +26,7 @@ pub record IsGrantable {X : Type 0} (r : ℕ) (whole : Bool) (g : Grow) (gift : 
   pub low : (d : ℕ) → (d ≡ r → ⊥) → same_perm (b.pair d).recorded Perm.Trunk ≡ false
   pub room : same_cap gift Cap.ToT ≡ true → (d : ℕ) → (d ≡ r → ⊥) → same_perm (b.pair d).recorded Perm.None ≡ true
 
-pub granted_at_once-block : {X : Type 0} {caching : ℕ → Bool} {r : ℕ} (tracker : ℕ) {whole : Bool} {g : Grow}
+granted_at_once-block : {X : Type 0} {caching : ℕ → Bool} {r : ℕ} (tracker : ℕ) {whole : Bool} {g : Grow}
     {gift : Cap} {b : Block X} → IsWell caching b → IsGrantable r whole g gift b
     → IsWell caching (granted_at_once r tracker (is_granted_data whole g (b.pair r).recorded) gift b)
 granted_at_once-block {caching} {r} tracker {whole} {g} {gift} {b} h is =

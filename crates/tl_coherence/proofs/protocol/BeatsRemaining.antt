@@ -103,7 +103,7 @@ module _ {w : ℕ} {caching : ℕ → Bool} {n : ℕ} {moves : ℕ → Channel �
           {w = w} k d i (s'.block i) ≡ block_message k d i (s.block i)) (sym same) (showing.same d k t) before after
       go (inr other) = rw (showing.blocks m other) refl
 
-  pub message-same : (d : ℕ) (k : Kind) (m : ℕ) → IsHere s d k m → IsHere s' d k m
+  message-same : (d : ℕ) (k : Kind) (m : ℕ) → IsHere s d k m → IsHere s' d k m
       → message_of_kind k mail' s' d m ≡ message_of_kind k mail s d m
   message-same d Request m before after = showing.requests d m (shows_before d Request m before)
       (shows_after d Request m after)

@@ -39,7 +39,7 @@ module _ {X : Type 0} {caching : ℕ → Bool} {s : State X} (c n : ℕ) (inv : 
   tracked_probing e = tracker_of_service n inv (busy_unless_idle (s.block n).service c
       (probes_serve ((s.block n).pair c) (view (s.block n).service c) ((inv.blocks n).phases c) e))
 
-  pub probe_named : shown Probe c (s.block n) ≡ true → s.tracked (s.block n).tracker ≡ Some n
+  probe_named : shown Probe c (s.block n) ≡ true → s.tracked (s.block n).tracker ≡ Some n
   probe_named e = tracked_probing (not-sent ((s.block n).pair c).probing e)
 
   pub report_named : shown ProbeAck c (s.block n) ≡ true → s.tracked (s.block n).tracker ≡ Some n

@@ -27,7 +27,7 @@ pub record IsLastOf {X : Type 0} (c q : ℕ) (r : Report) (f : X → X) (source 
   pub settled : (d : ℕ) → (d ≡ c → ⊥) → is_unprobed (b.pair d).probing ≡ true
   pub spares : (f b.truth ≡ b.truth) ⊎ (k ≡ Cap.ToN)
 
-pub ended-block : {X : Type 0} {caching : ℕ → Bool} {c q : ℕ} {r : Report} {f : X → X} {source : ℕ} {k : Cap}
+ended-block : {X : Type 0} {caching : ℕ → Bool} {c q : ℕ} {r : Report} {f : X → X} {source : ℕ} {k : Cap}
     {b : Block X} → IsWell caching b → IsLastOf c q r f source k b → IsWell caching (ended_block c r f b)
 ended-block {X} {caching} {c} {r} {f} {k} {b} h last =
     let begins : same_perm (report_left r) (b.pair c).recorded ≡ true =

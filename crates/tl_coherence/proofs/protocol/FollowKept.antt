@@ -110,7 +110,7 @@ module _ {w : ℕ} {caching : ℕ → Bool} (config : Config) (c : ℕ) (rest : 
 
 -- ---- Grants
 
-pub grant-followed : {w : ℕ} {caching : ℕ → Bool} (c n q : ℕ) (d : Bool) (k : Cap) (rest : List Packet)
+grant-followed : {w : ℕ} {caching : ℕ → Bool} (c n q : ℕ) (d : Bool) (k : Cap) (rest : List Packet)
     (h : AbstractState w) → IsInvariant caching h.state → (h.state.link c).d ≡ packet Grant n ∷ rest
     → (h.state.block n).service ≡ GrantSent q d k
     → IsInvariant caching (grant_taken c n (is_whole ((h.state.block n).pair c).acquiring) d k rest h.state)

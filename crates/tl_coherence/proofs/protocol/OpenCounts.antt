@@ -35,7 +35,7 @@ marked-set {B} test clients sources c k x f few lt =
     omega (arith, inner, ap (λ (y : B). one_if (test y)) (set-same k x (f c)), outer, changed)
 
 -- no place changes, as the test has it
-pub marked-same : {B : Type 0} (test : B → Bool) (clients : ℕ) (sources : ℕ → ℕ) (f g : ℕ → ℕ → B)
+marked-same : {B : Type 0} (test : B → Bool) (clients : ℕ) (sources : ℕ → ℕ) (f g : ℕ → ℕ → B)
     → ((c i : ℕ) → test (f c i) ≡ test (g c i)) → marked test clients sources f ≡ marked test clients sources g
 marked-same test clients sources f g same = cc (total-same clients (λ c. total (sources c) (λ i. one_if (test (f c i))))
     (λ c. total (sources c) (λ i. one_if (test (g c i)))) (λ c few. total-same (sources c) (λ i. one_if (test (f c i)))

@@ -23,7 +23,7 @@ less_left Cap.ToT Perm.None e = e
 less_left Cap.ToB Perm.None e = e
 less_left Cap.ToN Perm.None e = e
 
-pub probed-block : {X : Type 0} {caching : ℕ → Bool} (c : ℕ) (k : Cap) {b : Block X} → IsWell caching b
+probed-block : {X : Type 0} {caching : ℕ → Bool} (c : ℕ) (k : Cap) {b : Block X} → IsWell caching b
     → (b.pair c).probing ≡ ProbeSent k → (b.pair c).letting ≡ NoRelease → IsWell caching (probed_block c k b)
 probed-block c k {b} h sent kept =
     let after : ClientBlock = after_probe k (b.pair c) in

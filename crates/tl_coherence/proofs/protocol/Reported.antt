@@ -50,7 +50,7 @@ gentle-prune r p e =
 -- ---- memory: who gives Trunk up brings the data, and whoever else is out stays so
 
 -- the memory with the data of a message of client c that begins at what is recorded of it, if afterwards nobody is out
-pub memory-written : {X : Type 0} (c : ℕ) (left : Perm) (q : ClientBlock) (service : Service) (pair : ℕ → ClientBlock)
+memory-written : {X : Type 0} (c : ℕ) (left : Perm) (q : ClientBlock) (service : Service) (pair : ℕ → ClientBlock)
     (memory truth : X) → same_perm left (pair c).recorded ≡ true
     → (((d : ℕ) → is_out (pair d) (view service d) ≡ false) → memory ≡ truth)
     → ((d : ℕ) → is_out (set c q pair d) (view service d) ≡ false) → written_from left truth memory ≡ truth
@@ -66,7 +66,7 @@ memory-written {X} c left q service pair memory truth begins h none =
 
 -- ---- blocks
 
-pub reported-block : {X : Type 0} {caching : ℕ → Bool} (c : ℕ) (r : Report) {b : Block X} → IsWell caching b
+reported-block : {X : Type 0} {caching : ℕ → Bool} (c : ℕ) (r : Report) {b : Block X} → IsWell caching b
     → (b.pair c).probing ≡ ProbeAnswered r → (w : ℕ) → (w ≡ c → ⊥) → is_unprobed (b.pair w).probing ≡ false
     → IsWell caching (reported_block c r b)
 reported-block {caching} c r {b} h answered w apart missing =
@@ -86,7 +86,7 @@ reported-block {caching} c r {b} h answered w apart missing =
       memory = λ none. memory-written c (report_left r) after b.service b.pair b.memory b.truth begins h.memory none;
     }
 
-pub let-block : {X : Type 0} {caching : ℕ → Bool} (c : ℕ) (r : Prune) {b : Block X} → IsWell caching b
+let-block : {X : Type 0} {caching : ℕ → Bool} (c : ℕ) (r : Prune) {b : Block X} → IsWell caching b
     → (b.pair c).letting ≡ ReleaseSent r → is_answered (b.pair c).probing ≡ false → IsWell caching (let_block c r b)
 let-block {caching} c r {b} h releasing first =
     let after : ClientBlock = after_release_taken r (b.pair c) in
@@ -111,7 +111,7 @@ abbrev pub report_moves : ℕ → Channel → Move
 report_moves n Channel.C = Pops ProbeAck n
 report_moves n _ = Stays
 
-pub report_shows : (n : ℕ) (k : Kind) (r : Report) (p : ClientBlock) (v : View) → is_transfer k ≡ true
+report_shows : (n : ℕ) (k : Kind) (r : Report) (p : ClientBlock) (v : View) → is_transfer k ≡ true
     → p.probing ≡ ProbeAnswered r
     → agrees (report_moves n (channel_for k)) k n (shows k p v) (shows k (after_report r p) v) ≡ true
 report_shows n Probe r p v t e = rw e refl
@@ -159,7 +159,7 @@ let_shows n ReleaseAck r p v t e = rw (e, same_number n) refl
 let_shows n k r p v t e = same_again (shows k p v)
 
 -- a Release that is first has no ProbeAck of its block beside it
-pub release_first : {X : Type 0} {caching : ℕ → Bool} (c n : ℕ) (rest : List Packet) {s : State X}
+release_first : {X : Type 0} {caching : ℕ → Bool} (c n : ℕ) (rest : List Packet) {s : State X}
     → IsInvariant caching s → (s.link c).c ≡ packet Release n ∷ rest → is_answered ((s.block n).pair c).probing ≡ false
 unfolding count
 release_first c n rest {s} inv first =

@@ -60,7 +60,7 @@ is_low : (own : Bool) (k : Cap) (p : ClientBlock) → Probes own k p → same_ca
 is_low true k p a = never_top k a.0 a.1 a.3
 is_low false k p a = a
 
-pub served-block : {X : Type 0} {caching : ℕ → Bool} (r : ℕ) {own : Bool} (source tracker : ℕ) {k : Cap} {b : Block X}
+served-block : {X : Type 0} {caching : ℕ → Bool} (r : ℕ) {own : Bool} (source tracker : ℕ) {k : Cap} {b : Block X}
     → IsWell caching b → b.service ≡ Free → Probes own k (b.pair r) → IsOwnSource (Waits r own source k) b.source
     → (w : ℕ) → is_probed r own k (b.pair w).recorded w ≡ true → IsWell caching (served_block r own source tracker k b)
 served-block r {own} source tracker {k} {b} h free asks sourced w probed =

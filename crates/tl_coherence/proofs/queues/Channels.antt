@@ -72,7 +72,7 @@ not_there true true n le me = inr (refl, refl)
 not_there false b n le me = inl (omega (arith, le))
 not_there true false n le me = inl (omega (arith, me))
 
-pub messages-stay : {w : ℕ} {caching : ℕ → Bool} {n : ℕ} {moves : ℕ → Channel → Move} {mail mail' : AccessMessages w}
+messages-stay : {w : ℕ} {caching : ℕ → Bool} {n : ℕ} {moves : ℕ → Channel → Move} {mail mail' : AccessMessages w}
     {s s' : State (List ℕ)} → IsShowing caching n moves mail mail' s s' → (d : ℕ) (ch : Channel)
     → map (message_of mail' s' d) (staying (moves d ch) (packets_on ch (s.link d)) (packets_on ch (s'.link d)))
     ≡ map (message_of mail s d) (staying (moves d ch) (packets_on ch (s.link d)) (packets_on ch (s'.link d)))
@@ -171,7 +171,7 @@ abbrev pub behind : {w : ℕ} → Option (Message w) → List (Beat w) → List 
 behind None beats = beats
 behind (Some m) beats = beats ++ beats_from m 0 (beats_of m)
 
-pub queued-by : {w : ℕ} (pop : Bool) (push : Option (Message w)) (move : Move) (render : Kind → ℕ → Message w)
+queued-by : {w : ℕ} (pop : Bool) (push : Option (Message w)) (move : Move) (render : Kind → ℕ → Message w)
     (x : Beat w) (queue q after r rest : List (Beat w)) → Fits pop push move render
     → after ≡ behind push (if pop then queue else q) → rest ≡ (if pop then [] else r)
     → (pop ≡ true → (q ≡ x ∷ queue) × (completes x r ≡ true)) → IsQueued move render q after r rest

@@ -11,7 +11,7 @@ unfoldable pub passing : (Packet → Bool) → List Packet → ℕ
 passing test [] = 0
 passing test (x ∷ xs) = one_if (test x) + passing test xs
 
-pub is-itself : (x : Packet) → is x.kind x.number x ≡ true
+is-itself : (x : Packet) → is x.kind x.number x ≡ true
 is-itself x = rw (same_kind_again x.kind, same_number x.number) refl
 
 pub all-pass : (xs : List Packet) → passing (λ x. true) xs ≡ length xs
@@ -43,7 +43,7 @@ later-there y x xs there = omega (arith, there)
 
 -- ---- all that pass are one token
 
-pub passing-one : (test : Packet → Bool) (k : Kind) (n : ℕ) (xs : List Packet)
+passing-one : (test : Packet → Bool) (k : Kind) (n : ℕ) (xs : List Packet)
     → ((x : Packet) → IsThere x xs → test x ≡ true → is k n x ≡ true) → passing test xs ≤ count k n xs
 unfolding passing count
 passing-one test k n [] one = omega arith
@@ -53,7 +53,7 @@ passing-one test k n (x ∷ xs) one =
     let rest = passing-one test k n xs (λ y there. one y (later-there y x xs there)) in
     omega (arith, rest, here (test x) (is k n x) (one x (first-there x xs)))
 
-pub passing-none : (test : Packet → Bool) (xs : List Packet) → ((x : Packet) → IsThere x xs → test x ≡ false)
+passing-none : (test : Packet → Bool) (xs : List Packet) → ((x : Packet) → IsThere x xs → test x ≡ false)
     → passing test xs ≡ 0
 unfolding passing
 passing-none test [] none = refl

@@ -108,7 +108,7 @@ kind_is GrantAck GrantAck e = refl
 kind_is _ _ e = absurd cc
 
 -- a kind that isn't one of the channel isn't one that is
-pub kinds_apart : (ch : Channel) (k j : Kind) → is_on ch k ≡ true → is_on ch j ≡ false → same_kind k j ≡ false
+kinds_apart : (ch : Channel) (k j : Kind) → is_on ch k ≡ true → is_on ch j ≡ false → same_kind k j ≡ false
 kinds_apart ch k j e f =
     let go : (b : Bool) → same_kind k j ≡ b → b ≡ false = elim [
       | false ↦ λ g. refl

@@ -73,7 +73,7 @@ names-kept n b link s h acquires serves releases trackers = record {
 -- ---- accesses and their answers, where one source's use changes
 
 -- the tokens of a kind of all clients, where the value of number i of client c changes, and others move no token of it
-pub holds-set_at : {A : Type 0} (k : Kind) (moves : ℕ → Move) (f g : ℕ → List Packet) (q : A → Bool) (uses : ℕ → ℕ → A)
+holds-set_at : {A : Type 0} (k : Kind) (moves : ℕ → Move) (f g : ℕ → List Packet) (q : A → Bool) (uses : ℕ → ℕ → A)
     (c i : ℕ) (y : A) → ((d : ℕ) → IsMoved (moves d) (f d) (g d)) → agrees (moves c) k i (q (uses c i)) (q y) ≡ true
     → ((d : ℕ) → (d ≡ c → ⊥) → spares (moves d) k ≡ true) → ((d : ℕ) → Holds k (f d) (λ j. q (uses d j))) → (d : ℕ)
     → Holds k (g d) (λ j. q (set_at c i y uses d j))
@@ -87,7 +87,7 @@ holds-set_at k moves f g q uses c i y moved fits others h d = elim (cases_eq d c
 -- ---- the whole invariant
 
 -- the invariant is kept by every event that has shown this, with these accesses and numbers
-pub invariant-moved_with : {X : Type 0} {caching : ℕ → Bool} {n : ℕ} {b : Block X} {link : ℕ → Link} {moves : ℕ
+invariant-moved_with : {X : Type 0} {caching : ℕ → Bool} {n : ℕ} {b : Block X} {link : ℕ → Link} {moves : ℕ
     → Channel → Move} (uses : ℕ → ℕ → SourceState) (lets : ℕ → ℕ → Option ℕ) (tracked : ℕ → Option ℕ) {s : State X}
     → IsInvariant caching s → IsEvent caching n b link moves s
     → ((d : ℕ) → Holds Request (link d).a (λ i. is_asked (uses d i)))

@@ -76,14 +76,8 @@ granting_is v f d k e h = rw e at h
 pub acknowledging_is : (v : View) (b : Bool) → v ≡ Acknowledging → on_acknowledging v b ≡ true → b ≡ true
 acknowledging_is v b e h = rw e at h
 
-pub granted_other_is : (v : View) (b : Bool) → v ≡ GrantedOther → on_granted_other v b ≡ true → b ≡ true
-granted_other_is v b e h = rw e at h
-
 pub quiet_is : (x : ProbePhase) (b : Bool) → x ≡ NoProbe → on_quiet x b ≡ true → b ≡ true
 quiet_is x b e h = rw e at h
-
-pub sent_is : (x : ProbePhase) (f : Cap → Bool) (k : Cap) → x ≡ ProbeSent k → on_sent x f ≡ true → f k ≡ true
-sent_is x f k e h = rw e at h
 
 pub answered_is : (x : ProbePhase) (f : Report → Bool) (r : Report) → x ≡ ProbeAnswered r → on_answered x f ≡ true
     → f r ≡ true
@@ -92,9 +86,6 @@ answered_is x f r e h = rw e at h
 pub releasing_is : (x : ReleasePhase) (f : Prune → Bool) (r : Prune) → x ≡ ReleaseSent r → on_releasing x f ≡ true
     → f r ≡ true
 releasing_is x f r e h = rw e at h
-
-pub acked_is : (x : ReleasePhase) (b : Bool) → x ≡ ReleaseAcked → on_acked x b ≡ true → b ≡ true
-acked_is x b e h = rw e at h
 
 pub wants_is : (x : AcquirePhase) (f : Bool → Grow → Bool) (whole : Bool) (g : Grow) → x ≡ AcquireOpen whole g
     → on_wants x f ≡ true → f whole g ≡ true
@@ -227,8 +218,7 @@ pub probe-ok : (k : Cap) (p : ClientBlock) (v : View) → ok p v ≡ true → p.
     → ok (after_probe k p) v ≡ true
 unfolding probe_test
 probe-ok k p v h sent kept = where_is (is_unreleased p.letting) (λ u. ok (after_probe k p) v)
-    (sent_is p.probing (λ j. where_true (is_unreleased p.letting) (λ u. ok (after_probe j p) v)) k sent
-    (of_phase probe_test probe_all p v h)) (rw kept refl)
+    (rw sent at (of_phase probe_test probe_all p v h)) (rw kept refl)
 
 -- a ProbeAck is taken: others are missing, the access is answered, or another's Acquire is granted
 report_test : ClientBlock → View → Bool
@@ -277,8 +267,7 @@ release_ack_all = refl
 pub release_ack-ok : (p : ClientBlock) (v : View) → ok p v ≡ true → p.letting ≡ ReleaseAcked
     → ok (after_release_ack p) v ≡ true
 unfolding release_ack_test
-release_ack-ok p v h acked = acked_is p.letting (ok (after_release_ack p) v) acked
-    (of_phase release_ack_test release_ack_all p v h)
+release_ack-ok p v h acked = rw acked at (of_phase release_ack_test release_ack_all p v h)
 
 grant_taken_test : ClientBlock → View → Bool
 grant_taken_test p v = on_granting v (λ d k. ok (after_grant k p) Acknowledging)
@@ -307,8 +296,8 @@ ack_taken-ok p v h e = acknowledging_is v (ok p Idle) e (and_left (on_acknowledg
 
 pub ack_taken_other-ok : (p : ClientBlock) (v : View) → ok p v ≡ true → v ≡ GrantedOther → ok p Idle ≡ true
 unfolding ack_taken_test
-ack_taken_other-ok p v h e = granted_other_is v (ok p Idle) e (and_right (on_acknowledging v (ok p Idle))
-    (on_granted_other v (ok p Idle)) (of_phase ack_taken_test ack_taken_all p v h))
+ack_taken_other-ok p v h e = rw e at (and_right (on_acknowledging v (ok p Idle)) (on_granted_other v (ok p Idle))
+    (of_phase ack_taken_test ack_taken_all p v h))
 
 -- ---- what others do
 

@@ -90,7 +90,7 @@ pub of_bool : (f : Bool → Bool) → each_bool f ≡ true → (x : Bool) → f 
 of_bool f e true = and_left (f true) (f false) e
 of_bool f e false = and_right (f true) (f false) e
 
-pub of_perm : (f : Perm → Bool) → each_perm f ≡ true → (x : Perm) → f x ≡ true
+of_perm : (f : Perm → Bool) → each_perm f ≡ true → (x : Perm) → f x ≡ true
 of_perm f e Perm.None = (three (f Perm.None) (f Perm.Branch) (f Perm.Trunk) e).0
 of_perm f e Perm.Branch = (three (f Perm.None) (f Perm.Branch) (f Perm.Trunk) e).1
 of_perm f e Perm.Trunk = (three (f Perm.None) (f Perm.Branch) (f Perm.Trunk) e).2
@@ -117,7 +117,7 @@ SixReports f = IsSix (f Report.TtoB) (f Report.TtoN) (f Report.BtoN) (f Report.T
 six_reports : (f : Report → Bool) → each_report f ≡ true → SixReports f
 six_reports f e = six (f Report.TtoB) (f Report.TtoN) (f Report.BtoN) (f Report.TtoT) (f Report.BtoB) (f Report.NtoN) e
 
-pub of_report : (f : Report → Bool) → each_report f ≡ true → (x : Report) → f x ≡ true
+of_report : (f : Report → Bool) → each_report f ≡ true → (x : Report) → f x ≡ true
 of_report f e Report.TtoB = (six_reports f e).0
 of_report f e Report.TtoN = (six_reports f e).1
 of_report f e Report.BtoN = (six_reports f e).2
@@ -125,7 +125,7 @@ of_report f e Report.TtoT = (six_reports f e).3
 of_report f e Report.BtoB = (six_reports f e).4
 of_report f e Report.NtoN = (six_reports f e).5
 
-pub of_probing : (f : ProbePhase → Bool) → each_probing f ≡ true → (x : ProbePhase) → f x ≡ true
+of_probing : (f : ProbePhase → Bool) → each_probing f ≡ true → (x : ProbePhase) → f x ≡ true
 of_probing f e NoProbe =
     (three (f NoProbe) (each_cap (λ k. f (ProbeSent k))) (each_report (λ r. f (ProbeAnswered r))) e).0
 of_probing f e (ProbeSent k) = of_cap (λ j. f (ProbeSent j))
@@ -133,13 +133,13 @@ of_probing f e (ProbeSent k) = of_cap (λ j. f (ProbeSent j))
 of_probing f e (ProbeAnswered r) = of_report (λ j. f (ProbeAnswered j))
     (three (f NoProbe) (each_cap (λ k. f (ProbeSent k))) (each_report (λ j. f (ProbeAnswered j))) e).2 r
 
-pub of_letting : (f : ReleasePhase → Bool) → each_letting f ≡ true → (x : ReleasePhase) → f x ≡ true
+of_letting : (f : ReleasePhase → Bool) → each_letting f ≡ true → (x : ReleasePhase) → f x ≡ true
 of_letting f e NoRelease = (three (f NoRelease) (each_prune (λ r. f (ReleaseSent r))) (f ReleaseAcked) e).0
 of_letting f e (ReleaseSent r) =
     of_prune (λ j. f (ReleaseSent j)) (three (f NoRelease) (each_prune (λ j. f (ReleaseSent j))) (f ReleaseAcked) e).1 r
 of_letting f e ReleaseAcked = (three (f NoRelease) (each_prune (λ r. f (ReleaseSent r))) (f ReleaseAcked) e).2
 
-pub of_acquiring : (f : AcquirePhase → Bool) → each_acquiring f ≡ true → (x : AcquirePhase) → f x ≡ true
+of_acquiring : (f : AcquirePhase → Bool) → each_acquiring f ≡ true → (x : AcquirePhase) → f x ≡ true
 of_acquiring f e NoAcquire = and_left (f NoAcquire) (each_bool (λ whole. each_grow (λ g. f (AcquireOpen whole g)))) e
 of_acquiring f e (AcquireOpen whole g) = of_grow (λ h. f (AcquireOpen whole h)) (of_bool (λ b. each_grow (λ h. f
     (AcquireOpen b h))) (and_right (f NoAcquire) (each_bool (λ b. each_grow (λ h. f (AcquireOpen b h)))) e) whole) g
@@ -152,7 +152,7 @@ six_views : (f : View → Bool) → each_view f ≡ true → SixViews f
 six_views f e = six (f Idle) (f Own) (each_cap (λ k. f (Other k))) (each_bool (λ d. each_cap (λ k. f (Granting d k))))
     (f Acknowledging) (f GrantedOther) e
 
-pub of_view : (f : View → Bool) → each_view f ≡ true → (x : View) → f x ≡ true
+of_view : (f : View → Bool) → each_view f ≡ true → (x : View) → f x ≡ true
 of_view f e Idle = (six_views f e).0
 of_view f e Own = (six_views f e).1
 of_view f e (Other k) = of_cap (λ j. f (Other j)) (six_views f e).2 k

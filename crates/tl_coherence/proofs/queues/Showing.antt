@@ -50,7 +50,7 @@ grant_bytes : (w : ℕ) (v : Service) (source sink : ℕ) (x y : List ℕ) → i
 grant_bytes w (GrantSent q d k) source sink x y e = rw e refl
 grant_bytes w v source sink x y e = refl
 
-pub rendered-alike : (w : ℕ) (k : Kind) (d n : ℕ) (b b' : Block (List ℕ)) → IsAlike k d b b' → (carries k d b ≡ false)
+rendered-alike : (w : ℕ) (k : Kind) (d n : ℕ) (b b' : Block (List ℕ)) → IsAlike k d b b' → (carries k d b ≡ false)
     ⊎ (b'.truth ≡ b.truth) → block_message {w = w} k d n b' ≡ block_message k d n b
 unfolding block_message
 rendered-alike w Request d n b b' same bytes = refl

@@ -46,7 +46,7 @@ unfolding count
 count-push k n [] x = omega arith
 count-push k n (y ∷ xs) x = omega (arith, count-push k n xs x)
 
-pub kind_apart : (k : Kind) (x : Packet) → same_kind x.kind k ≡ false → (n : ℕ) → is k n x ≡ false
+kind_apart : (k : Kind) (x : Packet) → same_kind x.kind k ≡ false → (n : ℕ) → is k n x ≡ false
 kind_apart k x e n = rw e refl
 
 -- ---- the tokens of a kind, by blocks or sources that have this test

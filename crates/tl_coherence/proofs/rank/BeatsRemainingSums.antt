@@ -52,7 +52,7 @@ wide-block w (inl e) = rw e (omega arith)
 wide-block w (inr (inl e)) = rw e (omega arith)
 wide-block w (inr (inr e)) = rw e (omega arith)
 
-pub answer-few : {w : ℕ} (m : Message w) → IsWidth w → answer_beats m ≤ 64 / w
+answer-few : {w : ℕ} (m : Message w) → IsWidth w → answer_beats m ≤ 64 / w
 answer-few {w} (Message.A m) width = go (is_read m.opcode)
   where
     go : (b : Bool) → (if b then data_beats w m.size else 1) ≤ 64 / w
@@ -71,7 +71,7 @@ answer_opcode OpD.AccessAckData OpA.Get n e f = refl
 answer_opcode OpD.HintAck OpA.Intent n e f = refl
 answer_opcode _ _ n e f = absurd cc
 
-pub answer-is : {w : ℕ} (source : ℕ) (m x : Message w) → IsAnswer source m x → beats_of x ≡ answer_beats m
+answer-is : {w : ℕ} (source : ℕ) (m x : Message w) → IsAnswer source m x → beats_of x ≡ answer_beats m
 answer-is {w} source (Message.A m) (Message.D x) h =
     rw h.3 (answer_opcode x.opcode m.opcode (data_beats w m.size) h.0 h.1)
 answer-is source m x h = absurd h
@@ -113,7 +113,7 @@ access_at {w} (Some l) m width e =
     let three = next_rule (not (a_has_size w l m.opcode m.size)) L3 _ two.1 in
     both-few w m.size l m.opcode width (not-false _ three.0) (data-few m width)
 
-pub access-few : {w : ℕ} (config : Config) (c source : ℕ) (m : Message w) → IsWidth w → IsRequest config c source m
+access-few : {w : ℕ} (config : Config) (c source : ℕ) (m : Message w) → IsWidth w → IsRequest config c source m
     → beats_of m + answer_beats m ≤ 64 / w + 1
 access-few config c source (Message.A m) width h = access_at (level_of config c) m width h.1
 access-few config c source m width h = absurd (let no = h.0 in cc)

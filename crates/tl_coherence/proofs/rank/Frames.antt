@@ -19,22 +19,22 @@ here_if true n e f = omega (arith, e)
 here_if false n e f = absurd cc
 
 module _ {X : Type 0} {caching : ℕ → Bool} {s : State X} (inv : IsInvariant caching s) where
-  pub request-here : (d i : ℕ) → s.uses d i ≡ Asked → IsHere s d Request i
+  request-here : (d i : ℕ) → s.uses d i ≡ Asked → IsHere s d Request i
   request-here d i e = here_if (is_asked (s.uses d i)) _ (inv.requests d i) (rw e refl)
 
-  pub answer-here : (d i : ℕ) → s.uses d i ≡ Replied → IsHere s d Answer i
+  answer-here : (d i : ℕ) → s.uses d i ≡ Replied → IsHere s d Answer i
   answer-here d i e = here_if (is_replied (s.uses d i)) _ (inv.answers d i) (rw e refl)
 
-  pub acquire-here : (d m : ℕ) → shown Acquire d (s.block m) ≡ true → IsHere s d Acquire m
+  acquire-here : (d m : ℕ) → shown Acquire d (s.block m) ≡ true → IsHere s d Acquire m
   acquire-here d m e = here_if (shown Acquire d (s.block m)) _ (inv.transfers d Acquire refl m) e
 
-  pub grant-here : (d m : ℕ) → shown Grant d (s.block m) ≡ true → IsHere s d Grant m
+  grant-here : (d m : ℕ) → shown Grant d (s.block m) ≡ true → IsHere s d Grant m
   grant-here d m e = here_if (shown Grant d (s.block m)) _ (inv.transfers d Grant refl m) e
 
   pub report-here : (d m : ℕ) → shown ProbeAck d (s.block m) ≡ true → IsHere s d ProbeAck m
   report-here d m e = here_if (shown ProbeAck d (s.block m)) _ (inv.transfers d ProbeAck refl m) e
 
-  pub release-here : (d m : ℕ) → shown Release d (s.block m) ≡ true → IsHere s d Release m
+  release-here : (d m : ℕ) → shown Release d (s.block m) ≡ true → IsHere s d Release m
   release-here d m e = here_if (shown Release d (s.block m)) _ (inv.transfers d Release refl m) e
 
 -- the Acquire with a source is one that its block has

@@ -57,7 +57,7 @@ module _ {w : ℕ} {config : Config} {mail mail' : AccessMessages w} {s s' : Sta
   number = clients config size left left' answer answer s s'
 
   -- a Probe or report of the block, which is in service as before, owes one less
-  pub service-falls : (q : ℕ) (own : Bool) (source : ℕ) (k : Cap) → (s.block n).service ≡ Waits q own source k
+  service-falls : (q : ℕ) (own : Bool) (source : ℕ) (k : Cap) → (s.block n).service ≡ Waits q own source k
       → (s'.block n).service ≡ (s.block n).service → AreAsBefore s'.uses s.uses → AreAsBefore s'.lets s.lets
       → AreNoMore s'.link s.link → ((d : ℕ) → ((s'.block n).pair d).acquiring ≡ ((s.block n).pair d).acquiring)
       → ((d i : ℕ) → s.lets d i ≡ Some n

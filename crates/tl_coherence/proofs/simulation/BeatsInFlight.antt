@@ -29,7 +29,7 @@ all_beats P m k zero each = All-nil P
 all_beats P m k (suc n) each = All-cons P (beat_of m k) (beats_from m (k + 1) n) (each k (omega arith))
     (all_beats P m (k + 1) n (λ i lt. each i (omega (arith, lt))))
 
-pub all-message : {w : ℕ} (P : ℕ → Beat w → Type 0) (l : ℕ) (m : Message w) (s : System w)
+all-message : {w : ℕ} (P : ℕ → Beat w → Type 0) (l : ℕ) (m : Message w) (s : System w)
     → ((i : ℕ) → i < beats_of m → P l (beat_of m i)) → ((d : ℕ) (at : Channel) → All (P d) (s.channels d at))
     → (d : ℕ) (at : Channel) → All (P d) ((with_message l m s).channels d at)
 all-message {w} P l m s each before d at = elim (cases_eq d l) [

@@ -27,7 +27,7 @@ source_known m source e = absurd cc
 
 -- ---- trackers
 
-pub of_each : (P : ℕ → Type 0) (ns : List ℕ) (n : ℕ) → is_one_of n ns ≡ true → kept.Each P ns → P n
+of_each : (P : ℕ → Type 0) (ns : List ℕ) (n : ℕ) → is_one_of n ns ≡ true → kept.Each P ns → P n
 of_each P [] n e each = absurd cc
 of_each P (m ∷ ns) n e each = go (n == m) refl e (λ f. of_each P ns n f each.1)
   where

@@ -28,7 +28,7 @@ aside_probe {w} n k c d at s aside =
     rw aside (go (d == c))
 
 -- Probes go on channel B
-pub probes-aside : {w : ℕ} (n : ℕ) (k : Cap) (clients : List ℕ) (d : ℕ) (at : Channel) (s : System w)
+probes-aside : {w : ℕ} (n : ℕ) (k : Cap) (clients : List ℕ) (d : ℕ) (at : Channel) (s : System w)
     → same_channel at Channel.B ≡ false → (with_messages (probes n k clients) s).channels d at ≡ s.channels d at
 unfolding with_messages
 probes-aside n k [] d at s aside = refl
@@ -36,7 +36,7 @@ probes-aside n k (c ∷ clients) d at s aside = probes-aside n k clients d at (w
     aside ∙ aside_probe n k c d at s aside
 
 -- none goes to one who isn't among those clients
-pub probes-outside : {w : ℕ} (n : ℕ) (k : Cap) (first count : ℕ) (test : ℕ → Bool) (d : ℕ) (s : System w)
+probes-outside : {w : ℕ} (n : ℕ) (k : Cap) (first count : ℕ) (test : ℕ → Bool) (d : ℕ) (s : System w)
     → (d < first) ⊎ (first + count ≤ d)
     → (with_messages (probes n k (clients_from first count test)) s).channels d Channel.B ≡ s.channels d Channel.B
 unfolding with_messages clients_from
@@ -59,7 +59,7 @@ probes-outside {w} n k first (suc count) test d s out =
     go rest true = rest (with_message first (probe_of_block n k) s) ∙ other_probe n k first d Channel.B s (apart out)
     go rest false = rest s
 
-pub probes-among : {w : ℕ} (n : ℕ) (k : Cap) (first count : ℕ) (test : ℕ → Bool) (d : ℕ) (s : System w) → first ≤ d
+probes-among : {w : ℕ} (n : ℕ) (k : Cap) (first count : ℕ) (test : ℕ → Bool) (d : ℕ) (s : System w) → first ≤ d
     → d < first + count → (with_messages (probes n k (clients_from first count test)) s).channels d Channel.B
     ≡ behind (if test d then Some (probe_of_block n k) else None) (s.channels d Channel.B)
 unfolding with_messages clients_from

@@ -37,7 +37,7 @@ unfolding count
 none-there Channel.A k n = refl
 none-there ch k n = refl
 
-pub first-invariant : (caching : ℕ → Bool) → IsInvariant caching first_state
+first-invariant : (caching : ℕ → Bool) → IsInvariant caching first_state
 unfolding count IsOrdered
 first-invariant caching = record {
   blocks = λ n. first-well caching;

@@ -40,16 +40,12 @@ within-kept {w} config width = record {
   };
 }
 
-pub ends-within : {w : ℕ} (config : Config) (log : Log w) (c : ℕ) → IsWidth w
-    → IsWithin config c ((system_after config log).clients c)
-ends-within config log c width = ends-kept config (IsWithin config) (within-kept config width) log c
-
 pub sources-own : {w : ℕ} (config : Config) (log : Log w) (c : ℕ) → IsWidth w → IsOwn config c (system_after config log)
 unfolding pending
 sources-own {w} config log c width = go (terms_at config c) refl
   where
     within : IsWithin config c ((system_after config log).clients c)
-    within = ends-within config log c width
+    within = ends-kept config (IsWithin config) (within-kept config width) log c
 
     not_pending : (k : Key) → ((system_after config log).clients c) ≡ fresh
         → pending k ((system_after config log).clients c).past ≡ true → pending k (fresh {w = w}).past ≡ true

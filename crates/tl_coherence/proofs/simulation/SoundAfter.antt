@@ -79,7 +79,7 @@ manager_good {w} config link ch x queue manager_offer.Passes e sys width sound t
 
 -- ---- an event
 
-pub good-after : {w : ℕ} {config : Config} {log : Log w} {mail : AccessMessages w} {request : ℕ → MessageA w}
+good-after : {w : ℕ} {config : Config} {log : Log w} {mail : AccessMessages w} {request : ℕ → MessageA w}
     {s : State (List ℕ)} {sys : System w} → IsWidth w → SimulationRelation config log mail request s sys
     → (event : Event w) → IsTyped event → AllGood config (stepped config event sys).after
 unfolding stepped manager_offer.offered

@@ -72,8 +72,7 @@ flowed-access {w} {X} {c} {y} {first} {last} {asked} {rest} {rest'} {s} {s'} {t}
       held_is = λ m. ap (held_by c) (is.blocks m) ∙ sym (unsaid last (held_by c (s.block m)));
       requests = λ i. requests i (y.source == i) refl;
       asked_is = λ i e. asked_still i e (y.source == i) refl;
-      acquires = λ m. ap (acquired_by c) (is.blocks m) ∙ sym
-          (unopened first last (is_acquire y.opcode) (block_at y.address == m) (acquired_by c (s.block m)) is.access);
+      acquires = λ m. cc (is.blocks m, is.access, step_quiet first last (acquired_by c (s.block m)));
       release_sources = λ i. lets i ∙ sym (step_quiet first last (is_let_by c i (rest Channel.C) (s.lets c i) s));
       released = λ i m e f. ap (option_map (λ z. block_at z.address)) (released-of i y t) ∙ before.released i m
           (sym (is.lets i) ∙ e) (before.release_sources i ∙ sym (lets i) ∙ f);
@@ -116,8 +115,7 @@ flowed-access {w} {X} {c} {y} {first} {last} {asked} {rest} {rest'} {s} {s'} {t}
         ≡ step first last (y.source == i) false (is_requested c i (rest Channel.A) (s.uses c i) s)
     requests i true e = use_at i true e ∙ now i last refl e ∙ sym
         (begun first last (y.source == i) (is_requested c i (rest Channel.A) (s.uses c i) s) e (was i e))
-    requests i false e = same i e ∙ sym
-        (unbegun first last (y.source == i) (is_requested c i (rest Channel.A) (s.uses c i) s) e)
+    requests i false e = cc (same i e, e, step_quiet first last (is_requested c i (rest Channel.A) (s.uses c i) s))
 
     asked_still : (i : ℕ) → is_requested c i (rest' Channel.A) (s'.uses c i) s' ≡ true → (here : Bool)
         → (y.source == i) ≡ here → request_of i (Beat.A y ∷ t) ≡ asked i

@@ -77,22 +77,19 @@ flowed-answer {w} {X} {c} {y} first {last} {asked} {asked'} {rest} {rest'} {s} {
           ∙ sym (ap (λ (z : Bool). step first last false (not z && (y.source == i))
           (is_requested c i (rest Channel.A) (s.uses c i) s)) is.ack);
       asked_is = λ i e. asked_still i e (last && (y.source == i)) refl;
-      acquires = λ m. ap (acquired_by c) (is.blocks m) ∙ sym (unclosed first last (is_grant y.opcode)
-          (asks_for m (request_of y.source t)) (acquired_by c (s.block m)) is.grant);
+      acquires = λ m. cc (is.blocks m, is.grant, step_quiet first last (acquired_by c (s.block m)));
       release_sources = λ i. lets i ∙ sym (unclosed first last (is_release_ack y.opcode) (y.source == i)
           (is_let_by c i (rest Channel.C) (s.lets c i) s) is.ack);
       released = λ i m e f. ap (option_map (λ z. block_at z.address)) (release_of-d i y t) ∙ before.released i m
           (sym (is.lets i) ∙ e) (before.release_sources i ∙ sym (lets i) ∙ f);
       sizes = λ i m e f. ap (option_map (λ z. z.size)) (release_of-d i y t) ∙ before.sizes i m (sym (is.lets i) ∙ e)
           (before.release_sources i ∙ sym (lets i) ∙ f);
-      releases = λ m. ap (λ (l : List (Beat w)). let_of c l (s'.block m)) (rests Channel.C)
-          ∙ ap (let_of c (rest Channel.C)) (is.blocks m) ∙ sym (unclosed first last (is_release_ack y.opcode)
-          (releases m (release_of y.source t)) (let_of c (rest Channel.C) (s.block m)) is.ack);
+      releases =
+          λ m. cc (rests Channel.C, is.blocks m, is.ack, step_quiet first last (let_of c (rest Channel.C) (s.block m)));
       sinks = λ i. ap (λ (o : Option ℕ). is_sunk c i (rest' Channel.D) o s') (is.tracked i) ∙ sinks i (s.tracked i)
           ∙ sym (unopened first last (is_grant y.opcode) (y.sink == i) (is_sunk c i (rest Channel.D) (s.tracked i) s)
           is.grant);
-      grants = λ m. grants m ∙ sym (unopened first last (is_grant y.opcode) (asks_for m (request_of y.source t))
-          (granted_by c m asked (rest Channel.D) (s.block m)) is.grant);
+      grants = λ m. cc (grants m, is.grant, step_quiet first last (granted_by c m asked (rest Channel.D) (s.block m)));
       probes = λ m. cc (is.blocks m, step_quiet first last (is_answered ((s.block m).pair c).probing));
       probed = λ m e. probed-of m y t ∙ before.probed m (sym (ap (λ (z : Block X). is_answered (z.pair c).probing)
           (is.blocks m)) ∙ e) ∙ sym (ap (λ (z : Block X). Some (probe_beat m (cap_waited z.service))) (is.blocks m));
@@ -211,8 +208,7 @@ flowed-let_go {w} {X} {c} {n} {y} {asked} {asked'} {rest} {rest'} {s} {s'} {t} f
           (is_requested c i (rest Channel.A) (s.uses c i) s)) is.ack);
       asked_is = λ i e. request_of-d i y t ∙ before.asked_is i (before.requests i ∙ sym (requests i) ∙ e) ∙ sym
           (is.asked_is i);
-      acquires = λ m. acquires m ∙ sym (unclosed true true (is_grant y.opcode) (asks_for m (request_of y.source t))
-          (acquired_by c (s.block m)) is.grant);
+      acquires = λ m. cc (acquires m, is.grant);
       release_sources = λ i. lets i (y.source == i) refl;
       released = λ i m e f. ap (option_map (λ z. block_at z.address)) (release_of-d i y t) ∙ before.released i m
           (is_another i m e (y.source == i) refl).1 (still_pending i m e f);
@@ -222,8 +218,7 @@ flowed-let_go {w} {X} {c} {n} {y} {asked} {asked'} {rest} {rest'} {s} {s'} {t} f
       sinks = λ i. ap (λ (o : Option ℕ). is_sunk c i (rest' Channel.D) o s') (is.tracked i) ∙ sinks i (s.tracked i)
           ∙ sym (unopened true true (is_grant y.opcode) (y.sink == i) (is_sunk c i (rest Channel.D) (s.tracked i) s)
           is.grant);
-      grants = λ m. grants m ∙ sym (unopened true true (is_grant y.opcode) (asks_for m (request_of y.source t))
-          (granted_by c m asked (rest Channel.D) (s.block m)) is.grant);
+      grants = λ m. cc (grants m, is.grant);
       probes = answered;
       probed = λ m e. probed-of m y t ∙ before.probed m (sym (answered m) ∙ e) ∙ sym (ap (λ k. Some (probe_beat m k))
           (part-block (λ (z : Block X). cap_waited z.service) n s s' is.elsewhere (ap cap_waited is.service) m));

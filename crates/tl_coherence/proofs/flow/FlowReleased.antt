@@ -184,8 +184,7 @@ flowed-release {w} {X} {c} {n} {r} {y} {first} {last} {asked} {rest} {rest'} {s}
           (is.comes (new.release_source c) ∙ with_true (not last) (y.source == new.release_source c)
           (rw (is.release_source, is.source) (same_number (b.release_source c)))) ∙ sym (opened first last
           (is_release y.opcode) (block_at y.address == n) (let_of c (rest Channel.C) b) is.release here_at then_here))
-          (λ m ne. let_rest m ne ∙ sym (unopened first last (is_release y.opcode) (block_at y.address == m)
-          (let_of c (rest Channel.C) (s.block m)) (apart m ne)));
+          (λ m ne. cc (let_rest m ne, apart m ne, step_quiet first last (let_of c (rest Channel.C) (s.block m))));
       sinks = λ i. sinks i ∙ sym (step_quiet first last (is_sunk c i (rest Channel.D) (s.tracked i) s));
       grants = λ m. grants m ∙ sym (step_quiet first last (granted_by c m asked (rest Channel.D) (s.block m)));
       probes = λ m. answered m ∙ sym (not_closed m);

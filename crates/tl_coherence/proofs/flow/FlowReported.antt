@@ -82,8 +82,7 @@ flowed-report {w} {X} {c} n r toks y first {asked} {rest} rest' {s}
       released = λ i m e f. ap (option_map (λ z. block_at z.address)) (released-of i y t other) ∙ before.released i m e
           (before.release_sources i ∙ sym (lets i) ∙ f);
       sizes = λ i m e f. cc (released-of i y t other, before.sizes i m e (before.release_sources i ∙ sym (lets i) ∙ f));
-      releases = λ m. releases m ∙ sym (unopened first true (is_release y.opcode) (block_at y.address == m)
-          (let_of c (rest Channel.C) (s.block m)) other);
+      releases = λ m. cc (releases m, other, step_quiet first true (let_of c (rest Channel.C) (s.block m)));
       sinks = λ i. ap (λ (l : List (Beat w)). is_sunk c i l (s.tracked i) s') (rests Channel.D)
           ∙ sunk_same i (s.tracked i) ∙ sym (step_quiet first true (is_sunk c i (rest Channel.D) (s.tracked i) s));
       grants = λ m. grants m ∙ sym (step_quiet first true (granted_by c m asked (rest Channel.D) (s.block m)));

@@ -58,11 +58,7 @@ pub nobody-serving : {X : Type 0} {caching : ℕ → Bool} {s : State X} (n d i 
 nobody-serving {caching} {s} n d i inv none e = go (s.block n).service none (serving n d i inv e)
   where
     go : (u : Service) → is_for_access u ≡ false → is_serving d i u ≡ true → ⊥
-    go Free f h = cc
-    go (Waits q true source k) f h = cc
-    go (Waits q false source k) f h = cc
-    go (GrantSent q b k) f h = cc
-    go (GrantTaken q) f h = cc
+    go u e f = grind arith
 
 module _ {w : ℕ} {config : Config} {mail mail' : AccessMessages w} {s s' : State (List ℕ)}
     (taking : Taking config mail mail' s s') where

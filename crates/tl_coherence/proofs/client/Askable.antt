@@ -1,5 +1,5 @@
 -- What a client is asked for and starts, the protocol allows: its sources are free, and nothing of the block is open.
-use Rattle.std.proofs.Common.{◌≡◌, ℕ, Bool, true, false, List, Option, Some, None, refl, sym, ◌∙◌, ap, is_some}
+use Rattle.std.proofs.Common.{◌≡◌, ℕ, Bool, true, false, List, Option, Some, None, refl, sym, ◌∙◌, ap, is_some, arith}
 use Rattle.tl_coherence.proofs
 use proofs.Imports.{or_parts, not-false, Message, MessageA, Config, RequestSource, ReleaseSource, AcquireOf, ReleaseOf}
 use proofs.Imports.{Level, Perm, grow_left, prune_left, same_perm, block_at, pending, has_transfers, NotBusy}
@@ -37,9 +37,7 @@ asks_something m e = absurd cc
 
 pub acquires_something : (w : ℕ) (a : AcquirePhase) (source n : ℕ)
     → is_some (first_of (acquire_of {w = w} a source n)) ≡ true
-acquires_something w NoAcquire source n = refl
-acquires_something w (AcquireOpen true g) source n = refl
-acquires_something w (AcquireOpen false g) source n = refl
+acquires_something w a source n = grind arith
 
 -- a source that asks for nothing is closed
 pub closed-source : {w : ℕ} (config : Config) (c : ℕ) {source : ℕ} (mail : AccessMessages w) (s : State (List ℕ))
@@ -74,10 +72,7 @@ caches config c Level.C at transfers = ap is_c at
 caches config c l at transfers = absurd cc
 
 pub swap_perms : (p q : Perm) → same_perm p q ≡ same_perm q p
-swap_perms Perm.None Perm.None = refl
-swap_perms Perm.Branch Perm.None = refl
-swap_perms Perm.Trunk Perm.None = refl
-swap_perms p q = refl
+swap_perms p q = grind arith
 
 -- ---- what is started
 

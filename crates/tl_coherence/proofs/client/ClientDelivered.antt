@@ -25,9 +25,7 @@ last_end {w} y e last = cc last
 
 ended_plain : {w : ℕ} (o : OpD) (y : BeatD w) (f : Finish) (r : Option (BeatA w)) (payload : List ℕ) (e : Endpoint w)
     → is_grant o ≡ false → (ended o y f (granted o r payload e)).after ≡ e
-ended_plain OpD.Grant y f r payload e plain = absurd cc
-ended_plain OpD.GrantData y f r payload e plain = absurd cc
-ended_plain o y f r payload e plain = refl
+ended_plain o y f r payload e g = grind arith
 
 plain_end : {w : ℕ} (y : BeatD w) (e : Endpoint w) → ends (Beat.D y) e.past ≡ true → is_grant y.opcode ≡ false
     → (taken (Beat.D y) e).after ≡ with_past (Beat.D y ∷ e.past) e

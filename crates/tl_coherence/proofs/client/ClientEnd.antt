@@ -1,5 +1,5 @@
 -- A client's end of its link beside the protocol, in one record; and what of the protocol it depends on.
-use Rattle.std.proofs.Common.{◌≡◌, ℕ, Bool, true, false, not, cond, List, [], ◌∷◌, Option, Some, None, refl, sym, ◌∙◌}
+use Rattle.std.proofs.Common.{◌≡◌, ℕ, Bool, true, false, not, cond, List, [], ◌∷◌, Option, Some, None, refl, sym, ◌∙◌, arith}
 use Rattle.std.proofs.Common.{ap, ◌⊎◌, inl, inr, ◌&&◌, ◌==◌, if◌then◌else◌}
 use Rattle.tl_coherence.proofs
 use proofs.Imports.{Beat, BeatA, Channel, Message, MessageA, a_beat_of, History, unfinished, Config, RequestSource}
@@ -154,9 +154,7 @@ IsSameUse u v = (v ≡ u) ⊎ ((is_access u ≡ true) × (is_access v ≡ true))
 
 access_asks : {w : ℕ} (u : SourceState) (request : Message w) → is_access u ≡ true → (acquire : Message w)
     → asked_for u request acquire ≡ first_of request
-access_asks SourceFree request e acquire = absurd cc
-access_asks (Acquires n) request e acquire = absurd cc
-access_asks u request e acquire = refl
+access_asks u request e acquire = grind arith
 
 -- what a use asks for
 abbrev asked_with : {w : ℕ} → SourceState → Message w → (ℕ → Block (List ℕ)) → ℕ → Option (BeatA w)

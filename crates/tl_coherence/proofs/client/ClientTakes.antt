@@ -131,26 +131,12 @@ answer-first {w} p {c} {source} {mail} {s} {e} end due whole =
 
 pub answers_acquire : (whole data_too : Bool) → (whole && data_too) ≡ false
     → answers (grant_opcode data_too) (acquire_opcode whole) ≡ true
-answers_acquire true true e = absurd cc
-answers_acquire true false e = refl
-answers_acquire false true e = refl
-answers_acquire false false e = refl
+answers_acquire whole data_too e = grind arith
 
 pub fits_asked : (p : Profile) (whole : Bool) (g : Grow) (k : Cap) → cap_fits whole g k ≡ true
     → gives_asked p (AcquireOpen whole g) k ≡ true
     → fits_grow p (acquire_opcode whole) (grow_code g) (cap_code k) ≡ true
-fits_asked Profile.One false Grow.NtoB Cap.ToB e f = refl
-fits_asked Profile.Two false Grow.NtoB Cap.ToB e f = refl
-fits_asked Profile.Two false Grow.NtoB Cap.ToT e f = refl
-fits_asked Profile.One false Grow.NtoT Cap.ToT e f = refl
-fits_asked Profile.Two false Grow.NtoT Cap.ToT e f = refl
-fits_asked Profile.One false Grow.BtoT Cap.ToT e f = refl
-fits_asked Profile.Two false Grow.BtoT Cap.ToT e f = refl
-fits_asked Profile.One true Grow.NtoT Cap.ToT e f = refl
-fits_asked Profile.Two true Grow.NtoT Cap.ToT e f = refl
-fits_asked Profile.One true Grow.BtoT Cap.ToT e f = refl
-fits_asked Profile.Two true Grow.BtoT Cap.ToT e f = refl
-fits_asked p whole g k e f = absurd cc
+fits_asked p whole g k e f = grind arith
 
 -- the parts of a Grant that fits
 pub record IsFitting (held : Perm) (data_too : Bool) (k : Cap) (whole : Bool) (g : Grow) : Type 0 where
@@ -172,12 +158,7 @@ fitting recorded held data_too k whole g fits =
 pub has_data : (whole data_too : Bool) (q : Perm) → (whole || (data_too || same_perm q Perm.Branch)) ≡ true
     → (is_grant_without_data (grant_opcode data_too) && (is_acquire_block (acquire_opcode whole) && not
     (same_perm q Perm.Branch))) ≡ false
-has_data true true q e = refl
-has_data true false q e = refl
-has_data false true q e = refl
-has_data false false Perm.Branch e = refl
-has_data false false Perm.None e = absurd cc
-has_data false false Perm.Trunk e = absurd cc
+has_data whole data_too q e = grind arith
 
 pub grant-first : {w : ℕ} (p : Profile) {c n : ℕ} (mail : AccessMessages w) {s : State (List ℕ)} {e : Endpoint w}
     → IsEnd (asked_by mail s c) c s e → (due : IsGrantDue c n s) → gives_asked p (AcquireOpen due.whole due.g) due.k

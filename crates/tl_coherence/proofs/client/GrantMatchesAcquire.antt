@@ -1,5 +1,5 @@
 -- Under the first profile a Grant that is on its way gives what was asked for: after every event.
-use Rattle.std.proofs.Common.{◌≡◌, ℕ, Bool, true, false, not, List, refl, sym, ◌∙◌, ap}
+use Rattle.std.proofs.Common.{◌≡◌, ℕ, Bool, true, false, not, List, refl, sym, ◌∙◌, ap, arith}
 use Rattle.tl_coherence.proofs
 use proofs.Imports.{⊤, Message, Config, Cap, Grow, Profile, block_at, Op, Reply, copy_stored, whole_grow, IsInvariant}
 use proofs.Imports.{Kind, Packet, set, ClientBlock, AcquirePhase, NoAcquire, AcquireOpen, is_unacquired, after_acquire}
@@ -41,9 +41,7 @@ given-acquiring p c whole g service pair none h = tt
 -- what the manager gives
 gift_given : (p : Profile) (whole : Bool) (g : Grow) (unheld : Bool)
     → gives_asked p (AcquireOpen whole g) (gift p whole g unheld) ≡ true
-gift_given Profile.One true Grow.NtoB unheld = refl
-gift_given Profile.One false Grow.NtoB unheld = refl
-gift_given p whole g unheld = refl
+gift_given p whole g unheld = grind arith
 
 -- ---- operations
 

@@ -60,10 +60,7 @@ loaded_number f address size bytes room is =
     sym (is (address % 64 + i) (omega (arith, room, lt))) ∙ ap f place)
 
 pub some_held : (p : Prune) (q : Perm) → same_perm (prune_left p) q ≡ true → same_perm q Perm.None ≡ false
-some_held Prune.TtoB Perm.Trunk e = refl
-some_held Prune.TtoN Perm.Trunk e = refl
-some_held Prune.BtoN Perm.Branch e = refl
-some_held p q e = absurd cc
+some_held p q e = grind arith
 
 pub none_rule : (o : Option Rule) → is_none o ≡ true → o ≡ None
 none_rule None e = refl

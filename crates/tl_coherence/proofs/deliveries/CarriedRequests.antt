@@ -85,12 +85,7 @@ carried-more {w} {config} {mail} {s} {sys} {c} {k} {m} queue is comes beats part
 -- ---- its last beat: others are probed
 
 nothing_above : (j : Cap) (own : Bool) → (not own && is_above j Perm.None) ≡ false
-nothing_above Cap.ToT true = refl
-nothing_above Cap.ToT false = refl
-nothing_above Cap.ToB true = refl
-nothing_above Cap.ToB false = refl
-nothing_above Cap.ToN true = refl
-nothing_above Cap.ToN false = refl
+nothing_above j own = grind arith
 
 taken-probing : {w : ℕ} {config : Config} {log : Log w} {mail : AccessMessages w} {request : ℕ → MessageA w}
     {s : State (List ℕ)} {sys : System w} {c k : ℕ} (n : ℕ)

@@ -68,10 +68,7 @@ is_up _ = false
 
 ready_up : {w : ℕ} (tracker c : ℕ) (ch : Channel) (k : Kind) (i : ℕ) (h : AbstractState w) → is_up ch ≡ true
     → is_on ch k ≡ true → IsReady tracker c k i h
-ready_up tracker c Channel.C ProbeAck i h up own = tt
-ready_up tracker c Channel.C Release i h up own = tt
-ready_up tracker c Channel.E GrantAck i h up own = tt
-ready_up tracker c ch k i h up own = absurd cc
+ready_up tracker c ch k i h e f = grind arith
 
 -- ---- every event
 

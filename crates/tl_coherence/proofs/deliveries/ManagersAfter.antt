@@ -1,5 +1,5 @@
 -- A beat that is delivered to the manager: the channels and the one memory afterwards, by what is handed out.
-use Rattle.std.proofs.Common.{◌≡◌, ℕ, Bool, true, false, List, [], ◌∷◌, Option, Some, None, refl, sym, ◌∙◌, ap, subst}
+use Rattle.std.proofs.Common.{◌≡◌, ℕ, Bool, true, false, List, [], ◌∷◌, Option, Some, None, refl, sym, ◌∙◌, ap, subst, arith}
 use Rattle.std.proofs.Common.{if◌then◌else◌, All}
 use Rattle.tl_coherence.proofs
 use proofs.Imports.{All-head, Beat, Link, Channel, OpB, IsWidth, Message, beat_of, unfinished, channel_of, completes}
@@ -32,9 +32,7 @@ on_message m i = subst (λ (ch : Channel). IsOn ch (beat_of m i)) (channel_of_be
 
 acquire_channel : (w : ℕ) (x : AcquirePhase) (source n : ℕ)
     → channel_of_message {w = w} (acquire_of x source n) ≡ Channel.A
-acquire_channel w NoAcquire source n = refl
-acquire_channel w (AcquireOpen true g) source n = refl
-acquire_channel w (AcquireOpen false g) source n = refl
+acquire_channel w x source n = grind arith
 
 pub ack_channel : (w : ℕ) (p : Perm) (r : Report) (n : ℕ) (x : List ℕ)
     → channel_of_message {w = w} (probe_ack OpB.ProbeBlock p r n x) ≡ Channel.C
@@ -176,9 +174,7 @@ delivered-last {w} {config} {log} {link} {ch} {h} {x} {queue} handed pushes down
 
 receiver_down : {w : ℕ} (ch : Channel) (c : ℕ) (sys : System w) → is_to_client ch ≡ false
     → receiver ch c sys ≡ on_link c sys.manager.trace
-receiver_down Channel.B c sys e = absurd cc
-receiver_down Channel.D c sys e = absurd cc
-receiver_down ch c sys e = refl
+receiver_down ch c sys e = grind arith
 
 pub delivered-part : {w : ℕ} {config : Config} {log : Log w} {link : Link} {ch : Channel} {h : AbstractState w}
     {x : Beat w} {queue : List (Beat w)} → IsWidth w → SimulationRelation config log h.mail h.request h.state

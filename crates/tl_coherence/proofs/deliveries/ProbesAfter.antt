@@ -1,5 +1,5 @@
 -- A Probe that is delivered to a client: the channels and the one memory afterwards.
-use Rattle.std.proofs.Common.{◌≡◌, ℕ, ◌*◌, Bool, true, false, List, [], ◌∷◌, Some, None, refl, sym, ◌∙◌, ap, map, Ok}
+use Rattle.std.proofs.Common.{◌≡◌, ℕ, ◌*◌, Bool, true, false, List, [], ◌∷◌, Some, None, refl, sym, ◌∙◌, ap, map, Ok, arith}
 use Rattle.tl_coherence.proofs
 use proofs.Imports.{Beat, BeatB, Link, Channel, OpB, IsWidth, Message, unfinished, Config, Cap, Report, Perm}
 use proofs.Imports.{report_left, report_at, same_perm, block_at, same_block, Verdict, copy_at, held_at, report_for}
@@ -26,10 +26,7 @@ use proofs.manager.UnwaitedRequests.{next_tracker, invariant-taken}
 
 -- a report begins at what is held
 left_is : (k : Cap) (p : Perm) → report_left (report_at k p) ≡ p
-left_is Cap.ToT Perm.None = refl
-left_is Cap.ToB Perm.None = refl
-left_is Cap.ToN Perm.None = refl
-left_is k p = refl
+left_is k p = grind arith
 
 ack_same : {w : ℕ} (p : Perm) (r : Report) (n : ℕ) (x y : List ℕ) → (same_perm p Perm.None ≡ false → x ≡ y)
     → probe_ack {w = w} OpB.ProbeBlock p r n x ≡ probe_ack OpB.ProbeBlock p r n y

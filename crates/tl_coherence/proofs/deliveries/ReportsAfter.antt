@@ -1,5 +1,5 @@
 -- A beat of channel C that is delivered to the manager: the channels and the one memory afterwards.
-use Rattle.std.proofs.Common.{◌≡◌, ℕ, Bool, true, false, List, [], ◌∷◌, refl, sym, ◌∙◌, ap, subst, inl, inr, not, ◌&&◌}
+use Rattle.std.proofs.Common.{◌≡◌, ℕ, Bool, true, false, List, [], ◌∷◌, refl, sym, ◌∙◌, ap, subst, inl, inr, not, ◌&&◌, arith}
 use Rattle.std.proofs.Common.{length, ◌==◌, if◌then◌else◌}
 use Rattle.tl_coherence.proofs
 use proofs.Imports.{Beat, Link, Channel, IsWidth, Message, unfinished, completes, Config, Prune, Report, on_link}
@@ -27,11 +27,7 @@ use proofs.rank.{RankParts.serving-use}
 grant-quiet : (w : ℕ) (link : Link) (q n : ℕ) (b : Block (List ℕ)) (s : Service) → b.service ≡ s
     → accesses_answered {w = w} ((link, block_message Grant q n b) ∷ []) ≡ []
 unfolding accesses_answered block_message
-grant-quiet w link q n b Free e = rw e refl
-grant-quiet w link q n b (Waits r own source k) e = rw e refl
-grant-quiet w link q n b (GrantTaken r) e = rw e refl
-grant-quiet w link q n b (GrantSent r true k) e = rw e refl
-grant-quiet w link q n b (GrantSent r false k) e = rw e refl
+grant-quiet w link q n b s e = grind arith
 
 ack-quiet : (w : ℕ) (link : Link) (c n : ℕ) (b : Block (List ℕ))
     → accesses_answered {w = w} ((link, block_message ReleaseAck c n b) ∷ []) ≡ []

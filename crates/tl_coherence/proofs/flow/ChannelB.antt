@@ -1,5 +1,5 @@
 -- What is delivered on a link, as the beat of a Probe is, for a whole that is that of the protocol.
-use Rattle.std.proofs.Common.{◌≡◌, subst, ℕ, true, List, [], ◌∷◌, Option, refl, sym, ◌∙◌, ap}
+use Rattle.std.proofs.Common.{◌≡◌, subst, ℕ, true, List, [], ◌∷◌, Option, refl, sym, ◌∙◌, ap, arith}
 use Rattle.tl_coherence.proofs
 use proofs.Imports.{Beat, BeatA, Channel, Message, History, is_empty, completes, Config, Cap, same_block, Probe, Packet}
 use proofs.Imports.{ClientBlock, View, Other, ProbeSent, ok, same_cap, State, packet, view, probe_taken, AbstractState}
@@ -14,10 +14,7 @@ use proofs.simulation.Popped.{unfinished_at}
 -- ---- who is probed
 
 same_caps : (j k : Cap) → same_cap j k ≡ true → k ≡ j
-same_caps Cap.ToT Cap.ToT e = refl
-same_caps Cap.ToB Cap.ToB e = refl
-same_caps Cap.ToN Cap.ToN e = refl
-same_caps j k e = absurd cc
+same_caps j k e = grind arith
 
 -- sees the service of another, which probes with this cap
 probed_sees : (k : Cap) (v : View) → fits_service (ProbeSent k) v ≡ true → v ≡ Other k

@@ -1,5 +1,5 @@
 -- What excludes an access: who is recorded with no more than its cap leaves it.
-use Rattle.std.proofs.Common.{◌≡◌, ℕ, true, false, not, Some, None, refl, ◌∙◌, ap}
+use Rattle.std.proofs.Common.{◌≡◌, ℕ, true, false, not, Some, None, refl, ◌∙◌, ap, arith}
 use Rattle.tl_coherence.proofs
 use proofs.Imports.{same_Some, OpA, Cap, Perm, cap_right, same_perm, is_acquire, leaves, needs, cap_probed, is_above}
 use proofs.Imports.{perm_le}
@@ -8,11 +8,7 @@ some_none : (k : Cap) → Some k ≡ None → ⊥
 some_none k e = cc
 
 pub above_le : (k : Cap) (p : Perm) → is_above k p ≡ false → perm_le p (cap_right k) ≡ true
-above_le Cap.ToT Perm.None e = refl
-above_le Cap.ToB Perm.Trunk e = absurd cc
-above_le Cap.ToN Perm.None e = refl
-above_le Cap.ToN p e = absurd cc
-above_le k p e = refl
+above_le k p e = grind arith
 
 at_most_branch : (p : Perm) → perm_le p (cap_right Cap.ToB) ≡ true → not (same_perm p Perm.Trunk) ≡ true
 at_most_branch Perm.Trunk e = absurd cc

@@ -1,5 +1,5 @@
 -- What is delivered on a link, as a beat of an access's answer or a ReleaseAck is.
-use Rattle.std.proofs.Common.{◌≡◌, ℕ, Bool, true, false, not, ◌&&◌, ◌||◌, ◌∷◌, Option, Some, None, refl, sym, ◌∙◌, ap}
+use Rattle.std.proofs.Common.{◌≡◌, ℕ, Bool, true, false, not, ◌&&◌, ◌||◌, ◌∷◌, Option, Some, None, refl, sym, ◌∙◌, ap, arith}
 use Rattle.std.proofs.Common.{List, ne_eqb, eqb-true, ◌==◌, if◌then◌else◌, option_map, unwrap_or}
 use Rattle.tl_coherence.proofs
 use proofs.Imports.{Beat, BeatA, BeatC, BeatD, Channel, History, ReleaseSource, Perm, comes_in_grant, begins, ends}
@@ -37,10 +37,7 @@ unsaid true g q v p e = rw e refl
 unsaid false g q v p e = refl
 
 pub closes_last : (first last p : Bool) → step first last false true p ≡ (if last then false else p)
-closes_last true true p = refl
-closes_last true false p = refl
-closes_last false true p = refl
-closes_last false false p = refl
+closes_last first last p = grind arith
 
 -- ---- the answer of an access
 

@@ -1,5 +1,5 @@
 -- What is delivered on a link, as an event leaves it alone: each value of it is as before.
-use Rattle.std.proofs.Common.{◌≡◌, ℕ, Bool, true, false, not, ◌||◌, Option, Some, None, refl, sym, ◌∙◌, ap}
+use Rattle.std.proofs.Common.{◌≡◌, ℕ, Bool, true, false, not, ◌||◌, Option, Some, None, refl, sym, ◌∙◌, ap, arith}
 use Rattle.std.proofs.Common.{List, ◌⊎◌, inl, inr}
 use Rattle.tl_coherence.proofs
 use proofs.Imports.{Beat, BeatA, Channel, History, Block, State, SourceState, InService, Replied}
@@ -50,9 +50,7 @@ IsSameUse u u' = (u' ≡ u) ⊎ ((is_heard u ≡ true) × (is_heard u' ≡ true)
 
 heard_requested : {w : ℕ} {X : Type 0} (c i : ℕ) (rest : List (Beat w)) (u : SourceState) (s : State X)
     → is_heard u ≡ true → is_requested c i rest u s ≡ true
-heard_requested c i rest (InService n) s e = refl
-heard_requested c i rest Replied s e = refl
-heard_requested c i rest u s e = absurd cc
+heard_requested c i rest u s e = grind arith
 
 pub requested-blocks : {w : ℕ} {X : Type 0} (c i : ℕ) (rest : List (Beat w)) (u : SourceState) (s s' : State X)
     → ((n : ℕ) → is_unserved (view (s'.block n).service c) ≡ is_unserved (view (s.block n).service c))

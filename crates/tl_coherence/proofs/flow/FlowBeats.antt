@@ -1,5 +1,5 @@
 -- What of a message was delivered before and after one of its beats.
-use Rattle.std.proofs.Common.{◌≡◌, ℕ, zero, suc, Bool, true, false, not, ◌&&◌, List, [], ◌∷◌, refl, sym, ◌∙◌, ap, inl}
+use Rattle.std.proofs.Common.{◌≡◌, ℕ, zero, suc, Bool, true, false, not, ◌&&◌, List, [], ◌∷◌, refl, sym, ◌∙◌, ap, inl, arith}
 use Rattle.std.proofs.Common.{inr, ne_eqb, ◌==◌, if◌then◌else◌}
 use Rattle.tl_coherence.proofs
 use proofs.Imports.{cases_eq, and_right, Beat, Message, begun, beats_of, grown, is_empty, completes, Perm, same_perm}
@@ -47,10 +47,7 @@ set_at-if c source i y f j e = elim (cases_eq i source) [
 ]
 
 pub same_perms : (p q : Perm) → same_perm p q ≡ true → q ≡ p
-same_perms Perm.None Perm.None e = refl
-same_perms Perm.Branch Perm.Branch e = refl
-same_perms Perm.Trunk Perm.Trunk e = refl
-same_perms p q e = absurd cc
+same_perms p q e = grind arith
 
 pub first_false : (p q : Bool) → p ≡ false → (p && q) ≡ false
 first_false p q e = rw e refl

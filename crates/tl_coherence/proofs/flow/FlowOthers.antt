@@ -1,5 +1,5 @@
 -- What an event leaves of its block for what is delivered on the links that it isn't of.
-use Rattle.std.proofs.Common.{◌≡◌, ℕ, Bool, true, false, ◌&&◌, ◌||◌, refl, sym, ◌∙◌, ap, ◌⊎◌, inl, inr, ne_eqb, ◌==◌}
+use Rattle.std.proofs.Common.{◌≡◌, ℕ, Bool, true, false, ◌&&◌, ◌||◌, refl, sym, ◌∙◌, ap, ◌⊎◌, inl, inr, ne_eqb, ◌==◌, arith}
 use Rattle.std.proofs.Common.{if◌then◌else◌}
 use Rattle.tl_coherence.proofs
 use proofs.Imports.{Cap, Grow, Prune, Report, set, ClientBlock, View, Idle, Own, Other, Granting, Acknowledging}
@@ -55,22 +55,13 @@ outside-same v v' e f = record {
 }
   where
     granting : (u : View) → is_outside u ≡ true → is_granting u ≡ false
-    granting Own g = absurd cc
-    granting (Granting d k) g = absurd cc
-    granting Acknowledging g = absurd cc
-    granting u g = refl
+    granting u e = grind arith
 
     unserved : (u : View) → is_outside u ≡ true → is_unserved u ≡ true
-    unserved Own g = absurd cc
-    unserved (Granting d k) g = absurd cc
-    unserved Acknowledging g = absurd cc
-    unserved u g = refl
+    unserved u e = grind arith
 
     acknowledging : (u : View) → is_outside u ≡ true → is_acknowledging u ≡ false
-    acknowledging Own g = absurd cc
-    acknowledging (Granting d k) g = absurd cc
-    acknowledging Acknowledging g = absurd cc
-    acknowledging u g = refl
+    acknowledging u e = grind arith
 
 -- only the one who asked sees a service from inside
 pub outside-waits : (d r source : ℕ) (own : Bool) (k : Cap) → (own && (d == r)) ≡ false
@@ -84,10 +75,7 @@ pub outside-taken : (d r : ℕ) → (d ≡ r → ⊥) → is_outside (view (Gran
 outside-taken d r ne = rw (ne_eqb d r ne) refl
 
 not_in : (v : View) → is_outside v ≡ true → (is_acknowledging v || is_granting v) ≡ false
-not_in Own e = absurd cc
-not_in (Granting d k) e = absurd cc
-not_in Acknowledging e = absurd cc
-not_in v e = refl
+not_in v e = grind arith
 
 -- ---- each event
 

@@ -1,5 +1,5 @@
 -- What is delivered on a link, as the beats of a Release are.
-use Rattle.std.proofs.Common.{◌≡◌, ℕ, Bool, true, false, not, ◌&&◌, ◌||◌, ◌∷◌, Option, Some, None, refl, sym, ◌∙◌, ap}
+use Rattle.std.proofs.Common.{◌≡◌, ℕ, Bool, true, false, not, ◌&&◌, ◌||◌, ◌∷◌, Option, Some, None, refl, sym, ◌∙◌, ap, arith}
 use Rattle.std.proofs.Common.{List, ◌⊎◌, inl, inr, ne_eqb, ◌==◌, if◌then◌else◌, option_map, unwrap_or}
 use Rattle.tl_coherence.proofs
 use proofs.Imports.{cases_eq, and_right, Beat, BeatA, BeatC, Channel, History, ReleaseSource, Prune, Perm, prune_right}
@@ -62,9 +62,7 @@ pub record IsReleased {w : ℕ} {X : Type 0} (c n : ℕ) (r : Prune) (y : BeatC 
 
 said : (last ack let_go here : Bool) (q p : Perm) → let_go ≡ true → here ≡ true
     → (if last then unwrap_or (if (ack || let_go) && here then Some q else None) p else p) ≡ (if last then q else p)
-said true true let_go here q p e f = rw f refl
-said true false let_go here q p e f = rw (e, f) refl
-said false ack let_go here q p e f = refl
+said last ack let_go here q p e f = grind arith
 
 unsaid_any : (last ack let_go here : Bool) (q p : Perm) → here ≡ false
     → (if last then unwrap_or (if (ack || let_go) && here then Some q else None) p else p) ≡ p
@@ -72,9 +70,7 @@ unsaid_any true ack let_go here q p e = unsaid ack let_go here q p e
 unsaid_any false ack let_go here q p e = refl
 
 pub opened : (first last r q p : Bool) → r ≡ true → q ≡ true → p ≡ not first → step first last (r && q) false p ≡ true
-opened true last r q p e f g = rw (e, f) refl
-opened false true r q p e f g = g
-opened false false r q p e f g = g
+opened first last r q p e f g = grind arith
 
 unopened : (first last r q p : Bool) → q ≡ false → step first last (r && q) false p ≡ p
 unopened first last true q p e = rw e (step_quiet first last p)

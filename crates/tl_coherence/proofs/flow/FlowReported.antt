@@ -1,5 +1,5 @@
 -- What is delivered on a link, as the last beat of a ProbeAck is.
-use Rattle.std.proofs.Common.{◌≡◌, ℕ, Bool, true, false, not, ◌&&◌, ◌||◌, ◌∷◌, Option, Some, None, refl, sym, ◌∙◌, ap}
+use Rattle.std.proofs.Common.{◌≡◌, ℕ, Bool, true, false, not, ◌&&◌, ◌||◌, ◌∷◌, Option, Some, None, refl, sym, ◌∙◌, ap, arith}
 use Rattle.std.proofs.Common.{List, ne_eqb, ◌==◌, if◌then◌else◌, option_map, unwrap_or}
 use Rattle.tl_coherence.proofs
 use proofs.Imports.{Beat, BeatA, BeatC, Channel, History, Report, Perm, report_right, comes_in_release, begins, ends}
@@ -17,10 +17,7 @@ closed true ack here p e f = rw (e, f) refl
 closed false ack here p e f = rw (e, f) refl
 
 elsewhere : (first ack here p : Bool) → here ≡ false → step first true false (ack && here) p ≡ p
-elsewhere true true here p e = rw e refl
-elsewhere true false here p e = refl
-elsewhere false true here p e = rw e refl
-elsewhere false false here p e = refl
+elsewhere first ack here p e = grind arith
 
 said : (ack let_go here : Bool) (q p : Perm) → ack ≡ true → here ≡ true
     → unwrap_or (if (ack || let_go) && here then Some q else None) p ≡ q

@@ -1,5 +1,5 @@
 -- What is delivered on a link, with one more beat: each value of it is as the beat leaves it.
-use Rattle.std.proofs.Common.{◌≡◌, ℕ, Bool, true, false, not, ◌&&◌, ◌||◌, ◌∷◌, Option, Some, refl, sym, ◌∙◌, List}
+use Rattle.std.proofs.Common.{◌≡◌, ℕ, Bool, true, false, not, ◌&&◌, ◌||◌, ◌∷◌, Option, Some, refl, sym, ◌∙◌, List, arith}
 use Rattle.std.proofs.Common.{if◌then◌else◌, option_map, unwrap_or}
 use Rattle.tl_coherence.proofs
 use proofs.Imports.{Beat, BeatA, Channel, History, unfinished, grown, Key, RequestSource, ReleaseSource, AcquireOf}
@@ -15,10 +15,7 @@ abbrev pub step : Bool → Bool → Bool → Bool → Bool → Bool
 step first last opened closed p = if first && opened then true else if last && closed then false else p
 
 pub step_quiet : (first last p : Bool) → step first last false false p ≡ p
-step_quiet true true p = refl
-step_quiet true false p = refl
-step_quiet false true p = refl
-step_quiet false false p = refl
+step_quiet first last p = grind arith
 
 -- a beat that is a whole message, which opens it or not
 pub whole_opened : (o p : Bool) → o ≡ true → step true true o false p ≡ true

@@ -1,5 +1,5 @@
 -- Which sinks are those of Grants that were delivered, as an event changes one block and its tracker.
-use Rattle.std.proofs.Common.{◌≡◌, ℕ, Bool, true, false, ◌&&◌, ◌||◌, Option, Some, None, refl, sym, ◌∙◌, ap, List, ◌⊎◌}
+use Rattle.std.proofs.Common.{◌≡◌, ℕ, Bool, true, false, ◌&&◌, ◌||◌, Option, Some, None, refl, sym, ◌∙◌, ap, List, ◌⊎◌, arith}
 use Rattle.std.proofs.Common.{inl, inr}
 use Rattle.tl_coherence.proofs
 use proofs.Imports.{cases_eq, Beat, comes_in_grant, set, View, Own, Granting, Acknowledging, Block, State, view}
@@ -68,7 +68,4 @@ tracked-free n tracker tracked used i = elim (cases_eq i tracker) [
 ]
 
 pub outside-unsunk : (v : View) (b : Bool) → is_outside v ≡ true → (is_acknowledging v || (is_granting v && b)) ≡ false
-outside-unsunk Own b e = absurd cc
-outside-unsunk (Granting d k) b e = absurd cc
-outside-unsunk Acknowledging b e = absurd cc
-outside-unsunk v b e = refl
+outside-unsunk v b e = grind arith

@@ -1,5 +1,5 @@
 -- Channels lose nothing and keep order, whatever happens.
-use Rattle.std.proofs.Common.{◌≡◌, ℕ, Bool, true, false, List, [], ◌∷◌, Option, Some, None, refl, sym, ◌∙◌, ap, subst}
+use Rattle.std.proofs.Common.{◌≡◌, ℕ, Bool, true, false, List, [], ◌∷◌, Option, Some, None, refl, sym, ◌∙◌, ap, subst, arith}
 use Rattle.std.proofs.Common.{inl, inr, ◌++◌, ne_eqb, ◌==◌, if◌then◌else◌, All, map, Ok}
 use Rattle.tl_coherence.proofs
 use proofs.Imports.{cases_eq, All-head, ⊤, Beat, Link, Channel, IsWidth, Message, beat_of, burst_of, History, Config}
@@ -103,9 +103,7 @@ taken_at link ch x v d e = refl
 pub flow_still : {w : ℕ} (event : Event w) (o : Outcome w) (log : Log w) (d : ℕ) → is_moving o ≡ false
     → flow d ((event, o) ∷ log) ≡ flow d log
 unfolding flow
-flow_still (Deliver link ch) (Outcome.Moved x) log d e = absurd cc
-flow_still (Deliver link ch) (Outcome.Done x source f) log d e = absurd cc
-flow_still event o log d e = refl
+flow_still event o log d e = grind arith
 
 -- ---- events
 

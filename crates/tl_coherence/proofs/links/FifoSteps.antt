@@ -1,5 +1,5 @@
 -- Channels lose nothing and keep order: for histories of the two ends of each link, and what is on its channels.
-use Rattle.std.proofs.Common.{◌≡◌, ℕ, zero, suc, Bool, true, false, not, List, [], ◌∷◌, refl, sym, ◌∙◌, ap, inl, inr}
+use Rattle.std.proofs.Common.{◌≡◌, ℕ, zero, suc, Bool, true, false, not, List, [], ◌∷◌, refl, sym, ◌∙◌, ap, inl, inr, arith}
 use Rattle.std.proofs.Common.{◌++◌, ◌&&◌, ne_eqb, append_assoc, ◌==◌, if◌then◌else◌, reverse}
 use Rattle.tl_coherence.proofs
 use proofs.Imports.{cases_eq, reverse-append, Beat, Channel, Message, beat_of, beats_of, begun, burst_of, History}
@@ -70,12 +70,7 @@ apart at ch b e f = go (same_channel at ch) refl
 
 sends : {w : ℕ} (m : Message w) (b : Bool) → is_from_client (beat_of m 0) ≡ not b
     → is_to_client (channel_of_message m) ≡ b
-sends (Message.A m) false e = refl
-sends (Message.B m) true e = refl
-sends (Message.C m) false e = refl
-sends (Message.D m) true e = refl
-sends (Message.E m) false e = refl
-sends m b e = absurd cc
+sends m b e = grind arith
 
 -- ---- the two ends of each link
 
@@ -127,9 +122,7 @@ unsaid_queue {w} l m q d at differs = go (d == l) (same_channel at (channel_of_m
   where
     go : (a b : Bool) → b ≡ false
         → (if a && b then q l (channel_of_message m) ++ beats_from m 0 (beats_of m) else q d at) ≡ q d at
-    go true false e = refl
-    go false false e = refl
-    go a true e = absurd cc
+    go a b e = grind arith
 
 pub client-says : {w : ℕ} (l : ℕ) (m : Message w) {p t : ℕ → History w} {q : ℕ → Channel → List (Beat w)} {f : ℕ
     → History w}
@@ -179,18 +172,14 @@ unheard {w} c ch x p d at on differs = heard_history c ch x p d at on ∙ go (c 
   where
     go : (a b : Bool) → b ≡ false → (if a && b then x ∷ carried_on at (p d) else carried_on at (p d)) ≡ carried_on at
         (p d)
-    go true false e = refl
-    go false false e = refl
-    go a true e = absurd cc
+    go a b e = grind arith
 
 unpopped : {w : ℕ} (c : ℕ) (ch : Channel) (queue : List (Beat w)) (q : ℕ → Channel → List (Beat w)) (d : ℕ)
     (at : Channel) → same_channel at ch ≡ false → popped_at c ch queue q d at ≡ q d at
 unpopped {w} c ch queue q d at differs = go (d == c) (same_channel at ch) differs
   where
     go : (a b : Bool) → b ≡ false → (if a && b then queue else q d at) ≡ q d at
-    go true false e = refl
-    go false false e = refl
-    go a true e = absurd cc
+    go a b e = grind arith
 
 pub client-hears : {w : ℕ} (c : ℕ) (ch : Channel) (x : Beat w) (queue : List (Beat w)) {p t : ℕ → History w} {q : ℕ
     → Channel → List (Beat w)} {f : ℕ → History w} → is_to_client ch ≡ true → IsOn ch x → q c ch ≡ x ∷ queue

@@ -1,6 +1,6 @@
 -- Which deliveries are stalled: a Probe while a Release of its block is outstanding, and the last beat of a request
 -- whose block is in service, or for which there is no tracker.
-use Rattle.std.proofs.Common.{◌≡◌, ℕ, Bool, true, false, List, [], ◌∷◌, refl, sym, ◌∙◌, ap, not, ◌&&◌, Option, Some}
+use Rattle.std.proofs.Common.{◌≡◌, ℕ, Bool, true, false, List, [], ◌∷◌, refl, sym, ◌∙◌, ap, not, ◌&&◌, Option, Some, arith}
 use Rattle.std.proofs.Common.{None, is_none, is_some, option_map}
 use Rattle.tl_coherence.proofs
 use proofs.Imports.{and-false, not-true, not-false, Beat, BeatB, Channel, MessageA, channel_of, is_empty, Config}
@@ -32,9 +32,7 @@ waits-as-it-must config link x e None None false rest silent taken = silent
 waits-as-it-must config link x e a b must rest silent taken = absurd taken
 
 passes-or-breaks : (a b : Option Rule) → is_waiting (breaks_or a (breaks_or b Passes)) ≡ false
-passes-or-breaks (Some r) b = refl
-passes-or-breaks None (Some r) = refl
-passes-or-breaks None None = refl
+passes-or-breaks a b = grind arith
 
 stalled-as-it-must : {w : ℕ} (config : Config) (link : _) (ch : Channel) (x : Beat w) (e : manager_end.End w)
     → IsTakenIn (manager.offered config link ch x e)

@@ -28,10 +28,7 @@ use proofs.protocol.{Heads.IsWanted, FirstTokens.first-shown}
 -- the beats of a ProbeAck are of no Release
 ack_comes : (w : ℕ) (p : Perm) (r : Report) (i n k : ℕ) (payload : List ℕ)
     → comes_of n (begun (probe_ack {w = w} OpB.ProbeBlock p r i payload) k) ≡ false
-ack_comes w p r i n zero payload = refl
-ack_comes w Perm.Trunk r i n (suc k) payload = refl
-ack_comes w Perm.Branch r i n (suc k) payload = refl
-ack_comes w Perm.None r i n (suc k) payload = refl
+ack_comes w p r i n k payload = grind arith
 
 -- those of a Release are of its block
 release_comes : (w : ℕ) (r : Prune) (source i n k : ℕ) (payload : List ℕ) → (i ≡ n → ⊥)
@@ -254,9 +251,7 @@ waits-first {config} {c} {x} {sys} live is order waits = rw (open-level config i
 
 -- what is judged before the stall is none of an Acquire either
 early_none : (x y : Bool) → before_stall (first_if x H4 (first_if y H5 None)) ≡ None
-early_none true y = refl
-early_none false true = refl
-early_none false false = refl
+early_none x y = grind arith
 
 early_first : {w : ℕ} (p : Profile) (x : BeatA w) (t : History w) → unfinished Channel.A t ≡ []
     → pending (Key.RequestSource x.source) t ≡ false → before_stall (broken_in_order p (Beat.A x) t) ≡ None

@@ -1,5 +1,5 @@
 -- What one block's service says of the links of its clients.
-use Rattle.std.proofs.Common.{◌≡◌, ℕ, Bool, true, false, not, ◌&&◌, ◌||◌, List, [], ◌∷◌, Some, None, refl, sym, ◌∙◌, ap}
+use Rattle.std.proofs.Common.{◌≡◌, ℕ, Bool, true, false, not, ◌&&◌, ◌||◌, List, [], ◌∷◌, Some, None, refl, sym, ◌∙◌, ap, arith}
 use Rattle.std.proofs.Common.{inl, inr, ne_eqb, ◌==◌, if◌then◌else◌}
 use Rattle.tl_coherence.proofs
 use proofs.Imports.{or-true, cases_eq, MessageA, a_beat_of, Config, ProbeOf, Cap, Trace, on_link, pending, block_at}
@@ -165,10 +165,7 @@ granting-is c n tracker m t (Waits r own source k) granted =
     rw (granted (at_service r tracker m) refl) (go (r == c) (own && (c == r)))
   where
     go : (b same : Bool) → (b && false) ≡ is_grant_of (if same then Own else Other k)
-    go true true = refl
-    go true false = refl
-    go false true = refl
-    go false false = refl
+    go b same = grind arith
 granting-is c n tracker m t (GrantSent q d k) granted =
     let go : (same : Bool) → (same && true) ≡ is_grant_of (if same then Granting d k else GrantedOther) =
     elim [ true ↦ refl | false ↦ refl ] in

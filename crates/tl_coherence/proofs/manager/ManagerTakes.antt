@@ -87,13 +87,7 @@ takes {w} {config} c ch x e sound theirs own live order free = go (level_of conf
 -- ---- a ProbeAck
 
 pub same_report-is : (p q : Report) → same_report p q ≡ true → p ≡ q
-same_report-is Report.TtoB Report.TtoB e = refl
-same_report-is Report.TtoN Report.TtoN e = refl
-same_report-is Report.BtoN Report.BtoN e = refl
-same_report-is Report.TtoT Report.TtoT e = refl
-same_report-is Report.BtoB Report.BtoB e = refl
-same_report-is Report.NtoN Report.NtoN e = refl
-same_report-is p q e = absurd cc
+same_report-is p q e = grind arith
 
 -- what holds of the cap that a client sees holds of that of the service
 pub seen_cap : (test : Cap → Bool) (s : Service) (c : ℕ) → (on_other (view s c) test && is_other (view s c)) ≡ true

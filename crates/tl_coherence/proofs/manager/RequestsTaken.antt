@@ -1,5 +1,5 @@
 -- The last beat of a request that is taken: what the protocol does then is what the manager does.
-use Rattle.std.proofs.Common.{◌≡◌, subst, ℕ, suc, Bool, true, false, not, List, Option, Some, None, length, refl, sym}
+use Rattle.std.proofs.Common.{◌≡◌, subst, ℕ, suc, Bool, true, false, not, List, Option, Some, None, length, refl, sym, arith}
 use Rattle.std.proofs.Common.{◌∙◌, ap, if◌then◌else◌}
 use Rattle.tl_coherence.proofs
 use proofs.Imports.{Beat, Message, MessageA, a_beat_of, beats_of, Config, Cap, Grow, block_at, is_acquire, same_block}
@@ -144,12 +144,7 @@ unwaited-acquires {s} c source n is used free i src own j e same = go own e (wai
 pub caps_asked : (w : ℕ) (whole : Bool) (g : Grow) (source n : ℕ)
     → cap_probed (acquisition {w = w} (acquire_opcode whole) g source n).opcode
     (acquisition {w = w} (acquire_opcode whole) g source n).param ≡ Some (cap_asked (AcquireOpen whole g))
-caps_asked w true Grow.NtoB source n = refl
-caps_asked w true Grow.NtoT source n = refl
-caps_asked w true Grow.BtoT source n = refl
-caps_asked w false Grow.NtoB source n = refl
-caps_asked w false Grow.NtoT source n = refl
-caps_asked w false Grow.BtoT source n = refl
+caps_asked w whole g source n = grind arith
 
 -- the Acquire that is wanted
 abbrev pub acquire_wanted : {w : ℕ} (c n : ℕ) (s : State (List ℕ)) → IsWanted w c n s → MessageA w

@@ -1,6 +1,6 @@
 -- The one-memory machine beside the protocol, after a message that is taken: which accesses are
 -- performed, and which operation ends.
-use Rattle.std.proofs.Common.{◌≡◌, subst, ℕ, ◌^◌, ◌≤◌, Bool, true, false, not, ◌&&◌, List, [], ◌∷◌, Some, None, length}
+use Rattle.std.proofs.Common.{◌≡◌, subst, ℕ, ◌^◌, ◌≤◌, Bool, true, false, not, ◌&&◌, List, [], ◌∷◌, Some, None, length, arith}
 use Rattle.std.proofs.Common.{refl, sym, ◌∙◌, ap, ◌⊎◌, inl, inr, if◌then◌else◌}
 use Rattle.tl_coherence.proofs
 use proofs.Imports.{cases_eq, cases_lt, not-true, OpA, IsWidth, Message, MessageA, Config, Cap, Report, Perm}
@@ -20,11 +20,7 @@ use proofs.protocol.{RequestsKept.some-none}
 -- ---- the manager's memory is the one memory, where nobody has what he was given to write
 
 never_above : (k : Cap) (p : Perm) → same_cap k Cap.ToT ≡ false → is_above k p ≡ false → same_perm p Perm.Trunk ≡ false
-never_above Cap.ToT p e f = absurd cc
-never_above k Perm.None e f = refl
-never_above k Perm.Branch e f = refl
-never_above Cap.ToB Perm.Trunk e f = absurd cc
-never_above Cap.ToN Perm.Trunk e f = absurd cc
+never_above k p e f = grind arith
 
 -- nobody is probed
 pub memory-unprobed : (clients : ℕ) {caching : ℕ → Bool} (c : ℕ) (k : Cap) {b : Block (List ℕ)}

@@ -1,5 +1,5 @@
 -- Copies are coherent with the one memory, and the open operations are those that were started.
-use Rattle.std.proofs.Common.{◌≡◌, ℕ, Bool, true, false, ◌&&◌, List, [], ◌∷◌, Option, Some, None, refl, sym, ◌∙◌, ap}
+use Rattle.std.proofs.Common.{◌≡◌, ℕ, Bool, true, false, ◌&&◌, List, [], ◌∷◌, Option, Some, None, refl, sym, ◌∙◌, ap, arith}
 use Rattle.std.proofs.Common.{subst, eqb-true, ◌==◌, if◌then◌else◌, option_map, unwrap_or}
 use Rattle.tl_coherence.proofs
 use proofs.Imports.{MessageA, Config, IsBlock, swapped, Op, Reply, Event, Ask, Deliver, Outcome, State, view}
@@ -17,15 +17,10 @@ abbrev asked_at : {w : ℕ} → ℕ → Pool → ℕ → Machine w → Option (O
 asked_at c pool source m = option_map (λ o. o.asked) (m.opened c pool source)
 
 pool_swap : (p q : Pool) → same_pool p q ≡ same_pool q p
-pool_swap Requests Requests = refl
-pool_swap Requests Releases = refl
-pool_swap Releases Requests = refl
-pool_swap Releases Releases = refl
+pool_swap p q = grind arith
 
 same_pool_is : (p q : Pool) → same_pool p q ≡ true → p ≡ q
-same_pool_is Requests Releases e = absurd cc
-same_pool_is Releases Requests e = absurd cc
-same_pool_is p q e = refl
+same_pool_is p q e = grind arith
 
 -- with another operation at one place
 opened_with : {w : ℕ} (client : ℕ) (at : Pool) (n : ℕ) (o : Option (Open w)) (m : Machine w) (c : ℕ) (pool : Pool)

@@ -27,10 +27,7 @@ pub served_e : {X : Type 0} (r : ℕ) (own : Bool) (n : ℕ) (k : Cap) (rest : L
 served_e {X} r own n k rest b link d = go (is_probed r own k (b.pair d).recorded d) (d == r)
   where
     go : (x y : Bool) → (with_probe n x (if y then record (link d) { a = rest } else link d)).e ≡ (link d).e
-    go true true = refl
-    go true false = refl
-    go false true = refl
-    go false false = refl
+    go x y = grind arith
 
 pub set_e : (c : ℕ) (l : Link) (link : ℕ → Link) → l.e ≡ (link c).e → (d : ℕ) → (set c l link d).e ≡ (link d).e
 set_e c l link same d = set-part (λ (x : Link). x.e) c l link same d

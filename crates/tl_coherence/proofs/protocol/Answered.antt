@@ -1,5 +1,5 @@
 -- An access that is answered as it is taken, and an answer that is taken, keep the invariant.
-use Rattle.std.proofs.Common.{◌≡◌, refl, sym, ◌∙◌, ap, ◌⊎◌, inl, inr, ℕ, Bool, true, false, List, ◌∷◌}
+use Rattle.std.proofs.Common.{◌≡◌, refl, sym, ◌∙◌, ap, ◌⊎◌, inl, inr, ℕ, Bool, true, false, List, ◌∷◌, arith}
 use Rattle.tl_coherence.proofs
 use proofs.Imports.{Channel, Perm, same_perm, is_of, acquires_of, serves_of, acquires_with, serves_with, releases_with}
 use proofs.Imports.{tracks_with, IsWell, IsInvariant, Kind, Request, ProbeAck, Answer, Packet, Block, State, Asked}
@@ -44,9 +44,7 @@ answer_moves source Channel.D = Pushes Answer source
 answer_moves source _ = Stays
 
 answer_spared : (source : ℕ) (k : Kind) → is_transfer k ≡ true → spares (answer_moves source (channel_for k)) k ≡ true
-answer_spared source Request t = absurd cc
-answer_spared source Answer t = absurd cc
-answer_spared source k t = refl
+answer_spared source k e = grind arith
 
 pub access_answered-kept : {X : Type 0} {caching : ℕ → Bool} (c n source : ℕ) (f : X → X) (rest : List Packet)
     {s : State X} → IsInvariant caching s → (s.link c).a ≡ packet Request source ∷ rest → s.uses c source ≡ Asked
@@ -84,9 +82,7 @@ done_moves source Channel.D = Pops Answer source
 done_moves source _ = Stays
 
 done_spared : (source : ℕ) (k : Kind) → is_transfer k ≡ true → spares (done_moves source (channel_for k)) k ≡ true
-done_spared source Request t = absurd cc
-done_spared source Answer t = absurd cc
-done_spared source k t = refl
+done_spared source k e = grind arith
 
 pub answer_taken-kept : {X : Type 0} {caching : ℕ → Bool} (c source : ℕ) (rest : List Packet) {s : State X}
     → IsInvariant caching s → (s.link c).d ≡ packet Answer source ∷ rest → s.uses c source ≡ Replied

@@ -1,5 +1,5 @@
 -- What a client is asked keeps the invariant: an access, an Acquire, a Release and a store.
-use Rattle.std.proofs.Common.{◌≡◌, refl, sym, ◌∙◌, ap, inl, inr, ℕ, Bool, true, false, not, Some, None, ne_eqb}
+use Rattle.std.proofs.Common.{◌≡◌, refl, sym, ◌∙◌, ap, inl, inr, ℕ, Bool, true, false, not, Some, None, ne_eqb, arith}
 use Rattle.tl_coherence.proofs
 use proofs.Imports.{cases_eq, Channel, Grow, Prune, Perm, prune_left, same_perm, is_out, is_of, acquires_of, serves_of}
 use proofs.Imports.{acquires_with, serves_with, releases_with, tracks_with, IsWell, IsInvariant, Kind, Request, Acquire}
@@ -46,11 +46,7 @@ acquiring-block {caching} c source whole g bytes {b} h inside calm kept fits =
 
 -- what is given up was held
 left_some : (r : Prune) (p : Perm) → same_perm p (prune_left r) ≡ true → same_perm p Perm.None ≡ false
-left_some Prune.TtoB Perm.None e = absurd cc
-left_some Prune.TtoN Perm.None e = absurd cc
-left_some Prune.BtoN Perm.None e = absurd cc
-left_some r Perm.Branch e = refl
-left_some r Perm.Trunk e = refl
+left_some r p e = grind arith
 
 releasing-block : {X : Type 0} {caching : ℕ → Bool} (c source : ℕ) (r : Prune) {b : Block X} → IsWell caching b
     → caching c ≡ true → (b.pair c).acquiring ≡ NoAcquire → (b.pair c).letting ≡ NoRelease
@@ -103,9 +99,7 @@ access_moves source Channel.A = Pushes Request source
 access_moves source _ = Stays
 
 access_spared : (source : ℕ) (k : Kind) → is_transfer k ≡ true → spares (access_moves source (channel_for k)) k ≡ true
-access_spared source Request t = absurd cc
-access_spared source Answer t = absurd cc
-access_spared source k t = refl
+access_spared source k e = grind arith
 
 pub access_asked-kept : {X : Type 0} {caching : ℕ → Bool} (c source : ℕ) {s : State X} → IsInvariant caching s
     → s.uses c source ≡ SourceFree → IsInvariant caching (access_asked c source s)

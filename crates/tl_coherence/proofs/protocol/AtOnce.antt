@@ -1,5 +1,5 @@
 -- An Acquire that is granted as it is taken keeps the invariant.
-use Rattle.std.proofs.Common.{◌≡◌, refl, sym, ◌∙◌, ◌⊎◌, inl, inr, ℕ, Bool, true, false, not, List, ◌∷◌, Some, None}
+use Rattle.std.proofs.Common.{◌≡◌, refl, sym, ◌∙◌, ◌⊎◌, inl, inr, ℕ, Bool, true, false, not, List, ◌∷◌, Some, None, arith}
 use Rattle.std.proofs.Common.{ne_eqb}
 use Rattle.tl_coherence.proofs
 use proofs.Imports.{cases_eq, Channel, Cap, Grow, Perm, cap_right, same_perm, is_of, acquires_of, serves_of}
@@ -80,21 +80,12 @@ granted_at_once-block {caching} {r} tracker {whole} {g} {gift} {b} h is =
 -- nobody is to be probed with the cap that an Acquire asks for: so nobody has Trunk
 pub low-unprobed : (whole : Bool) (g : Grow) (p : Perm) → is_above (cap_asked (AcquireOpen whole g)) p ≡ false
     → same_perm p Perm.Trunk ≡ false
-low-unprobed whole g Perm.None e = refl
-low-unprobed whole g Perm.Branch e = refl
-low-unprobed whole Grow.NtoB Perm.Trunk e = absurd cc
-low-unprobed whole Grow.NtoT Perm.Trunk e = absurd cc
-low-unprobed whole Grow.BtoT Perm.Trunk e = absurd cc
+low-unprobed whole g p e = grind arith
 
 -- and nobody is recorded where it asks for Trunk
 pub none-unprobed : (whole : Bool) (g : Grow) (p : Perm) → grows_to_trunk g ≡ true
     → is_above (cap_asked (AcquireOpen whole g)) p ≡ false → same_perm p Perm.None ≡ true
-none-unprobed whole g Perm.None t e = refl
-none-unprobed whole Grow.NtoB p t e = absurd cc
-none-unprobed whole Grow.NtoT Perm.Branch t e = absurd cc
-none-unprobed whole Grow.NtoT Perm.Trunk t e = absurd cc
-none-unprobed whole Grow.BtoT Perm.Branch t e = absurd cc
-none-unprobed whole Grow.BtoT Perm.Trunk t e = absurd cc
+none-unprobed whole g p e f = grind arith
 
 -- ---- the whole
 

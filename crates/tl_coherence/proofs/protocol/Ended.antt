@@ -1,5 +1,5 @@
 -- The last ProbeAck that is taken, with which the access that waited is answered, keeps the invariant.
-use Rattle.std.proofs.Common.{◌≡◌, refl, sym, subst, ◌∙◌, ap, ◌⊎◌, inl, inr, ℕ, Bool, true, false, List, ◌∷◌}
+use Rattle.std.proofs.Common.{◌≡◌, refl, sym, subst, ◌∙◌, ap, ◌⊎◌, inl, inr, ℕ, Bool, true, false, List, ◌∷◌, arith}
 use Rattle.std.proofs.Common.{None, ne_eqb, eqb-true, ◌==◌, if◌then◌else◌}
 use Rattle.tl_coherence.proofs
 use proofs.Imports.{cases_eq, Channel, Cap, Report, Perm, report_left, same_perm, is_out, is_of, acquires_of, serves_of}
@@ -104,11 +104,7 @@ ended_shows true y n source ProbeAck r k p t e = rw (same_number n) refl
 ended_shows x y n source j r k p t e = same_again (shows j p (Other k))
 
 ended_own : (ch : Channel) (x y : Bool) (n source : ℕ) → is_own_move ch (ended_move x y n source ch) ≡ true
-ended_own Channel.C true y n source = refl
-ended_own Channel.C false y n source = refl
-ended_own Channel.D x true n source = refl
-ended_own Channel.D x false n source = refl
-ended_own ch x y n source = refl
+ended_own ch x y n source = grind arith
 
 pub ended_moved : (x y : Bool) (ch : Channel) (n source : ℕ) (l : Link) (rest : List Packet)
     → (x ≡ true → l.c ≡ packet ProbeAck n ∷ rest) → IsMoved (ended_move x y n source ch) (packets_on ch l)

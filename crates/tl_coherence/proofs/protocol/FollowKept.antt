@@ -1,6 +1,6 @@
 -- The protocol keeps its invariant as it follows the world: at each message that is taken, the first token and the
 -- invariant give what its event asks for.
-use Rattle.std.proofs.Common.{◌≡◌, ℕ, ◌≤◌, Bool, true, false, not, ◌&&◌, List, ◌∷◌, Some, None, length, refl, sym, ◌∙◌}
+use Rattle.std.proofs.Common.{◌≡◌, ℕ, ◌≤◌, Bool, true, false, not, ◌&&◌, List, ◌∷◌, Some, None, length, refl, sym, ◌∙◌, arith}
 use Rattle.std.proofs.Common.{inl, inr, eqb-true, ◌==◌}
 use Rattle.tl_coherence.proofs
 use proofs.Imports.{not-true, same_Some, ⊤, Message, MessageA, Config, Cap, Grow, Report, Perm, prune_left, grow_left}
@@ -177,10 +177,7 @@ IsAskable caching c (Op.Access m) (Reply.Started source) h = h.state.uses c sour
 IsAskable caching c o r h = ⊤
 
 begins_fit : (g : Grow) (p : Perm) → same_perm (grow_left g) p ≡ true → grow_fits p (AcquireOpen false g) ≡ true
-begins_fit Grow.NtoB Perm.None e = refl
-begins_fit Grow.NtoT Perm.None e = refl
-begins_fit Grow.BtoT Perm.Branch e = refl
-begins_fit g p e = absurd cc
+begins_fit g p e = grind arith
 
 whole_fits : (p : Perm) → same_perm Perm.Trunk p ≡ false → grow_fits p (AcquireOpen true (whole_grow p)) ≡ true
 whole_fits Perm.Trunk e = absurd cc

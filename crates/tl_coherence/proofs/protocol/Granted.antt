@@ -1,5 +1,5 @@
 -- The last ProbeAck that is taken, with which the Acquire that waited is granted, keeps what holds of a block.
-use Rattle.std.proofs.Common.{◌≡◌, refl, sym, ◌∙◌, ap, ◌⊎◌, inl, inr, ℕ, Bool, true, false, ne_eqb}
+use Rattle.std.proofs.Common.{◌≡◌, refl, sym, ◌∙◌, ap, ◌⊎◌, inl, inr, ℕ, Bool, true, false, ne_eqb, arith}
 use Rattle.tl_coherence.proofs
 use proofs.Imports.{cases_eq, not-true, Cap, Grow, Report, Perm, cap_right, report_left, same_perm, cap_asked}
 use proofs.Imports.{IsAskedCap, resting, is_out, IsWell, set, ClientBlock, Own, Other, Granting, GrantedOther, NoProbe}
@@ -30,17 +30,10 @@ granted_view q c d k ne = rw (ne_eqb c q ne) refl
 -- what is within a low cap isn't Trunk
 pub low_within : (p : Perm) (k : Cap) → perm_le p (cap_right k) ≡ true → same_cap k Cap.ToT ≡ false
     → same_perm p Perm.Trunk ≡ false
-low_within Perm.None k e low = refl
-low_within Perm.Branch k e low = refl
-low_within Perm.Trunk Cap.ToT e low = absurd cc
-low_within Perm.Trunk Cap.ToB e low = absurd cc
-low_within Perm.Trunk Cap.ToN e low = absurd cc
+low_within p k e f = grind arith
 
 pub both_trunk : (p q : Perm) → same_perm p q ≡ true → same_perm p Perm.Trunk ≡ false → same_perm q Perm.Trunk ≡ false
-both_trunk Perm.None Perm.Trunk e f = absurd cc
-both_trunk Perm.Branch Perm.Trunk e f = absurd cc
-both_trunk Perm.Trunk q e f = absurd cc
-both_trunk p q e f = refl
+both_trunk p q e f = grind arith
 
 pub none_or_trunk : (p : Perm) → same_perm p Perm.None ≡ true → same_perm p Perm.Trunk ≡ true → ⊥
 none_or_trunk Perm.None e f = absurd cc

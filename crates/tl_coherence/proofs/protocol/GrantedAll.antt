@@ -1,5 +1,5 @@
 -- The last ProbeAck that is taken, with which the Acquire that waited is granted, keeps the invariant.
-use Rattle.std.proofs.Common.{◌≡◌, ℕ, Bool, true, false, ◌&&◌, List, [], ◌∷◌, ◌++◌, refl, sym, ◌∙◌, ap, ap₂, ◌⊎◌, inl}
+use Rattle.std.proofs.Common.{◌≡◌, ℕ, Bool, true, false, ◌&&◌, List, [], ◌∷◌, ◌++◌, refl, sym, ◌∙◌, ap, ap₂, ◌⊎◌, inl, arith}
 use Rattle.std.proofs.Common.{inr, ne_eqb, ◌==◌, if◌then◌else◌}
 use Rattle.tl_coherence.proofs
 use proofs.Imports.{cases_eq, beq, Channel, Cap, Grow, Report, IsInvariant, Kind, Acquire, Probe, ProbeAck, Answer}
@@ -42,19 +42,13 @@ at_other n k p j t = same_again (shows k p (Other j))
 
 -- moves by the place of the client
 moves_of_sender : (n c q : ℕ) (ch : Channel) → (q ≡ c → ⊥) → granted_moves n c q q ch ≡ granted_moves n 0 1 1 ch
-moves_of_sender n c q Channel.C ne = rw (ne_eqb q c ne) refl
-moves_of_sender n c q Channel.D ne = rw (same_number q) refl
-moves_of_sender n c q ch ne = refl
+moves_of_sender n c q ch e = grind arith
 
 moves_of_reporter : (n c q : ℕ) (ch : Channel) → (c ≡ q → ⊥) → granted_moves n c q c ch ≡ granted_moves n 1 0 1 ch
-moves_of_reporter n c q Channel.C ne = rw (same_number c) refl
-moves_of_reporter n c q Channel.D ne = rw (ne_eqb c q ne) refl
-moves_of_reporter n c q ch ne = refl
+moves_of_reporter n c q ch e = grind arith
 
 moves_of_other : (n c q d : ℕ) (ch : Channel) → (d ≡ c → ⊥) → (d ≡ q → ⊥) → granted_moves n c q d ch ≡ Stays
-moves_of_other n c q d Channel.C o m = rw (ne_eqb d c o) refl
-moves_of_other n c q d Channel.D o m = rw (ne_eqb d q m) refl
-moves_of_other n c q d ch o m = refl
+moves_of_other n c q d ch e f = grind arith
 
 pub report_grants-kept : {X : Type 0} {caching : ℕ → Bool} {c q : ℕ} (n : ℕ) {r : Report} {whole : Bool} {g : Grow}
     {gift : Cap} {source : ℕ} {k : Cap} (rest : List Packet) {s : State X} → IsInvariant caching s

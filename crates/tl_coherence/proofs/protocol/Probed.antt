@@ -1,5 +1,5 @@
 -- A Probe that is taken keeps the invariant.
-use Rattle.std.proofs.Common.{◌≡◌, refl, sym, ◌∙◌, ap, inl, inr, ℕ, Bool, true, false, List, ◌∷◌}
+use Rattle.std.proofs.Common.{◌≡◌, refl, sym, ◌∙◌, ap, inl, inr, ℕ, Bool, true, false, List, ◌∷◌, arith}
 use Rattle.tl_coherence.proofs
 use proofs.Imports.{cases_eq, Channel, Cap, Perm, report_right, report_at, same_perm, resting, IsWell, IsInvariant}
 use proofs.Imports.{Kind, Probe, ProbeAck, Release, Packet, set, count, ClientBlock, View, NoProbe, ProbeSent}
@@ -17,11 +17,7 @@ use proofs.protocol.Blocks.{awaited_by, asked_cap-set}
 -- what is left after a report was held before
 less_left : (k : Cap) (p : Perm) → same_perm (report_right (report_at k p)) Perm.None ≡ false
     → same_perm p Perm.None ≡ false
-less_left k Perm.Branch e = refl
-less_left k Perm.Trunk e = refl
-less_left Cap.ToT Perm.None e = e
-less_left Cap.ToB Perm.None e = e
-less_left Cap.ToN Perm.None e = e
+less_left k p e = grind arith
 
 probed-block : {X : Type 0} {caching : ℕ → Bool} (c : ℕ) (k : Cap) {b : Block X} → IsWell caching b
     → (b.pair c).probing ≡ ProbeSent k → (b.pair c).letting ≡ NoRelease → IsWell caching (probed_block c k b)

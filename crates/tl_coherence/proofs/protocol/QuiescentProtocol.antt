@@ -174,6 +174,4 @@ module _ {X : Type 0} {caching : ℕ → Bool} {s : State X} (inv : IsInvariant 
       is_e _ = false
 
       apart : (ch : Channel) → is_e ch ≡ false → (k : Kind) → is_on ch k ≡ true → is_on Channel.E k ≡ false
-      apart Channel.E e k on_it = absurd cc
-      apart ch e GrantAck on_it = absurd cc
-      apart ch e k on_it = refl
+      apart ch e k f = grind arith

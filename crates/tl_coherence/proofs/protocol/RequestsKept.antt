@@ -89,16 +89,7 @@ leaves-bytes m bytes e long = elim (leaves_memory m (bytes_at (block_at m.addres
 -- what is granted fits what was asked for
 pub gift_fits : (p : Profile) (whole : Bool) (g : Grow) (held : Perm) (unheld : Bool)
     → grow_fits held (AcquireOpen whole g) ≡ true → cap_fits whole g (gift p whole g unheld) ≡ true
-gift_fits p true Grow.NtoB held unheld e = absurd cc
-gift_fits Profile.One true Grow.NtoT held unheld e = refl
-gift_fits Profile.Two true Grow.NtoT held unheld e = refl
-gift_fits Profile.One true Grow.BtoT held unheld e = refl
-gift_fits Profile.Two true Grow.BtoT held unheld e = refl
-gift_fits Profile.One false Grow.NtoB held unheld e = refl
-gift_fits Profile.Two false Grow.NtoB held true e = refl
-gift_fits Profile.Two false Grow.NtoT held true e = refl
-gift_fits Profile.Two false Grow.BtoT held true e = refl
-gift_fits p whole g held unheld e = refl
+gift_fits p whole g held unheld e = grind arith
 
 -- Trunk is granted to who asked for it, or where nobody has a copy
 pub gift_trunk : (p : Profile) (whole : Bool) (g : Grow) (held : Perm) (unheld : Bool)

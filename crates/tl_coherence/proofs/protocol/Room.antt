@@ -73,10 +73,7 @@ is_light _ = false
 pub light-one : {w : ℕ} (mail : AccessMessages w) (s : State (List ℕ)) (c : ℕ) (k : Kind) (n : ℕ) → is_light k ≡ true
     → beats_of (message_of_kind k mail s c n) ≡ 1
 unfolding block_message
-light-one mail s c Probe n e = refl
-light-one mail s c ReleaseAck n e = refl
-light-one mail s c GrantAck n e = refl
-light-one mail s c _ n e = absurd cc
+light-one mail s c k n e = grind arith
 
 -- ---- the five channels
 

@@ -1,5 +1,5 @@
 -- A request that is taken, and for which clients are probed, keeps the invariant.
-use Rattle.std.proofs.Common.{◌≡◌, refl, sym, ◌∙◌, ℕ, Bool, true, false, not, List, ◌∷◌, ◌&&◌, Some, None}
+use Rattle.std.proofs.Common.{◌≡◌, refl, sym, ◌∙◌, ℕ, Bool, true, false, not, List, ◌∷◌, ◌&&◌, Some, None, arith}
 use Rattle.std.proofs.Common.{eqb-true, ne_eqb, ◌==◌, if◌then◌else◌}
 use Rattle.tl_coherence.proofs
 use proofs.Imports.{Channel, Cap, Grow, Perm, same_perm, cap_asked, resting, is_out, is_of, acquires_of, serves_of}
@@ -30,11 +30,7 @@ unprobed_part part r own k pair e d =
 
 -- one who has nothing isn't probed
 none_above : (k : Cap) (p : Perm) → same_perm p Perm.None ≡ true → is_above k p ≡ false
-none_above Cap.ToT Perm.None e = refl
-none_above Cap.ToB Perm.None e = refl
-none_above Cap.ToN Perm.None e = refl
-none_above k Perm.Branch e = absurd cc
-none_above k Perm.Trunk e = absurd cc
+none_above k p e = grind arith
 
 -- ---- the block
 
@@ -44,11 +40,7 @@ out_same p q v u e f = rw (e, f) refl
 
 never_top : (k : Cap) (whole : Bool) (g : Grow) → same_cap k (cap_asked (AcquireOpen whole g)) ≡ true
     → same_cap k Cap.ToT ≡ false
-never_top Cap.ToT whole Grow.NtoB e = absurd cc
-never_top Cap.ToT whole Grow.NtoT e = absurd cc
-never_top Cap.ToT whole Grow.BtoT e = absurd cc
-never_top Cap.ToB whole g e = refl
-never_top Cap.ToN whole g e = refl
+never_top k whole g e = grind arith
 
 -- the request probes with this cap: an Acquire (`own`) with the cap that it asks for, and no access with toT
 abbrev pub Probes : Bool → Cap → ClientBlock → Type 0
@@ -173,12 +165,7 @@ any_moved x y ch j i n l rest e = refl
 any_own : (ch : Channel) (n source : ℕ) (own x p : Bool)
     → is_own_move ch (request_move (if x then Pops (kind_served own) (number_served own n source) else Stays) p n ch)
     ≡ true
-any_own Channel.A n source true true p = refl
-any_own Channel.A n source false true p = refl
-any_own Channel.A n source own false p = refl
-any_own Channel.B n source own x true = refl
-any_own Channel.B n source own x false = refl
-any_own ch n source own x p = refl
+any_own ch n source own x p = grind arith
 
 -- ---- the whole
 

@@ -192,12 +192,7 @@ pub record IsTaken {w : ℕ} (c : ℕ) (ch : Channel) (x : Beat w) (queue : List
       ≡ (if (d == c) && same_channel at ch then [] else unfinished at (receiver at d sys))
 
 pub same_channel-is : (a b : Channel) → same_channel a b ≡ true → a ≡ b
-same_channel-is Channel.A Channel.A e = refl
-same_channel-is Channel.B Channel.B e = refl
-same_channel-is Channel.C Channel.C e = refl
-same_channel-is Channel.D Channel.D e = refl
-same_channel-is Channel.E Channel.E e = refl
-same_channel-is a b e = absurd cc
+same_channel-is a b e = grind arith
 
 pub queued-taken : {w : ℕ} {c : ℕ} {ch : Channel} {x : Beat w} {queue : List (Beat w)} {pushes : ℕ → Channel
     → Option (Message w)} (moves : ℕ → Channel → Move) (mail : AccessMessages w) (s : State (List ℕ))

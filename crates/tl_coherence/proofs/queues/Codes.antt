@@ -1,5 +1,5 @@
 -- What the opcodes and the parameters of a message say.
-use Rattle.std.proofs.Common.{Bool, Some, false, refl, true, ℕ, ◌≡◌, if◌then◌else◌, ◌==◌}
+use Rattle.std.proofs.Common.{Bool, Some, false, refl, true, ℕ, ◌≡◌, if◌then◌else◌, ◌==◌, arith}
 use Rattle.tl_coherence.proofs
 use proofs.Imports.{OpA, OpD, Cap, Grow, Perm, Profile, cap_code, cap_of, cap_right, grow_code, same_perm, is_acquire}
 use proofs.Imports.{is_grant, is_release_ack, grant_opcode, cap_probed, is_access_answer, same_cap, is_granted_data}
@@ -44,15 +44,9 @@ low_cap o param Cap.ToT e = absurd cc
 -- a Grant gives something
 pub gives-some : (p : Profile) (whole : Bool) (g : Grow) (unheld : Bool)
     → same_perm (cap_right (gift p whole g unheld)) Perm.None ≡ false
-gives-some Profile.One true Grow.NtoB unheld = refl
-gives-some Profile.One false Grow.NtoB unheld = refl
-gives-some Profile.Two true Grow.NtoB unheld = refl
-gives-some Profile.Two false Grow.NtoB true = refl
-gives-some p whole g unheld = refl
+gives-some p whole g unheld = grind arith
 
 -- it carries the block where the protocol says so
 pub data-same : (whole : Bool) (g : Grow) (p : Perm) → handing.is_granted_data (acquire_opcode whole) (grow_code g)
     p ≡ is_granted_data whole g p
-data-same true Grow.NtoB p = refl
-data-same false Grow.BtoT Perm.None = refl
-data-same whole g p = refl
+data-same whole g p = grind arith

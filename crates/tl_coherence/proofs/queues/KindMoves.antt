@@ -1,5 +1,5 @@
 -- What a move of one token does to each kind of token on a channel.
-use Rattle.std.proofs.Common.{◌≡◌, ℕ, Bool, true, false, not, ◌&&◌, List, [], ◌∷◌, ◌++◌, refl, ◌⊎◌, inl, inr, ap, sym}
+use Rattle.std.proofs.Common.{◌≡◌, ℕ, Bool, true, false, not, ◌&&◌, List, [], ◌∷◌, ◌++◌, refl, ◌⊎◌, inl, inr, ap, sym, arith}
 use Rattle.std.proofs.Common.{◌∙◌, ne_eqb, eqb-true, ◌==◌, if◌then◌else◌}
 use Rattle.tl_coherence.proofs
 use proofs.Imports.{cases_eq, not-true, beq, Channel, Kind, Request, Acquire, Probe, ProbeAck, Release, Answer, Grant}
@@ -16,9 +16,7 @@ same_again true = refl
 same_again false = refl
 
 same_bools : (a b : Bool) → beq a b ≡ true → b ≡ a
-same_bools true false e = absurd cc
-same_bools false true e = absurd cc
-same_bools a b e = refl
+same_bools a b e = grind arith
 
 -- the tokens of a kind after a move, where number n gets another value
 pub holds-moved : {B : Type 0} (k : Kind) (move : Move) (xs ys : List Packet) (q : B → Bool) (f : ℕ → B) (n : ℕ) (y : B)
@@ -72,16 +70,7 @@ on_is k l = refl
 
 -- the kind is one of its channel alone
 pub kind_channel : (ch : Channel) (k : Kind) → is_on ch k ≡ true → channel_for k ≡ ch
-kind_channel Channel.A Request e = refl
-kind_channel Channel.A Acquire e = refl
-kind_channel Channel.B Probe e = refl
-kind_channel Channel.C ProbeAck e = refl
-kind_channel Channel.C Release e = refl
-kind_channel Channel.D Answer e = refl
-kind_channel Channel.D Grant e = refl
-kind_channel Channel.D ReleaseAck e = refl
-kind_channel Channel.E GrantAck e = refl
-kind_channel ch k e = absurd cc
+kind_channel ch k e = grind arith
 
 pub on_same : (ch : Channel) (k : Kind) (l : Link) → is_on ch k ≡ true → on k l ≡ packets_on ch l
 on_same ch k l own = on_is k l ∙ ap (λ (i : Channel). packets_on i l) (kind_channel ch k own)
@@ -96,16 +85,7 @@ transfers-moved moves l m d n b block moved fits h k t =
     (shown k d) block n b (moved (channel_for k)) (fits k t) (rw (on_is k l) at (h k t)))
 
 pub kind_is : (k j : Kind) → same_kind k j ≡ true → k ≡ j
-kind_is Request Request e = refl
-kind_is Acquire Acquire e = refl
-kind_is Probe Probe e = refl
-kind_is ProbeAck ProbeAck e = refl
-kind_is Release Release e = refl
-kind_is Answer Answer e = refl
-kind_is Grant Grant e = refl
-kind_is ReleaseAck ReleaseAck e = refl
-kind_is GrantAck GrantAck e = refl
-kind_is _ _ e = absurd cc
+kind_is k j e = grind arith
 
 -- a kind that isn't one of the channel isn't one that is
 kinds_apart : (ch : Channel) (k j : Kind) → is_on ch k ≡ true → is_on ch j ≡ false → same_kind k j ≡ false

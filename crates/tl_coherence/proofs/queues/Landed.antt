@@ -1,5 +1,5 @@
 -- The whole after an event: what each channel gained and lost, and what each receiver has of the first messages.
-use Rattle.std.proofs.Common.{◌≡◌, ℕ, Bool, true, false, List, [], ◌∷◌, ◌++◌, refl, sym, ◌∙◌, ap, ◌⊎◌, inl, inr, ◌&&◌}
+use Rattle.std.proofs.Common.{◌≡◌, ℕ, Bool, true, false, List, [], ◌∷◌, ◌++◌, refl, sym, ◌∙◌, ap, ◌⊎◌, inl, inr, ◌&&◌, arith}
 use Rattle.std.proofs.Common.{Option, Some, None, ne_eqb, ◌==◌, if◌then◌else◌}
 use Rattle.tl_coherence.proofs
 use proofs.Imports.{cases_eq, Beat, Channel, Message, beats_of, unfinished, History, grown, channel_of, completes}
@@ -66,9 +66,7 @@ rests-ended {w} c ch x sys last d at = ended (cases_eq d c) (same_channel at ch)
 
     ended : (d ≡ c) ⊎ (d ≡ c → ⊥) → (y : Bool) → same_channel at ch ≡ y
         → (if (d == c) && y then grown x (rest d at) else rest d at) ≡ (if (d == c) && y then [] else rest d at)
-    ended (inl same) true f = rw (same, same_channel-is at ch f, last) refl
-    ended (inl same) false f = rw (same, same_number c) refl
-    ended (inr other) y f = rw (ne_eqb d c other) refl
+    ended e y f = grind arith
 
 pub taken-landed : {w : ℕ} {c : ℕ} {ch : Channel} {x : Beat w} {queue : List (Beat w)} {pushes : ℕ → Channel
     → Option (Message w)} {sys sys' : System w} → IsLanded c ch x queue pushes sys sys'
@@ -85,12 +83,7 @@ abbrev pub IsOn : {w : ℕ} → Channel → Beat w → Type 0
 IsOn ch x = (at : Channel) → on at x ≡ same_channel at ch
 
 pub on_own_channel : {w : ℕ} (x : Beat w) → IsOn (channel_of x) x
-on_own_channel (Beat.A x) Channel.A = refl
-on_own_channel (Beat.B x) Channel.A = refl
-on_own_channel (Beat.C x) Channel.A = refl
-on_own_channel (Beat.D x) Channel.A = refl
-on_own_channel (Beat.E x) Channel.A = refl
-on_own_channel x at = refl
+on_own_channel x = grind arith
 
 -- a channel to a client isn't one to the manager
 apart_channels : (a b : Channel) → (is_to_client a ≡ is_to_client b → ⊥) → same_channel a b ≡ false

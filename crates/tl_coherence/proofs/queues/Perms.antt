@@ -1,5 +1,5 @@
 -- Permissions: which are none, which are above another, and which are out.
-use Rattle.std.proofs.Common.{Bool, false, true, ap, refl, ◌≡◌}
+use Rattle.std.proofs.Common.{Bool, false, true, ap, refl, ◌≡◌, arith}
 use Rattle.tl_coherence.proofs
 use proofs.Imports.{Cap, Grow, Perm, cap_right, same_perm, holds, is_out, ClientBlock, View, cap_fits, grant_fits}
 use proofs.Imports.{AcquireOpen, is_above, perm_le}
@@ -22,9 +22,7 @@ none-above Perm.None e = refl
 none-above p e = absurd cc
 
 pub none_below : (p q : Perm) → perm_le p q ≡ true → same_perm q Perm.None ≡ true → p ≡ Perm.None
-none_below Perm.None q e f = refl
-none_below p Perm.None e f = absurd cc
-none_below p q e f = absurd cc
+none_below p q e f = grind arith
 
 pub nothing_below : (p q : Perm) → perm_le p q ≡ true → same_perm q Perm.None ≡ true → same_perm p Perm.None ≡ true
 nothing_below p q e f = ap (λ (r : Perm). same_perm r Perm.None) (none_below p q e f)
@@ -40,9 +38,7 @@ fits_cap recorded held d k whole g f =
     and_left (cap_fits whole g k) _ (and_right (same_perm recorded (cap_right k)) _ f)
 
 pub whole_cap : (g : Grow) (k : Cap) → cap_fits true g k ≡ true → k ≡ Cap.ToT
-whole_cap g Cap.ToT e = refl
-whole_cap Grow.NtoB k e = absurd cc
-whole_cap g k e = absurd cc
+whole_cap g k e = grind arith
 
 pub not_out : (p : ClientBlock) (v : View) → same_perm p.recorded Perm.Trunk ≡ false → is_out p v ≡ false
 not_out p v e = rw e refl

@@ -63,13 +63,7 @@ answer-few {w} m width = let four = wide-block w width in omega (arith, four)
 -- an answer has as many beats as its request is answered with
 answer_opcode : (x : OpD) (o : OpA) (n : ℕ) → is_access_answer x ≡ true → answers x o ≡ true
     → (if d_carries_data x then n else 1) ≡ (if is_read o then n else 1)
-answer_opcode OpD.AccessAck OpA.PutFullData n e f = refl
-answer_opcode OpD.AccessAck OpA.PutPartialData n e f = refl
-answer_opcode OpD.AccessAckData OpA.ArithmeticData n e f = refl
-answer_opcode OpD.AccessAckData OpA.LogicalData n e f = refl
-answer_opcode OpD.AccessAckData OpA.Get n e f = refl
-answer_opcode OpD.HintAck OpA.Intent n e f = refl
-answer_opcode _ _ n e f = absurd cc
+answer_opcode x o n e f = grind arith
 
 answer-is : {w : ℕ} (source : ℕ) (m x : Message w) → IsAnswer source m x → beats_of x ≡ answer_beats m
 answer-is {w} source (Message.A m) (Message.D x) h =

@@ -45,9 +45,7 @@ wants-used {s} inv d i m e = and_left (is_wanting ((s.block m).pair d).acquiring
 
 -- an Acquire that isn't served
 pub unserved-weight : (n a g p : ℕ) (v : View) → is_unserved v ≡ true → acquire_weight n a g p v ≡ a + n + 32
-unserved-weight n a g p Own e = absurd cc
-unserved-weight n a g p (Granting d k) e = absurd cc
-unserved-weight n a g p v e = refl
+unserved-weight n a g p v e = grind arith
 
 -- ---- what an event leaves as it was
 

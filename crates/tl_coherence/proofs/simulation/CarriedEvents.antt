@@ -1,5 +1,5 @@
 -- The channels carry the messages of the tokens after the manager or a client takes a message of channels A to C.
-use Rattle.std.proofs.Common.{◌≡◌, ℕ, Bool, true, false, ◌&&◌, List, ◌∷◌, Some, None, refl, ◌⊎◌, inl, inr, ne_eqb, ◌==◌}
+use Rattle.std.proofs.Common.{◌≡◌, ℕ, Bool, true, false, ◌&&◌, List, ◌∷◌, Some, None, refl, ◌⊎◌, inl, inr, ne_eqb, ◌==◌, arith}
 use Rattle.std.proofs.Common.{if◌then◌else◌}
 use Rattle.tl_coherence.proofs
 use proofs.Imports.{cases_eq, Channel, Message, Cap, Prune, Report, IsInvariant, is_replied, Kind, Request, Acquire}
@@ -122,12 +122,7 @@ report_taken-shown {w} {caching} c n r rest mail {s} inv inv' first = record {
     fits : (d : ℕ) (at : Channel) (b : Bool)
         → Fits (b && same_channel at Channel.C) None (if b then report_moves n at else Stays)
         (λ j l. message_of mail s' d (packet j l))
-    fits d at false = tt
-    fits d Channel.A true = tt
-    fits d Channel.B true = tt
-    fits d Channel.C true = tt
-    fits d Channel.D true = tt
-    fits d Channel.E true = tt
+    fits d at b = grind arith
 
 -- ---- a Release is taken
 

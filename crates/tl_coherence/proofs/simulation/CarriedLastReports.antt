@@ -1,5 +1,5 @@
 -- The channels carry the messages of the tokens after the last report, for which a service ends.
-use Rattle.std.proofs.Common.{◌≡◌, ℕ, Bool, true, false, ◌&&◌, List, [], ◌∷◌, ◌++◌, Some, None, refl, sym, ◌∙◌, ap, ◌⊎◌}
+use Rattle.std.proofs.Common.{◌≡◌, ℕ, Bool, true, false, ◌&&◌, List, [], ◌∷◌, ◌++◌, Some, None, refl, sym, ◌∙◌, ap, ◌⊎◌, arith}
 use Rattle.std.proofs.Common.{inl, inr, ne_eqb, ◌==◌, if◌then◌else◌, eqb-true}
 use Rattle.tl_coherence.proofs
 use proofs.Imports.{cases_eq, Channel, Message, Cap, Report, IsInvariant, is_replied, Kind, ProbeAck, Answer, Grant}
@@ -95,9 +95,7 @@ granted_moved n c q d ch rest link apart first = elim (cases_eq d q) [
 
     at_sender : (ch : Channel) (l : Link) → l ≡ record (link q) { d = (link q).d ++ packet Grant n ∷ [] }
         → IsMoved (granted_moves n c q q ch) (packets_on ch (link q)) (packets_on ch l)
-    at_sender Channel.C l e = rw (e, ne_eqb q c swapped) refl
-    at_sender Channel.D l e = rw (e, same_number q) refl
-    at_sender ch l e = rw e refl
+    at_sender ch l e = grind arith
 
     at_reporter : (ch : Channel) (l : Link) → l ≡ record (link c) { c = rest }
         → IsMoved (granted_moves n c q c ch) (packets_on ch (link c)) (packets_on ch l)
@@ -107,9 +105,7 @@ granted_moved n c q d ch rest link apart first = elim (cases_eq d q) [
 
     at_other : (ch : Channel) (l : Link) → (d ≡ q → ⊥) → (d ≡ c → ⊥) → l ≡ link d
         → IsMoved (granted_moves n c q d ch) (packets_on ch (link d)) (packets_on ch l)
-    at_other Channel.C l o i e = rw (e, ne_eqb d c i) refl
-    at_other Channel.D l o i e = rw (e, ne_eqb d q o) refl
-    at_other ch l o i e = rw e refl
+    at_other ch l e f g = grind arith
 
 granted_fits : {w : ℕ} (n : ℕ) (m : Message w) (at : Channel) (c q d : ℕ) (render : Kind → ℕ → Message w)
     → ((d == q) ≡ true → render Grant n ≡ m) → Fits ((d == c) && same_channel at Channel.C)

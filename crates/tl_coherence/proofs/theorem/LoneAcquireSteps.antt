@@ -1,6 +1,6 @@
 -- An Acquire that is alone: its client holds the block until it is granted what it asked for, and then that, whatever
 -- message is taken.
-use Rattle.std.proofs.Common.{◌≡◌, subst, ℕ, Bool, true, false, List, ◌∷◌, refl, sym, ◌∙◌, ap, ap₂, ◌⊎◌, inl, inr, ◌&&◌}
+use Rattle.std.proofs.Common.{◌≡◌, subst, ℕ, Bool, true, false, List, ◌∷◌, refl, sym, ◌∙◌, ap, ap₂, ◌⊎◌, inl, inr, ◌&&◌, arith}
 use Rattle.std.proofs.Common.{if◌then◌else◌, ◌==◌}
 use Rattle.tl_coherence.proofs
 use proofs.Imports.{cases_eq, Config, Cap, Grow, Report, Perm, Profile, cap_right, IsInvariant, Kind, Request, Probe}
@@ -81,14 +81,7 @@ steady_granted d q r k pair j =
 
 grows : (p : Profile) (whole : Bool) (g : Grow) (k : Cap) → cap_fits whole g k ≡ true
     → gives_asked p (AcquireOpen whole g) k ≡ true → grown_to p g (cap_right k) ≡ true
-grows Profile.One false Grow.NtoB Cap.ToB e f = refl
-grows Profile.Two false Grow.NtoB Cap.ToB e f = refl
-grows Profile.Two false Grow.NtoB Cap.ToT e f = refl
-grows Profile.One whole Grow.NtoT Cap.ToT e f = refl
-grows Profile.Two whole Grow.NtoT Cap.ToT e f = refl
-grows Profile.One whole Grow.BtoT Cap.ToT e f = refl
-grows Profile.Two whole Grow.BtoT Cap.ToT e f = refl
-grows p whole g k e f = absurd cc
+grows p whole g k e f = grind arith
 
 brings_granted : (p : Profile) (n : ℕ) (a : AcquirePhase) (u : SourceState) (x : ClientBlock) (q : Perm)
     → u ≡ SourceFree → x.held ≡ q → grown p a q ≡ true → Brings p n a u x

@@ -18,8 +18,7 @@ use proofs.rank.RankParts.{request-falls, release-falls, acknowledged-falls, gra
 
 -- who has released is no longer recorded as the writer
 pruned : (r : Prune) → same_perm (prune_right r) Perm.Trunk ≡ false
-pruned Prune.TtoB = refl
-pruned r = refl
+pruned r = grind arith
 
 pruned-weight : (size l l' : ℕ) (recorded : Perm) (r : Prune) (x : ProbePhase) → 1 ≤ size → ((a : ℕ) → l' ≤ l)
     → probing_weight size l' (prune_right r) x ≤ probing_weight size l recorded x

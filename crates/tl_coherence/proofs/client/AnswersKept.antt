@@ -1,5 +1,5 @@
 -- Answers that are on their way answer their accesses: after every event.
-use Rattle.std.proofs.Common.{◌≡◌, subst, ℕ, Bool, true, false, List, ◌∷◌, Some, None, length, refl, sym, ◌∙◌, ap, ◌⊎◌}
+use Rattle.std.proofs.Common.{◌≡◌, subst, ℕ, Bool, true, false, List, ◌∷◌, Some, None, length, refl, sym, ◌∙◌, ap, ◌⊎◌, arith}
 use Rattle.std.proofs.Common.{inl, inr, ◌%◌}
 use Rattle.tl_coherence.proofs
 use proofs.Imports.{cases_eq, OpA, OpD, Message, MessageA, MessageD, Config, Memory, effect, answer_of, as_payload}
@@ -97,8 +97,7 @@ is_unanswered _ = true
 
 unanswered : {w : ℕ} (source : ℕ) (request answer : Message w) (u : SourceState) → is_unanswered u ≡ true
     → IsAnswered source request answer u
-unanswered source request answer Replied e = absurd cc
-unanswered source request answer u e = tt
+unanswered source request answer u e = grind arith
 
 -- a source whose use is now another that is no answer's, whatever its request
 answered-used : {w : ℕ} (c source : ℕ) (u : SourceState) (mail : AccessMessages w) (s s' : State (List ℕ))

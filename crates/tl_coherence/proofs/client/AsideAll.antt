@@ -1,6 +1,6 @@
 -- Which clients' ends are left alone as a message is taken, and as a client is asked: all of that is
 -- what `followed` does.
-use Rattle.std.proofs.Common.{sym, None, ◌≡◌, ℕ, Bool, true, false, List, ◌∷◌, Some, refl, ap, inl, not, ◌==◌}
+use Rattle.std.proofs.Common.{sym, None, ◌≡◌, ℕ, Bool, true, false, List, ◌∷◌, Some, refl, ap, inl, not, ◌==◌, arith}
 use Rattle.tl_coherence.proofs
 use proofs.Imports.{and_from, Message, Config, Cap, Grow, block_at, Op, Reply, copy_stored, whole_grow, access}
 use proofs.Imports.{cap_asked, IsInvariant, is_asked, serves_of, Kind, Request, Probe, Release, Answer}
@@ -25,12 +25,10 @@ leaves-none d h = aside-blocks refl (λ i. refl) (λ i. inl refl) (λ i. refl)
 -- ---- requests
 
 asked_access : (u : SourceState) → is_asked u ≡ true → is_access u ≡ true
-asked_access Asked e = refl
-asked_access u e = absurd cc
+asked_access u e = grind arith
 
 served_access : (n : ℕ) (u : SourceState) → serves_of n u ≡ true → is_access u ≡ true
-served_access n (InService m) e = refl
-served_access n u e = absurd cc
+served_access n u e = grind arith
 
 -- ---- messages that the manager takes
 

@@ -22,8 +22,7 @@ is_request _ = false
 
 sourced_request : {w : ℕ} (m : Message w) (source : ℕ) → request_source m ≡ Some source → is_request m ≡ true
 unfolding is_request
-sourced_request (Message.A m) source e = refl
-sourced_request m source e = absurd cc
+sourced_request m source e = grind arith
 
 answered_request : {w : ℕ} (source : ℕ) (m x : Message w) → IsAnswer source m x → is_request m ≡ true
 unfolding is_request
@@ -32,8 +31,7 @@ answered_request source m x is = absurd is
 
 asks_something : {w : ℕ} (m : Message w) → is_request m ≡ true → is_some (first_of m) ≡ true
 unfolding is_request
-asks_something (Message.A m) e = refl
-asks_something m e = absurd cc
+asks_something m e = grind arith
 
 pub acquires_something : (w : ℕ) (a : AcquirePhase) (source n : ℕ)
     → is_some (first_of (acquire_of {w = w} a source n)) ≡ true
@@ -61,8 +59,7 @@ closed-source {w} config c {source} mail s sourced answered none = go (s.uses c 
         sym (asks_something (mail.request c source) (sourced_request (mail.request c source) source a.0)) ∙ f in cc)
 
 pub no_let : (o : Option ℕ) → is_some o ≡ false → o ≡ None
-no_let None e = refl
-no_let (Some n) e = absurd cc
+no_let o e = grind arith
 
 -- ---- a client with transfers caches
 
@@ -78,14 +75,12 @@ swap_perms p q = grind arith
 
 busy_may : {w : ℕ} (caching : ℕ → Bool) (c : ℕ) (o : Op w) (b : Busy) (h : AbstractState w)
     → IsAskable caching c o (Reply.Busy b) h
-busy_may caching c (Op.Load address size) b h = tt
-busy_may caching c o b h = tt
+busy_may caching c o b h = grind arith
 
 store_may : {w : ℕ} (caching : ℕ → Bool) (c address size value : ℕ) (p : Perm) (e : Endpoint w) (h : AbstractState w)
     → p ≡ ((h.state.block (block_at address)).pair c).held
     → IsAskable caching c (Op.Store address size value) (store address size value p e).reply h
-store_may caching c address size value Perm.Trunk e h is = rw (sym is) refl
-store_may caching c address size value p e h is = tt
+store_may caching c address size value p e h f = grind arith
 
 -- what is given of a client that is asked
 record IsAt {w : ℕ} (config : Config) (c : ℕ) (terms : EndConfig) (h : AbstractState w) (e : Endpoint w) : Type 0 where

@@ -1,5 +1,5 @@
 -- A client's end after it was asked for an operation: what it does is what the protocol does.
-use Rattle.std.proofs.Common.{◌≡◌, subst, ℕ, Bool, true, false, not, ◌&&◌, cond, List, Option, Some, None, refl, sym}
+use Rattle.std.proofs.Common.{◌≡◌, subst, ℕ, Bool, true, false, not, ◌&&◌, cond, List, Option, Some, None, refl, sym, arith}
 use Rattle.std.proofs.Common.{◌∙◌, ap, ◌⊎◌, inl, inr, eqb-true, ne_eqb, ◌==◌, unwrap_or}
 use Rattle.tl_coherence.proofs
 use proofs.Imports.{cases_eq, or_parts, not-false, BeatA, OpA, OpC, IsWidth, Message, MessageC, AcquireOf, ReleaseOf}
@@ -113,8 +113,7 @@ end-release_asked {w} {c} n source r copy mail {s} {e} width begins kept end =
             (passed (m.source == i) (Some n) (s.lets c i) (rw from (ne_eqb source i (λ e. other (sym e)))))
 
     kept_some : (q : Perm) (x y : Option (List ℕ)) → same_perm q Perm.None ≡ false → cond (not (holds q)) x y ≡ y
-    kept_some Perm.None x y some = absurd cc
-    kept_some q x y some = refl
+    kept_some q x y e = grind arith
 
     copy_of : (i : ℕ) (b : Bool) → (i == n) ≡ b → same_perm (cond b (prune_right r) ((s.block i).pair c).held) Perm.None
         ≡ false → cond (b && not (holds (prune_right r))) None (e.copies i) ≡ Some ((s.block i).copy c)

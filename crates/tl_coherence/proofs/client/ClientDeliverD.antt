@@ -1,5 +1,5 @@
 -- A client's end after it has taken a beat of channel D: what it knows is what the protocol says then.
-use Rattle.std.proofs.Common.{◌≡◌, ℕ, Bool, true, false, not, ◌&&◌, cond, List, [], ◌∷◌, Option, Some, None, refl, sym}
+use Rattle.std.proofs.Common.{◌≡◌, ℕ, Bool, true, false, not, ◌&&◌, cond, List, [], ◌∷◌, Option, Some, None, refl, sym, arith}
 use Rattle.std.proofs.Common.{◌∙◌, ap, ◌==◌, is_some, option_map}
 use Rattle.tl_coherence.proofs
 use proofs.Imports.{same_Some, Beat, BeatA, BeatC, BeatD, Channel, IsWidth, beats-positive, E, MessageE, History}
@@ -46,12 +46,10 @@ pub record IsHeard {w : ℕ} (c : ℕ) (x : BeatD w) (t : History w) (p : Perm)
   pub asks : (i : ℕ) → asked' i ≡ cond (closes_source i) None (asked i)
 
 none_cond : {X : Type 0} (b : Bool) (o : Option X) → is_some (cond b None o) ≡ cond b false (is_some o)
-none_cond true o = refl
-none_cond false o = refl
+none_cond b o = grind arith
 
 some_kept : {X : Type 0} (b : Bool) (o : Option X) (x : X) → cond b None o ≡ Some x → o ≡ Some x
-some_kept true o x e = absurd cc
-some_kept false o x e = e
+some_kept b o x e = grind arith
 
 -- the history after the beat, and after the message that answers it, if there is one: `u` says the same as the beat's
 pub record IsEcho {w : ℕ} (x : BeatD w) (t u : History w) : Type 0 where
@@ -90,8 +88,7 @@ echo-e {w} x m t width whole =
     }
 
 given_cond : (a b : Bool) (p q r : Perm) → a ≡ b → (b ≡ true → p ≡ q) → cond a p r ≡ cond b q r
-given_cond a true p q r e f = rw (e, f refl) refl
-given_cond a false p q r e f = rw e refl
+given_cond a b p q r e f = grind arith
 
 pub known-heard : {w : ℕ} {c : ℕ} {x : BeatD w} {t : History w} {p : Perm}
     {closes_block closes_release closes_source closes_let : ℕ → Bool} {asked asked' : ℕ → Option (BeatA w)}

@@ -197,8 +197,7 @@ grant-delivered {w} {config} {log} {mail} {request} {s} {sys} terms tracker c n 
 
     holds_copy : (whole data_too : Bool) (q : Perm) → whole ≡ false → data_too ≡ false
         → (whole || (data_too || same_perm q Perm.Branch)) ≡ true → same_perm q Perm.None ≡ false
-    holds_copy false false Perm.Branch a b f = refl
-    holds_copy whole data_too q a b f = absurd cc
+    holds_copy whole data_too q e f g = grind arith
 
 -- ---- all of channel D
 

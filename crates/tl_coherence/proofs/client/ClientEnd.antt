@@ -96,8 +96,7 @@ pub record IsSame {w : ℕ} (c : ℕ) (asked asked' : ℕ → Option (BeatA w)) 
 
 pub comes-same : {w : ℕ} (n : ℕ) (asked asked' : ℕ → Option (BeatA w)) (rest : List (Beat w))
     → ((source : ℕ) → asked' source ≡ asked source) → comes_granting n asked' rest ≡ comes_granting n asked rest
-comes-same n asked asked' (Beat.D x ∷ rest) same = rw (same x.source) refl
-comes-same n asked asked' rest same = refl
+comes-same n asked asked' rest e = grind arith
 
 pub known-same : {w : ℕ} {c : ℕ} {asked asked' : ℕ → Option (BeatA w)} {rest : List (Beat w)} {s s' : State (List ℕ)}
     {t : History w} → IsSame c asked asked' s s' → ClientRelation asked rest c s t → ClientRelation asked' rest c s' t
@@ -165,8 +164,7 @@ acquires_same : {w : ℕ} (u : SourceState) (request : Message w) (block block' 
     → ((n : ℕ) → u ≡ Acquires n → (block' n).source c ≡ (block n).source c)
     → asked_with u request block' c ≡ asked_with u request block c
 unfolding block_message
-acquires_same (Acquires n) request block block' c a b = rw (a n refl, b n refl) refl
-acquires_same u request block block' c a b = refl
+acquires_same u request block block' c e f = grind arith
 
 -- one source asks for the same where its use, its access and its Acquire are as before
 pub asks-same : {w : ℕ} (c source : ℕ) (mail mail' : AccessMessages w) (s s' : State (List ℕ))

@@ -1,5 +1,5 @@
 -- A client's end after it has taken a Probe, beside the event of the protocol.
-use Rattle.std.proofs.Common.{◌≡◌, ℕ, Bool, true, false, not, ◌&&◌, cond, List, ◌∷◌, Some, None, refl, sym, ◌∙◌, ap}
+use Rattle.std.proofs.Common.{◌≡◌, ℕ, Bool, true, false, not, ◌&&◌, cond, List, ◌∷◌, Some, None, refl, sym, ◌∙◌, ap, arith}
 use Rattle.std.proofs.Common.{inl, eqb-true, ◌==◌}
 use Rattle.tl_coherence.proofs
 use proofs.Imports.{Beat, OpB, IsWidth, Cap, Perm, report_right, same_perm, kept_copies, kept_closed, kept_waiting}
@@ -55,8 +55,7 @@ end-probe_taken {w} {c} n k rest mail {s} {e} width well end =
     pair_is = set-same c (after_probe k ((s.block n).pair c)) (s.block n).pair
 
     some_held : (q : Perm) → same_perm q Perm.None ≡ false → holds q ≡ true
-    some_held Perm.None e = absurd cc
-    some_held q e = refl
+    some_held q e = grind arith
 
     copy_of : (i : ℕ) (b : Bool) → (i == n) ≡ b
         → cond b (same_perm (new.pair c).held Perm.None) (same_perm ((s.block i).pair c).held Perm.None) ≡ false

@@ -1,5 +1,5 @@
 -- A client's end after it has handed a request or a Release out: what it knows is what the protocol says then.
-use Rattle.std.proofs.Common.{◌≡◌, ℕ, Bool, true, false, not, cond, List, [], Option, Some, refl, sym, ◌∙◌, ap, ◌&&◌}
+use Rattle.std.proofs.Common.{◌≡◌, ℕ, Bool, true, false, not, cond, List, [], Option, Some, refl, sym, ◌∙◌, ap, ◌&&◌, arith}
 use Rattle.std.proofs.Common.{◌==◌, is_some, option_map}
 use Rattle.tl_coherence.proofs
 use proofs.Imports.{BeatA, BeatC, Channel, IsWidth, beats-positive, A, MessageA, MessageC, a_beat_of, c_beat_of}
@@ -35,8 +35,7 @@ known-requested {w} {c} {m} {asked'} {s'} {t} {f} width past none well event kno
     (λ source. cc (open_beat-a source m t width none, known.opens source, event.asks source))
 
 some_cond : {X : Type 0} (b : Bool) (x : X) (o : Option X) → is_some (cond b (Some x) o) ≡ cond b true (is_some o)
-some_cond true x o = refl
-some_cond false x o = refl
+some_cond b x o = grind arith
 
 pub opened-requested : {w : ℕ} {c : ℕ} {m : MessageA w} {asked asked' : ℕ → Option (BeatA w)} {s s' : State (List ℕ)}
     {t : History w} → IsWidth w → unfinished Channel.A t ≡ []

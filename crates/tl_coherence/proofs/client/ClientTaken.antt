@@ -1,5 +1,5 @@
 -- A client's end after it has taken a beat of channel D, beside the event of the protocol.
-use Rattle.std.proofs.Common.{◌≡◌, subst, ℕ, Bool, true, false, not, ◌&&◌, cond, List, ◌∷◌, Option, Some, None, refl}
+use Rattle.std.proofs.Common.{◌≡◌, subst, ℕ, Bool, true, false, not, ◌&&◌, cond, List, ◌∷◌, Option, Some, None, refl, arith}
 use Rattle.std.proofs.Common.{sym, ◌∙◌, ap, ◌⊎◌, inl, inr, ◌*◌, eqb-true, ne_eqb, ◌==◌}
 use Rattle.tl_coherence.proofs
 use proofs.Imports.{and-false, cases_eq, Beat, BeatA, BeatD, OpD, IsWidth, E, a_beat_of, History, Cap, Grow, Perm}
@@ -159,14 +159,12 @@ record IsGrantTaken {w : ℕ} (data_too : Bool) (x : BeatD w) (r : BeatA w) (pay
 
 ended_end : {w : ℕ} (o : OpD) (data_too : Bool) (x : BeatD w) (finish : Finish) (g : Endpoint w)
     → o ≡ grant_opcode data_too → (ended o x finish g).after ≡ sending (grant_ack x.sink) g
-ended_end o true x finish g e = rw e refl
-ended_end o false x finish g e = rw e refl
+ended_end o data_too x finish g e = grind arith
 
 same_copy : {w : ℕ} (data_too : Bool) (r : BeatA w) (payload : List ℕ) (k : ℕ) (t : History w) (e : Endpoint w)
     → copy_granted (grant_opcode data_too) (Some r) payload k (with_past t e) ≡ copy_granted (grant_opcode data_too)
     (Some r) payload k e
-same_copy true r payload k t e = refl
-same_copy false r payload k t e = refl
+same_copy data_too r payload k t e = grind arith
 
 grant_end : {w : ℕ} (data_too : Bool) (x : BeatD w) (r : BeatA w) (payload : List ℕ) (e f : Endpoint w)
     → x.opcode ≡ grant_opcode data_too

@@ -1,5 +1,5 @@
 -- What a client answers to the last beat of a response.
-use Rattle.std.proofs.Common.{◌≡◌, ℕ, true, false, List, ◌∷◌, Option, Some, None, refl, sym, ◌∙◌, ap, if◌then◌else◌}
+use Rattle.std.proofs.Common.{◌≡◌, ℕ, true, false, List, ◌∷◌, Option, Some, None, refl, sym, ◌∙◌, ap, if◌then◌else◌, arith}
 use Rattle.std.proofs.Common.{Result, Ok}
 use Rattle.tl_coherence.proofs
 use proofs.Imports.{Beat, BeatD, Channel, OpD, Message, unfinished, Rule, payload_of, ends, is_grant, is_release_ack}
@@ -16,8 +16,7 @@ acked opcode sink = if is_grant opcode then Some (grant_ack sink) else None
 
 ended_answer : {w : ℕ} (o : OpD) (y : BeatD w) (f : Finish) (e : Endpoint w)
     → (ended o y f e).answer ≡ Ok (Verdict.Done y.source f, acked o y.sink)
-ended_answer OpD.AccessAck y f e = refl
-ended_answer o y f e = refl
+ended_answer o y f e = grind arith
 
 pub answer-last : {w : ℕ} (y : BeatD w) (e : Endpoint w) → ends (Beat.D y) e.past ≡ true
     → (taken (Beat.D y) e).answer ≡ Ok (Verdict.Done y.source (finish_at y e), acked y.opcode y.sink)
@@ -41,5 +40,4 @@ same_answers {w} v u m n a e f = let same = made_same (v, m) (u, n) (sym e ∙ f
 -- a response to an access or an Acquire ends a request, and a ReleaseAck a Release
 pub finish-pool : (w : ℕ) (o : OpD) (param size address : ℕ) (payload : List ℕ)
     → pool_of (finish_of w o param size address payload) ≡ (if is_release_ack o then Releases else Requests)
-finish-pool w OpD.AccessAck param size address payload = refl
-finish-pool w o param size address payload = refl
+finish-pool w o param size address payload = grind arith

@@ -1,6 +1,6 @@
 -- A response that the values of a history allow breaks no rule of order after it: at a client's end and in what is
 -- delivered alike.
-use Rattle.std.proofs.Common.{◌≡◌, ℕ, Bool, true, false, not, ◌&&◌, [], Option, Some, None, refl, ap, ◌==◌, option_map}
+use Rattle.std.proofs.Common.{◌≡◌, ℕ, Bool, true, false, not, ◌&&◌, [], Option, Some, None, refl, ap, ◌==◌, option_map, arith}
 use Rattle.tl_coherence.proofs
 use proofs.Imports.{same_Some, Beat, BeatA, BeatC, BeatD, Channel, OpD, History, unfinished, RequestSource}
 use proofs.Imports.{ReleaseSource, GrantSink, ProbeOf, Perm, Profile, same_perm, broken_in_order, comes_in_request}
@@ -47,8 +47,7 @@ grant-legal {w} p n {x} {r} {t} is block fits carried unprobed once = begun p x 
     (never (is_grant x.opcode) (rw (is.request, block, fits, carried, unprobed) refl)) (never (is_grant x.opcode) once)
   where
     never : (a : Bool) {b : Bool} → b ≡ false → (a && b) ≡ false
-    never true e = e
-    never false e = refl
+    never a e = grind arith
 
 -- ---- Releases
 

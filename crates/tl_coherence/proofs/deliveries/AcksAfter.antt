@@ -1,5 +1,5 @@
 -- A GrantAck that is delivered to the manager: the channels and the one memory afterwards.
-use Rattle.std.proofs.Common.{◌≡◌, ℕ, Bool, true, false, List, [], ◌∷◌, Some, None, refl, ◌∙◌, ap}
+use Rattle.std.proofs.Common.{◌≡◌, ℕ, Bool, true, false, List, [], ◌∷◌, Some, None, refl, ◌∙◌, ap, arith}
 use Rattle.tl_coherence.proofs
 use proofs.Imports.{Beat, Link, Channel, IsWidth, unfinished, completes, Config, on_link, reaction-ack, reaction}
 use proofs.Imports.{Deliver, Kind, GrantAck, GrantTaken, packet, is_on, freed_block, grant_ack_taken, AbstractState}
@@ -15,8 +15,7 @@ use proofs.manager.{UnwaitedRequests.invariant-taken}
 use proofs.protocol.{FirstTokens.first-grant_ack}
 
 ack_kind : (k : Kind) → is_on Channel.E k ≡ true → k ≡ GrantAck
-ack_kind GrantAck e = refl
-ack_kind k e = absurd cc
+ack_kind k e = grind arith
 
 pub delivered-e : {w : ℕ} {config : Config} {log : Log w} (link : Link) (h : AbstractState w) (terms : client.EndConfig)
     (x : Beat w) (queue : List (Beat w)) → IsWidth w

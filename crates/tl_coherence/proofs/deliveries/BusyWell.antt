@@ -63,8 +63,7 @@ pub some_held : (p : Prune) (q : Perm) → same_perm (prune_left p) q ≡ true �
 some_held p q e = grind arith
 
 pub none_rule : (o : Option Rule) → is_none o ≡ true → o ≡ None
-none_rule None e = refl
-none_rule (Some r) e = absurd cc
+none_rule o e = grind arith
 
 -- the source of an access breaks no rule
 sourced_beat : {w : ℕ} (l : Level) (x : MessageA w) (source i : ℕ)

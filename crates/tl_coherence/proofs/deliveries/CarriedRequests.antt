@@ -223,8 +223,7 @@ unread-bytes {w} {config} {s} c n m is access none k d =
     ]
   where
     either : (b : Bool) {x : Bool} → x ≡ true → (b || x) ≡ true
-    either true e = refl
-    either false e = e
+    either b e = grind arith
 
 -- after the last beat of an access that was taken
 pub carried-request_taken : {w : ℕ} {config : Config} {log : Log w} (h : AbstractState w) {sys : System w}

@@ -1,5 +1,5 @@
 -- Every delivery on channel D, and every one that moves no beat: the channels and the one memory afterwards.
-use Rattle.std.proofs.Common.{◌≡◌, ℕ, Bool, true, false, List, ◌∷◌, Some, None, refl, sym, ◌∙◌, ap, subst, ◌==◌}
+use Rattle.std.proofs.Common.{◌≡◌, ℕ, Bool, true, false, List, ◌∷◌, Some, None, refl, sym, ◌∙◌, ap, subst, ◌==◌, arith}
 use Rattle.std.proofs.Common.{if◌then◌else◌, map}
 use Rattle.tl_coherence.proofs
 use proofs.Imports.{Beat, Link, Channel, IsWidth, Message, MessageD, beat_of, d_beat_of, unfinished, completes}
@@ -54,8 +54,7 @@ last_d {w} config log link h {h'} {x} {queue} is t same responded =
     (sym (cc (remembered_after config log link Channel.D now step_is, responded.quiet))) responded.beside)
 
 none_pushed : (w : ℕ) (at : Channel) (b : Bool) → (if b then pushes_of {w = w} None at else None) ≡ None
-none_pushed w at true = refl
-none_pushed w at false = refl
+none_pushed w at b = grind arith
 
 part_d : {w : ℕ} {config : Config} {log : Log w} (link : Link) (h : AbstractState w) {terms : client.EndConfig}
     {x : Beat w} {queue : List (Beat w)} (mm : MessageD w) (k : ℕ) → IsWidth w

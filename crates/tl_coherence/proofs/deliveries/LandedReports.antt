@@ -1,5 +1,5 @@
 -- The channels after a beat of channel C or E was taken, and the bytes on their way.
-use Rattle.std.proofs.Common.{◌≡◌, ℕ, Bool, true, false, List, [], ◌∷◌, Option, Some, None, length, refl, sym, ◌∙◌, ap}
+use Rattle.std.proofs.Common.{◌≡◌, ℕ, Bool, true, false, List, [], ◌∷◌, Option, Some, None, length, refl, sym, ◌∙◌, ap, arith}
 use Rattle.std.proofs.Common.{subst, ◌⊎◌, inl, inr}
 use Rattle.tl_coherence.proofs
 use proofs.Imports.{or-true, cases_eq, same_Some, Beat, Channel, IsWidth, Message, MessageA, unfinished, completes}
@@ -143,8 +143,7 @@ last-handing q m at one last = taken-landed (landed-received ((record { 0 = q },
 
 pub answer_on_d : {w : ℕ} (v : MessageA w) (kind : answers_of.Answer)
     → channel_of_message (access_answer v kind) ≡ Channel.D
-answer_on_d v Answer.Ack = refl
-answer_on_d v kind = refl
+answer_on_d v kind = grind arith
 
 pub grant_on_d : (w : ℕ) (q n : ℕ) (b : Block (List ℕ)) (d : Bool) (k : Cap) → b.service ≡ GrantSent q d k
     → channel_of_message {w = w} (block_message Grant q n b) ≡ Channel.D

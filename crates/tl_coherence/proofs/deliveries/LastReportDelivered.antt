@@ -1,5 +1,5 @@
 -- The manager takes the last beat of a ProbeAck.
-use Rattle.std.proofs.Common.{[], ◌≡◌, ℕ, Bool, true, false, ◌&&◌, List, ◌∷◌, length, refl, sym, ◌∙◌, ap, subst, ◌==◌}
+use Rattle.std.proofs.Common.{[], ◌≡◌, ℕ, Bool, true, false, ◌&&◌, List, ◌∷◌, length, refl, sym, ◌∙◌, ap, subst, ◌==◌, arith}
 use Rattle.std.proofs.Common.{if◌then◌else◌}
 use Rattle.tl_coherence.proofs
 use proofs.Imports.{Beat, Channel, Message, MessageA, MessageC, c_beat_of, Config, Cap, Grow, Report, Perm, report_left}
@@ -96,8 +96,7 @@ reported-last {w} {config} {log} h {sys} {c} {n} {k} rest {m} is tokens answered
 
     unseen : (x : Bool) (u v : View) → is_other u ≡ false → is_other v ≡ false → is_other (if x then u else v) ≡ true
         → ⊥
-    unseen true u v f g i = cc
-    unseen false u v f g i = cc
+    unseen x u v e f g = grind arith
 
     last : some_below (length config.clients.items) (others_probed c b.pair) ≡ false → (service : Service)
         → b.service ≡ service → IsInvariant (is_caching config) (last_taken (length config.clients.items) config.profile

@@ -24,8 +24,7 @@ use proofs.simulation.{SourcedAfter.first-asked, Moved.manager-moves, Moved.mana
 -- ---- the channel of a message, and of its beats
 
 channel_of_beat : {w : ℕ} (m : Message w) (i : ℕ) → channel_of (beat_of m i) ≡ channel_of_message m
-channel_of_beat (Message.A m) i = refl
-channel_of_beat m i = refl
+channel_of_beat m i = grind arith
 
 pub on_message : {w : ℕ} (m : Message w) (i : ℕ) → IsOn (channel_of_message m) (beat_of m i)
 on_message m i = subst (λ (ch : Channel). IsOn ch (beat_of m i)) (channel_of_beat m i) (on_own_channel (beat_of m i))
@@ -36,13 +35,11 @@ acquire_channel w x source n = grind arith
 
 pub ack_channel : (w : ℕ) (p : Perm) (r : Report) (n : ℕ) (x : List ℕ)
     → channel_of_message {w = w} (probe_ack OpB.ProbeBlock p r n x) ≡ Channel.C
-ack_channel w Perm.None r n x = refl
-ack_channel w p r n x = refl
+ack_channel w p r n x = grind arith
 
 pub release_channel : (w : ℕ) (p : Prune) (source n : ℕ) (x : List ℕ)
     → channel_of_message {w = w} (release p source n x) ≡ Channel.C
-release_channel w Prune.TtoB source n x = refl
-release_channel w p source n x = refl
+release_channel w p source n x = grind arith
 
 request_channel : {w : ℕ} (config : Config) (c source : ℕ) (m : Message w) → IsRequest config c source m
     → channel_of_message m ≡ Channel.A

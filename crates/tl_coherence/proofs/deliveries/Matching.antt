@@ -1,5 +1,5 @@
 -- What is kept of the whole is kept by every event: so it holds after every log, beside the protocol as it follows.
-use Rattle.std.proofs.Common.{◌≡◌, ℕ, Bool, true, false, List, [], ◌∷◌, Option, Some, None, refl, sym, ap, subst}
+use Rattle.std.proofs.Common.{◌≡◌, ℕ, Bool, true, false, List, [], ◌∷◌, Option, Some, None, refl, sym, ap, subst, arith}
 use Rattle.tl_coherence.proofs
 use proofs.Imports.{Beat, Link, Channel, IsWidth, Config, Op, EndConfig, Event, Ask, Deliver, Outcome, AbstractState}
 use proofs.Imports.{abstract_step, first_abstract_state, abstract_step_by, ChannelRelation, MemoryRelation}
@@ -28,8 +28,7 @@ use proofs.queues.Steps.{stepped-asked, stepped-empty}
 pub stepped-nobody : {w : ℕ} (config : Config) (event : Event w) (sys : System w)
     → terms_at config (client_of event) ≡ None → stepped config event sys ≡ only Outcome.NoSuchClient sys
 unfolding stepped
-stepped-nobody config (Ask c o) sys e = rw e refl
-stepped-nobody config (Deliver link ch) sys e = rw e refl
+stepped-nobody config event sys e = grind arith
 
 pub not_moving : {w : ℕ} (x y : Step w) → x ≡ y → is_moving x.outcome ≡ true → is_moving y.outcome ≡ false → ⊥
 not_moving {w} x y e moving still = let no : true ≡ false = cc in cc

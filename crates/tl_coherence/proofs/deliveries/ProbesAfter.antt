@@ -30,14 +30,12 @@ left_is k p = grind arith
 
 ack_same : {w : ℕ} (p : Perm) (r : Report) (n : ℕ) (x y : List ℕ) → (same_perm p Perm.None ≡ false → x ≡ y)
     → probe_ack {w = w} OpB.ProbeBlock p r n x ≡ probe_ack OpB.ProbeBlock p r n y
-ack_same Perm.Trunk r n x y e = rw (e refl) refl
-ack_same p r n x y e = refl
+ack_same p r n x y e = grind arith
 
 ack_quiet : (w c : ℕ) (p : Perm) (r : Report) (n : ℕ) (x : List ℕ)
     → accesses_answered {w = w} (handed_by c (Some (probe_ack OpB.ProbeBlock p r n x))) ≡ []
 unfolding accesses_answered
-ack_quiet w c Perm.None r n x = refl
-ack_quiet w c p r n x = refl
+ack_quiet w c p r n x = grind arith
 
 -- what is rendered after it
 rendered_probed : {w : ℕ} (c n : ℕ) (k : Cap) (b : Block (List ℕ))

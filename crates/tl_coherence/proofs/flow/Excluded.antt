@@ -11,12 +11,10 @@ pub above_le : (k : Cap) (p : Perm) → is_above k p ≡ false → perm_le p (ca
 above_le k p e = grind arith
 
 at_most_branch : (p : Perm) → perm_le p (cap_right Cap.ToB) ≡ true → not (same_perm p Perm.Trunk) ≡ true
-at_most_branch Perm.Trunk e = absurd cc
-at_most_branch p e = refl
+at_most_branch p e = grind arith
 
 at_most_none : (p : Perm) → perm_le p (cap_right Cap.ToN) ≡ true → same_perm p Perm.None ≡ true
-at_most_none Perm.None e = refl
-at_most_none p e = absurd cc
+at_most_none p e = grind arith
 
 within : (j k : Cap) (p : Perm) → Some j ≡ Some k → perm_le p (cap_right k) ≡ true → perm_le p (cap_right j) ≡ true
 within j k p e f = ap (λ (i : Cap). perm_le p (cap_right i)) (same_Some j k e) ∙ f

@@ -1,5 +1,5 @@
 -- What is delivered on a link, as a beat of an access is.
-use Rattle.std.proofs.Common.{◌≡◌, ℕ, Bool, true, false, not, ◌&&◌, ◌∷◌, Option, Some, None, refl, sym, ◌∙◌, ap, List}
+use Rattle.std.proofs.Common.{◌≡◌, ℕ, Bool, true, false, not, ◌&&◌, ◌∷◌, Option, Some, None, refl, sym, ◌∙◌, ap, List, arith}
 use Rattle.std.proofs.Common.{◌==◌, if◌then◌else◌, option_map}
 use Rattle.tl_coherence.proofs
 use proofs.Imports.{and_right, Beat, BeatA, Channel, History, Perm, comes_in_request, begins, ends, block_at}
@@ -31,8 +31,7 @@ of_other {w} i y t e =
     go (begins (Beat.A y) t) (y.source == i) e
 
 unsaid : (last : Bool) (p : Perm) → (if last then p else p) ≡ p
-unsaid true p = refl
-unsaid false p = refl
+unsaid last p = grind arith
 
 -- a beat of client c's access with its source, whose last one the manager answers or has in service
 pub record IsAccess {w : ℕ} {X : Type 0} (c : ℕ) (y : BeatA w) (first last : Bool) (asked : ℕ → Option (BeatA w))
@@ -102,8 +101,7 @@ flowed-access {w} {X} {c} {y} {first} {last} {asked} {rest} {rest'} {s} {s'} {t}
     use_at i here e = cc (is.uses i, e)
 
     off : (z : Bool) (u v : SourceState) → (if z && false then v else u) ≡ u
-    off true u v = refl
-    off false u v = refl
+    off z u v = grind arith
 
     same : (i : ℕ) → (y.source == i) ≡ false → is_requested c i (rest' Channel.A) (s'.uses c i) s' ≡ is_requested c i
         (rest Channel.A) (s.uses c i) s

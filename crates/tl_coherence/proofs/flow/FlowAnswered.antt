@@ -33,8 +33,7 @@ unclosed first last g q p e = rw e (step_quiet first last p)
 
 pub unsaid : (last g q : Bool) (v p : Perm) → g ≡ false
     → (if last then unwrap_or (if g && q then Some v else None) p else p) ≡ p
-unsaid true g q v p e = rw e refl
-unsaid false g q v p e = refl
+unsaid last g q v p e = grind arith
 
 pub closes_last : (first last p : Bool) → step first last false true p ≡ (if last then false else p)
 closes_last first last p = grind arith
@@ -157,8 +156,7 @@ closed : (a q p : Bool) → a ≡ true → q ≡ true → step true true false (
 closed a q p e f = rw (e, f) refl
 
 unclosed_by : (a q p : Bool) → q ≡ false → step true true false (a && q) p ≡ p
-unclosed_by true q p e = rw e refl
-unclosed_by false q p e = refl
+unclosed_by a q p e = grind arith
 
 of_releases : {w : ℕ} (n m : ℕ) (o : Option (BeatC w)) → option_map (λ x. block_at x.address) o ≡ Some n
     → releases m o ≡ (n == m)

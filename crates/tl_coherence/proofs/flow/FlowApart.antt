@@ -1,6 +1,6 @@
 -- What an event leaves of what is delivered on a link: each value is as before, where the event isn't of the link, or
 -- comes of a beat of it that is accounted for.
-use Rattle.std.proofs.Common.{◌≡◌, subst, ℕ, Bool, true, false, ◌&&◌, ◌||◌, Option, Some, None, refl, sym, ◌∙◌, ap}
+use Rattle.std.proofs.Common.{◌≡◌, subst, ℕ, Bool, true, false, ◌&&◌, ◌||◌, Option, Some, None, refl, sym, ◌∙◌, ap, arith}
 use Rattle.std.proofs.Common.{List, ◌⊎◌, inl, inr, ◌==◌, if◌then◌else◌}
 use Rattle.tl_coherence.proofs
 use proofs.Imports.{cases_eq, Beat, BeatA, Channel, Cap, Grow, Prune, Report, comes_in_grant, Packet, set, set_at, Own}
@@ -301,5 +301,4 @@ module _ {w : ℕ} {X : Type 0} (d : ℕ) (asked asked' : ℕ → Option (BeatA 
           where
             waiting : (z : Bool) → (is_acknowledging (if true && z then Own else Other j)
                 || (is_granting (if true && z then Own else Other j) && comes_in_grant i (rest Channel.D))) ≡ false
-            waiting true = refl
-            waiting false = refl
+            waiting z = grind arith

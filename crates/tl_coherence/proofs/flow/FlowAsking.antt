@@ -1,5 +1,5 @@
 -- What is delivered on each link stays as it is when a client is asked for something.
-use Rattle.std.proofs.Common.{◌≡◌, ℕ, Bool, true, false, Option, refl, sym, ◌∙◌, ap, List, inl, inr, ne_eqb, ◌==◌}
+use Rattle.std.proofs.Common.{◌≡◌, ℕ, Bool, true, false, Option, refl, sym, ◌∙◌, ap, List, inl, inr, ne_eqb, ◌==◌, arith}
 use Rattle.tl_coherence.proofs
 use proofs.Imports.{cases_eq, BeatA, IsWidth, Message, MessageA, History, Config, Grow, Prune, block_at, Op, Reply}
 use proofs.Imports.{copy_stored, whole_grow, access, set_at, View, Granting, NoAcquire, ClientBlock, after_release}
@@ -25,8 +25,7 @@ asks-left d h h' left i = asks-same d i h.mail h'.mail h.state h'.state (left.re
     (λ n used. left.acquiring n) (λ n used. left.source n)
 
 unserved_ungranted : (v : View) → is_unserved v ≡ true → is_granting v ≡ false
-unserved_ungranted (Granting d k) e = absurd cc
-unserved_ungranted v e = refl
+unserved_ungranted v e = grind arith
 
 acquires_not : (u : SourceState) (n : ℕ) → u ≡ SourceFree → u ≡ Acquires n → ⊥
 acquires_not u n e f = let g : SourceFree ≡ Acquires n = sym e ∙ f in cc

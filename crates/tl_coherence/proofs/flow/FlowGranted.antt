@@ -1,5 +1,5 @@
 -- What is delivered on a link, as a beat of a Grant is.
-use Rattle.std.proofs.Common.{◌≡◌, ℕ, Bool, true, false, not, ◌&&◌, ◌||◌, ◌∷◌, Option, Some, None, refl, sym, ◌∙◌, ap}
+use Rattle.std.proofs.Common.{◌≡◌, ℕ, Bool, true, false, not, ◌&&◌, ◌||◌, ◌∷◌, Option, Some, None, refl, sym, ◌∙◌, ap, arith}
 use Rattle.std.proofs.Common.{List, ne_eqb, ◌==◌, if◌then◌else◌, option_map, unwrap_or}
 use Rattle.tl_coherence.proofs
 use proofs.Imports.{and_right, Beat, BeatA, BeatD, Channel, History, RequestSource, Cap, Perm, cap_right}
@@ -53,12 +53,10 @@ pub record IsGranting {w : ℕ} {X : Type 0} (c n : ℕ) (d : Bool) (k : Cap) (y
 
 said : (last g : Bool) (v p : Perm) → g ≡ true → (if last then unwrap_or (if g then Some v else None) p else p)
     ≡ (if last then v else p)
-said true g v p e = rw e refl
-said false g v p e = refl
+said last g v p e = grind arith
 
 unsaid : (last g : Bool) (v p : Perm) → g ≡ false → (if last then unwrap_or (if g then Some v else None) p else p) ≡ p
-unsaid true g v p e = rw e refl
-unsaid false g v p e = refl
+unsaid last g v p e = grind arith
 
 closed : (first last a q p : Bool) → a ≡ false → q ≡ true → p ≡ true → step first last false (not a && q) p ≡ not last
 closed first true a q p e f g = rw (e, f) (closes_last first true p)
@@ -112,18 +110,15 @@ now_requested false d k v e f = ap (λ (u : View). not (is_unserved u)) e
 
 now_acquired : (last d : Bool) (k : Cap) (v : View) (a : Bool) → v ≡ seen_after last d k → a ≡ not last
     → (a && not (is_unserved v)) ≡ not last
-now_acquired true d k v a e f = rw f refl
-now_acquired false d k v a e f = rw (f, e) refl
+now_acquired last d k v a e f = grind arith
 
 now_granted : (last d : Bool) (k : Cap) (v : View) (a : Bool) → v ≡ seen_after last d k → a ≡ not last
     → (is_acknowledging v || a) ≡ true
-now_granted true d k v a e f = rw e refl
-now_granted false d k v a e f = rw (f, e) refl
+now_granted last d k v a e f = grind arith
 
 now_sunk : (last d : Bool) (k : Cap) (v : View) (a : Bool) → v ≡ seen_after last d k → a ≡ not last
     → (is_acknowledging v || (is_granting v && a)) ≡ true
-now_sunk true d k v a e f = rw e refl
-now_sunk false d k v a e f = rw (f, e) refl
+now_sunk last d k v a e f = grind arith
 
 pub flowed-grant : {w : ℕ} {X : Type 0} {c n : ℕ} {d : Bool} {k : Cap} {y : BeatD w} {first last : Bool}
     {asked asked' : ℕ → Option (BeatA w)} {rest rest' : Channel → List (Beat w)} {s s' : State X} {t : History w}

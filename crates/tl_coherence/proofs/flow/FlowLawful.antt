@@ -1,5 +1,5 @@
 -- A beat of channel B or C that is delivered breaks no rule after what was delivered before it.
-use Rattle.std.proofs.Common.{◌≡◌, ℕ, true, false, List, [], ◌∷◌, Some, None, refl, sym, ◌∙◌, ap, subst, map}
+use Rattle.std.proofs.Common.{◌≡◌, ℕ, true, false, List, [], ◌∷◌, Some, None, refl, sym, ◌∙◌, ap, subst, map, arith}
 use Rattle.tl_coherence.proofs
 use proofs.Imports.{Beat, Channel, IsWidth, Message, MessageA, MessageC, beat_of, c_beat_of, History, channel_of}
 use proofs.Imports.{unfinished, channel_in, Config, Level, Prune, Report, Profile, report_at, on_link, broken_in_order}
@@ -36,8 +36,7 @@ lawful-beat c ch l x queue is beats level = cc (level, (sound-beat c ch x queue 
 
 -- who sees another's service isn't granted the block
 pub other_ungranted : (v : View) → is_other v ≡ true → is_granting v ≡ false
-other_ungranted (Granting d k) e = absurd cc
-other_ungranted v e = refl
+other_ungranted v e = grind arith
 
 report-lawful : {w : ℕ} {config : Config} {log : Log w} {mail : AccessMessages w} {request : ℕ → MessageA w}
     {s : State (List ℕ)} {sys : System w} (c n : ℕ) (toks : List Packet) (l : Level) {x : Beat w}
@@ -134,8 +133,7 @@ flows-c {w} {config} {log} {mail} {request} {s} {sys} c l x queue width is flowe
 -- ---- channel B
 
 unanswered_yet : (p : ProbePhase) → is_sent p ≡ true → is_answered p ≡ false
-unanswered_yet (ProbeSent k) e = refl
-unanswered_yet p e = absurd cc
+unanswered_yet p e = grind arith
 
 -- a Probe on its way hasn't been answered, and is of another's service
 probe-lawful : {w : ℕ} {config : Config} {log : Log w} {mail : AccessMessages w} {request : ℕ → MessageA w}

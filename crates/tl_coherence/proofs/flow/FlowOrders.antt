@@ -1,5 +1,5 @@
 -- A message of channel A, B, C or E that is delivered breaks no rule of order after what was delivered before it.
-use Rattle.std.proofs.Common.{◌≡◌, ℕ, zero, suc, Bool, true, false, ◌&&◌, ◌||◌, [], Option, Some, None, refl, ◌∙◌}
+use Rattle.std.proofs.Common.{◌≡◌, ℕ, zero, suc, Bool, true, false, ◌&&◌, ◌||◌, [], Option, Some, None, refl, ◌∙◌, arith}
 use Rattle.std.proofs.Common.{ap, List}
 use Rattle.tl_coherence.proofs
 use proofs.Imports.{and-false, Beat, BeatA, BeatB, BeatC, BeatE, Channel, first_if, Message, beat_of, begun, History}
@@ -45,8 +45,7 @@ acquire-flows {w} p {c} n x {asked} {rest} {s} {t} flowed whole acquires block u
 -- ---- channel B
 
 unprobed : (probes a b : Bool) → a ≡ false → b ≡ false → first_if (probes && (a || b)) H9 None ≡ None
-unprobed true a b e f = rw (e, f) refl
-unprobed false a b e f = refl
+unprobed probes a b e f = grind arith
 
 pub probe-flows : {w : ℕ} {X : Type 0} (p : Profile) {c : ℕ} (n : ℕ) (x : BeatB w) {asked : ℕ → Option (BeatA w)}
     {rest : Channel → List (Beat w)} {s : State X} {t : History w} → MonitorRelation asked rest c s t

@@ -86,8 +86,7 @@ let_then : {w : ℕ} (i : ℕ) (first : Bool) (r : Prune) (rest : List (Beat w))
 let_then i first r rest l e f = ap (is_release_pending i rest) e ∙ f
 
 pub with_true : (p q : Bool) → q ≡ true → (p && q) ≡ p
-with_true true q e = e
-with_true false q e = refl
+with_true p q e = grind arith
 
 let_other : {w : ℕ} (i : ℕ) (rest rest' : List (Beat w)) (l : ReleasePhase)
     → (is_unreleased l ≡ false → comes_in_release i rest' ≡ comes_in_release i rest)
@@ -110,8 +109,7 @@ unfolding release_of
 of_other {w} i y t e = go (begins (Beat.C y) t) (is_release y.opcode) (y.source == i) e
   where
     go : (p q r : Bool) → r ≡ false → (if p && (q && r) then Some y else release_of i t) ≡ release_of i t
-    go true true r f = rw f refl
-    go p q r f = refl
+    go p q r e = grind arith
 
 both_some : (n m : ℕ) (o : Option ℕ) → o ≡ Some n → o ≡ Some m → n ≡ m
 both_some n m None e f = absurd cc

@@ -1,5 +1,5 @@
 -- What is delivered on a link, as the beats of a ProbeAck are.
-use Rattle.std.proofs.Common.{◌≡◌, ℕ, Bool, true, false, not, ◌&&◌, ◌∷◌, Option, Some, None, refl, sym, ◌∙◌, ap, List}
+use Rattle.std.proofs.Common.{◌≡◌, ℕ, Bool, true, false, not, ◌&&◌, ◌∷◌, Option, Some, None, refl, sym, ◌∙◌, ap, List, arith}
 use Rattle.std.proofs.Common.{◌==◌, if◌then◌else◌, option_map}
 use Rattle.tl_coherence.proofs
 use proofs.Imports.{Beat, BeatA, BeatC, Channel, History, comes_in_release, begins, ends, block_at, is_probe_ack}
@@ -19,8 +19,7 @@ released-of {w} i y t e =
 
 pub let_rest : {w : ℕ} (i : ℕ) (rest rest' : List (Beat w)) (l : ReleasePhase)
     → comes_in_release i rest' ≡ comes_in_release i rest → is_release_pending i rest' l ≡ is_release_pending i rest l
-let_rest i rest rest' (ReleaseSent r) e = e
-let_rest i rest rest' l e = refl
+let_rest i rest rest' l e = grind arith
 
 pub let_by_rest : {w : ℕ} {X : Type 0} (c i : ℕ) (rest rest' : List (Beat w)) (o : Option ℕ) (s : State X)
     → comes_in_release i rest' ≡ comes_in_release i rest → is_let_by c i rest' o s ≡ is_let_by c i rest o s
@@ -31,8 +30,7 @@ pub unopened : (first last r q p : Bool) → r ≡ false → step first last (r 
 unopened first last r q p e = rw e (step_quiet first last p)
 
 pub unclosed : (first q p : Bool) → step first false false q p ≡ p
-unclosed true q p = refl
-unclosed false q p = refl
+unclosed first q p = grind arith
 
 -- a beat that isn't the last: nothing but what of the ProbeAck was delivered changes
 pub flowed-report_part : {w : ℕ} {X : Type 0} {c : ℕ} (y : BeatC w) (first : Bool) {asked : ℕ → Option (BeatA w)}

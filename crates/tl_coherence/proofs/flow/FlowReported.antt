@@ -13,8 +13,7 @@ use proofs.flow.FlowStep.{flowed-next, held_by, acquired_by, let_of, granted_by,
 use proofs.queues.Tokens.{same_number, set-same, set-each, set-part}
 
 closed : (first ack here p : Bool) → ack ≡ true → here ≡ true → step first true false (ack && here) p ≡ false
-closed true ack here p e f = rw (e, f) refl
-closed false ack here p e f = rw (e, f) refl
+closed first ack here p e f = grind arith
 
 elsewhere : (first ack here p : Bool) → here ≡ false → step first true false (ack && here) p ≡ p
 elsewhere first ack here p e = grind arith
@@ -25,8 +24,7 @@ said ack let_go here q p e f = rw (e, f) refl
 
 pub unsaid : (ack let_go here : Bool) (q p : Perm) → here ≡ false
     → unwrap_or (if (ack || let_go) && here then Some q else None) p ≡ p
-unsaid false false here q p e = refl
-unsaid ack let_go here q p e = rw e refl
+unsaid ack let_go here q p e = grind arith
 
 -- the state in which nothing but the report is taken
 pub flowed-report : {w : ℕ} {X : Type 0} {c : ℕ} (n : ℕ) (r : Report) (toks : List Packet) (y : BeatC w) (first : Bool)

@@ -1,5 +1,5 @@
 -- A response that is delivered breaks no rule of order after what was delivered on its link.
-use Rattle.std.proofs.Common.{◌≡◌, subst, ℕ, zero, suc, Bool, true, false, not, ◌&&◌, List, [], ◌∷◌, Some, None, refl}
+use Rattle.std.proofs.Common.{◌≡◌, subst, ℕ, zero, suc, Bool, true, false, not, ◌&&◌, List, [], ◌∷◌, Some, None, refl, arith}
 use Rattle.std.proofs.Common.{sym, ◌∙◌, ap, eqb-true, ◌==◌, map}
 use Rattle.tl_coherence.proofs
 use proofs.Imports.{and_from, same_Some, Beat, BeatA, Channel, OpB, OpC, IsWidth, Message, MessageA, MessageC, MessageD}
@@ -149,12 +149,10 @@ not-coming_c {w} {config} {mail} {s} {sys} c n h let_ acked = go (s.link c).c re
     rest_now = unfinished Channel.C (on_link c sys.manager.trace)
 
     apart : (x : ReleasePhase) → is_acked x ≡ true → is_releasing x ≡ true → ⊥
-    apart ReleaseAcked e f = cc
-    apart x e f = cc
+    apart x e f = grind arith
 
     open_release : (x : ReleasePhase) → is_releasing x ≡ true → not (is_unreleased x) ≡ true
-    open_release (ReleaseSent r) e = refl
-    open_release x e = absurd cc
+    open_release x e = grind arith
 
     differ : (i : ℕ) → is_releasing ((s.block i).pair c).letting ≡ true → (b : Bool)
         → ((s.block i).release_source c == source) ≡ b → b ≡ false

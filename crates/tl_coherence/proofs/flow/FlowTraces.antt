@@ -1,5 +1,5 @@
 -- What is delivered, on all links at once, has no first fault.
-use Rattle.std.proofs.Common.{◌≡◌, ℕ, Bool, true, false, ◌&&◌, List, [], ◌∷◌, ◌++◌, refl, sym, ◌∙◌, ap, subst, Option}
+use Rattle.std.proofs.Common.{◌≡◌, ℕ, Bool, true, false, ◌&&◌, List, [], ◌∷◌, ◌++◌, refl, sym, ◌∙◌, ap, subst, Option, arith}
 use Rattle.std.proofs.Common.{Some, None, append_assoc, append-nil, ◌==◌, if◌then◌else◌, is_none, reverse, slice_get}
 use Rattle.tl_coherence.proofs
 use proofs.Imports.{eqb-false, reverse-append, ⊤, Beat, Link, Channel, History, ClientConfig, Config, Level, Profile}
@@ -63,8 +63,7 @@ levelled {w} config log link ch o given moving =
     }
 
 unbroken : (o : Option Rule) (b : Bool) → (is_none o && b) ≡ true → o ≡ None
-unbroken None b e = refl
-unbroken (Some rule) b e = absurd cc
+unbroken o b e = grind arith
 
 pub delivered-unbroken : {w : ℕ} (config : Config) (log : Log w) (link : Link) (ch : Channel) (o : Outcome w)
     (x : Beat w) → IsGiven config ((Deliver link ch, o) ∷ log)

@@ -1,5 +1,5 @@
 -- Each beat of a GrantData has bytes of the one memory.
-use Rattle.std.proofs.Common.{◌≡◌, ℕ, Bool, true, false, List, ◌∷◌, refl, sym, ◌∙◌, ap, subst, length}
+use Rattle.std.proofs.Common.{◌≡◌, ℕ, Bool, true, false, List, ◌∷◌, refl, sym, ◌∙◌, ap, subst, length, arith}
 use Rattle.tl_coherence.proofs
 use proofs.Imports.{Beat, BeatD, Channel, OpD, lanes_at, History, channel_of, unfinished, Config, IsBlock, grants}
 use proofs.Imports.{grant_opcode, flow, trace_of, IsGiven, Log, system_after, one_memory_after}
@@ -9,8 +9,7 @@ use proofs.flow.{FlowTaken.each-taken, FlowTraces.trace-flows, Flows.flowed, Nex
 use proofs.links.{FromInvariant.matched-given}
 
 with_data_only : (x : Bool) → grant_opcode x ≡ OpD.GrantData → x ≡ true
-with_data_only true e = refl
-with_data_only false e = absurd cc
+with_data_only x e = grind arith
 
 pub true-next : {w : ℕ} (config : Config) (log : Log w) → IsGiven config log → (c : ℕ) (y : BeatD w)
     (queue : List (Beat w)) → (system_after config log).channels c Channel.D ≡ Beat.D y ∷ queue

@@ -1,5 +1,5 @@
 -- Each access is answered after a moment, since it was asked whole, at which nobody held what excludes it.
-use Rattle.std.proofs.Common.{◌≡◌, ℕ, Bool, true, false, List, [], ◌∷◌, Option, Some, None, refl, sym, ◌∙◌, ap, subst}
+use Rattle.std.proofs.Common.{◌≡◌, ℕ, Bool, true, false, List, [], ◌∷◌, Option, Some, None, refl, sym, ◌∙◌, ap, subst, arith}
 use Rattle.std.proofs.Common.{inl, inr, ◌++◌, is_some}
 use Rattle.tl_coherence.proofs
 use proofs.Imports.{or_right, Beat, BeatA, BeatD, Link, Channel, OpA, IsWidth, Message, MessageA, a_beat_of, History}
@@ -172,8 +172,7 @@ windowed {w} config (x ∷ log) width typed is = windowed-event (shadow config l
 -- ---- an answer that begins
 
 pub grants_no_access : (d : Bool) → is_access_answer (grant_opcode d) ≡ false
-grants_no_access true = refl
-grants_no_access false = refl
+grants_no_access d = grind arith
 
 answered-next : {w : ℕ} {config : Config} {log : Log w} → IsGiven config log → (c : ℕ) (y : BeatD w)
     (queue : List (Beat w)) → (system_after config log).channels c Channel.D ≡ Beat.D y ∷ queue

@@ -97,8 +97,7 @@ flow_moved {w} link ch o x log d is =
 pub taken_at : {w : ℕ} (link : Link) (ch : Channel) (x : Beat w) (v : Verdict) (d : ℕ)
     → is_moving (outcome_of x v) ≡ true
     → taken_on d (Deliver link ch) (outcome_of x v) ≡ (if link.0 == d then x ∷ [] else [])
-taken_at link ch x Verdict.Stalled d e = absurd cc
-taken_at link ch x v d e = refl
+taken_at link ch x v d e = grind arith
 
 pub flow_still : {w : ℕ} (event : Event w) (o : Outcome w) (log : Log w) (d : ℕ) → is_moving o ≡ false
     → flow d ((event, o) ∷ log) ≡ flow d log

@@ -1,5 +1,5 @@
 -- At a Grant the client holds what it is granted.
-use Rattle.std.proofs.Common.{◌≡◌, ℕ, Bool, true, false, List, ◌∷◌, Option, Some, None, refl, sym, ◌∙◌, ap, option_map}
+use Rattle.std.proofs.Common.{◌≡◌, ℕ, Bool, true, false, List, ◌∷◌, Option, Some, None, refl, sym, ◌∙◌, ap, option_map, arith}
 use Rattle.tl_coherence.proofs
 use proofs.Imports.{Beat, BeatD, Link, Channel, OpD, IsWidth, Message, MessageD, d_beat_of, unfinished, Config, Cap}
 use proofs.Imports.{Perm, cap_code, cap_right, payload_of, held, request_of, Op, Finish, op_block, Endpoint}
@@ -28,8 +28,7 @@ granted-finish w false k size address payload = ap Finish.Granted (cap-gives k)
 
 answer_grants : (w : ℕ) (o : OpD) (param size address : ℕ) (payload : List ℕ) (p : Perm) → is_access_answer o ≡ true
     → Finish.Granted p ≡ finish_of w o param size address payload → ⊥
-answer_grants w OpD.AccessAck param size address payload p e f = absurd cc
-answer_grants w o param size address payload p e f = absurd cc
+answer_grants w o param size address payload p e f = grind arith
 
 ack_grants : (p : Perm) → Finish.Granted p ≡ Finish.Released → ⊥
 ack_grants p e = absurd cc
@@ -57,8 +56,7 @@ same_grant p q e = cc
 -- ---- the operation that it answers
 
 acquired_block : (w : ℕ) (x : AcquirePhase) (n : ℕ) (bytes : List ℕ) → op_block (op_of {w = w} x n bytes) ≡ n
-acquired_block w (AcquireOpen true g) n bytes = refl
-acquired_block w x n bytes = refl
+acquired_block w x n bytes = grind arith
 
 pub opened-acquire : {w : ℕ} (config : Config) (log : Log w) (h : AbstractState w) (sys : System w) (c source n : ℕ)
     (u : SourceState) → SimulationRelation config log h.mail h.request h.state sys → h.state.uses c source ≡ u

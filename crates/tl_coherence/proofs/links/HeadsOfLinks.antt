@@ -1,6 +1,6 @@
 -- The first beat of each channel of a client's link: it is one of the channel, no rule refuses it, and
 -- on channel B it is a Probe.
-use Rattle.std.proofs.Common.{◌≡◌, ℕ, Bool, true, false, List, ◌∷◌, Option, Some, refl, sym, ◌∙◌, ap, subst, map}
+use Rattle.std.proofs.Common.{◌≡◌, ℕ, Bool, true, false, List, ◌∷◌, Option, Some, refl, sym, ◌∙◌, ap, subst, map, arith}
 use Rattle.std.proofs.Common.{Result, Ok, Err}
 use Rattle.tl_coherence.proofs
 use proofs.Imports.{Beat, BeatB, Channel, IsWidth, Message, beat_of, channel_of, unfinished, Config, Cap, Rule}
@@ -85,8 +85,7 @@ same_b x y e = cc
 -- ---- no rule refuses it
 
 unrefused_up : {w : ℕ} (a : Result (Verdict × Option (Message w)) Rule) → is_refused a ≡ false → IsTakenUp a
-unrefused_up (Ok v) e = tt
-unrefused_up (Err rule) e = absurd cc
+unrefused_up a e = grind arith
 
 taken_in : {w : ℕ} (a b : manager.Reception w × manager_end.End w) → a ≡ b → IsTakenIn b → IsTakenIn a
 taken_in a b e is = subst IsTakenIn (sym e) is

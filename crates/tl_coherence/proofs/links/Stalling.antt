@@ -199,8 +199,7 @@ module _ {w : ℕ} {config : Config} {log : Log w} {mail : AccessMessages w} {re
   }
     where
       not_not : (b : Bool) → b ≡ not (not b)
-      not_not true = refl
-      not_not false = refl
+      not_not b = grind arith
 
       stall : (beats : List (Beat w)) → (system_after config log).channels c ch ≡ beats
           → is_stall (outcome_of_delivery config log c ch) ≡ not (is_empty ((system_after config log).channels c ch))

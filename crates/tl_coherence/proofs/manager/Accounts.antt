@@ -1,6 +1,6 @@
 -- What the manager knows follows from five things: what it recorded, which ProbeAcks it misses, which service each
 -- block has, and which request that is. This is for all of its events alike.
-use Rattle.std.proofs.Common.{◌≡◌, ℕ, Bool, true, false, not, ◌&&◌, ◌||◌, Option, Some, None, refl, sym, ◌∙◌, ap}
+use Rattle.std.proofs.Common.{◌≡◌, ℕ, Bool, true, false, not, ◌&&◌, ◌||◌, Option, Some, None, refl, sym, ◌∙◌, ap, arith}
 use Rattle.std.proofs.Common.{eqb-true, ◌==◌, if◌then◌else◌}
 use Rattle.tl_coherence.proofs
 use proofs.Imports.{same_Some, Channel, MessageA, unfinished, Config, Cap, Trace, on_link, comes_in_request, probe_of}
@@ -74,12 +74,10 @@ served-waits {X} {s} c source (InService n) inv f e =
 served-waits {X} {s} c source (Acquires n) inv f e = go (s.block n).service refl e
   where
     only : (b : Bool) (k : Cap) → is_own (if b then Own else Other k) ≡ true → b ≡ true
-    only true k g = refl
-    only false k g = absurd cc
+    only b k e = grind arith
 
     no_grant : (b : Bool) (u v : View) → is_own u ≡ false → is_own v ≡ false → is_own (if b then u else v) ≡ false
-    no_grant true u v g h = g
-    no_grant false u v g h = h
+    no_grant b u v e f = grind arith
 
     named : (source == (s.block n).source c) ≡ true
     named = and_right (is_wanting ((s.block n).pair c).acquiring) (source == (s.block n).source c)
@@ -184,8 +182,7 @@ to-granted c (GrantTaken q) e f = let same : q ≡ c = same_Some q c f in rw (sa
 to-granted c service e f = absurd cc
 
 busy-granted : (service : Service) → is_granted_in service ≡ true → is_busy service ≡ true
-busy-granted Free e = absurd cc
-busy-granted service e = refl
+busy-granted service e = grind arith
 
 sinks-traced : {w : ℕ} {X : Type 0} {caching : ℕ → Bool} {config : Config} {request : ℕ → MessageA w} {s : State X}
     {e : End w} → IsInvariant caching s → IsKept config e → IsTraced request s e.trace

@@ -102,8 +102,7 @@ order-access {config} {sys} c source m (suc i) is used source_is access burst =
     later-legal config.profile (Message.A m) i (on_link c sys.manager.trace) burst
 
 none_grows : (g : Grow) → grows_from (grow_code g) Perm.None ≡ true
-none_grows Grow.NtoB = refl
-none_grows g = refl
+none_grows g = grind arith
 
 -- what may grow from what is held may grow from what is recorded, where they agree
 pub grows : (whole : Bool) (p q : Perm) (g : Grow) → grow_fits q (AcquireOpen whole g) ≡ true → same_perm p q ≡ true
@@ -117,12 +116,10 @@ grows false Perm.Trunk Perm.Trunk Grow.BtoT e f = absurd cc
 grows whole p q g e f = absurd cc
 
 kept-is : (x : ReleasePhase) → is_unreleased x ≡ true → is_releasing x ≡ false
-kept-is NoRelease e = refl
-kept-is x e = absurd cc
+kept-is x e = grind arith
 
 pub first_three : (x y z more : Bool) → (x && (y && (z && more))) ≡ true → ((x && y) && z) ≡ true
-first_three true true true more e = refl
-first_three x y z more e = absurd cc
+first_three x y z more e = grind arith
 
 -- a beat of an Acquire that is wanted, whose block isn't in service
 pub order-acquire : {w : ℕ} {config : Config} {log : Log w} {mail : AccessMessages w} {request : ℕ → MessageA w}

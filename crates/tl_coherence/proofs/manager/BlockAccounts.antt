@@ -142,8 +142,7 @@ acquiring-is c n tracker m t (Waits r own source k) for granted =
     rw (granted (at_service r tracker m) refl, for.0, swapped r c) (go own (c == r))
   where
     go : (b same : Bool) → (b && (same && true)) ≡ is_own (if b && same then Own else Other k)
-    go true true = refl
-    go b same = refl
+    go b same = grind arith
 acquiring-is c n tracker m t (GrantSent q d k) for granted =
     let go : (same : Bool) → (true && (same && false)) ≡ is_own (if same then Granting d k else GrantedOther) =
     elim [ true ↦ refl | false ↦ refl ] in

@@ -50,8 +50,7 @@ some-clients [] e = absurd cc
 some-clients (d ∷ ds) e = (d, ds, refl)
 
 pub no-clients : (clients : List ℕ) → is_nobody clients ≡ true → clients ≡ []
-no-clients [] e = refl
-no-clients (d ∷ ds) e = absurd cc
+no-clients clients e = grind arith
 
 -- who isn't a client keeps no copies
 pub plain-past : (config : Config) (d : ℕ) → length config.clients.items ≤ d → is_caching config d ≡ false

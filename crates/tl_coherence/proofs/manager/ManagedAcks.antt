@@ -1,5 +1,5 @@
 -- What the manager knows after a GrantAck, which frees its block.
-use Rattle.std.proofs.Common.{◌≡◌, ℕ, Bool, true, false, not, ◌&&◌, List, ◌∷◌, Option, Some, None, refl, sym, ◌∙◌, ap}
+use Rattle.std.proofs.Common.{◌≡◌, ℕ, Bool, true, false, not, ◌&&◌, List, ◌∷◌, Option, Some, None, refl, sym, ◌∙◌, ap, arith}
 use Rattle.std.proofs.Common.{inl, inr, ne_eqb, ◌==◌, if◌then◌else◌}
 use Rattle.tl_coherence.proofs
 use proofs.Imports.{cases_eq, same_Some, Beat, BeatE, MessageA, a_beat_of, Key, Cap, held_unsaid, pending-quiet, Trace}
@@ -29,8 +29,7 @@ pub record IsAcked {w : ℕ} {X : Type 0} (c n : ℕ) (x : BeatE) (request : ℕ
 
 -- a block that is in service has a client
 client_busy : (s : Service) (r : ℕ) → client_in s ≡ Some r → is_busy s ≡ true
-client_busy Free r e = absurd cc
-client_busy s r e = refl
+client_busy s r e = grind arith
 
 -- ---- services
 
@@ -57,8 +56,7 @@ serving-acked {w} {c} {n} {x} {request} {s} {t} is known i =
         ≡ Some n = sym first ∙ ap s.tracked (same ∙ is.sink_is) ∙ second in other (same_Some i n both)))
 
     never : (a b : Bool) → (a && (b && false)) ≡ false
-    never true true = refl
-    never a b = refl
+    never a b = grind arith
 
     stays : (a : Bool) (v : manager.Service w) → a ≡ false → (if not a then Some v else None) ≡ Some v
     stays a v e = rw e refl

@@ -1,5 +1,5 @@
 -- All that is kept of the manager's end, after the last ProbeAck that a request waited for.
-use Rattle.std.proofs.Common.{◌≡◌, ℕ, Bool, true, false, not, List, [], ◌∷◌, length, refl, sym, ◌∙◌, ap, ap₂, subst}
+use Rattle.std.proofs.Common.{◌≡◌, ℕ, Bool, true, false, not, List, [], ◌∷◌, length, refl, sym, ◌∙◌, ap, ap₂, subst, arith}
 use Rattle.tl_coherence.proofs
 use proofs.Imports.{Beat, BeatC, Message, MessageA, MessageC, MessageD, c_beat_of, Config, Cap, Grow, Report, Perm}
 use proofs.Imports.{cap_code, grow_code, Trace, same_perm, effect, Memory, block_at, is_release_ack, is_grant, capped}
@@ -132,8 +132,7 @@ settling-records {w} {config} {c} {q} {n} {source} {k} {own} {low} {r} {m} {h} {
     ∙ ap (λ (b : Block (List ℕ)). (b.pair d).recorded) (set-same n (reported_block c r (h.state.block n)) h.state.block)
 
 has_copy-is : (p : Perm) → has_copy p ≡ not (same_perm p Perm.None)
-has_copy-is Perm.None = refl
-has_copy-is p = refl
+has_copy-is p = grind arith
 
 -- the Acquire that is granted is the one that client q has open
 pub record IsWanted {w : ℕ} (c q n source : ℕ) (whole : Bool) (g : Grow) (h : AbstractState w) : Type 0 where

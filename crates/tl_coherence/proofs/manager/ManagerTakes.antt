@@ -141,8 +141,7 @@ first_release used acquires releases fits = first_if used H1 (first_if (acquires
     ≡ None
 
 pruned : (r : Prune) (p : Perm) → same_perm (prune_left r) p ≡ true → prunes_from (prune_of (prune_code r)) p ≡ true
-pruned Prune.TtoB p e = e
-pruned r p e = e
+pruned r p e = grind arith
 
 -- a Release that is first has no ProbeAck of its block behind it
 pub unanswered : (caching : ℕ → Bool) (c n : ℕ) (rest : List Packet) (s : State (List ℕ)) → IsInvariant caching s

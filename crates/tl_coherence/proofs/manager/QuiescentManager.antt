@@ -1,6 +1,6 @@
 -- Beats and answers after which the manager's end says the same of all but what is recorded and which
 -- ProbeAcks are missing.
-use Rattle.std.proofs.Common.{◌≡◌, ℕ, Bool, true, false, not, ◌&&◌, ◌||◌, [], ◌∷◌, Some, None, refl, sym, ◌∙◌, ap}
+use Rattle.std.proofs.Common.{◌≡◌, ℕ, Bool, true, false, not, ◌&&◌, ◌||◌, [], ◌∷◌, Some, None, refl, sym, ◌∙◌, ap, arith}
 use Rattle.std.proofs.Common.{inl, inr, eqb-true, ne_eqb, ◌==◌, if◌then◌else◌, unwrap_or}
 use Rattle.tl_coherence.proofs
 use proofs.Imports.{cases_eq, Beat, BeatC, Link, Channel, IsWidth, beats-positive, D, MessageA, MessageD, unfinished}
@@ -56,8 +56,7 @@ recorded-last {w} {c} {n} {right} {x} {t} is d i =
     ]
 
 part_or : (p : Perm) (b : Bool) (q : Perm) → unwrap_or (if b && false then Some p else None) q ≡ q
-part_or p true q = refl
-part_or p false q = refl
+part_or p b q = grind arith
 
 -- a beat that isn't the last one
 pub recorded-part : {w : ℕ} (c : ℕ) (x : BeatC w) (t : Trace w) → ends (Beat.C x) (on_link c t) ≡ false → (d i : ℕ)
@@ -91,8 +90,7 @@ missing-last {c} {x} {t} is report d i = missing-c c x t d i ∙ elim (cases_eq 
 ]
 
 none_or : (a b p : Bool) → (if a && (b && false) then false else p) ≡ p
-none_or true true p = refl
-none_or a b p = refl
+none_or a b p = grind arith
 
 pub missing-release : {w : ℕ} (c : ℕ) (x : BeatC w) (t : Trace w) → is_probe_ack x.opcode ≡ false → (d i : ℕ)
     → pending (Key.ProbeOf i) (on_link d ((record { 0 = c }, Beat.C x) ∷ t)) ≡ pending (Key.ProbeOf i) (on_link d t)
@@ -100,8 +98,7 @@ missing-release {w} c x t kind d i = missing-c c x t d i
     ∙ rw kind (none_or (c == d) (ends (Beat.C x) (on_link d t)) (pending (Key.ProbeOf i) (on_link d t)))
 
 part_none : (a b : Bool) → (if a && false then false else b) ≡ b
-part_none true b = refl
-part_none false b = refl
+part_none a b = grind arith
 
 pub missing-part : {w : ℕ} (c : ℕ) (x : BeatC w) (t : Trace w) → ends (Beat.C x) (on_link c t) ≡ false → (d i : ℕ)
     → pending (Key.ProbeOf i) (on_link d ((record { 0 = c }, Beat.C x) ∷ t)) ≡ pending (Key.ProbeOf i) (on_link d t)

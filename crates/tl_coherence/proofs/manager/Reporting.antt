@@ -72,5 +72,4 @@ release-about r source n truth width long =
     (_, refl, about_data false OpC.ReleaseData (prune_code r) source n truth width refl refl refl long, refl)
 
 pub reported-prune : (r : Prune) → reported (prune_code r) ≡ prune_right r
-reported-prune Prune.TtoB = refl
-reported-prune r = refl
+reported-prune r = grind arith

@@ -1,5 +1,5 @@
 -- What the manager hands out at the last beat of a request: the messages of the tokens that the protocol pushes.
-use Rattle.std.proofs.Common.{◌≡◌, ℕ, suc, ◌*◌, Bool, true, false, not, ◌&&◌, List, [], ◌∷◌, refl, sym, ◌∙◌, ap, ap₂}
+use Rattle.std.proofs.Common.{◌≡◌, ℕ, suc, ◌*◌, Bool, true, false, not, ◌&&◌, List, [], ◌∷◌, refl, sym, ◌∙◌, ap, ap₂, arith}
 use Rattle.std.proofs.Common.{inl, inr, length, if◌then◌else◌}
 use Rattle.tl_coherence.proofs
 use proofs.Imports.{and-false, cases_eq, Beat, Message, MessageA, a_beat_of, beats_of, Config, Cap, Perm, cap_right}
@@ -61,8 +61,7 @@ memory-granted q d k {new} well granted given some =
 
 payload-same : (d : Bool) (f : Memory) (n : ℕ) (truth : List ℕ) → bytes_from f (64 * n) 64 ≡ truth
     → grant_payload d f n ≡ (if d then truth else handing.no_payload)
-payload-same true f n truth e = e
-payload-same false f n truth e = refl
+payload-same d f n truth e = grind arith
 
 grant-is : {w : ℕ} (v : manager.Service w) (q n source tracker : ℕ) (d : Bool) (k : Cap) (f : Memory) (truth : List ℕ)
     → v.request.source ≡ source → v.tracker ≡ tracker → block_at v.request.address ≡ n

@@ -1,5 +1,5 @@
 -- The values of a trace that all else follows from, as one block changes, and where nothing changes to the manager.
-use Rattle.std.proofs.Common.{◌≡◌, ℕ, Bool, not, Option, Some, sym, ◌∙◌, ap, ap₂, inl, inr}
+use Rattle.std.proofs.Common.{◌≡◌, ℕ, Bool, not, Option, Some, sym, ◌∙◌, ap, ap₂, inl, inr, arith}
 use Rattle.tl_coherence.proofs
 use proofs.Imports.{cases_eq, MessageA, a_beat_of, ProbeOf, Cap, Trace, on_link, pending, request_of, recorded}
 use proofs.Imports.{services, service_of_block, is_unprobed, ok, Service, Free, Waits, GrantSent, GrantTaken}
@@ -70,10 +70,7 @@ pub record IsSameToManager {X : Type 0} (s u : State X) : Type 0 where
   pub service_same : (n : ℕ) → SameService (s.block n).service (u.block n).service
 
 same_client : (service after : Service) → SameService service after → client_in after ≡ client_in service
-same_client (GrantSent q d k) (GrantTaken r) e = ap Some e
-same_client (GrantSent q d k) Free e = absurd cc
-same_client (GrantSent q d k) (Waits r own source j) e = absurd cc
-same_client service after e = ap client_in e
+same_client service after e = grind arith
 
 same_for : {w : ℕ} (service after : Service) (n : ℕ) (m : MessageA w) → SameService service after → IsFor service n m
     → IsFor after n m

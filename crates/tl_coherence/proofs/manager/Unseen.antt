@@ -1,5 +1,5 @@
 -- Events that the manager doesn't see: clients that are asked, and beats that clients take. What it knows stays so.
-use Rattle.std.proofs.Common.{◌≡◌, ℕ, Bool, true, false, List, ◌∷◌, refl, sym, ◌∙◌, ap, ap₂, inl, inr, eqb-true, ◌==◌}
+use Rattle.std.proofs.Common.{◌≡◌, ℕ, Bool, true, false, List, ◌∷◌, refl, sym, ◌∙◌, ap, ap₂, inl, inr, eqb-true, ◌==◌, arith}
 use Rattle.tl_coherence.proofs
 use proofs.Imports.{cases_eq, Message, MessageA, Config, Cap, Grow, block_at, Op, Reply, copy_stored, whole_grow}
 use proofs.Imports.{access, End, IsInvariant, Kind, Probe, Answer, Grant, ReleaseAck, Packet, set, set_at, ClientBlock}
@@ -16,8 +16,7 @@ use proofs.queues.Tokens.{set-same, set-other, set-part}
 -- ---- one block changes, and not to the manager
 
 same-again : (service : Service) → SameService service service
-same-again Free = refl
-same-again service = refl
+same-again service = grind arith
 
 -- the block is the same to the manager
 pub record IsSameBlock {X : Type 0} (b new : Block X) : Type 0 where

@@ -78,8 +78,7 @@ probed-some {w} {config} {s} {sys} c k n own j m is kind block =
     ) (and_comm (is_above j ((s.block n).pair d).recorded) (not (own && (d == c)))))
 
 copies_so : (p : Perm) → holders.has_copy p ≡ not (same_perm p Perm.None)
-copies_so Perm.None = refl
-copies_so p = refl
+copies_so p = grind arith
 
 -- nobody has a copy, as the manager's record says, where the protocol says so
 pub unheld-same : {w : ℕ} {config : Config} {log : Log w} {mail : AccessMessages w} {request : ℕ → MessageA w}

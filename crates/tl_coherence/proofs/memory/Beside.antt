@@ -1,5 +1,5 @@
 -- The one-memory machine beside the protocol, after events: what is open at each source, and the memory.
-use Rattle.std.proofs.Common.{◌≡◌, ℕ, Bool, true, false, ◌&&◌, List, [], ◌∷◌, Option, Some, None, refl, sym, ◌∙◌, subst}
+use Rattle.std.proofs.Common.{◌≡◌, ℕ, Bool, true, false, ◌&&◌, List, [], ◌∷◌, Option, Some, None, refl, sym, ◌∙◌, subst, arith}
 use Rattle.std.proofs.Common.{◌⊎◌, inl, inr, ne_eqb, ◌==◌, if◌then◌else◌}
 use Rattle.tl_coherence.proofs
 use proofs.Imports.{cases_eq, ⊤, Message, IsBlock, effect, Op, set_at, State, SourceState, SourceFree, Asked, InService}
@@ -32,8 +32,7 @@ set_at-there {c} {source} x f {d} {i} else_ = elim (cases_eq d c) [
 
 pub open-here : {w : ℕ} (c : ℕ) (pool : Pool) (source : ℕ) (o : Option (Open w)) (m : Machine w)
     → (with_open c pool source o m).opened c pool source ≡ o
-open-here c Requests source o m = rw (same_number c, same_number source) refl
-open-here c Releases source o m = rw (same_number c, same_number source) refl
+open-here c pool source o m = grind arith
 
 pub open-there : {w : ℕ} (c : ℕ) (pool : Pool) (source : ℕ) (o : Option (Open w)) (m : Machine w) (d i : ℕ)
     → IsElsewhere c source d i → (with_open c pool source o m).opened d pool i ≡ m.opened d pool i
@@ -46,8 +45,7 @@ open-there {w} c pool source o m d i else_ = elim (cases_eq d c) [
 ]
   where
     none : (a b : Bool) (x : Option (Open w)) → (if a && (b && false) then o else x) ≡ x
-    none true true x = refl
-    none a b x = refl
+    none a b x = grind arith
 
 pub open-releases : {w : ℕ} (c source : ℕ) (o : Option (Open w)) (m : Machine w) (d i : ℕ)
     → (with_open c Requests source o m).opened d Releases i ≡ m.opened d Releases i
@@ -107,8 +105,7 @@ same_acquire c s s' (Acquires n) e = e n
 same_acquire c s s' u e = tt
 
 same_answer : {w : ℕ} (u : SourceState) (x : Message w) → IsSameAnswer u x x
-same_answer Replied x = refl
-same_answer u x = tt
+same_answer u x = grind arith
 
 moved_opened : {w : ℕ} (c source : ℕ) (mail : AccessMessages w) (s : State (List ℕ)) (u v : SourceState)
     (o p : Option (Open w)) → v ≡ u → p ≡ o → IsOpened c source mail s u o → IsOpened c source mail s v p
@@ -143,8 +140,7 @@ pub record IsUsed {w : ℕ} (c source : ℕ) (u : SourceState) (mail mail' : Acc
   pub acquires : (d i : ℕ) → IsElsewhere c source d i → IsSameAcquire d s s' (s.uses d i)
 
 answer_as : {w : ℕ} (u : SourceState) (x y : Message w) → y ≡ x → IsSameAnswer u x y
-answer_as Replied x y e = e
-answer_as u x y e = tt
+answer_as u x y e = grind arith
 
 pub beside-used : {w : ℕ} {c source : ℕ} {u : SourceState} {mail mail' : AccessMessages w} {s s' : State (List ℕ)}
     {m m' : Machine w} → IsUsed c source u mail mail' s s' m m' → MemoryRelation mail s m → MemoryRelation mail' s' m'

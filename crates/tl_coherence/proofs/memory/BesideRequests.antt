@@ -1,6 +1,6 @@
 -- The one-memory machine beside the protocol after a beat of a request is taken: an access that is
 -- answered is performed.
-use Rattle.std.proofs.Common.{◌≡◌, subst, ℕ, suc, Bool, true, false, not, List, [], ◌∷◌, Option, Some, None, length}
+use Rattle.std.proofs.Common.{◌≡◌, subst, ℕ, suc, Bool, true, false, not, List, [], ◌∷◌, Option, Some, None, length, arith}
 use Rattle.std.proofs.Common.{refl, sym, ◌∙◌, ap, ◌⊎◌, inl, inr, if◌then◌else◌}
 use Rattle.tl_coherence.proofs
 use proofs.Imports.{Beat, Message, MessageA, a_beat_of, beats_of, Config, Cap, Trace, Memory, effect, answer_of}
@@ -31,8 +31,7 @@ accesses-probes w n j (d ∷ clients) = accesses-probes w n j clients
 pub accesses-answer : {w : ℕ} (c : ℕ) (m : MessageA w) (r : Answer)
     → accesses_answered ((link_of c, access_answer m r) ∷ []) ≡ (c, m.source) ∷ []
 unfolding accesses_answered
-accesses-answer c m Answer.Ack = refl
-accesses-answer c m r = refl
+accesses-answer c m r = grind arith
 
 accesses-grant : {w : ℕ} (config : Config) (c : ℕ) (v : Service w) (t : Trace w) (memory : Memory)
     → accesses_answered ((link_of c, grant config v t memory) ∷ []) ≡ []

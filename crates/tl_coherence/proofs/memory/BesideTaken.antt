@@ -62,8 +62,7 @@ memory-reported c q source r k {b} well waits answered settled =
 
     quiet_low : (x : ProbePhase) → is_unprobed x ≡ true
         → (not (same_perm (report_left (report_told x)) Perm.Trunk) && not (is_sent x)) ≡ true
-    quiet_low NoProbe e = refl
-    quiet_low x e = absurd cc
+    quiet_low x e = grind arith
 
     low : (d : ℕ) → same_perm (report_left r) Perm.Trunk ≡ false → same_perm (b.pair d).recorded Perm.Trunk ≡ false
     low d e = not-true (same_perm (b.pair d).recorded Perm.Trunk)

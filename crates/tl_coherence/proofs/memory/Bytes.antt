@@ -1,5 +1,5 @@
 -- The one memory has bytes, and so have the operations that are open and their answers.
-use Rattle.std.proofs.Common.{◌≡◌, ℕ, zero, suc, ◌+◌, ◌-◌, ◌/◌, ◌%◌, ◌^◌, ◌<◌, Bool, true, false, List, [], ◌∷◌, Option}
+use Rattle.std.proofs.Common.{◌≡◌, ℕ, zero, suc, ◌+◌, ◌-◌, ◌/◌, ◌%◌, ◌^◌, ◌<◌, Bool, true, false, List, [], ◌∷◌, Option, arith}
 use Rattle.std.proofs.Common.{Some, None, length, refl, inl, inr, lit<, ◌&&◌, ◌==◌, if◌then◌else◌, slice_get}
 use Rattle.std.proofs.Common.{slice_index, unwrap_or}
 use Rattle.tl_coherence.proofs
@@ -27,8 +27,7 @@ byte-at bytes i are = elim (cases_lt i (length bytes)) [
 ]
 
 either : (b : Bool) (x y : ℕ) → x < 2 ^ 8 → y < 2 ^ 8 → (if b then x else y) < 2 ^ 8
-either true x y h k = h
-either false x y h k = k
+either b x y e f = grind arith
 
 of-number : (n i : ℕ) → byte_of n i < 2 ^ 8
 of-number n i = mod_below (n / 256 ^ i) (2 ^ 8) (lit< tt)

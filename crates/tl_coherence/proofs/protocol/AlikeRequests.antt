@@ -1,5 +1,5 @@
 -- What is shown of a block stays where a client is asked, and where a request is taken.
-use Rattle.std.proofs.Common.{◌≡◌, ℕ, Bool, true, false, ◌&&◌, List, refl, sym, ◌∙◌, ap, ◌⊎◌, inl, inr, ◌==◌}
+use Rattle.std.proofs.Common.{◌≡◌, ℕ, Bool, true, false, ◌&&◌, List, refl, sym, ◌∙◌, ap, ◌⊎◌, inl, inr, ◌==◌, arith}
 use Rattle.std.proofs.Common.{if◌then◌else◌}
 use Rattle.tl_coherence.proofs
 use proofs.Imports.{cases_eq, Cap, Grow, Prune, IsWell, Kind, Acquire, Probe, ProbeAck, Release, Grant, ReleaseAck}
@@ -180,12 +180,10 @@ alike-granted_at_once r tracker d k b free =
     (λ j i e f. inr refl)
 
 unsent : (x : ProbePhase) → is_unprobed x ≡ true → is_sent x ≡ true → ⊥
-unsent NoProbe e f = cc
-unsent x e f = cc
+unsent x e f = grind arith
 
 unanswered : (x : ProbePhase) → is_unprobed x ≡ true → is_answered x ≡ true → ⊥
-unanswered NoProbe e f = cc
-unanswered x e f = cc
+unanswered x e f = grind arith
 
 pub alike-served : {caching : ℕ → Bool} (r : ℕ) (own : Bool) (source tracker : ℕ) (k : Cap) {b : Block (List ℕ)}
     → IsWell caching b → b.service ≡ Free → (i : ℕ) → AreAlike i b (served_block r own source tracker k b)

@@ -83,8 +83,7 @@ same_channels Channel.E Channel.E = inl refl
 same_channels a b = inr (λ e. absurd cc)
 
 own_kind : (k : Kind) → is_on (channel_for k) k ≡ true
-own_kind Request = refl
-own_kind k = refl
+own_kind k = grind arith
 
 module _ {w : ℕ} {caching : ℕ → Bool} {n : ℕ} {moves : ℕ → Channel → Move} {mail mail' : AccessMessages w}
     {s s' : State (List ℕ)} (showing : IsShowing caching n moves mail mail' s s') where

@@ -1,5 +1,5 @@
 -- What a test says of a part of the protocol's state: of a use, a wish, a Probe, a Release, a view.
-use Rattle.std.proofs.Common.{◌≡◌, ℕ, Bool, true, false, not, Option, Some, None, refl, ◌&&◌, eqb-true, ◌==◌}
+use Rattle.std.proofs.Common.{◌≡◌, ℕ, Bool, true, false, not, Option, Some, None, refl, ◌&&◌, eqb-true, ◌==◌, arith}
 use Rattle.std.proofs.Common.{if◌then◌else◌, ap, sym, ◌∙◌}
 use Rattle.tl_coherence.proofs
 use proofs.Imports.{Cap, Grow, is_asked, is_replied, is_of, acquires_of, serves_of, Kind, Request, Own, Other, Granting}
@@ -15,24 +15,19 @@ use proofs.queues.{Tokens.if-part, Facts.is_other}
 
 -- a number that is of a block
 pub is_of-is : (n : ℕ) (o : Option ℕ) → is_of n o ≡ true → o ≡ Some n
-is_of-is n None e = absurd cc
-is_of-is n (Some m) e = rw (eqb-true n m e) refl
+is_of-is n o e = grind arith
 
 pub acquires_of-is : (n : ℕ) (u : SourceState) → acquires_of n u ≡ true → u ≡ Acquires n
-acquires_of-is n (Acquires m) e = rw (eqb-true n m e) refl
-acquires_of-is n u e = absurd cc
+acquires_of-is n u e = grind arith
 
 pub serves_of-is : (n : ℕ) (u : SourceState) → serves_of n u ≡ true → u ≡ InService n
-serves_of-is n (InService m) e = rw (eqb-true n m e) refl
-serves_of-is n u e = absurd cc
+serves_of-is n u e = grind arith
 
 pub is_asked-is : (u : SourceState) → is_asked u ≡ true → u ≡ Asked
-is_asked-is Asked e = refl
-is_asked-is u e = absurd cc
+is_asked-is u e = grind arith
 
 pub is_replied-is : (u : SourceState) → is_replied u ≡ true → u ≡ Replied
-is_replied-is Replied e = refl
-is_replied-is u e = absurd cc
+is_replied-is u e = grind arith
 
 -- ---- what is wanted
 
@@ -41,64 +36,50 @@ wanting-is NoAcquire e = absurd cc
 wanting-is (AcquireOpen whole g) e = (whole, g, refl)
 
 pub not-calm : (x : AcquirePhase) → not (is_unacquired x) ≡ true → is_wanting x ≡ true
-not-calm NoAcquire e = absurd cc
-not-calm (AcquireOpen whole g) e = refl
+not-calm x e = grind arith
 
 pub calm-is : (a : AcquirePhase) → is_wanting a ≡ false → a ≡ NoAcquire
-calm-is NoAcquire e = refl
-calm-is (AcquireOpen whole g) e = absurd cc
+calm-is a e = grind arith
 
 -- ---- Probes
 
 pub quiet-is : (x : ProbePhase) → is_unprobed x ≡ true → x ≡ NoProbe
-quiet-is NoProbe e = refl
-quiet-is x e = absurd cc
+quiet-is x e = grind arith
 
 pub sent-is : (x : ProbePhase) → is_sent x ≡ true → x ≡ ProbeSent (cap_sent x)
-sent-is (ProbeSent k) e = refl
-sent-is x e = absurd cc
+sent-is x e = grind arith
 
 pub answered-is : (x : ProbePhase) → is_answered x ≡ true → x ≡ ProbeAnswered (report_told x)
-answered-is (ProbeAnswered r) e = refl
-answered-is x e = absurd cc
+answered-is x e = grind arith
 
 pub not-sent : (x : ProbePhase) → is_sent x ≡ true → is_unprobed x ≡ false
-not-sent (ProbeSent k) e = refl
-not-sent x e = absurd cc
+not-sent x e = grind arith
 
 pub not-answered : (x : ProbePhase) → is_answered x ≡ true → is_unprobed x ≡ false
-not-answered (ProbeAnswered r) e = refl
-not-answered x e = absurd cc
+not-answered x e = grind arith
 
 pub quiet_unanswered : (x : ProbePhase) → is_unprobed x ≡ true → is_answered x ≡ false
-quiet_unanswered (ProbeAnswered r) e = absurd cc
-quiet_unanswered x e = refl
+quiet_unanswered x e = grind arith
 
 -- ---- Releases
 
 pub kept-is : (x : ReleasePhase) → is_unreleased x ≡ true → x ≡ NoRelease
-kept-is NoRelease e = refl
-kept-is x e = absurd cc
+kept-is x e = grind arith
 
 pub kept-letting : (l : ReleasePhase) → not (is_unreleased l) ≡ false → l ≡ NoRelease
-kept-letting NoRelease e = refl
-kept-letting l e = absurd cc
+kept-letting l e = grind arith
 
 pub releasing-is : (x : ReleasePhase) → is_releasing x ≡ true → x ≡ ReleaseSent (prune_told x)
-releasing-is (ReleaseSent r) e = refl
-releasing-is x e = absurd cc
+releasing-is x e = grind arith
 
 pub acked-is : (x : ReleasePhase) → is_acked x ≡ true → x ≡ ReleaseAcked
-acked-is ReleaseAcked e = refl
-acked-is x e = absurd cc
+acked-is x e = grind arith
 
 pub releasing-open : (x : ReleasePhase) → is_releasing x ≡ true → is_unreleased x ≡ false
-releasing-open (ReleaseSent r) e = refl
-releasing-open x e = absurd cc
+releasing-open x e = grind arith
 
 pub acked-open : (x : ReleasePhase) → is_acked x ≡ true → is_unreleased x ≡ false
-acked-open ReleaseAcked e = refl
-acked-open x e = absurd cc
+acked-open x e = grind arith
 
 -- ---- services and views
 
@@ -118,8 +99,7 @@ taken_ungranted q i = if-part is_granting (i == q) refl refl
 
 -- a client shows beside another's Grant what it shows of a free block
 pub shows-beside : (k : Kind) (p : ClientBlock) → shows k p GrantedOther ≡ shows k p Idle
-shows-beside Request p = refl
-shows-beside k p = refl
+shows-beside k p = grind arith
 
 -- who sees another's service sees the cap that it probes with
 pub cap-waited : (k : Cap) (s : Service) (c : ℕ) → view s c ≡ Other k → cap_waited s ≡ k
@@ -144,13 +124,10 @@ acknowledging-is (GrantTaken q) c e =
     let same : c ≡ q = eqb-true c q (own (c == q) e) in rw same refl
 
 pub granting-own : (b d : Bool) (k : Cap) → is_granting (if b then Granting d k else GrantedOther) ≡ true → b ≡ true
-granting-own true d k e = refl
-granting-own false d k e = absurd cc
+granting-own b d k e = grind arith
 
 pub taken-unseen : (y : Bool) → is_other (if y then Acknowledging else GrantedOther) ≡ true → ⊥
-taken-unseen true g = cc
-taken-unseen false g = cc
+taken-unseen y e = grind arith
 
 pub granted-unseen : (y d : Bool) (k : Cap) → is_other (if y then Granting d k else GrantedOther) ≡ true → ⊥
-granted-unseen true d k g = cc
-granted-unseen false d k g = cc
+granted-unseen y d k e = grind arith

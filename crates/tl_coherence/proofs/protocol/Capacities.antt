@@ -161,16 +161,13 @@ module _ {X : Type 0} (caching : ℕ → Bool) (s : State X) (c sources trackers
   only_kind ch x there = kind_there c ch x inv there
 
   probe_alone : (k : Kind) → is_on Channel.B k ≡ true → k ≡ Probe
-  probe_alone Probe e = refl
-  probe_alone _ e = absurd cc
+  probe_alone k e = grind arith
 
   ack_alone : (k : Kind) → is_on Channel.E k ≡ true → k ≡ GrantAck
-  ack_alone GrantAck e = refl
-  ack_alone _ e = absurd cc
+  ack_alone k e = grind arith
 
   report_or_release : (k : Kind) → is_on Channel.C k ≡ true → not (same_kind k Release) ≡ true → k ≡ ProbeAck
-  report_or_release ProbeAck e f = refl
-  report_or_release _ e f = absurd cc
+  report_or_release k e f = grind arith
 
   pub few_on_b : length (s.link c).b ≤ trackers
   few_on_b =

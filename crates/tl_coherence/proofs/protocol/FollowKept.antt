@@ -180,8 +180,7 @@ begins_fit : (g : Grow) (p : Perm) → same_perm (grow_left g) p ≡ true → gr
 begins_fit g p e = grind arith
 
 whole_fits : (p : Perm) → same_perm Perm.Trunk p ≡ false → grow_fits p (AcquireOpen true (whole_grow p)) ≡ true
-whole_fits Perm.Trunk e = absurd cc
-whole_fits p e = refl
+whole_fits p e = grind arith
 
 pub asked-kept : {w : ℕ} {caching : ℕ → Bool} (c : ℕ) (o : Op w) (r : Reply) (h : AbstractState w)
     → IsInvariant caching h.state → IsAskable caching c o r h → IsInvariant caching (asked c o r h).state

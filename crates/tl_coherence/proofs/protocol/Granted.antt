@@ -36,14 +36,12 @@ pub both_trunk : (p q : Perm) → same_perm p q ≡ true → same_perm p Perm.Tr
 both_trunk p q e f = grind arith
 
 pub none_or_trunk : (p : Perm) → same_perm p Perm.None ≡ true → same_perm p Perm.Trunk ≡ true → ⊥
-none_or_trunk Perm.None e f = absurd cc
-none_or_trunk p e f = absurd cc
+none_or_trunk p e f = grind arith
 
 -- a Grant that fits gives Trunk or Branch
 pub gives : (whole : Bool) (g : Grow) (k : Cap) → cap_fits whole g k ≡ true → (same_cap k Cap.ToT ≡ true)
     ⊎ (same_perm (cap_right k) Perm.Trunk ≡ false)
-gives whole g Cap.ToT e = inl refl
-gives whole g k e = inr refl
+gives whole g k e = grind arith
 
 -- ---- the block
 
@@ -198,8 +196,7 @@ low_none k Perm.None e f = refl
 low_none k p e f = absurd (let g : perm_le p (cap_right Cap.ToN) ≡ true = rw e at f in cc)
 
 is_none : (k : Cap) → same_cap k Cap.ToN ≡ true → k ≡ Cap.ToN
-is_none Cap.ToN e = refl
-is_none k e = absurd cc
+is_none k e = grind arith
 
 asks_none : (k : Cap) (whole : Bool) (g : Grow) → grows_to_trunk g ≡ true
     → same_cap k (cap_asked (AcquireOpen whole g)) ≡ true → k ≡ Cap.ToN

@@ -98,24 +98,20 @@ report_grants-kept {X} {caching} {c} {q} n {r} {whole} {g} {gift} {source} {k} r
     apart_too e = apart (sym e)
 
     bare : (b : Bool) → spares (if b then Pushes Grant n else Stays) Answer ≡ true
-    bare true = refl
-    bare false = refl
+    bare b = grind arith
 
     never : (b : Bool) (m : ℕ) → (if b then Pops ProbeAck n else Stays) ≡ Pushes ProbeAck m → {A : Type 0} → A
-    never true m e = absurd cc
-    never false m e = absurd cc
+    never b m e = grind arith
 
     own : (d : ℕ) (ch : Channel) → is_own_move ch (granted_moves n c q d ch) ≡ true
     own d Channel.C = go (d == c)
       where
         go : (b : Bool) → is_own_move Channel.C (if b then Pops ProbeAck n else Stays) ≡ true
-        go true = refl
-        go false = refl
+        go b = grind arith
     own d Channel.D = go (d == q)
       where
         go : (b : Bool) → is_own_move Channel.D (if b then Pushes Grant n else Stays) ≡ true
-        go true = refl
-        go false = refl
+        go b = grind arith
     own d ch = refl
 
     at_q : Link
@@ -125,8 +121,7 @@ report_grants-kept {X} {caching} {c} {q} n {r} {whole} {g} {gift} {source} {k} r
     at_c = record (s.link c) { c = rest }
 
     moved_q : (ch : Channel) → IsMoved (granted_moves n 0 1 1 ch) (packets_on ch (s.link q)) (packets_on ch at_q)
-    moved_q Channel.A = refl
-    moved_q ch = refl
+    moved_q ch = grind arith
 
     moved_c : (ch : Channel) → IsMoved (granted_moves n 1 0 1 ch) (packets_on ch (s.link c)) (packets_on ch at_c)
     moved_c Channel.C = first

@@ -1,5 +1,5 @@
 -- What is due to a client: the message of the first token of channel D, and what it answers.
-use Rattle.std.proofs.Common.{◌≡◌, ℕ, Bool, true, false, not, List, ◌∷◌, Some, refl, ◌∙◌, ap, lit≤, eqb-true, ◌==◌}
+use Rattle.std.proofs.Common.{◌≡◌, ℕ, Bool, true, false, not, List, ◌∷◌, Some, refl, ◌∙◌, ap, lit≤, eqb-true, ◌==◌, arith}
 use Rattle.std.proofs.Common.{if◌then◌else◌, sym}
 use Rattle.tl_coherence.proofs
 use proofs.Imports.{and_from, OpD, Message, MessageA, MessageD, Cap, Grow, cap_code, grant_opcode, no_payload}
@@ -147,8 +147,7 @@ ack_message source = record {
 }
 
 acked_open : (x : ReleasePhase) → is_acked x ≡ true → not (is_unreleased x) ≡ true
-acked_open ReleaseAcked e = refl
-acked_open x e = absurd cc
+acked_open x e = grind arith
 
 pub ack-due : {caching : ℕ → Bool} (c n : ℕ) (rest : List Packet) {s : State (List ℕ)} → IsInvariant caching s
     → (s.link c).d ≡ packet ReleaseAck n ∷ rest → s.lets c ((s.block n).release_source c) ≡ Some n

@@ -39,8 +39,7 @@ pub rendered-acquire : {w : ℕ} (c n : ℕ) (b : Block (List ℕ)) (whole : Boo
     → (b.pair c).acquiring ≡ AcquireOpen whole g
     → block_message {w = w} Acquire c n b ≡ Message.A (acquisition (acquire_opcode whole) g (b.source c) n)
 unfolding block_message
-rendered-acquire {w} c n b true g e = rw e refl
-rendered-acquire {w} c n b false g e = rw e refl
+rendered-acquire c n b whole g e = grind arith
 
 -- an access that was asked is no Acquire: the client has one Acquire of a block open at most, and that is another one
 asked-access : {w : ℕ} {config : Config} {log : Log w} {mail : AccessMessages w} {request : ℕ → MessageA w}
@@ -137,8 +136,7 @@ acquisition_blank w false g source n width = (refl, narrow w width, omega arith)
 
 pub acquisition_beats : (w : ℕ) (whole : Bool) (g : Grow) (source n : ℕ)
     → beats_of {w = w} (Message.A (acquisition (acquire_opcode whole) g source n)) ≡ 1
-acquisition_beats w true g source n = refl
-acquisition_beats w false g source n = refl
+acquisition_beats w whole g source n = grind arith
 
 pub acquisition-blank : (w : ℕ) (whole : Bool) (g : Grow) (source n : ℕ) → IsWidth w
     → IsBlankAfter {w = w} (beats_of {w = w} (Message.A (acquisition (acquire_opcode whole) g source n)))

@@ -39,8 +39,7 @@ asks_for_own : ClientBlock → View → Bool
 asks_for_own p v = not (is_own v) || is_wanting p.acquiring
 
 or_second : (a b : Bool) → (a || b) ≡ true → a ≡ false → b ≡ true
-or_second true b e f = absurd cc
-or_second false b e f = e
+or_second a b e f = grind arith
 
 pub serves_another : (p : ClientBlock) (v : View) → ok p v ≡ true → is_unprobed p.probing ≡ false → is_other v ≡ true
 unfolding each_phase probed_by_other

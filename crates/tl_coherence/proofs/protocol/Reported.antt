@@ -19,13 +19,11 @@ use proofs.protocol.{Blocks.alone-set, Blocks.owned-set, Blocks.outside-set, Blo
 
 report_trunk : (r : Report) (p : Perm) → same_perm (report_left r) p ≡ true
     → same_perm (report_right r) Perm.Trunk ≡ true → same_perm p Perm.Trunk ≡ true
-report_trunk Report.TtoT Perm.Trunk e f = refl
-report_trunk r p e f = absurd cc
+report_trunk r p e f = grind arith
 
 report_none : (p : Perm) (r : Report) → same_perm (report_left r) p ≡ true → same_perm p Perm.None ≡ true
     → same_perm (report_right r) Perm.None ≡ true
-report_none Perm.None Report.NtoN e f = refl
-report_none p r e f = absurd cc
+report_none p r e f = grind arith
 
 pub gentle-report : (r : Report) (p : ClientBlock) → same_perm (report_left r) p.recorded ≡ true
     → IsGentle p (after_report r p)
@@ -34,13 +32,11 @@ gentle-report r p e =
 
 prune_trunk : (r : Prune) (p : Perm) → same_perm (prune_left r) p ≡ true → same_perm (prune_right r) Perm.Trunk ≡ true
     → same_perm p Perm.Trunk ≡ true
-prune_trunk Prune.TtoB p e f = absurd cc
-prune_trunk r p e f = absurd cc
+prune_trunk r p e f = grind arith
 
 prune_none : (p : Perm) (r : Prune) → same_perm (prune_left r) p ≡ true → same_perm p Perm.None ≡ true
     → same_perm (prune_right r) Perm.None ≡ true
-prune_none Perm.None Prune.TtoB e f = absurd cc
-prune_none p r e f = absurd cc
+prune_none p r e f = grind arith
 
 gentle-prune : (r : Prune) (p : ClientBlock) → same_perm (prune_left r) p.recorded ≡ true
     → IsGentle p (after_release_taken r p)

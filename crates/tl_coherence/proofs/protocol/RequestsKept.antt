@@ -95,9 +95,7 @@ gift_fits p whole g held unheld e = grind arith
 pub gift_trunk : (p : Profile) (whole : Bool) (g : Grow) (held : Perm) (unheld : Bool)
     → grow_fits held (AcquireOpen whole g) ≡ true → same_cap (gift p whole g unheld) Cap.ToT ≡ true
     → (grows_to_trunk g ≡ true) ⊎ (unheld ≡ true)
-gift_trunk Profile.Two false Grow.NtoB held true e f = inr refl
-gift_trunk p whole Grow.NtoB held unheld e f = absurd cc
-gift_trunk p whole g held unheld e f = inl refl
+gift_trunk p whole g held unheld e f = grind arith
 
 -- nobody is recorded
 pub unheld_none : (clients : ℕ) (caching : ℕ → Bool) (pair : ℕ → ClientBlock)

@@ -93,16 +93,13 @@ none-pass [] = refl
 none-pass (x ∷ xs) = omega (arith, none-pass xs)
 
 light_on_b : (k : Kind) → is_on Channel.B k ≡ true → is_light k ≡ true
-light_on_b Probe e = refl
-light_on_b _ e = absurd cc
+light_on_b k e = grind arith
 
 light_on_e : (k : Kind) → is_on Channel.E k ≡ true → is_light k ≡ true
-light_on_e GrantAck e = refl
-light_on_e _ e = absurd cc
+light_on_e k e = grind arith
 
 light_ack : (k : Kind) → same_kind k ReleaseAck ≡ true → is_light k ≡ true
-light_ack ReleaseAck e = refl
-light_ack _ e = absurd cc
+light_ack k e = grind arith
 
 -- no channel holds more beats than it is made for
 pub channel-few : {w : ℕ} {caching : ℕ → Bool} (mail : AccessMessages w) {s : State (List ℕ)} {c sources trackers : ℕ}

@@ -1,5 +1,5 @@
 -- A Grant that is taken keeps what holds of a block, also where it changes what all copies stand for.
-use Rattle.std.proofs.Common.{◌≡◌, ℕ, Bool, true, false, not, ◌&&◌, ◌||◌, refl, sym, ◌∙◌, ap, inl, inr, ne_eqb}
+use Rattle.std.proofs.Common.{◌≡◌, ℕ, Bool, true, false, not, ◌&&◌, ◌||◌, refl, sym, ◌∙◌, ap, inl, inr, ne_eqb, arith}
 use Rattle.tl_coherence.proofs
 use proofs.Imports.{and-false, cases_eq, Cap, Grow, Perm, cap_right, same_perm, resting, is_out, IsWell, set}
 use proofs.Imports.{ClientBlock, Granting, Acknowledging, GrantedOther, NoAcquire, AcquireOpen, is_unprobed, cap_fits}
@@ -15,8 +15,7 @@ whole_trunk : (g : Grow) (k : Cap) (p : Perm) → same_perm p (cap_right k) ≡ 
 whole_trunk g k p e f = sym (ap (λ (j : Cap). same_perm p (cap_right j)) (whole_cap g k f)) ∙ e
 
 some_held : (p : Perm) → same_perm p Perm.Branch ≡ true → same_perm p Perm.None ≡ false
-some_held Perm.Branch e = refl
-some_held p e = absurd cc
+some_held p e = grind arith
 
 pub taken-block : {X : Type 0} {caching : ℕ → Bool} (c : ℕ) (d whole : Bool) (g : Grow) (k : Cap) {b : Block X}
     → IsWell caching b → b.service ≡ GrantSent c d k

@@ -120,8 +120,7 @@ tracker_of_service {s} n inv busy = is_of-is n (s.tracked (s.block n).tracker) (
 -- ---- what phases say
 
 pub busy_unless_idle : (service : Service) (c : ℕ) → is_idle (view service c) ≡ false → is_busy service ≡ true
-busy_unless_idle Free c e = absurd cc
-busy_unless_idle service c e = refl
+busy_unless_idle service c e = grind arith
 
 asks_for_grant : ClientBlock → View → Bool
 asks_for_grant p v = not (is_granting v) || is_wanting p.acquiring
@@ -130,8 +129,7 @@ probes_in_service : ClientBlock → View → Bool
 probes_in_service p v = is_unprobed p.probing || not (is_idle v)
 
 unless : (a b : Bool) → (a || not b) ≡ true → a ≡ false → b ≡ false
-unless false false e f = refl
-unless a b e f = absurd cc
+unless a b e f = grind arith
 
 pub grants_ask : (p : ClientBlock) (v : View) → ok p v ≡ true → is_granting v ≡ true → is_wanting p.acquiring ≡ true
 unfolding each_phase asks_for_grant

@@ -9,12 +9,10 @@ use Rattle.tl_manager.specs.statement.Handing as handing
 -- ---- opcodes
 
 pub grants-so : (b : Bool) → is_grant (grant_opcode b) ≡ true
-grants-so true = refl
-grants-so false = refl
+grants-so b = grind arith
 
 pub acquires-so : (whole : Bool) → is_acquire (acquire_opcode whole) ≡ true
-acquires-so true = refl
-acquires-so false = refl
+acquires-so whole = grind arith
 
 pub access_kind : (o : OpD) → is_access_answer o ≡ true → (is_grant o ≡ false) × (is_release_ack o ≡ false)
 access_kind OpD.Grant e = absurd cc
@@ -25,8 +23,7 @@ access_kind o e = (refl, refl)
 -- ---- caps
 
 pub cap-again : (k : Cap) → cap_of (cap_code k) ≡ Some k
-cap-again Cap.ToT = refl
-cap-again k = refl
+cap-again k = grind arith
 
 pub low_cap : (o : OpA) (param : ℕ) (k : Cap) → cap_probed o param ≡ Some k → same_cap k Cap.ToT ≡ false
 low_cap o param Cap.ToB e = refl

@@ -12,8 +12,7 @@ use proofs.queues.Tokens.{ordered-pop, ordered-push_other, ordered-push_report}
 use proofs.queues.Phases.{and_left, and_right}
 
 pub same_again : (b : Bool) → beq b b ≡ true
-same_again true = refl
-same_again false = refl
+same_again b = grind arith
 
 same_bools : (a b : Bool) → beq a b ≡ true → b ≡ a
 same_bools a b e = grind arith
@@ -65,8 +64,7 @@ holds-spared k (Pops j i) xs ys test moved fits h =
     holds-pop_other k xs ys (packet j i) test moved (not-true (same_kind j k) fits) h
 
 pub on_is : (k : Kind) (l : Link) → on k l ≡ packets_on (channel_for k) l
-on_is Request l = refl
-on_is k l = refl
+on_is k l = grind arith
 
 -- the kind is one of its channel alone
 pub kind_channel : (ch : Channel) (k : Kind) → is_on ch k ≡ true → channel_for k ≡ ch

@@ -1,5 +1,5 @@
 -- Tokens, and what they stand for, after the moves of an event: one lemma for all events.
-use Rattle.std.proofs.Common.{◌≡◌, ℕ, Bool, true, false, List, Option, refl, sym, ◌∙◌, ap, inl, inr, ne_eqb, ◌==◌}
+use Rattle.std.proofs.Common.{◌≡◌, ℕ, Bool, true, false, List, Option, refl, sym, ◌∙◌, ap, inl, inr, ne_eqb, ◌==◌, arith}
 use Rattle.std.proofs.Common.{if◌then◌else◌}
 use Rattle.tl_coherence.proofs
 use proofs.Imports.{cases_eq, Channel, IsInvariant, is_asked, is_replied, IsWell, AreNamed, is_of, acquires_of}
@@ -160,8 +160,7 @@ agrees_as : (k : Kind) (n : ℕ) (m p : Move) (a b : Bool) → m ≡ p → agree
 agrees_as k n m p a b e h = rw e h
 
 agrees_still : (k : Kind) (n : ℕ) (m : Move) (a b : Bool) → m ≡ Stays → b ≡ a → agrees m k n a b ≡ true
-agrees_still k n m a true e f = rw (e, ← f) refl
-agrees_still k n m a false e f = rw (e, ← f) refl
+agrees_still k n m a b e f = grind arith
 
 never_pushed : (m : Move) (i : ℕ) {A : Type 0} → m ≡ Stays → m ≡ Pushes ProbeAck i → A
 never_pushed m i e f = absurd (let g : Stays ≡ Pushes ProbeAck i = sym e ∙ f in cc)

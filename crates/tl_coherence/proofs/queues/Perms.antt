@@ -6,20 +6,16 @@ use proofs.Imports.{AcquireOpen, is_above, perm_le}
 use proofs.queues.Phases.{and_left, and_right}
 
 pub trunk-some : (p : Perm) → same_perm p Perm.Trunk ≡ true → same_perm p Perm.None ≡ false
-trunk-some Perm.Trunk e = refl
-trunk-some p e = absurd cc
+trunk-some p e = grind arith
 
 pub held-some : (p : Perm) → holds p ≡ true → same_perm p Perm.None ≡ false
-held-some Perm.None e = absurd cc
-held-some p e = refl
+held-some p e = grind arith
 
 pub nothing-above : (j : Cap) → is_above j Perm.None ≡ false
-nothing-above Cap.ToT = refl
-nothing-above j = refl
+nothing-above j = grind arith
 
 pub none-above : (p : Perm) → is_above Cap.ToN p ≡ false → same_perm p Perm.None ≡ true
-none-above Perm.None e = refl
-none-above p e = absurd cc
+none-above p e = grind arith
 
 pub none_below : (p q : Perm) → perm_le p q ≡ true → same_perm q Perm.None ≡ true → p ≡ Perm.None
 none_below p q e f = grind arith

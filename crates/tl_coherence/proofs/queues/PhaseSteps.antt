@@ -1,5 +1,5 @@
 -- Each event leads from a phase that is well to one that is well: by computation over all phases.
-use Rattle.std.proofs.Common.{◌≡◌, refl, Bool, true, false, not, ◌&&◌, ◌||◌}
+use Rattle.std.proofs.Common.{◌≡◌, refl, Bool, true, false, not, ◌&&◌, ◌||◌, arith}
 use Rattle.tl_coherence.proofs
 use proofs.Imports.{Cap, Grow, Prune, Report, Perm, prune_left, same_perm, ClientBlock, View, Idle, Own, Other}
 use proofs.Imports.{Granting, Acknowledging, GrantedOther, ProbePhase, NoProbe, ProbeAnswered, ReleasePhase}
@@ -165,8 +165,7 @@ served-ok k p v h idle low = go (same_cap k Cap.ToT) low (ok (after_served k p) 
     (of_phase served_test served_all p v h)) k)
   where
     go : (a : Bool) → a ≡ false → (b : Bool) → (not a && b || a) ≡ true → b ≡ true
-    go false e true t = refl
-    go a e b t = absurd cc
+    go a e b f = grind arith
 
 -- a Grant is handed out, at once or with the last ProbeAck
 granted_to : ClientBlock → Bool → Grow → Cap → Bool

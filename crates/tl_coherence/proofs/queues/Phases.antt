@@ -1,5 +1,5 @@
 -- Every phase that is well, by computation.
-use Rattle.std.proofs.Common.{◌≡◌, refl, Bool, true, false, ◌&&◌}
+use Rattle.std.proofs.Common.{◌≡◌, refl, Bool, true, false, ◌&&◌, arith}
 use Rattle.tl_coherence.proofs
 use proofs.Imports.{⊤, Cap, Grow, Prune, Report, Perm, ClientBlock, View, Idle, Own, Other, Granting, Acknowledging}
 use proofs.Imports.{GrantedOther, ProbePhase, NoProbe, ProbeAnswered, ReleasePhase, ReleaseSent, NoAcquire, AcquireOpen}
@@ -59,16 +59,13 @@ each_phase f = each_view (λ v. each_probing (λ probing. where_true (ok_first p
 -- ---- a test that holds of all holds of each
 
 pub and_left : (a b : Bool) → (a && b) ≡ true → a ≡ true
-and_left true b e = refl
-and_left false b e = absurd cc
+and_left a b e = grind arith
 
 pub and_right : (a b : Bool) → (a && b) ≡ true → b ≡ true
-and_right true b e = e
-and_right false b e = absurd cc
+and_right a b e = grind arith
 
 pub where_is : (a : Bool) (f : ⊤ → Bool) → where_true a f ≡ true → a ≡ true → f tt ≡ true
-where_is true f e h = e
-where_is false f e h = absurd cc
+where_is a f e g = grind arith
 
 abbrev IsThree : Bool → Bool → Bool → Type 0
 IsThree a b c = (a ≡ true) × (b ≡ true) × (c ≡ true)
@@ -197,5 +194,4 @@ implies true b = b
 implies false b = true
 
 pub implies_is : (a b : Bool) → implies a b ≡ true → a ≡ true → b ≡ true
-implies_is true b h e = h
-implies_is false b h e = absurd cc
+implies_is a b e f = grind arith

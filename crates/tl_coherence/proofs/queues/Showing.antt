@@ -1,5 +1,5 @@
 -- What a token stands for that is there before and after an event: the same message.
-use Rattle.std.proofs.Common.{◌≡◌, ℕ, Bool, true, false, not, ◌&&◌, ◌||◌, List, refl, sym, ◌∙◌, ap, ◌⊎◌, inl, inr, ◌==◌}
+use Rattle.std.proofs.Common.{◌≡◌, ℕ, Bool, true, false, not, ◌&&◌, ◌||◌, List, refl, sym, ◌∙◌, ap, ◌⊎◌, inl, inr, ◌==◌, arith}
 use Rattle.std.proofs.Common.{if◌then◌else◌}
 use Rattle.tl_coherence.proofs
 use proofs.Imports.{not-true, or_parts, ⊤, Channel, OpB, Prune, Report, Perm, prune_left, report_left, same_perm}
@@ -37,18 +37,15 @@ IsAlike k d b b' = ⊤
 
 ack_bytes : (w : ℕ) (p : Perm) (r : Report) (n : ℕ) (x y : List ℕ) → same_perm p Perm.Trunk ≡ false
     → probe_ack {w = w} OpB.ProbeBlock p r n x ≡ probe_ack OpB.ProbeBlock p r n y
-ack_bytes w Perm.Trunk r n x y e = absurd cc
-ack_bytes w p r n x y e = refl
+ack_bytes w p r n x y e = grind arith
 
 release_bytes : (w : ℕ) (p : Prune) (source n : ℕ) (x y : List ℕ) → same_perm (prune_left p) Perm.Trunk ≡ false
     → release {w = w} p source n x ≡ release p source n y
-release_bytes w Prune.BtoN source n x y e = refl
-release_bytes w p source n x y e = absurd cc
+release_bytes w p source n x y e = grind arith
 
 grant_bytes : (w : ℕ) (v : Service) (source sink : ℕ) (x y : List ℕ) → is_given v ≡ false
     → grant_of {w = w} v source sink x ≡ grant_of v source sink y
-grant_bytes w (GrantSent q d k) source sink x y e = rw e refl
-grant_bytes w v source sink x y e = refl
+grant_bytes w v source sink x y e = grind arith
 
 rendered-alike : (w : ℕ) (k : Kind) (d n : ℕ) (b b' : Block (List ℕ)) → IsAlike k d b b' → (carries k d b ≡ false)
     ⊎ (b'.truth ≡ b.truth) → block_message {w = w} k d n b' ≡ block_message k d n b

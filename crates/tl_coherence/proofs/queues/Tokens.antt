@@ -27,8 +27,7 @@ set-each P k y f here others n = elim (cases_eq n k) [
 -- a part that two values have in common is that of the chosen one
 pub if-part : {A Y : Type 0} (part : Y → A) {a : A} (b : Bool) {x y : Y} → part x ≡ a → part y ≡ a
     → part (if b then x else y) ≡ a
-if-part part true e f = e
-if-part part false e f = f
+if-part part b e f = grind arith
 
 -- a part that the new value has in common with the old one is everywhere as before
 pub set-part : {A Y : Type 0} (part : Y → A) (k : ℕ) (y : Y) (f : ℕ → Y) → part y ≡ part (f k) → (n : ℕ)

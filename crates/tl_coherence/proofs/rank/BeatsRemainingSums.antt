@@ -115,13 +115,11 @@ access-few config c source m width h = absurd (let no = h.0 in cc)
 -- ---- an Acquire, and a report
 
 acquire-one : (w : ℕ) (x : AcquirePhase) (source n : ℕ) → beats_of (acquire_of {w = w} x source n) ≡ 1
-acquire-one w (AcquireOpen true g) source n = refl
-acquire-one w x source n = refl
+acquire-one w x source n = grind arith
 
 report-one : (w : ℕ) (p : Perm) (r : Report) (n : ℕ) (bytes : List ℕ) → same_perm p Perm.Trunk ≡ false
     → beats_of (probe_ack {w = w} OpB.ProbeBlock p r n bytes) ≡ 1
-report-one w Perm.Trunk r n bytes e = absurd cc
-report-one w p r n bytes e = refl
+report-one w p r n bytes e = grind arith
 
 untold : (p : ClientBlock) (v : View) → ok p v ≡ true → same_perm p.recorded Perm.Trunk ≡ false
     → same_perm (report_left (report_told p.probing)) Perm.Trunk ≡ false

@@ -61,8 +61,7 @@ light-pair n left recorded (ProbeAnswered r) e le = let one = le refl in omega (
 
 quiet-pair : (n left : ℕ) (recorded : Perm) (x : ProbePhase) → is_unprobed x ≡ true
     → probing_weight n left recorded x ≡ 0
-quiet-pair n left recorded NoProbe e = refl
-quiet-pair n left recorded x e = absurd cc
+quiet-pair n left recorded x e = grind arith
 
 heavy-pair : (n left : ℕ) (recorded : Perm) (x : ProbePhase) → left ≤ n → 1 ≤ n
     → probing_weight n left recorded x ≤ n + 1
@@ -85,8 +84,7 @@ module _ {X : Type 0} {caching : ℕ → Bool} {s : State X} (inv : IsInvariant 
   both a b e = absurd cc
 
   neither : (a b : Bool) → (not a && b) ≡ false → a ≡ false → b ≡ false
-  neither false b e f = e
-  neither true b e f = absurd cc
+  neither a b e f = grind arith
 
   -- a bound for the Probes and reports where each client weighs two at most, and which one with a block's beats meets
   -- too

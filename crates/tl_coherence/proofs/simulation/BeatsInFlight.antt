@@ -94,13 +94,11 @@ typed_is (Beat.A x) typed = typed
 typed_is x typed = tt
 
 same_channel_of : {w : ℕ} (m : Message w) (i : ℕ) → channel_of (beat_of m i) ≡ channel_of (beat_of m 0)
-same_channel_of (Message.A m) i = refl
-same_channel_of m i = refl
+same_channel_of m i = grind arith
 
 same_outside : {w : ℕ} (blocks : ℕ) (m : Message w) (i : ℕ) → is_outside blocks (beat_of m i) ≡ is_outside blocks
     (beat_of m 0)
-same_outside blocks (Message.A m) i = refl
-same_outside blocks m i = refl
+same_outside blocks m i = grind arith
 
 -- of a channel on which clients send
 abbrev pub IsOfClient : {w : ℕ} → Message w → Type 0
@@ -180,18 +178,15 @@ IsFitIfAny blocks None = ⊤
 IsFitIfAny blocks (Some m) = IsFit blocks m
 
 first_false : (x y : Bool) → (x || y) ≡ false → x ≡ false
-first_false false y e = refl
-first_false true y e = absurd cc
+first_false x y e = grind arith
 
 fit_load : {w : ℕ} (blocks address size : ℕ) (p : Perm) (e : Endpoint w)
     → IsFitIfAny blocks (load address size p e).message
-fit_load blocks address size Perm.None e = tt
-fit_load blocks address size p e = tt
+fit_load blocks address size p e = grind arith
 
 fit_store : {w : ℕ} (blocks address size value : ℕ) (p : Perm) (e : Endpoint w)
     → IsFitIfAny blocks (store address size value p e).message
-fit_store blocks address size value Perm.None e = tt
-fit_store blocks address size value p e = tt
+fit_store blocks address size value p e = grind arith
 
 fit_done : {w : ℕ} {terms : EndConfig} (op : Op w) {e : Endpoint w} → NotBusy terms op e → IsTypedOp op
     → ((n : ℕ) → length (copy_at e n) ≡ 64) → IsFitIfAny terms.blocks (done terms op e).message

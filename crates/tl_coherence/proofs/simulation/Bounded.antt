@@ -1,5 +1,5 @@
 -- Sources and trackers that are used are below the numbers that the configuration gives.
-use Rattle.std.proofs.Common.{◌≡◌, ℕ, ◌<◌, Bool, true, false, List, [], ◌∷◌, refl, sym, ◌∙◌, ap, ◌||◌, Option, Some}
+use Rattle.std.proofs.Common.{◌≡◌, ℕ, ◌<◌, Bool, true, false, List, [], ◌∷◌, refl, sym, ◌∙◌, ap, ◌||◌, Option, Some, arith}
 use Rattle.std.proofs.Common.{eqb-true, ◌==◌, is_some}
 use Rattle.tl_coherence.proofs
 use proofs.Imports.{and_parts, Message, MessageA, Config, RequestSource, ReleaseSource, pending, is_one_of}
@@ -22,8 +22,7 @@ pub record IsOwn {w : ℕ} (config : Config) (c : ℕ) (sys : System w) : Type 0
 -- ---- an open request has a first beat
 
 source_known : {w : ℕ} (m : Message w) (source : ℕ) → request_source m ≡ Some source → is_some (first_of m) ≡ true
-source_known (Message.A m) source e = refl
-source_known m source e = absurd cc
+source_known m source e = grind arith
 
 -- ---- trackers
 

@@ -1,5 +1,5 @@
 -- The channels carry the messages of the tokens after a client is asked.
-use Rattle.std.proofs.Common.{◌≡◌, ℕ, Bool, true, false, List, Option, Some, None, refl, ◌∙◌, ap, ◌⊎◌, inl, inr, ne_eqb}
+use Rattle.std.proofs.Common.{◌≡◌, ℕ, Bool, true, false, List, Option, Some, None, refl, ◌∙◌, ap, ◌⊎◌, inl, inr, ne_eqb, arith}
 use Rattle.std.proofs.Common.{◌==◌, if◌then◌else◌}
 use Rattle.tl_coherence.proofs
 use proofs.Imports.{cases_eq, Channel, IsWidth, Message, Grow, Prune, IsInvariant, is_asked, Kind, Request, Acquire}
@@ -117,8 +117,7 @@ abbrev still_moves : ℕ → Channel → Move
 still_moves d ch = Stays
 
 no_push : {w : ℕ} (b : Bool) (render : Kind → ℕ → Message w) → Fits false (if b then None else None) Stays render
-no_push true render = tt
-no_push false render = tt
+no_push b render = grind arith
 
 pub nothing_asked-carried : {w : ℕ} {caching : ℕ → Bool} (c : ℕ) (mail : AccessMessages w) {s : State (List ℕ)}
     {sys sys' : System w} → IsWidth w → IsInvariant caching s → IsHanded (pushes_at c (pushes_of None)) sys sys'

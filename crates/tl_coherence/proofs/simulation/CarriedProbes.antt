@@ -119,8 +119,7 @@ served_fits n k x y at j i render e = tt
 -- the channel decides, and then whether one is probed
 pushes_is : {w : ℕ} (n : ℕ) (k : Cap) (test : ℕ → Bool) (d : ℕ) (at : Channel)
     → probe_pushes {w = w} n k test d at ≡ probe_pushes n k (λ i. test d) 0 at
-pushes_is n k test d Channel.A = refl
-pushes_is n k test d at = refl
+pushes_is n k test d at = grind arith
 
 -- the Probe that one is sent
 sent_probe : (w r : ℕ) (own : Bool) (n : ℕ) (k : Cap) (d : ℕ) (p : ClientBlock) → is_probed r own k p.recorded d ≡ true
@@ -129,8 +128,7 @@ sent_probe w r own n k d p e = go (own && (d == r)) (is_above k p.recorded) refl
   where
     go : (x y : Bool) → is_above k p.recorded ≡ y → (not x && y) ≡ true
         → probe_of_block {w = w} n (cap_sent (if x then p else after_served k p).probing) ≡ probe_of_block n k
-    go false true f g = rw f refl
-    go x y f g = absurd cc
+    go x y e f = grind arith
 
 sent_rendered : {w : ℕ} (r : ℕ) (own : Bool) (source tracker : ℕ) (n : ℕ) (k : Cap) (d : ℕ) (b : Block (List ℕ))
     → is_probed r own k (b.pair d).recorded d ≡ true

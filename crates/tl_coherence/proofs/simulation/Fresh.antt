@@ -29,13 +29,11 @@ first-well caching = record {
 
 none-shown : (c : ℕ) (k : Kind) → is_transfer k ≡ true → Holds k (on k first_link) (λ n. shown k c first_block)
 unfolding count
-none-shown c Request t n = refl
-none-shown c k t n = refl
+none-shown c k e = grind arith
 
 none-there : (ch : Channel) (k : Kind) (n : ℕ) → count k n (packets_on ch first_link) ≡ 0
 unfolding count
-none-there Channel.A k n = refl
-none-there ch k n = refl
+none-there ch k n = grind arith
 
 first-invariant : (caching : ℕ → Bool) → IsInvariant caching first_state
 unfolding count IsOrdered
@@ -69,8 +67,7 @@ none-carried w c ch = (refl, refl)
 
 none-left : (w c : ℕ) (ch : Channel) → unfinished {w = w} ch [] ≡ unfinished ch (receiver ch c fresh)
 unfolding unfinished on_link
-none-left w c Channel.A = refl
-none-left w c ch = refl
+none-left w c ch = grind arith
 
 -- a whole of ends and channels that are fresh is that of the protocol's first state
 pub fresh-matched : {w : ℕ} (config : Config) → SimulationRelation {w = w} config [] first_abstract_state.mail

@@ -1,5 +1,5 @@
 -- Each beat on a channel is sound and has its lanes, after every event.
-use Rattle.std.proofs.Common.{◌≡◌, ℕ, Bool, true, false, List, [], ◌∷◌, Option, Some, None, refl, ap, subst}
+use Rattle.std.proofs.Common.{◌≡◌, ℕ, Bool, true, false, List, [], ◌∷◌, Option, Some, None, refl, ap, subst, arith}
 use Rattle.std.proofs.Common.{length, if◌then◌else◌, All, Result, Ok, unwrap_or, is_some}
 use Rattle.tl_coherence.proofs
 use proofs.Imports.{All-head, Beat, Link, Channel, IsWidth, Message, MessageA, Config, Perm, Rule, same_perm, Op}
@@ -23,8 +23,7 @@ use proofs.simulation.BeatsInFlight.{good-handed, level-terms, fit-asked, fit-ta
 -- ---- copies have 64 bytes
 
 copy_of : (o : Option (List ℕ)) → is_some o ≡ false → length (unwrap_or o zeros) ≡ 64
-copy_of None e = refl
-copy_of (Some bytes) e = absurd cc
+copy_of o e = grind arith
 
 pub copy-long : {w : ℕ} {config : Config} {log : Log w} {mail : AccessMessages w} {request : ℕ → MessageA w}
     {s : State (List ℕ)} {sys : System w}

@@ -75,8 +75,7 @@ ends_answered {w} o m d (memory.Bytes bytes) beats width lawful answer reach bur
 -- the source makes no difference
 finish_sourced : {w : ℕ} (source : ℕ) (m : MessageA w) (r : memory.AccessResult)
     → finish_with (Message.A (sourced source m)) r ≡ finish_with (Message.A m) r
-finish_sourced source m memory.Done = refl
-finish_sourced source m r = refl
+finish_sourced source m r = grind arith
 
 -- ---- as the machine allows
 
@@ -84,8 +83,7 @@ finish_sourced source m r = refl
 open_ends : {w : ℕ} (c source : ℕ) (m : Machine w) (a : MessageA w) (r : memory.AccessResult) (x : Beat w)
     → m.opened c Requests source ≡ Some (record { asked = Access (Message.A a); answer = Some r })
     → Ends (m.opened c (pool_of (finish_with (Message.A a) r)) source) x (finish_with (Message.A a) r)
-open_ends c source m a memory.Done x e = rw e refl
-open_ends c source m a r x e = rw e refl
+open_ends c source m a r x e = grind arith
 
 -- a request that is open is the pending one
 request_open : {w : ℕ} (source : ℕ) (x : BeatA w) (t : History w) → open_beat source t ≡ Some x

@@ -1,5 +1,5 @@
 -- An Acquire that is started alone brings what it asks for, and an AcquireWhole brings Trunk.
-use Rattle.std.proofs.Common.{◌≡◌, ℕ, zero, suc, Bool, true, false, List, ◌∷◌, Option, Some, None, refl, sym, ◌∙◌, ap}
+use Rattle.std.proofs.Common.{◌≡◌, ℕ, zero, suc, Bool, true, false, List, ◌∷◌, Option, Some, None, refl, sym, ◌∙◌, ap, arith}
 use Rattle.tl_coherence.proofs
 use proofs.Imports.{Link, Channel, Config, Grow, Perm, Profile, same_perm, Op, whole_grow, held_at, Deliver, Ask}
 use proofs.Imports.{AcquirePhase, AcquireOpen, ClientBlock, after_acquire, SourceState, Block, State, SourceFree}
@@ -127,8 +127,7 @@ alone config log client block source n grow none given drains = alone-drained (r
 }) drains
 
 is_trunk : (held : Perm) → same_perm Perm.Trunk held ≡ true → held ≡ Perm.Trunk
-is_trunk Perm.Trunk e = refl
-is_trunk held e = absurd cc
+is_trunk held e = grind arith
 
 whole-brings : (p : Profile) (before held : Perm) → grown_to p (whole_grow before) held ≡ true → held ≡ Perm.Trunk
 whole-brings Profile.One Perm.None held e = is_trunk held e

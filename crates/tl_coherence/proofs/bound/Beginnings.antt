@@ -33,10 +33,7 @@ module _ {X : Type 0} (config : Config) (size : ℕ) (left left' : Left) (answer
 
   probing_less : (l l' : ℕ) (p : ClientBlock) → l' ≤ l → probing_weight size l' p.recorded p.probing ≤ probing_weight
       size l p.recorded p.probing
-  probing_less l l' p less =
-      let go : (x : ProbePhase) → probing_weight size l' p.recorded x ≤ probing_weight size l p.recorded x =
-      elim [ ProbeAnswered r ↦ less | x ↦ omega arith ] in
-      go p.probing
+  probing_less l l' p less = grind arith
 
   pair_less : (m d : ℕ) → pair_weight size left' m d ((s.block m).pair d) ≤ pair_weight size left m d
       ((s.block m).pair d)
@@ -188,9 +185,7 @@ beat-falls {w} {config} {caching} {ch} {c} {mail} {s} {sys} sys' {x} {queue} siz
   where
     longer : (d : ℕ) (at : Channel) → (d ≡ c) ⊎ (d ≡ c → ⊥) → (at ≡ ch) ⊎ (at ≡ ch → ⊥)
         → length (unfinished_at sys d at) ≤ length (unfinished_at sys' d at)
-    longer d at (inl e) (inl f) = rw (e, f, begun.here) (omega arith)
-    longer d at (inr ne) f = rw (begun.others d at (λ e g. ne e)) (omega arith)
-    longer d at (inl e) (inr ne) = rw (begun.others d at (λ g h. ne h)) (omega arith)
+    longer d at e f = grind arith
 
     less : (d : ℕ) (k : Kind) (m : ℕ) → beats_left mail s (unfinished_at sys') d k m ≤ beats_left mail s
         (unfinished_at sys) d k m

@@ -16,9 +16,7 @@ abbrev pub owed : {w : ℕ} → Config → AccessMessages w → State (List ℕ)
 owed {w} config mail s sys = rank config (64 / w) (beats_left mail s (unfinished_at sys)) (answer_to mail) s
 
 pub narrow-block : (w : ℕ) → IsWidth w → 64 / w ≤ 16
-narrow-block w (inl e) = rw e (omega arith)
-narrow-block w (inr (inl e)) = rw e (omega arith)
-narrow-block w (inr (inr e)) = rw e (omega arith)
+narrow-block w e = grind arith
 
 left-matched : {w : ℕ} {config : Config} {log : Log w} {mail : AccessMessages w} {request : ℕ → MessageA w}
     {s : State (List ℕ)} {sys : System w} → IsWidth w → SimulationRelation config log mail request s sys

@@ -19,11 +19,7 @@ use proofs.queues.Tokens.{same_number, set-same, set-other, set-part}
 probed-less : (size l l' : ℕ) (recorded : Perm) (k : Cap) (r : Report)
     → (same_perm recorded Perm.Trunk ≡ false → l' ≤ 1) → l' ≤ size
     → probing_weight size l' recorded (ProbeAnswered r) + 1 ≤ probing_weight size l recorded (ProbeSent k)
-probed-less size l l' recorded k r one few = go (same_perm recorded Perm.Trunk) one
-  where
-    go : (b : Bool) → (b ≡ false → l' ≤ 1) → l' + 1 ≤ 1 + (if b then size else 1)
-    go true h = omega (arith, few)
-    go false h = let le = h refl in omega (arith, le)
+probed-less size l l' recorded k r one few = grind arith
 
 answered_weight : (size l : ℕ) (recorded : Perm) (x : ProbePhase) (r : Report) → x ≡ ProbeAnswered r
     → probing_weight size l recorded x ≡ l

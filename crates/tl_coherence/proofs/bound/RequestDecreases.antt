@@ -28,10 +28,7 @@ owner_quiet {s} n r inv own = go (is_unprobed ((s.block n).pair r).probing) refl
 
 served_letting : (r : ℕ) (own : Bool) (k : Cap) (pair : ℕ → ClientBlock) (d : ℕ)
     → (served_pair r own k pair d).letting ≡ (pair d).letting
-served_letting r own k pair d =
-    let go : (b : Bool) → (if b then pair d else after_served k (pair d)).letting ≡ (pair d).letting =
-    elim [ true ↦ refl | false ↦ refl ] in
-    go (own && (d == r))
+served_letting r own k pair d = grind arith
 
 module _ {w : ℕ} {config : Config} {mail mail' : AccessMessages w} {s s' : State (List ℕ)}
     (taking : Taking config mail mail' s s') where

@@ -22,17 +22,10 @@ pruned r = grind arith
 
 pruned-weight : (size l l' : ℕ) (recorded : Perm) (r : Prune) (x : ProbePhase) → 1 ≤ size → ((a : ℕ) → l' ≤ l)
     → probing_weight size l' (prune_right r) x ≤ probing_weight size l recorded x
-pruned-weight size l l' recorded r NoProbe some le = omega arith
-pruned-weight size l l' recorded r (ProbeSent k) some le =
-    let go : (b : Bool) → 2 ≤ 1 + (if b then size else 1) = elim [ true ↦ omega (arith, some) | false ↦ omega arith ] in
-    rw (pruned r) (go (same_perm recorded Perm.Trunk))
-pruned-weight size l l' recorded r (ProbeAnswered x) some le = le 0
+pruned-weight size l l' recorded r x e f = grind arith
 
 granted_unserved : (q d : ℕ) → is_unserved (view (GrantTaken q) d) ≡ true
-granted_unserved q d =
-    let go : (b : Bool) → is_unserved (if b then Acknowledging else GrantedOther) ≡ true =
-    elim [ true ↦ refl | false ↦ refl ] in
-    go (d == q)
+granted_unserved q d = grind arith
 
 -- an Acquire has one source
 acquired_with : {caching : ℕ → Bool} {s : State (List ℕ)} (n c i : ℕ) → IsInvariant caching s → s.uses c i ≡ Acquires n

@@ -95,10 +95,7 @@ owed-delivered {w} {config} x log given is =
 
 moved-more : {w : ℕ} (x : Event w × Outcome w) (more : Log w)
     → beats_moved (x ∷ more) ≡ one_if (is_moving x.1) + beats_moved more
-moved-more {w} x more =
-    let go : (b : Bool) → length (if b then x ∷ filter (λ y. is_moving y.1) more else filter (λ y. is_moving y.1) more)
-    ≡ one_if b + beats_moved more = elim [ true ↦ omega arith | false ↦ omega arith ] in
-    go (is_moving x.1)
+moved-more {w} x more = grind arith
 
 bounding : {w : ℕ} {config : Config} (more log : Log w) → IsGiven config (more ++ log)
     → All (λ x. is_delivery x.0 ≡ true) more

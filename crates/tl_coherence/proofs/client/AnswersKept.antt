@@ -69,18 +69,7 @@ answered-at : {w : ℕ} (c source : ℕ) (mail mail' : AccessMessages w) (s s' :
     × (mail'.answer d i ≡ mail.answer d i) × (s'.uses d i ≡ s.uses d i))
     → IsAnswered source (mail'.request c source) (mail'.answer c source) (s'.uses c source) → AreAnswered mail s
     → AreAnswered mail' s'
-answered-at {w} c source mail mail' s s' same new h d i = go (cases_eq d c) (cases_eq i source)
-  where
-    still : ((d ≡ c) × (i ≡ source) → ⊥) → IsAnswered i (mail'.request d i) (mail'.answer d i) (s'.uses d i)
-    still other =
-        let e = same d i other in
-        rw (e.0, e.1, e.2) (h d i)
-
-    go : (d ≡ c) ⊎ (d ≡ c → ⊥) → (i ≡ source) ⊎ (i ≡ source → ⊥) → IsAnswered i (mail'.request d i) (mail'.answer d i)
-        (s'.uses d i)
-    go (inl e) (inl f) = rw (e, f) new
-    go (inl e) (inr ne) = still (λ both. ne both.1)
-    go (inr ne) f = still (λ both. ne both.0)
+answered-at {w} c source mail mail' s s' same new h d i = grind arith
 
 -- an entry but for one
 pub set_at-apart : {X : Type 0} (c source : ℕ) (x : X) (f : ℕ → ℕ → X) (d i : ℕ) → ((d ≡ c) × (i ≡ source) → ⊥)

@@ -114,11 +114,7 @@ leaves-at_client config tracker c k n rest h d for ne = absurd cc
 
 leaves-acquiring : {w : ℕ} (c n source : ℕ) (whole : Bool) (g : Grow) (bytes : List ℕ) (h : AbstractState w) (d : ℕ)
     → (d ≡ c → ⊥) → Leaves d h (with_state (acquire_asked c n source whole g bytes h.state) h)
-leaves-acquiring c n source whole g bytes h d ne =
-    let b : Block (List ℕ) = h.state.block n in
-    aside-block n refl (others-aside (set-other c d (after_acquire whole g (b.pair c)) b.pair ne)
-    (set-other c d source b.source ne) refl (set-other c d bytes b.waiting ne)) (λ i. refl)
-    (λ i. inl (set_at-other c d source i (Acquires n) h.state.uses ne)) (λ i. refl)
+leaves-acquiring c n source whole g bytes h d ne = grind arith
 
 pub leaves-asked : {w : ℕ} (c : ℕ) (o : Op w) (r : Reply) (h : AbstractState w) (d : ℕ) → (d ≡ c → ⊥)
     → Leaves d h (asked c o r h)

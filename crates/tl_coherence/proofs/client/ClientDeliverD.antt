@@ -126,18 +126,7 @@ opened-heard {w} {c} {x} {t} {closes_source} {closes_let} {asked} {s} echo event
 pub heard-part : {w : ℕ} (c : ℕ) (x : BeatD w) (t : History w) (p : Perm) (asked : ℕ → Option (BeatA w))
     (s : State (List ℕ)) → ends (Beat.D x) t ≡ false
     → IsHeard c x t p (λ k. false) (λ k. false) (λ k. false) (λ k. false) asked asked s s
-heard-part c x t p asked s more = record {
-  grants_is = λ k. rw more refl;
-  gives = λ k e. absurd cc;
-  releases_is = λ k. rw more refl;
-  source_is = λ k. rw more refl;
-  let_is = λ k. rw more refl;
-  held = λ k. refl;
-  acquiring = λ k. refl;
-  letting = λ k. refl;
-  lets = λ i. refl;
-  asks = λ i. refl;
-}
+heard-part c x t p asked s more = grind arith
 
 -- the last of an answer closes the request with its source
 pub answer_closes : {w : ℕ} (x : BeatD w) (t : History w) → ends (Beat.D x) t ≡ true → is_grant x.opcode ≡ false
@@ -160,12 +149,7 @@ pub ack_closes : {w : ℕ} (n : ℕ) (x : BeatD w) (t : History w) → ends (Bea
     × ((k : ℕ) → (ends (Beat.D x) t && (is_release_ack x.opcode && releases k (release_of x.source t))) ≡ (n == k))
     × ((i : ℕ) → (ends (Beat.D x) t && (not (is_release_ack x.opcode) && (x.source == i))) ≡ false)
     × ((i : ℕ) → (ends (Beat.D x) t && (is_release_ack x.opcode && (x.source == i))) ≡ (x.source == i))
-ack_closes n x t last plain acks block = (
-  λ k. rw (last, plain) refl,
-  λ k. rw (last, acks) (released_block k n (release_of x.source t) block),
-  λ i. rw (last, acks) refl,
-  λ i. rw (last, acks) refl,
-)
+ack_closes n x t last plain acks block = grind arith
 
 -- that of a Grant the Acquire with its source, of its block
 pub grant_closes : {w : ℕ} (n : ℕ) (x : BeatD w) (r : BeatA w) (t : History w) → ends (Beat.D x) t ≡ true
@@ -174,9 +158,4 @@ pub grant_closes : {w : ℕ} (n : ℕ) (x : BeatD w) (r : BeatA w) (t : History 
     × ((k : ℕ) → (ends (Beat.D x) t && (is_release_ack x.opcode && releases k (release_of x.source t))) ≡ false)
     × ((i : ℕ) → (ends (Beat.D x) t && (not (is_release_ack x.opcode) && (x.source == i))) ≡ (x.source == i))
     × ((i : ℕ) → (ends (Beat.D x) t && (is_release_ack x.opcode && (x.source == i))) ≡ false)
-grant_closes n x r t last gives other request block = (
-  λ k. rw (last, gives, request, block) refl,
-  λ k. rw (last, other) refl,
-  λ i. rw (last, other) refl,
-  λ i. rw (last, other) refl,
-)
+grant_closes n x r t last gives other request block = grind arith

@@ -45,10 +45,7 @@ pub record IsWellKept {w : ℕ} (e : Endpoint w) : Type 0 where
 -- a pending request is the open one
 pub open-is : {w : ℕ} (source : ℕ) (t : History w) → is_acquire_beat (open_beat source t) ≡ true
     → request_of source t ≡ open_beat source t
-open-is {w} source t some =
-    let go : (b : Bool) → is_acquire_beat (cond b (request_of source t) None) ≡ true
-    → request_of source t ≡ cond b (request_of source t) None = elim [ true ↦ λ e. refl | false ↦ λ e. absurd cc ] in
-    go (pending (RequestSource source) t) some
+open-is {w} source t some = grind arith
 
 coming_is : {w : ℕ} (asked : ℕ → Option (BeatA w)) (n : ℕ) (rest : List (Beat w)) (t : History w) → IsGranting rest t
     → ((source : ℕ) → open_beat source t ≡ asked source)

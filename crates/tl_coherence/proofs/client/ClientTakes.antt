@@ -96,19 +96,14 @@ taken-d {w} {config} {log} {mail} {request} {s} {sys} terms c m {x} {queue} h at
   where
     lawful : level_of config c ≡ Some terms.level → x ≡ beat_of (Message.D m) next.k
         → manager.illegal_at (level_of config c) x ≡ None → illegal terms.level Channel.D x ≡ None
-    lawful e f g =
-        let one : manager.illegal_at (Some terms.level) (beat_of (Message.D m) next.k) ≡ None = cc (e, f, g) in
-        ap (λ (y : Beat w). illegal terms.level Channel.D y) f ∙ one
+    lawful e f g = grind arith
 
 -- ---- an answer
 
 -- the open request is pending, and is the one that the history names
 live_request : {w : ℕ} (source : ℕ) (r : BeatA w) (t : History w) → open_beat source t ≡ Some r
     → (pending (RequestSource source) t ≡ true) × (request_of source t ≡ Some r)
-live_request {w} source r t e =
-    let go : (b : Bool) → pending (RequestSource source) t ≡ b → cond b (request_of source t) None ≡ Some r
-    → (b ≡ true) × (request_of source t ≡ Some r) = elim [ true ↦ λ f g. (refl, g) | false ↦ λ f g. absurd cc ] in
-    go (pending (RequestSource source) t) refl e
+live_request {w} source r t e = grind arith
 
 pub answer-first : {w : ℕ} (p : Profile) {c source : ℕ} {mail : AccessMessages w} {s : State (List ℕ)} {e : Endpoint w}
     → IsEnd (asked_by mail s c) c s e → (due : IsAnswerDue c source mail s) → unfinished Channel.D e.past ≡ []

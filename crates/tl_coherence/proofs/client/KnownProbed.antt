@@ -1,5 +1,5 @@
 -- What a client knows after a Probe: the landed answer has exactly the effect of the abstract event.
-use Rattle.std.proofs.Common.{◌≡◌, ℕ, Bool, true, false, not, cond, List, [], ◌∷◌, Option, None, refl, sym, ◌∙◌, ap}
+use Rattle.std.proofs.Common.{◌≡◌, ℕ, Bool, true, false, not, cond, List, [], ◌∷◌, Option, None, refl, sym, ◌∙◌, ap, arith}
 use Rattle.std.proofs.Common.{◌⊎◌, inl, inr, ne_eqb, ◌==◌, if◌then◌else◌, nat_le, option_map}
 use Rattle.tl_coherence.proofs
 use proofs.Imports.{cases_eq, Beat, BeatA, BeatB, Channel, OpB, OpC, IsWidth, beats-positive, Message, MessageC}
@@ -91,10 +91,7 @@ probe_opens j x t e = (refl, refl)
 
 ack_opens : {w : ℕ} (j : Key) {n : ℕ} {m : MessageC w} (t : History w) → IsProbeAck n m → IsProbeKey j ≡ false
     → (opens j (beat_of (Message.C m) 0) t ≡ false) × (closes j (beat_of (Message.C m) 0) t ≡ false)
-ack_opens (Key.ReleaseSource s) t is e = (rw is.releases_none refl, refl)
-ack_opens (Key.ReleaseOf i) t is e = (rw is.releases_none refl, refl)
-ack_opens (Key.ProbeOf i) t is e = absurd cc
-ack_opens j t is e = (refl, refl)
+ack_opens j t e f = grind arith
 
 -- the history after a Probe and its answer
 abbrev after : {w : ℕ} → BeatB w → MessageC w → History w → History w

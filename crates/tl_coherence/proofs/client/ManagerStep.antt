@@ -1,5 +1,5 @@
 -- The clients' ends after one of them is asked, and after the manager takes a beat.
-use Rattle.std.proofs.Common.{◌≡◌, subst, ℕ, Bool, true, false, cond, List, ◌∷◌, refl, sym, ◌∙◌, ap, inl, inr, not}
+use Rattle.std.proofs.Common.{◌≡◌, subst, ℕ, Bool, true, false, cond, List, ◌∷◌, refl, sym, ◌∙◌, ap, inl, inr, not, arith}
 use Rattle.std.proofs.Common.{ne_eqb, ◌==◌, if◌then◌else◌}
 use Rattle.tl_coherence.proofs
 use proofs.Imports.{cases_eq, Beat, Link, Channel, IsWidth, MessageA, unfinished, Config, Op, EndConfig, Endpoint}
@@ -29,15 +29,11 @@ left_alone {w} c h h' e f leaves same end = subst (λ (x : Endpoint w). IsEndOf 
 -- ---- a client is asked
 
 pub own_client : {w : ℕ} (c : ℕ) (e : Endpoint w) (s : System w) → (with_client c e s).clients c ≡ e
-own_client {w} c e s =
-    let here : (b : Bool) → b ≡ true → cond b e (s.clients c) ≡ e = λ b f. rw f refl in
-    here (c == c) (same_number c)
+own_client {w} c e s = grind arith
 
 pub other_client : {w : ℕ} (k c : ℕ) (e : Endpoint w) (s : System w) → (k ≡ c → ⊥)
     → (with_client c e s).clients k ≡ s.clients k
-other_client {w} k c e s ne =
-    let there : (b : Bool) → b ≡ false → cond b e (s.clients k) ≡ s.clients k = λ b f. rw f refl in
-    there (k == c) (ne_eqb k c ne)
+other_client {w} k c e s ne = grind arith
 
 pub asked_ends : {w : ℕ} {config : Config} {log : Log w} {mail : AccessMessages w} {request : ℕ → MessageA w}
     {s : State (List ℕ)} {sys : System w} (terms : EndConfig) (c k : ℕ)

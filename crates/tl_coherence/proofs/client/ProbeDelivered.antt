@@ -30,10 +30,7 @@ IsElse {w} n asked m = (x : MessageD w) × (m ≡ Message.D x)
 comes_else : {w : ℕ} (n : ℕ) (asked : ℕ → Option (BeatA w)) (m : Message w) (k : ℕ) (rest : List (Beat w))
     → rest ≡ begun m k → IsElse n asked m → comes_granting n asked rest ≡ false
 unfolding IsElse
-comes_else n asked m k rest e is =
-    let go : (i : ℕ) → comes_granting n asked (begun (Message.D is.0) i) ≡ false =
-    elim [ zero ↦ refl | suc i ↦ is.2 ] in
-    cc (e, is.1, go k)
+comes_else n asked m k rest e is = grind arith
 
 -- a client that is probed has no Grant of the block coming
 not_granted : {caching : ℕ → Bool} (c n i : ℕ) (rest : List Packet) {s : State (List ℕ)} → IsInvariant caching s
@@ -124,12 +121,7 @@ pub record IsProbed {w : ℕ} (config : Config) (terms : EndConfig) (tracker c n
 stalls : {w : ℕ} (terms : EndConfig) (x : Beat w) (e : Endpoint w) → broken_before terms Channel.B x e ≡ None
     → waits x e.past ≡ true → offered terms Channel.B x e ≡ silent Verdict.Stalled e
 unfolding offered
-stalls {w} terms x e lawful held =
-    let judged_none : (o : Option Rule) → o ≡ None → judged o terms x e ≡ cond (waits x e.past)
-    (silent Verdict.Stalled e) (judged_later (broken_later terms x e) x e) = λ o f. rw f refl in
-    let stalled : (b : Bool) → b ≡ true → cond b (silent Verdict.Stalled e) (judged_later (broken_later terms x e) x e)
-    ≡ silent Verdict.Stalled e = λ b f. rw f refl in
-    judged_none (broken_before terms Channel.B x e) lawful ∙ stalled (waits x e.past) held
+stalls {w} terms x e lawful held = grind arith
 
 pub first_beat : (k n : ℕ) → k < n → n ≡ 1 → k ≡ 0
 first_beat k n lt one = omega (arith, lt, one)

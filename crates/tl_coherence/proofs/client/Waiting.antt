@@ -1,5 +1,5 @@
 -- The Acquire that waits is the one that its client has open: after any event.
-use Rattle.std.proofs.Common.{◌≡◌, ℕ, Bool, true, false, ◌&&◌, List, refl, sym, ◌∙◌, ap, subst, inl, inr, ◌==◌}
+use Rattle.std.proofs.Common.{◌≡◌, ℕ, Bool, true, false, ◌&&◌, List, refl, sym, ◌∙◌, ap, subst, inl, inr, ◌==◌, arith}
 use Rattle.std.proofs.Common.{if◌then◌else◌}
 use Rattle.tl_coherence.proofs
 use proofs.Imports.{cases_eq, ⊤, Message, MessageA, Config, Cap, Grow, block_at, Op, Reply, copy_stored, whole_grow}
@@ -24,11 +24,7 @@ KeepsOpen b new = (r source : ℕ) (k : Cap) → b.service ≡ Waits r true sour
 still : {w : ℕ} (n : ℕ) (b new : Block (List ℕ)) (m : MessageA w) → new.service ≡ b.service → KeepsOpen b new
     → IsAcquireOf n b b.service m → IsAcquireOf n new new.service m
 unfolding block_message
-still {w} n b new m same keeps is = subst (λ (v : Service). IsAcquireOf n new v m) (sym same) (go b.service refl is)
-  where
-    go : (v : Service) → b.service ≡ v → IsAcquireOf n b v m → IsAcquireOf n new v m
-    go (Waits r true source k) e f = let p = keeps r source k e in rw (p.0, p.1) f
-    go v e f = tt
+still {w} n b new m same keeps is = grind arith
 
 -- in the place of one block
 replaced : {w : ℕ} (n : ℕ) (new : Block (List ℕ)) (block : ℕ → Block (List ℕ)) (m : MessageA w) (request : ℕ
@@ -66,12 +62,7 @@ waiting_for : {w : ℕ} (c n tracker : ℕ) (k : Cap) (whole : Bool) (g : Grow) 
     → block_message {w = w} Acquire c n (served_block c true (b.source c) tracker k b) ≡ Message.A
     (acquisition (acquire_opcode whole) g (b.source c) n)
 unfolding block_message
-waiting_for {w} c n tracker k whole g b wants =
-    let spared : (x : Bool) → (if true && x then b.pair c else after_served k (b.pair c)).acquiring
-    ≡ (b.pair c).acquiring = elim [ true ↦ refl | false ↦ refl ] in
-    let go : (x : Bool) → acquire_of {w = w} (AcquireOpen x g) (b.source c) n
-    ≡ Message.A (acquisition (acquire_opcode x) g (b.source c) n) = elim [ true ↦ refl | false ↦ refl ] in
-    rw (spared (c == c), wants) (go whole)
+waiting_for {w} c n tracker k whole g b wants = grind arith
 
 pub kind_taken-acquired : {w : ℕ} (config : Config) (tracker c : ℕ) (k : Kind) (i : ℕ) (rest : List Packet)
     (h : AbstractState w) → AreAcquired h.request h.state.block

@@ -1,5 +1,5 @@
 -- An operation that a client is asked for: the channels and the one memory afterwards.
-use Rattle.std.proofs.Common.{◌≡◌, ℕ, Bool, true, false, ◌||◌, List, [], ◌∷◌, Option, Some, None, refl, sym, ◌∙◌, ap}
+use Rattle.std.proofs.Common.{◌≡◌, ℕ, Bool, true, false, ◌||◌, List, [], ◌∷◌, Option, Some, None, refl, sym, ◌∙◌, ap, arith}
 use Rattle.std.proofs.Common.{subst, inl, inr}
 use Rattle.tl_coherence.proofs
 use proofs.Imports.{cases_eq, or_right, OpA, IsWidth, Message, MessageA, Config, Grow, Prune, Perm, same_perm, block_at}
@@ -150,16 +150,7 @@ carried-ask {w} {config} {log} h {sys} c terms o width is known =
 pub none_answered : {w : ℕ} (c : ℕ) (o : Op w) (r : Reply) (h : AbstractState w) (m : Option (Message w)) → IsReply o r
     → IsHandedOut c o r h m → accesses_answered (handed_by c m) ≡ []
 unfolding accesses_answered
-none_answered {w} c o r h m may_be =
-    let released : (p : Prune) (source n : ℕ) (bytes : List ℕ) → m ≡ Some (release p source n bytes) → accesses_answered
-    (handed_by c m) ≡ [] = elim [ Prune.TtoB ↦ λ source n bytes e. rw e refl | p ↦ λ source n bytes e. rw e refl ] in
-    let none : m ≡ None → accesses_answered (handed_by c m) ≡ [] = λ e. rw e refl in
-    let one_a : (x : MessageA w) → m ≡ Some (Message.A x) → accesses_answered (handed_by c m) ≡ [] = λ x e. rw e refl in
-    reply-cases (λ i j. IsHandedOut c i j h m → accesses_answered (handed_by c m) ≡ []) o r may_be
-    (λ address size value e. none e) (λ n g source e. one_a (acquisition OpA.AcquireBlock g source n) e)
-    (λ n bytes source e. one_a (acquisition OpA.AcquirePerm (whole_grow ((h.state.block n).pair c).held) source n)
-    e) (λ n p source e. released p source n (h.state.block n).truth e) (λ x source e. one_a (sourced source x) e)
-    (λ i j plain e. none ((plain c h).1 m e))
+none_answered {w} c o r h m may_be = grind arith
 
 pub beside-ask : {w : ℕ} {config : Config} {log : Log w} (h : AbstractState w) (c : ℕ) (terms : client.EndConfig)
     (o : Op w) → IsWidth w

@@ -1,6 +1,6 @@
 -- What a client answers to an operation, beside the protocol and the one-memory machine: what it starts it may start,
 -- and its reply is one that the machine allows.
-use Rattle.std.proofs.Common.{◌≡◌, ℕ, true, false, not, ◌||◌, List, Option, Some, None, refl, sym, ◌∙◌, ap, subst}
+use Rattle.std.proofs.Common.{◌≡◌, ℕ, true, false, not, ◌||◌, List, Option, Some, None, refl, sym, ◌∙◌, ap, subst, arith}
 use Rattle.std.proofs.Common.{eqb-true, ◌==◌, is_none, nat_le}
 use Rattle.tl_coherence.proofs
 use proofs.Imports.{and_parts, not-false, or_parts, Channel, IsWidth, Message, MessageA, Config, RequestSource}
@@ -54,11 +54,7 @@ asked-well {w} config log h sys c terms o width is known = asked-cases terms o e
         (least_free-some (λ i. pending (RequestSource i) e.past) 0 terms.sources one).0
 
     unopened : (source : ℕ) → s.uses c source ≡ SourceFree → m.opened c Requests source ≡ None
-    unopened source used = go (s.uses c source) used (is.beside.requests c source)
-      where
-        go : (u : SourceState) → u ≡ SourceFree → IsOpened c source h.mail s u (m.opened c Requests source)
-            → m.opened c Requests source ≡ None
-        go u f i = subst (λ (v : SourceState). IsOpened c source h.mail s v (m.opened c Requests source)) f i
+    unopened source used = grind arith
 
     transfers : (n : ℕ) → (pending (AcquireOf n) e.past || pending (ReleaseOf n) e.past) ≡ false
         → (((s.block n).pair c).acquiring ≡ NoAcquire) × (((s.block n).pair c).letting ≡ NoRelease)

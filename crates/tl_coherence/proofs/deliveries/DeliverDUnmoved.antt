@@ -1,5 +1,5 @@
 -- A delivery that moves no beat, and the channels and the one memory after a delivery.
-use Rattle.std.proofs.Common.{◌≡◌, ℕ, Bool, true, false, List, [], ◌∷◌, Option, Some, None, refl, sym, ◌∙◌, ap, ◌⊎◌}
+use Rattle.std.proofs.Common.{◌≡◌, ℕ, Bool, true, false, List, [], ◌∷◌, Option, Some, None, refl, sym, ◌∙◌, ap, ◌⊎◌, arith}
 use Rattle.std.proofs.Common.{inl, inr, not, ne_eqb, ◌==◌, if◌then◌else◌, Result, Ok, Err}
 use Rattle.tl_coherence.proofs
 use proofs.Imports.{cases_eq, not-true, or_right, Beat, Link, Channel, Message, unfinished, Config, Cap, Grow, Perm}
@@ -69,14 +69,7 @@ pub record IsUnmoved {w : ℕ} (sys : System w) (x : Step w) : Type 0 where
 
 only_unmoved : {w : ℕ} (o : Outcome w) (sys : System w)
     → ((link : Link) (ch : Channel) (m : Machine w) → moved (Deliver link ch) o m ≡ m) → IsUnmoved sys (only o sys)
-only_unmoved o sys still = record {
-  channels = λ d at. refl;
-  rests = λ d at. refl;
-  pasts = λ d. refl;
-  trace = refl;
-  handed = refl;
-  machine = still;
-}
+only_unmoved o sys still = grind arith
 
 refused_unmoved : {w : ℕ} (c : ℕ) (e : client.Endpoint w) (sys : System w) → e.past ≡ (sys.clients c).past
     → IsUnmoved sys (only Outcome.Stalled (with_client c e sys))

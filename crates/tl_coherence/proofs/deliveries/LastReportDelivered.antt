@@ -26,19 +26,11 @@ wanted_fields : {w : ℕ} (q n : ℕ) (whole : Bool) (g : Grow) (b : Block (List
     → (b.pair q).acquiring ≡ AcquireOpen whole g
     → block_message Acquire q n b ≡ Message.A v → (v.opcode ≡ acquire_opcode whole) × (v.param ≡ grow_code g)
 unfolding block_message
-wanted_fields {w} q n true g b v wants e =
-    let same = same_message _ v (rw wants at e) in
-    (ap (λ (m : MessageA w). m.opcode) (sym same), ap (λ (m : MessageA w). m.param) (sym same))
-wanted_fields {w} q n false g b v wants e =
-    let same = same_message _ v (rw wants at e) in
-    (ap (λ (m : MessageA w). m.opcode) (sym same), ap (λ (m : MessageA w). m.param) (sym same))
+wanted_fields q n whole g b v e f = grind arith
 
 -- what a client sees that has answered a Probe
 pub seen_apart : (q source : ℕ) (k : Cap) (c : ℕ) → is_other (view (Waits q true source k) c) ≡ true → c ≡ q → ⊥
-seen_apart q source k c e same =
-    let go : (b : Bool) → b ≡ true → is_other (if true && b then Own else Other k) ≡ true → ⊥ =
-    elim [ true ↦ λ f g. cc | false ↦ λ f g. cc ] in
-    go (c == q) (rw (same, same_number q) refl) e
+seen_apart q source k c e same = grind arith
 
 -- ---- what is handed out
 

@@ -25,10 +25,7 @@ of_source i y t false o e f g before = rw e (before refl)
 pub of_other : {w : ℕ} (i : ℕ) (y : BeatA w) (t : History w) → (y.source == i) ≡ false
     → request_of i (Beat.A y ∷ t) ≡ request_of i t
 unfolding request_of
-of_other {w} i y t e =
-    let go : (p q : Bool) → q ≡ false → (if p && q then Some y else request_of i t) ≡ request_of i t =
-    elim [ true ↦ λ q f. rw f refl | false ↦ λ q f. refl ] in
-    go (begins (Beat.A y) t) (y.source == i) e
+of_other {w} i y t e = grind arith
 
 unsaid : (last : Bool) (p : Perm) → (if last then p else p) ≡ p
 unsaid last p = grind arith

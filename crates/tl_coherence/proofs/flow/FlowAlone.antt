@@ -1,6 +1,6 @@
 -- What is delivered on a link, as a Probe or a GrantAck is: messages of one beat, which leave requests
 -- and Releases alone.
-use Rattle.std.proofs.Common.{◌≡◌, ℕ, Bool, true, false, not, ◌&&◌, ◌||◌, ◌∷◌, Option, Some, None, refl, sym, ◌∙◌, ap}
+use Rattle.std.proofs.Common.{◌≡◌, ℕ, Bool, true, false, not, ◌&&◌, ◌||◌, ◌∷◌, Option, Some, None, refl, sym, ◌∙◌, ap, arith}
 use Rattle.std.proofs.Common.{List, ◌⊎◌, inl, inr, ne_eqb, eqb-true, ◌==◌, if◌then◌else◌}
 use Rattle.tl_coherence.proofs
 use proofs.Imports.{cases_eq, Beat, BeatA, BeatE, Channel, History, grown, Cap, comes_in_grant, begins, ends}
@@ -110,11 +110,7 @@ flowed-grant_ack {w} {X} {c} n toks y {asked} asked' {rest} rest' {s}
         (no_cap b.service seen) m in cc (before.probed m (answered_other m e))
       where
         no_cap : (q : Service) → view q c ≡ Acknowledging → cap_waited Free ≡ cap_waited q
-        no_cap (Waits q own source k) f =
-            let waits : (z : Bool) (j : Cap) → (if z then Own else Other j) ≡ Acknowledging → ⊥ =
-            elim [ true ↦ λ j g. absurd cc | false ↦ λ j g. absurd cc ] in
-            absurd (waits (own && (c == q)) k f)
-        no_cap q f = refl
+        no_cap q e = grind arith
 
     of_block : (m : ℕ) → granted_by c m asked (rest Channel.D) (s.block m) ≡ true → is_busy (s.block m).service ≡ true
     of_block m e = go (is_acknowledging (view (s.block m).service c)) (comes_granting m asked (rest Channel.D)) refl
@@ -141,9 +137,7 @@ flowed-grant_ack {w} {X} {c} n toks y {asked} asked' {rest} rest' {s}
     closes_it p q e = rw e refl
 
     leaves_it : (p q : Bool) → (p ≡ true → q ≡ false) → (if true && q then false else p) ≡ p
-    leaves_it false true h = refl
-    leaves_it p false h = refl
-    leaves_it true true h = let g : true ≡ false = h refl in cc
+    leaves_it p q e = grind arith
 
     other_closed : (m : ℕ) → (m ≡ n → ⊥) → granted_by c m asked (rest Channel.D) (s.block m) ≡ true
         → is_sink y.sink (grant_sink m t) ≡ false

@@ -21,10 +21,7 @@ probed-of n y t = refl
 sunk-of : {w : ℕ} (n : ℕ) (y : BeatD w) (t : History w) → is_grant y.opcode ≡ false
     → grant_sink n (Beat.D y ∷ t) ≡ grant_sink n t
 unfolding grant_sink
-sunk-of {w} n y t e =
-    let go : (p q r : Bool) → q ≡ false → (if p && (q && r) then Some y.sink else grant_sink n t) ≡ grant_sink n t =
-    elim [ true ↦ λ q r f. rw f refl | false ↦ λ q r f. refl ] in
-    go (begins (Beat.D y) t) (is_grant y.opcode) (asks_for n (request_of y.source t)) e
+sunk-of {w} n y t e = grind arith
 
 -- ---- what a beat opens and closes
 

@@ -26,13 +26,7 @@ replied c source s = record s { uses = set_at c source Replied s.uses }
 
 uses-heard : (c source : ℕ) (u v : SourceState) (uses : ℕ → ℕ → SourceState) → is_heard u ≡ true → is_heard v ≡ true
     → (d i : ℕ) → IsSameUse (set_at c source u uses d i) (set_at c source v uses d i)
-uses-heard c source u v uses was is d i = elim (cases_eq i source) [
-  | inl same ↦ elim (cases_eq d c) [
-    | inl here ↦ inr (rw (here, same, set_at-same c source u uses) was, rw (here, same, set_at-same c source v uses) is)
-    | inr ne ↦ inl (set_at-other c d source i v uses ne ∙ sym (set_at-other c d source i u uses ne))
-  ]
-  | inr other ↦ inl (set_at-else c source i v uses other d ∙ sym (set_at-else c source i u uses other d))
-]
+uses-heard c source u v uses was is d i = grind arith
 
 -- another value at one place, and then a third one
 set-again : {Y : Type 0} (n : ℕ) (y z : Y) (f : ℕ → Y) (m : ℕ) → set n z f m ≡ set n z (set n y f) m
@@ -287,14 +281,7 @@ module _ {w : ℕ} {X : Type 0} (d : ℕ) (asked asked' : ℕ → Option (BeatA 
         new = granted_block c q r x k (s.block n)
 
         unsunk_now : (i : ℕ) → s.tracked i ≡ Some n → sunk_in d i (rest Channel.D) new ≡ false
-        unsunk_now i e =
-            let granted : (z : Bool) → (is_acknowledging (if z then Granting x k else GrantedOther) || (is_granting (if
-            z then Granting x k else GrantedOther) && false)) ≡ false = elim [ true ↦ refl | false ↦ refl ] in
-            elim (cases_eq d q) [
-              | inl here ↦ cc (none i e, granted (d == q))
-              | inr other ↦ outside-unsunk (view new.service d) (comes_in_grant i (rest Channel.D))
-                  (outside-sent d q x k other)
-            ]
+        unsunk_now i e = grind arith
 
         unsunk_then : (i : ℕ) → sunk_in d i (rest Channel.D) (between.block n) ≡ false
         unsunk_then i = cc (seen (Waits q true source j) waits, waiting (d == q))

@@ -17,16 +17,12 @@ came-so {w} f {m} v next none some =
 
 pub comes-so : {w : ℕ} (f : List (Beat w) → Bool) (x : Beat w) (rest : List (Beat w)) (v : Bool) → f [] ≡ false
     → f (x ∷ rest) ≡ v → f (grown x rest) ≡ (not (completes x rest) && v)
-comes-so {w} f x rest v none here =
-    let go : (b : Bool) → f (if b then [] else x ∷ rest) ≡ (not b && v) = elim [ true ↦ none | false ↦ here ] in
-    go (completes x rest)
+comes-so {w} f x rest v none here = grind arith
 
 -- the first beat is beat 0
 pub first-zero : {w : ℕ} {m : Message w} {x : Beat w} {rest : List (Beat w)} {ms : List (Message w)}
     {queue : List (Beat w)} → (next : IsNext x rest m ms queue) → is_empty rest ≡ true → next.k ≡ 0
-first-zero {w} {m} next e =
-    let go : (k : ℕ) → is_empty (begun m k) ≡ true → k ≡ 0 = elim [ zero ↦ λ f. refl | suc j ↦ λ f. absurd cc ] in
-    go next.k (sym (ap is_empty next.rest_is) ∙ e)
+first-zero {w} {m} next e = grind arith
 
 -- a message of one beat
 pub one-beat : {w : ℕ} {m : Message w} {x : Beat w} {rest : List (Beat w)} {ms : List (Message w)}

@@ -87,10 +87,7 @@ of_block m y t false v e f g before = rw e (before refl)
 of_other : {w : ℕ} (m : ℕ) (y : BeatD w) (t : History w)
     → (is_grant y.opcode && asks_for m (request_of y.source t)) ≡ false → grant_sink m (Beat.D y ∷ t) ≡ grant_sink m t
 unfolding grant_sink
-of_other {w} m y t e =
-    let go : (p q : Bool) → q ≡ false → (if p && q then Some y.sink else grant_sink m t) ≡ grant_sink m t =
-    elim [ true ↦ λ q f. rw f refl | false ↦ λ q f. refl ] in
-    go (begins (Beat.D y) t) (is_grant y.opcode && asks_for m (request_of y.source t)) e
+of_other {w} m y t e = grind arith
 
 -- a use that isn't of the block in which the states differ
 pub requested-apart : {w : ℕ} {X : Type 0} (c i n : ℕ) (rest rest' : List (Beat w)) (u : SourceState) (s s' : State X)

@@ -61,9 +61,7 @@ probe-flows {w} p n x {t} flowed whole block unanswered open_ none_comes =
 
 unlet : {w : ℕ} (source : ℕ) (rest : List (Beat w)) (l : ReleasePhase) → rest ≡ [] → is_acked l ≡ false
     → is_release_pending source rest l ≡ false
-unlet source rest NoRelease e f = refl
-unlet source rest (ReleaseSent r) e f = ap (comes_in_release source) e
-unlet source rest ReleaseAcked e f = absurd cc
+unlet source rest l e f = grind arith
 
 pub report-flows : {w : ℕ} {X : Type 0} (p : Profile) {c : ℕ} (n : ℕ) (k : Cap) (r : Report) (x : BeatC w) {asked : ℕ
     → Option (BeatA w)} {rest : Channel → List (Beat w)} {s : State X} {t : History w}

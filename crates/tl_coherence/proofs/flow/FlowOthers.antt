@@ -48,20 +48,7 @@ is_outside GrantedOther = true
 is_outside _ = false
 
 outside-same : (v v' : View) → is_outside v ≡ true → is_outside v' ≡ true → IsSameView v v'
-outside-same v v' e f = record {
-  granting = granting v' f ∙ sym (granting v e);
-  unserved = unserved v' f ∙ sym (unserved v e);
-  acknowledging = acknowledging v' f ∙ sym (acknowledging v e);
-}
-  where
-    granting : (u : View) → is_outside u ≡ true → is_granting u ≡ false
-    granting u e = grind arith
-
-    unserved : (u : View) → is_outside u ≡ true → is_unserved u ≡ true
-    unserved u e = grind arith
-
-    acknowledging : (u : View) → is_outside u ≡ true → is_acknowledging u ≡ false
-    acknowledging u e = grind arith
+outside-same v v' e f = grind arith
 
 -- only the one who asked sees a service from inside
 pub outside-waits : (d r source : ℕ) (own : Bool) (k : Cap) → (own && (d == r)) ≡ false

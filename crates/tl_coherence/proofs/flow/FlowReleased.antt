@@ -106,10 +106,7 @@ of_source part v i y t false e f g h before = rw e (before refl)
 of_other : {w : ℕ} (i : ℕ) (y : BeatC w) (t : History w) → (y.source == i) ≡ false
     → release_of i (Beat.C y ∷ t) ≡ release_of i t
 unfolding release_of
-of_other {w} i y t e = go (begins (Beat.C y) t) (is_release y.opcode) (y.source == i) e
-  where
-    go : (p q r : Bool) → r ≡ false → (if p && (q && r) then Some y else release_of i t) ≡ release_of i t
-    go p q r e = grind arith
+of_other {w} i y t e = grind arith
 
 both_some : (n m : ℕ) (o : Option ℕ) → o ≡ Some n → o ≡ Some m → n ≡ m
 both_some n m None e f = absurd cc

@@ -12,10 +12,7 @@ use proofs.flow.{FlowStep.step_quiet}
 pub released-of : {w : ℕ} (i : ℕ) (y : BeatC w) (t : History w) → is_release y.opcode ≡ false
     → release_of i (Beat.C y ∷ t) ≡ release_of i t
 unfolding release_of
-released-of {w} i y t e =
-    let go : (b r : Bool) → r ≡ false → (if b && (r && (y.source == i)) then Some y else release_of i t)
-    ≡ release_of i t = elim [ true ↦ λ r f. rw f refl | false ↦ λ r f. refl ] in
-    go (begins (Beat.C y) t) (is_release y.opcode) e
+released-of {w} i y t e = grind arith
 
 pub let_rest : {w : ℕ} (i : ℕ) (rest rest' : List (Beat w)) (l : ReleasePhase)
     → comes_in_release i rest' ≡ comes_in_release i rest → is_release_pending i rest' l ≡ is_release_pending i rest l

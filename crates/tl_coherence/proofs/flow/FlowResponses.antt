@@ -106,10 +106,7 @@ IsUnreleased {w} source m = (r : MessageC w) × (m ≡ Message.C r)
 unreleased : {w : ℕ} (source : ℕ) (m : Message w) (k : ℕ) (rest : List (Beat w)) → rest ≡ begun m k
     → IsUnreleased source m → comes_in_release source rest ≡ false
 unfolding IsUnreleased
-unreleased {w} source m k rest e is =
-    let go : (i : ℕ) → comes_in_release source (begun (Message.C is.0) i) ≡ false =
-    elim [ zero ↦ refl | suc i ↦ is.2 ] in
-    cc (e, is.1, go k)
+unreleased {w} source m k rest e is = grind arith
 
 unreleased_report : (w : ℕ) (source : ℕ) (p : Perm) (r : Report) (n : ℕ) (copy : List ℕ)
     → IsUnreleased {w = w} source (probe_ack OpB.ProbeBlock p r n copy)

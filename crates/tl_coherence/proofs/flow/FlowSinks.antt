@@ -1,6 +1,6 @@
 -- A beat of channel E that is delivered breaks no rule after what was delivered before it: no Grant
 -- with its sink is still coming.
-use Rattle.std.proofs.Common.{◌≡◌, ℕ, zero, suc, Bool, true, false, ◌&&◌, List, [], ◌∷◌, Some, None, refl, sym, ◌∙◌, ap}
+use Rattle.std.proofs.Common.{◌≡◌, ℕ, zero, suc, Bool, true, false, ◌&&◌, List, [], ◌∷◌, Some, None, refl, sym, ◌∙◌, ap, arith}
 use Rattle.std.proofs.Common.{ne_eqb, ◌==◌, map}
 use Rattle.tl_coherence.proofs
 use proofs.Imports.{and_right, same_Some, Beat, BeatE, Channel, IsWidth, Message, MessageA, MessageD, begun, unfinished}
@@ -21,9 +21,7 @@ IsElse {w} sink m = (x : MessageD w) × (m ≡ Message.D x) × ((is_grant x.opco
 comes_else : {w : ℕ} (sink : ℕ) (m : Message w) (k : ℕ) (rest : List (Beat w)) → rest ≡ begun m k → IsElse sink m
     → comes_in_grant sink rest ≡ false
 unfolding IsElse
-comes_else sink m k rest e is =
-    let go : (i : ℕ) → comes_in_grant sink (begun (Message.D is.0) i) ≡ false = elim [ zero ↦ refl | suc i ↦ is.2 ] in
-    ap (comes_in_grant sink) e ∙ ap (λ y. comes_in_grant sink (begun y k)) is.1 ∙ go k
+comes_else sink m k rest e is = grind arith
 
 not_both : (c : ℕ) (d : Bool) (k : Cap) (q : Service) → q ≡ GrantSent c d k → q ≡ GrantTaken c → ⊥
 not_both c d k q e f = let g : GrantSent c d k ≡ GrantTaken c = sym e ∙ f in cc

@@ -19,10 +19,7 @@ use proofs.simulation.BeatsInFlight.{level-terms}
 on-link : {w : ℕ} (n : ℕ) (link : Link) (x : Beat w) (t : Trace w)
     → on_link n ((link, x) ∷ t) ≡ (if link.0 == n then x ∷ [] else []) ++ on_link n t
 unfolding on_link
-on-link {w} n link x t =
-    let go : (b : Bool) → (if b then x ∷ on_link n t else on_link n t) ≡ (if b then x ∷ [] else []) ++ on_link n t =
-    elim [ true ↦ refl | false ↦ refl ] in
-    go (link.0 == n)
+on-link {w} n link x t = grind arith
 
 taken-flows : {w : ℕ} (n : ℕ) (event : Event w) (o : Outcome w) (t : Trace w)
     → on_link n (taken_at event o ++ t) ≡ taken_on n event o ++ on_link n t

@@ -1,5 +1,5 @@
 -- What all links carry together: at a Grant the others hold no more than it leaves them.
-use Rattle.std.proofs.Common.{◌≡◌, ℕ, zero, suc, Bool, true, false, List, ◌∷◌, Some, refl, sym, ◌∙◌, ap, subst, inl}
+use Rattle.std.proofs.Common.{◌≡◌, ℕ, zero, suc, Bool, true, false, List, ◌∷◌, Some, refl, sym, ◌∙◌, ap, subst, inl, arith}
 use Rattle.std.proofs.Common.{inr, ◌||◌, Option, ne_eqb, ◌==◌, if◌then◌else◌, eq-eqb}
 use Rattle.tl_coherence.proofs
 use proofs.Imports.{cases_eq, or_right, Beat, BeatD, Channel, History, channel_of, Config, Cap, Perm, cap_right}
@@ -30,10 +30,7 @@ free-where (suc n) spared given block t each = rw (free-where n spared given blo
 -- who isn't granted the block in service sees another's
 other_view : (c other : ℕ) (d : Bool) (k : Cap) (service : Service) → service ≡ GrantSent c d k → (other ≡ c → ⊥)
     → is_granting (view service other) ≡ false
-other_view c other d k service e ne = cc (e, here (other == c) (ne_eqb other c ne))
-  where
-    here : (x : Bool) → x ≡ false → is_granting (if x then Granting d k else GrantedOther) ≡ false
-    here x f = rw f refl
+other_view c other d k service e ne = grind arith
 
 -- what is held by what was delivered is at most what is recorded
 pub held_by_most : {X : Type 0} (c : ℕ) (b : Block X) (v : View) → perm_le (b.pair c).held (b.pair c).recorded ≡ true

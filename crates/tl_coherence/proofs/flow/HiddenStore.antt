@@ -1,5 +1,5 @@
 -- A client stores to its copy only where its link holds Trunk.
-use Rattle.std.proofs.Common.{◌≡◌, ℕ, Bool, true, false, List, refl, sym, ◌∙◌, ap, Option, Some, None, if◌then◌else◌}
+use Rattle.std.proofs.Common.{◌≡◌, ℕ, Bool, true, false, List, refl, sym, ◌∙◌, ap, Option, Some, None, if◌then◌else◌, arith}
 use Rattle.tl_coherence.proofs
 use proofs.Imports.{Perm, block_at, held, Op, Reply, EndConfig, Ask, Outcome, view, Block, is_granting, AbstractState}
 use proofs.Imports.{SimulationRelation, system_after, perm_le, Step, terms_at}
@@ -14,9 +14,7 @@ use proofs.queues.{Facts.held_at_most, Steps.stepped-asked}
 -- who holds Trunk holds it by what was delivered too
 still_trunk : (granting : Bool) (held recorded : Perm) → perm_le held recorded ≡ true → held ≡ Perm.Trunk
     → (if granting then held else recorded) ≡ Perm.Trunk
-still_trunk true held recorded le trunk = trunk
-still_trunk false held Perm.Trunk le trunk = refl
-still_trunk false held recorded le trunk = absurd (let refuse : false ≡ true = rw trunk at le in cc)
+still_trunk granting held recorded e f = grind arith
 
 same_reply : {w : ℕ} (r s : Reply) → ◌≡◌ {A = Outcome w} (Outcome.Replied r) (Outcome.Replied s) → r ≡ s
 same_reply r s e = cc

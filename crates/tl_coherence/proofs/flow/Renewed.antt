@@ -1,6 +1,6 @@
 -- What the protocol does at an event to the accesses that are answered: each was answered before, or nobody is recorded
 -- any more with what excludes it, and it is answered what the block had.
-use Rattle.std.proofs.Common.{◌≡◌, ℕ, true, false, not, ◌&&◌, List, ◌∷◌, ◌⊎◌, Option, Some, None, refl, sym, ◌∙◌, ap}
+use Rattle.std.proofs.Common.{◌≡◌, ℕ, true, false, not, ◌&&◌, List, ◌∷◌, ◌⊎◌, Option, Some, None, refl, sym, ◌∙◌, ap, arith}
 use Rattle.std.proofs.Common.{inl, inr, length, ◌==◌}
 use Rattle.tl_coherence.proofs
 use proofs.Imports.{cases_eq, Message, MessageA, Config, Cap, Report, answer_of, block_at, is_acquire}
@@ -21,10 +21,7 @@ use proofs.memory.BesideTaken.{intent-reply, memory-reported, memory-unprobed}
 -- ---- one place of two numbers
 
 placed : (c k d j : ℕ) → ((d ≡ c) × (j ≡ k)) ⊎ ((d ≡ c) × (j ≡ k) → ⊥)
-placed c k d j = elim (cases_eq d c) [
-  | inl same ↦ elim (cases_eq j k) [ inl here ↦ inl (same, here) | inr other ↦ inr (λ both. other both.1) ]
-  | inr ne ↦ inr (λ both. ne both.0)
-]
+placed c k d j = grind arith
 
 -- ---- accesses that are answered
 

@@ -21,33 +21,10 @@ cap-large : (n : ℕ) → 4 ≤ n → is_some (cap_of n) ≡ false
 cap-large n large = rw (apart n 0 (omega arith), apart n 1 (omega arith), apart n 2 (omega arith)) refl
 
 a-large : (opcode : OpA) (n : ℕ) → 8 ≤ n → a_has_param opcode n ≡ false
-a-large OpA.ArithmeticData n large = rw (
-  apart n 0 (omega arith),
-  apart n 1 (omega arith),
-  apart n 2 (omega arith),
-  apart n 3 (omega arith),
-  apart n 4 (omega arith),
-) refl
-a-large OpA.LogicalData n large =
-    rw (apart n 0 (omega arith), apart n 1 (omega arith), apart n 2 (omega arith), apart n 3 (omega arith)) refl
-a-large OpA.Intent n large = rw (apart n 0 (omega arith), apart n 1 (omega arith)) refl
-a-large OpA.AcquireBlock n large = rw (apart n 0 (omega arith), apart n 1 (omega arith), apart n 2 (omega arith)) refl
-a-large OpA.AcquirePerm n large = rw (apart n 0 (omega arith), apart n 1 (omega arith), apart n 2 (omega arith)) refl
-a-large opcode n large = apart n 0 (omega arith)
+a-large opcode n e = grind arith
 
 c-large : (opcode : OpC) (n : ℕ) → 8 ≤ n → c_has_param opcode n ≡ false
-c-large OpC.ProbeAck n large = rw (
-  apart n 0 (omega arith),
-  apart n 1 (omega arith),
-  apart n 2 (omega arith),
-  apart n 3 (omega arith),
-  apart n 4 (omega arith),
-  apart n 5 (omega arith),
-) refl
-c-large OpC.ProbeAckData n large = rw (apart n 0 (omega arith), apart n 1 (omega arith), apart n 3 (omega arith)) refl
-c-large OpC.Release n large = rw (apart n 0 (omega arith), apart n 1 (omega arith), apart n 2 (omega arith)) refl
-c-large OpC.ReleaseData n large = rw (apart n 0 (omega arith), apart n 1 (omega arith)) refl
-c-large opcode n large = apart n 0 (omega arith)
+c-large opcode n e = grind arith
 
 d-large : (opcode : OpD) (n : ℕ) → 4 ≤ n → d_has_param opcode n ≡ false
 d-large OpD.Grant n large = cap-large n large

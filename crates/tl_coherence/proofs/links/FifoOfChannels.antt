@@ -38,9 +38,7 @@ IsPassing sys f = ArePassing (λ d. (sys.clients d).past) (λ d. on_link d sys.m
 -- ---- a client hands out a message, or none
 
 ours_from : {w : ℕ} (m : Message w) → IsOfClient m → is_from_client (beat_of m 0) ≡ true
-ours_from (Message.B m) is = absurd is
-ours_from (Message.D m) is = absurd is
-ours_from m is = refl
+ours_from m e = grind arith
 
 abbrev IsOurs : {w : ℕ} → Option (Message w) → Type 0
 IsOurs None = ⊤
@@ -88,10 +86,7 @@ pub flow_moved : {w : ℕ} (link : Link) (ch : Channel) (o : Outcome w) (x : Bea
     → taken_on d (Deliver link ch) o ≡ (if link.0 == d then x ∷ [] else [])
     → flow d ((Deliver link ch, o) ∷ log) ≡ heard_at link.0 x (λ i. flow i log) d
 unfolding flow
-flow_moved {w} link ch o x log d is =
-    let go : (b : Bool) → (if b then x ∷ [] else []) ++ flow d log ≡ (if b then x ∷ flow d log else flow d log) =
-    elim [ true ↦ refl | false ↦ refl ] in
-    ap (λ xs. xs ++ flow d log) is ∙ go (link.0 == d)
+flow_moved {w} link ch o x log d is = grind arith
 
 -- the beat that a client takes
 pub taken_at : {w : ℕ} (link : Link) (ch : Channel) (x : Beat w) (v : Verdict) (d : ℕ)

@@ -56,13 +56,7 @@ apart : (at ch : Channel) (b : Bool) → is_to_client at ≡ b → is_to_client 
 apart at ch b e f = go (same_channel at ch) refl
   where
     differ : (x y : Bool) → x ≡ y → x ≡ b → y ≡ not b → ⊥
-    differ true true e f g =
-        let differs : (b : Bool) → true ≡ b → true ≡ not b → ⊥ = elim [ true ↦ λ f g. cc | false ↦ λ f g. cc ] in
-        absurd (differs b f g)
-    differ false false e f g =
-        let differs : (b : Bool) → false ≡ b → false ≡ not b → ⊥ = elim [ true ↦ λ f g. cc | false ↦ λ f g. cc ] in
-        absurd (differs b f g)
-    differ x y e f g = cc
+    differ x y e f g = grind arith
 
     go : (x : Bool) → same_channel at ch ≡ x → x ≡ false
     go false g = refl
@@ -118,11 +112,7 @@ unsaid_history {w} l m p d at differs =
 
 unsaid_queue : {w : ℕ} (l : ℕ) (m : Message w) (q : ℕ → Channel → List (Beat w)) (d : ℕ) (at : Channel)
     → same_channel at (channel_of_message m) ≡ false → queued_at l m q d at ≡ q d at
-unsaid_queue {w} l m q d at differs = go (d == l) (same_channel at (channel_of_message m)) differs
-  where
-    go : (a b : Bool) → b ≡ false
-        → (if a && b then q l (channel_of_message m) ++ beats_from m 0 (beats_of m) else q d at) ≡ q d at
-    go a b e = grind arith
+unsaid_queue {w} l m q d at differs = grind arith
 
 pub client-says : {w : ℕ} (l : ℕ) (m : Message w) {p t : ℕ → History w} {q : ℕ → Channel → List (Beat w)} {f : ℕ
     → History w}
@@ -176,10 +166,7 @@ unheard {w} c ch x p d at on differs = heard_history c ch x p d at on ∙ go (c 
 
 unpopped : {w : ℕ} (c : ℕ) (ch : Channel) (queue : List (Beat w)) (q : ℕ → Channel → List (Beat w)) (d : ℕ)
     (at : Channel) → same_channel at ch ≡ false → popped_at c ch queue q d at ≡ q d at
-unpopped {w} c ch queue q d at differs = go (d == c) (same_channel at ch) differs
-  where
-    go : (a b : Bool) → b ≡ false → (if a && b then queue else q d at) ≡ q d at
-    go a b e = grind arith
+unpopped {w} c ch queue q d at differs = grind arith
 
 pub client-hears : {w : ℕ} (c : ℕ) (ch : Channel) (x : Beat w) (queue : List (Beat w)) {p t : ℕ → History w} {q : ℕ
     → Channel → List (Beat w)} {f : ℕ → History w} → is_to_client ch ≡ true → IsOn ch x → q c ch ≡ x ∷ queue
@@ -208,7 +195,4 @@ pub passing-same : {w : ℕ} {p t : ℕ → History w} (p' t' : ℕ → History 
     → Channel → List (Beat w)) {f : ℕ → History w} (f' : ℕ → History w) → ((d : ℕ) → p' d ≡ p d)
     → ((d : ℕ) → t' d ≡ t d) → ((d : ℕ) (at : Channel) → q' d at ≡ q d at) → ((d : ℕ) → f' d ≡ f d) → ArePassing p t q f
     → ArePassing p' t' q' f'
-passing-same p' t' q' f' ps ts qs fs is = record {
-  down = λ d at e. rw (ps d, ts d, qs d at, fs d) (is.down d at e);
-  up = λ d at e. rw (ps d, ts d, qs d at, fs d) (is.up d at e);
-}
+passing-same p' t' q' f' ps ts qs fs is = grind arith

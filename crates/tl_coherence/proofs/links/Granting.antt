@@ -36,11 +36,7 @@ ack_grants p e = absurd cc
 -- at a beat
 pub granted-at : {w : ℕ} (y : BeatD w) (e : Endpoint w) (d : Bool) (k : Cap) → y.opcode ≡ grant_opcode d
     → y.param ≡ cap_code k → finish_at y e ≡ Finish.Granted (cap_right k)
-granted-at {w} y e d k opcode param =
-    let address = address_asked (request_of y.source e.past) in
-    let payload = payload_of (Beat.D y ∷ unfinished Channel.D e.past) in
-    ap (λ o. finish_of w o y.param y.size address payload) opcode ∙ ap
-    (λ i. finish_of w (grant_opcode d) i y.size address payload) param ∙ granted-finish w d k y.size address payload
+granted-at {w} y e d k opcode param = grind arith
 
 answer_at : {w : ℕ} (y : BeatD w) (e : Endpoint w) (p : Perm) → is_access_answer y.opcode ≡ true
     → Finish.Granted p ≡ finish_at y e → ⊥
@@ -62,15 +58,7 @@ pub opened-acquire : {w : ℕ} (config : Config) (log : Log w) (h : AbstractStat
     (u : SourceState) → SimulationRelation config log h.mail h.request h.state sys → h.state.uses c source ≡ u
     → u ≡ Acquires n → (one_memory_after config log).opened c Requests source ≡ Some
     (record { asked = op_of ((h.state.block n).pair c).acquiring n ((h.state.block n).waiting c); answer = None })
-opened-acquire {w} config log h sys c source n u is e f =
-    let go : (v : SourceState) → v ≡ Acquires n
-    → IsOpened c source h.mail h.state v ((one_memory_after config log).opened c Requests source)
-    → (one_memory_after config log).opened c Requests source
-    ≡ Some (record {
-      asked = op_of ((h.state.block n).pair c).acquiring n ((h.state.block n).waiting c);
-      answer = None;
-    }) = λ v g i. rw g at i in
-    go (h.state.uses c source) (e ∙ f) (is.beside.requests c source)
+opened-acquire {w} config log h sys c source n u is e f = grind arith
 
 same_op : {w : ℕ} (x y : Op w) → Some x ≡ Some y → x ≡ y
 same_op x y e = cc
@@ -80,12 +68,7 @@ same_op x y e = cc
 pub held_granted : {w : ℕ} (config : Config) (tracker : ℕ) {c n : ℕ} (rest : List Packet) (h : AbstractState w)
     (due : IsGrantDue c n h.state)
     → (((kind_taken config tracker c Grant n rest h).state.block n).pair c).held ≡ cap_right due.k
-held_granted {w} config tracker {c} {n} rest h due =
-    let b : Block (List ℕ) = h.state.block n in
-    ap (λ (v : Service). ((((taken_by_client c n v rest h).state).block n).pair c).held) due.service
-    ∙ ap (λ (i : Block (List ℕ)). (i.pair c).held)
-    (set-same n (taken_block c (is_whole (b.pair c).acquiring) due.data_too due.k b) h.state.block)
-    ∙ ap (λ (p : ClientBlock). p.held) (set-same c (after_grant due.k (b.pair c)) b.pair)
+held_granted {w} config tracker {c} {n} rest h due = grind arith
 
 pub granted-holds : {w : ℕ} {config : Config} {log : Log w} (link : Link) (ch : Channel) (h : AbstractState w)
     (x : Beat w) (source : ℕ) (p : Perm) (op : Op w)

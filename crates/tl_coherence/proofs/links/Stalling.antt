@@ -27,9 +27,7 @@ waits-as-it-must : {w : ℕ} (config : Config) (link : _) (x : Beat w) (e : mana
     (must : Bool) (rest : Judgement) → is_waiting rest ≡ false
     → IsTakenIn (offered_as (breaks_or a (breaks_or b (waits_or must rest))) config link x e)
     → is_waiting (breaks_or a (breaks_or b (waits_or must rest))) ≡ must
-waits-as-it-must config link x e None None true rest silent taken = refl
-waits-as-it-must config link x e None None false rest silent taken = silent
-waits-as-it-must config link x e a b must rest silent taken = absurd taken
+waits-as-it-must config link x e a b must rest f g = grind arith
 
 passes-or-breaks : (a b : Option Rule) → is_waiting (breaks_or a (breaks_or b Passes)) ≡ false
 passes-or-breaks a b = grind arith
@@ -50,10 +48,7 @@ stalled-as-it-must config link ch x e taken = go (open_level config link e) take
 up-unbroken : {w : ℕ} (terms : EndConfig) (ch : Channel) (x : Beat w) (e : client.Endpoint w)
     → IsTakenUp (offered terms ch x e).answer → is_none (offer.broken_before terms ch x e) ≡ true
 unfolding offered
-up-unbroken terms ch x e taken =
-    let go : (o : Option Rule) → IsTakenUp (offer.judged o terms x e).answer → is_none o ≡ true =
-    elim [ None ↦ λ is. refl | Some r ↦ λ refused. absurd refused ] in
-    go (offer.broken_before terms ch x e) taken
+up-unbroken terms ch x e taken = grind arith
 
 stalled-as-it-waits : {w : ℕ} (terms : EndConfig) (ch : Channel) (x : Beat w) (e : client.Endpoint w)
     → IsTakenUp (offered terms ch x e).answer → offer.stalls terms ch x e ≡ offer.waits x e.past

@@ -175,11 +175,7 @@ granted-to c (GrantTaken q) e =
 
 to-granted : (c : ℕ) (service : Service) → is_granted_in service ≡ true → client_in service ≡ Some c
     → is_grant_to c service ≡ true
-to-granted c (GrantSent q d k) e f =
-    let same_Some : (i j : ℕ) → Some i ≡ Some j → i ≡ j = λ i j g. cc in
-    let same : q ≡ c = same_Some q c f in rw (same, same_number c) refl
-to-granted c (GrantTaken q) e f = let same : q ≡ c = same_Some q c f in rw (same, same_number c) refl
-to-granted c service e f = absurd cc
+to-granted c service e f = grind arith
 
 busy-granted : (service : Service) → is_granted_in service ≡ true → is_busy service ≡ true
 busy-granted service e = grind arith

@@ -87,10 +87,7 @@ request-taken m (suc i) t burst = still_opened (a_beat_of m (suc i)) t m.source 
 pub request-else : {w : ℕ} (x : BeatA w) (t : History w) (s : ℕ) → (x.source ≡ s → ⊥)
     → request_of s (Beat.A x ∷ t) ≡ request_of s t
 unfolding request_of
-request-else {w} x t s other =
-    let go : (b : Bool) → (if b && false then Some x else request_of s t) ≡ request_of s t =
-    elim [ true ↦ refl | false ↦ refl ] in
-    rw (ne_eqb x.source s other) (go (begins (Beat.A x) t))
+request-else {w} x t s other = grind arith
 
 -- ---- its payload has 64 bytes
 

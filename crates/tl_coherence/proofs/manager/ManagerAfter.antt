@@ -177,11 +177,7 @@ settled-is {w} config {c} {n} {right} {x} h e last report traced =
   where
     now : (d : ℕ) → (if (c == d) && (n == n) then false else pending (Key.ProbeOf n) (on_link d e.trace))
         ≡ others_probed c (h.state.block n).pair d
-    now d = elim (cases_eq c d) [
-      | inl same ↦ rw (same, same_number d, same_number n) refl
-      | inr other ↦ let differ : d ≡ c → ⊥ = λ f. other (sym f) in
-          rw (ne_eqb c d other, ne_eqb d c differ) (traced.probes d n)
-    ]
+    now d = grind arith
 
 -- ---- a ProbeAck that isn't the last one missing
 

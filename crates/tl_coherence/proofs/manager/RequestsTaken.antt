@@ -33,11 +33,7 @@ unwaited-asked {w} {config} {s} c source is used i src own j e same = go own (wa
 
 with-same : {w : ℕ} (mail after : AccessMessages w) (service : Service) (m : MessageA w) → after.request ≡ mail.request
     → IsServedWith mail service m → IsServedWith after service m
-with-same mail after Free m same ok = tt
-with-same mail after (Waits r true source k) m same ok = tt
-with-same {w} mail after (Waits r false source k) m same ok = ap (λ (f : ℕ → ℕ → Message w). f r source) same ∙ ok
-with-same mail after (GrantSent q d k) m same ok = tt
-with-same mail after (GrantTaken q) m same ok = tt
+with-same mail after service m e f = grind arith
 
 -- other answers change nothing
 at_manager-answers : {w : ℕ} {config : Config} {mail : AccessMessages w} (after : AccessMessages w)

@@ -81,13 +81,7 @@ same_for service after n m e ok = rw e ok
 
 same_waits : (service after : Service) (r source : ℕ) (own : Bool) (k : Cap) → SameService service after
     → after ≡ Waits r own source k → service ≡ Waits r own source k
-same_waits (GrantSent q d j) (GrantTaken i) r source own k e f = absurd cc
-same_waits (GrantSent q d j) Free r source own k e f = absurd cc
-same_waits (GrantSent q d j) (Waits i o src l) r source own k e f = absurd cc
-same_waits (GrantSent q d j) (GrantSent i b l) r source own k e f = absurd cc
-same_waits Free after r source own k e f = sym e ∙ f
-same_waits (Waits i o src l) after r source own k e f = sym e ∙ f
-same_waits (GrantTaken i) after r source own k e f = sym e ∙ f
+same_waits service after r source own k e f = grind arith
 
 pub traced-same : {w : ℕ} {X : Type 0} {request : ℕ → MessageA w} {s u : State X} {t : Trace w} → IsSameToManager s u
     → IsTraced request s t → IsTraced request u t

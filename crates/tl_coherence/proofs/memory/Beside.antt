@@ -15,10 +15,7 @@ abbrev pub IsElsewhere : ℕ → ℕ → ℕ → ℕ → Type 0
 IsElsewhere c source d i = d ≡ c → i ≡ source → ⊥
 
 pub place-cases : (c source d i : ℕ) → ((d ≡ c) × (i ≡ source)) ⊎ IsElsewhere c source d i
-place-cases c source d i = elim (cases_eq d c) [
-  | inl same ↦ elim (cases_eq i source) [ inl also ↦ inl (same, also) | inr other ↦ inr (λ e f. other f) ]
-  | inr other ↦ inr (λ e f. other e)
-]
+place-cases c source d i = grind arith
 
 pub set_at-there : {X : Type 0} {c source : ℕ} (x : X) (f : ℕ → ℕ → X) {d i : ℕ} → IsElsewhere c source d i
     → set_at c source x f d i ≡ f d i
@@ -36,30 +33,15 @@ open-here c pool source o m = grind arith
 
 pub open-there : {w : ℕ} (c : ℕ) (pool : Pool) (source : ℕ) (o : Option (Open w)) (m : Machine w) (d i : ℕ)
     → IsElsewhere c source d i → (with_open c pool source o m).opened d pool i ≡ m.opened d pool i
-open-there {w} c pool source o m d i else_ = elim (cases_eq d c) [
-  | inl same ↦ elim (cases_eq i source) [
-    | inl also ↦ absurd (else_ same also)
-    | inr other ↦ rw (ne_eqb i source other) (none (d == c) (same_pool pool pool) (m.opened d pool i))
-  ]
-  | inr other ↦ rw (ne_eqb d c other) refl
-]
-  where
-    none : (a b : Bool) (x : Option (Open w)) → (if a && (b && false) then o else x) ≡ x
-    none a b x = grind arith
+open-there {w} c pool source o m d i else_ = grind arith
 
 pub open-releases : {w : ℕ} (c source : ℕ) (o : Option (Open w)) (m : Machine w) (d i : ℕ)
     → (with_open c Requests source o m).opened d Releases i ≡ m.opened d Releases i
-open-releases {w} c source o m d i =
-    let go : (b : Bool) → (if b && false then o else m.opened d Releases i) ≡ m.opened d Releases i =
-    elim [ true ↦ refl | false ↦ refl ] in
-    go (d == c)
+open-releases {w} c source o m d i = grind arith
 
 pub open-requests : {w : ℕ} (c source : ℕ) (o : Option (Open w)) (m : Machine w) (d i : ℕ)
     → (with_open c Releases source o m).opened d Requests i ≡ m.opened d Requests i
-open-requests {w} c source o m d i =
-    let go : (b : Bool) → (if b && false then o else m.opened d Requests i) ≡ m.opened d Requests i =
-    elim [ true ↦ refl | false ↦ refl ] in
-    go (d == c)
+open-requests {w} c source o m d i = grind arith
 
 -- ---- what is open with a source
 

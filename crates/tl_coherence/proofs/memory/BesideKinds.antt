@@ -1,5 +1,5 @@
 -- The one-memory machine beside the protocol, after each message that is taken.
-use Rattle.std.proofs.Common.{◌≡◌, subst, ℕ, ◌≤◌, Bool, true, false, not, ◌&&◌, List, [], ◌∷◌, Option, Some, None}
+use Rattle.std.proofs.Common.{◌≡◌, subst, ℕ, ◌≤◌, Bool, true, false, not, ◌&&◌, List, [], ◌∷◌, Option, Some, None, arith}
 use Rattle.std.proofs.Common.{length, refl, sym, ◌∙◌, ap, ◌⊎◌, inl, inr, ◌==◌, if◌then◌else◌}
 use Rattle.tl_coherence.proofs
 use proofs.Imports.{cases_eq, ⊤, Message, MessageA, Config, Cap, Report, Profile, effect, block_at, cap_probed}
@@ -62,20 +62,11 @@ same_acquiring c p f e d = set-part (λ (q : ClientBlock). q.acquiring) c p f e 
 
 served_acquiring : (r : ℕ) (own : Bool) (k : Cap) (pair : ℕ → ClientBlock) (d : ℕ)
     → (if own && (d == r) then pair d else after_served k (pair d)).acquiring ≡ (pair d).acquiring
-served_acquiring r own k pair d =
-    let go : (x : Bool) → (if x then pair d else after_served k (pair d)).acquiring ≡ (pair d).acquiring =
-    elim [ true ↦ refl | false ↦ refl ] in
-    go (own && (d == r))
+served_acquiring r own k pair d = grind arith
 
 granted_acquiring : (c q : ℕ) (r : Report) (k : Cap) (pair : ℕ → ClientBlock) (d : ℕ)
     → (granted_pair c q r k pair d).acquiring ≡ (pair d).acquiring
-granted_acquiring c q r k pair d = elim (cases_eq d q) [
-  | inl same ↦ ap (λ (j : ℕ). (granted_pair c q r k pair j).acquiring) same ∙ ap (λ (p : ClientBlock). p.acquiring)
-      (set-same q (after_grant_sent k (pair q)) (set c (after_report r (pair c)) pair)) ∙ sym
-      (ap (λ (j : ℕ). (pair j).acquiring) same)
-  | inr other ↦ ap (λ (p : ClientBlock). p.acquiring) (set-other q d (after_grant_sent k (pair q))
-      (set c (after_report r (pair c)) pair) other) ∙ same_acquiring c (after_report r (pair c)) pair refl d
-]
+granted_acquiring c q r k pair d = grind arith
 
 -- ---- a request
 

@@ -36,11 +36,7 @@ accesses-answer c m r = grind arith
 accesses-grant : {w : ℕ} (config : Config) (c : ℕ) (v : Service w) (t : Trace w) (memory : Memory)
     → accesses_answered ((link_of c, grant config v t memory) ∷ []) ≡ []
 unfolding accesses_answered
-accesses-grant config c v t memory =
-    let one : List (ℕ × ℕ) = (c, v.request.source) ∷ [] in
-    let go : (b : Bool) → (if is_access_answer (grant_opcode b) then one else []) ≡ [] =
-    elim [ true ↦ refl | false ↦ refl ] in
-    go (is_granted_data v.request.opcode v.request.param (recorded v.link.0 (block_at v.request.address) t))
+accesses-grant config c v t memory = grind arith
 
 -- ---- an access
 

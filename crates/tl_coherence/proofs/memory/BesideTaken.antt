@@ -180,7 +180,4 @@ beside-performed {w} {config} {c} {source} {a} bytes {mail} {s} s' {m} is same_r
 pub intent-reply : {w : ℕ} (x : MessageA w) (f g : Memory) → cap_probed x.opcode x.param ≡ None
     → (effect (Message.A x) f).1 ≡ (effect (Message.A x) g).1
 unfolding effect
-intent-reply {w} x f g e =
-    let go : (o : OpA) → x.opcode ≡ o → cap_probed o x.param ≡ None → memory.access_result x.opcode x f
-    ≡ memory.access_result x.opcode x g = elim [ OpA.Intent ↦ λ e h. rw e refl | o ↦ λ e h. absurd cc ] in
-    go x.opcode refl e
+intent-reply {w} x f g e = grind arith

@@ -27,11 +27,7 @@ opened_with : {w : ℕ} (client : ℕ) (at : Pool) (n : ℕ) (o : Option (Open w
     (source : ℕ)
     → asked_at c pool source (with_open client at n o m) ≡ (if (client == c) && (same_pool at pool && (n == source))
     then option_map (λ i. i.asked) o else asked_at c pool source m)
-opened_with {w} client at n o m c pool source =
-    let go : (b : Bool) → option_map (λ i. i.asked) (if b then o else m.opened c pool source)
-    ≡ (if b then option_map (λ i. i.asked) o else asked_at c pool source m) = elim [ true ↦ refl | false ↦ refl ] in
-    rw (swapped client c, pool_swap at pool, swapped n source)
-    (go ((c == client) && (same_pool pool at && (source == n))))
+opened_with {w} client at n o m c pool source = grind arith
 
 -- where that is what was there, nothing changes
 same_there : {w : ℕ} (client : ℕ) (at : Pool) (n : ℕ) (x : Option (Op w)) (m : Machine w) (c : ℕ) (pool : Pool)

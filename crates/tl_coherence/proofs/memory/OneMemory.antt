@@ -54,25 +54,18 @@ reply-performed o m f bytes width lawful is long =
 pub effect-sourced : {w : ℕ} (source : ℕ) (m : MessageA w) (f : Memory)
     → effect (A (sourced source m)) f ≡ effect (A m) f
 unfolding effect
-effect-sourced {w} source m f =
-    let go : (o : OpA) → m.opcode ≡ o → effect (A (sourced source m)) f ≡ effect (A m) f =
-    elim [ OpA.PutFullData ↦ λ e. rw e refl | o ↦ λ e. rw e refl ] in
-    go m.opcode refl
+effect-sourced {w} source m f = grind arith
 
 -- ---- a whole block
 
 pub block-besides : (f : Memory) (n k : ℕ) (bytes old : List ℕ) → (k ≡ n → ⊥) → IsBlock f k old
     → IsBlock (with_block n bytes f) k old
-block-besides f n k bytes old ne is i lt =
-    let here : (64 * k + i) / 64 ≡ k = omega (arith, lt) in
-    rw (here, ne_eqb k n ne) (is i lt)
+block-besides f n k bytes old ne is i lt = grind arith
 
 -- ---- a Store
 
 get_slice : (bytes : List ℕ) (i : ℕ) → i < length bytes → slice_index bytes i ≡ get_or bytes i 0
-get_slice [] i lt = absurd (omega (arith, lt))
-get_slice (x ∷ xs) zero lt = refl
-get_slice (x ∷ xs) (suc i) lt = get_slice xs i (omega (arith, lt))
+get_slice bytes i e = grind arith
 
 pub block-stored : (address size value : ℕ) (copy : List ℕ) (f : Memory) → address % 64 + 2 ^ size ≤ 64
     → length copy ≡ 64 → IsBlock f (block_at address) copy

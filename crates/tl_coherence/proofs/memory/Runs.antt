@@ -1,5 +1,5 @@
 -- Runs of the one-memory machine, and exact stalls.
-use Rattle.std.proofs.Common.{◌≡◌, List, [], ◌∷◌, refl, sym, ◌∙◌, ℕ, Bool, true, false, Option, Result, Ok, Err}
+use Rattle.std.proofs.Common.{◌≡◌, List, [], ◌∷◌, refl, sym, ◌∙◌, ℕ, Bool, true, false, Option, Result, Ok, Err, arith}
 use Rattle.tl_coherence.proofs
 use proofs.Imports.{⊤, Beat, Channel, Message, Config, Rule, Verdict, EndConfig, is_stalled, offered, is_stall}
 use proofs.Imports.{Continues, Log, stalls, one_memory_after, delivered, is_to_client, judged, manager_took, System}
@@ -44,10 +44,7 @@ IsTaken config terms link ch x s = (is_to_client ch ≡ true → IsTakenUp (offe
 stall-judged : {w : ℕ} (answer : Result (Verdict × Option (Message w)) Rule) (link : ℕ) (ch : Channel) (x : Beat w)
     (rest : List (Beat w)) (e : client.Endpoint w) (s : System w)
     → IsTakenUp answer → is_stall (judged answer link ch x rest e s).outcome ≡ is_stalled answer
-stall-judged (Err rule) link ch x rest e s taken = absurd taken
-stall-judged (Ok (Verdict.Stalled, m)) link ch x rest e s taken = refl
-stall-judged (Ok (Verdict.Taken, m)) link ch x rest e s taken = refl
-stall-judged (Ok (Verdict.Done source finish, m)) link ch x rest e s taken = refl
+stall-judged answer link ch x rest e s f = grind arith
 
 stall-managed : {w : ℕ} (answer : manager.Reception w × manager_end.End w) (link : ℕ) (ch : Channel) (x : Beat w)
     (rest : List (Beat w)) (s : System w)

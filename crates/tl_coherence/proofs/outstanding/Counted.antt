@@ -17,10 +17,7 @@ pub record AreCounted {w : ℕ} {X : Type 0} (config : Config) (log : Log w) (s 
 
 pub number-next : {w : ℕ} (test : Event w → Outcome w → Bool) (event : Event w) (o : Outcome w) (log : Log w)
     → number test ((event, o) ∷ log) ≡ number test log + one_if (test event o)
-number-next {w} test event o log =
-    let go : (b : Bool) → length (if b then (event, o) ∷ filter (λ x. test x.0 x.1) log else filter (λ x. test x.0 x.1)
-    log) ≡ number test log + one_if b = elim [ true ↦ omega arith | false ↦ omega arith ] in
-    go (test event o)
+number-next {w} test event o log = grind arith
 
 -- nothing has started, and nothing is open
 pub counted-first : {w : ℕ} (config : Config) → AreCounted {w = w} config [] first_state

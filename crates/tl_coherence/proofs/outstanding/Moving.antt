@@ -46,11 +46,7 @@ module _ {w : ℕ} {config : Config} {log : Log w} {mail : AccessMessages w} {re
 
   -- and without a message it has no beat
   no_beat : (c : ℕ) (ch : Channel) → packets_on ch (s.link c) ≡ [] → (system_after config log).channels c ch ≡ []
-  no_beat c ch none =
-      let go : (ms : List (Message w)) → ms ≡ [] → IsCarried (unfinished ch (receiver ch c (system_after config log)))
-      ms ((system_after config log).channels c ch) → (system_after config log).channels c ch ≡ [] =
-      elim [ [] ↦ λ e h. h.1 | m ∷ ms ↦ λ e h. absurd cc ] in
-      go (messages_on ch mail s c) (ap (map (message_of mail s c)) none) (matched.carried c ch)
+  no_beat c ch none = grind arith
 
   -- a channel whose first beat is movable, if there is one, is empty where no delivery is next
   module _ (none : next_delivery config (system_after config log) ≡ None) where
@@ -178,8 +174,4 @@ module _ {w : ℕ} {config : Config} {log : Log w} {mail : AccessMessages w} {re
       (system_after config log) c ch (no_beat c ch (bare_on ch c (bare-when-closed matched.invariant closed no_acks))))
     where
       bare_on : (ch : Channel) (c : ℕ) → IsBare s → packets_on ch (s.link c) ≡ []
-      bare_on Channel.A c bare = bare.a c
-      bare_on Channel.B c bare = bare.silent.b c
-      bare_on Channel.C c bare = bare.silent.c c
-      bare_on Channel.D c bare = bare.silent.d c
-      bare_on Channel.E c bare = bare.silent.e c
+      bare_on ch c e = grind arith

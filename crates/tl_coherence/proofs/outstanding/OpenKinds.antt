@@ -37,10 +37,7 @@ popped_e c rest link d = set_e c (record (link c) { c = rest }) link refl d
 
 pub ended_e : (c q : ℕ) (x : Packet) (rest : List Packet) (link : ℕ → Link) (d : ℕ)
     → (ended_link c q x rest link d).e ≡ (link d).e
-ended_e c q x rest link d =
-    let go : (b : Bool) → (if b then record (popped_link c rest link d) { d = (popped_link c rest link d).d ++ x ∷ [] }
-    else popped_link c rest link d).e ≡ (popped_link c rest link d).e = elim [ true ↦ refl | false ↦ refl ] in
-    go (d == q) ∙ popped_e c rest link d
+ended_e c q x rest link d = grind arith
 
 pub granted_e : (c q n : ℕ) (rest : List Packet) (link : ℕ → Link) (d : ℕ)
     → (granted_link c q n rest link d).e ≡ (link d).e

@@ -18,9 +18,7 @@ abbrev pub Ends : {w : ℕ} → Outcome w → Bool → Bool → Type 0
 Ends o ends lets_go = (ends_request o ≡ ends) × (ends_release o ≡ lets_go)
 
 pub still-ends : {w : ℕ} (o : Outcome w) → is_moving o ≡ false → Ends o false false
-still-ends (Outcome.Moved x) e = absurd cc
-still-ends (Outcome.Done x source f) e = absurd cc
-still-ends o e = (refl, refl)
+still-ends o e = grind arith
 
 abbrev pub is_e : Channel → Bool
 is_e Channel.E = true
@@ -40,12 +38,7 @@ finish-ends x source o param size address payload = (refl, refl)
 
 pub manager-kind : (ch : Channel) (k : Kind) → is_to_client ch ≡ false → is_on ch k ≡ true → (is_ending k ≡ is_e ch)
     × (is_letting_go k ≡ false)
-manager-kind Channel.A Request down own = (refl, refl)
-manager-kind Channel.A Acquire down own = (refl, refl)
-manager-kind Channel.C ProbeAck down own = (refl, refl)
-manager-kind Channel.C Release down own = (refl, refl)
-manager-kind Channel.E GrantAck down own = (refl, refl)
-manager-kind ch k down own = absurd cc
+manager-kind ch k e f = grind arith
 
 -- a GrantAck is one beat
 pub ack_whole : (w c n : ℕ) (b : Block (List ℕ)) → beats_of (block_message {w = w} GrantAck c n b) ≡ 1
@@ -103,13 +96,4 @@ pub first-moved : {w : ℕ} (config : Config) (link : Link) (ch : Channel) (sys 
     → is_moving (stepped config (Deliver link ch) sys).outcome ≡ true → (x : Beat w) × (queue : List (Beat w))
     × (terms : EndConfig) × ((sys.channels link.0 ch ≡ x ∷ queue) × (terms_at config link.0 ≡ Some terms))
 unfolding stepped
-first-moved {w} config link ch sys moving =
-    let First : Type 0 = (x : Beat w) × (queue : List (Beat w)) × (terms : EndConfig)
-    × ((sys.channels link.0 ch ≡ x ∷ queue) × (terms_at config link.0 ≡ Some terms)) in
-    let at : (terms : EndConfig) → terms_at config link.0 ≡ Some terms → (beats : List (Beat w))
-    → sys.channels link.0 ch ≡ beats → is_moving (delivered config terms link.0 ch beats sys).outcome ≡ true
-    → First = λ terms e. elim [ [] ↦ λ f m. absurd cc | x ∷ queue ↦ λ f m. (x, queue, terms, (f, e)) ] in
-    let go : (o : Option EndConfig) → terms_at config link.0 ≡ o
-    → is_moving (stepped_at config o (Deliver link ch) sys).outcome ≡ true → First =
-    elim [ None ↦ λ e m. absurd cc | Some terms ↦ λ e m. at terms e (sys.channels link.0 ch) refl m ] in
-    go (terms_at config link.0) refl moving
+first-moved {w} config link ch sys moving = grind arith

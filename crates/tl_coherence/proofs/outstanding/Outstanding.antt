@@ -1,7 +1,7 @@
 -- What is outstanding is what is open: at every event the requests and Releases that it starts and ends are those that
 -- it
 -- opens and closes.
-use Rattle.std.proofs.Common.{◌≡◌, subst, ℕ, ◌+◌, ◌<◌, Bool, true, false, List, ◌∷◌, refl, sym, ◌∙◌, ap, Option, Some}
+use Rattle.std.proofs.Common.{◌≡◌, subst, ℕ, ◌+◌, ◌<◌, Bool, true, false, List, ◌∷◌, refl, sym, ◌∙◌, ap, Option, Some, arith}
 use Rattle.std.proofs.Common.{None, if◌then◌else◌, map, Ok}
 use Rattle.tl_coherence.proofs
 use proofs.Imports.{Beat, BeatD, Link, Channel, IsWidth, Message, MessageD, beat_of, beats_of, d_beat_of, channel_of}
@@ -166,12 +166,7 @@ module _ {w : ℕ} {config : Config} {log : Log w} (h : AbstractState w) (width 
           (ends.0 ∙ access, ends.1 ∙ ack)
 
       part : completes x (unfinished Channel.D e.past) ≡ false → Ends (outcome_of x v) false false
-      part f =
-          let same = (same_answers v Verdict.Taken m None (offer.taken x e).answer answer
-          (ap (λ (z : Beat w). (offer.taken z e).answer) x_is ∙ answer-part y e (at false f))).0 in
-          let ends = moved-ends x in
-          subst (λ (u : Verdict). Ends (outcome_of x u) false false) (sym same)
-          (ends.0 ∙ ap (λ (z : Beat w). is_e (channel_of z)) x_is, ends.1)
+      part f = grind arith
 
   counted-d : (link : Link) (terms : EndConfig) (x : Beat w) (queue : List (Beat w))
       → terms_at config link.0 ≡ Some terms → (system_after config log).channels link.0 Channel.D ≡ x ∷ queue

@@ -1,5 +1,5 @@
 -- What the messages of a block are made of, before and after each event.
-use Rattle.std.proofs.Common.{◌≡◌, ℕ, Bool, true, false, List, refl, ◌⊎◌, inr}
+use Rattle.std.proofs.Common.{◌≡◌, ℕ, Bool, true, false, List, refl, ◌⊎◌, inr, arith}
 use Rattle.tl_coherence.proofs
 use proofs.Imports.{Cap, Prune, Report, Kind, set, ClientBlock, ProbeSent, after_grant_sent, after_report, after_grant}
 use proofs.Imports.{after_probe, after_release_taken, after_release_ack, Free, Waits, GrantSent, GrantTaken, Block}
@@ -19,23 +19,12 @@ same-grants b b' service tracker i = (λ e f. (service, tracker), λ e f. tracke
 -- a service that waits shows nothing
 waiting-grants : (q source : ℕ) (own : Bool) (k : Cap) (b b' : Block (List ℕ)) → b.service ≡ Waits q own source k
     → AreAlikeGrants b b'
-waiting-grants q source own k b b' waits i = (
-  λ e f. absurd (ungranted b.service i (Waits q own source k) waits (waits_ungranted own q source k i) e),
-  λ e f. absurd (unacknowledged b.service i (Waits q own source k) waits (waits_unacknowledged own q source k i) e),
-)
+waiting-grants q source own k b b' waits i = grind arith
 
 -- the Probe is no longer on its way, and the ProbeAck isn't yet
 pub alike-probed : (c : ℕ) (k : Cap) (b : Block (List ℕ)) → (b.pair c).probing ≡ ProbeSent k → (i : ℕ)
     → AreAlike i b (probed_block c k b)
-alike-probed c k b sent =
-    let here : IsAlikePair (b.pair c) (after_probe k (b.pair c)) = record {
-      acquiring = λ e f. refl;
-      sent = λ e f. absurd cc;
-      answered = λ e f. absurd (let no : false ≡ true = rw sent at e in cc);
-      letting = λ e f. refl;
-    } in
-    alike-pairs b (probed_block c k b) (alike-pair c (after_probe k (b.pair c)) b.pair here) refl refl
-    (same-grants b (probed_block c k b) refl refl) (λ j i e f. inr refl)
+alike-probed c k b sent = grind arith
 
 reported-pair : (r : Report) (p : ClientBlock) → IsAlikePair p (after_report r p)
 reported-pair r p =

@@ -68,10 +68,7 @@ alike-pairs b b' pairs source release grants bytes i k e f = (alike k e f, bytes
 
 -- a service that is free shows nothing
 free-grants : (b b' : Block (List ℕ)) → b.service ≡ Free → AreAlikeGrants b b'
-free-grants b b' free i = (
-  λ e f. absurd (ungranted b.service i Free free refl e),
-  λ e f. absurd (unacknowledged b.service i Free free refl e),
-)
+free-grants b b' free i = grind arith
 
 -- ---- a client is asked
 
@@ -105,17 +102,7 @@ alike-acquiring c source whole g bytes {b} well calm i = elim (cases_eq i c) [
     here _ e f = (tt, inr refl)
 
     there : (i ≡ c → ⊥) → AreAlike i b new
-    there ne Acquire e f = (
-      (ap (λ (p : ClientBlock). p.acquiring) (set-other c i after b.pair ne), set-other c i source b.source ne),
-      inr refl,
-    )
-    there ne Probe e f = (ap (λ (p : ClientBlock). p.probing) (set-other c i after b.pair ne), inr refl)
-    there ne ProbeAck e f = (ap (λ (p : ClientBlock). p.probing) (set-other c i after b.pair ne), inr refl)
-    there ne Release e f = ((ap (λ (p : ClientBlock). p.letting) (set-other c i after b.pair ne), refl), inr refl)
-    there ne Grant e f = ((refl, set-other c i source b.source ne, refl), inr refl)
-    there ne ReleaseAck e f = (refl, inr refl)
-    there ne GrantAck e f = (refl, inr refl)
-    there ne _ e f = (tt, inr refl)
+    there e = grind arith
 
 pub alike-releasing : (c source : ℕ) (r : Prune) (b : Block (List ℕ)) → (b.pair c).letting ≡ NoRelease → (i : ℕ)
     → AreAlike i b (releasing_block c source r b)
@@ -138,46 +125,19 @@ alike-releasing c source r b kept i = elim (cases_eq i c) [ inl same ↦ rw same
     here _ e f = (tt, inr refl)
 
     there : (i ≡ c → ⊥) → AreAlike i b new
-    there ne Acquire e f = ((ap (λ (p : ClientBlock). p.acquiring) (set-other c i after b.pair ne), refl), inr refl)
-    there ne Probe e f = (ap (λ (p : ClientBlock). p.probing) (set-other c i after b.pair ne), inr refl)
-    there ne ProbeAck e f = (ap (λ (p : ClientBlock). p.probing) (set-other c i after b.pair ne), inr refl)
-    there ne Release e f = (
-      (ap (λ (p : ClientBlock). p.letting) (set-other c i after b.pair ne), set-other c i source b.release_source ne),
-      inr refl,
-    )
-    there ne Grant e f = ((refl, refl, refl), inr refl)
-    there ne ReleaseAck e f = (set-other c i source b.release_source ne, inr refl)
-    there ne GrantAck e f = (refl, inr refl)
-    there ne _ e f = (tt, inr refl)
+    there e = grind arith
 
 -- the same of a block whose copies, memory and bytes change alone
 pub alike-bytes : (b b' : Block (List ℕ)) → b'.pair ≡ b.pair → b'.source ≡ b.source
     → b'.release_source ≡ b.release_source → b'.service ≡ b.service → b'.tracker ≡ b.tracker
     → ((k : Kind) (i : ℕ) → (carries k i b ≡ false) ⊎ (b'.truth ≡ b.truth)) → (i : ℕ) → AreAlike i b b'
-alike-bytes b b' pair source release service tracker bytes i k e f = (alike k, bytes k i)
-  where
-    same : b'.pair i ≡ b.pair i
-    same = ap (λ (p : ℕ → ClientBlock). p i) pair
-
-    alike : (k : Kind) → IsAlike k i b b'
-    alike Acquire = (ap (λ (p : ClientBlock). p.acquiring) same, ap (λ (p : ℕ → ℕ). p i) source)
-    alike Probe = ap (λ (p : ClientBlock). p.probing) same
-    alike ProbeAck = ap (λ (p : ClientBlock). p.probing) same
-    alike Release = (ap (λ (p : ClientBlock). p.letting) same, ap (λ (p : ℕ → ℕ). p i) release)
-    alike Grant = (service, ap (λ (p : ℕ → ℕ). p i) source, tracker)
-    alike ReleaseAck = ap (λ (p : ℕ → ℕ). p i) release
-    alike GrantAck = tracker
-    alike k = tt
+alike-bytes b b' pair source release service tracker bytes i k e f = grind arith
 
 -- ---- a request is taken
 
 pub alike-granted_at_once : (r tracker : ℕ) (d : Bool) (k : Cap) (b : Block (List ℕ)) → b.service ≡ Free → (i : ℕ)
     → AreAlike i b (granted_at_once r tracker d k b)
-alike-granted_at_once r tracker d k b free =
-    let new : Block (List ℕ) = granted_at_once r tracker d k b in
-    alike-pairs b new (alike-pair r (after_grant_sent k (b.pair r)) b.pair
-    (alike-parts (b.pair r) (after_grant_sent k (b.pair r)) refl refl refl)) refl refl (free-grants b new free)
-    (λ j i e f. inr refl)
+alike-granted_at_once r tracker d k b free = grind arith
 
 unsent : (x : ProbePhase) → is_unprobed x ≡ true → is_sent x ≡ true → ⊥
 unsent x e f = grind arith

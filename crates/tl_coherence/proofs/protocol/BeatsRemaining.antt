@@ -75,12 +75,7 @@ pub record IsPopped {w : ℕ} {X : Type 0} (c : ℕ) (ch : Channel) (moves : ℕ
   pub rests : (d : ℕ) (at : Channel) → (d ≡ c → at ≡ ch → ⊥) → rest' d at ≡ rest d at
 
 pub same_channels : (a b : Channel) → (a ≡ b) ⊎ (a ≡ b → ⊥)
-same_channels Channel.A Channel.A = inl refl
-same_channels Channel.B Channel.B = inl refl
-same_channels Channel.C Channel.C = inl refl
-same_channels Channel.D Channel.D = inl refl
-same_channels Channel.E Channel.E = inl refl
-same_channels a b = inr (λ e. absurd cc)
+same_channels a b = grind arith
 
 own_kind : (k : Kind) → is_on (channel_for k) k ≡ true
 own_kind k = grind arith

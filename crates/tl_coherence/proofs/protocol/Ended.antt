@@ -110,11 +110,7 @@ pub ended_moved : (x y : Bool) (ch : Channel) (n source : ℕ) (l : Link) (rest 
     → (x ≡ true → l.c ≡ packet ProbeAck n ∷ rest) → IsMoved (ended_move x y n source ch) (packets_on ch l)
     (packets_on ch (if y then with_d (packet Answer source) (if x then record l { c = rest } else l) else
     (if x then record l { c = rest } else l)))
-ended_moved true true Channel.C n source l rest e = e refl
-ended_moved true false Channel.C n source l rest e = e refl
-ended_moved false true Channel.C n source l rest e = refl
-ended_moved false false Channel.C n source l rest e = refl
-ended_moved x y ch n source l rest e = refl
+ended_moved x y ch n source l rest e = grind arith
 
 -- ---- the whole
 

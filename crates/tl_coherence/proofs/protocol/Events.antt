@@ -1,5 +1,5 @@
 -- Each message that is taken is one event of the protocol, or does nothing: what holds after each of them holds.
-use Rattle.std.proofs.Common.{◌≡◌, ℕ, Bool, true, false, not, ◌&&◌, List, Option, Some, None, length, refl, sym, ◌∙◌}
+use Rattle.std.proofs.Common.{◌≡◌, ℕ, Bool, true, false, not, ◌&&◌, List, Option, Some, None, length, refl, sym, ◌∙◌, arith}
 use Rattle.std.proofs.Common.{◌==◌, if◌then◌else◌}
 use Rattle.tl_coherence.proofs
 use proofs.Imports.{⊤, Message, MessageA, Config, Cap, Grow, Report, block_at, is_acquire, acquisition, cap_probed}
@@ -25,9 +25,7 @@ pub ready-access : {w : ℕ} (tracker c source : ℕ) (m : MessageA w) (h : Abst
     → IsReady tracker c Request source h → h.mail.request c source ≡ Message.A m
     → (is_acquire m.opcode ≡ false) × ((h.state.block (block_at m.address)).service ≡ Free)
     × (h.state.tracked tracker ≡ None)
-ready-access tracker c source m h ready from =
-    let same : ready.0 ≡ m = let both = sym ready.1 ∙ from in cc in
-    rw (← same) (ready.2, ready.3, ready.4)
+ready-access tracker c source m h ready from = grind arith
 
 -- ---- messages that are taken
 
@@ -127,9 +125,7 @@ module _ {w : ℕ} (config : Config) (tracker c : ℕ) (rest : List Packet) (h :
   true-access : (source : ℕ) (m : MessageA w) (o : Option Cap) (p : Bool) → IsTrueAfterEach → IsKnown Request source
       → h.mail.request c source ≡ Message.A m → cap_probed m.opcode m.param ≡ o → probes_for_access config c h m o ≡ p
       → P (access_taken c source m tracker p o rest h)
-  true-access source m (Some k) true each known is caps probes = each.access_served source m k known is caps probes
-  true-access source m None true each known is caps probes = absurd cc
-  true-access source m o false each known is caps probes = each.access_answered source m o known is caps probes
+  true-access source m o p e f g h i = grind arith
 
   true-request : (source : ℕ) (m : Message w) → IsTrueAfterEach → IsKnown Request source
       → h.mail.request c source ≡ m → P (request_taken all_clients c source m tracker rest h)
@@ -158,9 +154,7 @@ module _ {w : ℕ} (config : Config) (tracker c : ℕ) (rest : List Packet) (h :
       → waits_for_others config c h n ≡ false → (h.state.block n).service ≡ Waits q true source k
       → ((h.state.block n).pair q).acquiring ≡ a
       → P (granted_after all_clients config.profile c q n (told config c h n) a rest h)
-  true-granted n q source k NoAcquire each known last waits is = each.nothing ProbeAck n known (rw (waits, is) refl)
-  true-granted n q source k (AcquireOpen whole g) each known last waits is =
-      each.report_grants n q source k whole g known last waits is
+  true-granted n q source k a e f g h i = grind arith
 
   true-last : (n : ℕ) (v : Service) → IsTrueAfterEach → IsKnown ProbeAck n → waits_for_others config c h n ≡ false
       → (h.state.block n).service ≡ v → P (last_taken all_clients config.profile c n (told config c h n) v rest h)

@@ -86,9 +86,7 @@ acquire-used caching c n s inv wanting = acquires_of-is n (s.uses c ((s.block n)
 -- how the client of a Grant sees the block
 pub own_view : (c : ℕ) (d : Bool) (k : Cap) (service : Service) → service ≡ GrantSent c d k
     → view service c ≡ Granting d k
-own_view c d k service e =
-    let here : (x : Bool) → x ≡ true → (if x then Granting d k else GrantedOther) ≡ Granting d k = λ x f. rw f refl in
-    ap (λ (x : Service). view x c) e ∙ here (c == c) (same_number c)
+own_view c d k service e = grind arith
 
 pub grant-due : (caching : ℕ → Bool) (c n : ℕ) (rest : List Packet) (s : State (List ℕ)) → IsInvariant caching s
     → (s.link c).d ≡ packet Grant n ∷ rest → IsGrantDue c n s

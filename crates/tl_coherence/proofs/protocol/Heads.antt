@@ -124,10 +124,7 @@ wanted-first {w} {s} c n rest is first =
 
 -- all that no beat of it carries is zero
 narrow : (w : ℕ) → IsWidth w → 2 ^ w - 1 < 2 ^ (w * 1)
-narrow w is = elim is [
-  | inl four ↦ rw four (omega arith)
-  | inr more ↦ elim more [ inl eight ↦ rw eight (omega arith) | inr sixteen ↦ rw sixteen (omega arith) ]
-]
+narrow w is = grind arith
 
 acquisition_blank : (w : ℕ) (whole : Bool) (g : Grow) (source n : ℕ) → IsWidth w
     → IsBlankAfter {w = w} 1 (Message.A (acquisition (acquire_opcode whole) g source n))

@@ -22,11 +22,7 @@ some-none (suc n) test e i lt = go (test n) refl e (λ f. some-none n test f i)
   where
     go : (b : Bool) → test n ≡ b → (b || some_below n test) ≡ false
         → (some_below n test ≡ false → i < n → test i ≡ false) → test i ≡ false
-    go true f g h = absurd cc
-    go false f g h = elim (cases_lt i n) [
-      | inl less ↦ h g less
-      | inr more ↦ let same : i ≡ n = omega (arith, lt, more) in rw same f
-    ]
+    go b e f g = grind arith
 
 pub some-one : (n : ℕ) (test : ℕ → Bool) → some_below n test ≡ true → (i : ℕ) × (test i ≡ true)
 unfolding some_below
@@ -65,15 +61,7 @@ settled_all clients caching c pair plain outside none d ne = elim (cases_lt d cl
 leaves_memory : {w : ℕ} (m : MessageA w) (memory : Memory) → is_acquire m.opcode ≡ false
     → (cap_probed m.opcode m.param ≡ Some Cap.ToN) ⊎ ((effect (Message.A m) memory).0 ≡ memory)
 unfolding effect
-leaves_memory m memory e = go m.opcode refl
-  where
-    go : (o : OpA) → m.opcode ≡ o → (cap_probed m.opcode m.param ≡ Some Cap.ToN)
-        ⊎ ((effect (Message.A m) memory).0 ≡ memory)
-    go OpA.Get f = inr (rw f refl)
-    go OpA.Intent f = inr (rw f refl)
-    go OpA.AcquireBlock f = inr (rw f refl)
-    go OpA.AcquirePerm f = inr (rw f refl)
-    go o f = inl (rw f refl)
+leaves_memory m memory e = grind arith
 
 pub leaves-bytes : {w : ℕ} (m : MessageA w) (bytes : List ℕ) → is_acquire m.opcode ≡ false → length bytes ≡ 64
     → (performs m bytes ≡ bytes) ⊎ (cap_probed m.opcode m.param ≡ Some Cap.ToN)

@@ -13,9 +13,7 @@ use proofs.protocol.Capacities.{few_on_a, few_on_b, few_on_c, few_on_e, few_acks
 use proofs.protocol.TokenNames.{AreBounded, kind_there}
 
 pub positive : (w : ℕ) → IsWidth w → 0 < w
-positive w (inl e) = omega (arith, e)
-positive w (inr (inl e)) = omega (arith, e)
-positive w (inr (inr e)) = omega (arith, e)
+positive w e = grind arith
 
 commuted : (a b : ℕ) → a * b ≡ b * a
 commuted a b = grind arith
@@ -55,12 +53,7 @@ spelled-few {w} message light (x ∷ xs) width one =
   where
     sums : (n b heavy few : ℕ) (l : Bool) (rest all : ℕ) → b ≤ n → (l ≡ true → b ≡ 1) → rest ≤ n * heavy + few
         → all ≡ b + rest → all ≤ n * (one_if (not l) + heavy) + (one_if l + few)
-    sums n b heavy few true rest all le is_one le2 e =
-        let same : n * (0 + heavy) ≡ n * heavy = grind arith in
-        omega (arith, is_one refl, le2, e, same)
-    sums n b heavy few false rest all le is_one le2 e =
-        let more : n * (1 + heavy) ≡ n + n * heavy = grind arith in
-        omega (arith, le, le2, e, more)
+    sums n b heavy few l rest all e f g h = grind arith
 
 -- ---- messages of one beat
 

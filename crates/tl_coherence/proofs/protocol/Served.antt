@@ -156,11 +156,7 @@ any_shows n source j false false k p t wants q = other_shows n j Stays k p (is_a
 pub any_moved : (x y : Bool) (ch : Channel) (j : Kind) (i n : ℕ) (l : Link) (rest : List Packet)
     → (x ≡ true → l.a ≡ packet j i ∷ rest) → IsMoved (request_move (if x then Pops j i else Stays) y n ch)
     (packets_on ch l) (packets_on ch (with_probe n y (if x then record l { a = rest } else l)))
-any_moved true true Channel.A j i n l rest e = e refl
-any_moved true false Channel.A j i n l rest e = e refl
-any_moved false true Channel.A j i n l rest e = refl
-any_moved false false Channel.A j i n l rest e = refl
-any_moved x y ch j i n l rest e = refl
+any_moved x y ch j i n l rest e = grind arith
 
 any_own : (ch : Channel) (n source : ℕ) (own x p : Bool)
     → is_own_move ch (request_move (if x then Pops (kind_served own) (number_served own n source) else Stays) p n ch)

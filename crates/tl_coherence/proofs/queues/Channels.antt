@@ -68,9 +68,7 @@ pub record IsShowing {w : ℕ} (caching : ℕ → Bool) (n : ℕ) (moves : ℕ �
 
 -- a kind of which there is one where the test says so
 not_there : (a b : Bool) (n : ℕ) → n ≤ one_if a → n ≤ one_if b → (n ≡ 0) ⊎ ((a ≡ true) × (b ≡ true))
-not_there true true n le me = inr (refl, refl)
-not_there false b n le me = inl (omega (arith, le))
-not_there true false n le me = inl (omega (arith, me))
+not_there a b n e f = grind arith
 
 messages-stay : {w : ℕ} {caching : ℕ → Bool} {n : ℕ} {moves : ℕ → Channel → Move} {mail mail' : AccessMessages w}
     {s s' : State (List ℕ)} → IsShowing caching n moves mail mail' s s' → (d : ℕ) (ch : Channel)
@@ -175,10 +173,7 @@ queued-by : {w : ℕ} (pop : Bool) (push : Option (Message w)) (move : Move) (re
     (x : Beat w) (queue q after r rest : List (Beat w)) → Fits pop push move render
     → after ≡ behind push (if pop then queue else q) → rest ≡ (if pop then [] else r)
     → (pop ≡ true → (q ≡ x ∷ queue) × (completes x r ≡ true)) → IsQueued move render q after r rest
-queued-by true None (Pops k n) render x queue q after r rest fits e f taken = (x, cc (taken refl).0, (taken refl).1, f)
-queued-by false None Stays render x queue q after r rest fits e f taken = (e, f)
-queued-by false (Some m) (Pushes k n) render x queue q after r rest fits e f taken = (rw fits e, f)
-queued-by pop push move render x queue q after r rest fits e f taken = absurd fits
+queued-by pop push move render x queue q after r rest e f g h = grind arith
 
 -- The whole after the last beat of the first message on channel ch of client c's link was taken, and
 -- messages were handed out.
@@ -226,9 +221,7 @@ queued-handed {w} {pushes} moves mail s {sys} {sys'} is fits d at = queued-with 
     queued-with : (push : Option (Message w)) (move : Move) (q after r rest : List (Beat w)) (render : Kind → ℕ
         → Message w) → Fits false push move render
         → after ≡ behind push q → rest ≡ r → IsQueued move render q after r rest
-    queued-with None Stays q after r rest render f e g = (e, g)
-    queued-with (Some m) (Pushes k n) q after r rest render f e g = (rw f e, g)
-    queued-with push move q after r rest render f e g = absurd f
+    queued-with push move q after r rest render e f g = grind arith
 
 -- ---- at one client
 

@@ -15,10 +15,7 @@ pub acquires-so : (whole : Bool) → is_acquire (acquire_opcode whole) ≡ true
 acquires-so whole = grind arith
 
 pub access_kind : (o : OpD) → is_access_answer o ≡ true → (is_grant o ≡ false) × (is_release_ack o ≡ false)
-access_kind OpD.Grant e = absurd cc
-access_kind OpD.GrantData e = absurd cc
-access_kind OpD.ReleaseAck e = absurd cc
-access_kind o e = (refl, refl)
+access_kind o e = grind arith
 
 -- ---- caps
 
@@ -26,17 +23,7 @@ pub cap-again : (k : Cap) → cap_of (cap_code k) ≡ Some k
 cap-again k = grind arith
 
 pub low_cap : (o : OpA) (param : ℕ) (k : Cap) → cap_probed o param ≡ Some k → same_cap k Cap.ToT ≡ false
-low_cap o param Cap.ToB e = refl
-low_cap o param Cap.ToN e = refl
-low_cap OpA.AcquireBlock param Cap.ToT e =
-    let never : (b : Bool) → Some (if b then Cap.ToB else Cap.ToN) ≡ Some Cap.ToT → ⊥ =
-    elim [ true ↦ λ f. cc | false ↦ λ f. cc ] in
-    absurd (never (param == 0) e)
-low_cap OpA.AcquirePerm param Cap.ToT e =
-    let never : (b : Bool) → Some (if b then Cap.ToB else Cap.ToN) ≡ Some Cap.ToT → ⊥ =
-    elim [ true ↦ λ f. cc | false ↦ λ f. cc ] in
-    absurd (never (param == 0) e)
-low_cap o param Cap.ToT e = absurd cc
+low_cap o param k e = grind arith
 
 -- a Grant gives something
 pub gives-some : (p : Profile) (whole : Bool) (g : Grow) (unheld : Bool)

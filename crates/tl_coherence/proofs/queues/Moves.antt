@@ -208,10 +208,7 @@ event-at {c} {n} {b} {l} {moves} {s} event = record {
 pub bare-at : (c : ℕ) (moves : Channel → Move) → spares (moves Channel.A) Request ≡ true
     → spares (moves Channel.D) Answer ≡ true → (d : ℕ)
     → (spares (moves_at c moves d Channel.A) Request ≡ true) × (spares (moves_at c moves d Channel.D) Answer ≡ true)
-bare-at c moves a e d =
-    let go : (b : Bool) (m : Move) (k : Kind) → spares m k ≡ true → spares (if b then m else Stays) k ≡ true =
-    elim [ true ↦ λ m k h. h | false ↦ λ m k h. refl ] in
-    (go (d == c) (moves Channel.A) Request a, go (d == c) (moves Channel.D) Answer e)
+bare-at c moves a e d = grind arith
 
 -- at other clients than c nothing moves
 pub bare-elsewhere : (c : ℕ) (moves : Channel → Move) (d : ℕ) → (d ≡ c → ⊥)

@@ -117,6 +117,4 @@ next-movable {w} config s d next =
 pub empty-still : {w : ℕ} (config : Config) (s : System w) (c : ℕ) (ch : Channel) → s.channels c ch ≡ []
     → is_movable config c ch s ≡ false
 unfolding is_movable
-empty-still config s c ch none =
-    let go : (o : Option EndConfig) → moves config o c ch [] s ≡ false = elim [ None ↦ refl | Some t ↦ refl ] in
-    rw none (go (terms_at config c))
+empty-still config s c ch none = grind arith

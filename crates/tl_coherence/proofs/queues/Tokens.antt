@@ -92,12 +92,7 @@ holds-pop_other k xs rest x test e off h n =
 pub holds-first : (k : Kind) (xs rest : List Packet) (x : Packet) (test : ℕ → Bool) → xs ≡ x ∷ rest
     → same_kind x.kind k ≡ true → Holds k xs test → test x.number ≡ true
 unfolding count
-holds-first k xs rest x test e on h =
-    let go : (b : Bool) → one_if b ≡ 1 + count k x.number rest → b ≡ true =
-    elim [ true ↦ λ f. refl | false ↦ λ f. absurd (omega (arith, f)) ] in
-    let yes : one_if (is k x.number x) ≡ 1 = rw (on, same_number x.number) refl in
-    let all : count k x.number (x ∷ rest) ≡ one_if (test x.number) = rw e at (h x.number) in
-    go (test x.number) (omega (arith, all, yes))
+holds-first k xs rest x test e on h = grind arith
 
 -- a token of the kind is popped
 pub holds-pop : {B : Type 0} (k : Kind) (xs rest : List Packet) (x : Packet) (q : B → Bool) (f : ℕ → B) (m : ℕ) (y : B)

@@ -48,9 +48,7 @@ data-few {w} m width = beats-few (Message.D (record {
 
 -- a block has four beats or more
 pub wide-block : (w : ℕ) → IsWidth w → 4 ≤ 64 / w
-wide-block w (inl e) = rw e (omega arith)
-wide-block w (inr (inl e)) = rw e (omega arith)
-wide-block w (inr (inr e)) = rw e (omega arith)
+wide-block w e = grind arith
 
 answer-few : {w : ℕ} (m : Message w) → IsWidth w → answer_beats m ≤ 64 / w
 answer-few {w} (Message.A m) width = go (is_read m.opcode)
@@ -74,17 +72,7 @@ answer-is source m x h = absurd h
 
 -- an atomic has four bytes or eight
 atomic-few : (w size : ℕ) → IsWidth w → is_one_of size (2 ∷ 3 ∷ []) ≡ true → data_beats w size ≤ 2
-atomic-few w size width e = go (size == 2) (size == 3) refl refl e
-  where
-    by_width : (w : ℕ) → IsWidth w → (data_beats w 2 ≤ 2) × (data_beats w 3 ≤ 2)
-    by_width w (inl f) = rw f (omega arith, omega arith)
-    by_width w (inr (inl f)) = rw f (omega arith, omega arith)
-    by_width w (inr (inr f)) = rw f (omega arith, omega arith)
-
-    go : (x y : Bool) → (size == 2) ≡ x → (size == 3) ≡ y → (x || (y || false)) ≡ true → data_beats w size ≤ 2
-    go true y f g h = rw (eqb-true size 2 f) (by_width w width).0
-    go false true f g h = rw (eqb-true size 3 g) (by_width w width).1
-    go false false f g h = absurd cc
+atomic-few w size width e = grind arith
 
 both-few : (w size : ℕ) (l : Level) (o : OpA) → IsWidth w → a_has_size w l o size ≡ true → data_beats w size ≤ 64 / w
     → (if a_carries_data o then data_beats w size else 1) + (if is_read o then data_beats w size else 1) ≤ 64 / w + 1

@@ -140,6 +140,4 @@ module _ {X : Type 0} (config : Config) (n : ℕ) (left left' : Left) (answer an
 -- an Acquire that is served as before
 pub acquire-no-more : (n a a' g g' p p' : ℕ) (v : View) → (is_unserved v ≡ true → a' ≤ a) → g' ≤ g → p' ≤ p
     → acquire_weight n a' g' p' v ≤ acquire_weight n a g p v
-acquire-no-more n a a' g g' p p' Own ha hg hp = omega (arith, hp)
-acquire-no-more n a a' g g' p p' (Granting d k) ha hg hp = omega (arith, hg)
-acquire-no-more n a a' g g' p p' v ha hg hp = let h = ha refl in omega (arith, h)
+acquire-no-more n a a' g g' p p' v e f h = grind arith

@@ -106,16 +106,7 @@ pub record IsWaited (service : Service) : Type 0 where
   pub is : service ≡ Waits client own source cap
 
 pub waited : (service : Service) (c : ℕ) → is_other (view service c) ≡ true → IsWaited service
-waited Free c e = absurd cc
-waited (Waits q own source k) c e = record { client = q; own = own; source = source; cap = k; is = refl }
-waited (GrantSent q d k) c e =
-    let never : (b : Bool) → is_other (if b then Granting d k else GrantedOther) ≡ true → IsWaited (GrantSent q d k) =
-    elim [ true ↦ λ f. absurd cc | false ↦ λ f. absurd cc ] in
-    never (c == q) e
-waited (GrantTaken q) c e =
-    let never : (b : Bool) → is_other (if b then Acknowledging else GrantedOther) ≡ true → IsWaited (GrantTaken q) =
-    elim [ true ↦ λ f. absurd cc | false ↦ λ f. absurd cc ] in
-    never (c == q) e
+waited service c e = grind arith
 
 pub waited-probing : {X : Type 0} {caching : ℕ → Bool} {s : State X} (c n : ℕ) → IsInvariant caching s
     → is_unprobed ((s.block n).pair c).probing ≡ false → IsWaited (s.block n).service

@@ -55,9 +55,7 @@ total-less (suc bound) m f lt le none =
 
 light-pair : (n left : ℕ) (recorded : Perm) (x : ProbePhase) → same_perm recorded Perm.Trunk ≡ false
     → (is_unprobed x ≡ false → left ≤ 1) → probing_weight n left recorded x ≤ 2
-light-pair n left recorded NoProbe e le = omega arith
-light-pair n left recorded (ProbeSent k) e le = rw e (omega arith)
-light-pair n left recorded (ProbeAnswered r) e le = let one = le refl in omega (arith, one)
+light-pair n left recorded x e f = grind arith
 
 quiet-pair : (n left : ℕ) (recorded : Perm) (x : ProbePhase) → is_unprobed x ≡ true
     → probing_weight n left recorded x ≡ 0
@@ -65,12 +63,7 @@ quiet-pair n left recorded x e = grind arith
 
 heavy-pair : (n left : ℕ) (recorded : Perm) (x : ProbePhase) → left ≤ n → 1 ≤ n
     → probing_weight n left recorded x ≤ n + 1
-heavy-pair n left recorded NoProbe le some = omega arith
-heavy-pair n left recorded (ProbeSent k) le some =
-    let go : (b : Bool) → 1 + (if b then n else 1) ≤ n + 1 = elim [ true ↦ omega arith | false ↦ omega (arith, some) ]
-    in
-    go (same_perm recorded Perm.Trunk)
-heavy-pair n left recorded (ProbeAnswered r) le some = omega (arith, le)
+heavy-pair n left recorded x e f = grind arith
 
 module _ {X : Type 0} {caching : ℕ → Bool} {s : State X} (inv : IsInvariant caching s) (n : ℕ) (left : Left) (answer : ℕ
     → ℕ → ℕ) (is : IsLeft n left answer s) (some : 1 ≤ n) (few : n ≤ 16) (clients : ℕ) (sixteen : clients ≤ 16) where
@@ -153,9 +146,7 @@ module _ {X : Type 0} {caching : ℕ → Bool} {s : State X} (inv : IsInvariant 
 
   acquire-few : (asked granted probes : ℕ) (v : View) → asked ≤ 1 → granted ≤ n → probes ≤ 32
       → acquire_weight n asked granted probes v ≤ n + 33
-  acquire-few asked granted probes Own a g p = omega (arith, p)
-  acquire-few asked granted probes (Granting d k) a g p = omega (arith, g)
-  acquire-few asked granted probes v a g p = omega (arith, a)
+  acquire-few asked granted probes v e f g = grind arith
 
   use-few : (c source : ℕ) (u : SourceState) → s.uses c source ≡ u
       → use_weight clients n left answer s c source u ≤ (n + 33) * one_if (is_used u)

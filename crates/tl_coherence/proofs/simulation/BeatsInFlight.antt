@@ -147,13 +147,7 @@ terms_in config x = record { level = x.level; profile = config.profile; sources 
 
 pub level-terms : (config : Config) (c : ℕ) (terms : EndConfig) → terms_at config c ≡ Some terms
     → (level_of config c ≡ Some terms.level) × (terms.blocks ≡ config.blocks)
-level-terms config c terms e = go (slice_get config.clients.items c) e
-  where
-    go : (o : Option ClientConfig) → option_map (terms_in config) o ≡ Some terms
-        → (option_map (λ x. x.level) o ≡ Some terms.level) × (terms.blocks ≡ config.blocks)
-    go None f = absurd cc
-    go (Some x) f = let g : terms_in config x ≡ terms = cc in
-        (ap (λ (t : EndConfig). Some t.level) g, sym (ap (λ (t : EndConfig). t.blocks) g))
+level-terms config c terms e = grind arith
 
 -- ---- what a client is asked for
 

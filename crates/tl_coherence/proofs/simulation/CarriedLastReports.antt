@@ -18,11 +18,7 @@ use proofs.queues.{Showing.showing-block, Tokens.same_number, Tokens.set-same, T
 ended_fits : {w : ℕ} (x y : Bool) (n source : ℕ) (m : Message w) (at : Channel) (render : Kind → ℕ → Message w)
     → (y ≡ true → render Answer source ≡ m) → Fits (x && same_channel at Channel.C)
     (if y then only_on Channel.D m at else None) (ended_move x y n source at) render
-ended_fits true true n source m Channel.D render e = e refl
-ended_fits true false n source m Channel.D render e = tt
-ended_fits false true n source m Channel.D render e = e refl
-ended_fits false false n source m Channel.D render e = tt
-ended_fits x y n source m at render e = tt
+ended_fits x y n source m at render e = grind arith
 
 -- the first token of c's channel C, wherever it is looked for
 first_of_c : (c d : ℕ) (t : Packet) (rest : List Packet) (link : ℕ → Link) → (link c).c ≡ t ∷ rest → (d == c) ≡ true
@@ -122,11 +118,7 @@ granted_fits {w} n m at c q d render e =
 
     cases : (x y : Bool) (at : Channel) → (y ≡ true → render Grant n ≡ m)
         → Fits (x && same_channel at Channel.C) (if y then only_on Channel.D m at else None) (moves x y at) render
-    cases true true Channel.D e = e refl
-    cases true false Channel.D e = tt
-    cases false true Channel.D e = e refl
-    cases false false Channel.D e = tt
-    cases x y at e = tt
+    cases x y at e = grind arith
 
 pub report_grants-shown : {w : ℕ} {caching : ℕ → Bool} (c q n source : ℕ) (r : Report) (d : Bool) (k gift : Cap)
     (rest : List Packet) (m : Message w) (mail : AccessMessages w) {s : State (List ℕ)} → IsInvariant caching s

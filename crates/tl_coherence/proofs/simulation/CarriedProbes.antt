@@ -22,10 +22,7 @@ other_probe n k c d at s ne = rw (ne_eqb d c ne) refl
 
 aside_probe : {w : ℕ} (n : ℕ) (k : Cap) (c d : ℕ) (at : Channel) (s : System w) → same_channel at Channel.B ≡ false
     → (with_message c (probe_of_block n k) s).channels d at ≡ s.channels d at
-aside_probe {w} n k c d at s aside =
-    let go : (b : Bool) → (if b && false then s.channels c Channel.B ++ beats_from (probe_of_block n k) 0 (beats_of
-    (probe_of_block {w = w} n k)) else s.channels d at) ≡ s.channels d at = elim [ true ↦ refl | false ↦ refl ] in
-    rw aside (go (d == c))
+aside_probe {w} n k c d at s aside = grind arith
 
 -- Probes go on channel B
 probes-aside : {w : ℕ} (n : ℕ) (k : Cap) (clients : List ℕ) (d : ℕ) (at : Channel) (s : System w)
@@ -110,11 +107,7 @@ channels-probes n k count test probed s same none d at = probes-aside n k (clien
 served_fits : {w : ℕ} (n : ℕ) (k : Cap) (x y : Bool) (at : Channel) (j : Kind) (i : ℕ) (render : Kind → ℕ → Message w)
     → (y ≡ true → render Probe n ≡ probe_of_block n k) → Fits (x && same_channel at Channel.A)
     (probe_pushes n k (λ d. y) 0 at) (request_move (if x then Pops j i else Stays) y n at) render
-served_fits n k true true Channel.B j i render e = e refl
-served_fits n k true false Channel.B j i render e = tt
-served_fits n k false true Channel.B j i render e = e refl
-served_fits n k false false Channel.B j i render e = tt
-served_fits n k x y at j i render e = tt
+served_fits n k x y at j i render e = grind arith
 
 -- the channel decides, and then whether one is probed
 pushes_is : {w : ℕ} (n : ℕ) (k : Cap) (test : ℕ → Bool) (d : ℕ) (at : Channel)
@@ -124,11 +117,7 @@ pushes_is n k test d at = grind arith
 -- the Probe that one is sent
 sent_probe : (w r : ℕ) (own : Bool) (n : ℕ) (k : Cap) (d : ℕ) (p : ClientBlock) → is_probed r own k p.recorded d ≡ true
     → probe_of_block {w = w} n (cap_sent (if own && (d == r) then p else after_served k p).probing) ≡ probe_of_block n k
-sent_probe w r own n k d p e = go (own && (d == r)) (is_above k p.recorded) refl e
-  where
-    go : (x y : Bool) → is_above k p.recorded ≡ y → (not x && y) ≡ true
-        → probe_of_block {w = w} n (cap_sent (if x then p else after_served k p).probing) ≡ probe_of_block n k
-    go x y e f = grind arith
+sent_probe w r own n k d p e = grind arith
 
 sent_rendered : {w : ℕ} (r : ℕ) (own : Bool) (source tracker : ℕ) (n : ℕ) (k : Cap) (d : ℕ) (b : Block (List ℕ))
     → is_probed r own k (b.pair d).recorded d ≡ true

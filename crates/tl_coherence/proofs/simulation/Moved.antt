@@ -114,15 +114,7 @@ pub offered-passes : {w : ℕ} (config : Config) (link : Link) (ch : Channel) (x
       manager_offer.taken link x (manager_reaction.reaction config link x e) e,
     )
 unfolding manager_offer.offered
-offered-passes {w} config link ch x e handed is =
-    let go : (j : manager_offer.Judgement) → (manager_offer.offered_as j config link x e).0 ≡ manager_offer.Sent handed
-    → manager_offer.offered_as j config link x e
-    ≡ (
-      manager_offer.Sent (manager_reaction.reaction config link x e).handed,
-      manager_offer.taken link x (manager_reaction.reaction config link x e) e,
-    ) =
-    elim [ manager_offer.Passes ↦ λ h. refl | j ↦ λ h. absurd cc ] in
-    go (manager_offer.judged config link ch x e) is
+offered-passes {w} config link ch x e handed is = grind arith
 
 -- the step, where the manager takes the beat
 pub record IsTakenByManager {w : ℕ} (config : Config) (link : Link) (ch : Channel) (x : Beat w) (queue : List (Beat w))

@@ -35,9 +35,7 @@ popped_first push move render xs ys fits e = absurd fits
 
 not_popped : {w : ℕ} (push : Option (Message w)) (move : Move) (render : Kind → ℕ → Message w)
     → Fits false push move render → is_pop move ≡ false
-not_popped None Stays render fits = refl
-not_popped (Some m) (Pushes k n) render fits = refl
-not_popped push move render fits = absurd fits
+not_popped push move render e = grind arith
 
 pub elsewhere : (c d : ℕ) (ch at : Channel) → (d ≡ c → at ≡ ch → ⊥) → ((d == c) && same_channel at ch) ≡ false
 elsewhere c d ch at ne = go (d == c) (same_channel at ch) refl refl

@@ -88,10 +88,7 @@ open_ends c source m a r x e = grind arith
 -- a request that is open is the pending one
 request_open : {w : ℕ} (source : ℕ) (x : BeatA w) (t : History w) → open_beat source t ≡ Some x
     → request_of source t ≡ Some x
-request_open {w} source x t e =
-    let go : (b : Bool) → cond b (request_of source t) None ≡ Some x → request_of source t ≡ Some x =
-    elim [ true ↦ λ f. f | false ↦ λ f. absurd cc ] in
-    go (pending (RequestSource source) t) e
+request_open {w} source x t e = grind arith
 
 -- what is open of an access that was answered
 record IsOver {w : ℕ} (config : Config) (log : Log w) (c source : ℕ) (h : AbstractState w) : Type 0 where
@@ -136,9 +133,7 @@ whole_response : {w : ℕ} {config : Config} {log : Log w} {link : Link} {ch : C
     {source : ℕ} {f : Finish} (end : IsEnding config log link ch h x source f)
     → Beat.D (d_beat_of end.response end.first.next.k) ∷ unfinished Channel.D
     ((system_after config log).clients link.0).past ≡ burst_of (Message.D end.response)
-whole_response {w} end = let fact =
-    (end.first.next.last (eqb-true (end.first.next.k + 1) _ (sym end.first.next.completes_is ∙ end.last))).1 in
-    cc (end.beat_is, end.response_is)
+whole_response {w} end = grind arith
 
 -- an answer ends its access as the machine allows
 pub ends-answer : {w : ℕ} {config : Config} {log : Log w} {link : Link} {ch : Channel} {h : AbstractState w}

@@ -1,5 +1,5 @@
 -- What the one-memory machine allows at a delivery: how a Grant and a ReleaseAck end their operations.
-use Rattle.std.proofs.Common.{◌≡◌, ℕ, Bool, true, false, List, ◌∷◌, Option, Some, None, refl, sym, ◌∙◌, ap, subst}
+use Rattle.std.proofs.Common.{◌≡◌, ℕ, Bool, true, false, List, ◌∷◌, Option, Some, None, refl, sym, ◌∙◌, ap, subst, arith}
 use Rattle.tl_coherence.proofs
 use proofs.Imports.{Beat, Link, Channel, Message, MessageD, d_beat_of, Config, Cap, Grow, Perm, cap_right, Finish}
 use proofs.Imports.{cap-gives, Kind, Answer, Grant, ReleaseAck, AcquirePhase, AcquireOpen, grant_fits, packet, is_on}
@@ -24,9 +24,7 @@ ends_granted n bytes x k false g y e named trunk = rw e (ap Finish.Granted (sym 
 
 let_open : {w : ℕ} (n : ℕ) (o : Option ℕ) (opened : Option (Open w)) (x : Beat w) → o ≡ Some n → IsLet o opened
     → Ends opened x Finish.Released
-let_open {w} n o opened x e is =
-    let go : IsLet (Some n) opened → Ends opened x Finish.Released = λ found. rw found.1 refl in
-    go (rw e at is)
+let_open {w} n o opened x e is = grind arith
 
 -- a Grant, and a ReleaseAck, end their operations as the machine allows
 pub ends-transfer : {w : ℕ} {config : Config} {log : Log w} {link : Link} {ch : Channel} {h : AbstractState w}

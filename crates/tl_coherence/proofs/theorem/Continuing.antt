@@ -1,5 +1,5 @@
 -- What a delivery answers of accesses is performed after the step of the one-memory machine.
-use Rattle.std.proofs.Common.{◌≡◌, ℕ, Bool, true, false, List, [], ◌∷◌, Option, Some, None, refl, ◌∙◌, ap, subst, ◌⊎◌}
+use Rattle.std.proofs.Common.{◌≡◌, ℕ, Bool, true, false, List, [], ◌∷◌, Option, Some, None, refl, ◌∙◌, ap, subst, ◌⊎◌, arith}
 use Rattle.std.proofs.Common.{inl, inr, All, Ok}
 use Rattle.tl_coherence.proofs
 use proofs.Imports.{All-head, Beat, BeatE, Link, Channel, IsWidth, Message, channel_of, Config, Verdict, EndConfig}
@@ -20,9 +20,7 @@ use proofs.queues.Steps.{stepped-empty}
 
 ours-quiet : {w : ℕ} (c : ℕ) (m : Message w) → IsOfClient m → accesses_answered (handed_by c (Some m)) ≡ []
 unfolding accesses_answered
-ours-quiet c (Message.B m) is = absurd is
-ours-quiet c (Message.D m) is = absurd is
-ours-quiet c m is = refl
+ours-quiet c m e = grind arith
 
 none-quiet : (w c : ℕ) → accesses_answered (handed_by {w = w} c None) ≡ []
 unfolding accesses_answered

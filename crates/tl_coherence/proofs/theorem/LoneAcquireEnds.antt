@@ -101,9 +101,7 @@ lone_drained {config} (suc k) {log} {c} {n} {source} {a} is =
 
 brought : (p : Profile) (n : ℕ) (a : AcquirePhase) (u : SourceState) (x : ClientBlock) → u ≡ SourceFree
     → Brings p n a u x → grown p a x.held ≡ true
-brought p n a u x e is =
-    let go : Brings p n a SourceFree x → grown p a x.held ≡ true = λ i. i in
-    go (rw e at is)
+brought p n a u x e is = grind arith
 
 alone-drained : {w : ℕ} {config : Config} {log : Log w} {c block source n : ℕ} {op : Op w} {a : AcquirePhase}
     → Begins config log c block source op a → IsDrained config ((Ask c op, Replied (Started source)) ∷ log) n

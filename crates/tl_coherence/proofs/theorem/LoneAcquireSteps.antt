@@ -102,32 +102,15 @@ module _ (p : Profile) (c n source : ℕ) (a : AcquirePhase) where
   IsOwn s d i = (d ≡ c) × (i ≡ source) × (s.uses d i ≡ Acquires n) × (((s.block n).pair c).acquiring ≡ a)
 
   lone_use : {s : State (List ℕ)} → IsLone p c n source a s → (d i : ℕ) → (s.uses d i ≡ SourceFree) ⊎ IsOwn s d i
-  lone_use {s} is d i = elim (place-cases c source d i) [
-    | inl same ↦ go (s.uses c source) refl is.brings same.0 same.1
-    | inr else_ ↦ inl (is.others d i else_)
-  ]
-    where
-      go : (u : SourceState) → s.uses c source ≡ u → Brings p n a u ((s.block n).pair c) → d ≡ c → i ≡ source
-          → (s.uses d i ≡ SourceFree) ⊎ IsOwn s d i
-      go SourceFree e b x y = inl (ap₂ s.uses x y ∙ e)
-      go (Acquires m) e b x y = inr (x, y, ap₂ s.uses x y ∙ e ∙ ap Acquires b.0, b.1)
-      go u e b x y = absurd b
+  lone_use {s} is d i = grind arith
 
   no_access : {s : State (List ℕ)} (d i : ℕ) (u : SourceState) → IsLone p c n source a s → s.uses d i ≡ u
       → is_access u ≡ true → ⊥
-  no_access {s} d i u is e access = elim (lone_use is d i) [
-    | inl none ↦ let no : is_access SourceFree ≡ true = ap is_access (sym none ∙ e) ∙ access in cc
-    | inr own ↦ let no : is_access (Acquires n) ≡ true = ap is_access (sym own.2 ∙ e) ∙ access in cc
-  ]
+  no_access {s} d i u is e access = grind arith
 
   own_acquire : {s : State (List ℕ)} (d i m : ℕ) → IsLone p c n source a s → s.uses d i ≡ Acquires m
       → IsOwn s d i × (m ≡ n)
-  own_acquire {s} d i m is e =
-      let same : (k : ℕ) → Acquires k ≡ Acquires n → k ≡ n = λ k f. cc in
-      elim (lone_use is d i) [
-        | inl none ↦ absurd (let no : SourceFree ≡ Acquires m = sym none ∙ e in cc)
-        | inr own ↦ (own, same m (sym e ∙ own.2))
-      ]
+  own_acquire {s} d i m is e = grind arith
 
   -- its client isn't probed
   unprobed : {caching : ℕ → Bool} {s : State (List ℕ)} → IsInvariant caching s → IsLone p c n source a s

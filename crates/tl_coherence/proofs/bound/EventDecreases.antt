@@ -1,5 +1,5 @@
 -- What an event at which the last beat of a message is taken finds, and what it leaves as it was.
-use Rattle.std.proofs.Common.{◌≡◌, ℕ, ◌≤◌, Bool, true, List, ◌∷◌, refl, ap, arith, ◌⊎◌, inl, inr, length, map}
+use Rattle.std.proofs.Common.{◌≡◌, ℕ, ◌≤◌, Bool, true, List, ◌∷◌, ap, arith, ◌⊎◌, inl, inr, length, map}
 use Rattle.tl_coherence.proofs
 use proofs.Imports.{cases_eq, Channel, length-begun, Cap, Prune, Report, IsInvariant, Kind, Packet, set, set_at}
 use proofs.Imports.{ProbePhase, ProbeAnswered, ReleaseSent, ReleasePhase, Block, State, packet, packets_on, is_on}
@@ -64,15 +64,12 @@ acks_granted c q n rest link d = acks_as (granted_link c q n rest link d) (link 
 
 pub acks_served : (r : ℕ) (own : Bool) (n : ℕ) (k : Cap) (rest : List Packet) (b : Block (List ℕ)) (link : ℕ → Link)
     (d : ℕ) → length (served_link r own n k rest b link d).e ≤ length (link d).e
-acks_served r own n k rest b link d =
-    acks_as (served_link r own n k rest b link d) (link d) (served_e r own n k rest b link d)
+acks_served r own n k rest b link d = grind (arith, acks_as, served_e)
 
 -- ---- phases
 
 pub answered_with : (x : ProbePhase) → is_answered x ≡ true → (r : Report) × (x ≡ ProbeAnswered r)
-answered_with (ProbeAnswered r) e = (r, refl)
-answered_with x e = absurd cc
+answered_with x e = grind arith
 
 pub releasing_with : (x : ReleasePhase) → is_releasing x ≡ true → (r : Prune) × (x ≡ ReleaseSent r)
-releasing_with (ReleaseSent r) e = (r, refl)
-releasing_with x e = absurd cc
+releasing_with x e = grind arith

@@ -1,5 +1,5 @@
 -- What is owed in a world falls as the last beat of a message is taken.
-use Rattle.std.proofs.Common.{◌≡◌, ℕ, ◌+◌, ◌/◌, ◌<◌, ◌≤◌, Bool, true, false, List, ◌∷◌, refl, arith, ◌⊎◌, inl, inr, ap}
+use Rattle.std.proofs.Common.{◌≡◌, ℕ, ◌+◌, ◌/◌, ◌<◌, ◌≤◌, Bool, true, false, List, ◌∷◌, refl, arith, ◌⊎◌, ap}
 use Rattle.std.proofs.Common.{[], None, length, Option, length-append}
 use Rattle.tl_coherence.proofs
 use proofs.Imports.{cases_eq, Channel, IsWidth, Message, MessageA, Config, Cap, Prune, Report, IsInvariant, is_replied}
@@ -211,9 +211,7 @@ module _ {w : ℕ} {config : Config} {log : Log w} {mail : AccessMessages w} {re
 
       fewer : (d : ℕ) → (d ≡ c) ⊎ (d ≡ c → ⊥) → length (set c (record (s.link c) { e = rest }) s.link d).e ≤ length
           (s.link d).e
-      fewer d (inl e) = rw e (let l = less in omega (arith, l))
-      fewer d (inr ne) = acks_as (set c (record (s.link c) { e = rest }) s.link d) (s.link d)
-          (ap (λ (l : Link). l.e) (set-other c d (record (s.link c) { e = rest }) s.link ne))
+      fewer d e = grind (arith, set-other)
 
   pub acquire_granted-owed : (tracker : ℕ) (d : Bool) (k : Cap) → (s.link c).a ≡ packet Acquire n ∷ rest
       → (s.block n).service ≡ Free → IsReceived c Channel.A sys sys'

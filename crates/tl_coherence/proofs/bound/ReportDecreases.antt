@@ -1,11 +1,11 @@
 -- What is owed falls as a Probe is taken, and as a report is taken: with others missing, or the last one.
 use Rattle.std.proofs.Common.{◌≡◌, ℕ, zero, suc, ◌+◌, ◌<◌, ◌≤◌, Bool, true, false, List, refl, sym, ◌∙◌, ap, arith, ◌⊎◌}
-use Rattle.std.proofs.Common.{inl, inr, length, ne_eqb, if◌then◌else◌}
+use Rattle.std.proofs.Common.{inl, inr, length, ne_eqb}
 use Rattle.tl_coherence.proofs
 use proofs.Imports.{cases_eq, Config, Cap, Report, Perm, report_at, same_perm, Left, probing_weight, pair_weight}
 use proofs.Imports.{probes_weight, acquire_weight, IsInvariant, serves_of, is_serving, ProbeAck, Acquire, Grant, Answer}
 use proofs.Imports.{set, ClientBlock, Own, Granting, ProbePhase, NoProbe, ProbeSent, ProbeAnswered, is_unprobed}
-use proofs.Imports.{after_probe, after_report, after_grant_sent, Service, Free, Waits, GrantSent, GrantTaken, Block}
+use proofs.Imports.{after_probe, after_report, after_grant_sent, Service, Free, Waits, GrantSent, Block}
 use proofs.Imports.{State, SourceFree, InService, Replied, Acquires, view, probed_block, ended_block, granted_block}
 use proofs.Imports.{reported_block, is_unserved, AccessMessages}
 use Rattle.tl_coherence.specs.bound.Rank.{total}
@@ -35,8 +35,7 @@ summand-few zero m f lt = absurd (omega (arith, lt))
 summand-few (suc bound) m f lt = go (cases_eq m bound) (λ below. summand-few bound m f below)
   where
     go : (m ≡ bound) ⊎ (m ≡ bound → ⊥) → (m < bound → f m ≤ total bound f) → f m ≤ total bound f + f bound
-    go (inl same) rest = rw same (omega arith)
-    go (inr differs) rest = let le = rest (omega (arith, lt, differs)) in omega (arith, le)
+    go e f = grind arith
 
 -- ---- who has the block in service
 

@@ -1,24 +1,19 @@
 -- What is owed falls as a response is taken, a Release, and a GrantAck.
-use Rattle.std.proofs.Common.{◌≡◌, ℕ, ◌+◌, ◌<◌, ◌≤◌, Bool, true, false, List, refl, sym, ◌∙◌, ap, arith, ◌⊎◌, inl, inr}
-use Rattle.std.proofs.Common.{Some, None, length, ne_eqb, eqb-true, ◌==◌, if◌then◌else◌}
+use Rattle.std.proofs.Common.{◌≡◌, ℕ, ◌+◌, ◌<◌, ◌≤◌, Bool, true, List, refl, sym, ◌∙◌, ap, arith, ◌⊎◌, inl, inr, Some}
+use Rattle.std.proofs.Common.{None, length, ne_eqb, eqb-true, ◌==◌}
 use Rattle.tl_coherence.proofs
-use proofs.Imports.{cases_eq, Config, Cap, Prune, Perm, prune_right, same_perm, Left, probing_weight, pair_weight}
-use proofs.Imports.{probes_weight, acquire_weight, letting_weight, IsInvariant, Acquire, Grant, ProbeAck}
-use proofs.Imports.{Release, Answer, set, ClientBlock, Granting, ProbePhase, NoProbe, ProbeSent, ProbeAnswered}
-use proofs.Imports.{NoRelease, ReleaseSent, ReleaseAcked, Acknowledging, GrantedOther, after_release_taken}
-use proofs.Imports.{after_release_ack, after_grant, Service, Free, GrantSent, GrantTaken, Block, State, SourceFree}
-use proofs.Imports.{Replied, Acquires, view, taken_block, let_block, let_go_block, freed_block, is_unserved, is_wanting}
-use proofs.Imports.{is_answered, AccessMessages}
+use proofs.Imports.{cases_eq, Config, Cap, Prune, Perm, prune_right, Left, probing_weight, pair_weight, probes_weight}
+use proofs.Imports.{acquire_weight, letting_weight, IsInvariant, Acquire, Grant, ProbeAck, Release, Answer, set}
+use proofs.Imports.{ClientBlock, Granting, ProbePhase, NoProbe, ProbeSent, ProbeAnswered, NoRelease, ReleaseSent}
+use proofs.Imports.{ReleaseAcked, after_release_taken, after_release_ack, after_grant, Service, Free, GrantSent}
+use proofs.Imports.{GrantTaken, Block, State, SourceFree, Replied, Acquires, view, taken_block, let_block, let_go_block}
+use proofs.Imports.{freed_block, is_unserved, is_wanting, is_answered, AccessMessages}
 use proofs.bound.ReportDecreases.{kept_at, nobody-serving, is_for_access}
 use proofs.rank.Frames.{Taking, Falls, AreAsBefore, AreNoMore, AreElsewhere, IsBlockNoMore, acquire-stays, let-stays}
 use proofs.rank.Frames.{pair-stays, unserved-stays, wants-used, report-here}
+use proofs.rank.RankParts.{request-falls, release-falls, acknowledged-falls, granted-falls, block-same}
 use proofs.queues.{Phases.and_right, Sums.total-le, Tokens.same_number, Tokens.set-same, Tokens.set-other}
 use proofs.protocol.BeatsRemaining.{beats_left, left-same}
-use proofs.rank.RankParts.{request-falls, release-falls, acknowledged-falls, granted-falls, block-same}
-
--- who has released is no longer recorded as the writer
-pruned : (r : Prune) → same_perm (prune_right r) Perm.Trunk ≡ false
-pruned r = grind arith
 
 pruned-weight : (size l l' : ℕ) (recorded : Perm) (r : Prune) (x : ProbePhase) → 1 ≤ size → ((a : ℕ) → l' ≤ l)
     → probing_weight size l' (prune_right r) x ≤ probing_weight size l recorded x

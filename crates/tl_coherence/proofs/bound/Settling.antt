@@ -1,7 +1,7 @@
 -- Deliveries move no more beats than the load before them; and the next ones, one after another, end
 -- what is outstanding.
 use Rattle.std.proofs.Common.{◌≡◌, ℕ, zero, suc, ◌+◌, ◌≤◌, Bool, true, false, [], ◌∷◌, ◌++◌, Option, Some, None, length}
-use Rattle.std.proofs.Common.{refl, sym, ◌∙◌, ap, subst, arith, All, if◌then◌else◌, filter}
+use Rattle.std.proofs.Common.{refl, sym, ◌∙◌, ap, subst, arith, All}
 use Rattle.tl_coherence.proofs
 use proofs.Imports.{All-head, Link, Channel, Config, limits, one_if, Event, Deliver, Ask, Outcome, is_moving}
 use proofs.Imports.{is_delivery, IsDrained, IsGiven, load, Log, system_after, next_delivery, with_delivery, stepped}

@@ -1,19 +1,19 @@
 -- Answers that are on their way answer their accesses: after every event.
-use Rattle.std.proofs.Common.{◌≡◌, subst, ℕ, Bool, true, false, List, ◌∷◌, Some, None, length, refl, sym, ◌∙◌, ap, ◌⊎◌, arith}
-use Rattle.std.proofs.Common.{inl, inr, ◌%◌}
+use Rattle.std.proofs.Common.{◌≡◌, ℕ, Bool, true, false, List, ◌∷◌, Some, None, length, refl, sym, ◌∙◌, ap, arith, inl}
+use Rattle.std.proofs.Common.{inr, ◌%◌}
 use Rattle.tl_coherence.proofs
 use proofs.Imports.{cases_eq, OpA, OpD, Message, MessageA, MessageD, Config, Memory, effect, answer_of, as_payload}
 use proofs.Imports.{bytes_from, block_at, is_acquire, Op, Reply, access, access_answer, no_payload, is_access_answer}
 use proofs.Imports.{Kind, Answer, Packet, set_at, Waits, GrantSent, State, SourceState, SourceFree, Asked, InService}
 use proofs.Imports.{Replied, Acquires, packet, on, AbstractState, asked, access_taken, last_taken, taken_by_client}
-use proofs.Imports.{kind_taken, bytes_at, AccessMessages, report_told, SimulationRelation, IsAnswer, IsAnswered, IsFor}
-use proofs.Imports.{Log, System}
+use proofs.Imports.{kind_taken, AccessMessages, report_told, SimulationRelation, IsAnswer, IsAnswered, IsFor, Log}
+use proofs.Imports.{System}
 use Rattle.tl_rules.{specs.statement.Conformance.answers, specs.statement.Effect.byte_count}
 use Rattle.tl_rules.specs.statement.Effect as memory
 use Rattle.tl_coherence.specs.refinement.AbstractStep as follow
 use proofs.client.Aside.{set_at-else, set_at-other}
 use proofs.protocol.{Heads.asked-first, Events.true-taken}
-use proofs.queues.Tokens.{set_at-same}
+use proofs.queues.{Tokens.set_at-same}
 
 abbrev pub AreAnswered : {w : ℕ} → AccessMessages w → State (List ℕ) → Type 0
 AreAnswered mail s = (c source : ℕ) → IsAnswered source (mail.request c source) (mail.answer c source) (s.uses c source)
@@ -57,9 +57,7 @@ answer_kind OpA.AcquirePerm m f e = absurd cc
 answers-access : {w : ℕ} (source : ℕ) (m : MessageA w) (bytes : List ℕ) → is_acquire m.opcode ≡ false
     → m.source ≡ source → IsAnswer source (Message.A m) (follow.answers m bytes)
 unfolding effect IsAnswerTo
-answers-access {w} source m bytes access from =
-    let is = answer_kind m.opcode m (bytes_at (block_at m.address) bytes) access in
-    subst (λ (y : Message w). IsAnswer source (Message.A m) y) (sym is.1) (is.2, is.3, is.4 ∙ from, is.5)
+answers-access {w} source m bytes access from = grind (arith, answer_kind)
 
 -- ---- one source
 

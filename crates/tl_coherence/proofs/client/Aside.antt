@@ -1,6 +1,6 @@
 -- Which clients' ends an event leaves alone: one at a client all others, one at the manager all.
-use Rattle.std.proofs.Common.{◌≡◌, ℕ, Bool, true, false, List, refl, sym, ◌∙◌, ap, inl, inr, ◌&&◌, eqb-true, ◌==◌, arith}
-use Rattle.std.proofs.Common.{if◌then◌else◌}
+use Rattle.std.proofs.Common.{◌≡◌, ℕ, Bool, true, false, List, refl, sym, ◌∙◌, ap, inl, inr, ◌&&◌, eqb-true, ◌==◌}
+use Rattle.std.proofs.Common.{arith, if◌then◌else◌}
 use Rattle.tl_coherence.proofs
 use proofs.Imports.{Cap, Report, set, set_at, ClientBlock, is_unreleased, after_report, after_served, after_grant_sent}
 use proofs.Imports.{Block, State, SourceState, served_block, granted_block, served_pair, granted_pair, AccessMessages}

@@ -3,16 +3,15 @@
 use Rattle.std.proofs.Common.{sym, None, ◌≡◌, ℕ, Bool, true, false, List, ◌∷◌, Some, refl, ap, inl, not, ◌==◌, arith}
 use Rattle.tl_coherence.proofs
 use proofs.Imports.{and_from, Message, Config, Cap, Grow, block_at, Op, Reply, copy_stored, whole_grow, access}
-use proofs.Imports.{cap_asked, IsInvariant, is_asked, serves_of, Kind, Request, Probe, Release, Answer}
-use proofs.Imports.{Grant, ReleaseAck, Packet, is_whole, AcquireOpen, after_grant_sent, after_grant}
-use proofs.Imports.{after_release_taken, after_acquire, after_release, after_probe, after_release_ack, after_report}
-use proofs.Imports.{InService, Replied, SourceFree, Acquires, Service, Waits, GrantSent, Block, SourceState, Asked}
-use proofs.Imports.{packet, on, granted_copy, acquire_asked, AbstractState, with_state, asked, taken_by_client}
-use proofs.Imports.{kind_taken, channel_for, cap_sent, is_to_client}
+use proofs.Imports.{cap_asked, IsInvariant, is_asked, serves_of, Kind, Request, Probe, Release, Answer, Grant}
+use proofs.Imports.{ReleaseAck, Packet, is_whole, AcquireOpen, after_grant_sent, after_grant, after_release_taken}
+use proofs.Imports.{after_release, after_probe, after_release_ack, after_report, InService, Replied, SourceFree}
+use proofs.Imports.{Service, Waits, GrantSent, Block, SourceState, Asked, packet, on, granted_copy, acquire_asked}
+use proofs.Imports.{AbstractState, with_state, asked, taken_by_client, kind_taken, channel_for, cap_sent, is_to_client}
 use proofs.client.Aside.{aside-block, aside-blocks, pair-aside, others-aside, entry-aside, served-aside, granted-aside}
 use proofs.client.Aside.{set_at-other, uses-moved}
-use proofs.queues.Tokens.{set-other, same_number}
 use proofs.client.ClientEnd.{is_access, IsAside}
+use proofs.queues.Tokens.{set-other, same_number}
 use proofs.protocol.{BothParts.releasing-open, FirstTokens.first-shown, FirstTokens.first-request, Events.true-taken}
 
 -- the client's end is left alone

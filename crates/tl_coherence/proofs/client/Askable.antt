@@ -4,11 +4,10 @@ use Rattle.tl_coherence.proofs
 use proofs.Imports.{or_parts, not-false, Message, MessageA, Config, RequestSource, ReleaseSource, AcquireOf, ReleaseOf}
 use proofs.Imports.{Level, Perm, grow_left, prune_left, same_perm, block_at, pending, has_transfers, NotBusy}
 use proofs.Imports.{asked-cases, least_free-some, Busy, Op, Reply, done, store, free_request, free_release, source_or_0}
-use proofs.Imports.{EndConfig, Endpoint, held_at, level_of, Acquire, AcquirePhase, NoAcquire, AcquireOpen, State}
+use proofs.Imports.{EndConfig, Endpoint, held_at, level_of, Acquire, AcquirePhase, State}
 use proofs.Imports.{SourceState, SourceFree, Replied, Acquires, AbstractState, AccessMessages, acquire_of}
 use proofs.Imports.{block_message, SimulationRelation, is_caching, asked_by, IsSourced, IsAnswered, IsAnswer, asked_for}
 use proofs.Imports.{block_used, first_of, request_source, Log, System, terms_at}
-use Rattle.tl_coherence.specs.refinement.SimulationRelation.{is_c}
 use Rattle.tl_client.specs.statement.Ask as ask
 use proofs.client.{ClientDelivered.shadow_of, ClientEnd.IsEnd, ClientEnd.end-matched, ClientTakes.terms-are}
 use proofs.protocol.{FollowKept.IsAskable, BothParts.calm-is, BothParts.kept-letting}
@@ -26,8 +25,7 @@ sourced_request m source e = grind arith
 
 answered_request : {w : ℕ} (source : ℕ) (m x : Message w) → IsAnswer source m x → is_request m ≡ true
 unfolding is_request
-answered_request source (Message.A m) x is = refl
-answered_request source m x is = absurd is
+answered_request source m x e = grind arith
 
 asks_something : {w : ℕ} (m : Message w) → is_request m ≡ true → is_some (first_of m) ≡ true
 unfolding is_request
@@ -65,8 +63,7 @@ no_let o e = grind arith
 
 pub caches : (config : Config) (c : ℕ) (l : Level) → level_of config c ≡ Some l → has_transfers l ≡ true
     → is_caching config c ≡ true
-caches config c Level.C at transfers = ap is_c at
-caches config c l at transfers = absurd cc
+caches config c l e f = grind arith
 
 pub swap_perms : (p q : Perm) → same_perm p q ≡ same_perm q p
 swap_perms p q = grind arith

@@ -1,6 +1,6 @@
 -- A client's end after it was asked for an operation: what it does is what the protocol does.
-use Rattle.std.proofs.Common.{◌≡◌, subst, ℕ, Bool, true, false, not, ◌&&◌, cond, List, Option, Some, None, refl, sym, arith}
-use Rattle.std.proofs.Common.{◌∙◌, ap, ◌⊎◌, inl, inr, eqb-true, ne_eqb, ◌==◌, unwrap_or}
+use Rattle.std.proofs.Common.{◌≡◌, subst, ℕ, Bool, true, false, not, ◌&&◌, cond, List, Option, Some, None, refl, sym}
+use Rattle.std.proofs.Common.{arith, ◌∙◌, ap, ◌⊎◌, inl, inr, eqb-true, ne_eqb, ◌==◌, unwrap_or}
 use Rattle.tl_coherence.proofs
 use proofs.Imports.{cases_eq, or_parts, not-false, BeatA, OpA, OpC, IsWidth, Message, MessageC, AcquireOf, ReleaseOf}
 use proofs.Imports.{Prune, Perm, prune_code, prune_left, prune_right, sent, same_perm, block_at, is_release, held}
@@ -155,11 +155,7 @@ end-stored {w} {c} n bytes mail {s} {e} kept end =
 
     copy_of : (i : ℕ) → (i ≡ n) ⊎ (i ≡ n → ⊥) → same_perm ((s.block i).pair c).held Perm.None ≡ false
         → cond (i == n) (Some bytes) (e.copies i) ≡ Some ((s'.block i).copy c)
-    copy_of i (inl here) some = chosen (i == n) (Some bytes) (e.copies i) (rw here (same_number n))
-        ∙ ap Some (sym (ap (λ (b : Block (List ℕ)). b.copy c) (ap s'.block here ∙ set-same n new s.block) ∙ set-same c
-        bytes (s.block n).copy))
-    copy_of i (inr other) some = passed (i == n) (Some bytes) (e.copies i) (ne_eqb i n other) ∙ end.copies i some
-        ∙ ap Some (sym (ap (λ (b : Block (List ℕ)). b.copy c) (set-other n i new s.block other)))
+    copy_of i e f = grind (arith, same_number, set-other)
 
 -- ---- all operations
 

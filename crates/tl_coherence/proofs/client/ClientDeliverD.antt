@@ -1,12 +1,12 @@
 -- A client's end after it has taken a beat of channel D: what it knows is what the protocol says then.
-use Rattle.std.proofs.Common.{◌≡◌, ℕ, Bool, true, false, not, ◌&&◌, cond, List, [], ◌∷◌, Option, Some, None, refl, sym, arith}
-use Rattle.std.proofs.Common.{◌∙◌, ap, ◌==◌, is_some, option_map}
+use Rattle.std.proofs.Common.{◌≡◌, ℕ, Bool, true, false, not, ◌&&◌, cond, List, [], ◌∷◌, Option, Some, None, refl, sym}
+use Rattle.std.proofs.Common.{arith, ◌∙◌, ap, ◌==◌, is_some, option_map}
 use Rattle.tl_coherence.proofs
-use proofs.Imports.{same_Some, Beat, BeatA, BeatC, BeatD, Channel, IsWidth, beats-positive, E, MessageE, History}
-use proofs.Imports.{unfinished, RequestSource, ReleaseSource, AcquireOf, ReleaseOf, Perm, pending-whole}
-use proofs.Imports.{release_of-whole, held-whole, sent, block_at, ends, is_grant, is_release_ack, held, pending}
-use proofs.Imports.{request_of, release_of, grants, capped, release_of-d, Endpoint, open_beat, is_unreleased, State}
-use proofs.Imports.{is_wanting, ClientRelation, OpenSourceRelation}
+use proofs.Imports.{Beat, BeatA, BeatC, BeatD, Channel, IsWidth, beats-positive, E, MessageE, History, unfinished}
+use proofs.Imports.{RequestSource, ReleaseSource, AcquireOf, ReleaseOf, Perm, pending-whole, release_of-whole}
+use proofs.Imports.{held-whole, sent, block_at, ends, is_grant, is_release_ack, held, pending, request_of, release_of}
+use proofs.Imports.{grants, capped, release_of-d, Endpoint, open_beat, is_unreleased, State, is_wanting, ClientRelation}
+use proofs.Imports.{OpenSourceRelation}
 use Rattle.tl_rules.{proofs.Sent.pending-closed, specs.statement.History.releases}
 use Rattle.tl_client.{proofs.endpoint.HeldAfter.held-beat_d}
 use Rattle.tl_client.proofs.pending.Opens.{acquire_of-d, open_beat-d, open_beat-e, unfinished-d}
@@ -134,13 +134,7 @@ pub answer_closes : {w : ℕ} (x : BeatD w) (t : History w) → ends (Beat.D x) 
     × ((k : ℕ) → (ends (Beat.D x) t && (is_release_ack x.opcode && releases k (release_of x.source t))) ≡ false)
     × ((i : ℕ) → (ends (Beat.D x) t && (not (is_release_ack x.opcode) && (x.source == i))) ≡ (x.source == i))
     × ((i : ℕ) → (ends (Beat.D x) t && (is_release_ack x.opcode && (x.source == i))) ≡ false)
-answer_closes x t last plain other =
-    (λ k. rw (last, plain) refl, λ k. rw (last, other) refl, λ i. rw (last, other) refl, λ i. rw (last, other) refl)
-
-released_block : {w : ℕ} (k n : ℕ) (o : Option (BeatC w)) → option_map (λ (x : BeatC w). block_at x.address) o ≡ Some n
-    → releases k o ≡ (n == k)
-released_block k n None e = absurd cc
-released_block k n (Some x) e = ap (λ (i : ℕ). i == k) (same_Some (block_at x.address) n e)
+answer_closes x t last plain other = grind arith
 
 -- that of a ReleaseAck the Release with its source, of its block
 pub ack_closes : {w : ℕ} (n : ℕ) (x : BeatD w) (t : History w) → ends (Beat.D x) t ≡ true → is_grant x.opcode ≡ false

@@ -1,9 +1,9 @@
 -- A beat of channel D that is delivered to a client is taken, and its end is then that of the protocol.
-use Rattle.std.proofs.Common.{◌≡◌, subst, ℕ, ◌+◌, ◌*◌, Bool, true, false, ◌||◌, List, ◌∷◌, Option, Some, length, refl}
-use Rattle.std.proofs.Common.{sym, ◌∙◌, ap, arith, lit<, eqb-true, pow_pos, map}
+use Rattle.std.proofs.Common.{◌≡◌, subst, ℕ, ◌+◌, Bool, true, false, ◌||◌, List, ◌∷◌, Option, Some, length, refl}
+use Rattle.std.proofs.Common.{sym, ◌∙◌, ap, arith, eqb-true, map}
 use Rattle.tl_coherence.proofs
 use proofs.Imports.{drop_all, Beat, BeatA, BeatD, Channel, OpD, IsWidth, Message, MessageA, MessageD, d_beat_of}
-use proofs.Imports.{beats_of, burst_of, data_beats, IsBlankAfter, IsZeroFrom, unfinished, completes, Config, Cap, Perm}
+use proofs.Imports.{beats_of, burst_of, IsBlankAfter, unfinished, completes, Config, Cap, Perm}
 use proofs.Imports.{payload-d, whole_block, payload_of, same_perm, ends, is_grant, is_release_ack, request_of}
 use proofs.Imports.{accounted-offered, kept-offered, Finish, EndConfig, Endpoint, with_past, Offered, offered, taken}
 use proofs.Imports.{ended, responded, granted, Kind, Answer, Grant, ReleaseAck, Packet, AcquirePhase, AcquireOpen}
@@ -29,8 +29,7 @@ ended_plain o y f r payload e g = grind arith
 
 plain_end : {w : ℕ} (y : BeatD w) (e : Endpoint w) → ends (Beat.D y) e.past ≡ true → is_grant y.opcode ≡ false
     → (taken (Beat.D y) e).after ≡ with_past (Beat.D y ∷ e.past) e
-plain_end {w} y e last plain = last_end y e last ∙ ended_plain y.opcode y _ (request_of y.source e.past)
-    (payload_of (Beat.D y ∷ unfinished Channel.D e.past)) (with_past (Beat.D y ∷ e.past) e) plain
+plain_end {w} y e last plain = grind (arith, last_end, ended_plain)
 
 -- ---- the end afterwards
 
@@ -136,11 +135,7 @@ ack-delivered {w} {config} {mail} {request} {s} {sys} terms tracker c n rest wid
 grant_blank : {w : ℕ} (data_too : Bool) (k : Cap) (source sink : ℕ) (payload : List ℕ) → IsWidth w → length payload ≡ 64
     → IsBlankAfter (beats_of (Message.D (grant_message {w = w} data_too k source sink payload)))
     (Message.D (grant_message {w = w} data_too k source sink payload))
-grant_blank {w} true k source sink payload width long =
-    let all : IsZeroFrom (w * data_beats w 6) payload =
-    rw (whole_block w width) (drop_all 64 payload (omega (arith, long))) in
-    (all, pow_pos (data_beats w 6))
-grant_blank {w} false k source sink payload width long = (refl, lit< tt)
+grant_blank data_too k source sink payload e f = grind (arith, whole_block, drop_all)
 
 -- the bytes of a Grant that carries them
 grant_bytes : {w : ℕ} (data_too : Bool) (k : Cap) (source sink : ℕ) (payload : List ℕ) (beats : List (Beat w))

@@ -1,13 +1,13 @@
 -- A client's end of its link beside the protocol, in one record; and what of the protocol it depends on.
-use Rattle.std.proofs.Common.{◌≡◌, ℕ, Bool, true, false, not, cond, List, [], ◌∷◌, Option, Some, None, refl, sym, ◌∙◌, arith}
-use Rattle.std.proofs.Common.{ap, ◌⊎◌, inl, inr, ◌&&◌, ◌==◌, if◌then◌else◌}
+use Rattle.std.proofs.Common.{◌≡◌, ℕ, Bool, true, false, not, cond, List, Option, Some, None, refl, sym, ◌∙◌, arith, ap}
+use Rattle.std.proofs.Common.{◌⊎◌, ◌==◌, if◌then◌else◌}
 use Rattle.tl_coherence.proofs
-use proofs.Imports.{Beat, BeatA, Channel, Message, MessageA, a_beat_of, History, unfinished, Config, RequestSource}
-use proofs.Imports.{AcquireOf, ReleaseOf, Grow, Perm, same_perm, is_grant, held, pending, request_of, asks_for}
-use proofs.Imports.{Endpoint, is_acquire_beat, open_beat, acquisition, Acquire, set, AcquireOpen, is_unreleased}
-use proofs.Imports.{is_whole, Block, State, SourceState, SourceFree, Asked, InService, Replied, Acquires, is_wanting}
-use proofs.Imports.{acquire_opcode, ClientRelation, comes_granting, AccessMessages, acquire_of, block_message}
-use proofs.Imports.{SimulationRelation, asked_by, asked_for, first_of, block_used, OpenSourceRelation, Log, System}
+use proofs.Imports.{Beat, BeatA, Channel, Message, MessageA, a_beat_of, History, unfinished, Config, AcquireOf}
+use proofs.Imports.{ReleaseOf, Grow, Perm, same_perm, held, pending, request_of, Endpoint, is_acquire_beat, open_beat}
+use proofs.Imports.{acquisition, Acquire, set, AcquireOpen, is_unreleased, is_whole, Block, State, SourceState}
+use proofs.Imports.{SourceFree, Asked, InService, Replied, Acquires, is_wanting, acquire_opcode, ClientRelation}
+use proofs.Imports.{comes_granting, AccessMessages, acquire_of, block_message, SimulationRelation, asked_by, asked_for}
+use proofs.Imports.{first_of, block_used, OpenSourceRelation, Log, System}
 use Rattle.tl_client.{specs.laws.Accounted.IsAccounted, specs.statement.EndpointInvariant.IsGranting}
 use Rattle.tl_client.specs.laws.Accounted as accounted
 use Rattle.tl_client.specs.statement.EndpointInvariant as client
@@ -50,17 +50,7 @@ open-is {w} source t some = grind arith
 coming_is : {w : ℕ} (asked : ℕ → Option (BeatA w)) (n : ℕ) (rest : List (Beat w)) (t : History w) → IsGranting rest t
     → ((source : ℕ) → open_beat source t ≡ asked source)
     → accounted.comes_granting n rest t ≡ comes_granting n asked rest
-coming_is asked n [] t granting opens = refl
-coming_is asked n (Beat.A x ∷ rest) t granting opens = refl
-coming_is asked n (Beat.B x ∷ rest) t granting opens = refl
-coming_is asked n (Beat.C x ∷ rest) t granting opens = refl
-coming_is asked n (Beat.E x ∷ rest) t granting opens = refl
-coming_is {w} asked n (Beat.D x ∷ rest) t granting opens = go (is_grant x.opcode) refl
-  where
-    go : (b : Bool) → is_grant x.opcode ≡ b
-        → (b && asks_for n (request_of x.source t)) ≡ (b && asks_for n (asked x.source))
-    go true e = ap (asks_for n) (open-is x.source t (granting e).2 ∙ opens x.source)
-    go false e = refl
+coming_is asked n rest t e f = grind (arith, open-is)
 
 -- what is known of a well kept end, given what it holds and has open
 pub known-kept : {w : ℕ} (asked : ℕ → Option (BeatA w)) (c : ℕ) (s : State (List ℕ)) {e : Endpoint w} → IsWellKept e
@@ -69,17 +59,7 @@ pub known-kept : {w : ℕ} (asked : ℕ → Option (BeatA w)) (c : ℕ) (s : Sta
     → ((n : ℕ) → pending (ReleaseOf n) e.past ≡ not (is_unreleased ((s.block n).pair c).letting))
     → ((source : ℕ) → open_beat source e.past ≡ asked source) → ClientRelation asked (unfinished Channel.D e.past) c s
     e.past
-known-kept asked c s {e} well held_is acquires releases opens = record {
-  held_is = held_is;
-  acquires = acquires;
-  releases = releases;
-  probes = well.accounted.acked.probes;
-  opens = opens;
-  rest_is = refl;
-  sinks = well.accounted.acked.sinks;
-  grants = λ n. well.accounted.acked.acks n ∙ coming_is asked n (unfinished Channel.D e.past) e.past well.kept.granting
-      opens;
-}
+known-kept asked c s {e} well held_is acquires releases opens = grind (arith, coming_is)
 
 -- ---- what the protocol says of it
 
@@ -169,12 +149,7 @@ pub asks-same : {w : ℕ} (c source : ℕ) (mail mail' : AccessMessages w) (s s'
     → ((n : ℕ) → s.uses c source ≡ Acquires n → ((s'.block n).pair c).acquiring ≡ ((s.block n).pair c).acquiring)
     → ((n : ℕ) → s.uses c source ≡ Acquires n → (s'.block n).source c ≡ (s.block n).source c)
     → asked_by mail' s' c source ≡ asked_by mail s c source
-asks-same {w} c source mail mail' s s' request (inl same) a b =
-    cc (same, request, acquires_same (s.uses c source) (mail.request c source) s.block s'.block c a b)
-asks-same {w} c source mail mail' s s' request (inr both) a b = let fact = access_asks (s'.uses c source)
-    (mail'.request c source) both.1 (block_message Acquire c (block_used (s'.uses c source)) (s'.block
-    (block_used (s'.uses c source)))) in let other_fact = access_asks (s.uses c source) (mail.request c source) both.0
-    (block_message Acquire c (block_used (s.uses c source)) (s.block (block_used (s.uses c source)))) in cc request
+asks-same c source mail mail' s s' e f g h = grind (arith, acquires_same, access_asks)
 
 -- a source that is closed asks for nothing, and the use that is an access for it, and that of an Acquire for that
 pub asks-closed : {w : ℕ} (c source : ℕ) (mail : AccessMessages w) (s : State (List ℕ)) → s.uses c source ≡ SourceFree
@@ -184,8 +159,7 @@ asks-closed {w} c source mail s used = ap (λ (u : SourceState). asked_with u (m
 pub asks-access : {w : ℕ} (c source : ℕ) (m : MessageA w) (mail : AccessMessages w) (s : State (List ℕ))
     → is_access (s.uses c source) ≡ true
     → mail.request c source ≡ Message.A m → asked_by mail s c source ≡ Some (a_beat_of m 0)
-asks-access {w} c source m mail s used request = cc (access_asks (s.uses c source) (mail.request c source) used
-    (block_message Acquire c (block_used (s.uses c source)) (s.block (block_used (s.uses c source)))))
+asks-access {w} c source m mail s used request = grind (arith, access_asks)
 
 acquire-first : {w : ℕ} (whole : Bool) (g : Grow) (source n : ℕ)
     → first_of (acquire_of {w = w} (AcquireOpen whole g) source n) ≡ Some

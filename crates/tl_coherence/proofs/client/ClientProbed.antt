@@ -1,6 +1,6 @@
 -- A client's end after it has taken a Probe, beside the event of the protocol.
-use Rattle.std.proofs.Common.{◌≡◌, ℕ, Bool, true, false, not, ◌&&◌, cond, List, ◌∷◌, Some, None, refl, sym, ◌∙◌, ap, arith}
-use Rattle.std.proofs.Common.{inl, eqb-true, ◌==◌}
+use Rattle.std.proofs.Common.{◌≡◌, ℕ, Bool, true, false, not, ◌&&◌, cond, List, ◌∷◌, Some, None, refl, sym, ◌∙◌, ap}
+use Rattle.std.proofs.Common.{arith, inl, eqb-true, ◌==◌}
 use Rattle.tl_coherence.proofs
 use proofs.Imports.{Beat, OpB, IsWidth, Cap, Perm, report_right, same_perm, kept_copies, kept_closed, kept_waiting}
 use proofs.Imports.{Endpoint, copy_at, held_at, sending, with_past, holds, report_for, probe_ack, Packet, ClientBlock}

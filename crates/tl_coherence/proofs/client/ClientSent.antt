@@ -1,6 +1,6 @@
 -- A client's end after it has handed a request or a Release out: what it knows is what the protocol says then.
-use Rattle.std.proofs.Common.{◌≡◌, ℕ, Bool, true, false, not, cond, List, [], Option, Some, refl, sym, ◌∙◌, ap, ◌&&◌, arith}
-use Rattle.std.proofs.Common.{◌==◌, is_some, option_map}
+use Rattle.std.proofs.Common.{◌≡◌, ℕ, Bool, true, false, not, cond, List, [], Option, Some, refl, sym, ◌∙◌, ap, ◌&&◌}
+use Rattle.std.proofs.Common.{arith, ◌==◌, is_some, option_map}
 use Rattle.tl_coherence.proofs
 use proofs.Imports.{BeatA, BeatC, Channel, IsWidth, beats-positive, A, MessageA, MessageC, a_beat_of, c_beat_of}
 use proofs.Imports.{History, unfinished, RequestSource, ReleaseSource, AcquireOf, ReleaseOf, Perm, pending-whole}
@@ -116,5 +116,4 @@ opened-released {w} {c} {i} {m} {s} {t} width none event open_ =
         → (i ≡ n → value (c_beat_of m 0) ≡ n)
         → (s.lets c source ≡ Some n → option_map value (release_of source t) ≡ Some n)
         → option_map value (cond b (Some (c_beat_of m 0)) (release_of source t)) ≡ Some n
-    last true n value source is here before = ap Some (here cc)
-    last false n value source is here before = before is
+    last b n value source e f g = grind arith

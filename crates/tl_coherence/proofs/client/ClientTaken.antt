@@ -1,6 +1,6 @@
 -- A client's end after it has taken a beat of channel D, beside the event of the protocol.
-use Rattle.std.proofs.Common.{◌≡◌, subst, ℕ, Bool, true, false, not, ◌&&◌, cond, List, ◌∷◌, Option, Some, None, refl, arith}
-use Rattle.std.proofs.Common.{sym, ◌∙◌, ap, ◌⊎◌, inl, inr, ◌*◌, eqb-true, ne_eqb, ◌==◌}
+use Rattle.std.proofs.Common.{◌≡◌, subst, ℕ, Bool, true, false, not, ◌&&◌, cond, List, ◌∷◌, Option, Some, None, refl}
+use Rattle.std.proofs.Common.{arith, sym, ◌∙◌, ap, ◌⊎◌, inl, inr, ◌*◌, eqb-true, ne_eqb, ◌==◌}
 use Rattle.tl_coherence.proofs
 use proofs.Imports.{and-false, cases_eq, Beat, BeatA, BeatD, OpD, IsWidth, E, a_beat_of, History, Cap, Grow, Perm}
 use proofs.Imports.{cap_code, cap_right, sent, same_perm, block_at, ends, is_grant, is_release_ack, request_of, capped}
@@ -9,7 +9,7 @@ use proofs.Imports.{finish_of, granted, open_beat, acquisition, grant_ack, cap-g
 use proofs.Imports.{acquires_of, AreNamed, Packet, ClientBlock, AcquireOpen, is_unreleased, is_whole, after_release_ack}
 use proofs.Imports.{after_grant, Block, State, SourceFree, Acquires, taken_block, grant_taken, let_go_block}
 use proofs.Imports.{answer_taken, granted_copy, release_ack_taken, is_wanting, acquire_opcode, AccessMessages, asked_by}
-use Rattle.tl_client.{proofs.endpoint.AfterOffered.granted_is, specs.statement.EndpointInvariant.is_acquire_perm}
+use Rattle.tl_client.{proofs.endpoint.AfterOffered.granted_is}
 use Rattle.tl_client.specs.laws.After.{copy_granted, waiting_granted}
 use proofs.client.{Aside.set_at-else, ClientRequests.chosen, ClientRequests.passed}
 use proofs.client.ClientEnd.{IsWellKept, IsEnd, asks-same, asks-closed, asks-acquire, open-is, column}
@@ -280,9 +280,7 @@ end-grant_taken {w} {c} {n} {whole} {data_too} {g} {k} {x} {payload} rest mail {
         (and-false (i == block_at (64 * n))) ∙ ap e.copies same ∙ end.copies n (is.has_copy a b)
 
     copy_else : (i : ℕ) (z : Bool) → (i ≡ n → ⊥) → copy_granted (grant_opcode z) (Some r) payload i e ≡ e.copies i
-    copy_else i true ne = passed (i == block_at r.address) (Some payload) (e.copies i) (elsewhere i ne)
-    copy_else i false ne = passed ((i == block_at r.address) && is_acquire_perm r.opcode) (e.waiting i) (e.copies i)
-        (ap (λ (u : Bool). u && is_acquire_perm r.opcode) (elsewhere i ne))
+    copy_else i z e = grind (arith, elsewhere)
 
     copy_now : (i : ℕ) → (i ≡ n) ⊎ (i ≡ n → ⊥) → same_perm ((s'.block i).pair c).held Perm.None ≡ false
         → copy_granted (grant_opcode data_too) (Some r) payload i e ≡ Some ((s'.block i).copy c)
@@ -295,19 +293,6 @@ end-grant_taken {w} {c} {n} {whole} {data_too} {g} {k} {x} {payload} rest mail {
         (sym (ap (λ (b : Block (List ℕ)). same_perm (b.pair c).held Perm.None) old) ∙ some) ∙ ap Some
         (sym (ap (λ (b : Block (List ℕ)). b.copy c) old))
 
-    waiting_else : (i : ℕ) (z : Bool) → (i ≡ n → ⊥)
-        → waiting_granted (grant_opcode z) (Some r) i (e.waiting i) ≡ e.waiting i
-    waiting_else i true ne = refl
-    waiting_else i false ne = passed ((i == block_at r.address) && is_acquire_perm r.opcode) None (e.waiting i)
-        (ap (λ (u : Bool). u && is_acquire_perm r.opcode) (elsewhere i ne))
-
     waiting_now : (i : ℕ) → (i ≡ n) ⊎ (i ≡ n → ⊥) → is_whole ((s'.block i).pair c).acquiring ≡ true
         → waiting_granted (grant_opcode data_too) (Some r) i (e.waiting i) ≡ Some ((s'.block i).waiting c)
-    waiting_now i (inl same) storing = absurd (let no : false ≡ true =
-        sym (ap (λ (b : Block (List ℕ)). is_whole (b.pair c).acquiring) (block_now i same)
-        ∙ ap (λ (q : ClientBlock). is_whole q.acquiring) pair_is) ∙ storing in cc)
-    waiting_now i (inr ne) storing =
-        let old : s'.block i ≡ s.block i = set-other n i new s.block ne in
-        waiting_else i data_too ne ∙ end.waiting i
-        (sym (ap (λ (b : Block (List ℕ)). is_whole (b.pair c).acquiring) old) ∙ storing) ∙ ap Some
-        (sym (ap (λ (b : Block (List ℕ)). b.waiting c) old))
+    waiting_now i e f = grind (arith, block_now, pair_is)

@@ -1,9 +1,9 @@
 -- A beat of channel D that is delivered to a client is taken.
-use Rattle.std.proofs.Common.{◌≡◌, subst, ℕ, zero, suc, Bool, cond, true, false, not, ◌&&◌, ◌||◌, List, [], ◌∷◌, Option}
-use Rattle.std.proofs.Common.{Some, None, refl, sym, ◌∙◌, ap, arith, All, is_some, slice_get, option_map}
+use Rattle.std.proofs.Common.{◌≡◌, subst, ℕ, zero, suc, Bool, true, false, not, ◌&&◌, ◌||◌, List, [], ◌∷◌}
+use Rattle.std.proofs.Common.{Some, None, refl, ◌∙◌, ap, arith, All, is_some}
 use Rattle.tl_coherence.proofs
 use proofs.Imports.{not-true, Beat, BeatA, Channel, Message, MessageA, MessageD, a_beat_of, beat_of, d_beat_of, begun}
-use proofs.Imports.{History, unfinished, ClientConfig, Config, RequestSource, Cap, Grow, Perm, Profile, cap_code}
+use proofs.Imports.{History, unfinished, Config, RequestSource, Cap, Grow, Perm, Profile, cap_code}
 use proofs.Imports.{grow_code, later-legal, is_outside, broken_in_order, same_perm, fits_grow, is_acquire_block}
 use proofs.Imports.{is_grant_without_data, held, pending, request_of, illegal, same_block, EndConfig, Endpoint, offered}
 use proofs.Imports.{taken, waits, open_beat, acquisition, no_ack_grant, grant_opcode, release_ack, level_of}
@@ -27,34 +27,7 @@ pub record AreTermsOf (config : Config) (c : ℕ) (terms : EndConfig) : Type 0 w
 
 pub terms-are : (config : Config) (c : ℕ) (terms : EndConfig) → terms_at config c ≡ Some terms
     → AreTermsOf config c terms
-terms-are config c terms e = go (slice_get config.clients.items c) refl
-  where
-    some_is : (x y : EndConfig) → Some x ≡ Some y → x ≡ y
-    some_is x y f = cc
-
-    go : (o : Option ClientConfig) → slice_get config.clients.items c ≡ o → AreTermsOf config c terms
-    go None f = absurd (let no : None ≡ Some terms = sym (ap (option_map (λ (x : ClientConfig). record {
-      level = x.level;
-      profile = config.profile;
-      sources = x.sources;
-      blocks = config.blocks;
-    })) f) ∙ e in cc)
-    go (Some x) f =
-        let is : record { level = x.level; profile = config.profile; sources = x.sources; blocks = config.blocks }
-        ≡ terms = some_is
-        (record { level = x.level; profile = config.profile; sources = x.sources; blocks = config.blocks }) terms
-        (sym (ap (option_map (λ (y : ClientConfig). record {
-          level = y.level;
-          profile = config.profile;
-          sources = y.sources;
-          blocks = config.blocks;
-        })) f)
-        ∙ e) in
-        record {
-          level = ap (option_map (λ (y : ClientConfig). y.level)) f ∙ ap (λ (t : EndConfig). Some t.level) is;
-          profile = ap (λ (t : EndConfig). t.profile) (sym is);
-          blocks = ap (λ (t : EndConfig). t.blocks) (sym is);
-        }
+terms-are config c terms e = grind arith
 
 -- ---- a beat that comes
 

@@ -1,6 +1,5 @@
 -- What a client answers to the last beat of a response.
-use Rattle.std.proofs.Common.{◌≡◌, ℕ, true, false, List, ◌∷◌, Option, Some, None, refl, sym, ◌∙◌, ap, if◌then◌else◌, arith}
-use Rattle.std.proofs.Common.{Result, Ok}
+use Rattle.std.proofs.Common.{◌≡◌, ℕ, true, false, List, ◌∷◌, Option, Some, None, if◌then◌else◌, arith, Result, Ok}
 use Rattle.tl_coherence.proofs
 use proofs.Imports.{Beat, BeatD, Channel, OpD, Message, unfinished, Rule, payload_of, ends, is_grant, is_release_ack}
 use proofs.Imports.{request_of, Finish, Verdict, Endpoint, taken, ended, finish_of, address_asked, grant_ack, Requests}
@@ -34,8 +33,7 @@ made_same p q e = cc
 
 pub same_answers : {w : ℕ} (v u : Verdict) (m n : Option (Message w)) (a : Result (Verdict × Option (Message w)) Rule)
     → a ≡ Ok (v, m) → a ≡ Ok (u, n) → (v ≡ u) × (m ≡ n)
-same_answers {w} v u m n a e f = let same = made_same (v, m) (u, n) (sym e ∙ f) in
-    (ap (λ (p : Verdict × Option (Message w)). p.0) same, ap (λ (p : Verdict × Option (Message w)). p.1) same)
+same_answers {w} v u m n a e f = grind (arith, made_same)
 
 -- a response to an access or an Acquire ends a request, and a ReleaseAck a Release
 pub finish-pool : (w : ℕ) (o : OpD) (param size address : ℕ) (payload : List ℕ)

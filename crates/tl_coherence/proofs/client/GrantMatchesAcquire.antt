@@ -16,14 +16,12 @@ AreGiven p s = (n : ℕ) → IsGivenAsked p (s.block n).service (s.block n).pair
 
 given-pairs : (p : Profile) (service : Service) (pair pair' : ℕ → ClientBlock)
     → ((q : ℕ) → (pair' q).acquiring ≡ (pair q).acquiring) → IsGivenAsked p service pair → IsGivenAsked p service pair'
-given-pairs p (GrantSent q d k) pair pair' same h = ap (λ (a : AcquirePhase). gives_asked p a k) (same q) ∙ h
-given-pairs p service pair pair' same h = tt
+given-pairs p service pair pair' e f = grind arith
 
 -- one client's pair is another, with the same Acquire
 given-pair : (p : Profile) (service : Service) (c : ℕ) (x : ClientBlock) (pair : ℕ → ClientBlock)
     → x.acquiring ≡ (pair c).acquiring → IsGivenAsked p service pair → IsGivenAsked p service (set c x pair)
-given-pair p service c x pair same h =
-    given-pairs p service pair (set c x pair) (set-part (λ (q : ClientBlock). q.acquiring) c x pair same) h
+given-pair p service c x pair same h = grind (arith, given-pairs, set-part)
 
 given-set : (p : Profile) (n : ℕ) (b : Block (List ℕ)) (s : State (List ℕ)) → AreGiven p s
     → IsGivenAsked p b.service b.pair → (i : ℕ) → IsGivenAsked p (set n b s.block i).service (set n b s.block i).pair
@@ -34,9 +32,7 @@ given-set p n b s h new = set-each (λ i (x : Block (List ℕ)). IsGivenAsked p 
 given-acquiring : (p : Profile) (c : ℕ) (whole : Bool) (g : Grow) (service : Service) (pair : ℕ → ClientBlock)
     → ((d : Bool) (k : Cap) → service ≡ GrantSent c d k → ⊥) → IsGivenAsked p service pair
     → IsGivenAsked p service (set c (after_acquire whole g (pair c)) pair)
-given-acquiring p c whole g (GrantSent q d k) pair none h = ap (λ (x : ClientBlock). gives_asked p x.acquiring k)
-    (set-other c q (after_acquire whole g (pair c)) pair (λ same. none d k (ap (λ (i : ℕ). GrantSent i d k) same))) ∙ h
-given-acquiring p c whole g service pair none h = tt
+given-acquiring p c whole g service pair e f = grind (arith, set-other)
 
 -- what the manager gives
 gift_given : (p : Profile) (whole : Bool) (g : Grow) (unheld : Bool)

@@ -1,18 +1,17 @@
 -- What a client knows after a Probe: the landed answer has exactly the effect of the abstract event.
-use Rattle.std.proofs.Common.{◌≡◌, ℕ, Bool, true, false, not, cond, List, [], ◌∷◌, Option, None, refl, sym, ◌∙◌, ap, arith}
-use Rattle.std.proofs.Common.{◌⊎◌, inl, inr, ne_eqb, ◌==◌, if◌then◌else◌, nat_le, option_map}
+use Rattle.std.proofs.Common.{◌≡◌, ℕ, Bool, true, false, not, cond, List, [], ◌∷◌, Option, None, refl, sym, ◌∙◌, ap}
+use Rattle.std.proofs.Common.{arith, ◌⊎◌, inl, inr, ne_eqb, ◌==◌, if◌then◌else◌, nat_le, option_map}
 use Rattle.tl_coherence.proofs
 use proofs.Imports.{cases_eq, Beat, BeatA, BeatB, Channel, OpB, OpC, IsWidth, beats-positive, Message, MessageC}
 use proofs.Imports.{beat_of, History, unfinished, Key, Cap, Report, Perm, Profile, Rule, report_at, report_code}
-use proofs.Imports.{report_right, pending-whole, release_of-whole, pending-quiet, held_unsaid, sent, is_outside}
-use proofs.Imports.{broken_in_order, broken_order, block_at, held, pending, is_release, release_of, opens, closes}
-use proofs.Imports.{is_probe_ack, illegal, same_block, kept_past, open_beat-c, Verdict, EndConfig, Endpoint, copy_at}
-use proofs.Imports.{held_at, with_past, sending, zeros, silent, offered, waits, taken, broken_before, broken_later}
-use proofs.Imports.{judged_later, report_for, open_beat, about, probe_ack, Packet, ClientBlock, is_unreleased}
-use proofs.Imports.{after_probe, State, Block, probed_block, probe_taken, is_wanting, ClientRelation, probe_beat}
-use proofs.Imports.{OpenSourceRelation}
-use Rattle.tl_client.{proofs.endpoint.HeldAfter.held-probe_ack, proofs.endpoint.HeldAfter.still_whole}
+use proofs.Imports.{report_right, pending-whole, release_of-whole, pending-quiet, held_unsaid, sent, broken_in_order}
+use proofs.Imports.{broken_order, block_at, held, pending, is_release, release_of, opens, closes, is_probe_ack, illegal}
+use proofs.Imports.{same_block, kept_past, open_beat-c, Verdict, EndConfig, Endpoint, copy_at, held_at, with_past}
+use proofs.Imports.{sending, zeros, silent, offered, waits, taken, broken_before, broken_later, judged_later}
+use proofs.Imports.{report_for, open_beat, about, probe_ack, Packet, ClientBlock, is_unreleased, after_probe, State}
+use proofs.Imports.{Block, probed_block, probe_taken, is_wanting, ClientRelation, probe_beat, OpenSourceRelation}
 use Rattle.tl_client.{proofs.pending.Opens.open_beat-b, specs.statement.Offer.probed, specs.statement.Offer.judged}
+use Rattle.tl_client.proofs.endpoint.HeldAfter.{held-probe_ack, still_whole}
 use proofs.client.ClientEnd.{IsWellKept, known-kept}
 use proofs.queues.{Codes.cap-again, Tokens.same_number, Tokens.set-same, Tokens.set-other}
 
@@ -32,9 +31,7 @@ in_order profile n k t none unprobed ungranted = rw (none, same_block n, unprobe
 later-none : {w : ℕ} (terms : EndConfig) (n : ℕ) (k : Cap) (e : Endpoint w)
     → broken_in_order terms.profile (Beat.B (probe_beat n k)) e.past ≡ None → nat_le terms.blocks n ≡ false
     → broken_later terms (Beat.B (probe_beat n k)) e ≡ None
-later-none {w} terms n k e order inside =
-    let outside : is_outside terms.blocks (Beat.B (probe_beat {w = w} n k)) ≡ false = rw (same_block n) inside in
-    rw (order, outside) refl
+later-none {w} terms n k e order inside = grind (arith, same_block)
 
 -- a Probe of a block of the map that breaks no L rule is taken, where the client holds no more of its block on its way
 pub probe-taken : {w : ℕ} (terms : EndConfig) (n : ℕ) (k : Cap) (e : Endpoint w) → e.closed ≡ false
@@ -86,8 +83,7 @@ IsProbeKey _ = false
 
 probe_opens : {w : ℕ} (j : Key) (x : BeatB w) (t : History w) → IsProbeKey j ≡ false → (opens j (Beat.B x) t ≡ false)
     × (closes j (Beat.B x) t ≡ false)
-probe_opens (Key.ProbeOf n) x t e = absurd cc
-probe_opens j x t e = (refl, refl)
+probe_opens j x t e = grind arith
 
 ack_opens : {w : ℕ} (j : Key) {n : ℕ} {m : MessageC w} (t : History w) → IsProbeAck n m → IsProbeKey j ≡ false
     → (opens j (beat_of (Message.C m) 0) t ≡ false) × (closes j (beat_of (Message.C m) 0) t ≡ false)

@@ -1,21 +1,21 @@
 -- The clients' ends after one of them is asked, and after the manager takes a beat.
-use Rattle.std.proofs.Common.{◌≡◌, subst, ℕ, Bool, true, false, cond, List, ◌∷◌, refl, sym, ◌∙◌, ap, inl, inr, not, arith}
-use Rattle.std.proofs.Common.{ne_eqb, ◌==◌, if◌then◌else◌}
+use Rattle.std.proofs.Common.{◌≡◌, subst, ℕ, Bool, true, false, List, ◌∷◌, sym, ◌∙◌, ap, inl, inr, not, arith}
+use Rattle.std.proofs.Common.{if◌then◌else◌}
 use Rattle.tl_coherence.proofs
 use proofs.Imports.{cases_eq, Beat, Link, Channel, IsWidth, MessageA, unfinished, Config, Op, EndConfig, Endpoint}
 use proofs.Imports.{services, least_untaken, trackers_of, Event, Ask, Deliver, IsInvariant, Kind, State, is_on}
 use proofs.Imports.{packets_on, AbstractState, asked, packet_taken, abstract_step_by, AccessMessages}
 use proofs.Imports.{SimulationRelation, is_caching, receiver, Log, Step, replied, handed_by, manager_took, is_to_client}
 use proofs.Imports.{System, with_client, with_channel, with_manager, with_messages}
-use Rattle.tl_coherence.specs.refinement.AbstractStep.{is_last}
+use Rattle.tl_coherence.{specs.refinement.AbstractStep.is_last}
 use Rattle.tl_client.specs.statement.Ask as ask
 use Rattle.tl_manager.specs.statement.End as manager_end
 use Rattle.tl_manager.specs.statement.Offer as manager
-use proofs.client.{AsideAll.Leaves, AsideAll.leaves-none, AsideAll.leaves-asked, AsideAll.is_for_manager}
-use proofs.client.{AsideAll.leaves-at_manager, ClientAsked.IsEndOf, ClientAsked.end-asked, ClientDelivered.shadow_of}
-use proofs.client.{ClientEnd.end-matched, ClientEnd.end-aside}
-use proofs.queues.{FirstToken.IsFirst, FirstToken.first-token, Steps.clients-with_messages, Tokens.same_number}
-use proofs.queues.{KindMoves.kind_channel, KindMoves.on_same}
+use proofs.client.{ClientDelivered.shadow_of, ClientEnd.end-matched, ClientEnd.end-aside}
+use proofs.client.AsideAll.{Leaves, leaves-none, leaves-asked, is_for_manager, leaves-at_manager}
+use proofs.client.ClientAsked.{IsEndOf, end-asked}
+use proofs.queues.{Steps.clients-with_messages, KindMoves.kind_channel, KindMoves.on_same}
+use proofs.queues.FirstToken.{IsFirst, first-token}
 
 -- all ends are those of the protocol after this step
 abbrev pub AreEnds : {w : ℕ} → Config → Event w → System w → AbstractState w → ℕ → Step w → Type 0

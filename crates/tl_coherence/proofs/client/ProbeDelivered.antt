@@ -1,22 +1,21 @@
 -- A Probe that is delivered to a client waits for its Release, or is taken, and the client's end is
 -- then that of the protocol.
-use Rattle.std.proofs.Common.{◌≡◌, subst, ℕ, zero, suc, ◌<◌, Bool, true, false, not, ◌&&◌, cond, List, [], ◌∷◌, Option}
-use Rattle.std.proofs.Common.{Some, None, refl, sym, ◌∙◌, ap, arith, eqb-true, ◌==◌, map}
+use Rattle.std.proofs.Common.{◌≡◌, subst, ℕ, ◌<◌, Bool, true, false, not, ◌&&◌, List, [], ◌∷◌, Option, Some, None, refl}
+use Rattle.std.proofs.Common.{sym, ◌∙◌, ap, arith, eqb-true, ◌==◌, map}
 use Rattle.tl_coherence.proofs
-use proofs.Imports.{and_right, Beat, BeatA, Channel, IsWidth, Message, MessageA, MessageD, beat_of, beats_of}
-use proofs.Imports.{begun, unfinished, completes, Config, ReleaseOf, Rule, is_grant, pending, asks_for, illegal}
-use proofs.Imports.{same_block, accounted-offered, kept-offered, Verdict, EndConfig, Endpoint, held_at, Offered}
-use proofs.Imports.{offered, taken, silent, waits, judged_later, broken_before, broken_later, grant_opcode}
-use proofs.Imports.{probe_of_block, IsInvariant, Kind, Probe, Answer, Grant, ReleaseAck, Packet, is_unprobed}
-use proofs.Imports.{is_unreleased, State, packet, is_on, view, is_sent, AbstractState, packet_taken}
-use proofs.Imports.{IsCarried, comes_granting, AccessMessages, cap_sent, block_message, probe_beat, message_of}
-use proofs.Imports.{message_of_kind, SimulationRelation, asked_by, is_caching, Log, System, terms_at}
-use Rattle.tl_client.{proofs.endpoint.Cases.passes_before, specs.statement.Offer.probed, specs.statement.Offer.judged}
-use proofs.queues.{Carried.IsNext, Facts.granting_alone, Phases.and_left, Codes.access_kind, FirstToken.IsFirst}
-use proofs.queues.{FirstToken.first-token, FirstToken.own_kind}
+use proofs.Imports.{and_right, Beat, BeatA, Channel, IsWidth, Message, MessageA, MessageD, begun, unfinished, completes}
+use proofs.Imports.{Config, ReleaseOf, is_grant, pending, asks_for, illegal, same_block, accounted-offered}
+use proofs.Imports.{kept-offered, Verdict, EndConfig, Endpoint, held_at, Offered, offered, taken, silent, waits}
+use proofs.Imports.{broken_before, grant_opcode, probe_of_block, IsInvariant, Kind, Probe, Answer, Grant, ReleaseAck}
+use proofs.Imports.{Packet, is_unprobed, is_unreleased, State, packet, is_on, view, is_sent, AbstractState}
+use proofs.Imports.{packet_taken, IsCarried, comes_granting, AccessMessages, cap_sent, block_message, probe_beat}
+use proofs.Imports.{message_of, message_of_kind, SimulationRelation, asked_by, is_caching, Log, System, terms_at}
+use Rattle.tl_client.{proofs.endpoint.Cases.passes_before, specs.statement.Offer.probed}
+use proofs.queues.{Carried.IsNext, Facts.granting_alone, Phases.and_left, Codes.access_kind}
+use proofs.queues.FirstToken.{IsFirst, first-token, own_kind}
 use proofs.client.{ClientAsked.IsEndOf, ClientDelivered.shadow_of, ClientProbed.end-probe_taken}
-use proofs.client.{KnownProbed.probe-taken, ClientEnd.IsWellKept, ClientEnd.end-matched}
-use proofs.client.{ClientEnd.asks-acquire, ClientTakes.terms-are, ClientTakes.sound-beat}
+use proofs.client.{KnownProbed.probe-taken, ClientTakes.terms-are, ClientTakes.sound-beat}
+use proofs.client.ClientEnd.{IsWellKept, end-matched, asks-acquire}
 use proofs.protocol.{BothParts.not-sent, FirstTokens.first-shown}
 use proofs.protocol.HeadOfD.{answer-due, grant-due, grant_message, grant-rendered, ack_message, own_view}
 
@@ -135,11 +134,7 @@ probe_rendered c n s = refl
 pub probe-beat : {w : ℕ} (c n : ℕ) (s : State (List ℕ)) {x : Beat w} {rest : List (Beat w)} {ms : List (Message w)}
     {queue : List (Beat w)} → IsNext x rest (block_message Probe c n (s.block n)) ms queue
     → x ≡ Beat.B (probe_beat n (cap_sent ((s.block n).pair c).probing))
-probe-beat {w} c n s {x} {rest} {ms} {queue} next =
-    let k = cap_sent ((s.block n).pair c).probing in
-    let here : IsNext x rest (probe_of_block n k) ms queue = rw (probe_rendered c n s) at next in
-    here.beat_is ∙ ap (beat_of (probe_of_block n k))
-    (first_beat here.k (beats_of (probe_of_block {w = w} n k)) here.within (refl))
+probe-beat {w} c n s {x} {rest} {ms} {queue} next = grind (arith, probe_rendered)
 
 pub probe-delivered : {w : ℕ} {config : Config} {log : Log w} {mail : AccessMessages w} {request : ℕ → MessageA w}
     {s : State (List ℕ)} {sys : System w} (terms : EndConfig)

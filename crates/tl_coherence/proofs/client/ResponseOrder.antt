@@ -1,13 +1,13 @@
 -- A response that the values of a history allow breaks no rule of order after it: at a client's end and in what is
 -- delivered alike.
-use Rattle.std.proofs.Common.{◌≡◌, ℕ, Bool, true, false, not, ◌&&◌, [], Option, Some, None, refl, ap, ◌==◌, option_map, arith}
+use Rattle.std.proofs.Common.{◌≡◌, ℕ, true, false, not, ◌&&◌, [], Option, Some, None, refl, ap, ◌==◌, option_map, arith}
 use Rattle.tl_coherence.proofs
 use proofs.Imports.{same_Some, Beat, BeatA, BeatC, BeatD, Channel, OpD, History, unfinished, RequestSource}
 use proofs.Imports.{ReleaseSource, GrantSink, ProbeOf, Perm, Profile, same_perm, broken_in_order, comes_in_request}
 use proofs.Imports.{comes_in_release, fits_grow, is_acquire_block, is_grant_without_data, broken_order, block_at, held}
 use proofs.Imports.{is_grant, is_release_ack, pending, request_of, release_of}
 use Rattle.tl_rules.specs.statement.Conformance.{answers, has_request, misgrants, size_asked, size_of_release}
-use proofs.queues.Tokens.{same_number}
+use proofs.queues.{Tokens.same_number}
 
 begun : {w : ℕ} (p : Profile) (x : BeatD w) (t : History w) → unfinished Channel.D t ≡ [] → has_request x t ≡ true
     → (x.size == size_asked x t) ≡ true → (is_grant x.opcode && misgrants p x (request_of x.source t) t) ≡ false
@@ -43,18 +43,13 @@ pub grant-legal : {w : ℕ} (p : Profile) (n : ℕ) {x : BeatD w} {r : BeatA w} 
     → block_at r.address ≡ n → fits_grow p r.opcode r.param x.param ≡ true
     → (is_grant_without_data x.opcode && (is_acquire_block r.opcode && not (same_perm (held n t) Perm.Branch))) ≡ false
     → pending (ProbeOf n) t ≡ false → pending (GrantSink x.sink) t ≡ false → broken_in_order p (Beat.D x) t ≡ None
-grant-legal {w} p n {x} {r} {t} is block fits carried unprobed once = begun p x t is.whole (asked_for is) (size_for is)
-    (never (is_grant x.opcode) (rw (is.request, block, fits, carried, unprobed) refl)) (never (is_grant x.opcode) once)
-  where
-    never : (a : Bool) {b : Bool} → b ≡ false → (a && b) ≡ false
-    never a e = grind arith
+grant-legal {w} p n {x} {r} {t} is block fits carried unprobed once = grind (arith, begun, size_for)
 
 -- ---- Releases
 
 release_size : {w : ℕ} (n : ℕ) (o : Option (BeatC w)) → option_map (λ (y : BeatC w). y.size) o ≡ Some n
     → size_of_release o ≡ n
-release_size n None e = absurd cc
-release_size n (Some y) e = same_Some y.size n e
+release_size n o e = grind (arith, same_Some)
 
 pub ack-legal : {w : ℕ} (p : Profile) (x : BeatD w) (t : History w) → unfinished Channel.D t ≡ []
     → comes_in_release x.source (unfinished Channel.C t) ≡ false → x.opcode ≡ OpD.ReleaseAck

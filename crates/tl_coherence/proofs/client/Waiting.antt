@@ -1,13 +1,12 @@
 -- The Acquire that waits is the one that its client has open: after any event.
-use Rattle.std.proofs.Common.{◌≡◌, ℕ, Bool, true, false, ◌&&◌, List, refl, sym, ◌∙◌, ap, subst, inl, inr, ◌==◌, arith}
-use Rattle.std.proofs.Common.{if◌then◌else◌}
+use Rattle.std.proofs.Common.{◌≡◌, ℕ, Bool, true, false, List, refl, ap, inl, inr, arith}
 use Rattle.tl_coherence.proofs
 use proofs.Imports.{cases_eq, ⊤, Message, MessageA, Config, Cap, Grow, block_at, Op, Reply, copy_stored, whole_grow}
 use proofs.Imports.{acquisition, IsInvariant, Kind, Acquire, Packet, set, ClientBlock, NoAcquire, AcquireOpen}
 use proofs.Imports.{after_acquire, after_probe, after_release, after_release_ack, after_release_taken, after_report}
-use proofs.Imports.{after_served, Service, Waits, Block, acquiring_block, releasing_block, served_block, stored_block}
-use proofs.Imports.{view, AbstractState, acquire_opcode, asked, kind_taken, acquire_of, block_message, IsAcquireOf}
-use proofs.queues.{Facts.own_wants, Tokens.same_number, Tokens.set-same, Tokens.set-other, Tokens.set-part}
+use proofs.Imports.{Waits, Block, acquiring_block, releasing_block, served_block, stored_block}
+use proofs.Imports.{view, AbstractState, acquire_opcode, asked, kind_taken, block_message, IsAcquireOf}
+use proofs.queues.{Facts.own_wants, Tokens.same_number, Tokens.set-same, Tokens.set-other}
 use proofs.protocol.{FollowKept.IsAskable, Events.true-taken}
 
 -- of all blocks
@@ -46,14 +45,12 @@ kept {w} n new block request here others i = elim (cases_eq i n) [
 unmoved : {w : ℕ} (n : ℕ) (new : Block (List ℕ)) (block : ℕ → Block (List ℕ)) (request : ℕ → MessageA w)
     → new.service ≡ (block n).service
     → KeepsOpen (block n) new → AreAcquired request block → AreAcquired request (set n new block)
-unmoved n new block request same keeps is =
-    kept n new block request (still n (block n) new (request n) same keeps (is n)) is
+unmoved n new block request same keeps is = grind (arith, kept, still)
 
 -- one client's pair changes, and not what it wants
 unwanting : (c : ℕ) (p : ClientBlock) (b new : Block (List ℕ)) → ((d : ℕ) → new.pair d ≡ set c p b.pair d)
     → p.acquiring ≡ (b.pair c).acquiring → ((d : ℕ) → new.source d ≡ b.source d) → KeepsOpen b new
-unwanting c p b new pairs same sources r source k e = let fact = ap (λ (q : ClientBlock). q.acquiring)
-    (pairs r) ∙ set-part (λ (q : ClientBlock). q.acquiring) c p b.pair same r in (fact, sources r)
+unwanting c p b new pairs same sources r source k e = grind arith
 
 -- ---- requests
 

@@ -2,7 +2,7 @@
 use Rattle.std.proofs.Common.{◌≡◌, ℕ, Bool, true, false, List, [], ◌∷◌, Some, None, refl, ◌∙◌, ap, arith}
 use Rattle.tl_coherence.proofs
 use proofs.Imports.{Beat, Link, Channel, IsWidth, unfinished, completes, Config, on_link, reaction-ack, reaction}
-use proofs.Imports.{Deliver, Kind, GrantAck, GrantTaken, packet, is_on, freed_block, grant_ack_taken, AbstractState}
+use proofs.Imports.{Deliver, Kind, GrantAck, packet, is_on, freed_block, grant_ack_taken, AbstractState}
 use proofs.Imports.{block_message, SimulationRelation, is_moving, Log, system_after, performing, accesses_answered}
 use proofs.Imports.{stepped, System, terms_at, with_channel, with_messages}
 use Rattle.tl_client.specs.statement.Endpoint as client

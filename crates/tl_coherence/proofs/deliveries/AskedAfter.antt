@@ -1,15 +1,14 @@
 -- An operation that a client is asked for: the channels and the one memory afterwards.
-use Rattle.std.proofs.Common.{◌≡◌, ℕ, Bool, true, false, ◌||◌, List, [], ◌∷◌, Option, Some, None, refl, sym, ◌∙◌, ap, arith}
-use Rattle.std.proofs.Common.{subst, inl, inr}
+use Rattle.std.proofs.Common.{◌≡◌, ℕ, Bool, true, false, ◌||◌, List, [], ◌∷◌, Option, Some, None, refl, sym, ◌∙◌, ap}
+use Rattle.std.proofs.Common.{arith, subst, inl, inr}
 use Rattle.tl_coherence.proofs
 use proofs.Imports.{cases_eq, or_right, OpA, IsWidth, Message, MessageA, Config, Grow, Prune, Perm, same_perm, block_at}
-use proofs.Imports.{unfinished-asked, Op, Reply, whole_grow, release, access, sourced, acquisition, Ask, Outcome}
-use proofs.Imports.{IsInvariant, Acquire, Release, ClientBlock, after_acquire, after_release, Block, State, view}
-use proofs.Imports.{acquiring_block, releasing_block, AbstractState, asked, acquire_opcode, ChannelRelation}
-use proofs.Imports.{MemoryRelation, AccessMessages, block_message, SimulationRelation, is_caching, Continues, Log}
-use proofs.Imports.{system_after, after_reply, one_memory_after, performing, accesses_answered, Step, stepped}
-use proofs.Imports.{handed_by, System, terms_at, with_client, with_messages}
-use Rattle.tl_coherence.specs.statement.Machine.{Performs}
+use proofs.Imports.{unfinished-asked, Op, Reply, whole_grow, release, access, acquisition, Ask, Outcome, IsInvariant}
+use proofs.Imports.{Acquire, Release, Block, State, view, acquiring_block, releasing_block, AbstractState, asked}
+use proofs.Imports.{acquire_opcode, ChannelRelation, MemoryRelation, AccessMessages, block_message, SimulationRelation}
+use proofs.Imports.{is_caching, Continues, Log, system_after, after_reply, one_memory_after, performing}
+use proofs.Imports.{accesses_answered, Step, stepped, handed_by, System, terms_at, with_client, with_messages}
+use Rattle.tl_coherence.{specs.statement.Machine.Performs}
 use Rattle.tl_client.specs.statement.Ask as ask
 use Rattle.tl_client.specs.statement.Endpoint as client
 use proofs.deliveries.{AskedWell.asked-well, BusyWell.IsHandedOut, ManagersAfter.release_channel}
@@ -52,15 +51,12 @@ reply-cases P o r is stored acquires stores releases accesses others = others o 
 rendered_acquiring : {w : ℕ} (c n source : ℕ) (whole : Bool) (g : Grow) (bytes : List ℕ) (b : Block (List ℕ))
     → block_message {w = w} Acquire c n (acquiring_block c source whole g bytes b) ≡ Message.A
     (acquisition (acquire_opcode whole) g source n)
-rendered_acquiring {w} c n source whole g bytes b = rendered-acquire c n (acquiring_block c source whole g bytes b)
-    whole g (ap (λ (p : ClientBlock). p.acquiring) (set-same c (after_acquire whole g (b.pair c)) b.pair))
-    ∙ ap (λ (i : ℕ). Message.A (acquisition {w = w} (acquire_opcode whole) g i n)) (set-same c source b.source)
+rendered_acquiring {w} c n source whole g bytes b = grind (arith, rendered-acquire, set-same)
 
 rendered_releasing : {w : ℕ} (c n source : ℕ) (p : Prune) (b : Block (List ℕ))
     → block_message {w = w} Release c n (releasing_block c source p b) ≡ release p source n b.truth
 unfolding block_message
-rendered_releasing {w} c n source p b =
-    rw (set-same c (after_release p (b.pair c)) b.pair, set-same c source b.release_source) refl
+rendered_releasing {w} c n source p b = grind (arith, set-same)
 
 abbrev CarriesAsked : {w : ℕ} → Config → ℕ → AbstractState w → System w → Op w → Reply → Type 0
 CarriesAsked {w} config c h sys o r = (m : Option (Message w)) (e : client.Endpoint w) → IsAskable

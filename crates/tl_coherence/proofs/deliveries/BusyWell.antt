@@ -1,6 +1,6 @@
 -- What a client that is busy answers, and what that says of the protocol.
-use Rattle.std.proofs.Common.{◌≡◌, ℕ, ◌+◌, ◌*◌, ◌/◌, ◌%◌, ◌^◌, ◌≤◌, true, false, List, Option, Some, None, refl, sym}
-use Rattle.std.proofs.Common.{◌∙◌, ap, arith, is_none, slice_index}
+use Rattle.std.proofs.Common.{◌≡◌, ℕ, ◌+◌, ◌%◌, ◌^◌, ◌≤◌, true, false, List, Option, Some, None, refl, sym}
+use Rattle.std.proofs.Common.{◌∙◌, arith, is_none, slice_index}
 use Rattle.tl_coherence.proofs
 use proofs.Imports.{Channel, OpA, Message, MessageA, beat_of, Config, RequestSource, Level, Prune, Perm, Rule}
 use proofs.Imports.{prune_left, legal_beat, same_perm, Memory, IsBlock, number_from, block_at, pending, illegal}
@@ -54,10 +54,7 @@ busy_well config c o why h m e = record { may = tt; word = tt; source = tt; repl
 pub loaded_number : (f : Memory) (address size : ℕ) (bytes : List ℕ) → address % 64 + 2 ^ size ≤ 64
     → IsBlock f (block_at address) bytes
     → number_from (slice_index bytes) (address % 64) (2 ^ size) ≡ number_from f address (2 ^ size)
-loaded_number f address size bytes room is =
-    number_same (slice_index bytes) f (address % 64) address (2 ^ size)
-    (λ i lt. let place : 64 * (address / 64) + (address % 64 + i) ≡ address + i = omega arith in
-    sym (is (address % 64 + i) (omega (arith, room, lt))) ∙ ap f place)
+loaded_number f address size bytes room is = grind (arith, number_same)
 
 pub some_held : (p : Prune) (q : Perm) → same_perm (prune_left p) q ≡ true → same_perm q Perm.None ≡ false
 some_held p q e = grind arith

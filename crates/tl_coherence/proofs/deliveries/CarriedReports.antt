@@ -1,5 +1,5 @@
 -- The channels carry the messages of the tokens after each delivery on channel C or E.
-use Rattle.std.proofs.Common.{◌≡◌, ℕ, Bool, true, false, List, [], ◌∷◌, length, refl, sym, ◌∙◌, ap, subst, ◌==◌}
+use Rattle.std.proofs.Common.{◌≡◌, ℕ, Bool, true, false, List, [], ◌∷◌, length, refl, sym, ◌∙◌, ap, subst, ◌==◌, arith}
 use Rattle.std.proofs.Common.{if◌then◌else◌}
 use Rattle.tl_coherence.proofs
 use proofs.Imports.{Beat, Channel, IsWidth, Message, MessageA, beat_of, unfinished, completes, Config, Report, Handed}
@@ -126,11 +126,7 @@ by-place : {w : ℕ} {config : Config} {log : Log w} {h : AbstractState w} (h' :
     → (reaction config (record { 0 = c }) x sys.manager).handed ≡ pushes → CarriesAfter config c ch sys h')
     → CarriesAfter config c ch sys (if completes x (unfinished ch (receiver ch c sys)) then h' else h)
 by-place {w} {config} {log} {h} h' pushes {sys} {c} {ch} {x} {queue} at handed last =
-    let go : (b : Bool) → completes x (unfinished ch (receiver ch c sys)) ≡ b
-    → (reaction config (record { 0 = c }) x sys.manager).handed ≡ (if b then pushes else [])
-    → CarriesAfter config c ch sys (if b then h' else h) =
-    elim [ true ↦ λ e f. last e f | false ↦ λ e f. part-carried at f e ] in
-    go (completes x (unfinished ch (receiver ch c sys))) refl handed
+    grind (arith, CarriesAfter, part-carried)
 
 -- the beat that is first on channel C is one of it
 received_on : {w : ℕ} {config : Config} {log : Log w} (h : AbstractState w) {sys : System w} (c : ℕ) (x : Beat w)

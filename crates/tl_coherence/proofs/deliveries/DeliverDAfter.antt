@@ -3,10 +3,10 @@ use Rattle.std.proofs.Common.{◌≡◌, ℕ, Bool, true, false, List, [], ◌�
 use Rattle.std.proofs.Common.{◌⊎◌, if◌then◌else◌}
 use Rattle.tl_coherence.proofs
 use proofs.Imports.{Beat, BeatD, Link, Channel, OpD, IsWidth, Message, MessageD, unfinished, completes, Config, Cap}
-use proofs.Imports.{is_grant, is_release_ack, Finish, grant_ack, no_ack_grant, Deliver, IsInvariant, Kind, Answer}
+use proofs.Imports.{is_grant, is_release_ack, Finish, grant_ack, no_ack_grant, Deliver, Kind, Answer}
 use proofs.Imports.{Grant, ReleaseAck, GrantAck, Packet, is_unreleased, is_whole, Block, packet, packets_on}
 use proofs.Imports.{grant_taken, taken_block, shown, is_wanting, AbstractState, abstract_step, packet_taken, kind_taken}
-use proofs.Imports.{ChannelRelation, MemoryRelation, block_message, SimulationRelation, is_caching, receiver, is_moving}
+use proofs.Imports.{ChannelRelation, MemoryRelation, block_message, SimulationRelation, receiver, is_moving}
 use proofs.Imports.{Log, Machine, Requests, Releases, pool_of, after_end, one_memory_after, accesses_answered, stepped}
 use proofs.Imports.{handed_by, System, with_client, with_channel, with_messages}
 use Rattle.tl_client.specs.statement.Offer as offer

@@ -3,9 +3,8 @@ use Rattle.std.proofs.Common.{◌≡◌, subst, ℕ, suc, ◌+◌, Bool, true, f
 use Rattle.std.proofs.Common.{ap, arith, eqb-true}
 use Rattle.tl_coherence.proofs
 use proofs.Imports.{Beat, Link, Channel, IsWidth, Message, MessageA, beats_of, Config, EndConfig, must_wait, Event}
-use proofs.Imports.{Deliver, IsInvariant, Kind, ProbeAck, Release, GrantAck, Packet, State, is_on, AbstractState}
-use proofs.Imports.{abstract_step, AccessMessages, SimulationRelation, is_caching, is_moving, Log, Step, stepped}
-use proofs.Imports.{manager_took, System, terms_at}
+use proofs.Imports.{Deliver, IsInvariant, Kind, Packet, State, is_on, AbstractState, abstract_step, AccessMessages}
+use proofs.Imports.{SimulationRelation, is_caching, is_moving, Log, Step, stepped, manager_took, System, terms_at}
 use Rattle.tl_manager.specs.statement.End as manager_end
 use Rattle.tl_manager.specs.statement.Offer as manager
 use proofs.client.{ClientDelivered.shadow_of}

@@ -1,6 +1,6 @@
 -- The channels after a beat of channel C or E was taken, and the bytes on their way.
-use Rattle.std.proofs.Common.{◌≡◌, ℕ, Bool, true, false, List, [], ◌∷◌, Option, Some, None, length, refl, sym, ◌∙◌, ap, arith}
-use Rattle.std.proofs.Common.{subst, ◌⊎◌, inl, inr}
+use Rattle.std.proofs.Common.{◌≡◌, ℕ, Bool, true, false, List, [], ◌∷◌, Option, Some, None, length, refl, sym, ◌∙◌, ap}
+use Rattle.std.proofs.Common.{arith, subst, ◌⊎◌, inl, inr}
 use Rattle.tl_coherence.proofs
 use proofs.Imports.{or-true, cases_eq, same_Some, Beat, Channel, IsWidth, Message, MessageA, unfinished, completes}
 use proofs.Imports.{Config, Cap, Report, Perm, prune_left, same_perm, is_acquire, EndConfig, End, Handed, access_answer}
@@ -9,7 +9,7 @@ use proofs.Imports.{ClientBlock, ProbeAnswered, is_unprobed, after_report, Waits
 use proofs.Imports.{AbstractState, performs, ChannelRelation, prune_told, block_message, SimulationRelation, receiver}
 use proofs.Imports.{Log, Step, handing, is_to_client, stepped, System, terms_at, with_channel, with_manager}
 use proofs.Imports.{with_messages, channel_of_message}
-use Rattle.tl_rules.specs.declared.answer.Answer.{Answer}
+use Rattle.tl_rules.{specs.declared.answer.Answer.Answer}
 use Rattle.tl_rules.specs.declared.answer.Answer as answers_of
 use Rattle.tl_manager.specs.code.Kept as manager
 use proofs.queues.{Channels.behind, Channels.IsTaken, Channels.pushes_at, Showing.carries, Showing.none-carried}

@@ -1,15 +1,15 @@
 -- A beat that is delivered to the manager: the channels and the one memory afterwards, by what is handed out.
-use Rattle.std.proofs.Common.{◌≡◌, ℕ, Bool, true, false, List, [], ◌∷◌, Option, Some, None, refl, sym, ◌∙◌, ap, subst, arith}
-use Rattle.std.proofs.Common.{if◌then◌else◌, All}
+use Rattle.std.proofs.Common.{◌≡◌, ℕ, Bool, true, false, List, [], ◌∷◌, Option, Some, None, refl, sym, ◌∙◌, ap, subst}
+use Rattle.std.proofs.Common.{arith, if◌then◌else◌, All}
 use Rattle.tl_coherence.proofs
 use proofs.Imports.{All-head, Beat, Link, Channel, OpB, IsWidth, Message, beat_of, unfinished, channel_of, completes}
 use proofs.Imports.{Config, Prune, Report, Perm, report_left, on_link, release, probe_ack, reaction-part, Handed}
 use proofs.Imports.{reaction, Deliver, Outcome, Kind, Request, Acquire, ProbeAck, Release, Answer, GrantAck, Packet}
-use proofs.Imports.{AcquirePhase, NoAcquire, AcquireOpen, Block, packet, packets_on, is_on, AbstractState}
-use proofs.Imports.{abstract_step, kind_taken, ChannelRelation, MemoryRelation, report_told, prune_told, block_message}
-use proofs.Imports.{message_of_kind, acquire_of, SimulationRelation, is_caching, IsRequest, receiver, is_moving, Log}
-use proofs.Imports.{system_after, Machine, one_memory_after, performing, accesses_answered, Step, stepped, handing}
-use proofs.Imports.{is_to_client, System, terms_at, channel_of_message, with_manager, with_channel, with_messages}
+use proofs.Imports.{AcquirePhase, Block, packet, packets_on, is_on, AbstractState, abstract_step, kind_taken}
+use proofs.Imports.{ChannelRelation, MemoryRelation, report_told, prune_told, block_message, message_of_kind}
+use proofs.Imports.{acquire_of, SimulationRelation, is_caching, IsRequest, receiver, is_moving, Log, system_after}
+use proofs.Imports.{Machine, one_memory_after, performing, accesses_answered, Step, stepped, handing, is_to_client}
+use proofs.Imports.{System, terms_at, channel_of_message, with_manager, with_channel, with_messages}
 use Rattle.tl_client.specs.statement.Endpoint as client
 use Rattle.tl_manager.specs.code.Kept as manager
 use Rattle.tl_manager.specs.statement.End as manager_end
@@ -43,8 +43,7 @@ release_channel w p source n x = grind arith
 
 request_channel : {w : ℕ} (config : Config) (c source : ℕ) (m : Message w) → IsRequest config c source m
     → channel_of_message m ≡ Channel.A
-request_channel config c source (Message.A m) h = refl
-request_channel config c source m h = absurd (let e = h.0 in cc)
+request_channel config c source m e = grind arith
 
 rendered_channel : (w : ℕ) (ch : Channel) (k : Kind) (c n : ℕ) (b : Block (List ℕ)) → is_to_client ch ≡ false
     → is_on ch k ≡ true → (k ≡ Request → ⊥) → channel_of_message (block_message {w = w} k c n b) ≡ ch

@@ -1,5 +1,6 @@
 -- A Probe that is delivered to a client: the channels and the one memory afterwards.
-use Rattle.std.proofs.Common.{◌≡◌, ℕ, ◌*◌, Bool, true, false, List, [], ◌∷◌, Some, None, refl, sym, ◌∙◌, ap, map, Ok, arith}
+use Rattle.std.proofs.Common.{◌≡◌, ℕ, ◌*◌, Bool, true, false, List, [], ◌∷◌, Some, None, refl, sym, ◌∙◌, ap, map, Ok}
+use Rattle.std.proofs.Common.{arith}
 use Rattle.tl_coherence.proofs
 use proofs.Imports.{Beat, BeatB, Link, Channel, OpB, IsWidth, Message, unfinished, Config, Cap, Report, Perm}
 use proofs.Imports.{report_left, report_at, same_perm, block_at, same_block, Verdict, copy_at, held_at, report_for}
@@ -11,9 +12,8 @@ use proofs.Imports.{terms_at, with_client, with_channel}
 use Rattle.tl_client.specs.statement.Endpoint as client
 use Rattle.tl_client.specs.statement.Offer as offer
 use proofs.memory.BesideKinds.{beside_block, same_acquiring}
-use proofs.queues.{Carried.IsNext, Shown.carried-shown, Channels.IsTaken, Channels.pushes_at, Tokens.set-same}
-use proofs.queues.FirstToken.{IsFirst, first-token}
-use proofs.queues.Landed.{pushes_of, landed-client, taken-landed, on_own_channel}
+use proofs.queues.{Carried.IsNext, Shown.carried-shown, Tokens.set-same, FirstToken.IsFirst, FirstToken.first-token}
+use proofs.queues.Landed.{landed-client, taken-landed, on_own_channel}
 use proofs.simulation.{CarriedEvents.probe_taken-shown, Moved.IsTakenByClient, Moved.client-moves, Moved.client-heard}
 use proofs.client.{DeliverD.same_answers, KnownProbed.report_is}
 use proofs.client.ProbeDelivered.{IsProbed, probe-delivered}

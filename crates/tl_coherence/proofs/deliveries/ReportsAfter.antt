@@ -1,13 +1,13 @@
 -- A beat of channel C that is delivered to the manager: the channels and the one memory afterwards.
-use Rattle.std.proofs.Common.{◌≡◌, ℕ, Bool, true, false, List, [], ◌∷◌, refl, sym, ◌∙◌, ap, subst, inl, inr, not, ◌&&◌, arith}
-use Rattle.std.proofs.Common.{length, ◌==◌, if◌then◌else◌}
+use Rattle.std.proofs.Common.{◌≡◌, ℕ, Bool, true, false, List, [], ◌∷◌, refl, sym, ◌∙◌, ap, subst, inl, inr, not, ◌&&◌}
+use Rattle.std.proofs.Common.{arith, length, ◌==◌, if◌then◌else◌}
 use Rattle.tl_coherence.proofs
 use proofs.Imports.{Beat, Link, Channel, IsWidth, Message, unfinished, completes, Config, Prune, Report, on_link}
 use proofs.Imports.{Handed, reaction, ProbeAck, Release, ReleaseAck, Grant, Packet, is_unprobed, after_release_taken}
-use proofs.Imports.{Service, Free, Waits, GrantSent, GrantTaken, Block, packet, let_block, release_taken, report_taken}
-use proofs.Imports.{AbstractState, ack_taken, answers, kind_taken, last_taken, some_below, packet_taken, with_state}
-use proofs.Imports.{MemoryRelation, prune_told, block_message, report_told, SimulationRelation, IsRequest, is_caching}
-use proofs.Imports.{IsServedWith, IsFor, Log, system_after, Machine, performing, accesses_answered, System}
+use proofs.Imports.{Service, Free, Waits, GrantSent, GrantTaken, Block, packet, let_block, release_taken, AbstractState}
+use proofs.Imports.{ack_taken, answers, kind_taken, last_taken, some_below, packet_taken, MemoryRelation, prune_told}
+use proofs.Imports.{block_message, report_told, SimulationRelation, IsRequest, is_caching, IsServedWith, IsFor, Log}
+use proofs.Imports.{system_after, Machine, performing, accesses_answered, System}
 use Rattle.tl_coherence.specs.protocol.Protocol as protocol
 use proofs.memory.BesideKinds.{IsWaiting, accesses_by, beside-report, beside_block, last_accesses, same_acquiring}
 use proofs.memory.BesideRequests.{IsOnce, accesses-answer}
@@ -15,8 +15,7 @@ use proofs.deliveries.{CarriedReports.carried-followed_c, DeliverDWhole.remember
 use proofs.deliveries.ManagerDelivered.{channel_c-delivered, releases-delivered, reports-delivered}
 use proofs.deliveries.LastReportDelivered.{pushed, pushed_last}
 use proofs.deliveries.ManagerFollowed.{client-of, followed-taken, step-taken}
-use proofs.manager.{Choices.plain-past, ManagerAfter.others_probed, ManagerTakes.by-first_c}
-use proofs.manager.{UnwaitedRequests.next_tracker}
+use proofs.manager.{Choices.plain-past, ManagerTakes.by-first_c, UnwaitedRequests.next_tracker}
 use proofs.queues.{FirstToken.first-token, Tokens.set_at-same}
 use proofs.protocol.{RequestsKept.settled_all, FirstTokens.first-report}
 use proofs.simulation.{SourcedAfter.served-request}
@@ -56,13 +55,7 @@ report-answered : {w : ℕ} (config : Config) (c n : ℕ) (r : Report) (rest : L
     → accesses_answered (pushed config c ProbeAck n h (ack_taken (length config.clients.items) config.profile c n r rest
     h)) ≡ accesses_by config c ProbeAck n h
 unfolding accesses_answered
-report-answered {w} config c n r rest h for =
-    let go : (y : Bool) → accesses_answered (if y then [] else pushed_last n (h.state.block n).service
-    (if y then with_state (report_taken c n r rest h.state) h else last_taken (length config.clients.items)
-    config.profile c n r (h.state.block n).service rest h))
-    ≡ (if y then [] else last_accesses (h.state.block n).service) =
-    elim [ true ↦ refl | false ↦ last-answered config c n r (h.state.block n).service rest h for ] in
-    go (some_below (length config.clients.items) (others_probed c (h.state.block n).pair))
+report-answered {w} config c n r rest h for = grind (arith, last-answered)
 
 -- ---- the access that waits can be performed
 
@@ -95,8 +88,7 @@ by-place : {w : ℕ} (h h' : AbstractState w) (pushes handed : Handed w) {m : Ma
     → (MemoryRelation h'.mail h'.state (performing (accesses_answered pushes) m))
     → MemoryRelation (if b then h' else h).mail (if b then h' else h).state (performing (accesses_answered handed) m)
 unfolding performing accesses_answered
-by-place h h' pushes handed true e before last = rw e last
-by-place h h' pushes handed false e before last = rw e before
+by-place h h' pushes handed b e f g = grind arith
 
 beside-followed_c : {w : ℕ} {config : Config} {log : Log w} (h : AbstractState w) {sys : System w} (c : ℕ)
     (x : Beat w) (queue : List (Beat w)) {m : Machine w}
@@ -176,8 +168,7 @@ once-place : {w : ℕ} (h : AbstractState w) (pushes handed : Handed w) (m : Mac
     → handed ≡ (if b then pushes else [])
     → IsOnce (accesses_answered pushes) h m → IsOnce (accesses_answered handed) h m
 unfolding accesses_answered
-once-place h pushes handed m true e last = rw e last
-once-place h pushes handed m false e last = rw e (inl refl)
+once-place h pushes handed m b e f = grind arith
 
 pub once-followed_c : {w : ℕ} {config : Config} {log : Log w} (h : AbstractState w) {sys : System w} (c : ℕ)
     (x : Beat w) (queue : List (Beat w)) {m : Machine w}

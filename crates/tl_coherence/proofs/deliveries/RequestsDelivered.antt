@@ -1,9 +1,9 @@
 -- A delivery on channel A: what is first there, that it is taken unless it has to wait, and the
 -- manager's end afterwards.
 use Rattle.std.proofs.Common.{◌≡◌, subst, ℕ, suc, ◌+◌, ◌<◌, Bool, true, false, List, [], ◌∷◌, Some, refl, sym, ◌∙◌, ap}
-use Rattle.std.proofs.Common.{inl, inr, arith, eqb-true, ◌==◌, if◌then◌else◌}
+use Rattle.std.proofs.Common.{inl, arith, eqb-true, ◌==◌, if◌then◌else◌}
 use Rattle.tl_coherence.proofs
-use proofs.Imports.{cases_eq, Beat, Channel, IsWidth, Message, MessageA, a_beat_of, beats_of, unfinished, completes}
+use proofs.Imports.{Beat, Channel, IsWidth, Message, MessageA, a_beat_of, beats_of, unfinished, completes}
 use proofs.Imports.{Config, not_last, on_link, EndConfig, reaction-part, End, Handed, Reaction, must_wait, reaction}
 use proofs.Imports.{Deliver, Outcome, AbstractState, kind_taken, packet_taken, abstract_delivery, abstract_step}
 use proofs.Imports.{ChannelRelation, MemoryRelation, SimulationRelation, Log, Machine, accesses_answered, performing}
@@ -19,11 +19,7 @@ use proofs.deliveries.FirstRequest.{IsArrival, arrival-first, coming-arrival, re
 -- ---- what a delivery on channel A comes to
 
 more_beats : (k n : ℕ) → (k + 1 == n) ≡ false → k < n → k + 1 < n
-more_beats k n e lt = elim (cases_eq (k + 1) n) [
-  | inl same ↦ absurd (let yes : (k + 1 == n) ≡ true = rw same (same_number n) in let no : true ≡ false = sym yes ∙ e in
-      cc)
-  | inr other ↦ omega (arith, lt, other)
-]
+more_beats k n e lt = grind (arith, same_number)
 
 -- The protocol after a beat that is taken: with the last one the request is, and with any other one nothing changes.
 moved-a : {w : ℕ} {config : Config} {h : AbstractState w} {sys : System w} {c : ℕ} {x : Beat w}

@@ -1,5 +1,5 @@
 -- What is delivered on a link, as the beat of a Probe is, for a whole that is that of the protocol.
-use Rattle.std.proofs.Common.{◌≡◌, subst, ℕ, true, List, [], ◌∷◌, Option, refl, sym, ◌∙◌, ap, arith}
+use Rattle.std.proofs.Common.{◌≡◌, subst, ℕ, true, List, [], ◌∷◌, Option, sym, ◌∙◌, ap, arith}
 use Rattle.tl_coherence.proofs
 use proofs.Imports.{Beat, BeatA, Channel, Message, History, is_empty, completes, Config, Cap, same_block, Probe, Packet}
 use proofs.Imports.{ClientBlock, View, Other, ProbeSent, ok, same_cap, State, packet, view, probe_taken, AbstractState}
@@ -18,9 +18,7 @@ same_caps j k e = grind arith
 
 -- sees the service of another, which probes with this cap
 probed_sees : (k : Cap) (v : View) → fits_service (ProbeSent k) v ≡ true → v ≡ Other k
-probed_sees k (Other Cap.ToB) e = ap Other (same_caps k Cap.ToB e)
-probed_sees k (Other Cap.ToN) e = ap Other (same_caps k Cap.ToN e)
-probed_sees k v e = absurd cc
+probed_sees k v e = grind (arith, same_caps)
 
 sent_sees : (k : Cap) (p : ClientBlock) (v : View) → ok p v ≡ true → p.probing ≡ ProbeSent k → v ≡ Other k
 unfolding ok

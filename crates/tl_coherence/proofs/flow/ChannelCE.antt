@@ -1,12 +1,12 @@
 -- What is delivered on a link, as a beat of channel C or E is: of a ProbeAck, a Release or a GrantAck.
-use Rattle.std.proofs.Common.{◌≡◌, subst, ℕ, Bool, true, false, not, ◌&&◌, List, ◌∷◌, Option, refl, sym, ◌∙◌, ap}
+use Rattle.std.proofs.Common.{◌≡◌, subst, ℕ, Bool, true, false, not, ◌&&◌, List, ◌∷◌, Option, refl, sym, ◌∙◌, ap, arith}
 use Rattle.std.proofs.Common.{length, ◌==◌, if◌then◌else◌}
 use Rattle.tl_coherence.proofs
 use proofs.Imports.{and_right as with_false, Beat, BeatA, BeatE, Channel, IsWidth, Message, MessageC, c_beat_of}
 use proofs.Imports.{History, is_empty, completes, Config, Prune, Report, Perm, prune_code, prune_left, report_code}
 use proofs.Imports.{report_left, prune_right, comes_in_release, same_perm, is_release, reported, reported-report}
 use proofs.Imports.{release, is_busy, ProbeAck, Release, GrantAck, Packet, ClientBlock, View, Idle, Granting}
-use proofs.Imports.{Acknowledging, ReleaseSent, is_unprobed, is_unreleased, ok, after_release_taken, Service, Free}
+use proofs.Imports.{Acknowledging, ReleaseSent, is_unprobed, is_unreleased, ok, after_release_taken, Service}
 use proofs.Imports.{Block, State, packet, view, let_block, release_taken, report_taken, grant_ack_taken, is_granting}
 use proofs.Imports.{is_acknowledging, AbstractState, MonitorRelation, block_message, prune_told, report_told}
 use proofs.Imports.{SimulationRelation, asked_by, Log, System}
@@ -41,8 +41,7 @@ report_rendered c n b width long = report-about (report_told (b.pair c).probing)
 release_size : {w : ℕ} (r : Prune) (source n : ℕ) (truth : List ℕ) (m : MessageC w)
     → release r source n truth ≡ Message.C m → m.size ≡ 6
 unfolding size_of
-release_size Prune.TtoB source n truth m e = sym (ap size_of e)
-release_size r source n truth m e = sym (ap size_of e)
+release_size r source n truth m e = grind (arith, size_of)
 
 pub release_rendered : {w : ℕ} (c n : ℕ) (b : Block (List ℕ)) → IsWidth w → IsLong b
     → (m : MessageC w) × (block_message Release c n b ≡ Message.C m)
@@ -66,8 +65,7 @@ released_ungranted r p v well open_ = refl
 
 -- a service that is seen so isn't none
 busy_seen : (test : View → Bool) → test Idle ≡ false → (q : Service) (c : ℕ) → test (view q c) ≡ true → is_busy q ≡ true
-busy_seen test none Free c e = absurd (let no : false ≡ true = sym none ∙ e in cc)
-busy_seen test none q c e = refl
+busy_seen test e q c f = grind arith
 
 pub ack_rendered : {w : ℕ} (c n : ℕ) (b : Block (List ℕ)) → block_message {w = w} GrantAck c n b ≡ Message.E
     (record { sink = b.tracker })
@@ -83,9 +81,6 @@ module _ {w : ℕ} {config : Config} {log : Log w} (h : AbstractState w) {sys : 
 
   abbrev before : ℕ → Option (BeatA w)
   before = asked_by h.mail h.state c
-
-  abbrev rest : Channel → List (Beat w)
-  rest = unfinished_at sys c
 
   well : ok ((s.block n).pair c) (view (s.block n).service c) ≡ true
   well = (is.invariant.blocks n).phases c

@@ -1,13 +1,12 @@
 -- What is half taken on channel A while a response is on its way.
-use Rattle.std.proofs.Common.{◌≡◌, ℕ, zero, suc, Bool, true, false, List, [], ◌∷◌, refl, sym, ◌∙◌, ap, eqb-true}
-use Rattle.std.proofs.Common.{◌==◌, map}
+use Rattle.std.proofs.Common.{◌≡◌, ℕ, Bool, true, false, List, [], ◌∷◌, refl, ◌∙◌, ap, arith, map}
 use Rattle.tl_coherence.proofs
 use proofs.Imports.{Beat, Channel, Message, MessageA, begun, unfinished, Config, on_link, comes_in_request, acquisition}
 use proofs.Imports.{Kind, Request, Acquire, Packet, State, SourceState, Asked, Acquires, view, packet, is_on}
 use proofs.Imports.{is_unserved, is_wanting, acquire_opcode, IsCarried, AccessMessages, block_message, message_of}
 use proofs.Imports.{message_of_kind, SimulationRelation, is_caching, Log, System}
-use proofs.protocol.{HeadOfD.acquire-used, Heads.asked-first, Heads.rendered-acquire, BothParts.wanting-is}
-use proofs.protocol.{FirstTokens.first-shown}
+use proofs.protocol.{HeadOfD.acquire-used, BothParts.wanting-is, FirstTokens.first-shown}
+use proofs.protocol.Heads.{asked-first, rendered-acquire}
 use proofs.queues.{FirstToken.own_kind, Phases.and_left, Phases.and_right}
 
 -- ---- what is half taken on channel A
@@ -47,15 +46,7 @@ comes_not : {w : ℕ} (c source : ℕ) (s : State (List ℕ)) (m : Message w) (k
     → rest ≡ begun m k → IsWaiting c s m
     → waits_on_a c (s.uses c source) s ≡ false → comes_in_request source rest ≡ false
 unfolding IsWaiting
-comes_not {w} c source s m k rest e is none =
-    let go : (i : ℕ) → comes_in_request source (begun (Message.A is.0) i) ≡ false =
-    elim [ zero ↦ refl | suc i ↦ differ (is.0.source == source) refl ] in
-    cc (e, is.1, go k)
-  where
-    differ : (b : Bool) → (is.0.source == source) ≡ b → b ≡ false
-    differ false f = refl
-    differ true f = absurd (let no : true ≡ false = sym is.2 ∙ ap (λ (j : ℕ). waits_on_a c (s.uses c j) s)
-        (eqb-true is.0.source source f) ∙ none in cc)
+comes_not {w} c source s m k rest e is none = grind (arith, waits_on_a)
 
 -- no request is half taken whose source waits for an answer
 pub not-coming_a : {w : ℕ} {config : Config} {log : Log w} {mail : AccessMessages w} {request : ℕ → MessageA w}

@@ -29,8 +29,4 @@ leaves_within o param k p e f g = at_most_none p (within Cap.ToN k p f g)
 
 pub leaves_all : (o : OpA) (param : ℕ) (p : Perm) → is_acquire o ≡ false → cap_probed o param ≡ None
     → leaves (needs o) p ≡ true
-leaves_all OpA.Intent param p e f = refl
-leaves_all OpA.Get param p e f = absurd (some_none Cap.ToB f)
-leaves_all OpA.AcquireBlock param p e f = absurd cc
-leaves_all OpA.AcquirePerm param p e f = absurd cc
-leaves_all o param p e f = absurd (some_none Cap.ToN f)
+leaves_all o param p e f = grind (arith, some_none)

@@ -1,13 +1,12 @@
 -- What is delivered on a link, as a beat of an access is.
-use Rattle.std.proofs.Common.{◌≡◌, ℕ, Bool, true, false, not, ◌&&◌, ◌∷◌, Option, Some, None, refl, sym, ◌∙◌, ap, List, arith}
-use Rattle.std.proofs.Common.{◌==◌, if◌then◌else◌, option_map}
+use Rattle.std.proofs.Common.{◌≡◌, ℕ, Bool, true, false, not, ◌&&◌, ◌∷◌, Option, Some, None, refl, sym, ◌∙◌, ap, List}
+use Rattle.std.proofs.Common.{arith, ◌==◌, if◌then◌else◌, option_map}
 use Rattle.tl_coherence.proofs
 use proofs.Imports.{and_right, Beat, BeatA, Channel, History, Perm, comes_in_request, begins, ends, block_at}
 use proofs.Imports.{is_acquire, request_of, release_of, probe_of-a, grant_sink-a, Block, State, SourceState, SourceFree}
 use proofs.Imports.{Asked, InService, Replied, Acquires, is_answered, MonitorRelation, is_requested, is_let_by, is_sunk}
 use proofs.Imports.{probe_beat, cap_waited}
-use proofs.flow.{FlowAlone.AreRests, FlowAside.let_by-same, FlowGranted.begun, FlowGranted.unbegun}
-use proofs.flow.{FlowReleased.with_true, FlowReport.unopened}
+use proofs.flow.{FlowAlone.AreRests, FlowAside.let_by-same, FlowGranted.begun, FlowReleased.with_true}
 use proofs.flow.FlowStep.{flowed-next, held_by, acquired_by, let_of, granted_by, step, step_quiet}
 
 pub released-of : {w : ℕ} (i : ℕ) (y : BeatA w) (t : History w) → release_of i (Beat.A y ∷ t) ≡ release_of i t
@@ -19,8 +18,7 @@ pub of_source : {w : ℕ} (i : ℕ) (y : BeatA w) (t : History w) (first : Bool)
     → begins (Beat.A y) t ≡ first → (y.source == i) ≡ true
     → (first ≡ true → o ≡ Some y) → (first ≡ false → request_of i t ≡ o) → request_of i (Beat.A y ∷ t) ≡ o
 unfolding request_of
-of_source i y t true o e f g before = rw (e, f) (sym (g refl))
-of_source i y t false o e f g before = rw e (before refl)
+of_source i y t first o e f g h = grind arith
 
 pub of_other : {w : ℕ} (i : ℕ) (y : BeatA w) (t : History w) → (y.source == i) ≡ false
     → request_of i (Beat.A y ∷ t) ≡ request_of i t
@@ -90,8 +88,7 @@ flowed-access {w} {X} {c} {y} {first} {last} {asked} {rest} {rest'} {s} {s'} {t}
 
     now : (i : ℕ) (z : Bool) → last ≡ z → (y.source == i) ≡ true
         → is_requested c i (rest' Channel.A) (if z && true then Replied else s.uses c i) s' ≡ true
-    now i true e f = refl
-    now i false e f = cc (is.use_is i f, is.comes i, with_true (not last) (y.source == i) f, e)
+    now i z e f = grind (arith, with_true, last)
 
     use_at : (i : ℕ) (here : Bool) → (y.source == i) ≡ here → is_requested c i (rest' Channel.A) (s'.uses c i)
         s' ≡ is_requested c i (rest' Channel.A) (if last && here then Replied else s.uses c i) s'
@@ -119,5 +116,4 @@ flowed-access {w} {X} {c} {y} {first} {last} {asked} {rest} {rest'} {s} {s'} {t}
     asked_still i e false f = of_other i y t f ∙ before.asked_is i (before.requests i ∙ sym (same i f) ∙ e)
 
     lets : (i : ℕ) → is_let_by c i (rest' Channel.C) (s'.lets c i) s' ≡ is_let_by c i (rest Channel.C) (s.lets c i) s
-    lets i = let fact = let_by-same c i (rest Channel.C) (s.lets c i) s s'
-        (λ m. ap (λ (z : Block X). (z.pair c).letting) (is.blocks m)) in cc (rests Channel.C, is.lets i)
+    lets i = grind (arith, let_by-same, rests)

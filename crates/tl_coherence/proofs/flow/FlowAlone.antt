@@ -1,19 +1,19 @@
 -- What is delivered on a link, as a Probe or a GrantAck is: messages of one beat, which leave requests
 -- and Releases alone.
-use Rattle.std.proofs.Common.{◌≡◌, ℕ, Bool, true, false, not, ◌&&◌, ◌||◌, ◌∷◌, Option, Some, None, refl, sym, ◌∙◌, ap, arith}
-use Rattle.std.proofs.Common.{List, ◌⊎◌, inl, inr, ne_eqb, eqb-true, ◌==◌, if◌then◌else◌}
+use Rattle.std.proofs.Common.{◌≡◌, ℕ, Bool, true, false, not, ◌&&◌, ◌||◌, ◌∷◌, Option, Some, None, refl, sym, ◌∙◌, ap}
+use Rattle.std.proofs.Common.{arith, List, ◌⊎◌, inl, inr, ne_eqb, eqb-true, ◌==◌, if◌then◌else◌}
 use Rattle.tl_coherence.proofs
-use proofs.Imports.{cases_eq, Beat, BeatA, BeatE, Channel, History, grown, Cap, comes_in_grant, begins, ends}
-use proofs.Imports.{release_of, probe_of, grant_sink, request_of-e, is_of, is_busy, AreNamed, Packet, View, Own}
-use proofs.Imports.{Acknowledging, Other, Service, Free, Waits, Block, State, view, grant_ack_taken, freed_block}
-use proofs.Imports.{is_granting, is_acknowledging, is_answered, is_wanting, is_unserved, comes_granting}
-use proofs.Imports.{MonitorRelation, is_requested, is_let_by, is_sunk, probe_beat, cap_waited}
-use Rattle.tl_burst.specs.statement.Messages.{on}
-use Rattle.tl_rules.specs.statement.History.{is_sink}
-use Rattle.tl_client.proofs.pending.AccountedResponse.{is_own_sink}
+use proofs.Imports.{cases_eq, Beat, BeatA, BeatE, Channel, History, grown, comes_in_grant, begins, ends, release_of}
+use proofs.Imports.{probe_of, grant_sink, request_of-e, is_of, is_busy, AreNamed, Packet, View, Acknowledging, Service}
+use proofs.Imports.{Free, Block, State, view, grant_ack_taken, freed_block, is_granting, is_acknowledging, is_answered}
+use proofs.Imports.{is_wanting, is_unserved, comes_granting, MonitorRelation, is_requested, is_let_by, is_sunk}
+use proofs.Imports.{probe_beat, cap_waited}
+use Rattle.tl_burst.{specs.statement.Messages.on}
+use Rattle.tl_rules.{specs.statement.History.is_sink}
+use Rattle.tl_client.{proofs.pending.AccountedResponse.is_own_sink}
 use Rattle.tl_manager.proofs.pending.Acked.{probe_of-e, grant_sink-e}
-use proofs.flow.{FlowAside.IsComing, FlowAside.requested-blocks, FlowAside.let_by-same, FlowStep.flowed-next}
-use proofs.flow.{FlowStep.held_by, FlowStep.acquired_by, FlowStep.let_of, FlowStep.granted_by, FlowStep.step}
+use proofs.flow.FlowAside.{IsComing, requested-blocks, let_by-same}
+use proofs.flow.FlowStep.{flowed-next, held_by, acquired_by, let_of, granted_by, step}
 use proofs.queues.Tokens.{same_number, set-same, set-other, set-each, set-part}
 
 -- what of each channel's first message was delivered, with one more beat
@@ -30,8 +30,7 @@ not_granting : (v : View) → v ≡ Acknowledging → is_granting v ≡ false
 not_granting v e = ap is_granting e
 
 pub no_coming : (g b : Bool) → g ≡ false → (b ≡ true → g ≡ true) → b ≡ false
-no_coming g false e f = refl
-no_coming g true e f = let h : g ≡ true = f refl in let i : false ≡ true = sym e ∙ h in cc
+no_coming g b e f = grind arith
 
 other_sink : (i j : ℕ) (o : Option ℕ) → o ≡ Some j → (j ≡ i → ⊥) → is_sink i o ≡ false
 other_sink i j o e ne = rw e (ne_eqb j i ne)
@@ -113,14 +112,7 @@ flowed-grant_ack {w} {X} {c} n toks y {asked} asked' {rest} rest' {s}
         no_cap q e = grind arith
 
     of_block : (m : ℕ) → granted_by c m asked (rest Channel.D) (s.block m) ≡ true → is_busy (s.block m).service ≡ true
-    of_block m e = go (is_acknowledging (view (s.block m).service c)) (comes_granting m asked (rest Channel.D)) refl
-        refl e
-      where
-        go : (p q : Bool) → is_acknowledging (view (s.block m).service c) ≡ p
-            → comes_granting m asked (rest Channel.D) ≡ q → (p || q) ≡ true → is_busy (s.block m).service ≡ true
-        go true q f g h = busy_a m f
-        go false true f g h = busy_g m (coming m g)
-        go false false f g h = absurd cc
+    of_block m e = grind (arith, coming)
 
     -- blocks in service have trackers of their own
     apart : (m : ℕ) → is_busy (s.block m).service ≡ true → (m ≡ n → ⊥) → (s.block m).tracker ≡ b.tracker → ⊥

@@ -1,6 +1,6 @@
 -- What is delivered on a link, as a beat of an access's answer or a ReleaseAck is.
-use Rattle.std.proofs.Common.{◌≡◌, ℕ, Bool, true, false, not, ◌&&◌, ◌||◌, ◌∷◌, Option, Some, None, refl, sym, ◌∙◌, ap, arith}
-use Rattle.std.proofs.Common.{List, ne_eqb, eqb-true, ◌==◌, if◌then◌else◌, option_map, unwrap_or}
+use Rattle.std.proofs.Common.{◌≡◌, ℕ, Bool, true, false, not, ◌&&◌, ◌||◌, ◌∷◌, Option, Some, None, refl, sym, ◌∙◌, ap}
+use Rattle.std.proofs.Common.{arith, List, ne_eqb, eqb-true, ◌==◌, if◌then◌else◌, option_map, unwrap_or}
 use Rattle.tl_coherence.proofs
 use proofs.Imports.{Beat, BeatA, BeatC, BeatD, Channel, History, ReleaseSource, Perm, comes_in_grant, begins, ends}
 use proofs.Imports.{block_at, pending, is_grant, is_release_ack, asks_for, request_of, release_of, probe_of, grant_sink}
@@ -91,8 +91,7 @@ flowed-answer {w} {X} {c} {y} first {last} {asked} {asked'} {rest} {rest'} {s} {
   where
     same_requested : (i : ℕ) (u : SourceState) → is_requested c i (rest Channel.A) u s' ≡ is_requested c i
         (rest Channel.A) u s
-    same_requested i u = requested-blocks c i (rest Channel.A) u s s'
-        (λ m. ap (λ (z : Block X). is_unserved (view z.service c)) (is.blocks m))
+    same_requested i u = grind (arith, requested-blocks, c)
 
     requests : (i : ℕ) (z here : Bool)
         → is_requested c i (rest Channel.A) (if z && here then SourceFree else s.uses c i) s' ≡ step first z false
@@ -119,8 +118,7 @@ flowed-answer {w} {X} {c} {y} first {last} {asked} {asked'} {rest} {rest'} {s} {
         (cc (before.requests i, same_requested i (s.uses c i), use_at i)) in cc (request_of-d i y t, is.asked_is i f)
 
     lets : (i : ℕ) → is_let_by c i (rest' Channel.C) (s'.lets c i) s' ≡ is_let_by c i (rest Channel.C) (s.lets c i) s
-    lets i = let fact = let_by-same c i (rest Channel.C) (s.lets c i) s s'
-        (λ m. ap (λ (z : Block X). (z.pair c).letting) (is.blocks m)) in cc (rests Channel.C, is.lets i)
+    lets i = grind (arith, let_by-same, rests)
 
     grants : (m : ℕ) → granted_by c m asked' (rest' Channel.D) (s'.block m) ≡ granted_by c m asked (rest Channel.D)
         (s.block m)
@@ -157,8 +155,7 @@ unclosed_by a q p e = grind arith
 
 of_releases : {w : ℕ} (n m : ℕ) (o : Option (BeatC w)) → option_map (λ x. block_at x.address) o ≡ Some n
     → releases m o ≡ (n == m)
-of_releases n m None e = absurd cc
-of_releases n m (Some x) e = let f : block_at x.address ≡ n = cc in ap (λ (z : ℕ). z == m) f
+of_releases n m o e = grind arith
 
 pub flowed-let_go : {w : ℕ} {X : Type 0} {c n : ℕ} {y : BeatD w} {asked asked' : ℕ → Option (BeatA w)}
     {rest rest' : Channel → List (Beat w)} {s s' : State X} {t : History w}
@@ -242,8 +239,7 @@ flowed-let_go {w} {X} {c} {n} {y} {asked} {asked'} {rest} {rest'} {s} {s'} {t} f
 
     rest_same : (i : ℕ) (o : Option ℕ) → s.lets c i ≡ o → (y.source == i) ≡ false
         → is_let_by c i (rest' Channel.C) o s' ≡ is_let_by c i (rest Channel.C) o s
-    rest_same i None e f = refl
-    rest_same i (Some m) e f = cc (rests Channel.C, is.elsewhere m (other_source i m e f))
+    rest_same i o e f = grind (arith, rests, other_source)
 
     lets : (i : ℕ) (z : Bool) → (y.source == i) ≡ z → is_let_by c i (rest' Channel.C) (s'.lets c i) s' ≡ step true true
         false (is_release_ack y.opcode && (y.source == i)) (is_let_by c i (rest Channel.C) (s.lets c i) s)
@@ -254,5 +250,4 @@ flowed-let_go {w} {X} {c} {n} {y} {asked} {asked'} {rest} {rest'} {s} {s'} {t} f
 
     is_another : (i m : ℕ) → s'.lets c i ≡ Some m → (z : Bool) → (y.source == i) ≡ z → ((y.source == i) ≡ false)
         × (s.lets c i ≡ Some m)
-    is_another i m e true f = absurd (cc (is.lets i))
-    is_another i m e false f = (f, sym (is.lets i ∙ ap (λ (z : Bool). if z then None else s.lets c i) f) ∙ e)
+    is_another i m e z f = grind (arith, c)

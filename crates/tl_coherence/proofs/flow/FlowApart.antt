@@ -1,17 +1,16 @@
 -- What an event leaves of what is delivered on a link: each value is as before, where the event isn't of the link, or
 -- comes of a beat of it that is accounted for.
-use Rattle.std.proofs.Common.{◌≡◌, subst, ℕ, Bool, true, false, ◌&&◌, ◌||◌, Option, Some, None, refl, sym, ◌∙◌, ap, arith}
-use Rattle.std.proofs.Common.{List, ◌⊎◌, inl, inr, ◌==◌, if◌then◌else◌}
+use Rattle.std.proofs.Common.{◌≡◌, subst, ℕ, Bool, true, false, ◌&&◌, ◌||◌, Option, Some, None, refl, sym, ◌∙◌, ap}
+use Rattle.std.proofs.Common.{arith, List, ◌⊎◌, inl, inr, ◌==◌, if◌then◌else◌}
 use Rattle.tl_coherence.proofs
 use proofs.Imports.{cases_eq, Beat, BeatA, Channel, Cap, Grow, Prune, Report, comes_in_grant, Packet, set, set_at, Own}
-use proofs.Imports.{Other, Granting, GrantedOther, is_unprobed, after_report, Service, Free, Waits, GrantSent}
-use proofs.Imports.{GrantTaken, Block, State, SourceState, InService, Replied, Acquires, view, acquiring_block}
-use proofs.Imports.{acquire_asked, access_asked, releasing_block, release_asked, granted_at_once, acquire_granted}
-use proofs.Imports.{served_block, probed_block, probe_taken, reported_block, report_taken, let_block, release_taken}
-use proofs.Imports.{taken_block, let_go_block, release_ack_taken, freed_block, grant_ack_taken, stored_block}
-use proofs.Imports.{block_stored, performed_block, access_answered, access_served, ended_block, report_answers}
-use proofs.Imports.{granted_block, report_grants, answer_taken, grant_taken, is_granting, is_acknowledging, is_answered}
-use proofs.Imports.{is_sunk}
+use proofs.Imports.{Other, is_unprobed, Service, Free, Waits, GrantSent, GrantTaken, Block, State, SourceState}
+use proofs.Imports.{InService, Replied, Acquires, view, acquiring_block, acquire_asked, access_asked, releasing_block}
+use proofs.Imports.{release_asked, granted_at_once, acquire_granted, served_block, probed_block, probe_taken}
+use proofs.Imports.{reported_block, report_taken, let_block, release_taken, taken_block, let_go_block}
+use proofs.Imports.{release_ack_taken, freed_block, grant_ack_taken, stored_block, block_stored, performed_block}
+use proofs.Imports.{access_answered, access_served, ended_block, report_answers, granted_block, report_grants}
+use proofs.Imports.{answer_taken, grant_taken, is_granting, is_acknowledging, is_answered, is_sunk}
 use proofs.client.Aside.{set_at-other, set_at-else}
 use proofs.flow.FlowAside.{IsSameBlock, same-block, is_heard, IsSameUse, IsComing, IsAside}
 use proofs.flow.FlowOthers.{is_outside, outside-waits, outside-sent, outside-taken, same-performed, same-served}
@@ -229,10 +228,7 @@ module _ {w : ℕ} {X : Type 0} (d : ℕ) (asked asked' : ℕ → Option (BeatA 
 
     unanswered : ((i : ℕ) → (i ≡ c → ⊥) → is_answered ((s.block n).pair i).probing ≡ false)
         → is_answered ((reported_block c r (s.block n)).pair d).probing ≡ false
-    unanswered quiet = elim (cases_eq d c) [
-      | inl here ↦ rw (here, set-same c (after_report r ((s.block n).pair c)) (s.block n).pair) refl
-      | inr other ↦ rw (set-other c d (after_report r ((s.block n).pair c)) (s.block n).pair other) (quiet d other)
-    ]
+    unanswered quiet = grind (arith, cases_eq)
 
     seen : (q : Service) → (s.block n).service ≡ q → view (between.block n).service d ≡ view q d
     seen q e = ap (λ (z : Block X). view z.service d) new_is ∙ ap (λ (i : Service). view i d) e

@@ -88,8 +88,7 @@ pub record IsAside {w : ℕ} {X : Type 0} (asked asked' : ℕ → Option (BeatA 
   pub coming : IsComing asked (rest Channel.D) d s
 
 either_is : (a b g : Bool) → (a || b) ≡ true → (b ≡ true → g ≡ true) → (a || g) ≡ false → ⊥
-either_is false true g e f h = let p : g ≡ true = f refl in let q : true ≡ false = sym p ∙ h in cc
-either_is a b g e f h = absurd cc
+either_is a b g e f h = grind arith
 
 pub flowed-aside : {w : ℕ} {X : Type 0} {asked asked' : ℕ → Option (BeatA w)} {rest : Channel → List (Beat w)} {d : ℕ}
     {s s' : State X} {t : History w}

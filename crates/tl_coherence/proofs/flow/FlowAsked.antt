@@ -1,16 +1,16 @@
 -- What is delivered on a client's link stays as it is when the client itself is asked for something.
 use Rattle.std.proofs.Common.{◌≡◌, ℕ, Bool, true, false, not, ◌&&◌, ◌||◌, Option, Some, None, refl, sym, ◌∙◌, ap, List}
-use Rattle.std.proofs.Common.{inl, inr, ◌==◌, if◌then◌else◌}
+use Rattle.std.proofs.Common.{arith, inl, inr, if◌then◌else◌}
 use Rattle.tl_coherence.proofs
 use proofs.Imports.{cases_eq, Beat, BeatA, Channel, Grow, Prune, comes_in_request, comes_in_release, is_of, set_at}
-use proofs.Imports.{ClientBlock, NoAcquire, NoRelease, ReleaseSent, after_release, after_acquire, Block}
-use proofs.Imports.{State, SourceState, SourceFree, Asked, Acquires, view, access_asked, acquire_asked, acquiring_block}
+use proofs.Imports.{ClientBlock, NoAcquire, NoRelease, ReleaseSent, after_release, after_acquire, Block, State}
+use proofs.Imports.{SourceState, SourceFree, Asked, Acquires, view, access_asked, acquire_asked, acquiring_block}
 use proofs.Imports.{release_asked, releasing_block, is_acknowledging, is_answered, is_granting, is_wanting, is_unserved}
 use proofs.Imports.{comes_granting, is_requested, is_release_pending, is_let_by, cap_waited}
 use proofs.client.{Aside.set_at-else, ClientEnd.comes-same}
 use proofs.flow.{FlowSame.IsUntouched, FlowSunk.sunk_in, FlowSunk.sunk-as, FlowAside.requested-blocks}
 use proofs.flow.{FlowAside.let_by-same, FlowStep.held_by, FlowStep.acquired_by, FlowStep.let_of, FlowStep.granted_by}
-use proofs.queues.Tokens.{same_number, set-same, set-each, set-part, set_at-same}
+use proofs.queues.Tokens.{same_number, set-same, set-part, set_at-same}
 
 -- ---- a request
 
@@ -147,14 +147,7 @@ untouched-release_asked {w} {X} c n source r asked asked' rest s free none kept 
 
     others : (i : ℕ) (o : Option ℕ) → is_of n o ≡ false → is_let_by c i (rest Channel.C) o s' ≡ is_let_by c i
         (rest Channel.C) o s
-    others i None e = refl
-    others i (Some m) e = elim (cases_eq m n) [
-      | inl here ↦ absurd (let no : (n == n) ≡ false = rw here at e in let yes : true ≡ false =
-          sym (same_number n) ∙ no in cc)
-      | inr other ↦ set-each (λ j z. (j ≡ n → ⊥)
-          → is_release_pending i (rest Channel.C) (z.pair c).letting ≡ is_release_pending i (rest Channel.C)
-          ((s.block j).pair c).letting) n new s.block (λ ne. absurd (ne refl)) (λ j ne f. refl) m other
-    ]
+    others i o e = grind (arith, cases_eq, same_number)
 
     lets : (i : ℕ) → is_let_by c i (rest Channel.C) (s'.lets c i) s' ≡ is_let_by c i (rest Channel.C) (s.lets c i) s
     lets i = elim (cases_eq i source) [

@@ -1,8 +1,9 @@
 -- What is delivered on each link stays as it is when a client is asked for something.
-use Rattle.std.proofs.Common.{◌≡◌, ℕ, Bool, true, false, Option, refl, sym, ◌∙◌, ap, List, inl, inr, ne_eqb, ◌==◌, arith}
+use Rattle.std.proofs.Common.{◌≡◌, ℕ, Bool, true, false, Option, refl, sym}
+use Rattle.std.proofs.Common.{◌∙◌, ap, List, inl, inr, ne_eqb, ◌==◌, arith}
 use Rattle.tl_coherence.proofs
 use proofs.Imports.{cases_eq, BeatA, IsWidth, Message, MessageA, History, Config, Grow, Prune, block_at, Op, Reply}
-use proofs.Imports.{copy_stored, whole_grow, access, set_at, View, Granting, NoAcquire, ClientBlock, after_release}
+use proofs.Imports.{copy_stored, whole_grow, access, set_at, View, NoAcquire, ClientBlock, after_release}
 use proofs.Imports.{Block, SourceState, SourceFree, Asked, Acquires, view, access_asked, acquire_asked, release_asked}
 use proofs.Imports.{releasing_block, block_stored, is_granting, is_unserved, is_wanting, AbstractState, asked}
 use proofs.Imports.{MonitorRelation, AccessMessages, SimulationRelation, is_caching, asked_by, Log, System}
@@ -21,8 +22,7 @@ use proofs.flow.FlowAsked.{untouched-access_asked, untouched-acquire_asked, unto
 -- what client d's end is left with asks for the same
 pub asks-left : {w : ℕ} (d : ℕ) (h h' : AbstractState w) → Leaves d h h' → (i : ℕ)
     → asked_by h'.mail h'.state d i ≡ asked_by h.mail h.state d i
-asks-left d h h' left i = asks-same d i h.mail h'.mail h.state h'.state (left.request i) (left.uses i)
-    (λ n used. left.acquiring n) (λ n used. left.source n)
+asks-left d h h' left i = grind (arith, asks-same)
 
 unserved_ungranted : (v : View) → is_unserved v ≡ true → is_granting v ≡ false
 unserved_ungranted v e = grind arith

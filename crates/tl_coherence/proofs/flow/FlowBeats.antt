@@ -1,6 +1,6 @@
 -- What of a message was delivered before and after one of its beats.
-use Rattle.std.proofs.Common.{◌≡◌, ℕ, zero, suc, Bool, true, false, not, ◌&&◌, List, [], ◌∷◌, refl, sym, ◌∙◌, ap, inl, arith}
-use Rattle.std.proofs.Common.{inr, ne_eqb, ◌==◌, if◌then◌else◌}
+use Rattle.std.proofs.Common.{◌≡◌, ℕ, zero, suc, Bool, true, false, not, ◌&&◌, List, [], ◌∷◌, refl, sym, ◌∙◌, inl}
+use Rattle.std.proofs.Common.{arith, inr, ne_eqb, ◌==◌, if◌then◌else◌}
 use Rattle.tl_coherence.proofs
 use proofs.Imports.{cases_eq, and_right, Beat, Message, begun, beats_of, grown, is_empty, completes, Perm, same_perm}
 use proofs.Imports.{acquires_of, AreNamed, set_at, State, is_wanting}
@@ -28,9 +28,7 @@ first-zero {w} {m} next e = grind arith
 pub one-beat : {w : ℕ} {m : Message w} {x : Beat w} {rest : List (Beat w)} {ms : List (Message w)}
     {queue : List (Beat w)} → (next : IsNext x rest m ms queue)
     → beats_of m ≡ 1 → (next.k ≡ 0) × (rest ≡ []) × (completes x rest ≡ true)
-one-beat {m} next one =
-    let zeroth : next.k ≡ 0 = first_beat next.k (beats_of m) next.within one in
-    (zeroth, next.rest_is ∙ ap (begun m) zeroth, next.completes_is ∙ rw (zeroth, one) refl)
+one-beat {m} next one = grind (arith, first_beat)
 
 -- ---- small facts
 
@@ -55,5 +53,4 @@ unused-else c n i {s} named e = named.acquires c i n ∙ and_right (is_wanting (
     (i == (s.block n).source c) (ne_eqb i ((s.block n).source c) apart)
   where
     apart : i ≡ (s.block n).source c → ⊥
-    apart same = let no : ((s.block n).source c == (s.block n).source c) ≡ false = rw same at e in
-        let yes : true ≡ false = sym (same_number ((s.block n).source c)) ∙ no in cc
+    apart same = grind (arith, n, same_number)

@@ -1,6 +1,6 @@
 -- What is delivered on a link, as a beat of a Grant is.
-use Rattle.std.proofs.Common.{◌≡◌, ℕ, Bool, true, false, not, ◌&&◌, ◌||◌, ◌∷◌, Option, Some, None, refl, sym, ◌∙◌, ap, arith}
-use Rattle.std.proofs.Common.{List, ne_eqb, ◌==◌, if◌then◌else◌, option_map, unwrap_or}
+use Rattle.std.proofs.Common.{◌≡◌, ℕ, Bool, true, false, not, ◌&&◌, ◌||◌, ◌∷◌, Option, Some, None, refl, sym, ◌∙◌, ap}
+use Rattle.std.proofs.Common.{arith, List, ne_eqb, ◌==◌, if◌then◌else◌, option_map, unwrap_or}
 use Rattle.tl_coherence.proofs
 use proofs.Imports.{and_right, Beat, BeatA, BeatD, Channel, History, RequestSource, Cap, Perm, cap_right}
 use proofs.Imports.{comes_in_request, comes_in_grant, begins, ends, block_at, pending, is_grant, is_release_ack}
@@ -8,12 +8,12 @@ use proofs.Imports.{asks_for, request_of, release_of, probe_of, grant_sink, capp
 use proofs.Imports.{acquires_of, View, Granting, Acknowledging, Block, State, SourceState, SourceFree, Asked, InService}
 use proofs.Imports.{Replied, Acquires, view, is_granting, is_acknowledging, is_answered, is_wanting, is_unserved}
 use proofs.Imports.{comes_granting, MonitorRelation, is_requested, is_let_by, is_sunk, probe_beat, cap_waited}
-use Rattle.tl_rules.specs.statement.History.{releases}
-use proofs.flow.{FlowAlone.AreRests, FlowAside.let_by-same, FlowReport.unclosed as not_last, FlowAnswered.probed-of}
-use proofs.flow.{FlowAnswered.unclosed, FlowAnswered.closes_last, FlowReleased.AreElsewhere, FlowReleased.each-block}
-use proofs.flow.{FlowReleased.part-block, FlowReleased.opened, FlowReleased.with_true}
-use proofs.queues.Tokens.{same_number}
+use Rattle.tl_rules.{specs.statement.History.releases}
+use proofs.flow.{FlowAlone.AreRests, FlowAside.let_by-same, FlowReport.unclosed as not_last}
+use proofs.flow.FlowAnswered.{probed-of, unclosed, closes_last}
+use proofs.flow.FlowReleased.{AreElsewhere, each-block, part-block, opened, with_true}
 use proofs.flow.FlowStep.{flowed-next, held_by, acquired_by, let_of, granted_by, step, step_quiet}
+use proofs.queues.{Tokens.same_number}
 
 abbrev pub seen_after : Bool → Bool → Cap → View
 seen_after true d k = Acknowledging
@@ -59,16 +59,13 @@ unsaid : (last g : Bool) (v p : Perm) → g ≡ false → (if last then unwrap_o
 unsaid last g v p e = grind arith
 
 closed : (first last a q p : Bool) → a ≡ false → q ≡ true → p ≡ true → step first last false (not a && q) p ≡ not last
-closed first true a q p e f g = rw (e, f) (closes_last first true p)
-closed first false a q p e f g = not_last first (not a && q) p ∙ g
+closed first last a q p e f g = grind (arith, closes_last, not_last)
 
 unclosed_by : (first last a q p : Bool) → q ≡ false → step first last false (a && q) p ≡ p
-unclosed_by first last true q p e = rw e (step_quiet first last p)
-unclosed_by first last false q p e = step_quiet first last p
+unclosed_by first last a q p e = grind (arith, step_quiet)
 
 ended : (first last g p : Bool) → g ≡ true → p ≡ true → step first last false g p ≡ not last
-ended first true g p e f = rw e (closes_last first true p)
-ended first false g p e f = not_last first g p ∙ f
+ended first last g p e f = grind (arith, closes_last, not_last)
 
 pub begun : (first last g p : Bool) → g ≡ true → p ≡ not first → step first last g false p ≡ true
 begun first last g p e f = opened first last true g p refl e f
@@ -81,8 +78,7 @@ of_block : {w : ℕ} (m : ℕ) (y : BeatD w) (t : History w) (first : Bool) (v :
     → (is_grant y.opcode && asks_for m (request_of y.source t)) ≡ true → y.sink ≡ v
     → (first ≡ false → grant_sink m t ≡ Some v) → grant_sink m (Beat.D y ∷ t) ≡ Some v
 unfolding grant_sink
-of_block m y t true v e f g before = rw (e, f) (ap Some g)
-of_block m y t false v e f g before = rw e (before refl)
+of_block m y t first v e f g h = grind arith
 
 of_other : {w : ℕ} (m : ℕ) (y : BeatD w) (t : History w)
     → (is_grant y.opcode && asks_for m (request_of y.source t)) ≡ false → grant_sink m (Beat.D y ∷ t) ≡ grant_sink m t
@@ -102,8 +98,7 @@ requested-apart {w} {X} c i n rest rest' (Acquires m) s s' same comes e =
 
 now_requested : (last d : Bool) (k : Cap) (v : View) → v ≡ seen_after last d k → last ≡ false
     → not (is_unserved v) ≡ true
-now_requested true d k v e f = absurd cc
-now_requested false d k v e f = ap (λ (u : View). not (is_unserved u)) e
+now_requested last d k v e f = grind arith
 
 now_acquired : (last d : Bool) (k : Cap) (v : View) (a : Bool) → v ≡ seen_after last d k → a ≡ not last
     → (a && not (is_unserved v)) ≡ not last

@@ -1,17 +1,16 @@
 -- A message of channel A, B, C or E that is delivered breaks no rule of order after what was delivered before it.
-use Rattle.std.proofs.Common.{◌≡◌, ℕ, zero, suc, Bool, true, false, ◌&&◌, ◌||◌, [], Option, Some, None, refl, ◌∙◌, arith}
-use Rattle.std.proofs.Common.{ap, List}
+use Rattle.std.proofs.Common.{◌≡◌, ℕ, zero, suc, Bool, true, false, ◌&&◌, ◌||◌, [], Option, Some, None, refl, ◌∙◌}
+use Rattle.std.proofs.Common.{arith, ap, List}
 use Rattle.tl_coherence.proofs
 use proofs.Imports.{and-false, Beat, BeatA, BeatB, BeatC, BeatE, Channel, first_if, Message, beat_of, begun, History}
-use proofs.Imports.{channel_of, unfinished, channel_in, Key, Level, Cap, Prune, Report, Profile, prune_code}
-use proofs.Imports.{prune_left, report_code, prune_of, report_at, later-legal, broken_in_order, broken_after}
-use proofs.Imports.{comes_in_release, comes_in_grant, same_perm, broken_order, grows_from, prunes_from, block_at}
-use proofs.Imports.{is_acquire, is_probe_ack, is_release, held, pending, is_probe, illegal, Idle, ReleasePhase}
-use proofs.Imports.{NoRelease, ReleaseSent, ReleaseAcked, NoAcquire, ProbeAnswered, State, Asked, Acquires}
-use proofs.Imports.{view, is_granting, is_acknowledging, is_answered, is_acked, is_wanting, comes_granting}
-use proofs.Imports.{MonitorRelation, is_release_pending, is_let_by, probe_beat, cap_waited}
-use Rattle.tl_params.specs.declared.rule.Rule.TheVariants.{H9}
-use Rattle.tl_client.proofs.messages.InOrder.{prune_again}
+use proofs.Imports.{channel_of, unfinished, channel_in, Key, Level, Cap, Prune, Report, Profile, prune_code, prune_left}
+use proofs.Imports.{report_code, prune_of, report_at, later-legal, broken_in_order, broken_after, comes_in_grant}
+use proofs.Imports.{same_perm, broken_order, grows_from, prunes_from, block_at, is_acquire, is_probe_ack, is_release}
+use proofs.Imports.{held, pending, is_probe, illegal, Idle, ReleasePhase, NoRelease, ReleaseSent, NoAcquire}
+use proofs.Imports.{ProbeAnswered, State, Asked, Acquires, view, is_granting, is_acknowledging, is_answered, is_acked}
+use proofs.Imports.{is_wanting, comes_granting, MonitorRelation, is_release_pending, is_let_by, probe_beat, cap_waited}
+use Rattle.tl_params.{specs.declared.rule.Rule.TheVariants.H9}
+use Rattle.tl_client.{proofs.messages.InOrder.prune_again}
 use proofs.manager.Orders.{report-legal, acquire-legal}
 
 -- who isn't granted the block holds what is recorded, as far as was delivered

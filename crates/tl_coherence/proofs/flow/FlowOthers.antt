@@ -1,16 +1,16 @@
 -- What an event leaves of its block for what is delivered on the links that it isn't of.
-use Rattle.std.proofs.Common.{◌≡◌, ℕ, Bool, true, false, ◌&&◌, ◌||◌, refl, sym, ◌∙◌, ap, ◌⊎◌, inl, inr, ne_eqb, ◌==◌, arith}
-use Rattle.std.proofs.Common.{if◌then◌else◌}
+use Rattle.std.proofs.Common.{◌≡◌, ℕ, Bool, true, false, ◌&&◌, ◌||◌, refl, sym, ◌∙◌, ap, ◌⊎◌, inl, inr, ne_eqb, ◌==◌}
+use Rattle.std.proofs.Common.{arith, if◌then◌else◌}
 use Rattle.tl_coherence.proofs
-use proofs.Imports.{Cap, Grow, Prune, Report, set, ClientBlock, View, Idle, Own, Other, Granting, Acknowledging}
-use proofs.Imports.{GrantedOther, ProbeSent, is_unprobed, ProbePhase, after_release, after_probe, after_report}
-use proofs.Imports.{after_release_ack, after_acquire, is_above, after_served, after_grant_sent, after_release_taken}
-use proofs.Imports.{after_grant, Service, Free, Waits, GrantSent, GrantTaken, Block, view, acquiring_block}
-use proofs.Imports.{releasing_block, granted_at_once, served_block, probed_block, reported_block, let_block}
-use proofs.Imports.{taken_block, let_go_block, freed_block, stored_block, performed_block, served_pair, ended_block}
-use proofs.Imports.{granted_block, is_granting, is_acknowledging, is_answered, is_wanting, is_unserved, cap_waited}
-use proofs.flow.FlowAside.{IsSameBlock}
-use proofs.protocol.BothParts.{quiet_unanswered}
+use proofs.Imports.{Cap, Grow, Prune, Report, set, ClientBlock, View, Idle, Own, Other, Granting, GrantedOther}
+use proofs.Imports.{ProbeSent, is_unprobed, ProbePhase, after_release, after_probe, after_report, after_release_ack}
+use proofs.Imports.{after_acquire, is_above, after_served, after_grant_sent, after_release_taken, after_grant, Service}
+use proofs.Imports.{Free, Waits, GrantSent, GrantTaken, Block, view, acquiring_block, releasing_block, granted_at_once}
+use proofs.Imports.{served_block, probed_block, reported_block, let_block, taken_block, let_go_block, freed_block}
+use proofs.Imports.{stored_block, performed_block, served_pair, ended_block, granted_block, is_granting}
+use proofs.Imports.{is_acknowledging, is_answered, is_wanting, is_unserved, cap_waited}
+use proofs.flow.{FlowAside.IsSameBlock}
+use proofs.protocol.{BothParts.quiet_unanswered}
 use proofs.queues.Tokens.{same_number, set-same, set-other}
 
 -- the service looks the same to the client's link

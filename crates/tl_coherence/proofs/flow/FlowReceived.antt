@@ -1,5 +1,5 @@
 -- What the receivers have after a delivery.
-use Rattle.std.proofs.Common.{◌≡◌, subst, ℕ, Bool, true, false, ◌&&◌, List, [], ◌∷◌, Some, None, refl, ◌∙◌, ap}
+use Rattle.std.proofs.Common.{◌≡◌, subst, ℕ, Bool, true, false, ◌&&◌, List, [], ◌∷◌, Some, None, refl, ◌∙◌, ap, arith}
 use Rattle.std.proofs.Common.{◌==◌, if◌then◌else◌}
 use Rattle.tl_coherence.proofs
 use proofs.Imports.{Beat, Link, Channel, IsWidth, grown, completes, Config, EndConfig, Handed, reaction, Deliver}
@@ -21,9 +21,7 @@ use proofs.simulation.{Popped.unfinished_at, Moved.client-moves, Moved.client-he
 -- messages that are handed out change no receiver
 receiver_handed : {w : ℕ} (handed : Handed w) (sys : System w) (d : ℕ) (at : Channel)
     → receiver at d (with_messages handed sys) ≡ receiver at d sys
-receiver_handed handed sys d Channel.B = cc (clients-with_messages handed sys)
-receiver_handed handed sys d Channel.D = cc (clients-with_messages handed sys)
-receiver_handed handed sys d at = cc (manager-with_messages handed sys)
+receiver_handed handed sys d at = grind (arith, clients-with_messages, manager-with_messages)
 
 -- what is left of a beat that is moved on channel ch of client c's link: what was delivered, what receivers have, and
 -- what the protocol is

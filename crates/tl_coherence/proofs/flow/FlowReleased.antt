@@ -1,17 +1,17 @@
 -- What is delivered on a link, as the beats of a Release are.
-use Rattle.std.proofs.Common.{◌≡◌, ℕ, Bool, true, false, not, ◌&&◌, ◌||◌, ◌∷◌, Option, Some, None, refl, sym, ◌∙◌, ap, arith}
-use Rattle.std.proofs.Common.{List, ◌⊎◌, inl, inr, ne_eqb, ◌==◌, if◌then◌else◌, option_map, unwrap_or}
+use Rattle.std.proofs.Common.{◌≡◌, ℕ, Bool, true, false, not, ◌&&◌, ◌||◌, ◌∷◌, Option, Some, None, refl, sym, ◌∙◌, ap}
+use Rattle.std.proofs.Common.{arith, List, ◌⊎◌, inl, inr, ne_eqb, ◌==◌, if◌then◌else◌, option_map, unwrap_or}
 use Rattle.tl_coherence.proofs
 use proofs.Imports.{cases_eq, and_right, Beat, BeatA, BeatC, Channel, History, ReleaseSource, Prune, Perm, prune_right}
 use proofs.Imports.{comes_in_release, begins, ends, block_at, pending, is_probe_ack, is_release, release_of, reported}
 use proofs.Imports.{grant_sink-c, probe_of-c, request_of-c, is_of, releases_with, ReleasePhase, ReleaseSent}
-use proofs.Imports.{ReleaseAcked, is_unreleased, Service, Block, State, view, is_acknowledging}
-use proofs.Imports.{is_answered, is_unserved, comes_granting, MonitorRelation, is_requested}
-use proofs.Imports.{is_release_pending, is_let_by, is_sunk, probe_beat, cap_waited}
+use proofs.Imports.{ReleaseAcked, is_unreleased, Service, Block, State, view, is_acknowledging, is_answered}
+use proofs.Imports.{is_unserved, comes_granting, MonitorRelation, is_requested, is_release_pending, is_let_by, is_sunk}
+use proofs.Imports.{probe_beat, cap_waited}
 use proofs.flow.{FlowAlone.AreRests, FlowAside.requested-blocks, FlowReported.unsaid}
-use proofs.queues.Tokens.{same_number}
-use proofs.protocol.BothParts.{is_of-is}
 use proofs.flow.FlowStep.{flowed-next, held_by, acquired_by, let_of, granted_by, step, step_quiet}
+use proofs.queues.{Tokens.same_number}
+use proofs.protocol.{BothParts.is_of-is}
 
 -- ---- another value of one block
 
@@ -66,20 +66,17 @@ said last ack let_go here q p e f = grind arith
 
 unsaid_any : (last ack let_go here : Bool) (q p : Perm) → here ≡ false
     → (if last then unwrap_or (if (ack || let_go) && here then Some q else None) p else p) ≡ p
-unsaid_any true ack let_go here q p e = unsaid ack let_go here q p e
-unsaid_any false ack let_go here q p e = refl
+unsaid_any last ack let_go here q p e = grind (arith, unsaid)
 
 pub opened : (first last r q p : Bool) → r ≡ true → q ≡ true → p ≡ not first → step first last (r && q) false p ≡ true
 opened first last r q p e f g = grind arith
 
 unopened : (first last r q p : Bool) → q ≡ false → step first last (r && q) false p ≡ p
-unopened first last true q p e = rw e (step_quiet first last p)
-unopened first last false q p e = step_quiet first last p
+unopened first last r q p e = grind (arith, step_quiet)
 
 let_now : {w : ℕ} (i : ℕ) (last : Bool) (r : Prune) (rest : List (Beat w)) (l : ReleasePhase) → l ≡ letting_after last r
     → comes_in_release i rest ≡ not last → is_release_pending i rest l ≡ true
-let_now i true r rest l e f = ap (is_release_pending i rest) e
-let_now i false r rest l e f = ap (is_release_pending i rest) e ∙ f
+let_now i last r rest l e f = grind arith
 
 let_then : {w : ℕ} (i : ℕ) (first : Bool) (r : Prune) (rest : List (Beat w)) (l : ReleasePhase) → l ≡ ReleaseSent r
     → comes_in_release i rest ≡ not first → is_release_pending i rest l ≡ not first
@@ -91,8 +88,7 @@ with_true p q e = grind arith
 let_other : {w : ℕ} (i : ℕ) (rest rest' : List (Beat w)) (l : ReleasePhase)
     → (is_unreleased l ≡ false → comes_in_release i rest' ≡ comes_in_release i rest)
     → is_release_pending i rest' l ≡ is_release_pending i rest l
-let_other i rest rest' (ReleaseSent r) h = h refl
-let_other i rest rest' l h = refl
+let_other i rest rest' l e = grind arith
 
 -- the last Release with the source of the beat, and with another one
 of_source : {w : ℕ} {A : Type 0} (part : BeatC w → A) (v : A) (i : ℕ) (y : BeatC w) (t : History w) (first : Bool)
@@ -109,8 +105,7 @@ unfolding release_of
 of_other {w} i y t e = grind arith
 
 both_some : (n m : ℕ) (o : Option ℕ) → o ≡ Some n → o ≡ Some m → n ≡ m
-both_some n m None e f = absurd cc
-both_some n m (Some i) e f = let g : Some n ≡ Some m = sym e ∙ f in cc
+both_some n m o e f = grind arith
 
 pub flowed-release : {w : ℕ} {X : Type 0} {c n : ℕ} {r : Prune} {y : BeatC w} {first last : Bool} {asked : ℕ
     → Option (BeatA w)} {rest rest' : Channel → List (Beat w)} {s s' : State X} {t : History w}

@@ -1,13 +1,13 @@
 -- What is delivered on a link, as the beats of a ProbeAck are.
-use Rattle.std.proofs.Common.{◌≡◌, ℕ, Bool, true, false, not, ◌&&◌, ◌∷◌, Option, Some, None, refl, sym, ◌∙◌, ap, List, arith}
-use Rattle.std.proofs.Common.{◌==◌, if◌then◌else◌, option_map}
+use Rattle.std.proofs.Common.{◌≡◌, ℕ, Bool, false, not, ◌&&◌, ◌∷◌, Option, Some, None, refl, sym, ◌∙◌, ap, List, arith}
+use Rattle.std.proofs.Common.{◌==◌, option_map}
 use Rattle.tl_coherence.proofs
 use proofs.Imports.{Beat, BeatA, BeatC, Channel, History, comes_in_release, begins, ends, block_at, is_probe_ack}
-use proofs.Imports.{is_release, release_of, probe_of-c, grant_sink-c, request_of-c, ReleasePhase, ReleaseSent, State}
-use proofs.Imports.{view, is_answered, is_wanting, is_unserved, MonitorRelation, is_requested, is_release_pending}
-use proofs.Imports.{is_let_by, is_sunk}
-use proofs.flow.{FlowAlone.AreRests, FlowStep.flowed-next, FlowStep.let_of, FlowStep.granted_by, FlowStep.step}
-use proofs.flow.{FlowStep.step_quiet}
+use proofs.Imports.{is_release, release_of, probe_of-c, grant_sink-c, request_of-c, ReleasePhase, State, view}
+use proofs.Imports.{is_answered, is_wanting, is_unserved, MonitorRelation, is_requested, is_release_pending, is_let_by}
+use proofs.Imports.{is_sunk}
+use proofs.flow.{FlowAlone.AreRests}
+use proofs.flow.FlowStep.{flowed-next, let_of, granted_by, step, step_quiet}
 
 pub released-of : {w : ℕ} (i : ℕ) (y : BeatC w) (t : History w) → is_release y.opcode ≡ false
     → release_of i (Beat.C y ∷ t) ≡ release_of i t

@@ -1,6 +1,6 @@
 -- What is delivered on a link, as the last beat of a ProbeAck is.
-use Rattle.std.proofs.Common.{◌≡◌, ℕ, Bool, true, false, not, ◌&&◌, ◌||◌, ◌∷◌, Option, Some, None, refl, sym, ◌∙◌, ap, arith}
-use Rattle.std.proofs.Common.{List, ne_eqb, ◌==◌, if◌then◌else◌, option_map, unwrap_or}
+use Rattle.std.proofs.Common.{◌≡◌, ℕ, Bool, true, false, not, ◌&&◌, ◌||◌, ◌∷◌, Option, Some, None, refl, sym, ◌∙◌, ap}
+use Rattle.std.proofs.Common.{arith, List, ne_eqb, ◌==◌, if◌then◌else◌, option_map, unwrap_or}
 use Rattle.tl_coherence.proofs
 use proofs.Imports.{Beat, BeatA, BeatC, Channel, History, Report, Perm, report_right, comes_in_release, begins, ends}
 use proofs.Imports.{block_at, is_probe_ack, is_release, probe_of, reported, grant_sink-c, probe_of-c, request_of-c}
@@ -8,7 +8,7 @@ use proofs.Imports.{Packet, ClientBlock, after_report, Block, State, view, repor
 use proofs.Imports.{is_answered, is_wanting, is_unserved, MonitorRelation, is_requested, is_release_pending, is_let_by}
 use proofs.Imports.{is_sunk, probe_beat, cap_waited}
 use proofs.flow.{FlowAlone.AreRests, FlowAside.requested-blocks, FlowAside.let_by-same, FlowProbe.part_of}
-use proofs.flow.{FlowReport.released-of, FlowReport.let_rest, FlowReport.let_by_rest, FlowReport.unopened}
+use proofs.flow.FlowReport.{released-of, let_rest, let_by_rest, unopened}
 use proofs.flow.FlowStep.{flowed-next, held_by, acquired_by, let_of, granted_by, step, step_quiet}
 use proofs.queues.Tokens.{same_number, set-same, set-each, set-part}
 

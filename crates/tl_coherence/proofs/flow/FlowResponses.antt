@@ -1,18 +1,17 @@
 -- A response that is delivered breaks no rule of order after what was delivered on its link.
-use Rattle.std.proofs.Common.{◌≡◌, subst, ℕ, zero, suc, Bool, true, false, not, ◌&&◌, List, [], ◌∷◌, Some, None, refl, arith}
-use Rattle.std.proofs.Common.{sym, ◌∙◌, ap, eqb-true, ◌==◌, map}
+use Rattle.std.proofs.Common.{◌≡◌, subst, ℕ, Bool, true, false, not, ◌&&◌, List, [], ◌∷◌, Some, None, refl, arith, sym}
+use Rattle.std.proofs.Common.{◌∙◌, ap, eqb-true, ◌==◌, map}
 use Rattle.tl_coherence.proofs
 use proofs.Imports.{and_from, same_Some, Beat, BeatA, Channel, OpB, OpC, IsWidth, Message, MessageA, MessageC, MessageD}
 use proofs.Imports.{a_beat_of, beat_of, begun, d_beat_of, unfinished, History, channel_of, Config, RequestSource}
 use proofs.Imports.{ReleaseSource, Level, Prune, Report, Perm, Profile, prune_code, report_code, report_left, on_link}
 use proofs.Imports.{comes_in_release, broken_in_order, broken_after, is_release, held, pending, request_of, illegal}
 use proofs.Imports.{same_block, zeros, acquisition, about, release, probe_ack, no_ack_grant, level_of, IsInvariant}
-use proofs.Imports.{Kind, ProbeAck, Release, Answer, Grant, ReleaseAck, Packet, ReleasePhase, ReleaseSent, ReleaseAcked}
+use proofs.Imports.{Kind, ProbeAck, Release, Answer, Grant, ReleaseAck, Packet, ReleasePhase, ReleaseAcked}
 use proofs.Imports.{AcquirePhase, AcquireOpen, is_unreleased, Service, GrantSent, State, SourceState, view, packet}
 use proofs.Imports.{is_on, is_answered, is_acked, is_unserved, is_releasing, acquire_opcode, IsCarried, is_requested}
-use proofs.Imports.{is_release_pending, AccessMessages, report_told, prune_told, block_message, message_of}
-use proofs.Imports.{message_of_kind, SimulationRelation, MonitorRelations, is_caching, IsGivenAsked, gives_asked, flow}
-use proofs.Imports.{Log, System}
+use proofs.Imports.{is_release_pending, AccessMessages, report_told, block_message, message_of, message_of_kind}
+use proofs.Imports.{SimulationRelation, MonitorRelations, is_caching, IsGivenAsked, gives_asked, flow, Log, System}
 use proofs.queues.{Carried.IsNext, Facts.granting_alone, Phases.and_left, Tokens.same_number, Codes.access_kind}
 use proofs.queues.FirstToken.{IsFirst, first-token, own_kind}
 use proofs.client.{ClientDelivered.ack_next, ClientEnd.is_access, ClientEnd.asks-access, ClientEnd.asks-acquire}
@@ -46,9 +45,6 @@ flow-answer {w} {config} {log} {mail} {request} {s} {sys} {c} {source} h flowed 
     }) kind.0
 
 -- ---- a Grant
-
-abbrev none_of : (w : ℕ) → List (Beat w)
-none_of w = []
 
 -- what the client of a Grant has of its block
 pub grant_quiet : {caching : ℕ → Bool} {c n : ℕ} {s : State (List ℕ)} → IsInvariant caching s → (due : IsGrantDue c n s)
@@ -129,8 +125,7 @@ rendered_report w c n source s = unreleased_report w source (report_left (report
 rendered_release : (w : ℕ) (c n source : ℕ) (s : State (List ℕ)) → ((s.block n).release_source c == source) ≡ false
     → IsUnreleased {w = w} source (block_message Release c n (s.block n))
 unfolding block_message
-rendered_release w c n source s e = unreleased_prune w source (prune_told ((s.block n).pair c).letting)
-    ((s.block n).release_source c) n (s.block n).truth e
+rendered_release w c n source s e = grind (arith, unreleased_prune)
 
 -- no Release is half taken with the source of one that was acknowledged
 not-coming_c : {w : ℕ} {config : Config} {log : Log w} {mail : AccessMessages w} {request : ℕ → MessageA w}

@@ -1,6 +1,6 @@
 -- A beat of channel E that is delivered breaks no rule after what was delivered before it: no Grant
 -- with its sink is still coming.
-use Rattle.std.proofs.Common.{◌≡◌, ℕ, zero, suc, Bool, true, false, ◌&&◌, List, [], ◌∷◌, Some, None, refl, sym, ◌∙◌, ap, arith}
+use Rattle.std.proofs.Common.{◌≡◌, ℕ, Bool, true, false, ◌&&◌, List, [], ◌∷◌, Some, None, refl, sym, ◌∙◌, ap, arith}
 use Rattle.std.proofs.Common.{ne_eqb, ◌==◌, map}
 use Rattle.tl_coherence.proofs
 use proofs.Imports.{and_right, same_Some, Beat, BeatE, Channel, IsWidth, Message, MessageA, MessageD, begun, unfinished}
@@ -11,8 +11,8 @@ use proofs.Imports.{block_message, SimulationRelation, MonitorRelations, is_cach
 use proofs.queues.{Carried.IsNext, FirstToken.first-token, FirstToken.own_kind, Codes.access_kind}
 use proofs.flow.{FlowBeats.first_false, FlowLawful.lawful-beat, FlowLawful.next-flows, FlowOrders.grant_ack-flows}
 use proofs.manager.{ManagedEndings.tracker-of, ManagerTakes.by-first_e}
-use proofs.protocol.{BothParts.acknowledging-is, HeadOfD.ack_message, HeadOfD.answer-due, HeadOfD.grant-due}
-use proofs.protocol.{HeadOfD.grant-rendered, HeadOfD.grant_message, FirstTokens.first-shown}
+use proofs.protocol.{BothParts.acknowledging-is, FirstTokens.first-shown}
+use proofs.protocol.HeadOfD.{ack_message, answer-due, grant-due, grant-rendered, grant_message}
 
 -- the message is no Grant with this sink
 IsElse : {w : ℕ} → ℕ → Message w → Type 0

@@ -1,14 +1,14 @@
 -- What is delivered on a link, with one more beat: each value of it is as the beat leaves it.
-use Rattle.std.proofs.Common.{◌≡◌, ℕ, Bool, true, false, not, ◌&&◌, ◌||◌, ◌∷◌, Option, Some, refl, sym, ◌∙◌, List, arith}
-use Rattle.std.proofs.Common.{if◌then◌else◌, option_map, unwrap_or}
+use Rattle.std.proofs.Common.{◌≡◌, ℕ, Bool, true, false, not, ◌&&◌, ◌||◌, ◌∷◌, Option, Some, refl, sym, ◌∙◌, List}
+use Rattle.std.proofs.Common.{arith, if◌then◌else◌, option_map, unwrap_or}
 use Rattle.tl_coherence.proofs
 use proofs.Imports.{Beat, BeatA, Channel, History, unfinished, grown, Key, RequestSource, ReleaseSource, AcquireOf}
 use proofs.Imports.{ReleaseOf, GrantSink, GrantAckOf, ProbeOf, Perm, begins, ends, pending, held, block_at, request_of}
 use proofs.Imports.{release_of, probe_of, grant_sink, opens, closes, Block, State, view, is_granting, is_acknowledging}
 use proofs.Imports.{is_answered, is_wanting, is_unserved, comes_granting, MonitorRelation, is_requested}
 use proofs.Imports.{is_release_pending, is_let_by, is_sunk, probe_beat, cap_waited}
-use Rattle.tl_burst.specs.statement.Messages.{on}
-use Rattle.tl_rules.specs.statement.History.{says_held}
+use Rattle.tl_burst.{specs.statement.Messages.on}
+use Rattle.tl_rules.{specs.statement.History.says_held}
 
 -- a key that was pending so, after a beat that begins and completes its message so and opens and closes the key so
 abbrev pub step : Bool → Bool → Bool → Bool → Bool → Bool

@@ -1,18 +1,18 @@
 -- What is delivered, on all links at once, has no first fault.
-use Rattle.std.proofs.Common.{◌≡◌, ℕ, Bool, true, false, ◌&&◌, List, [], ◌∷◌, ◌++◌, refl, sym, ◌∙◌, ap, subst, Option, arith}
+use Rattle.std.proofs.Common.{◌≡◌, ℕ, Bool, true, ◌&&◌, List, [], ◌∷◌, ◌++◌, refl, sym, ◌∙◌, ap, subst, Option, arith}
 use Rattle.std.proofs.Common.{Some, None, append_assoc, append-nil, ◌==◌, if◌then◌else◌, is_none, reverse, slice_get}
+use Rattle.std.{proofs.lemmas.List.reverse-reverse, proofs.lemmas.Option.slice_get-map}
 use Rattle.tl_coherence.proofs
 use proofs.Imports.{eqb-false, reverse-append, ⊤, Beat, Link, Channel, History, ClientConfig, Config, Level, Profile}
 use proofs.Imports.{Rule, broken_after, on_link, Trace, level_of, Event, Ask, Deliver, Outcome, is_moving, flow}
 use proofs.Imports.{taken_at, taken_on, IsGiven, Log, system_after}
-use Rattle.std.{proofs.lemmas.List.reverse-reverse, proofs.lemmas.Option.slice_get-map}
 use Rattle.tl_rules.specs.statement.Conformance.{broken_at_level, broken_on_link, fault_from, is_legal}
-use Rattle.tl_coherence.specs.{statement.Delivery.Faultless, statement.Delivery.levels_of, statement.Flow.trace_of}
-use Rattle.tl_coherence.specs.{statement.Log.IsLog}
-use proofs.bound.Settling.{given-before}
-use proofs.flow.Flows.{flows}
-use proofs.outstanding.Outstanding.{first-moved}
-use proofs.simulation.BeatsInFlight.{level-terms}
+use Rattle.tl_coherence.{specs.statement.Flow.trace_of, specs.statement.Log.IsLog}
+use Rattle.tl_coherence.specs.statement.Delivery.{Faultless, levels_of}
+use proofs.bound.{Settling.given-before}
+use proofs.flow.{Flows.flows}
+use proofs.outstanding.{Outstanding.first-moved}
+use proofs.simulation.{BeatsInFlight.level-terms}
 
 -- ---- the beats of all links, and those of one
 
@@ -23,9 +23,7 @@ on-link {w} n link x t = grind arith
 
 taken-flows : {w : ℕ} (n : ℕ) (event : Event w) (o : Outcome w) (t : Trace w)
     → on_link n (taken_at event o ++ t) ≡ taken_on n event o ++ on_link n t
-taken-flows n (Deliver link ch) (Outcome.Moved x) t = on-link n link x t
-taken-flows n (Deliver link ch) (Outcome.Done x source f) t = on-link n link x t
-taken-flows n event o t = refl
+taken-flows n event o t = grind (arith, on-link)
 
 pub trace-flows : {w : ℕ} (n : ℕ) (log : Log w) → on_link n (trace_of log) ≡ flow n log
 unfolding on_link flow trace_of
@@ -34,10 +32,7 @@ trace-flows n (x ∷ log) = cc (taken-flows n x.0 x.1 (trace_of log), trace-flow
 
 -- what was taken on a link is first in its flow
 pub taken : {w : ℕ} (link : Link) (x : Beat w) (t : History w) → (if link.0 == link.0 then x ∷ [] else []) ++ t ≡ x ∷ t
-taken {w} link x t =
-    let go : (b : Bool) → (link.0 == link.0) ≡ b → (if b then x ∷ [] else []) ++ t ≡ x ∷ t =
-    elim [ true ↦ λ e. refl | false ↦ λ e. absurd (eqb-false link.0 link.0 e refl) ] in
-    go (link.0 == link.0) refl
+taken {w} link x t = grind (arith, eqb-false)
 
 -- ---- a beat that is delivered breaks no rule after the earlier ones
 

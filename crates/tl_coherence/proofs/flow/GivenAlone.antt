@@ -1,11 +1,11 @@
 -- What all links carry together: at a Grant the others hold no more than it leaves them.
-use Rattle.std.proofs.Common.{◌≡◌, ℕ, zero, suc, Bool, true, false, List, ◌∷◌, Some, refl, sym, ◌∙◌, ap, subst, inl, arith}
-use Rattle.std.proofs.Common.{inr, ◌||◌, Option, ne_eqb, ◌==◌, if◌then◌else◌, eq-eqb}
+use Rattle.std.proofs.Common.{◌≡◌, ℕ, zero, suc, Bool, true, false, List, ◌∷◌, Some, refl, sym, ◌∙◌, ap, subst, arith}
+use Rattle.std.proofs.Common.{◌||◌, Option, if◌then◌else◌}
 use Rattle.tl_coherence.proofs
-use proofs.Imports.{cases_eq, or_right, Beat, BeatD, Channel, History, channel_of, Config, Cap, Perm, cap_right}
-use proofs.Imports.{on_link, same_perm, Trace, held, grants, capped, leaves, cap-gives, View, Granting, GrantedOther}
-use proofs.Imports.{is_unprobed, is_unreleased, Block, Service, GrantSent, view, is_granting, AbstractState}
-use proofs.Imports.{SimulationRelation, flow, trace_of, IsGiven, Log, system_after, perm_le}
+use proofs.Imports.{cases_eq, Beat, BeatD, Channel, History, channel_of, Config, Cap, Perm, cap_right, on_link}
+use proofs.Imports.{same_perm, Trace, held, grants, capped, leaves, cap-gives, View, Granting, is_unprobed}
+use proofs.Imports.{is_unreleased, Block, Service, GrantSent, view, is_granting, AbstractState, SimulationRelation}
+use proofs.Imports.{flow, trace_of, IsGiven, Log, system_after, perm_le}
 use Rattle.tl_rules.specs.statement.Windows.{is_spared, is_free}
 use Rattle.tl_coherence.specs.statement.OneWriter.{IsGivenAlone, IsOneWriter, IsApart}
 use proofs.deliveries.{Matching.shadow}
@@ -80,10 +80,7 @@ given-next {w} {config} {log} given c y queue beats n other granted ne =
 -- each other link leaves what is granted
 beside : (link other : ℕ) (given held : Perm) → ((other ≡ link → ⊥) → leaves given held ≡ true)
     → (is_spared other (Some link) || leaves given held) ≡ true
-beside link other given held left = elim (cases_eq other link) [
-  | inl same ↦ rw (eq-eqb link other (sym same)) refl
-  | inr ne ↦ or_right (link == other) (leaves given held) (left ne)
-]
+beside link other given held left = grind (arith, cases_eq)
 
 given-moved : {w : ℕ} (config : Config) (log : Log w) → IsGiven config log → (c : ℕ) (x : Beat w)
     (queue : List (Beat w)) → (system_after config log).channels c (channel_of x) ≡ x ∷ queue

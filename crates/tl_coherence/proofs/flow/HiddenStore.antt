@@ -1,5 +1,5 @@
 -- A client stores to its copy only where its link holds Trunk.
-use Rattle.std.proofs.Common.{◌≡◌, ℕ, Bool, true, false, List, refl, sym, ◌∙◌, ap, Option, Some, None, if◌then◌else◌, arith}
+use Rattle.std.proofs.Common.{◌≡◌, ℕ, Bool, true, List, refl, sym, ◌∙◌, ap, Option, Some, None, if◌then◌else◌, arith}
 use Rattle.tl_coherence.proofs
 use proofs.Imports.{Perm, block_at, held, Op, Reply, EndConfig, Ask, Outcome, view, Block, is_granting, AbstractState}
 use proofs.Imports.{SimulationRelation, system_after, perm_le, Step, terms_at}

@@ -1,5 +1,6 @@
 -- The beat that is next on channel D of a client's link: one of an answer, of a Grant, or of a ReleaseAck.
 use Rattle.std.proofs.Common.{◌≡◌, ℕ, true, false, not, List, ◌∷◌, refl, sym, ◌∙◌, ap, length, eqb-true, ◌==◌, map}
+use Rattle.std.proofs.Common.{arith}
 use Rattle.tl_coherence.proofs
 use proofs.Imports.{Beat, BeatD, Channel, IsWidth, length-begun, Message, MessageD, begun, d_beat_of, unfinished}
 use proofs.Imports.{Config, is_grant, asks_for, request_of, grants, same_block, Kind, Answer, Grant, ReleaseAck, View}
@@ -7,8 +8,7 @@ use proofs.Imports.{Block, State, SourceState, packet, is_on, is_unserved, Abstr
 use proofs.Imports.{message_of_kind, block_message, SimulationRelation, MonitorRelations, is_caching, asked_by}
 use proofs.Imports.{receiver, flow, Log, system_after}
 use proofs.client.{ClientEnd.asks-acquire}
-use proofs.queues.{Carried.IsNext, Codes.access_kind, Phases.and_left, Phases.and_right}
-use proofs.queues.FirstToken.{IsFirst, first-token}
+use proofs.queues.{Carried.IsNext, Codes.access_kind, Phases.and_right, FirstToken.IsFirst, FirstToken.first-token}
 use proofs.protocol.HeadOfD.{IsAnswerDue, IsGrantDue, ack_message, answer-due, grant-due, grant-rendered, grant_message}
 use proofs.protocol.HeadOfD.{own_view}
 
@@ -101,6 +101,4 @@ module _ {w : ℕ} (config : Config) (log : Log w) (h : AbstractState w) (c : �
       Of = IsGrantBeat c n s y (length (unfinished Channel.D (flow c log)))
 
       not_granted : is_grant y.opcode ≡ false → Of
-      not_granted e = absurd (let yes : is_grant y.opcode ≡ true =
-          and_left (is_grant y.opcode) (asks_for n (request_of y.source (flow c log))) granted in
-          let no : false ≡ true = sym e ∙ yes in cc)
+      not_granted e = grind (arith, log)

@@ -1,20 +1,20 @@
 -- What the protocol does at an event to the accesses that are answered: each was answered before, or nobody is recorded
 -- any more with what excludes it, and it is answered what the block had.
-use Rattle.std.proofs.Common.{◌≡◌, ℕ, true, false, not, ◌&&◌, List, ◌∷◌, ◌⊎◌, Option, Some, None, refl, sym, ◌∙◌, ap, arith}
-use Rattle.std.proofs.Common.{inl, inr, length, ◌==◌}
+use Rattle.std.proofs.Common.{◌≡◌, ℕ, true, false, not, ◌&&◌, List, ◌∷◌, ◌⊎◌, Option, Some, None, refl, sym, ◌∙◌, ap}
+use Rattle.std.proofs.Common.{arith, inl, inr, length, ◌==◌}
 use Rattle.tl_coherence.proofs
-use proofs.Imports.{cases_eq, Message, MessageA, Config, Cap, Report, answer_of, block_at, is_acquire}
-use proofs.Imports.{leaves, needs, Op, Reply, access, access_answer, cap_probed, Kind, ProbeAck, Answer, Packet, set}
-use proofs.Imports.{set_at, Other, ProbeAnswered, is_unprobed, after_report, Block, Waits, GrantSent, State}
-use proofs.Imports.{SourceState, SourceFree, Asked, InService, Replied, Acquires, view, packet, on, written}
-use proofs.Imports.{performed_block, ended_block, AbstractState, asked, kind_taken, access_taken, last_taken}
-use proofs.Imports.{taken_by_client, some_below, probes_some, performs, answers, bytes_at, report_told}
-use proofs.Imports.{SimulationRelation, is_caching, IsFor, Log, System}
-use proofs.client.AnswersKept.{set_at-apart}
-use proofs.manager.Choices.{plain-past}
+use proofs.Imports.{Message, MessageA, Config, Cap, Report, answer_of, block_at, is_acquire, leaves, needs, Op, Reply}
+use proofs.Imports.{access, access_answer, cap_probed, Kind, ProbeAck, Answer, Packet, set, set_at, Other}
+use proofs.Imports.{ProbeAnswered, is_unprobed, after_report, Block, Waits, GrantSent, State, SourceState, SourceFree}
+use proofs.Imports.{Asked, InService, Replied, Acquires, view, packet, on, written, performed_block, ended_block}
+use proofs.Imports.{AbstractState, asked, kind_taken, access_taken, last_taken, taken_by_client, some_below}
+use proofs.Imports.{probes_some, performs, answers, bytes_at, report_told, SimulationRelation, is_caching, IsFor, Log}
+use proofs.Imports.{System}
+use proofs.client.{AnswersKept.set_at-apart}
+use proofs.manager.{Choices.plain-past}
 use proofs.queues.{Codes.low_cap, Tokens.set-same, Tokens.set_at-same}
-use proofs.protocol.{Granted.recorded_within, Events.IsReady, Events.ready-access, Events.true-taken}
-use proofs.protocol.{RequestsKept.unprobed, RequestsKept.settled_all, FirstTokens.first-report}
+use proofs.protocol.{Granted.recorded_within, RequestsKept.unprobed, RequestsKept.settled_all, FirstTokens.first-report}
+use proofs.protocol.Events.{IsReady, ready-access, true-taken}
 use proofs.flow.Excluded.{above_le, leaves_within, leaves_all}
 use proofs.memory.BesideTaken.{intent-reply, memory-reported, memory-unprobed}
 
@@ -49,11 +49,7 @@ AreKept {w} h i = (c source : ℕ) → i.state.uses c source ≡ Replied → (h.
 kept-set : {w : ℕ} (c k : ℕ) (u : SourceState) (h i : AbstractState w) → (u ≡ Replied → ⊥)
     → ((d j : ℕ) → i.state.uses d j ≡ set_at c k u h.state.uses d j)
     → ((d j : ℕ) → ((d ≡ c) × (j ≡ k) → ⊥) → AreSameMessages h i d j) → AreKept h i
-kept-set c k u h i never uses mail d j e = elim (placed c k d j) [
-  | inl same ↦ absurd (never (sym (set_at-same c k u h.state.uses) ∙ sym (rw (same.0, same.1) at (uses d j)) ∙ rw
-      (same.0, same.1) at e))
-  | inr other ↦ (sym (set_at-apart c k u h.state.uses d j other) ∙ sym (uses d j) ∙ e, mail d j other)
-]
+kept-set c k u h i never uses mail d j e = grind (arith, placed)
 
 renewed-set : {w : ℕ} (c k : ℕ) (u : SourceState) (h i : AbstractState w) → (u ≡ Replied → ⊥)
     → ((d j : ℕ) → i.state.uses d j ≡ set_at c k u h.state.uses d j)

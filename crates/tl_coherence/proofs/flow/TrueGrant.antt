@@ -1,5 +1,5 @@
 -- Each beat of a GrantData has bytes of the one memory.
-use Rattle.std.proofs.Common.{◌≡◌, ℕ, Bool, true, false, List, ◌∷◌, refl, sym, ◌∙◌, ap, subst, length, arith}
+use Rattle.std.proofs.Common.{◌≡◌, ℕ, Bool, true, List, ◌∷◌, sym, ◌∙◌, ap, subst, length, arith}
 use Rattle.tl_coherence.proofs
 use proofs.Imports.{Beat, BeatD, Channel, OpD, lanes_at, History, channel_of, unfinished, Config, IsBlock, grants}
 use proofs.Imports.{grant_opcode, flow, trace_of, IsGiven, Log, system_after, one_memory_after}

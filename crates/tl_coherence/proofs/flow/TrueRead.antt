@@ -1,20 +1,18 @@
 -- Each beat of an AccessAckData has bytes that the one memory had in a window of its access.
-use Rattle.std.proofs.Common.{◌≡◌, ℕ, Bool, true, false, List, [], ◌∷◌, ◌⊎◌, Some, None, refl, sym, ◌∙◌, ap, subst, inl}
-use Rattle.std.proofs.Common.{inr, ◌%◌, ◌^◌, length, is_some}
+use Rattle.std.proofs.Common.{◌≡◌, ℕ, Bool, true, false, List, [], ◌∷◌, ◌⊎◌, Some, None, sym, ◌∙◌, ap, subst, inl}
+use Rattle.std.proofs.Common.{arith, inr, length, is_some}
 use Rattle.tl_coherence.proofs
-use proofs.Imports.{Beat, BeatA, BeatD, Channel, OpA, OpD, Message, MessageA, MessageD, a_beat_of, d_beat_of, lanes_at}
-use proofs.Imports.{channel_of, unfinished, Config, open_request, on_link, Memory, answer_of, as_payload, bytes_from}
-use proofs.Imports.{effect, block_at, request_of, is_free, needs, access_answer, grant_opcode}
-use proofs.Imports.{level_of, Replied, AbstractState, answers, SimulationRelation, MonitorRelations}
-use proofs.Imports.{flow, trace_of, IsGiven, Log, system_after, one_memory_after, System}
-use Rattle.tl_rules.specs.statement.Effect.{access_result}
+use proofs.Imports.{Beat, BeatA, BeatD, Channel, OpD, Message, MessageA, MessageD, a_beat_of, d_beat_of, channel_of}
+use proofs.Imports.{unfinished, Config, open_request, on_link, Memory, answer_of, effect, block_at, request_of, is_free}
+use proofs.Imports.{needs, access_answer, grant_opcode, level_of, Replied, AbstractState, answers, SimulationRelation}
+use proofs.Imports.{MonitorRelations, flow, trace_of, IsGiven, Log, system_after, one_memory_after, System}
 use Rattle.tl_coherence.specs.statement.TrueReads.{IsTrueRead, TrueReads, WasFound, lanes_found}
-use proofs.bound.Settling.{given-before}
-use proofs.deliveries.Matching.{shadow}
+use proofs.bound.{Settling.given-before}
+use proofs.deliveries.{Matching.shadow}
 use proofs.flow.{FlowTaken.each-taken, FlowTraces.trace-flows, Flows.flowed, NextOnD.next-on_d, Renewed.IsSettledFor}
-use proofs.links.FromInvariant.{matched-given}
-use proofs.memory.{OneMemory.reply-performed, BesideTaken.same_message}
 use proofs.flow.Windowed.{asked_flow, closed_first, free-now, opened-now, renewed-followed, same_first}
+use proofs.links.{FromInvariant.matched-given}
+use proofs.memory.{OneMemory.reply-performed, BesideTaken.same_message}
 
 -- ---- what is answered
 
@@ -69,27 +67,7 @@ lanes_answered : {w : ℕ} (m : MessageA w) (f : Memory) (z : MessageD w) (k : �
     → Message.D z ≡ access_answer m (answer_of (Message.A m) (effect (Message.A m) f).1) → z.opcode ≡ OpD.AccessAckData
     → (d_beat_of z k).lanes ≡ lanes_found (a_beat_of m 0) f k
 unfolding effect
-lanes_answered {w} m f z k is with_data = go m.opcode is
-  where
-    same : (u v : MessageD w) → Message.D u ≡ Message.D v → u ≡ v
-    same u v e = cc
-
-    lanes : (payload : List ℕ) (i : MessageD w) → z ≡ i → i.opcode ≡ OpD.AccessAckData → i.payload ≡ payload
-        → (d_beat_of z k).lanes ≡ lanes_at true w payload k
-    lanes payload i e o p = cc (e, o, p)
-
-    never : (i : MessageD w) → z ≡ i → (i.opcode ≡ OpD.AccessAckData → ⊥)
-        → (d_beat_of z k).lanes ≡ lanes_found (a_beat_of m 0) f k
-    never i e refuse = absurd (refuse (sym (ap (λ (u : MessageD w). u.opcode) e) ∙ with_data))
-
-    go : (o : OpA) → Message.D z ≡ access_answer m (answer_of (Message.A m) (access_result o m f))
-        → (d_beat_of z k).lanes ≡ lanes_found (a_beat_of m 0) f k
-    go OpA.Get e = lanes (as_payload (m.address % w) (bytes_from f m.address (2 ^ m.size))) _ (same z _ e) refl refl
-    go OpA.ArithmeticData e =
-        lanes (as_payload (m.address % w) (bytes_from f m.address (2 ^ m.size))) _ (same z _ e) refl refl
-    go OpA.LogicalData e =
-        lanes (as_payload (m.address % w) (bytes_from f m.address (2 ^ m.size))) _ (same z _ e) refl refl
-    go o e = never _ (same z _ e) (λ i. cc)
+lanes_answered {w} m f z k is with_data = grind arith
 
 found-beat : {w : ℕ} (config : Config) (c source : ℕ) (m : MessageA w) (z : MessageD w) (k : ℕ) (log : Log w)
     → z.opcode ≡ OpD.AccessAckData → WasAnswered config c source m (Message.D z) log

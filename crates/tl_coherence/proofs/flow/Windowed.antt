@@ -1,6 +1,7 @@
 -- Each access is answered after a moment, since it was asked whole, at which nobody held what excludes it.
-use Rattle.std.proofs.Common.{◌≡◌, ℕ, Bool, true, false, List, [], ◌∷◌, Option, Some, None, refl, sym, ◌∙◌, ap, subst, arith}
-use Rattle.std.proofs.Common.{inl, inr, ◌++◌, is_some}
+use Rattle.std.proofs.Common.{◌≡◌, ℕ, Bool, true, false, List, [], ◌∷◌, Option, Some, None, refl, sym, ◌∙◌, ap, subst}
+use Rattle.std.proofs.Common.{arith, inl, inr, ◌++◌, is_some}
+use Rattle.std.proofs.lemmas.Bool.{or_left}
 use Rattle.tl_coherence.proofs
 use proofs.Imports.{or_right, Beat, BeatA, BeatD, Link, Channel, OpA, IsWidth, Message, MessageA, a_beat_of, History}
 use proofs.Imports.{channel_of, unfinished, Config, RequestSource, Perm, open_request, Trace, on_link, comes_in_request}
@@ -9,32 +10,26 @@ use proofs.Imports.{is_access_answer, Event, Ask, Deliver, Outcome, Acquire, Blo
 use proofs.Imports.{view, AbstractState, abstract_step, abstract_step_by, block_message, SimulationRelation}
 use proofs.Imports.{MonitorRelations, asked_for, block_used, first_of, is_moving, flow, taken_at, IsGiven, Log}
 use proofs.Imports.{system_after, perm_le, Step, stepped, System, terms_at}
-use Rattle.std.proofs.lemmas.Bool.{or_left}
-use Rattle.tl_rules.specs.statement.Windows.{has_window}
-use Rattle.tl_coherence.specs.{statement.AnsweredInTime.IsAnsweredInTime, statement.AnsweredInTime.AnsweredInTime}
-use Rattle.tl_coherence.specs.{statement.Flow.trace_of, statement.Headline.AreTyped, statement.Log.IsLog}
+use Rattle.tl_rules.{specs.statement.Windows.has_window}
+use Rattle.tl_coherence.{specs.statement.Flow.trace_of, specs.statement.Headline.AreTyped, specs.statement.Log.IsLog}
+use Rattle.tl_coherence.specs.statement.AnsweredInTime.{IsAnsweredInTime, AnsweredInTime}
 use Rattle.tl_client.specs.statement.Ask as ask
-use proofs.deliveries.{DeliverDAfter.followed-still, InvariantKept.ready-delivered, Matching.shadow, Matching.matched}
-use proofs.deliveries.{Matching.stepped-nobody}
-use proofs.flow.{ComingRequests.not-coming_a, ComingRequests.waits_on_a, FlowStep.held_by, Flows.flowed}
-use proofs.flow.{FlowTaken.each-taken, FlowTraces.trace-flows, GivenAlone.free-where, GivenAlone.held_by_most}
-use proofs.flow.{NextOnD.next-on_d, Renewed.AreRenewed, Renewed.AreKept, Renewed.IsSettledFor, Renewed.kept-asked}
-use proofs.flow.{Renewed.renewed-kind_taken}
-use proofs.links.FromInvariant.{matched-given}
-use proofs.manager.UnwaitedRequests.{next_tracker}
+use proofs.deliveries.{DeliverDAfter.followed-still, InvariantKept.ready-delivered}
+use proofs.deliveries.Matching.{shadow, matched, stepped-nobody}
+use proofs.flow.{FlowStep.held_by, Flows.flowed, FlowTaken.each-taken, FlowTraces.trace-flows, NextOnD.next-on_d}
+use proofs.flow.ComingRequests.{not-coming_a, waits_on_a}
+use proofs.flow.GivenAlone.{free-where, held_by_most}
+use proofs.flow.Renewed.{AreRenewed, AreKept, IsSettledFor, kept-asked, renewed-kind_taken}
+use proofs.links.{FromInvariant.matched-given}
+use proofs.manager.{UnwaitedRequests.next_tracker}
 use proofs.queues.{Facts.held_at_most, Perms.nothing_below, Steps.stepped-asked}
 use proofs.simulation.FollowCases.{followed-cases, on-first}
-use proofs.memory.BesideTaken.{same_message}
+use proofs.memory.{BesideTaken.same_message}
 
 -- ---- what is held and excludes nothing
 
 leaves_below : (o : OpA) (p q : Perm) → perm_le p q ≡ true → leaves (needs o) q ≡ true → leaves (needs o) p ≡ true
-leaves_below OpA.Intent p q e f = refl
-leaves_below OpA.Get Perm.None q e f = refl
-leaves_below OpA.Get Perm.Branch q e f = refl
-leaves_below OpA.Get Perm.Trunk Perm.Trunk e f = f
-leaves_below OpA.Get Perm.Trunk q e f = absurd cc
-leaves_below o p q e f = nothing_below p q e f
+leaves_below o p q e f = grind (arith, nothing_below)
 
 pub same_first : {w : ℕ} (x y : BeatA w) → Some x ≡ Some y → y ≡ x
 same_first x y e = cc

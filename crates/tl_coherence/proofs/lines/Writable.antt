@@ -1,16 +1,14 @@
 -- A beat of a message that breaks no rule of legality has room in its line.
 use Rattle.std.proofs.Common.{◌≡◌, ℕ, ◌<◌, ◌≤◌, ◌*◌, ◌/◌, ◌^◌, Bool, true, false, ◌&&◌, refl, arith, inl, inr, None}
 use Rattle.std.proofs.Common.{eqb-true, ne_eqb, pow_pos, is_some, ◌==◌}
+use Rattle.std.proofs.lemmas.Bool.{both_ways}
 use Rattle.tl_coherence.proofs
 use proofs.Imports.{cases_lt, not-false, and_parts, mod_below, Beat, B, C, Channel, OpA, OpC, OpD, IsWritable, IsWidth}
-use proofs.Imports.{Message, beat_of, Level, L1, L2, L3, cap_of, next_rule, a_has_param, a_has_size, illegal}
-use Rattle.std.proofs.lemmas.Bool.{both_ways}
+use proofs.Imports.{Message, beat_of, Level, cap_of, next_rule, a_has_param, a_has_size, illegal}
 use Rattle.tl_beat.specs.declared.beat.Beat.TheVariants.{A, D, E}
-use Rattle.tl_params.specs.declared.rule.Rule.TheVariants.{L7}
-use Rattle.tl_rules.proofs.Sizes.{response-small}
-use Rattle.tl_rules.specs.statement.Legality.{breaks_l1, breaks_l2, breaks_l3, breaks_l7, c_has_param, c_has_source}
-use Rattle.tl_rules.specs.statement.Legality.{d_has_param, d_has_sink}
-use Rattle.tl_manager.proofs.words_of_clients.Masks.{request_small}
+use Rattle.tl_rules.{proofs.Sizes.response-small}
+use Rattle.tl_rules.specs.statement.Legality.{breaks_l2, breaks_l3, c_has_param, c_has_source, d_has_param, d_has_sink}
+use Rattle.tl_manager.{proofs.words_of_clients.Masks.request_small}
 
 -- ---- params
 
@@ -27,9 +25,7 @@ c-large : (opcode : OpC) (n : ℕ) → 8 ≤ n → c_has_param opcode n ≡ fals
 c-large opcode n e = grind arith
 
 d-large : (opcode : OpD) (n : ℕ) → 4 ≤ n → d_has_param opcode n ≡ false
-d-large OpD.Grant n large = cap-large n large
-d-large OpD.GrantData n large = cap-large n large
-d-large opcode n large = apart n 0 (omega arith)
+d-large opcode n e = grind (arith, cap-large, apart)
 
 -- a number that passes a test which those from a limit on don't pass
 below : (n limit : ℕ) (b : Bool) → (limit ≤ n → b ≡ false) → b ≡ true → n < limit
@@ -57,10 +53,7 @@ record Keeps {w : ℕ} (l : Level) (x : Beat w) : Type 0 where
 
 keeps : {w : ℕ} (l : Level) (ch : Channel) (x : Beat w) → illegal l ch x ≡ None → Keeps l x
 unfolding illegal
-keeps l ch x e =
-    let two = next_rule (breaks_l2 x) L2 _ (next_rule (breaks_l7 x) L7 _ (next_rule (breaks_l1 l ch x) L1 _ e).1).1 in
-    let three = next_rule (breaks_l3 l x) L3 _ two.1 in
-    record { two = two.0; three = three.0 }
+keeps l ch x e = grind (arith, next_rule)
 
 roomy : {w : ℕ} (l : Level) (ch : Channel) (x : Beat w) → IsWidth w → IsNarrow x → illegal l ch x ≡ None → IsWritable x
 roomy {w} l ch (A x) width mask e =

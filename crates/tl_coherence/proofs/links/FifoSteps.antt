@@ -1,12 +1,12 @@
 -- Channels lose nothing and keep order: for histories of the two ends of each link, and what is on its channels.
-use Rattle.std.proofs.Common.{◌≡◌, ℕ, zero, suc, Bool, true, false, not, List, [], ◌∷◌, refl, sym, ◌∙◌, ap, inl, inr, arith}
-use Rattle.std.proofs.Common.{◌++◌, ◌&&◌, ne_eqb, append_assoc, ◌==◌, if◌then◌else◌, reverse}
+use Rattle.std.proofs.Common.{◌≡◌, ℕ, zero, suc, Bool, true, false, not, List, [], ◌∷◌, refl, sym, ◌∙◌, ap, inl, inr}
+use Rattle.std.proofs.Common.{arith, ◌++◌, ◌&&◌, ne_eqb, append_assoc, ◌==◌, if◌then◌else◌, reverse}
 use Rattle.tl_coherence.proofs
 use proofs.Imports.{cases_eq, reverse-append, Beat, Channel, Message, beat_of, beats_of, begun, burst_of, History}
 use proofs.Imports.{beats_from, is_from_client, is_to_client, same_channel, channel_of_message}
 use Rattle.tl_burst.specs.statement.Messages.{carried_on, on}
 use proofs.queues.{Beats.reverse-beats_from, Landed.IsOn, Tokens.same_number, Channels.same_channel-is}
-use proofs.deliveries.ManagersAfter.{on_message}
+use proofs.deliveries.{ManagersAfter.on_message}
 
 -- ---- lists
 
@@ -43,9 +43,7 @@ carried-begun {w} m (suc k) at t = go (on at (beat_of m k)) (same_channel at (ch
         → carried_on at (begun m k ++ t) ≡ (if b then begun m k ++ carried_on at t else carried_on at t)
         → (if a then beat_of m k ∷ carried_on at (begun m k ++ t) else carried_on at (begun m k ++ t))
         ≡ (if b then beat_of m k ∷ (begun m k ++ carried_on at t) else carried_on at t)
-    go true true e f = ap (λ xs. beat_of m k ∷ xs) f
-    go false false e f = f
-    go a b e f = absurd cc
+    go a b e f = grind (arith, m, k)
 
 carried-beat : {w : ℕ} (x : Beat w) (ch at : Channel) (t : History w) → IsOn ch x
     → carried_on at (x ∷ t) ≡ (if same_channel at ch then x ∷ carried_on at t else carried_on at t)
@@ -53,14 +51,7 @@ unfolding carried_on
 carried-beat x ch at t is = ap (λ b. if b then x ∷ carried_on at t else carried_on at t) (is at)
 
 apart : (at ch : Channel) (b : Bool) → is_to_client at ≡ b → is_to_client ch ≡ not b → same_channel at ch ≡ false
-apart at ch b e f = go (same_channel at ch) refl
-  where
-    differ : (x y : Bool) → x ≡ y → x ≡ b → y ≡ not b → ⊥
-    differ x y e f g = grind arith
-
-    go : (x : Bool) → same_channel at ch ≡ x → x ≡ false
-    go false g = refl
-    go true g = absurd (differ (is_to_client at) (is_to_client ch) (ap is_to_client (same_channel-is at ch g)) e f)
+apart at ch b e f = grind (arith, same_channel-is)
 
 sends : {w : ℕ} (m : Message w) (b : Bool) → is_from_client (beat_of m 0) ≡ not b
     → is_to_client (channel_of_message m) ≡ b
@@ -105,10 +96,7 @@ said_here {w} l m p q d at taken is = elim (cases_eq d l) [
 -- on a channel on which it doesn't send, nothing changes
 unsaid_history : {w : ℕ} (l : ℕ) (m : Message w) (p : ℕ → History w) (d : ℕ) (at : Channel)
     → same_channel at (channel_of_message m) ≡ false → carried_on at (said_at l m p d) ≡ carried_on at (p d)
-unsaid_history {w} l m p d at differs =
-    let go : (b : Bool) → carried_on at (if b then burst_of m ++ p d else p d) ≡ carried_on at (p d) =
-    elim [ true ↦ cc (carried-begun m (beats_of m) at (p d), differs) | false ↦ refl ] in
-    go (l == d)
+unsaid_history {w} l m p d at differs = grind (arith, carried-begun)
 
 unsaid_queue : {w : ℕ} (l : ℕ) (m : Message w) (q : ℕ → Channel → List (Beat w)) (d : ℕ) (at : Channel)
     → same_channel at (channel_of_message m) ≡ false → queued_at l m q d at ≡ q d at
@@ -138,10 +126,7 @@ manager-says {w} l m {p} {t} {q} ours is = record {
 heard_history : {w : ℕ} (c : ℕ) (ch : Channel) (x : Beat w) (p : ℕ → History w) (d : ℕ) (at : Channel) → IsOn ch x
     → carried_on at (heard_at c x p d) ≡ (if (c == d) && same_channel at ch then x ∷ carried_on at (p d) else carried_on
     at (p d))
-heard_history {w} c ch x p d at is =
-    let go : (b : Bool) → carried_on at (if b then x ∷ p d else p d) ≡ (if b && same_channel at ch then x ∷ carried_on
-    at (p d) else carried_on at (p d)) = elim [ true ↦ carried-beat x ch at (p d) is | false ↦ refl ] in
-    go (c == d)
+heard_history {w} c ch x p d at is = grind (arith, carried-beat)
 
 heard_here : {w : ℕ} (c : ℕ) (ch : Channel) (x : Beat w) (queue : List (Beat w)) (p : ℕ → History w) (q : ℕ → Channel
     → List (Beat w)) (f : ℕ → History w) (d : ℕ) (at : Channel) (sent : List (Beat w)) → IsOn ch x → q c ch ≡ x ∷ queue

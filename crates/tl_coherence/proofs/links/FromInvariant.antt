@@ -1,5 +1,6 @@
 -- What holds of every manager and its clients, whatever happens to them: of what is kept of the whole.
-use Rattle.std.proofs.Common.{◌≡◌, ◌∙◌, ℕ, true, ◌∷◌, Option, Some, None, refl, sym, ap₂, ◌≤◌, ◌/◌, length, is_some, arith}
+use Rattle.std.proofs.Common.{◌≡◌, ◌∙◌, ℕ, true, ◌∷◌, Some}
+use Rattle.std.proofs.Common.{sym, ap₂, ◌≤◌, ◌/◌, length, arith}
 use Rattle.tl_coherence.proofs
 use proofs.Imports.{Beat, Link, Channel, Config, Perm, Op, op_block, EndConfig, held_at, recorded, Deliver, Outcome}
 use proofs.Imports.{view, SimulationRelation, started, IsCoherent, IsFifo, IsExact, capacity, sources_of, IsGiven, Log}

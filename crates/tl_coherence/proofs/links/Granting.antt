@@ -1,30 +1,24 @@
 -- At a Grant the client holds what it is granted.
-use Rattle.std.proofs.Common.{◌≡◌, ℕ, Bool, true, false, List, ◌∷◌, Option, Some, None, refl, sym, ◌∙◌, ap, option_map, arith}
+use Rattle.std.proofs.Common.{◌≡◌, ℕ, Bool, true, false, List, ◌∷◌, Option, Some, None, refl, sym, ◌∙◌, ap, option_map}
+use Rattle.std.proofs.Common.{arith}
 use Rattle.tl_coherence.proofs
-use proofs.Imports.{Beat, BeatD, Link, Channel, OpD, IsWidth, Message, MessageD, d_beat_of, unfinished, Config, Cap}
-use proofs.Imports.{Perm, cap_code, cap_right, payload_of, held, request_of, Op, Finish, op_block, Endpoint}
-use proofs.Imports.{address_asked, finish_of, cap-gives, grant_opcode, is_access_answer, Deliver, Outcome, Kind, Answer}
-use proofs.Imports.{Grant, ReleaseAck, Packet, ClientBlock, AcquirePhase, AcquireOpen, is_whole, after_grant, is_on}
-use proofs.Imports.{packet, Service, Block, SourceState, Acquires, taken_block, AbstractState, abstract_step}
-use proofs.Imports.{kind_taken, taken_by_client, IsOpened, op_of, message_of_kind, block_message, SimulationRelation}
-use proofs.Imports.{is_caching, started, Log, system_after, Open, Requests, one_memory_after, stepped, System}
-use proofs.memory.Coherence.{opened-started}
+use proofs.Imports.{Beat, BeatD, Link, Channel, OpD, IsWidth, Message, MessageD, d_beat_of, Config, Cap, Perm, cap_code}
+use proofs.Imports.{cap_right, held, Op, Finish, op_block, Endpoint, finish_of, grant_opcode, is_access_answer, Deliver}
+use proofs.Imports.{Outcome, Kind, Answer, Grant, ReleaseAck, Packet, AcquirePhase, is_on, packet, SourceState}
+use proofs.Imports.{Acquires, AbstractState, abstract_step, kind_taken, op_of, message_of_kind, block_message}
+use proofs.Imports.{SimulationRelation, is_caching, started, Log, system_after, Open, Requests, one_memory_after}
+use proofs.Imports.{stepped, System}
+use proofs.memory.{Coherence.opened-started}
 use proofs.links.Ending.{IsEnding, ending}
-use proofs.client.DeliverD.{finish_at}
-use proofs.deliveries.Matching.{matched-event}
-use proofs.manager.UnwaitedRequests.{next_tracker}
-use proofs.queues.Tokens.{set-same}
+use proofs.client.{DeliverD.finish_at}
+use proofs.deliveries.{Matching.matched-event}
+use proofs.manager.{UnwaitedRequests.next_tracker}
 use proofs.protocol.HeadOfD.{IsGrantDue, ack_message, answer-due, grant-due, grant-rendered, grant_message}
 
 -- ---- how a response ends its operation
 
 pub same-response : {w : ℕ} (m n : MessageD w) → Message.D m ≡ Message.D n → m ≡ n
 same-response m n e = cc
-
-granted-finish : (w : ℕ) (d : Bool) (k : Cap) (size address : ℕ) (payload : List ℕ)
-    → finish_of w (grant_opcode d) (cap_code k) size address payload ≡ Finish.Granted (cap_right k)
-granted-finish w true k size address payload = ap Finish.Granted (cap-gives k)
-granted-finish w false k size address payload = ap Finish.Granted (cap-gives k)
 
 answer_grants : (w : ℕ) (o : OpD) (param size address : ℕ) (payload : List ℕ) (p : Perm) → is_access_answer o ≡ true
     → Finish.Granted p ≡ finish_of w o param size address payload → ⊥
@@ -40,8 +34,7 @@ granted-at {w} y e d k opcode param = grind arith
 
 answer_at : {w : ℕ} (y : BeatD w) (e : Endpoint w) (p : Perm) → is_access_answer y.opcode ≡ true
     → Finish.Granted p ≡ finish_at y e → ⊥
-answer_at {w} y e p is f = answer_grants w y.opcode y.param y.size (address_asked (request_of y.source e.past))
-    (payload_of (Beat.D y ∷ unfinished Channel.D e.past)) p is f
+answer_at {w} y e p is f = grind (arith, answer_grants)
 
 pub released-at : {w : ℕ} (y : BeatD w) (e : Endpoint w) → y.opcode ≡ OpD.ReleaseAck → finish_at y e ≡ Finish.Released
 released-at {w} y e opcode = cc opcode

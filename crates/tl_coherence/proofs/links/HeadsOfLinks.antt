@@ -1,7 +1,7 @@
 -- The first beat of each channel of a client's link: it is one of the channel, no rule refuses it, and
 -- on channel B it is a Probe.
 use Rattle.std.proofs.Common.{◌≡◌, ℕ, Bool, true, false, List, ◌∷◌, Option, Some, refl, sym, ◌∙◌, ap, subst, map, arith}
-use Rattle.std.proofs.Common.{Result, Ok, Err}
+use Rattle.std.proofs.Common.{Result}
 use Rattle.tl_coherence.proofs
 use proofs.Imports.{Beat, BeatB, Channel, IsWidth, Message, beat_of, channel_of, unfinished, Config, Cap, Rule}
 use proofs.Imports.{is_probe, kept_up, Verdict, is_refused, EndConfig, Offered, offered, silent, taken, Kind, Answer}

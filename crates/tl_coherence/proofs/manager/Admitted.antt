@@ -1,15 +1,15 @@
 -- A beat of channel A that is delivered breaks no rule: it is taken, unless it has to wait.
-use Rattle.std.proofs.Common.{◌≡◌, ℕ, zero, suc, Bool, true, false, not, ◌&&◌, ◌||◌, List, [], ◌∷◌, Option, Some, None}
-use Rattle.std.proofs.Common.{refl, sym, ◌∙◌, ap, arith, ne_eqb, eqb-true, ◌==◌, map, is_some, All}
+use Rattle.std.proofs.Common.{◌≡◌, ℕ, zero, suc, Bool, true, false, ◌&&◌, List, [], ◌∷◌, Option, Some, None}
+use Rattle.std.proofs.Common.{refl, sym, ◌∙◌, ap, arith, eqb-true, ◌==◌, map, is_some, All}
 use Rattle.tl_coherence.proofs
 use proofs.Imports.{Beat, BeatA, Link, Channel, OpB, first_if, Message, MessageA, a_beat_of, begun, History, unfinished}
 use proofs.Imports.{Config, Key, Level, Grow, Prune, Report, Perm, Profile, H4, H5, report_left, grow_code, later-legal}
 use proofs.Imports.{is_outside, is_spoiled, Trace, on_link, broken_order, broken_in_order, same_perm, grows_from}
-use proofs.Imports.{pending, block_at, is_acquire, held, illegal, is_one_of, same_block, acquisition, probe_ack}
+use proofs.Imports.{pending, is_acquire, held, illegal, is_one_of, same_block, acquisition, probe_ack}
 use proofs.Imports.{release, judged-passes, tracker_among, IsSound, comes_of, one_if, End, Passes, level_of, must_wait}
 use proofs.Imports.{open_level, before_stall, offered_as, reaction, services, service_of_block, least_untaken}
 use proofs.Imports.{trackers_of, is_in_service, IsInvariant, is_busy, tracks_with, Kind, ProbeAck, Release, Packet}
-use proofs.Imports.{count, is, ClientBlock, View, Own, is_unprobed, ok, Idle, AcquireOpen, ReleasePhase, NoRelease}
+use proofs.Imports.{count, is, ClientBlock, View, Own, is_unprobed, ok, Idle, AcquireOpen, ReleasePhase}
 use proofs.Imports.{is_unreleased, grow_fits, Service, Free, Waits, GrantSent, GrantTaken, Asked, State, packet}
 use proofs.Imports.{view, is_releasing, is_unserved, acquire_opcode, IsCarried, ManagerRelation, is_own, client_in}
 use proofs.Imports.{service_with, AccessMessages, block_message, message_of, report_told, prune_told}
@@ -33,10 +33,7 @@ ack_comes w p r i n k payload = grind arith
 -- those of a Release are of its block
 release_comes : (w : ℕ) (r : Prune) (source i n k : ℕ) (payload : List ℕ) → (i ≡ n → ⊥)
     → comes_of n (begun (release {w = w} r source i payload) k) ≡ false
-release_comes w r source i n zero payload ne = refl
-release_comes w Prune.TtoB source i n (suc k) payload ne = rw (same_block i) (ne_eqb i n ne)
-release_comes w Prune.TtoN source i n (suc k) payload ne = rw (same_block i) (ne_eqb i n ne)
-release_comes w Prune.BtoN source i n (suc k) payload ne = rw (same_block i) (ne_eqb i n ne)
+release_comes w r source i n k payload e = grind (arith, same_block)
 
 -- the first token of a list stands there
 pub first_counts : (x : Packet) (xs : List Packet) → count x.kind x.number (x ∷ xs) ≡ 0 → ⊥
@@ -107,13 +104,7 @@ none_grows g = grind arith
 -- what may grow from what is held may grow from what is recorded, where they agree
 pub grows : (whole : Bool) (p q : Perm) (g : Grow) → grow_fits q (AcquireOpen whole g) ≡ true → same_perm p q ≡ true
     → grows_from (grow_code g) p ≡ true
-grows true Perm.None Perm.None g e f = none_grows g
-grows false Perm.None Perm.None g e f = none_grows g
-grows true Perm.Branch Perm.Branch Grow.BtoT e f = refl
-grows false Perm.Branch Perm.Branch Grow.BtoT e f = refl
-grows true Perm.Trunk Perm.Trunk Grow.BtoT e f = absurd cc
-grows false Perm.Trunk Perm.Trunk Grow.BtoT e f = absurd cc
-grows whole p q g e f = absurd cc
+grows whole p q g e f = grind (arith, none_grows)
 
 kept-is : (x : ReleasePhase) → is_unreleased x ≡ true → is_releasing x ≡ false
 kept-is x e = grind arith
@@ -253,9 +244,7 @@ early_none x y = grind arith
 early_first : {w : ℕ} (p : Profile) (x : BeatA w) (t : History w) → unfinished Channel.A t ≡ []
     → pending (Key.RequestSource x.source) t ≡ false → before_stall (broken_in_order p (Beat.A x) t) ≡ None
 unfolding broken_order
-early_first p x t none free = rw (none, free) (early_none (is_acquire x.opcode
-    && (pending (Key.AcquireOf (block_at x.address)) t || pending (Key.ReleaseOf (block_at x.address)) t))
-    (is_acquire x.opcode && not (grows_from x.param (held (block_at x.address) t))))
+early_first p x t none free = grind (arith, early_none, held)
 
 pub early-acquire : {w : ℕ} {config : Config} {log : Log w} {mail : AccessMessages w} {request : ℕ → MessageA w}
     {s : State (List ℕ)} {sys : System w} {c n : ℕ} (k : ℕ) → SimulationRelation config log mail request s sys

@@ -1,6 +1,6 @@
 -- A beat of a request that comes to the manager: what the manager makes of it.
-use Rattle.std.proofs.Common.{◌≡◌, subst, ℕ, zero, suc, ◌+◌, ◌-◌, ◌*◌, ◌<◌, ◌≤◌, Bool, true, false, ◌&&◌, List, [], ◌∷◌}
-use Rattle.std.proofs.Common.{Option, Some, None, length, refl, sym, ◌∙◌, ap, arith, le-leb, ne_eqb, ◌==◌}
+use Rattle.std.proofs.Common.{◌≡◌, subst, ℕ, zero, suc, ◌+◌, ◌-◌, ◌*◌, ◌<◌, ◌≤◌, Bool, true, false, List, [], ◌∷◌}
+use Rattle.std.proofs.Common.{Option, Some, None, length, refl, sym, ◌∙◌, ap, arith, le-leb, ◌==◌}
 use Rattle.std.proofs.Common.{if◌then◌else◌, replicate, drop, min, IfSome, length-take, length-drop, slice_range}
 use Rattle.tl_coherence.proofs
 use proofs.Imports.{length-replicate, ⊤, Beat, BeatA, Link, Channel, a_carries_data, IsWidth, length-begun, A, MessageA}
@@ -30,8 +30,7 @@ IsOpened t _ = ⊤
 
 opened-other : {w : ℕ} (t u : History w) (o : Option (Beat w)) → ((s : ℕ) → request_of s u ≡ request_of s t)
     → IsOpened t o → IsOpened u o
-opened-other t u (Some (Beat.A x)) same ok = same x.source ∙ ok
-opened-other t u o same ok = tt
+opened-other t u o e f = grind arith
 
 -- a request that begins
 now_opened : {w : ℕ} (x : BeatA w) (t : History w) → begins (Beat.A x) t ≡ true
@@ -156,9 +155,6 @@ served-last {w} {config} {c} {k} {m} {e} is last = record {
   made = let fact = request-again m (begun (A m) (suc k)) is.width (request-filled m k is.width last is.typed is.blank)
       (ap (begun (A m)) (sym last), is.blank) in cc is.burst;
 }
-  where
-    with_tracker : MessageA w → Service w
-    with_tracker r = record { tracker = least_untaken (trackers_of (services e.trace)); link = link_of c; request = r }
 
 -- and it may be performed
 pub ready-last : {w : ℕ} {config : Config} {c k : ℕ} {m : MessageA w} {e : End w} → IsComing config c k m e

@@ -1,6 +1,6 @@
 -- What one block's service says of the links of its clients.
-use Rattle.std.proofs.Common.{◌≡◌, ℕ, Bool, true, false, not, ◌&&◌, ◌||◌, List, [], ◌∷◌, Some, None, refl, sym, ◌∙◌, ap, arith}
-use Rattle.std.proofs.Common.{inl, inr, ne_eqb, ◌==◌, if◌then◌else◌}
+use Rattle.std.proofs.Common.{◌≡◌, ℕ, Bool, true, false, not, ◌&&◌, ◌||◌, List, [], ◌∷◌, Some, None, refl, sym, ◌∙◌, ap}
+use Rattle.std.proofs.Common.{arith, inl, inr, ne_eqb, ◌==◌, if◌then◌else◌}
 use Rattle.tl_coherence.proofs
 use proofs.Imports.{or-true, cases_eq, MessageA, a_beat_of, Config, ProbeOf, Cap, Trace, on_link, pending, block_at}
 use proofs.Imports.{request_of, swapped, some_is, IsKept, AreApart, blocks_of, is_any, IsProbed, End, recorded}
@@ -8,7 +8,7 @@ use proofs.Imports.{services, service_of_block, IsInvariant, IsAwaited, ClientBl
 use proofs.Imports.{Acknowledging, GrantedOther, is_unprobed, ok, Service, Free, Waits, GrantSent, GrantTaken, State}
 use proofs.Imports.{view, is_granting, is_acknowledging, ManagerRelation, is_own, client_in, service_with, IsFor}
 use Rattle.tl_manager.{proofs.pending.Settled.all-settled, proofs.services.Serving.none_of_block}
-use Rattle.tl_manager.{specs.laws.Pending.is_acquiring, specs.laws.Pending.is_granted_to, specs.laws.Pending.is_awaited}
+use Rattle.tl_manager.specs.laws.Pending.{is_acquiring, is_granted_to, is_awaited}
 use Rattle.tl_manager.specs.laws.Pending as waits
 use Rattle.tl_manager.specs.statement.Service as manager
 use proofs.queues.{Facts.is_other, Phases.each_phase, Phases.of_phase, Tokens.same_number, Tokens.if-part}
@@ -94,9 +94,7 @@ abbrev pub at_service : {w : ℕ} → ℕ → ℕ → MessageA w → manager.Ser
 at_service r tracker m = record { tracker = tracker; link = record { 0 = r }; request = m }
 
 granted_views : (s : Service) (c : ℕ) → is_granted_in s ≡ true → is_other (view s c) ≡ false
-granted_views (GrantSent q d k) c e = if-part is_other (c == q) refl refl
-granted_views (GrantTaken q) c e = if-part is_other (c == q) refl refl
-granted_views s c e = absurd cc
+granted_views s c e = grind (arith, if-part, is_other)
 
 -- a request is granted exactly where the protocol says so
 pub granted-is : {w : ℕ} {X : Type 0} {caching : ℕ → Bool} {config : Config} {request : ℕ → MessageA w} {s : State X}

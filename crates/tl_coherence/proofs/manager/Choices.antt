@@ -20,8 +20,7 @@ some-found (suc n) test e = go (test n) refl e (λ f. some-found n test f)
   where
     go : (b : Bool) → test n ≡ b → (b || some_below n test) ≡ true
         → (some_below n test ≡ true → (i : ℕ) × (i < n) × (test i ≡ true)) → (i : ℕ) × (i < suc n) × (test i ≡ true)
-    go true f g h = (n, omega arith, f)
-    go false f g h = let one = h g in (one.0, omega (arith, one.1), one.2)
+    go b e f g = grind (arith, n)
 
 -- nobody passes, as the manager finds them, where none does below the number of clients
 nobody-some : (config : Config) (test : ℕ → Bool)
@@ -46,8 +45,7 @@ pub nobody-same : (config : Config) (f g : ℕ → Bool) → ((d : ℕ) → f d 
 nobody-same config f g same = ap is_nobody (where-same 0 (length config.clients.items) f g same) ∙ nobody-some config g
 
 pub some-clients : (clients : List ℕ) → is_nobody clients ≡ false → (d : ℕ) × (ds : List ℕ) × (clients ≡ d ∷ ds)
-some-clients [] e = absurd cc
-some-clients (d ∷ ds) e = (d, ds, refl)
+some-clients clients e = grind arith
 
 pub no-clients : (clients : List ℕ) → is_nobody clients ≡ true → clients ≡ []
 no-clients clients e = grind arith

@@ -1,5 +1,5 @@
 -- Who is above a cap for the manager is so for the protocol.
-use Rattle.std.proofs.Common.{◌≡◌, refl, arith}
+use Rattle.std.proofs.Common.{◌≡◌, arith}
 use Rattle.tl_coherence.proofs
 use proofs.Imports.{Cap, Perm, is_above}
 use Rattle.tl_manager.specs.statement.Holders as holders

@@ -3,23 +3,22 @@ use Rattle.std.proofs.Common.{sym, subst, ◌≡◌, ℕ, zero, suc, Bool, true,
 use Rattle.std.proofs.Common.{Some, None, refl, ◌∙◌, ap, arith, ◌==◌, if◌then◌else◌, map}
 use Rattle.tl_coherence.proofs
 use proofs.Imports.{Beat, BeatE, Channel, first_if, Message, MessageA, MessageC, begun, c_beat_of, History, unfinished}
-use proofs.Imports.{channel_of, Config, Key, Level, Cap, Prune, Report, Perm, Profile, H1, H13, prune_code, prune_left}
+use proofs.Imports.{channel_of, Config, Key, Level, Cap, Prune, Report, Perm, Profile, prune_code, prune_left}
 use proofs.Imports.{report_code, prune_of, report_at, later-legal, on_link, broken_in_order, broken_order, same_perm}
 use proofs.Imports.{prunes_from, held, pending, judged-passes, whole-e, IsKept, IsSound, illegal_at, one_if, End}
 use proofs.Imports.{Passes, level_of, must_wait, is_from_client, open_level, reaction, IsInvariant, AreNamed, Kind}
-use proofs.Imports.{ProbeAck, Release, GrantAck, Packet, is, count, View, Own, Other, Acknowledging, GrantedOther}
-use proofs.Imports.{is_unprobed, ProbeAnswered, ReleaseSent, is_unreleased, same_report, Service, GrantTaken, Block}
-use proofs.Imports.{State, view, is_on, packet, is_granting, is_acknowledging, is_answered, ManagerRelation, is_own}
-use proofs.Imports.{AccessMessages, block_message, message_of, message_of_kind, ServedSourceRelation, cap_waited}
-use proofs.Imports.{is_granted, System}
-use Rattle.tl_params.specs.declared.rule.Rule.TheVariants.{H8}
-use Rattle.tl_manager.{proofs.judging.Judged.manager-takes, specs.statement.Offer.judged, specs.statement.Offer.offered}
-use Rattle.tl_manager.{specs.statement.Offer.taken, specs.statement.Offer.unlawful}
+use proofs.Imports.{ProbeAck, Release, GrantAck, Packet, is, count, View, Own, Acknowledging, GrantedOther, is_unprobed}
+use proofs.Imports.{ProbeAnswered, ReleaseSent, is_unreleased, same_report, Service, GrantTaken, Block, State, view}
+use proofs.Imports.{is_on, packet, is_granting, is_acknowledging, is_answered, ManagerRelation, is_own, AccessMessages}
+use proofs.Imports.{block_message, message_of, message_of_kind, ServedSourceRelation, cap_waited, is_granted, System}
+use Rattle.tl_params.{specs.declared.rule.Rule.TheVariants.H8}
+use Rattle.tl_manager.{proofs.judging.Judged.manager-takes}
+use Rattle.tl_manager.specs.statement.Offer.{judged, offered, taken, unlawful}
 use Rattle.tl_manager.specs.statement.Offer as manager_offer
-use proofs.protocol.BothParts.{cap-waited}
-use proofs.queues.{FirstToken.IsFirst, Carried.IsNext, Facts.is_other, Facts.release_begins, PhaseFacts.report_fits}
-use proofs.queues.{PhaseFacts.own_alone, Phases.and_left, Phases.and_right, PhaseSteps.on_other, Tokens.same_number}
-use proofs.queues.{Tokens.ordered-first}
+use proofs.protocol.{BothParts.cap-waited}
+use proofs.queues.{FirstToken.IsFirst, Carried.IsNext, Facts.is_other, Facts.release_begins, Phases.and_left}
+use proofs.queues.{Phases.and_right, PhaseSteps.on_other, Tokens.same_number, Tokens.ordered-first}
+use proofs.queues.PhaseFacts.{report_fits, own_alone}
 use proofs.manager.{Orders.report-legal, ManagedEndings.tracker-of, Reporting.IsAbout}
 
 -- ---- the first message of channel C or E
@@ -41,9 +40,7 @@ by-first_c {w} P c mail s sys x queue at report release = subst P (sym at.tokens
 
     go : (k : Kind) → is_on Channel.C k ≡ true → (s.link c).c ≡ packet k at.number ∷ at.rest → Next k
         → P (packet k at.number ∷ at.rest)
-    go ProbeAck e first next = report at.number at.rest first next
-    go Release e first next = release at.number at.rest first next
-    go k e first next = absurd cc
+    go k e f g = grind (arith, report, release)
 
 -- or a GrantAck
 pub by-first_e : {w : ℕ} (P : List Packet → Type 0) {c : ℕ} {mail : AccessMessages w} {s : State (List ℕ)}
@@ -92,11 +89,7 @@ same_report-is p q e = grind arith
 -- what holds of the cap that a client sees holds of that of the service
 pub seen_cap : (test : Cap → Bool) (s : Service) (c : ℕ) → (on_other (view s c) test && is_other (view s c)) ≡ true
     → test (cap_waited s) ≡ true
-seen_cap test s c = go (view s c) refl
-  where
-    go : (v : View) → view s c ≡ v → (on_other v test && is_other v) ≡ true → test (cap_waited s) ≡ true
-    go (Other k) f e = rw (cap-waited k s c f) (and_left (test k) true e)
-    go v f e = absurd cc
+seen_cap test s c = grind (arith, cap-waited, and_left)
 
 -- the place of a beat in its message
 abbrev NextOrder : {w : ℕ} → Profile → MessageC w → ℕ → History w → Type 0
@@ -135,10 +128,6 @@ report-order {w} {config} c {n} k r {m} {s} {e} inv managed served kept answered
         (report_fits r (b.pair c) (view b.service c) ((inv.blocks n).phases c) answered))))
 
 -- ---- a Release
-
-abbrev first_release : Bool → Bool → Bool → Bool → Type 0
-first_release used acquires releases fits = first_if used H1 (first_if (acquires || (releases || not fits)) H13 None)
-    ≡ None
 
 pruned : (r : Prune) (p : Perm) → same_perm (prune_left r) p ≡ true → prunes_from (prune_of (prune_code r)) p ≡ true
 pruned r p e = grind arith

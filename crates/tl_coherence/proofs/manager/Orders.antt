@@ -1,6 +1,6 @@
 -- A message that the values of a history allow breaks no rule of order after it: for the manager's end and for what
 -- is delivered alike.
-use Rattle.std.proofs.Common.{◌≡◌, ℕ, Bool, true, false, not, ◌&&◌, ◌||◌, [], Some, None, refl}
+use Rattle.std.proofs.Common.{◌≡◌, ℕ, Bool, true, false, not, ◌&&◌, ◌||◌, [], Some, None, refl, arith}
 use Rattle.tl_coherence.proofs
 use proofs.Imports.{and-false, Beat, BeatA, BeatC, Channel, first_if, c_carries_data, History, unfinished, Key}
 use proofs.Imports.{Cap, Report, Perm, Profile, H1, H4, H5, report_code, report_at, broken_order, broken_in_order}
@@ -38,6 +38,4 @@ pub acquire-legal : {w : ℕ} (profile : Profile) (n : ℕ) (p : Perm) (x : Beat
     → pending (Key.ReleaseOf n) t ≡ false → held n t ≡ p → grows_from x.param p ≡ true
     → broken_in_order profile (Beat.A x) t ≡ None
 unfolding broken_order
-acquire-legal profile n p x t acquires block none free once released is grows = rw (none, acquires, block, is)
-    (requests (pending (Key.RequestSource x.source) t) (pending (Key.AcquireOf n) t || pending (Key.ReleaseOf n) t)
-    (grows_from x.param p) free (rw (once, released) refl) grows)
+acquire-legal profile n p x t acquires block none free once released is grows = grind (arith, requests)

@@ -1,16 +1,16 @@
 -- Beats and answers after which the manager's end says the same of all but what is recorded and which
 -- ProbeAcks are missing.
-use Rattle.std.proofs.Common.{◌≡◌, ℕ, Bool, true, false, not, ◌&&◌, ◌||◌, [], ◌∷◌, Some, None, refl, sym, ◌∙◌, ap, arith}
-use Rattle.std.proofs.Common.{inl, inr, eqb-true, ne_eqb, ◌==◌, if◌then◌else◌, unwrap_or}
+use Rattle.std.proofs.Common.{◌≡◌, ℕ, Bool, true, false, not, ◌&&◌, ◌||◌, [], ◌∷◌, Some, None, refl, sym, ◌∙◌, ap}
+use Rattle.std.proofs.Common.{arith, inl, inr, eqb-true, ne_eqb, ◌==◌, if◌then◌else◌, unwrap_or}
 use Rattle.tl_coherence.proofs
 use proofs.Imports.{cases_eq, Beat, BeatC, Link, Channel, IsWidth, beats-positive, D, MessageA, MessageD, unfinished}
 use proofs.Imports.{Key, Perm, held-sent_d, Trace, on_link, ends, block_at, is_grant, is_probe_ack, is_release}
 use proofs.Imports.{is_release_ack, pending, reported, request_of, held, after_sent, own_link, other_link, own_beat}
-use proofs.Imports.{other_beat, beat-keeps, request_of-c, request-reply, recorded, services, set}
-use proofs.Imports.{ClientBlock, is_unprobed, Block, State}
+use proofs.Imports.{other_beat, beat-keeps, request_of-c, request-reply, recorded, services, set, ClientBlock}
+use proofs.Imports.{is_unprobed, Block, State}
 use Rattle.tl_manager.{proofs.pending.Accesses.services-release_ack, proofs.pending.Handed.recorded-taken}
 use Rattle.tl_manager.{proofs.pending.LinkHistories.pending-closed, proofs.pending.Probing.services-c}
-use proofs.manager.BlockAccounts.{IsTraced}
+use proofs.manager.{BlockAccounts.IsTraced}
 use proofs.queues.Tokens.{same_number, set-same, set-other}
 
 -- ---- the manager's end
@@ -84,28 +84,18 @@ missing-c {w} c x t d i = go (c == d) refl
 pub missing-last : {w : ℕ} {c n : ℕ} {right : Perm} {x : BeatC w} {t : Trace w} → IsLastOf c n right x t
     → is_probe_ack x.opcode ≡ true → (d i : ℕ) → pending (Key.ProbeOf i) (on_link d ((record { 0 = c }, Beat.C x) ∷ t))
     ≡ (if (c == d) && (n == i) then false else pending (Key.ProbeOf i) (on_link d t))
-missing-last {c} {x} {t} is report d i = missing-c c x t d i ∙ elim (cases_eq c d) [
-  | inl same ↦ rw (← same, is.last, report, is.block, same_number c) refl
-  | inr other ↦ rw (ne_eqb c d other) refl
-]
+missing-last {c} {x} {t} is report d i = grind (arith, missing-c, cases_eq)
 
 none_or : (a b p : Bool) → (if a && (b && false) then false else p) ≡ p
 none_or a b p = grind arith
 
 pub missing-release : {w : ℕ} (c : ℕ) (x : BeatC w) (t : Trace w) → is_probe_ack x.opcode ≡ false → (d i : ℕ)
     → pending (Key.ProbeOf i) (on_link d ((record { 0 = c }, Beat.C x) ∷ t)) ≡ pending (Key.ProbeOf i) (on_link d t)
-missing-release {w} c x t kind d i = missing-c c x t d i
-    ∙ rw kind (none_or (c == d) (ends (Beat.C x) (on_link d t)) (pending (Key.ProbeOf i) (on_link d t)))
-
-part_none : (a b : Bool) → (if a && false then false else b) ≡ b
-part_none a b = grind arith
+missing-release {w} c x t kind d i = grind (arith, missing-c, none_or)
 
 pub missing-part : {w : ℕ} (c : ℕ) (x : BeatC w) (t : Trace w) → ends (Beat.C x) (on_link c t) ≡ false → (d i : ℕ)
     → pending (Key.ProbeOf i) (on_link d ((record { 0 = c }, Beat.C x) ∷ t)) ≡ pending (Key.ProbeOf i) (on_link d t)
-missing-part {w} c x t part d i = missing-c c x t d i ∙ elim (cases_eq c d) [
-  | inl same ↦ rw (← same, part) (part_none (c == c) (pending (Key.ProbeOf i) (on_link c t)))
-  | inr other ↦ rw (ne_eqb c d other) refl
-]
+missing-part {w} c x t part d i = grind (arith, missing-c, cases_eq)
 
 -- ---- an answer to a Release
 

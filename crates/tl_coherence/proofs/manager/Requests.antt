@@ -1,5 +1,5 @@
 -- What the manager knows after a beat of a request, and after one that is not the last.
-use Rattle.std.proofs.Common.{◌≡◌, ℕ, suc, ◌+◌, ◌<◌, Bool, ◌∷◌, Some, refl, sym, ◌∙◌, ap, inl, inr, ne_eqb}
+use Rattle.std.proofs.Common.{◌≡◌, ℕ, suc, ◌+◌, ◌<◌, Bool, ◌∷◌, Some, refl, sym, ◌∙◌, ap, inl, inr, ne_eqb, arith}
 use Rattle.tl_coherence.proofs
 use proofs.Imports.{cases_eq, Beat, A, MessageA, a_beat_of, beats_of, Config, ProbeOf, Cap, held_unsaid, pending-quiet}
 use proofs.Imports.{not_last, Trace, on_link, pending, held, block_at, request_of, own_beat, other_beat, beat-keeps}
@@ -78,5 +78,4 @@ serving-last {config} {c} {k} n {m} {e} is last block = cc (services-last is las
 pub serving-others : {w : ℕ} {config : Config} {c k : ℕ} (n i : ℕ) {m : MessageA w} {e : End w}
     → IsComing config c k m e → beats_of (A m) ≡ suc k → block_at m.address ≡ n → (i ≡ n → ⊥)
     → service_of_block i (services (with_beat c m k e.trace)) ≡ service_of_block i (services e.trace)
-serving-others {config} {c} {k} n i {m} {e} is last block other =
-    ap (service_of_block i) (services-last is last) ∙ rw (block, ne_eqb n i (λ f. other (sym f))) refl
+serving-others {config} {c} {k} n i {m} {e} is last block other = grind (arith, services-last)

@@ -1,23 +1,21 @@
 -- What the manager hands out at the last beat of a request: the messages of the tokens that the protocol pushes.
-use Rattle.std.proofs.Common.{◌≡◌, ℕ, suc, ◌*◌, Bool, true, false, not, ◌&&◌, List, [], ◌∷◌, refl, sym, ◌∙◌, ap, ap₂, arith}
-use Rattle.std.proofs.Common.{inl, inr, length, if◌then◌else◌}
+use Rattle.std.proofs.Common.{◌≡◌, ℕ, suc, ◌*◌, Bool, true, false, List, [], ◌∷◌, refl, ◌∙◌, ap, ap₂, arith, length}
+use Rattle.std.proofs.Common.{if◌then◌else◌}
 use Rattle.tl_coherence.proofs
-use proofs.Imports.{and-false, cases_eq, Beat, Message, MessageA, a_beat_of, beats_of, Config, Cap, Perm, cap_right}
-use proofs.Imports.{Trace, same_perm, Memory, bytes_from, block_at, same_block, performed-access}
-use proofs.Imports.{performed-acquire, End, Reaction, cap_granted, recorded, cap_probed, level_of}
-use proofs.Imports.{reaction, IsWell, is_out, Grant, ClientBlock, after_grant_sent, is_granted_data, GrantSent, Block}
-use proofs.Imports.{State, view, granted_at_once, is_granting, answers, gift, is_unheld, probes_some, AccessMessages}
-use proofs.Imports.{block_message, grant_of, SimulationRelation, Log, System}
-use Rattle.std.proofs.lemmas.Bool.{false_from_ne_true}
+use proofs.Imports.{cases_eq, Beat, Message, MessageA, a_beat_of, beats_of, Config, Cap, Perm, cap_right, Trace}
+use proofs.Imports.{same_perm, Memory, bytes_from, block_at, same_block, performed-access, performed-acquire, End}
+use proofs.Imports.{Reaction, cap_granted, recorded, cap_probed, level_of, reaction, IsWell, Grant, ClientBlock}
+use proofs.Imports.{after_grant_sent, is_granted_data, GrantSent, Block, State, granted_at_once, answers, gift}
+use proofs.Imports.{is_unheld, probes_some, AccessMessages, block_message, grant_of, SimulationRelation, Log, System}
 use Rattle.tl_manager.specs.statement.Handing.{grant_with, grant_payload}
 use Rattle.tl_manager.specs.statement.Handing as handing
 use Rattle.tl_manager.specs.statement.Holders as holders
 use Rattle.tl_manager.specs.statement.Service as manager
-use proofs.manager.{Arrivals.link_of, Arrivals.with_beat, Arrivals.IsComing, Arrivals.service_for}
 use proofs.manager.{Memories.performed-reply, Requests.recorded-beat, RequestsTaken.acquire_wanted}
-use proofs.manager.{UnwaitedRequests.next_tracker, UnwaitedRequests.reaction-performed, UnwaitedRequests.unheld-same}
+use proofs.manager.Arrivals.{link_of, with_beat, IsComing, service_for}
+use proofs.manager.UnwaitedRequests.{next_tracker, reaction-performed, unheld-same}
 use proofs.protocol.Heads.{IsAsked, IsWanted}
-use proofs.queues.{Tokens.same_number, Tokens.set-same, Codes.acquires-so, Codes.gives-some, Codes.data-same}
+use proofs.queues.{Tokens.set-same, Codes.acquires-so, Codes.gives-some, Codes.data-same}
 
 -- ---- an access that is answered
 
@@ -44,20 +42,7 @@ handed-answered {w} {config} {log} {mail} {request} {s} {sys} {c} {k} is asked c
 pub memory-granted : {caching : ℕ → Bool} (q : ℕ) (d : Bool) (k : Cap) {new : Block (List ℕ)} → IsWell caching new
     → new.service ≡ GrantSent q d k → (new.pair q).recorded ≡ cap_right k → same_perm (cap_right k) Perm.None ≡ false
     → new.memory ≡ new.truth
-memory-granted q d k {new} well granted given some =
-    let own_view : is_granting (view new.service q) ≡ true = rw (granted, same_number q) refl in
-    let nobody : (i : ℕ) → is_out (new.pair i) (view new.service i) ≡ false = λ i. elim (cases_eq i q) [
-      | inl same ↦ rw same (cc (and-false (same_perm (new.pair q).recorded Perm.Trunk)))
-      | inr other ↦ ap (λ x. x && not (is_granting (view new.service i))) (not_trunk i other)
-    ] in
-    well.memory nobody
-  where
-    not_trunk : (i : ℕ) → (i ≡ q → ⊥) → same_perm (new.pair i).recorded Perm.Trunk ≡ false
-    not_trunk i other = false_from_ne_true (same_perm (new.pair i).recorded Perm.Trunk) (λ top.
-        let alone : same_perm (new.pair q).recorded Perm.None ≡ true = well.one_owner i q top (λ f. other (sym f)) in
-        let none : same_perm (cap_right k) Perm.None ≡ true = rw given at alone in
-        let differ : false ≡ true = sym some ∙ none in
-        cc)
+memory-granted q d k {new} well granted given some = grind (arith, cases_eq)
 
 payload-same : (d : Bool) (f : Memory) (n : ℕ) (truth : List ℕ) → bytes_from f (64 * n) 64 ≡ truth
     → grant_payload d f n ≡ (if d then truth else handing.no_payload)
@@ -66,8 +51,7 @@ payload-same d f n truth e = grind arith
 grant-is : {w : ℕ} (v : manager.Service w) (q n source tracker : ℕ) (d : Bool) (k : Cap) (f : Memory) (truth : List ℕ)
     → v.request.source ≡ source → v.tracker ≡ tracker → block_at v.request.address ≡ n
     → bytes_from f (64 * n) 64 ≡ truth → grant_with v k d f ≡ grant_of (GrantSent q d k) source tracker truth
-grant-is v q n source tracker d k f truth sourced tracked block bytes =
-    rw (sourced, tracked, block, payload-same d f n truth bytes) refl
+grant-is v q n source tracker d k f truth sourced tracked block bytes = grind (arith, payload-same)
 
 -- the Grant is that of the token, where the block is well afterwards
 pub handed-granted : {w : ℕ} {config : Config} {log : Log w} {mail : AccessMessages w} {request : ℕ → MessageA w}

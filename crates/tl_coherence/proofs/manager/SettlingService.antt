@@ -1,5 +1,5 @@
 -- The service that the last report of a block settles.
-use Rattle.std.proofs.Common.{◌≡◌, ℕ, Bool, true, false, not, Some, length, refl, ◌∙◌, ap}
+use Rattle.std.proofs.Common.{◌≡◌, ℕ, Bool, true, false, not, Some, length, refl, ◌∙◌, ap, arith}
 use Rattle.tl_coherence.proofs
 use proofs.Imports.{Beat, Channel, MessageC, MessageD, c_beat_of, Config, Cap, Report, Perm, report_code, report_left}
 use proofs.Imports.{report_right, Trace, same_perm, is_release_ack, reported-report, memory_with, is_taken, passed}
@@ -41,8 +41,7 @@ settling-all {config} {c} {q} {n} {source} {k} {own} {low} {r} {m} {h} {e} at =
 settling-found : {w : ℕ} {config : Config} {c q n source k : ℕ} {own : Bool} {low : Cap} {r : Report} {m : MessageC w}
     {h : AbstractState w} {e : End w} → IsSettling config c q n source k own low r m h e
     → service_of_block n (services (trace_with c k m e)) ≡ Some (service_for q n h.request h.state)
-settling-found {c} {n} {k} {m} {e} at = ap (service_of_block n)
-    ((quiet-c (record { 0 = c }) (c_beat_of m k) e.trace).serves) ∙ at.is.traced.serving_is n ∙ rw at.waits refl
+settling-found {c} {n} {k} {m} {e} at = grind (arith, quiet-c)
 
 pub settling-ready : {w : ℕ} {config : Config} {c q n source k : ℕ} {own : Bool} {low : Cap} {r : Report}
     {m : MessageC w} {h : AbstractState w} {e : End w} → IsSettling config c q n source k own low r m h e

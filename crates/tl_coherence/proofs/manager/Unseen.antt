@@ -1,5 +1,6 @@
 -- Events that the manager doesn't see: clients that are asked, and beats that clients take. What it knows stays so.
-use Rattle.std.proofs.Common.{◌≡◌, ℕ, Bool, true, false, List, ◌∷◌, refl, sym, ◌∙◌, ap, ap₂, inl, inr, eqb-true, ◌==◌, arith}
+use Rattle.std.proofs.Common.{◌≡◌, ℕ, Bool, true, false, List, ◌∷◌, refl, sym}
+use Rattle.std.proofs.Common.{◌∙◌, ap, ap₂, inl, inr, eqb-true, ◌==◌, arith}
 use Rattle.tl_coherence.proofs
 use proofs.Imports.{cases_eq, Message, MessageA, Config, Cap, Grow, block_at, Op, Reply, copy_stored, whole_grow}
 use proofs.Imports.{access, End, IsInvariant, Kind, Probe, Answer, Grant, ReleaseAck, Packet, set, set_at, ClientBlock}

@@ -1,11 +1,11 @@
 -- The one-memory machine beside the protocol, after events: what is open at each source, and the memory.
-use Rattle.std.proofs.Common.{◌≡◌, ℕ, Bool, true, false, ◌&&◌, List, [], ◌∷◌, Option, Some, None, refl, sym, ◌∙◌, subst, arith}
-use Rattle.std.proofs.Common.{◌⊎◌, inl, inr, ne_eqb, ◌==◌, if◌then◌else◌}
+use Rattle.std.proofs.Common.{◌≡◌, ℕ, List, [], ◌∷◌, Option, Some, None, refl, sym, ◌∙◌, subst, arith, ◌⊎◌, inl, inr}
+use Rattle.std.proofs.Common.{ne_eqb}
 use Rattle.tl_coherence.proofs
 use proofs.Imports.{cases_eq, ⊤, Message, IsBlock, effect, Op, set_at, State, SourceState, SourceFree, Asked, InService}
 use proofs.Imports.{Replied, Acquires, IsAccess, MemoryRelation, Answers, IsOpened, IsLet, AccessMessages, Machine}
-use proofs.Imports.{Open, Pool, Requests, Releases, same_pool, with_open, with_memory, performing}
-use Rattle.tl_coherence.specs.statement.Machine.{performed}
+use proofs.Imports.{Open, Pool, Requests, Releases, with_open, with_memory, performing}
+use Rattle.tl_coherence.{specs.statement.Machine.performed}
 use proofs.queues.Tokens.{same_number, set_at-same}
 
 -- ---- one place of two numbers
@@ -83,8 +83,7 @@ pub record IsStill {w : ℕ} (mail : AccessMessages w) (s s' : State (List ℕ))
 pub same_acquire : (c : ℕ) (s s' : State (List ℕ)) (u : SourceState)
     → ((n : ℕ) → (((s'.block n).pair c).acquiring ≡ ((s.block n).pair c).acquiring)
     × ((s'.block n).waiting c ≡ (s.block n).waiting c)) → IsSameAcquire c s s' u
-same_acquire c s s' (Acquires n) e = e n
-same_acquire c s s' u e = tt
+same_acquire c s s' u e = grind arith
 
 same_answer : {w : ℕ} (u : SourceState) (x : Message w) → IsSameAnswer u x x
 same_answer u x = grind arith

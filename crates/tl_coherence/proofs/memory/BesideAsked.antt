@@ -1,6 +1,6 @@
 -- The one-memory machine beside the protocol, after an operation that a client is asked for.
 use Rattle.std.proofs.Common.{◌≡◌, ℕ, Bool, true, false, ◌&&◌, List, Option, Some, None, length, refl, sym, ◌∙◌, ap}
-use Rattle.std.proofs.Common.{subst, ◌⊎◌, inl, inr, ◌==◌}
+use Rattle.std.proofs.Common.{arith, subst, ◌⊎◌, inl, inr, ◌==◌}
 use Rattle.tl_coherence.proofs
 use proofs.Imports.{cases_eq, ⊤, Message, MessageA, Grow, Prune, Perm, same_perm, Memory, IsBlock, block_at, word_room}
 use proofs.Imports.{Op, Reply, copy_stored, is_word, whole_grow, access, acquires_of, IsInvariant, set_at, set}
@@ -10,11 +10,11 @@ use proofs.Imports.{stored_block, block_stored, is_wanting, AbstractState, asked
 use proofs.Imports.{AreSized, Machine, Open, Requests, Releases, with_open, after_reply, with_number}
 use proofs.memory.Beside.{IsElsewhere, IsSameAcquire, set_at-there, open-here, open-there, open-releases, open-requests}
 use proofs.memory.Beside.{beside-still, beside-used, beside-let}
-use proofs.protocol.FollowKept.{IsAskable}
 use proofs.memory.OneMemory.{block-stored, block-unstored}
-use proofs.simulation.SizedAfter.{IsSizedAsk}
-use proofs.queues.{Perms.trunk-some, Tokens.same_number, Tokens.set-same, Tokens.set-other, Tokens.set-part}
-use proofs.queues.{Tokens.set_at-same}
+use proofs.protocol.{FollowKept.IsAskable}
+use proofs.simulation.{SizedAfter.IsSizedAsk}
+use proofs.queues.{Perms.trunk-some}
+use proofs.queues.Tokens.{same_number, set-same, set-other, set-part, set_at-same}
 
 -- ---- Acquires of other sources
 
@@ -25,30 +25,7 @@ pub acquires-else : (c n source : ℕ) (new : Block (List ℕ)) (p : ClientBlock
     → ((d : ℕ) → (d ≡ c → ⊥) → new.waiting d ≡ (s.block n).waiting d)
     → ((i : ℕ) → (i ≡ source → ⊥) → s.uses c i ≡ Acquires n → ⊥)
     → (d i : ℕ) → IsElsewhere c source d i → IsSameAcquire d s s' (s.uses d i)
-acquires-else c n source new p s s' blocks pairs waits alone d i else_ = go (s.uses d i) refl
-  where
-    here : (d ≡ c → ⊥) → (((s'.block n).pair d).acquiring ≡ ((s.block n).pair d).acquiring)
-        × ((s'.block n).waiting d ≡ (s.block n).waiting d)
-    here ne =
-        let at : s'.block n ≡ new = blocks n ∙ set-same n new s.block in let fact =
-        ap (λ (b : Block (List ℕ)). (b.pair d).acquiring) at ∙ ap (λ (q : ClientBlock). q.acquiring) (pairs d
-        ∙ set-other c d p (s.block n).pair ne) in (fact, ap (λ (b : Block (List ℕ)). b.waiting d) at ∙ waits d ne)
-
-    there : (k : ℕ) → (k ≡ n → ⊥) → (((s'.block k).pair d).acquiring ≡ ((s.block k).pair d).acquiring)
-        × ((s'.block k).waiting d ≡ (s.block k).waiting d)
-    there k ne =
-        let at : s'.block k ≡ s.block k = blocks k ∙ set-other n k new s.block ne in
-        (ap (λ (b : Block (List ℕ)). (b.pair d).acquiring) at, ap (λ (b : Block (List ℕ)). b.waiting d) at)
-
-    apart : (k : ℕ) → s.uses d i ≡ Acquires k → k ≡ n → d ≡ c → ⊥
-    apart k e same at = alone i (λ f. else_ at f) (rw (at, same) at e)
-
-    go : (u : SourceState) → s.uses d i ≡ u → IsSameAcquire d s s' u
-    go (Acquires k) e = elim (cases_eq k n) [
-      | inl same ↦ rw same (here (apart k e same))
-      | inr other ↦ there k other
-    ]
-    go u e = tt
+acquires-else c n source new p s s' blocks pairs waits alone d i else_ = grind (arith, cases_eq)
 
 -- who acquires nothing of a block has no source for it
 calm-none : {caching : ℕ → Bool} {s : State (List ℕ)} (c n i : ℕ) → IsInvariant caching s

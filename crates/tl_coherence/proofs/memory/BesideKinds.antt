@@ -1,15 +1,14 @@
 -- The one-memory machine beside the protocol, after each message that is taken.
-use Rattle.std.proofs.Common.{◌≡◌, subst, ℕ, ◌≤◌, Bool, true, false, not, ◌&&◌, List, [], ◌∷◌, Option, Some, None, arith}
-use Rattle.std.proofs.Common.{length, refl, sym, ◌∙◌, ap, ◌⊎◌, inl, inr, ◌==◌, if◌then◌else◌}
+use Rattle.std.proofs.Common.{◌≡◌, subst, ℕ, ◌≤◌, Bool, true, false, not, ◌&&◌, List, [], ◌∷◌, Option, Some, None}
+use Rattle.std.proofs.Common.{arith, length, refl, sym, ◌∙◌, ap, ◌⊎◌, inl, inr, ◌==◌, if◌then◌else◌}
 use Rattle.tl_coherence.proofs
-use proofs.Imports.{cases_eq, ⊤, Message, MessageA, Config, Cap, Report, Profile, effect, block_at, cap_probed}
-use proofs.Imports.{IsInvariant, set_at, Kind, Request, ProbeAck, Packet, set, ClientBlock, AcquireOpen, ProbeAnswered}
-use proofs.Imports.{AcquirePhase, NoAcquire, is_unprobed, after_served, after_grant_sent, after_report, Block, State}
-use proofs.Imports.{Service, Waits, written, performed_block, served_block, granted_at_once, reported_block}
-use proofs.Imports.{ended_block, granted_block, granted_pair, access_answered, access_served, report_taken}
-use proofs.Imports.{report_answers, AbstractState, some_below, bytes_at, performs, answers, probes_some, access_taken}
-use proofs.Imports.{request_taken, acquire_taken, granted_after, last_taken, ack_taken, MemoryRelation, AccessMessages}
-use proofs.Imports.{Machine, performing}
+use proofs.Imports.{⊤, Message, MessageA, Config, Cap, Report, Profile, effect, block_at, cap_probed, IsInvariant}
+use proofs.Imports.{set_at, Kind, Request, ProbeAck, Packet, set, ClientBlock, AcquireOpen, ProbeAnswered, AcquirePhase}
+use proofs.Imports.{NoAcquire, is_unprobed, after_served, after_grant_sent, after_report, Block, State, Service, Waits}
+use proofs.Imports.{written, performed_block, served_block, granted_at_once, reported_block, ended_block, granted_block}
+use proofs.Imports.{granted_pair, access_answered, access_served, report_taken, report_answers, AbstractState}
+use proofs.Imports.{some_below, bytes_at, performs, answers, probes_some, access_taken, request_taken, acquire_taken}
+use proofs.Imports.{granted_after, last_taken, ack_taken, MemoryRelation, AccessMessages, Machine, performing}
 use proofs.memory.Beside.{beside-still, beside-used, same_acquire}
 use proofs.memory.BesideTaken.{IsPerformed, beside-performed, memory-unprobed, memory-reported, intent-reply}
 use proofs.queues.{Tokens.set-same, Tokens.set-other, Tokens.set-part, Codes.low_cap}
@@ -43,17 +42,7 @@ pub beside_block : {w : ℕ} (n : ℕ) (new : Block (List ℕ)) {mail : AccessMe
     → ((d i : ℕ) → s'.uses d i ≡ s.uses d i) → ((d i : ℕ) → s'.lets d i ≡ s.lets d i) → new.truth ≡ (s.block n).truth
     → ((d : ℕ) → (new.pair d).acquiring ≡ ((s.block n).pair d).acquiring)
     → ((d : ℕ) → new.waiting d ≡ (s.block n).waiting d) → MemoryRelation mail s m → MemoryRelation mail s' m
-beside_block {w} n new {mail} {s} s' {m} blocks uses lets truth acquiring waiting h = beside-still (record {
-  memory = λ i. rw (ap (λ (b : Block (List ℕ)). b.truth) (blocks i) ∙ set-part (λ (b : Block (List ℕ)). b.truth) n new
-      s.block truth i) (h.memory i);
-  uses = uses;
-  lets = lets;
-  opened = λ d pool i. refl;
-  acquires = λ d i. (
-    cc (blocks i, set-part (λ (b : Block (List ℕ)). (b.pair d).acquiring) n new s.block (acquiring d) i),
-    cc (blocks i, set-part (λ (b : Block (List ℕ)). b.waiting d) n new s.block (waiting d) i),
-  );
-}) h
+beside_block {w} n new {mail} {s} s' {m} blocks uses lets truth acquiring waiting h = grind (arith, beside-still)
 
 -- one client's pair changes, and not what it acquires
 pub same_acquiring : (c : ℕ) (p : ClientBlock) (f : ℕ → ClientBlock) → p.acquiring ≡ (f c).acquiring → (d : ℕ)

@@ -1,25 +1,24 @@
 -- The one-memory machine beside the protocol after a beat of a request is taken: an access that is
 -- answered is performed.
-use Rattle.std.proofs.Common.{◌≡◌, subst, ℕ, suc, Bool, true, false, not, List, [], ◌∷◌, Option, Some, None, length, arith}
-use Rattle.std.proofs.Common.{refl, sym, ◌∙◌, ap, ◌⊎◌, inl, inr, if◌then◌else◌}
+use Rattle.std.proofs.Common.{◌≡◌, subst, ℕ, suc, Bool, true, false, not, List, [], ◌∷◌, Option, Some, None, length}
+use Rattle.std.proofs.Common.{arith, refl, sym, ◌∙◌, ap, ◌⊎◌, inl, inr}
 use Rattle.tl_coherence.proofs
 use proofs.Imports.{Beat, Message, MessageA, a_beat_of, beats_of, Config, Cap, Trace, Memory, effect, answer_of}
-use proofs.Imports.{block_at, same_block, performed-acquire, Handed, Reaction, probes, access_answer, grant_opcode}
-use proofs.Imports.{grant, cap_probed, recorded, probed, reaction, is_access_answer, cap_asked, Request, Acquire}
-use proofs.Imports.{Packet, AcquireOpen, Block, is_probed, AbstractState, bytes_at, some_below, probes_some}
-use proofs.Imports.{request_taken, kind_taken, IsAccess, MemoryRelation, SimulationRelation, Log, Machine, Requests}
-use proofs.Imports.{accesses_answered, performing, System}
-use Rattle.tl_rules.specs.declared.answer.Answer.{Answer}
-use Rattle.tl_manager.{specs.statement.Handing.is_granted_data, specs.statement.Service.Service}
-use Rattle.tl_coherence.specs.statement.Machine.{Performs}
-use proofs.manager.{Arrivals.link_of, Arrivals.with_beat, Arrivals.IsComing, Arrivals.service_for}
+use proofs.Imports.{block_at, same_block, performed-acquire, Handed, Reaction, probes, access_answer, grant, cap_probed}
+use proofs.Imports.{probed, reaction, cap_asked, Request, Acquire, Packet, AcquireOpen, Block, is_probed, AbstractState}
+use proofs.Imports.{bytes_at, some_below, probes_some, request_taken, kind_taken, IsAccess, MemoryRelation}
+use proofs.Imports.{SimulationRelation, Log, Machine, Requests, accesses_answered, performing, System}
+use Rattle.tl_rules.{specs.declared.answer.Answer.Answer}
+use Rattle.tl_manager.{specs.statement.Service.Service}
+use Rattle.tl_coherence.{specs.statement.Machine.Performs}
 use proofs.manager.{AtRequests.reaction-probing, Choices.plain-past, RequestsHanded.handed-answered}
-use proofs.manager.{RequestsTaken.caps_asked, RequestsTaken.acquire_wanted, UnwaitedRequests.next_tracker}
-use proofs.manager.{UnwaitedRequests.probed-some, UnwaitedRequests.reaction-performed}
+use proofs.manager.Arrivals.{link_of, with_beat, IsComing, service_for}
+use proofs.manager.RequestsTaken.{caps_asked, acquire_wanted}
+use proofs.manager.UnwaitedRequests.{next_tracker, probed-some, reaction-performed}
 use proofs.memory.{BesideTaken.IsPerformed, Beside.done_at, Beside.performed-open, Beside.performing-one}
-use proofs.memory.{BesideKinds.access_list, BesideKinds.beside-request, BesideKinds.beside-acquire}
+use proofs.memory.BesideKinds.{access_list, beside-request, beside-acquire}
 use proofs.protocol.Heads.{IsAsked, IsWanted}
-use proofs.queues.Codes.{acquires-so}
+use proofs.queues.{Codes.acquires-so}
 
 -- ---- which accesses are answered
 

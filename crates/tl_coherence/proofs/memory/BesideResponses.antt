@@ -1,15 +1,15 @@
 -- The one memory stays beside the protocol where a client takes a response.
 use Rattle.std.proofs.Common.{◌≡◌, subst, ℕ, Bool, true, false, ◌&&◌, List, Option, Some, None, refl, sym, ◌∙◌, ap, ◌⊎◌}
-use Rattle.std.proofs.Common.{inl, inr, ne_eqb, ◌==◌}
+use Rattle.std.proofs.Common.{arith, inl, inr, ne_eqb, ◌==◌}
 use Rattle.tl_coherence.proofs
 use proofs.Imports.{and-false, cases_eq, Message, Cap, IsBlock, Op, acquires_of, IsInvariant, Packet, set, AcquireOpen}
 use proofs.Imports.{AcquirePhase, NoAcquire, is_unreleased, is_whole, after_release_ack, after_grant, Block, State}
 use proofs.Imports.{SourceState, Replied, Acquires, taken_block, granted_truth, let_go_block, answer_taken, grant_taken}
 use proofs.Imports.{release_ack_taken, is_wanting, MemoryRelation, op_of, IsOpened, IsLet, AccessMessages, Machine}
 use proofs.Imports.{Open, Requests, Releases, with_open, with_memory, memory_after, after_end}
-use Rattle.tl_manager.proofs.blocks.Blocks.{block-put}
-use proofs.memory.Beside.{open-here, open-there, open-releases, open-requests, beside-used, beside-let, same_acquire}
+use Rattle.tl_manager.{proofs.blocks.Blocks.block-put}
 use proofs.memory.{BesideAsked.acquires-else, OneMemory.block-besides, BesideKinds.same_acquiring}
+use proofs.memory.Beside.{open-here, open-there, open-releases, open-requests, beside-used, beside-let, same_acquire}
 use proofs.protocol.BothParts.{is_of-is, acquires_of-is}
 use proofs.queues.Tokens.{same_number, set-same, set-other, set-part}
 
@@ -100,9 +100,7 @@ beside-grant {w} {caching} c n d k rest {mail} {s} {m} inv wants h =
 
     here : (x : AcquirePhase) (waits : List ℕ) → is_wanting x ≡ true
         → IsBlock (memory_after (op_of {w = w} x n waits) m.memory) n (granted_truth (is_whole x) waits b.truth)
-    here NoAcquire waits e = absurd cc
-    here (AcquireOpen true g) waits e = block-put m.memory n waits
-    here (AcquireOpen false g) waits e = h.memory n
+    here x waits e = grind (arith, block-put, n)
 
     there : (x : AcquirePhase) (waits : List ℕ) (i : ℕ) → is_wanting x ≡ true → (i ≡ n → ⊥)
         → IsBlock (memory_after (op_of {w = w} x n waits) m.memory) i (s.block i).truth

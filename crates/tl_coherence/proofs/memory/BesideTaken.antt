@@ -1,13 +1,13 @@
 -- The one-memory machine beside the protocol, after a message that is taken: which accesses are
 -- performed, and which operation ends.
-use Rattle.std.proofs.Common.{◌≡◌, subst, ℕ, ◌^◌, ◌≤◌, Bool, true, false, not, ◌&&◌, List, [], ◌∷◌, Some, None, length, arith}
-use Rattle.std.proofs.Common.{refl, sym, ◌∙◌, ap, ◌⊎◌, inl, inr, if◌then◌else◌}
+use Rattle.std.proofs.Common.{◌≡◌, subst, ℕ, ◌^◌, ◌≤◌, Bool, true, false, not, ◌&&◌, List, [], ◌∷◌, Some, None, length}
+use Rattle.std.proofs.Common.{arith, refl, sym, ◌∙◌, ap, ◌⊎◌, inl, inr, if◌then◌else◌}
 use Rattle.tl_coherence.proofs
 use proofs.Imports.{cases_eq, cases_lt, not-true, OpA, IsWidth, Message, MessageA, Config, Cap, Report, Perm}
 use proofs.Imports.{report_left, same_perm, Memory, IsBlock, effect, block_at, is_acquire, Op, sourced, length-bytes}
-use proofs.Imports.{cap_probed, level_of, IsWell, set_at, ClientBlock, View, ProbePhase, NoProbe, ProbeAnswered, ok}
-use proofs.Imports.{same_cap, is_unprobed, is_above, Block, State, SourceState, Replied, Acquires, is_probed, Waits}
-use proofs.Imports.{view, written, is_sent, some_below, bytes_at, performs, answers, IsAccess, MemoryRelation, IsReach}
+use proofs.Imports.{cap_probed, level_of, IsWell, set_at, ClientBlock, View, ProbePhase, ProbeAnswered, ok, same_cap}
+use proofs.Imports.{is_unprobed, is_above, Block, State, SourceState, Replied, Acquires, is_probed, Waits, view}
+use proofs.Imports.{written, is_sent, some_below, bytes_at, performs, answers, IsAccess, MemoryRelation, IsReach}
 use proofs.Imports.{Answers, AccessMessages, report_told, IsRequest, Machine, Open, Requests, with_memory, performing}
 use Rattle.tl_rules.specs.statement.Effect as memory
 use proofs.memory.Beside.{IsSameAcquire, set_at-there, open-here, open-there, open-releases, performing-one}

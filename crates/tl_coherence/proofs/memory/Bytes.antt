@@ -1,15 +1,15 @@
 -- The one memory has bytes, and so have the operations that are open and their answers.
-use Rattle.std.proofs.Common.{◌≡◌, ℕ, zero, suc, ◌+◌, ◌-◌, ◌/◌, ◌%◌, ◌^◌, ◌<◌, Bool, true, false, List, [], ◌∷◌, Option, arith}
-use Rattle.std.proofs.Common.{Some, None, length, refl, inl, inr, lit<, ◌&&◌, ◌==◌, if◌then◌else◌, slice_get}
+use Rattle.std.proofs.Common.{◌≡◌, ℕ, zero, suc, ◌+◌, ◌-◌, ◌/◌, ◌%◌, ◌^◌, ◌<◌, Bool, true, false, List, [], ◌∷◌, Option}
+use Rattle.std.proofs.Common.{arith, Some, None, length, inl, inr, lit<, ◌&&◌, ◌==◌, if◌then◌else◌, slice_get}
 use Rattle.std.proofs.Common.{slice_index, unwrap_or}
+use Rattle.std.{proofs.lemmas.List.get_or_past, proofs.lemmas.List.Elements.All-get_or}
+use Rattle.std.{proofs.lemmas.Option.get_or_from_slice_get}
 use Rattle.tl_coherence.proofs
 use proofs.Imports.{cases_lt, All-nil, All-cons, mod_below, OpA, a_carries_data, Message, MessageA, reaches, Config}
 use proofs.Imports.{Memory, effect, bytes_from, byte_of, block_at, Op, Reply, Event, Ask, Deliver, Outcome, Log}
 use proofs.Imports.{system_after, Machine, Open, Pool, Requests, after_end, after_reply, memory_after, same_pool}
-use proofs.Imports.{with_memory, with_open, moved, performed_op, performed_open, pool_of, pool_of_op}
-use proofs.Imports.{accesses_answered, performing, one_memory_after, AreBytes, stepped}
-use Rattle.std.{proofs.lemmas.List.get_or_past, proofs.lemmas.List.Elements.All-get_or}
-use Rattle.std.{proofs.lemmas.Option.get_or_from_slice_get}
+use proofs.Imports.{with_memory, with_open, moved, performed_op, performed_open, pool_of, pool_of_op, accesses_answered}
+use proofs.Imports.{performing, one_memory_after, AreBytes, stepped}
 use Rattle.tl_burst.specs.statement.Burst.{bit, byte_if, place_of}
 use Rattle.tl_coherence.specs.statement.Ranged.{AreRanged, IsRanged, IsRangedOp}
 use Rattle.tl_rules.specs.statement.Effect as memory
@@ -47,11 +47,7 @@ got-byte (Some x) bytes i old e are small = rw (get_or_from_slice_get bytes i x 
 
 put-byte : (counts : ℕ → Bool) (payload : List ℕ) (p : Option ℕ) (old : ℕ) → AreBytes payload → old < 2 ^ 8
     → unwrap_or (byte_if counts payload p) old < 2 ^ 8
-put-byte counts payload None old are small = small
-put-byte counts payload (Some p) old are small =
-    let go : (b : Bool) → unwrap_or (if b then slice_get payload p else None) old < 2 ^ 8 =
-    elim [ true ↦ got-byte (slice_get payload p) payload p old refl are small | false ↦ small ] in
-    go (counts p)
+put-byte counts payload p old e f = grind (arith, got-byte)
 
 -- what is answered are bytes
 abbrev pub IsRangedReply : memory.AccessResult → Type 0
@@ -62,12 +58,7 @@ module _ {w : ℕ} (m : MessageA w) (f : Memory) (payload : AreBytes m.payload) 
   stored-byte : (address : ℕ)
       → unwrap_or (if a_carries_data m.opcode then byte_if (λ p. bit m.mask p) m.payload (place_of w m.address address)
       else None) (f address) < 2 ^ 8
-  stored-byte address = go (a_carries_data m.opcode)
-    where
-      go : (b : Bool) → unwrap_or (if b then byte_if (λ p. bit m.mask p) m.payload (place_of w m.address address) else
-          None) (f address) < 2 ^ 8
-      go true = put-byte (λ p. bit m.mask p) m.payload (place_of w m.address address) (f address) payload (are address)
-      go false = are address
+  stored-byte address = grind (arith, put-byte)
 
   made-byte : (n address : ℕ) → memory.with_number m n f address < 2 ^ 8
   made-byte n address = either (reaches m.address m.size address) (byte_of n (address - m.address)) (f address)

@@ -1,13 +1,12 @@
 -- Copies are coherent with the one memory, and the open operations are those that were started.
-use Rattle.std.proofs.Common.{◌≡◌, ℕ, Bool, true, false, ◌&&◌, List, [], ◌∷◌, Option, Some, None, refl, sym, ◌∙◌, ap, arith}
-use Rattle.std.proofs.Common.{subst, eqb-true, ◌==◌, if◌then◌else◌, option_map, unwrap_or}
+use Rattle.std.proofs.Common.{◌≡◌, ℕ, true, ◌&&◌, List, [], ◌∷◌, Option, Some, None, refl, sym, ◌∙◌, ap, arith, subst}
+use Rattle.std.proofs.Common.{◌==◌, if◌then◌else◌, option_map, unwrap_or}
 use Rattle.tl_coherence.proofs
-use proofs.Imports.{MessageA, Config, IsBlock, swapped, Op, Reply, Event, Ask, Deliver, Outcome, State, view}
-use proofs.Imports.{AccessMessages, SimulationRelation, started, IsCoherent, Log, system_after, Machine, Open, Pool}
-use proofs.Imports.{Requests, Releases, same_pool, with_open, with_memory, memory_after, after_reply, after_end}
-use proofs.Imports.{pool_of, moved, performed_op, performed_open, one_memory_after, performing, accesses_answered}
-use proofs.Imports.{stepped}
-use Rattle.tl_coherence.specs.{statement.Coherent.started_at, statement.Machine.performed}
+use proofs.Imports.{MessageA, Config, IsBlock, Op, Reply, Event, Ask, Outcome, State, view, AccessMessages}
+use proofs.Imports.{SimulationRelation, started, IsCoherent, Log, system_after, Machine, Open, Pool, Requests, Releases}
+use proofs.Imports.{same_pool, with_open, with_memory, after_reply, after_end, moved, performed_op, performed_open}
+use proofs.Imports.{one_memory_after, performing, accesses_answered, stepped}
+use Rattle.tl_coherence.{specs.statement.Coherent.started_at, specs.statement.Machine.performed}
 use Rattle.tl_rules.specs.statement.Effect as memory
 use proofs.queues.{Facts.held_at_most, Perms.held-some, Perms.none_below, Perms.trunk_below}
 
@@ -15,9 +14,6 @@ use proofs.queues.{Facts.held_at_most, Perms.held-some, Perms.none_below, Perms.
 
 abbrev asked_at : {w : ℕ} → ℕ → Pool → ℕ → Machine w → Option (Op w)
 asked_at c pool source m = option_map (λ o. o.asked) (m.opened c pool source)
-
-pool_swap : (p q : Pool) → same_pool p q ≡ same_pool q p
-pool_swap p q = grind arith
 
 same_pool_is : (p q : Pool) → same_pool p q ≡ true → p ≡ q
 same_pool_is p q e = grind arith
@@ -34,13 +30,7 @@ same_there : {w : ℕ} (client : ℕ) (at : Pool) (n : ℕ) (x : Option (Op w)) 
     (source : ℕ) → asked_at client at n m ≡ x
     → asked_at c pool source m ≡ (if (client == c) && (same_pool at pool && (n == source)) then x else asked_at c pool
     source m)
-same_there {w} client at n x m c pool source e = go (client == c) (same_pool at pool) (n == source) refl refl refl
-  where
-    go : (a b d : Bool) → (client == c) ≡ a → same_pool at pool ≡ b → (n == source) ≡ d
-        → asked_at c pool source m ≡ (if a && (b && d) then x else asked_at c pool source m)
-    go true true true f g h = let one = eqb-true client c f in let two = same_pool_is at pool g in let three =
-        eqb-true n source h in rw (← one, ← two, ← three) e
-    go a b d f g h = refl
+same_there {w} client at n x m c pool source e = grind (arith, same_pool_is)
 
 reply_opened : {w : ℕ} (client : ℕ) (o : Op w) (r : Reply) (m : Machine w) (c : ℕ) (pool : Pool) (source : ℕ)
     → asked_at c pool source (after_reply client o r m) ≡ started_at (Ask client o) (Outcome.Replied r) c pool source
@@ -62,17 +52,11 @@ reply_opened client o r m c pool source = refl
 end_opened : {w : ℕ} (client : ℕ) (at : Pool) (n : ℕ) (o : Option (Open w)) (m : Machine w) (c : ℕ) (pool : Pool)
     (source : ℕ) → m.opened client at n ≡ o → asked_at c pool source (after_end client at n o m)
     ≡ (if (client == c) && (same_pool at pool && (n == source)) then None else asked_at c pool source m)
-end_opened client at n None m c pool source e =
-    same_there client at n None m c pool source (ap (option_map (λ o. o.asked)) e)
-end_opened client at n (Some o) m c pool source e =
-    opened_with client at n None (with_memory (memory_after o.asked m.memory) m) c pool source
+end_opened client at n o m c pool source e = grind (arith, same_there, opened_with)
 
 moved_opened : {w : ℕ} (e : Event w) (o : Outcome w) (m : Machine w) (c : ℕ) (pool : Pool) (source : ℕ)
     → asked_at c pool source (moved e o m) ≡ started_at e o c pool source (asked_at c pool source m)
-moved_opened (Ask client i) (Outcome.Replied r) m c pool source = reply_opened client i r m c pool source
-moved_opened (Deliver link ch) (Outcome.Done x n f) m c pool source =
-    end_opened link.0 (pool_of f) n (m.opened link.0 (pool_of f) n) m c pool source refl
-moved_opened e o m c pool source = refl
+moved_opened e o m c pool source = grind (arith, reply_opened, end_opened)
 
 -- ---- performing asks for nothing else
 
@@ -91,11 +75,7 @@ op_opened {w} client n o m c pool source e = go o.asked o.answer (ap (option_map
 
 one_opened : {w : ℕ} (client n : ℕ) (m : Machine w) (c : ℕ) (pool : Pool) (source : ℕ)
     → asked_at c pool source (unwrap_or (performed client n m) m) ≡ asked_at c pool source m
-one_opened {w} client n m c pool source =
-    let go : (o : Option (Open w)) → m.opened client Requests n ≡ o
-    → asked_at c pool source (unwrap_or (performed_open client n o m) m) ≡ asked_at c pool source m =
-    elim [ None ↦ λ e. refl | Some o ↦ λ e. op_opened client n o m c pool source e ] in
-    go (m.opened client Requests n) refl
+one_opened {w} client n m c pool source = grind (arith, op_opened)
 
 performing_opened : {w : ℕ} (accesses : List (ℕ × ℕ)) (m : Machine w) (c : ℕ) (pool : Pool) (source : ℕ)
     → asked_at c pool source (performing accesses m) ≡ asked_at c pool source m

@@ -1,15 +1,14 @@
 -- The one memory, block by block: after an access, a Store, and a store of a whole block.
-use Rattle.std.proofs.Common.{◌≡◌, ℕ, zero, suc, ◌+◌, ◌-◌, ◌*◌, ◌/◌, ◌%◌, ◌^◌, ◌<◌, ◌≤◌, Bool, true, false, ◌&&◌, List}
-use Rattle.std.proofs.Common.{[], ◌∷◌, Option, Some, None, length, refl, sym, ◌∙◌, ap, ◌⊎◌, inl, inr, arith, ne_eqb}
-use Rattle.std.proofs.Common.{le-leb, lt-ltb, leb-true, if◌then◌else◌, slice_index, nat_le, ltb-true, ◌≢◌, get_or}
-use Rattle.std.proofs.Common.{nat_lt}
+use Rattle.std.proofs.Common.{◌≡◌, ℕ, ◌+◌, ◌-◌, ◌*◌, ◌/◌, ◌%◌, ◌^◌, ◌<◌, ◌≤◌, Bool, true, false, ◌&&◌, List, Option}
+use Rattle.std.proofs.Common.{Some, None, length, refl, sym, ◌∙◌, ap, ◌⊎◌, inl, inr, arith, le-leb, lt-ltb, leb-true}
+use Rattle.std.proofs.Common.{if◌then◌else◌, slice_index, nat_le, ltb-true, ◌≢◌, get_or, nat_lt}
 use Rattle.tl_coherence.proofs
-use proofs.Imports.{cases_lt, and_parts, OpA, IsWidth, A, MessageA, beats_of, IsBlankAfter, reaches, Level, Memory}
-use proofs.Imports.{IsBlock, effect, bytes_from, byte_of, block_at, is_acquire, length-stored, copy_stored, sourced}
-use proofs.Imports.{bytes_are, illegal_message_at, with_block, bytes_at, performs, with_number}
+use proofs.Imports.{cases_lt, and_parts, IsWidth, A, MessageA, beats_of, IsBlankAfter, reaches, Level, Memory, IsBlock}
+use proofs.Imports.{effect, bytes_from, byte_of, block_at, is_acquire, length-stored, copy_stored, sourced, bytes_are}
+use proofs.Imports.{illegal_message_at, with_block, bytes_at, performs, with_number}
 use Rattle.tl_rules.{proofs.Blocks.effect_elsewhere, proofs.Legal.access_at_uh}
 use Rattle.tl_client.proofs.caching_client.Stores.{stored-inside, stored-outside}
-use Rattle.tl_manager.proofs.blocks.Memories.{access_code}
+use Rattle.tl_manager.{proofs.blocks.Memories.access_code}
 use proofs.manager.Memories.{performed-block, performed-reply, byte_in}
 
 -- ---- a block's bytes, as a list and by their places
@@ -47,8 +46,7 @@ blocks-performed {w} o m f truth width access lawful blank long is =
 pub reply-performed : {w : ℕ} (o : Option Level) (m : MessageA w) (f : Memory) (bytes : List ℕ) → IsWidth w
     → illegal_message_at o (A m) ≡ None → IsBlock f (block_at m.address) bytes → length bytes ≡ 64
     → (effect (A m) f).1 ≡ (effect (A m) (bytes_at (block_at m.address) bytes)).1
-reply-performed o m f bytes width lawful is long =
-    cc (performed-reply o m f width lawful, bytes-of-block f (block_at m.address) bytes is long)
+reply-performed o m f bytes width lawful is long = grind (arith, performed-reply, bytes-of-block)
 
 -- the source makes no difference
 pub effect-sourced : {w : ℕ} (source : ℕ) (m : MessageA w) (f : Memory)
@@ -103,12 +101,4 @@ block-stored address size value copy f room long is i lt = go (reaches address s
 
 pub block-unstored : (address size value k : ℕ) (old : List ℕ) (f : Memory) → address % 64 + 2 ^ size ≤ 64
     → (k ≡ block_at address → ⊥) → IsBlock f k old → IsBlock (with_number address size value f) k old
-block-unstored address size value k old f room ne is i lt = go (reaches address size (64 * k + i)) refl
-  where
-    go : (b : Bool) → reaches address size (64 * k + i) ≡ b
-        → (if b then byte_of value (64 * k + i - address) else f (64 * k + i)) ≡ slice_index old i
-    go false e = is i lt
-    go true e =
-        let parts = and_parts (nat_le address (64 * k + i)) (nat_lt (64 * k + i) (address + 2 ^ size)) e in
-        let to = ltb-true (64 * k + i) (address + 2 ^ size) parts.1 in
-        absurd (ne (omega (arith, lt, leb-true address (64 * k + i) parts.0, to, room)))
+block-unstored address size value k old f room ne is i lt = grind (arith, and_parts)

@@ -49,8 +49,7 @@ stall-judged answer link ch x rest e s f = grind arith
 stall-managed : {w : ℕ} (answer : manager.Reception w × manager_end.End w) (link : ℕ) (ch : Channel) (x : Beat w)
     (rest : List (Beat w)) (s : System w)
     → IsTakenIn answer → is_stall (manager_took link ch x rest answer s).outcome ≡ kept.is_stalled answer.0
-stall-managed (manager.Refused rule, e) link ch x rest s taken = absurd taken
-stall-managed answer link ch x rest s taken = refl
+stall-managed answer link ch x rest s e = grind arith
 
 pub stall-delivered : {w : ℕ} (config : Config) (terms : EndConfig) (link : ℕ) (ch : Channel) (x : Beat w)
     (rest : List (Beat w)) (s : System w) → IsTaken config terms link ch x s

@@ -1,6 +1,5 @@
 -- What is outstanding after a log is what is open: the starts of the log are its ends and what is open after it.
-use Rattle.std.proofs.Common.{◌≡◌, ℕ, ◌+◌, Bool, true, false, [], ◌∷◌, length, refl, arith, ◌*◌, ◌/◌, if◌then◌else◌}
-use Rattle.std.proofs.Common.{filter}
+use Rattle.std.proofs.Common.{◌≡◌, ℕ, ◌+◌, Bool, [], ◌∷◌, refl, arith, ◌*◌, ◌/◌}
 use Rattle.tl_coherence.proofs
 use proofs.Imports.{IsWidth, Config, one_if, open_requests, open_releases, total, Event, Outcome, State, AbstractState}
 use proofs.Imports.{abstract_step, first_state, SimulationRelation, starts_request, starts_release, outstanding}

@@ -26,12 +26,10 @@ total-none (suc n) f e i lt = go (cases_eq i n) (total-none n f (omega (arith, e
     go (inr differs) rest = rest (omega (arith, lt, differs))
 
 not_used : (u : SourceState) → one_if (is_used u) ≡ 0 → u ≡ SourceFree
-not_used SourceFree e = refl
-not_used u e = absurd (omega (arith, e))
+not_used u e = grind arith
 
 not_let : (o : Option ℕ) → one_if (is_let o) ≡ 0 → o ≡ None
-not_let None e = refl
-not_let (Some n) e = absurd (omega (arith, e))
+not_let o e = grind arith
 
 nothing_in : (xs : List Packet) → length xs ≡ 0 → xs ≡ []
 nothing_in [] e = refl

@@ -1,20 +1,19 @@
 -- A delivery is movable exactly where a channel carries a message.
-use Rattle.std.proofs.Common.{◌≡◌, ℕ, ◌<◌, Bool, true, false, List, ◌∷◌, sym, ◌∙◌, ap, arith, not, Option, Some, None}
-use Rattle.std.proofs.Common.{map, nat_le, [], refl}
+use Rattle.std.proofs.Common.{◌≡◌, ℕ, ◌<◌, Bool, true, false, List, ◌∷◌, sym, ◌∙◌, arith, not, Option, Some, None, map}
+use Rattle.std.proofs.Common.{nat_le, [], refl}
 use Rattle.tl_coherence.proofs
-use proofs.Imports.{and-false, true_from_ne_false, nat_tests, Beat, Channel, IsWidth, Message, MessageA, unfinished}
-use proofs.Imports.{Config, ReleaseOf, on_link, block_at, ends, pending, EndConfig, one_if, services, service_of_block}
-use proofs.Imports.{Packet, Release, ReleaseAck, count, ReleasePhase, NoRelease, ReleaseSent, ReleaseAcked}
-use proofs.Imports.{is_unreleased, State, shown, IsCarried, AccessMessages}
-use proofs.Imports.{message_of, messages_on, SimulationRelation, IsCoherent, Moves, receiver, Log, system_after}
-use proofs.Imports.{next_delivery, is_movable, one_memory_after, terms_at}
-use Rattle.tl_coherence.specs.protocol.Protocol.{packets_on}
+use proofs.Imports.{and-false, true_from_ne_false, nat_tests, Beat, Channel, IsWidth, Message, MessageA, Config}
+use proofs.Imports.{ReleaseOf, on_link, block_at, ends, pending, EndConfig, one_if, services, service_of_block, Packet}
+use proofs.Imports.{Release, ReleaseAck, count, ReleasePhase, NoRelease, ReleaseSent, ReleaseAcked, is_unreleased}
+use proofs.Imports.{State, shown, AccessMessages, message_of, messages_on, SimulationRelation, IsCoherent, Moves, Log}
+use proofs.Imports.{system_after, next_delivery, is_movable, one_memory_after, terms_at}
+use Rattle.tl_coherence.{specs.protocol.Protocol.packets_on}
 use Rattle.tl_manager.specs.statement.Service as manager
 use Rattle.tl_coherence.proofs.simulation.Strangers as strangers
-use proofs.queues.{Carried.carried-none, Tokens.same_number, QuiescentQueues.nothing-moves, QuiescentQueues.no-next}
-use proofs.queues.{QuiescentQueues.empty-still}
-use proofs.protocol.{QuiescentBlock.IsSilent, QuiescentBlock.free-when_silent, QuiescentProtocol.IsBare}
-use proofs.protocol.{QuiescentProtocol.IsClosed, QuiescentProtocol.bare-when-closed, QuiescentProtocol.closed-when_bare}
+use proofs.queues.{Carried.carried-none, Tokens.same_number}
+use proofs.queues.QuiescentQueues.{nothing-moves, no-next, empty-still}
+use proofs.protocol.QuiescentBlock.{IsSilent, free-when_silent}
+use proofs.protocol.QuiescentProtocol.{IsBare, IsClosed, bare-when-closed, closed-when_bare}
 use proofs.links.Stalling.{IsFirst, exact, started-releasing}
 
 no_tokens : {w : ℕ} (f : Packet → Message w) (xs : List Packet) → map f xs ≡ [] → xs ≡ []
@@ -99,8 +98,7 @@ module _ {w : ℕ} {config : Config} {log : Log w} {mail : AccessMessages w} {re
     none_releasing c n terms is = (matched.known c).releases n ∙ go ((s.block n).pair c).letting refl
       where
         none_shown : (b : Bool) → 0 ≡ one_if b → b ≡ false
-        none_shown true e = absurd (omega (arith, e))
-        none_shown false e = refl
+        none_shown b e = grind arith
 
         go : (x : ReleasePhase) → ((s.block n).pair c).letting ≡ x → not (is_unreleased x) ≡ false
         go NoRelease e = refl

@@ -6,7 +6,7 @@ use proofs.Imports.{Message, Config, RequestSource, ReleaseSource, Grow, Prune, 
 use proofs.Imports.{asked-cases, least_free-some, Busy, Op, Reply, done, store, free_request, free_release, source_or_0}
 use proofs.Imports.{EndConfig, Endpoint, held_at, one_if, is_used, is_let, Ask, Outcome, Request, Acquire, Release}
 use proofs.Imports.{State, SourceState, SourceFree, Asked, Acquires, packet, with_a, with_c, access_asked}
-use proofs.Imports.{acquire_asked, release_asked, AbstractState, asked, SimulationRelation, is_caching, sources_of}
+use proofs.Imports.{acquire_asked, release_asked, AbstractState, asked, SimulationRelation, is_caching}
 use proofs.Imports.{starts_request, starts_release, Log, System, terms_at}
 use Rattle.tl_client.specs.statement.Ask.{load}
 use Rattle.tl_client.specs.statement.Ask as ask
@@ -81,8 +81,7 @@ module _ {w : ℕ} (config : Config) (c : ℕ) (h : AbstractState w) where
   module _ (terms : EndConfig) (e : Endpoint w) (at : terms_at config c ≡ Some terms) (few : c < clients_in config)
     where
       own_source : (source : ℕ) → source < 0 + terms.sources → source < sources_in config c
-      own_source source lt = let is : sources_in config c ≡ terms.sources =
-          ap (λ (o : Option EndConfig). sources_of o) at in omega (arith, lt, is)
+      own_source source lt = grind (arith, sources_in, c)
 
       done-opens : (o : Op w) → NotBusy terms o e → IsAskable (is_caching config) c o (done terms o e).reply h
           → IsOpenAfter o (done terms o e).reply

@@ -1,7 +1,7 @@
 -- What is open after the first token of a channel is taken: an answer ends a request, a Grant turns one into a
 -- GrantAck,
 -- a GrantAck ends it, a ReleaseAck ends a Release, and all else leaves what is open.
-use Rattle.std.proofs.Common.{◌≡◌, ℕ, suc, ◌<◌, Bool, true, false, List, [], ◌∷◌, ◌++◌, length, refl, sym, ◌∙◌, ap}
+use Rattle.std.proofs.Common.{◌≡◌, ℕ, suc, ◌<◌, Bool, true, false, List, [], ◌∷◌, length, refl, sym, ◌∙◌, ap}
 use Rattle.std.proofs.Common.{arith, Option, Some, None, length-append, ◌==◌, if◌then◌else◌}
 use Rattle.tl_coherence.proofs
 use proofs.Imports.{Config, Cap, Prune, Report, one_if, is_used, is_let, ReleaseAck, Packet, Kind, Answer, Grant}
@@ -41,8 +41,7 @@ ended_e c q x rest link d = grind arith
 
 pub granted_e : (c q n : ℕ) (rest : List Packet) (link : ℕ → Link) (d : ℕ)
     → (granted_link c q n rest link d).e ≡ (link d).e
-granted_e c q n rest link d = set_e q (record (link q) { d = (link q).d ++ packet Grant n ∷ [] })
-    (popped_link c rest link) (sym (popped_e c rest link q)) d ∙ popped_e c rest link d
+granted_e c q n rest link d = grind (arith, set_e, popped_e)
 
 -- ---- events that leave what is open
 

@@ -1,16 +1,15 @@
 -- What is outstanding is what is open: at every event the requests and Releases that it starts and ends are those that
 -- it
 -- opens and closes.
-use Rattle.std.proofs.Common.{◌≡◌, subst, ℕ, ◌+◌, ◌<◌, Bool, true, false, List, ◌∷◌, refl, sym, ◌∙◌, ap, Option, Some, arith}
-use Rattle.std.proofs.Common.{None, if◌then◌else◌, map, Ok}
+use Rattle.std.proofs.Common.{◌≡◌, subst, ℕ, ◌+◌, ◌<◌, Bool, true, false, List, ◌∷◌, refl, sym, ◌∙◌, ap, Option, Some}
+use Rattle.std.proofs.Common.{arith, None, if◌then◌else◌, map, Ok}
 use Rattle.tl_coherence.proofs
-use proofs.Imports.{Beat, BeatD, Link, Channel, IsWidth, Message, MessageD, beat_of, beats_of, d_beat_of, channel_of}
-use proofs.Imports.{unfinished, completes, Config, is_release_ack, Verdict, EndConfig, one_if, is_access_answer}
-use proofs.Imports.{open_requests, open_releases, Event, Ask, Deliver, Outcome, ReleaseAck, Packet, Kind, Answer, Grant}
-use proofs.Imports.{GrantAck, packet, is_on, on, AbstractState, abstract_step, abstract_step_by, kind_taken, message_of}
-use proofs.Imports.{message_of_kind, SimulationRelation, is_caching, receiver, is_moving, starts_request}
-use proofs.Imports.{starts_release, ends_request, ends_release, Log, system_after, Step, is_to_client, outcome_of}
-use proofs.Imports.{stepped, stepped_at, terms_at}
+use proofs.Imports.{Beat, BeatD, Link, Channel, IsWidth, Message, MessageD, beat_of, beats_of, d_beat_of, unfinished}
+use proofs.Imports.{completes, Config, is_release_ack, Verdict, EndConfig, one_if, is_access_answer, open_requests}
+use proofs.Imports.{open_releases, Event, Ask, Deliver, Outcome, ReleaseAck, Packet, Kind, Answer, Grant, packet, is_on}
+use proofs.Imports.{on, AbstractState, abstract_step, abstract_step_by, kind_taken, message_of, message_of_kind}
+use proofs.Imports.{SimulationRelation, is_caching, receiver, is_moving, starts_request, starts_release, ends_request}
+use proofs.Imports.{ends_release, Log, system_after, Step, is_to_client, outcome_of, stepped, stepped_at, terms_at}
 use Rattle.tl_client.specs.statement.Endpoint as client
 use Rattle.tl_client.specs.statement.Offer as offer
 pub use Rattle.tl_coherence.proofs.outstanding.OutcomeEnds.{first-moved}
@@ -19,7 +18,7 @@ use proofs.protocol.HeadOfD.{answer-due, grant-due, grant_message, ack_message, 
 use proofs.protocol.OpenCounts.{clients_in, IsBalance}
 use proofs.queues.{Carried.IsNext, QuiescentQueues.client_below, Codes.access_kind, KindMoves.on_same}
 use proofs.queues.FirstToken.{IsFirst, first-token}
-use proofs.client.DeliverD.{finish_at, answer-last, answer-part, same_answers, acked}
+use proofs.client.DeliverD.{finish_at, answer-last, same_answers, acked}
 use proofs.deliveries.{DeliverDWhole.rendered_release_ack, ManagersAfter.at-manager}
 use proofs.deliveries.DeliverDAfter.{followed-moving, followed-still}
 use proofs.outstanding.{OpenAsks.balance-asked, OpenKinds.is_ending, OpenKinds.is_letting_go, OpenKinds.balance-kind}
@@ -60,18 +59,12 @@ module _ {w : ℕ} {config : Config} {log : Log w} (h : AbstractState w) (width 
   -- ---- what the manager takes
 
   whole_e : (c : ℕ) (k : Kind) (n : ℕ) → is_on Channel.E k ≡ true → beats_of (message_of_kind k h.mail h.state c n) ≡ 1
-  whole_e c GrantAck n on_it = ack_whole w c n (h.state.block n)
-  whole_e c k n on_it = absurd cc
+  whole_e c k n e = grind (arith, ack_whole)
 
   part_apart : (ch : Channel) (c : ℕ) (x : Beat w) (queue : List (Beat w))
       → IsFirst ch c h.mail h.state (system_after config log) x queue
       → completes x (unfinished ch (receiver ch c (system_after config log))) ≡ false → is_e ch ≡ false
-  part_apart Channel.E c x queue first part =
-      let one = whole_e c first.kind first.number first.own in
-      let yes = first.next.completes_is ∙ one_whole first.next.k
-      (beats_of (message_of_kind first.kind h.mail h.state c first.number)) one first.next.within in
-      absurd (let both : true ≡ false = sym yes ∙ part in cc)
-  part_apart ch c x queue first part = refl
+  part_apart ch c x queue e f = grind (arith, whole_e, one_whole)
 
   counted-manager : (link : Link) (ch : Channel) (terms : EndConfig) (x : Beat w) (queue : List (Beat w))
       → terms_at config link.0 ≡ Some terms → is_to_client ch ≡ false → (system_after config log).channels link.0 ch

@@ -2,11 +2,10 @@
 use Rattle.std.proofs.Common.{◌≡◌, ℕ, Bool, true, false, List, refl, ◌⊎◌, inr, arith}
 use Rattle.tl_coherence.proofs
 use proofs.Imports.{Cap, Prune, Report, Kind, set, ClientBlock, ProbeSent, after_grant_sent, after_report, after_grant}
-use proofs.Imports.{after_probe, after_release_taken, after_release_ack, Free, Waits, GrantSent, GrantTaken, Block}
-use proofs.Imports.{granted_block, taken_block, probed_block, reported_block, ended_block, let_block, let_go_block}
-use proofs.Imports.{freed_block, shown}
+use proofs.Imports.{after_release_taken, after_release_ack, Waits, GrantSent, GrantTaken, Block, granted_block}
+use proofs.Imports.{taken_block, probed_block, reported_block, ended_block, let_block, let_go_block, freed_block, shown}
 use proofs.queues.{Showing.AreAlike, Showing.carries, Tokens.set-each}
-use proofs.protocol.BothParts.{waits_ungranted, waits_unacknowledged, sent_unacknowledged, taken_ungranted}
+use proofs.protocol.BothParts.{sent_unacknowledged, taken_ungranted}
 use proofs.protocol.AlikeRequests.{ungranted, unacknowledged, IsAlikePair, AreAlikeGrants, alike-parts, alike-pair}
 use proofs.protocol.AlikeRequests.{alike-pairs}
 
@@ -84,9 +83,4 @@ alike-taken c whole d k b sent bytes =
     )) bytes
 
 pub alike-freed : (c : ℕ) (b : Block (List ℕ)) → b.service ≡ GrantTaken c → (i : ℕ) → AreAlike i b (freed_block b)
-alike-freed c b taken =
-    alike-pairs b (freed_block b) (λ i. alike-parts (b.pair i) (b.pair i) refl refl refl) refl refl
-    (λ i. (
-      λ e f. absurd (ungranted b.service i (GrantTaken c) taken (taken_ungranted c i) e),
-      λ e f. absurd (unacknowledged Free i Free refl refl f),
-    )) (λ j i e f. inr refl)
+alike-freed c b taken = grind (arith, alike-pairs, alike-parts)

@@ -3,12 +3,12 @@ use Rattle.std.proofs.Common.{◌≡◌, ℕ, Bool, true, false, ◌&&◌, List,
 use Rattle.std.proofs.Common.{if◌then◌else◌}
 use Rattle.tl_coherence.proofs
 use proofs.Imports.{cases_eq, Cap, Grow, Prune, IsWell, Kind, Acquire, Probe, ProbeAck, Release, Grant, ReleaseAck}
-use proofs.Imports.{GrantAck, set, ClientBlock, View, Granting, ProbePhase, NoProbe, NoRelease, NoAcquire, is_unprobed}
-use proofs.Imports.{after_grant_sent, after_acquire, after_release, after_served, Service, Free, Block, view}
+use proofs.Imports.{GrantAck, set, ClientBlock, View, Granting, ProbePhase, NoRelease, NoAcquire, is_unprobed}
+use proofs.Imports.{after_acquire, after_release, after_served, Service, Free, Block, view}
 use proofs.Imports.{acquiring_block, releasing_block, granted_at_once, served_block, served_pair, is_wanting, is_sent}
-use proofs.Imports.{is_answered, is_releasing, is_granting, is_acknowledging, shown, is_unserved}
-use proofs.queues.{Facts.granting_asks, PhaseFacts.quiet_at_rest, Showing.IsAlike, Showing.AreAlike, Showing.carries}
-use proofs.queues.{Tokens.set-same, Tokens.set-other, Tokens.set-each, Phases.and_left}
+use proofs.Imports.{is_answered, is_releasing, is_granting, is_acknowledging, shown}
+use proofs.queues.{Facts.granting_asks, PhaseFacts.quiet_at_rest, Showing.AreAlike, Showing.carries}
+use proofs.queues.{Tokens.set-same, Tokens.set-each, Phases.and_left}
 
 -- ---- what a service shows
 
@@ -53,18 +53,7 @@ pub alike-pairs : (b b' : Block (List ℕ)) → ((i : ℕ) → IsAlikePair (b.pa
     → b'.source ≡ b.source → b'.release_source ≡ b.release_source → AreAlikeGrants b b'
     → ((k : Kind) (i : ℕ) → shown k i b ≡ true → shown k i b' ≡ true → (carries k i b ≡ false)
     ⊎ (b'.truth ≡ b.truth)) → (i : ℕ) → AreAlike i b b'
-alike-pairs b b' pairs source release grants bytes i k e f = (alike k e f, bytes k i e f)
-  where
-    alike : (k : Kind) → shown k i b ≡ true → shown k i b' ≡ true → IsAlike k i b b'
-    alike Acquire e f = let fact = (pairs i).acquiring (and_left _ (is_unserved (view b.service i)) e)
-        (and_left _ (is_unserved (view b'.service i)) f) in (fact, ap (λ (g : ℕ → ℕ). g i) source)
-    alike Probe e f = (pairs i).sent e f
-    alike ProbeAck e f = (pairs i).answered e f
-    alike Release e f = ((pairs i).letting e f, ap (λ (g : ℕ → ℕ). g i) release)
-    alike Grant e f = let same = (grants i).0 e f in (same.0, ap (λ (g : ℕ → ℕ). g i) source, same.1)
-    alike ReleaseAck e f = ap (λ (g : ℕ → ℕ). g i) release
-    alike GrantAck e f = (grants i).1 e f
-    alike k e f = tt
+alike-pairs b b' pairs source release grants bytes i k e f = grind (arith, and_left)
 
 -- a service that is free shows nothing
 free-grants : (b b' : Block (List ℕ)) → b.service ≡ Free → AreAlikeGrants b b'

@@ -3,7 +3,7 @@ use Rattle.std.proofs.Common.{◌≡◌, refl, sym, ◌∙◌, ap, inl, inr, ℕ
 use Rattle.tl_coherence.proofs
 use proofs.Imports.{cases_eq, Channel, Grow, Prune, Perm, prune_left, same_perm, is_out, is_of, acquires_of, serves_of}
 use proofs.Imports.{acquires_with, serves_with, releases_with, tracks_with, IsWell, IsInvariant, Kind, Request, Acquire}
-use proofs.Imports.{ProbeAck, Release, Answer, ReleaseAck, set_at, ClientBlock, View, Own, NoRelease, NoAcquire}
+use proofs.Imports.{ProbeAck, Release, ReleaseAck, set_at, ClientBlock, View, Own, NoRelease, NoAcquire}
 use proofs.Imports.{AcquireOpen, is_unacquired, grow_fits, ok, after_acquire, after_release, Block, State, SourceFree}
 use proofs.Imports.{Acquires, view, packet, with_a, with_c, acquiring_block, releasing_block, stored_block}
 use proofs.Imports.{access_asked, acquire_asked, release_asked, block_stored, shows, shown, is_transfer, is_unserved}
@@ -20,9 +20,8 @@ use proofs.queues.Moves.{names-set_at, invariant-moved, invariant-moved_use}
 
 -- ---- blocks
 
-acquiring-block : {X : Type 0} {caching : ℕ → Bool} (c source : ℕ) (whole : Bool) (g : Grow) (bytes : X)
-    {b : Block X} → IsWell caching b → caching c ≡ true → (b.pair c).acquiring ≡ NoAcquire
-    → (b.pair c).letting ≡ NoRelease
+acquiring-block : {X : Type 0} {caching : ℕ → Bool} (c source : ℕ) (whole : Bool) (g : Grow) (bytes : X) {b : Block X}
+    → IsWell caching b → caching c ≡ true → (b.pair c).acquiring ≡ NoAcquire → (b.pair c).letting ≡ NoRelease
     → grow_fits (b.pair c).held (AcquireOpen whole g) ≡ true → IsWell caching (acquiring_block c source whole g bytes b)
 acquiring-block {caching} c source whole g bytes {b} h inside calm kept fits =
     let after : ClientBlock = after_acquire whole g (b.pair c) in

@@ -1,6 +1,6 @@
 -- An Acquire that is granted as it is taken keeps the invariant.
-use Rattle.std.proofs.Common.{◌≡◌, refl, sym, ◌∙◌, ◌⊎◌, inl, inr, ℕ, Bool, true, false, not, List, ◌∷◌, Some, None, arith}
-use Rattle.std.proofs.Common.{ne_eqb}
+use Rattle.std.proofs.Common.{◌≡◌, refl, sym, ◌∙◌, ◌⊎◌, inl, inr, ℕ, Bool, true, false, not, List, ◌∷◌, Some, None}
+use Rattle.std.proofs.Common.{arith, ne_eqb}
 use Rattle.tl_coherence.proofs
 use proofs.Imports.{cases_eq, Channel, Cap, Grow, Perm, cap_right, same_perm, is_of, acquires_of, serves_of}
 use proofs.Imports.{acquires_with, serves_with, releases_with, tracks_with, IsWell, IsInvariant, cap_asked, Kind}

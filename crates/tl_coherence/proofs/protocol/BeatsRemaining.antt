@@ -2,8 +2,8 @@
 use Rattle.std.proofs.Common.{◌≡◌, ℕ, ◌-◌, ◌<◌, ◌≤◌, Bool, true, false, List, [], ◌∷◌, ◌++◌, refl, sym, ap, subst}
 use Rattle.std.proofs.Common.{arith, ◌⊎◌, inl, inr, length}
 use Rattle.tl_coherence.proofs
-use proofs.Imports.{cases_eq, Beat, Channel, beats_of, one_if, Left, Kind, Request, Answer, Packet, count, is, State}
-use proofs.Imports.{packet, packets_on, is_on, is_transfer, shown, Move, Stays, Pushes, Pops, IsMoved, channel_for}
+use proofs.Imports.{cases_eq, Beat, Channel, beats_of, Left, Kind, Request, Answer, Packet, count, is, State}
+use proofs.Imports.{packets_on, is_on, is_transfer, shown, Move, Pops, IsMoved, channel_for}
 use proofs.Imports.{AccessMessages, block_message, message_of_kind}
 use proofs.protocol.TokenNames.{once, shown_there, shows_it}
 use proofs.queues.Channels.{IsShowing}
@@ -41,29 +41,20 @@ IsHere s c k m = 0 < count k m (packets_on (channel_for k) (s.link c))
 front-there : (k : Kind) (m : ℕ) (xs : List Packet) (x : Packet) → 0 < count k m xs
     → is_front k m (xs ++ x ∷ []) ≡ is_front k m xs
 unfolding count
-front-there k m [] x there = absurd (omega (arith, there))
-front-there k m (y ∷ ys) x there = refl
+front-there k m xs x e = grind arith
 
 -- where its channel loses no token, as much was taken of it
 taken-stays : {w : ℕ} (move : Move) (k : Kind) (m : ℕ) (xs ys : List Packet) (rest rest' : List (Beat w))
     → IsMoved move xs ys → is_pop move ≡ false → rest' ≡ rest → 0 < count k m xs
     → taken_of rest' (is_front k m ys) ≡ taken_of rest (is_front k m xs)
-taken-stays Stays k m xs ys rest rest' e p same there = rw (e, same) refl
-taken-stays (Pushes j i) k m xs ys rest rest' e p same there =
-    rw (e, same) (ap (taken_of rest) (front-there k m xs (packet j i) there))
-taken-stays (Pops j i) k m xs ys rest rest' e p same there = absurd cc
+taken-stays move k m xs ys rest rest' e f g h = grind (arith, taken_of, front-there)
 
 -- where its channel loses its first token, it wasn't the first, and nothing was taken of it
 taken-none : {w : ℕ} (k : Kind) (m : ℕ) (x : Packet) (xs ys : List Packet) (rest rest' : List (Beat w)) → xs ≡ x ∷ ys
     → rest' ≡ [] → count k m xs ≤ 1 → 0 < count k m ys
     → taken_of rest' (is_front k m ys) ≡ taken_of rest (is_front k m xs)
 unfolding count
-taken-none {w} k m x xs ys rest rest' e none once there = rw e (go (is k m x) refl (is_front k m ys))
-  where
-    go : (b : Bool) → is k m x ≡ b → (c : Bool) → taken_of rest' c ≡ taken_of rest b
-    go true f c = absurd (let one : one_if (is k m x) ≡ 1 = rw f refl in omega (arith, rw e at once, there, one))
-    go false f true = rw none refl
-    go false f false = refl
+taken-none {w} k m x xs ys rest rest' e none once there = grind (arith, is_front)
 
 -- what each receiver has of the first messages after an event that takes the first message of channel ch of client c
 pub record IsPopped {w : ℕ} {X : Type 0} (c : ℕ) (ch : Channel) (moves : ℕ → Channel → Move) (rest rest' : ℕ → Channel

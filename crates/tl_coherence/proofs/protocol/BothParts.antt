@@ -1,14 +1,12 @@
 -- What a test says of a part of the protocol's state: of a use, a wish, a Probe, a Release, a view.
-use Rattle.std.proofs.Common.{◌≡◌, ℕ, Bool, true, false, not, Option, Some, None, refl, ◌&&◌, eqb-true, ◌==◌, arith}
-use Rattle.std.proofs.Common.{if◌then◌else◌, ap, sym, ◌∙◌}
+use Rattle.std.proofs.Common.{◌≡◌, ℕ, Bool, true, false, not, Option, Some, refl, ◌&&◌, ◌==◌, arith, if◌then◌else◌}
 use Rattle.tl_coherence.proofs
-use proofs.Imports.{Cap, Grow, is_asked, is_replied, is_of, acquires_of, serves_of, Kind, Request, Own, Other, Granting}
+use proofs.Imports.{Cap, Grow, is_asked, is_replied, is_of, acquires_of, serves_of, Kind, Other, Granting}
 use proofs.Imports.{Acknowledging, GrantedOther, is_unacquired, ProbePhase, NoProbe, ProbeSent, ProbeAnswered}
 use proofs.Imports.{ReleasePhase, NoRelease, ReleaseSent, ReleaseAcked, AcquirePhase, NoAcquire, AcquireOpen}
-use proofs.Imports.{is_unprobed, is_unreleased, Idle, ClientBlock, Service, Free, Waits, GrantSent, GrantTaken}
-use proofs.Imports.{SourceState, Asked, InService, Replied, Acquires, view, is_wanting, is_sent, is_answered}
-use proofs.Imports.{is_releasing, is_acked, is_granting, is_acknowledging, shows, cap_sent, report_told, prune_told}
-use proofs.Imports.{cap_waited}
+use proofs.Imports.{is_unprobed, is_unreleased, Idle, ClientBlock, Service, Waits, GrantSent, GrantTaken, SourceState}
+use proofs.Imports.{Asked, InService, Replied, Acquires, view, is_wanting, is_sent, is_answered, is_releasing, is_acked}
+use proofs.Imports.{is_granting, is_acknowledging, shows, cap_sent, report_told, prune_told, cap_waited}
 use proofs.queues.{Tokens.if-part, Facts.is_other}
 
 -- ---- numbers and uses
@@ -32,8 +30,7 @@ is_replied-is u e = grind arith
 -- ---- what is wanted
 
 pub wanting-is : (x : AcquirePhase) → is_wanting x ≡ true → (whole : Bool) × (g : Grow) × (x ≡ AcquireOpen whole g)
-wanting-is NoAcquire e = absurd cc
-wanting-is (AcquireOpen whole g) e = (whole, g, refl)
+wanting-is x e = grind arith
 
 pub not-calm : (x : AcquirePhase) → not (is_unacquired x) ≡ true → is_wanting x ≡ true
 not-calm x e = grind arith
@@ -103,25 +100,11 @@ shows-beside k p = grind arith
 
 -- who sees another's service sees the cap that it probes with
 pub cap-waited : (k : Cap) (s : Service) (c : ℕ) → view s c ≡ Other k → cap_waited s ≡ k
-cap-waited k Free c e = absurd (let no : Idle ≡ Other k = e in cc)
-cap-waited k (Waits r own source j) c e =
-    let go : (b : Bool) → (if b then Own else Other j) ≡ Other k → j ≡ k =
-    elim [ true ↦ λ f. absurd cc | false ↦ λ f. cc ] in
-    go (own && (c == r)) e
-cap-waited k (GrantSent r d j) c e =
-    absurd (let yes : false ≡ true = sym (if-part is_other (c == r) refl refl) ∙ ap is_other e in cc)
-cap-waited k (GrantTaken r) c e =
-    absurd (let yes : false ≡ true = sym (if-part is_other (c == r) refl refl) ∙ ap is_other e in cc)
+cap-waited k s c e = grind (arith, if-part)
 
 -- who sees its GrantAck under way
 pub acknowledging-is : (s : Service) (c : ℕ) → is_acknowledging (view s c) ≡ true → s ≡ GrantTaken c
-acknowledging-is Free c e = absurd cc
-acknowledging-is (Waits q o source k) c e = absurd (cc (waits_unacknowledged o q source k c))
-acknowledging-is (GrantSent q d k) c e = absurd (let no : false ≡ true = sym (sent_unacknowledged q d k c) ∙ e in cc)
-acknowledging-is (GrantTaken q) c e =
-    let own : (x : Bool) → is_acknowledging (if x then Acknowledging else GrantedOther) ≡ true → x ≡ true =
-    elim [ true ↦ λ f. refl | false ↦ λ f. absurd cc ] in
-    let same : c ≡ q = eqb-true c q (own (c == q) e) in rw same refl
+acknowledging-is s c e = grind (arith, waits_unacknowledged, sent_unacknowledged)
 
 pub granting-own : (b d : Bool) (k : Cap) → is_granting (if b then Granting d k else GrantedOther) ≡ true → b ≡ true
 granting-own b d k e = grind arith

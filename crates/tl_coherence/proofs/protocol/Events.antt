@@ -1,6 +1,6 @@
 -- Each message that is taken is one event of the protocol, or does nothing: what holds after each of them holds.
-use Rattle.std.proofs.Common.{◌≡◌, ℕ, Bool, true, false, not, ◌&&◌, List, Option, Some, None, length, refl, sym, ◌∙◌, arith}
-use Rattle.std.proofs.Common.{◌==◌, if◌then◌else◌}
+use Rattle.std.proofs.Common.{◌≡◌, ℕ, Bool, true, false, not, ◌&&◌, List, Option, Some, None, length, refl, arith, ◌==◌}
+use Rattle.std.proofs.Common.{if◌then◌else◌}
 use Rattle.tl_coherence.proofs
 use proofs.Imports.{⊤, Message, MessageA, Config, Cap, Grow, Report, block_at, is_acquire, acquisition, cap_probed}
 use proofs.Imports.{cap_asked, Kind, Request, Acquire, Probe, ProbeAck, Release, Answer, Grant, ReleaseAck, GrantAck}
@@ -9,7 +9,7 @@ use proofs.Imports.{is_granted_data, Block, Service, Waits, GrantSent, Free, is_
 use proofs.Imports.{report_taken, AbstractState, with_state, some_below, gift, is_unheld, probes_some, acquire_opcode}
 use proofs.Imports.{access_taken, request_taken, acquire_taken, granted_after, last_taken, taken_by_client, kind_taken}
 use proofs.Imports.{report_told}
-use Rattle.tl_coherence.specs.refinement.AbstractStep.{with_served}
+use Rattle.tl_coherence.{specs.refinement.AbstractStep.with_served}
 
 -- what isn't told by the token alone: a request isn't stalled, and has a tracker that no block has; nor is a Probe
 abbrev pub IsReady : {w : ℕ} → ℕ → ℕ → Kind → ℕ → AbstractState w → Type 0
@@ -158,21 +158,16 @@ module _ {w : ℕ} (config : Config) (tracker c : ℕ) (rest : List Packet) (h :
 
   true-last : (n : ℕ) (v : Service) → IsTrueAfterEach → IsKnown ProbeAck n → waits_for_others config c h n ≡ false
       → (h.state.block n).service ≡ v → P (last_taken all_clients config.profile c n (told config c h n) v rest h)
-  true-last n (Waits q true source k) each known last is =
-      true-granted n q source k ((h.state.block n).pair q).acquiring each known last is refl
-  true-last n (Waits q false source k) each known last is = each.report_answers n q source k known last is
-  true-last n v each known last is = each.nothing ProbeAck n known (rw is refl)
+  true-last n v e f g h = grind (arith, true-granted)
 
   true-report : (n : ℕ) (x : Bool) → IsTrueAfterEach → IsKnown ProbeAck n → waits_for_others config c h n ≡ x
       → P (if x then with_state (report_taken c n (told config c h n) rest h.state) h else last_taken all_clients
       config.profile c n (told config c h n) (h.state.block n).service rest h)
-  true-report n true each known e = each.report n known e
-  true-report n false each known e = true-last n (h.state.block n).service each known e refl
+  true-report n x e f g = grind (arith, true-last)
 
   true-grant : (n : ℕ) (v : Service) → IsTrueAfterEach → IsKnown Grant n → (h.state.block n).service ≡ v
       → P (taken_by_client c n v rest h)
-  true-grant n (GrantSent q d k) each known is = each.grant n q d k known is
-  true-grant n v each known is = each.nothing Grant n known (rw is refl)
+  true-grant n v e f g = grind arith
 
   pub true-taken : (k : Kind) (i : ℕ) → IsTrueAfterEach → IsKnown k i → P (kind_taken config tracker c k i rest h)
   true-taken Request source each known = true-request source (h.mail.request c source) each known refl

@@ -1,14 +1,14 @@
 -- The protocol keeps its invariant as it follows the world: at each message that is taken, the first token and the
 -- invariant give what its event asks for.
-use Rattle.std.proofs.Common.{◌≡◌, ℕ, ◌≤◌, Bool, true, false, not, ◌&&◌, List, ◌∷◌, Some, None, length, refl, sym, ◌∙◌, arith}
-use Rattle.std.proofs.Common.{inl, inr, eqb-true, ◌==◌}
+use Rattle.std.proofs.Common.{◌≡◌, ℕ, ◌≤◌, Bool, true, false, not, ◌&&◌, List, ◌∷◌, Some, None, length, refl, sym, ◌∙◌}
+use Rattle.std.proofs.Common.{arith, inl, inr, eqb-true, ◌==◌}
 use Rattle.tl_coherence.proofs
 use proofs.Imports.{not-true, same_Some, ⊤, Message, MessageA, Config, Cap, Grow, Report, Perm, prune_left, grow_left}
 use proofs.Imports.{same_perm, block_at, is_acquire, Op, Reply, copy_stored, whole_grow, cap_probed, IsInvariant, Kind}
 use proofs.Imports.{ProbeAck, Grant, Packet, set, ClientBlock, ProbeAnswered, NoRelease, NoAcquire, AcquireOpen}
 use proofs.Imports.{is_unprobed, grow_fits, is_whole, after_report, Service, Waits, GrantSent, Block, SourceFree, view}
-use proofs.Imports.{packet, on, report_taken, grant_taken, report_answers, is_answered, AbstractState}
-use proofs.Imports.{asked, some_below, performs, is_unheld, granted_after, kind_taken, report_told}
+use proofs.Imports.{packet, on, report_taken, grant_taken, report_answers, is_answered, AbstractState, asked}
+use proofs.Imports.{some_below, performs, is_unheld, granted_after, kind_taken, report_told}
 use proofs.queues.{Phases.and_right, Tokens.same_number, Facts.acquire_fits, Facts.answered_other, Facts.granting_asks}
 use proofs.protocol.{Blocks.outside-set, Blocks.busy-inside, Probed.probe_taken-kept, Answered.answer_taken-kept}
 use proofs.protocol.{Granted.room-trunk, GrantedAll.report_grants-kept, Ended.report_answers-kept}

@@ -1,15 +1,14 @@
 -- The last ProbeAck that is taken, with which the Acquire that waited is granted, keeps what holds of a block.
-use Rattle.std.proofs.Common.{◌≡◌, refl, sym, ◌∙◌, ap, ◌⊎◌, inl, inr, ℕ, Bool, true, false, ne_eqb, arith}
+use Rattle.std.proofs.Common.{◌≡◌, refl, sym, ◌∙◌, ◌⊎◌, inl, inr, ℕ, Bool, true, false, ne_eqb, arith}
 use Rattle.tl_coherence.proofs
 use proofs.Imports.{cases_eq, not-true, Cap, Grow, Report, Perm, cap_right, report_left, same_perm, cap_asked}
-use proofs.Imports.{IsAskedCap, resting, is_out, IsWell, set, ClientBlock, Own, Other, Granting, GrantedOther, NoProbe}
-use proofs.Imports.{ProbeAnswered, NoAcquire, AcquireOpen, ok, same_cap, is_unprobed, cap_fits, is_granted_data}
-use proofs.Imports.{after_grant_sent, after_report, Waits, GrantSent, Block, view, granted_block, written, granted_pair}
-use proofs.Imports.{perm_le}
-use proofs.queues.{Tokens.same_number, Tokens.set-same, Tokens.set-other, Tokens.set-part, PhaseSteps.grant_last-ok}
-use proofs.queues.{PhaseSteps.report-ok, PhaseSteps.ended-ok, Perms.not_out}
+use proofs.Imports.{IsAskedCap, resting, is_out, IsWell, set, ClientBlock, Own, Other, Granting, GrantedOther}
+use proofs.Imports.{ProbeAnswered, AcquireOpen, ok, same_cap, is_unprobed, cap_fits, is_granted_data, after_grant_sent}
+use proofs.Imports.{after_report, Waits, GrantSent, Block, view, granted_block, written, granted_pair, perm_le}
+use proofs.queues.{Tokens.same_number, Tokens.set-same, Tokens.set-other, Tokens.set-part, Perms.not_out}
+use proofs.queues.PhaseSteps.{grant_last-ok, report-ok, ended-ok}
 use proofs.queues.Facts.{spared_within, reported_within, cap_is_low, own_low, own_quiet, report_begins}
-use proofs.protocol.BothParts.{quiet-is}
+use proofs.protocol.{BothParts.quiet-is}
 
 -- ---- the views before and after
 
@@ -176,12 +175,10 @@ granted-block {X} {c} {q} {r} {whole} {g} {gift} {source} {k} {b} h last =
     ]
 
     not_calm : (p : ClientBlock) → p.acquiring ≡ AcquireOpen whole g → p ≡ resting → ⊥
-    not_calm p e f = let i : p.acquiring ≡ NoAcquire = ap (λ (x : ClientBlock). x.acquiring) f in
-        let j : AcquireOpen whole g ≡ NoAcquire = sym e ∙ i in absurd cc
+    not_calm p e f = grind arith
 
     not_quiet : (p : ClientBlock) → p.probing ≡ ProbeAnswered r → p ≡ resting → ⊥
-    not_quiet p e f = let i : p.probing ≡ NoProbe = ap (λ (x : ClientBlock). x.probing) f in
-        let j : ProbeAnswered r ≡ NoProbe = sym e ∙ i in absurd cc
+    not_quiet p e f = grind arith
 
 -- ---- the cap of a Grant that gives Trunk
 
@@ -192,16 +189,14 @@ grows_to_trunk _ = true
 -- ---- Trunk is granted only where nobody else is recorded
 
 pub low_none : (k : Cap) (p : Perm) → k ≡ Cap.ToN → perm_le p (cap_right k) ≡ true → same_perm p Perm.None ≡ true
-low_none k Perm.None e f = refl
-low_none k p e f = absurd (let g : perm_le p (cap_right Cap.ToN) ≡ true = rw e at f in cc)
+low_none k p e f = grind arith
 
 is_none : (k : Cap) → same_cap k Cap.ToN ≡ true → k ≡ Cap.ToN
 is_none k e = grind arith
 
 asks_none : (k : Cap) (whole : Bool) (g : Grow) → grows_to_trunk g ≡ true
     → same_cap k (cap_asked (AcquireOpen whole g)) ≡ true → k ≡ Cap.ToN
-asks_none k whole Grow.NtoB e f = absurd cc
-asks_none k whole g e f = is_none k f
+asks_none k whole g e f = grind (arith, is_none)
 
 -- where the Acquire asks for Trunk, all others were probed to None
 pub room-trunk : {X : Type 0} {caching : ℕ → Bool} (c q : ℕ) (r : Report) (whole : Bool) (g : Grow) (source : ℕ)

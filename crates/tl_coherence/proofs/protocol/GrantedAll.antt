@@ -1,13 +1,13 @@
 -- The last ProbeAck that is taken, with which the Acquire that waited is granted, keeps the invariant.
-use Rattle.std.proofs.Common.{◌≡◌, ℕ, Bool, true, false, ◌&&◌, List, [], ◌∷◌, ◌++◌, refl, sym, ◌∙◌, ap, ap₂, ◌⊎◌, inl, arith}
-use Rattle.std.proofs.Common.{inr, ne_eqb, ◌==◌, if◌then◌else◌}
+use Rattle.std.proofs.Common.{◌≡◌, ℕ, Bool, true, false, ◌&&◌, List, [], ◌∷◌, ◌++◌, refl, sym, ◌∙◌, ap, ap₂, ◌⊎◌, inl}
+use Rattle.std.proofs.Common.{arith, inr, ne_eqb, ◌==◌, if◌then◌else◌}
 use Rattle.tl_coherence.proofs
 use proofs.Imports.{cases_eq, beq, Channel, Cap, Grow, Report, IsInvariant, Kind, Acquire, Probe, ProbeAck, Answer}
-use proofs.Imports.{Grant, GrantAck, Packet, set, ClientBlock, Own, Other, Granting, GrantedOther, ProbeAnswered}
-use proofs.Imports.{is_unprobed, is_granted_data, after_grant_sent, after_report, Block, State, view, packet}
-use proofs.Imports.{packets_on, granted_block, granted_link, report_grants, is_transfer, is_wanting, shows, shown, Move}
-use proofs.Imports.{Stays, Pushes, Pops, IsMoved, agrees, is_own_move, channel_for}
-use Rattle.tl_coherence.specs.protocol.Protocol.{Link}
+use proofs.Imports.{Grant, Packet, set, ClientBlock, Own, Other, Granting, GrantedOther, ProbeAnswered, is_unprobed}
+use proofs.Imports.{is_granted_data, after_grant_sent, after_report, Block, State, view, packet, packets_on}
+use proofs.Imports.{granted_block, granted_link, report_grants, is_transfer, is_wanting, shows, shown, Move, Stays}
+use proofs.Imports.{Pushes, Pops, IsMoved, agrees, is_own_move, channel_for}
+use Rattle.tl_coherence.{specs.protocol.Protocol.Link}
 use proofs.queues.{Facts.own_quiet, KindMoves.spares, KindMoves.same_again, Moves.names-kept, Moves.invariant-moved}
 use proofs.queues.{Moves.moved_as, Tokens.same_number, Tokens.set-same, Tokens.set-other, Tokens.set-part}
 use proofs.protocol.Granted.{IsLast, granted-block}
@@ -37,8 +37,7 @@ at_reporter n k r p j t e = same_again (shows k p (Other j))
 
 at_other : (n : ℕ) (k : Kind) (p : ClientBlock) (j : Cap) → is_transfer k ≡ true
     → agrees Stays k n (shows k p (Other j)) (shows k p GrantedOther) ≡ true
-at_other n GrantAck p j t = refl
-at_other n k p j t = same_again (shows k p (Other j))
+at_other n k p j e = grind (arith, same_again, shows)
 
 -- moves by the place of the client
 moves_of_sender : (n c q : ℕ) (ch : Channel) → (q ≡ c → ⊥) → granted_moves n c q q ch ≡ granted_moves n 0 1 1 ch

@@ -1,15 +1,15 @@
 -- What is due to a client: the message of the first token of channel D, and what it answers.
-use Rattle.std.proofs.Common.{◌≡◌, ℕ, Bool, true, false, not, List, ◌∷◌, Some, refl, ◌∙◌, ap, lit≤, eqb-true, ◌==◌, arith}
-use Rattle.std.proofs.Common.{if◌then◌else◌, sym}
+use Rattle.std.proofs.Common.{◌≡◌, ℕ, Bool, true, false, not, List, ◌∷◌, Some, refl, ◌∙◌, ap, lit≤, ◌==◌, arith}
+use Rattle.std.proofs.Common.{if◌then◌else◌}
 use Rattle.tl_coherence.proofs
 use proofs.Imports.{and_from, OpD, Message, MessageA, MessageD, Cap, Grow, cap_code, grant_opcode, no_payload}
-use proofs.Imports.{is_access_answer, IsInvariant, Answer, Grant, ReleaseAck, Packet, Granting, GrantedOther}
-use proofs.Imports.{ReleasePhase, ReleaseAcked, AcquirePhase, NoAcquire, AcquireOpen, is_unacquired, is_unreleased}
-use proofs.Imports.{grant_fits, Service, Free, Waits, GrantSent, GrantTaken, State, Replied, Acquires, view, packet}
-use proofs.Imports.{is_wanting, is_granting, is_acked, AccessMessages, block_message, IsAnswered}
-use Rattle.tl_rules.specs.statement.Conformance.{answers}
-use proofs.protocol.{BothParts.waits_ungranted, BothParts.taken_ungranted, BothParts.is_of-is, BothParts.acquires_of-is}
-use proofs.protocol.{FirstTokens.first-answer, FirstTokens.first-shown}
+use proofs.Imports.{is_access_answer, IsInvariant, Answer, Grant, ReleaseAck, Packet, Granting, ReleasePhase}
+use proofs.Imports.{AcquirePhase, AcquireOpen, is_unacquired, is_unreleased, grant_fits, Service, GrantSent, State}
+use proofs.Imports.{Replied, Acquires, view, packet, is_wanting, is_granting, is_acked, AccessMessages, block_message}
+use proofs.Imports.{IsAnswered}
+use Rattle.tl_rules.{specs.statement.Conformance.answers}
+use proofs.protocol.BothParts.{waits_ungranted, taken_ungranted, is_of-is, acquires_of-is}
+use proofs.protocol.FirstTokens.{first-answer, first-shown}
 use proofs.queues.{Facts.grant_is_fit, Facts.granting_asks, Tokens.same_number}
 
 -- ---- an answer
@@ -64,17 +64,10 @@ pub record IsGrantDue (c n : ℕ) (s : State (List ℕ)) : Type 0 where
 
 pub granting-service : (s : Service) (c : ℕ) → is_granting (view s c) ≡ true → (d : Bool) × (k : Cap)
     × (s ≡ GrantSent c d k)
-granting-service Free c e = absurd cc
-granting-service (Waits q o source k) c e = absurd (cc (waits_ungranted o q source k c))
-granting-service (GrantTaken q) c e = absurd (let no : false ≡ true = sym (taken_ungranted q c) ∙ e in cc)
-granting-service (GrantSent q d k) c e =
-    let own : (x : Bool) → is_granting (if x then Granting d k else GrantedOther) ≡ true → x ≡ true =
-    elim [ true ↦ λ f. refl | false ↦ λ f. absurd cc ] in
-    let same : c ≡ q = eqb-true c q (own (c == q) e) in (d, k, rw same refl)
+granting-service s c e = grind (arith, waits_ungranted, taken_ungranted)
 
 wanting_is : (x : AcquirePhase) → not (is_unacquired x) ≡ true → (whole : Bool) × (g : Grow) × (x ≡ AcquireOpen whole g)
-wanting_is NoAcquire e = absurd cc
-wanting_is (AcquireOpen whole g) e = (whole, g, refl)
+wanting_is x e = grind arith
 
 -- the use of the source of an open Acquire
 pub acquire-used : (caching : ℕ → Bool) (c n : ℕ) (s : State (List ℕ)) → IsInvariant caching s

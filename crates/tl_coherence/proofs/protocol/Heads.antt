@@ -1,6 +1,6 @@
 -- The request whose beat is first on channel A of a link: an access that was asked, or an Acquire that is wanted.
 use Rattle.std.proofs.Common.{◌≡◌, ℕ, ◌-◌, ◌*◌, ◌^◌, ◌<◌, Bool, true, false, List, ◌∷◌, Some, None, refl, sym, ◌∙◌, ap}
-use Rattle.std.proofs.Common.{inl, inr, arith, map}
+use Rattle.std.proofs.Common.{arith, map}
 use Rattle.tl_coherence.proofs
 use proofs.Imports.{same_Some, Beat, Channel, IsWidth, beats-positive, Message, MessageA, beats_of, a_beat_of}
 use proofs.Imports.{IsBlankAfter, unfinished, Config, Grow, on_link, block_at, is_acquire, same_block, open_beat}

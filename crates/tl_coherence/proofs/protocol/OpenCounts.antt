@@ -62,8 +62,7 @@ acks-set clients c l link few =
     omega (arith, ap (λ (x : Link). length x.e) (set-same c l link), changed)
 
 pub acks-same : (clients : ℕ) (f g : ℕ → Link) → ((c : ℕ) → (f c).e ≡ (g c).e) → acks clients f ≡ acks clients g
-acks-same clients f g same = total-same clients (λ c. length (f c).e) (λ c. length (g c).e)
-    (λ c few. ap length (same c))
+acks-same clients f g same = grind (arith, total-same)
 
 -- ---- the whole
 

@@ -29,8 +29,7 @@ pub record IsClosed {X : Type 0} (s : State X) : Type 0 where
   pub lets : (c source : ℕ) → s.lets c source ≡ None
 
 none_there : (n : ℕ) (b : Bool) → 0 ≡ one_if b → b ≡ true → ⊥
-none_there n true e f = absurd (omega (arith, e))
-none_there n false e f = absurd cc
+none_there n b e f = grind arith
 
 probed_by_other : ClientBlock → View → Bool
 probed_by_other p v = is_unprobed p.probing || is_other v

@@ -2,7 +2,7 @@
 use Rattle.std.proofs.Common.{◌≡◌, ℕ, zero, suc, ◌*◌, ◌<◌, ◌≤◌, Bool, true, false, not, ◌&&◌, ◌||◌, List, ◌∷◌, Option}
 use Rattle.std.proofs.Common.{Some, None, length, refl, ◌∙◌, ap, ◌⊎◌, inl, inr, arith, ne_eqb, ◌==◌, slice_index}
 use Rattle.tl_coherence.proofs
-use proofs.Imports.{cases_lt, not-true, not-false, OpA, Message, MessageA, Config, Cap, Grow, Perm, Profile, same_perm}
+use proofs.Imports.{cases_lt, not-true, not-false, Message, MessageA, Config, Cap, Grow, Perm, Profile, same_perm}
 use proofs.Imports.{Memory, bytes_from, effect, block_at, is_acquire, bytes_are, cap_probed, cap_asked, IsInvariant}
 use proofs.Imports.{AreOutside, Request, Acquire, Packet, ClientBlock, AcquireOpen, same_cap, is_unprobed, cap_fits}
 use proofs.Imports.{grow_fits, is_above, is_granted_data, Free, Block, view, packet, is_probed, acquire_served}

@@ -1,6 +1,6 @@
 -- How many beats a channel holds, by the messages that are on it.
 use Rattle.std.proofs.Common.{◌≡◌, ℕ, ◌+◌, ◌-◌, ◌*◌, ◌/◌, ◌<◌, ◌≤◌, Bool, true, false, List, [], ◌∷◌, refl, ◌∙◌}
-use Rattle.std.proofs.Common.{ap, arith, inl, inr, not, length, length-append, map}
+use Rattle.std.proofs.Common.{ap, arith, not, length, length-append, map}
 use Rattle.tl_coherence.proofs
 use proofs.Imports.{Beat, Channel, IsWidth, Message, beats_of, beats_room, beats_from, one_if, IsInvariant, Kind, Probe}
 use proofs.Imports.{ReleaseAck, GrantAck, Packet, same_kind, State, is_on, packets_on, IsCarried, AccessMessages}

@@ -49,8 +49,7 @@ Probes true k p = (whole : Bool) × (g : Grow) × (p.acquiring ≡ AcquireOpen w
 Probes false k p = same_cap k Cap.ToT ≡ false
 
 is_low : (own : Bool) (k : Cap) (p : ClientBlock) → Probes own k p → same_cap k Cap.ToT ≡ false
-is_low true k p a = never_top k a.0 a.1 a.3
-is_low false k p a = a
+is_low own k p e = grind (arith, never_top)
 
 served-block : {X : Type 0} {caching : ℕ → Bool} (r : ℕ) {own : Bool} (source tracker : ℕ) {k : Cap} {b : Block X}
     → IsWell caching b → b.service ≡ Free → Probes own k (b.pair r) → IsOwnSource (Waits r own source k) b.source
@@ -194,8 +193,7 @@ served-event {caching} r n {own} source tracker {k} rest {s} inv first free asks
 -- no access is taken or answered where an Acquire is taken
 bare_move : (x p : Bool) (n : ℕ) → (spares (request_move (if x then Pops Acquire n else Stays) p n Channel.A) Request
     ≡ true) × (spares (request_move (if x then Pops Acquire n else Stays) p n Channel.D) Answer ≡ true)
-bare_move true p n = (refl, refl)
-bare_move false p n = (refl, refl)
+bare_move x p n = grind arith
 
 -- where Acquires stay, and Releases
 abbrev same_acquires : {X : Type 0} (r source tracker : ℕ) (own : Bool) (k : Cap) (b : Block X) → (c i : ℕ)

@@ -2,12 +2,11 @@
 use Rattle.std.proofs.Common.{◌≡◌, ℕ, Bool, true, false, not, ◌&&◌, ◌||◌, refl, sym, ◌∙◌, ap, inl, inr, ne_eqb, arith}
 use Rattle.tl_coherence.proofs
 use proofs.Imports.{and-false, cases_eq, Cap, Grow, Perm, cap_right, same_perm, resting, is_out, IsWell, set}
-use proofs.Imports.{ClientBlock, Granting, Acknowledging, GrantedOther, NoAcquire, AcquireOpen, is_unprobed, cap_fits}
-use proofs.Imports.{grant_fits, after_grant, GrantSent, GrantTaken, Block, view, taken_block, granted_copy}
-use proofs.Imports.{granted_truth}
+use proofs.Imports.{ClientBlock, Granting, Acknowledging, GrantedOther, AcquireOpen, is_unprobed, cap_fits, grant_fits}
+use proofs.Imports.{after_grant, GrantSent, GrantTaken, Block, view, taken_block, granted_copy, granted_truth}
 use proofs.queues.{Phases.and_left, Phases.and_right, PhaseSteps.grant_taken-ok, Facts.held_at_most, Facts.grant_is_fit}
-use proofs.queues.{Perms.nothing_below, Perms.whole_cap, Tokens.same_number, Tokens.set-same, Tokens.set-other}
-use proofs.queues.{Tokens.set-part}
+use proofs.queues.Perms.{nothing_below, whole_cap}
+use proofs.queues.Tokens.{same_number, set-same, set-other, set-part}
 
 -- a Grant for a store of the whole block gives Trunk
 whole_trunk : (g : Grow) (k : Cap) (p : Perm) → same_perm p (cap_right k) ≡ true → cap_fits true g k ≡ true
@@ -111,5 +110,4 @@ taken-block {X} c d whole g k {b} h granting wants = record {
     ]))
 
     not_calm : (p : ClientBlock) → p.acquiring ≡ AcquireOpen whole g → p ≡ resting → ⊥
-    not_calm p e f = let i : p.acquiring ≡ NoAcquire = ap (λ (x : ClientBlock). x.acquiring) f in
-        let j : AcquireOpen whole g ≡ NoAcquire = sym e ∙ i in absurd cc
+    not_calm p e f = grind arith

@@ -1,5 +1,5 @@
 -- A message that is pushed, and a beat that is taken.
-use Rattle.std.proofs.Common.{◌≡◌, ℕ, zero, suc, ◌<◌, ◌+◌, ◌-◌, List, [], ◌∷◌, ◌++◌, refl, sym, ◌∙◌, ap, arith}
+use Rattle.std.proofs.Common.{◌≡◌, ℕ, suc, ◌<◌, ◌+◌, ◌-◌, List, [], ◌∷◌, ◌++◌, refl, sym, ◌∙◌, ap, arith}
 use Rattle.std.proofs.Common.{append_assoc, append-nil, ◌==◌}
 use Rattle.tl_coherence.proofs
 use proofs.Imports.{Beat, length-begun, Message, beats_of, beat_of, begun, burst_of, grown, completes, not_last}
@@ -38,8 +38,7 @@ carried-push {w} rest (n ∷ ms) queue m pos (k, lt, r, q) = (
 from_next : {w : ℕ} (m : Message w) (k n : ℕ) → n ≡ suc (n - 1) → beats_from m k n ≡ beat_of m k ∷ beats_from m (k + 1)
     (n - 1)
 unfolding beats_from
-from_next m k zero e = absurd (omega (arith, e))
-from_next m k (suc n) e = let one : suc n - 1 ≡ n = omega arith in rw one refl
+from_next m k n e = grind arith
 
 no_beats : {w : ℕ} (m : Message w) (k : ℕ) (beats : List (Beat w)) → (beats_from m k 0 ++ beats) ≡ beats
 unfolding beats_from
@@ -63,8 +62,7 @@ tail_is x y xs ys e = (cc, cc)
 
 carried_rest : {w : ℕ} (ms : List (Message w)) → ((n : Message w) → 0 < beats_of n) → IsCarried [] ms (spelled ms)
 unfolding spelled
-carried_rest [] pos = (refl, refl)
-carried_rest (m ∷ ms) pos = let all : beats_of m - 0 ≡ beats_of m = omega arith in (0, pos m, refl, rw all refl)
+carried_rest ms e = grind arith
 
 pub carried-next : {w : ℕ} (x : Beat w) (rest : List (Beat w)) (m : Message w) (ms : List (Message w))
     (queue : List (Beat w)) → ((n : Message w) → 0 < beats_of n)

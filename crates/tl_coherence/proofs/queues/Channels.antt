@@ -23,14 +23,11 @@ count_behind k n (y ∷ xs) x = omega (arith, count_behind k n xs x)
 stay_before : (move : Move) (k : Kind) (n : ℕ) (xs ys : List Packet) → IsMoved move xs ys
     → count k n (staying move xs ys) ≤ count k n xs
 unfolding count
-stay_before (Pops j i) k n xs ys e = rw e (omega arith)
-stay_before move k n xs ys e = omega arith
+stay_before move k n xs ys e = grind arith
 
 stay_after : (move : Move) (k : Kind) (n : ℕ) (xs ys : List Packet) → IsMoved move xs ys
     → count k n (staying move xs ys) ≤ count k n ys
-stay_after Stays k n xs ys e = rw e (omega arith)
-stay_after (Pushes j i) k n xs ys e = rw e (count_behind k n xs (packet j i))
-stay_after (Pops j i) k n xs ys e = omega arith
+stay_after move k n xs ys e = grind (arith, count_behind)
 
 -- messages of tokens are the same where those of each token that is there are
 map_kept : {A : Type 0} (f g : Kind → ℕ → A) (xs : List Packet)
@@ -120,13 +117,11 @@ messages-stay {w} {n} {moves} {mail} {mail'} {s} {s'} event d ch = map_kept (λ 
 
     asked : (i : ℕ) → (count Request i stay ≡ 0) ⊎ ((is_asked (s.uses d i) ≡ true) × (is_asked (s'.uses d i) ≡ true))
         → Kept Request i
-    asked i (inl none) = inl none
-    asked i (inr both) = inr (event.requests d i both.0 both.1)
+    asked i e = grind (arith, d)
 
     replied : (i : ℕ) → (count Answer i stay ≡ 0)
         ⊎ ((is_replied (s.uses d i) ≡ true) × (is_replied (s'.uses d i) ≡ true)) → Kept Answer i
-    replied i (inl none) = inl none
-    replied i (inr both) = inr (event.answers d i both.0 both.1)
+    replied i e = grind (arith, d)
 
     mine : (k : Kind) (i : ℕ) → is_on ch k ≡ true → Kept k i
     mine Request i own = asked i (here Request i (is_asked (s.uses d i)) (is_asked (s'.uses d i)) own

@@ -1,5 +1,5 @@
 -- What the opcodes and the parameters of a message say.
-use Rattle.std.proofs.Common.{Bool, Some, false, refl, true, ℕ, ◌≡◌, if◌then◌else◌, ◌==◌, arith}
+use Rattle.std.proofs.Common.{Bool, Some, false, true, ℕ, ◌≡◌, arith}
 use Rattle.tl_coherence.proofs
 use proofs.Imports.{OpA, OpD, Cap, Grow, Perm, Profile, cap_code, cap_of, cap_right, grow_code, same_perm, is_acquire}
 use proofs.Imports.{is_grant, is_release_ack, grant_opcode, cap_probed, is_access_answer, same_cap, is_granted_data}

@@ -1,6 +1,6 @@
 -- Tokens with names of their own: where each name below a bound is of one token at most, there are no more tokens.
-use Rattle.std.proofs.Common.{◌≡◌, ℕ, ◌+◌, ◌<◌, ◌≤◌, Bool, true, false, List, [], ◌∷◌, refl, sym, ◌∙◌, ap, ◌⊎◌, inl}
-use Rattle.std.proofs.Common.{inr, arith, ◌&&◌, not, length, Option, Some, None, ne_eqb, eqb-true, ◌==◌, if◌then◌else◌}
+use Rattle.std.proofs.Common.{◌≡◌, ℕ, ◌+◌, ◌<◌, ◌≤◌, Bool, true, false, List, [], ◌∷◌, refl, sym, ◌∙◌, ap, ◌⊎◌}
+use Rattle.std.proofs.Common.{arith, ◌&&◌, not, length, Option, Some, None, eqb-true, ◌==◌, if◌then◌else◌}
 use Rattle.tl_coherence.proofs
 use proofs.Imports.{cases_eq, and_parts, same_Some, one_if, total, Kind, Packet, is, count}
 use proofs.queues.{Rendered.same_kind_again, Tokens.same_number, Sums.total-same, Sums.total-le, Sums.total-plus}
@@ -73,8 +73,7 @@ one-name true n bound below = total-same bound (λ i. one_if (n == i)) (λ i. if
     (λ i lt. at i (cases_eq i n)) ∙ total-one bound n 1 (below refl)
   where
     at : (i : ℕ) → (i ≡ n) ⊎ (i ≡ n → ⊥) → one_if (n == i) ≡ (if i == n then 1 else 0)
-    at i (inl e) = rw (e, same_number n) refl
-    at i (inr ne) = let other : n ≡ i → ⊥ = λ e. ne (sym e) in rw (ne_eqb i n ne, ne_eqb n i other) refl
+    at i e = grind (arith, n)
 
 -- each that passes has one name
 by-names : (test : Packet → Bool) (name : Packet → ℕ) (bound : ℕ) (xs : List Packet)

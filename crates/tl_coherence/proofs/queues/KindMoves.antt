@@ -1,12 +1,11 @@
 -- What a move of one token does to each kind of token on a channel.
-use Rattle.std.proofs.Common.{◌≡◌, ℕ, Bool, true, false, not, ◌&&◌, List, [], ◌∷◌, ◌++◌, refl, ◌⊎◌, inl, inr, ap, sym, arith}
+use Rattle.std.proofs.Common.{◌≡◌, ℕ, Bool, true, false, not, ◌&&◌, List, [], ◌∷◌, ◌++◌, refl, ◌⊎◌, inl, inr, ap, arith}
 use Rattle.std.proofs.Common.{◌∙◌, ne_eqb, eqb-true, ◌==◌, if◌then◌else◌}
 use Rattle.tl_coherence.proofs
-use proofs.Imports.{cases_eq, not-true, beq, Channel, Kind, Request, Acquire, Probe, ProbeAck, Release, Answer, Grant}
-use proofs.Imports.{ReleaseAck, GrantAck, Packet, same_kind, count, set, Holds, IsOrdered, packet, packets_on, is_on}
-use proofs.Imports.{Block, on, shown, is_transfer, Move, Stays, Pushes, Pops, IsMoved, AreMoved, agrees, is_own_move}
-use proofs.Imports.{channel_for}
-use Rattle.tl_coherence.specs.protocol.Protocol.{Link}
+use proofs.Imports.{cases_eq, not-true, beq, Channel, Kind, ProbeAck, Release, Packet, same_kind, count, set, Holds}
+use proofs.Imports.{IsOrdered, packet, packets_on, is_on, Block, on, shown, is_transfer, Move, Stays, Pushes, Pops}
+use proofs.Imports.{IsMoved, AreMoved, agrees, is_own_move, channel_for}
+use Rattle.tl_coherence.{specs.protocol.Protocol.Link}
 use proofs.queues.Tokens.{holds-set, holds-push, holds-push_other, holds-pop, holds-pop_other, none-push, none-pop}
 use proofs.queues.Tokens.{ordered-pop, ordered-push_other, ordered-push_report}
 use proofs.queues.Phases.{and_left, and_right}
@@ -25,8 +24,7 @@ holds-moved k Stays xs ys q f n y moved fits h = rw moved (holds-set k xs q f n 
 holds-moved {B} k (Pushes j i) xs ys q f n y moved fits h = rw moved (go (same_kind j k) refl fits)
   where
     both : (a b : Bool) → (not a && b) ≡ true → (a ≡ false) × (b ≡ true)
-    both false true e = (refl, refl)
-    both a b e = absurd cc
+    both a b e = grind arith
 
     go : (own : Bool) → same_kind j k ≡ own → (if own then (i == n) && (not (q (f n)) && q y) else beq (q (f n)) (q y))
         ≡ true → Holds k (xs ++ packet j i ∷ []) (λ m. q (set n y f m))
@@ -51,9 +49,7 @@ spares (Pushes j i) k = not (same_kind j k)
 spares (Pops j i) k = not (same_kind j k)
 
 pub spared-agrees : (m : Move) (k : Kind) (n : ℕ) (a : Bool) → spares m k ≡ true → agrees m k n a a ≡ true
-spared-agrees Stays k n a e = same_again a
-spared-agrees (Pushes j i) k n a e = rw (not-true (same_kind j k) e) (same_again a)
-spared-agrees (Pops j i) k n a e = rw (not-true (same_kind j k) e) (same_again a)
+spared-agrees m k n a e = grind (arith, same_again, not-true)
 
 pub holds-spared : (k : Kind) (move : Move) (xs ys : List Packet) (test : ℕ → Bool) → IsMoved move xs ys
     → spares move k ≡ true → Holds k xs test → Holds k ys test
@@ -87,13 +83,7 @@ kind_is k j e = grind arith
 
 -- a kind that isn't one of the channel isn't one that is
 kinds_apart : (ch : Channel) (k j : Kind) → is_on ch k ≡ true → is_on ch j ≡ false → same_kind k j ≡ false
-kinds_apart ch k j e f =
-    let go : (b : Bool) → same_kind k j ≡ b → b ≡ false = elim [
-      | false ↦ λ g. refl
-      | true ↦ λ g. absurd (let no : true ≡ false = sym e ∙ ap (is_on ch) (kind_is k j g) ∙ f in
-          cc)
-    ] in
-    go (same_kind k j) refl
+kinds_apart ch k j e f = grind (arith, kind_is)
 
 -- a channel has tokens of its own kinds after its move
 pub own_kinds-moved : (ch : Channel) (move : Move) (xs ys : List Packet) (k : Kind) (i : ℕ) → is_own_move ch move ≡ true

@@ -1,12 +1,12 @@
 -- Tokens, and what they stand for, after the moves of an event: one lemma for all events.
-use Rattle.std.proofs.Common.{◌≡◌, ℕ, Bool, true, false, List, Option, refl, sym, ◌∙◌, ap, inl, inr, ne_eqb, ◌==◌, arith}
+use Rattle.std.proofs.Common.{◌≡◌, ℕ, Bool, true, List, Option, refl, sym, ◌∙◌, ap, inl, inr, ne_eqb, ◌==◌, arith}
 use Rattle.std.proofs.Common.{if◌then◌else◌}
 use Rattle.tl_coherence.proofs
 use proofs.Imports.{cases_eq, Channel, IsInvariant, is_asked, is_replied, IsWell, AreNamed, is_of, acquires_of}
 use proofs.Imports.{serves_of, acquires_with, serves_with, releases_with, tracks_with, Kind, Request, ProbeAck, Release}
 use proofs.Imports.{Answer, Packet, count, set, Holds, set_at, State, packets_on, Block, SourceState, shown}
 use proofs.Imports.{is_transfer, Move, Stays, Pushes, IsMoved, AreMoved, agrees, is_own_move, channel_for}
-use Rattle.tl_coherence.specs.{protocol.Invariant.Names, protocol.Protocol.Link}
+use Rattle.tl_coherence.{specs.protocol.Invariant.Names, specs.protocol.Protocol.Link}
 use proofs.queues.Tokens.{same_number, set-same, set-other, set-each}
 use proofs.queues.KindMoves.{holds-moved, spares, holds-spared, on_is, transfers-moved, own_kinds-moved, ordered-moved}
 
@@ -201,8 +201,7 @@ event-at {c} {n} {b} {l} {moves} {s} event = record {
 }
   where
     own : (ch : Channel) (b : Bool) → is_own_move ch (if b then moves ch else Stays) ≡ true
-    own ch true = event.own ch
-    own ch false = refl
+    own ch b = grind arith
 
 -- where no access is taken or answered at client c
 pub bare-at : (c : ℕ) (moves : Channel → Move) → spares (moves Channel.A) Request ≡ true
@@ -213,8 +212,7 @@ bare-at c moves a e d = grind arith
 -- at other clients than c nothing moves
 pub bare-elsewhere : (c : ℕ) (moves : Channel → Move) (d : ℕ) → (d ≡ c → ⊥)
     → (spares (moves_at c moves d Channel.A) Request ≡ true) × (spares (moves_at c moves d Channel.D) Answer ≡ true)
-bare-elsewhere c moves d ne =
-    (rw (moves-there c d moves Channel.A ne) refl, rw (moves-there c d moves Channel.D ne) refl)
+bare-elsewhere c moves d ne = grind (arith, moves-there)
 
 -- ---- accesses, which change no block's tokens
 

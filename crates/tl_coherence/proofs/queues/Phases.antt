@@ -1,5 +1,5 @@
 -- Every phase that is well, by computation.
-use Rattle.std.proofs.Common.{◌≡◌, refl, Bool, true, false, ◌&&◌, arith}
+use Rattle.std.proofs.Common.{◌≡◌, Bool, true, false, ◌&&◌, arith}
 use Rattle.tl_coherence.proofs
 use proofs.Imports.{⊤, Cap, Grow, Prune, Report, Perm, ClientBlock, View, Idle, Own, Other, Granting, Acknowledging}
 use proofs.Imports.{GrantedOther, ProbePhase, NoProbe, ProbeAnswered, ReleasePhase, ReleaseSent, NoAcquire, AcquireOpen}
@@ -74,38 +74,25 @@ abbrev IsSix : Bool → Bool → Bool → Bool → Bool → Bool → Type 0
 IsSix a b c d e f = (a ≡ true) × (b ≡ true) × (c ≡ true) × (d ≡ true) × (e ≡ true) × (f ≡ true)
 
 three : (a b c : Bool) → (a && (b && c)) ≡ true → IsThree a b c
-three true true c e = (refl, refl, e)
-three a b c e = absurd cc
+three a b c e = grind arith
 
 six : (a b c d e f : Bool) → (a && (b && (c && (d && (e && f))))) ≡ true → IsSix a b c d e f
-six a b c d e f h =
-    let p = three a b (c && (d && (e && f))) h in
-    let q = three c d (e && f) p.2 in
-    (p.0, p.1, q.0, q.1, and_left e f q.2, and_right e f q.2)
+six a b c d e f h = grind (arith, three)
 
 pub of_bool : (f : Bool → Bool) → each_bool f ≡ true → (x : Bool) → f x ≡ true
-of_bool f e true = and_left (f true) (f false) e
-of_bool f e false = and_right (f true) (f false) e
+of_bool f e x = grind (arith, and_left, and_right)
 
 of_perm : (f : Perm → Bool) → each_perm f ≡ true → (x : Perm) → f x ≡ true
-of_perm f e Perm.None = (three (f Perm.None) (f Perm.Branch) (f Perm.Trunk) e).0
-of_perm f e Perm.Branch = (three (f Perm.None) (f Perm.Branch) (f Perm.Trunk) e).1
-of_perm f e Perm.Trunk = (three (f Perm.None) (f Perm.Branch) (f Perm.Trunk) e).2
+of_perm f e x = grind (arith, three)
 
 pub of_cap : (f : Cap → Bool) → each_cap f ≡ true → (x : Cap) → f x ≡ true
-of_cap f e Cap.ToT = (three (f Cap.ToT) (f Cap.ToB) (f Cap.ToN) e).0
-of_cap f e Cap.ToB = (three (f Cap.ToT) (f Cap.ToB) (f Cap.ToN) e).1
-of_cap f e Cap.ToN = (three (f Cap.ToT) (f Cap.ToB) (f Cap.ToN) e).2
+of_cap f e x = grind (arith, three)
 
 pub of_grow : (f : Grow → Bool) → each_grow f ≡ true → (x : Grow) → f x ≡ true
-of_grow f e Grow.NtoB = (three (f Grow.NtoB) (f Grow.NtoT) (f Grow.BtoT) e).0
-of_grow f e Grow.NtoT = (three (f Grow.NtoB) (f Grow.NtoT) (f Grow.BtoT) e).1
-of_grow f e Grow.BtoT = (three (f Grow.NtoB) (f Grow.NtoT) (f Grow.BtoT) e).2
+of_grow f e x = grind (arith, three)
 
 pub of_prune : (f : Prune → Bool) → each_prune f ≡ true → (x : Prune) → f x ≡ true
-of_prune f e Prune.TtoB = (three (f Prune.TtoB) (f Prune.TtoN) (f Prune.BtoN) e).0
-of_prune f e Prune.TtoN = (three (f Prune.TtoB) (f Prune.TtoN) (f Prune.BtoN) e).1
-of_prune f e Prune.BtoN = (three (f Prune.TtoB) (f Prune.TtoN) (f Prune.BtoN) e).2
+of_prune f e x = grind (arith, three)
 
 -- a test of six reports
 abbrev SixReports : (Report → Bool) → Type 0
@@ -115,12 +102,7 @@ six_reports : (f : Report → Bool) → each_report f ≡ true → SixReports f
 six_reports f e = six (f Report.TtoB) (f Report.TtoN) (f Report.BtoN) (f Report.TtoT) (f Report.BtoB) (f Report.NtoN) e
 
 of_report : (f : Report → Bool) → each_report f ≡ true → (x : Report) → f x ≡ true
-of_report f e Report.TtoB = (six_reports f e).0
-of_report f e Report.TtoN = (six_reports f e).1
-of_report f e Report.BtoN = (six_reports f e).2
-of_report f e Report.TtoT = (six_reports f e).3
-of_report f e Report.BtoB = (six_reports f e).4
-of_report f e Report.NtoN = (six_reports f e).5
+of_report f e x = grind (arith, six_reports)
 
 of_probing : (f : ProbePhase → Bool) → each_probing f ≡ true → (x : ProbePhase) → f x ≡ true
 of_probing f e NoProbe =

@@ -1,14 +1,14 @@
 -- What a token stands for that is there before and after an event: the same message.
-use Rattle.std.proofs.Common.{◌≡◌, ℕ, Bool, true, false, not, ◌&&◌, ◌||◌, List, refl, sym, ◌∙◌, ap, ◌⊎◌, inl, inr, ◌==◌, arith}
-use Rattle.std.proofs.Common.{if◌then◌else◌}
+use Rattle.std.proofs.Common.{◌≡◌, ℕ, Bool, true, false, not, ◌&&◌, ◌||◌, List, refl, sym, ◌∙◌, ap, ◌⊎◌, inl, inr, ◌==◌}
+use Rattle.std.proofs.Common.{arith, if◌then◌else◌}
 use Rattle.tl_coherence.proofs
 use proofs.Imports.{not-true, or_parts, ⊤, Channel, OpB, Prune, Report, Perm, prune_left, report_left, same_perm}
 use proofs.Imports.{release, probe_ack, IsInvariant, is_asked, is_replied, IsWell, Kind, Request, Acquire, Probe}
 use proofs.Imports.{ProbeAck, Release, Answer, Grant, ReleaseAck, GrantAck, set, ClientBlock, View, Granting}
 use proofs.Imports.{GrantedOther, ok, State, Service, GrantSent, Block, view, shown, is_granting, Move, AreMoved}
 use proofs.Imports.{AccessMessages, report_told, prune_told, grant_of, block_message}
-use proofs.queues.{Channels.IsShowing, Phases.and_left, Phases.and_right, Phases.each_phase, Phases.of_phase}
-use proofs.queues.{Phases.implies, Phases.implies_is, Tokens.same_number, Tokens.set-same, Tokens.set-other}
+use proofs.queues.{Channels.IsShowing, Tokens.same_number, Tokens.set-same, Tokens.set-other}
+use proofs.queues.Phases.{and_left, and_right, each_phase, of_phase, implies, implies_is}
 
 -- ---- one message
 
@@ -133,14 +133,7 @@ ungiven v none = refl
 
 pub uncarried : (k : Kind) (d : ℕ) (b : Block (List ℕ)) → is_told (b.pair d) ≡ false → is_given b.service ≡ false
     → carries k d b ≡ false
-uncarried ProbeAck d b told given =
-    (or_parts (same_perm (report_left (report_told (b.pair d).probing)) Perm.Trunk)
-    (same_perm (prune_left (prune_told (b.pair d).letting)) Perm.Trunk) told).0
-uncarried Release d b told given =
-    (or_parts (same_perm (report_left (report_told (b.pair d).probing)) Perm.Trunk)
-    (same_perm (prune_left (prune_told (b.pair d).letting)) Perm.Trunk) told).1
-uncarried Grant d b told given = given
-uncarried k d b told given = refl
+uncarried k d b e f = grind (arith, or_parts)
 
 pub none-carried : {caching : ℕ → Bool} {b : Block (List ℕ)} → IsWell caching b
     → ((d : ℕ) → (same_perm (b.pair d).held Perm.Trunk || same_perm (b.pair d).recorded Perm.None) ≡ true)

@@ -83,10 +83,7 @@ holds-push k xs x q f m y on at was now h n = elim (cases_eq n m) [
 pub holds-pop_other : (k : Kind) (xs rest : List Packet) (x : Packet) (test : ℕ → Bool) → xs ≡ x ∷ rest
     → same_kind x.kind k ≡ false → Holds k xs test → Holds k rest test
 unfolding count
-holds-pop_other k xs rest x test e off h n =
-    let no : one_if (is k n x) ≡ 0 = rw (kind_apart k x off n) refl in
-    let all : count k n (x ∷ rest) ≡ one_if (test n) = rw e at (h n) in
-    omega (arith, all, no)
+holds-pop_other k xs rest x test e off h n = grind (arith, kind_apart)
 
 -- the first is one that passes the test
 pub holds-first : (k : Kind) (xs rest : List Packet) (x : Packet) (test : ℕ → Bool) → xs ≡ x ∷ rest

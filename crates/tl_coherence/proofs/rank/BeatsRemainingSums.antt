@@ -1,14 +1,14 @@
 -- How many beats are left of what is on the channels: no more than a block has, of a report one unless it is the
 -- writer's,
 -- and of an access and its answer one more than a block has.
-use Rattle.std.proofs.Common.{◌≡◌, ℕ, ◌+◌, ◌/◌, ◌≤◌, Bool, true, false, List, [], ◌∷◌, refl, sym, ◌∙◌, arith, inl, inr}
-use Rattle.std.proofs.Common.{not, ◌||◌, Option, Some, None, eqb-true, ◌==◌, if◌then◌else◌}
+use Rattle.std.proofs.Common.{◌≡◌, ℕ, ◌+◌, ◌/◌, ◌≤◌, Bool, true, false, List, [], ◌∷◌, refl, sym, ◌∙◌, arith}
+use Rattle.std.proofs.Common.{not, Option, Some, None, if◌then◌else◌}
 use Rattle.tl_coherence.proofs
 use proofs.Imports.{not-false, Beat, Channel, OpA, OpB, OpD, a_carries_data, d_carries_data, IsWidth, Message, MessageA}
 use proofs.Imports.{beats_of, data_beats, Config, Level, Report, Perm, L1, L2, L3, report_left, control_of_legal}
-use proofs.Imports.{next_rule, same_perm, is_one_of, a_has_param, a_has_size, probe_ack, illegal_message_at, level_of}
+use proofs.Imports.{next_rule, same_perm, is_one_of, a_has_param, a_has_size, probe_ack, illegal_message_at}
 use proofs.Imports.{is_access_answer, IsInvariant, Request, Acquire, ProbeAck, Answer, View, ProbePhase, ProbeAnswered}
-use proofs.Imports.{ClientBlock, AcquirePhase, AcquireOpen, ok, State, Replied, view, AccessMessages, acquire_of}
+use proofs.Imports.{ClientBlock, AcquirePhase, ok, State, Replied, view, AccessMessages, acquire_of}
 use proofs.Imports.{report_told, block_message, message_of_kind, IsRequest, IsSourced, IsAnswer, IsAnswered}
 use Rattle.tl_rules.{specs.statement.Conformance.answers, specs.statement.Legality.a_of_level}
 use proofs.queues.{PhaseFacts.data_carried, Phases.and_left}
@@ -51,12 +51,7 @@ pub wide-block : (w : ℕ) → IsWidth w → 4 ≤ 64 / w
 wide-block w e = grind arith
 
 answer-few : {w : ℕ} (m : Message w) → IsWidth w → answer_beats m ≤ 64 / w
-answer-few {w} (Message.A m) width = go (is_read m.opcode)
-  where
-    go : (b : Bool) → (if b then data_beats w m.size else 1) ≤ 64 / w
-    go true = data-few m width
-    go false = let four = wide-block w width in omega (arith, four)
-answer-few {w} m width = let four = wide-block w width in omega (arith, four)
+answer-few m e = grind (arith, data-few, wide-block)
 
 -- an answer has as many beats as its request is answered with
 answer_opcode : (x : OpD) (o : OpA) (n : ℕ) → is_access_answer x ≡ true → answers x o ≡ true
@@ -64,9 +59,7 @@ answer_opcode : (x : OpD) (o : OpA) (n : ℕ) → is_access_answer x ≡ true �
 answer_opcode x o n e f = grind arith
 
 answer-is : {w : ℕ} (source : ℕ) (m x : Message w) → IsAnswer source m x → beats_of x ≡ answer_beats m
-answer-is {w} source (Message.A m) (Message.D x) h =
-    rw h.3 (answer_opcode x.opcode m.opcode (data_beats w m.size) h.0 h.1)
-answer-is source m x h = absurd h
+answer-is source m x e = grind (arith, answer_opcode)
 
 -- ---- an access and its answer
 
@@ -76,15 +69,7 @@ atomic-few w size width e = grind arith
 
 both-few : (w size : ℕ) (l : Level) (o : OpA) → IsWidth w → a_has_size w l o size ≡ true → data_beats w size ≤ 64 / w
     → (if a_carries_data o then data_beats w size else 1) + (if is_read o then data_beats w size else 1) ≤ 64 / w + 1
-both-few w size l OpA.ArithmeticData width e few = let two = atomic-few w size width e in let four =
-    wide-block w width in
-    omega (arith, two, four)
-both-few w size l OpA.LogicalData width e few = let two = atomic-few w size width e in let four = wide-block w width in
-    omega (arith, two, four)
-both-few w size l OpA.Intent width e few = let four = wide-block w width in omega (arith, four)
-both-few w size l OpA.AcquireBlock width e few = let four = wide-block w width in omega (arith, four)
-both-few w size l OpA.AcquirePerm width e few = let four = wide-block w width in omega (arith, four)
-both-few w size l o width e few = omega (arith, few)
+both-few w size l o e f g = grind (arith, atomic-few, wide-block)
 
 access_at : {w : ℕ} (o : Option Level) (m : MessageA w) → IsWidth w → illegal_message_at o (Message.A m) ≡ None
     → beats_of (Message.A m) + answer_beats (Message.A m) ≤ 64 / w + 1
@@ -97,8 +82,7 @@ access_at {w} (Some l) m width e =
 
 access-few : {w : ℕ} (config : Config) (c source : ℕ) (m : Message w) → IsWidth w → IsRequest config c source m
     → beats_of m + answer_beats m ≤ 64 / w + 1
-access-few config c source (Message.A m) width h = access_at (level_of config c) m width h.1
-access-few config c source m width h = absurd (let no = h.0 in cc)
+access-few config c source m e f = grind (arith, access_at)
 
 -- ---- an Acquire, and a report
 
@@ -149,6 +133,4 @@ module _ {w : ℕ} (config : Config) {caching : ℕ → Bool} (mail : AccessMess
   -- what is left of an answer
   pub answer-left : (c source : ℕ) → IsAnswered source (mail.request c source) (mail.answer c source) (s.uses c source)
       → s.uses c source ≡ Replied → beats_left mail s rest c Answer source ≤ answer_to mail c source
-  answer-left c source answered replied =
-      let same = answer-is source (mail.request c source) (mail.answer c source) (rw replied at answered) in
-      omega (arith, left-few mail s rest c Answer source, same)
+  answer-left c source answered replied = grind (arith, answer-is)

@@ -1,5 +1,5 @@
 -- What is owed for what an event leaves alone.
-use Rattle.std.proofs.Common.{◌≡◌, ℕ, ◌+◌, ◌<◌, ◌≤◌, Bool, true, false, List, refl, sym, ◌∙◌, arith, ◌⊎◌, inl, inr}
+use Rattle.std.proofs.Common.{◌≡◌, ℕ, ◌+◌, ◌<◌, ◌≤◌, Bool, true, List, refl, sym, ◌∙◌, arith, ◌⊎◌, inl, inr}
 use Rattle.std.proofs.Common.{Option, Some, None, length}
 use Rattle.tl_coherence.proofs
 use proofs.Imports.{cases_eq, and_from, Beat, Channel, Config, one_if, Left, pair_weight, probes_weight, acquire_weight}
@@ -15,8 +15,7 @@ use proofs.protocol.BeatsRemaining.{IsHere, IsPopped, beats_left, left-same}
 -- ---- what is shown is there
 
 here_if : (b : Bool) (n : ℕ) → n ≡ one_if b → b ≡ true → 0 < n
-here_if true n e f = omega (arith, e)
-here_if false n e f = absurd cc
+here_if b n e f = grind arith
 
 module _ {X : Type 0} {caching : ℕ → Bool} {s : State X} (inv : IsInvariant caching s) where
   request-here : (d i : ℕ) → s.uses d i ≡ Asked → IsHere s d Request i

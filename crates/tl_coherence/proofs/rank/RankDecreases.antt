@@ -2,7 +2,7 @@
 use Rattle.std.proofs.Common.{◌≡◌, ℕ, zero, suc, ◌+◌, ◌<◌, ◌≤◌, true, refl, arith, ◌⊎◌, inl, inr, length}
 use Rattle.tl_coherence.proofs
 use proofs.Imports.{cases_eq, Config, Left, pair_weight, probes_weight, acquire_weight, let_weight, rank, use_weight}
-use proofs.Imports.{client_weight, Request, Acquire, Answer, Grant, View, Own, Granting, State, SourceState, SourceFree}
+use proofs.Imports.{client_weight, Request, Acquire, Answer, Grant, View, State, SourceState, SourceFree}
 use proofs.Imports.{Asked, InService, Replied, Acquires, view, is_unserved, sources_of, terms_at}
 use Rattle.tl_coherence.specs.bound.Rank.{total}
 use proofs.queues.Sums.{total-le}

@@ -1,10 +1,10 @@
 -- What is owed falls with each delivery: block by block.
 use Rattle.std.proofs.Common.{◌≡◌, ℕ, ◌+◌, ◌<◌, ◌≤◌, Bool, true, false, List, refl, sym, ◌∙◌, ap, arith, ◌⊎◌, inl, inr}
-use Rattle.std.proofs.Common.{Some, length, eqb-true, ◌==◌, if◌then◌else◌}
+use Rattle.std.proofs.Common.{Some, length, eqb-true, if◌then◌else◌}
 use Rattle.tl_coherence.proofs
 use proofs.Imports.{cases_eq, Config, Cap, Left, pair_weight, probes_weight, letting_weight, IsInvariant, serves_of}
-use proofs.Imports.{serves_with, Release, Own, Granting, Acknowledging, GrantedOther, is_unprobed, State, SourceState}
-use proofs.Imports.{SourceFree, InService, Acquires, view, Service, Free, Waits, GrantSent, GrantTaken, AccessMessages}
+use proofs.Imports.{serves_with, Release, Own, is_unprobed, State, SourceState}
+use proofs.Imports.{SourceFree, InService, Acquires, view, Service, Waits, AccessMessages}
 use proofs.rank.Frames.{Taking, Falls, AreAsBefore, AreElsewhere, AreNoMore, use-stays, let-all, IsBlockNoMore}
 use proofs.rank.Frames.{acquire-stays, let-stays, pair-stays, wants-used}
 use proofs.protocol.{TokenNames.source_of_acquire, BeatsRemaining.beats_left, QuiescentProtocol.owns_ask}
@@ -40,8 +40,7 @@ asking {caching} {s} n q false source k inv e = record { at = source; used = ser
 
 pub open_use : (own : Bool) (n : ℕ) (u : SourceState) → u ≡ (if own then Acquires n else InService n) → u ≡ SourceFree
     → ⊥
-open_use true n u e f = absurd (let both : Acquires n ≡ SourceFree = sym e ∙ f in cc)
-open_use false n u e f = absurd (let both : InService n ≡ SourceFree = sym e ∙ f in cc)
+open_use own n u e f = grind arith
 
 module _ {w : ℕ} {config : Config} {mail mail' : AccessMessages w} {s s' : State (List ℕ)}
     (taking : Taking config mail mail' s s') where
@@ -180,9 +179,7 @@ module _ {w : ℕ} {config : Config} {mail mail' : AccessMessages w} {s s' : Sta
         other ne = use-stays taking block d i (unlike d i ne)
 
         go : (d ≡ q) ⊎ (d ≡ q → ⊥) → (i ≡ j) ⊎ (i ≡ j → ⊥) → owed' d i ≤ owed d i
-        go (inl e) (inl f) = rw (e, f) here
-        go (inr ne) at = other (λ e f. ne e)
-        go (inl e) (inr ne) = other (λ g f. ne f)
+        go e f = grind (arith, here, other)
 
     lets-else : (q j : ℕ) → AreElsewhere q j s'.lets s.lets → due' q j ≤ due q j → (d i : ℕ) → due' d i ≤ due d i
     lets-else q j unlike here d i = go (cases_eq d q) (cases_eq i j)
@@ -191,9 +188,7 @@ module _ {w : ℕ} {config : Config} {mail mail' : AccessMessages w} {s s' : Sta
         other ne = let-all taking block d i (unlike d i ne)
 
         go : (d ≡ q) ⊎ (d ≡ q → ⊥) → (i ≡ j) ⊎ (i ≡ j → ⊥) → due' d i ≤ due d i
-        go (inl e) (inl f) = rw (e, f) here
-        go (inr ne) at = other (λ e f. ne e)
-        go (inl e) (inr ne) = other (λ g f. ne f)
+        go e f = grind (arith, here, other)
 
     lets-same : AreAsBefore s'.lets s.lets → (d i : ℕ) → due' d i ≤ due d i
     lets-same same d i = let-all taking block d i (same d i)

@@ -1,15 +1,14 @@
 -- What is owed for each open request is at most 33 beats and those of a block, for each Release one
 -- and those of a block.
 use Rattle.std.proofs.Common.{◌≡◌, ℕ, zero, suc, ◌+◌, ◌*◌, ◌<◌, ◌≤◌, Bool, true, false, refl, arith, ◌⊎◌, inl, inr, not}
-use Rattle.std.proofs.Common.{◌&&◌, Option, Some, None, length, ne_eqb, ◌==◌, if◌then◌else◌}
+use Rattle.std.proofs.Common.{◌&&◌, Option, length, ne_eqb, ◌==◌, if◌then◌else◌}
 use Rattle.tl_coherence.proofs
 use proofs.Imports.{cases_eq, Config, Perm, same_perm, one_if, Left, pair_weight, probes_weight, acquire_weight}
 use proofs.Imports.{letting_weight, let_weight, rank, probing_weight, use_weight, client_weight, is_used, is_let}
-use proofs.Imports.{open_requests, open_releases, IsInvariant, Request, Acquire, ProbeAck, Release, Answer, Grant, Kind}
-use proofs.Imports.{View, Own, Granting, ProbePhase, NoProbe, ProbeSent, ProbeAnswered, ReleasePhase, NoRelease}
-use proofs.Imports.{ReleaseSent, ReleaseAcked, is_unprobed, State, SourceState, SourceFree, Asked, InService, Replied}
+use proofs.Imports.{open_requests, open_releases, IsInvariant, Request, Acquire, ProbeAck, Answer, Grant, Kind, View}
+use proofs.Imports.{ProbePhase, ReleasePhase, is_unprobed, State, SourceState, SourceFree, Asked, InService, Replied}
 use proofs.Imports.{Acquires, view, some_below, sources_of, terms_at}
-use Rattle.tl_coherence.specs.bound.Rank.{total}
+use Rattle.tl_coherence.{specs.bound.Rank.total}
 use proofs.protocol.RequestsKept.{some-none, some-one}
 use proofs.queues.{Sums.total-le, Sums.total-const, Sums.probes-light, Sums.one-at-most, Tokens.same_number}
 
@@ -53,10 +52,6 @@ total-less (suc bound) m f lt le none =
 
 -- ---- the Probes and reports of a block
 
-light-pair : (n left : ℕ) (recorded : Perm) (x : ProbePhase) → same_perm recorded Perm.Trunk ≡ false
-    → (is_unprobed x ≡ false → left ≤ 1) → probing_weight n left recorded x ≤ 2
-light-pair n left recorded x e f = grind arith
-
 quiet-pair : (n left : ℕ) (recorded : Perm) (x : ProbePhase) → is_unprobed x ≡ true
     → probing_weight n left recorded x ≡ 0
 quiet-pair n left recorded x e = grind arith
@@ -73,8 +68,7 @@ module _ {X : Type 0} {caching : ℕ → Bool} {s : State X} (inv : IsInvariant 
       Perm.Trunk
 
   both : (a b : Bool) → (not a && b) ≡ true → (a ≡ false) × (b ≡ true)
-  both false true e = (refl, refl)
-  both a b e = absurd cc
+  both a b e = grind arith
 
   neither : (a b : Bool) → (not a && b) ≡ false → a ≡ false → b ≡ false
   neither a b e f = grind arith
@@ -96,12 +90,7 @@ module _ {X : Type 0} {caching : ℕ → Bool} {s : State X} (inv : IsInvariant 
         where
           each : (d : ℕ) (b : Bool) → is_unprobed ((s.block m).pair d).probing ≡ b → writes_probed m d ≡ false
               → pair_weight n left m d ((s.block m).pair d) ≤ 2
-          each d true e f = let z = quiet-pair n (left d ProbeAck m) ((s.block m).pair d).recorded
-              ((s.block m).pair d).probing e in omega (arith, z)
-          each d false e f =
-              let spared = neither _ _ f e in
-              light-pair n (left d ProbeAck m) ((s.block m).pair d).recorded ((s.block m).pair d).probing spared
-              (λ probed. is.reports d m probed spared)
+          each d b e f = grind (arith, quiet-pair, neither)
       go true found =
           let d = some-one clients (writes_probed m) found in
           let parts = both _ _ d.1 in
@@ -160,14 +149,10 @@ module _ {X : Type 0} {caching : ℕ → Bool} {s : State X} (inv : IsInvariant 
       omega (arith, all)
 
   letting-few : (l : ℕ) (x : ReleasePhase) → l ≤ n → letting_weight l x ≤ n + 1
-  letting-few l NoRelease le = omega arith
-  letting-few l (ReleaseSent r) le = omega (arith, le)
-  letting-few l ReleaseAcked le = omega (arith, some)
+  letting-few l x e = grind (arith, some)
 
   let-few : (c source : ℕ) (o : Option ℕ) → s.lets c source ≡ o → let_weight left s c o ≤ (n + 1) * one_if (is_let o)
-  let-few c source None e = omega arith
-  let-few c source (Some m) e = let all = letting-few (left c Release m) ((s.block m).pair c).letting
-      (is.few c Release m) in omega (arith, all)
+  let-few c source o e = grind (arith, letting-few, left)
 
   -- ---- the whole
 

@@ -1,11 +1,11 @@
 -- Each beat on a channel is sound, and has the lanes of its width: of those that stay, and of those
 -- that are handed out.
 use Rattle.std.proofs.Common.{◌≡◌, ℕ, zero, suc, ◌+◌, ◌<◌, Bool, true, false, ◌&&◌, ◌||◌, List, [], ◌∷◌, ◌++◌, Option}
-use Rattle.std.proofs.Common.{Some, None, refl, sym, ◌∙◌, ap, inl, inr, arith, length, ne_eqb, ◌==◌, if◌then◌else◌, All}
-use Rattle.std.proofs.Common.{slice_get, nat_le, option_map, Result, Ok, Err}
+use Rattle.std.proofs.Common.{Some, None, refl, ◌∙◌, inl, inr, arith, length, ne_eqb, ◌==◌, if◌then◌else◌, All}
+use Rattle.std.proofs.Common.{nat_le, Result, Ok, Err}
 use Rattle.tl_coherence.proofs
 use proofs.Imports.{cases_eq, All-nil, All-cons, All-append, ⊤, Beat, BeatD, Channel, OpB, OpD, IsWidth, Message}
-use proofs.Imports.{beats_of, beat_of, unfinished, channel_of, ClientConfig, Config, Level, Prune, Report, Perm, Rule}
+use proofs.Imports.{beats_of, beat_of, unfinished, channel_of, Config, Level, Prune, Report, Perm, Rule}
 use proofs.Imports.{legal_beat, is_outside, is_spoiled, payload_of, block_at, ends, request_of, beats_from}
 use proofs.Imports.{NotBusy, asked-cases, same_block, Op, Finish, Verdict, done, store, free_release, source_or_0}
 use proofs.Imports.{EndConfig, Endpoint, copy_at, held_at, with_past, Offered, taken, ended, responded, silent}
@@ -107,10 +107,7 @@ IsOfClient (Message.D m) = ⊥
 IsOfClient _ = ⊤
 
 unspoiled : {w : ℕ} (m : Message w) (i : ℕ) → IsOfClient m → corrupt_in m ≡ 0 → is_spoiled (beat_of m i) ≡ false
-unspoiled (Message.B m) i is clean = absurd is
-unspoiled (Message.D m) i is clean = absurd is
-unspoiled (Message.E m) i is clean = refl
-unspoiled m i is clean = rw clean (no_bit i)
+unspoiled m i e f = grind (arith, no_bit)
 
 pub good-message : {w : ℕ} (config : Config) (c : ℕ) {l : Level} {m : Message w} → IsWidth w
     → level_of config c ≡ Some l → IsSound l m → IsOfClient m
@@ -142,9 +139,6 @@ good-handed config (x ∷ handed) width each = (
 
 -- ---- the terms of a client
 
-abbrev terms_in : Config → ClientConfig → EndConfig
-terms_in config x = record { level = x.level; profile = config.profile; sources = x.sources; blocks = config.blocks }
-
 pub level-terms : (config : Config) (c : ℕ) (terms : EndConfig) → terms_at config c ≡ Some terms
     → (level_of config c ≡ Some terms.level) × (terms.blocks ≡ config.blocks)
 level-terms config c terms e = grind arith
@@ -153,13 +147,11 @@ level-terms config c terms e = grind arith
 
 copied_release : (w : ℕ) (p : Prune) (source n : ℕ) (copy : List ℕ) → length copy ≡ 64
     → HasBlock {w = w} (release p source n copy) × IsOfClient {w = w} (release p source n copy)
-copied_release w Prune.BtoN source n copy long = (refl, tt)
-copied_release w p source n copy long = (long, tt)
+copied_release w p source n copy e = grind arith
 
 release_inside : (w blocks : ℕ) (p : Prune) (source n : ℕ) (copy : List ℕ) → nat_le blocks n ≡ false
     → is_outside blocks (beat_of {w = w} (release p source n copy) 0) ≡ false
-release_inside w blocks Prune.TtoB source n copy e = rw (same_block n) e
-release_inside w blocks p source n copy e = rw (same_block n) e
+release_inside w blocks p source n copy e = grind (arith, same_block)
 
 -- what a message that a client hands out is besides sound
 pub record IsFit {w : ℕ} (blocks : ℕ) (m : Message w) : Type 0 where

@@ -1,17 +1,17 @@
 -- The channels carry the messages of the tokens after a client is asked.
-use Rattle.std.proofs.Common.{◌≡◌, ℕ, Bool, true, false, List, Option, Some, None, refl, ◌∙◌, ap, ◌⊎◌, inl, inr, ne_eqb, arith}
-use Rattle.std.proofs.Common.{◌==◌, if◌then◌else◌}
+use Rattle.std.proofs.Common.{◌≡◌, ℕ, Bool, true, false, List, Option, Some, None, refl, ◌∙◌, ap, ◌⊎◌, inl, inr, ne_eqb}
+use Rattle.std.proofs.Common.{arith, ◌==◌, if◌then◌else◌}
 use Rattle.tl_coherence.proofs
 use proofs.Imports.{cases_eq, Channel, IsWidth, Message, Grow, Prune, IsInvariant, is_asked, Kind, Request, Acquire}
 use proofs.Imports.{Release, set, set_at, NoAcquire, NoRelease, Block, State, SourceFree, packet, with_a, with_c}
 use proofs.Imports.{access_asked, acquire_asked, acquiring_block, release_asked, releasing_block, block_stored}
 use proofs.Imports.{stored_block, ChannelRelation, Move, Stays, AreMoved, AccessMessages, block_message, message_of}
 use proofs.Imports.{System, same_channel, channel_of_message}
-use proofs.protocol.{AlikeRequests.alike-acquiring, AlikeRequests.alike-releasing, AlikeRequests.alike-bytes}
-use proofs.protocol.{Asked.access_moves, Asked.acquire_moves, Asked.release_moves}
+use proofs.protocol.AlikeRequests.{alike-acquiring, alike-releasing, alike-bytes}
+use proofs.protocol.Asked.{access_moves, acquire_moves, release_moves}
+use proofs.queues.{Landed.pushes_of, Moves.moves_at, Tokens.same_number, Tokens.set-same}
 use proofs.queues.Channels.{IsHanded, Fits, carried-event, queued-handed, moved-at, fits-handed, pushes_at}
-use proofs.queues.{Landed.pushes_of, Moves.moves_at, Showing.carries, Showing.showing-block, Tokens.same_number}
-use proofs.queues.{Tokens.set-same}
+use proofs.queues.Showing.{carries, showing-block}
 
 -- ---- one message that is handed out
 

@@ -1,18 +1,17 @@
 -- The channels carry the messages of the tokens after an event at two clients or more: a request that probes, and the
 -- last report, for which an access is answered or an Acquire is granted.
-use Rattle.std.proofs.Common.{◌≡◌, ℕ, zero, suc, ◌+◌, ◌<◌, ◌≤◌, Bool, true, false, not, ◌&&◌, List, [], ◌∷◌, ◌++◌}
-use Rattle.std.proofs.Common.{Option, Some, None, refl, ◌∙◌, ◌⊎◌, inl, inr, arith, ne_eqb, ◌==◌, if◌then◌else◌}
-use Rattle.std.proofs.Common.{eqb-true}
+use Rattle.std.proofs.Common.{◌≡◌, ℕ, zero, suc, ◌+◌, ◌<◌, ◌≤◌, Bool, true, false, ◌&&◌, List, [], ◌∷◌, Option, Some}
+use Rattle.std.proofs.Common.{None, refl, ◌∙◌, ◌⊎◌, inl, inr, arith, ne_eqb, ◌==◌, if◌then◌else◌, eqb-true}
 use Rattle.tl_coherence.proofs
-use proofs.Imports.{cases_eq, cases_lt, Channel, Message, beats_of, Cap, beats_from, probes, probe_of_block}
-use proofs.Imports.{clients_from, IsInvariant, Kind, Request, Acquire, Probe, Packet, set, ClientBlock, is_above}
-use proofs.Imports.{after_served, Free, Block, State, packet, packets_on, is_probed, served_link}
-use proofs.Imports.{served_block, acquire_served, access_served, Move, Stays, Pops, IsMoved, AccessMessages}
-use proofs.Imports.{block_message, message_of, cap_sent, System, same_channel, with_messages, with_message}
-use proofs.protocol.{AlikeRequests.alike-served, Served.request_move, Served.any_moved, Served.served_moves}
-use proofs.protocol.{Served.kind_served, Served.number_served}
-use proofs.queues.{Channels.Fits, Channels.behind, Shown.IsShown, Showing.showing-block, Tokens.same_number}
-use proofs.queues.{Tokens.set-same}
+use proofs.Imports.{cases_eq, cases_lt, Channel, Message, Cap, probes, probe_of_block, clients_from, IsInvariant, Kind}
+use proofs.Imports.{Request, Acquire, Probe, Packet, set, ClientBlock, after_served, Free, Block, State, packet}
+use proofs.Imports.{packets_on, is_probed, served_link, served_block, acquire_served, access_served, Move, Stays, Pops}
+use proofs.Imports.{IsMoved, AccessMessages, block_message, message_of, cap_sent, System, same_channel, with_messages}
+use proofs.Imports.{with_message}
+use proofs.protocol.{AlikeRequests.alike-served}
+use proofs.protocol.Served.{request_move, any_moved, served_moves, kind_served, number_served}
+use proofs.queues.{Shown.IsShown, Showing.showing-block, Tokens.same_number, Tokens.set-same}
+use proofs.queues.Channels.{Fits, behind}
 
 -- ---- Probes that are handed out
 
@@ -42,12 +41,10 @@ probes-outside {w} n k first (suc count) test d s out =
     go (λ u. probes-outside n k (first + 1) count test d u (later out)) (test first)
   where
     later : (d < first) ⊎ (first + suc count ≤ d) → (d < first + 1) ⊎ (first + 1 + count ≤ d)
-    later (inl lt) = inl (omega (arith, lt))
-    later (inr le) = inr (omega (arith, le))
+    later e = grind arith
 
     apart : (d < first) ⊎ (first + suc count ≤ d) → d ≡ first → ⊥
-    apart (inl lt) e = absurd (omega (arith, e, lt))
-    apart (inr le) e = absurd (omega (arith, e, le))
+    apart e f = grind arith
 
     go : ((u : System w) → (with_messages (probes n k (clients_from (first + 1) count test)) u).channels d
         Channel.B ≡ u.channels d Channel.B) → (b : Bool)

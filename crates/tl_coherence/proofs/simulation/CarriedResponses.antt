@@ -1,5 +1,6 @@
 -- The channels carry the messages of the tokens after a response or a GrantAck is taken.
-use Rattle.std.proofs.Common.{◌≡◌, ℕ, Bool, true, false, ◌&&◌, List, ◌∷◌, Some, None, refl, ◌⊎◌, ◌==◌, if◌then◌else◌, arith}
+use Rattle.std.proofs.Common.{◌≡◌, ℕ, Bool, true, false, ◌&&◌, List, ◌∷◌, Some}
+use Rattle.std.proofs.Common.{None, refl, ◌⊎◌, ◌==◌, if◌then◌else◌, arith}
 use Rattle.tl_coherence.proofs
 use proofs.Imports.{Channel, Message, Cap, IsInvariant, Kind, Answer, Grant, ReleaseAck, GrantAck, Packet, GrantSent}
 use proofs.Imports.{GrantTaken, Block, State, packet, taken_link, answer_taken, grant_taken, taken_block}

@@ -2,7 +2,7 @@
 use Rattle.std.proofs.Common.{◌≡◌, ℕ, zero, suc, ◌*◌, ◌+◌, true, List, [], ◌∷◌, Bool, refl, sym, ap, arith, replicate}
 use Rattle.tl_coherence.proofs
 use proofs.Imports.{Channel, unfinished, Config, on_link, bytes_from, IsBlock, pending, held, kept-fresh, zeros}
-use proofs.Imports.{services, IsInvariant, IsWell, Kind, Request, count, Holds, ok, on, packets_on, shown, is_transfer}
+use proofs.Imports.{services, IsInvariant, IsWell, Kind, count, Holds, ok, on, packets_on, shown, is_transfer}
 use proofs.Imports.{first_state, first_abstract_state, IsCarried, messages_on, SimulationRelation, is_caching}
 use proofs.Imports.{MonitorRelations, receiver, flow, one_memory_after, fresh}
 use Rattle.std.proofs.lemmas.List.{get_or-replicate}

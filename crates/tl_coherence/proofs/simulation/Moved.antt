@@ -83,9 +83,7 @@ client_moves {w} terms c ch x queue sys moving = go (offer.offered terms ch x (s
     go : (a : Result (Verdict × Option (Message w)) Rule) → o.answer ≡ a
         → is_moving (judged a c ch x queue o.after sys).outcome ≡ true
         → IsTakenByClient terms c ch x queue sys (judged o.answer c ch x queue o.after sys)
-    go (Ok (Verdict.Taken, m)) e h = made Verdict.Taken m e refl refl refl
-    go (Ok (Verdict.Done source finish, m)) e h = made (Verdict.Done source finish) m e refl refl refl
-    go a e h = absurd cc
+    go a e f = grind (arith, made)
 
 pub client-moves : {w : ℕ} (config : Config) (link : Link) (ch : Channel) (sys : System w) (terms : client.EndConfig)
     (x : Beat w) (queue : List (Beat w)) → terms_at config link.0 ≡ Some terms → sys.channels link.0 ch ≡ x ∷ queue
@@ -176,10 +174,7 @@ manager-heard {w} config link ch x queue sys step width typed kept is d = λ at.
         (on_link d (manager_offer.taken link x (manager_reaction.reaction config link x sys.manager) sys.manager).trace)
         ≡ unfinished at
         (if link.0 == d then x ∷ on_link d sys.manager.trace else on_link d sys.manager.trace)
-    go Channel.A f = one Channel.A refl
-    go Channel.C f = one Channel.C refl
-    go Channel.E f = one Channel.E refl
-    go at f = absurd cc
+    go at e = grind (arith, one)
 
 -- ---- a beat that isn't the last of its message
 
@@ -209,11 +204,7 @@ carried-part {w} mail s {c} {ch} {x} {queue} {sys} {sys'} width is none part h d
         rw (more.0) more.1
       where
         before : (k n : ℕ) → k < n → (k + 1 == n) ≡ false → k + 1 < n
-        before k n le ne = elim (cases_eq (k + 1) n) [
-          | inl same ↦ absurd (let yes : (k + 1 == n) ≡ true = rw same (same_number n) in let no : true ≡ false =
-              sym yes ∙ ne in cc)
-          | inr other ↦ omega (arith, le, other)
-        ]
+        before k n le ne = grind (arith, same_number)
 
     go : (d ≡ c) ⊎ (d ≡ c → ⊥) → (b : Bool) → same_channel at ch ≡ b
         → IsCarried (unfinished at (receiver at d sys')) (messages_on at mail s d) (sys'.channels d at)

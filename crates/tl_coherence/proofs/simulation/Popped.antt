@@ -1,9 +1,9 @@
 -- What a delivery leaves on the channels, who has something open, and how much is left of what is taken.
 use Rattle.std.proofs.Common.{◌≡◌, ℕ, ◌+◌, ◌<◌, Bool, true, false, List, [], ◌∷◌, refl, ◌∙◌, ap, arith, ◌&&◌}
-use Rattle.std.proofs.Common.{Option, Some, None, length, eqb-true, ◌==◌, if◌then◌else◌}
+use Rattle.std.proofs.Common.{Option, Some, None, length, ◌==◌, if◌then◌else◌}
 use Rattle.tl_coherence.proofs
 use proofs.Imports.{Beat, Channel, IsWidth, length-begun, Message, MessageA, beats_of, unfinished, Config, EndConfig}
-use proofs.Imports.{Kind, Packet, is, State, SourceFree, packet, packets_on, Move, Stays, Pushes, Pops, IsMoved}
+use proofs.Imports.{Kind, Packet, is, State, SourceFree, packet, packets_on, Move, Pops, IsMoved}
 use proofs.Imports.{AreMoved, channel_for, AccessMessages, message_of_kind, SimulationRelation, receiver, Log}
 use proofs.Imports.{system_after, System, same_channel, terms_at}
 use proofs.simulation.{Bounded.matched-bounded, Owned.sources-own, Strangers.no_use, Strangers.no_let}
@@ -38,11 +38,7 @@ not_popped : {w : ℕ} (push : Option (Message w)) (move : Move) (render : Kind 
 not_popped push move render e = grind arith
 
 pub elsewhere : (c d : ℕ) (ch at : Channel) → (d ≡ c → at ≡ ch → ⊥) → ((d == c) && same_channel at ch) ≡ false
-elsewhere c d ch at ne = go (d == c) (same_channel at ch) refl refl
-  where
-    go : (a b : Bool) → (d == c) ≡ a → same_channel at ch ≡ b → (a && b) ≡ false
-    go true true e f = absurd (ne (eqb-true d c e) (same_channel-is at ch f))
-    go a b e f = refl
+elsewhere c d ch at ne = grind (arith, same_channel-is)
 
 fits_by : {w : ℕ} (a b : Bool) (push : Option (Message w)) (move : Move) (render : Kind → ℕ → Message w) → a ≡ b
     → Fits a push move render → Fits b push move render
@@ -89,8 +85,7 @@ module _ {w : ℕ} {config : Config} {log : Log w} {mail : AccessMessages w} {re
 
       letter : (d i n : ℕ) (o : Option EndConfig) → terms_at config d ≡ o → s.lets d i ≡ Some n
           → d < length config.clients.items
-      letter d i n None is e = absurd (cc (no_let matched width d is i))
-      letter d i n (Some terms) is e = client_below config d terms is
+      letter d i n o e f = grind (arith, no_let, client_below)
 
 -- ---- what is taken
 

@@ -1,6 +1,6 @@
 -- The bytes of each block are 64, and each access that is under way has its source, after every event.
 use Rattle.std.proofs.Common.{◌≡◌, ℕ, ◌*◌, Bool, true, false, ◌&&◌, List, refl, sym, ◌∙◌, ap, ◌⊎◌, inl, inr, length}
-use Rattle.std.proofs.Common.{◌==◌, if◌then◌else◌}
+use Rattle.std.proofs.Common.{arith, ◌==◌, if◌then◌else◌}
 use Rattle.tl_coherence.proofs
 use proofs.Imports.{cases_eq, ⊤, Message, Config, Cap, Grow, Report, Perm, same_perm, block_at, word_room}
 use proofs.Imports.{length-stored, Op, Reply, copy_stored, is_word, length-bytes, IsInvariant, Kind, Packet, set}
@@ -9,7 +9,7 @@ use proofs.Imports.{after_grant_sent, after_probe, after_report, after_release_t
 use proofs.Imports.{Block, State, acquiring_block, stored_block, served_block, granted_block, granted_pair, taken_block}
 use proofs.Imports.{granted_truth, AbstractState, asked, kind_taken, AreSized, IsTypedOp}
 use proofs.queues.{Tokens.set-same, Tokens.set-other, Tokens.set-each, Tokens.set-part, Perms.trunk-some}
-use proofs.protocol.Events.{true-taken}
+use proofs.protocol.{Events.true-taken}
 
 -- ---- bytes
 
@@ -35,8 +35,7 @@ still_acquires c p f same d e = sym (ap is_whole (set-part (λ (q : ClientBlock)
 sized_pair : (c : ℕ) (p : ClientBlock) {old : Block (List ℕ)} (new : Block (List ℕ)) → new.pair ≡ set c p old.pair
     → p.acquiring ≡ (old.pair c).acquiring → new.truth ≡ old.truth
     → new.waiting ≡ old.waiting → AreSized old → AreSized new
-sized_pair c p {old} new pairs same truth waiting h = sized_same new (ap length truth ∙ h.truth)
-    (λ d. ap (λ (f : ℕ → List ℕ). f d) waiting) (λ d e. still_acquires c p old.pair same d (cc)) h
+sized_pair c p {old} new pairs same truth waiting h = grind (arith, sized_same, still_acquires)
 
 sized_served : (r : ℕ) (own : Bool) (source tracker : ℕ) (k : Cap) {b : Block (List ℕ)} → AreSized b
     → AreSized (served_block r own source tracker k b)
@@ -73,10 +72,7 @@ sized_taken_block c d k {b} h =
   where
     storing : (i : ℕ) → (i ≡ c) ⊎ (i ≡ c → ⊥) → is_whole (set c (after_grant k (b.pair c)) b.pair i).acquiring ≡ true
         → is_whole (b.pair i).acquiring ≡ true
-    storing i (inl same) e = absurd (let f : is_whole (set c (after_grant k (b.pair c)) b.pair c).acquiring ≡ true =
-        rw same at e in let g : false ≡ true =
-        sym (ap (λ (p : ClientBlock). is_whole p.acquiring) (set-same c (after_grant k (b.pair c)) b.pair)) ∙ f in cc)
-    storing i (inr other) e = cc (set-other c i (after_grant k (b.pair c)) b.pair other, e)
+    storing i e f = grind (arith, set-same, set-other)
 
 -- ---- messages that are taken
 
@@ -134,11 +130,7 @@ sized_acquiring c source whole g bytes {b} long h = record { truth = h.truth; wa
 
     go : (d : ℕ) → (d ≡ c) ⊎ (d ≡ c → ⊥) → is_whole (set c after b.pair d).acquiring ≡ true
         → length (set c bytes b.waiting d) ≡ 64
-    go d (inl same) e =
-        rw same (ap length (set-same c bytes b.waiting) ∙ long (sym (ap (λ (p : ClientBlock). is_whole p.acquiring)
-        (set-same c after b.pair)) ∙ ap (λ (j : ℕ). is_whole (set c after b.pair j).acquiring) (sym same) ∙ e))
-    go d (inr other) e = ap length (set-other c d bytes b.waiting other) ∙ h.waiting d
-        (sym (ap (λ (p : ClientBlock). is_whole p.acquiring) (set-other c d after b.pair other)) ∙ e)
+    go d e f = grind (arith, set-same, set-other)
 
 pub sized-asked : {w : ℕ} {caching : ℕ → Bool} (c : ℕ) (o : Op w) (r : Reply) (h : AbstractState w)
     → IsInvariant caching h.state → IsTypedOp o → IsSizedAsk c o r h → AllSized h.state → AllSized (asked c o r h).state

@@ -1,19 +1,18 @@
 -- Where there is no client, nothing is on a channel.
-use Rattle.std.proofs.Common.{◌≡◌, ℕ, ◌<◌, Bool, true, false, List, [], ◌∷◌, refl, sym, ◌∙◌, ap, arith, ◌&&◌, Option}
-use Rattle.std.proofs.Common.{Some, None, eqb-true, ◌==◌, if◌then◌else◌, option_map, slice_get}
+use Rattle.std.proofs.Common.{◌≡◌, ℕ, ◌<◌, true, false, List, [], ◌∷◌, refl, sym, ◌∙◌, arith, Option, Some, None}
+use Rattle.std.proofs.Common.{option_map, slice_get}
 use Rattle.tl_coherence.proofs
 use proofs.Imports.{Channel, IsWidth, Message, MessageA, ClientConfig, Config, Level, EndConfig, of_served, level_of}
 use proofs.Imports.{services, service_of_block, resting, Kind, Request, Acquire, Probe, ProbeAck, Release, Answer}
-use proofs.Imports.{Grant, ReleaseAck, GrantAck, Packet, count, Own, Other, Granting, Acknowledging, GrantedOther}
-use proofs.Imports.{Service, Free, Waits, GrantSent, GrantTaken, State, SourceFree, Asked, packets_on, is_on, view}
-use proofs.Imports.{shown, is_acknowledging, client_in, service_with, AccessMessages, SimulationRelation, Log}
+use proofs.Imports.{Grant, ReleaseAck, GrantAck, Packet, count, Service, State, SourceFree, Asked, packets_on, is_on}
+use proofs.Imports.{view, shown, is_acknowledging, client_in, service_with, AccessMessages, SimulationRelation, Log}
 use proofs.Imports.{system_after, terms_at}
 use Rattle.tl_manager.specs.code.Kept as kept
 use proofs.protocol.Capacities.{acquire_named, grant_named, release_named, release_ack_named, request_named}
 use proofs.protocol.Capacities.{answer_named}
 use proofs.protocol.TokenNames.{shown_there, kind_there}
 use proofs.queues.Distinct.{IsThere, first-there}
-use proofs.simulation.Owned.{sources-own}
+use proofs.simulation.{Owned.sources-own}
 
 no_level : (config : Config) (c : ℕ) → terms_at config c ≡ None → level_of config c ≡ None
 no_level config c is =
@@ -23,22 +22,7 @@ no_level config c is =
     go (slice_get config.clients.items c) is
 
 acknowledged_to : (service : Service) (c : ℕ) → is_acknowledging (view service c) ≡ true → client_in service ≡ Some c
-acknowledged_to Free c e = absurd cc
-acknowledged_to (Waits r own source k) c e =
-    let never : (b : Bool) → is_acknowledging (if b then Own else Other k) ≡ true → client_in (Waits r own source k)
-    ≡ Some c = elim [ true ↦ λ f. absurd cc | false ↦ λ f. absurd cc ] in
-    never (own && (c == r)) e
-acknowledged_to (GrantSent q d k) c e =
-    let never : (b : Bool) → is_acknowledging (if b then Granting d k else GrantedOther) ≡ true
-    → client_in (GrantSent q d k) ≡ Some c = elim [ true ↦ λ f. absurd cc | false ↦ λ f. absurd cc ] in
-    never (c == q) e
-acknowledged_to (GrantTaken q) c e =
-    let go : (b : Bool) → (c == q) ≡ b → is_acknowledging (if b then Acknowledging else GrantedOther) ≡ true
-    → Some q ≡ Some c = elim [
-      | true ↦ λ same f. ap (λ (i : ℕ). Some i) (sym (eqb-true c q same))
-      | false ↦ λ differs f. absurd cc
-    ] in
-    go (c == q) refl e
+acknowledged_to service c e = grind arith
 
 module _ {w : ℕ} {config : Config} {log : Log w} {mail : AccessMessages w} {request : ℕ → MessageA w}
     {s : State (List ℕ)} (matched : SimulationRelation config log mail request s (system_after config log))

@@ -1,23 +1,22 @@
 -- What the one-memory machine allows at a delivery: how an access ends as its answer comes.
-use Rattle.std.proofs.Common.{◌≡◌, ℕ, ◌+◌, ◌-◌, ◌*◌, ◌%◌, ◌^◌, ◌≤◌, Bool, true, false, List, ◌∷◌, ◌++◌, length, Option}
-use Rattle.std.proofs.Common.{Some, None, refl, sym, ◌∙◌, ap, subst, cond, arith, eqb-true, append_assoc, pow_pos, drop}
-use Rattle.std.proofs.Common.{replicate, take, drop_at, take_at}
+use Rattle.std.proofs.Common.{◌≡◌, ℕ, ◌-◌, ◌*◌, ◌%◌, ◌^◌, ◌≤◌, List, ◌∷◌, ◌++◌, length, Option, Some, None, refl, sym}
+use Rattle.std.proofs.Common.{◌∙◌, ap, subst, arith, eqb-true, append_assoc, pow_pos, drop, replicate, take, drop_at}
+use Rattle.std.proofs.Common.{take_at}
 use Rattle.tl_coherence.proofs
 use proofs.Imports.{length-replicate, Beat, BeatA, Link, Channel, OpD, IsWidth, Message, MessageA, MessageD, a_beat_of}
-use proofs.Imports.{beats_of, burst_of, d_beat_of, data_beats, IsBlankAfter, History, unfinished, Config, RequestSource}
-use proofs.Imports.{Level, control_of_legal, control_aligned, payload-d, payload_of, as_payload, answer_of, pending}
-use proofs.Imports.{request_of, Access, Finish, finish_of, open_beat, sourced, illegal_message_at, access_answer}
-use proofs.Imports.{no_payload, level_of, Kind, Acquire, Answer, SourceState, packet, Replied, AbstractState, Answers}
-use proofs.Imports.{IsOpened, IsReach, message_of_kind, block_message, SimulationRelation, is_caching, IsRequest}
-use proofs.Imports.{block_used, first_of, Log, system_after, Ends, Machine, pool_of, Requests}
-use proofs.Imports.{finish_with, one_memory_after, System}
-use Rattle.tl_client.specs.statement.Offer.{padded}
+use proofs.Imports.{beats_of, burst_of, d_beat_of, data_beats, IsBlankAfter, History, unfinished, Config, Level}
+use proofs.Imports.{control_of_legal, control_aligned, payload-d, payload_of, as_payload, answer_of, request_of, Access}
+use proofs.Imports.{Finish, finish_of, open_beat, sourced, illegal_message_at, access_answer, no_payload, level_of}
+use proofs.Imports.{Kind, Acquire, Answer, SourceState, packet, Replied, AbstractState, Answers, IsOpened, IsReach}
+use proofs.Imports.{message_of_kind, block_message, SimulationRelation, is_caching, IsRequest, block_used, first_of}
+use proofs.Imports.{Log, system_after, Ends, Machine, pool_of, Requests, finish_with, one_memory_after, System}
+use Rattle.tl_client.{specs.statement.Offer.padded}
 use Rattle.tl_manager.proofs.messages.Filled.{data_room, payload-long, payload-zero, room_in_beats}
 use Rattle.tl_rules.specs.statement.Effect as memory
-use proofs.client.AnswersKept.{answer_message}
+use proofs.client.{AnswersKept.answer_message}
 use proofs.protocol.HeadOfD.{IsAnswerDue, answer-due}
 use proofs.links.{Ending.IsEnding, Granting.same-response}
-use proofs.flow.Windowed.{asked_replied}
+use proofs.flow.{Windowed.asked_replied}
 
 -- ---- the bytes of an answer
 

@@ -1,5 +1,6 @@
 -- What the one-memory machine allows at a delivery: how a Grant and a ReleaseAck end their operations.
-use Rattle.std.proofs.Common.{◌≡◌, ℕ, Bool, true, false, List, ◌∷◌, Option, Some, None, refl, sym, ◌∙◌, ap, subst, arith}
+use Rattle.std.proofs.Common.{◌≡◌, ℕ, Bool, true, false, List, ◌∷◌, Option}
+use Rattle.std.proofs.Common.{Some, None, refl, sym, ◌∙◌, ap, subst, arith}
 use Rattle.tl_coherence.proofs
 use proofs.Imports.{Beat, Link, Channel, Message, MessageD, d_beat_of, Config, Cap, Grow, Perm, cap_right, Finish}
 use proofs.Imports.{cap-gives, Kind, Answer, Grant, ReleaseAck, AcquirePhase, AcquireOpen, grant_fits, packet, is_on}
@@ -19,8 +20,7 @@ whole_trunk recorded held d k g e = ap cap_right (whole_cap g k (fits_cap record
 ends_granted : {w : ℕ} (n : ℕ) (bytes : List ℕ) (x : Beat w) (k : Cap) (whole : Bool) (g : Grow) (y : AcquirePhase)
     → y ≡ AcquireOpen whole g → cap_named x ≡ cap_right k → (whole ≡ true → cap_right k ≡ Perm.Trunk)
     → EndsOp (op_of {w = w} y n bytes) None x (Finish.Granted (cap_right k))
-ends_granted n bytes x k true g y e named trunk = rw e (ap Finish.Granted (trunk refl))
-ends_granted n bytes x k false g y e named trunk = rw e (ap Finish.Granted (sym named))
+ends_granted n bytes x k whole g y e f h = grind arith
 
 let_open : {w : ℕ} (n : ℕ) (o : Option ℕ) (opened : Option (Open w)) (x : Beat w) → o ≡ Some n → IsLet o opened
     → Ends opened x Finish.Released

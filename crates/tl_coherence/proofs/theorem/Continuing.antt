@@ -1,20 +1,20 @@
 -- What a delivery answers of accesses is performed after the step of the one-memory machine.
-use Rattle.std.proofs.Common.{◌≡◌, ℕ, Bool, true, false, List, [], ◌∷◌, Option, Some, None, refl, ◌∙◌, ap, subst, ◌⊎◌, arith}
-use Rattle.std.proofs.Common.{inl, inr, All, Ok}
+use Rattle.std.proofs.Common.{◌≡◌, ℕ, Bool, true, false, List, [], ◌∷◌, Option, Some, None, refl, ◌∙◌, ap, subst, ◌⊎◌}
+use Rattle.std.proofs.Common.{arith, inl, inr, All, Ok}
 use Rattle.tl_coherence.proofs
 use proofs.Imports.{All-head, Beat, BeatE, Link, Channel, IsWidth, Message, channel_of, Config, Verdict, EndConfig}
 use proofs.Imports.{reaction-ack, reaction, Deliver, AbstractState, IsAccess, SimulationRelation, is_moving, Log}
 use proofs.Imports.{system_after, Machine, Requests, moved, one_memory_after, performing, accesses_answered, Step}
 use proofs.Imports.{stepped, handed_by, is_to_client, System, terms_at}
-use Rattle.tl_coherence.specs.statement.Machine.{Performs}
+use Rattle.tl_coherence.{specs.statement.Machine.Performs}
 use Rattle.tl_manager.specs.code.Kept as manager
 use proofs.memory.BesideRequests.{IsOnce, once-performs}
-use proofs.links.HeadsOfLinks.{first-of}
-use proofs.deliveries.{DeliverDUnmoved.unmoved, Matching.not_moving, Matching.stepped-nobody}
-use proofs.deliveries.{ReportsAfter.once-followed_c, RequestsDelivered.once-delivered_a}
-use proofs.simulation.{Moved.client-moves, Moved.manager-moves, SoundAfter.copy-long, BeatsInFlight.IsOfClient}
-use proofs.simulation.{BeatsInFlight.IsFitAnswer, BeatsInFlight.fit-taken}
-use proofs.queues.Steps.{stepped-empty}
+use proofs.links.{HeadsOfLinks.first-of}
+use proofs.deliveries.{DeliverDUnmoved.unmoved, ReportsAfter.once-followed_c, RequestsDelivered.once-delivered_a}
+use proofs.deliveries.Matching.{not_moving, stepped-nobody}
+use proofs.simulation.{Moved.client-moves, Moved.manager-moves, SoundAfter.copy-long}
+use proofs.simulation.BeatsInFlight.{IsOfClient, IsFitAnswer, fit-taken}
+use proofs.queues.{Steps.stepped-empty}
 
 -- ---- what a client hands out answers no access
 

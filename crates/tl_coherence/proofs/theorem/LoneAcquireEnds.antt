@@ -1,5 +1,6 @@
 -- An Acquire that is started alone brings what it asks for, and an AcquireWhole brings Trunk.
-use Rattle.std.proofs.Common.{◌≡◌, ℕ, zero, suc, Bool, true, false, List, ◌∷◌, Option, Some, None, refl, sym, ◌∙◌, ap, arith}
+use Rattle.std.proofs.Common.{◌≡◌, ℕ, zero, suc, Bool, true, false, List, ◌∷◌}
+use Rattle.std.proofs.Common.{Option, Some, None, refl, sym, ◌∙◌, ap, arith}
 use Rattle.tl_coherence.proofs
 use proofs.Imports.{Link, Channel, Config, Grow, Perm, Profile, same_perm, Op, whole_grow, held_at, Deliver, Ask}
 use proofs.Imports.{AcquirePhase, AcquireOpen, ClientBlock, after_acquire, SourceState, Block, State, SourceFree}
@@ -128,12 +129,7 @@ is_trunk : (held : Perm) → same_perm Perm.Trunk held ≡ true → held ≡ Per
 is_trunk held e = grind arith
 
 whole-brings : (p : Profile) (before held : Perm) → grown_to p (whole_grow before) held ≡ true → held ≡ Perm.Trunk
-whole-brings Profile.One Perm.None held e = is_trunk held e
-whole-brings Profile.One Perm.Branch held e = is_trunk held e
-whole-brings Profile.One Perm.Trunk held e = is_trunk held e
-whole-brings Profile.Two Perm.None held e = is_trunk held e
-whole-brings Profile.Two Perm.Branch held e = is_trunk held e
-whole-brings Profile.Two Perm.Trunk held e = is_trunk held e
+whole-brings p before held e = grind (arith, is_trunk)
 
 pub alone_whole : {w : ℕ} → LoneAcquireWhole w
 alone_whole config log client block source n bytes none given drains =

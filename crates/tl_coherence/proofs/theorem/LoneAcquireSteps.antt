@@ -1,7 +1,7 @@
 -- An Acquire that is alone: its client holds the block until it is granted what it asked for, and then that, whatever
 -- message is taken.
-use Rattle.std.proofs.Common.{◌≡◌, subst, ℕ, Bool, true, false, List, ◌∷◌, refl, sym, ◌∙◌, ap, ap₂, ◌⊎◌, inl, inr, ◌&&◌, arith}
-use Rattle.std.proofs.Common.{if◌then◌else◌, ◌==◌}
+use Rattle.std.proofs.Common.{◌≡◌, subst, ℕ, Bool, true, false, List, ◌∷◌, refl, sym, ◌∙◌, ap, ap₂, ◌⊎◌, inl, inr, ◌&&◌}
+use Rattle.std.proofs.Common.{arith, if◌then◌else◌, ◌==◌}
 use Rattle.tl_coherence.proofs
 use proofs.Imports.{cases_eq, Config, Cap, Grow, Report, Perm, Profile, cap_right, IsInvariant, Kind, Request, Probe}
 use proofs.Imports.{Grant, Packet, set, set_at, AcquirePhase, AcquireOpen, ClientBlock, Own, Other, NoAcquire, cap_fits}
@@ -10,16 +10,16 @@ use proofs.Imports.{GrantTaken, Block, State, SourceFree, Asked, InService, Repl
 use proofs.Imports.{granted_at_once, granted_pair, probe_taken, reported_block, served_block, served_pair, let_block}
 use proofs.Imports.{let_go_block, freed_block, granted_block, is_sent, AbstractState, kind_taken, taken_by_client}
 use proofs.Imports.{IsGivenAsked, gives_asked, grown_to}
-use proofs.memory.Beside.{IsElsewhere, place-cases}
+use proofs.memory.{Beside.IsElsewhere}
 use proofs.protocol.{TokenNames.source_of_acquire, HeadOfD.IsGrantDue, HeadOfD.grant-due, QuiescentProtocol.owns_ask}
 use proofs.protocol.{QuiescentProtocol.serves_another, BothParts.not-sent, BothParts.taken-unseen}
 use proofs.protocol.{BothParts.granted-unseen, FirstTokens.first-answer, FirstTokens.first-shown, Events.true-taken}
 use proofs.client.{ClientEnd.is_access, GrantMatchesAcquire.AreGiven}
-use proofs.links.Granting.{held_granted}
-use proofs.queues.{Facts.is_other, Tokens.same_number, Tokens.set-each, Tokens.set-other, Tokens.set-same}
-use proofs.queues.{Tokens.set_at-same, Perms.fits_cap}
+use proofs.links.{Granting.held_granted}
+use proofs.queues.{Facts.is_other, Perms.fits_cap}
+use proofs.queues.Tokens.{same_number, set-each, set-other, set_at-same}
 use proofs.simulation.{Sized.each-set_at, SourcedAfter.first-asked}
-use proofs.rank.RankParts.{serving-use}
+use proofs.rank.{RankParts.serving-use}
 
 -- what may be held by one who wanted this, and of whom nothing else was asked
 abbrev pub grown : Profile → AcquirePhase → Perm → Bool
@@ -44,16 +44,11 @@ IsSteady x y = (y.held ≡ x.held) × (y.acquiring ≡ x.acquiring)
 
 brings_steady : (p : Profile) (n : ℕ) (a : AcquirePhase) (u v : SourceState) (x y : ClientBlock) → v ≡ u → IsSteady x y
     → Brings p n a u x → Brings p n a v y
-brings_steady p n a SourceFree v x y e same is = rw e (ap (grown p a) same.0 ∙ is)
-brings_steady p n a (Acquires m) v x y e same is = rw e (is.0, same.1 ∙ is.1)
-brings_steady p n a u v x y e same is = absurd is
+brings_steady p n a u v x y e f g = grind (arith, grown)
 
 steady_at : (m : ℕ) (b : Block (List ℕ)) (block : ℕ → Block (List ℕ)) (i d : ℕ)
     → (i ≡ m → IsSteady ((block m).pair d) (b.pair d)) → IsSteady ((block i).pair d) ((set m b block i).pair d)
-steady_at m b block i d same = elim (cases_eq i m) [
-  | inl here ↦ rw (here, set-same m b block) (same here)
-  | inr other ↦ rw (set-other m i b block other) (refl, refl)
-]
+steady_at m b block i d same = grind (arith, cases_eq)
 
 steady_pair : (d : ℕ) (x : ClientBlock) (pair : ℕ → ClientBlock) → IsSteady (pair d) x → (j : ℕ)
     → IsSteady (pair j) (set d x pair j)
@@ -100,9 +95,6 @@ module _ (p : Profile) (c n source : ℕ) (a : AcquirePhase) where
 
   abbrev IsOwn : State (List ℕ) → ℕ → ℕ → Type 0
   IsOwn s d i = (d ≡ c) × (i ≡ source) × (s.uses d i ≡ Acquires n) × (((s.block n).pair c).acquiring ≡ a)
-
-  lone_use : {s : State (List ℕ)} → IsLone p c n source a s → (d i : ℕ) → (s.uses d i ≡ SourceFree) ⊎ IsOwn s d i
-  lone_use {s} is d i = grind arith
 
   no_access : {s : State (List ℕ)} (d i : ℕ) (u : SourceState) → IsLone p c n source a s → s.uses d i ≡ u
       → is_access u ≡ true → ⊥

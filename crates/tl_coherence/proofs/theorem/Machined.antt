@@ -1,12 +1,12 @@
 -- Each event is a step of the one-memory machine, and performs what it answers: the outcomes are a run of it.
 use Rattle.std.proofs.Common.{◌≡◌, ℕ, Bool, true, false, List, [], ◌∷◌, Option, Some, None, refl, sym, ◌∙◌, ap, subst}
-use Rattle.std.proofs.Common.{is_some}
+use Rattle.std.proofs.Common.{arith, is_some}
 use Rattle.tl_coherence.proofs
 use proofs.Imports.{Beat, Link, Channel, IsWidth, Config, Finish, EndConfig, Event, Deliver, Ask, Outcome, Kind, Answer}
 use proofs.Imports.{AbstractState, SimulationRelation, Continues, Log, system_after, Ends, Machine, pool_of, Run}
 use proofs.Imports.{is_client, moved, one_memory_after, accesses_answered, performing, Step, stepped, System, terms_at}
-use Rattle.tl_coherence.specs.{statement.Headline.AreTyped, statement.Log.IsLog, statement.Machine.IsStep}
-use Rattle.tl_coherence.specs.{statement.Machine.Performs}
+use Rattle.tl_coherence.{specs.statement.Headline.AreTyped, specs.statement.Log.IsLog}
+use Rattle.tl_coherence.specs.statement.Machine.{IsStep, Performs}
 use Rattle.tl_coherence.specs.statement.Step as step
 use proofs.theorem.{Allowing.ends-transfer, AccessEnds.ends-answer, Continuing.performs-delivered}
 use proofs.deliveries.{AskedAfter.continues-ask, Matching.shadow, Matching.matched, Matching.stepped-nobody}
@@ -24,9 +24,7 @@ is_delivered _ = true
 delivered-so : {w : ℕ} (config : Config) (terms : EndConfig) (c : ℕ) (ch : Channel) (beats : List (Beat w))
     (s : System w) → is_delivered (step.delivered config terms c ch beats s).outcome ≡ true
 unfolding is_delivered
-delivered-so config terms c ch [] s = refl
-delivered-so config terms c ch (x ∷ rest) s =
-    first-outcome (λ o. is_delivered o ≡ true) config terms c ch x rest s refl refl (λ source f. refl)
+delivered-so config terms c ch beats s = grind (arith, first-outcome, is_delivered)
 
 stepped-so : {w : ℕ} (config : Config) (link : Link) (ch : Channel) (terms : EndConfig) (s : System w)
     → terms_at config link.0 ≡ Some terms → is_delivered (stepped config (Deliver link ch) s).outcome ≡ true

@@ -1,18 +1,18 @@
 -- An access is performed at a moment at which no link holds what excludes it.
-use Rattle.std.proofs.Common.{◌≡◌, ℕ, true, List, [], ◌∷◌, Option, Some, None, refl, sym, ◌∙◌, ap, subst, inl, inr}
+use Rattle.std.proofs.Common.{◌≡◌, ℕ, true, List, [], ◌∷◌, Option, Some, None, sym, ◌∙◌, ap, subst, inl, inr, arith}
 use Rattle.tl_coherence.proofs
 use proofs.Imports.{BeatA, Link, Channel, Message, MessageA, a_beat_of, Config, on_link, AccessResult, effect, block_at}
-use proofs.Imports.{request_of, is_free, needs, Op, Event, Deliver, Outcome, State, SourceState, SourceFree, Replied}
-use proofs.Imports.{Acquires, AbstractState, IsAccess, IsOpened, AccessMessages, SimulationRelation, MonitorRelations}
-use proofs.Imports.{trace_of, IsGiven, Log, system_after, Machine, Open, Requests, moved, with_memory}
-use proofs.Imports.{accesses_answered, one_memory_after, stepped}
-use Rattle.tl_coherence.specs.{statement.Log.IsLog, statement.PerformedFree.PerformedFree}
-use proofs.bound.Settling.{given-before}
-use proofs.deliveries.Matching.{shadow}
-use proofs.flow.{FlowTraces.trace-flows, Flows.flowed, Renewed.IsSettledFor, Windowed.asked_flow, Windowed.free-now}
-use proofs.flow.{Windowed.renewed-followed, Windowed.same_first}
-use proofs.links.FromInvariant.{matched-given}
-use proofs.theorem.Continuing.{answering-delivered}
+use proofs.Imports.{request_of, is_free, needs, Op, Event, Deliver, Outcome, State, SourceState, Replied, AbstractState}
+use proofs.Imports.{IsAccess, IsOpened, AccessMessages, SimulationRelation, MonitorRelations, trace_of, IsGiven, Log}
+use proofs.Imports.{system_after, Machine, Open, Requests, moved, with_memory, accesses_answered, one_memory_after}
+use proofs.Imports.{stepped}
+use Rattle.tl_coherence.{specs.statement.Log.IsLog, specs.statement.PerformedFree.PerformedFree}
+use proofs.bound.{Settling.given-before}
+use proofs.deliveries.{Matching.shadow}
+use proofs.flow.{FlowTraces.trace-flows, Flows.flowed, Renewed.IsSettledFor}
+use proofs.flow.Windowed.{asked_flow, free-now, renewed-followed, same_first}
+use proofs.links.{FromInvariant.matched-given}
+use proofs.theorem.{Continuing.answering-delivered}
 use proofs.memory.Beside.{done_at, open-here, performing-one}
 
 -- the answer of what is open
@@ -29,17 +29,13 @@ unanswered o i j r e f = let same : None ≡ Some r = ap answer_in (sym e ∙ f)
 replied : {w : ℕ} (c source : ℕ) (mail : AccessMessages w) (s : State (List ℕ)) (u : SourceState)
     (opened : Option (Open w)) (m : Message w) (r : AccessResult) → IsOpened c source mail s u opened
     → opened ≡ Some (record { asked = Op.Access m; answer = Some r }) → u ≡ Replied
-replied c source mail s SourceFree opened m r is e = absurd (let same = sym is ∙ e in cc)
-replied c source mail s Replied opened m r is e = refl
-replied c source mail s (Acquires n) opened m r is e = absurd (unanswered opened _ (Op.Access m) r is e)
-replied c source mail s u opened m r is e = absurd (unanswered opened _ (Op.Access m) r is.2 e)
+replied c source mail s u opened m r e f = grind (arith, unanswered)
 
 -- one that is open without an answer isn't
 unreplied : {w : ℕ} (c source : ℕ) (mail : AccessMessages w) (s : State (List ℕ)) (u : SourceState)
     (opened : Option (Open w)) (m : Message w) → IsOpened c source mail s u opened
     → opened ≡ Some (record { asked = Op.Access m; answer = None }) → u ≡ Replied → ⊥
-unreplied c source mail s Replied opened m is e f = unanswered opened (Op.Access m) _ is.0 e is.1.2
-unreplied c source mail s u opened m is e f = cc
+unreplied c source mail s u opened m e f g = grind (arith, unanswered)
 
 module _ {w : ℕ} {config : Config} (log : Log w) (link : Link) (ch : Channel) (o : Outcome w)
     (given : IsGiven config ((Deliver link ch, o) ∷ log)) where
@@ -75,8 +71,7 @@ module _ {w : ℕ} {config : Config} (log : Log w) (link : Link) (ch : Channel) 
       ≡ one_memory_after config log
       → one_memory_after config after ≡ done_at q source (Message.A access.0) (one_memory_after config log)
   unfolding one_memory_after IsLog
-  machine_after q source one access still = let fact = performing-one q source (Message.A access.0)
-      (one_memory_after config log) access.2 in cc (given.is_log.0, still, one)
+  machine_after q source one access still = grind (arith, performing-one, log)
 
   free-after : (q source : ℕ) → accesses ≡ (q, source) ∷ []
       → (access : IsAccess source (h.mail.request q source) None

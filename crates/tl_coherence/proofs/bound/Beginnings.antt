@@ -86,7 +86,7 @@ module _ {X : Type 0} (config : Config) (size : ℕ) (left left' : Left) (answer
           → acquire_weight size (left' c Acquire m) (left' c Grant m) (probes_weight number size left' m (s.block m))
           (view (s.block m).service c) + 1 ≤ acquire_weight size (left c Acquire m) (left c Grant m)
           (probes_weight number size left m (s.block m)) (view (s.block m).service c) → Falls
-      acquire_owes m used less = grind (arith, use_owes, c)
+      acquire_owes m used less = grind (arith, use_owes)
 
       acquire_less : (m : ℕ) → left' c Acquire m + 1 ≤ left c Acquire m → shown Acquire c (s.block m) ≡ true → Falls
       acquire_less m less e =

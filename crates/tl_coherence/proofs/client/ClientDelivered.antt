@@ -1,19 +1,20 @@
 -- A beat of channel D that is delivered to a client is taken, and its end is then that of the protocol.
-use Rattle.std.proofs.Common.{◌≡◌, subst, ℕ, ◌+◌, Bool, true, false, ◌||◌, List, ◌∷◌, Option, Some, length, refl}
-use Rattle.std.proofs.Common.{sym, ◌∙◌, ap, arith, eqb-true, map}
+use Rattle.std.proofs.Common.{◌≡◌, subst, ℕ, ◌+◌, ◌*◌, Bool, true, false, ◌||◌, List, ◌∷◌, Option, Some, length, refl}
+use Rattle.std.proofs.Common.{sym, ◌∙◌, ap, arith, lit<, eqb-true, pow_pos, map}
 use Rattle.tl_coherence.proofs
 use proofs.Imports.{drop_all, Beat, BeatA, BeatD, Channel, OpD, IsWidth, Message, MessageA, MessageD, d_beat_of}
-use proofs.Imports.{beats_of, burst_of, IsBlankAfter, unfinished, completes, Config, Cap, Perm}
+use proofs.Imports.{beats_of, burst_of, data_beats, IsBlankAfter, IsZeroFrom, unfinished, completes, Config, Cap, Perm}
 use proofs.Imports.{payload-d, whole_block, payload_of, same_perm, ends, is_grant, is_release_ack, request_of}
 use proofs.Imports.{accounted-offered, kept-offered, Finish, EndConfig, Endpoint, with_past, Offered, offered, taken}
-use proofs.Imports.{ended, responded, granted, Kind, Answer, Grant, ReleaseAck, Packet, AcquirePhase, AcquireOpen}
-use proofs.Imports.{Service, GrantSent, State, packet, is_on, grant_taken, AbstractState, kind_taken, packet_taken}
-use proofs.Imports.{AccessMessages, block_message, message_of, message_of_kind, SimulationRelation, gives_asked}
-use proofs.Imports.{asked_by, is_caching, IsGivenAsked, Log, System, terms_at}
+use proofs.Imports.{ended, responded, granted, Kind, Answer, Grant, ReleaseAck, Packet, is_whole, AcquirePhase}
+use proofs.Imports.{AcquireOpen, Service, GrantSent, State, packet, is_on, grant_taken, AbstractState, taken_by_client}
+use proofs.Imports.{kind_taken, packet_taken, AccessMessages, block_message, message_of, message_of_kind}
+use proofs.Imports.{SimulationRelation, gives_asked, asked_by, is_caching, IsGivenAsked, Log, System, terms_at}
 use proofs.queues.{Carried.IsNext, FirstToken.IsFirst, FirstToken.first-token, Codes.access_kind}
 use proofs.client.{ClientAsked.IsEndOf, ClientEnd.IsWellKept, ClientEnd.IsEnd, ClientEnd.end-matched}
-use proofs.client.ClientTaken.{end-part, end-answer_taken, end-release_ack_taken, end-grant_taken}
-use proofs.client.ClientTakes.{answer-first, fitting, grant-first, ack-first, taken-d}
+use proofs.client.{ClientTaken.end-part, ClientTaken.end-answer_taken, ClientTaken.end-release_ack_taken}
+use proofs.client.{ClientTaken.end-grant_taken, ClientTakes.answer-first, ClientTakes.fitting}
+use proofs.client.{ClientTakes.grant-first, ClientTakes.ack-first, ClientTakes.taken-d}
 use proofs.protocol.HeadOfD.{answer-due, IsGrantDue, grant-due, grant_message, grant-rendered, ack-due, ack_message}
 
 -- ---- what a client does at a beat of channel D
@@ -25,11 +26,14 @@ last_end {w} y e last = cc last
 
 ended_plain : {w : ℕ} (o : OpD) (y : BeatD w) (f : Finish) (r : Option (BeatA w)) (payload : List ℕ) (e : Endpoint w)
     → is_grant o ≡ false → (ended o y f (granted o r payload e)).after ≡ e
-ended_plain o y f r payload e g = grind arith
+ended_plain OpD.Grant y f r payload e plain = absurd cc
+ended_plain OpD.GrantData y f r payload e plain = absurd cc
+ended_plain o y f r payload e plain = refl
 
 plain_end : {w : ℕ} (y : BeatD w) (e : Endpoint w) → ends (Beat.D y) e.past ≡ true → is_grant y.opcode ≡ false
     → (taken (Beat.D y) e).after ≡ with_past (Beat.D y ∷ e.past) e
-plain_end {w} y e last plain = grind (arith, last_end, ended_plain)
+plain_end {w} y e last plain = last_end y e last ∙ ended_plain y.opcode y _ (request_of y.source e.past)
+    (payload_of (Beat.D y ∷ unfinished Channel.D e.past)) (with_past (Beat.D y ∷ e.past) e) plain
 
 -- ---- the end afterwards
 
@@ -92,7 +96,7 @@ taken_token : {w : ℕ} (config : Config) (tracker c : ℕ) (k : Kind) (n : ℕ)
     → IsEndOf c (packet_taken config tracker c (h.state.link c).d h) e
 taken_token config tracker c k n rest h e first end = rw first end
 
-answer-delivered : {w : ℕ} {config : Config} {log : Log w} {mail : AccessMessages w} {request : ℕ → MessageA w}
+pub answer-delivered : {w : ℕ} {config : Config} {log : Log w} {mail : AccessMessages w} {request : ℕ → MessageA w}
     {s : State (List ℕ)} {sys : System w} (terms : EndConfig)
     (tracker c source : ℕ) (rest : List Packet) {ms : List (Message w)} {x : Beat w} {queue : List (Beat w)}
     → IsWidth w → SimulationRelation config log mail request s sys → terms_at config c ≡ Some terms
@@ -104,7 +108,8 @@ answer-delivered {w} {config} {log} {mail} {request} {s} {sys} terms tracker c s
     let e : Endpoint w = sys.clients c in
     let due = answer-due (λ i. is_caching config i) c source rest mail s h.invariant (h.answered c source) first in
     let end = end-matched h c in
-    let here : IsNext x (unfinished Channel.D e.past) (Message.D due.answer) ms queue = rw due.answer_is at next in
+    let here : IsNext x (unfinished Channel.D e.past) (Message.D due.answer) ms queue =
+    subst (λ (m : Message w). IsNext x (unfinished Channel.D e.past) m ms queue) due.answer_is next in
     let kind = access_kind due.answer.opcode due.answers_access in
     taken-by config terms tracker c (shadow_of mail request s) due.answer e width end here
     (taken-d terms c due.answer h at beats here (answer-first config.profile end due))
@@ -113,14 +118,15 @@ answer-delivered {w} {config} {log} {mail} {request} {s} {sys} terms tracker c s
     (end-answer_taken source y rest mail (plain_end y e last (ap is_grant opcode ∙ kind.0)) last
     (ap is_grant opcode ∙ kind.0) (ap is_release_ack opcode ∙ kind.1) (from ∙ due.from) well end))
 
-ack-delivered : {w : ℕ} {config : Config} {log : Log w} {mail : AccessMessages w} {request : ℕ → MessageA w}
+pub ack-delivered : {w : ℕ} {config : Config} {log : Log w} {mail : AccessMessages w} {request : ℕ → MessageA w}
     {s : State (List ℕ)} {sys : System w} (terms : EndConfig) (tracker c n : ℕ) (rest : List Packet)
     {ms : List (Message w)} {x : Beat w} {queue : List (Beat w)} → IsWidth w
     → SimulationRelation config log mail request s sys → terms_at config c ≡ Some terms
     → sys.channels c Channel.D ≡ x ∷ queue → (s.link c).d ≡ packet ReleaseAck n ∷ rest
     → IsNext x (unfinished Channel.D (sys.clients c).past) (Message.D (ack_message ((s.block n).release_source c))) ms
     queue → IsTakenBy config terms tracker c (shadow_of mail request s) x (sys.clients c)
-ack-delivered {w} {config} {mail} {request} {s} {sys} terms tracker c n rest width h at beats first next =
+ack-delivered {w} {config} {log} {mail} {request} {s} {sys} terms tracker c n rest {ms} {x} {queue} width h at beats
+    first next =
     let e : Endpoint w = sys.clients c in
     let m : MessageD w = ack_message ((s.block n).release_source c) in
     let let_ = ack-due c n rest h.invariant first in
@@ -135,7 +141,11 @@ ack-delivered {w} {config} {mail} {request} {s} {sys} terms tracker c n rest wid
 grant_blank : {w : ℕ} (data_too : Bool) (k : Cap) (source sink : ℕ) (payload : List ℕ) → IsWidth w → length payload ≡ 64
     → IsBlankAfter (beats_of (Message.D (grant_message {w = w} data_too k source sink payload)))
     (Message.D (grant_message {w = w} data_too k source sink payload))
-grant_blank data_too k source sink payload e f = grind (arith, whole_block, drop_all)
+grant_blank {w} true k source sink payload width long =
+    let all : IsZeroFrom (w * data_beats w 6) payload =
+    rw (whole_block w width) (drop_all 64 payload (omega (arith, long))) in
+    (all, pow_pos (data_beats w 6))
+grant_blank {w} false k source sink payload width long = (refl, lit< tt)
 
 -- the bytes of a Grant that carries them
 grant_bytes : {w : ℕ} (data_too : Bool) (k : Cap) (source sink : ℕ) (payload : List ℕ) (beats : List (Beat w))
@@ -146,7 +156,7 @@ grant_bytes {w} true k source sink payload beats width long burst carries =
     (burst, grant_blank {w = w} true k source sink payload width long)
 grant_bytes false k source sink payload beats width long burst carries = absurd cc
 
-grant-delivered : {w : ℕ} {config : Config} {log : Log w} {mail : AccessMessages w} {request : ℕ → MessageA w}
+pub grant-delivered : {w : ℕ} {config : Config} {log : Log w} {mail : AccessMessages w} {request : ℕ → MessageA w}
     {s : State (List ℕ)} {sys : System w} (terms : EndConfig)
     (tracker c n : ℕ) (rest : List Packet) {ms : List (Message w)} {x : Beat w} {queue : List (Beat w)}
     → IsWidth w → SimulationRelation config log mail request s sys → terms_at config c ≡ Some terms
@@ -163,8 +173,12 @@ grant-delivered {w} {config} {log} {mail} {request} {s} {sys} terms tracker c n 
     let served : (y : BeatD w) → IsEnd (asked_by mail (grant_taken c n due.whole due.data_too due.k rest s) c) c
     (grant_taken c n due.whole due.data_too due.k rest s) (taken (Beat.D y) e).after
     → IsEndOf c (kind_taken config tracker c Grant n rest (shadow_of mail request s)) (taken (Beat.D y) e).after =
-    λ y is. rw due.service (rw due.wants is) in
-    let here : IsNext x (unfinished Channel.D e.past) (Message.D m) ms queue = rw (grant-rendered c n s due) at next in
+    λ y is. subst (λ (i : Service). IsEndOf c (taken_by_client c n i rest (shadow_of mail request s))
+    (taken (Beat.D y) e).after) (sym due.service)
+    (subst (λ (i : AcquirePhase). IsEnd (asked_by mail (grant_taken c n (is_whole i) due.data_too due.k rest s) c) c
+    (grant_taken c n (is_whole i) due.data_too due.k rest s) (taken (Beat.D y) e).after) (sym due.wants) is) in
+    let here : IsNext x (unfinished Channel.D e.past) (Message.D m) ms queue =
+    subst (λ (i : Message w). IsNext x (unfinished Channel.D e.past) i ms queue) (grant-rendered c n s due) next in
     taken-by config terms tracker c (shadow_of mail request s) m e width end here
     (taken-d terms c m h at beats here (grant-first config.profile mail end due given))
     (λ y y_is opcode from param last burst well. taken_token config tracker c Grant n rest (shadow_of mail request s)
@@ -178,7 +192,8 @@ grant-delivered {w} {config} {log} {mail} {request} {s} {sys} terms tracker c n 
       bare = fits.bare;
       has_copy = λ a b. holds_copy due.whole due.data_too ((s.block n).pair c).held a b fits.carried;
       bytes = λ carries. grant_bytes due.data_too due.k ((s.block n).source c) (s.block n).tracker (s.block n).truth
-          (Beat.D y ∷ unfinished Channel.D e.past) width (h.sized n).truth (cc) carries;
+          (Beat.D y ∷ unfinished Channel.D e.past) width (h.sized n).truth
+          (ap (λ (z : Beat w). z ∷ unfinished Channel.D e.past) (sym y_is) ∙ burst) carries;
     }) (last_end y e last) last well end)))
   where
     due : IsGrantDue c n s
@@ -192,7 +207,8 @@ grant-delivered {w} {config} {log} {mail} {request} {s} {sys} terms tracker c n 
 
     holds_copy : (whole data_too : Bool) (q : Perm) → whole ≡ false → data_too ≡ false
         → (whole || (data_too || same_perm q Perm.Branch)) ≡ true → same_perm q Perm.None ≡ false
-    holds_copy whole data_too q e f g = grind arith
+    holds_copy false false Perm.Branch a b f = refl
+    holds_copy whole data_too q a b f = absurd cc
 
 -- ---- all of channel D
 

@@ -1,20 +1,21 @@
 -- What a client answers to an operation, beside the protocol and the one-memory machine: what it starts it may start,
 -- and its reply is one that the machine allows.
 use Rattle.std.proofs.Common.{◌≡◌, ℕ, true, false, not, ◌||◌, List, Option, Some, None, refl, sym, ◌∙◌, ap, subst}
-use Rattle.std.proofs.Common.{arith, eqb-true, ◌==◌, is_none}
+use Rattle.std.proofs.Common.{eqb-true, ◌==◌, is_none, nat_le}
 use Rattle.tl_coherence.proofs
 use proofs.Imports.{and_parts, not-false, or_parts, Channel, IsWidth, Message, MessageA, Config, RequestSource}
 use proofs.Imports.{ReleaseSource, AcquireOf, ReleaseOf, Perm, prune_left, grow_left, same_perm, block_at, pending}
 use proofs.Imports.{has_transfers, illegal_message, word_room, NotBusy, asked-cases, least_free-some, Op, Reply, done}
-use proofs.Imports.{store, is_word, free_request, free_release, source_or_0, EndConfig, Endpoint, copy_at, held_at}
-use proofs.Imports.{access, level_of, NoAcquire, NoRelease, State, SourceFree, AbstractState, IsLet, SimulationRelation}
-use proofs.Imports.{is_caching, IsRequest, Log, Machine, Requests, Releases, one_memory_after, System, terms_at}
+use proofs.Imports.{store, is_word, op_block, free_request, free_release, source_or_0, EndConfig, Endpoint, copy_at}
+use proofs.Imports.{held_at, access, level_of, NoAcquire, NoRelease, State, SourceState, SourceFree, AbstractState}
+use proofs.Imports.{IsOpened, IsLet, SimulationRelation, is_caching, IsRequest, Log, Machine, Requests, Releases}
+use proofs.Imports.{one_memory_after, System, terms_at}
 use Rattle.tl_client.{proofs.messages.Clean.to_blank, proofs.messages.Sound.formed_access}
 use Rattle.tl_client.specs.statement.Ask.{asked, only, load, loaded, is_clean, is_formed}
 pub use Rattle.tl_coherence.proofs.deliveries.BusyWell.{IsAskedWell}
 use proofs.client.Askable.{swap_perms, no_let, caches}
 use proofs.simulation.{BeatsInFlight.level-terms}
-use proofs.protocol.{BothParts.kept-letting}
+use proofs.protocol.BothParts.{calm-is, kept-letting}
 use proofs.deliveries.BusyWell.{unused, busy_well, loaded_number, some_held, none_rule, sourced_legal}
 
 pub asked-well : {w : ℕ} (config : Config) (log : Log w) (h : AbstractState w) (sys : System w) (c : ℕ)
@@ -44,7 +45,8 @@ asked-well {w} config log h sys c terms o width is known = asked-cases terms o e
     copy_is n some = cc (is.copies c n some, (is.invariant.blocks n).copies c some)
 
     formed : (i : Op w) → NotBusy terms i e → is_formed terms.level i ≡ true
-    formed i free = grind (arith, not-false, or_parts)
+    formed i free = not-false (is_formed terms.level i)
+        (or_parts (nat_le terms.blocks (op_block i)) (not (is_formed terms.level i)) free.b5).1
 
     free_source : is_none (free_request terms e.past) ≡ false
         → s.uses c (source_or_0 (free_request terms e.past)) ≡ SourceFree
@@ -52,11 +54,18 @@ asked-well {w} config log h sys c terms o width is known = asked-cases terms o e
         (least_free-some (λ i. pending (RequestSource i) e.past) 0 terms.sources one).0
 
     unopened : (source : ℕ) → s.uses c source ≡ SourceFree → m.opened c Requests source ≡ None
-    unopened source used = grind arith
+    unopened source used = go (s.uses c source) used (is.beside.requests c source)
+      where
+        go : (u : SourceState) → u ≡ SourceFree → IsOpened c source h.mail s u (m.opened c Requests source)
+            → m.opened c Requests source ≡ None
+        go u f i = subst (λ (v : SourceState). IsOpened c source h.mail s v (m.opened c Requests source)) f i
 
     transfers : (n : ℕ) → (pending (AcquireOf n) e.past || pending (ReleaseOf n) e.past) ≡ false
         → (((s.block n).pair c).acquiring ≡ NoAcquire) × (((s.block n).pair c).letting ≡ NoRelease)
-    transfers n none = grind (arith, or_parts, kept-letting)
+    transfers n none =
+        let parts = or_parts (pending (AcquireOf n) e.past) (pending (ReleaseOf n) e.past) none in
+        let fact = kept-letting ((s.block n).pair c).letting (sym ((is.known c).releases n) ∙ parts.1) in
+        (calm-is ((s.block n).pair c).acquiring (sym ((is.known c).acquires n) ∙ parts.0), fact)
 
     caching : not (has_transfers terms.level) ≡ false → is_caching config c ≡ true
     caching four = caches config c terms.level level_is (not-false (has_transfers terms.level) four)

@@ -1,5 +1,5 @@
 -- Every delivery on channel D, and every one that moves no beat: the channels and the one memory afterwards.
-use Rattle.std.proofs.Common.{◌≡◌, ℕ, Bool, true, false, List, ◌∷◌, Some, None, refl, sym, ◌∙◌, ap, subst, ◌==◌, arith}
+use Rattle.std.proofs.Common.{◌≡◌, ℕ, Bool, true, false, List, ◌∷◌, Some, None, refl, sym, ◌∙◌, ap, subst, ◌==◌}
 use Rattle.std.proofs.Common.{if◌then◌else◌, map}
 use Rattle.tl_coherence.proofs
 use proofs.Imports.{Beat, Link, Channel, IsWidth, Message, MessageD, beat_of, d_beat_of, unfinished, completes}
@@ -45,16 +45,19 @@ last_d {w} config log link h {h'} {x} {queue} is t same responded =
     let e = sys.clients link.0 in
     let last = sym (ap (λ (z : Beat w). completes z (unfinished Channel.D e.past)) is.x_is) ∙ is.last in
     let same_parts = same_answers t.verdict_is (Verdict.Done is.y.source (finish_at is.y e)) t.message
-    (acked is.y.opcode is.y.sink) (offer.taken x e).answer t.answer (cc (is.x_is, answer-last is.y e last)) in
+    (acked is.y.opcode is.y.sink) (offer.taken x e).answer t.answer
+    (ap (λ (z : Beat w). (offer.taken z e).answer) is.x_is ∙ answer-last is.y e last) in
     let now = handing (Outcome.Done x is.y.source (finish_at is.y e)) (handed_by link.0 (acked is.y.opcode is.y.sink))
     (with_client link.0 (offer.taken x e).after (with_channel link.0 Channel.D queue sys)) in
     let step_is : stepped config (Deliver link Channel.D) sys ≡ now = cc (t.step_is, same_parts.0, same_parts.1) in
     delivered_as config log link Channel.D h h' same (subst (λ (y : Step w). ChannelRelation h'.mail h'.state y.after)
     (sym step_is) responded.carried) (subst (λ (m : Machine w). MemoryRelation h'.mail h'.state m)
-    (sym (cc (remembered_after config log link Channel.D now step_is, responded.quiet))) responded.beside)
+    (sym (remembered_after config log link Channel.D now step_is ∙ ap (λ (l : List (ℕ × ℕ)). performing l
+    (moved (Deliver link Channel.D) now.outcome (one_memory_after config log))) responded.quiet)) responded.beside)
 
 none_pushed : (w : ℕ) (at : Channel) (b : Bool) → (if b then pushes_of {w = w} None at else None) ≡ None
-none_pushed w at b = grind arith
+none_pushed w at true = refl
+none_pushed w at false = refl
 
 part_d : {w : ℕ} {config : Config} {log : Log w} (link : Link) (h : AbstractState w) {terms : client.EndConfig}
     {x : Beat w} {queue : List (Beat w)} (mm : MessageD w) (k : ℕ) → IsWidth w
@@ -70,7 +73,8 @@ part_d {w} {config} {log} link h {terms} {x} {queue} mm k width is first x_is pa
     let sys = system_after config log in
     let e = sys.clients link.0 in
     let same_parts = same_answers t.verdict_is Verdict.Taken t.message None (offer.taken x e).answer t.answer
-    (ap (λ (z : Beat w). (offer.taken z e).answer) x_is ∙ answer-part y e (cc)) in
+    (ap (λ (z : Beat w). (offer.taken z e).answer) x_is ∙ answer-part y e
+    (sym (ap (λ (z : Beat w). completes z (unfinished Channel.D e.past)) x_is) ∙ part)) in
     let now = handing (Outcome.Moved x) (handed_by link.0 None)
     (with_client link.0 (offer.taken x e).after (with_channel link.0 Channel.D queue sys)) in
     let step_is : stepped config (Deliver link Channel.D) sys ≡ now = cc (t.step_is, same_parts.0, same_parts.1) in
@@ -78,7 +82,8 @@ part_d {w} {config} {log} link h {terms} {x} {queue} mm k width is first x_is pa
     (sym step_is) (carried-part h.mail h.state width (landed-client link.0 Channel.D x queue None
     (offer.taken x e).after sys refl first (subst (λ (z : Beat w). IsOn Channel.D z) (sym x_is) (on_own_channel
     (Beat.D y))) (client-heard width (is.kept link.0) t)) (λ d at. none_pushed w at (d == link.0)) part is.carried))
-    (rw (remembered_after config log link Channel.D now step_is) is.beside)
+    (subst (λ (m : Machine w). MemoryRelation h.mail h.state m)
+    (sym (remembered_after config log link Channel.D now step_is)) is.beside)
 
 pub rendered_release_ack : {w : ℕ} (c n : ℕ) (b : Block (List ℕ)) → block_message {w = w} ReleaseAck c n b ≡ Message.D
     (ack_message (b.release_source c))
@@ -112,6 +117,10 @@ delivered-d {w} {config} {log} link h terms x queue width is known beats moving 
     heard : HasHeard x e (offer.taken x e).after
     heard = client-heard width (is.kept c) t
 
+    follows : abstract_step config (Deliver link Channel.D) sys h ≡ (if completes x (unfinished Channel.D e.past) then
+        packet_taken config (next_tracker sys) c (h.state.link c).d h else h)
+    follows = followed-moving config link Channel.D sys h x queue moving beats
+
     -- a message of channel D, what its last beat makes, and its token
     by_message : (k : Kind) (i : ℕ) (mm : MessageD w) → (h.state.link c).d ≡ packet k i ∷ first.rest
         → message_of_kind k h.mail h.state c i ≡ Message.D mm
@@ -138,10 +147,10 @@ delivered-d {w} {config} {log} link h terms x queue width is known beats moving 
               heard = heard;
             } in
             last_d config log link h last t
-            ((followed-moving config link Channel.D sys h x queue moving beats)
-            ∙ ap (λ (b : Bool). if b then packet_taken config (next_tracker sys) c (h.state.link c).d h else h) done
-            ∙ ap (λ (l : List Packet). packet_taken config (next_tracker sys) c l h) tokens) (responds last)
-        go false part = part_d link h mm next.k width is beats x_is part t (cc)
+            (follows ∙ ap (λ (b : Bool). if b then packet_taken config (next_tracker sys) c (h.state.link c).d h else h)
+            done ∙ ap (λ (l : List Packet). packet_taken config (next_tracker sys) c l h) tokens) (responds last)
+        go false part = part_d link h mm next.k width is beats x_is part t (follows
+            ∙ ap (λ (b : Bool). if b then packet_taken config (next_tracker sys) c (h.state.link c).d h else h) part)
 
     kinds : (k : Kind) (i : ℕ) → (h.state.link c).d ≡ packet k i ∷ first.rest → is_on Channel.D k ≡ true
         → IsNext x (unfinished Channel.D e.past) (message_of_kind k h.mail h.state c i)

@@ -1,23 +1,24 @@
 -- The manager takes the last beat of a ProbeAck.
-use Rattle.std.proofs.Common.{[], ◌≡◌, ℕ, Bool, true, false, List, ◌∷◌, length, refl, sym, ◌∙◌, ap, subst, ◌==◌, arith}
+use Rattle.std.proofs.Common.{[], ◌≡◌, ℕ, Bool, true, false, ◌&&◌, List, ◌∷◌, length, refl, sym, ◌∙◌, ap, subst, ◌==◌, arith}
 use Rattle.std.proofs.Common.{if◌then◌else◌}
 use Rattle.tl_coherence.proofs
 use proofs.Imports.{Beat, Channel, Message, MessageA, MessageC, c_beat_of, Config, Cap, Grow, Report, Perm, report_left}
 use proofs.Imports.{grow_code, report_code, same_perm, End, Reaction, Handed, reaction, IsInvariant, IsWell}
 use proofs.Imports.{IsOwnSource, Kind, ProbeAck, Release, Acquire, Packet, Grant, ReleaseAck, set, ProbeAnswered}
-use proofs.Imports.{AcquirePhase, NoAcquire, AcquireOpen, View, Granting, Acknowledging, GrantedOther, is_granted_data}
-use proofs.Imports.{Service, Free, Waits, GrantSent, GrantTaken, Block, report_taken, packet, view, Acquires}
-use proofs.Imports.{granted_block, is_wanting, AbstractState, ack_taken, last_taken, some_below, with_state, answers}
-use proofs.Imports.{acquire_opcode, granted_after, block_message, report_told, SimulationRelation, is_caching}
+use proofs.Imports.{AcquirePhase, NoAcquire, AcquireOpen, View, Own, Other, Granting, Acknowledging, GrantedOther}
+use proofs.Imports.{is_granted_data, Service, Free, Waits, GrantSent, GrantTaken, Block, report_taken, packet, view}
+use proofs.Imports.{Acquires, granted_block, is_wanting, AbstractState, ack_taken, last_taken, some_below, with_state}
+use proofs.Imports.{answers, acquire_opcode, granted_after, block_message, report_told, SimulationRelation, is_caching}
 use proofs.Imports.{IsAcquireOf, Log, System}
 use Rattle.tl_coherence.specs.protocol.Protocol as protocol
 use proofs.manager.{UnwaitedRequests.invariant-taken, ManagersEnd.at_manager-matched, ManagerHanded.grant-rendered}
 use proofs.manager.{SettlingService.IsSettling, ManagerTakes.IsTakenUp}
+use proofs.protocol.BothParts.{acquires_of-is, not-calm}
+use proofs.memory.BesideTaken.{same_message}
+use proofs.queues.{Facts.answered_other, Facts.is_other, Facts.own_wants, Tokens.same_number, Tokens.set-same}
+use proofs.queues.{Tokens.set_at-same}
 use proofs.manager.ManagerAfter.{IsManagerOf, left, IsEnd, others_probed, reported-left, reaction-reported}
 use proofs.manager.ManagerSettles.{IsWanted, ended-left, conceded-left, reaction-ended, reaction-conceded, gift_after}
-use proofs.protocol.BothParts.{acquires_of-is, not-calm}
-use proofs.queues.Facts.{answered_other, is_other, own_wants}
-use proofs.queues.Tokens.{same_number, set-same, set_at-same}
 
 -- ---- the Acquire that is granted
 
@@ -25,11 +26,19 @@ wanted_fields : {w : ℕ} (q n : ℕ) (whole : Bool) (g : Grow) (b : Block (List
     → (b.pair q).acquiring ≡ AcquireOpen whole g
     → block_message Acquire q n b ≡ Message.A v → (v.opcode ≡ acquire_opcode whole) × (v.param ≡ grow_code g)
 unfolding block_message
-wanted_fields q n whole g b v e f = grind arith
+wanted_fields {w} q n true g b v wants e =
+    let same = same_message _ v (rw wants at e) in
+    (ap (λ (m : MessageA w). m.opcode) (sym same), ap (λ (m : MessageA w). m.param) (sym same))
+wanted_fields {w} q n false g b v wants e =
+    let same = same_message _ v (rw wants at e) in
+    (ap (λ (m : MessageA w). m.opcode) (sym same), ap (λ (m : MessageA w). m.param) (sym same))
 
 -- what a client sees that has answered a Probe
 pub seen_apart : (q source : ℕ) (k : Cap) (c : ℕ) → is_other (view (Waits q true source k) c) ≡ true → c ≡ q → ⊥
-seen_apart q source k c e same = grind arith
+seen_apart q source k c e same =
+    let go : (b : Bool) → b ≡ true → is_other (if true && b then Own else Other k) ≡ true → ⊥ =
+    elim [ true ↦ λ f g. cc | false ↦ λ f g. cc ] in
+    go (c == q) (rw (same, same_number q) refl) e
 
 -- ---- what is handed out
 

@@ -1,24 +1,26 @@
 -- A Probe that is delivered to a client: the channels and the one memory afterwards.
-use Rattle.std.proofs.Common.{◌≡◌, ℕ, ◌*◌, Bool, true, false, List, [], ◌∷◌, Some, None, refl, sym, ◌∙◌, ap, map, Ok}
-use Rattle.std.proofs.Common.{arith}
+use Rattle.std.proofs.Common.{◌≡◌, ℕ, ◌*◌, Bool, true, false, List, [], ◌∷◌, Some, None, refl, sym, ◌∙◌, ap, subst, map}
+use Rattle.std.proofs.Common.{Ok}
 use Rattle.tl_coherence.proofs
 use proofs.Imports.{Beat, BeatB, Link, Channel, OpB, IsWidth, Message, unfinished, Config, Cap, Report, Perm}
 use proofs.Imports.{report_left, report_at, same_perm, block_at, same_block, Verdict, copy_at, held_at, report_for}
-use proofs.Imports.{probe_ack, Deliver, Outcome, Kind, Probe, ProbeAck, ClientBlock, is_unreleased, after_probe, Block}
-use proofs.Imports.{packet, is_on, probed_block, probe_taken, AbstractState, kind_taken, block_message, message_of}
-use proofs.Imports.{message_of_kind, cap_sent, probe_beat, SimulationRelation, is_caching, is_moving, Log, system_after}
-use proofs.Imports.{moved, one_memory_after, performing, accesses_answered, Step, stepped, handing, handed_by, System}
+use proofs.Imports.{probe_ack, Deliver, Outcome, Kind, Probe, ProbeAck, ClientBlock, is_unreleased}
+use proofs.Imports.{after_probe, Block, packet, is_on, probed_block, probe_taken, AbstractState}
+use proofs.Imports.{kind_taken, ChannelRelation, MemoryRelation, block_message, message_of, message_of_kind, cap_sent}
+use proofs.Imports.{probe_beat, SimulationRelation, is_caching, is_moving, Log, system_after, Machine, moved}
+use proofs.Imports.{one_memory_after, performing, accesses_answered, Step, stepped, handing, handed_by, System}
 use proofs.Imports.{terms_at, with_client, with_channel}
 use Rattle.tl_client.specs.statement.Endpoint as client
 use Rattle.tl_client.specs.statement.Offer as offer
 use proofs.memory.BesideKinds.{beside_block, same_acquiring}
-use proofs.queues.{Carried.IsNext, Shown.carried-shown, Tokens.set-same, FirstToken.IsFirst, FirstToken.first-token}
-use proofs.queues.Landed.{landed-client, taken-landed, on_own_channel}
+use proofs.queues.{Carried.IsNext, Shown.carried-shown, Channels.IsTaken, Channels.pushes_at, FirstToken.IsFirst}
+use proofs.queues.{FirstToken.first-token, Tokens.set-same, Landed.pushes_of, Landed.IsOn, Landed.landed-client}
+use proofs.queues.{Landed.taken-landed, Landed.on_own_channel}
 use proofs.simulation.{CarriedEvents.probe_taken-shown, Moved.IsTakenByClient, Moved.client-moves, Moved.client-heard}
-use proofs.client.{DeliverD.same_answers, KnownProbed.report_is}
-use proofs.client.ProbeDelivered.{IsProbed, probe-delivered}
+use proofs.client.{DeliverD.same_answers, ProbeDelivered.IsProbed, ProbeDelivered.probe-delivered}
+use proofs.client.{KnownProbed.report_is}
 use proofs.deliveries.{DeliverDAfter.followed-moving, DeliverDWhole.remembered_after, ManagersAfter.ack_channel}
-use proofs.deliveries.DeliverDUnmoved.{IsDelivered, delivered_as}
+use proofs.deliveries.{DeliverDUnmoved.IsDelivered, DeliverDUnmoved.delivered_as}
 use proofs.protocol.{BothParts.kept-is, FirstTokens.first-probe}
 use proofs.manager.UnwaitedRequests.{next_tracker, invariant-taken}
 
@@ -26,16 +28,21 @@ use proofs.manager.UnwaitedRequests.{next_tracker, invariant-taken}
 
 -- a report begins at what is held
 left_is : (k : Cap) (p : Perm) → report_left (report_at k p) ≡ p
-left_is k p = grind arith
+left_is Cap.ToT Perm.None = refl
+left_is Cap.ToB Perm.None = refl
+left_is Cap.ToN Perm.None = refl
+left_is k p = refl
 
 ack_same : {w : ℕ} (p : Perm) (r : Report) (n : ℕ) (x y : List ℕ) → (same_perm p Perm.None ≡ false → x ≡ y)
     → probe_ack {w = w} OpB.ProbeBlock p r n x ≡ probe_ack OpB.ProbeBlock p r n y
-ack_same p r n x y e = grind arith
+ack_same Perm.Trunk r n x y e = rw (e refl) refl
+ack_same p r n x y e = refl
 
 ack_quiet : (w c : ℕ) (p : Perm) (r : Report) (n : ℕ) (x : List ℕ)
     → accesses_answered {w = w} (handed_by c (Some (probe_ack OpB.ProbeBlock p r n x))) ≡ []
 unfolding accesses_answered
-ack_quiet w c p r n x = grind arith
+ack_quiet w c Perm.None r n x = refl
+ack_quiet w c p r n x = refl
 
 -- what is rendered after it
 rendered_probed : {w : ℕ} (c n : ℕ) (k : Cap) (b : Block (List ℕ))
@@ -128,19 +135,24 @@ delivered-b {w} {config} {log} link h terms x queue width is known beats moving 
         step_is : stepped config (Deliver link Channel.B) sys ≡ now
         step_is = cc (t.step_is, same_parts.0, same_parts.1 ∙ ap Some (handed_at (block_at (64 * n)) (same_block n)))
 
+        taken : IsTaken c Channel.B x queue (pushes_at c (pushes_of (Some ack))) sys now.after
+        taken = taken-landed (landed-client c Channel.B x queue (Some ack) (offer.taken x e).after sys refl beats
+            (subst (λ (z : Beat w). IsOn Channel.B z) (sym probed.beat_is) (on_own_channel (Beat.B y)))
+            (client-heard width (is.kept c) t)) probed.whole
+
         by_letting : (b : Bool) → is_unreleased b_pair.letting ≡ b → IsDelivered config log link Channel.B h
         by_letting true kept =
             let inv = invariant-taken h c Probe n first.rest is tokens (kept-is b_pair.letting kept) in
             delivered_as config log link Channel.B h (kind_taken config (next_tracker sys) c Probe n first.rest h)
             cc (followed-moving config link Channel.B sys h x queue moving beats, probed.whole, tokens)
-            (rw step_is (carried-shown width (probe_taken-shown c n k first.rest ack h.mail is.invariant inv tokens
+            (subst (λ (z : Step w). ChannelRelation h.mail (probe_taken c n k first.rest h.state) z.after) (sym step_is)
+            (carried-shown width (probe_taken-shown c n k first.rest ack h.mail is.invariant inv tokens
             (first-probe is.invariant tokens) (ack_channel w b_pair.held (report_at k b_pair.held) n
-            (h.state.block n).truth) (rendered_probed c n k (h.state.block n))) (taken-landed
-            (landed-client c Channel.B x queue (Some ack) (offer.taken x e).after sys refl beats (rw probed.beat_is
-            (on_own_channel (Beat.B y))) (client-heard width (is.kept c) t)) probed.whole) is.carried))
-            (rw (remembered_after config log link Channel.B now step_is ∙ ap (λ (l : List (ℕ × ℕ)). performing l
+            (h.state.block n).truth) (rendered_probed c n k (h.state.block n))) taken is.carried))
+            (subst (λ (m : Machine w). MemoryRelation h.mail (probe_taken c n k first.rest h.state) m)
+            (sym (remembered_after config log link Channel.B now step_is ∙ ap (λ (l : List (ℕ × ℕ)). performing l
             (moved (Deliver link Channel.B) now.outcome (one_memory_after config log))) (ack_quiet w c b_pair.held
-            (report_at k b_pair.held) n (h.state.block n).truth)) (beside_block n (probed_block c k
+            (report_at k b_pair.held) n (h.state.block n).truth))) (beside_block n (probed_block c k
             (h.state.block n)) (probe_taken c n k first.rest h.state) (λ i. refl) (λ d i. refl) (λ d i. refl) refl
             (λ d. same_acquiring c (after_probe k b_pair) (h.state.block n).pair refl d) (λ d. refl) is.beside))
         by_letting false open_ =

@@ -91,7 +91,7 @@ flowed-answer {w} {X} {c} {y} first {last} {asked} {asked'} {rest} {rest'} {s} {
   where
     same_requested : (i : ℕ) (u : SourceState) → is_requested c i (rest Channel.A) u s' ≡ is_requested c i
         (rest Channel.A) u s
-    same_requested i u = grind (arith, requested-blocks, c)
+    same_requested i u = grind (arith, requested-blocks)
 
     requests : (i : ℕ) (z here : Bool)
         → is_requested c i (rest Channel.A) (if z && here then SourceFree else s.uses c i) s' ≡ step first z false
@@ -250,4 +250,4 @@ flowed-let_go {w} {X} {c} {n} {y} {asked} {asked'} {rest} {rest'} {s} {s'} {t} f
 
     is_another : (i m : ℕ) → s'.lets c i ≡ Some m → (z : Bool) → (y.source == i) ≡ z → ((y.source == i) ≡ false)
         × (s.lets c i ≡ Some m)
-    is_another i m e z f = grind (arith, c)
+    is_another i m e z f = grind arith

@@ -53,4 +53,4 @@ unused-else c n i {s} named e = named.acquires c i n ∙ and_right (is_wanting (
     (i == (s.block n).source c) (ne_eqb i ((s.block n).source c) apart)
   where
     apart : i ≡ (s.block n).source c → ⊥
-    apart same = grind (arith, n, same_number)
+    apart same = grind (arith, same_number)

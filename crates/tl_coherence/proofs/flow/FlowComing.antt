@@ -1,6 +1,6 @@
 -- What was delivered in part on a link: of which Grant, and of which Release.
 use Rattle.std.proofs.Common.{◌≡◌, ℕ, zero, suc, ◌*◌, Bool, true, false, ◌&&◌, List, [], ◌∷◌, Option, Some, None, refl}
-use Rattle.std.proofs.Common.{sym, ◌∙◌, ap, eqb-true, ◌==◌, map}
+use Rattle.std.proofs.Common.{sym, ◌∙◌, ap, subst, eqb-true, ◌==◌, map}
 use Rattle.tl_coherence.proofs
 use proofs.Imports.{Beat, BeatA, BeatC, BeatD, Channel, IsWidth, Message, MessageA, MessageC, MessageD, begun}
 use proofs.Imports.{unfinished, Config, on_link, comes_in_release, comes_in_grant, block_at, is_grant, is_release}
@@ -35,9 +35,11 @@ alone_answer : {w : ℕ} {config : Config} {log : Log w} {mail : AccessMessages 
     → IsGrantAlone c s (mail.answer c i)
 unfolding IsGrantAlone
 alone_answer {config} {mail} {s} c i rest h first =
-    let due = answer-due (is_caching config) c i rest mail s h.invariant (h.answered c i) first in
-    let fact = never_grant (is_grant due.answer.opcode) (access_kind due.answer.opcode due.answers_access).0 in
-    (due.answer, due.answer_is, fact)
+    let due = answer-due (is_caching config) c i rest mail s h.invariant (h.answered c i) first in (
+      due.answer,
+      due.answer_is,
+      never_grant (is_grant due.answer.opcode) (access_kind due.answer.opcode due.answers_access).0,
+    )
 
 alone_grant : {w : ℕ} {config : Config} {log : Log w} {mail : AccessMessages w} {request : ℕ → MessageA w}
     {s : State (List ℕ)} {sys : System w} (c n : ℕ)
@@ -45,9 +47,11 @@ alone_grant : {w : ℕ} {config : Config} {log : Log w} {mail : AccessMessages w
     → IsGrantAlone {w = w} c s (block_message Grant c n (s.block n))
 unfolding IsGrantAlone
 alone_grant {config} {s} c n rest h first =
-    let due = grant-due (is_caching config) c n rest s h.invariant first in
-    let fact = grant_message due.data_too due.k ((s.block n).source c) (s.block n).tracker (s.block n).truth in
-    (fact, grant-rendered c n s due, λ e. (n, due, refl, refl))
+    let due = grant-due (is_caching config) c n rest s h.invariant first in (
+      grant_message due.data_too due.k ((s.block n).source c) (s.block n).tracker (s.block n).truth,
+      grant-rendered c n s due,
+      λ e. (n, due, refl, refl),
+    )
 
 alone_ack : (w : ℕ) (s : State (List ℕ)) (c n : ℕ) → IsGrantAlone {w = w} c s (block_message ReleaseAck c n (s.block n))
 unfolding IsGrantAlone block_message
@@ -75,7 +79,8 @@ half-granted : {w : ℕ} {config : Config} {log : Log w} {mail : AccessMessages 
     {s : State (List ℕ)} {sys : System w} (c : ℕ) (x : BeatD w)
     (more : List (Beat w)) → SimulationRelation config log mail request s sys
     → unfinished Channel.D (sys.clients c).past ≡ Beat.D x ∷ more → is_grant x.opcode ≡ true → IsOfGrant c s x
-half-granted {w} {config} {mail} {s} {sys} c x more h is grants = go (s.link c).d refl (h.carried c Channel.D)
+half-granted {w} {config} {log} {mail} {request} {s} {sys} c x more h is grants =
+    go (s.link c).d refl (h.carried c Channel.D)
   where
     rest_now : List (Beat w)
     rest_now = unfinished Channel.D (sys.clients c).past
@@ -91,11 +96,13 @@ half-granted {w} {config} {mail} {s} {sys} c x more h is grants = go (s.link c).
         (sys.channels c Channel.D) → IsOfGrant c s x
     go [] first carried =
         let none : IsCarried rest_now [] (sys.channels c Channel.D) =
-        rw (ap (map (message_of mail s c)) first) at carried in
+        subst (λ (ms : List (Message w)). IsCarried rest_now ms (sys.channels c Channel.D))
+        (ap (map (message_of mail s c)) first) carried in
         absurd (let no : [] ≡ Beat.D x ∷ more = sym none.0 ∙ is in cc)
     go (y ∷ ys) first carried =
         let some : IsCarried rest_now (message_of mail s c y ∷ map (message_of mail s c) ys)
-        (sys.channels c Channel.D) = rw (ap (map (message_of mail s c)) first) at carried in
+        (sys.channels c Channel.D) = subst (λ (ms : List (Message w)). IsCarried rest_now ms (sys.channels c Channel.D))
+        (ap (map (message_of mail s c)) first) carried in
         begun_alone c s (message_of mail s c y) some.0 x more
         (each y.kind y.number ys first (own_kind (is_caching config) s c Channel.D y.kind y.number ys h.invariant
         first)) (sym is ∙ some.2) grants
@@ -120,7 +127,8 @@ coming-sink {w} {config} {log} {mail} {request} {s} {sys} c i h = go (unfinished
 pub coming-granting : {w : ℕ} {config : Config} {log : Log w} {mail : AccessMessages w} {request : ℕ → MessageA w}
     {s : State (List ℕ)} {sys : System w} (c : ℕ) → SimulationRelation config log mail request s sys
     → IsComing (asked_by mail s c) (unfinished Channel.D (sys.clients c).past) c s
-coming-granting {w} {mail} {s} {sys} c h n = go (unfinished Channel.D (sys.clients c).past) refl
+coming-granting {w} {config} {log} {mail} {request} {s} {sys} c h n =
+    go (unfinished Channel.D (sys.clients c).past) refl
   where
     go : (beats : List (Beat w)) → unfinished Channel.D (sys.clients c).past ≡ beats
         → comes_granting n (asked_by mail s c) beats ≡ true → is_granting (view (s.block n).service c) ≡ true
@@ -141,7 +149,8 @@ pub coming-asked : {w : ℕ} {config : Config} {log : Log w} {mail : AccessMessa
     → SimulationRelation config log mail request s sys → ((i n : ℕ) → s.uses c i ≡ Acquires n → asked' i ≡ asked i)
     → comes_granting m asked' (unfinished Channel.D (sys.clients c).past) ≡ comes_granting m asked
     (unfinished Channel.D (sys.clients c).past)
-coming-asked {w} {s} {sys} c m asked asked' h same = go (unfinished Channel.D (sys.clients c).past) refl
+coming-asked {w} {config} {log} {mail} {request} {s} {sys} c m asked asked' h same =
+    go (unfinished Channel.D (sys.clients c).past) refl
   where
     go : (beats : List (Beat w)) → unfinished Channel.D (sys.clients c).past ≡ beats
         → comes_granting m asked' beats ≡ comes_granting m asked beats
@@ -205,7 +214,8 @@ half-released : {w : ℕ} {config : Config} {log : Log w} {mail : AccessMessages
     (more : List (Beat w)) → IsWidth w → SimulationRelation config log mail request s sys
     → unfinished Channel.C (on_link c sys.manager.trace) ≡ Beat.C x ∷ more → is_release x.opcode ≡ true → (n : ℕ)
     × (is_releasing ((s.block n).pair c).letting ≡ true) × (x.source ≡ (s.block n).release_source c)
-half-released {w} {config} {mail} {s} {sys} c x more width h is releases = go (s.link c).c refl (h.carried c Channel.C)
+half-released {w} {config} {log} {mail} {request} {s} {sys} c x more width h is releases =
+    go (s.link c).c refl (h.carried c Channel.C)
   where
     Here : Type 0
     Here = (n : ℕ) × (is_releasing ((s.block n).pair c).letting ≡ true) × (x.source ≡ (s.block n).release_source c)
@@ -223,11 +233,13 @@ half-released {w} {config} {mail} {s} {sys} c x more width h is releases = go (s
         (sys.channels c Channel.C) → Here
     go [] first carried =
         let none : IsCarried rest_now [] (sys.channels c Channel.C) =
-        rw (ap (map (message_of mail s c)) first) at carried in
+        subst (λ (ms : List (Message w)). IsCarried rest_now ms (sys.channels c Channel.C))
+        (ap (map (message_of mail s c)) first) carried in
         absurd (let no : [] ≡ Beat.C x ∷ more = sym none.0 ∙ is in cc)
     go (y ∷ ys) first carried =
         let some : IsCarried rest_now (message_of mail s c y ∷ map (message_of mail s c) ys)
-        (sys.channels c Channel.C) = rw (ap (map (message_of mail s c)) first) at carried in
+        (sys.channels c Channel.C) = subst (λ (ms : List (Message w)). IsCarried rest_now ms (sys.channels c Channel.C))
+        (ap (map (message_of mail s c)) first) carried in
         begun_release c s (message_of mail s c y) some.0 x more
         (each y.kind y.number ys first (own_kind (is_caching config) s c Channel.C y.kind y.number ys h.invariant
         first)) (sym is ∙ some.2) releases
@@ -236,7 +248,8 @@ half-released {w} {config} {mail} {s} {sys} c x more width h is releases = go (s
 pub coming-free : {w : ℕ} {config : Config} {log : Log w} {mail : AccessMessages w} {request : ℕ → MessageA w}
     {s : State (List ℕ)} {sys : System w} (c source : ℕ) → IsWidth w → SimulationRelation config log mail request s sys
     → s.lets c source ≡ None → comes_in_release source (unfinished Channel.C (on_link c sys.manager.trace)) ≡ false
-coming-free {w} {s} {sys} c source width h free = go (unfinished Channel.C (on_link c sys.manager.trace)) refl
+coming-free {w} {config} {log} {mail} {request} {s} {sys} c source width h free =
+    go (unfinished Channel.C (on_link c sys.manager.trace)) refl
   where
     go : (beats : List (Beat w)) → unfinished Channel.C (on_link c sys.manager.trace) ≡ beats
         → comes_in_release source beats ≡ false

@@ -1,7 +1,7 @@
 -- What is delivered on a link, as messages of another link are taken; and after the last beat of a request or ProbeAck,
 -- as what comes of it at the manager.
 use Rattle.std.proofs.Common.{◌≡◌, ℕ, Bool, true, false, List, ◌∷◌, Option, Some, None, length, refl, sym, ◌∙◌, ap, inl}
-use Rattle.std.proofs.Common.{arith, ne_eqb}
+use Rattle.std.proofs.Common.{ne_eqb}
 use Rattle.tl_coherence.proofs
 use proofs.Imports.{same_Some, Beat, BeatA, Channel, History, Config, Cap, Grow, comes_in_grant, block_at, cap_asked}
 use proofs.Imports.{Kind, Request, Probe, ProbeAck, Release, Answer, ReleaseAck, GrantAck, Packet, Own, AcquireOpen}
@@ -11,19 +11,19 @@ use proofs.Imports.{with_state, performs, access_taken, is_unheld, gift, granted
 use proofs.Imports.{MonitorRelation, report_told, SimulationRelation, is_caching, asked_by, Log, System}
 use proofs.client.AsideAll.{Leaves, is_for_manager, leaves-at_manager, leaves-at_client}
 use proofs.manager.{Choices.plain-past, ManagedEndings.tracker-of}
-use proofs.protocol.{HeadOfD.grant-due, RequestsKept.settled_all, BothParts.quiet_unanswered, NeverIdle.never-idle}
-use proofs.protocol.Events.{IsReady, ready-access, told, true-taken, waits_for_others}
-use proofs.protocol.FirstTokens.{first-grant_ack, first-report}
-use proofs.queues.{Phases.and_right, Tokens.same_number, Facts.answered_other, Facts.is_other}
-use proofs.queues.PhaseFacts.{quiet_at_rest, own_alone}
+use proofs.protocol.{HeadOfD.grant-due, Events.IsReady, Events.ready-access, Events.told, Events.true-taken}
+use proofs.protocol.{Events.waits_for_others, RequestsKept.settled_all, BothParts.quiet_unanswered}
+use proofs.protocol.{FirstTokens.first-grant_ack, FirstTokens.first-report, NeverIdle.never-idle}
+use proofs.queues.{PhaseFacts.quiet_at_rest, PhaseFacts.own_alone, Phases.and_right, Tokens.same_number}
+use proofs.queues.{Facts.answered_other, Facts.is_other}
 use proofs.flow.{FlowAsking.asks-left, FlowBeats.same_perms, FlowComing.coming-granting, FlowComing.coming-sink}
-use proofs.flow.FlowAside.{is_heard, IsComing, flowed-aside, flowed-asks}
+use proofs.flow.{FlowAside.is_heard, FlowAside.IsComing, FlowAside.flowed-aside, FlowAside.flowed-asks}
+use proofs.rank.RankParts.{serving-use}
+use proofs.simulation.Popped.{unfinished_at}
 use proofs.flow.FlowApart.{replied, left-replied, left-served, left-acquire_granted, left-probe_taken}
 use proofs.flow.FlowApart.{left-report_taken, left-release_taken, left-answer_taken, left-grant_taken}
 use proofs.flow.FlowApart.{left-release_ack_taken, left-grant_ack_taken, left-access_answered, left-access_served}
 use proofs.flow.FlowApart.{left-report_answers, left-report_grants}
-use proofs.rank.{RankParts.serving-use}
-use proofs.simulation.{Popped.unfinished_at}
 
 module _ {w : ℕ} {config : Config} {log : Log w} (h : AbstractState w) {sys : System w} (c : ℕ)
     (is : SimulationRelation config log h.mail h.request h.state sys) (tracker : ℕ) where
@@ -32,7 +32,8 @@ module _ {w : ℕ} {config : Config} {log : Log w} (h : AbstractState w) {sys : 
 
   -- nothing of a free block is under way
   free_quiet : (n : ℕ) → (s.block n).service ≡ Free → (d : ℕ) → is_unprobed ((s.block n).pair d).probing ≡ true
-  free_quiet n free d = grind (arith, quiet_at_rest)
+  free_quiet n free d = quiet_at_rest ((s.block n).pair d) (view (s.block n).service d)
+      ((is.invariant.blocks n).phases d) (rw free refl)
 
   -- ---- what comes of the last beat at the manager, for client d's link
 

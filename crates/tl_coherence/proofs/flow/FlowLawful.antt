@@ -1,17 +1,17 @@
 -- A beat of channel B or C that is delivered breaks no rule after what was delivered before it.
-use Rattle.std.proofs.Common.{◌≡◌, ℕ, true, false, List, [], ◌∷◌, Some, None, refl, ◌∙◌, ap, subst, map, arith}
+use Rattle.std.proofs.Common.{◌≡◌, ℕ, true, false, List, [], ◌∷◌, Some, None, refl, sym, ◌∙◌, ap, subst, map, arith}
 use Rattle.tl_coherence.proofs
 use proofs.Imports.{Beat, Channel, IsWidth, Message, MessageA, MessageC, beat_of, c_beat_of, History, channel_of}
 use proofs.Imports.{unfinished, channel_in, Config, Level, Prune, Report, Profile, report_at, on_link, broken_in_order}
 use proofs.Imports.{broken_after, illegal, same_block, level_of, Kind, Probe, ProbeAck, Release, Packet, View, Granting}
 use proofs.Imports.{Acknowledging, ProbeSent, ProbeAnswered, ReleasePhase, ReleaseSent, ReleaseAcked, AcquirePhase}
-use proofs.Imports.{NoAcquire, ok, is_unreleased, is_unprobed, ProbePhase, same_report, Block, State}
+use proofs.Imports.{NoAcquire, AcquireOpen, ok, is_unreleased, is_unprobed, ProbePhase, same_report, Block, State}
 use proofs.Imports.{packet, view, is_on, is_granting, is_acknowledging, is_answered, is_acked, is_sent, AccessMessages}
 use proofs.Imports.{message_of, message_of_kind, block_message, prune_told, report_told, SimulationRelation}
 use proofs.Imports.{MonitorRelations, is_caching, cap_waited, flow, Log, System}
 use proofs.queues.{Carried.IsNext, FirstToken.IsFirst, FirstToken.first-token, Phases.and_left, Phases.and_right}
 use proofs.queues.{Tokens.same_number, Facts.answered_other, Facts.granting_alone, Facts.is_other, Facts.release_begins}
-use proofs.queues.PhaseFacts.{acknowledging_quiet, report_first, report_fits}
+use proofs.queues.PhaseFacts.{acknowledging_quiet, release_alone, report_first, report_fits}
 use proofs.client.{ClientTakes.sound-beat, ProbeDelivered.not_coming}
 use proofs.flow.FlowOrders.{beat-flows, probe-flows, report-flows, release-flows}
 use proofs.manager.ManagerTakes.{by-first_c, same_report-is, seen_cap, unanswered}
@@ -23,7 +23,8 @@ pub next-flows : {w : ℕ} (l : Level) (p : Profile) {m : Message w} {x : Beat w
     {ms : List (Message w)} {queue : List (Beat w)}
     (t : History w) → illegal l (channel_of x) x ≡ None → IsNext x rest m ms queue → unfinished (channel_in m) t ≡ rest
     → (rest ≡ [] → broken_in_order p (beat_of m 0) t ≡ None) → broken_after l p x t ≡ None
-next-flows {w} l p {m} t lawful next is first = grind (arith, beat-flows)
+next-flows {w} l p {m} t lawful next is first =
+    cc (next.beat_is, beat-flows l p m next.k t (cc next.beat_is) (is ∙ next.rest_is) (λ e. first (sym is ∙ e)))
 
 pub lawful-beat : {w : ℕ} {config : Config} {log : Log w} {mail : AccessMessages w} {request : ℕ → MessageA w}
     {s : State (List ℕ)} {sys : System w} (c : ℕ)
@@ -106,7 +107,9 @@ release-lawful {w} {config} {log} {mail} {s} {sys} c n toks l {x} {ms} {queue} w
     releasing = first-release is.invariant tokens
 
     calm : (y : AcquirePhase) → (b.pair c).acquiring ≡ y → y ≡ NoAcquire
-    calm y e = grind (arith, c, releasing)
+    calm NoAcquire f = refl
+    calm (AcquireOpen whole g) f = absurd (let alone = release_alone (b.pair c) (view b.service c) ok_is in
+        let no : false ≡ true = rw (releasing, f) at alone in cc)
 
     ungranted : (v : View) → view b.service c ≡ v → is_granting v ≡ false
     ungranted (Granting d k) f =

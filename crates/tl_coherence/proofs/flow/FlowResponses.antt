@@ -1,22 +1,26 @@
 -- A response that is delivered breaks no rule of order after what was delivered on its link.
-use Rattle.std.proofs.Common.{◌≡◌, subst, ℕ, Bool, true, false, not, ◌&&◌, List, [], ◌∷◌, Some, None, refl, arith, sym}
-use Rattle.std.proofs.Common.{◌∙◌, ap, eqb-true, ◌==◌, map}
+use Rattle.std.proofs.Common.{◌≡◌, subst, ℕ, zero, suc, Bool, true, false, not, ◌&&◌, ◌||◌, List, [], ◌∷◌, Option, Some}
+use Rattle.std.proofs.Common.{None, refl, sym, ◌∙◌, ap, eqb-true, ◌==◌, map}
 use Rattle.tl_coherence.proofs
 use proofs.Imports.{and_from, same_Some, Beat, BeatA, Channel, OpB, OpC, IsWidth, Message, MessageA, MessageC, MessageD}
 use proofs.Imports.{a_beat_of, beat_of, begun, d_beat_of, unfinished, History, channel_of, Config, RequestSource}
 use proofs.Imports.{ReleaseSource, Level, Prune, Report, Perm, Profile, prune_code, report_code, report_left, on_link}
-use proofs.Imports.{comes_in_release, broken_in_order, broken_after, is_release, held, pending, request_of, illegal}
-use proofs.Imports.{same_block, zeros, acquisition, about, release, probe_ack, no_ack_grant, level_of, IsInvariant}
-use proofs.Imports.{Kind, ProbeAck, Release, Answer, Grant, ReleaseAck, Packet, ReleasePhase, ReleaseAcked}
-use proofs.Imports.{AcquirePhase, AcquireOpen, is_unreleased, Service, GrantSent, State, SourceState, view, packet}
-use proofs.Imports.{is_on, is_answered, is_acked, is_unserved, is_releasing, acquire_opcode, IsCarried, is_requested}
-use proofs.Imports.{is_release_pending, AccessMessages, report_told, block_message, message_of, message_of_kind}
-use proofs.Imports.{SimulationRelation, MonitorRelations, is_caching, IsGivenAsked, gives_asked, flow, Log, System}
+use proofs.Imports.{comes_in_release, broken_in_order, same_perm, broken_after, is_release, held, pending, request_of}
+use proofs.Imports.{illegal, same_block, zeros, acquisition, about, release, probe_ack, no_ack_grant, grant_opcode}
+use proofs.Imports.{level_of, is_busy, IsInvariant, Kind, ProbeAck, Release, Answer, Grant, ReleaseAck, Packet, View}
+use proofs.Imports.{ReleasePhase, ReleaseSent, ReleaseAcked, AcquirePhase, AcquireOpen, is_unreleased, Service}
+use proofs.Imports.{GrantSent, State, SourceState, view, packet, is_on, is_answered, is_acked, is_granting}
+use proofs.Imports.{is_acknowledging, is_unserved, is_releasing, acquire_opcode, IsCarried, is_requested, is_sunk}
+use proofs.Imports.{is_release_pending, AccessMessages, report_told, prune_told, block_message, message_of}
+use proofs.Imports.{message_of_kind, SimulationRelation, MonitorRelations, is_caching, IsGivenAsked, gives_asked, flow}
+use proofs.Imports.{Log, System}
+use Rattle.tl_rules.specs.statement.Conformance as rules
 use proofs.queues.{Carried.IsNext, Facts.granting_alone, Phases.and_left, Tokens.same_number, Codes.access_kind}
-use proofs.queues.FirstToken.{IsFirst, first-token, own_kind}
+use proofs.queues.{FirstToken.IsFirst, FirstToken.first-token, FirstToken.own_kind}
 use proofs.client.{ClientDelivered.ack_next, ClientEnd.is_access, ClientEnd.asks-access, ClientEnd.asks-acquire}
-use proofs.client.ClientTakes.{answers_acquire, fits_asked, fitting, has_data, next-legal}
-use proofs.client.ResponseOrder.{answer-legal, grant-legal, ack-legal}
+use proofs.client.{ClientTakes.answers_acquire, ClientTakes.fits_asked, ClientTakes.fitting, ClientTakes.has_data}
+use proofs.client.{ClientTakes.next-legal, ResponseOrder.answer-legal, ResponseOrder.grant-legal}
+use proofs.client.{ResponseOrder.ack-legal}
 use proofs.flow.{FlowLawful.lawful-beat, ComingRequests.waits_on_a, ComingRequests.not-coming_a}
 use proofs.protocol.{BothParts.is_of-is, BothParts.quiet_unanswered, FirstTokens.first-shown}
 use proofs.protocol.HeadOfD.{IsAnswerDue, answer-due, IsGrantDue, grant-due, grant-rendered, ack-due, grant_message}
@@ -35,8 +39,11 @@ flow-answer {w} {config} {log} {mail} {request} {s} {sys} {c} {source} h flowed 
     (unfinished Channel.A (on_link c sys.manager.trace)) u s) due.used in
     answer-legal config.profile (record {
       whole = (flowed c).rest_is Channel.D ∙ whole;
-      complete = let fact = not-coming_a c source h (ap (λ (u : SourceState). waits_on_a c u s) due.used) in
-          cc ((flowed c).rest_is Channel.A, due.from);
+      complete = cc (
+        (flowed c).rest_is Channel.A,
+        due.from,
+        not-coming_a c source h (ap (λ (u : SourceState). waits_on_a c u s) due.used),
+      );
       other = kind.1;
       live = ap (λ (i : ℕ). pending (RequestSource i) (flow c log)) due.from ∙ live;
       request = ap (λ (i : ℕ). request_of i (flow c log)) due.from ∙ (flowed c).asked_is source live ∙ asks;
@@ -45,6 +52,9 @@ flow-answer {w} {config} {log} {mail} {request} {s} {sys} {c} {source} h flowed 
     }) kind.0
 
 -- ---- a Grant
+
+abbrev none_of : (w : ℕ) → List (Beat w)
+none_of w = []
 
 -- what the client of a Grant has of its block
 pub grant_quiet : {caching : ℕ → Bool} {c n : ℕ} {s : State (List ℕ)} → IsInvariant caching s → (due : IsGrantDue c n s)
@@ -57,8 +67,9 @@ grant_quiet {c} {n} {s} inv due =
 -- the tracker of a Grant is of its block
 pub grant_tracked : {caching : ℕ → Bool} {c n : ℕ} {s : State (List ℕ)} → IsInvariant caching s → IsGrantDue c n s
     → s.tracked (s.block n).tracker ≡ Some n
-grant_tracked {n} {s} inv due = is_of-is n (s.tracked (s.block n).tracker)
-    (cc (inv.named.trackers (s.block n).tracker n, due.service, same_number (s.block n).tracker))
+grant_tracked {n} {s} inv due = is_of-is n (s.tracked (s.block n).tracker) (inv.named.trackers (s.block n).tracker n
+    ∙ ap (λ (x : Service). is_busy x && ((s.block n).tracker == (s.block n).tracker)) due.service
+    ∙ same_number (s.block n).tracker)
 
 flow-grant : {w : ℕ} {config : Config} {log : Log w} {mail : AccessMessages w} {request : ℕ → MessageA w}
     {s : State (List ℕ)} {sys : System w} {c n : ℕ} → SimulationRelation config log mail request s sys
@@ -80,17 +91,23 @@ flow-grant {w} {config} {log} {mail} {request} {s} {sys} {c} {n} h flowed due gi
     grant-legal config.profile n
     (record {
       whole = (flowed c).rest_is Channel.D ∙ whole;
-      complete = let fact = not-coming_a c source h (ap (λ (u : SourceState). waits_on_a c u s) due.used
-          ∙ ap is_unserved mine) in cc ((flowed c).rest_is Channel.A);
+      complete = cc (
+        (flowed c).rest_is Channel.A,
+        not-coming_a c source h (ap (λ (u : SourceState). waits_on_a c u s) due.used ∙ ap is_unserved mine),
+      );
       other = no_ack_grant due.data_too;
       live = live;
       request = (flowed c).asked_is source live ∙ asks;
       admits = answers_acquire due.whole due.data_too fits.bare;
       size = refl;
     }) (same_block n) (fits_asked config.profile due.whole due.g due.k fits.cap_is given)
-    (cc (has_data due.whole due.data_too ((s.block n).pair c).held fits.carried))
+    (ap (λ (q : Perm). rules.is_grant_without_data (grant_opcode due.data_too)
+    && (rules.is_acquire_block (acquire_opcode due.whole) && not (same_perm q Perm.Branch))) held_now
+    ∙ has_data due.whole due.data_too ((s.block n).pair c).held fits.carried)
     ((flowed c).probes n ∙ grant_quiet h.invariant due)
-    (cc ((flowed c).sinks sink, grant_tracked h.invariant due))
+    ((flowed c).sinks sink ∙ ap (λ (b : List (Beat w)). is_sunk c sink b (s.tracked sink) s) whole
+    ∙ ap (λ (o : Option ℕ). is_sunk c sink (none_of w) o s) (grant_tracked h.invariant due)
+    ∙ ap (λ (v : View). is_acknowledging v || (is_granting v && false)) mine)
 
 -- ---- a ReleaseAck
 
@@ -102,7 +119,10 @@ IsUnreleased {w} source m = (r : MessageC w) × (m ≡ Message.C r)
 unreleased : {w : ℕ} (source : ℕ) (m : Message w) (k : ℕ) (rest : List (Beat w)) → rest ≡ begun m k
     → IsUnreleased source m → comes_in_release source rest ≡ false
 unfolding IsUnreleased
-unreleased {w} source m k rest e is = grind arith
+unreleased {w} source m k rest e is =
+    let go : (i : ℕ) → comes_in_release source (begun (Message.C is.0) i) ≡ false =
+    elim [ zero ↦ refl | suc i ↦ is.2 ] in
+    cc (e, is.1, go k)
 
 unreleased_report : (w : ℕ) (source : ℕ) (p : Perm) (r : Report) (n : ℕ) (copy : List ℕ)
     → IsUnreleased {w = w} source (probe_ack OpB.ProbeBlock p r n copy)
@@ -125,7 +145,8 @@ rendered_report w c n source s = unreleased_report w source (report_left (report
 rendered_release : (w : ℕ) (c n source : ℕ) (s : State (List ℕ)) → ((s.block n).release_source c == source) ≡ false
     → IsUnreleased {w = w} source (block_message Release c n (s.block n))
 unfolding block_message
-rendered_release w c n source s e = grind (arith, unreleased_prune)
+rendered_release w c n source s e = unreleased_prune w source (prune_told ((s.block n).pair c).letting)
+    ((s.block n).release_source c) n (s.block n).truth e
 
 -- no Release is half taken with the source of one that was acknowledged
 not-coming_c : {w : ℕ} {config : Config} {log : Log w} {mail : AccessMessages w} {request : ℕ → MessageA w}
@@ -141,10 +162,12 @@ not-coming_c {w} {config} {mail} {s} {sys} c n h let_ acked = go (s.link c).c re
     rest_now = unfinished Channel.C (on_link c sys.manager.trace)
 
     apart : (x : ReleasePhase) → is_acked x ≡ true → is_releasing x ≡ true → ⊥
-    apart x e f = grind arith
+    apart ReleaseAcked e f = cc
+    apart x e f = cc
 
     open_release : (x : ReleasePhase) → is_releasing x ≡ true → not (is_unreleased x) ≡ true
-    open_release x e = grind arith
+    open_release (ReleaseSent r) e = refl
+    open_release x e = absurd cc
 
     differ : (i : ℕ) → is_releasing ((s.block i).pair c).letting ≡ true → (b : Bool)
         → ((s.block i).release_source c == source) ≡ b → b ≡ false
@@ -155,7 +178,8 @@ not-coming_c {w} {config} {mail} {s} {sys} c n h let_ acked = go (s.link c).c re
         i).release_source c) i ∙ and_from (not (is_unreleased ((s.block i).pair c).letting)) ((s.block
         i).release_source c == (s.block i).release_source c) open_ (same_number ((s.block i).release_source c))) in
         let same = same_Some i n (sym lets ∙ ap (s.lets c) (eqb-true ((s.block i).release_source c) source e) ∙ let_) in
-        absurd (apart ((s.block n).pair c).letting acked (cc))
+        absurd (apart ((s.block n).pair c).letting acked
+        (sym (ap (λ (j : ℕ). is_releasing ((s.block j).pair c).letting) same) ∙ releasing))
 
     each : (k : Kind) (i : ℕ) (rest : List Packet) → (s.link c).c ≡ packet k i ∷ rest → is_on Channel.C k ≡ true
         → IsUnreleased source (message_of_kind k mail s c i)
@@ -168,11 +192,13 @@ not-coming_c {w} {config} {mail} {s} {sys} c n h let_ acked = go (s.link c).c re
         (sys.channels c Channel.C) → comes_in_release source rest_now ≡ false
     go [] first carried =
         let nothing : IsCarried rest_now [] (sys.channels c Channel.C) =
-        rw (ap (map (message_of mail s c)) first) at carried in
+        subst (λ (ms : List (Message w)). IsCarried rest_now ms (sys.channels c Channel.C))
+        (ap (map (message_of mail s c)) first) carried in
         ap (comes_in_release source) nothing.0
     go (x ∷ xs) first carried =
         let some : IsCarried rest_now (message_of mail s c x ∷ map (message_of mail s c) xs)
-        (sys.channels c Channel.C) = rw (ap (map (message_of mail s c)) first) at carried in
+        (sys.channels c Channel.C) = subst (λ (ms : List (Message w)). IsCarried rest_now ms (sys.channels c Channel.C))
+        (ap (map (message_of mail s c)) first) carried in
         unreleased source (message_of mail s c x) some.0 rest_now some.2
         (each x.kind x.number xs first (own_kind (is_caching config) s c Channel.C x.kind x.number xs h.invariant
         first))
@@ -192,7 +218,8 @@ flow-ack {w} {config} {log} {mail} {request} {s} {sys} c n h flowed let_ acked w
     let live : pending (ReleaseSource source) (flow c log) ≡ true =
     cc ((flowed c).release_sources source, let_, let_acked ((s.block n).pair c).letting source rest acked) in
     ack-legal config.profile (d_beat_of (ack_message source) 0) (flow c log) ((flowed c).rest_is Channel.D ∙ whole)
-    (cc ((flowed c).rest_is Channel.C, not-coming_c c n h let_ acked))
+    (ap (λ (b : List (Beat w)). comes_in_release source b) ((flowed c).rest_is Channel.C) ∙ not-coming_c
+    c n h let_ acked)
     refl live
     ((flowed c).sizes source n let_ live)
 

@@ -38,7 +38,7 @@ sunk-elsewhere {w} {X} c i n rest o o' s s' same (inl e) before now = cc (e, go 
   where
     go : (p : Option ℕ) → (p ≡ Some n → sunk_in c i rest (s.block n) ≡ false)
         → (p ≡ Some n → sunk_in c i rest (s'.block n) ≡ false) → is_sunk c i rest p s' ≡ is_sunk c i rest p s
-    go p e f = grind (arith, cases_eq, n)
+    go p e f = grind (arith, cases_eq)
 
 -- a tracker that gets block n, or loses it
 pub tracked-new : (n tracker : ℕ) (tracked : ℕ → Option ℕ) → tracked tracker ≡ None → (i : ℕ)

@@ -1,14 +1,15 @@
 -- The beat that is next on channel D of a client's link: one of an answer, of a Grant, or of a ReleaseAck.
-use Rattle.std.proofs.Common.{◌≡◌, ℕ, true, false, not, List, ◌∷◌, refl, sym, ◌∙◌, ap, length, eqb-true, ◌==◌, map}
-use Rattle.std.proofs.Common.{arith}
+use Rattle.std.proofs.Common.{◌≡◌, ℕ, true, false, not, List, ◌∷◌, refl, sym, ◌∙◌, ap, subst, length, eqb-true, ◌==◌}
+use Rattle.std.proofs.Common.{map}
 use Rattle.tl_coherence.proofs
-use proofs.Imports.{Beat, BeatD, Channel, IsWidth, length-begun, Message, MessageD, begun, d_beat_of, unfinished}
-use proofs.Imports.{Config, is_grant, asks_for, request_of, grants, same_block, Kind, Answer, Grant, ReleaseAck, View}
-use proofs.Imports.{Block, State, SourceState, packet, is_on, is_unserved, AbstractState, is_requested, message_of}
-use proofs.Imports.{message_of_kind, block_message, SimulationRelation, MonitorRelations, is_caching, asked_by}
-use proofs.Imports.{receiver, flow, Log, system_after}
-use proofs.client.{ClientEnd.asks-acquire}
-use proofs.queues.{Carried.IsNext, Codes.access_kind, Phases.and_right, FirstToken.IsFirst, FirstToken.first-token}
+use proofs.Imports.{Beat, BeatD, Channel, IsWidth, length-begun, Message, MessageD, beat_of, begun, d_beat_of}
+use proofs.Imports.{unfinished, Config, is_grant, asks_for, request_of, grants, same_block, Kind, Answer, Grant}
+use proofs.Imports.{ReleaseAck, View, Block, State, SourceState, packet, is_on, is_unserved, AbstractState}
+use proofs.Imports.{is_requested, message_of, message_of_kind, block_message, SimulationRelation, MonitorRelations}
+use proofs.Imports.{is_caching, asked_by, receiver, flow, Log, system_after}
+use proofs.client.ClientEnd.{asks-acquire}
+use proofs.queues.{Carried.IsNext, Codes.access_kind, FirstToken.IsFirst, FirstToken.first-token, Phases.and_left}
+use proofs.queues.{Phases.and_right}
 use proofs.protocol.HeadOfD.{IsAnswerDue, IsGrantDue, ack_message, answer-due, grant-due, grant-rendered, grant_message}
 use proofs.protocol.HeadOfD.{own_view}
 
@@ -54,15 +55,18 @@ module _ {w : ℕ} (config : Config) (log : Log w) (h : AbstractState w) (c : �
       go : (k : Kind) (i : ℕ) → (s.link c).d ≡ packet k i ∷ first.rest → is_on Channel.D k ≡ true → Next k i → P
       go Answer i tokens own next =
           let due = answer-due (is_caching config) c i first.rest h.mail s is.invariant (is.answered c i) tokens in
-          answer i due (same_beat y (d_beat_of due.answer next.k) (cc (next.beat_is, due.answer_is))
+          answer i due (same_beat y (d_beat_of due.answer next.k)
+          (next.beat_is ∙ ap (λ (m : Message w). beat_of m next.k) due.answer_is)
           ∙ ap (d_beat_of due.answer) (place (message_of_kind Answer h.mail s c i) next.k next.rest_is))
       go Grant i tokens own next =
           let due = grant-due (is_caching config) c i first.rest s is.invariant tokens in
           grant i (record {
             due = due;
-            beat_is = let fact =
-                same_beat y (d_beat_of (grant_sent c i s due) next.k) (cc (next.beat_is, grant-rendered c i s due)) in
-                cc (place (message_of_kind Grant h.mail s c i) next.k next.rest_is);
+            beat_is = cc (
+              same_beat y (d_beat_of (grant_sent c i s due) next.k) (next.beat_is
+                  ∙ ap (λ (z : Message w). beat_of z next.k) (grant-rendered c i s due)),
+              place (message_of_kind Grant h.mail s c i) next.k next.rest_is,
+            );
           })
       go ReleaseAck i tokens own next =
           ack i next.k (same_beat y (d_beat_of (ack_message ((s.block i).release_source c)) next.k) next.beat_is)
@@ -93,12 +97,16 @@ module _ {w : ℕ} (config : Config) (log : Log w) (h : AbstractState w) (c : �
   -- a beat that grants a block is one of that block's Grant
   pub grant-next : (n : ℕ) → grants n y (flow c log) ≡ true
       → IsGrantBeat c n s y (length (unfinished Channel.D (flow c log)))
-  grant-next n granted = next-on_d Of (λ i due e. not_granted (cc (access_kind due.answer.opcode due.answers_access).0))
-      (λ i grant. rw (granted_block n grant (and_right (is_grant y.opcode) (asks_for n (request_of y.source
-      (flow c log))) granted)) at grant) (λ i k e. not_granted (ap (λ (z : BeatD w). is_grant z.opcode) e))
+  grant-next n granted = next-on_d Of (λ i due e. not_granted (ap (λ (z : BeatD w). is_grant z.opcode) e
+      ∙ (access_kind due.answer.opcode due.answers_access).0))
+      (λ i grant. subst (λ (j : ℕ). IsGrantBeat c j s y (length (unfinished Channel.D (flow c log))))
+      (granted_block n grant (and_right (is_grant y.opcode) (asks_for n (request_of y.source (flow c log))) granted))
+      grant) (λ i k e. not_granted (ap (λ (z : BeatD w). is_grant z.opcode) e))
     where
       Of : Type 0
       Of = IsGrantBeat c n s y (length (unfinished Channel.D (flow c log)))
 
       not_granted : is_grant y.opcode ≡ false → Of
-      not_granted e = grind (arith, log)
+      not_granted e = absurd (let yes : is_grant y.opcode ≡ true =
+          and_left (is_grant y.opcode) (asks_for n (request_of y.source (flow c log))) granted in
+          let no : false ≡ true = sym e ∙ yes in cc)

@@ -1,17 +1,17 @@
 -- Channels lose nothing and keep order, whatever happens.
-use Rattle.std.proofs.Common.{◌≡◌, ℕ, Bool, true, false, List, [], ◌∷◌, Option, Some, None, refl, sym, ◌∙◌, ap, subst}
-use Rattle.std.proofs.Common.{arith, inl, inr, ◌++◌, ne_eqb, ◌==◌, if◌then◌else◌, All, map, Ok}
+use Rattle.std.proofs.Common.{◌≡◌, ℕ, Bool, true, false, List, [], ◌∷◌, Option, Some, None, refl, sym, ◌∙◌, ap, subst, arith}
+use Rattle.std.proofs.Common.{inl, inr, ◌++◌, ne_eqb, ◌==◌, if◌then◌else◌, All, map, Ok}
 use Rattle.tl_coherence.proofs
 use proofs.Imports.{cases_eq, All-head, ⊤, Beat, Link, Channel, IsWidth, Message, beat_of, burst_of, History, Config}
 use proofs.Imports.{Trace, on_link, Op, Verdict, Endpoint, EndConfig, reaction_handable, IsHandable, Each, Handed}
 use proofs.Imports.{with_handed, is_from_client, Event, Deliver, Ask, Outcome, SimulationRelation, IsFifo, is_moving}
 use proofs.Imports.{flow, taken_on, IsTyped, Log, system_after, Step, stepped, is_to_client, handed_by, outcome_of}
 use proofs.Imports.{System, terms_at, fresh, with_client, with_manager, with_channel, with_message, with_messages}
-use Rattle.tl_burst.{specs.statement.Messages.carried_on}
-use Rattle.tl_rules.{specs.statement.Admission.sent_if_any}
+use Rattle.tl_burst.specs.statement.Messages.{carried_on}
+use Rattle.tl_rules.specs.statement.Admission.{sent_if_any}
 use Rattle.tl_client.{proofs.endpoint.AfterAsked.past-asked, proofs.endpoint.AfterOffered.past-offered}
-use Rattle.tl_manager.{proofs.pending.Handed.beats_on_link}
-use Rattle.tl_coherence.{specs.statement.Headline.AreTyped, specs.statement.Log.IsLog}
+use Rattle.tl_manager.proofs.pending.Handed.{beats_on_link}
+use Rattle.tl_coherence.specs.{statement.Headline.AreTyped, statement.Log.IsLog}
 use Rattle.tl_client.specs.laws.After as client_after
 use Rattle.tl_client.specs.statement.Ask as ask
 use Rattle.tl_client.specs.statement.Offer as offer
@@ -19,16 +19,16 @@ use Rattle.tl_manager.specs.code.Kept as manager
 use Rattle.tl_manager.specs.statement.Reaction as manager_reaction
 use Rattle.tl_manager.specs.statement.End as manager_end
 use Rattle.tl_manager.specs.statement.Offer as manager_offer
-use proofs.links.{HeadsOfLinks.first-of}
+use proofs.links.HeadsOfLinks.{first-of}
+use proofs.deliveries.{DeliverDUnmoved.unmoved, Matching.shadow, Matching.matched, Matching.not_moving}
+use proofs.deliveries.{Matching.stepped-nobody}
+use proofs.queues.{Landed.IsOn, Landed.on_own_channel, Tokens.same_number}
+use proofs.simulation.{SoundAfter.copy-long, BeatsInFlight.IsOfClient, BeatsInFlight.IsFitIfAny}
+use proofs.simulation.{BeatsInFlight.IsFitAnswer, BeatsInFlight.fit-asked, BeatsInFlight.fit-taken}
+use proofs.simulation.{Moved.IsTakenByClient, Moved.IsTakenByManager, Moved.client-moves, Moved.manager-moves}
 use proofs.links.FifoSteps.{ArePassing, heard_at, queued_at, client-says, manager-says, client-hears, manager-hears}
 use proofs.links.FifoSteps.{passing-same}
-use proofs.deliveries.{DeliverDUnmoved.unmoved}
-use proofs.deliveries.Matching.{shadow, matched, not_moving, stepped-nobody}
-use proofs.queues.{Landed.IsOn, Landed.on_own_channel, Tokens.same_number}
 use proofs.queues.Steps.{clients-with_messages, manager-with_messages, stepped-asked, stepped-empty}
-use proofs.simulation.{SoundAfter.copy-long}
-use proofs.simulation.BeatsInFlight.{IsOfClient, IsFitIfAny, IsFitAnswer, fit-asked, fit-taken}
-use proofs.simulation.Moved.{IsTakenByClient, IsTakenByManager, client-moves, manager-moves}
 
 -- ---- the whole
 
@@ -38,7 +38,9 @@ IsPassing sys f = ArePassing (λ d. (sys.clients d).past) (λ d. on_link d sys.m
 -- ---- a client hands out a message, or none
 
 ours_from : {w : ℕ} (m : Message w) → IsOfClient m → is_from_client (beat_of m 0) ≡ true
-ours_from m e = grind arith
+ours_from (Message.B m) is = absurd is
+ours_from (Message.D m) is = absurd is
+ours_from m is = refl
 
 abbrev IsOurs : {w : ℕ} → Option (Message w) → Type 0
 IsOurs None = ⊤
@@ -86,7 +88,10 @@ pub flow_moved : {w : ℕ} (link : Link) (ch : Channel) (o : Outcome w) (x : Bea
     → taken_on d (Deliver link ch) o ≡ (if link.0 == d then x ∷ [] else [])
     → flow d ((Deliver link ch, o) ∷ log) ≡ heard_at link.0 x (λ i. flow i log) d
 unfolding flow
-flow_moved {w} link ch o x log d is = grind arith
+flow_moved {w} link ch o x log d is =
+    let go : (b : Bool) → (if b then x ∷ [] else []) ++ flow d log ≡ (if b then x ∷ flow d log else flow d log) =
+    elim [ true ↦ refl | false ↦ refl ] in
+    ap (λ xs. xs ++ flow d log) is ∙ go (link.0 == d)
 
 -- the beat that a client takes
 pub taken_at : {w : ℕ} (link : Link) (ch : Channel) (x : Beat w) (v : Verdict) (d : ℕ)

@@ -43,7 +43,7 @@ carried-begun {w} m (suc k) at t = go (on at (beat_of m k)) (same_channel at (ch
         → carried_on at (begun m k ++ t) ≡ (if b then begun m k ++ carried_on at t else carried_on at t)
         → (if a then beat_of m k ∷ carried_on at (begun m k ++ t) else carried_on at (begun m k ++ t))
         ≡ (if b then beat_of m k ∷ (begun m k ++ carried_on at t) else carried_on at t)
-    go a b e f = grind (arith, m, k)
+    go a b e f = grind arith
 
 carried-beat : {w : ℕ} (x : Beat w) (ch at : Channel) (t : History w) → IsOn ch x
     → carried_on at (x ∷ t) ≡ (if same_channel at ch then x ∷ carried_on at t else carried_on at t)

@@ -1,21 +1,23 @@
 -- Which deliveries are stalled: a Probe while a Release of its block is outstanding, and the last beat of a request
 -- whose block is in service, or for which there is no tracker.
-use Rattle.std.proofs.Common.{◌≡◌, ℕ, Bool, true, false, List, [], ◌∷◌, refl, sym, ◌∙◌, ap, not, ◌&&◌, Option, Some}
-use Rattle.std.proofs.Common.{arith, None, is_none, option_map}
+use Rattle.std.proofs.Common.{◌≡◌, ℕ, Bool, true, false, List, [], ◌∷◌, refl, sym, ◌∙◌, ap, not, ◌&&◌, Option, Some, arith}
+use Rattle.std.proofs.Common.{None, is_none, is_some, option_map}
 use Rattle.tl_coherence.proofs
 use proofs.Imports.{and-false, not-true, not-false, Beat, BeatB, Channel, MessageA, channel_of, is_empty, Config}
-use proofs.Imports.{ReleaseOf, Prune, Rule, block_at, is_probe, pending, Op, EndConfig, offered, must_wait, Passes}
-use proofs.Imports.{offered_as, releases_with, is_unreleased, State, IsLet, AccessMessages, SimulationRelation}
-use proofs.Imports.{IsCoherent, IsExact, Moves, is_stall, is_moving, Log, system_after, Releases, is_client, is_movable}
-use proofs.Imports.{stalls, one_memory_after, stepped, delivered, System, terms_at}
-use Rattle.tl_client.{specs.declared.operation.Op.TheVariants.Release}
-use Rattle.tl_manager.{proofs.judging.Stalls.never-stalled}
+use proofs.Imports.{ReleaseOf, Level, Prune, Rule, block_at, is_probe, pending, Op, EndConfig, offered, must_wait}
+use proofs.Imports.{Passes, offered_as, open_level, Deliver, releases_with, is_unreleased, State, IsLet}
+use proofs.Imports.{AccessMessages, SimulationRelation, started, IsCoherent, IsExact, Moves, is_stall, is_moving, Log}
+use proofs.Imports.{system_after, Open, Releases, is_client, is_movable, moves, stalls, one_memory_after, stepped}
+use proofs.Imports.{delivered, stepped_at, System, terms_at}
+use Rattle.tl_client.specs.declared.operation.Op.TheVariants.{Release}
+use Rattle.tl_manager.proofs.judging.Stalls.{never-stalled}
 use Rattle.tl_manager.specs.statement.Offer.{Judgement, breaks_or, waits_or, is_waiting, judged_on, judged_at}
 use Rattle.tl_coherence.specs.statement.Delivery.{IsReleasing, is_emptiness, outcome_of_delivery}
 use Rattle.tl_client.specs.statement.Endpoint as client
 use Rattle.tl_client.specs.statement.Offer as offer
 use Rattle.tl_manager.specs.statement.End as manager_end
 use Rattle.tl_manager.specs.statement.Offer as manager
+use proofs.protocol.TokenNames.{source_of_release}
 use proofs.queues.{Tokens.same_number, Phases.and_left, Steps.first-outcome}
 use proofs.memory.Runs.{IsTaken, IsTakenUp, IsTakenIn, stall-delivered}
 
@@ -25,7 +27,9 @@ waits-as-it-must : {w : ℕ} (config : Config) (link : _) (x : Beat w) (e : mana
     (must : Bool) (rest : Judgement) → is_waiting rest ≡ false
     → IsTakenIn (offered_as (breaks_or a (breaks_or b (waits_or must rest))) config link x e)
     → is_waiting (breaks_or a (breaks_or b (waits_or must rest))) ≡ must
-waits-as-it-must config link x e a b must rest f g = grind arith
+waits-as-it-must config link x e None None true rest silent taken = refl
+waits-as-it-must config link x e None None false rest silent taken = silent
+waits-as-it-must config link x e a b must rest silent taken = absurd taken
 
 passes-or-breaks : (a b : Option Rule) → is_waiting (breaks_or a (breaks_or b Passes)) ≡ false
 passes-or-breaks a b = grind arith
@@ -34,14 +38,22 @@ stalled-as-it-must : {w : ℕ} (config : Config) (link : _) (ch : Channel) (x : 
     → IsTakenIn (manager.offered config link ch x e)
     → manager.stalls config link ch x e ≡ must_wait config link x e.trace
 unfolding judged_at manager.offered manager.stalls
-stalled-as-it-must config link ch x e taken = grind (arith, waits-as-it-must, passes-or-breaks)
+stalled-as-it-must config link ch x e taken = go (open_level config link e) taken
+  where
+    go : (o : Option Level) → IsTakenIn (offered_as (judged_on config o link ch x e.trace) config link x e)
+        → is_waiting (judged_on config o link ch x e.trace) ≡ must_wait config link x e.trace
+    go None refused = absurd refused
+    go (Some l) is = waits-as-it-must config link x e _ _ _ _ (passes-or-breaks _ _) is
 
 -- ---- a Probe at a client
 
 up-unbroken : {w : ℕ} (terms : EndConfig) (ch : Channel) (x : Beat w) (e : client.Endpoint w)
     → IsTakenUp (offered terms ch x e).answer → is_none (offer.broken_before terms ch x e) ≡ true
 unfolding offered
-up-unbroken terms ch x e taken = grind arith
+up-unbroken terms ch x e taken =
+    let go : (o : Option Rule) → IsTakenUp (offer.judged o terms x e).answer → is_none o ≡ true =
+    elim [ None ↦ λ is. refl | Some r ↦ λ refused. absurd refused ] in
+    go (offer.broken_before terms ch x e) taken
 
 stalled-as-it-waits : {w : ℕ} (terms : EndConfig) (ch : Channel) (x : Beat w) (e : client.Endpoint w)
     → IsTakenUp (offered terms ch x e).answer → offer.stalls terms ch x e ≡ offer.waits x e.past
@@ -54,7 +66,19 @@ module _ {w : ℕ} {config : Config} {log : Log w} {mail : AccessMessages w} {re
     {s : State (List ℕ)} (matched : SimulationRelation config log mail request s (system_after config log))
     (coherent : IsCoherent (system_after config log) log (one_memory_after config log)) (c n : ℕ) where
   releasing-started : pending (ReleaseOf n) ((system_after config log).clients c).past ≡ true → IsReleasing c n log
-  releasing-started p = grind (arith, not-true)
+  releasing-started p =
+      let not_kept = not-true (is_unreleased ((s.block n).pair c).letting) (sym ((matched.known c).releases n) ∙ p) in
+      let let_by : s.lets c source ≡ Some n = source_of_release c n matched.invariant not_kept in
+      let found = of_let (rw let_by at (matched.beside.releases c source)) in
+      (source, found.0, found.1)
+    where
+      source : ℕ
+      source = (s.block n).release_source c
+
+      of_let : IsLet (Some n) ((one_memory_after config log).opened c Releases source)
+          → (prune : Prune) × (started c Releases source log ≡ Some (Release n prune))
+      of_let (p, is) =
+          (p, sym (coherent.opened c Releases source) ∙ ap (λ (o : Option (Open w)). option_map (λ x. x.asked) o) is)
 
   pub started-releasing : IsReleasing c n log → pending (ReleaseOf n) ((system_after config log).clients c).past ≡ true
   started-releasing (source, prune, is) = go (s.lets c source) refl (matched.beside.releases c source)
@@ -84,14 +108,41 @@ module _ {w : ℕ} {config : Config} {log : Log w} {mail : AccessMessages w} {re
 
 emptiness : {w : ℕ} (config : Config) (terms : EndConfig) (link : ℕ) (ch : Channel) (beats : List (Beat w))
     (s : System w) → is_emptiness (delivered config terms link ch beats s).outcome ≡ is_empty beats
-emptiness config terms link ch beats s = grind (arith, first-outcome)
+emptiness config terms link ch [] s = refl
+emptiness config terms link ch (x ∷ rest) s =
+    first-outcome (λ o. is_emptiness o ≡ false) config terms link ch x rest s refl refl (λ source f. refl)
+
+-- one that is neither empty nor stalled moves a beat
+moving-else : {w : ℕ} (config : Config) (terms : EndConfig) (link : ℕ) (ch : Channel) (beats : List (Beat w))
+    (s : System w) → is_emptiness (delivered config terms link ch beats s).outcome ≡ false
+    → is_stall (delivered config terms link ch beats s).outcome ≡ false
+    → is_moving (delivered config terms link ch beats s).outcome ≡ true
+moving-else config terms link ch [] s some unstalled = absurd cc
+moving-else config terms link ch (x ∷ rest) s some unstalled = first-outcome (λ o. is_stall o ≡ false
+    → is_moving o ≡ true) config terms link ch x rest s (λ e. absurd cc) (λ e. refl) (λ source f e. refl) unstalled
 
 -- a movable delivery moves a beat, where empty and stalled ones are what they should be
 pub movable-moves : {w : ℕ} (config : Config) (log : Log w) (c : ℕ) (ch : Channel)
     → (is_client config c ≡ true → IsExact config log c ch)
     → is_movable config c ch (system_after config log) ≡ true → is_moving (outcome_of_delivery config log c ch) ≡ true
 unfolding is_movable stepped
-movable-moves {w} config log c ch exactly movable = grind (arith, and-false)
+movable-moves {w} config log c ch exactly movable =
+    go (terms_at config c) refl ((system_after config log).channels c ch) refl movable
+  where
+    sys : System w
+    sys = system_after config log
+
+    go : (o : Option EndConfig) → terms_at config c ≡ o → (beats : List (Beat w)) → sys.channels c ch ≡ beats
+        → moves config o c ch beats sys ≡ true → is_moving (outcome_of_delivery config log c ch) ≡ true
+    go (Some terms) e (x ∷ rest) f g =
+        let is : IsExact config log c ch = exactly (ap is_some e) in
+        let same = ap (λ (o : Option EndConfig). (stepped_at config o (Deliver (record { 0 = c }) ch) sys).outcome) e in
+        let some : is_emptiness (outcome_of_delivery config log c ch) ≡ false = is.empty ∙ ap is_empty f in
+        let unstalled : is_stall (outcome_of_delivery config log c ch) ≡ false =
+        cc (is.stalled, movable, and-false (not (is_empty (sys.channels c ch)))) in
+        ap is_moving same ∙ moving-else config terms c ch (sys.channels c ch) sys (sym (ap is_emptiness same) ∙ some)
+        (sym (ap is_stall same) ∙ unstalled)
+    go o e beats f g = absurd cc
 
 -- ---- exact stalls
 

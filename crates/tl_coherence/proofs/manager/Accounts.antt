@@ -157,11 +157,29 @@ is_grant_to c service = is_granting (view service c) || is_acknowledging (view s
 -- a Grant to the client
 granted-to : (c : ℕ) (service : Service) → is_grant_to c service ≡ true → (is_granted_in service ≡ true)
     × (client_in service ≡ Some c)
-granted-to c service e = grind arith
+granted-to c Free e = absurd cc
+granted-to c (Waits r own source k) e =
+    let never : (b : Bool) → (is_granting (if b then Own else Other k) || is_acknowledging (if b then Own else Other k))
+    ≡ true → ⊥ = elim [ true ↦ λ g. cc | false ↦ λ g. cc ] in
+    absurd (never (own && (c == r)) e)
+granted-to c (GrantSent q d k) e =
+    let own : (b : Bool) → (is_granting (if b then Granting d k else GrantedOther) || is_acknowledging
+    (if b then Granting d k else GrantedOther)) ≡ true → b ≡ true =
+    elim [ true ↦ λ g. refl | false ↦ λ g. absurd cc ] in
+    let same = eqb-true c q (own (c == q) e) in (refl, rw same refl)
+granted-to c (GrantTaken q) e =
+    let own : (b : Bool) → (is_granting (if b then Acknowledging else GrantedOther) || is_acknowledging
+    (if b then Acknowledging else GrantedOther)) ≡ true → b ≡ true =
+    elim [ true ↦ λ g. refl | false ↦ λ g. absurd cc ] in
+    let same = eqb-true c q (own (c == q) e) in (refl, rw same refl)
 
 to-granted : (c : ℕ) (service : Service) → is_granted_in service ≡ true → client_in service ≡ Some c
     → is_grant_to c service ≡ true
-to-granted c service e f = grind arith
+to-granted c (GrantSent q d k) e f =
+    let same_Some : (i j : ℕ) → Some i ≡ Some j → i ≡ j = λ i j g. cc in
+    let same : q ≡ c = same_Some q c f in rw (same, same_number c) refl
+to-granted c (GrantTaken q) e f = let same : q ≡ c = same_Some q c f in rw (same, same_number c) refl
+to-granted c service e f = absurd cc
 
 busy-granted : (service : Service) → is_granted_in service ≡ true → is_busy service ≡ true
 busy-granted service e = grind arith
@@ -176,7 +194,9 @@ sinks-traced {w} {request} {s} {e} inv kept is c sink = one_truth _ _ granted_wi
 
     client_of : (o : Option ℕ) (tracker : ℕ) (m : MessageA w) (v : manager.Service w)
         → service_with o tracker m ≡ Some v → (o ≡ Some v.link.0) × (v.tracker ≡ tracker)
-    client_of o tracker m v e = grind (arith, at_service)
+    client_of None tracker m v f = absurd cc
+    client_of (Some r) tracker m v f = let v_is = some_is (at_service r tracker m) v f in
+        (ap (λ (u : manager.Service w). Some u.link.0) v_is, sym (ap (λ (u : manager.Service w). u.tracker) v_is))
 
     granted_with : is_any (is_granted_with c sink t) (services t) ≡ true → is_granted c (s.tracked sink) s ≡ true
     granted_with any =
@@ -211,11 +231,19 @@ sinks-traced {w} {request} {s} {e} inv kept is c sink = one_truth _ _ granted_wi
 cap-of : {w : ℕ} (service : Service) (n : ℕ) (m : MessageA w) (k : Cap) → IsFor service n m
     → is_granted_in service ≡ false → (service ≡ Free → ⊥)
     → cap_probed m.opcode m.param ≡ Some k → k ≡ cap_waited service
-cap-of service n m k e f g h = grind (arith, same_Some)
+cap-of Free n m k for ungranted busy e = absurd (busy refl)
+cap-of (Waits r own source j) n m k for ungranted busy e = same_Some k j (sym e ∙ for.3)
+cap-of service n m k for ungranted busy e = absurd cc
 
 request-with : {w : ℕ} (service : Service) (tracker : ℕ) (m : MessageA w) (v : manager.Service w)
     → service_with (client_in service) tracker m ≡ Some v → (v.request ≡ m) × (service ≡ Free → ⊥)
-request-with service tracker m v e = grind (arith, some_is, at_service)
+request-with Free tracker m v f = absurd (let no : None ≡ Some v = f in cc)
+request-with {w} (Waits r own source k) tracker m v f =
+    (sym (ap (λ (u : manager.Service w). u.request) (some_is (at_service r tracker m) v f)), λ e. cc)
+request-with {w} (GrantSent q d k) tracker m v f =
+    (sym (ap (λ (u : manager.Service w). u.request) (some_is (at_service q tracker m) v f)), λ e. cc)
+request-with {w} (GrantTaken q) tracker m v f =
+    (sym (ap (λ (u : manager.Service w). u.request) (some_is (at_service q tracker m) v f)), λ e. cc)
 
 probes-traced : {w : ℕ} {X : Type 0} {caching : ℕ → Bool} {config : Config} {request : ℕ → MessageA w} {s : State X}
     {e : End w} → IsInvariant caching s → IsKept config e → IsTraced request s e.trace

@@ -20,7 +20,7 @@ some-found (suc n) test e = go (test n) refl e (λ f. some-found n test f)
   where
     go : (b : Bool) → test n ≡ b → (b || some_below n test) ≡ true
         → (some_below n test ≡ true → (i : ℕ) × (i < n) × (test i ≡ true)) → (i : ℕ) × (i < suc n) × (test i ≡ true)
-    go b e f g = grind (arith, n)
+    go b e f g = grind arith
 
 -- nobody passes, as the manager finds them, where none does below the number of clients
 nobody-some : (config : Config) (test : ℕ → Bool)

@@ -1,15 +1,15 @@
 -- What the manager knows after a GrantAck, which frees its block.
-use Rattle.std.proofs.Common.{◌≡◌, ℕ, Bool, true, false, not, ◌&&◌, List, ◌∷◌, Option, Some, None, refl, sym, ◌∙◌, ap}
-use Rattle.std.proofs.Common.{arith, inl, inr, ne_eqb, ◌==◌, if◌then◌else◌}
+use Rattle.std.proofs.Common.{◌≡◌, ℕ, Bool, true, false, not, ◌&&◌, List, ◌∷◌, Option, Some, None, refl, sym, ◌∙◌, ap, arith}
+use Rattle.std.proofs.Common.{inl, inr, ne_eqb, ◌==◌, if◌then◌else◌}
 use Rattle.tl_coherence.proofs
 use proofs.Imports.{cases_eq, same_Some, Beat, BeatE, MessageA, a_beat_of, Key, Cap, held_unsaid, pending-quiet, Trace}
 use proofs.Imports.{on_link, is_acquire, held, pending, request_of, request_of-e, beat-keeps, AreApart, blocks_of}
-use proofs.Imports.{services, service_of_block, AreNamed, is_busy, Packet, set, is_unprobed, Service, Waits, GrantTaken}
-use proofs.Imports.{Block, State, grant_ack_taken, freed_block, client_in, service_with, IsFor}
-use Rattle.tl_manager.{proofs.pending.Acked.services-e, specs.statement.Service.is_ended_by}
-use Rattle.tl_manager.proofs.services.Serving.{if_passes, serving-filter}
+use proofs.Imports.{services, service_of_block, AreNamed, is_busy, Packet, set, is_unprobed, Service, Waits}
+use proofs.Imports.{GrantTaken, Block, State, grant_ack_taken, freed_block, client_in, service_with, IsFor}
+use Rattle.tl_manager.{proofs.pending.Acked.services-e, proofs.services.Serving.if_passes}
+use Rattle.tl_manager.{proofs.services.Serving.serving-filter, specs.statement.Service.is_ended_by}
 use Rattle.tl_manager.specs.statement.Service as manager
-use proofs.manager.{BlockAccounts.IsTraced}
+use proofs.manager.{BlockAccounts.IsTraced, ManagedEndings.tracker-of}
 use proofs.queues.Tokens.{set-each, same_number, set-same, set-other, set-part}
 
 -- ---- a beat of channel E
@@ -51,7 +51,9 @@ serving-acked {w} {c} {n} {x} {request} {s} {t} is known i =
 
     -- no two blocks have one tracker
     differ : (r : ℕ) → (i ≡ n → ⊥) → client_in (s.block i).service ≡ Some r → ((s.block i).tracker == x.sink) ≡ false
-    differ r other e = grind (arith, client_busy, same_Some)
+    differ r other e = cc (ne_eqb (s.block i).tracker x.sink (λ same. let first = tracker-of i is.named (client_busy
+        (s.block i).service r e) in let second = tracker-of n is.named (rw is.taken refl) in let both : Some i
+        ≡ Some n = sym first ∙ ap s.tracked (same ∙ is.sink_is) ∙ second in other (same_Some i n both)))
 
     never : (a b : Bool) → (a && (b && false)) ≡ false
     never a b = grind arith

@@ -1,10 +1,10 @@
 -- All that is kept of the manager's end, after a beat of channel C or E that it takes: a beat that isn't the last of
 -- its
 -- message, a ProbeAck that isn't the last one missing, a Release, and a GrantAck.
-use Rattle.std.proofs.Common.{◌≡◌, ℕ, suc, ◌+◌, Bool, true, false, not, ◌&&◌, List, [], ◌∷◌, length, refl, sym}
-use Rattle.std.proofs.Common.{◌∙◌, ap, subst, arith, ◌==◌, if◌then◌else◌}
+use Rattle.std.proofs.Common.{◌≡◌, ℕ, suc, ◌+◌, Bool, true, false, not, ◌&&◌, ◌||◌, List, [], ◌∷◌, length, refl, sym}
+use Rattle.std.proofs.Common.{◌∙◌, ap, subst, inl, inr, arith, ne_eqb, ◌==◌, if◌then◌else◌}
 use Rattle.tl_coherence.proofs
-use proofs.Imports.{Beat, BeatC, BeatE, Channel, IsWidth, length-begun, Message, MessageC, MessageD, beats_of}
+use proofs.Imports.{cases_eq, Beat, BeatC, BeatE, Channel, IsWidth, length-begun, Message, MessageC, MessageD, beats_of}
 use proofs.Imports.{begun, c_beat_of, burst_of, unfinished, Config, Key, Prune, Report, Perm, prune_code, prune_left}
 use proofs.Imports.{prune_right, report_code, report_left, report_right, is_last, payload_of, on_link, same_perm, ends}
 use proofs.Imports.{block_at, is_grant, is_probe_ack, is_release_ack, pending, reported, reported-report, reaction-part}
@@ -21,7 +21,7 @@ use proofs.manager.{Choices.nobody-same, ManagerTakes.IsTakenUp, Reporting.IsAbo
 use proofs.manager.ManagedReports.{traced-report_part, traced-reported, traced-released, IsReleased}
 use proofs.manager.ManagerMemory.{block_in, other-blocks, blocks-now, block-taken}
 use proofs.manager.QuiescentManager.{IsLastOf, missing-last}
-use proofs.queues.Tokens.{set-each, set-part}
+use proofs.queues.Tokens.{set-each, same_number, set-part}
 
 -- what is kept of the manager's end beside the protocol as it follows
 abbrev pub IsManagerOf : {w : ℕ} → Config → AbstractState w → End w → Type 0
@@ -40,7 +40,8 @@ left-is {w} d up is = cc (up.answer, is)
 pub kept-left : {w : ℕ} {config : Config} {c : ℕ} (x : BeatC w) (d : Reaction w) {e : End w} → IsWidth w
     → IsTakenUp config c Channel.C (Beat.C x) e
     → reaction config (record { 0 = c }) (Beat.C x) e ≡ d → IsKept config e → IsKept config (left c (Beat.C x) d e)
-kept-left {config} {c} x d {e} width up is kept = grind (arith, left-is, kept-offered)
+kept-left {config} {c} x d {e} width up is kept = subst (IsKept config) (left-is d up is)
+    (kept-offered config (record { 0 = c }) Channel.C (Beat.C x) e width tt kept)
 
 pub others-left : {w : ℕ} {config : Config} {c : ℕ} (n : ℕ) (x : BeatC w) (d : Reaction w) {e : End w} → IsWidth w
     → IsTakenUp config c Channel.C (Beat.C x) e → reaction config (record { 0 = c }) (Beat.C x) e ≡ d → IsKept config e
@@ -87,12 +88,20 @@ payload-end {w} {k} {m} is some = let fact = payload-c m (begun (Message.C m) (s
     (whole, is.about.blank) in cc (is.rest, is.about.payload_is some)
   where
     whole : begun (Message.C m) (suc k) ≡ burst_of (Message.C m)
-    whole = grind (arith, k)
+    whole = let all : suc k ≡ beats_of (Message.C m) = omega (arith, is.last) in
+        ap (λ (i : ℕ). begun (Message.C m) i) all
 
 pub last-of : {w : ℕ} {b : Bool} {c n param : ℕ} {carries : Bool} {truth : List ℕ} {k : ℕ} (right : Perm)
     {m : MessageC w} {e : End w}
     → IsEnd b c n param carries truth k m e → reported param ≡ right → IsLastOf c n right (c_beat_of m k) e.trace
-last-of {b} {c} {n} {param} {carries} {truth} {k} right {m} {e} is said = grind (arith, ends-it, reported)
+last-of {b} {c} {n} {param} {carries} {truth} {k} right {m} {e} is said =
+    let either : (b : Bool) → (b || not b) ≡ true = elim [ true ↦ refl | false ↦ refl ] in
+    record {
+      last = ends-it is;
+      kind = rw (is.about.reports, is.about.releases) (either b);
+      block = is.about.block;
+      right_is = ap reported is.about.param_is ∙ said;
+    }
 
 -- the memory with it
 pub memory-end : {w : ℕ} {b : Bool} {c n param : ℕ} {carries : Bool} {truth : List ℕ} {k : ℕ} {m : MessageC w}
@@ -114,7 +123,8 @@ pub reaction-released : {w : ℕ} (config : Config) {c n k : ℕ} (r : Prune) {m
       handed = (record { 0 = c }, release_ack m.source) ∷ [];
       memory = memory_with (record { 0 = c }) (c_beat_of m k) e;
     }
-reaction-released config {c} {n} {k} r {m} h {e} end = grind (arith, reaction-release, ends-it)
+reaction-released config {c} {n} {k} r {m} h {e} end = reaction-release config (record { 0 = c }) (c_beat_of m k) e
+    (ends-it end) end.about.releases
 
 pub released-left : {w : ℕ} {config : Config} {c n k : ℕ} (r : Prune) (rest : List Packet) {m : MessageC w}
     (h : AbstractState w) {e : End w} → IsTakenUp config c Channel.C (Beat.C (c_beat_of m k)) e
@@ -167,7 +177,11 @@ settled-is {w} config {c} {n} {right} {x} h e last report traced =
   where
     now : (d : ℕ) → (if (c == d) && (n == n) then false else pending (Key.ProbeOf n) (on_link d e.trace))
         ≡ others_probed c (h.state.block n).pair d
-    now d = grind arith
+    now d = elim (cases_eq c d) [
+      | inl same ↦ rw (same, same_number d, same_number n) refl
+      | inr other ↦ let differ : d ≡ c → ⊥ = λ f. other (sym f) in
+          rw (ne_eqb c d other, ne_eqb d c differ) (traced.probes d n)
+    ]
 
 -- ---- a ProbeAck that isn't the last one missing
 

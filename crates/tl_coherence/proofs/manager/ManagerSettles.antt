@@ -1,26 +1,27 @@
 -- All that is kept of the manager's end, after the last ProbeAck that a request waited for.
-use Rattle.std.proofs.Common.{◌≡◌, ℕ, Bool, true, false, not, List, [], ◌∷◌, length, refl, sym, ◌∙◌, ap, subst, arith}
+use Rattle.std.proofs.Common.{◌≡◌, ℕ, Bool, true, false, not, List, [], ◌∷◌, length, refl, sym, ◌∙◌, ap, ap₂, subst, arith}
 use Rattle.tl_coherence.proofs
 use proofs.Imports.{Beat, BeatC, Message, MessageA, MessageC, MessageD, c_beat_of, Config, Cap, Grow, Report, Perm}
 use proofs.Imports.{cap_code, grow_code, Trace, same_perm, effect, Memory, block_at, is_release_ack, is_grant, capped}
 use proofs.Imports.{cap-gives, performed-access, performed-acquire, memory_with, grants_by_opcode, End, Reaction}
-use proofs.Imports.{access_answer, with_handed, grant, recorded, level_of, reaction, is_access_answer, set, Packet}
-use proofs.Imports.{ClientBlock, is_granted_data, after_report, GrantSent, Block, State, Acquires, report_grants}
-use proofs.Imports.{granted_block, reported_block, report_answers, ended_block, AbstractState, answers, performs}
-use proofs.Imports.{acquire_opcode, gift, is_unheld, with_state, grant_of, IsServedWith}
-use Rattle.tl_rules.{specs.declared.answer.Answer.Answer}
-use Rattle.tl_manager.{specs.statement.Holders.has_copy}
-use Rattle.tl_coherence.{specs.refinement.AbstractStep.with_answer}
+use proofs.Imports.{access_answer, with_handed, cap_granted, grant, recorded, level_of, reaction, is_access_answer, set}
+use proofs.Imports.{Packet, ClientBlock, is_granted_data, after_report, GrantSent, Block, State, Acquires}
+use proofs.Imports.{report_grants, granted_block, reported_block, report_answers, ended_block, AbstractState, answers}
+use proofs.Imports.{performs, acquire_opcode, gift, is_unheld, with_state, grant_of, IsServedWith}
+use Rattle.tl_rules.specs.declared.answer.Answer.{Answer}
+use Rattle.tl_manager.specs.statement.Holders.{has_copy}
+use Rattle.tl_coherence.specs.refinement.AbstractStep.{with_answer}
 use Rattle.tl_manager.specs.statement.Holders as holders
+use Rattle.tl_manager.specs.statement.Handing as handing
 use Rattle.tl_coherence.specs.protocol.Protocol as protocol
-use proofs.manager.{BlockAccounts.IsTraced, ManagedReports.reported-records, Choices.nobody-same}
-use proofs.manager.ManagedGrants.{traced-conceded, IsConceded}
-use proofs.manager.ManagedEndings.{traced-ended, IsEnding, service_for}
-use proofs.manager.ManagerAfter.{IsManagerOf, left, kept-left, others-left}
-use proofs.manager.ManagerMemory.{block_in, blocks-now, block-performed, answer-performed}
+use proofs.manager.{BlockAccounts.IsTraced, ManagedGrants.traced-conceded, ManagedGrants.IsConceded}
+use proofs.manager.{ManagedEndings.traced-ended, ManagedEndings.IsEnding, ManagedEndings.service_for}
+use proofs.manager.{ManagedReports.reported-records, Choices.nobody-same, ManagerAfter.IsManagerOf, ManagerAfter.left}
+use proofs.manager.{ManagerAfter.kept-left, ManagerAfter.others-left, ManagerMemory.block_in, ManagerMemory.blocks-now}
+use proofs.manager.{ManagerMemory.block-performed, ManagerMemory.answer-performed}
+use proofs.queues.{Tokens.set-each, Tokens.set-same, Tokens.set-other, Codes.data-same}
 use proofs.manager.SettlingService.{IsSettling, trace_with, settling-last, settling-ready, settling-reaction}
 use proofs.manager.SettlingService.{settling-lawful, settling-for, settling-reply, settling-memory}
-use proofs.queues.{Tokens.set-each, Tokens.set-same, Tokens.set-other, Codes.data-same}
 
 -- ---- an access
 
@@ -104,7 +105,15 @@ grant-made : {w : ℕ} (config : Config) (q n tracker : ℕ) (v : MessageA w) (t
     → grant config (record { tracker = tracker; link = record { 0 = q }; request = v }) t memory ≡ grant_of
     (GrantSent q (is_granted_data whole g p) (gift config.profile whole g unheld)) v.source tracker (block_in memory n)
 grant-made {w} config q n tracker v t memory whole g unheld p opcode param block none held_is =
-    grind (arith, block_in, data-same)
+    let go : (d : Bool) → handing.grant_with (record { tracker = tracker; link = record { 0 = q }; request = v })
+    (gift config.profile whole g unheld) d memory ≡ grant_of (GrantSent q d (gift config.profile whole g unheld))
+    v.source tracker (block_in memory n) = elim [ true ↦ rw block refl | false ↦ refl ] in
+    let cap_is : cap_granted config.profile v.opcode v.param (holders.is_unheld config (block_at v.address) t) ≡ gift
+    config.profile whole g unheld = rw (opcode, param, block, none) refl in
+    let data_is : handing.is_granted_data v.opcode v.param (recorded q (block_at v.address) t) ≡ is_granted_data whole g
+    p = rw (opcode, param, block, held_is) (data-same whole g p) in
+    ap₂ (λ k d. handing.grant_with (record { tracker = tracker; link = record { 0 = q }; request = v }) k d memory)
+    cap_is data_is ∙ go (is_granted_data whole g p)
 
 given_is : {w : ℕ} (q : ℕ) (d : Bool) (k : Cap) (source sink : ℕ) (payload : List ℕ)
     → (m : MessageD w) × (grant_of (GrantSent q d k) source sink payload ≡ Message.D m) × (is_grant m.opcode ≡ true)

@@ -5,7 +5,7 @@ use Rattle.tl_coherence.proofs
 use proofs.Imports.{and-false, cases_lt, Beat, Channel, A, MessageA, a_beat_of, beats_of, unfinished, Config, ProbeOf}
 use proofs.Imports.{Cap, Perm, held_unsaid, sent, Trace, on_link, pending, held, block_at, request_of, swapped}
 use proofs.Imports.{whole-taken, End, with_handed, probes, probe_of_block, recorded, is_spared, probed, services}
-use proofs.Imports.{least_untaken, trackers_of, set, ClientBlock, is_unprobed, is_above, after_served, Free}
+use proofs.Imports.{least_untaken, trackers_of, set, ClientBlock, is_unprobed, ProbeSent, is_above, after_served, Free}
 use proofs.Imports.{Waits, Block, State, served_pair, served_block, client_in, service_with, IsFor}
 use Rattle.tl_manager.{proofs.pending.Probed.probes-keep, specs.statement.Handing.probe_beat}
 use Rattle.tl_manager.{specs.statement.Service.Service}
@@ -121,4 +121,9 @@ traced-probing {w} {X} {config} {request} {c} {k} {n} {own} {source} {j} {m} {s}
 
     quiet_now : (d : ℕ) (b : Bool) → (is_above j ((s.block n).pair d).recorded && not b) ≡ not
         (is_unprobed (if b then (s.block n).pair d else after_served j ((s.block n).pair d)).probing)
-    quiet_now d b = grind (arith, and-false)
+    quiet_now d true = and-false (is_above j ((s.block n).pair d).recorded) ∙ sym (ap not (is.quiet d))
+    quiet_now d false = sent_or (is_above j ((s.block n).pair d).recorded)
+      where
+        sent_or : (b : Bool) → (b && true) ≡ not (is_unprobed (if b then ProbeSent j else ((s.block n).pair d).probing))
+        sent_or true = refl
+        sent_or false = sym (ap not (is.quiet d))

@@ -1,15 +1,16 @@
 -- The last beat of a request that is taken: what the protocol does then is what the manager does.
-use Rattle.std.proofs.Common.{◌≡◌, subst, ℕ, suc, Bool, true, false, not, List, Option, Some, None, length, refl, sym}
-use Rattle.std.proofs.Common.{arith, ◌∙◌, ap, if◌then◌else◌}
+use Rattle.std.proofs.Common.{◌≡◌, subst, ℕ, suc, Bool, true, false, not, List, Option, Some, None, length, refl, sym, arith}
+use Rattle.std.proofs.Common.{◌∙◌, ap, if◌then◌else◌}
 use Rattle.tl_coherence.proofs
 use proofs.Imports.{Beat, Message, MessageA, a_beat_of, beats_of, Config, Cap, Grow, block_at, is_acquire, same_block}
 use proofs.Imports.{acquisition, End, cap_granted, cap_probed, must_wait, cap_asked, Request, Acquire, Packet, set}
-use proofs.Imports.{AcquireOpen, is_granted_data, Service, Free, Waits, Block, State, Asked}
+use proofs.Imports.{AcquireOpen, is_granted_data, Service, Free, Waits, GrantSent, GrantTaken, Block, State, Asked}
 use proofs.Imports.{InService, Acquires, is_probed, acquire_served, acquire_granted, AbstractState, some_below}
 use proofs.Imports.{acquire_opcode, is_unheld, gift, kind_taken, probes_some, access_taken, AccessMessages}
 use proofs.Imports.{SimulationRelation, IsServedWith, Log, System}
 use proofs.manager.{Choices.waits-used, Performing.IsAnswering, Requests.IsUnwaited, ManagerAfter.IsManagerOf}
-use proofs.manager.{Arrivals.link_of, Arrivals.IsComing, ManagersEnd.IsAtManager, ManagersEnd.at_manager-matched}
+use proofs.manager.Arrivals.{link_of, IsComing}
+use proofs.manager.ManagersEnd.{IsAtManager, at_manager-matched}
 use proofs.manager.AtRequests.{end_after, at_manager-probing, at_manager-answered, at_manager-granted}
 use proofs.manager.UnwaitedRequests.{next_tracker, free-last, untracked-next, probed-some, unheld-same, quiet-free}
 use proofs.manager.UnwaitedRequests.{beyond-none, reaction-performed, somebody-probed}
@@ -27,17 +28,28 @@ unwaited-asked {w} {config} {s} c source is used i src own j e same = go own (wa
     here = ap (s.uses c) (sym same) ∙ used
 
     go : (b : Bool) → s.uses c src ≡ (if b then Acquires i else InService i) → ⊥
-    go b e = grind (arith, i, here)
+    go true f = let no : Asked ≡ Acquires i = sym here ∙ f in cc
+    go false f = let no : Asked ≡ InService i = sym here ∙ f in cc
 
 with-same : {w : ℕ} (mail after : AccessMessages w) (service : Service) (m : MessageA w) → after.request ≡ mail.request
     → IsServedWith mail service m → IsServedWith after service m
-with-same mail after service m e f = grind arith
+with-same mail after Free m same ok = tt
+with-same mail after (Waits r true source k) m same ok = tt
+with-same {w} mail after (Waits r false source k) m same ok = ap (λ (f : ℕ → ℕ → Message w). f r source) same ∙ ok
+with-same mail after (GrantSent q d k) m same ok = tt
+with-same mail after (GrantTaken q) m same ok = tt
 
 -- other answers change nothing
 at_manager-answers : {w : ℕ} {config : Config} {mail : AccessMessages w} (after : AccessMessages w)
     {request : ℕ → MessageA w} {s : State (List ℕ)} {e : End w} → after.request ≡ mail.request
     → IsAtManager config mail request s e → IsAtManager config after request s e
-at_manager-answers {mail} after {request} {s} same is = grind (arith, with-same)
+at_manager-answers {mail} after {request} {s} same is = record {
+  traced = is.traced;
+  served_with = λ n. with-same mail after (s.block n).service (request n) same (is.served_with n);
+  manager_kept = is.manager_kept;
+  memory = is.memory;
+  all_live = is.all_live;
+}
 
 pub ready-request : {w : ℕ} {config : Config} {log : Log w} (h : AbstractState w) {sys : System w} {c source k : ℕ}
     → SimulationRelation config log h.mail h.request h.state sys → (asked : IsAsked config c source h.mail h.state)

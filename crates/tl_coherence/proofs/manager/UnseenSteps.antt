@@ -1,12 +1,12 @@
 -- Steps of the whole that the manager doesn't see: an event of a client that there isn't, a client that is asked, and a
 -- delivery to a client.
 use Rattle.std.proofs.Common.{◌≡◌, subst, ℕ, Bool, true, false, ◌&&◌, List, [], ◌∷◌, Option, Some, None, refl, sym, ◌∙◌}
-use Rattle.std.proofs.Common.{arith, ap, if◌then◌else◌, Result}
+use Rattle.std.proofs.Common.{ap, if◌then◌else◌, Result, Ok}
 use Rattle.tl_coherence.proofs
 use proofs.Imports.{true_from_ne_false, Beat, Link, Channel, Message, unfinished, Config, Rule, Op, Verdict, offered}
-use proofs.Imports.{Event, Ask, Deliver, Kind, Packet, is_on, packets_on, AbstractState, abstract_step_by, packet_taken}
-use proofs.Imports.{abstract_step, SimulationRelation, is_caching, receiver, is_moving, Log, Step, handed_by, judged}
-use proofs.Imports.{is_to_client, client_of, stepped, System, terms_at, with_client}
+use proofs.Imports.{Event, Ask, Deliver, Outcome, Kind, Packet, is_on, packets_on, AbstractState, abstract_step_by}
+use proofs.Imports.{packet_taken, abstract_step, SimulationRelation, is_caching, receiver, is_moving, Log, Step}
+use proofs.Imports.{handed_by, judged, is_to_client, client_of, stepped, System, terms_at, with_client, with_channel}
 use Rattle.tl_coherence.{specs.refinement.AbstractStep.is_last}
 use Rattle.tl_client.specs.statement.Ask as client_ask
 use Rattle.tl_client.specs.statement.Endpoint as client
@@ -23,7 +23,10 @@ pub at_manager-nobody : {w : ℕ} {config : Config} {log : Log w} (h : AbstractS
     → SimulationRelation config log h.mail h.request h.state sys → terms_at config (client_of event) ≡ None
     → IsManagerOf config (abstract_step config event sys h) (stepped config event sys).after.manager
 unfolding stepped
-at_manager-nobody {w} {config} {log} h {sys} event is none = grind (arith, at_manager-matched)
+at_manager-nobody {w} {config} {log} h {sys} event is none =
+    let go : (event : Event w) → IsManagerOf config (abstract_step_by config event Outcome.NoSuchClient sys h)
+    sys.manager = elim [ Ask c o ↦ at_manager-matched is | Deliver link ch ↦ at_manager-matched is ] in
+    rw none (go event)
 
 -- ---- a client is asked
 
@@ -44,7 +47,11 @@ at_manager-ask {w} {config} {log} h {sys} c o terms is there may =
 manager-judged : {w : ℕ} (r : Result (Verdict × Option (Message w)) Rule) (link : ℕ) (ch : Channel) (x : Beat w)
     (rest : List (Beat w)) (e : client.Endpoint w)
     (s : System w) → (judged r link ch x rest e s).after.manager ≡ s.manager
-manager-judged r link ch x rest e s = grind (arith, manager-with_messages)
+manager-judged (Ok (Verdict.Taken, m)) link ch x rest e s =
+    manager-with_messages (handed_by link m) (with_client link e (with_channel link ch rest s))
+manager-judged (Ok (Verdict.Done source f, m)) link ch x rest e s =
+    manager-with_messages (handed_by link m) (with_client link e (with_channel link ch rest s))
+manager-judged r link ch x rest e s = refl
 
 manager-to-client : {w : ℕ} (config : Config) (link : Link) (ch : Channel) (sys : System w)
     (terms : client.EndConfig) → terms_at config link.0 ≡ Some terms

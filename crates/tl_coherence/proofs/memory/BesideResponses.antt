@@ -100,7 +100,7 @@ beside-grant {w} {caching} c n d k rest {mail} {s} {m} inv wants h =
 
     here : (x : AcquirePhase) (waits : List ℕ) → is_wanting x ≡ true
         → IsBlock (memory_after (op_of {w = w} x n waits) m.memory) n (granted_truth (is_whole x) waits b.truth)
-    here x waits e = grind (arith, block-put, n)
+    here x waits e = grind (arith, block-put)
 
     there : (x : AcquirePhase) (waits : List ℕ) (i : ℕ) → is_wanting x ≡ true → (i ≡ n → ⊥)
         → IsBlock (memory_after (op_of {w = w} x n waits) m.memory) i (s.block i).truth

@@ -81,7 +81,7 @@ module _ {w : ℕ} (config : Config) (c : ℕ) (h : AbstractState w) where
   module _ (terms : EndConfig) (e : Endpoint w) (at : terms_at config c ≡ Some terms) (few : c < clients_in config)
     where
       own_source : (source : ℕ) → source < 0 + terms.sources → source < sources_in config c
-      own_source source lt = grind (arith, sources_in, c)
+      own_source source lt = grind (arith, sources_in)
 
       done-opens : (o : Op w) → NotBusy terms o e → IsAskable (is_caching config) c o (done terms o e).reply h
           → IsOpenAfter o (done terms o e).reply

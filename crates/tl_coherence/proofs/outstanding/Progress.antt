@@ -22,7 +22,7 @@ counted {w} config (x ∷ log) width typed is = rw is.0 (counted-next (shadow co
 
 -- a configuration without a fault has a tracker
 some_tracker : (n : ℕ) → trackers_fit n ≡ true → 0 < n
-some_tracker n e = grind (arith, nat_tests, e)
+some_tracker n e = grind (arith, nat_tests)
 
 tracked : (config : Config) → config_fault config ≡ None → 0 < config.trackers
 tracked config e = grind (arith, some_tracker, limits-fit)

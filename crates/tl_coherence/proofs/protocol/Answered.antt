@@ -1,14 +1,14 @@
 -- An access that is answered as it is taken, and an answer that is taken, keep the invariant.
-use Rattle.std.proofs.Common.{◌≡◌, refl, ap, ◌⊎◌, ℕ, Bool, true, false, List, ◌∷◌, arith}
+use Rattle.std.proofs.Common.{◌≡◌, refl, sym, ◌∙◌, ap, ◌⊎◌, inl, inr, ℕ, Bool, true, false, List, ◌∷◌, arith}
 use Rattle.tl_coherence.proofs
 use proofs.Imports.{Channel, Perm, same_perm, is_of, acquires_of, serves_of, acquires_with, serves_with, releases_with}
 use proofs.Imports.{tracks_with, IsWell, IsInvariant, Kind, Request, ProbeAck, Answer, Packet, Block, State, Asked}
-use proofs.Imports.{Replied, packet, performed_block, answered_link, access_answered, answer_taken, shown}
+use proofs.Imports.{Replied, view, packet, performed_block, answered_link, access_answered, answer_taken, shown}
 use proofs.Imports.{is_transfer, Move, Stays, Pushes, Pops, AreMoved, is_own_move, channel_for}
 use Rattle.tl_coherence.{specs.protocol.Protocol.Link}
 use proofs.queues.{Moves.event-at, Moves.bare-elsewhere, Moves.invariant-moved_access, Moves.names-block}
 use proofs.queues.{Moves.names-set_at, Moves.invariant-moved_use, KindMoves.spares, KindMoves.spared-agrees}
-use proofs.queues.{Tokens.same_number, Facts.held_at_most}
+use proofs.queues.{Tokens.same_number, Facts.held_at_most, Perms.nothing_below}
 
 -- ---- the block
 
@@ -31,7 +31,9 @@ performed-block {X} f {b} h spared = record {
 }
   where
     copy_is : (d : ℕ) → same_perm (b.pair d).held Perm.None ≡ false → Spares f b → b.copy d ≡ f b.truth
-    copy_is d e f = grind (arith, held_at_most)
+    copy_is d some (inl same) = h.copies d some ∙ sym same
+    copy_is d some (inr none) = absurd (let no = nothing_below (b.pair d).held (b.pair d).recorded (held_at_most
+        (b.pair d) (view b.service d) (h.phases d)) (none d) in let differs : true ≡ false = sym no ∙ some in cc)
 
 -- ---- the whole
 

@@ -1,13 +1,13 @@
 -- The last ProbeAck that is taken, with which the Acquire that waited is granted, keeps the invariant.
 use Rattle.std.proofs.Common.{◌≡◌, ℕ, Bool, true, false, ◌&&◌, List, [], ◌∷◌, ◌++◌, refl, sym, ◌∙◌, ap, ap₂, ◌⊎◌, inl}
-use Rattle.std.proofs.Common.{arith, inr, ne_eqb, ◌==◌, if◌then◌else◌}
+use Rattle.std.proofs.Common.{inr, ne_eqb, ◌==◌, if◌then◌else◌}
 use Rattle.tl_coherence.proofs
 use proofs.Imports.{cases_eq, beq, Channel, Cap, Grow, Report, IsInvariant, Kind, Acquire, Probe, ProbeAck, Answer}
-use proofs.Imports.{Grant, Packet, set, ClientBlock, Own, Other, Granting, GrantedOther, ProbeAnswered, is_unprobed}
-use proofs.Imports.{is_granted_data, after_grant_sent, after_report, Block, State, view, packet, packets_on}
-use proofs.Imports.{granted_block, granted_link, report_grants, is_transfer, is_wanting, shows, shown, Move, Stays}
-use proofs.Imports.{Pushes, Pops, IsMoved, agrees, is_own_move, channel_for}
-use Rattle.tl_coherence.{specs.protocol.Protocol.Link}
+use proofs.Imports.{Grant, GrantAck, Packet, set, ClientBlock, Own, Other, Granting, GrantedOther, ProbeAnswered}
+use proofs.Imports.{is_unprobed, is_granted_data, after_grant_sent, after_report, Block, State, view, packet}
+use proofs.Imports.{packets_on, granted_block, granted_link, report_grants, is_transfer, is_wanting, shows, shown, Move}
+use proofs.Imports.{Stays, Pushes, Pops, IsMoved, agrees, is_own_move, channel_for}
+use Rattle.tl_coherence.specs.protocol.Protocol.{Link}
 use proofs.queues.{Facts.own_quiet, KindMoves.spares, KindMoves.same_again, Moves.names-kept, Moves.invariant-moved}
 use proofs.queues.{Moves.moved_as, Tokens.same_number, Tokens.set-same, Tokens.set-other, Tokens.set-part}
 use proofs.protocol.Granted.{IsLast, granted-block}
@@ -37,17 +37,24 @@ at_reporter n k r p j t e = same_again (shows k p (Other j))
 
 at_other : (n : ℕ) (k : Kind) (p : ClientBlock) (j : Cap) → is_transfer k ≡ true
     → agrees Stays k n (shows k p (Other j)) (shows k p GrantedOther) ≡ true
-at_other n k p j e = grind (arith, same_again, shows)
+at_other n GrantAck p j t = refl
+at_other n k p j t = same_again (shows k p (Other j))
 
 -- moves by the place of the client
 moves_of_sender : (n c q : ℕ) (ch : Channel) → (q ≡ c → ⊥) → granted_moves n c q q ch ≡ granted_moves n 0 1 1 ch
-moves_of_sender n c q ch e = grind arith
+moves_of_sender n c q Channel.C ne = rw (ne_eqb q c ne) refl
+moves_of_sender n c q Channel.D ne = rw (same_number q) refl
+moves_of_sender n c q ch ne = refl
 
 moves_of_reporter : (n c q : ℕ) (ch : Channel) → (c ≡ q → ⊥) → granted_moves n c q c ch ≡ granted_moves n 1 0 1 ch
-moves_of_reporter n c q ch e = grind arith
+moves_of_reporter n c q Channel.C ne = rw (same_number c) refl
+moves_of_reporter n c q Channel.D ne = rw (ne_eqb c q ne) refl
+moves_of_reporter n c q ch ne = refl
 
 moves_of_other : (n c q d : ℕ) (ch : Channel) → (d ≡ c → ⊥) → (d ≡ q → ⊥) → granted_moves n c q d ch ≡ Stays
-moves_of_other n c q d ch e f = grind arith
+moves_of_other n c q d Channel.C o m = rw (ne_eqb d c o) refl
+moves_of_other n c q d Channel.D o m = rw (ne_eqb d q m) refl
+moves_of_other n c q d ch o m = refl
 
 pub report_grants-kept : {X : Type 0} {caching : ℕ → Bool} {c q : ℕ} (n : ℕ) {r : Report} {whole : Bool} {g : Grow}
     {gift : Cap} {source : ℕ} {k : Cap} (rest : List Packet) {s : State X} → IsInvariant caching s
@@ -97,20 +104,24 @@ report_grants-kept {X} {caching} {c} {q} n {r} {whole} {g} {gift} {source} {k} r
     apart_too e = apart (sym e)
 
     bare : (b : Bool) → spares (if b then Pushes Grant n else Stays) Answer ≡ true
-    bare b = grind arith
+    bare true = refl
+    bare false = refl
 
     never : (b : Bool) (m : ℕ) → (if b then Pops ProbeAck n else Stays) ≡ Pushes ProbeAck m → {A : Type 0} → A
-    never b m e = grind arith
+    never true m e = absurd cc
+    never false m e = absurd cc
 
     own : (d : ℕ) (ch : Channel) → is_own_move ch (granted_moves n c q d ch) ≡ true
     own d Channel.C = go (d == c)
       where
         go : (b : Bool) → is_own_move Channel.C (if b then Pops ProbeAck n else Stays) ≡ true
-        go b = grind arith
+        go true = refl
+        go false = refl
     own d Channel.D = go (d == q)
       where
         go : (b : Bool) → is_own_move Channel.D (if b then Pushes Grant n else Stays) ≡ true
-        go b = grind arith
+        go true = refl
+        go false = refl
     own d ch = refl
 
     at_q : Link
@@ -120,7 +131,8 @@ report_grants-kept {X} {caching} {c} {q} n {r} {whole} {g} {gift} {source} {k} r
     at_c = record (s.link c) { c = rest }
 
     moved_q : (ch : Channel) → IsMoved (granted_moves n 0 1 1 ch) (packets_on ch (s.link q)) (packets_on ch at_q)
-    moved_q ch = grind arith
+    moved_q Channel.A = refl
+    moved_q ch = refl
 
     moved_c : (ch : Channel) → IsMoved (granted_moves n 1 0 1 ch) (packets_on ch (s.link c)) (packets_on ch at_c)
     moved_c Channel.C = first

@@ -72,10 +72,10 @@ light-one mail s c k n e = grind arith
 
 room_for : (n heavy light sources : ℕ) (len : ℕ) → len ≤ n * heavy + light → heavy ≤ sources → light ≤ sources
     → len ≤ (n + 1) * sources
-room_for n heavy light sources len le h l = grind (arith, le, h, l)
+room_for n heavy light sources len le h l = grind (arith, le)
 
 times : (n a z b len most : ℕ) → len ≤ most → most ≤ n * a + z → z ≡ 0 → a ≤ b → len ≤ n * b
-times n a z b len most le l e f = grind (arith, le, l, e, f)
+times n a z b len most le l e f = grind (arith, le)
 
 no_heavy : (n z a b len most : ℕ) → len ≤ most → most ≤ n * z + a → z ≡ 0 → a ≤ b → len ≤ b
 no_heavy n z a b len most le l e f = let none : n * z ≡ 0 = rw e (omega arith) in omega (arith, le, l, none, f)

@@ -117,11 +117,11 @@ messages-stay {w} {n} {moves} {mail} {mail'} {s} {s'} event d ch = map_kept (λ 
 
     asked : (i : ℕ) → (count Request i stay ≡ 0) ⊎ ((is_asked (s.uses d i) ≡ true) × (is_asked (s'.uses d i) ≡ true))
         → Kept Request i
-    asked i e = grind (arith, d)
+    asked i e = grind arith
 
     replied : (i : ℕ) → (count Answer i stay ≡ 0)
         ⊎ ((is_replied (s.uses d i) ≡ true) × (is_replied (s'.uses d i) ≡ true)) → Kept Answer i
-    replied i e = grind (arith, d)
+    replied i e = grind arith
 
     mine : (k : Kind) (i : ℕ) → is_on ch k ≡ true → Kept k i
     mine Request i own = asked i (here Request i (is_asked (s.uses d i)) (is_asked (s'.uses d i)) own

@@ -73,7 +73,7 @@ one-name true n bound below = total-same bound (λ i. one_if (n == i)) (λ i. if
     (λ i lt. at i (cases_eq i n)) ∙ total-one bound n 1 (below refl)
   where
     at : (i : ℕ) → (i ≡ n) ⊎ (i ≡ n → ⊥) → one_if (n == i) ≡ (if i == n then 1 else 0)
-    at i e = grind (arith, n)
+    at i e = grind arith
 
 -- each that passes has one name
 by-names : (test : Packet → Bool) (name : Packet → ℕ) (bound : ℕ) (xs : List Packet)

@@ -1,15 +1,15 @@
 -- The whole after an event: what each channel gained and lost, and what each receiver has of the first messages.
-use Rattle.std.proofs.Common.{◌≡◌, ℕ, Bool, true, false, List, [], ◌∷◌, refl, sym, ◌∙◌, ap, ◌⊎◌, inl, inr, ◌&&◌, arith}
+use Rattle.std.proofs.Common.{◌≡◌, ℕ, Bool, true, false, List, [], ◌∷◌, ◌++◌, refl, sym, ◌∙◌, ap, ◌⊎◌, inl, inr, ◌&&◌, arith}
 use Rattle.std.proofs.Common.{Option, Some, None, ne_eqb, ◌==◌, if◌then◌else◌}
 use Rattle.tl_coherence.proofs
-use proofs.Imports.{cases_eq, Beat, Channel, Message, unfinished, History, grown, channel_of, completes, on_link}
-use proofs.Imports.{Handed, receiver, is_to_client, handed_by, System, same_channel, channel_of_message, with_client}
-use proofs.Imports.{with_manager, with_channel, with_messages}
-use Rattle.tl_burst.{specs.statement.Messages.on}
+use proofs.Imports.{cases_eq, Beat, Channel, Message, beats_of, unfinished, History, grown, channel_of, completes}
+use proofs.Imports.{on_link, beats_from, Handed, receiver, is_to_client, handed_by, System, same_channel}
+use proofs.Imports.{channel_of_message, with_client, with_manager, with_channel, with_messages}
+use Rattle.tl_burst.specs.statement.Messages.{on}
 use Rattle.tl_client.specs.statement.Endpoint as client
 use Rattle.tl_manager.specs.statement.End as manager_end
+use proofs.queues.{Channels.behind, Channels.pushes_at, Channels.IsTaken, Channels.IsHanded, Channels.same_channel-is}
 use proofs.queues.{Steps.clients-with_messages, Steps.manager-with_messages, Tokens.same_number}
-use proofs.queues.Channels.{behind, pushes_at, IsTaken, IsHanded, same_channel-is}
 
 -- ---- one message is handed out, or none
 
@@ -20,7 +20,27 @@ pushes_of (Some m) at = if same_channel at (channel_of_message m) then Some m el
 pub channels-handed : {w : ℕ} (l : ℕ) (m : Option (Message w)) (s : System w) (d : ℕ) (at : Channel)
     → (with_messages (handed_by l m) s).channels d at ≡ behind (pushes_at l (pushes_of m) d at) (s.channels d at)
 unfolding with_messages
-channels-handed l m s d at = grind (arith, same_channel-is)
+channels-handed {w} l None s d at =
+    let go : (b : Bool) → s.channels d at ≡ behind (if b then None else None) (s.channels d at) =
+    elim [ true ↦ refl | false ↦ refl ] in
+    go (d == l)
+channels-handed {w} l (Some m) s d at =
+    let there : (b : Bool) → b ≡ false
+    → (if b && same_channel at (channel_of_message m) then s.channels l (channel_of_message m) ++ more else
+    s.channels d at) ≡ behind (if b then pushes_of (Some m) at else None) (s.channels d at) = λ b e. rw e refl in
+    elim (cases_eq d l) [
+      | inl same ↦ rw same (here (l == l) (same_number l) (same_channel at (channel_of_message m)) refl)
+      | inr other ↦ there (d == l) (ne_eqb d l other)
+    ]
+  where
+    more : List (Beat w)
+    more = beats_from m 0 (beats_of m)
+
+    here : (b : Bool) → b ≡ true → (y : Bool) → same_channel at (channel_of_message m) ≡ y
+        → (if b && y then s.channels l (channel_of_message m) ++ more else s.channels l at) ≡ behind
+        (if b then (if y then Some m else None) else None) (s.channels l at)
+    here b e true f = rw (e, same_channel-is at (channel_of_message m) f) refl
+    here b e false f = rw e refl
 
 -- ---- the whole after a beat was taken
 
@@ -51,7 +71,12 @@ rests-ended {w} c ch x sys last d at = ended (cases_eq d c) (same_channel at ch)
 pub taken-landed : {w : ℕ} {c : ℕ} {ch : Channel} {x : Beat w} {queue : List (Beat w)} {pushes : ℕ → Channel
     → Option (Message w)} {sys sys' : System w} → IsLanded c ch x queue pushes sys sys'
     → completes x (unfinished ch (receiver ch c sys)) ≡ true → IsTaken c ch x queue pushes sys sys'
-taken-landed {w} {c} {ch} {x} {sys} is last = grind (arith, rests-ended)
+taken-landed {w} {c} {ch} {x} {sys} is last = record {
+  first = is.first;
+  last = last;
+  channels = is.channels;
+  rests = λ d at. is.rests d at ∙ rests-ended c ch x sys last d at;
+}
 
 -- a beat is of one channel
 abbrev pub IsOn : {w : ℕ} → Channel → Beat w → Type 0
@@ -62,7 +87,10 @@ on_own_channel x = grind arith
 
 -- a channel to a client isn't one to the manager
 apart_channels : (a b : Channel) → (is_to_client a ≡ is_to_client b → ⊥) → same_channel a b ≡ false
-apart_channels a b apart = grind (arith, same_channel-is)
+apart_channels a b apart =
+    let go : (x : Bool) → same_channel a b ≡ x → x ≡ false =
+    elim [ false ↦ λ e. refl | true ↦ λ e. absurd (apart (ap is_to_client (same_channel-is a b e))) ] in
+    go (same_channel a b) refl
 
 grown_history : {w : ℕ} (ch at : Channel) (x : Beat w) (t : History w) → IsOn ch x
     → unfinished at (x ∷ t) ≡ (if same_channel at ch then grown x (unfinished at t) else unfinished at t)

@@ -1,5 +1,5 @@
 -- What the phases of a client say of what it holds and of what is on its channels.
-use Rattle.std.proofs.Common.{◌≡◌, refl, Bool, true, false, not, ◌&&◌}
+use Rattle.std.proofs.Common.{◌≡◌, refl, Bool, true, false, not, ◌&&◌, ◌||◌}
 use Rattle.tl_coherence.proofs
 use proofs.Imports.{Cap, Grow, Report, Perm, prune_left, report_left, cap_right, report_at, same_perm, ClientBlock}
 use proofs.Imports.{View, Idle, Own, Other, Granting, Acknowledging, ProbePhase, ProbeAnswered, ReleasePhase}
@@ -182,3 +182,15 @@ unfolding flow_test
 report_first r p v h e = answered_is p.probing (λ j. not (is_acked p.letting)) r e (of_phase flow_test flow_all p v h)
 
 -- ---- no Release beside an Acquire
+
+release_alone_test : ClientBlock → View → Bool
+release_alone_test p v = is_unreleased p.letting || is_unacquired p.acquiring
+
+release_alone_all : each_phase release_alone_test ≡ true
+unfolding each_phase release_alone_test
+release_alone_all = refl
+
+pub release_alone : (p : ClientBlock) (v : View) → ok p v ≡ true
+    → (is_unreleased p.letting || is_unacquired p.acquiring) ≡ true
+unfolding release_alone_test
+release_alone p v h = of_phase release_alone_test release_alone_all p v h

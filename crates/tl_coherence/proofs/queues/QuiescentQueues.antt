@@ -20,7 +20,7 @@ none-first config ch link (suc n) s none c low high =
         → (if b then Some (record { 0 = link }, ch) else first_movable config ch (link + 1) n s) ≡ None
         → (first_movable config ch (link + 1) n s ≡ None → link + 1 ≤ c → is_movable config c ch s ≡ false)
         → is_movable config c ch s ≡ false
-    go b e f g = grind (arith, cases_eq, c)
+    go b e f g = grind (arith, cases_eq)
 
 pub first-none : {w : ℕ} (config : Config) (ch : Channel) (link n : ℕ) (s : System w)
     → ((c : ℕ) → is_movable config c ch s ≡ false) → first_movable config ch link n s ≡ None

@@ -1,15 +1,16 @@
 -- Sources and trackers that are used are below the numbers that the configuration gives.
-use Rattle.std.proofs.Common.{◌≡◌, ℕ, ◌<◌, Bool, true, List, [], ◌∷◌, refl, sym, ◌∙◌, ap, ◌||◌, Option, Some, arith}
+use Rattle.std.proofs.Common.{◌≡◌, ℕ, ◌<◌, Bool, true, false, List, [], ◌∷◌, refl, sym, ◌∙◌, ap, ◌||◌, Option, Some, arith}
 use Rattle.std.proofs.Common.{eqb-true, ◌==◌, is_some}
 use Rattle.tl_coherence.proofs
-use proofs.Imports.{and_parts, MessageA, Config, RequestSource, ReleaseSource, pending, is_one_of, tracker_among}
-use proofs.Imports.{services, trackers_of, is_busy, Service, Free, Waits, GrantSent, GrantTaken, State, SourceState}
-use proofs.Imports.{SourceFree, client_in, service_with, AccessMessages, block_message, SimulationRelation, asked_by}
-use proofs.Imports.{sources_of, Log, System, terms_at}
+use proofs.Imports.{and_parts, Message, MessageA, Config, RequestSource, ReleaseSource, pending, is_one_of}
+use proofs.Imports.{tracker_among, services, trackers_of, is_busy, Service, Free, Waits}
+use proofs.Imports.{GrantSent, GrantTaken, State, SourceState, SourceFree, Asked, InService, Replied, Acquires}
+use proofs.Imports.{client_in, service_with, IsOpened, AccessMessages, block_message, SimulationRelation, asked_by}
+use proofs.Imports.{first_of, request_source, IsSourced, sources_of, Log, Requests, one_memory_after, System, terms_at}
 use Rattle.tl_manager.specs.code.Kept as kept
-use proofs.protocol.{TokenNames.AreBounded}
-use proofs.queues.{Tokens.same_number}
-use proofs.client.{Askable.acquires_something}
+use proofs.protocol.TokenNames.{AreBounded}
+use proofs.queues.Tokens.{same_number}
+use proofs.client.Askable.{acquires_something}
 
 -- a client's sources that are pending are its own
 pub record IsOwn {w : ℕ} (config : Config) (c : ℕ) (sys : System w) : Type 0 where
@@ -20,6 +21,9 @@ pub record IsOwn {w : ℕ} (config : Config) (c : ℕ) (sys : System w) : Type 0
 
 -- ---- an open request has a first beat
 
+source_known : {w : ℕ} (m : Message w) (source : ℕ) → request_source m ≡ Some source → is_some (first_of m) ≡ true
+source_known m source e = grind arith
+
 -- ---- trackers
 
 of_each : (P : ℕ → Type 0) (ns : List ℕ) (n : ℕ) → is_one_of n ns ≡ true → kept.Each P ns → P n
@@ -27,7 +31,8 @@ of_each P [] n e each = absurd cc
 of_each P (m ∷ ns) n e each = go (n == m) refl e (λ f. of_each P ns n f each.1)
   where
     go : (b : Bool) → (n == m) ≡ b → (b || is_one_of n ns) ≡ true → (is_one_of n ns ≡ true → P n) → P n
-    go b e f g = grind (arith, n, m)
+    go true same f rest = let is : n ≡ m = eqb-true n m same in rw is each.0
+    go false differs f rest = rest f
 
 someone : (service : Service) → is_busy service ≡ true → (r : ℕ) × (client_in service ≡ Some r)
 someone (Waits r own source k) e = (r, refl)
@@ -43,7 +48,20 @@ module _ {w : ℕ} (config : Config) (log : Log w) (mail : AccessMessages w) (re
   asked_of : (source : ℕ) (u : SourceState) → s.uses c source ≡ u → (u ≡ SourceFree → ⊥)
       → is_some (asked_by mail s c source) ≡ true
   unfolding block_message
-  asked_of source u e f = grind (arith, acquires_something)
+  asked_of source SourceFree e used = absurd (used refl)
+  asked_of source Asked e used =
+      let sourced : IsSourced config c source (mail.request c source) Asked = rw e at (matched.sourced c source) in
+      rw e (source_known (mail.request c source) source sourced.0)
+  asked_of source (InService n) e used =
+      let sourced : IsSourced config c source (mail.request c source) (InService n) =
+      rw e at (matched.sourced c source) in
+      rw e (source_known (mail.request c source) source sourced.0)
+  asked_of source Replied e used =
+      let opened : IsOpened c source mail s Replied ((one_memory_after config log).opened c Requests source) =
+      rw e at (matched.beside.requests c source) in
+      rw e (rw opened.1.1 refl)
+  asked_of source (Acquires n) e used =
+      rw e (acquires_something w ((s.block n).pair c).acquiring ((s.block n).source c) n)
 
   tracker_below : (i n : ℕ) → s.tracked i ≡ Some n → i < config.trackers
   tracker_below i n e =

@@ -1,6 +1,6 @@
 -- The channels carry the messages of the tokens after the manager or a client takes a message of channels A to C.
 use Rattle.std.proofs.Common.{◌≡◌, ℕ, Bool, true, false, ◌&&◌, List, ◌∷◌, Some, None, refl, ◌⊎◌, inl, inr, ne_eqb, ◌==◌}
-use Rattle.std.proofs.Common.{arith, if◌then◌else◌}
+use Rattle.std.proofs.Common.{if◌then◌else◌}
 use Rattle.tl_coherence.proofs
 use proofs.Imports.{cases_eq, Channel, Message, Cap, Prune, Report, IsInvariant, is_replied, Kind, Request, Acquire}
 use proofs.Imports.{Probe, ProbeAck, Release, Answer, Grant, ReleaseAck, Packet, set, set_at, ProbeSent, Free, Block}
@@ -8,12 +8,12 @@ use proofs.Imports.{State, Asked, packet, answered_link, let_link, probed_link, 
 use proofs.Imports.{acquire_granted, granted_at_once, probe_taken, probed_block, report_taken, reported_block}
 use proofs.Imports.{release_taken, let_block, Stays, AccessMessages, block_message, message_of, same_channel}
 use proofs.Imports.{channel_of_message}
-use proofs.protocol.{Alike.alike-probed, Alike.alike-reported, Alike.alike-let, Answered.answer_moves}
-use proofs.protocol.{AtOnce.once_moves, Probed.probe_moves, Reported.report_moves, Reported.let_moves}
-use proofs.protocol.AlikeRequests.{alike-bytes, alike-granted_at_once}
-use proofs.queues.{Landed.pushes_of, Moves.moves_at, Shown.IsShown, Tokens.same_number, Tokens.set-same}
-use proofs.queues.Showing.{carries, showing-block}
-use proofs.queues.Channels.{Fits, moved-at, fits-at, pushes_at}
+use proofs.protocol.{AlikeRequests.alike-bytes, AlikeRequests.alike-granted_at_once, Alike.alike-probed}
+use proofs.protocol.{Alike.alike-reported, Alike.alike-let, Answered.answer_moves, AtOnce.once_moves}
+use proofs.protocol.{Probed.probe_moves, Reported.report_moves, Reported.let_moves}
+use proofs.queues.{Landed.pushes_of, Moves.moves_at, Shown.IsShown, Showing.carries, Showing.showing-block}
+use proofs.queues.{Tokens.same_number, Tokens.set-same, Channels.Fits, Channels.moved-at, Channels.fits-at}
+use proofs.queues.{Channels.pushes_at}
 use proofs.simulation.CarriedAsks.{only_on, fits_pushed, new_there}
 
 -- ---- a request is taken
@@ -122,7 +122,12 @@ report_taken-shown {w} {caching} c n r rest mail {s} inv inv' first = record {
     fits : (d : ℕ) (at : Channel) (b : Bool)
         → Fits (b && same_channel at Channel.C) None (if b then report_moves n at else Stays)
         (λ j l. message_of mail s' d (packet j l))
-    fits d at b = grind arith
+    fits d at false = tt
+    fits d Channel.A true = tt
+    fits d Channel.B true = tt
+    fits d Channel.C true = tt
+    fits d Channel.D true = tt
+    fits d Channel.E true = tt
 
 -- ---- a Release is taken
 

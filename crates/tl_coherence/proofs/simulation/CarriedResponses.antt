@@ -1,6 +1,5 @@
 -- The channels carry the messages of the tokens after a response or a GrantAck is taken.
-use Rattle.std.proofs.Common.{◌≡◌, ℕ, Bool, true, false, ◌&&◌, List, ◌∷◌, Some}
-use Rattle.std.proofs.Common.{None, refl, ◌⊎◌, ◌==◌, if◌then◌else◌, arith}
+use Rattle.std.proofs.Common.{◌≡◌, ℕ, Bool, true, false, ◌&&◌, List, ◌∷◌, Some, None, refl, ◌⊎◌, ◌==◌, if◌then◌else◌}
 use Rattle.tl_coherence.proofs
 use proofs.Imports.{Channel, Message, Cap, IsInvariant, Kind, Answer, Grant, ReleaseAck, GrantAck, Packet, GrantSent}
 use proofs.Imports.{GrantTaken, Block, State, packet, taken_link, answer_taken, grant_taken, taken_block}
@@ -98,4 +97,5 @@ grant_ack_taken-shown {w} {caching} c n rest mail {s} inv inv' first sent = reco
     fits : (d : ℕ) (b : Bool) (at : Channel)
         → Fits (b && same_channel at Channel.E) None (if b then freed_moves n at else Stays)
         (λ j l. message_of mail s' d (packet j l))
-    fits d b at = grind arith
+    fits d true Channel.E = tt
+    fits d b at = tt

@@ -1,8 +1,8 @@
 -- Each beat on a channel is sound and has its lanes, after every event.
-use Rattle.std.proofs.Common.{◌≡◌, ℕ, Bool, true, false, List, [], ◌∷◌, Option, Some, None, refl, subst, arith}
+use Rattle.std.proofs.Common.{◌≡◌, ℕ, Bool, true, false, List, [], ◌∷◌, Option, Some, None, refl, ap, subst, arith}
 use Rattle.std.proofs.Common.{length, if◌then◌else◌, All, Result, Ok, unwrap_or, is_some}
 use Rattle.tl_coherence.proofs
-use proofs.Imports.{All-head, Beat, Link, Channel, IsWidth, Message, MessageA, Config, Rule, Op}
+use proofs.Imports.{All-head, Beat, Link, Channel, IsWidth, Message, MessageA, Config, Perm, Rule, same_perm, Op}
 use proofs.Imports.{Verdict, zeros, copy_at, reaction_handable, Each, Event, Deliver, Ask, State, AccessMessages}
 use proofs.Imports.{SimulationRelation, AreLanes, IsTypedOp, IsTyped, Log, stepped, stepped_at, client_took}
 use proofs.Imports.{is_to_client, client_of, delivered, handed_by, judged, manager_took, System, terms_at, with_channel}
@@ -28,7 +28,14 @@ copy_of o e = grind arith
 pub copy-long : {w : ℕ} {config : Config} {log : Log w} {mail : AccessMessages w} {request : ℕ → MessageA w}
     {s : State (List ℕ)} {sys : System w}
     → SimulationRelation config log mail request s sys → (c n : ℕ) → length (copy_at (sys.clients c) n) ≡ 64
-copy-long {w} {s} {sys} h c n = grind (arith, copy_of)
+copy-long {w} {s} {sys} h c n = go ((s.block n).pair c).held refl
+  where
+    there : same_perm ((s.block n).pair c).held Perm.None ≡ false → length (copy_at (sys.clients c) n) ≡ 64
+    there e = cc (h.copies c n e, (h.invariant.blocks n).copies c e, (h.sized n).truth)
+
+    go : (p : Perm) → ((s.block n).pair c).held ≡ p → length (copy_at (sys.clients c) n) ≡ 64
+    go Perm.None e = copy_of ((sys.clients c).copies n) (cc ((h.kept c).copies_held n, (h.known c).held_is n))
+    go p e = there (ap (λ p. same_perm p Perm.None) e)
 
 -- ---- what is handed out
 

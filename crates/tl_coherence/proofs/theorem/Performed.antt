@@ -71,7 +71,7 @@ module _ {w : ℕ} {config : Config} (log : Log w) (link : Link) (ch : Channel) 
       ≡ one_memory_after config log
       → one_memory_after config after ≡ done_at q source (Message.A access.0) (one_memory_after config log)
   unfolding one_memory_after IsLog
-  machine_after q source one access still = grind (arith, performing-one, log)
+  machine_after q source one access still = grind (arith, performing-one)
 
   free-after : (q source : ℕ) → accesses ≡ (q, source) ∷ []
       → (access : IsAccess source (h.mail.request q source) None

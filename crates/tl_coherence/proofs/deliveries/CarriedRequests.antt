@@ -13,20 +13,21 @@ use proofs.Imports.{ChannelRelation, AccessMessages, block_message, SimulationRe
 use proofs.Imports.{System, with_manager, with_channel, with_messages}
 use Rattle.tl_manager.specs.statement.Holders as holders
 use proofs.manager.{Admitted.offered-taken, AtRequests.end_after, AtRequests.reaction-probing, ManagedServed.same_above}
-use proofs.manager.{Requests.recorded-beat, RequestsHanded.handed-answered, RequestsHanded.handed-granted}
-use proofs.manager.Arrivals.{link_of, with_beat, IsComing, ends-coming, service_for}
-use proofs.manager.RequestsTaken.{caps_asked, acquire_wanted, ready-request, ready-acquire}
-use proofs.manager.UnwaitedRequests.{next_tracker, free-last, invariant-taken, probed-some, somebody-probed}
-use proofs.manager.UnwaitedRequests.{beyond-none}
+use proofs.manager.{Requests.recorded-beat, Arrivals.link_of, Arrivals.with_beat, Arrivals.IsComing}
+use proofs.manager.{Arrivals.ends-coming, Arrivals.service_for, RequestsHanded.handed-answered}
+use proofs.manager.{RequestsHanded.handed-granted, RequestsTaken.caps_asked, RequestsTaken.acquire_wanted}
+use proofs.manager.{RequestsTaken.ready-request, RequestsTaken.ready-acquire}
 use proofs.queues.{Shown.carried-shown, Showing.carries, Showing.none-carried, Tokens.set-same, Codes.acquires-so}
 use proofs.queues.{Perms.none-above, Channels.behind, Channels.IsTaken, Channels.pushes_at}
-use proofs.queues.Landed.{pushes_of, IsLanded, taken-landed, HasTaken, landed-manager, channels-handed, on_own_channel}
 use proofs.protocol.{Events.IsReady, RequestsKept.some-none, RequestsKept.leaves-bytes, Heads.IsAsked, Heads.IsWanted}
-use proofs.simulation.Moved.{manager-heard, carried-part}
-use proofs.simulation.CarriedEvents.{access_answered-shown, acquire_granted-shown}
+use proofs.simulation.{Moved.manager-heard, Moved.carried-part, CarriedEvents.access_answered-shown}
+use proofs.simulation.{CarriedEvents.acquire_granted-shown}
+use proofs.bound.RankAfter.{once_on_d}
 use proofs.simulation.CarriedProbes.{probe_pushes, channels-probes, access_served-shown, acquire_served-shown}
-use proofs.bound.{RankAfter.once_on_d}
-use proofs.deliveries.{LandedReports.answer_on_d}
+use proofs.manager.UnwaitedRequests.{next_tracker, free-last, invariant-taken, probed-some, somebody-probed}
+use proofs.manager.UnwaitedRequests.{beyond-none}
+use proofs.queues.Landed.{pushes_of, IsLanded, taken-landed, HasTaken, landed-manager, channels-handed, on_own_channel}
+use proofs.deliveries.LandedReports.{answer_on_d}
 
 -- ---- the whole after a beat of a request
 
@@ -47,7 +48,7 @@ heard-coming {w} config c k m queue sys is =
     (record { takes = offered-taken config (link_of c) Channel.A x sys.manager is.passes; step_is = refl })
 
 -- what is handed out stands behind what was on the channels
-landed-coming : {w : ℕ} {config : Config} {c k : ℕ} {m : MessageA w} (queue : List (Beat w)) (sys : System w)
+pub landed-coming : {w : ℕ} {config : Config} {c k : ℕ} {m : MessageA w} (queue : List (Beat w)) (sys : System w)
     (handed : Handed w) (pushes : ℕ → Channel → Option (Message w)) → IsComing config c k m sys.manager
     → sys.channels c Channel.A ≡ Beat.A (a_beat_of m k) ∷ queue
     → (reaction config (link_of c) (Beat.A (a_beat_of m k)) sys.manager).handed ≡ handed
@@ -85,9 +86,14 @@ carried-more {w} {config} {mail} {s} {sys} {c} {k} {m} queue is comes beats part
 -- ---- its last beat: others are probed
 
 nothing_above : (j : Cap) (own : Bool) → (not own && is_above j Perm.None) ≡ false
-nothing_above j own = grind arith
+nothing_above Cap.ToT true = refl
+nothing_above Cap.ToT false = refl
+nothing_above Cap.ToB true = refl
+nothing_above Cap.ToB false = refl
+nothing_above Cap.ToN true = refl
+nothing_above Cap.ToN false = refl
 
-taken-probing : {w : ℕ} {config : Config} {log : Log w} {mail : AccessMessages w} {request : ℕ → MessageA w}
+pub taken-probing : {w : ℕ} {config : Config} {log : Log w} {mail : AccessMessages w} {request : ℕ → MessageA w}
     {s : State (List ℕ)} {sys : System w} {c k : ℕ} (n : ℕ)
     (own : Bool) (j : Cap) {m : MessageA w} (queue : List (Beat w)) → SimulationRelation config log mail request s sys
     → IsComing config c k m sys.manager → sys.channels c Channel.A ≡ Beat.A (a_beat_of m k) ∷ queue
@@ -97,7 +103,8 @@ taken-probing : {w : ℕ} {config : Config} {log : Log w} {mail : AccessMessages
     → IsTaken c Channel.A (Beat.A (a_beat_of m k)) queue
     (probe_pushes n j (λ d. is_probed c own j ((s.block n).pair d).recorded d)) sys
     (system_after config c k m queue sys)
-taken-probing {w} {config} {s} {sys} {c} {k} n own j {m} queue is comes beats last kind block done =
+taken-probing {w} {config} {log} {mail} {request} {s} {sys} {c} {k} n own j {m} queue is comes beats last kind block
+    done =
     let test : ℕ → Bool = λ d. is_probed c own j ((s.block n).pair d).recorded d in
     let pushes : ℕ → Channel → Option (Message w) = probe_pushes n j test in
     let same : (i : ℕ) → (holders.is_above j (recorded i (block_at m.address) (with_beat c m k sys.manager.trace))
@@ -122,7 +129,7 @@ taken-probing {w} {config} {s} {sys} {c} {k} n own j {m} queue is comes beats la
 
 -- ---- one message is handed out
 
-taken-answering : {w : ℕ} {config : Config} {c k : ℕ} {m : MessageA w} (i : Message w) (queue : List (Beat w))
+pub taken-answering : {w : ℕ} {config : Config} {c k : ℕ} {m : MessageA w} (i : Message w) (queue : List (Beat w))
     (sys : System w) → IsComing config c k m sys.manager → sys.channels c Channel.A ≡ Beat.A (a_beat_of m k) ∷ queue
     → beats_of (Message.A m) ≡ suc k → (reaction config (link_of c) (Beat.A (a_beat_of m k)) sys.manager).handed
     ≡ (link_of c, i) ∷ [] → IsTaken c Channel.A (Beat.A (a_beat_of m k)) queue (pushes_at c (pushes_of (Some i))) sys
@@ -148,7 +155,9 @@ carried-acquire_taken {w} {config} {log} h {sys} {c} {n} {k} rest queue is first
     let inv = invariant-taken h c Acquire n rest is first ready in
     subst (λ (i : AcquirePhase). ChannelRelation (acquire_taken clients config.profile c n i tracker rest h).mail
     (acquire_taken clients config.profile c n i tracker rest h).state after) (sym asked.wants)
-    (go (some_below clients (λ d. is_probed c true j (b.pair d).recorded d)) refl (rw asked.wants at inv))
+    (go (some_below clients (λ d. is_probed c true j (b.pair d).recorded d)) refl
+    (subst (λ (i : AcquirePhase). IsInvariant (is_caching config) (acquire_taken clients config.profile c n i tracker
+    rest h).state) asked.wants inv))
   where
     b : Block (List ℕ)
     b = h.state.block n
@@ -223,7 +232,8 @@ unread-bytes {w} {config} {s} c n m is access none k d =
     ]
   where
     either : (b : Bool) {x : Bool} → x ≡ true → (b || x) ≡ true
-    either b e = grind arith
+    either true e = refl
+    either false e = e
 
 -- after the last beat of an access that was taken
 pub carried-request_taken : {w : ℕ} {config : Config} {log : Log w} (h : AbstractState w) {sys : System w}
@@ -239,7 +249,8 @@ carried-request_taken {w} {config} {log} h {sys} {c} {source} {k} rest queue is 
     let inv = invariant-taken h c Request source rest is first (ready-request h is asked comes last moves) in
     subst (λ (i : Message w). Carries (request_taken clients c source i tracker rest h)) (sym asked.is_it)
     (go (probes_some clients c false (cap_probed m.opcode m.param) b.pair) (cap_probed m.opcode m.param) refl refl
-    (rw asked.is_it at inv))
+    (subst (λ (i : Message w). IsInvariant (is_caching config) (request_taken clients c source i tracker rest h).state)
+    asked.is_it inv))
   where
     m : MessageA w
     m = asked.request

@@ -84,11 +84,14 @@ traced-answered {w} {X} {config} {request} {c} {k} {n} f {m} {s} u memory {e} bl
     traced-at (record {
       other_blocks = λ i ne. blocks i ∙ set-other n i new s.block ne;
       other_requests = λ i ne. refl;
-      recorded_here = λ d. cc (recorded_same d n, known.recorded_is d n);
+      recorded_here = λ d. recorded_same d n ∙ known.recorded_is d n ∙ sym
+          (ap (λ (b : Block X). (b.pair d).recorded) here);
       recorded_else = λ d i ne. recorded_same d i;
-      probes_here = λ d. cc (missing_same d n, known.probes d n);
+      probes_here = λ d. missing_same d n ∙ known.probes d n ∙ sym
+          (ap (λ (b : Block X). not (is_unprobed (b.pair d).probing)) here);
       probes_else = λ d i ne. missing_same d i;
-      serving_here = cc (served n, is.access, is.block, same_number n, is.free);
+      serving_here = served n ∙ rw (is.access, is.block, same_number n)
+          (sym (ap (λ (b : Block X). service_with (client_in b.service) b.tracker (request n)) here ∙ rw is.free refl));
       serving_else = λ i ne. let differ : n ≡ i → ⊥ = λ g. ne (sym g) in
           served i ∙ rw (is.access, is.block, ne_eqb n i differ) (serving-others n i is.comes is.last is.block ne);
       request_here = rw (here, is.free) tt;
@@ -120,8 +123,13 @@ grant_of_d : {w : ℕ} (config : Config) (n : ℕ) (j : Cap) (s : Service w) (t 
     → block_at s.request.address ≡ n → cap_granted config.profile s.request.opcode s.request.param
     (holders.is_unheld config n t) ≡ j → (m : MessageD w) × (grant config s t memory ≡ D m) × (is_grant m.opcode ≡ true)
     × (m.source ≡ s.request.source) × (capped m.param ≡ cap_right j)
-grant_of_d config n j s t memory block given = let fact = grants-so (is_granted_data s.request.opcode s.request.param
-    (recorded s.link.0 (block_at s.request.address) t)) in (_, refl, fact, refl, rw (block, given) (cap-gives j))
+grant_of_d config n j s t memory block given = (
+  _,
+  refl,
+  grants-so (is_granted_data s.request.opcode s.request.param (recorded s.link.0 (block_at s.request.address) t)),
+  refl,
+  rw (block, given) (cap-gives j),
+)
 
 pub traced-granted : {w : ℕ} {X : Type 0} {config : Config} {request : ℕ → MessageA w} {c k n : ℕ} (b : Bool) {j : Cap}
     {m : MessageA w} {s : State X} (u : State X) (memory : Memory) {e : End w}

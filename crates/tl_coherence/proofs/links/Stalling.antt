@@ -1,6 +1,7 @@
 -- Which deliveries are stalled: a Probe while a Release of its block is outstanding, and the last beat of a request
 -- whose block is in service, or for which there is no tracker.
-use Rattle.std.proofs.Common.{◌≡◌, ℕ, Bool, true, false, List, [], ◌∷◌, refl, sym, ◌∙◌, ap, not, ◌&&◌, Option, Some, arith}
+use Rattle.std.proofs.Common.{◌≡◌, ℕ, Bool, true, false, List, [], ◌∷◌, refl}
+use Rattle.std.proofs.Common.{sym, ◌∙◌, ap, not, ◌&&◌, Option, Some, arith}
 use Rattle.std.proofs.Common.{None, is_none, is_some, option_map}
 use Rattle.tl_coherence.proofs
 use proofs.Imports.{and-false, not-true, not-false, Beat, BeatB, Channel, MessageA, channel_of, is_empty, Config}

@@ -6,7 +6,7 @@ use proofs.Imports.{or-true, cases_eq, MessageA, a_beat_of, Config, ProbeOf, Cap
 use proofs.Imports.{request_of, swapped, some_is, IsKept, AreApart, blocks_of, is_any, IsProbed, End, recorded}
 use proofs.Imports.{services, service_of_block, IsInvariant, IsAwaited, ClientBlock, View, Own, Other, Granting}
 use proofs.Imports.{Acknowledging, GrantedOther, is_unprobed, ok, Service, Free, Waits, GrantSent, GrantTaken, State}
-use proofs.Imports.{view, is_granting, is_acknowledging, ManagerRelation, is_own, client_in, service_with, IsFor}
+use proofs.Imports.{view, ManagerRelation, is_own, client_in, service_with, IsFor}
 use Rattle.tl_manager.{proofs.pending.Settled.all-settled, proofs.services.Serving.none_of_block}
 use Rattle.tl_manager.specs.laws.Pending.{is_acquiring, is_granted_to, is_awaited}
 use Rattle.tl_manager.specs.laws.Pending as waits
@@ -150,28 +150,6 @@ acquiring-is c n tracker m t (GrantTaken q) for granted =
     elim [ true ↦ refl | false ↦ refl ] in
     rw (granted (at_service q tracker m) refl, for.0, swapped q c) (go (c == q))
 
-abbrev is_grant_of : View → Bool
-is_grant_of v = is_granting v || is_acknowledging v
-
-granting-is : {w : ℕ} (c n tracker : ℕ) (m : MessageA w) (t : Trace w) (service : Service)
-    → ((v : manager.Service w) → service_with (client_in service) tracker m ≡ Some v
-    → waits.is_granted t v ≡ is_granted_in service)
-    → is_granted_to c t (service_with (client_in service) tracker m) ≡ is_grant_of (view service c)
-granting-is c n tracker m t Free granted = refl
-granting-is c n tracker m t (Waits r own source k) granted =
-    rw (granted (at_service r tracker m) refl) (go (r == c) (own && (c == r)))
-  where
-    go : (b same : Bool) → (b && false) ≡ is_grant_of (if same then Own else Other k)
-    go b same = grind arith
-granting-is c n tracker m t (GrantSent q d k) granted =
-    let go : (same : Bool) → (same && true) ≡ is_grant_of (if same then Granting d k else GrantedOther) =
-    elim [ true ↦ refl | false ↦ refl ] in
-    rw (granted (at_service q tracker m) refl, swapped q c) (go (c == q))
-granting-is c n tracker m t (GrantTaken q) granted =
-    let go : (same : Bool) → (same && true) ≡ is_grant_of (if same then Acknowledging else GrantedOther) =
-    elim [ true ↦ refl | false ↦ refl ] in
-    rw (granted (at_service q tracker m) refl, swapped q c) (go (c == q))
-
 pub managed-traced : {w : ℕ} {X : Type 0} {caching : ℕ → Bool} {config : Config} {request : ℕ → MessageA w}
     {s : State X} {e : End w} → IsInvariant caching s
     → IsKept config e → IsTraced request s e.trace → ManagerRelation request s e.trace
@@ -180,8 +158,6 @@ managed-traced {w} {X} {caching} {config} {request} {s} {e} inv kept is = record
   probes = is.probes;
   acquires = λ c n. (kept.steady.accounted.blocks n).acquires c ∙ ap (is_acquiring c e.trace) (is.serving_is n)
       ∙ acquiring-is c n (s.block n).tracker (request n) e.trace (s.block n).service (is.requests n) (granted n);
-  grant_acks = λ c n. (kept.steady.accounted.blocks n).grants c ∙ ap (is_granted_to c e.trace) (is.serving_is n)
-      ∙ granting-is c n (s.block n).tracker (request n) e.trace (s.block n).service (granted n);
   serving_is = is.serving_is;
 }
   where

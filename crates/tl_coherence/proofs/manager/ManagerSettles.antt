@@ -1,5 +1,6 @@
 -- All that is kept of the manager's end, after the last ProbeAck that a request waited for.
-use Rattle.std.proofs.Common.{◌≡◌, ℕ, Bool, true, false, not, List, [], ◌∷◌, length, refl, sym, ◌∙◌, ap, ap₂, subst, arith}
+use Rattle.std.proofs.Common.{◌≡◌, ℕ, Bool, true, false, not, List, [], ◌∷◌}
+use Rattle.std.proofs.Common.{length, refl, sym, ◌∙◌, ap, ap₂, subst, arith}
 use Rattle.tl_coherence.proofs
 use proofs.Imports.{Beat, BeatC, Message, MessageA, MessageC, MessageD, c_beat_of, Config, Cap, Grow, Report, Perm}
 use proofs.Imports.{cap_code, grow_code, Trace, same_perm, effect, Memory, block_at, is_release_ack, is_grant, capped}

@@ -1,5 +1,6 @@
 -- The last beat of a request that is taken: what the protocol does then is what the manager does.
-use Rattle.std.proofs.Common.{◌≡◌, subst, ℕ, suc, Bool, true, false, not, List, Option, Some, None, length, refl, sym, arith}
+use Rattle.std.proofs.Common.{◌≡◌, subst, ℕ, suc, Bool, true, false, not, List}
+use Rattle.std.proofs.Common.{Option, Some, None, length, refl, sym, arith}
 use Rattle.std.proofs.Common.{◌∙◌, ap, if◌then◌else◌}
 use Rattle.tl_coherence.proofs
 use proofs.Imports.{Beat, Message, MessageA, a_beat_of, beats_of, Config, Cap, Grow, block_at, is_acquire, same_block}

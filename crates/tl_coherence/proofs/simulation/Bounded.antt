@@ -1,5 +1,6 @@
 -- Sources and trackers that are used are below the numbers that the configuration gives.
-use Rattle.std.proofs.Common.{◌≡◌, ℕ, ◌<◌, Bool, true, false, List, [], ◌∷◌, refl, sym, ◌∙◌, ap, ◌||◌, Option, Some, arith}
+use Rattle.std.proofs.Common.{◌≡◌, ℕ, ◌<◌, Bool, true, false, List, [], ◌∷◌}
+use Rattle.std.proofs.Common.{refl, sym, ◌∙◌, ap, ◌||◌, Option, Some, arith}
 use Rattle.std.proofs.Common.{eqb-true, ◌==◌, is_some}
 use Rattle.tl_coherence.proofs
 use proofs.Imports.{and_parts, Message, MessageA, Config, RequestSource, ReleaseSource, pending, is_one_of}

@@ -108,7 +108,6 @@ fresh-matched {w} config = record {
     recorded_is = λ c n. refl;
     probes = λ c n. refl;
     acquires = λ c n. refl;
-    grant_acks = λ c n. refl;
     serving_is = λ n. refl;
   };
   served = record {

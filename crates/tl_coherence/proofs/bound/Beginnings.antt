@@ -1,21 +1,20 @@
 -- What is owed falls as a beat is taken that isn't the last of its message.
-use Rattle.std.proofs.Common.{◌≡◌, ℕ, ◌+◌, ◌<◌, ◌≤◌, Bool, true, false, List, ◌∷◌, refl, sym, ◌∙◌, arith, ◌⊎◌, inl, inr}
-use Rattle.std.proofs.Common.{Option, Some, None, length, if◌then◌else◌}
+use Rattle.std.proofs.Common.{◌≡◌, ℕ, ◌+◌, ◌<◌, ◌≤◌, Bool, true, false, List, ◌∷◌, refl, sym, ◌∙◌, arith, ◌⊎◌}
+use Rattle.std.proofs.Common.{Option, length, if◌then◌else◌}
 use Rattle.tl_coherence.proofs
 use proofs.Imports.{cases_eq, Beat, Channel, beats_of, Config, Left, probing_weight, pair_weight, probes_weight}
 use proofs.Imports.{acquire_weight, letting_weight, rank, let_weight, IsInvariant, is_asked, is_replied, Kind, Request}
-use proofs.Imports.{Acquire, ProbeAck, Release, Answer, Grant, ClientBlock, Own, Granting, ProbePhase, ProbeAnswered}
-use proofs.Imports.{ReleaseSent, is_unprobed, View, ReleasePhase, Waits, State, SourceFree, Asked, InService, Replied}
-use proofs.Imports.{Acquires, packet, view, packets_on, is_unserved, is_wanting, is_answered, is_granting, is_releasing}
-use proofs.Imports.{shown, channel_for, AccessMessages, message_of_kind, System}
-use proofs.protocol.Capacities.{request_named, answer_named, acquire_named, grant_named, release_named}
+use proofs.Imports.{Acquire, ProbeAck, Release, Answer, Grant, ClientBlock, Own, Granting}
+use proofs.Imports.{ReleaseSent, View, ReleasePhase, Waits, State, SourceFree, Asked, InService, Replied, Acquires}
+use proofs.Imports.{packet, view, packets_on, is_unserved, is_wanting, is_granting, is_releasing, shown}
+use proofs.Imports.{channel_for, AccessMessages, message_of_kind, System}
 use proofs.protocol.{TokenNames.shown_there, TokenNames.shows_it, Room.is_light, Room.light-one, BothParts.not-answered}
-use proofs.protocol.{BeatsRemaining.beats_left, BeatsRemaining.taken_of, BeatsRemaining.is_front}
-use proofs.protocol.{BeatsRemaining.same_channels}
+use proofs.protocol.Capacities.{request_named, answer_named, acquire_named, grant_named, release_named}
+use proofs.protocol.BeatsRemaining.{beats_left, taken_of, is_front, same_channels}
 use proofs.queues.{Distinct.first-there, FirstToken.IsFirst, Phases.and_right, Rendered.same_kind_again}
 use proofs.queues.{Tokens.same_number, KindMoves.kind_channel}
-use proofs.rank.{Frames.unserved-weight, Frames.AreClients, RankParts.IsAsking, RankParts.asking, RankParts.IsWaited}
-use proofs.rank.{RankParts.waited-probing, RankParts.open_use}
+use proofs.rank.Frames.{unserved-weight, AreClients}
+use proofs.rank.RankParts.{IsAsking, asking, IsWaited, waited-probing, open_use}
 use proofs.rank.RankDecreases.{IsNoMore, owed_use, owed_use', use-falls, let-falls, use-no-more, probes-no-more}
 use proofs.rank.RankDecreases.{acquire-no-more, total-falls}
 use proofs.simulation.Popped.{unfinished_at, first-left}
@@ -34,10 +33,7 @@ module _ {X : Type 0} (config : Config) (size : ℕ) (left left' : Left) (answer
 
   probing_less : (l l' : ℕ) (p : ClientBlock) → l' ≤ l → probing_weight size l' p.recorded p.probing ≤ probing_weight
       size l p.recorded p.probing
-  probing_less l l' p less =
-      let go : (x : ProbePhase) → probing_weight size l' p.recorded x ≤ probing_weight size l p.recorded x =
-      elim [ ProbeAnswered r ↦ less | x ↦ omega arith ] in
-      go p.probing
+  probing_less l l' p less = grind arith
 
   pair_less : (m d : ℕ) → pair_weight size left' m d ((s.block m).pair d) ≤ pair_weight size left m d
       ((s.block m).pair d)
@@ -47,8 +43,7 @@ module _ {X : Type 0} (config : Config) (size : ℕ) (left left' : Left) (answer
   probes_less m = probes-no-more config size left left' answer answer s s m (λ d lt. pair_less m d)
 
   letting_less : (l l' : ℕ) (x : ReleasePhase) → l' ≤ l → letting_weight l' x ≤ letting_weight l x
-  letting_less l l' (ReleaseSent r) less = omega (arith, less)
-  letting_less l l' x less = omega arith
+  letting_less l l' x e = grind arith
 
   pub none-more : IsNoMore config size left left' answer answer s s
   none-more = record {
@@ -62,9 +57,7 @@ module _ {X : Type 0} (config : Config) (size : ℕ) (left left' : Left) (answer
   }
     where
       lets_less : (c : ℕ) (o : Option ℕ) → let_weight left' s c o ≤ let_weight left s c o
-      lets_less c None = omega arith
-      lets_less c (Some m) = letting_less (left c Release m) (left' c Release m) ((s.block m).pair c).letting
-          (le c Release m)
+      lets_less c o = grind (arith, letting_less, left)
 
   -- ---- and where less is left of one message, less is owed
 
@@ -93,9 +86,7 @@ module _ {X : Type 0} (config : Config) (size : ℕ) (left left' : Left) (answer
           → acquire_weight size (left' c Acquire m) (left' c Grant m) (probes_weight number size left' m (s.block m))
           (view (s.block m).service c) + 1 ≤ acquire_weight size (left c Acquire m) (left c Grant m)
           (probes_weight number size left m (s.block m)) (view (s.block m).service c) → Falls
-      acquire_owes m used less =
-          use_owes c ((s.block m).source c) (λ closed. absurd (let both : Acquires m ≡ SourceFree = sym used ∙ closed in
-          cc)) (rw used less)
+      acquire_owes m used less = grind (arith, use_owes)
 
       acquire_less : (m : ℕ) → left' c Acquire m + 1 ≤ left c Acquire m → shown Acquire c (s.block m) ≡ true → Falls
       acquire_less m less e =
@@ -130,22 +121,14 @@ module _ {X : Type 0} (config : Config) (size : ℕ) (left left' : Left) (answer
       report_less : (m : ℕ) → left' c ProbeAck m + 1 ≤ left c ProbeAck m → shown ProbeAck c (s.block m) ≡ true → Falls
       report_less m less e = falls who.own who.is asker.used
         where
-          probed : is_unprobed ((s.block m).pair c).probing ≡ false
-          probed = not-answered ((s.block m).pair c).probing e
-
           who : IsWaited (s.block m).service
-          who = waited-probing c m inv probed
+          who = waited-probing c m inv (not-answered ((s.block m).pair c).probing e)
 
           asker : IsAsking m who.client who.own who.source s
           asker = asking m who.client who.own who.source who.cap inv who.is
 
           here : pair_weight size left' m c ((s.block m).pair c) + 1 ≤ pair_weight size left m c ((s.block m).pair c)
-          here =
-              let go : (x : ProbePhase) → is_answered x ≡ true
-              → probing_weight size (left' c ProbeAck m) ((s.block m).pair c).recorded x + 1 ≤ probing_weight size
-              (left c ProbeAck m) ((s.block m).pair c).recorded x =
-              elim [ ProbeAnswered r ↦ λ f. less | x ↦ λ f. absurd cc ] in
-              go ((s.block m).pair c).probing e
+          here = grind (arith, less)
 
           probes : probes_weight number size left' m (s.block m) + 1 ≤ probes_weight number size left m (s.block m)
           probes = total-falls number c 1 (λ d. pair_weight size left m d ((s.block m).pair d))
@@ -160,7 +143,7 @@ module _ {X : Type 0} (config : Config) (size : ℕ) (left left' : Left) (answer
               (rw used (omega (arith, probes)))
 
       -- whichever message it is, of those that have more than one beat
-      pub message-less : (k : Kind) (m : ℕ) → shows_it s c k m ≡ true → left' c k m + 1 ≤ left c k m
+      message-less : (k : Kind) (m : ℕ) → shows_it s c k m ≡ true → left' c k m + 1 ≤ left c k m
           → is_light k ≡ false → Falls
       message-less Request m e less heavy = request_less m less e
       message-less Answer m e less heavy = answer_less m less e
@@ -174,8 +157,7 @@ module _ {X : Type 0} (config : Config) (size : ℕ) (left left' : Left) (answer
 
 taken_more : {w : ℕ} (b : Bool) (rest rest' : List (Beat w)) → length rest ≤ length rest'
     → taken_of rest b ≤ taken_of rest' b
-taken_more true rest rest' le = le
-taken_more false rest rest' le = omega arith
+taken_more b rest rest' e = grind arith
 
 pub beat-falls : {w : ℕ} {config : Config} {caching : ℕ → Bool} {ch : Channel} {c : ℕ} {mail : AccessMessages w}
     {s : State (List ℕ)} {sys : System w} (sys' : System w) {x : Beat w} {queue : List (Beat w)} (size : ℕ) (answer : ℕ
@@ -193,9 +175,7 @@ beat-falls {w} {config} {caching} {ch} {c} {mail} {s} {sys} sys' {x} {queue} siz
   where
     longer : (d : ℕ) (at : Channel) → (d ≡ c) ⊎ (d ≡ c → ⊥) → (at ≡ ch) ⊎ (at ≡ ch → ⊥)
         → length (unfinished_at sys d at) ≤ length (unfinished_at sys' d at)
-    longer d at (inl e) (inl f) = rw (e, f, begun.here) (omega arith)
-    longer d at (inr ne) f = rw (begun.others d at (λ e g. ne e)) (omega arith)
-    longer d at (inl e) (inr ne) = rw (begun.others d at (λ g h. ne h)) (omega arith)
+    longer d at e f = grind arith
 
     less : (d : ℕ) (k : Kind) (m : ℕ) → beats_left mail s (unfinished_at sys') d k m ≤ beats_left mail s
         (unfinished_at sys) d k m
@@ -217,19 +197,13 @@ beat-falls {w} {config} {caching} {ch} {c} {mail} {s} {sys} sys' {x} {queue} siz
       same_number first.number,
     ) refl
 
-    one_more : length (unfinished_at sys' c (channel_for first.kind)) ≡ length
-        (unfinished_at sys c (channel_for first.kind)) + 1
-    one_more = rw (kind_channel ch first.kind first.own, begun.here) (omega arith)
-
     -- of the first message one beat more was taken
     taken : (b : Bool) → b ≡ true → taken_of (unfinished_at sys' c (channel_for first.kind)) b ≡ taken_of
         (unfinished_at sys c (channel_for first.kind)) b + 1
-    taken true e = one_more
-    taken false e = absurd cc
+    taken b e = grind (arith, kind_channel, ch)
 
     one_less : beats_left mail s (unfinished_at sys') c first.kind first.number + 1 ≤ beats_left mail s
         (unfinished_at sys) c first.kind first.number
     one_less =
-        let all = first-left first in
         let t = taken (is_front first.kind first.number (packets_on (channel_for first.kind) (s.link c))) front in
-        omega (arith, all, t, more)
+        omega (arith, first-left first, t, more)

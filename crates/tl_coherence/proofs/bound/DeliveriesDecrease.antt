@@ -12,7 +12,7 @@ use proofs.rank.{RankDecreases.stays, BeatsRemainingSums.answer_to}
 use proofs.simulation.{FollowCases.IsDelivery, Popped.unfinished_at, Popped.IsReceived}
 use proofs.queues.{FirstToken.first-token, QuiescentQueues.client_below, KindMoves.on_same, KindMoves.kind_channel}
 use proofs.deliveries.{InvariantKept.ready-delivered, Matching.matched-event, DeliverDAfter.followed-moving}
-use proofs.deliveries.{DeliverDAfter.followed-still, DeliverDUnmoved.IsUnmoved, DeliverDUnmoved.unmoved}
+use proofs.deliveries.{DeliverDAfter.followed-still, DeliverDUnmoved.unmoved}
 use proofs.outstanding.Outstanding.{first-moved}
 use proofs.manager.UnwaitedRequests.{next_tracker}
 use proofs.protocol.BeatsRemaining.{beats_left}
@@ -38,8 +38,7 @@ module _ {w : ℕ} {config : Config} {log : Log w} (h : AbstractState w) (width 
   by-first {link} {ch} sys' d lt sixteen received kept = kind-owed h sys' width matched
       (next_tracker (system_after config log)) link.0 d.first.rest lt d.first.kind d.first.number sixteen (
         on_same ch d.first.kind (h.state.link link.0) d.first.own ∙ d.first.tokens,
-        subst (λ (i : Channel). IsReceived link.0 i (system_after config log) sys') (sym (kind_channel ch d.first.kind
-            d.first.own)) received,
+        rw (kind_channel ch d.first.kind d.first.own) received,
         ready-delivered ch width matched d,
       ) kept
 
@@ -75,9 +74,8 @@ module _ {w : ℕ} {config : Config} {log : Log w} (h : AbstractState w) (width 
           first.kind first.number first.rest h =
           cc (followed-moving config link ch sys h x queue moving beats, last, first.tokens) in
           subst (λ (z : AbstractState w). IsLess z sys') (sym follows)
-          (by-first sys' d (client_below config link.0 terms known) sixteen
-          (grown-received link.0 ch x sys sys' (grown-moved h link ch terms x queue width matched known beats
-          moving) last) (subst Kept follows kept))
+          (by-first sys' d (client_below config link.0 terms known) sixteen (grown-received link.0 ch x sys sys'
+          (grown-moved h link ch terms x queue width matched known beats moving) last) (subst Kept follows kept))
       taken x queue terms known beats false part =
           let follows : abstract_step config (Deliver link ch) sys h ≡ h =
           cc (followed-moving config link ch sys h x queue moving beats, part) in
@@ -98,10 +96,9 @@ module _ {w : ℕ} {config : Config} {log : Log w} (h : AbstractState w) (width 
       (abstract_step config (Deliver link ch) (system_after config log) h).state
       (stepped config (Deliver link ch) (system_after config log)).after ≤ owed config h.mail h.state
       (system_after config log)
-  still-owed link ch still =
-      rw (followed-still config link ch sys h still) (stays config (64 / w) (left sys) (left sys') (answer_to h.mail)
-      (answer_to h.mail) h.state h.state (none-more config (64 / w) (left sys) (left sys') (answer_to h.mail) h.state
-      less))
+  still-owed link ch still = rw (followed-still config link ch sys h still)
+      (stays config (64 / w) (left sys) (left sys') (answer_to h.mail) (answer_to h.mail) h.state h.state
+      (none-more config (64 / w) (left sys) (left sys') (answer_to h.mail) h.state less))
     where
       sys : System w
       sys = system_after config log
@@ -112,10 +109,8 @@ module _ {w : ℕ} {config : Config} {log : Log w} (h : AbstractState w) (width 
       left : System w → ℕ → Kind → ℕ → ℕ
       left i = beats_left h.mail h.state (unfinished_at i)
 
-      same : IsUnmoved sys (stepped config (Deliver link ch) sys)
-      same = unmoved config link ch sys still
-
       less : (c : ℕ) (k : Kind) (m : ℕ) → left sys' c k m ≤ left sys c k m
       less c k m =
-          let as_much : left sys' c k m ≡ left sys c k m = cc (same.rests c (channel_for k)) in
+          let as_much : left sys' c k m ≡ left sys c k m =
+          cc ((unmoved config link ch sys still).rests c (channel_for k)) in
           omega (arith, as_much)

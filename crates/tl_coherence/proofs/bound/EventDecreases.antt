@@ -1,20 +1,17 @@
 -- What an event at which the last beat of a message is taken finds, and what it leaves as it was.
-use Rattle.std.proofs.Common.{◌≡◌, ℕ, ◌≤◌, Bool, true, List, ◌∷◌, refl, ap, subst, arith, ◌⊎◌}
-use Rattle.std.proofs.Common.{inl, inr, length, map}
+use Rattle.std.proofs.Common.{◌≡◌, ℕ, ◌≤◌, Bool, true, List, ◌∷◌, ap, arith, ◌⊎◌, inl, inr, length, map}
 use Rattle.tl_coherence.proofs
 use proofs.Imports.{cases_eq, Channel, length-begun, Cap, Prune, Report, IsInvariant, Kind, Packet, set, set_at}
-use proofs.Imports.{ProbePhase, ProbeAnswered, ReleaseSent, ReleasePhase, Block, State, packet, packets_on}
-use proofs.Imports.{is_on, ended_link, granted_link, served_link, is_answered}
-use proofs.Imports.{is_releasing, IsCarried, ChannelRelation, channel_for, AccessMessages, message_of_kind, message_of}
-use proofs.Imports.{System}
-use Rattle.tl_coherence.specs.protocol.Protocol.{Link}
+use proofs.Imports.{ProbePhase, ProbeAnswered, ReleaseSent, ReleasePhase, Block, State, packet, packets_on, is_on}
+use proofs.Imports.{ended_link, granted_link, served_link, is_answered, is_releasing, IsCarried, ChannelRelation}
+use proofs.Imports.{channel_for, AccessMessages, message_of_kind, message_of, System}
+use Rattle.tl_coherence.{specs.protocol.Protocol.Link}
 use proofs.client.Aside.{set_at-other, set_at-else}
-use proofs.protocol.{TokenNames.shown_there, TokenNames.shows_it, BeatsRemaining.beats_left, BeatsRemaining.taken_of}
-use proofs.protocol.{BeatsRemaining.is_front}
+use proofs.protocol.TokenNames.{shown_there, shows_it}
+use proofs.protocol.BeatsRemaining.{beats_left, taken_of, is_front}
 use proofs.outstanding.OpenKinds.{set_e, ended_e, granted_e, served_e}
-use proofs.queues.{Distinct.first-there, Rendered.same_kind_again, Tokens.same_number}
-use proofs.queues.{KindMoves.kind_channel}
-use proofs.simulation.Popped.{unfinished_at}
+use proofs.queues.{Distinct.first-there, Rendered.same_kind_again, Tokens.same_number, KindMoves.kind_channel}
+use proofs.simulation.{Popped.unfinished_at}
 
 -- ---- the token that is taken
 
@@ -22,16 +19,13 @@ use proofs.simulation.Popped.{unfinished_at}
 pub left-first : {w : ℕ} (ch : Channel) (c : ℕ) (k : Kind) (n : ℕ) (tokens : List Packet) (mail : AccessMessages w)
     (s : State (List ℕ)) (sys : System w) → ChannelRelation mail s sys → is_on ch k ≡ true
     → packets_on ch (s.link c) ≡ packet k n ∷ tokens → 1 ≤ beats_left mail s (unfinished_at sys) c k n
-left-first {w} ch c k n tokens mail s sys carried own first =
-    go (subst (λ (ts : List Packet). IsCarried (unfinished_at sys c ch) (map (message_of mail s c) ts)
-    (sys.channels c ch)) first (carried c ch))
+left-first {w} ch c k n tokens mail s sys carried own first = go (rw first at (carried c ch))
   where
     go : IsCarried (unfinished_at sys c ch) (map (message_of mail s c) (packet k n ∷ tokens)) (sys.channels c ch)
         → 1 ≤ beats_left mail s (unfinished_at sys) c k n
     go (i, within, rest, queue) =
-        let taken : taken_of (unfinished_at sys c (channel_for k))
-        (is_front k n (packets_on (channel_for k) (s.link c))) ≡ i =
-        rw (kind_channel ch k own, first, same_kind_again k, same_number n, rest)
+        let taken : taken_of (unfinished_at sys c (channel_for k)) (is_front k n (packets_on (channel_for k)
+        (s.link c))) ≡ i = rw (kind_channel ch k own, first, same_kind_again k, same_number n, rest)
         (length-begun (message_of_kind k mail s c n) i) in
         omega (arith, taken, within)
 
@@ -39,8 +33,7 @@ left-first {w} ch c k n tokens mail s sys carried own first =
 pub shown-first : {X : Type 0} {caching : ℕ → Bool} (ch : Channel) (c : ℕ) (k : Kind) (n : ℕ) (tokens : List Packet)
     {s : State X} → IsInvariant caching s
     → is_on ch k ≡ true → packets_on ch (s.link c) ≡ packet k n ∷ tokens → shows_it s c k n ≡ true
-shown-first ch c k n tokens inv own first =
-    shown_there c ch k n inv own (rw first (first-there (packet k n) tokens))
+shown-first ch c k n tokens inv own first = shown_there c ch k n inv own (rw first (first-there (packet k n) tokens))
 
 -- ---- what stays
 
@@ -71,15 +64,12 @@ acks_granted c q n rest link d = acks_as (granted_link c q n rest link d) (link 
 
 pub acks_served : (r : ℕ) (own : Bool) (n : ℕ) (k : Cap) (rest : List Packet) (b : Block (List ℕ)) (link : ℕ → Link)
     (d : ℕ) → length (served_link r own n k rest b link d).e ≤ length (link d).e
-acks_served r own n k rest b link d =
-    acks_as (served_link r own n k rest b link d) (link d) (served_e r own n k rest b link d)
+acks_served r own n k rest b link d = grind (arith, acks_as, served_e)
 
 -- ---- phases
 
 pub answered_with : (x : ProbePhase) → is_answered x ≡ true → (r : Report) × (x ≡ ProbeAnswered r)
-answered_with (ProbeAnswered r) e = (r, refl)
-answered_with x e = absurd cc
+answered_with x e = grind arith
 
 pub releasing_with : (x : ReleasePhase) → is_releasing x ≡ true → (r : Prune) × (x ≡ ReleaseSent r)
-releasing_with (ReleaseSent r) e = (r, refl)
-releasing_with x e = absurd cc
+releasing_with x e = grind arith

@@ -17,9 +17,8 @@ use proofs.simulation.{Popped.elsewhere}
 
 -- The receiver of channel ch of client c's link has this beat too, and the others have what they had.
 abbrev pub IsGrown : {w : ℕ} → ℕ → Channel → Beat w → System w → System w → Type 0
-IsGrown c ch x sys sys' = (d : ℕ) (at : Channel)
-    → unfinished_at sys' d at ≡ (if (d == c) && same_channel at ch then grown x (unfinished_at sys d at) else
-    unfinished_at sys d at)
+IsGrown c ch x sys sys' = (d : ℕ) (at : Channel) → unfinished_at sys' d at
+    ≡ (if (d == c) && same_channel at ch then grown x (unfinished_at sys d at) else unfinished_at sys d at)
 
 pub grown-moved : {w : ℕ} {config : Config} {log : Log w} (h : AbstractState w) (link : Link) (ch : Channel)
     (terms : EndConfig) (x : Beat w) (queue : List (Beat w))

@@ -1,42 +1,40 @@
 -- What is owed in a world falls as the last beat of a message is taken.
-use Rattle.std.proofs.Common.{◌≡◌, ℕ, ◌+◌, ◌/◌, ◌<◌, ◌≤◌, Bool, true, false, List, ◌∷◌, refl, arith, ◌⊎◌, inl, inr, ap}
+use Rattle.std.proofs.Common.{◌≡◌, ℕ, ◌+◌, ◌/◌, ◌<◌, ◌≤◌, Bool, true, false, List, ◌∷◌, refl, arith, ◌⊎◌, ap}
 use Rattle.std.proofs.Common.{[], None, length, Option, length-append}
 use Rattle.tl_coherence.proofs
-use proofs.Imports.{cases_eq, Channel, IsWidth, Message, MessageA, Config, Cap, Prune, Report}
-use proofs.Imports.{IsInvariant, is_replied, Kind, Request, Acquire, Probe, ProbeAck, Release, Answer, Grant}
-use proofs.Imports.{ReleaseAck, GrantAck, Packet, set, set_at, ProbeSent, ProbeAnswered, probe_taken, report_answers}
-use proofs.Imports.{report_grants, access_answered, access_served, release_taken, answer_taken, release_ack_taken}
-use proofs.Imports.{grant_ack_taken, answered_link, freed_block, is_on, let_go_block, let_link, performed_block}
-use proofs.Imports.{probed_link, reported_block, served_block, taken_link, Free, Waits, GrantSent, GrantTaken, Block}
-use proofs.Imports.{State, Asked, Replied, packet, probed_block, report_taken, ended_block, granted_block}
-use proofs.Imports.{granted_at_once, acquire_granted, acquire_served, let_block, taken_block, grant_taken, Acquires}
-use proofs.Imports.{InService, SourceFree, packets_on, shown, AccessMessages, block_message, message_of}
-use proofs.Imports.{SimulationRelation, is_caching, IsSourced, IsAnswered, Log, system_after, System}
-use proofs.Imports.{channel_of_message}
-use Rattle.tl_coherence.specs.protocol.Protocol.{Link}
-use proofs.rank.{Frames.Taking, Weights.IsLeft, BeatsRemainingSums.answer_to, BeatsRemainingSums.is-left}
-use proofs.rank.{BeatsRemainingSums.answer-left, BeatsRemainingSums.wide-block, RankParts.IsAsking, RankParts.asking}
-use proofs.rank.{RankParts.serving-use}
+use proofs.Imports.{cases_eq, Channel, IsWidth, Message, MessageA, Config, Cap, Prune, Report, IsInvariant, is_replied}
+use proofs.Imports.{Kind, Request, Acquire, Probe, ProbeAck, Release, Answer, Grant, ReleaseAck, GrantAck, Packet, set}
+use proofs.Imports.{set_at, ProbeSent, ProbeAnswered, probe_taken, report_answers, report_grants, access_answered}
+use proofs.Imports.{access_served, release_taken, answer_taken, release_ack_taken, grant_ack_taken, answered_link}
+use proofs.Imports.{freed_block, is_on, let_go_block, let_link, performed_block, probed_link, reported_block}
+use proofs.Imports.{served_block, taken_link, Free, Waits, GrantSent, GrantTaken, Block, State, Asked, Replied, packet}
+use proofs.Imports.{probed_block, report_taken, ended_block, granted_block, granted_at_once, acquire_granted}
+use proofs.Imports.{acquire_served, let_block, taken_block, grant_taken, Acquires, InService, SourceFree, packets_on}
+use proofs.Imports.{shown, AccessMessages, block_message, message_of, SimulationRelation, is_caching, IsSourced}
+use proofs.Imports.{IsAnswered, Log, system_after, System, channel_of_message}
+use Rattle.tl_coherence.{specs.protocol.Protocol.Link}
+use proofs.rank.{Frames.Taking, Weights.IsLeft, RankParts.IsAsking, RankParts.asking, RankParts.serving-use}
+use proofs.rank.BeatsRemainingSums.{answer_to, is-left, answer-left, wide-block}
 use proofs.queues.{Shown.IsShown, Tokens.set-other, Tokens.set-same, Tokens.set_at-same, Showing.carries}
 use proofs.protocol.{BothParts.acked-is, TokenNames.shows_it, BeatsRemaining.beats_left}
-use proofs.bound.{RankOfLog.owed, RankOfLog.narrow-block, ReportDecreases.report-falls, ReportDecreases.answering-falls}
-use proofs.bound.{ReportDecreases.granting-falls, ReportDecreases.probe-falls}
+use proofs.protocol.Capacities.{acquire_named, answer_named, grant_named, release_ack_named, release_named}
+use proofs.protocol.Capacities.{request_named}
+use proofs.bound.RankOfLog.{owed, narrow-block}
+use proofs.bound.ReportDecreases.{report-falls, answering-falls, granting-falls, probe-falls}
 use proofs.bound.EventDecreases.{left-first, set_at-unlike, acks_as, acks_set, acks_ended, acks_granted, acks_served}
 use proofs.bound.EventDecreases.{answered_with, releasing_with, shown-first}
 use proofs.bound.RequestDecreases.{answered-falls, acquire-granted-falls, acquire-served-falls, granted-letting}
 use proofs.bound.RequestDecreases.{served-letting, serving-falls}
 use proofs.bound.ResponseDecreases.{answer-falls, grant-taken-falls, release-taken-falls, release-ack-falls}
 use proofs.bound.ResponseDecreases.{grant-ack-falls}
-use proofs.protocol.Capacities.{acquire_named, answer_named, grant_named, release_ack_named, release_named}
-use proofs.protocol.Capacities.{request_named}
-use proofs.simulation.{Popped.are-clients, Popped.unfinished_at, Popped.IsReceived, Popped.popped-received}
-use proofs.simulation.{CarriedProbes.access_served-shown, CarriedProbes.acquire_served-shown}
-use proofs.simulation.{CarriedLastReports.report_answers-shown, CarriedLastReports.report_grants-shown}
+use proofs.simulation.Popped.{are-clients, unfinished_at, IsReceived, popped-received}
+use proofs.simulation.CarriedProbes.{access_served-shown, acquire_served-shown}
+use proofs.simulation.CarriedLastReports.{report_answers-shown, report_grants-shown}
 use proofs.simulation.CarriedEvents.{probe_taken-shown, report_taken-shown, access_answered-shown}
 use proofs.simulation.CarriedEvents.{acquire_granted-shown, release_taken-shown}
 use proofs.simulation.CarriedResponses.{answer_taken-shown, release_ack_taken-shown, grant_taken-shown}
 use proofs.simulation.CarriedResponses.{grant_ack_taken-shown}
-use proofs.deliveries.ManagersAfter.{ack_channel}
+use proofs.deliveries.{ManagersAfter.ack_channel}
 
 -- ---- the channels of what is handed out
 
@@ -88,8 +86,7 @@ module _ {w : ℕ} {config : Config} {log : Log w} {mail : AccessMessages w} {re
 
   left_after : {mail' : AccessMessages w} {s' : State (List ℕ)} → IsKeptAfter config mail' s'
       → IsLeft (64 / w) (beats_left mail' s' (unfinished_at sys')) (answer_to mail') s'
-  left_after {mail'} {s'} kept =
-      is-left config mail' (unfinished_at sys') width kept.invariant kept.sourced
+  left_after {mail'} {s'} kept = is-left config mail' (unfinished_at sys') width kept.invariant kept.sourced
 
   some_beats : 1 ≤ 64 / w
   some_beats = let wide = wide-block w width in omega (arith, wide)
@@ -108,8 +105,7 @@ module _ {w : ℕ} {config : Config} {log : Log w} {mail : AccessMessages w} {re
   report_first first = answered_with ((s.block n).pair c).probing (it_shows Channel.C ProbeAck n refl first)
 
   acquire_first : (s.link c).a ≡ packet Acquire n ∷ rest → s.uses c ((s.block n).source c) ≡ Acquires n
-  acquire_first first =
-      acquire_named c n matched.invariant (it_shows Channel.A Acquire n refl first)
+  acquire_first first = acquire_named c n matched.invariant (it_shows Channel.A Acquire n refl first)
 
   -- the event, for all that is owed
   abbrev taking : {k : ℕ} {ch : Channel} {pushes : ℕ → Channel → Option (Message w)} {mail' : AccessMessages w}
@@ -164,10 +160,9 @@ module _ {w : ℕ} {config : Config} {log : Log w} {mail : AccessMessages w} {re
       → IsKeptAfter config mail (answer_taken c n rest s) → Falls mail (answer_taken c n rest s)
   answer_taken-owed first received kept =
       answer-falls (taking (answer_taken-shown c n rest mail matched.invariant kept.invariant first) received) n
-      (answer_named c n matched.invariant (it_shows Channel.D Answer n refl first))
-      (set_at-same c n SourceFree s.uses) (some_left Channel.D Answer n refl first) refl
-      (λ d i ne. set_at-unlike c n SourceFree s.uses d i ne) (λ d i. refl)
-      (acks_set c (record (s.link c) { d = rest }) s.link refl)
+      (answer_named c n matched.invariant (it_shows Channel.D Answer n refl first)) (set_at-same c n SourceFree s.uses)
+      (some_left Channel.D Answer n refl first) refl (λ d i ne. set_at-unlike c n SourceFree s.uses d i ne)
+      (λ d i. refl) (acks_set c (record (s.link c) { d = rest }) s.link refl)
 
   pub release_ack_taken-owed : (s.link c).d ≡ packet ReleaseAck n ∷ rest → IsReceived c Channel.D sys sys'
       → IsKeptAfter config mail (release_ack_taken c n rest s) → Falls mail (release_ack_taken c n rest s)
@@ -199,29 +194,24 @@ module _ {w : ℕ} {config : Config} {log : Log w} {mail : AccessMessages w} {re
     where
       more : length (set c (taken_link n rest (s.link c)) s.link c).e ≡ length (s.link c).e + 1
       more =
-          let same = ap (λ (l : Link). length l.e) (set-same c (taken_link n rest (s.link c)) s.link) in
           let behind = length-append (s.link c).e (packet GrantAck n ∷ []) in
-          omega (arith, same, behind)
+          omega (arith, ap (λ (l : Link). length l.e) (set-same c (taken_link n rest (s.link c)) s.link), behind)
 
   pub grant_ack_taken-owed : (s.link c).e ≡ packet GrantAck n ∷ rest → (s.block n).service ≡ GrantTaken c
       → IsReceived c Channel.E sys sys' → IsKeptAfter config mail (grant_ack_taken c n rest s)
       → Falls mail (grant_ack_taken c n rest s)
-  grant_ack_taken-owed first given received kept =
-      grant-ack-falls (taking (grant_ack_taken-shown c n rest mail matched.invariant kept.invariant first given)
-      received) c lt given (set-same n (freed_block (s.block n)) s.block) (λ d i. refl) (λ d i. refl)
-      (λ d. fewer d (cases_eq d c)) less
+  grant_ack_taken-owed first given received kept = grant-ack-falls
+      (taking (grant_ack_taken-shown c n rest mail matched.invariant kept.invariant first given) received) c lt given
+      (set-same n (freed_block (s.block n)) s.block) (λ d i. refl) (λ d i. refl) (λ d. fewer d (cases_eq d c)) less
     where
       less : length (set c (record (s.link c) { e = rest }) s.link c).e + 1 ≤ length (s.link c).e
       less =
-          let same = ap (λ (l : Link). length l.e) (set-same c (record (s.link c) { e = rest }) s.link) in
           let before = ap length first in
-          omega (arith, same, before)
+          omega (arith, ap (λ (l : Link). length l.e) (set-same c (record (s.link c) { e = rest }) s.link), before)
 
       fewer : (d : ℕ) → (d ≡ c) ⊎ (d ≡ c → ⊥) → length (set c (record (s.link c) { e = rest }) s.link d).e ≤ length
           (s.link d).e
-      fewer d (inl e) = rw e (let l = less in omega (arith, l))
-      fewer d (inr ne) = acks_as (set c (record (s.link c) { e = rest }) s.link d) (s.link d)
-          (ap (λ (l : Link). l.e) (set-other c d (record (s.link c) { e = rest }) s.link ne))
+      fewer d e = grind (arith, set-other)
 
   pub acquire_granted-owed : (tracker : ℕ) (d : Bool) (k : Cap) → (s.link c).a ≡ packet Acquire n ∷ rest
       → (s.block n).service ≡ Free → IsReceived c Channel.A sys sys'
@@ -292,9 +282,8 @@ module _ {w : ℕ} {config : Config} {log : Log w} {mail : AccessMessages w} {re
   pub access_answered-owed : (source : ℕ) (f : List ℕ → List ℕ) (m : Message w)
       → (s.link c).a ≡ packet Request source ∷ rest → s.uses c source ≡ Asked
       → ((k : Kind) (d : ℕ) → (carries k d (s.block n) ≡ false) ⊎ (f (s.block n).truth ≡ (s.block n).truth))
-      → channel_of_message m ≡ Channel.D → IsReceived c Channel.A sys sys'
-      → IsKeptAfter config (with_reply c source m) (access_answered c n source f rest s)
-      → Falls (with_reply c source m) (access_answered c n source f rest s)
+      → channel_of_message m ≡ Channel.D → IsReceived c Channel.A sys sys' → IsKeptAfter config (with_reply c source m)
+      (access_answered c n source f rest s) → Falls (with_reply c source m) (access_answered c n source f rest s)
   access_answered-owed source f m first used bytes chan received kept =
       answered-falls (taking (access_answered-shown c n source f rest m mail matched.invariant kept.invariant first used
       bytes chan) received) source f used (set_at-same c source Replied s.uses)

@@ -1,26 +1,25 @@
 -- What is owed in a world falls as the last beat of a message is taken.
-use Rattle.std.proofs.Common.{◌≡◌, ℕ, ◌+◌, ◌<◌, ◌≤◌, true, false, List, ◌∷◌, refl, ◌∙◌, ap, subst, sym, length}
+use Rattle.std.proofs.Common.{◌≡◌, ℕ, ◌+◌, ◌<◌, ◌≤◌, false, List, ◌∷◌, refl, ◌∙◌, ap, subst, sym, length}
 use Rattle.tl_coherence.proofs
 use proofs.Imports.{IsWidth, MessageA, Config, Cap, Report, IsInvariant, IsWell, Kind, ProbeAck, Grant, Packet}
 use proofs.Imports.{AcquirePhase, is_whole, Service, Block, packet, ended_block, grant_taken, Waits, view, on}
 use proofs.Imports.{AbstractState, kind_taken, last_taken, performs, answers, taken_by_client, channel_for}
 use proofs.Imports.{SimulationRelation, is_caching, IsFor, Log, system_after, System}
 use Rattle.tl_coherence.specs.protocol.Protocol as protocol
+use proofs.bound.{RankOfLog.owed}
 use proofs.bound.RankAfter.{IsKeptAfter, access_answered-owed, access_served-owed, acquire_granted-owed}
 use proofs.bound.RankAfter.{acquire_served-owed, probe_taken-owed, report_taken-owed, report_answers-owed}
 use proofs.bound.RankAfter.{report_grants-owed, release_taken-owed, answer_taken-owed, grant_taken-owed}
 use proofs.bound.RankAfter.{release_ack_taken-owed, grant_ack_taken-owed}
-use proofs.bound.RankOfLog.{owed}
-use proofs.rank.RankParts.{serving-use}
-use proofs.simulation.Popped.{IsReceived}
-use proofs.deliveries.{CarriedRequests.unread-bytes, LandedReports.answer_on_d, LandedReports.ended-bytes}
-use proofs.deliveries.{DeliverDUnmoved.bare, LastReportDelivered.seen_apart}
-use proofs.manager.Choices.{plain-past}
+use proofs.rank.{RankParts.serving-use}
+use proofs.simulation.{Popped.IsReceived}
+use proofs.deliveries.{CarriedRequests.unread-bytes, DeliverDUnmoved.bare, LastReportDelivered.seen_apart}
+use proofs.deliveries.LandedReports.{answer_on_d, ended-bytes}
+use proofs.manager.{Choices.plain-past}
 use proofs.queues.{Facts.answered_other, Tokens.set-same}
 use proofs.protocol.{HeadOfD.IsGrantDue, HeadOfD.grant-due, NeverIdle.never-idle, RequestsKept.settled_all}
-use proofs.protocol.{Events.IsReady, Events.ready-access, Events.waits_for_others, Events.told, Events.true-taken}
-use proofs.protocol.{FirstTokens.first-request, FirstTokens.first-probe, FirstTokens.first-report}
-use proofs.protocol.{FirstTokens.first-grant_ack}
+use proofs.protocol.Events.{IsReady, ready-access, waits_for_others, told, true-taken}
+use proofs.protocol.FirstTokens.{first-request, first-probe, first-report, first-grant_ack}
 
 module _ {w : ℕ} {config : Config} {log : Log w} (h : AbstractState w) (sys' : System w) (width : IsWidth w)
     (matched : SimulationRelation config log h.mail h.request h.state (system_after config log)) (tracker c : ℕ)
@@ -47,34 +46,27 @@ module _ {w : ℕ} {config : Config} {log : Log w} (h : AbstractState w) (sys' :
       let for : IsFor (Waits q false source k) n v = rw waits at (matched.served.requests n) in
       report_answers-owed sys' width matched c n rest lt q source r k (performs v)
       (answers v (protocol.written r b.truth b.memory)) known.0 waits (rw (serving-use n q source k inv waits) refl)
-      (ended-bytes c q source r k v (inv.blocks n)
-      (subst (IsWell (is_caching config)) (set-same n (ended_block c r (performs v) b) h.state.block)
-      (is.invariant.blocks n)) waits (first-report inv known.0)
+      (ended-bytes c q source r k v (inv.blocks n) (subst (IsWell (is_caching config)) (set-same n
+      (ended_block c r (performs v) b) h.state.block) (is.invariant.blocks n)) waits (first-report inv known.0)
       (settled_all (length config.clients.items) (is_caching config) c b.pair (plain-past config)
       (inv.blocks n).outside last) for.0 for.3 (matched.sized n).truth) (answer_on_d v _) known.1 is
 
   granted : (n : ℕ) → IsEnding Grant n → Falls (kind_taken config tracker c Grant n rest h)
-  granted n known = subst Falls same (grant_taken-owed sys' width matched c n rest lt due.whole due.data_too due.k
-      known.0
-      due.service (bare h due matched.invariant) known.1)
+  granted n known = subst Falls
+      (sym (ap (λ (v : Service). taken_by_client c n v rest h) due.service ∙ ap (λ (a : AcquirePhase). record h
+      { state = grant_taken c n (is_whole a) due.data_too due.k rest h.state }) due.wants))
+      (grant_taken-owed sys' width matched c n rest lt due.whole due.data_too due.k known.0 due.service
+      (bare h due matched.invariant) known.1)
     where
       due : IsGrantDue c n h.state
       due = grant-due (is_caching config) c n rest h.state matched.invariant known.0
 
-      same : record h { state = grant_taken c n due.whole due.data_too due.k rest h.state } ≡ kind_taken config tracker
-          c Grant n rest h
-      same = sym (ap (λ (v : Service). taken_by_client c n v rest h) due.service ∙ ap
-          (λ (a : AcquirePhase). record h { state = grant_taken c n (is_whole a) due.data_too due.k rest h.state })
-          due.wants)
-
   pub kind-owed : (k : Kind) (i : ℕ) → length config.clients.items ≤ 16 → IsEnding k i
       → Falls (kind_taken config tracker c k i rest h)
   kind-owed k i sixteen ending = true-taken config tracker c rest h IsEnding Falls k i (record {
-    nothing = λ j n known idle. absurd (let busy = never-idle config tracker c j n rest h matched.invariant known.0
-        known.2 in let no : false ≡ true = sym busy ∙ idle in cc);
-    access_answered = λ source m o known from caps none.
-        access_answered-owed sys' width matched c _ rest lt source (performs m) _ known.0
-        (first-request matched.invariant known.0) (unread-bytes c _ m matched
+    nothing = λ j n known idle. absurd (cc (never-idle config tracker c j n rest h matched.invariant known.0 known.2));
+    access_answered = λ source m o known from caps none. access_answered-owed sys' width matched c _ rest lt source
+        (performs m) _ known.0 (first-request matched.invariant known.0) (unread-bytes c _ m matched
         (ready-access tracker c source m h known.2 from).0 (rw caps none)) (answer_on_d m _) known.1;
     access_served = λ source m k known from caps some. access_served-owed sys' width matched c _ rest lt source tracker
         k

@@ -1,26 +1,22 @@
 -- What is owed in a world: its bound, and how it falls with a beat that isn't the last of its message.
-use Rattle.std.proofs.Common.{◌≡◌, ℕ, ◌+◌, ◌*◌, ◌/◌, ◌<◌, ◌≤◌, Bool, true, false, List, ◌∷◌, refl, sym, ◌∙◌, arith, ◌⊎◌}
-use Rattle.std.proofs.Common.{inl, inr, length, ◌==◌}
+use Rattle.std.proofs.Common.{◌≡◌, ℕ, ◌+◌, ◌*◌, ◌/◌, ◌<◌, ◌≤◌, Bool, false, List, ◌∷◌, refl, arith, length, ◌==◌}
 use Rattle.tl_coherence.proofs
-use proofs.Imports.{cases_eq, Beat, Channel, IsWidth, MessageA, beats_of, completes, Config, rank, open_requests}
-use proofs.Imports.{open_releases, State, AccessMessages, message_of_kind, SimulationRelation, is_caching, Log}
-use proofs.Imports.{system_after, System}
+use proofs.Imports.{Beat, Channel, IsWidth, MessageA, beats_of, completes, Config, rank, open_requests, open_releases}
+use proofs.Imports.{State, AccessMessages, message_of_kind, SimulationRelation, is_caching, Log, system_after, System}
 use proofs.bound.Beginnings.{IsBegun, beat-falls}
 use proofs.queues.{FirstToken.first-token, Tokens.same_number}
-use proofs.protocol.BeatsRemaining.{beats_left}
+use proofs.protocol.{BeatsRemaining.beats_left}
 use proofs.simulation.Popped.{unfinished_at, are-clients}
-use proofs.rank.{Weights.IsLeft, Weights.potential-few, BeatsRemainingSums.answer_to, BeatsRemainingSums.is-left}
-use proofs.rank.{BeatsRemainingSums.wide-block}
+use proofs.rank.Weights.{IsLeft, potential-few}
+use proofs.rank.BeatsRemainingSums.{answer_to, is-left, wide-block}
 
 abbrev pub owed : {w : ℕ} → Config → AccessMessages w → State (List ℕ) → System w → ℕ
 owed {w} config mail s sys = rank config (64 / w) (beats_left mail s (unfinished_at sys)) (answer_to mail) s
 
 pub narrow-block : (w : ℕ) → IsWidth w → 64 / w ≤ 16
-narrow-block w (inl e) = rw e (omega arith)
-narrow-block w (inr (inl e)) = rw e (omega arith)
-narrow-block w (inr (inr e)) = rw e (omega arith)
+narrow-block w e = grind arith
 
-pub left-matched : {w : ℕ} {config : Config} {log : Log w} {mail : AccessMessages w} {request : ℕ → MessageA w}
+left-matched : {w : ℕ} {config : Config} {log : Log w} {mail : AccessMessages w} {request : ℕ → MessageA w}
     {s : State (List ℕ)} {sys : System w} → IsWidth w → SimulationRelation config log mail request s sys
     → IsLeft (64 / w) (beats_left mail s (unfinished_at sys)) (answer_to mail) s
 left-matched {config} {mail} {s} {sys} width matched = is-left config mail (unfinished_at sys)
@@ -31,18 +27,12 @@ pub owed-few : {w : ℕ} {config : Config} {log : Log w} {mail : AccessMessages 
     {s : State (List ℕ)} {sys : System w} → IsWidth w
     → SimulationRelation config log mail request s sys → length config.clients.items ≤ 16
     → owed config mail s sys ≤ (64 / w + 33) * open_requests config s + (64 / w + 1) * open_releases config s
-owed-few {w} {config} {log} {mail} {request} {s} {sys} width matched sixteen =
-    potential-few matched.invariant (64 / w) (beats_left mail s (unfinished_at sys))
-    (answer_to mail) (left-matched width matched) (let wide = wide-block w width in omega (arith, wide))
-    (narrow-block w width) (length config.clients.items) sixteen config refl
+owed-few {w} {config} {log} {mail} {request} {s} {sys} width matched sixteen = potential-few matched.invariant (64 / w)
+    (beats_left mail s (unfinished_at sys)) (answer_to mail) (left-matched width matched) (let wide =
+    wide-block w width in omega (arith, wide)) (narrow-block w width) (length config.clients.items) sixteen config refl
 
 not_last : (b : Bool) (k n : ℕ) → b ≡ (k + 1 == n) → b ≡ false → k < n → k + 1 < n
-not_last b k n e f lt = go (cases_eq (k + 1) n)
-  where
-    go : (k + 1 ≡ n) ⊎ (k + 1 ≡ n → ⊥) → k + 1 < n
-    go (inl same) = absurd (let yes : b ≡ true = e ∙ rw same (same_number n) in let both : true ≡ false = sym yes ∙ f in
-        cc)
-    go (inr differs) = omega (arith, lt, differs)
+not_last b k n e f lt = grind (arith, same_number)
 
 -- a beat that isn't the last of its message is taken
 pub owed-begun : {w : ℕ} {config : Config} {log : Log w} {mail : AccessMessages w} {request : ℕ → MessageA w}

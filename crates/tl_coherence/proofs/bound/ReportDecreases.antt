@@ -1,11 +1,11 @@
 -- What is owed falls as a Probe is taken, and as a report is taken: with others missing, or the last one.
 use Rattle.std.proofs.Common.{◌≡◌, ℕ, zero, suc, ◌+◌, ◌<◌, ◌≤◌, Bool, true, false, List, refl, sym, ◌∙◌, ap, arith, ◌⊎◌}
-use Rattle.std.proofs.Common.{inl, inr, length, ne_eqb, if◌then◌else◌}
+use Rattle.std.proofs.Common.{inl, inr, length, ne_eqb}
 use Rattle.tl_coherence.proofs
 use proofs.Imports.{cases_eq, Config, Cap, Report, Perm, report_at, same_perm, Left, probing_weight, pair_weight}
 use proofs.Imports.{probes_weight, acquire_weight, IsInvariant, serves_of, is_serving, ProbeAck, Acquire, Grant, Answer}
 use proofs.Imports.{set, ClientBlock, Own, Granting, ProbePhase, NoProbe, ProbeSent, ProbeAnswered, is_unprobed}
-use proofs.Imports.{after_probe, after_report, after_grant_sent, Service, Free, Waits, GrantSent, GrantTaken, Block}
+use proofs.Imports.{after_probe, after_report, after_grant_sent, Service, Free, Waits, GrantSent, Block}
 use proofs.Imports.{State, SourceFree, InService, Replied, Acquires, view, probed_block, ended_block, granted_block}
 use proofs.Imports.{reported_block, is_unserved, AccessMessages}
 use Rattle.tl_coherence.specs.bound.Rank.{total}
@@ -19,11 +19,7 @@ use proofs.queues.Tokens.{same_number, set-same, set-other, set-part}
 probed-less : (size l l' : ℕ) (recorded : Perm) (k : Cap) (r : Report)
     → (same_perm recorded Perm.Trunk ≡ false → l' ≤ 1) → l' ≤ size
     → probing_weight size l' recorded (ProbeAnswered r) + 1 ≤ probing_weight size l recorded (ProbeSent k)
-probed-less size l l' recorded k r one few = go (same_perm recorded Perm.Trunk) one
-  where
-    go : (b : Bool) → (b ≡ false → l' ≤ 1) → l' + 1 ≤ 1 + (if b then size else 1)
-    go true h = omega (arith, few)
-    go false h = let le = h refl in omega (arith, le)
+probed-less size l l' recorded k r one few = grind arith
 
 answered_weight : (size l : ℕ) (recorded : Perm) (x : ProbePhase) (r : Report) → x ≡ ProbeAnswered r
     → probing_weight size l recorded x ≡ l
@@ -33,14 +29,13 @@ quiet_weight : (size l : ℕ) (recorded : Perm) (x : ProbePhase) → x ≡ NoPro
 quiet_weight size l recorded x e = rw e refl
 
 -- one summand is at most the sum
-pub summand-few : (bound m : ℕ) (f : ℕ → ℕ) → m < bound → f m ≤ total bound f
+summand-few : (bound m : ℕ) (f : ℕ → ℕ) → m < bound → f m ≤ total bound f
 unfolding total
 summand-few zero m f lt = absurd (omega (arith, lt))
 summand-few (suc bound) m f lt = go (cases_eq m bound) (λ below. summand-few bound m f below)
   where
     go : (m ≡ bound) ⊎ (m ≡ bound → ⊥) → (m < bound → f m ≤ total bound f) → f m ≤ total bound f + f bound
-    go (inl same) rest = rw same (omega arith)
-    go (inr differs) rest = let le = rest (omega (arith, lt, differs)) in omega (arith, le)
+    go e f = grind arith
 
 -- ---- who has the block in service
 
@@ -58,11 +53,7 @@ pub nobody-serving : {X : Type 0} {caching : ℕ → Bool} {s : State X} (n d i 
 nobody-serving {caching} {s} n d i inv none e = go (s.block n).service none (serving n d i inv e)
   where
     go : (u : Service) → is_for_access u ≡ false → is_serving d i u ≡ true → ⊥
-    go Free f h = cc
-    go (Waits q true source k) f h = cc
-    go (Waits q false source k) f h = cc
-    go (GrantSent q b k) f h = cc
-    go (GrantTaken q) f h = cc
+    go u e f = grind arith
 
 module _ {w : ℕ} {config : Config} {mail mail' : AccessMessages w} {s s' : State (List ℕ)}
     (taking : Taking config mail mail' s s') where
@@ -94,12 +85,11 @@ module _ {w : ℕ} {config : Config} {mail mail' : AccessMessages w} {s s' : Sta
       → AreAsBefore s'.lets s.lets → AreNoMore s'.link s.link → Falls taking
   probe-falls k lt sent new is uses lets acks =
       let pairs = ap (λ (b : Block (List ℕ)). b.pair) new in
-      let is_pair : (s'.block n).pair c ≡ after_probe k was = own_at (after_probe k was) pairs in
       pair-falls taking lt (rw sent refl)
       (ap (λ (b : Block (List ℕ)). b.service) new)
       (other_at (after_probe k was) pairs) (kept_at (λ p. p.acquiring) (after_probe k was) refl pairs c)
       (kept_at (λ p. p.letting) (after_probe k was) refl pairs c)
-      uses lets acks (less ((s'.block n).pair c) is_pair (is.reports c n))
+      uses lets acks (less ((s'.block n).pair c) (own_at (after_probe k was) pairs) (is.reports c n))
     where
       was : ClientBlock
       was = (s.block n).pair c
@@ -130,8 +120,7 @@ module _ {w : ℕ} {config : Config} {mail mail' : AccessMessages w} {s s' : Sta
       less =
           let after = quiet_weight size (left' c ProbeAck n) ((s'.block n).pair c).recorded
           ((s'.block n).pair c).probing (ap (λ (p : ClientBlock). p.probing) (own_at (after_report r was) pairs)) in
-          let before = answered_weight size (left c ProbeAck n) was.recorded was.probing told answered in
-          omega (arith, after, before, some)
+          omega (arith, after, answered_weight size (left c ProbeAck n) was.recorded was.probing told answered, some)
 
   -- ---- the last report
 
@@ -141,8 +130,7 @@ module _ {w : ℕ} {config : Config} {mail mail' : AccessMessages w} {s s' : Sta
   report-owed told lt answered some =
       let one = answered_weight size (left c ProbeAck n) ((s.block n).pair c).recorded ((s.block n).pair c).probing told
       answered in
-      let all = summand-few number c (λ d. pair_weight size left n d ((s.block n).pair d)) lt in
-      omega (arith, one, all, some)
+      omega (arith, one, summand-few number c (λ d. pair_weight size left n d ((s.block n).pair d)) lt, some)
 
   pub answering-falls : (q source : ℕ) (k : Cap) (told r : Report) (f : List ℕ → List ℕ) → c < number
       → ((s.block n).pair c).probing ≡ ProbeAnswered told → 1 ≤ left c ProbeAck n
@@ -156,10 +144,8 @@ module _ {w : ℕ} {config : Config} {mail mail' : AccessMessages w} {s s' : Sta
       cc) in
       let pairs = ap (λ (b : Block (List ℕ)). b.pair) new in
       let free : (s'.block n).service ≡ Free = ap (λ (b : Block (List ℕ)). b.service) new in
-      let gone : is_for_access (s'.block n).service ≡ false = ap is_for_access free in
-      let block : IsBlockNoMore taking =
-      record {
-        serves = λ d i e g. absurd (nobody-serving n d i showing.after gone g);
+      let block : IsBlockNoMore taking = record {
+        serves = λ d i e g. absurd (nobody-serving n d i showing.after (ap is_for_access free) g);
         acquires = λ d i e g. unserved-stays taking d i n e g (ap (λ (u : Service). is_unserved (view u d)) waits)
             (ap (λ (u : Service). is_unserved (view u d)) free);
         lets = λ d i e g. let-stays taking d n (kept_at (λ p. p.letting) (after_report r was) refl pairs d);
@@ -186,9 +172,6 @@ module _ {w : ℕ} {config : Config} {mail mail' : AccessMessages w} {s s' : Sta
       given : (s'.block n).service ≡ GrantSent q data_too gift
       given = ap (λ (b : Block (List ℕ)). b.service) new
 
-      gone : is_for_access (s'.block n).service ≡ false
-      gone = ap is_for_access given
-
       falls-at : (d : ℕ) → d ≡ q → acquire_weight size (left' d Acquire n) (left' d Grant n)
           (probes_weight number size left' n (s'.block n)) (view (s'.block n).service d) + 1 ≤ acquire_weight size
           (left d Acquire n) (left d Grant n) (probes_weight number size left n (s.block n))
@@ -197,34 +180,25 @@ module _ {w : ℕ} {config : Config} {mail mail' : AccessMessages w} {s s' : Sta
           let after : view (s'.block n).service d ≡ Granting data_too gift = rw (given, e, same_number q) refl in
           let before : view (s.block n).service d ≡ Own = rw (waits, e, same_number q) refl in
           let owed = report-owed told lt answered some in
-          let few = is.few d Grant n in
-          rw (after, before) (omega (arith, owed, few))
-
-      waiting_else : (d : ℕ) → (d ≡ q → ⊥) → is_unserved (view (s.block n).service d) ≡ true
-      waiting_else d ne = rw (waits, ne_eqb d q ne) refl
-
-      given_else : (d : ℕ) → (d ≡ q → ⊥) → is_unserved (view (s'.block n).service d) ≡ true
-      given_else d ne = rw (given, ne_eqb d q ne) refl
+          rw (after, before) (omega (arith, owed, is.few d Grant n))
 
       acquire : (d i : ℕ) → s.uses d i ≡ Acquires n → s'.uses d i ≡ Acquires n → (d ≡ q) ⊎ (d ≡ q → ⊥)
           → acquire_weight size (left' d Acquire n) (left' d Grant n) (probes_weight number size left' n (s'.block n))
           (view (s'.block n).service d) ≤ acquire_weight size (left d Acquire n) (left d Grant n)
           (probes_weight number size left n (s.block n)) (view (s.block n).service d)
       acquire d i e g (inl same) = let less = falls-at d same in omega (arith, less)
-      acquire d i e g (inr other) = unserved-stays taking d i n e g (waiting_else d other) (given_else d other)
+      acquire d i e g (inr other) =
+          unserved-stays taking d i n e g (rw (waits, ne_eqb d q other) refl) (rw (given, ne_eqb d q other) refl)
 
       letting : (d : ℕ) → ((s'.block n).pair d).letting ≡ ((s.block n).pair d).letting
-      letting d = cc (
-        new,
-        set-part (λ p. p.letting) q (after_grant_sent gift ((s.block n).pair q))
-            (set c (after_report r was) (s.block n).pair)
-            (sym (set-part (λ p. p.letting) c (after_report r was) (s.block n).pair refl q)) d,
-        set-part (λ p. p.letting) c (after_report r was) (s.block n).pair refl d,
-      )
+      letting d = let fact = set-part (λ p. p.letting) q (after_grant_sent gift ((s.block n).pair q))
+          (set c (after_report r was) (s.block n).pair)
+          (sym (set-part (λ p. p.letting) c (after_report r was) (s.block n).pair refl q)) d in
+          cc (new, set-part (λ p. p.letting) c (after_report r was) (s.block n).pair refl d)
 
       block : IsBlockNoMore taking
       block = record {
-        serves = λ d i e g. absurd (nobody-serving n d i showing.after gone g);
+        serves = λ d i e g. absurd (nobody-serving n d i showing.after (ap is_for_access given) g);
         acquires = λ d i e g. acquire d i e g (cases_eq d q);
         lets = λ d i e g. let-stays taking d n (letting d);
       }

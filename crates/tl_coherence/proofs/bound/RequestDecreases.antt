@@ -1,16 +1,15 @@
 -- What is owed falls as a request is taken: answered or granted at once, or with Probes.
-use Rattle.std.proofs.Common.{◌≡◌, ℕ, ◌+◌, ◌≤◌, Bool, true, false, List, refl, sym, ◌∙◌, ap, arith, ◌⊎◌, inl, inr, ◌&&◌}
-use Rattle.std.proofs.Common.{length, ne_eqb, ◌==◌, if◌then◌else◌}
+use Rattle.std.proofs.Common.{◌≡◌, ℕ, ◌+◌, ◌≤◌, Bool, true, false, List, refl, sym, ◌∙◌, ap, arith, ◌⊎◌, inl, inr}
+use Rattle.std.proofs.Common.{length, ne_eqb}
 use Rattle.tl_coherence.proofs
 use proofs.Imports.{cases_eq, Config, Cap, Left, pair_weight, probes_weight, acquire_weight, IsInvariant, Request}
-use proofs.Imports.{Acquire, Grant, Answer, ClientBlock, Own, Granting, is_unprobed, Idle, after_served}
-use proofs.Imports.{after_grant_sent, Service, Free, Waits, GrantSent, Block, State, SourceFree, Asked, InService}
-use proofs.Imports.{Replied, Acquires, view, granted_at_once, performed_block, served_block, served_pair, is_unserved}
-use proofs.Imports.{AccessMessages}
+use proofs.Imports.{Acquire, Grant, Answer, ClientBlock, Own, Granting, is_unprobed, Idle, after_grant_sent, Service}
+use proofs.Imports.{Free, Waits, GrantSent, Block, State, SourceFree, Asked, InService, Replied, Acquires, view}
+use proofs.Imports.{granted_at_once, performed_block, served_block, served_pair, is_unserved, AccessMessages}
+use proofs.rank.{RankParts.request-falls, Weights.IsLeft, Weights.probes-few, Weights.probes-fewer}
 use proofs.rank.Frames.{Taking, Falls, AreAsBefore, AreNoMore, AreElsewhere, IsBlockNoMore, acquire-stays, let-stays}
 use proofs.rank.Frames.{pair-stays, unserved-stays, wants-used}
 use proofs.protocol.{BeatsRemaining.beats_left, QuiescentProtocol.serves_another}
-use proofs.rank.{RankParts.request-falls, Weights.IsLeft, Weights.probes-few, Weights.probes-fewer}
 use proofs.queues.{Sums.total-le, Tokens.same_number, Tokens.set-part}
 use proofs.bound.ReportDecreases.{is_for_access, nobody-serving}
 
@@ -28,10 +27,7 @@ owner_quiet {s} n r inv own = go (is_unprobed ((s.block n).pair r).probing) refl
 
 served_letting : (r : ℕ) (own : Bool) (k : Cap) (pair : ℕ → ClientBlock) (d : ℕ)
     → (served_pair r own k pair d).letting ≡ (pair d).letting
-served_letting r own k pair d =
-    let go : (b : Bool) → (if b then pair d else after_served k (pair d)).letting ≡ (pair d).letting =
-    elim [ true ↦ refl | false ↦ refl ] in
-    go (own && (d == r))
+served_letting r own k pair d = grind arith
 
 module _ {w : ℕ} {config : Config} {mail mail' : AccessMessages w} {s s' : State (List ℕ)}
     (taking : Taking config mail mail' s s') where
@@ -59,9 +55,8 @@ module _ {w : ℕ} {config : Config} {mail mail' : AccessMessages w} {s s' : Sta
       → IsBlockNoMore taking
   block-alike pairs service =
       let probes = total-le number (λ d. pair_weight size left' n d ((s'.block n).pair d))
-      (λ d. pair_weight size left n d ((s.block n).pair d))
-      (λ d lt. pair-stays taking d n (ap (λ (p : ℕ → ClientBlock). (p d).probing) pairs)
-      (ap (λ (p : ℕ → ClientBlock). (p d).recorded) pairs)) in
+      (λ d. pair_weight size left n d ((s.block n).pair d)) (λ d lt. pair-stays taking d n
+      (ap (λ (p : ℕ → ClientBlock). (p d).probing) pairs) (ap (λ (p : ℕ → ClientBlock). (p d).recorded) pairs)) in
       record {
         serves = λ d i e f. probes;
         acquires = λ d i e f. acquire-stays taking d n (wants-used showing.before d i n e)
@@ -73,8 +68,7 @@ module _ {w : ℕ} {config : Config} {mail mail' : AccessMessages w} {s s' : Sta
       → left' c Answer source ≤ answer c source → s'.block n ≡ performed_block f (s.block n)
       → AreElsewhere c source s'.uses s.uses → AreAsBefore s'.lets s.lets → AreNoMore s'.link s.link → Falls taking
   answered-falls source f asked replied few new unlike lets acks =
-      let opened : s.uses c source ≡ SourceFree → ⊥ = λ e. absurd (let both : Asked ≡ SourceFree = sym asked ∙ e in cc)
-      in
+      let opened : s.uses c source ≡ SourceFree → ⊥ = λ e. absurd cc in
       request-falls taking
       (block-alike (ap (λ (b : Block (List ℕ)). b.pair) new) (ap (λ (b : Block (List ℕ)). b.service) new))
       c source opened unlike lets acks (rw (asked, replied) (omega (arith, few)))
@@ -83,14 +77,11 @@ module _ {w : ℕ} {config : Config} {mail mail' : AccessMessages w} {s s' : Sta
 
   module _ (free : (s.block n).service ≡ Free) (letting : (d : ℕ)
       → ((s'.block n).pair d).letting ≡ ((s.block n).pair d).letting) where
-    none_before : is_for_access (s.block n).service ≡ false
-    none_before = ap is_for_access free
-
     -- where it owes no more to those who acquire it
     come-into-service : ((d : ℕ) → (is_unserved (view (s'.block n).service d) ≡ true) ⊎ (owed_for' d ≤ owed_for d))
         → IsBlockNoMore taking
     come-into-service each = record {
-      serves = λ d i e f. absurd (nobody-serving n d i showing.before none_before e);
+      serves = λ d i e f. absurd (nobody-serving n d i showing.before (ap is_for_access free) e);
       acquires = λ d i e f. acquire d i e f (each d);
       lets = λ d i e f. let-stays taking d n (letting d);
     }
@@ -120,8 +111,7 @@ module _ {w : ℕ} {config : Config} {mail mail' : AccessMessages w} {s s' : Sta
         → s.uses c source ≡ Acquires n → IsLeft size left' answer s' → AreAsBefore s'.uses s.uses
         → AreAsBefore s'.lets s.lets → AreNoMore s'.link s.link → Falls taking
     acquire-granted-falls source data_too k given used is uses lets acks =
-        let opened : s.uses c source ≡ SourceFree → ⊥ =
-        λ e. absurd (let both : Acquires n ≡ SourceFree = sym used ∙ e in cc) in
+        let opened : s.uses c source ≡ SourceFree → ⊥ = λ e. absurd cc in
         request-falls taking
         (come-into-service (λ d. at d (cases_eq d c)))
         c source opened (λ d i ne. uses d i) lets acks (rw (uses c source, used) (less c refl))
@@ -129,8 +119,7 @@ module _ {w : ℕ} {config : Config} {mail mail' : AccessMessages w} {s s' : Sta
         less : (d : ℕ) → d ≡ c → owed_for' d + 1 ≤ owed_for d
         less d e =
             let after : view (s'.block n).service d ≡ Granting data_too k = rw (given, e, same_number c) refl in
-            let few = is.few d Grant n in
-            rw (after, idle d) (omega (arith, few))
+            rw (after, idle d) (omega (arith, is.few d Grant n))
 
         at : (d : ℕ) → (d ≡ c) ⊎ (d ≡ c → ⊥) → (is_unserved (view (s'.block n).service d) ≡ true)
             ⊎ (owed_for' d ≤ owed_for d)
@@ -142,9 +131,8 @@ module _ {w : ℕ} {config : Config} {mail mail' : AccessMessages w} {s s' : Sta
         → IsLeft size left' answer s' → AreAsBefore s'.uses s.uses → AreAsBefore s'.lets s.lets
         → AreNoMore s'.link s.link → Falls taking
     acquire-served-falls source at k wide narrow sixteen waits used some is uses lets acks =
-        request-falls taking
-        (come-into-service (λ d. each d (cases_eq d c)))
-        c source opened (λ d i ne. uses d i) lets acks (rw (uses c source, used) less)
+        request-falls taking (come-into-service (λ d. each d (cases_eq d c))) c source opened
+        (λ d i ne. uses d i) lets acks (rw (uses c source, used) less)
       where
         opened : s.uses c source ≡ SourceFree → ⊥
         opened e = absurd (let both : Acquires n ≡ SourceFree = sym used ∙ e in cc)

@@ -1,48 +1,32 @@
 -- What is owed falls as a response is taken, a Release, and a GrantAck.
-use Rattle.std.proofs.Common.{◌≡◌, ℕ, ◌+◌, ◌<◌, ◌≤◌, Bool, true, false, List, refl, sym, ◌∙◌, ap, arith, ◌⊎◌, inl, inr}
-use Rattle.std.proofs.Common.{Some, None, length, ne_eqb, eqb-true, ◌==◌, if◌then◌else◌}
+use Rattle.std.proofs.Common.{◌≡◌, ℕ, ◌+◌, ◌<◌, ◌≤◌, Bool, true, List, refl, sym, ◌∙◌, ap, arith, ◌⊎◌, inl, inr, Some}
+use Rattle.std.proofs.Common.{None, length, ne_eqb, eqb-true, ◌==◌}
 use Rattle.tl_coherence.proofs
-use proofs.Imports.{cases_eq, Config, Cap, Prune, Perm, prune_right, same_perm, Left, probing_weight, pair_weight}
-use proofs.Imports.{probes_weight, acquire_weight, letting_weight, IsInvariant, acquires_with, Acquire, Grant, ProbeAck}
-use proofs.Imports.{Release, Answer, set, ClientBlock, Granting, ProbePhase, NoProbe, ProbeSent, ProbeAnswered}
-use proofs.Imports.{NoRelease, ReleaseSent, ReleaseAcked, Acknowledging, GrantedOther, after_release_taken}
-use proofs.Imports.{after_release_ack, after_grant, Service, Free, GrantSent, GrantTaken, Block, State, SourceFree}
-use proofs.Imports.{Replied, Acquires, view, taken_block, let_block, let_go_block, freed_block, is_unserved, is_wanting}
-use proofs.Imports.{is_answered, AccessMessages}
+use proofs.Imports.{cases_eq, Config, Cap, Prune, Perm, prune_right, Left, probing_weight, pair_weight, probes_weight}
+use proofs.Imports.{acquire_weight, letting_weight, IsInvariant, Acquire, Grant, ProbeAck, Release, Answer, set}
+use proofs.Imports.{ClientBlock, Granting, ProbePhase, NoProbe, ProbeSent, ProbeAnswered, NoRelease, ReleaseSent}
+use proofs.Imports.{ReleaseAcked, after_release_taken, after_release_ack, after_grant, Service, Free, GrantSent}
+use proofs.Imports.{GrantTaken, Block, State, SourceFree, Replied, Acquires, view, taken_block, let_block, let_go_block}
+use proofs.Imports.{freed_block, is_unserved, is_wanting, is_answered, AccessMessages}
 use proofs.bound.ReportDecreases.{kept_at, nobody-serving, is_for_access}
 use proofs.rank.Frames.{Taking, Falls, AreAsBefore, AreNoMore, AreElsewhere, IsBlockNoMore, acquire-stays, let-stays}
 use proofs.rank.Frames.{pair-stays, unserved-stays, wants-used, report-here}
-use proofs.rank.RankDecreases.{owed_use, owed_use'}
+use proofs.rank.RankParts.{request-falls, release-falls, acknowledged-falls, granted-falls, block-same}
 use proofs.queues.{Phases.and_right, Sums.total-le, Tokens.same_number, Tokens.set-same, Tokens.set-other}
 use proofs.protocol.BeatsRemaining.{beats_left, left-same}
-use proofs.rank.RankParts.{request-falls, release-falls, acknowledged-falls, granted-falls, block-same}
-
--- who has released is no longer recorded as the writer
-pruned : (r : Prune) → same_perm (prune_right r) Perm.Trunk ≡ false
-pruned Prune.TtoB = refl
-pruned r = refl
 
 pruned-weight : (size l l' : ℕ) (recorded : Perm) (r : Prune) (x : ProbePhase) → 1 ≤ size → ((a : ℕ) → l' ≤ l)
     → probing_weight size l' (prune_right r) x ≤ probing_weight size l recorded x
-pruned-weight size l l' recorded r NoProbe some le = omega arith
-pruned-weight size l l' recorded r (ProbeSent k) some le =
-    let go : (b : Bool) → 2 ≤ 1 + (if b then size else 1) = elim [ true ↦ omega (arith, some) | false ↦ omega arith ] in
-    rw (pruned r) (go (same_perm recorded Perm.Trunk))
-pruned-weight size l l' recorded r (ProbeAnswered x) some le = le 0
+pruned-weight size l l' recorded r x e f = grind arith
 
 granted_unserved : (q d : ℕ) → is_unserved (view (GrantTaken q) d) ≡ true
-granted_unserved q d =
-    let go : (b : Bool) → is_unserved (if b then Acknowledging else GrantedOther) ≡ true =
-    elim [ true ↦ refl | false ↦ refl ] in
-    go (d == q)
+granted_unserved q d = grind arith
 
 -- an Acquire has one source
 acquired_with : {caching : ℕ → Bool} {s : State (List ℕ)} (n c i : ℕ) → IsInvariant caching s → s.uses c i ≡ Acquires n
     → i ≡ (s.block n).source c
-acquired_with {s} n c i inv e =
-    let named : acquires_with c i (s.block n) ≡ true = cc (inv.named.acquires c i n, e, same_number n) in
-    eqb-true i ((s.block n).source c) (and_right (is_wanting ((s.block n).pair c).acquiring) (i == (s.block n).source c)
-    named)
+acquired_with {s} n c i inv e = eqb-true i ((s.block n).source c) (and_right (is_wanting ((s.block n).pair c).acquiring)
+    (i == (s.block n).source c) (cc (inv.named.acquires c i n, e, same_number n)))
 
 module _ {w : ℕ} {config : Config} {mail mail' : AccessMessages w} {s s' : State (List ℕ)}
     (taking : Taking config mail mail' s s') where
@@ -74,21 +58,13 @@ module _ {w : ℕ} {config : Config} {mail mail' : AccessMessages w} {s s' : Sta
       → AreAsBefore s'.lets s.lets → ((d : ℕ) → (d ≡ c → ⊥) → length (s'.link d).e ≤ length (s.link d).e)
       → length (s'.link c).e ≡ length (s.link c).e + 1 → Falls taking
   grant-taken-falls data_too was_data whole k cap given used closed some new unlike lets acks more =
-      let opened : s.uses c ((s.block n).source c) ≡ SourceFree → ⊥ =
-      λ e. absurd (let both : Acquires n ≡ SourceFree = sym used ∙ e in cc) in
-      let less : owed_use' config size left left' answer answer s s' c ((s.block n).source c) + 2 ≤ owed_use config size
-      left left' answer answer s s' c ((s.block n).source c) = rw (used, closed, before) (omega (arith, some)) in
+      let before : view (s.block n).service c ≡ Granting was_data cap = rw (given, same_number c) refl in
+      let opened : s.uses c ((s.block n).source c) ≡ SourceFree → ⊥ = λ e. absurd cc in
       granted-falls taking block c
-      ((s.block n).source c) opened unlike lets acks more less
+      ((s.block n).source c) opened unlike lets acks more (rw (used, closed, before) (omega (arith, some)))
     where
       taken : (s'.block n).service ≡ GrantTaken c
       taken = ap (λ (b : Block (List ℕ)). b.service) new
-
-      before : view (s.block n).service c ≡ Granting was_data cap
-      before = rw (given, same_number c) refl
-
-      waiting : (d : ℕ) → (d ≡ c → ⊥) → is_unserved (view (s.block n).service d) ≡ true
-      waiting d ne = rw (given, ne_eqb d c ne) refl
 
       acquire : (d i : ℕ) → s.uses d i ≡ Acquires n → s'.uses d i ≡ Acquires n → (d ≡ c) ⊎ (d ≡ c → ⊥)
           → acquire_weight size (left' d Acquire n) (left' d Grant n) (probes_weight number size left' n (s'.block n))
@@ -100,9 +76,8 @@ module _ {w : ℕ} {config : Config} {mail mail' : AccessMessages w} {s s' : Sta
           let end : s'.uses c i ≡ SourceFree = rw at closed in
           let still : s'.uses c i ≡ Acquires n = rw same at f in
           absurd (let both : Acquires n ≡ SourceFree = sym still ∙ end in cc)
-      acquire d i e f (inr other) =
-          unserved-stays taking d i n e f (waiting d other) (ap (λ (u : Service). is_unserved (view u d)) taken
-          ∙ granted_unserved c d)
+      acquire d i e f (inr other) = unserved-stays taking d i n e f (rw (given, ne_eqb d c other) refl)
+          (ap (λ (u : Service). is_unserved (view u d)) taken ∙ granted_unserved c d)
 
       block : IsBlockNoMore taking
       block = record {
@@ -140,19 +115,13 @@ module _ {w : ℕ} {config : Config} {mail mail' : AccessMessages w} {s s' : Sta
       told_as (ProbeSent k) e = pruned-weight size (left c ProbeAck n) 0 was.recorded r (ProbeSent k) wide
           (λ a. omega arith)
       told_as (ProbeAnswered t) e =
-          let before = report-here showing.before c n (rw e refl) in
-          let after = report-here showing.after c n (ap (λ (p : ClientBlock). is_answered p.probing) own ∙ ap
-          is_answered e) in
-          let same = left-same showing popped c ProbeAck n before after
-          in
+          let same = left-same showing popped c ProbeAck n (report-here showing.before c n (rw e refl))
+          (report-here showing.after c n (ap (λ (p : ClientBlock). is_answered p.probing) own ∙ ap is_answered e)) in
           omega (arith, same)
-
-      here : pair_weight size left' n c ((s'.block n).pair c) ≤ pair_weight size left n c ((s.block n).pair c)
-      here = rw own (told_as was.probing refl)
 
       each : (d : ℕ) → (d ≡ c) ⊎ (d ≡ c → ⊥) → pair_weight size left' n d ((s'.block n).pair d) ≤ pair_weight size left
           n d ((s.block n).pair d)
-      each d (inl same) = rw same here
+      each d (inl same) = rw same (rw own (told_as was.probing refl))
       each d (inr ne) = pair-stays taking d n
           (ap (λ (p : ClientBlock). p.probing) (other d ne)) (ap (λ (p : ClientBlock). p.recorded) (other d ne))
 
@@ -178,8 +147,7 @@ module _ {w : ℕ} {config : Config} {mail mail' : AccessMessages w} {s s' : Sta
       → ((s.block n).pair c).letting ≡ ReleaseAcked → s'.block n ≡ let_go_block c (s.block n)
       → AreAsBefore s'.uses s.uses → AreElsewhere c source s'.lets s.lets → AreNoMore s'.link s.link → Falls taking
   release-ack-falls source used gone acked new uses unlike acks =
-      release-falls taking block c source
-      n used uses unlike acks (rw (gone, used, acked) (omega arith))
+      release-falls taking block c source n used uses unlike acks (rw (gone, used, acked) (omega arith))
     where
       was : ClientBlock
       was = (s.block n).pair c
@@ -195,10 +163,9 @@ module _ {w : ℕ} {config : Config} {mail mail' : AccessMessages w} {s s' : Sta
       other d ne = ap (λ (f : ℕ → ClientBlock). f d) pairs ∙ set-other c d (after_release_ack was) (s.block n).pair ne
 
       probes : probes_weight number size left' n (s'.block n) ≤ probes_weight number size left n (s.block n)
-      probes = total-le number (λ d. pair_weight size left' n d ((s'.block n).pair d))
-          (λ d. pair_weight size left n d ((s.block n).pair d))
-          (λ d lt. pair-stays taking d n (kept_at taking (λ p. p.probing) (after_release_ack was) refl pairs
-          d) (kept_at taking (λ p. p.recorded) (after_release_ack was) refl pairs d))
+      probes = total-le number (λ d. pair_weight size left' n d ((s'.block n).pair d)) (λ d. pair_weight size left n d
+          ((s.block n).pair d)) (λ d lt. pair-stays taking d n (kept_at taking (λ p. p.probing)
+          (after_release_ack was) refl pairs d) (kept_at taking (λ p. p.recorded) (after_release_ack was) refl pairs d))
 
       letting : (d : ℕ) → (d ≡ c) ⊎ (d ≡ c → ⊥) → letting_weight (left' d Release n) ((s'.block n).pair d).letting
           ≤ letting_weight (left d Release n) ((s.block n).pair d).letting
@@ -219,12 +186,10 @@ module _ {w : ℕ} {config : Config} {mail mail' : AccessMessages w} {s s' : Sta
       → length (s'.link c).e + 1 ≤ length (s.link c).e → Falls taking
   grant-ack-falls q lt taken new uses lets acks less =
       let free : (s'.block n).service ≡ Free = ap (λ (b : Block (List ℕ)). b.service) new in
-      let block : IsBlockNoMore taking =
-      record {
+      let block : IsBlockNoMore taking = record {
         serves = λ d i e f. absurd (nobody-serving n d i showing.before (ap is_for_access taken) e);
-        acquires = λ d i e f. unserved-stays taking d i n e f
-            (ap (λ (u : Service). is_unserved (view u d)) taken ∙ granted_unserved q d)
-            (ap (λ (u : Service). is_unserved (view u d)) free);
+        acquires = λ d i e f. unserved-stays taking d i n e f (ap (λ (u : Service). is_unserved (view u d)) taken
+            ∙ granted_unserved q d) (ap (λ (u : Service). is_unserved (view u d)) free);
         lets = λ d i e f. let-stays taking d n (ap (λ (b : Block (List ℕ)). (b.pair d).letting) new);
       } in
       acknowledged-falls taking block c

@@ -1,7 +1,7 @@
 -- Deliveries move no more beats than the load before them; and the next ones, one after another, end
 -- what is outstanding.
 use Rattle.std.proofs.Common.{◌≡◌, ℕ, zero, suc, ◌+◌, ◌≤◌, Bool, true, false, [], ◌∷◌, ◌++◌, Option, Some, None, length}
-use Rattle.std.proofs.Common.{refl, sym, ◌∙◌, ap, subst, arith, All, if◌then◌else◌, filter}
+use Rattle.std.proofs.Common.{refl, sym, ◌∙◌, ap, subst, arith, All}
 use Rattle.tl_coherence.proofs
 use proofs.Imports.{All-head, Link, Channel, Config, limits, one_if, Event, Deliver, Ask, Outcome, is_moving}
 use proofs.Imports.{is_delivery, IsDrained, IsGiven, load, Log, system_after, next_delivery, with_delivery, stepped}
@@ -35,12 +35,8 @@ owed-load {w} {config} {log} given =
 pub given-before : {w : ℕ} (config : Config) (x : Event w × Outcome w) (log : Log w) → IsGiven config (x ∷ log)
     → IsGiven config log
 unfolding AreTyped IsLog
-given-before config x log given = record {
-  width = given.width;
-  fits = given.fits;
-  typed = given.typed.1;
-  is_log = given.is_log.1;
-}
+given-before config x log given =
+    record { width = given.width; fits = given.fits; typed = given.typed.1; is_log = given.is_log.1 }
 
 given-older : {w : ℕ} {config : Config} (more log : Log w) → IsGiven config (more ++ log) → IsGiven config log
 given-older [] log given = given
@@ -54,12 +50,8 @@ delivering config link ch log = (Deliver link ch, (stepped config (Deliver link 
 pub given-delivering : {w : ℕ} (config : Config) (link : Link) (ch : Channel) (log : Log w) → IsGiven config log
     → IsGiven config (delivering config link ch log)
 unfolding AreTyped IsLog
-given-delivering config link ch log given = record {
-  width = given.width;
-  fits = given.fits;
-  typed = (tt, given.typed);
-  is_log = (refl, given.is_log);
-}
+given-delivering config link ch log given =
+    record { width = given.width; fits = given.fits; typed = (tt, given.typed); is_log = (refl, given.is_log) }
 
 -- ---- one delivery
 
@@ -103,10 +95,7 @@ owed-delivered {w} {config} x log given is =
 
 moved-more : {w : ℕ} (x : Event w × Outcome w) (more : Log w)
     → beats_moved (x ∷ more) ≡ one_if (is_moving x.1) + beats_moved more
-moved-more {w} x more =
-    let go : (b : Bool) → length (if b then x ∷ filter (λ y. is_moving y.1) more else filter (λ y. is_moving y.1) more)
-    ≡ one_if b + beats_moved more = elim [ true ↦ omega arith | false ↦ omega arith ] in
-    go (is_moving x.1)
+moved-more {w} x more = grind arith
 
 bounding : {w : ℕ} {config : Config} (more log : Log w) → IsGiven config (more ++ log)
     → All (λ x. is_delivery x.0 ≡ true) more
@@ -115,16 +104,12 @@ bounding [] log given all = omega arith
 bounding {config} (x ∷ more) log given all =
     let rest = bounding more log (given-before config x (more ++ log) given)
     (All-tail (λ y. is_delivery y.0 ≡ true) x more all) in
-    let here = owed-delivered x (more ++ log) given (All-head (λ y. is_delivery y.0 ≡ true) x more all) in
     let count = moved-more x more in
-    omega (arith, rest, here, count)
+    omega (arith, rest, owed-delivered x (more ++ log) given (All-head (λ y. is_delivery y.0 ≡ true) x more all), count)
 
 pub bound : {w : ℕ} {config : Config} (more log : Log w) → IsGiven config (more ++ log)
     → All (λ x. is_delivery x.0 ≡ true) more → beats_moved more ≤ load log
-bound more log given all =
-    let beats = bounding more log given all in
-    let few = owed-load (given-older more log given) in
-    omega (arith, beats, few)
+bound more log given all = omega (arith, bounding more log given all, owed-load (given-older more log given))
 
 -- ---- draining
 
@@ -139,8 +124,7 @@ record IsStanding {w : ℕ} (config : Config) (log : Log w) (n : ℕ) : Type 0 w
 next-moves : {w : ℕ} {config : Config} {log : Log w} (d : Link × Channel) → IsGiven config log
     → next_delivery config (system_after config log) ≡ Some d
     → is_moving (stepped config (Deliver d.0 d.1) (system_after config log)).outcome ≡ true
-next-moves {config} {log} d given is =
-    movable-moves config log d.0.0 d.1 (λ client. stalls given d.0.0 d.1 client)
+next-moves {config} {log} d given is = movable-moves config log d.0.0 d.1 (λ client. stalls given d.0.0 d.1 client)
     (next-movable config (system_after config log) d is)
 
 standing : {w : ℕ} {config : Config} {log : Log w} (o : Option (Link × Channel)) → IsGiven config log
@@ -170,10 +154,9 @@ standing {w} {config} {log} (Some d) given next rest =
 -- it comes to that after as many deliveries as are owed at most
 coming-to-stand : {w : ℕ} {config : Config} (fuel : ℕ) {log : Log w} → IsGiven config log → owed_after config log ≤ fuel
     → (n : ℕ) × IsStanding config log n
-coming-to-stand {config} zero {log} given le =
-    standing (next_delivery config (system_after config log)) given refl
-    (λ d next. let less = owed-moved d.0 d.1 (stepped config (Deliver d.0 d.1) (system_after config log)).outcome
-    given (next-moves d given next) in absurd (omega (arith, le, less)))
+coming-to-stand {config} zero {log} given le = standing (next_delivery config (system_after config log)) given refl
+    (λ d next. let less = owed-moved d.0 d.1 (stepped config (Deliver d.0 d.1) (system_after config log)).outcome given
+    (next-moves d given next) in absurd (omega (arith, le, less)))
 coming-to-stand {config} (suc fuel) {log} given le =
     standing (next_delivery config (system_after config log)) given refl
     (λ d next.

@@ -1,19 +1,19 @@
 -- Answers that are on their way answer their accesses: after every event.
-use Rattle.std.proofs.Common.{◌≡◌, subst, ℕ, Bool, true, false, List, ◌∷◌, Some, None, length, refl, sym, ◌∙◌, ap, ◌⊎◌}
-use Rattle.std.proofs.Common.{inl, inr, ◌%◌}
+use Rattle.std.proofs.Common.{◌≡◌, ℕ, Bool, true, false, List, ◌∷◌, Some, None, length, refl, sym, ◌∙◌, ap, arith, inl}
+use Rattle.std.proofs.Common.{inr, ◌%◌}
 use Rattle.tl_coherence.proofs
 use proofs.Imports.{cases_eq, OpA, OpD, Message, MessageA, MessageD, Config, Memory, effect, answer_of, as_payload}
 use proofs.Imports.{bytes_from, block_at, is_acquire, Op, Reply, access, access_answer, no_payload, is_access_answer}
 use proofs.Imports.{Kind, Answer, Packet, set_at, Waits, GrantSent, State, SourceState, SourceFree, Asked, InService}
 use proofs.Imports.{Replied, Acquires, packet, on, AbstractState, asked, access_taken, last_taken, taken_by_client}
-use proofs.Imports.{kind_taken, bytes_at, AccessMessages, report_told, SimulationRelation, IsAnswer, IsAnswered, IsFor}
-use proofs.Imports.{Log, System}
+use proofs.Imports.{kind_taken, AccessMessages, report_told, SimulationRelation, IsAnswer, IsAnswered, IsFor, Log}
+use proofs.Imports.{System}
 use Rattle.tl_rules.{specs.statement.Conformance.answers, specs.statement.Effect.byte_count}
 use Rattle.tl_rules.specs.statement.Effect as memory
 use Rattle.tl_coherence.specs.refinement.AbstractStep as follow
 use proofs.client.Aside.{set_at-else, set_at-other}
 use proofs.protocol.{Heads.asked-first, Events.true-taken}
-use proofs.queues.Tokens.{set_at-same}
+use proofs.queues.{Tokens.set_at-same}
 
 abbrev pub AreAnswered : {w : ℕ} → AccessMessages w → State (List ℕ) → Type 0
 AreAnswered mail s = (c source : ℕ) → IsAnswered source (mail.request c source) (mail.answer c source) (s.uses c source)
@@ -43,41 +43,21 @@ answer_kind : {w : ℕ} (o : OpA) (m : MessageA w) (f : Memory) → is_acquire o
 unfolding IsAnswerTo
 answer_kind OpA.PutFullData m f e = (answer_message OpD.AccessAck no_payload m, refl, refl, refl, refl, refl)
 answer_kind OpA.PutPartialData m f e = (answer_message OpD.AccessAck no_payload m, refl, refl, refl, refl, refl)
-answer_kind {w} OpA.ArithmeticData m f e = (
-  answer_message OpD.AccessAckData (as_payload (m.address % w) (bytes_from f m.address (byte_count m))) m,
-  refl,
-  refl,
-  refl,
-  refl,
-  refl,
-)
-answer_kind {w} OpA.LogicalData m f e = (
-  answer_message OpD.AccessAckData (as_payload (m.address % w) (bytes_from f m.address (byte_count m))) m,
-  refl,
-  refl,
-  refl,
-  refl,
-  refl,
-)
-answer_kind {w} OpA.Get m f e = (
-  answer_message OpD.AccessAckData (as_payload (m.address % w) (bytes_from f m.address (byte_count m))) m,
-  refl,
-  refl,
-  refl,
-  refl,
-  refl,
-)
+answer_kind {w} OpA.ArithmeticData m f e = let fact = answer_message OpD.AccessAckData
+    (as_payload (m.address % w) (bytes_from f m.address (byte_count m))) m in (fact, refl, refl, refl, refl, refl)
+answer_kind {w} OpA.LogicalData m f e = let fact = answer_message OpD.AccessAckData
+    (as_payload (m.address % w) (bytes_from f m.address (byte_count m))) m in (fact, refl, refl, refl, refl, refl)
+answer_kind {w} OpA.Get m f e = let fact = answer_message OpD.AccessAckData
+    (as_payload (m.address % w) (bytes_from f m.address (byte_count m))) m in (fact, refl, refl, refl, refl, refl)
 answer_kind OpA.Intent m f e = (answer_message OpD.HintAck no_payload m, refl, refl, refl, refl, refl)
 answer_kind OpA.AcquireBlock m f e = absurd cc
 answer_kind OpA.AcquirePerm m f e = absurd cc
 
 -- what the manager answers to an access, whatever the bytes of its block
-pub answers-access : {w : ℕ} (source : ℕ) (m : MessageA w) (bytes : List ℕ) → is_acquire m.opcode ≡ false
+answers-access : {w : ℕ} (source : ℕ) (m : MessageA w) (bytes : List ℕ) → is_acquire m.opcode ≡ false
     → m.source ≡ source → IsAnswer source (Message.A m) (follow.answers m bytes)
 unfolding effect IsAnswerTo
-answers-access {w} source m bytes access from =
-    let is = answer_kind m.opcode m (bytes_at (block_at m.address) bytes) access in
-    subst (λ (y : Message w). IsAnswer source (Message.A m) y) (sym is.1) (is.2, is.3, is.4 ∙ from, is.5)
+answers-access {w} source m bytes access from = grind (arith, answer_kind)
 
 -- ---- one source
 
@@ -87,18 +67,7 @@ answered-at : {w : ℕ} (c source : ℕ) (mail mail' : AccessMessages w) (s s' :
     × (mail'.answer d i ≡ mail.answer d i) × (s'.uses d i ≡ s.uses d i))
     → IsAnswered source (mail'.request c source) (mail'.answer c source) (s'.uses c source) → AreAnswered mail s
     → AreAnswered mail' s'
-answered-at {w} c source mail mail' s s' same new h d i = go (cases_eq d c) (cases_eq i source)
-  where
-    still : ((d ≡ c) × (i ≡ source) → ⊥) → IsAnswered i (mail'.request d i) (mail'.answer d i) (s'.uses d i)
-    still other =
-        let e = same d i other in
-        rw (e.0, e.1, e.2) (h d i)
-
-    go : (d ≡ c) ⊎ (d ≡ c → ⊥) → (i ≡ source) ⊎ (i ≡ source → ⊥) → IsAnswered i (mail'.request d i) (mail'.answer d i)
-        (s'.uses d i)
-    go (inl e) (inl f) = rw (e, f) new
-    go (inl e) (inr ne) = still (λ both. ne both.1)
-    go (inr ne) f = still (λ both. ne both.0)
+answered-at {w} c source mail mail' s s' same new h d i = grind arith
 
 -- an entry but for one
 pub set_at-apart : {X : Type 0} (c source : ℕ) (x : X) (f : ℕ → ℕ → X) (d i : ℕ) → ((d ≡ c) × (i ≡ source) → ⊥)
@@ -115,18 +84,14 @@ is_unanswered _ = true
 
 unanswered : {w : ℕ} (source : ℕ) (request answer : Message w) (u : SourceState) → is_unanswered u ≡ true
     → IsAnswered source request answer u
-unanswered source request answer Replied e = absurd cc
-unanswered source request answer u e = tt
+unanswered source request answer u e = grind arith
 
 -- a source whose use is now another that is no answer's, whatever its request
 answered-used : {w : ℕ} (c source : ℕ) (u : SourceState) (mail : AccessMessages w) (s s' : State (List ℕ))
     → is_unanswered u ≡ true → s'.uses ≡ set_at c source u s.uses → AreAnswered mail s → AreAnswered mail s'
-answered-used c source u mail s s' none uses h =
-    answered-at c source mail mail s s' (λ d i other. (
-      refl,
-      refl,
-      ap (λ (f : ℕ → ℕ → SourceState). f d i) uses ∙ set_at-apart c source u s.uses d i other,
-    )) (unanswered source (mail.request c source) (mail.answer c source) (s'.uses c source)
+answered-used c source u mail s s' none uses h = answered-at c source mail mail s s'
+    (λ d i other. (refl, refl, ap (λ (f : ℕ → ℕ → SourceState). f d i) uses ∙ set_at-apart c source u s.uses d i other))
+    (unanswered source (mail.request c source) (mail.answer c source) (s'.uses c source)
     (ap is_unanswered (ap (λ (f : ℕ → ℕ → SourceState). f c source) uses ∙ set_at-same c source u s.uses) ∙ none)) h
 
 -- an access that is answered
@@ -154,9 +119,8 @@ pub answered-asked : {w : ℕ} (c : ℕ) (o : Op w) (r : Reply) (h : AbstractSta
     → AreAnswered (asked c o r h).mail (asked c o r h).state
 answered-asked c (Op.Acquire n g) (Reply.Started source) h all = answered-used c source (Acquires n) h.mail h.state
     (asked c (Op.Acquire n g) (Reply.Started source) h).state refl refl all
-answered-asked c (Op.AcquireWhole n bytes) (Reply.Started source) h all =
-    answered-used c source (Acquires n) h.mail h.state (asked c (Op.AcquireWhole n bytes) (Reply.Started source)
-    h).state refl refl all
+answered-asked c (Op.AcquireWhole n bytes) (Reply.Started source) h all = answered-used c source
+    (Acquires n) h.mail h.state (asked c (Op.AcquireWhole n bytes) (Reply.Started source) h).state refl refl all
 answered-asked {w} c (Op.Access (Message.A m)) (Reply.Started source) h all =
     let h' : AbstractState w = asked c (Op.Access (Message.A m)) (Reply.Started source) h in
     answered-at c source h.mail h'.mail h.state h'.state
@@ -184,8 +148,7 @@ answered-kind_taken {w} {config} tracker c k i rest h is first =
           let due = asked-first c source rest is known in
           let same : due.request ≡ m = let both = sym due.is_it ∙ from in cc in
           answered-now c source _ h.mail h.state (access_taken c source m tracker false None rest h).state refl
-          (rw from (answers-access source m _
-          (ap (λ (x : MessageA w). is_acquire x.opcode) (sym same) ∙ due.access)
+          (rw from (answers-access source m _ (ap (λ (x : MessageA w). is_acquire x.opcode) (sym same) ∙ due.access)
           (ap (λ (x : MessageA w). x.source) (sym same) ∙ due.source_is))) is.answered;
       access_served = λ source m j known from caps some. used c source (InService (block_at m.address))
           (access_taken c source m tracker true (Some j) rest h).state refl refl;

@@ -1,6 +1,6 @@
 -- Which clients' ends an event leaves alone: one at a client all others, one at the manager all.
 use Rattle.std.proofs.Common.{◌≡◌, ℕ, Bool, true, false, List, refl, sym, ◌∙◌, ap, inl, inr, ◌&&◌, eqb-true, ◌==◌}
-use Rattle.std.proofs.Common.{if◌then◌else◌}
+use Rattle.std.proofs.Common.{arith, if◌then◌else◌}
 use Rattle.tl_coherence.proofs
 use proofs.Imports.{Cap, Report, set, set_at, ClientBlock, is_unreleased, after_report, after_served, after_grant_sent}
 use proofs.Imports.{Block, State, SourceState, served_block, granted_block, served_pair, granted_pair, AccessMessages}
@@ -23,71 +23,35 @@ pub aside-block : {w : ℕ} {c : ℕ} (n : ℕ) {b : Block (List ℕ)} {mail mai
     → s'.block ≡ set n b s.block → IsAsideBlock c (s.block n) b → ((source : ℕ) → s'.lets c source ≡ s.lets c source)
     → ((source : ℕ) → IsSameUse (s.uses c source) (s'.uses c source))
     → ((source : ℕ) → mail'.request c source ≡ mail.request c source) → IsAside c mail mail' s s'
-aside-block {c} n {b} {s} changed aside lets uses request = record {
-  held = λ i. cc (changed, set-part (λ (x : Block (List ℕ)). (x.pair c).held) n b s.block aside.held i);
-  acquiring = λ i. cc (changed, set-part (λ (x : Block (List ℕ)). (x.pair c).acquiring) n b s.block aside.acquiring i);
-  letting = λ i. ap (λ (f : ℕ → Block (List ℕ)). is_unreleased ((f i).pair c).letting) changed ∙ set-part
-      (λ (x : Block (List ℕ)). is_unreleased (x.pair c).letting) n b s.block aside.letting i;
-  source = λ i. cc (changed, set-part (λ (x : Block (List ℕ)). x.source c) n b s.block aside.source i);
-  copy = λ i. cc (changed, set-part (λ (x : Block (List ℕ)). x.copy c) n b s.block aside.copy i);
-  waiting = λ i. cc (changed, set-part (λ (x : Block (List ℕ)). x.waiting c) n b s.block aside.waiting i);
-  lets = lets;
-  uses = uses;
-  request = request;
-}
+aside-block {c} n {b} {s} changed aside lets uses request = grind arith
 
 -- and one that changes no block
 pub aside-blocks : {w : ℕ} {c : ℕ} {mail mail' : AccessMessages w} {s s' : State (List ℕ)} → s'.block ≡ s.block
     → ((source : ℕ) → s'.lets c source ≡ s.lets c source)
     → ((source : ℕ) → IsSameUse (s.uses c source) (s'.uses c source))
     → ((source : ℕ) → mail'.request c source ≡ mail.request c source) → IsAside c mail mail' s s'
-aside-blocks {c} same lets uses request = record {
-  held = λ i. ap (λ (f : ℕ → Block (List ℕ)). ((f i).pair c).held) same;
-  acquiring = λ i. ap (λ (f : ℕ → Block (List ℕ)). ((f i).pair c).acquiring) same;
-  letting = λ i. ap (λ (f : ℕ → Block (List ℕ)). is_unreleased ((f i).pair c).letting) same;
-  source = λ i. ap (λ (f : ℕ → Block (List ℕ)). (f i).source c) same;
-  copy = λ i. ap (λ (f : ℕ → Block (List ℕ)). (f i).copy c) same;
-  waiting = λ i. ap (λ (f : ℕ → Block (List ℕ)). (f i).waiting c) same;
-  lets = lets;
-  uses = uses;
-  request = request;
-}
+aside-blocks {c} same lets uses request = grind arith
 
 -- what the block has of the client's pair stays
 pub pair-aside : {c : ℕ} {b b' : Block (List ℕ)} → (b'.pair c).held ≡ (b.pair c).held
     → (b'.pair c).acquiring ≡ (b.pair c).acquiring → is_unreleased (b'.pair c).letting ≡ is_unreleased
     (b.pair c).letting → b'.source ≡ b.source → b'.copy ≡ b.copy → b'.waiting ≡ b.waiting → IsAsideBlock c b b'
-pair-aside {c} held acquiring letting source copy waiting = record {
-  held = held;
-  acquiring = acquiring;
-  letting = letting;
-  source = ap (λ (f : ℕ → ℕ). f c) source;
-  copy = ap (λ (f : ℕ → List ℕ). f c) copy;
-  waiting = ap (λ (f : ℕ → List ℕ). f c) waiting;
-}
+pair-aside {c} held acquiring letting source copy waiting = grind arith
 
 -- another client's event
 pub others-aside : {d : ℕ} {b b' : Block (List ℕ)} → b'.pair d ≡ b.pair d → b'.source d ≡ b.source d
     → b'.copy d ≡ b.copy d → b'.waiting d ≡ b.waiting d → IsAsideBlock d b b'
-others-aside pair source copy waiting = record {
-  held = ap (λ (p : ClientBlock). p.held) pair;
-  acquiring = ap (λ (p : ClientBlock). p.acquiring) pair;
-  letting = ap (λ (p : ClientBlock). is_unreleased p.letting) pair;
-  source = source;
-  copy = copy;
-  waiting = waiting;
-}
+others-aside pair source copy waiting = grind arith
 
 -- what one pair has in common with another, all have
 pub entry-aside : (c : ℕ) {d : ℕ} (p : ClientBlock) {b b' : Block (List ℕ)} → b'.pair ≡ set c p b.pair
     → p.held ≡ (b.pair c).held → p.acquiring ≡ (b.pair c).acquiring
     → is_unreleased p.letting ≡ is_unreleased (b.pair c).letting
     → b'.source ≡ b.source → b'.copy ≡ b.copy → b'.waiting ≡ b.waiting → IsAsideBlock d b b'
-entry-aside c {d} p {b} pair held acquiring letting source copy waiting =
-    pair-aside (ap (λ (f : ℕ → ClientBlock). (f d).held) pair ∙ set-part (λ (q : ClientBlock). q.held) c p b.pair held
-    d) (ap (λ (f : ℕ → ClientBlock). (f d).acquiring) pair ∙ set-part (λ (q : ClientBlock). q.acquiring) c p b.pair
-    acquiring d) (ap (λ (f : ℕ → ClientBlock). is_unreleased (f d).letting) pair
-    ∙ set-part (λ (q : ClientBlock). is_unreleased q.letting) c p b.pair letting d) source copy waiting
+entry-aside c {d} p {b} pair held acquiring letting source copy waiting = pair-aside (ap (λ (f : ℕ → ClientBlock).
+    (f d).held) pair ∙ set-part (λ (q : ClientBlock). q.held) c p b.pair held d) (ap (λ (f : ℕ → ClientBlock).
+    (f d).acquiring) pair ∙ set-part (λ (q : ClientBlock). q.acquiring) c p b.pair acquiring d)
+    (cc (set-part (λ (q : ClientBlock). is_unreleased q.letting) c p b.pair letting d)) source copy waiting
 
 served_aside : {A : Type 0} (part : ClientBlock → A) (r : ℕ) (own : Bool) (k : Cap) (pair : ℕ → ClientBlock) (d : ℕ)
     → part (after_served k (pair d)) ≡ part (pair d) → part (served_pair r own k pair d) ≡ part (pair d)

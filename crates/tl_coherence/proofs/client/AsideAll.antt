@@ -1,18 +1,17 @@
 -- Which clients' ends are left alone as a message is taken, and as a client is asked: all of that is
 -- what `followed` does.
-use Rattle.std.proofs.Common.{sym, None, ◌≡◌, ℕ, Bool, true, false, List, ◌∷◌, Some, refl, ◌∙◌, ap, inl, not, ◌==◌}
+use Rattle.std.proofs.Common.{sym, None, ◌≡◌, ℕ, Bool, true, false, List, ◌∷◌, Some, refl, ap, inl, not, ◌==◌, arith}
 use Rattle.tl_coherence.proofs
 use proofs.Imports.{and_from, Message, Config, Cap, Grow, block_at, Op, Reply, copy_stored, whole_grow, access}
-use proofs.Imports.{cap_asked, IsInvariant, is_asked, serves_of, is_serving, Kind, Request, Probe, Release, Answer}
-use proofs.Imports.{Grant, ReleaseAck, Packet, is_whole, AcquireOpen, after_grant_sent, after_grant}
-use proofs.Imports.{after_release_taken, after_acquire, after_release, after_probe, after_release_ack, after_report}
-use proofs.Imports.{InService, Replied, SourceFree, Acquires, Service, Waits, GrantSent, Block, SourceState, Asked}
-use proofs.Imports.{packet, on, granted_copy, acquire_asked, AbstractState, with_state, asked, taken_by_client}
-use proofs.Imports.{kind_taken, channel_for, cap_sent, is_to_client}
+use proofs.Imports.{cap_asked, IsInvariant, is_asked, serves_of, Kind, Request, Probe, Release, Answer, Grant}
+use proofs.Imports.{ReleaseAck, Packet, is_whole, AcquireOpen, after_grant_sent, after_grant, after_release_taken}
+use proofs.Imports.{after_release, after_probe, after_release_ack, after_report, InService, Replied, SourceFree}
+use proofs.Imports.{Service, Waits, GrantSent, Block, SourceState, Asked, packet, on, granted_copy, acquire_asked}
+use proofs.Imports.{AbstractState, with_state, asked, taken_by_client, kind_taken, channel_for, cap_sent, is_to_client}
 use proofs.client.Aside.{aside-block, aside-blocks, pair-aside, others-aside, entry-aside, served-aside, granted-aside}
 use proofs.client.Aside.{set_at-other, uses-moved}
-use proofs.queues.Tokens.{set-other, same_number}
 use proofs.client.ClientEnd.{is_access, IsAside}
+use proofs.queues.Tokens.{set-other, same_number}
 use proofs.protocol.{BothParts.releasing-open, FirstTokens.first-shown, FirstTokens.first-request, Events.true-taken}
 
 -- the client's end is left alone
@@ -25,12 +24,10 @@ leaves-none d h = aside-blocks refl (λ i. refl) (λ i. inl refl) (λ i. refl)
 -- ---- requests
 
 asked_access : (u : SourceState) → is_asked u ≡ true → is_access u ≡ true
-asked_access Asked e = refl
-asked_access u e = absurd cc
+asked_access u e = grind arith
 
 served_access : (n : ℕ) (u : SourceState) → serves_of n u ≡ true → is_access u ≡ true
-served_access n (InService m) e = refl
-served_access n u e = absurd cc
+served_access n u e = grind arith
 
 -- ---- messages that the manager takes
 
@@ -50,16 +47,14 @@ leaves-at_manager {w} config tracker c k i rest h d for inv first =
       access_served = λ source m j known from caps some. aside-block (block_at m.address) refl
           (served-aside c source tracker false j (block (block_at m.address))) (λ e. refl)
           (uses-moved c source (InService (block_at m.address)) h.state.uses (asked source known.1) refl d) (λ e. refl);
-      acquire_granted = λ n whole g known wants none. aside-block n refl
-          (entry-aside c (after_grant_sent _ ((block n).pair c)) refl refl refl refl refl refl refl) (λ e. refl)
-          (λ e. inl refl) (λ e. refl);
+      acquire_granted = λ n whole g known wants none. aside-block n refl (entry-aside c (after_grant_sent _
+          ((block n).pair c)) refl refl refl refl refl refl refl) (λ e. refl) (λ e. inl refl) (λ e. refl);
       acquire_served = λ n whole g known wants some. aside-block n refl
           (served-aside c ((block n).source c) tracker true (cap_asked (AcquireOpen whole g)) (block n)) (λ e. refl)
           (λ e. inl refl) (λ e. refl);
       probe = λ n known. absurd cc;
-      report = λ n known more. aside-block n refl
-          (entry-aside c (after_report _ ((block n).pair c)) refl refl refl refl refl refl refl) (λ e. refl)
-          (λ e. inl refl) (λ e. refl);
+      report = λ n known more. aside-block n refl (entry-aside c (after_report _
+          ((block n).pair c)) refl refl refl refl refl refl refl) (λ e. refl) (λ e. inl refl) (λ e. refl);
       report_answers = λ n q source j known last waits. aside-block n refl
           (entry-aside c (after_report _ ((block n).pair c)) refl refl refl refl refl refl refl) (λ e. refl)
           (uses-moved q source Replied h.state.uses (served n q source j waits) refl d) (λ e. refl);
@@ -79,15 +74,13 @@ leaves-at_manager {w} config tracker c k i rest h d for inv first =
     block : ℕ → Block (List ℕ)
     block = h.state.block
 
-    asked : (source : ℕ) → (h.state.link c).a ≡ packet Request source ∷ rest
-        → is_access (h.state.uses c source) ≡ true
+    asked : (source : ℕ) → (h.state.link c).a ≡ packet Request source ∷ rest → is_access (h.state.uses c source) ≡ true
     asked source known = asked_access (h.state.uses c source) (ap is_asked (first-request inv known))
 
     served : (n q source : ℕ) (j : Cap) → (block n).service ≡ Waits q false source j
         → is_access (h.state.uses q source) ≡ true
     served n q source j e = served_access n (h.state.uses q source)
-        (inv.named.serves q source n ∙ ap (λ (x : Service). is_serving q source x) e
-        ∙ and_from (q == q) (source == source) (same_number q) (same_number source))
+        (cc (inv.named.serves q source n, and_from (q == q) (source == source) (same_number q) (same_number source)))
 
 -- ---- messages that a client takes, as another sees it
 
@@ -95,9 +88,8 @@ leaves-grant : {w : ℕ} (c n : ℕ) (service : Service) (rest : List Packet) (h
     → Leaves d h (taken_by_client c n service rest h)
 leaves-grant c n (GrantSent q x k) rest h d ne =
     let b : Block (List ℕ) = h.state.block n in
-    let whole : Bool = is_whole (b.pair c).acquiring in
-    aside-block n refl (others-aside (set-other c d (after_grant k (b.pair c)) b.pair ne) refl
-    (set-other c d (granted_copy whole x (b.waiting c) b.truth (b.copy c)) b.copy ne) refl) (λ i. refl)
+    aside-block n refl (others-aside (set-other c d (after_grant k (b.pair c)) b.pair ne) refl (set-other c d
+    (granted_copy (is_whole (b.pair c).acquiring) x (b.waiting c) b.truth (b.copy c)) b.copy ne) refl) (λ i. refl)
     (λ i. inl (set_at-other c d (b.source c) i SourceFree h.state.uses ne)) (λ i. refl)
 leaves-grant c n service rest h d ne = leaves-none d h
 
@@ -121,11 +113,7 @@ leaves-at_client config tracker c k n rest h d for ne = absurd cc
 
 leaves-acquiring : {w : ℕ} (c n source : ℕ) (whole : Bool) (g : Grow) (bytes : List ℕ) (h : AbstractState w) (d : ℕ)
     → (d ≡ c → ⊥) → Leaves d h (with_state (acquire_asked c n source whole g bytes h.state) h)
-leaves-acquiring c n source whole g bytes h d ne =
-    let b : Block (List ℕ) = h.state.block n in
-    aside-block n refl (others-aside (set-other c d (after_acquire whole g (b.pair c)) b.pair ne)
-    (set-other c d source b.source ne) refl (set-other c d bytes b.waiting ne)) (λ i. refl)
-    (λ i. inl (set_at-other c d source i (Acquires n) h.state.uses ne)) (λ i. refl)
+leaves-acquiring c n source whole g bytes h d ne = grind arith
 
 pub leaves-asked : {w : ℕ} (c : ℕ) (o : Op w) (r : Reply) (h : AbstractState w) (d : ℕ) → (d ≡ c → ⊥)
     → Leaves d h (asked c o r h)

@@ -1,6 +1,6 @@
 -- A client's end after it was asked for an operation: what it does is what the protocol does.
 use Rattle.std.proofs.Common.{◌≡◌, subst, ℕ, Bool, true, false, not, ◌&&◌, cond, List, Option, Some, None, refl, sym}
-use Rattle.std.proofs.Common.{◌∙◌, ap, ◌⊎◌, inl, inr, eqb-true, ne_eqb, ◌==◌, unwrap_or}
+use Rattle.std.proofs.Common.{arith, ◌∙◌, ap, ◌⊎◌, inl, inr, eqb-true, ne_eqb, ◌==◌, unwrap_or}
 use Rattle.tl_coherence.proofs
 use proofs.Imports.{cases_eq, or_parts, not-false, BeatA, OpA, OpC, IsWidth, Message, MessageC, AcquireOf, ReleaseOf}
 use proofs.Imports.{Prune, Perm, prune_code, prune_left, prune_right, sent, same_perm, block_at, is_release, held}
@@ -11,17 +11,16 @@ use proofs.Imports.{acquisition, sourced, about, release, AreNamed, ClientBlock,
 use proofs.Imports.{Block, State, releasing_block, stored_block, release_asked, block_stored, is_wanting, AbstractState}
 use proofs.Imports.{AccessMessages, asked_by}
 use Rattle.tl_client.{proofs.endpoint.HeldAfter.held-release, proofs.pending.Accounted.accounted-asked}
-use Rattle.tl_client.{proofs.pending.KeptAsked.no_acquire, proofs.pending.KeptAsked.falls_to, specs.statement.Ask.load}
-use Rattle.tl_client.{specs.statement.Ask.is_access_of, specs.statement.Endpoint.with_copy}
-use Rattle.tl_client.{specs.statement.Endpoint.with_waiting, specs.statement.Endpoint.kept_for}
+use Rattle.tl_client.proofs.pending.KeptAsked.{no_acquire, falls_to}
+use Rattle.tl_client.specs.statement.Ask.{load, is_access_of}
+use Rattle.tl_client.specs.statement.Endpoint.{with_copy, with_waiting, kept_for}
 use Rattle.tl_client.specs.statement.Ask as ask
 use Rattle.tl_coherence.specs.refinement.AbstractStep as world
 use proofs.client.{Aside.set_at-else, ClientSent.IsReleased, ClientSent.known-released, ClientSent.opened-released}
-use proofs.client.{ClientRequests.chosen, ClientRequests.passed, ClientRequests.end-access_asked}
-use proofs.client.{ClientRequests.end-acquire_asked}
-use proofs.queues.{Perms.held-some, Tokens.same_number, Tokens.set-same, Tokens.set-other, Tokens.set-part}
-use proofs.queues.{Tokens.set_at-same}
+use proofs.client.ClientRequests.{chosen, passed, end-access_asked, end-acquire_asked}
 use proofs.client.ClientEnd.{IsWellKept, IsEnd, IsSame, known-same, opened-same, asks-same, column}
+use proofs.queues.{Perms.held-some}
+use proofs.queues.Tokens.{same_number, set-same, set-other, set-part, set_at-same}
 
 -- ---- a Release
 
@@ -50,7 +49,7 @@ release_message Prune.BtoN source n copy = (
   record { releases = refl; of_block = same_block n; whole = refl; from = refl },
 )
 
-pub end-release_asked : {w : ℕ} {c : ℕ} (n source : ℕ) (r : Prune) (copy : List ℕ) (mail : AccessMessages w)
+end-release_asked : {w : ℕ} {c : ℕ} (n source : ℕ) (r : Prune) (copy : List ℕ) (mail : AccessMessages w)
     {s : State (List ℕ)} {e : Endpoint w} → IsWidth w → same_perm (prune_left r) (held n e.past) ≡ true
     → IsWellKept (kept_for n (prune_right r) (sending (release r source n copy) e)) → IsEnd (asked_by mail s c) c s e
     → IsEnd (asked_by mail (release_asked c n source r s) c) c (release_asked c n source r s)
@@ -62,16 +61,14 @@ end-release_asked {w} {c} n source r copy mail {s} {e} width begins kept end =
     let past : f.past ≡ sent (Message.C p.0) e.past = kept_past n (prune_right r) (sending (release r source n copy) e)
     ∙ ap (λ (x : Message w). sent x e.past) p.1 in
     let left : (i : ℕ) → held i (sent (Message.C p.0) e.past) ≡ cond (i == n) (prune_right r) (held i e.past) =
-    λ i. ap (λ (x : Message w). held i (sent x e.past)) (sym p.1) ∙ held-release i r source n copy e.past width
-    end.kept.c_whole in
+    λ i. cc (p.1, held-release i r source n copy e.past width end.kept.c_whole) in
     record {
       known = known-released width past end.kept.c_whole left kept event end.known;
       opened = rw past (opened-released width end.kept.c_whole event end.opened);
       kept = kept.kept;
       accounted = kept.accounted;
-      copies = λ i some. kept_copies n (prune_right r) (sending (release r source n copy) e) i
-          ∙ copy_of i (i == n) refl (sym (ap (λ (q : Perm). same_perm q Perm.None) (event.held i)) ∙ some) ∙ ap Some
-          (sym (set-part (λ (b : Block (List ℕ)). b.copy c) n new s.block refl i));
+      copies = λ i some. kept_copies n (prune_right r) (sending (release r source n copy) e) i ∙ copy_of i (i == n) refl
+          (cc (event.held i)) ∙ ap Some (sym (set-part (λ (b : Block (List ℕ)). b.copy c) n new s.block refl i));
       waiting = λ i storing. kept_waiting n (prune_right r) (sending (release r source n copy) e) i
           ∙ end.waiting i (sym (set-part (λ (b : Block (List ℕ)). is_whole (b.pair c).acquiring) n new s.block
           (ap (λ (q : ClientBlock). is_whole q.acquiring) pair_is) i) ∙ storing)
@@ -98,17 +95,13 @@ end-release_asked {w} {c} n source r copy mail {s} {e} width begins kept end =
       of_block = is.of_block;
       whole = is.whole;
       held = λ i. cc (column (λ (b : Block (List ℕ)). (b.pair c).held) n new s.block i, pair_is);
-      letting = λ i. cc (
-        column (λ (b : Block (List ℕ)). not (is_unreleased (b.pair c).letting)) n new s.block i,
-        pair_is,
-        swapped i n,
-      );
+      letting = λ i. let fact = column
+          (λ (b : Block (List ℕ)). not (is_unreleased (b.pair c).letting)) n new s.block i in cc (pair_is, swapped i n);
       lets = λ i. lets_now i is.from (cases_eq i source);
       acquiring = λ i. set-part (λ (b : Block (List ℕ)). is_wanting (b.pair c).acquiring) n new s.block
           (ap (λ (q : ClientBlock). is_wanting q.acquiring) pair_is) i;
-      asks = λ i. asks-same c i mail mail s s' refl (inl refl)
-          (λ j used. set-part (λ (b : Block (List ℕ)). (b.pair c).acquiring) n new s.block
-          (ap (λ (q : ClientBlock). q.acquiring) pair_is) j)
+      asks = λ i. asks-same c i mail mail s s' refl (inl refl) (λ j used. set-part (λ (b : Block (List ℕ)).
+          (b.pair c).acquiring) n new s.block (ap (λ (q : ClientBlock). q.acquiring) pair_is) j)
           (λ j used. set-part (λ (b : Block (List ℕ)). b.source c) n new s.block refl j);
     }
       where
@@ -120,22 +113,17 @@ end-release_asked {w} {c} n source r copy mail {s} {e} width begins kept end =
             (passed (m.source == i) (Some n) (s.lets c i) (rw from (ne_eqb source i (λ e. other (sym e)))))
 
     kept_some : (q : Perm) (x y : Option (List ℕ)) → same_perm q Perm.None ≡ false → cond (not (holds q)) x y ≡ y
-    kept_some Perm.None x y some = absurd cc
-    kept_some q x y some = refl
+    kept_some q x y e = grind arith
 
     copy_of : (i : ℕ) (b : Bool) → (i == n) ≡ b → same_perm (cond b (prune_right r) ((s.block i).pair c).held) Perm.None
         ≡ false → cond (b && not (holds (prune_right r))) None (e.copies i) ≡ Some ((s.block i).copy c)
-    copy_of i true same some =
-        let before : holds ((s.block n).pair c).held ≡ true =
-        ap holds (sym (end.known.held_is n)) ∙ falls_to r (held n e.past) begins in
-        let here : i ≡ n = eqb-true i n same in
-        kept_some (prune_right r) None (e.copies i) some ∙ end.copies i
-        (held-some ((s.block i).pair c).held (ap (λ (j : ℕ). holds ((s.block j).pair c).held) here ∙ before))
+    copy_of i true same some = kept_some (prune_right r) None (e.copies i) some ∙ end.copies i (held-some
+        ((s.block i).pair c).held (cc (eqb-true i n same, end.known.held_is n, falls_to r (held n e.past) begins)))
     copy_of i false same some = end.copies i some
 
 -- ---- a store
 
-pub end-stored : {w : ℕ} {c : ℕ} (n : ℕ) (bytes : List ℕ) (mail : AccessMessages w) {s : State (List ℕ)}
+end-stored : {w : ℕ} {c : ℕ} (n : ℕ) (bytes : List ℕ) (mail : AccessMessages w) {s : State (List ℕ)}
     {e : Endpoint w} → IsWellKept (with_copy n (Some bytes) e) → IsEnd (asked_by mail s c) c s e
     → IsEnd (asked_by mail (block_stored c n bytes s) c) c (block_stored c n bytes s) (with_copy n (Some bytes) e)
 end-stored {w} {c} n bytes mail {s} {e} kept end =
@@ -167,11 +155,7 @@ end-stored {w} {c} n bytes mail {s} {e} kept end =
 
     copy_of : (i : ℕ) → (i ≡ n) ⊎ (i ≡ n → ⊥) → same_perm ((s.block i).pair c).held Perm.None ≡ false
         → cond (i == n) (Some bytes) (e.copies i) ≡ Some ((s'.block i).copy c)
-    copy_of i (inl here) some = chosen (i == n) (Some bytes) (e.copies i) (rw here (same_number n))
-        ∙ ap Some (sym (ap (λ (b : Block (List ℕ)). b.copy c) (ap s'.block here ∙ set-same n new s.block) ∙ set-same c
-        bytes (s.block n).copy))
-    copy_of i (inr other) some = passed (i == n) (Some bytes) (e.copies i) (ne_eqb i n other) ∙ end.copies i some
-        ∙ ap Some (sym (ap (λ (b : Block (List ℕ)). b.copy c) (set-other n i new s.block other)))
+    copy_of i e f = grind (arith, same_number, set-other)
 
 -- ---- all operations
 
@@ -211,13 +195,11 @@ end_done : {w : ℕ} {terms : EndConfig} (c : ℕ) (o : Op w) (h : AbstractState
     → AreNamed h.state → IsEndOf c h e → NotBusy terms o e → IsAfter c o h (done terms o e)
 end_done c (Op.Load address size) h {e} width named end free kept =
     end_load c address size (held_at e (block_at address)) h e end kept
-end_done c (Op.Store address size value) h {e} width named end free kept =
-    end_store c address size value (held_at e (block_at address)) h e (sym (end.known.held_is (block_at address))) end
-    kept
+end_done c (Op.Store address size value) h {e} width named end free kept = end_store c address size value
+    (held_at e (block_at address)) h e (sym (end.known.held_is (block_at address))) end kept
 end_done {terms} c (Op.Acquire n g) h {e} width named end free kept =
     let idle = or_parts (pending (AcquireOf n) e.past) (pending (ReleaseOf n) e.past) free.b2 in
-    let source = source_or_0 (free_request terms e.past) in
-    end-acquire_asked n source false g ((h.state.block n).waiting c) h.mail
+    end-acquire_asked n (source_or_0 (free_request terms e.past)) false g ((h.state.block n).waiting c) h.mail
     width named
     idle.0 refl refl refl (λ i other. refl) (λ whole. absurd cc) kept end
 end_done {w} {terms} c (Op.AcquireWhole n bytes) h {e} width named end free kept =
@@ -233,9 +215,8 @@ end_done {terms} c (Op.Release n r) h {e} width named end free kept =
     end-release_asked n (source_or_0 (free_release terms e.past)) r (copy_at e n) h.mail width
     (not-false (same_perm (prune_left r) (held_at e n)) free.b3) kept end
 end_done {terms} c (Op.Access (Message.A m)) h {e} width named end free kept =
-    let source = source_or_0 (free_request terms e.past) in
     let plain = no_acquire terms.level m.opcode (not-false (is_access_of terms.level m.opcode) free.b4) in
-    end-access_asked (sourced source m) h.mail width plain.0 kept end
+    end-access_asked (sourced (source_or_0 (free_request terms e.past)) m) h.mail width plain.0 kept end
 end_done c (Op.Access (Message.B m)) h width named end free kept = end
 end_done c (Op.Access (Message.C m)) h width named end free kept = end
 end_done c (Op.Access (Message.D m)) h width named end free kept = end

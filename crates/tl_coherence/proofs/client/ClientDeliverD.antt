@@ -1,16 +1,15 @@
 -- A client's end after it has taken a beat of channel D: what it knows is what the protocol says then.
 use Rattle.std.proofs.Common.{◌≡◌, ℕ, Bool, true, false, not, ◌&&◌, cond, List, [], ◌∷◌, Option, Some, None, refl, sym}
-use Rattle.std.proofs.Common.{◌∙◌, ap, ◌==◌, is_some, option_map}
+use Rattle.std.proofs.Common.{arith, ◌∙◌, ap, ◌==◌, is_some, option_map}
 use Rattle.tl_coherence.proofs
-use proofs.Imports.{same_Some, Beat, BeatA, BeatC, BeatD, Channel, IsWidth, beats-positive, E, MessageE, History}
-use proofs.Imports.{unfinished, RequestSource, ReleaseSource, AcquireOf, ReleaseOf, Perm, pending-whole}
-use proofs.Imports.{release_of-whole, held-whole, sent, block_at, ends, is_grant, is_release_ack, held, pending}
-use proofs.Imports.{request_of, release_of, grants, capped, release_of-d, Endpoint, open_beat, is_unreleased, State}
-use proofs.Imports.{is_wanting, ClientRelation, OpenSourceRelation}
+use proofs.Imports.{Beat, BeatA, BeatC, BeatD, Channel, IsWidth, beats-positive, E, MessageE, History, unfinished}
+use proofs.Imports.{RequestSource, ReleaseSource, AcquireOf, ReleaseOf, Perm, pending-whole, release_of-whole}
+use proofs.Imports.{held-whole, sent, block_at, ends, is_grant, is_release_ack, held, pending, request_of, release_of}
+use proofs.Imports.{grants, capped, release_of-d, Endpoint, open_beat, is_unreleased, State, is_wanting, ClientRelation}
+use proofs.Imports.{OpenSourceRelation}
 use Rattle.tl_rules.{proofs.Sent.pending-closed, specs.statement.History.releases}
-use Rattle.tl_client.{proofs.endpoint.HeldAfter.held-beat_d, proofs.pending.Opens.acquire_of-d}
-use Rattle.tl_client.{proofs.pending.Opens.open_beat-d, proofs.pending.Opens.open_beat-e}
-use Rattle.tl_client.{proofs.pending.Opens.unfinished-d}
+use Rattle.tl_client.{proofs.endpoint.HeldAfter.held-beat_d}
+use Rattle.tl_client.proofs.pending.Opens.{acquire_of-d, open_beat-d, open_beat-e, unfinished-d}
 use proofs.client.ClientEnd.{IsWellKept, known-kept}
 
 -- ---- what a beat says
@@ -24,14 +23,6 @@ release_now : {w : ℕ} (k : ℕ) (x : BeatD w) (t : History w) → pending (Rel
     ≡ cond (ends (Beat.D x) t && (is_release_ack x.opcode && releases k (release_of x.source t))) false
     (pending (ReleaseOf k) t)
 release_now k x t = pending-closed (ReleaseOf k) (Beat.D x) t refl
-
-source_now : {w : ℕ} (i : ℕ) (x : BeatD w) (t : History w) → pending (RequestSource i) (Beat.D x ∷ t)
-    ≡ cond (ends (Beat.D x) t && (not (is_release_ack x.opcode) && (x.source == i))) false (pending (RequestSource i) t)
-source_now i x t = pending-closed (RequestSource i) (Beat.D x) t refl
-
-release_source_now : {w : ℕ} (i : ℕ) (x : BeatD w) (t : History w) → pending (ReleaseSource i) (Beat.D x ∷ t)
-    ≡ cond (ends (Beat.D x) t && (is_release_ack x.opcode && (x.source == i))) false (pending (ReleaseSource i) t)
-release_source_now i x t = pending-closed (ReleaseSource i) (Beat.D x) t refl
 
 -- ---- by what the beat closes
 
@@ -55,12 +46,10 @@ pub record IsHeard {w : ℕ} (c : ℕ) (x : BeatD w) (t : History w) (p : Perm)
   pub asks : (i : ℕ) → asked' i ≡ cond (closes_source i) None (asked i)
 
 none_cond : {X : Type 0} (b : Bool) (o : Option X) → is_some (cond b None o) ≡ cond b false (is_some o)
-none_cond true o = refl
-none_cond false o = refl
+none_cond b o = grind arith
 
 some_kept : {X : Type 0} (b : Bool) (o : Option X) (x : X) → cond b None o ≡ Some x → o ≡ Some x
-some_kept true o x e = absurd cc
-some_kept false o x e = e
+some_kept b o x e = grind arith
 
 -- the history after the beat, and after the message that answers it, if there is one: `u` says the same as the beat's
 pub record IsEcho {w : ℕ} (x : BeatD w) (t u : History w) : Type 0 where
@@ -99,8 +88,7 @@ echo-e {w} x m t width whole =
     }
 
 given_cond : (a b : Bool) (p q r : Perm) → a ≡ b → (b ≡ true → p ≡ q) → cond a p r ≡ cond b q r
-given_cond a true p q r e f = rw (e, f refl) refl
-given_cond a false p q r e f = rw e refl
+given_cond a b p q r e f = grind arith
 
 pub known-heard : {w : ℕ} {c : ℕ} {x : BeatD w} {t : History w} {p : Perm}
     {closes_block closes_release closes_source closes_let : ℕ → Bool} {asked asked' : ℕ → Option (BeatA w)}
@@ -108,45 +96,29 @@ pub known-heard : {w : ℕ} {c : ℕ} {x : BeatD w} {t : History w} {p : Perm}
     → IsHeard c x t p closes_block closes_release closes_source closes_let asked asked' s s'
     → ClientRelation asked (unfinished Channel.D t) c s t → ClientRelation asked' (unfinished Channel.D f.past) c s'
     f.past
-known-heard {w} {c} {x} {t} {p} {closes_block} {closes_release} {closes_source} {asked'} {s'} {f} echo well event
-    known = known-kept asked' c s' well (λ k. echo.held_is k ∙ held-beat_d k x t
-    ∙ given_cond (ends_grant x t k) (closes_block k) (capped x.param) p (held k t) (event.grants_is k) (event.gives k)
-    ∙ ap (λ (q : Perm). cond (closes_block k) p q) (known.held_is k) ∙ sym (event.held k)) (λ k. echo.acquires k
-    ∙ acquire_of-d k x t ∙ ap (λ (b : Bool). cond b false (pending (AcquireOf k) t)) (event.grants_is k)
-    ∙ ap (λ (b : Bool). cond (closes_block k) false b) (known.acquires k) ∙ sym (event.acquiring k))
-    (λ k. echo.releases k ∙ release_now k x t ∙ ap (λ (b : Bool). cond b false (pending (ReleaseOf k) t))
-    (event.releases_is k) ∙ ap (λ (b : Bool). cond (closes_release k) false b) (known.releases k)
-    ∙ sym (event.letting k)) (λ i. echo.opens i ∙ open_beat-d i x t ∙ ap (λ (b : Bool). cond b None (open_beat i t))
-    (event.source_is i) ∙ ap (λ (o : Option (BeatA w)). cond (closes_source i) None o) (known.opens i)
-    ∙ sym (event.asks i))
+known-heard {w} {c} {x} {t} {p} {closes_block} {closes_release} {closes_source} {asked'} {s'}
+    {f} echo well event known = known-kept asked' c s' well (λ k. echo.held_is k ∙ held-beat_d k x t ∙ given_cond
+    (ends_grant x t k) (closes_block k) (capped x.param) p (held k t) (event.grants_is k)
+    (event.gives k) ∙ ap (λ (q : Perm). cond (closes_block k) p q) (known.held_is k) ∙ sym (event.held k))
+    (λ k. echo.acquires k ∙ acquire_of-d k x t ∙ ap (λ (b : Bool). cond b false (pending (AcquireOf k) t))
+    (event.grants_is k) ∙ ap (λ (b : Bool). cond (closes_block k) false b) (known.acquires k) ∙ sym (event.acquiring k))
+    (λ k. cc (echo.releases k, release_now k x t, event.releases_is k, known.releases k, event.letting k))
+    (λ i. cc (echo.opens i, open_beat-d i x t, event.source_is i, known.opens i, event.asks i))
 
 pub opened-heard : {w : ℕ} {c : ℕ} {x : BeatD w} {t u : History w} {p : Perm}
     {closes_block closes_release closes_source closes_let : ℕ → Bool} {asked asked' : ℕ → Option (BeatA w)}
     {s s' : State (List ℕ)} → IsEcho x t u → IsHeard c x t p closes_block closes_release closes_source closes_let asked
     asked' s s' → OpenSourceRelation asked c s t → OpenSourceRelation asked' c s' u
-opened-heard {w} {c} {x} {t} {closes_source} {closes_let} {asked} {s} echo event open_ =
-    record {
-      requests = λ i. cc (
-        echo.requests i,
-        source_now i x t,
-        event.source_is i,
-        open_.requests i,
-        none_cond (closes_source i) (asked i),
-        event.asks i,
-      );
-      releases = λ i. cc (
-        echo.release_sources i,
-        release_source_now i x t,
-        event.let_is i,
-        open_.releases i,
-        none_cond (closes_let i) (s.lets c i),
-        event.lets i,
-      );
-      released = λ i n some. ap (option_map (λ y. block_at y.address)) (echo.released i ∙ release_of-d i x t)
-          ∙ open_.released i n (some_kept (closes_let i) (s.lets c i) n (sym (event.lets i) ∙ some));
-      sizes = λ i n some. ap (option_map (λ y. y.size)) (echo.released i ∙ release_of-d i x t) ∙ open_.sizes i n
-          (some_kept (closes_let i) (s.lets c i) n (sym (event.lets i) ∙ some));
-    }
+opened-heard {w} {c} {x} {t} {closes_source} {closes_let} {asked} {s} echo event open_ = record {
+  requests = λ i. let fact = pending-closed (RequestSource i) (Beat.D x) t refl in
+      cc (echo.requests i, event.source_is i, open_.requests i, none_cond (closes_source i) (asked i), event.asks i);
+  releases = λ i. let fact = pending-closed (ReleaseSource i) (Beat.D x) t refl in let other_fact = none_cond
+      (closes_let i) (s.lets c i) in cc (echo.release_sources i, event.let_is i, open_.releases i, event.lets i);
+  released = λ i n some. ap (option_map (λ y. block_at y.address)) (echo.released i ∙ release_of-d i x t)
+      ∙ open_.released i n (some_kept (closes_let i) (s.lets c i) n (sym (event.lets i) ∙ some));
+  sizes = λ i n some. ap (option_map (λ y. y.size)) (echo.released i ∙ release_of-d i x t) ∙ open_.sizes i n
+      (some_kept (closes_let i) (s.lets c i) n (sym (event.lets i) ∙ some));
+}
 
 -- ---- what each kind of beat closes
 
@@ -154,18 +126,7 @@ opened-heard {w} {c} {x} {t} {closes_source} {closes_let} {asked} {s} echo event
 pub heard-part : {w : ℕ} (c : ℕ) (x : BeatD w) (t : History w) (p : Perm) (asked : ℕ → Option (BeatA w))
     (s : State (List ℕ)) → ends (Beat.D x) t ≡ false
     → IsHeard c x t p (λ k. false) (λ k. false) (λ k. false) (λ k. false) asked asked s s
-heard-part c x t p asked s more = record {
-  grants_is = λ k. rw more refl;
-  gives = λ k e. absurd cc;
-  releases_is = λ k. rw more refl;
-  source_is = λ k. rw more refl;
-  let_is = λ k. rw more refl;
-  held = λ k. refl;
-  acquiring = λ k. refl;
-  letting = λ k. refl;
-  lets = λ i. refl;
-  asks = λ i. refl;
-}
+heard-part c x t p asked s more = grind arith
 
 -- the last of an answer closes the request with its source
 pub answer_closes : {w : ℕ} (x : BeatD w) (t : History w) → ends (Beat.D x) t ≡ true → is_grant x.opcode ≡ false
@@ -173,13 +134,7 @@ pub answer_closes : {w : ℕ} (x : BeatD w) (t : History w) → ends (Beat.D x) 
     × ((k : ℕ) → (ends (Beat.D x) t && (is_release_ack x.opcode && releases k (release_of x.source t))) ≡ false)
     × ((i : ℕ) → (ends (Beat.D x) t && (not (is_release_ack x.opcode) && (x.source == i))) ≡ (x.source == i))
     × ((i : ℕ) → (ends (Beat.D x) t && (is_release_ack x.opcode && (x.source == i))) ≡ false)
-answer_closes x t last plain other =
-    (λ k. rw (last, plain) refl, λ k. rw (last, other) refl, λ i. rw (last, other) refl, λ i. rw (last, other) refl)
-
-released_block : {w : ℕ} (k n : ℕ) (o : Option (BeatC w)) → option_map (λ (x : BeatC w). block_at x.address) o ≡ Some n
-    → releases k o ≡ (n == k)
-released_block k n None e = absurd cc
-released_block k n (Some x) e = ap (λ (i : ℕ). i == k) (same_Some (block_at x.address) n e)
+answer_closes x t last plain other = grind arith
 
 -- that of a ReleaseAck the Release with its source, of its block
 pub ack_closes : {w : ℕ} (n : ℕ) (x : BeatD w) (t : History w) → ends (Beat.D x) t ≡ true → is_grant x.opcode ≡ false
@@ -188,12 +143,7 @@ pub ack_closes : {w : ℕ} (n : ℕ) (x : BeatD w) (t : History w) → ends (Bea
     × ((k : ℕ) → (ends (Beat.D x) t && (is_release_ack x.opcode && releases k (release_of x.source t))) ≡ (n == k))
     × ((i : ℕ) → (ends (Beat.D x) t && (not (is_release_ack x.opcode) && (x.source == i))) ≡ false)
     × ((i : ℕ) → (ends (Beat.D x) t && (is_release_ack x.opcode && (x.source == i))) ≡ (x.source == i))
-ack_closes n x t last plain acks block = (
-  λ k. rw (last, plain) refl,
-  λ k. rw (last, acks) (released_block k n (release_of x.source t) block),
-  λ i. rw (last, acks) refl,
-  λ i. rw (last, acks) refl,
-)
+ack_closes n x t last plain acks block = grind arith
 
 -- that of a Grant the Acquire with its source, of its block
 pub grant_closes : {w : ℕ} (n : ℕ) (x : BeatD w) (r : BeatA w) (t : History w) → ends (Beat.D x) t ≡ true
@@ -202,9 +152,4 @@ pub grant_closes : {w : ℕ} (n : ℕ) (x : BeatD w) (r : BeatA w) (t : History 
     × ((k : ℕ) → (ends (Beat.D x) t && (is_release_ack x.opcode && releases k (release_of x.source t))) ≡ false)
     × ((i : ℕ) → (ends (Beat.D x) t && (not (is_release_ack x.opcode) && (x.source == i))) ≡ (x.source == i))
     × ((i : ℕ) → (ends (Beat.D x) t && (is_release_ack x.opcode && (x.source == i))) ≡ false)
-grant_closes n x r t last gives other request block = (
-  λ k. rw (last, gives, request, block) refl,
-  λ k. rw (last, other) refl,
-  λ i. rw (last, other) refl,
-  λ i. rw (last, other) refl,
-)
+grant_closes n x r t last gives other request block = grind arith

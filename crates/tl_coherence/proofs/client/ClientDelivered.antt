@@ -13,15 +13,11 @@ use proofs.Imports.{SimulationRelation, gives_asked, asked_by, is_caching, IsGiv
 use proofs.queues.{Carried.IsNext, FirstToken.IsFirst, FirstToken.first-token, Codes.access_kind}
 use proofs.client.{ClientAsked.IsEndOf, ClientEnd.IsWellKept, ClientEnd.IsEnd, ClientEnd.end-matched}
 use proofs.client.{ClientTaken.end-part, ClientTaken.end-answer_taken, ClientTaken.end-release_ack_taken}
-use proofs.client.{ClientTaken.end-grant_taken, ClientTakes.answer-first, ClientTakes.IsFitting, ClientTakes.fitting}
+use proofs.client.{ClientTaken.end-grant_taken, ClientTakes.answer-first, ClientTakes.fitting}
 use proofs.client.{ClientTakes.grant-first, ClientTakes.ack-first, ClientTakes.taken-d}
 use proofs.protocol.HeadOfD.{answer-due, IsGrantDue, grant-due, grant_message, grant-rendered, ack-due, ack_message}
 
 -- ---- what a client does at a beat of channel D
-
-part_end : {w : ℕ} (y : BeatD w) (e : Endpoint w) → ends (Beat.D y) e.past ≡ false
-    → (taken (Beat.D y) e).after ≡ with_past (Beat.D y ∷ e.past) e
-part_end {w} y e more = cc more
 
 last_end : {w : ℕ} (y : BeatD w) (e : Endpoint w) → ends (Beat.D y) e.past ≡ true
     → (taken (Beat.D y) e).after ≡ (responded y (request_of y.source e.past)
@@ -83,7 +79,7 @@ taken-by {w} config terms tracker c h m {x} e width end next takes lasts =
     record {
       takes = takes;
       more = λ goes. subst (λ (z : Beat w). IsEndOf c h (taken z e).after) (sym x_is)
-          (end-part y (part_end y e (sym (ends_at x_is) ∙ goes)) (sym (ends_at x_is) ∙ goes) (well_y well) end);
+          (end-part y (cc (sym (ends_at x_is) ∙ goes)) (sym (ends_at x_is) ∙ goes) (well_y well) end);
       last = λ done. rw x_is (lasts y x_is refl refl refl (sym (ends_at x_is) ∙ done)
           (next.last (eqb-true (next.k + 1) (beats_of (Message.D m)) (sym next.completes_is ∙ done))).1 (well_y well));
     }
@@ -167,8 +163,10 @@ pub grant-delivered : {w : ℕ} {config : Config} {log : Log w} {mail : AccessMe
     → sys.channels c Channel.D ≡ x ∷ queue → (s.link c).d ≡ packet Grant n ∷ rest
     → IsNext x (unfinished Channel.D (sys.clients c).past) (block_message Grant c n (s.block n)) ms queue
     → IsTakenBy config terms tracker c (shadow_of mail request s) x (sys.clients c)
-grant-delivered {w} {config} {log} {mail} {request} {s} {sys} terms tracker c n rest {ms} {x} {queue} width h at beats
-    first next =
+grant-delivered {w} {config} {log} {mail} {request} {s} {sys} terms tracker c n rest {ms} {x}
+    {queue} width h at beats first next =
+    let fits =
+    fitting ((s.block n).pair c).recorded ((s.block n).pair c).held due.data_too due.k due.whole due.g due.fits in
     let e : Endpoint w = sys.clients c in
     let m = grant_message due.data_too due.k ((s.block n).source c) (s.block n).tracker (s.block n).truth in
     let end : IsEnd (asked_by mail s c) c s e = end-matched h c in
@@ -200,9 +198,6 @@ grant-delivered {w} {config} {log} {mail} {request} {s} {sys} terms tracker c n 
   where
     due : IsGrantDue c n s
     due = grant-due (λ i. is_caching config i) c n rest s h.invariant first
-
-    fits : IsFitting ((s.block n).pair c).held due.data_too due.k due.whole due.g
-    fits = fitting ((s.block n).pair c).recorded ((s.block n).pair c).held due.data_too due.k due.whole due.g due.fits
 
     given : gives_asked config.profile (AcquireOpen due.whole due.g) due.k ≡ true
     given =

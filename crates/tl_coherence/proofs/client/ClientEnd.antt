@@ -1,13 +1,13 @@
 -- A client's end of its link beside the protocol, in one record; and what of the protocol it depends on.
-use Rattle.std.proofs.Common.{◌≡◌, ℕ, Bool, true, false, not, cond, List, [], ◌∷◌, Option, Some, None, refl, sym, ◌∙◌}
-use Rattle.std.proofs.Common.{ap, ◌⊎◌, inl, inr, ◌&&◌, ◌==◌, if◌then◌else◌}
+use Rattle.std.proofs.Common.{◌≡◌, ℕ, Bool, true, false, not, cond, List, Option, Some, None, refl, sym, ◌∙◌, arith, ap}
+use Rattle.std.proofs.Common.{◌⊎◌, ◌==◌, if◌then◌else◌}
 use Rattle.tl_coherence.proofs
-use proofs.Imports.{Beat, BeatA, Channel, Message, MessageA, a_beat_of, History, unfinished, Config, RequestSource}
-use proofs.Imports.{AcquireOf, ReleaseOf, Grow, Perm, same_perm, is_grant, held, pending, request_of, asks_for}
-use proofs.Imports.{Endpoint, is_acquire_beat, open_beat, acquisition, Acquire, set, AcquireOpen, is_unreleased}
-use proofs.Imports.{is_whole, Block, State, SourceState, SourceFree, Asked, InService, Replied, Acquires, is_wanting}
-use proofs.Imports.{acquire_opcode, ClientRelation, comes_granting, AccessMessages, acquire_of, block_message}
-use proofs.Imports.{SimulationRelation, asked_by, asked_for, first_of, block_used, OpenSourceRelation, Log, System}
+use proofs.Imports.{Beat, BeatA, Channel, Message, MessageA, a_beat_of, History, unfinished, Config, AcquireOf}
+use proofs.Imports.{ReleaseOf, Grow, Perm, same_perm, held, pending, request_of, Endpoint, is_acquire_beat, open_beat}
+use proofs.Imports.{acquisition, Acquire, set, AcquireOpen, is_unreleased, is_whole, Block, State, SourceState}
+use proofs.Imports.{SourceFree, Asked, InService, Replied, Acquires, is_wanting, acquire_opcode, ClientRelation}
+use proofs.Imports.{comes_granting, AccessMessages, acquire_of, block_message, SimulationRelation, asked_by, asked_for}
+use proofs.Imports.{first_of, block_used, OpenSourceRelation, Log, System}
 use Rattle.tl_client.{specs.laws.Accounted.IsAccounted, specs.statement.EndpointInvariant.IsGranting}
 use Rattle.tl_client.specs.laws.Accounted as accounted
 use Rattle.tl_client.specs.statement.EndpointInvariant as client
@@ -45,26 +45,12 @@ pub record IsWellKept {w : ℕ} (e : Endpoint w) : Type 0 where
 -- a pending request is the open one
 pub open-is : {w : ℕ} (source : ℕ) (t : History w) → is_acquire_beat (open_beat source t) ≡ true
     → request_of source t ≡ open_beat source t
-open-is {w} source t some =
-    let go : (b : Bool) → is_acquire_beat (cond b (request_of source t) None) ≡ true
-    → request_of source t ≡ cond b (request_of source t) None = elim [ true ↦ λ e. refl | false ↦ λ e. absurd cc ]
-    in
-    go (pending (RequestSource source) t) some
+open-is {w} source t some = grind arith
 
 coming_is : {w : ℕ} (asked : ℕ → Option (BeatA w)) (n : ℕ) (rest : List (Beat w)) (t : History w) → IsGranting rest t
     → ((source : ℕ) → open_beat source t ≡ asked source)
     → accounted.comes_granting n rest t ≡ comes_granting n asked rest
-coming_is asked n [] t granting opens = refl
-coming_is asked n (Beat.A x ∷ rest) t granting opens = refl
-coming_is asked n (Beat.B x ∷ rest) t granting opens = refl
-coming_is asked n (Beat.C x ∷ rest) t granting opens = refl
-coming_is asked n (Beat.E x ∷ rest) t granting opens = refl
-coming_is {w} asked n (Beat.D x ∷ rest) t granting opens = go (is_grant x.opcode) refl
-  where
-    go : (b : Bool) → is_grant x.opcode ≡ b
-        → (b && asks_for n (request_of x.source t)) ≡ (b && asks_for n (asked x.source))
-    go true e = ap (asks_for n) (open-is x.source t (granting e).2 ∙ opens x.source)
-    go false e = refl
+coming_is asked n rest t e f = grind (arith, open-is)
 
 -- what is known of a well kept end, given what it holds and has open
 pub known-kept : {w : ℕ} (asked : ℕ → Option (BeatA w)) (c : ℕ) (s : State (List ℕ)) {e : Endpoint w} → IsWellKept e
@@ -73,17 +59,7 @@ pub known-kept : {w : ℕ} (asked : ℕ → Option (BeatA w)) (c : ℕ) (s : Sta
     → ((n : ℕ) → pending (ReleaseOf n) e.past ≡ not (is_unreleased ((s.block n).pair c).letting))
     → ((source : ℕ) → open_beat source e.past ≡ asked source) → ClientRelation asked (unfinished Channel.D e.past) c s
     e.past
-known-kept asked c s {e} well held_is acquires releases opens = record {
-  held_is = held_is;
-  acquires = acquires;
-  releases = releases;
-  probes = well.accounted.acked.probes;
-  opens = opens;
-  rest_is = refl;
-  sinks = well.accounted.acked.sinks;
-  grants = λ n. well.accounted.acked.acks n ∙ coming_is asked n (unfinished Channel.D e.past) e.past well.kept.granting
-      opens;
-}
+known-kept asked c s {e} well held_is acquires releases opens = grind (arith, coming_is)
 
 -- ---- what the protocol says of it
 
@@ -97,8 +73,7 @@ pub record IsSame {w : ℕ} (c : ℕ) (asked asked' : ℕ → Option (BeatA w)) 
 
 pub comes-same : {w : ℕ} (n : ℕ) (asked asked' : ℕ → Option (BeatA w)) (rest : List (Beat w))
     → ((source : ℕ) → asked' source ≡ asked source) → comes_granting n asked' rest ≡ comes_granting n asked rest
-comes-same n asked asked' (Beat.D x ∷ rest) same = rw (same x.source) refl
-comes-same n asked asked' rest same = refl
+comes-same n asked asked' rest e = grind arith
 
 pub known-same : {w : ℕ} {c : ℕ} {asked asked' : ℕ → Option (BeatA w)} {rest : List (Beat w)} {s s' : State (List ℕ)}
     {t : History w} → IsSame c asked asked' s s' → ClientRelation asked rest c s t → ClientRelation asked' rest c s' t
@@ -128,7 +103,7 @@ pub record IsSameCopy (c : ℕ) (s s' : State (List ℕ)) : Type 0 where
   pub waiting : (n : ℕ) → (s'.block n).waiting c ≡ (s.block n).waiting c
 
 -- an end of which the protocol says the same is kept
-pub end-same : {w : ℕ} {c : ℕ} {asked asked' : ℕ → Option (BeatA w)} {s s' : State (List ℕ)} {e : Endpoint w}
+end-same : {w : ℕ} {c : ℕ} {asked asked' : ℕ → Option (BeatA w)} {s s' : State (List ℕ)} {e : Endpoint w}
     → IsSame c asked asked' s s' → IsSameCopy c s s' → IsEnd asked c s e → IsEnd asked' c s' e
 end-same {c} {asked} {asked'} {s} {s'} {e} same bytes end = record {
   known = known-same same end.known;
@@ -155,9 +130,7 @@ IsSameUse u v = (v ≡ u) ⊎ ((is_access u ≡ true) × (is_access v ≡ true))
 
 access_asks : {w : ℕ} (u : SourceState) (request : Message w) → is_access u ≡ true → (acquire : Message w)
     → asked_for u request acquire ≡ first_of request
-access_asks SourceFree request e acquire = absurd cc
-access_asks (Acquires n) request e acquire = absurd cc
-access_asks u request e acquire = refl
+access_asks u request e acquire = grind arith
 
 -- what a use asks for
 abbrev asked_with : {w : ℕ} → SourceState → Message w → (ℕ → Block (List ℕ)) → ℕ → Option (BeatA w)
@@ -168,8 +141,7 @@ acquires_same : {w : ℕ} (u : SourceState) (request : Message w) (block block' 
     → ((n : ℕ) → u ≡ Acquires n → (block' n).source c ≡ (block n).source c)
     → asked_with u request block' c ≡ asked_with u request block c
 unfolding block_message
-acquires_same (Acquires n) request block block' c a b = rw (a n refl, b n refl) refl
-acquires_same u request block block' c a b = refl
+acquires_same u request block block' c e f = grind arith
 
 -- one source asks for the same where its use, its access and its Acquire are as before
 pub asks-same : {w : ℕ} (c source : ℕ) (mail mail' : AccessMessages w) (s s' : State (List ℕ))
@@ -177,16 +149,7 @@ pub asks-same : {w : ℕ} (c source : ℕ) (mail mail' : AccessMessages w) (s s'
     → ((n : ℕ) → s.uses c source ≡ Acquires n → ((s'.block n).pair c).acquiring ≡ ((s.block n).pair c).acquiring)
     → ((n : ℕ) → s.uses c source ≡ Acquires n → (s'.block n).source c ≡ (s.block n).source c)
     → asked_by mail' s' c source ≡ asked_by mail s c source
-asks-same {w} c source mail mail' s s' request (inl same) a b =
-    cc (same, request, acquires_same (s.uses c source) (mail.request c source) s.block s'.block c a b)
-asks-same {w} c source mail mail' s s' request (inr both) a b =
-    cc (
-      access_asks (s'.uses c source) (mail'.request c source) both.1
-          (block_message Acquire c (block_used (s'.uses c source)) (s'.block (block_used (s'.uses c source)))),
-      request,
-      access_asks (s.uses c source) (mail.request c source) both.0
-          (block_message Acquire c (block_used (s.uses c source)) (s.block (block_used (s.uses c source)))),
-    )
+asks-same c source mail mail' s s' e f g h = grind (arith, acquires_same, access_asks)
 
 -- a source that is closed asks for nothing, and the use that is an access for it, and that of an Acquire for that
 pub asks-closed : {w : ℕ} (c source : ℕ) (mail : AccessMessages w) (s : State (List ℕ)) → s.uses c source ≡ SourceFree
@@ -196,9 +159,7 @@ asks-closed {w} c source mail s used = ap (λ (u : SourceState). asked_with u (m
 pub asks-access : {w : ℕ} (c source : ℕ) (m : MessageA w) (mail : AccessMessages w) (s : State (List ℕ))
     → is_access (s.uses c source) ≡ true
     → mail.request c source ≡ Message.A m → asked_by mail s c source ≡ Some (a_beat_of m 0)
-asks-access {w} c source m mail s used request =
-    access_asks (s.uses c source) (mail.request c source) used (block_message Acquire c (block_used (s.uses c source))
-    (s.block (block_used (s.uses c source)))) ∙ ap first_of request
+asks-access {w} c source m mail s used request = grind (arith, access_asks)
 
 acquire-first : {w : ℕ} (whole : Bool) (g : Grow) (source n : ℕ)
     → first_of (acquire_of {w = w} (AcquireOpen whole g) source n) ≡ Some

@@ -1,6 +1,6 @@
 -- A client's end after it has taken a Probe, beside the event of the protocol.
 use Rattle.std.proofs.Common.{◌≡◌, ℕ, Bool, true, false, not, ◌&&◌, cond, List, ◌∷◌, Some, None, refl, sym, ◌∙◌, ap}
-use Rattle.std.proofs.Common.{inl, eqb-true, ◌==◌}
+use Rattle.std.proofs.Common.{arith, inl, eqb-true, ◌==◌}
 use Rattle.tl_coherence.proofs
 use proofs.Imports.{Beat, OpB, IsWidth, Cap, Perm, report_right, same_perm, kept_copies, kept_closed, kept_waiting}
 use proofs.Imports.{Endpoint, copy_at, held_at, sending, with_past, holds, report_for, probe_ack, Packet, ClientBlock}
@@ -24,9 +24,8 @@ end-probe_taken {w} {c} n k rest mail {s} {e} width well end =
       acquiring = λ i. refl;
       letting = λ i. refl;
       lets = λ i. refl;
-      asks = λ i. asks-same c i mail mail s s' refl (inl refl)
-          (λ j used. set-part (λ (b : Block (List ℕ)). (b.pair c).acquiring) n new s.block
-          (ap (λ (q : ClientBlock). q.acquiring) pair_is) j)
+      asks = λ i. asks-same c i mail mail s s' refl (inl refl) (λ j used. set-part (λ (b : Block (List ℕ)).
+          (b.pair c).acquiring) n new s.block (ap (λ (q : ClientBlock). q.acquiring) pair_is) j)
           (λ j used. set-part (λ (b : Block (List ℕ)). b.source c) n new s.block refl j);
     } in
     record {
@@ -37,12 +36,9 @@ end-probe_taken {w} {c} n k rest mail {s} {e} width well end =
       copies = λ i some. kept_copies n left g i ∙ copy_of i (i == n) refl
           (sym (column (λ (b : Block (List ℕ)). same_perm (b.pair c).held Perm.None) n new s.block i) ∙ some)
           ∙ ap Some (sym (set-part (λ (b : Block (List ℕ)). b.copy c) n new s.block refl i));
-      waiting = λ i storing. cc (
-        kept_waiting n left g i,
-        end.waiting i (sym (set-part (λ (b : Block (List ℕ)). is_whole
-            (b.pair c).acquiring) n new s.block (ap (λ (q : ClientBlock). is_whole q.acquiring) pair_is) i) ∙ storing),
-        set-part (λ (b : Block (List ℕ)). b.waiting c) n new s.block refl i,
-      );
+      waiting = λ i storing. let fact = end.waiting i (sym (set-part (λ (b : Block (List ℕ)). is_whole
+          (b.pair c).acquiring) n new s.block (ap (λ (q : ClientBlock). is_whole q.acquiring) pair_is) i) ∙ storing) in
+          cc (kept_waiting n left g i, set-part (λ (b : Block (List ℕ)). b.waiting c) n new s.block refl i);
       live = kept_closed n left g ∙ end.live;
     }
   where
@@ -58,12 +54,8 @@ end-probe_taken {w} {c} n k rest mail {s} {e} width well end =
     pair_is : new.pair c ≡ after_probe k ((s.block n).pair c)
     pair_is = set-same c (after_probe k ((s.block n).pair c)) (s.block n).pair
 
-    left_is : left ≡ (new.pair c).held
-    left_is = cc (report_is w n k p, end.known.held_is n, pair_is)
-
     some_held : (q : Perm) → same_perm q Perm.None ≡ false → holds q ≡ true
-    some_held Perm.None e = absurd cc
-    some_held q e = refl
+    some_held q e = grind arith
 
     copy_of : (i : ℕ) (b : Bool) → (i == n) ≡ b
         → cond b (same_perm (new.pair c).held Perm.None) (same_perm ((s.block i).pair c).held Perm.None) ≡ false
@@ -71,10 +63,8 @@ end-probe_taken {w} {c} n k rest mail {s} {e} width well end =
     copy_of i false is some = end.copies i some
     copy_of i true is some =
         let keeps : (z : Bool) → z ≡ true → cond (not z) None (e.copies i) ≡ e.copies i = λ z q. rw q refl in
-        let stays : holds left ≡ true = ap holds left_is ∙ some_held (new.pair c).held some in
-        let before : holds p ≡ true =
-        reports_held k p (ap (λ (r : Perm). holds r) (ap report_right (sym (report_is w n k p))) ∙ stays) in
-        let here : i ≡ n = eqb-true i n is in
+        let stays : holds left ≡ true =
+        ap holds (cc (report_is w n k p, end.known.held_is n, pair_is)) ∙ some_held (new.pair c).held some in
+        let before : holds p ≡ true = reports_held k p (cc (report_is w n k p)) in
         keeps (holds left) stays ∙ end.copies i
-        (held-some ((s.block i).pair c).held (ap (λ (j : ℕ). holds ((s.block j).pair c).held) here ∙ ap holds
-        (sym (end.known.held_is n)) ∙ before))
+        (held-some ((s.block i).pair c).held (cc (eqb-true i n is, end.known.held_is n)))

@@ -4,13 +4,12 @@ use Rattle.std.proofs.Common.{inr, ◌*◌, ne_eqb, ◌==◌}
 use Rattle.tl_coherence.proofs
 use proofs.Imports.{cases_eq, BeatA, IsWidth, Message, MessageA, a_beat_of, AcquireOf, Grow, Perm, same_perm, block_at}
 use proofs.Imports.{is_acquire, pending, same_block, swapped, Endpoint, sending, acquisition, acquires_of, AreNamed}
-use proofs.Imports.{set_at, ClientBlock, AcquireOpen, is_unreleased, is_whole, after_acquire, Block, State, Asked}
-use proofs.Imports.{Acquires, acquiring_block, access_asked, acquire_asked, is_wanting, acquire_opcode, AccessMessages}
-use proofs.Imports.{asked_by}
+use proofs.Imports.{set_at, ClientBlock, is_unreleased, is_whole, after_acquire, Block, State, Asked, Acquires}
+use proofs.Imports.{acquiring_block, access_asked, acquire_asked, is_wanting, acquire_opcode, AccessMessages, asked_by}
 use proofs.client.{Aside.set_at-else, ClientSent.IsRequested, ClientSent.known-requested, ClientSent.opened-requested}
-use proofs.queues.{Codes.acquires-so, Tokens.same_number, Tokens.set-same, Tokens.set-other, Tokens.set-part}
-use proofs.queues.{Tokens.set_at-same}
 use proofs.client.ClientEnd.{is_access, IsWellKept, IsEnd, asks-same, asks-access, asks-acquire, column}
+use proofs.queues.{Codes.acquires-so}
+use proofs.queues.Tokens.{same_number, set-same, set-other, set-part, set_at-same}
 
 -- a condition that is known
 pub chosen : {X : Type 0} (b : Bool) (x y : X) → b ≡ true → cond b x y ≡ x
@@ -26,10 +25,8 @@ asks_access : {w : ℕ} (c i : ℕ) (m : MessageA w) (mail : AccessMessages w) (
     → asked_by (record { request = set_at c m.source (Message.A m) mail.request; answer = mail.answer })
     (access_asked c m.source s) c i ≡ cond (m.source == i) (Some (a_beat_of m 0)) (asked_by mail s c i)
 asks_access {w} c i m mail s =
-    let mail' : AccessMessages w = record {
-      request = set_at c m.source (Message.A m) mail.request;
-      answer = mail.answer;
-    } in
+    let mail' : AccessMessages w =
+    record { request = set_at c m.source (Message.A m) mail.request; answer = mail.answer } in
     let s' : State (List ℕ) = access_asked c m.source s in
     elim (cases_eq i m.source) [
       | inl same ↦ ap (asked_by mail' s' c) same ∙ asks-access c m.source m mail' s'
@@ -48,11 +45,9 @@ end-access_asked {w} {c} m mail {s} {e} width plain kept end =
     let s' : State (List ℕ) = access_asked c m.source s in
     let asked' : ℕ → Option (BeatA w) =
     asked_by (record { request = set_at c m.source (Message.A m) mail.request; answer = mail.answer }) s' c in
-    let same : (n : ℕ) → is_wanting ((s.block n).pair c).acquiring
-    ≡ cond (is_acquire m.opcode && (block_at m.address == n)) true (is_wanting ((s.block n).pair c).acquiring) =
-    λ n. rw plain refl in
-    let event : IsRequested c m (asked_by mail s c) asked' s s' =
-    record {
+    let same : (n : ℕ) → is_wanting ((s.block n).pair c).acquiring ≡ cond (is_acquire m.opcode
+    && (block_at m.address == n)) true (is_wanting ((s.block n).pair c).acquiring) = λ n. rw plain refl in
+    let event : IsRequested c m (asked_by mail s c) asked' s s' = record {
       held = λ n. refl;
       letting = λ n. refl;
       lets = λ source. refl;
@@ -75,10 +70,7 @@ end-access_asked {w} {c} m mail {s} {e} width plain kept end =
 pub unused : (c n i : ℕ) {s : State (List ℕ)} → AreNamed s → is_wanting ((s.block n).pair c).acquiring ≡ false
     → s.uses c i ≡ Acquires n → ⊥
 unused c n i {s} named calm used =
-    let one : acquires_of n (s.uses c i) ≡ true = ap (acquires_of n) used ∙ same_number n in
-    let both : (is_wanting ((s.block n).pair c).acquiring && (i == (s.block n).source c)) ≡ true =
-    sym (named.acquires c i n) ∙ one in
-    let no : false ≡ true = rw calm at both in
+    let no : false ≡ true = rw calm at (sym (named.acquires c i n) ∙ (ap (acquires_of n) used ∙ same_number n)) in
     cc
 
 pub asks_acquire : {w : ℕ} (c n source i : ℕ) (whole : Bool) (g : Grow) (bytes : List ℕ) (mail : AccessMessages w)
@@ -88,16 +80,14 @@ pub asks_acquire : {w : ℕ} (c n source i : ℕ) (whole : Bool) (g : Grow) (byt
 asks_acquire {w} c n source i whole g bytes mail {s} named calm =
     let new : Block (List ℕ) = acquiring_block c source whole g bytes (s.block n) in
     let s' : State (List ℕ) = acquire_asked c n source whole g bytes s in
-    let apart : (j : ℕ) → s.uses c i ≡ Acquires j → j ≡ n → ⊥ =
-    λ j used same. unused c n i named calm (used ∙ ap Acquires same) in
+    let apart : (j : ℕ) → s.uses c i ≡ Acquires j → j ≡ n → ⊥ = λ j used same. unused c n i named calm (cc) in
     elim (cases_eq i source) [
       | inl same ↦ ap (asked_by mail s' c) same ∙ asks-acquire c source n source whole g mail s'
           (set_at-same c source (Acquires n) s.uses) (ap (λ (b : Block (List ℕ)). (b.pair c).acquiring)
-          (set-same n new s.block) ∙ ap (λ (p : ClientBlock). p.acquiring)
-          (set-same c (after_acquire whole g ((s.block n).pair c)) (s.block n).pair))
-          (ap (λ (b : Block (List ℕ)). b.source c) (set-same n new s.block) ∙ set-same c source (s.block n).source)
-          ∙ sym (chosen (source == i) (Some (a_beat_of (acquisition (acquire_opcode whole) g source n) 0))
-          (asked_by mail s c i) (rw same (same_number source)))
+          (set-same n new s.block) ∙ ap (λ (p : ClientBlock). p.acquiring) (set-same c
+          (after_acquire whole g ((s.block n).pair c)) (s.block n).pair)) (ap (λ (b : Block (List ℕ)). b.source c)
+          (set-same n new s.block) ∙ set-same c source (s.block n).source) ∙ sym (chosen (source == i) (Some (a_beat_of
+          (acquisition (acquire_opcode whole) g source n) 0)) (asked_by mail s c i) (rw same (same_number source)))
       | inr other ↦ asks-same c i mail mail s s' refl (inl (set_at-else c source i (Acquires n) s.uses other c))
           (λ j used. ap (λ (b : Block (List ℕ)). (b.pair c).acquiring) (set-other n j new s.block (apart j used)))
           (λ j used. ap (λ (b : Block (List ℕ)). b.source c) (set-other n j new s.block (apart j used)))
@@ -112,11 +102,9 @@ pub end-acquire_asked : {w : ℕ} {c : ℕ} (n source : ℕ) (whole : Bool) (g :
     → f.closed ≡ e.closed → ((i : ℕ) → (i ≡ n → ⊥) → f.waiting i ≡ e.waiting i)
     → (whole ≡ true → f.waiting n ≡ Some bytes) → IsWellKept f → IsEnd (asked_by mail s c) c s e
     → IsEnd (asked_by mail (acquire_asked c n source whole g bytes s) c) c (acquire_asked c n source whole g bytes s) f
-end-acquire_asked {w} {c} n source whole g bytes mail {s} {e} {f} width named idle past copies closed others here kept
-    end =
+end-acquire_asked {w} {c} n source whole g bytes mail {s} {f} width named idle past copies closed others here kept end =
     let m : MessageA w = acquisition (acquire_opcode whole) g source n in
     let asked' : ℕ → Option (BeatA w) = asked_by mail s' c in
-    let calm : is_wanting ((s.block n).pair c).acquiring ≡ false = sym (end.known.acquires n) ∙ idle in
     let of_block : (i : ℕ) → (is_acquire (acquire_opcode whole) && (block_at (64 * n) == i)) ≡ (i == n) =
     λ i. rw (acquires-so whole, same_block n) (swapped n i) in
     let event : IsRequested c m (asked_by mail s c) asked' s s' = record {
@@ -125,23 +113,17 @@ end-acquire_asked {w} {c} n source whole g bytes mail {s} {e} {f} width named id
       letting = λ i. set-part (λ (b : Block (List ℕ)). is_unreleased (b.pair c).letting) n new s.block
           (ap (λ (p : ClientBlock). is_unreleased p.letting) pair_is) i;
       lets = λ i. refl;
-      acquiring = λ i. cc (
-        column (λ (b : Block (List ℕ)). is_wanting (b.pair c).acquiring) n new s.block i,
-        pair_is,
-        of_block i,
-      );
-      asks = λ i. asks_acquire c n source i whole g bytes mail named calm;
+      acquiring = λ i. let fact = column (λ (b : Block (List ℕ)). is_wanting (b.pair c).acquiring) n new s.block i in
+          cc (pair_is, of_block i);
+      asks = λ i. asks_acquire c n source i whole g bytes mail named (sym (end.known.acquires n) ∙ idle);
     } in
     record {
       known = known-requested width past end.kept.a_whole kept event end.known;
       opened = rw past (opened-requested width end.kept.a_whole event end.opened);
       kept = kept.kept;
       accounted = kept.accounted;
-      copies = λ i some. cc (
-        copies,
-        end.copies i (sym (ap (λ (p : Perm). same_perm p Perm.None) (event.held i)) ∙ some),
-        set-part (λ (b : Block (List ℕ)). b.copy c) n new s.block refl i,
-      );
+      copies = λ i some. let fact = end.copies i (sym (ap (λ (p : Perm). same_perm p Perm.None) (event.held i))
+          ∙ some) in cc (copies, set-part (λ (b : Block (List ℕ)). b.copy c) n new s.block refl i);
       waiting = λ i storing. go i storing (cases_eq i n);
       live = closed ∙ end.live;
     }
@@ -157,14 +139,10 @@ end-acquire_asked {w} {c} n source whole g bytes mail {s} {e} {f} width named id
 
     go : (i : ℕ) → is_whole (((s'.block i).pair c).acquiring) ≡ true → (i ≡ n) ⊎ (i ≡ n → ⊥)
         → f.waiting i ≡ Some ((s'.block i).waiting c)
-    go i storing (inl same) =
-        let now : is_whole (AcquireOpen whole g) ≡ true =
-        sym (ap (λ (b : Block (List ℕ)). is_whole (b.pair c).acquiring) (ap s'.block same ∙ set-same n new s.block)
-        ∙ ap (λ (p : ClientBlock). is_whole p.acquiring) pair_is) ∙ storing in
-        ap f.waiting same ∙ here now ∙ ap Some
-        (sym (ap (λ (b : Block (List ℕ)). b.waiting c) (ap s'.block same ∙ set-same n new s.block) ∙ set-same c
-        bytes (s.block n).waiting))
+    go i storing (inl same) = ap f.waiting same ∙ here (sym (ap (λ (b : Block (List ℕ)). is_whole (b.pair c).acquiring)
+        (ap s'.block same ∙ set-same n new s.block) ∙ ap (λ (p : ClientBlock). is_whole p.acquiring) pair_is) ∙ storing)
+        ∙ ap Some (sym (ap (λ (b : Block (List ℕ)). b.waiting c)
+        (ap s'.block same ∙ set-same n new s.block) ∙ set-same c bytes (s.block n).waiting))
     go i storing (inr other) =
         let old : s'.block i ≡ s.block i = set-other n i new s.block other in
-        others i other ∙ end.waiting i (sym (ap (λ (b : Block (List ℕ)). is_whole (b.pair c).acquiring) old)
-        ∙ storing) ∙ ap Some (sym (ap (λ (b : Block (List ℕ)). b.waiting c) old))
+        others i other ∙ end.waiting i (cc) ∙ ap Some (sym (ap (λ (b : Block (List ℕ)). b.waiting c) old))

@@ -1,14 +1,13 @@
 -- A client's end after it has handed a request or a Release out: what it knows is what the protocol says then.
 use Rattle.std.proofs.Common.{◌≡◌, ℕ, Bool, true, false, not, cond, List, [], Option, Some, refl, sym, ◌∙◌, ap, ◌&&◌}
-use Rattle.std.proofs.Common.{◌==◌, is_some, option_map}
+use Rattle.std.proofs.Common.{arith, ◌==◌, is_some, option_map}
 use Rattle.tl_coherence.proofs
 use proofs.Imports.{BeatA, BeatC, Channel, IsWidth, beats-positive, A, MessageA, MessageC, a_beat_of, c_beat_of}
 use proofs.Imports.{History, unfinished, RequestSource, ReleaseSource, AcquireOf, ReleaseOf, Perm, pending-whole}
 use proofs.Imports.{release_of-whole, held-whole, sent, block_at, is_acquire, is_release, held, pending, release_of}
-use proofs.Imports.{open_beat-c, Endpoint, open_beat, is_unreleased, State, is_wanting, ClientRelation}
-use proofs.Imports.{OpenSourceRelation}
-use Rattle.tl_burst.specs.declared.message.Message.TheVariants.{C}
-use Rattle.tl_client.proofs.pending.Opens.{open_beat-a}
+use proofs.Imports.{open_beat-c, Endpoint, is_unreleased, State, is_wanting, ClientRelation, OpenSourceRelation}
+use Rattle.tl_burst.{specs.declared.message.Message.TheVariants.C}
+use Rattle.tl_client.{proofs.pending.Opens.open_beat-a}
 use proofs.client.ClientEnd.{IsWellKept, known-kept}
 
 -- ---- a request
@@ -31,18 +30,12 @@ known-requested {w} {c} {m} {asked'} {s'} {t} {f} width past none well event kno
     let some = beats-positive (A m) width in
     known-kept asked' c s' well
     (λ n. ap (held n) past ∙ held-whole n (A m) t none some ∙ known.held_is n ∙ sym (event.held n))
-    (λ n. ap (pending (AcquireOf n)) past ∙ pending-whole (AcquireOf n) (A m) t none some
-    ∙ ap (λ (b : Bool). cond (is_acquire m.opcode && (block_at m.address == n)) true b) (known.acquires n) ∙ sym
-    (event.acquiring n))
-    (λ n. ap (pending (ReleaseOf n)) past ∙ pending-whole (ReleaseOf n) (A m) t none some ∙ known.releases n ∙ ap not
-    (sym (event.letting n)))
-    (λ source. ap (open_beat source) past ∙ open_beat-a source m t width none
-    ∙ ap (λ (o : Option (BeatA w)). cond (m.source == source) (Some (a_beat_of m 0)) o) (known.opens source) ∙ sym
-    (event.asks source))
+    (λ n. cc (pending-whole (AcquireOf n) (A m) t none some, known.acquires n, event.acquiring n))
+    (λ n. cc (pending-whole (ReleaseOf n) (A m) t none some, known.releases n, event.letting n))
+    (λ source. cc (open_beat-a source m t width none, known.opens source, event.asks source))
 
 some_cond : {X : Type 0} (b : Bool) (x : X) (o : Option X) → is_some (cond b (Some x) o) ≡ cond b true (is_some o)
-some_cond true x o = refl
-some_cond false x o = refl
+some_cond b x o = grind arith
 
 pub opened-requested : {w : ℕ} {c : ℕ} {m : MessageA w} {asked asked' : ℕ → Option (BeatA w)} {s s' : State (List ℕ)}
     {t : History w} → IsWidth w → unfinished Channel.A t ≡ []
@@ -50,12 +43,8 @@ pub opened-requested : {w : ℕ} {c : ℕ} {m : MessageA w} {asked asked' : ℕ 
 opened-requested {w} {m} {asked} {t} width none event open_ =
     let some = beats-positive (A m) width in
     record {
-      requests = λ source. cc (
-        pending-whole (RequestSource source) (A m) t none some,
-        open_.requests source,
-        some_cond (m.source == source) (a_beat_of m 0) (asked source),
-        event.asks source,
-      );
+      requests = λ source. let fact = some_cond (m.source == source) (a_beat_of m 0) (asked source) in
+          cc (pending-whole (RequestSource source) (A m) t none some, open_.requests source, event.asks source);
       releases = λ source. pending-whole (ReleaseSource source) (A m) t none some ∙ open_.releases source ∙ sym
           (ap is_some (event.lets source));
       released = λ source n is. ap (option_map (λ x. block_at x.address)) (release_of-whole source (A m) t none some)
@@ -90,12 +79,9 @@ known-released {w} {c} {i} {m} {p} {asked'} {s'} {t} {f} width past none left we
     let some = beats-positive (C m) width in
     known-kept asked' c s' well
     (λ n. ap (held n) past ∙ left n ∙ ap (λ (q : Perm). cond (n == i) p q) (known.held_is n) ∙ sym (event.held n))
-    (λ n. ap (pending (AcquireOf n)) past ∙ pending-whole (AcquireOf n) (C m) t none some ∙ known.acquires n ∙ sym
-    (event.acquiring n))
-    (λ n. ap (pending (ReleaseOf n)) past ∙ pending-whole (ReleaseOf n) (C m) t none some ∙ opens n ∙ ap
-    (λ (b : Bool). cond (i == n) true b) (known.releases n) ∙ sym (event.letting n))
-    (λ source. ap (open_beat source) past ∙ open_beat-c source m t width none ∙ known.opens source ∙ sym
-    (event.asks source))
+    (λ n. cc (pending-whole (AcquireOf n) (C m) t none some, known.acquires n, event.acquiring n))
+    (λ n. cc (pending-whole (ReleaseOf n) (C m) t none some, opens n, known.releases n, event.letting n))
+    (λ source. cc (open_beat-c source m t width none, known.opens source, event.asks source))
 
 pub opened-released : {w : ℕ} {c i : ℕ} {m : MessageC w} {p : Perm} {asked asked' : ℕ → Option (BeatA w)}
     {s s' : State (List ℕ)} {t : History w} → IsWidth w → unfinished Channel.C t ≡ []
@@ -116,19 +102,12 @@ opened-released {w} {c} {i} {m} {s} {t} width none event open_ =
     record {
       requests = λ source. pending-whole (RequestSource source) (C m) t none some ∙ open_.requests source ∙ sym
           (ap is_some (event.asks source));
-      releases = λ source. cc (
-        pending-whole (ReleaseSource source) (C m) t none some,
-        opens source,
-        open_.releases source,
-        some_cond (m.source == source) i (s.lets c source),
-        event.lets source,
-      );
-      released = λ source n is. cc (
-        release_of-whole source (C m) t none some,
-        names source,
-        last (m.source == source) n (λ x. block_at x.address) source (sym (event.lets source) ∙ is)
-            (λ e. event.of_block ∙ e) (open_.released source n),
-      );
+      releases = λ source. let fact = pending-whole (ReleaseSource source) (C m) t none some in let other_fact =
+          some_cond (m.source == source) i (s.lets c source) in
+          cc (opens source, open_.releases source, event.lets source);
+      released = λ source n is. let fact = last (m.source == source) n (λ x. block_at x.address) source
+          (sym (event.lets source) ∙ is) (λ e. event.of_block ∙ e) (open_.released source n) in
+          cc (release_of-whole source (C m) t none some, names source);
       sizes = λ source n is. ap (option_map (λ x. x.size)) (release_of-whole source (C m) t none some ∙ names source)
           ∙ size (m.source == source) n source (sym (event.lets source) ∙ is) (open_.sizes source n);
     }
@@ -137,5 +116,4 @@ opened-released {w} {c} {i} {m} {s} {t} width none event open_ =
         → (i ≡ n → value (c_beat_of m 0) ≡ n)
         → (s.lets c source ≡ Some n → option_map value (release_of source t) ≡ Some n)
         → option_map value (cond b (Some (c_beat_of m 0)) (release_of source t)) ≡ Some n
-    last true n value source is here before = ap Some (here cc)
-    last false n value source is here before = before is
+    last b n value source e f g = grind arith

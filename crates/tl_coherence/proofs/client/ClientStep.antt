@@ -1,22 +1,22 @@
 -- Clients' ends after every event: each is that of the protocol as it follows.
-use Rattle.std.proofs.Common.{◌≡◌, subst, ℕ, Bool, true, false, ◌&&◌, List, [], ◌∷◌, Option, Some, None, refl, sym, ◌∙◌}
-use Rattle.std.proofs.Common.{ap, ◌⊎◌, inl, inr, if◌then◌else◌, Result, Ok}
+use Rattle.std.proofs.Common.{◌≡◌, subst, ℕ, Bool, true, false, List, [], ◌∷◌, Option, Some, None, refl, sym, ◌∙◌}
+use Rattle.std.proofs.Common.{arith, ap, ◌⊎◌, inl, inr, if◌then◌else◌, Result}
 use Rattle.tl_coherence.proofs
 use proofs.Imports.{cases_eq, Beat, Link, Channel, IsWidth, Message, MessageA, unfinished, completes, Config, Rule}
 use proofs.Imports.{kept_up, Verdict, is_refused, EndConfig, Endpoint, Offered, offered, taken, is_stalled, services}
 use proofs.Imports.{least_untaken, trackers_of, Event, Ask, Deliver, is_unreleased, State, packets_on, AbstractState}
 use proofs.Imports.{packet_taken, abstract_step, AccessMessages, SimulationRelation, is_caching, receiver, is_moving}
-use proofs.Imports.{Log, stepped, stepped_at, handed_by, judged, client_took, is_to_client, client_of, System, terms_at}
+use proofs.Imports.{Log, stepped, stepped_at, judged, client_took, is_to_client, client_of, System, terms_at}
 use proofs.Imports.{with_client, with_channel}
-use Rattle.tl_client.proofs.endpoint.Stalls.{taken_now}
-use Rattle.tl_coherence.specs.refinement.AbstractStep.{is_last}
+use Rattle.tl_client.{proofs.endpoint.Stalls.taken_now}
+use Rattle.tl_coherence.{specs.refinement.AbstractStep.is_last}
 use Rattle.tl_manager.specs.statement.Offer as manager
 use Rattle.tl_coherence.specs.statement.Step as step
-use proofs.client.{AsideAll.Leaves, AsideAll.leaves-none, AsideAll.leaves-at_client, ClientAsked.IsEndOf}
-use proofs.client.{ClientDelivered.shadow_of, ClientDelivered.delivered-d, ClientEnd.end-matched}
-use proofs.client.{ProbeDelivered.IsProbed, ProbeDelivered.delivered-b}
-use proofs.queues.{FirstToken.IsFirst, FirstToken.first-token, Steps.clients-with_messages}
+use proofs.client.{ClientAsked.IsEndOf, ClientEnd.end-matched, ProbeDelivered.IsProbed, ProbeDelivered.delivered-b}
+use proofs.client.AsideAll.{Leaves, leaves-none, leaves-at_client}
+use proofs.client.ClientDelivered.{shadow_of, delivered-d}
 use proofs.client.ManagerStep.{AreEnds, left_alone, own_client, other_client, asked_ends, client_kind, manager_ends}
+use proofs.queues.{FirstToken.IsFirst, FirstToken.first-token, Steps.clients-with_messages}
 
 -- ---- a client takes a beat
 
@@ -25,20 +25,14 @@ moved : {w : ℕ} (a : Result (Verdict × Option (Message w)) Rule) (c : ℕ) (c
     (queue : List (Beat w)) (e : Endpoint w) (s : System w) → is_refused a ≡ false → is_stalled a ≡ false
     → (is_moving (judged a c ch x queue e s).outcome ≡ true)
     × ((judged a c ch x queue e s).after.clients ≡ (with_client c e (with_channel c ch queue s)).clients)
-moved (Ok (Verdict.Taken, m)) c ch x queue e s unrefused moves =
-    (refl, clients-with_messages (handed_by c m) (with_client c e (with_channel c ch queue s)))
-moved (Ok (Verdict.Done source f, m)) c ch x queue e s unrefused moves =
-    (refl, clients-with_messages (handed_by c m) (with_client c e (with_channel c ch queue s)))
-moved a c ch x queue e s unrefused moves = absurd cc
+moved a c ch x queue e s f g = grind (arith, clients-with_messages)
 
 -- a message that one client takes leaves the others' ends alone
 client_leaves : {w : ℕ} (config : Config) (tracker : ℕ) {c : ℕ} {ch : Channel} (h : AbstractState w) (d : ℕ)
     {sys : System w} {x : Beat w} {queue : List (Beat w)} → is_to_client ch ≡ true → (d ≡ c → ⊥)
     → IsFirst ch c h.mail h.state sys x queue
     → Leaves d h (packet_taken config tracker c (packets_on ch (h.state.link c)) h)
-client_leaves {w} config tracker {c} {ch} h d up other first =
-    rw first.tokens (leaves-at_client config tracker c first.kind first.number first.rest h d
-    (client_kind ch first.kind up first.own) other)
+client_leaves {w} config tracker {c} {ch} h d up other first = grind (arith, leaves-at_client, client_kind)
 
 -- the beat was taken: the ends after its step, given the client's own
 taken_ends : {w : ℕ} {config : Config} {log : Log w} {mail : AccessMessages w} {request : ℕ → MessageA w}
@@ -56,12 +50,8 @@ taken_ends {w} {config} {log} {mail} {request} {s} {sys} link ch k x queue o wid
     (taken_now x (sys.clients link.0)) in
     subst (λ (y : Offered w). AreEnds config (Deliver link ch) sys before k (client_took link.0 ch x queue y sys))
     (sym takes)
-    (subst (λ (b : Bool). IsEndOf k (if b && is_last (sys.channels link.0 ch) rest_now then event else before)
-    ((client_took link.0 ch x queue t sys).after.clients k)) (sym moves.0)
-    (subst (λ (f : ℕ → Endpoint w). IsEndOf k (if is_last (sys.channels link.0 ch) rest_now then event else before)
-    (f k)) (sym moves.1) (subst (λ (b : Bool). IsEndOf k (if b then event else before)
-    ((with_client link.0 t.after (with_channel link.0 ch queue sys)).clients k))
-    (sym (ap (λ (beats_ : List (Beat w)). is_last beats_ rest_now) beats))
+    (rw moves.0 (subst (λ (f : ℕ → Endpoint w). IsEndOf k (if is_last (sys.channels link.0 ch) rest_now then event
+    else before) (f k)) (sym moves.1) (rw (ap (λ (beats_ : List (Beat w)). is_last beats_ rest_now) beats)
     (go (completes x rest_now) refl (cases_eq k link.0)))))
   where
     before : AbstractState w
@@ -137,10 +127,8 @@ delivered_ends : {w : ℕ} {config : Config} {log : Log w} {mail : AccessMessage
     → AreEnds config (Deliver link ch) sys (shadow_of mail request s) k
     (step.delivered config terms link.0 ch beats sys)
 delivered_ends {config} {log} {mail} {request} {s} {sys} terms link ch k [] width h at beats = end-matched h k
-delivered_ends {config} {log} {mail} {request} {s} {sys} terms link Channel.B k (x ∷ queue) width h at beats =
-    b_ends terms link k x queue width h at beats
-delivered_ends {config} {log} {mail} {request} {s} {sys} terms link Channel.D k (x ∷ queue) width h at beats =
-    d_ends terms link k x queue width h at beats
+delivered_ends terms link Channel.B k (x ∷ queue) width h at beats = b_ends terms link k x queue width h at beats
+delivered_ends terms link Channel.D k (x ∷ queue) width h at beats = d_ends terms link k x queue width h at beats
 delivered_ends {config} {log} {mail} {request} {s} {sys} terms link ch k (x ∷ queue) width h at beats =
     manager_ends link ch k x queue (manager.offered config (record { 0 = link.0 }) ch x sys.manager) width h beats refl
 
@@ -150,8 +138,7 @@ event_ends : {w : ℕ} {config : Config} {log : Log w} {mail : AccessMessages w}
     → AreEnds config event sys (shadow_of mail request s) k (stepped_at config o event sys)
 event_ends {config} {log} {mail} {request} {s} {sys} (Ask c o) None k width h at = end-matched h k
 event_ends {config} {log} {mail} {request} {s} {sys} (Deliver link ch) None k width h at = end-matched h k
-event_ends {config} {log} {mail} {request} {s} {sys} (Ask c o) (Some terms) k width h at =
-    asked_ends terms c k o width h
+event_ends (Ask c o) (Some terms) k width h at = asked_ends terms c k o width h
 event_ends {config} {log} {mail} {request} {s} {sys} (Deliver link ch) (Some terms) k width h at =
     delivered_ends terms link ch k (sys.channels link.0 ch) width h at refl
 
@@ -161,5 +148,4 @@ pub clients-kept : {w : ℕ} {config : Config} {log : Log w} {mail : AccessMessa
     → IsWidth w → SimulationRelation config log mail request s sys → (k : ℕ)
     → IsEndOf k (abstract_step config event sys (shadow_of mail request s)) ((stepped config event sys).after.clients k)
 unfolding stepped
-clients-kept {config} {log} {mail} {request} {s} {sys} event width h k =
-    event_ends event (terms_at config (client_of event)) k width h refl
+clients-kept {config} event width h k = event_ends event (terms_at config (client_of event)) k width h refl

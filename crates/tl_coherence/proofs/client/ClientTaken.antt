@@ -1,23 +1,22 @@
 -- A client's end after it has taken a beat of channel D, beside the event of the protocol.
 use Rattle.std.proofs.Common.{◌≡◌, subst, ℕ, Bool, true, false, not, ◌&&◌, cond, List, ◌∷◌, Option, Some, None, refl}
-use Rattle.std.proofs.Common.{sym, ◌∙◌, ap, ◌⊎◌, inl, inr, ◌*◌, eqb-true, ne_eqb, ◌==◌}
+use Rattle.std.proofs.Common.{arith, sym, ◌∙◌, ap, ◌⊎◌, inl, inr, ◌*◌, eqb-true, ne_eqb, ◌==◌}
 use Rattle.tl_coherence.proofs
 use proofs.Imports.{and-false, cases_eq, Beat, BeatA, BeatD, OpD, IsWidth, E, a_beat_of, History, Cap, Grow, Perm}
 use proofs.Imports.{cap_code, cap_right, sent, same_perm, block_at, ends, is_grant, is_release_ack, request_of, capped}
-use proofs.Imports.{same_block, swapped, Finish, Endpoint, with_past, sending, is_acquire_beat, ended, responded}
-use proofs.Imports.{address_asked, finish_of, granted, open_beat, acquisition, grant_ack, cap-gives, grants_by_opcode}
-use proofs.Imports.{grant_opcode, acquires_of, AreNamed, Packet, ClientBlock, AcquireOpen, is_unreleased, is_whole}
-use proofs.Imports.{after_release_ack, after_grant, Block, State, SourceFree, Acquires, taken_block, grant_taken}
-use proofs.Imports.{let_go_block, answer_taken, granted_copy, release_ack_taken, is_wanting, acquire_opcode}
-use proofs.Imports.{AccessMessages, asked_by}
-use Rattle.tl_client.{proofs.endpoint.AfterOffered.granted_is, specs.laws.After.copy_granted}
-use Rattle.tl_client.{specs.laws.After.waiting_granted, specs.statement.EndpointInvariant.is_acquire_perm}
+use proofs.Imports.{same_block, swapped, Finish, Endpoint, with_past, sending, ended, responded, address_asked}
+use proofs.Imports.{finish_of, granted, open_beat, acquisition, grant_ack, cap-gives, grants_by_opcode, grant_opcode}
+use proofs.Imports.{acquires_of, AreNamed, Packet, ClientBlock, AcquireOpen, is_unreleased, is_whole, after_release_ack}
+use proofs.Imports.{after_grant, Block, State, SourceFree, Acquires, taken_block, grant_taken, let_go_block}
+use proofs.Imports.{answer_taken, granted_copy, release_ack_taken, is_wanting, acquire_opcode, AccessMessages, asked_by}
+use Rattle.tl_client.{proofs.endpoint.AfterOffered.granted_is}
+use Rattle.tl_client.specs.laws.After.{copy_granted, waiting_granted}
 use proofs.client.{Aside.set_at-else, ClientRequests.chosen, ClientRequests.passed}
-use proofs.queues.{Phases.and_right, Codes.acquires-so, Tokens.same_number, Tokens.set-same, Tokens.set-other}
-use proofs.queues.{Tokens.set-part, Tokens.set_at-same}
 use proofs.client.ClientEnd.{IsWellKept, IsEnd, asks-same, asks-closed, asks-acquire, open-is, column}
 use proofs.client.ClientDeliverD.{IsHeard, IsEcho, echo-none, echo-e, known-heard, opened-heard, heard-part}
 use proofs.client.ClientDeliverD.{answer_closes, ack_closes, grant_closes}
+use proofs.queues.{Phases.and_right, Codes.acquires-so}
+use proofs.queues.Tokens.{same_number, set-same, set-other, set-part, set_at-same}
 
 -- ---- a beat that isn't the last of its message
 
@@ -26,8 +25,7 @@ pub end-part : {w : ℕ} {asked : ℕ → Option (BeatA w)} {c : ℕ} (x : BeatD
     → IsEnd asked c s e → IsEnd asked c s f
 end-part {w} {asked} {c} x {s} {e} {f} is more well end =
     let event = heard-part c x e.past Perm.None asked s more in
-    let echo : IsEcho x e.past f.past = subst (IsEcho x e.past) (sym (ap (λ (g : Endpoint w). g.past) is))
-    (echo-none x e.past) in
+    let echo : IsEcho x e.past f.past = rw (ap (λ (g : Endpoint w). g.past) is) (echo-none x e.past) in
     record {
       known = known-heard echo well event end.known;
       opened = opened-heard echo event end.opened;
@@ -60,8 +58,7 @@ end-answer_taken {w} {c} source x rest mail {s} {e} {f} is last plain other from
       lets = λ i. refl;
       asks = λ i. asks_now i (cases_eq i source);
     } in
-    let echo : IsEcho x e.past f.past = subst (IsEcho x e.past) (sym (ap (λ (g : Endpoint w). g.past) is))
-    (echo-none x e.past) in
+    let echo : IsEcho x e.past f.past = rw (ap (λ (g : Endpoint w). g.past) is) (echo-none x e.past) in
     record {
       known = known-heard echo well event end.known;
       opened = opened-heard echo event end.opened;
@@ -105,30 +102,22 @@ end-release_ack_taken {w} {c} n x rest mail {s} {e} {f} is last plain acks from 
           (ap (λ (q : ClientBlock). q.held) pair_is) k;
       acquiring = λ k. set-part (λ (b : Block (List ℕ)). is_wanting (b.pair c).acquiring) n new s.block
           (ap (λ (q : ClientBlock). is_wanting q.acquiring) pair_is) k;
-      letting = λ k. cc (
-        column (λ (b : Block (List ℕ)). not (is_unreleased (b.pair c).letting)) n new s.block k,
-        pair_is,
-        swapped k n,
-      );
+      letting = λ k. let fact = column
+          (λ (b : Block (List ℕ)). not (is_unreleased (b.pair c).letting)) n new s.block k in cc (pair_is, swapped k n);
       lets = λ i. lets_now i (cases_eq i ((s.block n).release_source c));
-      asks = λ i. asks-same c i mail mail s s' refl (inl refl)
-          (λ j used. set-part (λ (b : Block (List ℕ)). (b.pair c).acquiring) n new s.block
-          (ap (λ (q : ClientBlock). q.acquiring) pair_is) j)
+      asks = λ i. asks-same c i mail mail s s' refl (inl refl) (λ j used. set-part (λ (b : Block (List ℕ)).
+          (b.pair c).acquiring) n new s.block (ap (λ (q : ClientBlock). q.acquiring) pair_is) j)
           (λ j used. set-part (λ (b : Block (List ℕ)). b.source c) n new s.block refl j);
     } in
-    let echo : IsEcho x e.past f.past = subst (IsEcho x e.past) (sym (ap (λ (g : Endpoint w). g.past) is))
-    (echo-none x e.past) in
+    let echo : IsEcho x e.past f.past = rw (ap (λ (g : Endpoint w). g.past) is) (echo-none x e.past) in
     record {
       known = known-heard echo well event end.known;
       opened = opened-heard echo event end.opened;
       kept = well.kept;
       accounted = well.accounted;
-      copies = λ k some. cc (
-        is,
-        end.copies k (sym (ap (λ (q : Perm). same_perm q Perm.None) (set-part (λ (b : Block (List ℕ)). (b.pair c).held)
-            n new s.block (ap (λ (q : ClientBlock). q.held) pair_is) k)) ∙ some),
-        set-part (λ (b : Block (List ℕ)). b.copy c) n new s.block refl k,
-      );
+      copies = λ k some. let fact = end.copies k (sym (ap (λ (q : Perm). same_perm q Perm.None) (set-part
+          (λ (b : Block (List ℕ)). (b.pair c).held) n new s.block (ap (λ (q : ClientBlock). q.held) pair_is) k))
+          ∙ some) in cc (is, set-part (λ (b : Block (List ℕ)). b.copy c) n new s.block refl k);
       waiting = λ k storing. ap (λ (g : Endpoint w). g.waiting k) is
           ∙ end.waiting k (sym (set-part (λ (b : Block (List ℕ)). is_whole (b.pair c).acquiring) n new s.block
           (ap (λ (q : ClientBlock). is_whole q.acquiring) pair_is) k) ∙ storing)
@@ -170,14 +159,12 @@ record IsGrantTaken {w : ℕ} (data_too : Bool) (x : BeatD w) (r : BeatA w) (pay
 
 ended_end : {w : ℕ} (o : OpD) (data_too : Bool) (x : BeatD w) (finish : Finish) (g : Endpoint w)
     → o ≡ grant_opcode data_too → (ended o x finish g).after ≡ sending (grant_ack x.sink) g
-ended_end o true x finish g e = rw e refl
-ended_end o false x finish g e = rw e refl
+ended_end o data_too x finish g e = grind arith
 
 same_copy : {w : ℕ} (data_too : Bool) (r : BeatA w) (payload : List ℕ) (k : ℕ) (t : History w) (e : Endpoint w)
     → copy_granted (grant_opcode data_too) (Some r) payload k (with_past t e) ≡ copy_granted (grant_opcode data_too)
     (Some r) payload k e
-same_copy true r payload k t e = refl
-same_copy false r payload k t e = refl
+same_copy data_too r payload k t e = grind arith
 
 grant_end : {w : ℕ} (data_too : Bool) (x : BeatD w) (r : BeatA w) (payload : List ℕ) (e f : Endpoint w)
     → x.opcode ≡ grant_opcode data_too
@@ -186,9 +173,8 @@ grant_end {w} data_too x r payload e f opcode is =
     let before : Endpoint w = with_past (Beat.D x ∷ e.past) e in
     let g : Endpoint w = granted x.opcode (Some r) payload before in
     let does = granted_is x.opcode (Some r) payload before in
-    let sends : f ≡ sending (grant_ack x.sink) g =
-    is ∙ ended_end x.opcode data_too x (finish_of w x.opcode x.param x.size (address_asked (Some r)) payload) g
-    opcode in
+    let sends : f ≡ sending (grant_ack x.sink) g = is ∙ ended_end x.opcode data_too x
+    (finish_of w x.opcode x.param x.size (address_asked (Some r)) payload) g opcode in
     record {
       past_is = cc (sends, does.same_past);
       same_closed = ap (λ (h : Endpoint w). h.closed) sends ∙ does.same_closed;
@@ -206,10 +192,8 @@ end-grant_taken {w} {c} {n} {whole} {data_too} {g} {k} {x} {payload} rest mail {
     let asks : asked_by mail s c x.source ≡ Some r = ap (asked_by mail s c) is.from ∙ asks-acquire c source n source
     whole g mail s is.used is.wants refl in
     let open_ : open_beat x.source e.past ≡ Some r = end.known.opens x.source ∙ asks in
-    let request : request_of x.source e.past ≡ Some r =
-    open-is x.source e.past (ap is_acquire_beat open_ ∙ acquires-so whole) ∙ open_ in
-    let does = grant_end data_too x r payload e f is.opcode
-    (taken ∙ ap (λ (o : Option (BeatA w)). (responded x o payload e).after) request) in
+    let request : request_of x.source e.past ≡ Some r = open-is x.source e.past (cc (acquires-so whole)) ∙ open_ in
+    let does = grant_end data_too x r payload e f is.opcode (cc) in
     let kind = grants_by_opcode data_too in
     let closes = grant_closes n x r e.past last (ap is_grant is.opcode ∙ kind.0) (ap is_release_ack is.opcode ∙ kind.1)
     request (same_block n) in
@@ -221,19 +205,15 @@ end-grant_taken {w} {c} {n} {whole} {data_too} {g} {k} {x} {payload} rest mail {
       source_is = closes.2;
       let_is = closes.3;
       held = λ i. cc (column (λ (b : Block (List ℕ)). (b.pair c).held) n new s.block i, pair_is, swapped i n);
-      acquiring = λ i. cc (
-        column (λ (b : Block (List ℕ)). is_wanting (b.pair c).acquiring) n new s.block i,
-        pair_is,
-        swapped i n,
-      );
+      acquiring = λ i. let fact = column (λ (b : Block (List ℕ)). is_wanting (b.pair c).acquiring) n new s.block i in
+          cc (pair_is, swapped i n);
       letting = λ i. ap not (set-part (λ (b : Block (List ℕ)). is_unreleased (b.pair c).letting) n new s.block
           (ap (λ (q : ClientBlock). is_unreleased q.letting) pair_is) i);
       lets = λ i. refl;
       asks = λ i. asks_now i (cases_eq i source);
     } in
     let echo : IsEcho x e.past f.past =
-    subst (IsEcho x e.past) (sym does.past_is) (echo-e x (record { sink = x.sink }) e.past width end.kept.e_whole)
-    in
+    subst (IsEcho x e.past) (sym does.past_is) (echo-e x (record { sink = x.sink }) e.past width end.kept.e_whole) in
     record {
       known = known-heard echo well event end.known;
       opened = opened-heard echo event end.opened;
@@ -261,11 +241,8 @@ end-grant_taken {w} {c} {n} {whole} {data_too} {g} {k} {x} {payload} rest mail {
 
     -- no other source is of the block
     apart : (i j : ℕ) → (i ≡ source → ⊥) → s.uses c i ≡ Acquires j → j ≡ n → ⊥
-    apart i j ne used same =
-        let one : acquires_of n (s.uses c i) ≡ true = ap (acquires_of n) (used ∙ ap Acquires same) ∙ same_number n in
-        let both : (is_wanting ((s.block n).pair c).acquiring && (i == source)) ≡ true =
-        sym (named.acquires c i n) ∙ one in
-        ne (eqb-true i source (and_right (is_wanting ((s.block n).pair c).acquiring) (i == source) both))
+    apart i j ne used same = ne (eqb-true i source (and_right (is_wanting ((s.block n).pair c).acquiring) (i == source)
+        (sym (named.acquires c i n) ∙ (ap (acquires_of n) (used ∙ ap Acquires same) ∙ same_number n))))
 
     asks_now : (i : ℕ) → (i ≡ source) ⊎ (i ≡ source → ⊥) → asked_by mail s' c i ≡ cond (x.source == i) None
         (asked_by mail s c i)
@@ -295,21 +272,15 @@ end-grant_taken {w} {c} {n} {whole} {data_too} {g} {k} {x} {payload} rest mail {
         ap₂_and p q = rw (p, q) refl
     copy_here i true false a b same =
         let and_true : (u : Bool) → u ≡ true → (u && true) ≡ true = λ u p. rw p refl in
-        cc (
-          chosen ((i == block_at (64 * n)) && true) (e.waiting i) (e.copies i)
-              (and_true (i == block_at (64 * n)) (here i same)),
-          same,
-          end.waiting n (ap is_whole is.wants ∙ a),
-        )
+        let fact = chosen ((i == block_at (64 * n)) && true) (e.waiting i) (e.copies i)
+        (and_true (i == block_at (64 * n)) (here i same)) in cc (same, end.waiting n (ap is_whole is.wants ∙ a))
     copy_here i false true a b same = chosen (i == block_at (64 * n)) (Some payload) (e.copies i) (here i same) ∙ ap
         Some (is.bytes b)
     copy_here i false false a b same = passed ((i == block_at (64 * n)) && false) (e.waiting i) (e.copies i)
         (and-false (i == block_at (64 * n))) ∙ ap e.copies same ∙ end.copies n (is.has_copy a b)
 
     copy_else : (i : ℕ) (z : Bool) → (i ≡ n → ⊥) → copy_granted (grant_opcode z) (Some r) payload i e ≡ e.copies i
-    copy_else i true ne = passed (i == block_at r.address) (Some payload) (e.copies i) (elsewhere i ne)
-    copy_else i false ne = passed ((i == block_at r.address) && is_acquire_perm r.opcode) (e.waiting i) (e.copies i)
-        (ap (λ (u : Bool). u && is_acquire_perm r.opcode) (elsewhere i ne))
+    copy_else i z e = grind (arith, elsewhere)
 
     copy_now : (i : ℕ) → (i ≡ n) ⊎ (i ≡ n → ⊥) → same_perm ((s'.block i).pair c).held Perm.None ≡ false
         → copy_granted (grant_opcode data_too) (Some r) payload i e ≡ Some ((s'.block i).copy c)
@@ -322,19 +293,6 @@ end-grant_taken {w} {c} {n} {whole} {data_too} {g} {k} {x} {payload} rest mail {
         (sym (ap (λ (b : Block (List ℕ)). same_perm (b.pair c).held Perm.None) old) ∙ some) ∙ ap Some
         (sym (ap (λ (b : Block (List ℕ)). b.copy c) old))
 
-    waiting_else : (i : ℕ) (z : Bool) → (i ≡ n → ⊥)
-        → waiting_granted (grant_opcode z) (Some r) i (e.waiting i) ≡ e.waiting i
-    waiting_else i true ne = refl
-    waiting_else i false ne = passed ((i == block_at r.address) && is_acquire_perm r.opcode) None (e.waiting i)
-        (ap (λ (u : Bool). u && is_acquire_perm r.opcode) (elsewhere i ne))
-
     waiting_now : (i : ℕ) → (i ≡ n) ⊎ (i ≡ n → ⊥) → is_whole ((s'.block i).pair c).acquiring ≡ true
         → waiting_granted (grant_opcode data_too) (Some r) i (e.waiting i) ≡ Some ((s'.block i).waiting c)
-    waiting_now i (inl same) storing = absurd (let no : false ≡ true =
-        sym (ap (λ (b : Block (List ℕ)). is_whole (b.pair c).acquiring) (block_now i same)
-        ∙ ap (λ (q : ClientBlock). is_whole q.acquiring) pair_is) ∙ storing in cc)
-    waiting_now i (inr ne) storing =
-        let old : s'.block i ≡ s.block i = set-other n i new s.block ne in
-        waiting_else i data_too ne ∙ end.waiting i
-        (sym (ap (λ (b : Block (List ℕ)). is_whole (b.pair c).acquiring) old) ∙ storing) ∙ ap Some
-        (sym (ap (λ (b : Block (List ℕ)). b.waiting c) old))
+    waiting_now i e f = grind (arith, block_now, pair_is)

@@ -1,9 +1,9 @@
 -- A beat of channel D that is delivered to a client is taken.
-use Rattle.std.proofs.Common.{◌≡◌, subst, ℕ, zero, suc, Bool, cond, true, false, not, ◌&&◌, ◌||◌, List, [], ◌∷◌, Option}
-use Rattle.std.proofs.Common.{Some, None, refl, sym, ◌∙◌, ap, arith, All, is_some, slice_get, option_map}
+use Rattle.std.proofs.Common.{◌≡◌, subst, ℕ, zero, suc, Bool, true, false, not, ◌&&◌, ◌||◌, List, [], ◌∷◌}
+use Rattle.std.proofs.Common.{Some, None, refl, ◌∙◌, ap, arith, All, is_some}
 use Rattle.tl_coherence.proofs
 use proofs.Imports.{not-true, Beat, BeatA, Channel, Message, MessageA, MessageD, a_beat_of, beat_of, d_beat_of, begun}
-use proofs.Imports.{History, unfinished, ClientConfig, Config, RequestSource, Cap, Grow, Perm, Profile, cap_code}
+use proofs.Imports.{History, unfinished, Config, RequestSource, Cap, Grow, Perm, Profile, cap_code}
 use proofs.Imports.{grow_code, later-legal, is_outside, broken_in_order, same_perm, fits_grow, is_acquire_block}
 use proofs.Imports.{is_grant_without_data, held, pending, request_of, illegal, same_block, EndConfig, Endpoint, offered}
 use proofs.Imports.{taken, waits, open_beat, acquisition, no_ack_grant, grant_opcode, release_ack, level_of}
@@ -27,40 +27,7 @@ pub record AreTermsOf (config : Config) (c : ℕ) (terms : EndConfig) : Type 0 w
 
 pub terms-are : (config : Config) (c : ℕ) (terms : EndConfig) → terms_at config c ≡ Some terms
     → AreTermsOf config c terms
-terms-are config c terms e = go (slice_get config.clients.items c) refl
-  where
-    some_is : (x y : EndConfig) → Some x ≡ Some y → x ≡ y
-    some_is x y f = cc
-
-    go : (o : Option ClientConfig) → slice_get config.clients.items c ≡ o → AreTermsOf config c terms
-    go None f = absurd (let no : None ≡ Some terms = sym
-        (ap (option_map (λ (x : ClientConfig). record {
-          level = x.level;
-          profile = config.profile;
-          sources = x.sources;
-          blocks = config.blocks;
-        })) f) ∙ e in cc)
-    go (Some x) f =
-        let is : record { level = x.level; profile = config.profile; sources = x.sources; blocks = config.blocks }
-        ≡ terms = some_is (record {
-          level = x.level;
-          profile = config.profile;
-          sources = x.sources;
-          blocks =
-              config.blocks;
-        }) terms
-        (sym (ap (option_map (λ (y : ClientConfig). record {
-          level = y.level;
-          profile = config.profile;
-          sources = y.sources;
-          blocks = config.blocks;
-        })) f)
-        ∙ e) in
-        record {
-          level = ap (option_map (λ (y : ClientConfig). y.level)) f ∙ ap (λ (t : EndConfig). Some t.level) is;
-          profile = ap (λ (t : EndConfig). t.profile) (sym is);
-          blocks = ap (λ (t : EndConfig). t.blocks) (sym is);
-        }
+terms-are config c terms e = grind arith
 
 -- ---- a beat that comes
 
@@ -97,26 +64,19 @@ taken-d {w} {config} {log} {mail} {request} {s} {sys} terms c m {x} {queue} h at
     let sound = sound-beat c Channel.D x queue h beats in
     client-takes terms Channel.D x (sys.clients c) (h.live c) refl (lawful is.level next.beat_is sound.lawful)
     (moves next.beat_is)
-    (ap (λ (p : Profile). broken_in_order p x (sys.clients c).past) is.profile
-    ∙ ap (λ (y : Beat w). broken_in_order config.profile y (sys.clients c).past) next.beat_is
-    ∙ next-legal config.profile m next.k (sys.clients c).past next.rest_is first)
+    (cc (is.profile, next.beat_is, next-legal config.profile m next.k (sys.clients c).past next.rest_is first))
     (ap (λ (b : ℕ). is_outside b x) is.blocks ∙ sound.inside) sound.clean
   where
     lawful : level_of config c ≡ Some terms.level → x ≡ beat_of (Message.D m) next.k
         → manager.illegal_at (level_of config c) x ≡ None → illegal terms.level Channel.D x ≡ None
-    lawful e f g =
-        let one : manager.illegal_at (Some terms.level) (beat_of (Message.D m) next.k) ≡ None = cc (e, f, g) in
-        ap (λ (y : Beat w). illegal terms.level Channel.D y) f ∙ one
+    lawful e f g = grind arith
 
 -- ---- an answer
 
 -- the open request is pending, and is the one that the history names
 live_request : {w : ℕ} (source : ℕ) (r : BeatA w) (t : History w) → open_beat source t ≡ Some r
     → (pending (RequestSource source) t ≡ true) × (request_of source t ≡ Some r)
-live_request {w} source r t e =
-    let go : (b : Bool) → pending (RequestSource source) t ≡ b → cond b (request_of source t) None ≡ Some r
-    → (b ≡ true) × (request_of source t ≡ Some r) = elim [ true ↦ λ f g. (refl, g) | false ↦ λ f g. absurd cc ] in
-    go (pending (RequestSource source) t) refl e
+live_request {w} source r t e = grind arith
 
 pub answer-first : {w : ℕ} (p : Profile) {c source : ℕ} {mail : AccessMessages w} {s : State (List ℕ)} {e : Endpoint w}
     → IsEnd (asked_by mail s c) c s e → (due : IsAnswerDue c source mail s) → unfinished Channel.D e.past ≡ []
@@ -139,26 +99,12 @@ answer-first {w} p {c} {source} {mail} {s} {e} end due whole =
 
 pub answers_acquire : (whole data_too : Bool) → (whole && data_too) ≡ false
     → answers (grant_opcode data_too) (acquire_opcode whole) ≡ true
-answers_acquire true true e = absurd cc
-answers_acquire true false e = refl
-answers_acquire false true e = refl
-answers_acquire false false e = refl
+answers_acquire whole data_too e = grind arith
 
 pub fits_asked : (p : Profile) (whole : Bool) (g : Grow) (k : Cap) → cap_fits whole g k ≡ true
     → gives_asked p (AcquireOpen whole g) k ≡ true
     → fits_grow p (acquire_opcode whole) (grow_code g) (cap_code k) ≡ true
-fits_asked Profile.One false Grow.NtoB Cap.ToB e f = refl
-fits_asked Profile.Two false Grow.NtoB Cap.ToB e f = refl
-fits_asked Profile.Two false Grow.NtoB Cap.ToT e f = refl
-fits_asked Profile.One false Grow.NtoT Cap.ToT e f = refl
-fits_asked Profile.Two false Grow.NtoT Cap.ToT e f = refl
-fits_asked Profile.One false Grow.BtoT Cap.ToT e f = refl
-fits_asked Profile.Two false Grow.BtoT Cap.ToT e f = refl
-fits_asked Profile.One true Grow.NtoT Cap.ToT e f = refl
-fits_asked Profile.Two true Grow.NtoT Cap.ToT e f = refl
-fits_asked Profile.One true Grow.BtoT Cap.ToT e f = refl
-fits_asked Profile.Two true Grow.BtoT Cap.ToT e f = refl
-fits_asked p whole g k e f = absurd cc
+fits_asked p whole g k e f = grind arith
 
 -- the parts of a Grant that fits
 pub record IsFitting (held : Perm) (data_too : Bool) (k : Cap) (whole : Bool) (g : Grow) : Type 0 where
@@ -180,12 +126,7 @@ fitting recorded held data_too k whole g fits =
 pub has_data : (whole data_too : Bool) (q : Perm) → (whole || (data_too || same_perm q Perm.Branch)) ≡ true
     → (is_grant_without_data (grant_opcode data_too) && (is_acquire_block (acquire_opcode whole) && not
     (same_perm q Perm.Branch))) ≡ false
-has_data true true q e = refl
-has_data true false q e = refl
-has_data false true q e = refl
-has_data false false Perm.Branch e = refl
-has_data false false Perm.None e = absurd cc
-has_data false false Perm.Trunk e = absurd cc
+has_data whole data_too q e = grind arith
 
 pub grant-first : {w : ℕ} (p : Profile) {c n : ℕ} (mail : AccessMessages w) {s : State (List ℕ)} {e : Endpoint w}
     → IsEnd (asked_by mail s c) c s e → (due : IsGrantDue c n s) → gives_asked p (AcquireOpen due.whole due.g) due.k
@@ -210,11 +151,8 @@ grant-first {w} p {c} {n} mail {s} {e} end due given whole =
       admits = answers_acquire due.whole due.data_too fits.bare;
       size = refl;
     }) (same_block n) (fits_asked p due.whole due.g due.k fits.cap_is given)
-    (ap (λ (q : Perm). is_grant_without_data (grant_opcode due.data_too)
-    && (is_acquire_block (acquire_opcode due.whole) && not (same_perm q Perm.Branch)))
-    (end.known.held_is n) ∙ has_data due.whole due.data_too ((s.block n).pair c).held fits.carried)
-    (end.known.probes n) (end.known.sinks (s.block n).tracker ∙ ap
-    (λ (b : List (Beat w)). rules.comes_in_grant (s.block n).tracker b) whole)
+    (cc (end.known.held_is n, has_data due.whole due.data_too ((s.block n).pair c).held fits.carried))
+    (end.known.probes n) (cc (end.known.sinks (s.block n).tracker))
 
 -- ---- a ReleaseAck
 

@@ -1,6 +1,5 @@
 -- What a client answers to the last beat of a response.
-use Rattle.std.proofs.Common.{◌≡◌, ℕ, true, false, List, ◌∷◌, Option, Some, None, refl, sym, ◌∙◌, ap, if◌then◌else◌}
-use Rattle.std.proofs.Common.{Result, Ok}
+use Rattle.std.proofs.Common.{◌≡◌, ℕ, true, false, List, ◌∷◌, Option, Some, None, if◌then◌else◌, arith, Result, Ok}
 use Rattle.tl_coherence.proofs
 use proofs.Imports.{Beat, BeatD, Channel, OpD, Message, unfinished, Rule, payload_of, ends, is_grant, is_release_ack}
 use proofs.Imports.{request_of, Finish, Verdict, Endpoint, taken, ended, finish_of, address_asked, grant_ack, Requests}
@@ -16,8 +15,7 @@ acked opcode sink = if is_grant opcode then Some (grant_ack sink) else None
 
 ended_answer : {w : ℕ} (o : OpD) (y : BeatD w) (f : Finish) (e : Endpoint w)
     → (ended o y f e).answer ≡ Ok (Verdict.Done y.source f, acked o y.sink)
-ended_answer OpD.AccessAck y f e = refl
-ended_answer o y f e = refl
+ended_answer o y f e = grind arith
 
 pub answer-last : {w : ℕ} (y : BeatD w) (e : Endpoint w) → ends (Beat.D y) e.past ≡ true
     → (taken (Beat.D y) e).answer ≡ Ok (Verdict.Done y.source (finish_at y e), acked y.opcode y.sink)
@@ -35,11 +33,9 @@ made_same p q e = cc
 
 pub same_answers : {w : ℕ} (v u : Verdict) (m n : Option (Message w)) (a : Result (Verdict × Option (Message w)) Rule)
     → a ≡ Ok (v, m) → a ≡ Ok (u, n) → (v ≡ u) × (m ≡ n)
-same_answers {w} v u m n a e f = let same = made_same (v, m) (u, n) (sym e ∙ f) in
-    (ap (λ (p : Verdict × Option (Message w)). p.0) same, ap (λ (p : Verdict × Option (Message w)). p.1) same)
+same_answers {w} v u m n a e f = grind (arith, made_same)
 
 -- a response to an access or an Acquire ends a request, and a ReleaseAck a Release
 pub finish-pool : (w : ℕ) (o : OpD) (param size address : ℕ) (payload : List ℕ)
     → pool_of (finish_of w o param size address payload) ≡ (if is_release_ack o then Releases else Requests)
-finish-pool w OpD.AccessAck param size address payload = refl
-finish-pool w o param size address payload = refl
+finish-pool w o param size address payload = grind arith

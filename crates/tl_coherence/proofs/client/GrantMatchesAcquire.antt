@@ -1,5 +1,5 @@
 -- Under the first profile a Grant that is on its way gives what was asked for: after every event.
-use Rattle.std.proofs.Common.{◌≡◌, ℕ, Bool, true, false, not, List, refl, sym, ◌∙◌, ap}
+use Rattle.std.proofs.Common.{◌≡◌, ℕ, Bool, true, false, not, List, refl, sym, ◌∙◌, ap, arith}
 use Rattle.tl_coherence.proofs
 use proofs.Imports.{⊤, Message, Config, Cap, Grow, Profile, block_at, Op, Reply, copy_stored, whole_grow, IsInvariant}
 use proofs.Imports.{Kind, Packet, set, ClientBlock, AcquirePhase, NoAcquire, AcquireOpen, is_unacquired, after_acquire}
@@ -16,14 +16,12 @@ AreGiven p s = (n : ℕ) → IsGivenAsked p (s.block n).service (s.block n).pair
 
 given-pairs : (p : Profile) (service : Service) (pair pair' : ℕ → ClientBlock)
     → ((q : ℕ) → (pair' q).acquiring ≡ (pair q).acquiring) → IsGivenAsked p service pair → IsGivenAsked p service pair'
-given-pairs p (GrantSent q d k) pair pair' same h = ap (λ (a : AcquirePhase). gives_asked p a k) (same q) ∙ h
-given-pairs p service pair pair' same h = tt
+given-pairs p service pair pair' e f = grind arith
 
 -- one client's pair is another, with the same Acquire
 given-pair : (p : Profile) (service : Service) (c : ℕ) (x : ClientBlock) (pair : ℕ → ClientBlock)
     → x.acquiring ≡ (pair c).acquiring → IsGivenAsked p service pair → IsGivenAsked p service (set c x pair)
-given-pair p service c x pair same h =
-    given-pairs p service pair (set c x pair) (set-part (λ (q : ClientBlock). q.acquiring) c x pair same) h
+given-pair p service c x pair same h = grind (arith, given-pairs, set-part)
 
 given-set : (p : Profile) (n : ℕ) (b : Block (List ℕ)) (s : State (List ℕ)) → AreGiven p s
     → IsGivenAsked p b.service b.pair → (i : ℕ) → IsGivenAsked p (set n b s.block i).service (set n b s.block i).pair
@@ -34,16 +32,12 @@ given-set p n b s h new = set-each (λ i (x : Block (List ℕ)). IsGivenAsked p 
 given-acquiring : (p : Profile) (c : ℕ) (whole : Bool) (g : Grow) (service : Service) (pair : ℕ → ClientBlock)
     → ((d : Bool) (k : Cap) → service ≡ GrantSent c d k → ⊥) → IsGivenAsked p service pair
     → IsGivenAsked p service (set c (after_acquire whole g (pair c)) pair)
-given-acquiring p c whole g (GrantSent q d k) pair none h = ap (λ (x : ClientBlock). gives_asked p x.acquiring k)
-    (set-other c q (after_acquire whole g (pair c)) pair (λ same. none d k (ap (λ (i : ℕ). GrantSent i d k) same))) ∙ h
-given-acquiring p c whole g service pair none h = tt
+given-acquiring p c whole g service pair e f = grind (arith, set-other)
 
 -- what the manager gives
 gift_given : (p : Profile) (whole : Bool) (g : Grow) (unheld : Bool)
     → gives_asked p (AcquireOpen whole g) (gift p whole g unheld) ≡ true
-gift_given Profile.One true Grow.NtoB unheld = refl
-gift_given Profile.One false Grow.NtoB unheld = refl
-gift_given p whole g unheld = refl
+gift_given p whole g unheld = grind arith
 
 -- ---- operations
 
@@ -70,9 +64,8 @@ given-asked {caching} p c (Op.AcquireWhole n bytes) (Reply.Started source) h inv
     given-set p n (acquiring_block c source true g bytes (h.state.block n)) h.state given
     (given-acquiring p c true g (h.state.block n).service (h.state.block n).pair (not_granting c n inv may.2) (given n))
 given-asked p c (Op.Release n r) (Reply.Started source) h inv may given =
-    given-set p n (releasing_block c source r (h.state.block n)) h.state given
-    (given-pair p (h.state.block n).service c (after_release r ((h.state.block n).pair c)) (h.state.block n).pair refl
-    (given n))
+    given-set p n (releasing_block c source r (h.state.block n)) h.state given (given-pair p (h.state.block n).service c
+    (after_release r ((h.state.block n).pair c)) (h.state.block n).pair refl (given n))
 given-asked p c (Op.Access (Message.A m)) (Reply.Started source) h inv may given = given
 given-asked p c o r h inv may given = given
 
@@ -82,9 +75,7 @@ given-asked p c o r h inv may given = given
 given_granted : (p : Profile) (q : ℕ) (whole : Bool) (g : Grow) (unheld : Bool) (x : ClientBlock)
     (pair : ℕ → ClientBlock) → x.acquiring ≡ AcquireOpen whole g
     → gives_asked p (set q x pair q).acquiring (gift p whole g unheld) ≡ true
-given_granted p q whole g unheld x pair is =
-    ap (λ (y : ClientBlock). gives_asked p y.acquiring (gift p whole g unheld)) (set-same q x pair)
-    ∙ ap (λ (a : AcquirePhase). gives_asked p a (gift p whole g unheld)) is ∙ gift_given p whole g unheld
+given_granted p q whole g unheld x pair is = cc (set-same q x pair, gift_given p whole g unheld)
 
 pub given-kind_taken : {w : ℕ} (config : Config) (tracker c : ℕ) (k : Kind) (i : ℕ) (rest : List Packet)
     (h : AbstractState w) → AreGiven config.profile h.state

@@ -1,18 +1,17 @@
 -- What a client knows after a Probe: the landed answer has exactly the effect of the abstract event.
 use Rattle.std.proofs.Common.{◌≡◌, ℕ, Bool, true, false, not, cond, List, [], ◌∷◌, Option, None, refl, sym, ◌∙◌, ap}
-use Rattle.std.proofs.Common.{◌⊎◌, inl, inr, ne_eqb, ◌==◌, if◌then◌else◌, nat_le, option_map}
+use Rattle.std.proofs.Common.{arith, ◌⊎◌, inl, inr, ne_eqb, ◌==◌, if◌then◌else◌, nat_le, option_map}
 use Rattle.tl_coherence.proofs
 use proofs.Imports.{cases_eq, Beat, BeatA, BeatB, Channel, OpB, OpC, IsWidth, beats-positive, Message, MessageC}
 use proofs.Imports.{beat_of, History, unfinished, Key, Cap, Report, Perm, Profile, Rule, report_at, report_code}
-use proofs.Imports.{report_right, pending-whole, release_of-whole, pending-quiet, held_unsaid, sent, is_outside}
-use proofs.Imports.{broken_in_order, broken_order, block_at, held, pending, is_release, release_of, opens, closes}
-use proofs.Imports.{is_probe_ack, illegal, same_block, kept_past, open_beat-c, Verdict, EndConfig, Endpoint, copy_at}
-use proofs.Imports.{held_at, with_past, sending, zeros, silent, offered, waits, taken, broken_before, broken_later}
-use proofs.Imports.{judged_later, report_for, open_beat, about, probe_ack, Packet, ClientBlock, is_unreleased}
-use proofs.Imports.{after_probe, State, Block, probed_block, probe_taken, is_wanting, ClientRelation, probe_beat}
-use proofs.Imports.{OpenSourceRelation}
-use Rattle.tl_client.{proofs.endpoint.HeldAfter.held-probe_ack, proofs.endpoint.HeldAfter.still_whole}
+use proofs.Imports.{report_right, pending-whole, release_of-whole, pending-quiet, held_unsaid, sent, broken_in_order}
+use proofs.Imports.{broken_order, block_at, held, pending, is_release, release_of, opens, closes, is_probe_ack, illegal}
+use proofs.Imports.{same_block, kept_past, open_beat-c, Verdict, EndConfig, Endpoint, copy_at, held_at, with_past}
+use proofs.Imports.{sending, zeros, silent, offered, waits, taken, broken_before, broken_later, judged_later}
+use proofs.Imports.{report_for, open_beat, about, probe_ack, Packet, ClientBlock, is_unreleased, after_probe, State}
+use proofs.Imports.{Block, probed_block, probe_taken, is_wanting, ClientRelation, probe_beat, OpenSourceRelation}
 use Rattle.tl_client.{proofs.pending.Opens.open_beat-b, specs.statement.Offer.probed, specs.statement.Offer.judged}
+use Rattle.tl_client.proofs.endpoint.HeldAfter.{held-probe_ack, still_whole}
 use proofs.client.ClientEnd.{IsWellKept, known-kept}
 use proofs.queues.{Codes.cap-again, Tokens.same_number, Tokens.set-same, Tokens.set-other}
 
@@ -29,20 +28,10 @@ pub in_order : {w : ℕ} (profile : Profile) (n : ℕ) (k : Cap) (t : History w)
 unfolding broken_order
 in_order profile n k t none unprobed ungranted = rw (none, same_block n, unprobed, ungranted) refl
 
-before-none : {w : ℕ} (terms : EndConfig) (x : BeatB w) (e : Endpoint w) → e.closed ≡ false
-    → illegal terms.level Channel.B (Beat.B x) ≡ None → broken_before terms Channel.B (Beat.B x) e ≡ None
-before-none terms x e live lawful = rw (live, lawful) refl
-
 later-none : {w : ℕ} (terms : EndConfig) (n : ℕ) (k : Cap) (e : Endpoint w)
     → broken_in_order terms.profile (Beat.B (probe_beat n k)) e.past ≡ None → nat_le terms.blocks n ≡ false
     → broken_later terms (Beat.B (probe_beat n k)) e ≡ None
-later-none {w} terms n k e order inside =
-    let outside : is_outside terms.blocks (Beat.B (probe_beat {w = w} n k)) ≡ false = rw (same_block n) inside in
-    rw (order, outside) refl
-
-waits-not : {w : ℕ} (n : ℕ) (k : Cap) (t : History w) → pending (Key.ReleaseOf n) t ≡ false
-    → waits (Beat.B (probe_beat n k)) t ≡ false
-waits-not n k t released = rw (same_block n, released) refl
+later-none {w} terms n k e order inside = grind (arith, same_block)
 
 -- a Probe of a block of the map that breaks no L rule is taken, where the client holds no more of its block on its way
 pub probe-taken : {w : ℕ} (terms : EndConfig) (n : ℕ) (k : Cap) (e : Endpoint w) → e.closed ≡ false
@@ -61,8 +50,8 @@ probe-taken {w} terms n k e live lawful inside none released unprobed ungranted 
     let later : (o : Option Rule) (x : Beat w) (e : Endpoint w) → o ≡ None → judged_later o x e ≡ taken x e =
     λ o x e f. rw f refl in
     let x : Beat w = Beat.B (probe_beat n k) in
-    judged_none (broken_before terms Channel.B x e) terms x e (before-none terms (probe_beat n k) e live lawful)
-    ∙ unstalled (waits x e.past) terms x e (waits-not n k e.past released)
+    judged_none (broken_before terms Channel.B x e) terms x e (rw (live, lawful) refl)
+    ∙ unstalled (waits x e.past) terms x e (rw (same_block n, released) refl)
     ∙ later (broken_later terms x e) x e
     (later-none terms n k e (in_order terms.profile n k e.past none unprobed ungranted) inside)
     ∙ ap (λ (i : ℕ). probed (probe_beat n k) i (held_at e i) e) (same_block n)
@@ -94,15 +83,11 @@ IsProbeKey _ = false
 
 probe_opens : {w : ℕ} (j : Key) (x : BeatB w) (t : History w) → IsProbeKey j ≡ false → (opens j (Beat.B x) t ≡ false)
     × (closes j (Beat.B x) t ≡ false)
-probe_opens (Key.ProbeOf n) x t e = absurd cc
-probe_opens j x t e = (refl, refl)
+probe_opens j x t e = grind arith
 
 ack_opens : {w : ℕ} (j : Key) {n : ℕ} {m : MessageC w} (t : History w) → IsProbeAck n m → IsProbeKey j ≡ false
     → (opens j (beat_of (Message.C m) 0) t ≡ false) × (closes j (beat_of (Message.C m) 0) t ≡ false)
-ack_opens (Key.ReleaseSource s) t is e = (rw is.releases_none refl, refl)
-ack_opens (Key.ReleaseOf i) t is e = (rw is.releases_none refl, refl)
-ack_opens (Key.ProbeOf i) t is e = absurd cc
-ack_opens j t is e = (refl, refl)
+ack_opens j t e f = grind arith
 
 -- the history after a Probe and its answer
 abbrev after : {w : ℕ} → BeatB w → MessageC w → History w → History w
@@ -156,20 +141,14 @@ known-probed {w} {asked} {c} n k rest {s} e width well none known =
     (λ source. ap (open_beat source) past ∙ open_beat-c source a.0 (Beat.B x ∷ t) width (still_whole x t ∙ none)
     ∙ open_beat-b source x t ∙ known.opens source)
   where
-    now_here : (((probe_taken c n k rest s).block n).pair c).held ≡ report_right (report_at k ((s.block n).pair c).held)
-    now_here = ap (λ (bl : Block (List ℕ)). (bl.pair c).held) (set-same n (probed_block c k (s.block n)) s.block)
-        ∙ ap (λ (q : ClientBlock). q.held) (set-same c (after_probe k ((s.block n).pair c)) (s.block n).pair)
-
-    told : report_right (report_for (probe_beat {w = w} n k) (held_at e n)) ≡ report_right
-        (report_at k ((s.block n).pair c).held)
-    told = cc (report_is w n k (held_at e n), known.held_is n)
-
     held_now : (i : ℕ) → (i ≡ n) ⊎ (i ≡ n → ⊥)
         → cond (i == n) (report_right (report_for (probe_beat {w = w} n k) (held_at e n)))
         (held i (Beat.B (probe_beat n k) ∷ e.past)) ≡ (((probe_taken c n k rest s).block i).pair c).held
     held_now i (inl same) =
-        rw same (ap (λ (z : Bool). cond z (report_right (report_for (probe_beat {w = w} n k) (held_at e n)))
-        (held n (Beat.B (probe_beat n k) ∷ e.past))) (same_number n) ∙ told ∙ sym now_here)
+        rw same (ap (λ (z : Bool). cond z (report_right (report_for (probe_beat {w = w} n k) (held_at e n))) (held n
+        (Beat.B (probe_beat n k) ∷ e.past))) (same_number n) ∙ (cc (report_is w n k (held_at e n), known.held_is n))
+        ∙ sym (ap (λ (bl : Block (List ℕ)). (bl.pair c).held) (set-same n (probed_block c k (s.block n)) s.block)
+        ∙ ap (λ (q : ClientBlock). q.held) (set-same c (after_probe k ((s.block n).pair c)) (s.block n).pair)))
     held_now i (inr other) =
         rw (ne_eqb i n other) (held_unsaid i (Beat.B (probe_beat n k)) e.past refl ∙ known.held_is i)
 

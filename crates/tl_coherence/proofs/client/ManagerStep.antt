@@ -1,21 +1,21 @@
 -- The clients' ends after one of them is asked, and after the manager takes a beat.
-use Rattle.std.proofs.Common.{◌≡◌, subst, ℕ, Bool, true, false, cond, List, ◌∷◌, refl, sym, ◌∙◌, ap, inl, inr, not}
-use Rattle.std.proofs.Common.{ne_eqb, ◌==◌, if◌then◌else◌}
+use Rattle.std.proofs.Common.{◌≡◌, subst, ℕ, Bool, true, false, List, ◌∷◌, sym, ◌∙◌, ap, inl, inr, not, arith}
+use Rattle.std.proofs.Common.{if◌then◌else◌}
 use Rattle.tl_coherence.proofs
 use proofs.Imports.{cases_eq, Beat, Link, Channel, IsWidth, MessageA, unfinished, Config, Op, EndConfig, Endpoint}
 use proofs.Imports.{services, least_untaken, trackers_of, Event, Ask, Deliver, IsInvariant, Kind, State, is_on}
 use proofs.Imports.{packets_on, AbstractState, asked, packet_taken, abstract_step_by, AccessMessages}
 use proofs.Imports.{SimulationRelation, is_caching, receiver, Log, Step, replied, handed_by, manager_took, is_to_client}
 use proofs.Imports.{System, with_client, with_channel, with_manager, with_messages}
-use Rattle.tl_coherence.specs.refinement.AbstractStep.{is_last}
+use Rattle.tl_coherence.{specs.refinement.AbstractStep.is_last}
 use Rattle.tl_client.specs.statement.Ask as ask
 use Rattle.tl_manager.specs.statement.End as manager_end
 use Rattle.tl_manager.specs.statement.Offer as manager
-use proofs.client.{AsideAll.Leaves, AsideAll.leaves-none, AsideAll.leaves-asked, AsideAll.is_for_manager}
-use proofs.client.{AsideAll.leaves-at_manager, ClientAsked.IsEndOf, ClientAsked.end-asked, ClientDelivered.shadow_of}
-use proofs.client.{ClientEnd.end-matched, ClientEnd.end-aside}
-use proofs.queues.{FirstToken.IsFirst, FirstToken.first-token, Steps.clients-with_messages, Tokens.same_number}
-use proofs.queues.{KindMoves.kind_channel, KindMoves.on_same}
+use proofs.client.{ClientDelivered.shadow_of, ClientEnd.end-matched, ClientEnd.end-aside}
+use proofs.client.AsideAll.{Leaves, leaves-none, leaves-asked, is_for_manager, leaves-at_manager}
+use proofs.client.ClientAsked.{IsEndOf, end-asked}
+use proofs.queues.{Steps.clients-with_messages, KindMoves.kind_channel, KindMoves.on_same}
+use proofs.queues.FirstToken.{IsFirst, first-token}
 
 -- all ends are those of the protocol after this step
 abbrev pub AreEnds : {w : ℕ} → Config → Event w → System w → AbstractState w → ℕ → Step w → Type 0
@@ -29,15 +29,11 @@ left_alone {w} c h h' e f leaves same end = subst (λ (x : Endpoint w). IsEndOf 
 -- ---- a client is asked
 
 pub own_client : {w : ℕ} (c : ℕ) (e : Endpoint w) (s : System w) → (with_client c e s).clients c ≡ e
-own_client {w} c e s =
-    let here : (b : Bool) → b ≡ true → cond b e (s.clients c) ≡ e = λ b f. rw f refl in
-    here (c == c) (same_number c)
+own_client {w} c e s = grind arith
 
 pub other_client : {w : ℕ} (k c : ℕ) (e : Endpoint w) (s : System w) → (k ≡ c → ⊥)
     → (with_client c e s).clients k ≡ s.clients k
-other_client {w} k c e s ne =
-    let there : (b : Bool) → b ≡ false → cond b e (s.clients k) ≡ s.clients k = λ b f. rw f refl in
-    there (k == c) (ne_eqb k c ne)
+other_client {w} k c e s ne = grind arith
 
 pub asked_ends : {w : ℕ} {config : Config} {log : Log w} {mail : AccessMessages w} {request : ℕ → MessageA w}
     {s : State (List ℕ)} {sys : System w} (terms : EndConfig) (c k : ℕ)
@@ -46,13 +42,10 @@ pub asked_ends : {w : ℕ} {config : Config} {log : Log w} {mail : AccessMessage
 asked_ends {w} {config} {log} {mail} {request} {s} {sys} terms c k o width h =
     let a : ask.Asked w = ask.asked terms o (sys.clients c) in
     let now : (i : ℕ) → (replied c a sys).after.clients i ≡ (with_client c a.after sys).clients i =
-    λ i. ap (λ (f : ℕ → Endpoint w). f i)
-    (clients-with_messages (handed_by c a.message) (with_client c a.after sys)) in
+    λ i. ap (λ (f : ℕ → Endpoint w). f i) (clients-with_messages (handed_by c a.message) (with_client c a.after sys)) in
     elim (cases_eq k c) [
-      | inl same ↦ subst (λ (i : ℕ). AreEnds config (Ask c o) sys (shadow_of mail request s) i (replied c a sys))
-          (sym same) (subst (λ (x : Endpoint w). IsEndOf c (asked c o a.reply (shadow_of mail request s)) x)
-          (sym (now c ∙ own_client c a.after sys)) (end-asked terms c o (shadow_of mail request s) (sys.clients c) width
-          h.invariant.named (end-matched h c)))
+      | inl same ↦ rw same (rw (now c ∙ own_client c a.after sys)
+          (end-asked terms c o (shadow_of mail request s) (sys.clients c) width h.invariant.named (end-matched h c)))
       | inr other ↦ left_alone k (shadow_of mail request s) (asked c o a.reply (shadow_of mail request s))
           (sys.clients k) ((replied c a sys).after.clients k) (leaves-asked c o a.reply (shadow_of mail request s) k
           other) (now k ∙ other_client k c a.after sys other) (end-matched h k)
@@ -81,12 +74,9 @@ pub manager_ends : {w : ℕ} {config : Config} {log : Log w} {mail : AccessMessa
     (a : manager.Reception w × manager_end.End w) → IsWidth w → SimulationRelation config log mail request s sys
     → sys.channels link.0 ch ≡ x ∷ queue → is_to_client ch ≡ false
     → AreEnds config (Deliver link ch) sys (shadow_of mail request s) k (manager_took link.0 ch x queue a sys)
-manager_ends {config} {log} {mail} {request} {s} {sys} link ch k x queue (manager.Refused rule, e) width h beats down =
-    end-matched h k
-manager_ends {config} {log} {mail} {request} {s} {sys} link ch k x queue (manager.Stalled, e) width h beats down =
-    end-matched h k
-manager_ends {w} {config} {log} {mail} {request} {s} {sys} link ch k x queue (manager.Sent handed, e) width h beats
-    down =
+manager_ends link ch k x queue (manager.Refused rule, e) width h beats down = end-matched h k
+manager_ends link ch k x queue (manager.Stalled, e) width h beats down = end-matched h k
+manager_ends {w} {config} {mail} {request} {s} {sys} link ch k x queue (manager.Sent handed, e) width h beats down =
     go (is_last (sys.channels link.0 ch) (unfinished ch (receiver ch link.0 sys)))
   where
     before : AbstractState w

@@ -1,23 +1,21 @@
 -- A Probe that is delivered to a client waits for its Release, or is taken, and the client's end is
 -- then that of the protocol.
-use Rattle.std.proofs.Common.{◌≡◌, subst, ℕ, zero, suc, ◌<◌, Bool, true, false, not, ◌&&◌, cond, List, [], ◌∷◌, Option}
-use Rattle.std.proofs.Common.{Some, None, refl, sym, ◌∙◌, ap, arith, eqb-true, ◌==◌, map, nat_le}
+use Rattle.std.proofs.Common.{◌≡◌, subst, ℕ, ◌<◌, Bool, true, false, not, ◌&&◌, List, [], ◌∷◌, Option, Some, None, refl}
+use Rattle.std.proofs.Common.{sym, ◌∙◌, ap, arith, eqb-true, ◌==◌, map}
 use Rattle.tl_coherence.proofs
-use proofs.Imports.{and_right, Beat, BeatA, Channel, OpD, IsWidth, Message, MessageA, MessageD, beat_of, beats_of}
-use proofs.Imports.{begun, unfinished, completes, Config, ReleaseOf, Cap, Rule, is_grant, pending, asks_for, illegal}
-use proofs.Imports.{same_block, accounted-offered, kept-offered, Verdict, EndConfig, Endpoint, held_at, Offered}
-use proofs.Imports.{offered, taken, silent, waits, judged_later, broken_before, broken_later, grant_opcode}
-use proofs.Imports.{probe_of_block, level_of, IsInvariant, Kind, Probe, Answer, Grant, ReleaseAck, Packet, is_unprobed}
-use proofs.Imports.{is_unreleased, State, packet, is_on, view, is_sent, AbstractState, packet_taken, kind_taken}
-use proofs.Imports.{IsCarried, comes_granting, AccessMessages, cap_sent, block_message, probe_beat, message_of}
-use proofs.Imports.{message_of_kind, SimulationRelation, asked_by, is_caching, Log, System, terms_at}
-use Rattle.tl_client.{proofs.endpoint.Cases.passes_before, specs.statement.Offer.probed, specs.statement.Offer.judged}
-use Rattle.tl_manager.specs.code.Kept as manager
-use proofs.queues.{Carried.IsNext, Facts.granting_alone, Phases.and_left, Codes.access_kind, FirstToken.IsFirst}
-use proofs.queues.{FirstToken.first-token, FirstToken.own_kind}
+use proofs.Imports.{and_right, Beat, BeatA, Channel, IsWidth, Message, MessageA, MessageD, begun, unfinished, completes}
+use proofs.Imports.{Config, ReleaseOf, is_grant, pending, asks_for, illegal, same_block, accounted-offered}
+use proofs.Imports.{kept-offered, Verdict, EndConfig, Endpoint, held_at, Offered, offered, taken, silent, waits}
+use proofs.Imports.{broken_before, grant_opcode, probe_of_block, IsInvariant, Kind, Probe, Answer, Grant, ReleaseAck}
+use proofs.Imports.{Packet, is_unprobed, is_unreleased, State, packet, is_on, view, is_sent, AbstractState}
+use proofs.Imports.{packet_taken, IsCarried, comes_granting, AccessMessages, cap_sent, block_message, probe_beat}
+use proofs.Imports.{message_of, message_of_kind, SimulationRelation, asked_by, is_caching, Log, System, terms_at}
+use Rattle.tl_client.{proofs.endpoint.Cases.passes_before, specs.statement.Offer.probed}
+use proofs.queues.{Carried.IsNext, Facts.granting_alone, Phases.and_left, Codes.access_kind}
+use proofs.queues.FirstToken.{IsFirst, first-token, own_kind}
 use proofs.client.{ClientAsked.IsEndOf, ClientDelivered.shadow_of, ClientProbed.end-probe_taken}
-use proofs.client.{KnownProbed.probe-taken, ClientEnd.IsWellKept, ClientEnd.IsEnd, ClientEnd.end-matched}
-use proofs.client.{ClientEnd.asks-acquire, ClientTakes.AreTermsOf, ClientTakes.terms-are, ClientTakes.sound-beat}
+use proofs.client.{KnownProbed.probe-taken, ClientTakes.terms-are, ClientTakes.sound-beat}
+use proofs.client.ClientEnd.{IsWellKept, end-matched, asks-acquire}
 use proofs.protocol.{BothParts.not-sent, FirstTokens.first-shown}
 use proofs.protocol.HeadOfD.{answer-due, grant-due, grant_message, grant-rendered, ack_message, own_view}
 
@@ -31,10 +29,7 @@ IsElse {w} n asked m = (x : MessageD w) × (m ≡ Message.D x)
 comes_else : {w : ℕ} (n : ℕ) (asked : ℕ → Option (BeatA w)) (m : Message w) (k : ℕ) (rest : List (Beat w))
     → rest ≡ begun m k → IsElse n asked m → comes_granting n asked rest ≡ false
 unfolding IsElse
-comes_else n asked m k rest e is =
-    let go : (i : ℕ) → comes_granting n asked (begun (Message.D is.0) i) ≡ false =
-    elim [ zero ↦ refl | suc i ↦ is.2 ] in
-    cc (e, is.1, go k)
+comes_else n asked m k rest e is = grind arith
 
 -- a client that is probed has no Grant of the block coming
 not_granted : {caching : ℕ → Bool} (c n i : ℕ) (rest : List Packet) {s : State (List ℕ)} → IsInvariant caching s
@@ -47,14 +42,9 @@ not_granted {caching} c n i rest {s} inv first sent = go (i == n) refl
         let due = grant-due caching c i rest s inv first in
         let alone = granting_alone due.data_too due.k ((s.block i).pair c) (view (s.block i).service c)
         ((inv.blocks i).phases c) (own_view c due.data_too due.k (s.block i).service due.service) in
-        let quiet : is_unprobed ((s.block i).pair c).probing ≡ true = and_left _ _ alone in
         let loud : is_unprobed ((s.block i).pair c).probing ≡ false = ap (λ j. is_unprobed ((s.block j).pair c).probing)
         (eqb-true i n e) ∙ not-sent ((s.block n).pair c).probing sent in
-        absurd (let no : true ≡ false = sym quiet ∙ loud in cc)
-
-plain : {w : ℕ} (n : ℕ) (asked : ℕ → Option (BeatA w)) (o : OpD) (source : ℕ) → is_grant o ≡ false
-    → (is_grant o && asks_for n (asked source)) ≡ false
-plain n asked o source e = rw e refl
+        absurd (let no : true ≡ false = sym (and_left _ _ alone) ∙ loud in cc)
 
 else_answer : {w : ℕ} {config : Config} {log : Log w} {mail : AccessMessages w} {request : ℕ → MessageA w}
     {s : State (List ℕ)} {sys : System w} (c n i : ℕ)
@@ -62,12 +52,8 @@ else_answer : {w : ℕ} {config : Config} {log : Log w} {mail : AccessMessages w
     → IsElse n (asked_by mail s c) (mail.answer c i)
 unfolding IsElse
 else_answer {config} {mail} {s} c n i rest h first =
-    let due = answer-due (is_caching config) c i rest mail s h.invariant (h.answered c i) first in (
-      due.answer,
-      due.answer_is,
-      plain n (asked_by mail s c) due.answer.opcode due.answer.source
-          (access_kind due.answer.opcode due.answers_access).0,
-    )
+    let due = answer-due (is_caching config) c i rest mail s h.invariant (h.answered c i) first in
+    (due.answer, due.answer_is, rw (access_kind due.answer.opcode due.answers_access).0 refl)
 
 else_grant : {w : ℕ} {config : Config} {log : Log w} {mail : AccessMessages w} {request : ℕ → MessageA w}
     {s : State (List ℕ)} {sys : System w} (c n i : ℕ)
@@ -79,13 +65,10 @@ else_grant {w} {config} {mail} {s} c n i rest h first sent =
     let asks = asks-acquire c ((s.block i).source c) i ((s.block i).source c) due.whole due.g mail s due.used due.wants
     refl in
     let elsewhere : asks_for n (asked_by mail s c ((s.block i).source c)) ≡ false =
-    ap (asks_for n) asks ∙ ap (λ (j : ℕ). j == n) (same_block i)
-    ∙ not_granted c n i rest h.invariant first sent in (
-      grant_message due.data_too due.k ((s.block i).source c) (s.block i).tracker (s.block i).truth,
-      grant-rendered c i s due,
-      and_right (is_grant (grant_opcode due.data_too)) (asks_for n (asked_by mail s c ((s.block i).source c)))
-          elsewhere,
-    )
+    ap (asks_for n) asks ∙ ap (λ (j : ℕ). j == n) (same_block i) ∙ not_granted c n i rest h.invariant first sent in
+    let fact = grant_message due.data_too due.k ((s.block i).source c) (s.block i).tracker (s.block i).truth in
+    let other_fact = and_right (is_grant (grant_opcode due.data_too))
+    (asks_for n (asked_by mail s c ((s.block i).source c))) elsewhere in (fact, grant-rendered c i s due, other_fact)
 
 else_ack : {w : ℕ} (mail : AccessMessages w) (s : State (List ℕ)) (c n i : ℕ)
     → IsElse n (asked_by mail s c) (block_message ReleaseAck c i (s.block i))
@@ -112,14 +95,11 @@ not_coming {w} {config} {log} {mail} {request} {s} {sys} c n h sent = go (s.link
         (sys.channels c Channel.D) → comes_granting n (asked_by mail s c) rest_now ≡ false
     go [] first carried =
         let none : IsCarried rest_now [] (sys.channels c Channel.D) =
-        subst (λ (ms : List (Message w)). IsCarried rest_now ms (sys.channels c Channel.D))
-        (ap (map (message_of mail s c)) first) carried in
+        rw (ap (map (message_of mail s c)) first) at carried in
         ap (comes_granting n (asked_by mail s c)) none.0
     go (x ∷ xs) first carried =
         let some : IsCarried rest_now (message_of mail s c x ∷ map (message_of mail s c) xs)
-        (sys.channels c Channel.D) =
-        subst (λ (ms : List (Message w)). IsCarried rest_now ms (sys.channels c Channel.D))
-        (ap (map (message_of mail s c)) first) carried in
+        (sys.channels c Channel.D) = rw (ap (map (message_of mail s c)) first) at carried in
         comes_else n (asked_by mail s c) (message_of mail s c x) some.0 rest_now some.2
         (elses x.kind x.number xs first (own_kind (is_caching config) s c Channel.D x.kind x.number xs h.invariant
         first))
@@ -140,13 +120,7 @@ pub record IsProbed {w : ℕ} (config : Config) (terms : EndConfig) (tracker c n
 stalls : {w : ℕ} (terms : EndConfig) (x : Beat w) (e : Endpoint w) → broken_before terms Channel.B x e ≡ None
     → waits x e.past ≡ true → offered terms Channel.B x e ≡ silent Verdict.Stalled e
 unfolding offered
-stalls {w} terms x e lawful held =
-    let judged_none : (o : Option Rule) → o ≡ None
-    → judged o terms x e ≡ cond (waits x e.past) (silent Verdict.Stalled e)
-    (judged_later (broken_later terms x e) x e) = λ o f. rw f refl in
-    let stalled : (b : Bool) → b ≡ true → cond b (silent Verdict.Stalled e) (judged_later (broken_later terms x e) x e)
-    ≡ silent Verdict.Stalled e = λ b f. rw f refl in
-    judged_none (broken_before terms Channel.B x e) lawful ∙ stalled (waits x e.past) held
+stalls {w} terms x e lawful held = grind arith
 
 pub first_beat : (k n : ℕ) → k < n → n ≡ 1 → k ≡ 0
 first_beat k n lt one = omega (arith, lt, one)
@@ -156,19 +130,11 @@ probe_rendered : {w : ℕ} (c n : ℕ) (s : State (List ℕ)) → block_message 
 unfolding block_message
 probe_rendered c n s = refl
 
-one_beat : (w n : ℕ) (k : Cap) → beats_of (probe_of_block {w = w} n k) ≡ 1
-one_beat w n k = refl
-
 -- the beat of a Probe that comes
 pub probe-beat : {w : ℕ} (c n : ℕ) (s : State (List ℕ)) {x : Beat w} {rest : List (Beat w)} {ms : List (Message w)}
     {queue : List (Beat w)} → IsNext x rest (block_message Probe c n (s.block n)) ms queue
     → x ≡ Beat.B (probe_beat n (cap_sent ((s.block n).pair c).probing))
-probe-beat {w} c n s {x} {rest} {ms} {queue} next =
-    let k = cap_sent ((s.block n).pair c).probing in
-    let here : IsNext x rest (probe_of_block n k) ms queue = subst (λ (m : Message w). IsNext x rest m ms queue)
-    (probe_rendered c n s) next in
-    here.beat_is ∙ ap (beat_of (probe_of_block n k)) (first_beat here.k (beats_of (probe_of_block {w = w} n k))
-    here.within (one_beat w n k))
+probe-beat {w} c n s {x} {rest} {ms} {queue} next = grind (arith, probe_rendered)
 
 pub probe-delivered : {w : ℕ} {config : Config} {log : Log w} {mail : AccessMessages w} {request : ℕ → MessageA w}
     {s : State (List ℕ)} {sys : System w} (terms : EndConfig)
@@ -177,17 +143,25 @@ pub probe-delivered : {w : ℕ} {config : Config} {log : Log w} {mail : AccessMe
     → sys.channels c Channel.B ≡ x ∷ queue → (s.link c).b ≡ packet Probe n ∷ rest
     → IsNext x (unfinished Channel.B (sys.clients c).past) (block_message Probe c n (s.block n)) ms queue
     → IsProbed config terms tracker c n (shadow_of mail request s) x (sys.clients c)
-probe-delivered {w} {config} {log} {mail} {request} {s} {sys} terms tracker c n rest {ms} {x} {queue} width h at beats
-    first next =
+probe-delivered {w} {config} {mail} {request} {s} {sys} terms tracker c n rest {x} {queue} width h at beats first next =
+    let is = terms-are config c terms at in
+    let k = cap_sent ((s.block n).pair c).probing in
+    let beat_is = probe-beat c n s next in
+    let lawful : illegal terms.level Channel.B (Beat.B (probe_beat {w = w} n k)) ≡ None =
+    cc (is.level, beat_is, (sound-beat c Channel.B x queue h beats).lawful) in
+    let e = sys.clients c in
+    let end = end-matched h c in
+    let whole = ap (completes x) end.kept.b_whole ∙ ap (λ (y : Beat w). completes y []) beat_is in
     let sent : is_sent ((s.block n).pair c).probing ≡ true = first-shown h.invariant c Probe refl first in
     let before : x ≡ Beat.B (probe_beat n k) → broken_before terms Channel.B x e ≡ None =
     λ f. cc (f, passes_before terms Channel.B (Beat.B (probe_beat n k)) e (h.live c) refl lawful) in
     let pends : is_unreleased ((s.block n).pair c).letting ≡ false → waits (Beat.B (probe_beat n k)) e.past ≡ true =
     λ open_. ap (λ (i : ℕ). pending (ReleaseOf i) e.past) (same_block n) ∙ end.known.releases n ∙ ap not open_ in
-    let taken_is : is_unreleased ((s.block n).pair c).letting ≡ true → offered terms Channel.B (Beat.B (probe_beat n k))
-    e ≡ probed (probe_beat n k) n (held_at e n) e =
-    λ kept. cc (probe-taken terms n k e (h.live c) lawful inside end.kept.b_whole (end.known.releases n
-    ∙ ap not kept) (end.known.probes n) (end.known.grants n ∙ not_coming c n h sent)) in
+    let taken_is : is_unreleased ((s.block n).pair c).letting ≡ true
+    → offered terms Channel.B (Beat.B (probe_beat n k)) e ≡ probed (probe_beat n k) n (held_at e n) e =
+    λ kept. cc (probe-taken terms n k e (h.live c) lawful
+    (cc (is.blocks, same_block n, beat_is, (sound-beat c Channel.B x queue h beats).inside)) end.kept.b_whole
+    (end.known.releases n ∙ ap not kept) (end.known.probes n) (end.known.grants n ∙ not_coming c n h sent)) in
     let same_taken = ap (λ (i : ℕ). probed (probe_beat n k) i (held_at e i) e) (same_block n) in
     let takes : is_unreleased ((s.block n).pair c).letting ≡ true → offered terms Channel.B x e ≡ taken x e =
     λ kept. cc (beat_is, taken_is kept, same_taken) in
@@ -198,49 +172,16 @@ probe-delivered {w} {config} {log} {mail} {request} {s} {sys} terms tracker c n 
       kept = kept-offered terms Channel.B (Beat.B (probe_beat n k)) e width end.kept;
       accounted = accounted-offered terms Channel.B (Beat.B (probe_beat n k)) e width end.kept end.accounted;
     }) in
-    let last : is_unreleased ((s.block n).pair c).letting ≡ true → IsEndOf c (packet_taken config tracker c (s.link c).b
-    (shadow_of mail request s)) (taken x e).after = λ kept. subst (λ (xs : List Packet). IsEndOf c (packet_taken
-    config tracker c xs (shadow_of mail request s)) (taken x e).after) (sym first) (subst (λ (o : Offered w).
-    IsEndOf c (kind_taken config tracker c Probe n rest (shadow_of mail request s)) o.after) (sym (ap (λ (y : Beat
-    w). taken y e) beat_is ∙ same_taken)) (end-probe_taken n k rest mail width (well kept) end)) in
+    let last : is_unreleased ((s.block n).pair c).letting ≡ true → IsEndOf c
+    (packet_taken config tracker c (s.link c).b (shadow_of mail request s)) (taken x e).after = λ kept. rw first
+    (rw (ap (λ (y : Beat w). taken y e) beat_is ∙ same_taken) (end-probe_taken n k rest mail width (well kept) end)) in
     record {
       beat_is = beat_is;
       whole = whole;
-      waits_for =
-          λ open_. stalls terms x e (before beat_is) (ap (λ (y : Beat w). waits y e.past) beat_is ∙ pends open_);
+      waits_for = λ open_. stalls terms x e (before beat_is) (cc (pends open_));
       takes = takes;
       last = last;
     }
-  where
-    e : Endpoint w
-    e = sys.clients c
-
-    k : Cap
-    k = cap_sent ((s.block n).pair c).probing
-
-    end : IsEnd (asked_by mail s c) c s e
-    end = end-matched h c
-
-    beat_is : x ≡ Beat.B (probe_beat n k)
-    beat_is = probe-beat c n s next
-
-    whole : completes x (unfinished Channel.B e.past) ≡ true
-    whole =
-        let h_whole : unfinished Channel.B e.past ≡ [] = end.kept.b_whole in
-        ap (completes x) h_whole ∙ ap (λ (y : Beat w). completes y []) beat_is
-
-    is : AreTermsOf config c terms
-    is = terms-are config c terms at
-
-    lawful_at : level_of config c ≡ Some terms.level → manager.illegal_at (level_of config c) x ≡ None
-        → x ≡ Beat.B (probe_beat n k) → illegal terms.level Channel.B (Beat.B (probe_beat {w = w} n k)) ≡ None
-    lawful_at f g i = cc (f, i, g)
-
-    lawful : illegal terms.level Channel.B (Beat.B (probe_beat {w = w} n k)) ≡ None
-    lawful = lawful_at is.level (sound-beat c Channel.B x queue h beats).lawful beat_is
-
-    inside : nat_le terms.blocks n ≡ false
-    inside = cc (is.blocks, same_block n, beat_is, (sound-beat c Channel.B x queue h beats).inside)
 
 -- ---- all of channel B
 

@@ -1,26 +1,19 @@
 -- A response that the values of a history allow breaks no rule of order after it: at a client's end and in what is
 -- delivered alike.
-use Rattle.std.proofs.Common.{◌≡◌, ℕ, Bool, true, false, not, ◌&&◌, [], Option, Some, None, refl, ap, ◌==◌, option_map}
+use Rattle.std.proofs.Common.{◌≡◌, ℕ, true, false, not, ◌&&◌, [], Option, Some, None, refl, ap, ◌==◌, option_map, arith}
 use Rattle.tl_coherence.proofs
-use proofs.Imports.{same_Some, Beat, BeatA, BeatC, BeatD, Channel, OpD, first_if, History, unfinished, RequestSource}
+use proofs.Imports.{same_Some, Beat, BeatA, BeatC, BeatD, Channel, OpD, History, unfinished, RequestSource}
 use proofs.Imports.{ReleaseSource, GrantSink, ProbeOf, Perm, Profile, same_perm, broken_in_order, comes_in_request}
 use proofs.Imports.{comes_in_release, fits_grow, is_acquire_block, is_grant_without_data, broken_order, block_at, held}
 use proofs.Imports.{is_grant, is_release_ack, pending, request_of, release_of}
-use Rattle.tl_params.specs.declared.rule.Rule.TheVariants.{H2, H3, H6, H7}
 use Rattle.tl_rules.specs.statement.Conformance.{answers, has_request, misgrants, size_asked, size_of_release}
-use proofs.queues.Tokens.{same_number}
-
-rules : (asked sized amiss twice : Bool) → asked ≡ true → sized ≡ true → amiss ≡ false → twice ≡ false
-    → first_if (not asked) H2 (first_if (not sized) H3 (first_if amiss H6 (first_if twice H7 None))) ≡ None
-rules asked sized amiss twice e f g h = rw (e, f, g, h) refl
+use proofs.queues.{Tokens.same_number}
 
 begun : {w : ℕ} (p : Profile) (x : BeatD w) (t : History w) → unfinished Channel.D t ≡ [] → has_request x t ≡ true
     → (x.size == size_asked x t) ≡ true → (is_grant x.opcode && misgrants p x (request_of x.source t) t) ≡ false
     → (is_grant x.opcode && pending (GrantSink x.sink) t) ≡ false → broken_in_order p (Beat.D x) t ≡ None
 unfolding broken_order
-begun p x t none asked sized fits once = rw none (rules (has_request x t) (x.size == size_asked x t)
-    (is_grant x.opcode && misgrants p x (request_of x.source t) t) (is_grant x.opcode && pending (GrantSink x.sink) t)
-    asked sized fits once)
+begun p x t none asked sized fits once = rw none (rw (asked, sized, fits, once) refl)
 
 -- ---- requests
 
@@ -50,22 +43,13 @@ pub grant-legal : {w : ℕ} (p : Profile) (n : ℕ) {x : BeatD w} {r : BeatA w} 
     → block_at r.address ≡ n → fits_grow p r.opcode r.param x.param ≡ true
     → (is_grant_without_data x.opcode && (is_acquire_block r.opcode && not (same_perm (held n t) Perm.Branch))) ≡ false
     → pending (ProbeOf n) t ≡ false → pending (GrantSink x.sink) t ≡ false → broken_in_order p (Beat.D x) t ≡ None
-grant-legal {w} p n {x} {r} {t} is block fits carried unprobed once =
-    let grants : misgrants p x (request_of x.source t) t ≡ false = rw (is.request, block, fits, carried, unprobed) refl
-    in
-    begun p x t is.whole (asked_for is) (size_for is) (never (is_grant x.opcode) grants)
-    (never (is_grant x.opcode) once)
-  where
-    never : (a : Bool) {b : Bool} → b ≡ false → (a && b) ≡ false
-    never true e = e
-    never false e = refl
+grant-legal {w} p n {x} {r} {t} is block fits carried unprobed once = grind (arith, begun, size_for)
 
 -- ---- Releases
 
 release_size : {w : ℕ} (n : ℕ) (o : Option (BeatC w)) → option_map (λ (y : BeatC w). y.size) o ≡ Some n
     → size_of_release o ≡ n
-release_size n None e = absurd cc
-release_size n (Some y) e = same_Some y.size n e
+release_size n o e = grind (arith, same_Some)
 
 pub ack-legal : {w : ℕ} (p : Profile) (x : BeatD w) (t : History w) → unfinished Channel.D t ≡ []
     → comes_in_release x.source (unfinished Channel.C t) ≡ false → x.opcode ≡ OpD.ReleaseAck

@@ -1,14 +1,12 @@
 -- The Acquire that waits is the one that its client has open: after any event.
-use Rattle.std.proofs.Common.{◌≡◌, ℕ, Bool, true, false, not, ◌&&◌, List, refl, sym, ◌∙◌, ap, subst, inl, inr, ◌==◌}
-use Rattle.std.proofs.Common.{if◌then◌else◌}
+use Rattle.std.proofs.Common.{◌≡◌, ℕ, Bool, true, false, List, refl, ap, inl, inr, arith}
 use Rattle.tl_coherence.proofs
 use proofs.Imports.{cases_eq, ⊤, Message, MessageA, Config, Cap, Grow, block_at, Op, Reply, copy_stored, whole_grow}
 use proofs.Imports.{acquisition, IsInvariant, Kind, Acquire, Packet, set, ClientBlock, NoAcquire, AcquireOpen}
-use proofs.Imports.{is_unacquired, after_acquire, after_probe, after_release, after_release_ack, after_release_taken}
-use proofs.Imports.{after_report, after_served, Service, Waits, Block, acquiring_block, releasing_block, served_block}
-use proofs.Imports.{stored_block, view, AbstractState, acquire_opcode, asked, kind_taken, acquire_of, block_message}
-use proofs.Imports.{IsAcquireOf}
-use proofs.queues.{Facts.own_wants, Tokens.same_number, Tokens.set-same, Tokens.set-other, Tokens.set-part}
+use proofs.Imports.{after_acquire, after_probe, after_release, after_release_ack, after_release_taken, after_report}
+use proofs.Imports.{Waits, Block, acquiring_block, releasing_block, served_block, stored_block}
+use proofs.Imports.{view, AbstractState, acquire_opcode, asked, kind_taken, block_message, IsAcquireOf}
+use proofs.queues.{Facts.own_wants, Tokens.same_number, Tokens.set-same, Tokens.set-other}
 use proofs.protocol.{FollowKept.IsAskable, Events.true-taken}
 
 -- of all blocks
@@ -25,27 +23,21 @@ KeepsOpen b new = (r source : ℕ) (k : Cap) → b.service ≡ Waits r true sour
 still : {w : ℕ} (n : ℕ) (b new : Block (List ℕ)) (m : MessageA w) → new.service ≡ b.service → KeepsOpen b new
     → IsAcquireOf n b b.service m → IsAcquireOf n new new.service m
 unfolding block_message
-still {w} n b new m same keeps is = subst (λ (v : Service). IsAcquireOf n new v m) (sym same) (go b.service refl is)
-  where
-    go : (v : Service) → b.service ≡ v → IsAcquireOf n b v m → IsAcquireOf n new v m
-    go (Waits r true source k) e f = let p = keeps r source k e in rw (p.0, p.1) f
-    go v e f = tt
+still {w} n b new m same keeps is = grind arith
 
 -- in the place of one block
 replaced : {w : ℕ} (n : ℕ) (new : Block (List ℕ)) (block : ℕ → Block (List ℕ)) (m : MessageA w) (request : ℕ
     → MessageA w) → IsAcquireOf n new new.service m
     → AreAcquired request block → AreAcquired (set n m request) (set n new block)
 replaced {w} n new block m request here others i = elim (cases_eq i n) [
-  | inl same ↦ subst (λ (j : ℕ). IsAcquireOf j (set n new block j) (set n new block j).service (set n m request j))
-      (sym same) (rw (set-same n new block, set-same n m request) here)
+  | inl same ↦ rw same (rw (set-same n new block, set-same n m request) here)
   | inr other ↦ rw (set-other n i new block other, set-other n i m request other) (others i)
 ]
 
 kept : {w : ℕ} (n : ℕ) (new : Block (List ℕ)) (block : ℕ → Block (List ℕ)) (request : ℕ → MessageA w)
     → IsAcquireOf n new new.service (request n) → AreAcquired request block → AreAcquired request (set n new block)
 kept {w} n new block request here others i = elim (cases_eq i n) [
-  | inl same ↦ subst (λ (j : ℕ). IsAcquireOf j (set n new block j) (set n new block j).service (request j)) (sym same)
-      (rw (set-same n new block) here)
+  | inl same ↦ rw same (rw (set-same n new block) here)
   | inr other ↦ rw (set-other n i new block other) (others i)
 ]
 
@@ -53,16 +45,12 @@ kept {w} n new block request here others i = elim (cases_eq i n) [
 unmoved : {w : ℕ} (n : ℕ) (new : Block (List ℕ)) (block : ℕ → Block (List ℕ)) (request : ℕ → MessageA w)
     → new.service ≡ (block n).service
     → KeepsOpen (block n) new → AreAcquired request block → AreAcquired request (set n new block)
-unmoved n new block request same keeps is =
-    kept n new block request (still n (block n) new (request n) same keeps (is n)) is
+unmoved n new block request same keeps is = grind (arith, kept, still)
 
 -- one client's pair changes, and not what it wants
 unwanting : (c : ℕ) (p : ClientBlock) (b new : Block (List ℕ)) → ((d : ℕ) → new.pair d ≡ set c p b.pair d)
     → p.acquiring ≡ (b.pair c).acquiring → ((d : ℕ) → new.source d ≡ b.source d) → KeepsOpen b new
-unwanting c p b new pairs same sources r source k e = (
-  ap (λ (q : ClientBlock). q.acquiring) (pairs r) ∙ set-part (λ (q : ClientBlock). q.acquiring) c p b.pair same r,
-  sources r,
-)
+unwanting c p b new pairs same sources r source k e = grind arith
 
 -- ---- requests
 
@@ -71,12 +59,7 @@ waiting_for : {w : ℕ} (c n tracker : ℕ) (k : Cap) (whole : Bool) (g : Grow) 
     → block_message {w = w} Acquire c n (served_block c true (b.source c) tracker k b) ≡ Message.A
     (acquisition (acquire_opcode whole) g (b.source c) n)
 unfolding block_message
-waiting_for {w} c n tracker k whole g b wants =
-    let spared : (x : Bool) → (if true && x then b.pair c else after_served k (b.pair c)).acquiring
-    ≡ (b.pair c).acquiring = elim [ true ↦ refl | false ↦ refl ] in
-    let go : (x : Bool) → acquire_of {w = w} (AcquireOpen x g) (b.source c) n
-    ≡ Message.A (acquisition (acquire_opcode x) g (b.source c) n) = elim [ true ↦ refl | false ↦ refl ] in
-    rw (spared (c == c), wants) (go whole)
+waiting_for {w} c n tracker k whole g b wants = grind arith
 
 pub kind_taken-acquired : {w : ℕ} (config : Config) (tracker c : ℕ) (k : Kind) (i : ℕ) (rest : List Packet)
     (h : AbstractState w) → AreAcquired h.request h.state.block
@@ -120,8 +103,7 @@ acquiring-acquired : {w : ℕ} {caching : ℕ → Bool} (c n source : ℕ) (whol
     → ((h.state.block n).pair c).acquiring ≡ NoAcquire → AreAcquired h.request h.state.block
     → AreAcquired h.request (set n (acquiring_block c source whole g bytes (h.state.block n)) h.state.block)
 acquiring-acquired {w} c n source whole g bytes h inv calm is =
-    let keeps : KeepsOpen b (acquiring_block c source whole g bytes b) =
-    λ r from k e. (
+    let keeps : KeepsOpen b (acquiring_block c source whole g bytes b) = λ r from k e. (
       ap (λ (p : ClientBlock). p.acquiring) (set-other c r (after_acquire whole g (b.pair c)) b.pair
           (apart r from k e)),
       set-other c r source b.source (apart r from k e),
@@ -134,24 +116,21 @@ acquiring-acquired {w} c n source whole g bytes h inv calm is =
     apart : (r from : ℕ) (k : Cap) → b.service ≡ Waits r true from k → r ≡ c → ⊥
     apart r from k e same =
         let wants = own_wants (b.pair r) (view b.service r) ((inv.blocks n).phases r) (rw (e, same_number r) refl) in
-        let here : not (is_unacquired (b.pair c).acquiring) ≡ true = rw same at wants in
-        let no : false ≡ true = rw calm at here in
+        let no : false ≡ true = rw calm at (rw same at wants) in
         cc
 
 pub asked-acquired : {w : ℕ} {caching : ℕ → Bool} (c : ℕ) (o : Op w) (r : Reply) (h : AbstractState w)
     → IsInvariant caching h.state → IsAskable caching c o r h
     → AreAcquired h.request h.state.block → AreAcquired (asked c o r h).request (asked c o r h).state.block
-asked-acquired c (Op.Store address size value) Reply.Stored h inv may is =
-    unmoved (block_at address)
+asked-acquired c (Op.Store address size value) Reply.Stored h inv may is = unmoved (block_at address)
     (stored_block c (copy_stored address size value ((h.state.block (block_at address)).copy c))
     (h.state.block (block_at address))) h.state.block h.request refl (λ r from k e. (refl, refl)) is
 asked-acquired {caching} c (Op.Acquire n g) (Reply.Started source) h inv may is =
     acquiring-acquired c n source false g ((h.state.block n).waiting c) h inv may.2 is
 asked-acquired {caching} c (Op.AcquireWhole n bytes) (Reply.Started source) h inv may is =
     acquiring-acquired c n source true (whole_grow ((h.state.block n).pair c).held) bytes h inv may.2 is
-asked-acquired c (Op.Release n p) (Reply.Started source) h inv may is =
-    unmoved n (releasing_block c source p (h.state.block n)) h.state.block h.request refl
-    (unwanting c (after_release p ((h.state.block n).pair c)) (h.state.block n)
-    (releasing_block c source p (h.state.block n)) (λ d. refl) refl (λ d. refl)) is
+asked-acquired c (Op.Release n p) (Reply.Started source) h inv may is = unmoved n (releasing_block c source p
+    (h.state.block n)) h.state.block h.request refl (unwanting c (after_release p ((h.state.block n).pair c))
+    (h.state.block n) (releasing_block c source p (h.state.block n)) (λ d. refl) refl (λ d. refl)) is
 asked-acquired c (Op.Access (Message.A m)) (Reply.Started source) h inv may is = is
 asked-acquired c o r h inv may is = is

@@ -1,23 +1,21 @@
 -- A GrantAck that is delivered to the manager: the channels and the one memory afterwards.
-use Rattle.std.proofs.Common.{◌≡◌, ℕ, Bool, true, false, List, [], ◌∷◌, Some, None, refl, sym, ◌∙◌, ap, subst}
+use Rattle.std.proofs.Common.{◌≡◌, ℕ, Bool, true, false, List, [], ◌∷◌, Some, None, refl, ◌∙◌, ap, arith}
 use Rattle.tl_coherence.proofs
-use proofs.Imports.{Beat, BeatE, Link, Channel, IsWidth, beat_of, unfinished, completes, Config, on_link, reaction-ack}
-use proofs.Imports.{reaction, Deliver, Kind, GrantAck, GrantTaken, packet, is_on, freed_block, grant_ack_taken}
-use proofs.Imports.{AbstractState, kind_taken, ChannelRelation, MemoryRelation, block_message, SimulationRelation}
-use proofs.Imports.{is_moving, Log, system_after, one_memory_after, performing, accesses_answered, stepped, System}
-use proofs.Imports.{terms_at, with_channel, with_messages}
+use proofs.Imports.{Beat, Link, Channel, IsWidth, unfinished, completes, Config, on_link, reaction-ack, reaction}
+use proofs.Imports.{Deliver, Kind, GrantAck, packet, is_on, freed_block, grant_ack_taken, AbstractState}
+use proofs.Imports.{block_message, SimulationRelation, is_moving, Log, system_after, performing, accesses_answered}
+use proofs.Imports.{stepped, System, terms_at, with_channel, with_messages}
 use Rattle.tl_client.specs.statement.Endpoint as client
-use proofs.memory.BesideKinds.{beside_block}
-use proofs.queues.Shown.{carried-shown}
-use proofs.simulation.CarriedResponses.{grant_ack_taken-shown}
-use proofs.deliveries.{DeliverDUnmoved.IsDelivered, ManagersAfter.IsAtManager, ManagersAfter.at-manager}
-use proofs.deliveries.{ManagersAfter.after_taken, ManagersAfter.delivered-last, ManagersAfter.delivered-part}
-use proofs.manager.UnwaitedRequests.{next_tracker, invariant-taken}
-use proofs.protocol.FirstTokens.{first-grant_ack}
+use proofs.memory.{BesideKinds.beside_block}
+use proofs.queues.{Shown.carried-shown}
+use proofs.simulation.{CarriedResponses.grant_ack_taken-shown}
+use proofs.deliveries.{DeliverDUnmoved.IsDelivered}
+use proofs.deliveries.ManagersAfter.{IsAtManager, at-manager, after_taken, delivered-last, delivered-part}
+use proofs.manager.{UnwaitedRequests.invariant-taken}
+use proofs.protocol.{FirstTokens.first-grant_ack}
 
 ack_kind : (k : Kind) → is_on Channel.E k ≡ true → k ≡ GrantAck
-ack_kind GrantAck e = refl
-ack_kind k e = absurd cc
+ack_kind k e = grind arith
 
 pub delivered-e : {w : ℕ} {config : Config} {log : Log w} (link : Link) (h : AbstractState w) (terms : client.EndConfig)
     (x : Beat w) (queue : List (Beat w)) → IsWidth w
@@ -44,19 +42,6 @@ delivered-e {w} {config} {log} link h terms x queue width matched known beats mo
     tokens : (h.state.link link.0).e ≡ packet GrantAck n ∷ is.first.rest
     tokens = is.first.tokens ∙ ap (λ (k : Kind). packet k n ∷ is.first.rest) kind
 
-    x_is : x ≡ beat_of (block_message GrantAck link.0 n (h.state.block n)) is.first.next.k
-    x_is = cc (is.first.next.beat_is, kind)
-
-    y : BeatE
-    y = record { sink = (h.state.block n).tracker }
-
-    gives : (reaction config link x sys.manager).handed ≡ []
-    gives = ap (λ (z : Beat w). (reaction config link z sys.manager).handed) x_is ∙ ap (λ d. d.handed)
-        (reaction-ack config link y sys.manager)
-
-    sent : (h.state.block n).service ≡ GrantTaken link.0
-    sent = first-grant_ack matched.invariant tokens
-
     go : (b : Bool) → completes x (unfinished Channel.E (on_link link.0 sys.manager.trace)) ≡ b
         → IsDelivered config log link Channel.E h
     go false part = delivered-part width matched refl is part
@@ -65,12 +50,10 @@ delivered-e {w} {config} {log} link h terms x queue width matched known beats mo
         ≡ (with_channel link.0 Channel.E queue sys).channels d at = λ d at. refl in
         let quiet = beside_block n (freed_block (h.state.block n)) (grant_ack_taken link.0 n is.first.rest h.state)
         (λ i. refl) (λ d i. refl) (λ d i. refl) refl (λ d. refl) (λ d. refl) matched.beside in
-        delivered-last [] (λ d at. None) refl is last gives (λ d at. unpushed d at)
-        (λ taken. subst (λ (k : Kind). ChannelRelation (kind_taken config (next_tracker sys) link.0 k n is.first.rest
-        h).mail (kind_taken config (next_tracker sys) link.0 k n is.first.rest h).state
-        (after_taken config link Channel.E x queue sys [])) (sym kind)
-        (carried-shown width (grant_ack_taken-shown link.0 n is.first.rest h.mail matched.invariant
-        (invariant-taken h link.0 GrantAck n is.first.rest matched tokens tt) tokens sent) taken matched.carried))
-        (subst (λ (k : Kind). MemoryRelation (kind_taken config (next_tracker sys) link.0 k n is.first.rest h).mail
-        (kind_taken config (next_tracker sys) link.0 k n is.first.rest h).state
-        (performing [] (one_memory_after config log))) (sym kind) quiet)
+        delivered-last [] (λ d at. None) refl is last (ap (λ (z : Beat w). (reaction config link z sys.manager).handed)
+        (cc (is.first.next.beat_is, kind)) ∙ ap (λ d. d.handed) (reaction-ack config link
+        (record { sink = (h.state.block n).tracker }) sys.manager)) (λ d at. unpushed d at)
+        (λ taken. rw kind (carried-shown width (grant_ack_taken-shown link.0 n is.first.rest h.mail matched.invariant
+        (invariant-taken h link.0 GrantAck n is.first.rest matched tokens tt) tokens
+        (first-grant_ack matched.invariant tokens)) taken matched.carried))
+        (rw kind quiet)

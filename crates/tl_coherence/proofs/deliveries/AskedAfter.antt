@@ -1,15 +1,14 @@
 -- An operation that a client is asked for: the channels and the one memory afterwards.
 use Rattle.std.proofs.Common.{◌≡◌, ℕ, Bool, true, false, ◌||◌, List, [], ◌∷◌, Option, Some, None, refl, sym, ◌∙◌, ap}
-use Rattle.std.proofs.Common.{subst, inl, inr}
+use Rattle.std.proofs.Common.{arith, subst, inl, inr}
 use Rattle.tl_coherence.proofs
 use proofs.Imports.{cases_eq, or_right, OpA, IsWidth, Message, MessageA, Config, Grow, Prune, Perm, same_perm, block_at}
-use proofs.Imports.{unfinished-asked, Op, Reply, whole_grow, release, access, sourced, acquisition, Ask, Outcome}
-use proofs.Imports.{IsInvariant, Acquire, Release, ClientBlock, after_acquire, after_release, Block, State, view}
-use proofs.Imports.{acquiring_block, releasing_block, AbstractState, asked, acquire_opcode, ChannelRelation}
-use proofs.Imports.{MemoryRelation, AccessMessages, block_message, SimulationRelation, is_caching, Continues, Log}
-use proofs.Imports.{system_after, after_reply, one_memory_after, performing, accesses_answered, Step, stepped}
-use proofs.Imports.{handed_by, System, terms_at, with_client, with_messages}
-use Rattle.tl_coherence.specs.statement.Machine.{Performs}
+use proofs.Imports.{unfinished-asked, Op, Reply, whole_grow, release, access, acquisition, Ask, Outcome, IsInvariant}
+use proofs.Imports.{Acquire, Release, Block, State, view, acquiring_block, releasing_block, AbstractState, asked}
+use proofs.Imports.{acquire_opcode, ChannelRelation, MemoryRelation, AccessMessages, block_message, SimulationRelation}
+use proofs.Imports.{is_caching, Continues, Log, system_after, after_reply, one_memory_after, performing}
+use proofs.Imports.{accesses_answered, Step, stepped, handed_by, System, terms_at, with_client, with_messages}
+use Rattle.tl_coherence.{specs.statement.Machine.Performs}
 use Rattle.tl_client.specs.statement.Ask as ask
 use Rattle.tl_client.specs.statement.Endpoint as client
 use proofs.deliveries.{AskedWell.asked-well, BusyWell.IsHandedOut, ManagersAfter.release_channel}
@@ -52,20 +51,16 @@ reply-cases P o r is stored acquires stores releases accesses others = others o 
 rendered_acquiring : {w : ℕ} (c n source : ℕ) (whole : Bool) (g : Grow) (bytes : List ℕ) (b : Block (List ℕ))
     → block_message {w = w} Acquire c n (acquiring_block c source whole g bytes b) ≡ Message.A
     (acquisition (acquire_opcode whole) g source n)
-rendered_acquiring {w} c n source whole g bytes b = rendered-acquire c n (acquiring_block c source whole g bytes b)
-    whole g (ap (λ (p : ClientBlock). p.acquiring) (set-same c (after_acquire whole g (b.pair c)) b.pair))
-    ∙ ap (λ (i : ℕ). Message.A (acquisition {w = w} (acquire_opcode whole) g i n)) (set-same c source b.source)
+rendered_acquiring {w} c n source whole g bytes b = grind (arith, rendered-acquire, set-same)
 
 rendered_releasing : {w : ℕ} (c n source : ℕ) (p : Prune) (b : Block (List ℕ))
     → block_message {w = w} Release c n (releasing_block c source p b) ≡ release p source n b.truth
 unfolding block_message
-rendered_releasing {w} c n source p b =
-    rw (set-same c (after_release p (b.pair c)) b.pair, set-same c source b.release_source) refl
+rendered_releasing {w} c n source p b = grind (arith, set-same)
 
 abbrev CarriesAsked : {w : ℕ} → Config → ℕ → AbstractState w → System w → Op w → Reply → Type 0
-CarriesAsked {w} config c h sys o r = (m : Option (Message w)) (e : client.Endpoint w)
-    → IsAskable (is_caching config) c o r h
-    → IsInvariant (is_caching config) (asked c o r h).state → IsHandedOut c o r h m
+CarriesAsked {w} config c h sys o r = (m : Option (Message w)) (e : client.Endpoint w) → IsAskable
+    (is_caching config) c o r h → IsInvariant (is_caching config) (asked c o r h).state → IsHandedOut c o r h m
     → IsHanded (pushes_at c (pushes_of m)) sys (with_messages (handed_by c m) (with_client c e sys))
     → ChannelRelation (asked c o r h).mail (asked c o r h).state (with_messages (handed_by c m) (with_client c e sys))
 
@@ -74,14 +69,12 @@ carried_asked : {w : ℕ} {config : Config} {log : Log w} (h : AbstractState w) 
     → SimulationRelation config log h.mail h.request h.state sys → IsReply o r → CarriesAsked config c h sys o r
 carried_asked {w} {config} h {sys} c o r width is may_be =
     let stored : (address size value : ℕ) → CarriesAsked config c h sys (Op.Store address size value) Reply.Stored =
-    λ address size value m e may inv handed queued. carried_as m None _ _ e handed
-    (block_stored-carried c (block_at address) _ h.mail width is.invariant inv
-    (none-carried (is.invariant.blocks (block_at address))
+    λ address size value m e may inv handed queued. carried_as m None _ _ e handed (block_stored-carried c
+    (block_at address) _ h.mail width is.invariant inv (none-carried (is.invariant.blocks (block_at address))
     (low (block_at address) may)) (handed_as m None e handed queued) is.carried) in
     let acquires : (n : ℕ) (g : Grow) (source : ℕ)
     → CarriesAsked config c h sys (Op.Acquire n g) (Reply.Started source) =
-    λ n g source m e may inv handed queued. carried_as m _ _ _ e handed
-    (acquire_asked-carried c n source false g _
+    λ n g source m e may inv handed queued. carried_as m _ _ _ e handed (acquire_asked-carried c n source false g _
     (Message.A (acquisition OpA.AcquireBlock g source n)) h.mail width is.invariant inv may.2 refl
     (rendered_acquiring c n source false g _ (s.block n)) (handed_as m _ e handed queued) is.carried) in
     let stores : (n : ℕ) (bytes : List ℕ) (source : ℕ) → CarriesAsked config c h sys (Op.AcquireWhole n bytes)
@@ -92,10 +85,9 @@ carried_asked {w} {config} h {sys} c o r width is may_be =
     (s.block n)) (handed_as m _ e handed queued) is.carried) in
     let releases : (n : ℕ) (p : Prune) (source : ℕ)
     → CarriesAsked config c h sys (Op.Release n p) (Reply.Started source) =
-    λ n p source m e may inv handed queued. carried_as m _ _ _ e handed
-    (release_asked-carried c n source p (release p source n (s.block n).truth) h.mail
-    width is.invariant inv may.3 (release_channel w p source n (s.block n).truth)
-    (rendered_releasing c n source p (s.block n)) (handed_as m _ e handed queued) is.carried) in
+    λ n p source m e may inv handed queued. carried_as m _ _ _ e handed (release_asked-carried c n source p
+    (release p source n (s.block n).truth) h.mail width is.invariant inv may.3 (release_channel w p source n
+    (s.block n).truth) (rendered_releasing c n source p (s.block n)) (handed_as m _ e handed queued) is.carried) in
     let accesses : (x : MessageA w) (source : ℕ) → CarriesAsked config c h sys (Op.Access (Message.A x))
     (Reply.Started source) = λ x source m e may inv handed queued. carried_as m _ _ _ e handed
     (access_asked-carried c source (access source x) h.mail width is.invariant inv may
@@ -119,9 +111,8 @@ carried_asked {w} {config} h {sys} c o r width is may_be =
         → (same_perm ((s.block n).pair d).held Perm.Trunk || same_perm ((s.block n).pair d).recorded Perm.None) ≡ true
     low n trunk d = elim (cases_eq d c) [
       | inl same ↦ rw (same, trunk) refl
-      | inr other ↦ or_right (same_perm ((s.block n).pair d).held Perm.Trunk)
-          (same_perm ((s.block n).pair d).recorded Perm.None) ((is.invariant.blocks n).one_owner c d (owned n trunk)
-          other)
+      | inr other ↦ or_right (same_perm ((s.block n).pair d).held Perm.Trunk) (same_perm
+          ((s.block n).pair d).recorded Perm.None) ((is.invariant.blocks n).one_owner c d (owned n trunk) other)
     ]
       where
         owned : (n : ℕ) → same_perm ((s.block n).pair c).held Perm.Trunk ≡ true
@@ -155,17 +146,7 @@ carried-ask {w} {config} {log} h {sys} c terms o width is known =
 pub none_answered : {w : ℕ} (c : ℕ) (o : Op w) (r : Reply) (h : AbstractState w) (m : Option (Message w)) → IsReply o r
     → IsHandedOut c o r h m → accesses_answered (handed_by c m) ≡ []
 unfolding accesses_answered
-none_answered {w} c o r h m may_be =
-    let released : (p : Prune) (source n : ℕ) (bytes : List ℕ) → m ≡ Some (release p source n bytes)
-    → accesses_answered (handed_by c m) ≡ [] =
-    elim [ Prune.TtoB ↦ λ source n bytes e. rw e refl | p ↦ λ source n bytes e. rw e refl ] in
-    let none : m ≡ None → accesses_answered (handed_by c m) ≡ [] = λ e. rw e refl in
-    let one_a : (x : MessageA w) → m ≡ Some (Message.A x) → accesses_answered (handed_by c m) ≡ [] = λ x e. rw e refl in
-    reply-cases (λ i j. IsHandedOut c i j h m → accesses_answered (handed_by c m) ≡ []) o r may_be
-    (λ address size value e. none e) (λ n g source e. one_a (acquisition OpA.AcquireBlock g source n) e)
-    (λ n bytes source e. one_a (acquisition OpA.AcquirePerm (whole_grow ((h.state.block n).pair c).held) source n)
-    e) (λ n p source e. released p source n (h.state.block n).truth e) (λ x source e. one_a (sourced source x) e)
-    (λ i j plain e. none ((plain c h).1 m e))
+none_answered {w} c o r h m may_be = grind arith
 
 pub beside-ask : {w : ℕ} {config : Config} {log : Log w} (h : AbstractState w) (c : ℕ) (terms : client.EndConfig)
     (o : Op w) → IsWidth w
@@ -195,10 +176,7 @@ continues-ask {w} {config} {log} h c terms o width is known =
     let x = ask.asked terms o (sys.clients c) in
     let well = asked-well config log h sys c terms o width is known in
     let none : accesses_answered (stepped config (Ask c o) sys).handed ≡ [] =
-    ap (λ (y : Step w). accesses_answered y.handed) (stepped-asked config c o sys terms known)
-    ∙ none_answered c o x.reply h x.message well.reply well.message in (
-      after_reply c o x.reply (one_memory_after config log),
-      [],
-      (rw known refl, well.replies, refl),
-      ap (λ (l : List (ℕ × ℕ)). performing l (after_reply c o x.reply (one_memory_after config log))) none,
-    )
+    ap (λ (y : Step w). accesses_answered y.handed)
+    (stepped-asked config c o sys terms known) ∙ none_answered c o x.reply h x.message well.reply well.message in
+    let fact = ap (λ (l : List (ℕ × ℕ)). performing l (after_reply c o x.reply (one_memory_after config log))) none in
+    (after_reply c o x.reply (one_memory_after config log), [], (rw known refl, well.replies, refl), fact)

@@ -10,14 +10,13 @@ use proofs.Imports.{store, is_word, op_block, free_request, free_release, source
 use proofs.Imports.{held_at, access, level_of, NoAcquire, NoRelease, State, SourceState, SourceFree, AbstractState}
 use proofs.Imports.{IsOpened, IsLet, SimulationRelation, is_caching, IsRequest, Log, Machine, Requests, Releases}
 use proofs.Imports.{one_memory_after, System, terms_at}
-use Rattle.tl_client.{proofs.messages.Clean.to_blank, proofs.messages.Sound.formed_access, specs.statement.Ask.asked}
-use Rattle.tl_client.{specs.statement.Ask.only, specs.statement.Ask.load, specs.statement.Ask.loaded}
-use Rattle.tl_client.{specs.statement.Ask.is_clean, specs.statement.Ask.is_formed}
+use Rattle.tl_client.{proofs.messages.Clean.to_blank, proofs.messages.Sound.formed_access}
+use Rattle.tl_client.specs.statement.Ask.{asked, only, load, loaded, is_clean, is_formed}
+pub use Rattle.tl_coherence.proofs.deliveries.BusyWell.{IsAskedWell}
 use proofs.client.Askable.{swap_perms, no_let, caches}
-use proofs.simulation.BeatsInFlight.{level-terms}
+use proofs.simulation.{BeatsInFlight.level-terms}
 use proofs.protocol.BothParts.{calm-is, kept-letting}
 use proofs.deliveries.BusyWell.{unused, busy_well, loaded_number, some_held, none_rule, sourced_legal}
-pub use Rattle.tl_coherence.proofs.deliveries.BusyWell.{IsAskedWell}
 
 pub asked-well : {w : ℕ} (config : Config) (log : Log w) (h : AbstractState w) (sys : System w) (c : ℕ)
     (terms : EndConfig) (o : Op w) → IsWidth w
@@ -64,24 +63,17 @@ asked-well {w} config log h sys c terms o width is known = asked-cases terms o e
     transfers : (n : ℕ) → (pending (AcquireOf n) e.past || pending (ReleaseOf n) e.past) ≡ false
         → (((s.block n).pair c).acquiring ≡ NoAcquire) × (((s.block n).pair c).letting ≡ NoRelease)
     transfers n none =
-        let parts = or_parts (pending (AcquireOf n) e.past) (pending (ReleaseOf n) e.past) none in (
-          calm-is ((s.block n).pair c).acquiring (sym ((is.known c).acquires n) ∙ parts.0),
-          kept-letting ((s.block n).pair c).letting (sym ((is.known c).releases n) ∙ parts.1),
-        )
+        let parts = or_parts (pending (AcquireOf n) e.past) (pending (ReleaseOf n) e.past) none in
+        let fact = kept-letting ((s.block n).pair c).letting (sym ((is.known c).releases n) ∙ parts.1) in
+        (calm-is ((s.block n).pair c).acquiring (sym ((is.known c).acquires n) ∙ parts.0), fact)
 
     caching : not (has_transfers terms.level) ≡ false → is_caching config c ≡ true
     caching four = caches config c terms.level level_is (not-false (has_transfers terms.level) four)
 
     load_well : (address size : ℕ) (p : Perm) → ((s.block (block_at address)).pair c).held ≡ p
         → is_word address size ≡ true → IsAskedWell config c (Op.Load address size) h m (load address size p e)
-    load_well address size Perm.None f word = record {
-      may = tt;
-      word = tt;
-      source = tt;
-      reply = tt;
-      replies = refl;
-      message = refl;
-    }
+    load_well address size Perm.None f word =
+        record { may = tt; word = tt; source = tt; reply = tt; replies = refl; message = refl }
     load_well address size Perm.Branch f word =
         let read : (address size : ℕ) → is_word address size ≡ true → same_perm ((s.block (block_at address)).pair
         c).held Perm.None ≡ false → IsAskedWell config c (Op.Load address size) h m (only (Reply.Value (loaded
@@ -90,11 +82,9 @@ asked-well {w} config log h sys c terms o width is known = asked-cases terms o e
           word = tt;
           source = tt;
           reply = tt;
-          replies = cc (
-            copy_is (block_at address) some,
-            loaded_number m.memory address size
-                (s.block (block_at address)).truth (word_room address size word) (is.beside.memory (block_at address)),
-          );
+          replies = let fact = loaded_number m.memory address size (s.block (block_at address)).truth
+              (word_room address size word) (is.beside.memory (block_at address)) in
+              cc (copy_is (block_at address) some);
           message = refl;
         } in
         read address size word (ap (λ p. same_perm p Perm.None) f)
@@ -103,11 +93,9 @@ asked-well {w} config log h sys c terms o width is known = asked-cases terms o e
       word = tt;
       source = tt;
       reply = tt;
-      replies = cc (
-        copy_is (block_at address) (ap (λ p. same_perm p Perm.None) f),
-        loaded_number m.memory address size
-            (s.block (block_at address)).truth (word_room address size word) (is.beside.memory (block_at address)),
-      );
+      replies = let fact = loaded_number m.memory address size (s.block (block_at address)).truth
+          (word_room address size word) (is.beside.memory (block_at address)) in
+          cc (copy_is (block_at address) (ap (λ p. same_perm p Perm.None) f));
       message = refl;
     }
 
@@ -117,14 +105,8 @@ asked-well {w} config log h sys c terms o width is known = asked-cases terms o e
     store_well address size value Perm.Trunk f word =
         let trunk = ap (λ p. same_perm p Perm.Trunk) f in
         record { may = trunk; word = (word, trunk); source = tt; reply = tt; replies = tt; message = refl }
-    store_well address size value p f word = record {
-      may = tt;
-      word = tt;
-      source = tt;
-      reply = tt;
-      replies = refl;
-      message = refl;
-    }
+    store_well address size value p f word =
+        record { may = tt; word = tt; source = tt; reply = tt; replies = refl; message = refl }
 
     -- an access that starts breaks no rule
     access_sent : (x : MessageA w) → NotBusy terms (Op.Access (Message.A x)) e
@@ -141,12 +123,10 @@ asked-well {w} config log h sys c terms o width is known = asked-cases terms o e
         )
 
     well : (i : Op w) → NotBusy terms i e → IsAskedWell config c i h m (done terms i e)
-    well (Op.Load address size) free =
-        rw (held_is (block_at address)) (load_well address size ((s.block (block_at address)).pair c).held refl
-        (formed (Op.Load address size) free))
-    well (Op.Store address size value) free =
-        rw (held_is (block_at address)) (store_well address size value ((s.block (block_at address)).pair c).held refl
-        (formed (Op.Store address size value) free))
+    well (Op.Load address size) free = rw (held_is (block_at address))
+        (load_well address size ((s.block (block_at address)).pair c).held refl (formed (Op.Load address size) free))
+    well (Op.Store address size value) free = rw (held_is (block_at address)) (store_well address size value
+        ((s.block (block_at address)).pair c).held refl (formed (Op.Store address size value) free))
     well (Op.Acquire n g) free =
         let closed = free_source free.b1 in
         let still = transfers n free.b2 in
@@ -163,9 +143,8 @@ asked-well {w} config log h sys c terms o width is known = asked-cases terms o e
     well (Op.AcquireWhole n bytes) free =
         let closed = free_source free.b1 in
         let still = transfers n free.b2 in
-        let begins : same_perm Perm.Trunk ((s.block n).pair c).held ≡ false = cc (held_is n, free.b3) in
         record {
-          may = (caching free.b4, closed, still.0, still.1, begins);
+          may = (caching free.b4, closed, still.0, still.1, cc (held_is n, free.b3));
           word = tt;
           source = tt;
           reply = tt;
@@ -173,9 +152,8 @@ asked-well {w} config log h sys c terms o width is known = asked-cases terms o e
           message = cc (held_is n);
         }
     well (Op.Release n p) free =
-        let unlet : (source : ℕ) → s.lets c source ≡ None → m.opened c Releases source ≡ None =
-        λ source none. subst (λ (l : Option ℕ). IsLet l (m.opened c Releases source)) none
-        (is.beside.releases c source) in
+        let unlet : (source : ℕ) → s.lets c source ≡ None → m.opened c Releases source ≡ None = λ source none. subst
+        (λ (l : Option ℕ). IsLet l (m.opened c Releases source)) none (is.beside.releases c source) in
         let source = source_or_0 (free_release terms e.past) in
         let open_ = (least_free-some (λ i. pending (ReleaseSource i) e.past) 0 terms.sources free.b1).0 in
         let none = no_let (s.lets c source) (sym ((is.opened c).releases source) ∙ open_) in

@@ -1,20 +1,18 @@
 -- What a client that is busy answers, and what that says of the protocol.
-use Rattle.std.proofs.Common.{◌≡◌, ℕ, ◌+◌, ◌*◌, ◌/◌, ◌%◌, ◌^◌, ◌≤◌, true, false, List, Option, Some, None, refl}
-use Rattle.std.proofs.Common.{sym, ◌∙◌, ap, arith, is_none, slice_index}
+use Rattle.std.proofs.Common.{◌≡◌, ℕ, ◌+◌, ◌%◌, ◌^◌, ◌≤◌, true, false, List, Option, Some, None, refl, sym}
+use Rattle.std.proofs.Common.{◌∙◌, arith, is_none, slice_index}
 use Rattle.tl_coherence.proofs
 use proofs.Imports.{Channel, OpA, Message, MessageA, beat_of, Config, RequestSource, Level, Prune, Perm, Rule}
 use proofs.Imports.{prune_left, legal_beat, same_perm, Memory, IsBlock, number_from, block_at, pending, illegal}
-use proofs.Imports.{illegal_message, Busy, Op, Reply, whole_grow, Endpoint, release, access, acquisition}
-use proofs.Imports.{State, SourceFree}
-use proofs.Imports.{AbstractState, AccessMessages, SimulationRelation, is_caching}
-use proofs.Imports.{Log, Machine, System}
+use proofs.Imports.{illegal_message, Busy, Op, Reply, whole_grow, Endpoint, release, access, acquisition, State}
+use proofs.Imports.{SourceFree, AbstractState, AccessMessages, SimulationRelation, is_caching, Log, Machine, System}
 use Rattle.tl_rules.{proofs.Legal.legal_from_beats, proofs.Places.number_same}
 use Rattle.tl_client.specs.statement.Ask.{Asked, only}
-use Rattle.tl_coherence.specs.statement.Machine.{Replies}
-use proofs.memory.BesideAsked.{IsReply}
-use proofs.protocol.FollowKept.{IsAskable}
+use Rattle.tl_coherence.{specs.statement.Machine.Replies}
+use proofs.memory.{BesideAsked.IsReply}
+use proofs.protocol.{FollowKept.IsAskable}
 use proofs.simulation.{SizedAfter.IsSizedAsk, SourcedAfter.IsSourcedAsk}
-use proofs.client.Askable.{closed-source}
+use proofs.client.{Askable.closed-source}
 
 -- ---- what the protocol has, by what the end has
 
@@ -48,34 +46,21 @@ pub record IsAskedWell {w : ℕ} (config : Config) (c : ℕ) (o : Op w) (h : Abs
 
 pub busy_well : {w : ℕ} (config : Config) (c : ℕ) (o : Op w) (why : Busy) (h : AbstractState w) (m : Machine w)
     (e : Endpoint w) → IsAskedWell config c o h m (only (Reply.Busy why) e)
-busy_well config c (Op.Access (Message.A x)) why h m e = record {
-  may = tt;
-  word = tt;
-  source = tt;
-  reply = tt;
-  replies = tt;
-  message = refl;
-}
+busy_well config c (Op.Access (Message.A x)) why h m e =
+    record { may = tt; word = tt; source = tt; reply = tt; replies = tt; message = refl }
 busy_well config c o why h m e = record { may = tt; word = tt; source = tt; reply = tt; replies = tt; message = refl }
 
 -- the number that a Load reads is the one memory's
 pub loaded_number : (f : Memory) (address size : ℕ) (bytes : List ℕ) → address % 64 + 2 ^ size ≤ 64
     → IsBlock f (block_at address) bytes
     → number_from (slice_index bytes) (address % 64) (2 ^ size) ≡ number_from f address (2 ^ size)
-loaded_number f address size bytes room is =
-    number_same (slice_index bytes) f (address % 64) address (2 ^ size)
-    (λ i lt. let place : 64 * (address / 64) + (address % 64 + i) ≡ address + i = omega arith in
-    sym (is (address % 64 + i) (omega (arith, room, lt))) ∙ ap f place)
+loaded_number f address size bytes room is = grind (arith, number_same)
 
 pub some_held : (p : Prune) (q : Perm) → same_perm (prune_left p) q ≡ true → same_perm q Perm.None ≡ false
-some_held Prune.TtoB Perm.Trunk e = refl
-some_held Prune.TtoN Perm.Trunk e = refl
-some_held Prune.BtoN Perm.Branch e = refl
-some_held p q e = absurd cc
+some_held p q e = grind arith
 
 pub none_rule : (o : Option Rule) → is_none o ≡ true → o ≡ None
-none_rule None e = refl
-none_rule (Some r) e = absurd cc
+none_rule o e = grind arith
 
 -- the source of an access breaks no rule
 sourced_beat : {w : ℕ} (l : Level) (x : MessageA w) (source i : ℕ)

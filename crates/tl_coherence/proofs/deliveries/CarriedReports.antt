@@ -1,5 +1,5 @@
 -- The channels carry the messages of the tokens after each delivery on channel C or E.
-use Rattle.std.proofs.Common.{◌≡◌, ℕ, Bool, true, false, List, [], ◌∷◌, length, refl, sym, ◌∙◌, ap, subst, ◌==◌}
+use Rattle.std.proofs.Common.{◌≡◌, ℕ, Bool, true, false, List, [], ◌∷◌, length, refl, sym, ◌∙◌, ap, subst, ◌==◌, arith}
 use Rattle.std.proofs.Common.{if◌then◌else◌}
 use Rattle.tl_coherence.proofs
 use proofs.Imports.{Beat, Channel, IsWidth, Message, MessageA, beat_of, unfinished, completes, Config, Report, Handed}
@@ -76,8 +76,7 @@ reports-last {w} {config} {log} {h} {sys} {c} n rest {x} {queue} at tokens whole
         let said : Message w = answers v (protocol.written r b.truth b.memory) in
         let for : IsFor (Waits q false source low) n v = rw f at (at.is.served.requests n) in
         carried-shown at.width (report_answers-shown c q n source r low (performs v) rest said h.mail inv later tokens f
-        (rw (serving-use n q source low inv f) refl)
-        (ended-bytes c q source r low v (inv.blocks n)
+        (rw (serving-use n q source low inv f) refl) (ended-bytes c q source r low v (inv.blocks n)
         (subst (IsWell (is_caching config)) (set-same n (ended_block c r (performs v) b) h.state.block)
         (later.blocks n)) f answered (settled_all (length config.clients.items) (is_caching config) c b.pair
         (plain-past config) (inv.blocks n).outside alone) for.0 for.3 (at.is.sized n).truth) (answer_on_d v _))
@@ -93,19 +92,16 @@ reports-last {w} {config} {log} {h} {sys} {c} n rest {x} {queue} at tokens whole
             ) ∷ [])
             → CarriesAfter config c Channel.C sys (granted_after (length config.clients.items) config.profile c q n r y
             rest h)
-        go NoAcquire g then_well one =
-            absurd (let wants = own_wants (b.pair q) (view b.service q) ((inv.blocks n).phases q)
-            (rw (f, same_number q) refl) in let none : false ≡ true = rw g at wants in cc)
+        go NoAcquire g then_well one = absurd (let wants = own_wants (b.pair q) (view b.service q)
+            ((inv.blocks n).phases q) (rw (f, same_number q) refl) in let none : false ≡ true = rw g at wants in cc)
         go (AcquireOpen whole_block grow) g then_well one =
             let d = is_granted_data whole_block grow (b.pair q).recorded in
             let gift = gift_after config c n r whole_block grow h in
             let new : Block (List ℕ) = granted_block c q r d gift b in
             carried-shown at.width (report_grants-shown c q n source r d low gift rest
-            (block_message Grant q n new) h.mail inv then_well tokens f (seen_apart q source low c (rw f at
-            seen)) (grant_on_d w q n new d gift refl) refl) (last-handing q
-            (block_message Grant q n new) at
-            (one ∙ ap (λ (i : Block (List ℕ)). (record { 0 = q }, block_message Grant q n i) ∷ [])
-            (set-same n new h.state.block)) whole) at.is.carried
+            (block_message Grant q n new) h.mail inv then_well tokens f (seen_apart q source low c (rw f at seen))
+            (grant_on_d w q n new d gift refl) refl) (last-handing q (block_message Grant q n new) at
+            (cc (set-same n new h.state.block)) whole) at.is.carried
 
     others : (y : Bool) → some_below (length config.clients.items) (others_probed c b.pair) ≡ y
         → IsInvariant (is_caching config) (if y then with_state (report_taken c n r rest h.state) h else last_taken
@@ -130,11 +126,7 @@ by-place : {w : ℕ} {config : Config} {log : Log w} {h : AbstractState w} (h' :
     → (reaction config (record { 0 = c }) x sys.manager).handed ≡ pushes → CarriesAfter config c ch sys h')
     → CarriesAfter config c ch sys (if completes x (unfinished ch (receiver ch c sys)) then h' else h)
 by-place {w} {config} {log} {h} h' pushes {sys} {c} {ch} {x} {queue} at handed last =
-    let go : (b : Bool) → completes x (unfinished ch (receiver ch c sys)) ≡ b
-    → (reaction config (record { 0 = c }) x sys.manager).handed ≡ (if b then pushes else [])
-    → CarriesAfter config c ch sys (if b then h' else h) =
-    elim [ true ↦ λ e f. last e f | false ↦ λ e f. part-carried at f e ] in
-    go (completes x (unfinished ch (receiver ch c sys))) refl handed
+    grind (arith, CarriesAfter, part-carried)
 
 -- the beat that is first on channel C is one of it
 received_on : {w : ℕ} {config : Config} {log : Log w} (h : AbstractState w) {sys : System w} (c : ℕ) (x : Beat w)
@@ -204,7 +196,6 @@ carried-followed_c {w} {config} {log} h {sys} c x queue width is beats =
     releases-last n rest tokens whole one =
         let new : Block (List ℕ) = let_block c (prune_told ((h.state.block n).pair c).letting) (h.state.block n) in
         carried-shown width (release_taken-shown c n (prune_told ((h.state.block n).pair c).letting) rest
-        (block_message ReleaseAck c n new) h.mail is.invariant (invariant-taken h c Release n rest is tokens tt)
-        tokens (ack_on_d w c n new) refl) (last-handing c (block_message ReleaseAck c n new) at
-        (one ∙ ap (λ (i : Block (List ℕ)). (record { 0 = c }, block_message ReleaseAck c n i) ∷ [])
-        (set-same n new h.state.block)) whole) is.carried
+        (block_message ReleaseAck c n new) h.mail is.invariant
+        (invariant-taken h c Release n rest is tokens tt) tokens (ack_on_d w c n new) refl)
+        (last-handing c (block_message ReleaseAck c n new) at (cc (set-same n new h.state.block)) whole) is.carried

@@ -6,7 +6,7 @@ use proofs.Imports.{and_comm, cases_lt, Beat, Channel, Message, MessageA, a_beat
 use proofs.Imports.{Config, Cap, Perm, is_last, on_link, same_perm, effect, answer_of, block_at, is_acquire, same_block}
 use proofs.Imports.{swapped, reaction-part, Handed, Reaction, probes, recorded, probed, cap_probed, is_spared}
 use proofs.Imports.{must_wait, reaction, Outcome, IsInvariant, IsWell, cap_asked, Kind, Request, Acquire, Grant, Packet}
-use proofs.Imports.{AcquirePhase, AcquireOpen, is_granted_data, is_above, Free, Block, State, packet, is_probed}
+use proofs.Imports.{AcquirePhase, AcquireOpen, is_granted_data, is_above, Block, State, packet, is_probed}
 use proofs.Imports.{granted_at_once, acquire_served, acquire_granted, AbstractState, some_below, answers, kind_taken}
 use proofs.Imports.{bytes_at, probes_some, access_taken, request_taken, performs, gift, is_unheld, acquire_taken}
 use proofs.Imports.{ChannelRelation, AccessMessages, block_message, SimulationRelation, is_caching, Log, Step, handing}
@@ -204,12 +204,10 @@ carried-acquire_taken {w} {config} {log} h {sys} {c} {n} {k} rest queue is first
         caps (probed-some c k n true j m is (acquires-so asked.whole) (same_block n) ∙ ap not f)))) is.carried
     go false f kept =
         let new = granted_at_once c tracker data_too given b in
-        let well : IsWell (is_caching config) new = subst (IsWell (is_caching config)) (set-same n new h.state.block)
-        (kept.blocks n) in
         carried-shown comes.width (acquire_granted-shown c n tracker data_too given rest (block_message Grant c n new)
         h.mail is.invariant kept first ready.0 (once_on_d w c n tracker data_too given b) refl)
-        (taken-answering (block_message Grant c n new) queue sys comes beats last
-        (handed-granted is asked comes last (rw caps f) well)) is.carried
+        (taken-answering (block_message Grant c n new) queue sys comes beats last (handed-granted is asked comes last
+        (rw caps f) (subst (IsWell (is_caching config)) (set-same n new h.state.block) (kept.blocks n)))) is.carried
 
 -- ---- an access
 
@@ -223,9 +221,8 @@ unread-bytes {w} {config} {s} c n m is access none k d =
     let unheld : (i : ℕ) → cap_probed m.opcode m.param ≡ Some Cap.ToN
     → same_perm ((s.block n).pair i).recorded Perm.None ≡ true =
     λ i all. elim (cases_lt i (length config.clients.items)) [
-      | inl lt ↦ none-above ((s.block n).pair i).recorded
-          (some-none (length config.clients.items) (λ j. is_probed c false Cap.ToN ((s.block n).pair j).recorded j)
-          (rw all at none) i lt)
+      | inl lt ↦ none-above ((s.block n).pair i).recorded (some-none (length config.clients.items)
+          (λ j. is_probed c false Cap.ToN ((s.block n).pair j).recorded j) (rw all at none) i lt)
       | inr past ↦ rw (beyond-none n is i past) refl
     ] in
     elim (leaves-bytes m (s.block n).truth access (is.sized n).truth) [
@@ -276,27 +273,22 @@ carried-request_taken {w} {config} {log} h {sys} {c} {source} {k} rest queue is 
     tracker : ℕ
     tracker = next_tracker sys
 
-    free : b.service ≡ Free
-    free = free-last is comes last moves
-
     answered : probes_some clients c false (cap_probed m.opcode m.param) b.pair ≡ false
         → IsInvariant (is_caching config) (access_taken c source m tracker false None rest h).state
         → Carries (access_taken c source m tracker false None rest h)
-    answered none kept =
-        carried-shown comes.width (access_answered-shown c n source (performs m) rest (answers m
-        b.memory) h.mail is.invariant kept first asked.used (unread-bytes c n m is asked.access none)
-        (answer_on_d m (answer_of (Message.A m) (effect (Message.A m) (bytes_at n
-        b.memory)).1))) (taken-answering (answers m b.memory) queue sys comes beats last
-        (handed-answered is asked comes last none)) is.carried
+    answered none kept = carried-shown comes.width (access_answered-shown c n source (performs m) rest
+        (answers m b.memory) h.mail is.invariant kept first asked.used (unread-bytes c n m is asked.access none)
+        (answer_on_d m (answer_of (Message.A m) (effect (Message.A m) (bytes_at n b.memory)).1))) (taken-answering
+        (answers m b.memory) queue sys comes beats last (handed-answered is asked comes last none)) is.carried
 
     go : (p : Bool) (o : Option Cap) → probes_some clients c false (cap_probed m.opcode m.param) b.pair ≡ p
-        → cap_probed m.opcode m.param ≡ o
-        → IsInvariant (is_caching config) (access_taken c source m tracker p o rest h).state
-        → Carries (access_taken c source m tracker p o rest h)
+        → cap_probed m.opcode m.param ≡ o → IsInvariant (is_caching config)
+        (access_taken c source m tracker p o rest h).state → Carries (access_taken c source m tracker p o rest h)
     go true None f g kept = absurd (let no : false ≡ true = rw g at f in cc)
     go true (Some j) f g kept =
         let some : some_below clients (λ d. is_probed c false j (b.pair d).recorded d) ≡ true = rw g at f in
-        carried-shown comes.width (access_served-shown c n source tracker j rest h.mail is.invariant kept first free)
+        carried-shown comes.width (access_served-shown c n source tracker j rest h.mail is.invariant kept first
+        (free-last is comes last moves))
         (taken-probing n false j queue is comes beats last asked.access refl
         (ap (λ (d : Reaction w). d.handed) (reaction-probing config c k n j m sys.manager comes last refl g
         (probed-some c k n false j m is asked.access refl ∙ ap not some))))

@@ -3,17 +3,16 @@ use Rattle.std.proofs.Common.{◌≡◌, ℕ, Bool, true, false, List, [], ◌�
 use Rattle.std.proofs.Common.{◌⊎◌, if◌then◌else◌}
 use Rattle.tl_coherence.proofs
 use proofs.Imports.{Beat, BeatD, Link, Channel, OpD, IsWidth, Message, MessageD, unfinished, completes, Config, Cap}
-use proofs.Imports.{is_grant, is_release_ack, Finish, grant_ack, no_ack_grant, Deliver, IsInvariant, Kind, Answer}
-use proofs.Imports.{Grant, ReleaseAck, GrantAck, Packet, AcquirePhase, is_unreleased, is_whole, Service, Block, packet}
-use proofs.Imports.{packets_on, answer_taken, grant_taken, release_ack_taken, taken_block, shown, is_wanting}
-use proofs.Imports.{AbstractState, abstract_step, packet_taken, kind_taken, taken_by_client, ChannelRelation}
-use proofs.Imports.{MemoryRelation, block_message, SimulationRelation, is_caching, receiver, is_moving, Log, Machine}
-use proofs.Imports.{Requests, Pool, Releases, pool_of, after_end, one_memory_after, accesses_answered, stepped}
+use proofs.Imports.{is_grant, is_release_ack, Finish, grant_ack, no_ack_grant, Deliver, Kind, Answer}
+use proofs.Imports.{Grant, ReleaseAck, GrantAck, Packet, is_unreleased, is_whole, Block, packet, packets_on}
+use proofs.Imports.{grant_taken, taken_block, shown, is_wanting, AbstractState, abstract_step, packet_taken, kind_taken}
+use proofs.Imports.{ChannelRelation, MemoryRelation, block_message, SimulationRelation, receiver, is_moving}
+use proofs.Imports.{Log, Machine, Requests, Releases, pool_of, after_end, one_memory_after, accesses_answered, stepped}
 use proofs.Imports.{handed_by, System, with_client, with_channel, with_messages}
 use Rattle.tl_client.specs.statement.Offer as offer
 use proofs.memory.BesideResponses.{beside-answer, beside-grant, beside-release_ack}
-use proofs.queues.{Shown.carried-shown, Channels.IsTaken, Channels.pushes_at, Showing.carries, Codes.grants-so}
-use proofs.queues.{Codes.access_kind}
+use proofs.queues.{Shown.carried-shown, Showing.carries, Codes.grants-so, Codes.access_kind}
+use proofs.queues.Channels.{IsTaken, pushes_at}
 use proofs.queues.Landed.{pushes_of, IsOn, HasHeard, landed-client, taken-landed, on_own_channel}
 use proofs.simulation.CarriedResponses.{answer_taken-shown, grant_taken-shown, release_ack_taken-shown}
 use proofs.protocol.HeadOfD.{IsAnswerDue, IsGrantDue, grant_message, ack_message}
@@ -88,14 +87,10 @@ responded-answer {w} {config} {log} h {sys} {c} {source} rest {x} {queue} due wi
     let plain = access_kind due.answer.opcode due.answers_access in
     let none = acked_none is.y.opcode is.y.sink (ap is_grant is.opcode ∙ plain.0) in
     let pool : pool_of (finish_at is.y (sys.clients c)) ≡ Requests = finish_pool_is is ∙ rw plain.1 refl in
-    let from : is.y.source ≡ source = is.source ∙ due.from in
-    let inv = invariant-taken h c Answer source rest matched first tt in
     record {
-      carried = rw none (carried-shown width (answer_taken-shown c source rest h.mail matched.invariant inv first)
-          (taken_d None is) matched.carried);
-      beside = rw pool (subst (λ (i : ℕ). MemoryRelation h.mail (answer_taken c source rest h.state)
-          (after_end c Requests i ((one_memory_after config log).opened c Requests i) (one_memory_after config log)))
-          (sym from) (beside-answer c source rest due.used matched.beside));
+      carried = rw none (carried-shown width (answer_taken-shown c source rest h.mail matched.invariant
+          (invariant-taken h c Answer source rest matched first tt) first) (taken_d None is) matched.carried);
+      beside = rw pool (rw (is.source ∙ due.from) (beside-answer c source rest due.used matched.beside));
       quiet = ap (λ (m : Option (Message w)). accesses_answered (handed_by c m)) none;
     }
 
@@ -109,14 +104,11 @@ pub responded-release_ack : {w : ℕ} {config : Config} {log : Log w} (h : Abstr
 unfolding accesses_answered
 responded-release_ack {w} {config} {log} h {sys} {c} n rest {x} {queue} width matched first open_ is =
     let none : acked {w = w} is.y.opcode is.y.sink ≡ None = acked_none is.y.opcode is.y.sink (ap is_grant is.opcode) in
-    let pool = finish_pool_is is in
-    let inv = invariant-taken h c ReleaseAck n rest matched first tt in
     record {
-      carried = rw none (carried-shown width (release_ack_taken-shown c n rest h.mail matched.invariant inv first)
-          (taken_d None is) matched.carried);
-      beside = rw pool (subst (λ (i : ℕ). MemoryRelation h.mail (release_ack_taken c n rest h.state)
-          (after_end c Releases i ((one_memory_after config log).opened c Releases i) (one_memory_after config log)))
-          (sym is.source) (beside-release_ack c n rest matched.invariant open_ matched.beside));
+      carried = rw none (carried-shown width (release_ack_taken-shown c n rest h.mail matched.invariant
+          (invariant-taken h c ReleaseAck n rest matched first tt) first) (taken_d None is) matched.carried);
+      beside =
+          rw (finish_pool_is is) (rw is.source (beside-release_ack c n rest matched.invariant open_ matched.beside));
       quiet = ap (λ (m : Option (Message w)). accesses_answered (handed_by c m)) none;
     }
 
@@ -140,19 +132,14 @@ pub responded-grant : {w : ℕ} {config : Config} {log : Log w} (h : AbstractSta
     (kind_taken config (next_tracker sys) c Grant n rest h)
 unfolding accesses_answered
 responded-grant {w} {config} {log} h {sys} {c} {n} rest {x} {queue} due width matched first bare is = rw same (record {
-  carried = subst (λ (m : Option (Message w)). ChannelRelation h.mail (grant_taken c n due.whole due.data_too due.k
-      rest h.state) (after_heard c Channel.D x queue sys m)) (sym some) (carried-shown width (grant_taken-shown c n
-      due.whole due.data_too due.k rest (grant_ack (h.state.block n).tracker) h.mail matched.invariant inv first
-      due.service bare refl (rendered_ack c n due.whole due.data_too due.k (h.state.block n))) (taken_d (Some (grant_ack
-      (h.state.block n).tracker)) is) matched.carried);
-  beside = subst (λ (p : Pool). MemoryRelation h.mail (grant_taken c
-      n due.whole due.data_too due.k rest h.state) (after_end c p is.y.source ((one_memory_after config log).opened c p
-      is.y.source) (one_memory_after config log))) (sym pool) (subst (λ (i : ℕ). MemoryRelation h.mail (grant_taken c n
-      due.whole due.data_too due.k rest h.state)
-      (after_end c Requests i ((one_memory_after config log).opened c Requests
-      i) (one_memory_after config log))) (sym is.source) (subst (λ (b : Bool). MemoryRelation h.mail (grant_taken c n b
-      due.data_too due.k rest h.state) (after_end c Requests ((h.state.block n).source c) ((one_memory_after config
-      log).opened c Requests ((h.state.block n).source c)) (one_memory_after config log))) (ap is_whole due.wants)
+  carried = rw some (carried-shown width (grant_taken-shown c n due.whole due.data_too due.k rest
+      (grant_ack (h.state.block n).tracker) h.mail matched.invariant
+      (rw same at (invariant-taken h c Grant n rest matched first tt)) first due.service bare refl
+      (rendered_ack c n due.whole due.data_too due.k (h.state.block n)))
+      (taken_d (Some (grant_ack (h.state.block n).tracker)) is) matched.carried);
+  beside = rw pool (subst (λ (i : ℕ). MemoryRelation h.mail (grant_taken c n due.whole due.data_too due.k rest h.state)
+      (after_end c Requests i ((one_memory_after config log).opened c Requests i) (one_memory_after config log)))
+      (sym is.source) (rw (ap is_whole due.wants) at
       (beside-grant c n due.data_too due.k rest matched.invariant (ap is_wanting due.wants) matched.beside)));
   quiet = ap (λ (m : Option (Message w)). accesses_answered (handed_by c m)) some;
 })
@@ -169,9 +156,4 @@ responded-grant {w} {config} {log} h {sys} {c} {n} rest {x} {queue} due width ma
     same : kind_taken config (next_tracker sys) c Grant n rest h ≡ record h {
       state = grant_taken c n due.whole due.data_too due.k rest h.state;
     }
-    same = ap (λ (v : Service). taken_by_client c n v rest h) due.service ∙ ap
-        (λ (a : AcquirePhase). record h { state = grant_taken c n (is_whole a) due.data_too due.k rest h.state })
-        due.wants
-
-    inv : IsInvariant (is_caching config) (grant_taken c n due.whole due.data_too due.k rest h.state)
-    inv = rw same at (invariant-taken h c Grant n rest matched first tt)
+    same = cc (due.service, due.wants)

@@ -1,24 +1,22 @@
 -- A delivery that moves no beat, and the channels and the one memory after a delivery.
-use Rattle.std.proofs.Common.{◌≡◌, ℕ, Bool, true, false, List, [], ◌∷◌, Option, Some, None, refl, sym, ◌∙◌, ap, ◌⊎◌}
-use Rattle.std.proofs.Common.{inl, inr, not, ne_eqb, ◌==◌, if◌then◌else◌, Result, Ok, Err}
+use Rattle.std.proofs.Common.{◌≡◌, ℕ, Bool, true, false, List, [], ◌∷◌, Option, Some, None, refl, ◌∙◌, ap, ◌⊎◌, arith}
+use Rattle.std.proofs.Common.{inl, inr, if◌then◌else◌, Result}
 use Rattle.tl_coherence.proofs
 use proofs.Imports.{cases_eq, not-true, or_right, Beat, Link, Channel, Message, unfinished, Config, Cap, Grow, Perm}
-use proofs.Imports.{Rule, cap_right, on_link, same_perm, Verdict, Deliver, Outcome, IsInvariant, AcquireOpen}
-use proofs.Imports.{grant_fits, cap_fits, Block, State, view, taken_block, is_granting, AbstractState, abstract_step}
-use proofs.Imports.{IsCarried, ChannelRelation, MemoryRelation, AccessMessages, messages_on, SimulationRelation}
-use proofs.Imports.{receiver, is_moving, Log, system_after, Machine, moved, one_memory_after, performing}
-use proofs.Imports.{accesses_answered, Step, stepped, only, manager_took, is_to_client, stepped_at, judged, client_took}
-use proofs.Imports.{System, terms_at, with_client, with_manager}
-use Rattle.tl_client.proofs.messages.Calls.{refusal-offered}
+use proofs.Imports.{Rule, same_perm, Verdict, Deliver, Outcome, IsInvariant, AcquireOpen, grant_fits, Block, State}
+use proofs.Imports.{view, taken_block, is_granting, AbstractState, abstract_step, IsCarried, ChannelRelation}
+use proofs.Imports.{MemoryRelation, AccessMessages, messages_on, SimulationRelation, receiver, is_moving, Log}
+use proofs.Imports.{system_after, Machine, moved, one_memory_after, performing, accesses_answered, Step, stepped, only}
+use proofs.Imports.{manager_took, is_to_client, stepped_at, judged, client_took, System, terms_at, with_manager}
+use Rattle.tl_client.{proofs.messages.Calls.refusal-offered}
 use Rattle.tl_client.specs.statement.Endpoint as client
 use Rattle.tl_client.specs.statement.Offer as offer
 use Rattle.tl_manager.specs.statement.End as manager_end
 use Rattle.tl_manager.specs.statement.Offer as manager_offer
 use Rattle.tl_coherence.specs.statement.Step as step
 use proofs.protocol.HeadOfD.{IsGrantDue, own_view}
-use proofs.queues.{Phases.and_left, Phases.and_right, Tokens.same_number, Showing.is_given, Showing.is_told}
-use proofs.queues.{Showing.carries, Showing.untold, Showing.uncarried, Showing.granted-untold, Perms.fits_cap}
-use proofs.queues.{Perms.whole_cap}
+use proofs.queues.{Phases.and_left, Perms.whole_cap}
+use proofs.queues.Showing.{is_given, is_told, carries, untold, uncarried, granted-untold}
 use proofs.deliveries.DeliverDAfter.{IsBare, followed-still}
 
 -- ---- a Grant of a whole block
@@ -26,12 +24,7 @@ use proofs.deliveries.DeliverDAfter.{IsBare, followed-still}
 -- what is granted to a store of the whole block: Trunk, and no data
 whole_fits : (recorded held : Perm) (d : Bool) (k : Cap) (g : Grow)
     → grant_fits recorded held d k (AcquireOpen true g) ≡ true → (same_perm recorded Perm.Trunk ≡ true) × (d ≡ false)
-whole_fits recorded held d k g e =
-    let top = whole_cap g k (fits_cap recorded held d k true g e) in
-    let rest = and_right (cap_fits true g k) _ (and_right (same_perm recorded (cap_right k)) _ e) in (
-      sym (ap (λ (j : Cap). same_perm recorded (cap_right j)) top) ∙ and_left (same_perm recorded (cap_right k)) _ e,
-      not-true d (and_left (not d) _ rest),
-    )
+whole_fits recorded held d k g e = grind (arith, whole_cap)
 
 pub bare : {w : ℕ} {caching : ℕ → Bool} {c n : ℕ} (h : AbstractState w) (due : IsGrantDue c n h.state)
     → IsInvariant caching h.state → IsBare c due.whole due.data_too due.k (h.state.block n)
@@ -42,9 +35,7 @@ bare {w} {c} {n} h due inv j i before now = go due.whole refl
 
     told : due.whole ≡ true → (i ≡ c) ⊎ (i ≡ c → ⊥) → carries j i b ≡ false
     told e at =
-        let fits = whole_fits (b.pair c).recorded (b.pair c).held due.data_too due.k due.g
-        (sym (ap (λ (x : Bool). grant_fits (b.pair c).recorded (b.pair c).held due.data_too due.k (AcquireOpen x due.g))
-        e) ∙ due.fits) in
+        let fits = whole_fits (b.pair c).recorded (b.pair c).held due.data_too due.k due.g (cc due.fits) in
         uncarried j i b (quiet fits.0 at) (ap is_given due.service ∙ fits.1)
       where
         quiet : same_perm (b.pair c).recorded Perm.Trunk ≡ true → (i ≡ c) ⊎ (i ≡ c → ⊥) → is_told (b.pair i) ≡ false
@@ -73,55 +64,11 @@ pub record IsUnmoved {w : ℕ} (sys : System w) (x : Step w) : Type 0 where
 
 only_unmoved : {w : ℕ} (o : Outcome w) (sys : System w)
     → ((link : Link) (ch : Channel) (m : Machine w) → moved (Deliver link ch) o m ≡ m) → IsUnmoved sys (only o sys)
-only_unmoved o sys still = record {
-  channels = λ d at. refl;
-  rests = λ d at. refl;
-  pasts = λ d. refl;
-  trace = refl;
-  handed = refl;
-  machine = still;
-}
-
-refused_unmoved : {w : ℕ} (c : ℕ) (e : client.Endpoint w) (sys : System w) → e.past ≡ (sys.clients c).past
-    → IsUnmoved sys (only Outcome.Stalled (with_client c e sys))
-refused_unmoved {w} c e sys same = record {
-  channels = λ d at. refl;
-  rests = rests;
-  pasts = past_of;
-  trace = refl;
-  handed = refl;
-  machine = λ link ch m. refl;
-}
-  where
-    past_of : (d : ℕ) → (if d == c then e else sys.clients d).past ≡ (sys.clients d).past
-    past_of d = elim (cases_eq d c) [
-      | inl here ↦ rw (here, same_number c) same
-      | inr other ↦ rw (ne_eqb d c other) refl
-    ]
-
-    rests : (d : ℕ) (at : Channel) → unfinished at (receiver at d (with_client c e sys)) ≡ unfinished at
-        (receiver at d sys)
-    rests d Channel.B = ap (unfinished Channel.B) (past_of d)
-    rests d Channel.D = ap (unfinished Channel.D) (past_of d)
-    rests d at = refl
+only_unmoved o sys still = grind arith
 
 closed_unmoved : {w : ℕ} (e : manager_end.End w) (sys : System w) → e.trace ≡ sys.manager.trace
     → IsUnmoved sys (only Outcome.Stalled (with_manager e sys))
-closed_unmoved {w} e sys same = record {
-  channels = λ d at. refl;
-  rests = rests;
-  pasts = λ d. refl;
-  trace = same;
-  handed = refl;
-  machine = λ link ch m. refl;
-}
-  where
-    rests : (d : ℕ) (at : Channel) → unfinished at (receiver at d (with_manager e sys)) ≡ unfinished at
-        (receiver at d sys)
-    rests d Channel.A = ap (λ t. unfinished Channel.A (on_link d t)) same
-    rests d Channel.C = ap (λ t. unfinished Channel.C (on_link d t)) same
-    rests d Channel.E = ap (λ t. unfinished Channel.E (on_link d t)) same
-    rests d at = refl
+closed_unmoved {w} e sys same = grind arith
 
 pub unmoved : {w : ℕ} (config : Config) (link : Link) (ch : Channel) (sys : System w)
     → is_moving (stepped config (Deliver link ch) sys).outcome ≡ false
@@ -136,10 +83,7 @@ unmoved {w} config link ch sys still = at (terms_at config link.0) still
         (a : Result (Verdict × Option (Message w)) Rule) → (offer.offered terms ch x (sys.clients c)).answer ≡ a
         → is_moving (judged a c ch x queue (offer.offered terms ch x (sys.clients c)).after sys).outcome ≡ false
         → IsUnmoved sys (judged a c ch x queue (offer.offered terms ch x (sys.clients c)).after sys)
-    by_client terms x queue (Err rule) e s = refused_unmoved c (offer.offered terms ch x (sys.clients c)).after sys
-        (ap (λ (i : client.Endpoint w). i.past) (refusal-offered terms ch x (sys.clients c) rule e))
-    by_client terms x queue (Ok (Verdict.Stalled, m)) e s = only_unmoved Outcome.Stalled sys (λ l i m. refl)
-    by_client terms x queue a e s = absurd cc
+    by_client terms x queue a e f = grind (arith, refusal-offered, only_unmoved)
 
     by_manager : (x : Beat w) (queue : List (Beat w)) (j : manager_offer.Judgement)
         → is_moving (manager_took c ch x queue (manager_offer.offered_as j config (record { 0 = c }) x sys.manager)
@@ -169,14 +113,14 @@ unmoved {w} config link ch sys still = at (terms_at config link.0) still
     at None s = only_unmoved Outcome.NoSuchClient sys (λ l i m. refl)
     at (Some terms) s = delivered_to terms (sys.channels c ch) s
 
-pub carried-unmoved : {w : ℕ} (mail : AccessMessages w) (s : State (List ℕ)) {sys : System w} {x : Step w}
+carried-unmoved : {w : ℕ} (mail : AccessMessages w) (s : State (List ℕ)) {sys : System w} {x : Step w}
     → IsUnmoved sys x → ChannelRelation mail s sys → ChannelRelation mail s x.after
 carried-unmoved {w} mail s {sys} {x} is h d at =
     let moved_to : (r q : List (Beat w)) → r ≡ unfinished at (receiver at d sys) → q ≡ sys.channels d at
     → IsCarried r (messages_on at mail s d) q = λ r q e f. rw (e, f) (h d at) in
     moved_to (unfinished at (receiver at d x.after)) (x.after.channels d at) (is.rests d at) (is.channels d at)
 
-pub beside-unmoved : {w : ℕ} (config : Config) (log : Log w) {mail : AccessMessages w} {s : State (List ℕ)}
+beside-unmoved : {w : ℕ} (config : Config) (log : Log w) {mail : AccessMessages w} {s : State (List ℕ)}
     (link : Link) (ch : Channel)
     → IsUnmoved (system_after config log) (stepped config (Deliver link ch) (system_after config log))
     → MemoryRelation mail s (one_memory_after config log)

@@ -2,7 +2,7 @@
 use Rattle.std.proofs.Common.{◌≡◌, ℕ, Bool, true, false, List, ◌∷◌, Some, None, refl, sym, ◌∙◌, ap, subst, ◌==◌}
 use Rattle.std.proofs.Common.{if◌then◌else◌, map}
 use Rattle.tl_coherence.proofs
-use proofs.Imports.{Beat, BeatD, Link, Channel, IsWidth, Message, MessageD, beat_of, d_beat_of, unfinished, completes}
+use proofs.Imports.{Beat, Link, Channel, IsWidth, Message, MessageD, beat_of, d_beat_of, unfinished, completes}
 use proofs.Imports.{Config, Verdict, Deliver, Outcome, Kind, Answer, Grant, ReleaseAck, Packet, Block, packet, is_on}
 use proofs.Imports.{AbstractState, abstract_step, packet_taken, kind_taken, ChannelRelation, MemoryRelation}
 use proofs.Imports.{block_message, message_of, message_of_kind, SimulationRelation, is_caching, is_moving, Log}
@@ -35,87 +35,55 @@ last_d : {w : ℕ} (config : Config) (log : Log w) (link : Link) (h : AbstractSt
     {terms : client.EndConfig} {x : Beat w} {queue : List (Beat w)} {mm : MessageD w}
     (is : IsLastBeat link.0 x queue (system_after config log) mm)
     → IsTakenByClient terms link.0 Channel.D x queue (system_after config log)
-    (stepped config (Deliver link Channel.D) (system_after config log))
-    → abstract_step config (Deliver link Channel.D) (system_after config log) h ≡ h'
-    → IsResponded link.0 x queue (system_after config log) (one_memory_after config log) is.y.source
-    (finish_at is.y ((system_after config log).clients link.0)) (acked is.y.opcode is.y.sink) h'
-    → IsDelivered config log link Channel.D h
+    (stepped config (Deliver link Channel.D) (system_after config log)) → abstract_step config (Deliver link Channel.D)
+    (system_after config log) h ≡ h' → IsResponded link.0 x queue (system_after config log)
+    (one_memory_after config log) is.y.source (finish_at is.y ((system_after config log).clients link.0))
+    (acked is.y.opcode is.y.sink) h' → IsDelivered config log link Channel.D h
 unfolding performing
 last_d {w} config log link h {h'} {x} {queue} is t same responded =
+    let sys = system_after config log in
+    let e = sys.clients link.0 in
+    let last = sym (ap (λ (z : Beat w). completes z (unfinished Channel.D e.past)) is.x_is) ∙ is.last in
+    let same_parts = same_answers t.verdict_is (Verdict.Done is.y.source (finish_at is.y e)) t.message
+    (acked is.y.opcode is.y.sink) (offer.taken x e).answer t.answer
+    (ap (λ (z : Beat w). (offer.taken z e).answer) is.x_is ∙ answer-last is.y e last) in
+    let now = handing (Outcome.Done x is.y.source (finish_at is.y e)) (handed_by link.0 (acked is.y.opcode is.y.sink))
+    (with_client link.0 (offer.taken x e).after (with_channel link.0 Channel.D queue sys)) in
+    let step_is : stepped config (Deliver link Channel.D) sys ≡ now = cc (t.step_is, same_parts.0, same_parts.1) in
     delivered_as config log link Channel.D h h' same (subst (λ (y : Step w). ChannelRelation h'.mail h'.state y.after)
     (sym step_is) responded.carried) (subst (λ (m : Machine w). MemoryRelation h'.mail h'.state m)
-    (sym (remembered_after config log link Channel.D now step_is
-    ∙ ap (λ (l : List (ℕ × ℕ)). performing l (moved (Deliver link Channel.D) now.outcome (one_memory_after config log)))
-    responded.quiet)) responded.beside)
-  where
-    sys : System w
-    sys = system_after config log
-
-    e : client.Endpoint w
-    e = sys.clients link.0
-
-    last : completes (Beat.D is.y) (unfinished Channel.D e.past) ≡ true
-    last = sym (ap (λ (z : Beat w). completes z (unfinished Channel.D e.past)) is.x_is) ∙ is.last
-
-    now : Step w
-    now = handing (Outcome.Done x is.y.source (finish_at is.y e)) (handed_by link.0 (acked is.y.opcode is.y.sink))
-        (with_client link.0 (offer.taken x e).after (with_channel link.0 Channel.D queue sys))
-
-    same_parts : (t.verdict_is ≡ Verdict.Done is.y.source (finish_at is.y e))
-        × (t.message ≡ acked is.y.opcode is.y.sink)
-    same_parts = same_answers t.verdict_is (Verdict.Done is.y.source (finish_at is.y e)) t.message
-        (acked is.y.opcode is.y.sink) (offer.taken x e).answer t.answer
-        (ap (λ (z : Beat w). (offer.taken z e).answer) is.x_is ∙ answer-last is.y e last)
-
-    step_is : stepped config (Deliver link Channel.D) sys ≡ now
-    step_is = cc (t.step_is, same_parts.0, same_parts.1)
+    (sym (remembered_after config log link Channel.D now step_is ∙ ap (λ (l : List (ℕ × ℕ)). performing l
+    (moved (Deliver link Channel.D) now.outcome (one_memory_after config log))) responded.quiet)) responded.beside)
 
 none_pushed : (w : ℕ) (at : Channel) (b : Bool) → (if b then pushes_of {w = w} None at else None) ≡ None
 none_pushed w at true = refl
 none_pushed w at false = refl
 
 part_d : {w : ℕ} {config : Config} {log : Log w} (link : Link) (h : AbstractState w) {terms : client.EndConfig}
-    {x : Beat w} {queue : List (Beat w)} (mm : MessageD w)
-    (k : ℕ) → IsWidth w → SimulationRelation config log h.mail h.request h.state (system_after config log)
+    {x : Beat w} {queue : List (Beat w)} (mm : MessageD w) (k : ℕ) → IsWidth w
+    → SimulationRelation config log h.mail h.request h.state (system_after config log)
     → (system_after config log).channels link.0 Channel.D ≡ x ∷ queue → x ≡ Beat.D (d_beat_of mm k)
     → completes x (unfinished Channel.D ((system_after config log).clients link.0).past) ≡ false
     → IsTakenByClient terms link.0 Channel.D x queue (system_after config log)
-    (stepped config (Deliver link Channel.D) (system_after config log))
-    → abstract_step config (Deliver link Channel.D) (system_after config log) h ≡ h
-    → IsDelivered config log link Channel.D h
+    (stepped config (Deliver link Channel.D) (system_after config log)) → abstract_step config (Deliver link Channel.D)
+    (system_after config log) h ≡ h → IsDelivered config log link Channel.D h
 unfolding performing accesses_answered
 part_d {w} {config} {log} link h {terms} {x} {queue} mm k width is first x_is part t same =
+    let y = d_beat_of mm k in
+    let sys = system_after config log in
+    let e = sys.clients link.0 in
+    let same_parts = same_answers t.verdict_is Verdict.Taken t.message None (offer.taken x e).answer t.answer
+    (ap (λ (z : Beat w). (offer.taken z e).answer) x_is ∙ answer-part y e
+    (sym (ap (λ (z : Beat w). completes z (unfinished Channel.D e.past)) x_is) ∙ part)) in
+    let now = handing (Outcome.Moved x) (handed_by link.0 None)
+    (with_client link.0 (offer.taken x e).after (with_channel link.0 Channel.D queue sys)) in
+    let step_is : stepped config (Deliver link Channel.D) sys ≡ now = cc (t.step_is, same_parts.0, same_parts.1) in
     delivered_as config log link Channel.D h h same (subst (λ (y : Step w). ChannelRelation h.mail h.state y.after)
-    (sym step_is) (carried-part h.mail h.state width
-    (landed-client link.0 Channel.D x queue None (offer.taken x e).after sys refl first
-    (subst (λ (z : Beat w). IsOn Channel.D z) (sym x_is) (on_own_channel (Beat.D y)))
-    (client-heard width (is.kept link.0) t))
-    (λ d at. none_pushed w at (d == link.0)) part is.carried))
+    (sym step_is) (carried-part h.mail h.state width (landed-client link.0 Channel.D x queue None
+    (offer.taken x e).after sys refl first (subst (λ (z : Beat w). IsOn Channel.D z) (sym x_is) (on_own_channel
+    (Beat.D y))) (client-heard width (is.kept link.0) t)) (λ d at. none_pushed w at (d == link.0)) part is.carried))
     (subst (λ (m : Machine w). MemoryRelation h.mail h.state m)
     (sym (remembered_after config log link Channel.D now step_is)) is.beside)
-  where
-    sys : System w
-    sys = system_after config log
-
-    e : client.Endpoint w
-    e = sys.clients link.0
-
-    y : BeatD w
-    y = d_beat_of mm k
-
-    now : Step w
-    now = handing (Outcome.Moved x) (handed_by link.0 None)
-        (with_client link.0 (offer.taken x e).after (with_channel link.0 Channel.D queue sys))
-
-    unended : completes (Beat.D y) (unfinished Channel.D e.past) ≡ false
-    unended = sym (ap (λ (z : Beat w). completes z (unfinished Channel.D e.past)) x_is) ∙ part
-
-    same_parts : (t.verdict_is ≡ Verdict.Taken) × (t.message ≡ None)
-    same_parts = same_answers t.verdict_is Verdict.Taken t.message None (offer.taken x e).answer t.answer
-        (ap (λ (z : Beat w). (offer.taken z e).answer) x_is ∙ answer-part y e unended)
-
-    step_is : stepped config (Deliver link Channel.D) sys ≡ now
-    step_is = cc (t.step_is, same_parts.0, same_parts.1)
 
 pub rendered_release_ack : {w : ℕ} (c n : ℕ) (b : Block (List ℕ)) → block_message {w = w} ReleaseAck c n b ≡ Message.D
     (ack_message (b.release_source c))
@@ -181,9 +149,8 @@ delivered-d {w} {config} {log} link h terms x queue width is known beats moving 
             last_d config log link h last t
             (follows ∙ ap (λ (b : Bool). if b then packet_taken config (next_tracker sys) c (h.state.link c).d h else h)
             done ∙ ap (λ (l : List Packet). packet_taken config (next_tracker sys) c l h) tokens) (responds last)
-        go false part = part_d link h mm next.k width is beats x_is part t
-            (follows ∙ ap (λ (b : Bool). if b then packet_taken config (next_tracker sys) c (h.state.link c).d h else h)
-            part)
+        go false part = part_d link h mm next.k width is beats x_is part t (follows
+            ∙ ap (λ (b : Bool). if b then packet_taken config (next_tracker sys) c (h.state.link c).d h else h) part)
 
     kinds : (k : Kind) (i : ℕ) → (h.state.link c).d ≡ packet k i ∷ first.rest → is_on Channel.D k ≡ true
         → IsNext x (unfinished Channel.D e.past) (message_of_kind k h.mail h.state c i)
@@ -198,9 +165,7 @@ delivered-d {w} {config} {log} link h terms x queue width is known beats moving 
         (h.state.block n).truth) tokens (grant-rendered c n h.state due) next
         (λ last. responded-grant h first.rest due width is tokens (bare h due is.invariant) last)
     kinds ReleaseAck n tokens own next =
-        let acked_there = first-shown is.invariant c ReleaseAck refl tokens in
         by_message ReleaseAck n (ack_message ((h.state.block n).release_source c)) tokens
-        (rendered_release_ack c n (h.state.block n)) next
-        (λ last. responded-release_ack h n first.rest width is tokens
-        (acked-open ((h.state.block n).pair c).letting acked_there) last)
+        (rendered_release_ack c n (h.state.block n)) next (λ last. responded-release_ack h n first.rest width is tokens
+        (acked-open ((h.state.block n).pair c).letting (first-shown is.invariant c ReleaseAck refl tokens)) last)
     kinds k i tokens own next = absurd cc

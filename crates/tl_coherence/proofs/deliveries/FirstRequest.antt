@@ -5,7 +5,7 @@ use Rattle.tl_coherence.proofs
 use proofs.Imports.{or_parts, Beat, Channel, IsWidth, length-begun, Message, MessageA, a_beat_of, beats_of, begun}
 use proofs.Imports.{IsBlankAfter, unfinished, Config, is_last, on_link, broken_in_order, block_at, ends, same_block}
 use proofs.Imports.{End, must_wait, before_stall, reaction, services, is_in_service, Kind, Request, Acquire, Packet}
-use proofs.Imports.{Free, packet, is_on, on, AbstractState, kind_taken, IsCarried, ChannelRelation, MemoryRelation}
+use proofs.Imports.{Free, packet, on, AbstractState, kind_taken, IsCarried, ChannelRelation, MemoryRelation}
 use proofs.Imports.{message_of, SimulationRelation, Log, Machine, accesses_answered, performing, System}
 use Rattle.tl_manager.specs.statement.Offer.{offered}
 use Rattle.tl_manager.specs.statement.Offer as manager
@@ -72,8 +72,7 @@ on_link-access {w} {config} {log} h {sys} {c} {source} rest is first asked = rec
   order = λ k lt burst moves. order-access c source asked.request k is asked.used asked.source_is asked.access burst;
   early = λ k burst. ap before_stall (order-access c source asked.request k is
       asked.used asked.source_is asked.access burst);
-  unwaited = λ k more i src own j f same. unwaited-asked c source is asked.used
-      i src own j f (sym asked.source_is ∙ same);
+  unwaited = λ k more i src own j f same. unwaited-asked c source is asked.used i src own j f (cc asked.source_is);
   ready = λ k comes last moves. ready-request h is asked comes last moves;
   after = λ k comes last moves. at_manager-request_taken h rest is asked comes last moves;
   carried = λ k queue comes beats last moves. carried-request_taken h rest queue is first asked comes beats last moves;
@@ -134,17 +133,6 @@ pub arrival-first : {w : ℕ} {config : Config} {log : Log w} (h : AbstractState
     → sys.channels c Channel.A ≡ x ∷ queue → IsArrival config h sys c x queue
 arrival-first {w} {config} {log} h {sys} c x queue width is beats = go (h.state.link c).a refl
   where
-    Here : List Packet → Type 0
-    Here xs = IsCarried (unfinished Channel.A (on_link c sys.manager.trace)) (map (message_of h.mail h.state c) xs)
-        (sys.channels c Channel.A)
-
-    nothing : (y : Beat w) (ys : List (Beat w)) → [] ≡ y ∷ ys → ⊥
-    nothing y ys e = cc
-
-    apart : (k : Kind) (i : ℕ) (rest : List Packet) → (h.state.link c).a ≡ packet k i ∷ rest → is_on Channel.A k ≡ false
-        → ⊥
-    apart k i rest e off = first_counts (packet k i) rest (rw e at (is.invariant.own_kinds c Channel.A k i off))
-
     arrived : (k : Kind) (i : ℕ) (rest : List Packet) (m : MessageA w) → IsOnLink config h sys c k i rest m
         → IsArrival config h sys c x queue
     arrived k i rest m on = record {
@@ -164,10 +152,12 @@ arrival-first {w} {config} {log} h {sys} c x queue width is beats = go (h.state.
     of_kind Acquire i rest e =
         let wanted = wanted-first c i rest is e in
         arrived Acquire i rest (acquire_wanted c i h.state wanted) (on_link-acquire h rest width is e wanted)
-    of_kind k i rest e = absurd (apart k i rest e refl)
+    of_kind k i rest e = absurd (first_counts (packet k i) rest (rw e at (is.invariant.own_kinds c Channel.A k i refl)))
 
     go : (xs : List Packet) → (h.state.link c).a ≡ xs → IsArrival config h sys c x queue
-    go [] e = let none : Here [] = rw e at (is.carried c Channel.A) in absurd (nothing x queue (sym none.1 ∙ beats))
+    go [] e = let none : (IsCarried (unfinished Channel.A (on_link c sys.manager.trace))
+        (map (message_of h.mail h.state c) []) (sys.channels c Channel.A)) = rw e at (is.carried c Channel.A) in
+        absurd (cc)
     go (y ∷ ys) e = of_kind y.kind y.number ys e
 
 -- ---- it is taken, or has to wait
@@ -215,8 +205,6 @@ pub request-stalled : {w : ℕ} {config : Config} {log : Log w} {h : AbstractSta
     → offered config (link_of c) Channel.A x sys.manager ≡ (manager.Stalled, sys.manager)
 request-stalled {w} {config} {log} {h} {sys} {c} {queue} is beats arrives waits =
     let y = a_beat_of arrives.request arrives.next.k in
-    let first = first-beat c y queue is (beats ∙ ap (λ (z : Beat w). z ∷ queue) arrives.next.beat_is) in
-    let waits_so : must_wait config (link_of c) (Beat.A y) sys.manager.trace ≡ true =
-    rw arrives.next.beat_is at waits in
     rw arrives.next.beat_is (offered-stalled config (link_of c) Channel.A (Beat.A y) sys.manager
-    (waits-first is.all_live first (arrives.is_it.early arrives.next.k arrives.next.rest_is) waits_so))
+    (waits-first is.all_live (first-beat c y queue is (beats ∙ ap (λ (z : Beat w). z ∷ queue) arrives.next.beat_is))
+    (arrives.is_it.early arrives.next.k arrives.next.rest_is) (rw arrives.next.beat_is at waits)))

@@ -2,18 +2,16 @@
 use Rattle.std.proofs.Common.{◌≡◌, subst, ℕ, suc, ◌+◌, Bool, true, false, List, ◌∷◌, Option, Some, None, refl, sym, ◌∙◌}
 use Rattle.std.proofs.Common.{ap, arith, eqb-true}
 use Rattle.tl_coherence.proofs
-use proofs.Imports.{Beat, Link, Channel, IsWidth, Message, MessageA, a_beat_of, beats_of, Config, EndConfig, must_wait}
-use proofs.Imports.{Event, Deliver, IsInvariant, Kind, ProbeAck, Release, GrantAck, Packet, State, packet, is_on}
-use proofs.Imports.{AbstractState, abstract_step, AccessMessages, SimulationRelation, is_caching, is_moving, Log, Step}
-use proofs.Imports.{stepped, manager_took, System, terms_at}
+use proofs.Imports.{Beat, Link, Channel, IsWidth, Message, MessageA, beats_of, Config, EndConfig, must_wait, Event}
+use proofs.Imports.{Deliver, IsInvariant, Kind, Packet, State, is_on, AbstractState, abstract_step, AccessMessages}
+use proofs.Imports.{SimulationRelation, is_caching, is_moving, Log, Step, stepped, manager_took, System, terms_at}
 use Rattle.tl_manager.specs.statement.End as manager_end
 use Rattle.tl_manager.specs.statement.Offer as manager
-use proofs.client.ClientDelivered.{shadow_of}
-use proofs.protocol.Events.{IsReady}
-use proofs.queues.Steps.{stepped-to-manager}
-use proofs.simulation.{FollowCases.IsDelivery, FollowCases.taken_of, FollowCases.followed-cases, FollowCases.on-first}
-use proofs.simulation.{InvariantAtClients.invariant-asked, InvariantAtClients.ready-client}
-use proofs.simulation.{InvariantAtClients.nobody_moves}
+use proofs.client.{ClientDelivered.shadow_of}
+use proofs.protocol.{Events.IsReady}
+use proofs.queues.{Steps.stepped-to-manager}
+use proofs.simulation.FollowCases.{IsDelivery, taken_of, followed-cases, on-first}
+use proofs.simulation.InvariantAtClients.{invariant-asked, ready-client, nobody_moves}
 use proofs.deliveries.FirstRequest.{IsArrival, arrival-first, coming-arrival, request-stalled}
 use proofs.manager.UnwaitedRequests.{next_tracker, invariant-taken}
 
@@ -45,9 +43,6 @@ request-moves {w} {config} {log} {mail} {request} {s} {sys} link {x} {queue} h m
     go false e = refl
     go true e = absurd (let no : true ≡ false = sym moving ∙ at_terms (terms_at config link.0) refl e in cc)
 
-head_is : (x y : Packet) (xs ys : List Packet) → x ∷ xs ≡ y ∷ ys → x ≡ y
-head_is x y xs ys e = cc
-
 ready-a : {w : ℕ} {config : Config} {log : Log w} {mail : AccessMessages w} {request : ℕ → MessageA w}
     {s : State (List ℕ)} {sys : System w} {link : Link} {x : Beat w} {queue : List (Beat w)} → IsWidth w
     → SimulationRelation config log mail request s sys → (d : IsDelivery config mail s sys link Channel.A x queue)
@@ -56,16 +51,11 @@ ready-a {w} {config} {log} {mail} {request} {s} {sys} {link} {x} {queue} width h
     let next_number : (k n : ℕ) → k + 1 ≡ n → n ≡ suc k = λ k n e. omega (arith, e) in
     let arrives = arrival-first (shadow_of mail request s) link.0 x queue width h d.beats in
     let moves = request-moves link h d.moves d.beats arrives in
-    let comes = coming-arrival width h d.beats arrives moves in
-    let last = eqb-true (arrives.next.k + 1) (beats_of (Message.A arrives.request)) (sym arrives.next.completes_is
-    ∙ d.whole) in
-    let moves_so : must_wait config (record { 0 = link.0 }) (Beat.A (a_beat_of arrives.request arrives.next.k))
-    sys.manager.trace ≡ false = cc (arrives.next.beat_is, moves) in
     subst (λ (y : Packet). IsReady (next_tracker sys) link.0 y.kind y.number (shadow_of mail request s))
-    (head_is (packet arrives.kind arrives.number) (packet d.first.kind d.first.number) arrives.rest d.first.rest
-    (sym arrives.is_it.tokens ∙ d.first.tokens))
-    (arrives.is_it.ready arrives.next.k comes (next_number arrives.next.k (beats_of (Message.A arrives.request)) last)
-    moves_so)
+    (cc)
+    (arrives.is_it.ready arrives.next.k (coming-arrival width h d.beats arrives moves) (next_number arrives.next.k
+    (beats_of (Message.A arrives.request)) (eqb-true (arrives.next.k + 1) (beats_of (Message.A arrives.request))
+    (sym arrives.next.completes_is ∙ d.whole))) (cc (arrives.next.beat_is, moves)))
 
 -- ---- channels C and E
 
@@ -77,10 +67,7 @@ is_up _ = false
 
 ready_up : {w : ℕ} (tracker c : ℕ) (ch : Channel) (k : Kind) (i : ℕ) (h : AbstractState w) → is_up ch ≡ true
     → is_on ch k ≡ true → IsReady tracker c k i h
-ready_up tracker c Channel.C ProbeAck i h up own = tt
-ready_up tracker c Channel.C Release i h up own = tt
-ready_up tracker c Channel.E GrantAck i h up own = tt
-ready_up tracker c ch k i h up own = absurd cc
+ready_up tracker c ch k i h e f = grind arith
 
 -- ---- every event
 

@@ -1,6 +1,6 @@
 -- The channels after a beat of channel C or E was taken, and the bytes on their way.
 use Rattle.std.proofs.Common.{◌≡◌, ℕ, Bool, true, false, List, [], ◌∷◌, Option, Some, None, length, refl, sym, ◌∙◌, ap}
-use Rattle.std.proofs.Common.{subst, ◌⊎◌, inl, inr}
+use Rattle.std.proofs.Common.{arith, subst, ◌⊎◌, inl, inr}
 use Rattle.tl_coherence.proofs
 use proofs.Imports.{or-true, cases_eq, same_Some, Beat, Channel, IsWidth, Message, MessageA, unfinished, completes}
 use proofs.Imports.{Config, Cap, Report, Perm, prune_left, same_perm, is_acquire, EndConfig, End, Handed, access_answer}
@@ -9,12 +9,12 @@ use proofs.Imports.{ClientBlock, ProbeAnswered, is_unprobed, after_report, Waits
 use proofs.Imports.{AbstractState, performs, ChannelRelation, prune_told, block_message, SimulationRelation, receiver}
 use proofs.Imports.{Log, Step, handing, is_to_client, stepped, System, terms_at, with_channel, with_manager}
 use proofs.Imports.{with_messages, channel_of_message}
-use Rattle.tl_rules.specs.declared.answer.Answer.{Answer}
+use Rattle.tl_rules.{specs.declared.answer.Answer.Answer}
 use Rattle.tl_rules.specs.declared.answer.Answer as answers_of
 use Rattle.tl_manager.specs.code.Kept as manager
 use proofs.queues.{Channels.behind, Channels.IsTaken, Channels.pushes_at, Showing.carries, Showing.none-carried}
 use proofs.queues.{Tokens.set-same, Tokens.set-other, Tokens.set-part, Perms.nothing_below}
-use proofs.queues.Landed.{HasTaken, IsLanded, IsOn, landed-manager, channels-handed, pushes_of, taken-landed}
+use proofs.queues.Landed.{IsLanded, IsOn, landed-manager, channels-handed, pushes_of, taken-landed}
 use proofs.manager.{ManagerAfter.left, ManagerTakes.IsTakenUp, Admitted.head_all}
 use proofs.deliveries.{LastReportDelivered.pushed, ManagerFollowed.client-of, ManagerFollowed.step-taken}
 use proofs.simulation.Moved.{carried-part, manager-heard}
@@ -71,7 +71,7 @@ no-messages : {w : ℕ} (s : System w) (d : ℕ) (at : Channel)
 unfolding with_messages
 no-messages s d at = refl
 
-pub landed-taken : {w : ℕ} {config : Config} {c : ℕ} {ch : Channel} {x : Beat w} (queue : List (Beat w))
+landed-taken : {w : ℕ} {config : Config} {c : ℕ} {ch : Channel} {x : Beat w} (queue : List (Beat w))
     (sys : System w) (t : EndConfig) (handed : Handed w) (pushes : ℕ → Channel → Option (Message w)) → IsWidth w
     → manager.IsKept config sys.manager → manager.IsTyped x → is_to_client ch ≡ false → IsOn ch x
     → terms_at config c ≡ Some t → sys.channels c ch ≡ x ∷ queue → IsTakenUp config c ch x sys.manager
@@ -82,18 +82,16 @@ landed-taken {w} {config} {c} {ch} {x} queue sys t handed pushes width kept type
     let e : End w = left c x (reaction config (record { 0 = c }) x sys.manager) sys.manager in
     let base : System w = with_manager e (with_channel c ch queue sys) in
     let step = step-taken config c ch x queue sys t terms beats down up in
-    let heard : HasTaken c x sys.manager e = manager-heard config (record { 0 = c }) ch x queue sys
-    (stepped config (Deliver (record { 0 = c }) ch) sys) width typed kept
-    (record { takes = up.answer; step_is = step }) in
     subst (λ (i : Step w). IsLanded c ch x queue pushes sys i.after)
     (sym (step ∙ ap (λ (i : Handed w). handing (Outcome.Moved x) i base) is))
-    (landed-manager c ch x queue pushes handed e sys down beats on_ch heard (pushed base))
+    (landed-manager c ch x queue pushes handed e sys down beats on_ch (manager-heard config
+    (record { 0 = c }) ch x queue sys (stepped config (Deliver (record { 0 = c }) ch) sys) width typed kept
+    (record { takes = up.answer; step_is = step })) (pushed base))
 
 -- a beat of channel C, or of channel E, is of that channel
 -- what holds before a delivery to the manager
 pub record IsReceived {w : ℕ} (config : Config) (log : Log w) (h : AbstractState w) (sys : System w) (c : ℕ)
-    (ch : Channel)
-    (x : Beat w) (queue : List (Beat w)) : Type 0 where
+    (ch : Channel) (x : Beat w) (queue : List (Beat w)) : Type 0 where
   pub width : IsWidth w
   pub is : SimulationRelation config log h.mail h.request h.state sys
   pub beats : sys.channels c ch ≡ x ∷ queue
@@ -123,33 +121,29 @@ pub part-carried : {w : ℕ} {config : Config} {log : Log w} {h : AbstractState 
     {x : Beat w} {queue : List (Beat w)}
     → IsReceived config log h sys c ch x queue → (reaction config (record { 0 = c }) x sys.manager).handed ≡ []
     → completes x (unfinished ch (receiver ch c sys)) ≡ false → CarriesAfter config c ch sys h
-part-carried {config} {log} {h} {sys} {c} {ch} {x} {queue} at none part =
-    carried-part h.mail h.state at.width (landed-received [] no_pushes at none no-messages) (λ d i. refl) part
-    at.is.carried
+part-carried {config} {log} {h} {sys} {c} {ch} {x} {queue} at none part = carried-part h.mail h.state at.width
+    (landed-received [] no_pushes at none no-messages) (λ d i. refl) part at.is.carried
 
 -- its last beat, for which one message is handed out, or none
 pub last-quietly : {w : ℕ} {config : Config} {log : Log w} {h : AbstractState w} {sys : System w} {c : ℕ} {ch : Channel}
     {x : Beat w} {queue : List (Beat w)} → IsReceived config log h sys c ch x queue
     → (reaction config (record { 0 = c }) x sys.manager).handed ≡ [] → completes x (unfinished ch (receiver ch c sys))
     ≡ true → IsTaken c ch x queue no_pushes sys (stepped config (Deliver (record { 0 = c }) ch) sys).after
-last-quietly {config} {log} {h} {sys} {c} {ch} {x} {queue} at none last =
-    taken-landed (landed-received [] no_pushes at none no-messages) last
+last-quietly at none last = taken-landed (landed-received [] no_pushes at none no-messages) last
 
 pub last-handing : {w : ℕ} {config : Config} {log : Log w} {h : AbstractState w} {sys : System w} {c : ℕ} (q : ℕ)
     {ch : Channel} {x : Beat w} {queue : List (Beat w)} (m : Message w) → IsReceived config log h sys c ch x queue
     → (reaction config (record { 0 = c }) x sys.manager).handed ≡ (record { 0 = q }, m) ∷ []
     → completes x (unfinished ch (receiver ch c sys)) ≡ true → IsTaken c ch x queue (pushes_at q (pushes_of (Some m)))
     sys (stepped config (Deliver (record { 0 = c }) ch) sys).after
-last-handing {config} {log} {h} {sys} {c} q {ch} {x} {queue} m at one last =
-    taken-landed (landed-received ((record { 0 = q }, m) ∷ []) (pushes_at q (pushes_of (Some m))) at one
-    (λ s d i. channels-handed q (Some m) s d i)) last
+last-handing q m at one last = taken-landed (landed-received ((record { 0 = q }, m) ∷ [])
+    (pushes_at q (pushes_of (Some m))) at one (λ s d i. channels-handed q (Some m) s d i)) last
 
 -- ---- which messages are of channel D
 
 pub answer_on_d : {w : ℕ} (v : MessageA w) (kind : answers_of.Answer)
     → channel_of_message (access_answer v kind) ≡ Channel.D
-answer_on_d v Answer.Ack = refl
-answer_on_d v kind = refl
+answer_on_d v kind = grind arith
 
 pub grant_on_d : (w : ℕ) (q n : ℕ) (b : Block (List ℕ)) (d : Bool) (k : Cap) → b.service ≡ GrantSent q d k
     → channel_of_message {w = w} (block_message Grant q n b) ≡ Channel.D

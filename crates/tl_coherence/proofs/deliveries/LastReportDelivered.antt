@@ -1,5 +1,6 @@
 -- The manager takes the last beat of a ProbeAck.
-use Rattle.std.proofs.Common.{[], ◌≡◌, ℕ, Bool, true, false, ◌&&◌, List, ◌∷◌, length, refl, sym, ◌∙◌, ap, subst, ◌==◌}
+use Rattle.std.proofs.Common.{[], ◌≡◌, ℕ, Bool, true, false, ◌&&◌, List, ◌∷◌}
+use Rattle.std.proofs.Common.{length, refl, sym, ◌∙◌, ap, subst, ◌==◌, arith}
 use Rattle.std.proofs.Common.{if◌then◌else◌}
 use Rattle.tl_coherence.proofs
 use proofs.Imports.{Beat, Channel, Message, MessageA, MessageC, c_beat_of, Config, Cap, Grow, Report, Perm, report_left}
@@ -71,9 +72,8 @@ pub reported-last : {w : ℕ} {config : Config} {log : Log w} (h : AbstractState
     (same_perm (report_left (report_told ((h.state.block n).pair c).probing)) Perm.Trunk) (h.state.block n).truth k m
     sys.manager → Does config c h (ack_taken (length config.clients.items) config.profile c n
     (report_told ((h.state.block n).pair c).probing) rest h) ProbeAck n sys.manager (Beat.C (c_beat_of m k))
-reported-last {w} {config} {log} h {sys} {c} {n} {k} rest {m} is tokens answered up end =
-    others (some_below (length config.clients.items) (others_probed c b.pair)) refl
-    (invariant-taken h c ProbeAck n rest is tokens tt)
+reported-last {w} {config} {log} h {sys} {c} {n} {k} rest {m} is tokens answered up end = others (some_below
+    (length config.clients.items) (others_probed c b.pair)) refl (invariant-taken h c ProbeAck n rest is tokens tt)
   where
     b : Block (List ℕ)
     b = h.state.block n
@@ -97,8 +97,7 @@ reported-last {w} {config} {log} h {sys} {c} {n} {k} rest {m} is tokens answered
 
     unseen : (x : Bool) (u v : View) → is_other u ≡ false → is_other v ≡ false → is_other (if x then u else v) ≡ true
         → ⊥
-    unseen true u v f g i = cc
-    unseen false u v f g i = cc
+    unseen x u v e f g = grind arith
 
     last : some_below (length config.clients.items) (others_probed c b.pair) ≡ false → (service : Service)
         → b.service ≡ service → IsInvariant (is_caching config) (last_taken (length config.clients.items) config.profile
@@ -110,8 +109,7 @@ reported-last {w} {config} {log} h {sys} {c} {n} {k} rest {m} is tokens answered
         absurd (unseen (c == q) (Granting d low) GrantedOther refl refl (rw f at seen))
     last alone (GrantTaken q) f inv = absurd (unseen (c == q) Acknowledging GrantedOther refl refl (rw f at seen))
     last alone (Waits q false source low) f inv =
-        let at : IsSettling config c q n source k false low r m h e =
-        record {
+        let at : IsSettling config c q n source k false low r m h e = record {
           up = up;
           end = end;
           alone = alone;
@@ -136,9 +134,6 @@ reported-last {w} {config} {log} h {sys} {c} {n} {k} rest {m} is tokens answered
         used = acquires_of-is n (h.state.uses q source)
             (is.invariant.named.acquires q source n ∙ rw (wants, ← own_source, same_number source) refl)
 
-        acquired : block_message Acquire q n b ≡ Message.A (h.request n)
-        acquired = subst (λ (v : Service). IsAcquireOf n b v (h.request n)) f (is.acquired n)
-
         go : (y : AcquirePhase) → (b.pair q).acquiring ≡ y
             → IsInvariant (is_caching config) (granted_after (length config.clients.items) config.profile c q n r y rest
             h).state → Result (granted_after (length config.clients.items) config.profile c q n r y rest h)
@@ -149,17 +144,11 @@ reported-last {w} {config} {log} h {sys} {c} {n} {k} rest {m} is tokens answered
             ) ∷ [])
         go NoAcquire g after = absurd (let none : false ≡ true = rw g at wants in cc)
         go (AcquireOpen whole grow) g after =
-            let fields = wanted_fields q n whole grow b (h.request n) g acquired in
+            let fields = wanted_fields q n whole grow b (h.request n) g
+            (subst (λ (v : Service). IsAcquireOf n b v (h.request n)) f (is.acquired n)) in
             let at : IsSettling config c q n source k true low r m h e =
-            record {
-              up = up;
-              end = end;
-              alone = alone;
-              waits = f;
-              is = at_manager-matched is;
-            } in
-            let wanted : IsWanted c q n source whole grow h =
-            record {
+            record { up = up; end = end; alone = alone; waits = f; is = at_manager-matched is } in
+            let wanted : IsWanted c q n source whole grow h = record {
               apart = seen_apart q source low c (rw f at seen);
               used = used;
               opcode_is = fields.0;
@@ -167,13 +156,11 @@ reported-last {w} {config} {log} h {sys} {c} {n} {k} rest {m} is tokens answered
             } in
             let new : Block (List ℕ) = granted_block c q r (is_granted_data whole grow (b.pair q).recorded)
             (gift_after config c n r whole grow h) b in
-            let here : set n new h.state.block n ≡ new = set-same n new h.state.block in (
-              conceded-left rest at wanted,
-              ap (λ (d : Reaction w). d.handed) (reaction-conceded at wanted) ∙ ap
-                  (λ (i : Message w). (record { 0 = q }, i) ∷ []) (grant-rendered config c q n source r whole grow h
-                  own_source (subst (IsWell (is_caching config)) here (after.blocks n)) ∙ ap (block_message Grant q n)
-                  (sym here)),
-            )
+            let here : set n new h.state.block n ≡ new = set-same n new h.state.block in
+            let fact = ap (λ (d : Reaction w). d.handed) (reaction-conceded at wanted) ∙ ap (λ (i : Message w).
+            (record { 0 = q }, i) ∷ []) (grant-rendered config c q n source r whole grow h own_source
+            (subst (IsWell (is_caching config)) here (after.blocks n)) ∙ ap (block_message Grant q n) (sym here)) in
+            (conceded-left rest at wanted, fact)
 
     others : (y : Bool) → some_below (length config.clients.items) (others_probed c b.pair) ≡ y
         → IsInvariant (is_caching config) (if y then with_state (report_taken c n r rest h.state) h else last_taken
@@ -182,10 +169,9 @@ reported-last {w} {config} {log} h {sys} {c} {n} {k} rest {m} is tokens answered
         config.profile c n r b.service rest h) (if some_below (length config.clients.items) (others_probed c b.pair)
         then [] else pushed_last n b.service (if y then with_state (report_taken c n r rest h.state) h else last_taken
         (length config.clients.items) config.profile c n r b.service rest h))
-    others true f inv = (
-      reported-left r rest h up end f (at_manager-matched is),
-      ap (λ (d : Reaction w). d.handed) (reaction-reported config r h end f (at_manager-matched is).traced) ∙ rw f refl,
-    )
+    others true f inv = let fact = ap (λ (d : Reaction w). d.handed)
+        (reaction-reported config r h end f (at_manager-matched is).traced) ∙ rw f refl in
+        (reported-left r rest h up end f (at_manager-matched is), fact)
     others false f inv =
         let done = last f b.service refl inv in
         (done.0, done.1 ∙ rw f refl)

@@ -4,16 +4,15 @@ use Rattle.std.proofs.Common.{[], ◌≡◌, ℕ, ◌+◌, Bool, true, false, Li
 use Rattle.std.proofs.Common.{eqb-true, ◌==◌, if◌then◌else◌}
 use Rattle.tl_coherence.proofs
 use proofs.Imports.{Beat, BeatE, Channel, IsWidth, Message, MessageC, beats_of, begun, c_beat_of, unfinished, completes}
-use proofs.Imports.{Config, GrantSink, Prune, Report, Perm, prune_left, prune_code, on_link, same_perm, broken_in_order}
-use proofs.Imports.{pending, reaction-part, reaction-ack, whole-e, End, Reaction, Handed, release_ack, reaction, Kind}
-use proofs.Imports.{ProbeAck, Release, GrantAck, Packet, ReleaseAck, ProbeAnswered, ReleaseSent, GrantTaken, Block}
-use proofs.Imports.{release_taken, packet, let_block, grant_ack_taken, AbstractState, ack_taken, packet_taken}
-use proofs.Imports.{with_state, prune_told, block_message, report_told, SimulationRelation, is_caching, IsFor, Log}
-use proofs.Imports.{System}
+use proofs.Imports.{Config, Prune, Report, Perm, prune_left, prune_code, on_link, same_perm, broken_in_order}
+use proofs.Imports.{reaction-part, reaction-ack, whole-e, End, Handed, reaction, Kind, ProbeAck, Release, GrantAck}
+use proofs.Imports.{Packet, ProbeAnswered, GrantTaken, release_taken, packet, let_block, grant_ack_taken, AbstractState}
+use proofs.Imports.{ack_taken, packet_taken, with_state, prune_told, block_message, report_told, SimulationRelation}
+use proofs.Imports.{is_caching, IsFor, Log, System}
 use Rattle.tl_manager.specs.code.Kept as manager
 use proofs.queues.{FirstToken.first-token, Carried.IsNext, Tokens.set-same}
-use proofs.manager.{ManagersEnd.at_manager-matched, ManagedAcks.IsAcked, Admitted.head_all, Reporting.report-about}
-use proofs.manager.{Reporting.release-about}
+use proofs.manager.{ManagersEnd.at_manager-matched, ManagedAcks.IsAcked, Admitted.head_all}
+use proofs.manager.Reporting.{report-about, release-about}
 use proofs.manager.ManagerAfter.{IsManagerOf, left, IsEnd, report_part-left, released-left, acked-left}
 use proofs.manager.ManagerAfter.{reaction-released}
 use proofs.manager.ManagerTakes.{IsTakenUp, ack-order, by-first_c, by-first_e, release-order, report-order, takes}
@@ -45,8 +44,7 @@ delivered-c : {w : ℕ} (config : Config) (h h' : AbstractState w) (kind : Kind)
     → IsTakenUp config c Channel.C (Beat.C (c_beat_of m k)) e → Does config c h h' kind n e (Beat.C (c_beat_of m k)))
     → Delivered config c Channel.C (unfinished Channel.C (on_link c e.trace)) h h' (pushed config c kind n h h') e x
 delivered-c {w} config h h' kind c n m e width is sound next order last =
-    subst (Delivered config c Channel.C rest h h' pushes e) (sym next.beat_is)
-    (go (next.k + 1 == beats_of (Message.C m)) refl)
+    rw next.beat_is (go (next.k + 1 == beats_of (Message.C m)) refl)
   where
     rest : List (Beat w)
     rest = unfinished Channel.C (on_link c e.trace)
@@ -58,8 +56,7 @@ delivered-c {w} config h h' kind c n m e width is sound next order last =
     y = Beat.C (c_beat_of m next.k)
 
     up : IsTakenUp config c Channel.C y e
-    up = takes c Channel.C y e (subst (λ (i : Beat w). manager.IsSound config (record { 0 = c }, i)) next.beat_is
-        sound) refl refl is.all_live (order next.k next.rest_is) refl
+    up = takes c Channel.C y e (rw next.beat_is at sound) refl refl is.all_live (order next.k next.rest_is) refl
 
     completes_it : completes y rest ≡ (next.k + 1 == beats_of (Message.C m))
     completes_it = ap (λ (i : Beat w). completes i rest) (sym next.beat_is) ∙ next.completes_is
@@ -94,10 +91,8 @@ unfolding block_message
 reports-delivered {w} {config} {log} h {sys} c n rest {x} {queue} {ms} width is beats tokens next =
     let r : Report = report_told ((h.state.block n).pair c).probing in
     let about = report-about r n (h.state.block n).truth width (is.sized n).truth in
-    let m : MessageC w = about.0 in
-    let answered : ((h.state.block n).pair c).probing ≡ ProbeAnswered r =
-    first-report is.invariant tokens in
-    delivered-c config h _ ProbeAck c n m sys.manager width
+    let answered : ((h.state.block n).pair c).probing ≡ ProbeAnswered r = first-report is.invariant tokens in
+    delivered-c config h _ ProbeAck c n about.0 sys.manager width
     (at_manager-matched is)
     (head_all (λ y. manager.IsSound config (record { 0 = c }, y)) x queue (sys.channels c Channel.C) beats
     (is.sound c Channel.C))
@@ -123,28 +118,24 @@ releases-delivered {w} {config} {log} h {sys} c n rest {x} {queue} {ms} width is
     let about = release-about r ((h.state.block n).release_source c) n (h.state.block n).truth width (is.sized n).truth
     in
     let m : MessageC w = about.0 in
-    let releasing : ((h.state.block n).pair c).letting ≡ ReleaseSent r =
-    first-release is.invariant tokens in
     delivered-c config h _ Release c n m sys.manager width
     (at_manager-matched is)
     (head_all (λ y. manager.IsSound config (record { 0 = c }, y)) x queue (sys.channels c Channel.C) beats
     (is.sound c Channel.C))
     (subst (λ (i : Message w). IsNext x (unfinished Channel.C (on_link c sys.manager.trace)) i ms queue) about.1 next)
-    (λ k before. release-order c k r rest is.invariant is.managed is.manager_kept tokens releasing about.2 before)
+    (λ k before. release-order c k r rest is.invariant is.managed is.manager_kept tokens
+    (first-release is.invariant tokens) about.2 before)
     (λ k all before up.
     let end : IsEnd false c n (prune_code r) (same_perm (prune_left r) Perm.Trunk) (h.state.block n).truth k m
     sys.manager =
     record { width = width; about = about.2; rest = before; last = all; long = (is.sized n).truth } in (
       released-left r rest h up end (at_manager-matched is),
-      ap (λ (d : Reaction w). d.handed) (reaction-released config r h end)
-          ∙ ap (λ (i : ℕ). (record { 0 = c }, release_ack {w = w} i) ∷ []) about.3
-          ∙ sym (ap (λ (b : Block (List ℕ)). (record { 0 = c }, block_message {w = w} ReleaseAck c n b) ∷ [])
-          (set-same n (let_block c r (h.state.block n)) h.state.block)),
+      cc (reaction-released config r h end, about.3, set-same n (let_block c r (h.state.block n)) h.state.block),
     ))
 
 -- ---- a GrantAck
 
-pub acks-delivered : {w : ℕ} {config : Config} {log : Log w} (h : AbstractState w) {sys : System w} (c n : ℕ)
+acks-delivered : {w : ℕ} {config : Config} {log : Log w} (h : AbstractState w) {sys : System w} (c n : ℕ)
     (rest : List Packet) {x : Beat w} {queue : List (Beat w)} {ms : List (Message w)} → IsWidth w
     → SimulationRelation config log h.mail h.request h.state sys → sys.channels c Channel.E ≡ x ∷ queue
     → (h.state.link c).e ≡ packet GrantAck n ∷ rest → IsNext x (unfinished Channel.E (on_link c sys.manager.trace))
@@ -153,6 +144,7 @@ pub acks-delivered : {w : ℕ} {config : Config} {log : Log w} (h : AbstractStat
     (with_state (grant_ack_taken c n rest h.state) h) [] sys.manager x
 unfolding block_message
 acks-delivered {w} {config} {log} h {sys} c n rest {x} {queue} width is beats tokens next =
+    let order = ack-order c n y is.invariant.named is.served is.manager_kept taken_is refl in
     let before : List (Beat w) = unfinished Channel.E (on_link c e.trace) in
     let after : AbstractState w = with_state (grant_ack_taken c n rest h.state) h in
     let up = takes c Channel.E (Beat.E y) e (subst (λ (i : Beat w). manager.IsSound config (record { 0 = c }, i))
@@ -162,8 +154,7 @@ acks-delivered {w} {config} {log} h {sys} c n rest {x} {queue} width is beats to
     subst (Delivered config c Channel.E before h after [] e) (sym next.beat_is) (record {
       up = up;
       manager = rw whole (acked-left rest h width up acks (at_manager-matched is));
-      handed = ap (λ (d : Reaction w). d.handed) (reaction-ack config (record { 0 = c }) y e) ∙ sym
-          (ap (λ (b : Bool). if b then [] else []) whole);
+      handed = cc (reaction-ack config (record { 0 = c }) y e);
     })
   where
     e : End w
@@ -174,10 +165,6 @@ acks-delivered {w} {config} {log} h {sys} c n rest {x} {queue} width is beats to
 
     taken_is : (h.state.block n).service ≡ GrantTaken c
     taken_is = first-grant_ack is.invariant tokens
-
-    order : (pending (GrantSink y.sink) (on_link c e.trace) ≡ true)
-        × (broken_in_order {w = w} config.profile (Beat.E y) (on_link c e.trace) ≡ None)
-    order = ack-order c n y is.invariant.named is.served is.manager_kept taken_is refl
 
     acks : IsAcked c n y h.request h.state e.trace
     acks = record {

@@ -26,8 +26,7 @@ client-of {w} config c ch x queue sys beats sound =
     }) o ≡ Some t) =
     elim [ None ↦ λ e. absurd cc | Some i ↦ λ e. (_, refl) ] in
     let all : All (λ y. manager.IsSound config (record { 0 = c }, y)) (x ∷ queue) = rw beats at sound in
-    let first : manager.IsSound config (record { 0 = c }, x) = all 0 x (omega arith) in
-    go (slice_get config.clients.items c) first.lawful
+    go (slice_get config.clients.items c) (all 0 x (omega arith)).lawful
 
 -- what the step is
 pub step-taken : {w : ℕ} (config : Config) (c : ℕ) (ch : Channel) (x : Beat w) (queue : List (Beat w)) (sys : System w)
@@ -39,18 +38,15 @@ pub step-taken : {w : ℕ} (config : Config) (c : ℕ) (ch : Channel) (x : Beat 
 step-taken {w} config c ch x queue sys t terms beats down up =
     cc (stepped-to-manager config (record { 0 = c }) ch sys t x queue terms beats down, up.answer)
 
-pub manager-taken : {w : ℕ} (config : Config) (c : ℕ) (ch : Channel) (x : Beat w) (queue : List (Beat w))
+manager-taken : {w : ℕ} (config : Config) (c : ℕ) (ch : Channel) (x : Beat w) (queue : List (Beat w))
     (sys : System w) (t : EndConfig) → terms_at config c ≡ Some t → sys.channels c ch ≡ x ∷ queue
     → is_to_client ch ≡ false → IsTakenUp config c ch x sys.manager
     → (stepped config (Deliver (record { 0 = c }) ch) sys).after.manager
     ≡ left c x (reaction config (record { 0 = c }) x sys.manager) sys.manager
 manager-taken {w} config c ch x queue sys t terms beats down up =
-    cc (
-      step-taken config c ch x queue sys t terms beats down up,
-      manager-with_messages (reaction config (record { 0 = c }) x sys.manager).handed
-          (with_manager (left c x (reaction config (record { 0 = c }) x sys.manager) sys.manager)
-          (with_channel c ch queue sys)),
-    )
+    let fact = manager-with_messages (reaction config (record { 0 = c }) x sys.manager).handed (with_manager
+    (left c x (reaction config (record { 0 = c }) x sys.manager) sys.manager) (with_channel c ch queue sys)) in
+    cc (step-taken config c ch x queue sys t terms beats down up)
 
 -- and what the protocol does then
 pub followed-taken : {w : ℕ} {config : Config} {c : ℕ} {ch : Channel} {x : Beat w} (queue : List (Beat w))
@@ -75,8 +71,7 @@ manager-followed_c {w} {config} {log} h {sys} c x queue width is beats =
     let d = channel_c-delivered (least_untaken (trackers_of (services sys.manager.trace))) h c x queue width is beats in
     subst (λ (i : End w). IsManagerOf config (abstract_step config (Deliver (record { 0 = c }) Channel.C) sys h) i)
     (sym (manager-taken config c Channel.C x queue sys t.0 t.1 beats refl d.up))
-    (subst (λ (i : AbstractState w). IsManagerOf config i (left c x (reaction config (record { 0 = c }) x sys.manager)
-    sys.manager)) (sym (followed-taken queue sys h t.0 t.1 beats refl d.up)) d.manager)
+    (rw (followed-taken queue sys h t.0 t.1 beats refl d.up) d.manager)
 
 pub manager-followed_e : {w : ℕ} {config : Config} {log : Log w} (h : AbstractState w) {sys : System w} (c : ℕ)
     (x : Beat w) (queue : List (Beat w)) → IsWidth w
@@ -88,5 +83,4 @@ manager-followed_e {w} {config} {log} h {sys} c x queue width is beats =
     let d = channel_e-delivered (least_untaken (trackers_of (services sys.manager.trace))) h c x queue width is beats in
     subst (λ (i : End w). IsManagerOf config (abstract_step config (Deliver (record { 0 = c }) Channel.E) sys h) i)
     (sym (manager-taken config c Channel.E x queue sys t.0 t.1 beats refl d.up))
-    (subst (λ (i : AbstractState w). IsManagerOf config i (left c x (reaction config (record { 0 = c }) x sys.manager)
-    sys.manager)) (sym (followed-taken queue sys h t.0 t.1 beats refl d.up)) d.manager)
+    (rw (followed-taken queue sys h t.0 t.1 beats refl d.up) d.manager)

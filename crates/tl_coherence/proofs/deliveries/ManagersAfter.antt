@@ -1,56 +1,49 @@
 -- A beat that is delivered to the manager: the channels and the one memory afterwards, by what is handed out.
 use Rattle.std.proofs.Common.{◌≡◌, ℕ, Bool, true, false, List, [], ◌∷◌, Option, Some, None, refl, sym, ◌∙◌, ap, subst}
-use Rattle.std.proofs.Common.{if◌then◌else◌, All}
+use Rattle.std.proofs.Common.{arith, if◌then◌else◌, All}
 use Rattle.tl_coherence.proofs
 use proofs.Imports.{All-head, Beat, Link, Channel, OpB, IsWidth, Message, beat_of, unfinished, channel_of, completes}
-use proofs.Imports.{Config, Prune, Report, Perm, report_left, on_link, ends, release, probe_ack, reaction-part, Handed}
+use proofs.Imports.{Config, Prune, Report, Perm, report_left, on_link, release, probe_ack, reaction-part, Handed}
 use proofs.Imports.{reaction, Deliver, Outcome, Kind, Request, Acquire, ProbeAck, Release, Answer, GrantAck, Packet}
-use proofs.Imports.{AcquirePhase, NoAcquire, AcquireOpen, Block, SourceState, packet, packets_on, is_on, AbstractState}
-use proofs.Imports.{abstract_step, kind_taken, ChannelRelation, MemoryRelation, report_told, prune_told, block_message}
-use proofs.Imports.{message_of_kind, acquire_of, SimulationRelation, is_caching, IsRequest, IsSourced, receiver}
-use proofs.Imports.{is_moving, Log, system_after, Machine, one_memory_after, performing, accesses_answered, Step}
-use proofs.Imports.{stepped, handing, is_to_client, System, terms_at, channel_of_message, with_manager, with_channel}
-use proofs.Imports.{with_messages}
+use proofs.Imports.{AcquirePhase, Block, packet, packets_on, is_on, AbstractState, abstract_step, kind_taken}
+use proofs.Imports.{ChannelRelation, MemoryRelation, report_told, prune_told, block_message, message_of_kind}
+use proofs.Imports.{acquire_of, SimulationRelation, is_caching, IsRequest, receiver, is_moving, Log, system_after}
+use proofs.Imports.{Machine, one_memory_after, performing, accesses_answered, Step, stepped, handing, is_to_client}
+use proofs.Imports.{System, terms_at, channel_of_message, with_manager, with_channel, with_messages}
 use Rattle.tl_client.specs.statement.Endpoint as client
 use Rattle.tl_manager.specs.code.Kept as manager
 use Rattle.tl_manager.specs.statement.End as manager_end
 use Rattle.tl_manager.specs.statement.Offer as manager_offer
-use proofs.queues.{Channels.behind, Channels.IsTaken, FirstToken.IsFirst, FirstToken.first-token, Landed.IsOn}
-use proofs.queues.{Landed.HasTaken, Landed.landed-manager, Landed.taken-landed, Landed.on_own_channel}
-use proofs.deliveries.{DeliverDAfter.followed-moving, DeliverDWhole.remembered_after, DeliverDUnmoved.IsDelivered}
-use proofs.deliveries.{DeliverDUnmoved.delivered_as}
-use proofs.manager.UnwaitedRequests.{next_tracker}
+use proofs.queues.{Channels.behind, Channels.IsTaken, FirstToken.IsFirst, FirstToken.first-token}
+use proofs.queues.Landed.{IsOn, HasTaken, landed-manager, taken-landed, on_own_channel}
+use proofs.deliveries.{DeliverDAfter.followed-moving, DeliverDWhole.remembered_after}
+use proofs.deliveries.DeliverDUnmoved.{IsDelivered, delivered_as}
+use proofs.manager.{UnwaitedRequests.next_tracker}
 use proofs.simulation.{SourcedAfter.first-asked, Moved.manager-moves, Moved.manager-heard, Moved.carried-part}
 
 -- ---- the channel of a message, and of its beats
 
 channel_of_beat : {w : ℕ} (m : Message w) (i : ℕ) → channel_of (beat_of m i) ≡ channel_of_message m
-channel_of_beat (Message.A m) i = refl
-channel_of_beat m i = refl
+channel_of_beat m i = grind arith
 
 pub on_message : {w : ℕ} (m : Message w) (i : ℕ) → IsOn (channel_of_message m) (beat_of m i)
 on_message m i = subst (λ (ch : Channel). IsOn ch (beat_of m i)) (channel_of_beat m i) (on_own_channel (beat_of m i))
 
 acquire_channel : (w : ℕ) (x : AcquirePhase) (source n : ℕ)
     → channel_of_message {w = w} (acquire_of x source n) ≡ Channel.A
-acquire_channel w NoAcquire source n = refl
-acquire_channel w (AcquireOpen true g) source n = refl
-acquire_channel w (AcquireOpen false g) source n = refl
+acquire_channel w x source n = grind arith
 
 pub ack_channel : (w : ℕ) (p : Perm) (r : Report) (n : ℕ) (x : List ℕ)
     → channel_of_message {w = w} (probe_ack OpB.ProbeBlock p r n x) ≡ Channel.C
-ack_channel w Perm.None r n x = refl
-ack_channel w p r n x = refl
+ack_channel w p r n x = grind arith
 
 pub release_channel : (w : ℕ) (p : Prune) (source n : ℕ) (x : List ℕ)
     → channel_of_message {w = w} (release p source n x) ≡ Channel.C
-release_channel w Prune.TtoB source n x = refl
-release_channel w p source n x = refl
+release_channel w p source n x = grind arith
 
 request_channel : {w : ℕ} (config : Config) (c source : ℕ) (m : Message w) → IsRequest config c source m
     → channel_of_message m ≡ Channel.A
-request_channel config c source (Message.A m) h = refl
-request_channel config c source m h = absurd (let e = h.0 in cc)
+request_channel config c source m e = grind arith
 
 rendered_channel : (w : ℕ) (ch : Channel) (k : Kind) (c n : ℕ) (b : Block (List ℕ)) → is_to_client ch ≡ false
     → is_on ch k ≡ true → (k ≡ Request → ⊥) → channel_of_message (block_message {w = w} k c n b) ≡ ch
@@ -97,9 +90,8 @@ at-manager {w} {config} {log} link ch h terms x queue width is known down beats 
     let chan = message_channel first.kind first.number first.tokens first.own in
     record {
       first = first;
-      on_it = subst (λ (i : Channel). IsOn i x) chan (subst
-          (λ (z : Beat w). IsOn (channel_of_message (message_of_kind first.kind h.mail h.state link.0 first.number)) z)
-          (sym first.next.beat_is)
+      on_it = subst (λ (i : Channel). IsOn i x) chan (subst (λ (z : Beat w). IsOn (channel_of_message
+          (message_of_kind first.kind h.mail h.state link.0 first.number)) z) (sym first.next.beat_is)
           (on_message (message_of_kind first.kind h.mail h.state link.0 first.number) first.next.k));
       of_it = ap (λ (z : Beat w). channel_of z) first.next.beat_is ∙ channel_of_beat
           (message_of_kind first.kind h.mail h.state link.0 first.number) first.next.k ∙ chan;
@@ -113,8 +105,7 @@ at-manager {w} {config} {log} link ch h terms x queue width is known down beats 
     head : manager.IsSound config (record { 0 = link.0 }, x)
     head =
         let same : (system_after config log).channels link.0 ch ≡ x ∷ queue
-        → All (λ y. manager.IsSound config (record { 0 = link.0 }, y))
-        ((system_after config log).channels link.0 ch)
+        → All (λ y. manager.IsSound config (record { 0 = link.0 }, y)) ((system_after config log).channels link.0 ch)
         → All (λ y. manager.IsSound config (record { 0 = link.0 }, y)) (x ∷ queue) = λ e f. rw e at f in
         All-head (λ y. manager.IsSound config (record { 0 = link.0 }, y)) x queue (same beats (is.sound link.0 ch))
 
@@ -124,24 +115,19 @@ at-manager {w} {config} {log} link ch h terms x queue width is known down beats 
       where
         asked : (at : Channel) → packets_on at (h.state.link link.0) ≡ packet Request i ∷ rest → is_on at Request ≡ true
             → channel_of_message (h.mail.request link.0 i) ≡ at
-        asked Channel.A e f =
-            let used = first-asked link.0 i rest h is.invariant e in
-            request_channel config link.0 i (h.mail.request link.0 i)
-            (subst (λ (u : SourceState). IsSourced config link.0 i (h.mail.request link.0 i) u) used
-            (is.sourced link.0 i))
+        asked Channel.A e f = request_channel config link.0 i (h.mail.request link.0 i)
+            (rw (first-asked link.0 i rest h is.invariant e) at (is.sourced link.0 i))
         asked at e f = absurd cc
     message_channel Answer i tokens own =
-        let never : (at : Channel) → is_to_client at ≡ false → is_on at Answer ≡ true
-        → channel_of_message (h.mail.answer link.0 i) ≡ at =
-        elim [ Channel.D ↦ λ e f. absurd cc | at ↦ λ e f. absurd cc ] in
+        let never : (at : Channel) → is_to_client at ≡ false → is_on at Answer ≡ true → channel_of_message
+        (h.mail.answer link.0 i) ≡ at = elim [ Channel.D ↦ λ e f. absurd cc | at ↦ λ e f. absurd cc ] in
         never ch down own
     message_channel k i tokens own = rendered_channel w ch k link.0 i (h.state.block i) down own (λ e. absurd cc)
 
 -- the whole where these messages were handed out
 abbrev pub after_taken : {w : ℕ} → Config → Link → Channel → Beat w → List (Beat w) → System w → Handed w → System w
-after_taken config link ch x queue sys handed =
-    with_messages handed (with_manager (manager_offer.taken link x (reaction config link x sys.manager) sys.manager)
-    (with_channel link.0 ch queue sys))
+after_taken config link ch x queue sys handed = with_messages handed (with_manager
+    (manager_offer.taken link x (reaction config link x sys.manager) sys.manager) (with_channel link.0 ch queue sys))
 
 -- What is left to show of the last beat of a message: what the manager hands out, and that the channels and the one
 -- memory are those of the protocol then.
@@ -164,11 +150,9 @@ pub delivered-last : {w : ℕ} {config : Config} {log : Log w} {link : Link} {ch
 delivered-last {w} {config} {log} {link} {ch} {h} {x} {queue} handed pushes down is last gives pushed carried beside =
     let h' = kind_taken config (next_tracker sys) link.0 is.first.kind is.first.number is.first.rest h in
     delivered_as config log link ch h h' (is.follows ∙ ap (λ (b : Bool). if b then h' else h) last)
-    (subst (λ (y : Step w). ChannelRelation h'.mail h'.state y.after) (sym step_is)
-    (carried (taken-landed
+    (subst (λ (y : Step w). ChannelRelation h'.mail h'.state y.after) (sym step_is) (carried (taken-landed
     (landed-manager link.0 ch x queue pushes handed e sys down is.beats is.on_it is.heard pushed) last)))
-    (subst (λ (m : Machine w). MemoryRelation h'.mail h'.state m)
-    (sym (remembered_after config log link ch now step_is)) beside)
+    (rw (remembered_after config log link ch now step_is) beside)
   where
     sys : System w
     sys = system_after config log
@@ -186,9 +170,7 @@ delivered-last {w} {config} {log} {link} {ch} {h} {x} {queue} handed pushes down
 
 receiver_down : {w : ℕ} (ch : Channel) (c : ℕ) (sys : System w) → is_to_client ch ≡ false
     → receiver ch c sys ≡ on_link c sys.manager.trace
-receiver_down Channel.B c sys e = absurd cc
-receiver_down Channel.D c sys e = absurd cc
-receiver_down ch c sys e = refl
+receiver_down ch c sys e = grind arith
 
 pub delivered-part : {w : ℕ} {config : Config} {log : Log w} {link : Link} {ch : Channel} {h : AbstractState w}
     {x : Beat w} {queue : List (Beat w)} → IsWidth w → SimulationRelation config log h.mail h.request h.state
@@ -197,13 +179,10 @@ pub delivered-part : {w : ℕ} {config : Config} {log : Log w} {link : Link} {ch
     → IsDelivered config log link ch h
 unfolding with_messages performing accesses_answered
 delivered-part {w} {config} {log} {link} {ch} {h} {x} {queue} width matched down is part =
-    delivered_as config log link ch h h (is.follows
-    ∙ ap (λ (b : Bool). if b then kind_taken config (next_tracker sys) link.0 is.first.kind is.first.number
-    is.first.rest h else h) part) (subst (λ (y : Step w). ChannelRelation h.mail h.state y.after) (sym step_is)
-    (carried-part h.mail h.state width (landed-manager link.0 ch x queue (λ d at. None) [] e sys down is.beats is.on_it
-    is.heard (λ d at. refl)) (λ d at. refl) part matched.carried))
-    (subst (λ (m : Machine w). MemoryRelation h.mail h.state m) (sym (remembered_after config log link ch now step_is))
-    matched.beside)
+    delivered_as config log link ch h h (cc is.follows) (rw step_is (carried-part h.mail h.state width
+    (landed-manager link.0 ch x queue (λ d at. None) [] e sys down is.beats is.on_it is.heard (λ d at. refl))
+    (λ d at. refl) part matched.carried)) (subst (λ (m : Machine w). MemoryRelation h.mail h.state m)
+    (sym (remembered_after config log link ch now step_is)) matched.beside)
   where
     sys : System w
     sys = system_after config log
@@ -214,10 +193,7 @@ delivered-part {w} {config} {log} {link} {ch} {h} {x} {queue} width matched down
     now : Step w
     now = handing (Outcome.Moved x) [] (with_manager e (with_channel link.0 ch queue sys))
 
-    unended : ends x (on_link link.0 sys.manager.trace) ≡ false
-    unended = cc (is.of_it, receiver_down ch link.0 sys down, part)
-
     step_is : stepped config (Deliver link ch) sys ≡ now
-    step_is = is.step_is ∙ ap
-        (λ (l : Handed w). handing (Outcome.Moved x) l (with_manager e (with_channel link.0 ch queue sys)))
-        (ap (λ d. d.handed) (reaction-part config link x sys.manager unended))
+    step_is = is.step_is ∙ ap (λ (l : Handed w). handing (Outcome.Moved x) l
+        (with_manager e (with_channel link.0 ch queue sys))) (ap (λ d. d.handed)
+        (reaction-part config link x sys.manager (cc (is.of_it, receiver_down ch link.0 sys down, part))))

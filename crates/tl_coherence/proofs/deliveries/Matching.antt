@@ -1,40 +1,37 @@
 -- What is kept of the whole is kept by every event: so it holds after every log, beside the protocol as it follows.
-use Rattle.std.proofs.Common.{◌≡◌, ℕ, Bool, true, false, List, [], ◌∷◌, Option, Some, None, refl, sym, ◌∙◌, ap, subst}
+use Rattle.std.proofs.Common.{◌≡◌, ℕ, Bool, true, false, List, [], ◌∷◌, Option, Some, None, refl, sym, ap, subst, arith}
 use Rattle.tl_coherence.proofs
 use proofs.Imports.{Beat, Link, Channel, IsWidth, Config, Op, EndConfig, Event, Ask, Deliver, Outcome, AbstractState}
 use proofs.Imports.{abstract_step, first_abstract_state, abstract_step_by, ChannelRelation, MemoryRelation}
 use proofs.Imports.{SimulationRelation, is_moving, IsTyped, Log, system_after, Machine, moved, one_memory_after}
 use proofs.Imports.{performing, accesses_answered, Step, stepped, only, client_of, System, terms_at}
-use Rattle.tl_coherence.specs.{statement.Headline.AreTyped, statement.Log.IsLog}
+use Rattle.tl_coherence.{specs.statement.Headline.AreTyped, specs.statement.Log.IsLog}
 use Rattle.tl_client.specs.statement.Ask as ask
 use proofs.manager.{BlockAccounts.managed-traced, Accounts.are_served-traced, UnwaitedRequests.next_tracker}
 use proofs.deliveries.{AcksAfter.delivered-e, AskedAfter.carried-ask, AskedAfter.beside-ask, AskedWell.asked-well}
 use proofs.deliveries.{DeliverDWhole.delivered-d, InvariantKept.invariant-followed, ManagerFollowed.client-of}
 use proofs.deliveries.{ManagerKept.IsAllowed, ManagerKept.manager-kept, ProbesAfter.delivered-b}
 use proofs.deliveries.{ReportsAfter.delivered-c, DeliverDUnmoved.IsDelivered, DeliverDUnmoved.delivered-unmoved}
-use proofs.deliveries.{RequestsDelivered.delivery-a, RequestsDelivered.carried-delivered_a}
-use proofs.deliveries.{RequestsDelivered.beside-delivered_a}
-use proofs.client.{Askable.askable, ClientAsked.IsEndOf, ClientStep.clients-kept, Waiting.AreAcquired}
-use proofs.client.{Waiting.asked-acquired, Waiting.kind_taken-acquired}
-use proofs.simulation.{Fresh.fresh-matched, SoundAfter.sound-after, SoundAfter.typed-after, Sized.AreStrange}
-use proofs.simulation.{Sized.strangers-asked, Sized.strangers-kind_taken, SizedAfter.AllSized, SizedAfter.sized-asked}
-use proofs.simulation.{SizedAfter.sized-kind_taken, SourcedAfter.AreSourced, SourcedAfter.sourced-asked}
-use proofs.simulation.{SourcedAfter.sourced-kind_taken}
-use proofs.queues.Steps.{stepped-asked, stepped-empty}
+use proofs.deliveries.RequestsDelivered.{delivery-a, carried-delivered_a, beside-delivered_a}
+use proofs.client.{Askable.askable, ClientAsked.IsEndOf, ClientStep.clients-kept}
+use proofs.client.Waiting.{AreAcquired, asked-acquired, kind_taken-acquired}
+use proofs.simulation.{Fresh.fresh-matched, SoundAfter.sound-after, SoundAfter.typed-after}
+use proofs.simulation.Sized.{AreStrange, strangers-asked, strangers-kind_taken}
+use proofs.simulation.SizedAfter.{AllSized, sized-asked, sized-kind_taken}
+use proofs.simulation.SourcedAfter.{AreSourced, sourced-asked, sourced-kind_taken}
 use proofs.simulation.FollowCases.{followed-cases, asked-cases, delivered-cases, answered-followed, given-followed}
 use proofs.simulation.FollowCases.{on-first}
+use proofs.queues.Steps.{stepped-asked, stepped-empty}
 
 -- ---- steps
 
 pub stepped-nobody : {w : ℕ} (config : Config) (event : Event w) (sys : System w)
     → terms_at config (client_of event) ≡ None → stepped config event sys ≡ only Outcome.NoSuchClient sys
 unfolding stepped
-stepped-nobody config (Ask c o) sys e = rw e refl
-stepped-nobody config (Deliver link ch) sys e = rw e refl
+stepped-nobody config event sys e = grind arith
 
 pub not_moving : {w : ℕ} (x y : Step w) → x ≡ y → is_moving x.outcome ≡ true → is_moving y.outcome ≡ false → ⊥
-not_moving {w} x y e moving still = let no : true ≡ false = sym moving ∙ ap (λ (s : Step w). is_moving s.outcome)
-    e ∙ still in cc
+not_moving {w} x y e moving still = let no : true ≡ false = cc in cc
 
 -- ---- the channels and the one memory after any delivery
 
@@ -45,9 +42,8 @@ unfolding one_memory_after
 delivered-a {w} {config} {log} c h terms width is at =
     let sys : System w = system_after config log in
     let m : Machine w = one_memory_after config log in
-    let event : Event w = Deliver (record { 0 = c }) Channel.A in
-    let still = delivery-a h c terms (λ (step : Step w). moved event step.outcome m ≡ m) width is at
-    (λ e. refl) (λ x queue e waits. refl) (λ x queue e arrives moves. refl) in
+    let still = delivery-a h c terms (λ (step : Step w). moved (Deliver (record { 0 = c }) Channel.A) step.outcome m
+    ≡ m) width is at (λ e. refl) (λ x queue e waits. refl) (λ x queue e arrives moves. refl) in
     record {
       carried = carried-delivered_a h c terms width is at;
       beside = beside-delivered_a h c terms width is at (subst (MemoryRelation h.mail h.state) (sym still) is.beside);
@@ -111,20 +107,12 @@ asked-all {w} {config} {log} c o h width is = go (terms_at config c) refl
 
     go : (i : Option EndConfig) → terms_at config c ≡ i
         → FollowedBy config log (Ask c o) h (stepped config (Ask c o) sys)
-    go None none = subst (FollowedBy config log (Ask c o) h) (sym (stepped-nobody config (Ask c o) sys none))
-        (is.carried, is.beside)
+    go None none = rw (stepped-nobody config (Ask c o) sys none) (is.carried, is.beside)
     go (Some terms) known =
         let r = (ask.asked terms o (sys.clients c)).reply in
         let replied : (stepped config (Ask c o) sys).outcome ≡ Outcome.Replied r =
-        ap (λ (x : Step w). x.outcome) (stepped-asked config c o sys terms known) in (
-          subst (λ (x : Outcome w). ChannelRelation (abstract_step_by config (Ask c o) x sys h).mail
-              (abstract_step_by config (Ask c o) x sys h).state (stepped config (Ask c o) sys).after) (sym replied)
-              (carried-ask h c terms o width is known),
-          subst (λ (x : Outcome w). MemoryRelation (abstract_step_by config (Ask c o) x sys h).mail
-              (abstract_step_by config (Ask c o) x sys h).state
-              (performing (accesses_answered (stepped config (Ask c o) sys).handed)
-              (moved (Ask c o) x (one_memory_after config log)))) (sym replied) (beside-ask h c terms o width is known),
-        )
+        ap (λ (x : Step w). x.outcome) (stepped-asked config c o sys terms known) in
+        (rw replied (carried-ask h c terms o width is known), rw replied (beside-ask h c terms o width is known))
 
 followed-all : {w : ℕ} {config : Config} {log : Log w} (event : Event w) (h : AbstractState w) → IsWidth w
     → SimulationRelation config log h.mail h.request h.state (system_after config log) → IsFollowed config log event h

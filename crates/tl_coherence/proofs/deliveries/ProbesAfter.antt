@@ -4,8 +4,8 @@ use Rattle.std.proofs.Common.{Ok}
 use Rattle.tl_coherence.proofs
 use proofs.Imports.{Beat, BeatB, Link, Channel, OpB, IsWidth, Message, unfinished, Config, Cap, Report, Perm}
 use proofs.Imports.{report_left, report_at, same_perm, block_at, same_block, Verdict, copy_at, held_at, report_for}
-use proofs.Imports.{probe_ack, Deliver, Outcome, Kind, Probe, ProbeAck, ClientBlock, ProbeSent, is_unreleased}
-use proofs.Imports.{after_probe, Block, packet, is_on, probed_block, probe_taken, AbstractState, abstract_step}
+use proofs.Imports.{probe_ack, Deliver, Outcome, Kind, Probe, ProbeAck, ClientBlock, is_unreleased}
+use proofs.Imports.{after_probe, Block, packet, is_on, probed_block, probe_taken, AbstractState}
 use proofs.Imports.{kind_taken, ChannelRelation, MemoryRelation, block_message, message_of, message_of_kind, cap_sent}
 use proofs.Imports.{probe_beat, SimulationRelation, is_caching, is_moving, Log, system_after, Machine, moved}
 use proofs.Imports.{one_memory_after, performing, accesses_answered, Step, stepped, handing, handed_by, System}
@@ -55,13 +55,6 @@ rendered_probed {w} c n k b = rw (set-same c (after_probe k (b.pair c)) b.pair, 
 abbrev handed_for : {w : ℕ} → BeatB w → client.Endpoint w → Message w
 handed_for x e = probe_ack x.opcode (held_at e (block_at x.address)) (report_for x (held_at e (block_at x.address)))
     (block_at x.address) (copy_at e (block_at x.address))
-
-answer_b : {w : ℕ} (x : BeatB w) (e : client.Endpoint w)
-    → (offer.taken (Beat.B x) e).answer ≡ Ok (Verdict.Taken, Some (handed_for x e))
-answer_b x e = refl
-
-taken_stalls : Verdict.Taken ≡ Verdict.Stalled → ⊥
-taken_stalls f = absurd cc
 
 pub delivered-b : {w : ℕ} {config : Config} {log : Log w} (link : Link) (h : AbstractState w) (terms : client.EndConfig)
     (x : Beat w) (queue : List (Beat w)) → IsWidth w
@@ -114,7 +107,7 @@ delivered-b {w} {config} {log} link h terms x queue width is known beats moving 
         probed = probe-delivered terms (next_tracker sys) c n first.rest width is known beats tokens next
 
         answers : (offer.taken x e).answer ≡ Ok (Verdict.Taken, Some (handed_for y e))
-        answers = ap (λ (z : Beat w). (offer.taken z e).answer) probed.beat_is ∙ answer_b y e
+        answers = ap (λ (z : Beat w). (offer.taken z e).answer) probed.beat_is ∙ refl
 
         same_parts : (t.verdict_is ≡ Verdict.Taken) × (t.message ≡ Some (handed_for y e))
         same_parts = same_answers t.verdict_is Verdict.Taken t.message (Some (handed_for y e)) (offer.taken x e).answer
@@ -135,48 +128,35 @@ delivered-b {w} {config} {log} link h terms x queue width is known beats moving 
           ack_same b_pair.held (report_at k b_pair.held) n (copy_at e n) (h.state.block n).truth copied,
         )
 
-        message_is : t.message ≡ Some ack
-        message_is = same_parts.1 ∙ ap Some (handed_at (block_at (64 * n)) (same_block n))
-
         now : Step w
         now = handing (Outcome.Moved x) (handed_by c (Some ack))
             (with_client c (offer.taken x e).after (with_channel c Channel.B queue sys))
 
         step_is : stepped config (Deliver link Channel.B) sys ≡ now
-        step_is = cc (t.step_is, same_parts.0, message_is)
-
-        sent : b_pair.probing ≡ ProbeSent k
-        sent = first-probe is.invariant tokens
+        step_is = cc (t.step_is, same_parts.0, same_parts.1 ∙ ap Some (handed_at (block_at (64 * n)) (same_block n)))
 
         taken : IsTaken c Channel.B x queue (pushes_at c (pushes_of (Some ack))) sys now.after
         taken = taken-landed (landed-client c Channel.B x queue (Some ack) (offer.taken x e).after sys refl beats
             (subst (λ (z : Beat w). IsOn Channel.B z) (sym probed.beat_is) (on_own_channel (Beat.B y)))
-            (client-heard width (is.kept c) t))
-            probed.whole
-
-        follows : abstract_step config (Deliver link Channel.B) sys h ≡ kind_taken config (next_tracker sys) c Probe n
-            first.rest h
-        follows = cc (followed-moving config link Channel.B sys h x queue moving beats, probed.whole, tokens)
+            (client-heard width (is.kept c) t)) probed.whole
 
         by_letting : (b : Bool) → is_unreleased b_pair.letting ≡ b → IsDelivered config log link Channel.B h
         by_letting true kept =
             let inv = invariant-taken h c Probe n first.rest is tokens (kept-is b_pair.letting kept) in
             delivered_as config log link Channel.B h (kind_taken config (next_tracker sys) c Probe n first.rest h)
-            follows
+            cc (followed-moving config link Channel.B sys h x queue moving beats, probed.whole, tokens)
             (subst (λ (z : Step w). ChannelRelation h.mail (probe_taken c n k first.rest h.state) z.after) (sym step_is)
-            (carried-shown width (probe_taken-shown c n k first.rest ack h.mail is.invariant
-            inv tokens sent (ack_channel w b_pair.held (report_at k b_pair.held) n (h.state.block n).truth)
-            (rendered_probed c n k (h.state.block n))) taken is.carried))
+            (carried-shown width (probe_taken-shown c n k first.rest ack h.mail is.invariant inv tokens
+            (first-probe is.invariant tokens) (ack_channel w b_pair.held (report_at k b_pair.held) n
+            (h.state.block n).truth) (rendered_probed c n k (h.state.block n))) taken is.carried))
             (subst (λ (m : Machine w). MemoryRelation h.mail (probe_taken c n k first.rest h.state) m)
-            (sym (remembered_after config log link Channel.B now step_is ∙ ap
-            (λ (l : List (ℕ × ℕ)). performing l
-            (moved (Deliver link Channel.B) now.outcome (one_memory_after config log)))
-            (ack_quiet w c b_pair.held (report_at k b_pair.held) n (h.state.block n).truth)))
-            (beside_block n (probed_block c k (h.state.block n)) (probe_taken c n k first.rest h.state) (λ i. refl)
-            (λ d i. refl) (λ d i. refl) refl (λ d. same_acquiring c (after_probe k b_pair) (h.state.block n).pair
-            refl d) (λ d. refl) is.beside))
+            (sym (remembered_after config log link Channel.B now step_is ∙ ap (λ (l : List (ℕ × ℕ)). performing l
+            (moved (Deliver link Channel.B) now.outcome (one_memory_after config log))) (ack_quiet w c b_pair.held
+            (report_at k b_pair.held) n (h.state.block n).truth))) (beside_block n (probed_block c k
+            (h.state.block n)) (probe_taken c n k first.rest h.state) (λ i. refl) (λ d i. refl) (λ d i. refl) refl
+            (λ d. same_acquiring c (after_probe k b_pair) (h.state.block n).pair refl d) (λ d. refl) is.beside))
         by_letting false open_ =
             let stalled = ap (λ (o : offer.Offered w). o.answer) (sym t.takes ∙ probed.waits_for open_) in
             let differ = (same_answers Verdict.Taken Verdict.Stalled (Some (handed_for y e)) None
             (offer.taken x e).answer answers stalled).0 in
-            absurd (taken_stalls differ)
+            absurd (absurd cc)

@@ -1,38 +1,32 @@
 -- A beat of channel C that is delivered to the manager: the channels and the one memory afterwards.
-use Rattle.std.proofs.Common.{◌≡◌, ℕ, Bool, true, false, List, [], ◌∷◌, None, refl, sym, ◌∙◌, ap, subst, inl, inr, not}
-use Rattle.std.proofs.Common.{◌&&◌, length, ◌==◌, if◌then◌else◌}
+use Rattle.std.proofs.Common.{◌≡◌, ℕ, Bool, true, false, List, [], ◌∷◌, refl, sym, ◌∙◌, ap, subst, inl, inr, not, ◌&&◌}
+use Rattle.std.proofs.Common.{arith, length, ◌==◌, if◌then◌else◌}
 use Rattle.tl_coherence.proofs
 use proofs.Imports.{Beat, Link, Channel, IsWidth, Message, unfinished, completes, Config, Prune, Report, on_link}
 use proofs.Imports.{Handed, reaction, ProbeAck, Release, ReleaseAck, Grant, Packet, is_unprobed, after_release_taken}
-use proofs.Imports.{Service, Free, Waits, GrantSent, GrantTaken, Block, SourceState, packet, let_block, release_taken}
-use proofs.Imports.{report_taken, InService, AbstractState, ack_taken, answers, kind_taken, last_taken, some_below}
-use proofs.Imports.{packet_taken, with_state, MemoryRelation, IsAccess, IsOpened, prune_told, block_message}
-use proofs.Imports.{report_told, SimulationRelation, IsRequest, is_caching, IsServedWith, IsFor, Log, system_after}
-use proofs.Imports.{Machine, Requests, performing, accesses_answered, System}
+use proofs.Imports.{Service, Free, Waits, GrantSent, GrantTaken, Block, packet, let_block, release_taken, AbstractState}
+use proofs.Imports.{ack_taken, answers, kind_taken, last_taken, some_below, packet_taken, MemoryRelation, prune_told}
+use proofs.Imports.{block_message, report_told, SimulationRelation, IsRequest, is_caching, IsServedWith, IsFor, Log}
+use proofs.Imports.{system_after, Machine, performing, accesses_answered, System}
 use Rattle.tl_coherence.specs.protocol.Protocol as protocol
 use proofs.memory.BesideKinds.{IsWaiting, accesses_by, beside-report, beside_block, last_accesses, same_acquiring}
 use proofs.memory.BesideRequests.{IsOnce, accesses-answer}
 use proofs.deliveries.{CarriedReports.carried-followed_c, DeliverDWhole.remembered_after, DeliverDUnmoved.IsDelivered}
-use proofs.deliveries.{ManagerDelivered.channel_c-delivered, ManagerDelivered.releases-delivered}
-use proofs.deliveries.{ManagerDelivered.reports-delivered, LastReportDelivered.pushed, LastReportDelivered.pushed_last}
-use proofs.deliveries.{ManagerFollowed.client-of, ManagerFollowed.followed-taken, ManagerFollowed.step-taken}
-use proofs.manager.{Choices.plain-past, ManagerAfter.others_probed, ManagerTakes.by-first_c}
-use proofs.manager.{UnwaitedRequests.next_tracker}
+use proofs.deliveries.ManagerDelivered.{channel_c-delivered, releases-delivered, reports-delivered}
+use proofs.deliveries.LastReportDelivered.{pushed, pushed_last}
+use proofs.deliveries.ManagerFollowed.{client-of, followed-taken, step-taken}
+use proofs.manager.{Choices.plain-past, ManagerTakes.by-first_c, UnwaitedRequests.next_tracker}
 use proofs.queues.{FirstToken.first-token, Tokens.set_at-same}
 use proofs.protocol.{RequestsKept.settled_all, FirstTokens.first-report}
-use proofs.simulation.SourcedAfter.{served-request}
-use proofs.rank.RankParts.{serving-use}
+use proofs.simulation.{SourcedAfter.served-request}
+use proofs.rank.{RankParts.serving-use}
 
 -- ---- which accesses are answered by what is handed out
 
 grant-quiet : (w : ℕ) (link : Link) (q n : ℕ) (b : Block (List ℕ)) (s : Service) → b.service ≡ s
     → accesses_answered {w = w} ((link, block_message Grant q n b) ∷ []) ≡ []
 unfolding accesses_answered block_message
-grant-quiet w link q n b Free e = rw e refl
-grant-quiet w link q n b (Waits r own source k) e = rw e refl
-grant-quiet w link q n b (GrantTaken r) e = rw e refl
-grant-quiet w link q n b (GrantSent r true k) e = rw e refl
-grant-quiet w link q n b (GrantSent r false k) e = rw e refl
+grant-quiet w link q n b s e = grind arith
 
 ack-quiet : (w : ℕ) (link : Link) (c n : ℕ) (b : Block (List ℕ))
     → accesses_answered {w = w} ((link, block_message ReleaseAck c n b) ∷ []) ≡ []
@@ -61,20 +55,9 @@ report-answered : {w : ℕ} (config : Config) (c n : ℕ) (r : Report) (rest : L
     → accesses_answered (pushed config c ProbeAck n h (ack_taken (length config.clients.items) config.profile c n r rest
     h)) ≡ accesses_by config c ProbeAck n h
 unfolding accesses_answered
-report-answered {w} config c n r rest h for =
-    let go : (y : Bool) → accesses_answered (if y then [] else pushed_last n (h.state.block n).service
-    (if y then with_state (report_taken c n r rest h.state) h else last_taken (length config.clients.items)
-    config.profile c n r (h.state.block n).service rest h))
-    ≡ (if y then [] else last_accesses (h.state.block n).service) =
-    elim [ true ↦ refl | false ↦ last-answered config c n r (h.state.block n).service rest h for ] in
-    go (some_below (length config.clients.items) (others_probed c (h.state.block n).pair))
+report-answered {w} config c n r rest h for = grind (arith, last-answered)
 
 -- ---- the access that waits can be performed
-
-served-open : {w : ℕ} (q source n : ℕ) (h : AbstractState w) (m : Machine w) (u : SourceState) → u ≡ InService n
-    → IsOpened q source h.mail h.state u (m.opened q Requests source)
-    → IsAccess source (h.mail.request q source) None (m.opened q Requests source)
-served-open q source n h m u e is = rw e at is
 
 waiting-one : {w : ℕ} {config : Config} {log : Log w} (h : AbstractState w) {sys : System w} (n : ℕ) {m : Machine w}
     (service : Service) → IsWidth w → SimulationRelation config log h.mail h.request h.state sys
@@ -92,7 +75,7 @@ waiting-one {w} {config} h n {m} (Waits q false source k) width is beside e for 
         sent = subst (IsRequest config q source) with (served-request config q source n (h.mail.request q source)
             (h.state.uses q source) used (is.sourced q source));
         access = for.0;
-        opened = served-open q source n h m (h.state.uses q source) used (beside.requests q source);
+        opened = rw used at (beside.requests q source);
         long = (is.sized _).truth;
       },
       for.2,
@@ -105,10 +88,9 @@ by-place : {w : ℕ} (h h' : AbstractState w) (pushes handed : Handed w) {m : Ma
     → (MemoryRelation h'.mail h'.state (performing (accesses_answered pushes) m))
     → MemoryRelation (if b then h' else h).mail (if b then h' else h).state (performing (accesses_answered handed) m)
 unfolding performing accesses_answered
-by-place h h' pushes handed true e before last = rw e last
-by-place h h' pushes handed false e before last = rw e before
+by-place h h' pushes handed b e f g = grind arith
 
-pub beside-followed_c : {w : ℕ} {config : Config} {log : Log w} (h : AbstractState w) {sys : System w} (c : ℕ)
+beside-followed_c : {w : ℕ} {config : Config} {log : Log w} (h : AbstractState w) {sys : System w} (c : ℕ)
     (x : Beat w) (queue : List (Beat w)) {m : Machine w}
     → IsWidth w → SimulationRelation config log h.mail h.request h.state sys → sys.channels c Channel.C ≡ x ∷ queue
     → MemoryRelation h.mail h.state m
@@ -145,14 +127,13 @@ beside-followed_c {w} {config} {log} h {sys} c x queue {m} width is beats beside
     reported n rest tokens =
         let b : Block (List ℕ) = h.state.block n in
         let r : Report = report_told (b.pair c).probing in
-        let answered = first-report is.invariant tokens in
         subst (λ (l : List (ℕ × ℕ)). MemoryRelation (kind_taken config (next_tracker sys) c ProbeAck n rest h).mail
         (kind_taken config (next_tracker sys) c ProbeAck n rest h).state (performing l m))
         (sym (report-answered config c n r rest h (is.served.requests n)))
-        (beside-report config c n r rest h is.invariant answered
+        (beside-report config c n r rest h is.invariant (first-report is.invariant tokens)
         (settled_all (length config.clients.items) (is_caching config) c b.pair (plain-past config)
-        (is.invariant.blocks n).outside) (waiting-one h n b.service width is beside refl (is.served.requests n)
-        (is.served_with n)) beside)
+        (is.invariant.blocks n).outside)
+        (waiting-one h n b.service width is beside refl (is.served.requests n) (is.served_with n)) beside)
 
     released : (n : ℕ) (rest : List Packet)
         → MemoryRelation (kind_taken config (next_tracker sys) c Release n rest h).mail
@@ -171,8 +152,7 @@ beside-followed_c {w} {config} {log} h {sys} c x queue {m} width is beats beside
 report-once : {w : ℕ} {config : Config} {log : Log w} (h : AbstractState w) {sys : System w} (c n : ℕ) {m : Machine w}
     → IsWidth w → SimulationRelation config log h.mail h.request h.state sys → MemoryRelation h.mail h.state m
     → IsOnce (accesses_by config c ProbeAck n h) h m
-report-once {w} {config} {log} h {sys} c n {m} width is beside =
-    go (some_below (length config.clients.items)
+report-once {w} {config} {log} h {sys} c n {m} width is beside = go (some_below (length config.clients.items)
     (λ d. not (d == c) && not (is_unprobed ((h.state.block n).pair d).probing)))
   where
     of_service : (service : Service) → IsWaiting config n service h m → IsOnce (last_accesses service) h m
@@ -188,8 +168,7 @@ once-place : {w : ℕ} (h : AbstractState w) (pushes handed : Handed w) (m : Mac
     → handed ≡ (if b then pushes else [])
     → IsOnce (accesses_answered pushes) h m → IsOnce (accesses_answered handed) h m
 unfolding accesses_answered
-once-place h pushes handed m true e last = rw e last
-once-place h pushes handed m false e last = rw e (inl refl)
+once-place h pushes handed m b e f = grind arith
 
 pub once-followed_c : {w : ℕ} {config : Config} {log : Log w} (h : AbstractState w) {sys : System w} (c : ℕ)
     (x : Beat w) (queue : List (Beat w)) {m : Machine w}

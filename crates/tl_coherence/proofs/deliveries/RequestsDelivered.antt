@@ -1,38 +1,28 @@
 -- A delivery on channel A: what is first there, that it is taken unless it has to wait, and the
 -- manager's end afterwards.
 use Rattle.std.proofs.Common.{◌≡◌, subst, ℕ, suc, ◌+◌, ◌<◌, Bool, true, false, List, [], ◌∷◌, Some, refl, sym, ◌∙◌, ap}
-use Rattle.std.proofs.Common.{inl, inr, arith, eqb-true, ◌==◌, if◌then◌else◌}
+use Rattle.std.proofs.Common.{inl, arith, eqb-true, ◌==◌, if◌then◌else◌}
 use Rattle.tl_coherence.proofs
-use proofs.Imports.{cases_eq, Beat, Channel, IsWidth, Message, MessageA, a_beat_of, beats_of, unfinished, completes}
+use proofs.Imports.{Beat, Channel, IsWidth, Message, MessageA, a_beat_of, beats_of, unfinished, completes}
 use proofs.Imports.{Config, not_last, on_link, EndConfig, reaction-part, End, Handed, Reaction, must_wait, reaction}
-use proofs.Imports.{Deliver, Outcome, Kind, Packet, packet, AbstractState, kind_taken, packet_taken, abstract_delivery}
-use proofs.Imports.{abstract_step, ChannelRelation, MemoryRelation, SimulationRelation, Log, Machine, accesses_answered}
-use proofs.Imports.{performing, Step, only, handing, manager_took, stepped, System, terms_at, with_manager}
-use proofs.Imports.{with_channel}
+use proofs.Imports.{Deliver, Outcome, AbstractState, kind_taken, packet_taken, abstract_delivery, abstract_step}
+use proofs.Imports.{ChannelRelation, MemoryRelation, SimulationRelation, Log, Machine, accesses_answered, performing}
+use proofs.Imports.{Step, only, handing, manager_took, stepped, System, terms_at, with_manager, with_channel}
 use Rattle.tl_coherence.specs.refinement.AbstractStep as follow
-use proofs.memory.BesideRequests.{IsOnce}
+use proofs.memory.{BesideRequests.IsOnce}
 use proofs.manager.{Arrivals.link_of, Arrivals.ends-coming, AtRequests.end_after, AtRequests.at_manager-more}
 use proofs.manager.{ManagersEnd.at_manager-matched, UnwaitedRequests.next_tracker, ManagerAfter.IsManagerOf}
 use proofs.queues.{Tokens.same_number, Steps.manager-with_messages, Steps.stepped-empty, Steps.stepped-to-manager}
-use proofs.deliveries.CarriedRequests.{carried-more}
+use proofs.deliveries.{CarriedRequests.carried-more}
 use proofs.deliveries.FirstRequest.{IsArrival, arrival-first, coming-arrival, request-taken, request-stalled}
 
 -- ---- what a delivery on channel A comes to
 
-token_taken-first : {w : ℕ} (config : Config) (tracker c : ℕ) (kind : Kind) (i : ℕ) (rest xs : List Packet)
-    (h : AbstractState w) → xs ≡ packet kind i ∷ rest
-    → packet_taken config tracker c xs h ≡ kind_taken config tracker c kind i rest h
-token_taken-first config tracker c kind i rest xs h e = rw e refl
-
 more_beats : (k n : ℕ) → (k + 1 == n) ≡ false → k < n → k + 1 < n
-more_beats k n e lt = elim (cases_eq (k + 1) n) [
-  | inl same ↦ absurd (let yes : (k + 1 == n) ≡ true = rw same (same_number n) in let no : true ≡ false = sym yes ∙ e in
-      cc)
-  | inr other ↦ omega (arith, lt, other)
-]
+more_beats k n e lt = grind (arith, same_number)
 
 -- The protocol after a beat that is taken: with the last one the request is, and with any other one nothing changes.
-pub moved-a : {w : ℕ} {config : Config} {h : AbstractState w} {sys : System w} {c : ℕ} {x : Beat w}
+moved-a : {w : ℕ} {config : Config} {h : AbstractState w} {sys : System w} {c : ℕ} {x : Beat w}
     {queue : List (Beat w)} (P : AbstractState w → Type 0) → sys.channels c Channel.A ≡ x ∷ queue
     → (arrives : IsArrival config h sys c x queue) → (beats_of (Message.A arrives.request) ≡ suc arrives.next.k
     → P (kind_taken config (next_tracker sys) c arrives.kind arrives.number arrives.rest h))
@@ -53,8 +43,7 @@ moved-a {w} {config} {h} {sys} {c} {x} P beats arrives last more =
         → P (if b then packet_taken config (next_tracker sys) c (h.state.link c).a h else h)
     go true e =
         let all = eqb-true (k + 1) (beats_of (Message.A arrives.request)) (sym arrives.next.completes_is ∙ e) in
-        subst P (sym (token_taken-first config (next_tracker sys) c arrives.kind arrives.number arrives.rest
-        (h.state.link c).a h arrives.is_it.tokens)) (last (omega (arith, all)))
+        subst P (sym (rw arrives.is_it.tokens refl)) (last (omega (arith, all)))
     go false e = more (more_beats k (beats_of (Message.A arrives.request)) (sym arrives.next.completes_is ∙ e)
         arrives.next.within)
 
@@ -80,14 +69,12 @@ delivery-a {w} {config} {log} h {sys} c terms P width is client empty stalled mo
 
     taken_or_not : (x : Beat w) (queue : List (Beat w)) → sys.channels c Channel.A ≡ x ∷ queue
         → IsArrival config h sys c x queue → (b : Bool) → must_wait config (link_of c) x sys.manager.trace ≡ b → P step
-    taken_or_not x queue e arrives true waits =
-        subst P (sym (stepped-to-manager config (link_of c) Channel.A sys terms x queue client e refl
-        ∙ ap (λ p. manager_took c Channel.A x queue p sys) (request-stalled is e arrives waits)))
-        (stalled x queue e waits)
-    taken_or_not x queue e arrives false moves =
-        subst P (sym (stepped-to-manager config (link_of c) Channel.A sys terms x queue client e refl
-        ∙ ap (λ p. manager_took c Channel.A x queue p sys) (request-taken width is e arrives moves)))
-        (moved x queue e arrives moves)
+    taken_or_not x queue e arrives true waits = subst P (sym (stepped-to-manager config
+        (link_of c) Channel.A sys terms x queue client e refl ∙ ap (λ p. manager_took c Channel.A x queue p sys)
+        (request-stalled is e arrives waits))) (stalled x queue e waits)
+    taken_or_not x queue e arrives false moves = subst P (sym (stepped-to-manager config
+        (link_of c) Channel.A sys terms x queue client e refl ∙ ap (λ p. manager_took c Channel.A x queue p sys)
+        (request-taken width is e arrives moves))) (moved x queue e arrives moves)
 
     go : (xs : List (Beat w)) → sys.channels c Channel.A ≡ xs → P step
     go [] e = subst P (sym (stepped-empty config (link_of c) Channel.A sys terms client e)) (empty e)
@@ -132,9 +119,7 @@ carried-delivered_a {w} {config} {log} h {sys} c terms width is client =
     let same = ap (λ (y : Beat w). (step_moved config c k m y queue sys).after) (sym arrives.next.beat_is) in
     moved-a (λ (i : AbstractState w). ChannelRelation i.mail i.state
     (step_moved config c k m x queue sys).after) beats arrives
-    (λ last. subst (ChannelRelation (kind_taken config (next_tracker sys) c arrives.kind arrives.number arrives.rest
-    h).mail (kind_taken config (next_tracker sys) c arrives.kind arrives.number arrives.rest h).state) same
-    (arrives.is_it.carried k queue comes first last (rw arrives.next.beat_is at moves)))
+    (λ last. rw same at (arrives.is_it.carried k queue comes first last (rw arrives.next.beat_is at moves)))
     (λ more. subst (ChannelRelation h.mail h.state) same
     (carried-more queue is comes first (ends-coming comes ∙ not_last k (beats_of (Message.A m)) more))))
 
@@ -158,9 +143,7 @@ beside-delivered_a {w} {config} {log} h {sys} c terms {machine} width is client 
     let same = ap (λ (y : Beat w). (reaction config (link_of c) y sys.manager).handed) (sym arrives.next.beat_is) in
     moved-a (λ (i : AbstractState w). MemoryRelation i.mail i.state
     (performing (accesses_answered (reaction config (link_of c) x sys.manager).handed) machine)) beats arrives
-    (λ last. subst (λ (i : Handed w). MemoryRelation (kind_taken config (next_tracker sys) c arrives.kind arrives.number
-    arrives.rest h).mail (kind_taken config (next_tracker sys) c arrives.kind arrives.number arrives.rest h).state
-    (performing (accesses_answered i) machine)) same (arrives.is_it.beside k machine comes last beside))
+    (λ last. rw same at (arrives.is_it.beside k machine comes last beside))
     (λ more.
     let part = ap (λ (d : Reaction w). d.handed) (reaction-part config (link_of c) (Beat.A (a_beat_of m k)) sys.manager
     (ends-coming comes ∙ not_last k (beats_of (Message.A m)) more)) in
@@ -184,8 +167,7 @@ once-delivered_a {w} {config} {log} h {sys} c terms {machine} width is client be
     moved-a
     (λ (i : AbstractState w). IsOnce (accesses_answered (reaction config (link_of c) x sys.manager).handed) h
     machine) beats arrives
-    (λ last. subst (λ (i : Handed w). IsOnce (accesses_answered i) h machine) same
-    (arrives.is_it.once k machine comes last beside))
+    (λ last. rw same at (arrives.is_it.once k machine comes last beside))
     (λ more.
     let part = ap (λ (d : Reaction w). d.handed) (reaction-part config (link_of c) (Beat.A (a_beat_of m k)) sys.manager
     (ends-coming comes ∙ not_last k (beats_of (Message.A m)) more)) in

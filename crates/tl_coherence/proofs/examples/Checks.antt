@@ -112,18 +112,16 @@ all_below (suc n) test = test n && all_below n test
 
 abbrev pub one_writer : {w : ℕ} → ℕ → Config → System w → Bool
 one_writer clients config s =
-    all_below clients (λ c. all_below clients (λ d. all_below config.blocks (λ block.
-    (c == d) || implies (same_perm (held_at (s.clients c) block) Perm.Trunk)
-    (same_perm (held_at (s.clients d) block) Perm.None))))
+    all_below clients (λ c. all_below clients (λ d. all_below config.blocks (λ block. (c == d) || implies
+    (same_perm (held_at (s.clients c) block) Perm.Trunk) (same_perm (held_at (s.clients d) block) Perm.None))))
 
 abbrev pub copy_agrees : Option (List ℕ) → List ℕ → Bool
 copy_agrees None bytes = true
 copy_agrees (Some copy) bytes = same_bytes copy bytes
 
 abbrev pub copies_agree : {w : ℕ} → ℕ → Config → System w → Memory → Bool
-copies_agree clients config s memory =
-    all_below clients (λ c. all_below config.blocks (λ block. copy_agrees ((s.clients c).copies block)
-    (bytes_from memory (64 * block) 64)))
+copies_agree clients config s memory = all_below clients (λ c. all_below config.blocks
+    (λ block. copy_agrees ((s.clients c).copies block) (bytes_from memory (64 * block) 64)))
 
 abbrev pub same_presence : {w : ℕ} → Option (Open w) → Option (Op w) → Bool
 same_presence None None = true
@@ -132,8 +130,7 @@ same_presence _ _ = false
 
 -- the same sources are open in the machine as by what has happened
 abbrev pub opened_agree : {w : ℕ} → ℕ → Log w → Machine w → Bool
-opened_agree clients log m =
-    all_below clients (λ c. all_below 2 (λ source. same_presence (m.opened c Requests source)
+opened_agree clients log m = all_below clients (λ c. all_below 2 (λ source. same_presence (m.opened c Requests source)
     (started c Requests source log) && same_presence (m.opened c Releases source) (started c Releases source log)))
 
 abbrev pub is_unrefused : {w : ℕ} → ℕ → System w → Bool
@@ -144,10 +141,8 @@ fit {w} config link ch s =
     nat_le (length (s.channels link ch)) (capacity (64 / w) (sources_of (terms_at config link)) config.trackers ch)
 
 abbrev pub all_fit : {w : ℕ} → ℕ → Config → System w → Bool
-all_fit clients config s =
-    all_below clients (λ link. fit config link Channel.A
-    s && (fit config link Channel.B
-    s && (fit config link Channel.C s && (fit config link Channel.D s && fit config link Channel.E s))))
+all_fit clients config s = all_below clients (λ link. fit config link Channel.A s && (fit config link Channel.B s
+    && (fit config link Channel.C s && (fit config link Channel.D s && fit config link Channel.E s))))
 
 -- a Release of the block by the client is outstanding, with one of two sources
 abbrev pub is_release_of : {w : ℕ} → ℕ → Option (Op w) → Bool
@@ -159,17 +154,15 @@ moves_so config log s link ch [] = not (is_movable config link ch s)
 moves_so config log s link ch (Beat.A x ∷ rest) =
     beq (is_movable config link ch s) (not (must_wait config (record { 0 = link }) (Beat.A x) s.manager.trace))
 moves_so config log s link ch (Beat.B x ∷ rest) =
-    beq (is_movable config link ch s)
-    (not (is_release_of (block_at x.address) (started link Releases 0 log) || is_release_of (block_at x.address)
-    (started link Releases 1 log)))
+    beq (is_movable config link ch s) (not (is_release_of (block_at x.address)
+    (started link Releases 0 log) || is_release_of (block_at x.address) (started link Releases 1 log)))
 moves_so config log s link ch (x ∷ rest) = is_movable config link ch s
 
 abbrev pub all_move_so : {w : ℕ} → ℕ → Config → Log w → System w → Bool
-all_move_so clients config log s =
-    all_below clients (λ link. moves_so config log s link Channel.A (s.channels link Channel.A)
-    && (moves_so config log s link Channel.B (s.channels link Channel.B) && (moves_so config log s link Channel.C
-    (s.channels link Channel.C) && (moves_so config log s link Channel.D (s.channels link Channel.D) && moves_so config
-    log s link Channel.E (s.channels link Channel.E)))))
+all_move_so clients config log s = all_below clients (λ link. moves_so config log s link Channel.A
+    (s.channels link Channel.A) && (moves_so config log s link Channel.B (s.channels link Channel.B)
+    && (moves_so config log s link Channel.C (s.channels link Channel.C) && (moves_so config log s link Channel.D
+    (s.channels link Channel.D) && moves_so config log s link Channel.E (s.channels link Channel.E)))))
 
 abbrev pub same_beats : {w : ℕ} → List (Beat w) → List (Beat w) → Bool
 same_beats [] [] = true
@@ -177,15 +170,12 @@ same_beats (x ∷ xs) (y ∷ ys) = (same_control x y && same_bytes (lanes_of x) 
 same_beats _ _ = false
 
 abbrev pub carries : {w : ℕ} → Log w → System w → ℕ → Channel → Bool
-carries log s link ch =
-    same_beats (carried_on ch (sender ch link s)) (reverse (s.channels link ch) ++ carried_on ch (receiver ch link s))
-    && same_beats (carried_on ch (receiver ch link s)) (carried_on ch (flow link log))
+carries log s link ch = same_beats (carried_on ch (sender ch link s)) (reverse (s.channels link ch) ++ carried_on ch
+    (receiver ch link s)) && same_beats (carried_on ch (receiver ch link s)) (carried_on ch (flow link log))
 
 abbrev pub all_carry : {w : ℕ} → ℕ → Log w → System w → Bool
-all_carry clients log s =
-    all_below clients (λ link. carries log s link
-    Channel.A && (carries log s link
-    Channel.B && (carries log s link Channel.C && (carries log s link Channel.D && carries log s link Channel.E))))
+all_carry clients log s = all_below clients (λ link. carries log s link Channel.A && (carries log s link Channel.B
+    && (carries log s link Channel.C && (carries log s link Channel.D && carries log s link Channel.E))))
 
 -- at a Grant the client holds what it is granted
 abbrev pub holds_granted : {w : ℕ} → ℕ → Option (Op w) → Perm → System w → Bool
@@ -201,13 +191,11 @@ grants _ _ before s = true
 abbrev pub faults_at : {w : ℕ} → ℕ → Config → Event w → Step w → Past w → Past w → List ℕ → List ℕ
 faults_at clients config event step before p rest = failed 1 (is_step config event step.outcome before.machine)
     (failed 2 (performs (accesses_answered step.handed) (moved event step.outcome before.machine))
-    (failed 3 (one_writer clients config p.system) (failed 4 (copies_agree clients config p.system p.machine.memory)
-    (failed 5 (opened_agree clients p.log p.machine)
-    (failed 6 (is_unrefused clients p.system)
-    (failed 7 (all_fit clients config p.system)
-    (failed 8 (beq (is_none (next_delivery config p.system)) (outstanding p.log == 0))
-    (failed 9 (all_move_so clients config p.log p.system) (failed 12 (grants event step.outcome before.log p.system)
-    (failed 13 (all_carry clients p.log p.system)
+    (failed 3 (one_writer clients config p.system)
+    (failed 4 (copies_agree clients config p.system p.machine.memory) (failed 5 (opened_agree clients p.log p.machine)
+    (failed 6 (is_unrefused clients p.system) (failed 7 (all_fit clients config p.system) (failed 8 (beq (is_none
+    (next_delivery config p.system)) (outstanding p.log == 0)) (failed 9 (all_move_so clients config p.log p.system)
+    (failed 12 (grants event step.outcome before.log p.system) (failed 13 (all_carry clients p.log p.system)
     (failed 14 (not (is_delivery event && is_moving step.outcome) || nat_le 1 before.budget) rest)))))))))))
 
 abbrev pub is_legal_on : {w : ℕ} → Option Level → Profile → ℕ → Log w → Bool

@@ -39,13 +39,12 @@ is_number n None = false
 -- ---- a client's end
 
 abbrev pub known : {w : ℕ} → ℕ → ℕ → AccessMessages w → State (List ℕ) → System w → ℕ → Bool
-known blocks sources mail s sys c =
-    all_below blocks (λ n. same_perm (held n (sys.clients c).past) ((s.block n).pair c).held
-    && (beq (pending (AcquireOf n) (sys.clients c).past) (is_wanting ((s.block n).pair c).acquiring)
-    && (beq (pending (ReleaseOf n) (sys.clients c).past) (not (is_unreleased ((s.block n).pair c).letting))
-    && (not (pending (ProbeOf n) (sys.clients c).past) && beq (pending (GrantAckOf n) (sys.clients c).past)
-    (comes_granting n (asked_by mail s c) (unfinished Channel.D (sys.clients c).past)))))) && all_below sources
-    (λ i. same_a (open_beat i (sys.clients c).past) (asked_by mail s c i) && beq
+known blocks sources mail s sys c = all_below blocks (λ n. same_perm (held n (sys.clients c).past)
+    ((s.block n).pair c).held && (beq (pending (AcquireOf n) (sys.clients c).past)
+    (is_wanting ((s.block n).pair c).acquiring) && (beq (pending (ReleaseOf n) (sys.clients c).past) (not (is_unreleased
+    ((s.block n).pair c).letting)) && (not (pending (ProbeOf n) (sys.clients c).past) && beq (pending (GrantAckOf n)
+    (sys.clients c).past) (comes_granting n (asked_by mail s c) (unfinished Channel.D (sys.clients c).past))))))
+    && all_below sources (λ i. same_a (open_beat i (sys.clients c).past) (asked_by mail s c i) && beq
     (pending (GrantSink i) (sys.clients c).past) (comes_in_grant i (unfinished Channel.D (sys.clients c).past)))
 
 abbrev pub opened : {w : ℕ} → ℕ → AccessMessages w → State (List ℕ) → System w → ℕ → Bool
@@ -67,17 +66,15 @@ kept blocks s sys c = all_below blocks (λ n. implies (not (same_perm ((s.block 
 -- ---- the manager's end
 
 abbrev pub managed : {w : ℕ} → ℕ → State (List ℕ) → Trace w → ℕ → Bool
-managed blocks s t c = all_below blocks
-    (λ n. same_perm (recorded c n t) ((s.block n).pair c).recorded && (beq (pending (ProbeOf n) (on_link c t))
-    (not (is_unprobed ((s.block n).pair c).probing)) && (beq (pending (AcquireOf n) (on_link c t))
-    (is_own (view (s.block n).service c)) && beq (pending (GrantAckOf n) (on_link c t))
-    (is_granting (view (s.block n).service c) || is_acknowledging (view (s.block n).service c)))))
+managed blocks s t c = all_below blocks (λ n. same_perm (recorded c n t) ((s.block n).pair c).recorded
+    && (beq (pending (ProbeOf n) (on_link c t)) (not (is_unprobed ((s.block n).pair c).probing))
+    && (beq (pending (AcquireOf n) (on_link c t)) (is_own (view (s.block n).service c)) && beq (pending (GrantAckOf n)
+    (on_link c t)) (is_granting (view (s.block n).service c) || is_acknowledging (view (s.block n).service c)))))
 
 abbrev pub same_service : {w : ℕ} → Option (service.Service w) → Option ℕ → ℕ → MessageA w → Bool
 same_service None None tracker m = true
-same_service (Some x) (Some r) tracker m =
-    (x.tracker == tracker) && ((x.link.0 == r) && same_control (Beat.A (a_beat_of x.request 0))
-    (Beat.A (a_beat_of m 0)))
+same_service (Some x) (Some r) tracker m = (x.tracker == tracker)
+    && ((x.link.0 == r) && same_control (Beat.A (a_beat_of x.request 0)) (Beat.A (a_beat_of m 0)))
 same_service _ _ tracker m = false
 
 abbrev pub same_option_cap : Option Cap → Cap → Bool
@@ -87,9 +84,8 @@ same_option_cap (Some j) k = same_cap j k
 abbrev pub is_for : {w : ℕ} → Service → ℕ → MessageA w → Trace w → Bool
 is_for Free n m t = true
 is_for (Waits r own source k) n m t =
-    beq (is_acquire m.opcode) own
-    && ((m.source == source) && ((block_at m.address == n) && (same_option_cap (cap_probed m.opcode m.param) k && same_a
-    (request_of source (on_link r t)) (Some (a_beat_of m 0)))))
+    beq (is_acquire m.opcode) own && ((m.source == source) && ((block_at m.address == n) && (same_option_cap
+    (cap_probed m.opcode m.param) k && same_a (request_of source (on_link r t)) (Some (a_beat_of m 0)))))
 is_for _ n m t = is_acquire m.opcode && (block_at m.address == n)
 
 abbrev pub in_service : {w : ℕ} → ℕ → AbstractState w → Trace w → Bool
@@ -98,13 +94,12 @@ in_service blocks h t = all_below blocks (λ n. same_service (service_of_block n
     (h.request n) t)
 
 abbrev pub served : {w : ℕ} → ℕ → ℕ → ℕ → State (List ℕ) → Trace w → ℕ → Bool
-served blocks sources trackers s t c =
-    all_below sources (λ i. beq (pending (RequestSource i) (on_link c t))
+served blocks sources trackers s t c = all_below sources (λ i. beq (pending (RequestSource i) (on_link c t))
     (is_served c (s.uses c i) s || comes_in_request i (unfinished Channel.A (on_link c t))) && beq
     (pending (ReleaseSource i) (on_link c t)) (comes_in_release i (unfinished Channel.C (on_link c t))))
-    && (all_below trackers (λ i. beq (pending (GrantSink i) (on_link c t)) (is_granted c (s.tracked i) s)) && all_below
-    blocks (λ n. beq (pending (ReleaseOf n) (on_link c t)) (comes_of n (unfinished Channel.C (on_link c t))) && implies
-    (not (is_unprobed ((s.block n).pair c).probing))
+    && (all_below trackers (λ i. beq (pending (GrantSink i) (on_link c t)) (is_granted c (s.tracked i) s))
+    && all_below blocks (λ n. beq (pending (ReleaseOf n) (on_link c t))
+    (comes_of n (unfinished Channel.C (on_link c t))) && implies (not (is_unprobed ((s.block n).pair c).probing))
     (same_b (probe_of n (on_link c t)) (Some (probe_beat n (cap_waited (s.block n).service))))))
 
 -- ---- the flow
@@ -113,17 +108,15 @@ abbrev pub flowed : {w : ℕ} → ℕ → ℕ → ℕ → AccessMessages w → S
 flowed {w} blocks sources trackers mail s sys t c =
     let rest : Channel → List (Beat w) = λ ch. unfinished ch (receiver ch c sys) in
     let still : Channel → Bool = λ ch. same_beats (unfinished ch t) (rest ch) in
-    all_below blocks (λ n. same_perm (held n t)
-    (if is_granting (view (s.block n).service c) then ((s.block n).pair c).held else ((s.block n).pair c).recorded)
-    && (beq (pending (AcquireOf n) t)
-    (is_wanting ((s.block n).pair c).acquiring && not (is_unserved (view (s.block n).service c)))
-    && (beq (pending (ReleaseOf n) t) (is_release_pending ((s.block n).release_source c) (rest Channel.C)
-    ((s.block n).pair c).letting) && (beq (pending (GrantAckOf n) t)
+    all_below blocks
+    (λ n. same_perm (held n t) (if is_granting (view (s.block n).service c) then ((s.block n).pair c).held else
+    ((s.block n).pair c).recorded) && (beq (pending (AcquireOf n) t) (is_wanting ((s.block n).pair c).acquiring
+    && not (is_unserved (view (s.block n).service c))) && (beq (pending (ReleaseOf n) t) (is_release_pending
+    ((s.block n).release_source c) (rest Channel.C) ((s.block n).pair c).letting) && (beq (pending (GrantAckOf n) t)
     (is_acknowledging (view (s.block n).service c) || comes_granting n (asked_by mail s c) (rest Channel.D))
-    && (beq (pending (ProbeOf n) t) (is_answered ((s.block n).pair c).probing)
-    && (implies (is_answered ((s.block n).pair c).probing)
-    (same_b (probe_of n t) (Some (probe_beat n (cap_waited (s.block n).service)))) && implies
-    (pending (GrantAckOf n) t) (is_of (s.block n).tracker (grant_sink n t))))))))
+    && (beq (pending (ProbeOf n) t) (is_answered ((s.block n).pair c).probing) && (implies (is_answered
+    ((s.block n).pair c).probing) (same_b (probe_of n t) (Some (probe_beat n (cap_waited (s.block n).service))))
+    && implies (pending (GrantAckOf n) t) (is_of (s.block n).tracker (grant_sink n t))))))))
     && (all_below sources (λ i. beq (pending (RequestSource i) t) (is_requested c i (rest Channel.A) (s.uses c i) s)
     && (implies (pending (RequestSource i) t) (same_a (request_of i t) (asked_by mail s c i))
     && (beq (pending (ReleaseSource i) t) (is_let_by c i (rest Channel.C) (s.lets c i) s) && implies
@@ -138,18 +131,14 @@ carries mail s sys c ch = same_beats (reverse (unfinished ch (receiver ch c sys)
     (spelled (messages_on ch mail s c))
 
 abbrev pub all_carry : {w : ℕ} → AccessMessages w → State (List ℕ) → System w → ℕ → Bool
-all_carry mail s sys c =
-    carries mail s sys c Channel.A
-    && (carries mail s sys c
-    Channel.B && (carries mail s sys c Channel.C && (carries mail s sys c Channel.D && carries mail s sys c Channel.E)))
+all_carry mail s sys c = carries mail s sys c Channel.A && (carries mail s sys c Channel.B
+    && (carries mail s sys c Channel.C && (carries mail s sys c Channel.D && carries mail s sys c Channel.E)))
 
 abbrev pub named : ℕ → ℕ → ℕ → State (List ℕ) → ℕ → Bool
-named blocks sources trackers s c =
-    all_below blocks (λ n. ok ((s.block n).pair c) (view (s.block n).service c)
-    && (all_below sources (λ i. beq (acquires_of n (s.uses c i)) (acquires_with c i (s.block n))
-    && (beq (serves_of n (s.uses c i)) (serves_with c i (s.block n)) && beq (is_of n (s.lets c i))
-    (releases_with c i (s.block n)))) && all_below trackers
-    (λ i. beq (is_of n (s.tracked i)) (tracks_with i (s.block n)))))
+named blocks sources trackers s c = all_below blocks (λ n. ok ((s.block n).pair c) (view (s.block n).service c)
+    && (all_below sources (λ i. beq (acquires_of n (s.uses c i)) (acquires_with c i (s.block n)) && (beq (serves_of n
+    (s.uses c i)) (serves_with c i (s.block n)) && beq (is_of n (s.lets c i)) (releases_with c i (s.block n))))
+    && all_below trackers (λ i. beq (is_of n (s.tracked i)) (tracks_with i (s.block n)))))
 
 abbrev pub remembers : {w : ℕ} → ℕ → State (List ℕ) → Past w → Bool
 remembers blocks s p = all_below blocks (λ n. same_bytes (bytes_from p.system.manager.memory (64 * n) 64)
@@ -171,12 +160,10 @@ faults_at clients sources config f more =
     (failed 2 (all_below clients (opened sources f.shadow.mail f.shadow.state f.past.system))
     (failed 3 (all_below clients (kept config.blocks f.shadow.state f.past.system))
     (failed 4 (all_below clients (managed config.blocks f.shadow.state f.past.system.manager.trace))
-    (failed 5 (in_service config.blocks f.shadow f.past.system.manager.trace)
-    (failed 6 (all_below clients (served config.blocks sources config.trackers f.shadow.state
-    f.past.system.manager.trace))
-    (failed 7 (all_below clients (λ c. flowed config.blocks sources config.trackers f.shadow.mail f.shadow.state
-    f.past.system (flow c f.past.log) c))
-    (failed 8 (all_below clients (all_carry f.shadow.mail f.shadow.state f.past.system))
+    (failed 5 (in_service config.blocks f.shadow f.past.system.manager.trace) (failed 6 (all_below clients
+    (served config.blocks sources config.trackers f.shadow.state f.past.system.manager.trace)) (failed 7
+    (all_below clients (λ c. flowed config.blocks sources config.trackers f.shadow.mail f.shadow.state f.past.system
+    (flow c f.past.log) c)) (failed 8 (all_below clients (all_carry f.shadow.mail f.shadow.state f.past.system))
     (failed 9 (all_below clients (named config.blocks sources config.trackers f.shadow.state))
     (failed 10 (remembers config.blocks f.shadow.state f.past) more)))))))))
 
@@ -196,9 +183,8 @@ on_delivery clients sources config (Some d) f on stop = checked clients sources 
 
 unfoldable pub faults_draining : {w : ℕ} → ℕ → ℕ → Config → ℕ → Followed w → (Followed w → List ℕ) → List ℕ
 faults_draining clients sources config zero f stop = stop f
-faults_draining clients sources config (suc n) f stop =
-    on_delivery clients sources config (next_delivery config f.past.system) f
-    (λ g. faults_draining clients sources config n g stop) stop
+faults_draining clients sources config (suc n) f stop = on_delivery clients sources config
+    (next_delivery config f.past.system) f (λ g. faults_draining clients sources config n g stop) stop
 
 unfoldable pub faults : {w : ℕ} → ℕ → ℕ → Config → List (Line w) → Followed w → List ℕ
 faults clients sources config [] f = []

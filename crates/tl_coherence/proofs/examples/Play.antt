@@ -7,11 +7,10 @@ use proofs.Imports.{d_carries_data, Message, unfinished, Config, Level, Grow, Pr
 use proofs.Imports.{number_from, bytes_from, effect, request_of, release_of, probe_of, grant_sink, pending, held}
 use proofs.Imports.{illegal, beats_from, Op, Reply, Finish, with_handed, clients_from, Event, Ask, Deliver, Outcome}
 use proofs.Imports.{next_delivery, is_movable, first_movable, Step, stepped, System, with_messages, fresh}
-use Rattle.tl_beat.{specs.declared.beat.Beat.TheVariants.A, specs.declared.beat.Beat.TheVariants.D}
-use Rattle.tl_beat.{specs.declared.beat.Beat.TheVariants.E, specs.statement.Opcode.a_code}
-use Rattle.tl_beat.{specs.statement.Opcode.b_code, specs.statement.Opcode.c_code, specs.statement.Opcode.d_code}
-use Rattle.tl_rules.{specs.statement.Admission.bytes_carried, specs.statement.Legality.first_illegal}
-use Rattle.tl_rules.{specs.statement.Legality.each_below}
+use Rattle.tl_beat.specs.declared.beat.Beat.TheVariants.{A, D, E}
+use Rattle.tl_beat.specs.statement.Opcode.{a_code, b_code, c_code, d_code}
+use Rattle.tl_rules.{specs.statement.Admission.bytes_carried}
+use Rattle.tl_rules.specs.statement.Legality.{first_illegal, each_below}
 use Rattle.tl_manager.specs.statement.Request.{masks_carried, corrupt_carried, request_carried}
 use Rattle.tl_client.specs.statement.Ask as ask
 use Rattle.tl_client.specs.statement.Offer as offer
@@ -119,85 +118,74 @@ abbrev pub release : {w : ℕ} → ℕ → ℕ → Prune → Line w
 release client block prune = Does (Ask client (Op.Release block prune))
 
 abbrev pub access : {w : ℕ} → ℕ → OpA → ℕ → (size : ℕ) → size ≤ 6 → ℕ → ℕ → List ℕ → Line w
-access client opcode param size small address mask payload =
-    Does (Ask client (Op.Access
-    (Message.A (record {
-      opcode = opcode;
-      param = param;
-      size = size;
-      source = 0;
-      address = address;
-      payload =
-          payload;
-      mask = mask;
-      corrupt = 0;
-      small = small;
-    }))))
+access client opcode param size small address mask payload = Does (Ask client (Op.Access (Message.A (record {
+  opcode = opcode;
+  param = param;
+  size = size;
+  source = 0;
+  address = address;
+  payload = payload;
+  mask = mask;
+  corrupt = 0;
+  small = small;
+}))))
 
 -- ---- beats by their fields
 
 abbrev pub a_beat : {w : ℕ} → (opcode : OpA) → ℕ → ℕ → ℕ → ℕ → ℕ → (lanes : Option (List ℕ))
     → is_some lanes ≡ a_carries_data opcode → Beat w
-a_beat opcode param size source address mask lanes carries =
-    A (record {
-      opcode = opcode;
-      param = param;
-      size = size;
-      source = source;
-      address = address;
-      mask = mask;
-      lanes =
-          lanes;
-      corrupt = false;
-      carries = carries;
-    })
+a_beat opcode param size source address mask lanes carries = A (record {
+  opcode = opcode;
+  param = param;
+  size = size;
+  source = source;
+  address = address;
+  mask = mask;
+  lanes = lanes;
+  corrupt = false;
+  carries = carries;
+})
 
 abbrev pub b_beat : {w : ℕ} → (opcode : OpB) → ℕ → ℕ → ℕ → ℕ → ℕ → (lanes : Option (List ℕ))
     → is_some lanes ≡ b_carries_data opcode → Beat w
-b_beat opcode param size source address mask lanes carries =
-    B (record {
-      opcode = opcode;
-      param = param;
-      size = size;
-      source = source;
-      address = address;
-      mask = mask;
-      lanes =
-          lanes;
-      corrupt = false;
-      carries = carries;
-    })
+b_beat opcode param size source address mask lanes carries = B (record {
+  opcode = opcode;
+  param = param;
+  size = size;
+  source = source;
+  address = address;
+  mask = mask;
+  lanes = lanes;
+  corrupt = false;
+  carries = carries;
+})
 
 abbrev pub c_beat : {w : ℕ} → (opcode : OpC) → ℕ → ℕ → ℕ → ℕ → (lanes : Option (List ℕ))
     → is_some lanes ≡ c_carries_data opcode → Beat w
-c_beat opcode param size source address lanes carries =
-    C (record {
-      opcode = opcode;
-      param = param;
-      size = size;
-      source = source;
-      address = address;
-      lanes =
-          lanes;
-      corrupt = false;
-      carries = carries;
-    })
+c_beat opcode param size source address lanes carries = C (record {
+  opcode = opcode;
+  param = param;
+  size = size;
+  source = source;
+  address = address;
+  lanes = lanes;
+  corrupt = false;
+  carries = carries;
+})
 
 abbrev pub d_beat : {w : ℕ} → (opcode : OpD) → ℕ → ℕ → ℕ → ℕ → (lanes : Option (List ℕ))
     → is_some lanes ≡ d_carries_data opcode → Beat w
-d_beat opcode param size source sink lanes carries =
-    D (record {
-      opcode = opcode;
-      param = param;
-      size = size;
-      source = source;
-      sink = sink;
-      denied = false;
-      lanes =
-          lanes;
-      corrupt = false;
-      carries = carries;
-    })
+d_beat opcode param size source sink lanes carries = D (record {
+  opcode = opcode;
+  param = param;
+  size = size;
+  source = source;
+  sink = sink;
+  denied = false;
+  lanes = lanes;
+  corrupt = false;
+  carries = carries;
+})
 
 abbrev pub e_beat : {w : ℕ} → ℕ → Beat w
 e_beat sink = E (record { sink = sink })

@@ -1,6 +1,6 @@
 -- What is delivered on a link, as a beat of channel A is: of an access, or of an Acquire.
 use Rattle.std.proofs.Common.{◌≡◌, subst, ℕ, Bool, true, false, ◌&&◌, List, ◌∷◌, Option, Some, None, refl, sym, ◌∙◌, ap}
-use Rattle.std.proofs.Common.{◌⊎◌, inl, inr, eqb-true, ◌==◌, if◌then◌else◌}
+use Rattle.std.proofs.Common.{inl, inr, eqb-true, ◌==◌, if◌then◌else◌}
 use Rattle.tl_coherence.proofs
 use proofs.Imports.{and-false, cases_eq, same_Some, Beat, BeatA, Channel, Message, a_beat_of, History, is_empty}
 use proofs.Imports.{completes, Config, Cap, comes_in_request, comes_in_grant, same_perm, same_block, Packet, set}
@@ -15,7 +15,7 @@ use proofs.protocol.{HeadOfD.IsGrantDue, BothParts.quiet_unanswered, Heads.acqui
 use proofs.protocol.{Heads.IsWanted}
 use proofs.flow.{FlowAccess.IsAccess, FlowAccess.flowed-access, FlowAcquired.flowed-acquire, FlowAlone.AreRests}
 use proofs.flow.{FlowApart.replied, FlowComing.coming-sink, FlowComing.coming-granting, FlowStep.held_by}
-use proofs.flow.{FlowSunk.sunk_in, FlowSunk.sunk-elsewhere, FlowSunk.IsWithin, FlowSunk.tracked-new}
+use proofs.flow.{FlowSunk.sunk_in, FlowSunk.sunk-elsewhere, FlowSunk.tracked-new}
 use proofs.simulation.Popped.{unfinished_at}
 use proofs.client.ClientEnd.{is_access, asks-access, asks-acquire}
 use proofs.flow.FlowBeats.{came-so, comes-so, first-zero, one-beat, set_at-if, same_perms, unused-else}
@@ -42,18 +42,12 @@ module _ {w : ℕ} {config : Config} {log : Log w} (h : AbstractState w) {sys : 
       record {
         access = asked.access;
         use_is = λ i e. ap (h.state.uses c) (sym (eqb-true asked.request.source i e) ∙ asked.source_is) ∙ asked.used;
-        asked_is = λ i e first. cc (
-          eqb-true asked.request.source i e,
-          asked.source_is,
-          asks-access c source asked.request h.mail h.state (ap is_access asked.used) asked.is_it,
-          zeroth first,
-        );
+        asked_is = λ i e first.
+            let fact = asks-access c source asked.request h.mail h.state (ap is_access asked.used) asked.is_it in
+            cc (eqb-true asked.request.source i e, asked.source_is, zeroth first);
         came = λ i. came-so (comes_in_request i) (asked.request.source == i) next refl (λ j. refl);
-        comes = λ i. cc (
-          rests Channel.A,
-          comes-so (comes_in_request i) y (unfinished_at sys c Channel.A) (asked.request.source == i) refl refl,
-          last,
-        );
+        comes = λ i. let fact = comes-so (comes_in_request i) y (unfinished_at sys c Channel.A)
+            (asked.request.source == i) refl refl in cc (rests Channel.A, last);
         blocks = λ m. if-part (λ (z : State (List ℕ)). z.block m) b refl refl;
         uses = λ i. uses b i;
         lets = λ i. if-part (λ (z : State (List ℕ)). z.lets c i) b refl refl;
@@ -76,11 +70,8 @@ module _ {w : ℕ} {config : Config} {log : Log w} (h : AbstractState w) {sys : 
       subst (λ (z : Beat w). AreRests z (unfinished_at sys c) rest') next.beat_is rests in
       subst (λ (z : Beat w). MonitorRelation (asked_by h.mail h.state c) rest' c (replied_if source b) (z ∷ t))
       (sym next.beat_is)
-      (flowed-access (ap is_empty (flowed.rest_is Channel.A)) (ap (completes (Beat.A (a_beat_of asked.request next.k)))
-      (flowed.rest_is Channel.A) ∙ last_y) rests_y
-      (access_of source asked next.k ms queue
-      (subst (λ (z : Beat w). IsNext z (unfinished_at sys c Channel.A) (Message.A asked.request) ms queue)
-      next.beat_is next) rests_y b last_y (first-zero next)) flowed)
+      (flowed-access (ap is_empty (flowed.rest_is Channel.A)) (cc (flowed.rest_is Channel.A)) rests_y
+      (access_of source asked next.k ms queue (rw next.beat_is at next) rests_y b last_y (first-zero next)) flowed)
 
   -- ---- an Acquire
 
@@ -103,11 +94,6 @@ module _ {w : ℕ} {config : Config} {log : Log w} (h : AbstractState w) {sys : 
         (and_left (is_unprobed ((s.block n).pair c).probing && is_unreleased ((s.block n).pair c).letting)
         (same_perm ((s.block n).pair c).recorded ((s.block n).pair c).held) settled))
 
-    even : ((s.block n).pair c).held ≡ ((s.block n).pair c).recorded
-    even = same_perms ((s.block n).pair c).recorded ((s.block n).pair c).held
-        (and_right (is_unprobed ((s.block n).pair c).probing && is_unreleased ((s.block n).pair c).letting)
-        (same_perm ((s.block n).pair c).recorded ((s.block n).pair c).held) settled)
-
     -- the block afterwards
     record IsTakenUp (new : Block (List ℕ)) : Type 0 where
       pair_acquiring : (new.pair c).acquiring ≡ ((s.block n).pair c).acquiring
@@ -129,8 +115,7 @@ module _ {w : ℕ} {config : Config} {log : Log w} (h : AbstractState w) {sys : 
         let one = one-beat next (acquisition_beats w wanted.whole wanted.grow ((s.block n).source c) n) in
         let x_is : x ≡ Beat.A y = cc (next.beat_is, one.0) in
         let last_y : completes (Beat.A y) (unfinished_at sys c Channel.A) ≡ true = cc (x_is, one.2) in
-        let rests_y : AreRests (Beat.A y) (unfinished_at sys c) rest' =
-        subst (λ (z : Beat w). AreRests z (unfinished_at sys c) rest') x_is rests in
+        let rests_y : AreRests (Beat.A y) (unfinished_at sys c) rest' = rw x_is at rests in
         let now : s'.block n ≡ new = changed n ∙ set-same n new s.block in
         let unsunk : (i : ℕ) → set tracker (Some n) s.tracked i ≡ Some n
         → sunk_in c i (unfinished_at sys c Channel.D) (s'.block n) ≡ false =
@@ -145,28 +130,21 @@ module _ {w : ℕ} {config : Config} {log : Log w} (h : AbstractState w) {sys : 
           at = same_block n;
           use_is = λ i e. ap (s.uses c) (sym (eqb-true ((s.block n).source c) i e)) ∙ wanted.used;
           no_use = λ i e. unused-else c n i is.invariant.named e;
-          asks = λ i e. cc (
-            eqb-true ((s.block n).source c) i e,
-            asks-acquire c ((s.block n).source c) n
-                ((s.block n).source c) wanted.whole wanted.grow h.mail s wanted.used wanted.wants refl,
-          );
+          asks = λ i e. let fact = asks-acquire c ((s.block n).source c) n
+              ((s.block n).source c) wanted.whole wanted.grow h.mail s wanted.used wanted.wants refl in
+              cc (eqb-true ((s.block n).source c) i e);
           idle = rw free refl;
           quiet = quiet;
           coming = coming-granting c is;
           came = λ i. ap (comes_in_request i) one.1;
-          comes = λ i. cc (
-            rests_y Channel.A,
-            comes-so (comes_in_request i) (Beat.A y) (unfinished_at sys c Channel.A)
-                ((s.block n).source c == i) refl refl,
-            last_y,
-          );
+          comes = λ i. let fact = comes-so (comes_in_request i) (Beat.A y) (unfinished_at sys c Channel.A)
+              ((s.block n).source c == i) refl refl in cc (rests_y Channel.A, last_y);
           asked_is = asks;
           elsewhere = λ m ne. changed m ∙ set-other n m new s.block ne;
           uses = uses;
           lets = lets;
           sinks = λ i. sunk-elsewhere c i n (unfinished_at sys c Channel.D) (s.tracked i) (s'.tracked i) s s'
-              (λ m ne. changed m ∙ set-other n m new s.block ne)
-              (subst (λ (o : Option ℕ). (o ≡ s.tracked i) ⊎ (IsWithin n (s.tracked i) × IsWithin n o)) (sym (tracked i))
+              (λ m ne. changed m ∙ set-other n m new s.block ne) (rw (tracked i)
               (tracked-new n tracker s.tracked unused i)) (λ e. rw free refl) (λ e. unsunk i (sym (tracked i) ∙ e));
           held_is = ap (held_by c) now ∙ taken.keeps_held;
           served = ap (λ (b : Block (List ℕ)). is_unserved (view b.service c)) now ∙ taken.serves;
@@ -212,8 +190,7 @@ module _ {w : ℕ} {config : Config} {log : Log w} (h : AbstractState w) {sys : 
           pair_letting = ap (λ (p : ClientBlock). p.letting) pair;
           pair_probing = ap (λ (p : ClientBlock). p.probing) pair;
           keeps_source = refl;
-          keeps_held = ap (λ (v : View). if is_granting v then (new.pair c).held else (new.pair c).recorded) seen ∙ ap
-              (λ (p : ClientBlock). p.recorded) pair ∙ sym held_free;
+          keeps_held = cc (seen, pair, held_free);
           serves = ap is_unserved seen;
           waits_so = ap is_acknowledging seen;
         })
@@ -231,8 +208,11 @@ module _ {w : ℕ} {config : Config} {log : Log w} (h : AbstractState w) {sys : 
           pair_letting = ap (λ (p : ClientBlock). p.letting) pair;
           pair_probing = ap (λ (p : ClientBlock). p.probing) pair;
           keeps_source = refl;
-          keeps_held = ap (λ (v : View). if is_granting v then (new.pair c).held else (new.pair c).recorded) seen ∙ ap
-              (λ (p : ClientBlock). p.held) pair ∙ even ∙ sym held_free;
+          keeps_held = ap (λ (v : View). if is_granting v then (new.pair c).held else (new.pair c).recorded) seen
+              ∙ ap (λ (p : ClientBlock). p.held) pair
+              ∙ (same_perms ((s.block n).pair c).recorded ((s.block n).pair c).held
+              (and_right (is_unprobed ((s.block n).pair c).probing && is_unreleased ((s.block n).pair c).letting)
+              (same_perm ((s.block n).pair c).recorded ((s.block n).pair c).held) settled)) ∙ sym held_free;
           serves = ap is_unserved seen;
           waits_so = ap is_acknowledging seen;
         })

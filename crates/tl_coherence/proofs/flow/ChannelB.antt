@@ -1,5 +1,5 @@
 -- What is delivered on a link, as the beat of a Probe is, for a whole that is that of the protocol.
-use Rattle.std.proofs.Common.{◌≡◌, subst, ℕ, true, List, [], ◌∷◌, Option, refl, sym, ◌∙◌, ap}
+use Rattle.std.proofs.Common.{◌≡◌, subst, ℕ, true, List, [], ◌∷◌, Option, sym, ◌∙◌, ap, arith}
 use Rattle.tl_coherence.proofs
 use proofs.Imports.{Beat, BeatA, Channel, Message, History, is_empty, completes, Config, Cap, same_block, Probe, Packet}
 use proofs.Imports.{ClientBlock, View, Other, ProbeSent, ok, same_cap, State, packet, view, probe_taken, AbstractState}
@@ -14,16 +14,11 @@ use proofs.simulation.Popped.{unfinished_at}
 -- ---- who is probed
 
 same_caps : (j k : Cap) → same_cap j k ≡ true → k ≡ j
-same_caps Cap.ToT Cap.ToT e = refl
-same_caps Cap.ToB Cap.ToB e = refl
-same_caps Cap.ToN Cap.ToN e = refl
-same_caps j k e = absurd cc
+same_caps j k e = grind arith
 
 -- sees the service of another, which probes with this cap
 probed_sees : (k : Cap) (v : View) → fits_service (ProbeSent k) v ≡ true → v ≡ Other k
-probed_sees k (Other Cap.ToB) e = ap Other (same_caps k Cap.ToB e)
-probed_sees k (Other Cap.ToN) e = ap Other (same_caps k Cap.ToN e)
-probed_sees k v e = absurd cc
+probed_sees k v e = grind (arith, same_caps)
 
 sent_sees : (k : Cap) (p : ClientBlock) (v : View) → ok p v ≡ true → p.probing ≡ ProbeSent k → v ≡ Other k
 unfolding ok
@@ -41,9 +36,8 @@ module _ {w : ℕ} {config : Config} {log : Log w} (h : AbstractState w) {sys : 
 
   -- ---- a Probe
 
-  pub own-probe : (n : ℕ) → (s.link c).b ≡ packet Probe n ∷ toks
-      → (x : Beat w) (ms : List (Message w)) (queue : List (Beat w))
-      → IsNext x (unfinished_at sys c Channel.B) (block_message Probe c n (s.block n)) ms queue
+  pub own-probe : (n : ℕ) → (s.link c).b ≡ packet Probe n ∷ toks → (x : Beat w) (ms : List (Message w))
+      (queue : List (Beat w)) → IsNext x (unfinished_at sys c Channel.B) (block_message Probe c n (s.block n)) ms queue
       → AreRests x (unfinished_at sys c) rest' → (asked' : ℕ → Option (BeatA w)) → ((i : ℕ) → asked' i ≡ before i)
       → MonitorRelation asked' rest' c (probe_taken c n (cap_sent ((s.block n).pair c).probing) toks s) (x ∷ t)
   own-probe n tokens x ms queue next rests asked' asks =
@@ -54,7 +48,6 @@ module _ {w : ℕ} {config : Config} {log : Log w} (h : AbstractState w) {sys : 
       (first-probe is.invariant tokens) in
       subst (λ (z : Beat w). MonitorRelation asked' rest' c (probe_taken c n k toks s) (z ∷ t)) (sym x_is)
       (flowed-probe n k toks asked' rest' (ap is_empty (flowed.rest_is Channel.B ∙ whole))
-      (ap (completes {w = w} (Beat.B (probe_beat n k))) (flowed.rest_is Channel.B ∙ whole))
-      (subst (λ (z : Beat w). AreRests z (unfinished_at sys c) rest') x_is rests) asks (same_block n) seen
-      (cap-waited k (s.block n).service c seen) (λ m. comes-same m before asked' (unfinished_at sys c Channel.D)
-      asks) flowed)
+      (ap (completes {w = w} (Beat.B (probe_beat n k))) (flowed.rest_is Channel.B ∙ whole)) (subst
+      (λ (z : Beat w). AreRests z (unfinished_at sys c) rest') x_is rests) asks (same_block n) seen (cap-waited k
+      (s.block n).service c seen) (λ m. comes-same m before asked' (unfinished_at sys c Channel.D) asks) flowed)

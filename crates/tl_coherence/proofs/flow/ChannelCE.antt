@@ -1,12 +1,12 @@
 -- What is delivered on a link, as a beat of channel C or E is: of a ProbeAck, a Release or a GrantAck.
-use Rattle.std.proofs.Common.{◌≡◌, subst, ℕ, Bool, true, false, not, ◌&&◌, List, ◌∷◌, Option, refl, sym, ◌∙◌, ap}
+use Rattle.std.proofs.Common.{◌≡◌, subst, ℕ, Bool, true, false, not, ◌&&◌, List, ◌∷◌, Option, refl, sym, ◌∙◌, ap, arith}
 use Rattle.std.proofs.Common.{length, ◌==◌, if◌then◌else◌}
 use Rattle.tl_coherence.proofs
 use proofs.Imports.{and_right as with_false, Beat, BeatA, BeatE, Channel, IsWidth, Message, MessageC, c_beat_of}
 use proofs.Imports.{History, is_empty, completes, Config, Prune, Report, Perm, prune_code, prune_left, report_code}
 use proofs.Imports.{report_left, prune_right, comes_in_release, same_perm, is_release, reported, reported-report}
 use proofs.Imports.{release, is_busy, ProbeAck, Release, GrantAck, Packet, ClientBlock, View, Idle, Granting}
-use proofs.Imports.{Acknowledging, ReleaseSent, is_unprobed, is_unreleased, ok, after_release_taken, Service, Free}
+use proofs.Imports.{Acknowledging, ReleaseSent, is_unprobed, is_unreleased, ok, after_release_taken, Service}
 use proofs.Imports.{Block, State, packet, view, let_block, release_taken, report_taken, grant_ack_taken, is_granting}
 use proofs.Imports.{is_acknowledging, AbstractState, MonitorRelation, block_message, prune_told, report_told}
 use proofs.Imports.{SimulationRelation, asked_by, Log, System}
@@ -41,8 +41,7 @@ report_rendered c n b width long = report-about (report_told (b.pair c).probing)
 release_size : {w : ℕ} (r : Prune) (source n : ℕ) (truth : List ℕ) (m : MessageC w)
     → release r source n truth ≡ Message.C m → m.size ≡ 6
 unfolding size_of
-release_size Prune.TtoB source n truth m e = sym (ap size_of e)
-release_size r source n truth m e = sym (ap size_of e)
+release_size r source n truth m e = grind (arith, size_of)
 
 pub release_rendered : {w : ℕ} (c n : ℕ) (b : Block (List ℕ)) → IsWidth w → IsLong b
     → (m : MessageC w) × (block_message Release c n b ≡ Message.C m)
@@ -66,8 +65,7 @@ released_ungranted r p v well open_ = refl
 
 -- a service that is seen so isn't none
 busy_seen : (test : View → Bool) → test Idle ≡ false → (q : Service) (c : ℕ) → test (view q c) ≡ true → is_busy q ≡ true
-busy_seen test none Free c e = absurd (let no : false ≡ true = sym none ∙ e in cc)
-busy_seen test none q c e = refl
+busy_seen test e q c f = grind arith
 
 pub ack_rendered : {w : ℕ} (c n : ℕ) (b : Block (List ℕ)) → block_message {w = w} GrantAck c n b ≡ Message.E
     (record { sink = b.tracker })
@@ -84,9 +82,6 @@ module _ {w : ℕ} {config : Config} {log : Log w} (h : AbstractState w) {sys : 
   abbrev before : ℕ → Option (BeatA w)
   before = asked_by h.mail h.state c
 
-  abbrev rest : Channel → List (Beat w)
-  rest = unfinished_at sys c
-
   well : ok ((s.block n).pair c) (view (s.block n).service c) ≡ true
   well = (is.invariant.blocks n).phases c
 
@@ -101,21 +96,15 @@ module _ {w : ℕ} {config : Config} {log : Log w} (h : AbstractState w) {sys : 
     last_y : completes (Beat.C (c_beat_of m next.k)) (unfinished_at sys c Channel.C) ≡ b
     last_y = sym (ap (λ (z : Beat w). completes z (unfinished_at sys c Channel.C)) next.beat_is) ∙ last
 
-    next_y : IsNext (Beat.C (c_beat_of m next.k)) (unfinished_at sys c Channel.C) (Message.C m) ms queue
-    next_y = subst (λ (z : Beat w). IsNext z (unfinished_at sys c Channel.C) (Message.C m) ms queue) next.beat_is next
-
     -- what of a Release with source i was delivered, before and afterwards
     came : (i : ℕ) → comes_in_release i (unfinished_at sys c Channel.C)
         ≡ (not (is_empty (unfinished_at sys c Channel.C)) && (is_release m.opcode && (m.source == i)))
-    came i = came-so (comes_in_release i) (is_release m.opcode && (m.source == i)) next_y refl (λ j. refl)
+    came i = came-so (comes_in_release i) (is_release m.opcode && (m.source == i)) (subst (λ (z : Beat w). IsNext z
+        (unfinished_at sys c Channel.C) (Message.C m) ms queue) next.beat_is next) refl (λ j. refl)
 
     comes : (i : ℕ) → comes_in_release i (rest' Channel.C) ≡ (not b && (is_release m.opcode && (m.source == i)))
-    comes i = cc (
-      rests_y Channel.C,
-      comes-so (comes_in_release i) (Beat.C (c_beat_of m next.k))
-          (unfinished_at sys c Channel.C) (is_release m.opcode && (m.source == i)) refl refl,
-      last_y,
-    )
+    comes i = let fact = comes-so (comes_in_release i) (Beat.C (c_beat_of m next.k)) (unfinished_at sys c Channel.C)
+        (is_release m.opcode && (m.source == i)) refl refl in cc (rests_y Channel.C, last_y)
 
   -- ---- a ProbeAck
 
@@ -145,8 +134,7 @@ module _ {w : ℕ} {config : Config} {log : Log w} (h : AbstractState w) {sys : 
 
       alone : is_granting (view (s.block n).service c) ≡ false
       alone = other_ungranted (view (s.block n).service c)
-          (answered_other r ((s.block n).pair c) (view (s.block n).service c) well
-          (first-report is.invariant tokens))
+          (answered_other r ((s.block n).pair c) (view (s.block n).service c) well (first-report is.invariant tokens))
 
       same : (z : Bool) → completes x (unfinished_at sys c Channel.C) ≡ z → (i : ℕ)
           → comes_in_release i (rest' Channel.C) ≡ comes_in_release i (unfinished_at sys c Channel.C)
@@ -157,10 +145,9 @@ module _ {w : ℕ} {config : Config} {log : Log w} (h : AbstractState w) {sys : 
 
       go : (z : Bool) → completes x (unfinished_at sys c Channel.C) ≡ z
           → MonitorRelation before rest' c (reported_if r z) (Beat.C (c_beat_of m here.k) ∷ t)
-      go false e = flowed-report_part (c_beat_of m here.k) (is_empty (unfinished_at sys c Channel.C)) rest'
-          (ap is_empty (flowed.rest_is Channel.C))
-          (ap (completes (Beat.C (c_beat_of m here.k))) (flowed.rest_is Channel.C) ∙ last_y m x ms queue here rests
-          false e) (rests_y m x ms queue here rests false e) about.2.releases (same false e) flowed
+      go false e = flowed-report_part (c_beat_of m here.k) (is_empty (unfinished_at sys c Channel.C)) rest' (ap is_empty
+          (flowed.rest_is Channel.C)) (cc (flowed.rest_is Channel.C, last_y m x ms queue here rests false e))
+          (rests_y m x ms queue here rests false e) about.2.releases (same false e) flowed
       go true e = flowed-report n r toks (c_beat_of m here.k) (is_empty (unfinished_at sys c Channel.C)) rest'
           (ap is_empty (flowed.rest_is Channel.C))
           (ap (completes (Beat.C (c_beat_of m here.k))) (flowed.rest_is Channel.C)
@@ -179,20 +166,17 @@ module _ {w : ℕ} {config : Config} {log : Log w} (h : AbstractState w) {sys : 
       → MonitorRelation before rest' c (if b then release_taken c n (prune_told ((s.block n).pair c).letting) toks s
       else s) (x ∷ t)
   own-release tokens x ms queue next rests b last =
-      let releasing : ((s.block n).pair c).letting ≡ ReleaseSent r =
-      first-release is.invariant tokens in
+      let releasing : ((s.block n).pair c).letting ≡ ReleaseSent r = first-release is.invariant tokens in
       let ungranted : is_granting (view (s.block n).service c) ≡ false =
       released_ungranted r ((s.block n).pair c) (view (s.block n).service c) well releasing in
       let now : (release_taken c n r toks s).block n ≡ new = set-same n new s.block in
-      let held_is : (z : Bool) → held_by c ((released_if r z).block n)
-      ≡ (if z then prune_right r else held_by c (s.block n)) =
-      elim [ true ↦ cc (now, ungranted, pair) | false ↦ refl ] in
+      let held_is : (z : Bool) → held_by c ((released_if r z).block n) ≡ (if z then prune_right r else held_by c
+      (s.block n)) = elim [ true ↦ cc (now, ungranted, pair) | false ↦ refl ] in
       let letting_is : (z : Bool) → (((released_if r z).block n).pair c).letting ≡ letting_after z r =
       elim [ true ↦ part_is (λ p. p.letting) | false ↦ releasing ] in
       let about = release_rendered c n (s.block n) width (is.sized n).truth in
       let m : MessageC w = about.0 in
-      let here : IsNext x (unfinished_at sys c Channel.C) (Message.C m) ms queue =
-      subst (λ (i : Message w). IsNext x (unfinished_at sys c Channel.C) i ms queue) about.1 next in
+      let here : IsNext x (unfinished_at sys c Channel.C) (Message.C m) ms queue = rw about.1 at next in
       subst (λ (z : Beat w). MonitorRelation before rest' c (released_if r b) (z ∷ t)) (sym here.beat_is)
       (flowed-release (ap is_empty (flowed.rest_is Channel.C))
       (ap (completes (Beat.C (c_beat_of m here.k))) (flowed.rest_is Channel.C) ∙ last_y m x ms queue here rests b
@@ -245,17 +229,14 @@ module _ {w : ℕ} {config : Config} {log : Log w} (h : AbstractState w) {sys : 
   own-grant_ack tokens x ms queue next rests asked' asks =
       let y : BeatE = record { sink = (s.block n).tracker } in
       let here : IsNext x (unfinished_at sys c Channel.E) (Message.E (record { sink = (s.block n).tracker })) ms queue =
-      subst (λ (i : Message w). IsNext x (unfinished_at sys c Channel.E) i ms queue) (ack_rendered c n (s.block n))
-      next in
+      rw (ack_rendered c n (s.block n)) at next in
       let one = one-beat here refl in
       let x_is : x ≡ Beat.E y = here.beat_is in
       subst (λ (z : Beat w). MonitorRelation asked' rest' c (grant_ack_taken c n toks s) (z ∷ t)) (sym x_is)
-      (flowed-grant_ack n toks y asked' rest' (ap is_empty (flowed.rest_is Channel.E ∙ one.1))
-      (ap (completes {w = w} (Beat.E y)) (flowed.rest_is Channel.E ∙ one.1))
-      (subst (λ (z : Beat w). AreRests z (unfinished_at sys c) rest') x_is rests) asks refl seen is.invariant.named
-      (busy_seen is_acknowledging refl (s.block n).service c shows)
-      (λ k e. busy_seen is_acknowledging refl (s.block k).service c e)
-      (λ k e. busy_seen is_granting refl (s.block k).service c e) (coming-granting c is)
+      (flowed-grant_ack n toks y asked' rest' (ap is_empty (flowed.rest_is Channel.E ∙ one.1)) (ap (completes {w = w}
+      (Beat.E y)) (flowed.rest_is Channel.E ∙ one.1)) (rw x_is at rests) asks refl seen is.invariant.named
+      (busy_seen is_acknowledging refl (s.block n).service c shows) (λ k e. busy_seen is_acknowledging refl
+      (s.block k).service c e) (λ k e. busy_seen is_granting refl (s.block k).service c e) (coming-granting c is)
       (λ k. comes-same k before asked' (unfinished_at sys c Channel.D) asks) flowed)
     where
       shows : is_acknowledging (view (s.block n).service c) ≡ true

@@ -51,12 +51,8 @@ module _ {w : ℕ} {config : Config} {log : Log w} (h : AbstractState w) {sys : 
     came i = came-so (comes_in_grant i) (is_grant m.opcode && (m.sink == i)) next_y refl (λ j. refl)
 
     comes : (i : ℕ) → comes_in_grant i (rest' Channel.D) ≡ (not b && (is_grant m.opcode && (m.sink == i)))
-    comes i = cc (
-      rests_y Channel.D,
-      comes-so (comes_in_grant i) (Beat.D (d_beat_of m next.k))
-          (unfinished_at sys c Channel.D) (is_grant m.opcode && (m.sink == i)) refl refl,
-      last_y,
-    )
+    comes i = let fact = comes-so (comes_in_grant i) (Beat.D (d_beat_of m next.k)) (unfinished_at sys c Channel.D)
+        (is_grant m.opcode && (m.sink == i)) refl refl in cc (rests_y Channel.D, last_y)
 
     -- and of a Grant of block j
     granted : (j : ℕ) → comes_granting j before (unfinished_at sys c Channel.D)
@@ -66,12 +62,9 @@ module _ {w : ℕ} {config : Config} {log : Log w} (h : AbstractState w) {sys : 
 
     grants : (asked' : ℕ → Option (BeatA w)) (j : ℕ)
         → comes_granting j asked' (rest' Channel.D) ≡ (not b && (is_grant m.opcode && asks_for j (asked' m.source)))
-    grants asked' j = cc (
-      rests_y Channel.D,
-      comes-so (comes_granting j asked') (Beat.D (d_beat_of m next.k))
-          (unfinished_at sys c Channel.D) (is_grant m.opcode && asks_for j (asked' m.source)) refl refl,
-      last_y,
-    )
+    grants asked' j = let fact = comes-so (comes_granting j asked') (Beat.D (d_beat_of m next.k))
+        (unfinished_at sys c Channel.D) (is_grant m.opcode && asks_for j (asked' m.source)) refl refl in
+        cc (rests_y Channel.D, last_y)
 
     begins_y : is_empty (unfinished Channel.D t) ≡ is_empty (unfinished_at sys c Channel.D)
     begins_y = ap is_empty (flowed.rest_is Channel.D)
@@ -82,17 +75,15 @@ module _ {w : ℕ} {config : Config} {log : Log w} (h : AbstractState w) {sys : 
     -- nothing comes of a message that is no Grant
     none_came : is_grant m.opcode ≡ false → (i : ℕ) → comes_in_grant i (rest' Channel.D) ≡ comes_in_grant i
         (unfinished_at sys c Channel.D)
-    none_came e i = comes i ∙ with_false (not b) (is_grant m.opcode && (m.sink == i))
-        (first_false (is_grant m.opcode) (m.sink == i) e)
-        ∙ sym (came i ∙ with_false (not (is_empty (unfinished_at sys c Channel.D))) (is_grant m.opcode && (m.sink == i))
-        (first_false (is_grant m.opcode) (m.sink == i) e))
+    none_came e i = comes i ∙ with_false (not b) (is_grant m.opcode && (m.sink == i)) (first_false (is_grant m.opcode)
+        (m.sink == i) e) ∙ sym (came i ∙ with_false (not (is_empty (unfinished_at sys c Channel.D)))
+        (is_grant m.opcode && (m.sink == i)) (first_false (is_grant m.opcode) (m.sink == i) e))
 
     none_granted : is_grant m.opcode ≡ false → (asked' : ℕ → Option (BeatA w)) (j : ℕ)
         → comes_granting j asked' (rest' Channel.D) ≡ comes_granting j before (unfinished_at sys c Channel.D)
     none_granted e asked' j = grants asked' j ∙ with_false (not b) (is_grant m.opcode && asks_for j (asked' m.source))
-        (first_false (is_grant m.opcode) (asks_for j (asked' m.source)) e)
-        ∙ sym (granted j ∙ with_false (not (is_empty (unfinished_at sys c Channel.D)))
-        (is_grant m.opcode && asks_for j (before m.source))
+        (first_false (is_grant m.opcode) (asks_for j (asked' m.source)) e) ∙ sym (granted j ∙ with_false
+        (not (is_empty (unfinished_at sys c Channel.D))) (is_grant m.opcode && asks_for j (before m.source))
         (first_false (is_grant m.opcode) (asks_for j (before m.source)) e))
 
   -- ---- an answer
@@ -112,15 +103,13 @@ module _ {w : ℕ} {config : Config} {log : Log w} (h : AbstractState w) {sys : 
       (sym same)) c)) (λ n used. refl) (λ n used. refl)
   answer_asks source false i j e f = refl
 
-  pub own-answer : (source : ℕ) → (s.link c).d ≡ packet Answer source ∷ toks
-      → (x : Beat w) (ms : List (Message w)) (queue : List (Beat w))
-      → IsNext x (unfinished_at sys c Channel.D) (h.mail.answer c source) ms queue
+  pub own-answer : (source : ℕ) → (s.link c).d ≡ packet Answer source ∷ toks → (x : Beat w) (ms : List (Message w))
+      (queue : List (Beat w)) → IsNext x (unfinished_at sys c Channel.D) (h.mail.answer c source) ms queue
       → AreRests x (unfinished_at sys c) rest' → (b : Bool) → completes x (unfinished_at sys c Channel.D) ≡ b
       → MonitorRelation (asked_by h.mail (answered_if source b) c) rest' c (answered_if source b) (x ∷ t)
   own-answer source tokens x ms queue next rests b last =
       let due = answer-due (is_caching config) c source toks h.mail s is.invariant (is.answered c source) tokens in
-      let here : IsNext x (unfinished_at sys c Channel.D) (Message.D due.answer) ms queue =
-      subst (λ (i : Message w). IsNext x (unfinished_at sys c Channel.D) i ms queue) due.answer_is next in
+      let here : IsNext x (unfinished_at sys c Channel.D) (Message.D due.answer) ms queue = rw due.answer_is at next in
       let kind = access_kind due.answer.opcode due.answers_access in
       subst (λ (z : Beat w). MonitorRelation (asked_by h.mail (answered_if source b) c) rest' c (answered_if source b)
       (z ∷ t)) (sym here.beat_is)
@@ -215,9 +204,8 @@ module _ {w : ℕ} {config : Config} {log : Log w} (h : AbstractState w) {sys : 
       let asks : (j : ℕ) → asks_for j (before ((s.block n).source c)) ≡ (n == j) =
       λ j. ap (asks_for j) (asks-acquire c ((s.block n).source c) n ((s.block n).source c) due.whole due.g h.mail s
       due.used due.wants refl) ∙ ap (λ (i : ℕ). i == j) (same_block n) in
-      let asks_now : (z : Bool) (j : ℕ)
-      → (not z && (true && asks_for j (asked_by h.mail (s_if z) c ((s.block n).source c)))) ≡ (not z && (n == j)) =
-      elim [ true ↦ λ j. refl | false ↦ λ j. asks j ] in
+      let asks_now : (z : Bool) (j : ℕ) → (not z && (true && asks_for j (asked_by h.mail (s_if z) c
+      ((s.block n).source c)))) ≡ (not z && (n == j)) = elim [ true ↦ λ j. refl | false ↦ λ j. asks j ] in
       let now : (s_if true).block n ≡ new = set-same n new s.block in
       let seen_is : (z : Bool) → view ((s_if z).block n).service c ≡ seen_after z due.data_too due.k =
       elim [ true ↦ rw (now, same_number c) refl | false ↦ seen ] in
@@ -228,8 +216,7 @@ module _ {w : ℕ} {config : Config} {log : Log w} (h : AbstractState w) {sys : 
       let m : MessageD w = grant_message due.data_too due.k ((s.block n).source c) (s.block n).tracker (s.block n).truth
       in
       let here : IsNext x (unfinished_at sys c Channel.D) (Message.D m) ms queue =
-      subst (λ (i : Message w). IsNext x (unfinished_at sys c Channel.D) i ms queue) (grant-rendered c n s due) next
-      in
+      subst (λ (i : Message w). IsNext x (unfinished_at sys c Channel.D) i ms queue) (grant-rendered c n s due) next in
       subst (λ (z : Beat w). MonitorRelation (asked_by h.mail (s_if b) c) rest' c (s_if b) (z ∷ t)) (sym here.beat_is)
       (flowed-grant (begins_y m x ms queue here rests b last) (ends_y m x ms queue here rests b last)
       (rests_y m x ms queue here rests b last) (record {
@@ -249,11 +236,8 @@ module _ {w : ℕ} {config : Config} {log : Log w} (h : AbstractState w) {sys : 
         came = λ i. cc (came m x ms queue here rests b last i, grants-so due.data_too);
         comes = λ i. cc (comes m x ms queue here rests b last i, grants-so due.data_too);
         granted = λ j. cc (granted m x ms queue here rests b last j, grants-so due.data_too, asks j);
-        grants = λ j. cc (
-          grants m x ms queue here rests b last (asked_by h.mail (s_if b) c) j,
-          grants-so due.data_too,
-          asks_now b j,
-        );
+        grants = λ j. let fact = grants m x ms queue here rests b last (asked_by h.mail (s_if b) c) j in
+            cc (grants-so due.data_too, asks_now b j);
         asked_is = grant_asks n whole due.data_too due.k b;
         elsewhere = λ k ne. if-part (λ (z : State (List ℕ)). z.block k) b (set-other n k new s.block ne) refl;
         uses = uses b;

@@ -1,13 +1,12 @@
 -- What is half taken on channel A while a response is on its way.
-use Rattle.std.proofs.Common.{◌≡◌, subst, ℕ, zero, suc, Bool, true, false, List, [], ◌∷◌, refl, sym, ◌∙◌, ap, eqb-true}
-use Rattle.std.proofs.Common.{◌==◌, map}
+use Rattle.std.proofs.Common.{◌≡◌, ℕ, Bool, true, false, List, [], ◌∷◌, refl, ◌∙◌, ap, arith, map}
 use Rattle.tl_coherence.proofs
 use proofs.Imports.{Beat, Channel, Message, MessageA, begun, unfinished, Config, on_link, comes_in_request, acquisition}
 use proofs.Imports.{Kind, Request, Acquire, Packet, State, SourceState, Asked, Acquires, view, packet, is_on}
 use proofs.Imports.{is_unserved, is_wanting, acquire_opcode, IsCarried, AccessMessages, block_message, message_of}
 use proofs.Imports.{message_of_kind, SimulationRelation, is_caching, Log, System}
-use proofs.protocol.{HeadOfD.acquire-used, Heads.asked-first, Heads.rendered-acquire, BothParts.wanting-is}
-use proofs.protocol.{FirstTokens.first-shown}
+use proofs.protocol.{HeadOfD.acquire-used, BothParts.wanting-is, FirstTokens.first-shown}
+use proofs.protocol.Heads.{asked-first, rendered-acquire}
 use proofs.queues.{FirstToken.own_kind, Phases.and_left, Phases.and_right}
 
 -- ---- what is half taken on channel A
@@ -28,12 +27,7 @@ waiting_request : {w : ℕ} {config : Config} {log : Log w} {mail : AccessMessag
     → (s.link c).a ≡ packet Request i ∷ rest → IsWaiting c s (mail.request c i)
 unfolding IsWaiting
 waiting_request {config} {log} {mail} {request} {s} {sys} c i rest h first =
-    let asked = asked-first c i rest h first in (
-      asked.request,
-      asked.is_it,
-      ap (λ (j : ℕ). waits_on_a c (s.uses c j) s) asked.source_is ∙ ap
-          (λ (u : SourceState). waits_on_a c u s) asked.used,
-    )
+    let asked = asked-first c i rest h first in (asked.request, asked.is_it, cc (asked.source_is, asked.used))
 
 waiting_acquire : {w : ℕ} {config : Config} {log : Log w} {mail : AccessMessages w} {request : ℕ → MessageA w}
     {s : State (List ℕ)} {sys : System w} (c n : ℕ)
@@ -43,34 +37,23 @@ unfolding IsWaiting
 waiting_acquire {w} {config} {s} c n rest h first =
     let shows = first-shown h.invariant c Acquire refl first in
     let wants = and_left (is_wanting ((s.block n).pair c).acquiring) (is_unserved (view (s.block n).service c)) shows in
-    let asks = wanting-is ((s.block n).pair c).acquiring wants in (
-      acquisition (acquire_opcode asks.0) asks.1 ((s.block n).source c) n,
-      rendered-acquire c n (s.block n) asks.0 asks.1 asks.2,
-      ap (λ (u : SourceState). waits_on_a c u s) (acquire-used (is_caching config) c n s h.invariant wants)
-          ∙ and_right (is_wanting ((s.block n).pair c).acquiring) (is_unserved (view (s.block n).service c)) shows,
-    )
+    let asks = wanting-is ((s.block n).pair c).acquiring wants in let fact = acquisition (acquire_opcode asks.0) asks.1
+    ((s.block n).source c) n in let other_fact = ap (λ (u : SourceState). waits_on_a c u s) (acquire-used
+    (is_caching config) c n s h.invariant wants) ∙ and_right (is_wanting ((s.block n).pair c).acquiring) (is_unserved
+    (view (s.block n).service c)) shows in (fact, rendered-acquire c n (s.block n) asks.0 asks.1 asks.2, other_fact)
 
 comes_not : {w : ℕ} (c source : ℕ) (s : State (List ℕ)) (m : Message w) (k : ℕ) (rest : List (Beat w))
     → rest ≡ begun m k → IsWaiting c s m
     → waits_on_a c (s.uses c source) s ≡ false → comes_in_request source rest ≡ false
 unfolding IsWaiting
-comes_not {w} c source s m k rest e is none =
-    let go : (i : ℕ) → comes_in_request source (begun (Message.A is.0) i) ≡ false =
-    elim [ zero ↦ refl | suc i ↦ differ (is.0.source == source) refl ] in
-    cc (e, is.1, go k)
-  where
-    differ : (b : Bool) → (is.0.source == source) ≡ b → b ≡ false
-    differ false f = refl
-    differ true f = absurd (let no : true ≡ false = sym is.2 ∙ ap (λ (j : ℕ). waits_on_a c (s.uses c j) s)
-        (eqb-true is.0.source source f) ∙ none in cc)
+comes_not {w} c source s m k rest e is none = grind (arith, waits_on_a)
 
 -- no request is half taken whose source waits for an answer
 pub not-coming_a : {w : ℕ} {config : Config} {log : Log w} {mail : AccessMessages w} {request : ℕ → MessageA w}
     {s : State (List ℕ)} {sys : System w} (c source : ℕ)
     → SimulationRelation config log mail request s sys → waits_on_a c (s.uses c source) s ≡ false
     → comes_in_request source (unfinished Channel.A (on_link c sys.manager.trace)) ≡ false
-not-coming_a {w} {config} {log} {mail} {request} {s} {sys} c source h none =
-    go (s.link c).a refl (h.carried c Channel.A)
+not-coming_a {w} {config} {mail} {s} {sys} c source h none = go (s.link c).a refl (h.carried c Channel.A)
   where
     rest_now : List (Beat w)
     rest_now = unfinished Channel.A (on_link c sys.manager.trace)
@@ -85,14 +68,11 @@ not-coming_a {w} {config} {log} {mail} {request} {s} {sys} c source h none =
         (sys.channels c Channel.A) → comes_in_request source rest_now ≡ false
     go [] first carried =
         let nothing : IsCarried rest_now [] (sys.channels c Channel.A) =
-        subst (λ (ms : List (Message w)). IsCarried rest_now ms (sys.channels c Channel.A))
-        (ap (map (message_of mail s c)) first) carried in
+        rw (ap (map (message_of mail s c)) first) at carried in
         ap (comes_in_request source) nothing.0
     go (x ∷ xs) first carried =
         let some : IsCarried rest_now (message_of mail s c x ∷ map (message_of mail s c) xs)
-        (sys.channels c Channel.A) =
-        subst (λ (ms : List (Message w)). IsCarried rest_now ms (sys.channels c Channel.A))
-        (ap (map (message_of mail s c)) first) carried in
+        (sys.channels c Channel.A) = rw (ap (map (message_of mail s c)) first) at carried in
         comes_not c source s (message_of mail s c x) some.0 rest_now some.2
         (each x.kind x.number xs first (own_kind (is_caching config) s c Channel.A x.kind x.number xs h.invariant
         first)) none

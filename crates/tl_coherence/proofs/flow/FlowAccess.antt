@@ -1,13 +1,12 @@
 -- What is delivered on a link, as a beat of an access is.
 use Rattle.std.proofs.Common.{◌≡◌, ℕ, Bool, true, false, not, ◌&&◌, ◌∷◌, Option, Some, None, refl, sym, ◌∙◌, ap, List}
-use Rattle.std.proofs.Common.{◌==◌, if◌then◌else◌, option_map}
+use Rattle.std.proofs.Common.{arith, ◌==◌, if◌then◌else◌, option_map}
 use Rattle.tl_coherence.proofs
 use proofs.Imports.{and_right, Beat, BeatA, Channel, History, Perm, comes_in_request, begins, ends, block_at}
 use proofs.Imports.{is_acquire, request_of, release_of, probe_of-a, grant_sink-a, Block, State, SourceState, SourceFree}
 use proofs.Imports.{Asked, InService, Replied, Acquires, is_answered, MonitorRelation, is_requested, is_let_by, is_sunk}
 use proofs.Imports.{probe_beat, cap_waited}
-use proofs.flow.{FlowAlone.AreRests, FlowAside.let_by-same, FlowGranted.begun, FlowGranted.unbegun}
-use proofs.flow.{FlowReleased.with_true, FlowReport.unopened}
+use proofs.flow.{FlowAlone.AreRests, FlowAside.let_by-same, FlowGranted.begun, FlowReleased.with_true}
 use proofs.flow.FlowStep.{flowed-next, held_by, acquired_by, let_of, granted_by, step, step_quiet}
 
 pub released-of : {w : ℕ} (i : ℕ) (y : BeatA w) (t : History w) → release_of i (Beat.A y ∷ t) ≡ release_of i t
@@ -19,20 +18,15 @@ pub of_source : {w : ℕ} (i : ℕ) (y : BeatA w) (t : History w) (first : Bool)
     → begins (Beat.A y) t ≡ first → (y.source == i) ≡ true
     → (first ≡ true → o ≡ Some y) → (first ≡ false → request_of i t ≡ o) → request_of i (Beat.A y ∷ t) ≡ o
 unfolding request_of
-of_source i y t true o e f g before = rw (e, f) (sym (g refl))
-of_source i y t false o e f g before = rw e (before refl)
+of_source i y t first o e f g h = grind arith
 
 pub of_other : {w : ℕ} (i : ℕ) (y : BeatA w) (t : History w) → (y.source == i) ≡ false
     → request_of i (Beat.A y ∷ t) ≡ request_of i t
 unfolding request_of
-of_other {w} i y t e =
-    let go : (p q : Bool) → q ≡ false → (if p && q then Some y else request_of i t) ≡ request_of i t =
-    elim [ true ↦ λ q f. rw f refl | false ↦ λ q f. refl ] in
-    go (begins (Beat.A y) t) (y.source == i) e
+of_other {w} i y t e = grind arith
 
 unsaid : (last : Bool) (p : Perm) → (if last then p else p) ≡ p
-unsaid true p = refl
-unsaid false p = refl
+unsaid last p = grind arith
 
 -- a beat of client c's access with its source, whose last one the manager answers or has in service
 pub record IsAccess {w : ℕ} {X : Type 0} (c : ℕ) (y : BeatA w) (first last : Bool) (asked : ℕ → Option (BeatA w))
@@ -72,27 +66,21 @@ flowed-access {w} {X} {c} {y} {first} {last} {asked} {rest} {rest'} {s} {s'} {t}
       held_is = λ m. ap (held_by c) (is.blocks m) ∙ sym (unsaid last (held_by c (s.block m)));
       requests = λ i. requests i (y.source == i) refl;
       asked_is = λ i e. asked_still i e (y.source == i) refl;
-      acquires = λ m. ap (acquired_by c) (is.blocks m) ∙ sym
-          (unopened first last (is_acquire y.opcode) (block_at y.address == m) (acquired_by c (s.block m)) is.access);
+      acquires = λ m. cc (is.blocks m, is.access, step_quiet first last (acquired_by c (s.block m)));
       release_sources = λ i. lets i ∙ sym (step_quiet first last (is_let_by c i (rest Channel.C) (s.lets c i) s));
       released = λ i m e f. ap (option_map (λ z. block_at z.address)) (released-of i y t) ∙ before.released i m
           (sym (is.lets i) ∙ e) (before.release_sources i ∙ sym (lets i) ∙ f);
       sizes = λ i m e f. ap (option_map (λ z. z.size)) (released-of i y t) ∙ before.sizes i m (sym (is.lets i) ∙ e)
           (before.release_sources i ∙ sym (lets i) ∙ f);
-      releases = λ m. ap (λ (l : List (Beat w)). let_of c l (s'.block m)) (rests Channel.C) ∙ ap
-          (let_of c (rest Channel.C)) (is.blocks m)
-          ∙ sym (step_quiet first last (let_of c (rest Channel.C) (s.block m)));
+      releases = λ m. cc (rests Channel.C, is.blocks m, step_quiet first last (let_of c (rest Channel.C) (s.block m)));
       sinks = λ i. ap (λ (l : List (Beat w)). is_sunk c i l (s'.tracked i) s') (rests Channel.D)
           ∙ ap (λ (o : Option ℕ). is_sunk c i (rest Channel.D) o s') (is.tracked i) ∙ sinks i (s.tracked i)
           ∙ sym (step_quiet first last (is_sunk c i (rest Channel.D) (s.tracked i) s));
       grants = λ m. grants m ∙ sym (step_quiet first last (granted_by c m asked (rest Channel.D) (s.block m)));
-      probes = λ m. ap (λ (z : Block X). is_answered (z.pair c).probing) (is.blocks m) ∙ sym
-          (step_quiet first last (is_answered ((s.block m).pair c).probing));
-      probed = λ m e. probe_of-a m y t ∙ before.probed m
-          (sym (ap (λ (z : Block X). is_answered (z.pair c).probing) (is.blocks m)) ∙ e)
-          ∙ sym (ap (λ (z : Block X). Some (probe_beat m (cap_waited z.service))) (is.blocks m));
-      sunk = λ m e. grant_sink-a m y t ∙ before.sunk m (before.grants m ∙ sym (grants m) ∙ e) ∙ ap
-          (λ (z : Block X). Some z.tracker) (sym (is.blocks m));
+      probes = λ m. cc (is.blocks m, step_quiet first last (is_answered ((s.block m).pair c).probing));
+      probed = λ m e. probe_of-a m y t ∙ before.probed m (sym (ap (λ (z : Block X). is_answered (z.pair c).probing)
+          (is.blocks m)) ∙ e) ∙ sym (ap (λ (z : Block X). Some (probe_beat m (cap_waited z.service))) (is.blocks m));
+      sunk = λ m e. cc (grant_sink-a m y t, before.sunk m (before.grants m ∙ sym (grants m) ∙ e), is.blocks m);
     }) before
   where
     was : (i : ℕ) → (y.source == i) ≡ true → is_requested c i (rest Channel.A) (s.uses c i) s ≡ not first
@@ -100,33 +88,26 @@ flowed-access {w} {X} {c} {y} {first} {last} {asked} {rest} {rest'} {s} {s'} {t}
 
     now : (i : ℕ) (z : Bool) → last ≡ z → (y.source == i) ≡ true
         → is_requested c i (rest' Channel.A) (if z && true then Replied else s.uses c i) s' ≡ true
-    now i true e f = refl
-    now i false e f = cc (is.use_is i f, is.comes i, with_true (not last) (y.source == i) f, e)
+    now i z e f = grind (arith, with_true, last)
 
     use_at : (i : ℕ) (here : Bool) → (y.source == i) ≡ here → is_requested c i (rest' Channel.A) (s'.uses c i)
         s' ≡ is_requested c i (rest' Channel.A) (if last && here then Replied else s.uses c i) s'
     use_at i here e = cc (is.uses i, e)
 
     off : (z : Bool) (u v : SourceState) → (if z && false then v else u) ≡ u
-    off true u v = refl
-    off false u v = refl
+    off z u v = grind arith
 
     same : (i : ℕ) → (y.source == i) ≡ false → is_requested c i (rest' Channel.A) (s'.uses c i) s' ≡ is_requested c i
         (rest Channel.A) (s.uses c i) s
-    same i e = cc (
-      use_at i false e,
-      off last (s.uses c i) Replied,
-      requested-rest c i (rest Channel.A)
-          (rest' Channel.A) (s.uses c i) s s' is.blocks (is.comes i ∙ and_right (not last) (y.source == i) e
-          ∙ sym (is.came i ∙ and_right (not first) (y.source == i) e)),
-    )
+    same i e = let fact = requested-rest c i (rest Channel.A) (rest' Channel.A) (s.uses c i) s s' is.blocks (is.comes i
+        ∙ and_right (not last) (y.source == i) e ∙ sym (is.came i ∙ and_right (not first) (y.source == i) e)) in
+        cc (use_at i false e, off last (s.uses c i) Replied)
 
     requests : (i : ℕ) (here : Bool) → (y.source == i) ≡ here → is_requested c i (rest' Channel.A) (s'.uses c i) s'
         ≡ step first last (y.source == i) false (is_requested c i (rest Channel.A) (s.uses c i) s)
     requests i true e = use_at i true e ∙ now i last refl e ∙ sym
         (begun first last (y.source == i) (is_requested c i (rest Channel.A) (s.uses c i) s) e (was i e))
-    requests i false e = same i e ∙ sym
-        (unbegun first last (y.source == i) (is_requested c i (rest Channel.A) (s.uses c i) s) e)
+    requests i false e = cc (same i e, e, step_quiet first last (is_requested c i (rest Channel.A) (s.uses c i) s))
 
     asked_still : (i : ℕ) → is_requested c i (rest' Channel.A) (s'.uses c i) s' ≡ true → (here : Bool)
         → (y.source == i) ≡ here → request_of i (Beat.A y ∷ t) ≡ asked i
@@ -135,8 +116,4 @@ flowed-access {w} {X} {c} {y} {first} {last} {asked} {rest} {rest'} {s} {s'} {t}
     asked_still i e false f = of_other i y t f ∙ before.asked_is i (before.requests i ∙ sym (same i f) ∙ e)
 
     lets : (i : ℕ) → is_let_by c i (rest' Channel.C) (s'.lets c i) s' ≡ is_let_by c i (rest Channel.C) (s.lets c i) s
-    lets i = cc (
-      rests Channel.C,
-      is.lets i,
-      let_by-same c i (rest Channel.C) (s.lets c i) s s' (λ m. ap (λ (z : Block X). (z.pair c).letting) (is.blocks m)),
-    )
+    lets i = grind (arith, let_by-same, rests)

@@ -47,6 +47,10 @@ pub flowed-acquire : {w : ℕ} {X : Type 0} {c n : ℕ} {y : BeatA w} {asked ask
     → ends (Beat.A y) t ≡ true → AreRests (Beat.A y) rest rest' → IsAcquired c n y asked asked' rest rest' s s'
     → MonitorRelation asked rest c s t → MonitorRelation asked' rest' c s' (Beat.A y ∷ t)
 flowed-acquire {w} {X} {c} {n} {y} {asked} {asked'} {rest} {rest'} {s} {s'} {t} first_is last_is rests is before =
+    let probed = each-block (λ m z. is_answered (z.pair c).probing ≡ true → probe_of m t ≡ Some (probe_beat m
+    (cap_waited z.service))) n s s' is.elsewhere (λ e. absurd (cc is.answered)) (λ m ne e. before.probed m e) in
+    let answered =
+    part-block (λ (z : Block X). is_answered (z.pair c).probing) n s s' is.elsewhere (is.answered ∙ sym is.quiet) in
     let b : Block X = s.block n in
     let new : Block X = s'.block n in
     let none_comes = no_coming (is_granting (view b.service c)) (comes_granting n asked (rest Channel.D))
@@ -93,21 +97,15 @@ flowed-acquire {w} {X} {c} {n} {y} {asked} {asked'} {rest} {rest'} {s} {s'} {t} 
       sunk = λ m e. grant_sink-a m y t ∙ tracked m e;
     }) before
   where
-    now : (i : ℕ) → (y.source == i) ≡ true → is_requested c i (rest' Channel.A) (s'.uses c i) s' ≡ true
-    now i e = cc (is.uses i, is.use_is i e, is.served)
-
     same : (i : ℕ) → (y.source == i) ≡ false → is_requested c i (rest' Channel.A) (s'.uses c i) s' ≡ is_requested c i
         (rest Channel.A) (s.uses c i) s
-    same i e = cc (
-      is.uses i,
-      requested-apart c i n (rest Channel.A) (rest' Channel.A) (s.uses c i) s s' is.elsewhere
-          (is.comes i ∙ sym (is.came i)) (is.no_use i e),
-    )
+    same i e = let fact = requested-apart c i n (rest Channel.A) (rest' Channel.A) (s.uses c i) s s' is.elsewhere
+        (is.comes i ∙ sym (is.came i)) (is.no_use i e) in cc (is.uses i)
 
     requests : (i : ℕ) (here : Bool) → (y.source == i) ≡ here → is_requested c i (rest' Channel.A) (s'.uses c i) s'
         ≡ step true true (y.source == i) false (is_requested c i (rest Channel.A) (s.uses c i) s)
-    requests i true e = now i e ∙ sym (whole_opened (y.source == i) (is_requested c i (rest Channel.A) (s.uses c i) s)
-        e)
+    requests i true e = (cc (is.uses i, is.use_is i e, is.served))
+        ∙ sym (whole_opened (y.source == i) (is_requested c i (rest Channel.A) (s.uses c i) s) e)
     requests i false e = same i e ∙ sym
         (whole_unopened (y.source == i) (is_requested c i (rest Channel.A) (s.uses c i) s) e)
 
@@ -119,19 +117,5 @@ flowed-acquire {w} {X} {c} {n} {y} {asked} {asked'} {rest} {rest'} {s} {s'} {t} 
         (is.asked_is i)
 
     lets : (i : ℕ) → is_let_by c i (rest' Channel.C) (s'.lets c i) s' ≡ is_let_by c i (rest Channel.C) (s.lets c i) s
-    lets i = cc (
-      rests Channel.C,
-      is.lets i,
-      let_by-same c i (rest Channel.C) (s.lets c i) s s'
-          (part-block (λ (z : Block X). (z.pair c).letting) n s s' is.elsewhere is.letting_is),
-    )
-
-    answered : (m : ℕ) → is_answered ((s'.block m).pair c).probing ≡ is_answered ((s.block m).pair c).probing
-    answered = part-block (λ (z : Block X). is_answered (z.pair c).probing) n s s' is.elsewhere
-        (is.answered ∙ sym is.quiet)
-
-    probed : (m : ℕ) → is_answered ((s'.block m).pair c).probing ≡ true
-        → probe_of m t ≡ Some (probe_beat m (cap_waited (s'.block m).service))
-    probed = each-block (λ m z. is_answered (z.pair c).probing ≡ true
-        → probe_of m t ≡ Some (probe_beat m (cap_waited z.service))) n s s' is.elsewhere
-        (λ e. absurd (let f : false ≡ true = sym is.answered ∙ e in cc)) (λ m ne e. before.probed m e)
+    lets i = let fact = let_by-same c i (rest Channel.C) (s.lets c i) s s' (part-block
+        (λ (z : Block X). (z.pair c).letting) n s s' is.elsewhere is.letting_is) in cc (rests Channel.C, is.lets i)

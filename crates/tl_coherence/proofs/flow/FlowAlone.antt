@@ -1,19 +1,19 @@
 -- What is delivered on a link, as a Probe or a GrantAck is: messages of one beat, which leave requests
 -- and Releases alone.
 use Rattle.std.proofs.Common.{◌≡◌, ℕ, Bool, true, false, not, ◌&&◌, ◌||◌, ◌∷◌, Option, Some, None, refl, sym, ◌∙◌, ap}
-use Rattle.std.proofs.Common.{List, ◌⊎◌, inl, inr, ne_eqb, eqb-true, ◌==◌, if◌then◌else◌, option_map}
+use Rattle.std.proofs.Common.{arith, List, ◌⊎◌, inl, inr, ne_eqb, eqb-true, ◌==◌, if◌then◌else◌}
 use Rattle.tl_coherence.proofs
-use proofs.Imports.{cases_eq, Beat, BeatA, BeatE, Channel, History, grown, Cap, comes_in_grant, begins, ends, block_at}
-use proofs.Imports.{release_of, probe_of, grant_sink, request_of-e, is_of, is_busy, AreNamed, Packet, View, Own}
-use proofs.Imports.{Acknowledging, Other, Service, Free, Waits, Block, State, view, grant_ack_taken, freed_block}
-use proofs.Imports.{is_granting, is_acknowledging, is_answered, is_wanting, is_unserved, comes_granting}
-use proofs.Imports.{MonitorRelation, is_requested, is_let_by, is_sunk, probe_beat, cap_waited}
-use Rattle.tl_burst.specs.statement.Messages.{on}
-use Rattle.tl_rules.specs.statement.History.{is_sink}
-use Rattle.tl_client.proofs.pending.AccountedResponse.{is_own_sink}
+use proofs.Imports.{cases_eq, Beat, BeatA, BeatE, Channel, History, grown, comes_in_grant, begins, ends, release_of}
+use proofs.Imports.{probe_of, grant_sink, request_of-e, is_of, is_busy, AreNamed, Packet, View, Acknowledging, Service}
+use proofs.Imports.{Free, Block, State, view, grant_ack_taken, freed_block, is_granting, is_acknowledging, is_answered}
+use proofs.Imports.{is_wanting, is_unserved, comes_granting, MonitorRelation, is_requested, is_let_by, is_sunk}
+use proofs.Imports.{probe_beat, cap_waited}
+use Rattle.tl_burst.{specs.statement.Messages.on}
+use Rattle.tl_rules.{specs.statement.History.is_sink}
+use Rattle.tl_client.{proofs.pending.AccountedResponse.is_own_sink}
 use Rattle.tl_manager.proofs.pending.Acked.{probe_of-e, grant_sink-e}
-use proofs.flow.{FlowAside.IsComing, FlowAside.requested-blocks, FlowAside.let_by-same, FlowStep.flowed-next}
-use proofs.flow.{FlowStep.held_by, FlowStep.acquired_by, FlowStep.let_of, FlowStep.granted_by, FlowStep.step}
+use proofs.flow.FlowAside.{IsComing, requested-blocks, let_by-same}
+use proofs.flow.FlowStep.{flowed-next, held_by, acquired_by, let_of, granted_by, step}
 use proofs.queues.Tokens.{same_number, set-same, set-other, set-each, set-part}
 
 -- what of each channel's first message was delivered, with one more beat
@@ -30,8 +30,7 @@ not_granting : (v : View) → v ≡ Acknowledging → is_granting v ≡ false
 not_granting v e = ap is_granting e
 
 pub no_coming : (g b : Bool) → g ≡ false → (b ≡ true → g ≡ true) → b ≡ false
-no_coming g false e f = refl
-no_coming g true e f = let h : g ≡ true = f refl in let i : false ≡ true = sym e ∙ h in cc
+no_coming g b e f = grind arith
 
 other_sink : (i j : ℕ) (o : Option ℕ) → o ≡ Some j → (j ≡ i → ⊥) → is_sink i o ≡ false
 other_sink i j o e ne = rw e (ne_eqb j i ne)
@@ -46,9 +45,20 @@ pub flowed-grant_ack : {w : ℕ} {X : Type 0} {c : ℕ} (n : ℕ) (toks : List P
     → IsComing asked (rest Channel.D) c s
     → ((m : ℕ) → comes_granting m asked' (rest Channel.D) ≡ comes_granting m asked (rest Channel.D))
     → MonitorRelation asked rest c s t → MonitorRelation asked' rest' c (grant_ack_taken c n toks s) (Beat.E y ∷ t)
-flowed-grant_ack {w} {X} {c} n toks y {asked} asked' {rest} rest' {s} {t} first last rests asks sink seen named busy
-    busy_a busy_g
-    coming comes before =
+flowed-grant_ack {w} {X} {c} n toks y {asked} asked' {rest} rest' {s}
+    {t} first last rests asks sink seen named busy busy_a busy_g coming comes before =
+    let none_comes = no_coming (is_granting (view b.service c)) (comes_granting n asked (rest Channel.D))
+    (not_granting (view b.service c) seen) (coming n) in
+    let tracked = set-each (λ m z. granted_by c m asked' (rest' Channel.D) z ≡ true → grant_sink m t
+    ≡ Some z.tracker) n new s.block (λ e. absurd (let f : false ≡ true = sym (grants_rest n ∙ none_comes) ∙ e in cc))
+    (λ m ne e. before.sunk m (cc (before.grants m, grants_rest m))) in
+    let acks_here = ap (λ (v : View). is_acknowledging v || comes_granting n asked (rest Channel.D)) seen in
+    let grants = set-each (λ m z. granted_by c m asked' (rest' Channel.D) z ≡ step true true false
+    (is_sink y.sink (grant_sink m t)) (granted_by c m asked (rest Channel.D) (s.block m))) n new s.block
+    (grants_rest n ∙ none_comes ∙ sym (closes_it (granted_by c n asked (rest Channel.D) b) (is_sink y.sink
+    (grant_sink n t)) (rw sink (is_own_sink b.tracker (grant_sink n t) (before.sunk n (before.grants n ∙ acks_here))))))
+    (λ m ne. ap (λ (z : Bool). is_acknowledging (view (s.block m).service c) || z) (grants_rest m) ∙ sym (leaves_it
+    (granted_by c m asked (rest Channel.D) (s.block m)) (is_sink y.sink (grant_sink m t)) (other_closed m ne))) in
     let requests : (i : ℕ) → is_requested c i (rest' Channel.A) (s'.uses c i) s' ≡ is_requested c i (rest Channel.A)
     (s.uses c i) s = λ i. cc (
       rests Channel.A,
@@ -62,17 +72,13 @@ flowed-grant_ack {w} {X} {c} n toks y {asked} asked' {rest} rest' {s} {t} first 
       held_is = set-part (held_by c) n new s.block
           (sym (ap (λ (v : View). if is_granting v then (b.pair c).held else (b.pair c).recorded) seen));
       requests = requests;
-      asked_is = λ i e. request_of-e i y t ∙ before.asked_is i (before.requests i ∙ sym (requests i) ∙ e) ∙ sym
-          (asks i);
+      asked_is = λ i e. request_of-e i y t ∙ before.asked_is i (cc (before.requests i, requests i)) ∙ sym (asks i);
       acquires = set-part (acquired_by c) n new s.block
           (sym (ap (λ (v : View). is_wanting (b.pair c).acquiring && not (is_unserved v)) seen));
       release_sources = lets;
-      released = λ i m e f. ap (option_map (λ z. block_at z.address)) (released-of i y t) ∙ before.released i m e
-          (before.release_sources i ∙ sym (lets i) ∙ f);
-      sizes = λ i m e f. ap (option_map (λ z. z.size)) (released-of i y t) ∙ before.sizes i m e
-          (before.release_sources i ∙ sym (lets i) ∙ f);
-      releases = λ m. ap (λ (r : List (Beat w)). let_of c r (s'.block m)) (rests Channel.C) ∙ set-part
-          (let_of c (rest Channel.C)) n new s.block refl m;
+      released = λ i m e f. cc (released-of i y t, before.released i m e (before.release_sources i ∙ sym (lets i) ∙ f));
+      sizes = λ i m e f. cc (released-of i y t, before.sizes i m e (before.release_sources i ∙ sym (lets i) ∙ f));
+      releases = λ m. cc (rests Channel.C, set-part (let_of c (rest Channel.C)) n new s.block refl m);
       sinks = sinks;
       grants = grants;
       probes = set-part (λ (z : Block X). is_answered (z.pair c).probing) n new s.block refl;
@@ -90,11 +96,8 @@ flowed-grant_ack {w} {X} {c} n toks y {asked} asked' {rest} rest' {s} {t} first 
     s' = grant_ack_taken c n toks s
 
     lets : (i : ℕ) → is_let_by c i (rest' Channel.C) (s'.lets c i) s' ≡ is_let_by c i (rest Channel.C) (s.lets c i) s
-    lets i = cc (
-      rests Channel.C,
-      let_by-same c i (rest Channel.C) (s.lets c i) s s'
-          (set-part (λ (z : Block X). (z.pair c).letting) n new s.block refl),
-    )
+    lets i = let fact = let_by-same c i (rest Channel.C) (s.lets c i) s s'
+        (set-part (λ (z : Block X). (z.pair c).letting) n new s.block refl) in cc (rests Channel.C)
 
     answered_other : (m : ℕ) → is_answered ((s'.block m).pair c).probing ≡ true
         → is_answered ((s.block m).pair c).probing ≡ true
@@ -102,27 +105,14 @@ flowed-grant_ack {w} {X} {c} n toks y {asked} asked' {rest} rest' {s} {t} first 
 
     probed : (m : ℕ) → is_answered ((s'.block m).pair c).probing ≡ true
         → probe_of m t ≡ Some (probe_beat m (cap_waited (s'.block m).service))
-    probed m e = cc (
-      before.probed m (answered_other m e),
-      set-part (λ (z : Block X). cap_waited z.service) n new s.block (no_cap b.service seen) m,
-    )
+    probed m e = let fact = set-part (λ (z : Block X). cap_waited z.service) n new s.block
+        (no_cap b.service seen) m in cc (before.probed m (answered_other m e))
       where
         no_cap : (q : Service) → view q c ≡ Acknowledging → cap_waited Free ≡ cap_waited q
-        no_cap (Waits q own source k) f =
-            let waits : (z : Bool) (j : Cap) → (if z then Own else Other j) ≡ Acknowledging → ⊥ =
-            elim [ true ↦ λ j g. absurd cc | false ↦ λ j g. absurd cc ] in
-            absurd (waits (own && (c == q)) k f)
-        no_cap q f = refl
+        no_cap q e = grind arith
 
     of_block : (m : ℕ) → granted_by c m asked (rest Channel.D) (s.block m) ≡ true → is_busy (s.block m).service ≡ true
-    of_block m e = go (is_acknowledging (view (s.block m).service c)) (comes_granting m asked (rest Channel.D)) refl
-        refl e
-      where
-        go : (p q : Bool) → is_acknowledging (view (s.block m).service c) ≡ p
-            → comes_granting m asked (rest Channel.D) ≡ q → (p || q) ≡ true → is_busy (s.block m).service ≡ true
-        go true q f g h = busy_a m f
-        go false true f g h = busy_g m (coming m g)
-        go false false f g h = absurd cc
+    of_block m e = grind (arith, coming)
 
     -- blocks in service have trackers of their own
     apart : (m : ℕ) → is_busy (s.block m).service ≡ true → (m ≡ n → ⊥) → (s.block m).tracker ≡ b.tracker → ⊥
@@ -132,10 +122,6 @@ flowed-grant_ack {w} {X} {c} n toks y {asked} asked' {rest} rest' {s} {t} first 
         ne (is_same (s.tracked b.tracker) (named.trackers b.tracker n ∙ rw (busy, same_number b.tracker) refl)
         (named.trackers b.tracker m ∙ rw (also, same, same_number b.tracker) refl))
 
-    none_comes : comes_granting n asked (rest Channel.D) ≡ false
-    none_comes = no_coming (is_granting (view b.service c)) (comes_granting n asked (rest Channel.D))
-        (not_granting (view b.service c) seen) (coming n)
-
     grants_rest : (m : ℕ) → comes_granting m asked' (rest' Channel.D) ≡ comes_granting m asked (rest Channel.D)
     grants_rest m = ap (comes_granting m asked') (rests Channel.D) ∙ comes m
 
@@ -143,35 +129,12 @@ flowed-grant_ack {w} {X} {c} n toks y {asked} asked' {rest} rest' {s} {t} first 
     closes_it p q e = rw e refl
 
     leaves_it : (p q : Bool) → (p ≡ true → q ≡ false) → (if true && q then false else p) ≡ p
-    leaves_it false true h = refl
-    leaves_it p false h = refl
-    leaves_it true true h = let g : true ≡ false = h refl in cc
+    leaves_it p q e = grind arith
 
     other_closed : (m : ℕ) → (m ≡ n → ⊥) → granted_by c m asked (rest Channel.D) (s.block m) ≡ true
         → is_sink y.sink (grant_sink m t) ≡ false
     other_closed m ne e = rw sink (other_sink b.tracker (s.block m).tracker (grant_sink m t)
         (before.sunk m (before.grants m ∙ e)) (apart m (of_block m e) ne))
-
-    acks_here : granted_by c n asked (rest Channel.D) b ≡ true
-    acks_here = ap (λ (v : View). is_acknowledging v || comes_granting n asked (rest Channel.D)) seen
-
-    grants : (m : ℕ) → granted_by c m asked' (rest' Channel.D) (s'.block m) ≡ step true true false
-        (is_sink y.sink (grant_sink m t)) (granted_by c m asked (rest Channel.D) (s.block m))
-    grants = set-each (λ m z. granted_by c m asked' (rest' Channel.D) z ≡ step true true false
-        (is_sink y.sink (grant_sink m t)) (granted_by c m asked (rest Channel.D) (s.block m))) n new s.block
-        (grants_rest n ∙ none_comes ∙ sym (closes_it (granted_by c n asked (rest Channel.D) b)
-        (is_sink y.sink (grant_sink n t))
-        (rw sink (is_own_sink b.tracker (grant_sink n t) (before.sunk n (before.grants n ∙ acks_here))))))
-        (λ m ne. ap (λ (z : Bool). is_acknowledging (view (s.block m).service c) || z) (grants_rest m)
-        ∙ sym (leaves_it (granted_by c m asked (rest Channel.D) (s.block m)) (is_sink y.sink (grant_sink m t))
-        (other_closed m ne)))
-
-    tracked : (m : ℕ) → granted_by c m asked' (rest' Channel.D) (s'.block m) ≡ true
-        → grant_sink m t ≡ Some (s'.block m).tracker
-    tracked = set-each (λ m z. granted_by c m asked' (rest' Channel.D) z ≡ true → grant_sink m t ≡ Some z.tracker) n new
-        s.block (λ e. absurd (let f : false ≡ true = sym (grants_rest n ∙ none_comes) ∙ e in cc))
-        (λ m ne e. before.sunk m (before.grants m
-        ∙ sym (ap (λ (z : Bool). is_acknowledging (view (s.block m).service c) || z) (grants_rest m)) ∙ e))
 
     sinks : (i : ℕ) → is_sunk c i (rest' Channel.D) (s'.tracked i) s' ≡ step true true false (y.sink == i)
         (is_sunk c i (rest Channel.D) (s.tracked i) s)
@@ -189,15 +152,9 @@ flowed-grant_ack {w} {X} {c} n toks y {asked} asked' {rest} rest' {s} {t} first 
 
         go : (i ≡ b.tracker) ⊎ (i ≡ b.tracker → ⊥) → is_sunk c i (rest Channel.D) (s'.tracked i) s' ≡ step true true
             false (y.sink == i) (is_sunk c i (rest Channel.D) (s.tracked i) s)
-        go (inl same) = cc (
-          same,
-          set-same b.tracker None s.tracked,
-          closes_it
-              (is_sunk c i (rest Channel.D) (s.tracked i) s) (y.sink == i) (rw (sink, same) (same_number b.tracker)),
-        )
-        go (inr other) = cc (
-          set-other b.tracker i None s.tracked other,
-          others (s.tracked i) (named.trackers i n ∙ rw (busy, ne_eqb i b.tracker other) refl),
-          leaves_it (is_sunk c i (rest Channel.D) (s.tracked i) s)
-              (y.sink == i) (λ e. rw sink (ne_eqb b.tracker i (λ f. other (sym f)))),
-        )
+        go (inl same) = let fact = closes_it (is_sunk c i (rest Channel.D) (s.tracked i) s) (y.sink == i)
+            (rw (sink, same) (same_number b.tracker)) in cc (same, set-same b.tracker None s.tracked)
+        go (inr other) = let fact =
+            others (s.tracked i) (named.trackers i n ∙ rw (busy, ne_eqb i b.tracker other) refl) in let other_fact =
+            leaves_it (is_sunk c i (rest Channel.D) (s.tracked i) s) (y.sink == i)
+            (λ e. rw sink (ne_eqb b.tracker i (λ f. other (sym f)))) in cc (set-other b.tracker i None s.tracked other)

@@ -1,19 +1,18 @@
 -- What is delivered on a link, as a beat of an access's answer or a ReleaseAck is.
 use Rattle.std.proofs.Common.{◌≡◌, ℕ, Bool, true, false, not, ◌&&◌, ◌||◌, ◌∷◌, Option, Some, None, refl, sym, ◌∙◌, ap}
-use Rattle.std.proofs.Common.{List, ne_eqb, eqb-true, ◌==◌, if◌then◌else◌, option_map, unwrap_or}
+use Rattle.std.proofs.Common.{arith, List, ne_eqb, eqb-true, ◌==◌, if◌then◌else◌, option_map, unwrap_or}
 use Rattle.tl_coherence.proofs
 use proofs.Imports.{Beat, BeatA, BeatC, BeatD, Channel, History, ReleaseSource, Perm, comes_in_grant, begins, ends}
 use proofs.Imports.{block_at, pending, is_grant, is_release_ack, asks_for, request_of, release_of, probe_of, grant_sink}
-use proofs.Imports.{capped, release_of-d, request_of-d, is_of, releases_with, NoRelease, ReleaseAcked, AcquirePhase}
-use proofs.Imports.{Service, Block, State, SourceState, SourceFree, view, is_acknowledging, is_answered, is_wanting}
-use proofs.Imports.{is_unserved, comes_granting, MonitorRelation, is_requested, is_release_pending, is_let_by, is_sunk}
-use proofs.Imports.{probe_beat, cap_waited}
-use Rattle.tl_rules.specs.statement.History.{releases}
+use proofs.Imports.{capped, release_of-d, request_of-d, is_of, releases_with, NoRelease, ReleaseAcked, Service, Block}
+use proofs.Imports.{State, SourceState, SourceFree, view, is_acknowledging, is_answered, is_unserved, comes_granting}
+use proofs.Imports.{MonitorRelation, is_requested, is_release_pending, is_let_by, is_sunk, probe_beat, cap_waited}
+use Rattle.tl_rules.{specs.statement.History.releases}
 use proofs.flow.{FlowAlone.AreRests, FlowAside.requested-blocks, FlowAside.let_by-same, FlowReport.unopened}
-use proofs.flow.{FlowReleased.AreElsewhere, FlowReleased.each-block, FlowReleased.part-block}
-use proofs.queues.Tokens.{same_number}
-use proofs.protocol.BothParts.{is_of-is}
+use proofs.flow.FlowReleased.{AreElsewhere, each-block, part-block}
 use proofs.flow.FlowStep.{flowed-next, held_by, acquired_by, let_of, granted_by, step, step_quiet}
+use proofs.queues.{Tokens.same_number}
+use proofs.protocol.{BothParts.is_of-is}
 
 pub probed-of : {w : ℕ} (n : ℕ) (y : BeatD w) (t : History w) → probe_of n (Beat.D y ∷ t) ≡ probe_of n t
 unfolding probe_of
@@ -22,10 +21,7 @@ probed-of n y t = refl
 sunk-of : {w : ℕ} (n : ℕ) (y : BeatD w) (t : History w) → is_grant y.opcode ≡ false
     → grant_sink n (Beat.D y ∷ t) ≡ grant_sink n t
 unfolding grant_sink
-sunk-of {w} n y t e =
-    let go : (p q r : Bool) → q ≡ false → (if p && (q && r) then Some y.sink else grant_sink n t) ≡ grant_sink n t =
-    elim [ true ↦ λ q r f. rw f refl | false ↦ λ q r f. refl ] in
-    go (begins (Beat.D y) t) (is_grant y.opcode) (asks_for n (request_of y.source t)) e
+sunk-of {w} n y t e = grind arith
 
 -- ---- what a beat opens and closes
 
@@ -34,14 +30,10 @@ unclosed first last g q p e = rw e (step_quiet first last p)
 
 pub unsaid : (last g q : Bool) (v p : Perm) → g ≡ false
     → (if last then unwrap_or (if g && q then Some v else None) p else p) ≡ p
-unsaid true g q v p e = rw e refl
-unsaid false g q v p e = refl
+unsaid last g q v p e = grind arith
 
 pub closes_last : (first last p : Bool) → step first last false true p ≡ (if last then false else p)
-closes_last true true p = refl
-closes_last true false p = refl
-closes_last false true p = refl
-closes_last false false p = refl
+closes_last first last p = grind arith
 
 -- ---- the answer of an access
 
@@ -58,12 +50,11 @@ pub record IsAnswering {w : ℕ} {X : Type 0} (c : ℕ) (y : BeatD w) (last : Bo
   pub tracked : (i : ℕ) → s'.tracked i ≡ s.tracked i
   pub asked_is : (i : ℕ) → (last && (y.source == i)) ≡ false → asked' i ≡ asked i
 
-pub flowed-answer : {w : ℕ} {X : Type 0} {c : ℕ} {y : BeatD w} (first : Bool) {last : Bool} {asked asked' : ℕ
-    → Option (BeatA w)}
-    {rest rest' : Channel → List (Beat w)} {s s' : State X} {t : History w}
+pub flowed-answer : {w : ℕ} {X : Type 0} {c : ℕ} {y : BeatD w} (first : Bool) {last : Bool}
+    {asked asked' : ℕ → Option (BeatA w)} {rest rest' : Channel → List (Beat w)} {s s' : State X} {t : History w}
     → begins (Beat.D y) t ≡ first → ends (Beat.D y) t ≡ last → AreRests (Beat.D y) rest rest'
-    → IsAnswering c y last asked asked' rest rest' s s'
-    → MonitorRelation asked rest c s t → MonitorRelation asked' rest' c s' (Beat.D y ∷ t)
+    → IsAnswering c y last asked asked' rest rest' s s' → MonitorRelation asked rest c s t
+    → MonitorRelation asked' rest' c s' (Beat.D y ∷ t)
 flowed-answer {w} {X} {c} {y} first {last} {asked} {asked'} {rest} {rest'} {s} {s'} {t} first_is last_is rests is
     before =
     let sinks : (i : ℕ) (o : Option ℕ) → is_sunk c i (rest' Channel.D) o s' ≡ is_sunk c i (rest Channel.D) o s =
@@ -72,45 +63,35 @@ flowed-answer {w} {X} {c} {y} first {last} {asked} {asked'} {rest} {rest'} {s} {
       first_is = first_is;
       last_is = last_is;
       rests = rests;
-      held_is = λ m. ap (held_by c) (is.blocks m) ∙ sym
-          (unsaid last (is_grant y.opcode) (asks_for m (request_of y.source t)) (capped y.param) (held_by c (s.block m))
-          is.grant);
+      held_is = λ m. ap (held_by c) (is.blocks m) ∙ sym (unsaid last (is_grant y.opcode)
+          (asks_for m (request_of y.source t)) (capped y.param) (held_by c (s.block m)) is.grant);
       requests = λ i. ap (λ (l : List (Beat w)). is_requested c i l (s'.uses c i) s') (rests Channel.A) ∙ ap
           (λ (u : SourceState). is_requested c i (rest Channel.A) u s') (is.uses i) ∙ requests i last (y.source == i)
           ∙ sym (ap (λ (z : Bool). step first last false (not z && (y.source == i))
           (is_requested c i (rest Channel.A) (s.uses c i) s)) is.ack);
       asked_is = λ i e. asked_still i e (last && (y.source == i)) refl;
-      acquires = λ m. ap (acquired_by c) (is.blocks m) ∙ sym
-          (unclosed first last (is_grant y.opcode) (asks_for m (request_of y.source t)) (acquired_by c (s.block m))
-          is.grant);
+      acquires = λ m. cc (is.blocks m, is.grant, step_quiet first last (acquired_by c (s.block m)));
       release_sources = λ i. lets i ∙ sym (unclosed first last (is_release_ack y.opcode) (y.source == i)
           (is_let_by c i (rest Channel.C) (s.lets c i) s) is.ack);
       released = λ i m e f. ap (option_map (λ z. block_at z.address)) (release_of-d i y t) ∙ before.released i m
           (sym (is.lets i) ∙ e) (before.release_sources i ∙ sym (lets i) ∙ f);
       sizes = λ i m e f. ap (option_map (λ z. z.size)) (release_of-d i y t) ∙ before.sizes i m (sym (is.lets i) ∙ e)
           (before.release_sources i ∙ sym (lets i) ∙ f);
-      releases = λ m. ap (λ (l : List (Beat w)). let_of c l (s'.block m)) (rests Channel.C) ∙ ap
-          (let_of c (rest Channel.C)) (is.blocks m)
-          ∙ sym (unclosed first last (is_release_ack y.opcode) (releases m (release_of y.source t))
-          (let_of c (rest Channel.C) (s.block m)) is.ack);
+      releases =
+          λ m. cc (rests Channel.C, is.blocks m, is.ack, step_quiet first last (let_of c (rest Channel.C) (s.block m)));
       sinks = λ i. ap (λ (o : Option ℕ). is_sunk c i (rest' Channel.D) o s') (is.tracked i) ∙ sinks i (s.tracked i)
           ∙ sym (unopened first last (is_grant y.opcode) (y.sink == i) (is_sunk c i (rest Channel.D) (s.tracked i) s)
           is.grant);
-      grants = λ m. grants m ∙ sym (unopened first last (is_grant y.opcode) (asks_for m (request_of y.source t))
-          (granted_by c m asked (rest Channel.D) (s.block m)) is.grant);
-      probes = λ m. ap (λ (z : Block X). is_answered (z.pair c).probing) (is.blocks m) ∙ sym
-          (step_quiet first last (is_answered ((s.block m).pair c).probing));
-      probed = λ m e. probed-of m y t ∙ before.probed m
-          (sym (ap (λ (z : Block X). is_answered (z.pair c).probing) (is.blocks m)) ∙ e)
-          ∙ sym (ap (λ (z : Block X). Some (probe_beat m (cap_waited z.service))) (is.blocks m));
-      sunk = λ m e. sunk-of m y t is.grant ∙ before.sunk m (before.grants m ∙ sym (grants m) ∙ e) ∙ ap
-          (λ (z : Block X). Some z.tracker) (sym (is.blocks m));
+      grants = λ m. cc (grants m, is.grant, step_quiet first last (granted_by c m asked (rest Channel.D) (s.block m)));
+      probes = λ m. cc (is.blocks m, step_quiet first last (is_answered ((s.block m).pair c).probing));
+      probed = λ m e. probed-of m y t ∙ before.probed m (sym (ap (λ (z : Block X). is_answered (z.pair c).probing)
+          (is.blocks m)) ∙ e) ∙ sym (ap (λ (z : Block X). Some (probe_beat m (cap_waited z.service))) (is.blocks m));
+      sunk = λ m e. cc (sunk-of m y t is.grant, before.sunk m (before.grants m ∙ sym (grants m) ∙ e), is.blocks m);
     }) before
   where
     same_requested : (i : ℕ) (u : SourceState) → is_requested c i (rest Channel.A) u s' ≡ is_requested c i
         (rest Channel.A) u s
-    same_requested i u = requested-blocks c i (rest Channel.A) u s s'
-        (λ m. ap (λ (z : Block X). is_unserved (view z.service c)) (is.blocks m))
+    same_requested i u = grind (arith, requested-blocks)
 
     requests : (i : ℕ) (z here : Bool)
         → is_requested c i (rest Channel.A) (if z && here then SourceFree else s.uses c i) s' ≡ step first z false
@@ -133,21 +114,11 @@ flowed-answer {w} {X} {c} {y} first {last} {asked} {asked'} {rest} {rest'} {s} {
         absurd (let g : false ≡ true =
         sym (use_at i ∙ ap (λ (z : Bool). is_requested c i (rest Channel.A) (if z then SourceFree else s.uses c i) s')
         f) ∙ e in cc)
-    asked_still i e false f =
-        cc (
-          request_of-d i y t,
-          before.asked_is i (before.requests i ∙ sym (same_requested i (s.uses c i)) ∙ sym
-              (use_at i ∙ ap (λ (z : Bool). is_requested c i (rest Channel.A) (if z then SourceFree else s.uses c i) s')
-              f) ∙ e),
-          is.asked_is i f,
-        )
+    asked_still i e false f = let fact = before.asked_is i
+        (cc (before.requests i, same_requested i (s.uses c i), use_at i)) in cc (request_of-d i y t, is.asked_is i f)
 
     lets : (i : ℕ) → is_let_by c i (rest' Channel.C) (s'.lets c i) s' ≡ is_let_by c i (rest Channel.C) (s.lets c i) s
-    lets i = cc (
-      rests Channel.C,
-      is.lets i,
-      let_by-same c i (rest Channel.C) (s.lets c i) s s' (λ m. ap (λ (z : Block X). (z.pair c).letting) (is.blocks m)),
-    )
+    lets i = grind (arith, let_by-same, rests)
 
     grants : (m : ℕ) → granted_by c m asked' (rest' Channel.D) (s'.block m) ≡ granted_by c m asked (rest Channel.D)
         (s.block m)
@@ -180,13 +151,11 @@ closed : (a q p : Bool) → a ≡ true → q ≡ true → step true true false (
 closed a q p e f = rw (e, f) refl
 
 unclosed_by : (a q p : Bool) → q ≡ false → step true true false (a && q) p ≡ p
-unclosed_by true q p e = rw e refl
-unclosed_by false q p e = refl
+unclosed_by a q p e = grind arith
 
 of_releases : {w : ℕ} (n m : ℕ) (o : Option (BeatC w)) → option_map (λ x. block_at x.address) o ≡ Some n
     → releases m o ≡ (n == m)
-of_releases n m None e = absurd cc
-of_releases n m (Some x) e = let f : block_at x.address ≡ n = cc in ap (λ (z : ℕ). z == m) f
+of_releases n m o e = grind arith
 
 pub flowed-let_go : {w : ℕ} {X : Type 0} {c n : ℕ} {y : BeatD w} {asked asked' : ℕ → Option (BeatA w)}
     {rest rest' : Channel → List (Beat w)} {s s' : State X} {t : History w}
@@ -196,28 +165,22 @@ pub flowed-let_go : {w : ℕ} {X : Type 0} {c n : ℕ} {y : BeatD w} {asked aske
 flowed-let_go {w} {X} {c} {n} {y} {asked} {asked'} {rest} {rest'} {s} {s'} {t} first_is last_is rests named is before =
     let of_block = is_of-is n (s.lets c y.source) (named y.source n
     ∙ rw (is.letting, is.source) (same_number (b.release_source c))) in
-    let was_let : pending (ReleaseSource y.source) t ≡ true = cc (before.release_sources y.source, of_block, is.letting)
-    in
-    let names : (m : ℕ) → releases m (release_of y.source t) ≡ (n == m) =
-    λ m. of_releases n m (release_of y.source t) (before.released y.source n of_block was_let) in
-    let releases_at = each-block (λ m z. let_of c (rest Channel.C) z ≡ step true true false
-    (is_release_ack y.opcode && releases m (release_of y.source t)) (let_of c (rest Channel.C) (s.block m))) n s s'
-    is.elsewhere (ap (is_release_pending ((s'.block n).release_source c) (rest Channel.C)) is.letting_is
-    ∙ sym (closed (is_release_ack y.opcode) (releases n (release_of y.source t)) (let_of c (rest Channel.C) b)
-    is.ack (names n ∙ same_number n)))
-    (λ m ne. sym (unclosed_by (is_release_ack y.opcode) (releases m (release_of y.source t))
+    let names : (m : ℕ) → releases m (release_of y.source t) ≡ (n == m) = λ m. of_releases n m (release_of y.source t)
+    (before.released y.source n of_block (cc (before.release_sources y.source, of_block, is.letting))) in
+    let releases_at = each-block (λ m z. let_of c (rest Channel.C) z ≡ step true true false (is_release_ack y.opcode
+    && releases m (release_of y.source t)) (let_of c (rest Channel.C) (s.block m))) n s s' is.elsewhere
+    (ap (is_release_pending ((s'.block n).release_source c) (rest Channel.C)) is.letting_is
+    ∙ sym (closed (is_release_ack y.opcode) (releases n (release_of y.source t)) (let_of c (rest Channel.C) b) is.ack
+    (names n ∙ same_number n))) (λ m ne. sym (unclosed_by (is_release_ack y.opcode) (releases m (release_of y.source t))
     (let_of c (rest Channel.C) (s.block m)) (names m ∙ ne_eqb n m (λ e. ne (sym e))))) in
     let requests : (i : ℕ) → is_requested c i (rest' Channel.A) (s'.uses c i) s' ≡ is_requested c i (rest Channel.A)
     (s.uses c i) s = λ i. cc (
       rests Channel.A,
       is.uses i,
-      requested-blocks c i (rest Channel.A) (s.uses c i) s s'
-          (part-block (λ (z : Block X). is_unserved (view z.service c)) n s s' is.elsewhere
-          (ap (λ (q : Service). is_unserved (view q c)) is.service)),
+      requested-blocks c i (rest Channel.A) (s.uses c i) s s' (part-block (λ (z : Block X). is_unserved
+          (view z.service c)) n s s' is.elsewhere (ap (λ (q : Service). is_unserved (view q c)) is.service)),
     ) in
-    let acquires = part-block (acquired_by c) n s s' is.elsewhere
-    (ap (λ (l : AcquirePhase). is_wanting l && not (is_unserved (view (s'.block n).service c))) is.acquiring
-    ∙ ap (λ (q : Service). is_wanting (b.pair c).acquiring && not (is_unserved (view q c))) is.service) in
+    let acquires = part-block (acquired_by c) n s s' is.elsewhere (cc (is.acquiring, is.service)) in
     let answered : (m : ℕ) → is_answered ((s'.block m).pair c).probing ≡ is_answered ((s.block m).pair c).probing =
     part-block (λ (z : Block X). is_answered (z.pair c).probing) n s s' is.elsewhere (ap is_answered is.probing) in
     let still_pending : (i m : ℕ) → s'.lets c i ≡ Some m → is_let_by c i (rest' Channel.C) (s'.lets c i) s' ≡ true
@@ -228,16 +191,13 @@ flowed-let_go {w} {X} {c} {n} {y} {asked} {asked'} {rest} {rest'} {s} {s'} {t} f
       first_is = first_is;
       last_is = last_is;
       rests = rests;
-      held_is = λ m. part-block (held_by c) n s s' is.elsewhere is.held_is m
-          ∙ sym (unsaid true (is_grant y.opcode) (asks_for m (request_of y.source t)) (capped y.param)
-          (held_by c (s.block m)) is.grant);
-      requests = λ i. requests i ∙ sym
-          (ap (λ (z : Bool). step true true false (not z && (y.source == i))
+      held_is = λ m. part-block (held_by c) n s s' is.elsewhere is.held_is m ∙ sym (unsaid true (is_grant y.opcode)
+          (asks_for m (request_of y.source t)) (capped y.param) (held_by c (s.block m)) is.grant);
+      requests = λ i. requests i ∙ sym (ap (λ (z : Bool). step true true false (not z && (y.source == i))
           (is_requested c i (rest Channel.A) (s.uses c i) s)) is.ack);
       asked_is = λ i e. request_of-d i y t ∙ before.asked_is i (before.requests i ∙ sym (requests i) ∙ e) ∙ sym
           (is.asked_is i);
-      acquires = λ m. acquires m ∙ sym (unclosed true true (is_grant y.opcode) (asks_for m (request_of y.source t))
-          (acquired_by c (s.block m)) is.grant);
+      acquires = λ m. cc (acquires m, is.grant);
       release_sources = λ i. lets i (y.source == i) refl;
       released = λ i m e f. ap (option_map (λ z. block_at z.address)) (release_of-d i y t) ∙ before.released i m
           (is_another i m e (y.source == i) refl).1 (still_pending i m e f);
@@ -247,12 +207,10 @@ flowed-let_go {w} {X} {c} {n} {y} {asked} {asked'} {rest} {rest'} {s} {s'} {t} f
       sinks = λ i. ap (λ (o : Option ℕ). is_sunk c i (rest' Channel.D) o s') (is.tracked i) ∙ sinks i (s.tracked i)
           ∙ sym (unopened true true (is_grant y.opcode) (y.sink == i) (is_sunk c i (rest Channel.D) (s.tracked i) s)
           is.grant);
-      grants = λ m. grants m ∙ sym (unopened true true (is_grant y.opcode) (asks_for m (request_of y.source t))
-          (granted_by c m asked (rest Channel.D) (s.block m)) is.grant);
+      grants = λ m. cc (grants m, is.grant);
       probes = answered;
-      probed = λ m e. probed-of m y t ∙ before.probed m (sym (answered m) ∙ e)
-          ∙ sym (ap (λ k. Some (probe_beat m k)) (part-block (λ (z : Block X). cap_waited z.service) n s s' is.elsewhere
-          (ap cap_waited is.service) m));
+      probed = λ m e. probed-of m y t ∙ before.probed m (sym (answered m) ∙ e) ∙ sym (ap (λ k. Some (probe_beat m k))
+          (part-block (λ (z : Block X). cap_waited z.service) n s s' is.elsewhere (ap cap_waited is.service) m));
       sunk = λ m e. sunk-of m y t is.grant ∙ before.sunk m (before.grants m ∙ sym (grants m) ∙ e) ∙ ap Some
           (sym (part-block (λ (z : Block X). z.tracker) n s s' is.elsewhere is.tracker m));
     }) before
@@ -266,43 +224,30 @@ flowed-let_go {w} {X} {c} {n} {y} {asked} {asked'} {rest} {rest'} {s} {s'} {t} f
 
     grants : (m : ℕ) → granted_by c m asked' (rest' Channel.D) (s'.block m) ≡ granted_by c m asked (rest Channel.D)
         (s.block m)
-    grants m = cc (
-      is.grants m,
-      part-block (granted_by c m asked (rest Channel.D)) n s s' is.elsewhere
-          (ap (λ (q : Service). is_acknowledging (view q c) || comes_granting m asked (rest Channel.D)) is.service) m,
-    )
+    grants m = let fact = part-block (granted_by c m asked (rest Channel.D)) n s s' is.elsewhere
+        (ap (λ (q : Service). is_acknowledging (view q c) || comes_granting m asked (rest Channel.D)) is.service) m in
+        cc (is.grants m)
 
     -- an open Release with another source is of another block
     other_source : (i m : ℕ) → s.lets c i ≡ Some m → (y.source == i) ≡ false → m ≡ n → ⊥
     other_source i m e f same =
         let g : is_of n (s.lets c i) ≡ true = rw (e, same) (same_number n) in
-        let h : releases_with c i b ≡ true = sym (named i n) ∙ g in
-        let k : (i == b.release_source c) ≡ true = sym (rw is.letting refl) ∙ h in
+        let k : (i == b.release_source c) ≡ true = sym (rw is.letting refl) ∙ (sym (named i n) ∙ g) in
         let l : (y.source == i) ≡ true =
         rw (is.source, eqb-true i (b.release_source c) k) (same_number (b.release_source c)) in
         let u : true ≡ false = sym l ∙ f in cc
 
     rest_same : (i : ℕ) (o : Option ℕ) → s.lets c i ≡ o → (y.source == i) ≡ false
         → is_let_by c i (rest' Channel.C) o s' ≡ is_let_by c i (rest Channel.C) o s
-    rest_same i None e f = refl
-    rest_same i (Some m) e f = cc (rests Channel.C, is.elsewhere m (other_source i m e f))
+    rest_same i o e f = grind (arith, rests, other_source)
 
     lets : (i : ℕ) (z : Bool) → (y.source == i) ≡ z → is_let_by c i (rest' Channel.C) (s'.lets c i) s' ≡ step true true
         false (is_release_ack y.opcode && (y.source == i)) (is_let_by c i (rest Channel.C) (s.lets c i) s)
-    lets i true e = cc (
-      is.lets i,
-      e,
-      closed (is_release_ack y.opcode) (y.source == i) (is_let_by c i (rest Channel.C) (s.lets c i) s) is.ack e,
-    )
-    lets i false e = cc (
-      is.lets i,
-      e,
-      rest_same i (s.lets c i) refl e,
-      unclosed_by (is_release_ack y.opcode) (y.source == i) (is_let_by c i (rest Channel.C) (s.lets c i) s) e,
-    )
+    lets i true e = let fact = closed (is_release_ack y.opcode) (y.source == i)
+        (is_let_by c i (rest Channel.C) (s.lets c i) s) is.ack e in cc (is.lets i, e)
+    lets i false e = let fact = unclosed_by (is_release_ack y.opcode) (y.source == i)
+        (is_let_by c i (rest Channel.C) (s.lets c i) s) e in cc (is.lets i, e, rest_same i (s.lets c i) refl e)
 
     is_another : (i m : ℕ) → s'.lets c i ≡ Some m → (z : Bool) → (y.source == i) ≡ z → ((y.source == i) ≡ false)
         × (s.lets c i ≡ Some m)
-    is_another i m e true f =
-        absurd (let g : None ≡ Some m = sym (is.lets i ∙ ap (λ (z : Bool). if z then None else s.lets c i) f) ∙ e in cc)
-    is_another i m e false f = (f, sym (is.lets i ∙ ap (λ (z : Bool). if z then None else s.lets c i) f) ∙ e)
+    is_another i m e z f = grind arith

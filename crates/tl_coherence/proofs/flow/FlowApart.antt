@@ -1,17 +1,16 @@
 -- What an event leaves of what is delivered on a link: each value is as before, where the event isn't of the link, or
 -- comes of a beat of it that is accounted for.
 use Rattle.std.proofs.Common.{◌≡◌, subst, ℕ, Bool, true, false, ◌&&◌, ◌||◌, Option, Some, None, refl, sym, ◌∙◌, ap}
-use Rattle.std.proofs.Common.{List, ◌⊎◌, inl, inr, ◌==◌, if◌then◌else◌}
+use Rattle.std.proofs.Common.{arith, List, ◌⊎◌, inl, inr, ◌==◌, if◌then◌else◌}
 use Rattle.tl_coherence.proofs
 use proofs.Imports.{cases_eq, Beat, BeatA, Channel, Cap, Grow, Prune, Report, comes_in_grant, Packet, set, set_at, Own}
-use proofs.Imports.{Other, Granting, GrantedOther, is_unprobed, after_report, Service, Free, Waits, GrantSent}
-use proofs.Imports.{GrantTaken, Block, State, SourceState, InService, Replied, Acquires, view, acquiring_block}
-use proofs.Imports.{acquire_asked, access_asked, releasing_block, release_asked, granted_at_once, acquire_granted}
-use proofs.Imports.{served_block, probed_block, probe_taken, reported_block, report_taken, let_block, release_taken}
-use proofs.Imports.{taken_block, let_go_block, release_ack_taken, freed_block, grant_ack_taken, stored_block}
-use proofs.Imports.{block_stored, performed_block, access_answered, access_served, ended_block, report_answers}
-use proofs.Imports.{granted_block, report_grants, answer_taken, grant_taken, is_granting, is_acknowledging, is_answered}
-use proofs.Imports.{is_sunk}
+use proofs.Imports.{Other, is_unprobed, Service, Free, Waits, GrantSent, GrantTaken, Block, State, SourceState}
+use proofs.Imports.{InService, Replied, Acquires, view, acquiring_block, acquire_asked, access_asked, releasing_block}
+use proofs.Imports.{release_asked, granted_at_once, acquire_granted, served_block, probed_block, probe_taken}
+use proofs.Imports.{reported_block, report_taken, let_block, release_taken, taken_block, let_go_block}
+use proofs.Imports.{release_ack_taken, freed_block, grant_ack_taken, stored_block, block_stored, performed_block}
+use proofs.Imports.{access_answered, access_served, ended_block, report_answers, granted_block, report_grants}
+use proofs.Imports.{answer_taken, grant_taken, is_granting, is_acknowledging, is_answered, is_sunk}
 use proofs.client.Aside.{set_at-other, set_at-else}
 use proofs.flow.FlowAside.{IsSameBlock, same-block, is_heard, IsSameUse, IsComing, IsAside}
 use proofs.flow.FlowOthers.{is_outside, outside-waits, outside-sent, outside-taken, same-performed, same-served}
@@ -26,13 +25,7 @@ replied c source s = record s { uses = set_at c source Replied s.uses }
 
 uses-heard : (c source : ℕ) (u v : SourceState) (uses : ℕ → ℕ → SourceState) → is_heard u ≡ true → is_heard v ≡ true
     → (d i : ℕ) → IsSameUse (set_at c source u uses d i) (set_at c source v uses d i)
-uses-heard c source u v uses was is d i = elim (cases_eq i source) [
-  | inl same ↦ elim (cases_eq d c) [
-    | inl here ↦ inr (rw (here, same, set_at-same c source u uses) was, rw (here, same, set_at-same c source v uses) is)
-    | inr ne ↦ inl (set_at-other c d source i v uses ne ∙ sym (set_at-other c d source i u uses ne))
-  ]
-  | inr other ↦ inl (set_at-else c source i v uses other d ∙ sym (set_at-else c source i u uses other d))
-]
+uses-heard c source u v uses was is d i = grind arith
 
 -- another value at one place, and then a third one
 set-again : {Y : Type 0} (n : ℕ) (y z : Y) (f : ℕ → Y) (m : ℕ) → set n z f m ≡ set n z (set n y f) m
@@ -71,14 +64,10 @@ module _ {w : ℕ} {X : Type 0} (d : ℕ) (asked asked' : ℕ → Option (BeatA 
 
   sinks-same : (n : ℕ) (b : Block X) (s' : State X) → IsChanged n b s' → b.service ≡ (s.block n).service
       → ((i : ℕ) → s'.tracked i ≡ s.tracked i) → AreSameSinks s'
-  sinks-same n b s' changed same tracked i =
-      cc (
-        tracked i,
-        sunk-as d i (rest Channel.D) (s.tracked i) s s' (λ m. ap (sunk_in d i (rest Channel.D)) (changed m)
-            ∙ set-part (sunk_in d i (rest Channel.D)) n b s.block
-            (ap (λ (q : Service). is_acknowledging (view q d) || (is_granting (view q d) && comes_in_grant i
-            (rest Channel.D))) same) m),
-      )
+  sinks-same n b s' changed same tracked i = let fact =
+      sunk-as d i (rest Channel.D) (s.tracked i) s s' (λ m. ap (sunk_in d i (rest Channel.D)) (changed m) ∙ set-part
+      (sunk_in d i (rest Channel.D)) n b s.block (ap (λ (q : Service). is_acknowledging
+      (view q d) || (is_granting (view q d) && comes_in_grant i (rest Channel.D))) same) m) in cc (tracked i)
 
   sinks-outside : (n : ℕ) (b : Block X) (s' : State X) → IsChanged n b s'
       → is_outside (view (s.block n).service d) ≡ true → is_outside (view b.service d) ≡ true
@@ -106,11 +95,10 @@ module _ {w : ℕ} {X : Type 0} (d : ℕ) (asked asked' : ℕ → Option (BeatA 
 
   pub left-acquire_asked : (c n source : ℕ) (whole : Bool) (g : Grow) (bytes : X) → (d ≡ c → ⊥)
       → IsLeft (acquire_asked c n source whole g bytes s)
-  left-acquire_asked c n source whole g bytes ne = apart-at n
-      (acquire_asked c n source whole g bytes s) (λ m. refl) (same-acquiring d c source whole g bytes (s.block n) ne)
-      (λ i. inl (set_at-other c d source i (Acquires n) s.uses ne)) (λ i. refl)
-      (sinks-same n (acquiring_block c source whole g bytes (s.block n)) (acquire_asked c n source whole g bytes s)
-      (λ m. refl) refl (λ i. refl))
+  left-acquire_asked c n source whole g bytes ne = apart-at n (acquire_asked c n source whole g bytes s) (λ m. refl)
+      (same-acquiring d c source whole g bytes (s.block n) ne) (λ i. inl (set_at-other c d source i
+      (Acquires n) s.uses ne)) (λ i. refl) (sinks-same n (acquiring_block c source whole g bytes (s.block n))
+      (acquire_asked c n source whole g bytes s) (λ m. refl) refl (λ i. refl))
 
   pub left-release_asked : (c n source : ℕ) (r : Prune) → (d ≡ c → ⊥) → IsLeft (release_asked c n source r s)
   left-release_asked c n source r ne = apart-at n
@@ -150,18 +138,15 @@ module _ {w : ℕ} {X : Type 0} (d : ℕ) (asked asked' : ℕ → Option (BeatA 
       let new : Block X = served_block r own source tracker k (s.block n) in
       apart-at n s' changed (same-served d r source tracker own k (s.block n) other free quiet) uses lets
       (sinks-outside n new s' changed (free-outside n free) (outside-waits d r source own k other)
-      (λ i. subst (λ (o : Option ℕ). (o ≡ s.tracked i) ⊎ (IsWithin n (s.tracked i) × IsWithin n o)) (sym (tracked i))
-      (tracked-new n tracker s.tracked unused i)))
+      (λ i. rw (tracked i) (tracked-new n tracker s.tracked unused i)))
 
   pub left-acquire_granted : (r n tracker : ℕ) (x : Bool) (k : Cap) (toks : List Packet) → (d ≡ r → ⊥)
       → (s.block n).service ≡ Free → is_answered ((s.block n).pair d).probing ≡ false → s.tracked tracker ≡ None
       → IsLeft (acquire_granted r n tracker x k toks s)
-  left-acquire_granted r n tracker x k toks ne free quiet unused =
-      let new : Block X = granted_at_once r tracker x k (s.block n) in
-      apart-at n (acquire_granted r n tracker x k toks s) (λ m. refl)
-      (same-granted_at_once d r tracker x k (s.block n) ne free quiet) (λ i. inl refl) (λ i. refl)
-      (sinks-outside n new (acquire_granted r n tracker x k toks s) (λ m. refl) (free-outside n free)
-      (outside-sent d r x k ne) (tracked-new n tracker s.tracked unused))
+  left-acquire_granted r n tracker x k toks ne free quiet unused = apart-at n (acquire_granted r n tracker x k toks s)
+      (λ m. refl) (same-granted_at_once d r tracker x k (s.block n) ne free quiet) (λ i. inl refl) (λ i. refl)
+      (sinks-outside n (granted_at_once r tracker x k (s.block n)) (acquire_granted r n tracker x k toks s) (λ m. refl)
+      (free-outside n free) (outside-sent d r x k ne) (tracked-new n tracker s.tracked unused))
 
   -- ---- Probes, ProbeAcks and Releases
 
@@ -195,12 +180,10 @@ module _ {w : ℕ} {X : Type 0} (d : ℕ) (asked asked' : ℕ → Option (BeatA 
 
   pub left-grant_taken : (c n : ℕ) (whole x : Bool) (k : Cap) (toks : List Packet) → (d ≡ c → ⊥)
       → (s.block n).service ≡ GrantSent c x k → IsLeft (grant_taken c n whole x k toks s)
-  left-grant_taken c n whole x k toks ne sent =
-      apart-at n (grant_taken c n whole x k toks s) (λ m. refl)
+  left-grant_taken c n whole x k toks ne sent = apart-at n (grant_taken c n whole x k toks s) (λ m. refl)
       (same-taken d c whole x k (s.block n) ne sent) (λ i. inl (set_at-other c d ((s.block n).source c) i _ s.uses ne))
       (λ i. refl) (sinks-outside n (taken_block c whole x k (s.block n)) (grant_taken c n whole x k toks s) (λ m. refl)
-      (ap (λ (q : Service). is_outside (view q d)) sent ∙ outside-sent d c x k ne) (outside-taken d c ne)
-      (λ i. inl refl))
+      (cc (outside-sent d c x k ne)) (outside-taken d c ne) (λ i. inl refl))
 
   pub left-release_ack_taken : (c n : ℕ) (toks : List Packet) → (d ≡ c → ⊥) → IsLeft (release_ack_taken c n toks s)
   left-release_ack_taken c n toks ne = apart-at n (release_ack_taken c n toks s) (λ m. refl)
@@ -209,11 +192,10 @@ module _ {w : ℕ} {X : Type 0} (d : ℕ) (asked asked' : ℕ → Option (BeatA 
 
   pub left-grant_ack_taken : (c n : ℕ) (toks : List Packet) → (d ≡ c → ⊥) → (s.block n).service ≡ GrantTaken c
       → s.tracked (s.block n).tracker ≡ Some n → IsLeft (grant_ack_taken c n toks s)
-  left-grant_ack_taken c n toks ne taken tracks = apart-at n (grant_ack_taken c n toks s)
-      (λ m. refl) (same-freed d c (s.block n) ne taken) (λ i. inl refl) (λ i. refl)
-      (sinks-outside n (freed_block (s.block n)) (grant_ack_taken c n toks s) (λ m. refl)
-      (ap (λ (q : Service). is_outside (view q d)) taken ∙ outside-taken d c ne) refl
-      (tracked-free n (s.block n).tracker s.tracked tracks))
+  left-grant_ack_taken c n toks ne taken tracks = apart-at n (grant_ack_taken c n toks s) (λ m. refl)
+      (same-freed d c (s.block n) ne taken) (λ i. inl refl) (λ i. refl) (sinks-outside n (freed_block (s.block n))
+      (grant_ack_taken c n toks s) (λ m. refl) (ap (λ (q : Service). is_outside (view q d)) taken
+      ∙ outside-taken d c ne) refl (tracked-free n (s.block n).tracker s.tracked tracks))
 
 -- ---- an access, after its last beat
 
@@ -246,10 +228,7 @@ module _ {w : ℕ} {X : Type 0} (d : ℕ) (asked asked' : ℕ → Option (BeatA 
 
     unanswered : ((i : ℕ) → (i ≡ c → ⊥) → is_answered ((s.block n).pair i).probing ≡ false)
         → is_answered ((reported_block c r (s.block n)).pair d).probing ≡ false
-    unanswered quiet = elim (cases_eq d c) [
-      | inl here ↦ rw (here, set-same c (after_report r ((s.block n).pair c)) (s.block n).pair) refl
-      | inr other ↦ rw (set-other c d (after_report r ((s.block n).pair c)) (s.block n).pair other) (quiet d other)
-    ]
+    unanswered quiet = grind (arith, cases_eq)
 
     seen : (q : Service) → (s.block n).service ≡ q → view (between.block n).service d ≡ view q d
     seen q e = ap (λ (z : Block X). view z.service d) new_is ∙ ap (λ (i : Service). view i d) e
@@ -259,15 +238,12 @@ module _ {w : ℕ} {X : Type 0} (d : ℕ) (asked asked' : ℕ → Option (BeatA 
         ≡ Some n → is_heard (s.uses q source) ≡ true → IsAside asked asked' rest d (report_taken c n r toks s)
         (report_answers c q n source r f toks s)
     left-report_answers q source k f waits quiet tracks heard = apart-at d asked asked' rest between asks coming_still n
-        (report_answers c q n source r f toks s)
-        (set-again n (reported_block c r (s.block n)) (ended_block c r f (s.block n)) s.block)
-        (subst (λ (z : Block X). IsSameBlock d z (ended_block c r f (s.block n))) (sym new_is)
-        (same-settled d c q source r k f (s.block n) waits (unanswered quiet))) uses (λ i. refl)
-        (sinks-outside d asked asked' rest between asks coming_still n (ended_block c r f (s.block n))
-        (report_answers c q n source r f toks s)
-        (set-again n (reported_block c r (s.block n)) (ended_block c r f (s.block n)) s.block)
-        (ap is_outside (seen (Waits q false source k) waits) ∙ outside-waits d q source false k refl) refl
-        (tracked-free n (s.block n).tracker s.tracked tracks))
+        (report_answers c q n source r f toks s) (set-again n (reported_block c r (s.block n)) (ended_block c r f
+        (s.block n)) s.block) (rw new_is (same-settled d c q source r k f (s.block n) waits (unanswered quiet))) uses
+        (λ i. refl) (sinks-outside d asked asked' rest between asks coming_still n (ended_block c r f (s.block n))
+        (report_answers c q n source r f toks s) (set-again n (reported_block c r (s.block n))
+        (ended_block c r f (s.block n)) s.block) (ap is_outside (seen (Waits q false source k) waits)
+        ∙ outside-waits d q source false k refl) refl (tracked-free n (s.block n).tracker s.tracked tracks))
       where
         uses : (i : ℕ) → IsSameUse (s.uses d i) (set_at q source Replied s.uses d i)
         uses i = elim (cases_eq i source) [
@@ -301,20 +277,11 @@ module _ {w : ℕ} {X : Type 0} (d : ℕ) (asked asked' : ℕ → Option (BeatA 
         new = granted_block c q r x k (s.block n)
 
         unsunk_now : (i : ℕ) → s.tracked i ≡ Some n → sunk_in d i (rest Channel.D) new ≡ false
-        unsunk_now i e =
-            let granted : (z : Bool) → (is_acknowledging (if z then Granting x k else GrantedOther) || (is_granting (if
-            z then Granting x k else GrantedOther) && false)) ≡ false = elim [ true ↦ refl | false ↦ refl ] in
-            elim (cases_eq d q) [
-              | inl here ↦ ap (λ (z : Bool). is_acknowledging (view new.service d)
-                  || (is_granting (view new.service d) && z)) (none i e) ∙ granted (d == q)
-              | inr other ↦ outside-unsunk (view new.service d) (comes_in_grant i (rest Channel.D))
-                  (outside-sent d q x k other)
-            ]
+        unsunk_now i e = grind arith
 
         unsunk_then : (i : ℕ) → sunk_in d i (rest Channel.D) (between.block n) ≡ false
         unsunk_then i = cc (seen (Waits q true source j) waits, waiting (d == q))
           where
             waiting : (z : Bool) → (is_acknowledging (if true && z then Own else Other j)
                 || (is_granting (if true && z then Own else Other j) && comes_in_grant i (rest Channel.D))) ≡ false
-            waiting true = refl
-            waiting false = refl
+            waiting z = grind arith

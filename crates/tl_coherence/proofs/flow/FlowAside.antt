@@ -1,8 +1,8 @@
 -- What is delivered on a link, as an event leaves it alone: each value of it is as before.
-use Rattle.std.proofs.Common.{◌≡◌, ℕ, Bool, true, false, not, ◌&&◌, ◌||◌, Option, Some, None, refl, sym, ◌∙◌, ap}
+use Rattle.std.proofs.Common.{◌≡◌, ℕ, Bool, true, false, not, ◌||◌, Option, Some, None, refl, sym, ◌∙◌, ap, arith}
 use Rattle.std.proofs.Common.{List, ◌⊎◌, inl, inr}
 use Rattle.tl_coherence.proofs
-use proofs.Imports.{Beat, BeatA, Channel, History, ReleasePhase, Block, State, SourceState, InService, Replied}
+use proofs.Imports.{Beat, BeatA, Channel, History, Block, State, SourceState, InService, Replied}
 use proofs.Imports.{Acquires, view, is_granting, is_acknowledging, is_answered, is_wanting, is_unserved, comes_granting}
 use proofs.Imports.{MonitorRelation, is_requested, is_release_pending, is_let_by, is_sunk, cap_waited}
 use proofs.flow.{FlowSame.flowed-untouched, FlowStep.held_by, FlowStep.granted_by}
@@ -50,9 +50,7 @@ IsSameUse u u' = (u' ≡ u) ⊎ ((is_heard u ≡ true) × (is_heard u' ≡ true)
 
 heard_requested : {w : ℕ} {X : Type 0} (c i : ℕ) (rest : List (Beat w)) (u : SourceState) (s : State X)
     → is_heard u ≡ true → is_requested c i rest u s ≡ true
-heard_requested c i rest (InService n) s e = refl
-heard_requested c i rest Replied s e = refl
-heard_requested c i rest u s e = absurd cc
+heard_requested c i rest u s e = grind arith
 
 pub requested-blocks : {w : ℕ} {X : Type 0} (c i : ℕ) (rest : List (Beat w)) (u : SourceState) (s s' : State X)
     → ((n : ℕ) → is_unserved (view (s'.block n).service c) ≡ is_unserved (view (s.block n).service c))
@@ -90,8 +88,7 @@ pub record IsAside {w : ℕ} {X : Type 0} (asked asked' : ℕ → Option (BeatA 
   pub coming : IsComing asked (rest Channel.D) d s
 
 either_is : (a b g : Bool) → (a || b) ≡ true → (b ≡ true → g ≡ true) → (a || g) ≡ false → ⊥
-either_is false true g e f h = let p : g ≡ true = f refl in let q : true ≡ false = sym p ∙ h in cc
-either_is a b g e f h = absurd cc
+either_is a b g e f h = grind arith
 
 pub flowed-aside : {w : ℕ} {X : Type 0} {asked asked' : ℕ → Option (BeatA w)} {rest : Channel → List (Beat w)} {d : ℕ}
     {s s' : State X} {t : History w}
@@ -100,40 +97,30 @@ flowed-aside {w} {X} {asked} {asked'} {rest} {d} {s} {s'} {t} is = flowed-untouc
   held_is = λ n. (is.blocks n).held;
   requests = λ i. requested-same d i (rest Channel.A) s s' (λ n. (is.blocks n).unserved) (is.uses i);
   asked_is = λ i e. is.asked_is i;
-  acquires = λ n. both_same (is.blocks n).wanting (is.blocks n).unserved;
+  acquires = λ n. rw ((is.blocks n).wanting, (is.blocks n).unserved) refl;
   release_sources = λ i. ap (λ (o : Option ℕ). is_let_by d i (rest Channel.C) o s') (is.lets i) ∙ let_by-same d i
       (rest Channel.C) (s.lets d i) s s' (λ n. (is.blocks n).letting);
   lets = λ i n e f. sym (is.lets i) ∙ f;
-  releases = λ n. ap (λ (i : ℕ). is_release_pending i (rest Channel.C) ((s'.block n).pair d).letting)
-      (is.blocks n).source ∙ ap (λ (l : ReleasePhase). is_release_pending ((s.block n).release_source d)
-      (rest Channel.C) l) (is.blocks n).letting;
+  releases = λ n. cc ((is.blocks n).source, (is.blocks n).letting);
   sinks = is.sinks;
-  grants = λ n. either_same (is.blocks n).acknowledging (comes-same n asked asked' (rest Channel.D) is.asked_is);
+  grants = λ n. rw ((is.blocks n).acknowledging, (comes-same n asked asked' (rest Channel.D) is.asked_is)) refl;
   probes = λ n. (is.blocks n).answered;
   caps = λ n e. (is.blocks n).cap ((is.blocks n).answered ∙ e);
   trackers = λ n e. tracked n e (is.blocks n).tracker;
 })
   where
-    both_same : {a b a' b' : Bool} → a' ≡ a → b' ≡ b → (a' && not b') ≡ (a && not b)
-    both_same e f = rw (e, f) refl
-
-    either_same : {a b a' b' : Bool} → a' ≡ a → b' ≡ b → (a' || b') ≡ (a || b)
-    either_same e f = rw (e, f) refl
-
     tracked : (n : ℕ) → granted_by d n asked (rest Channel.D) (s.block n) ≡ true
         → ((s'.block n).tracker ≡ (s.block n).tracker)
         ⊎ ((is_acknowledging (view (s.block n).service d) || is_granting (view (s.block n).service d)) ≡ false)
         → (s'.block n).tracker ≡ (s.block n).tracker
     tracked n e (inl same) = same
-    tracked n e (inr none) =
-        absurd (either_is (is_acknowledging (view (s.block n).service d)) (comes_granting n asked (rest Channel.D))
-        (is_granting (view (s.block n).service d)) e (is.coming n) none)
+    tracked n e (inr none) = absurd (either_is (is_acknowledging (view (s.block n).service d))
+        (comes_granting n asked (rest Channel.D)) (is_granting (view (s.block n).service d)) e (is.coming n) none)
 
 -- where the same requests are given in another way, nothing changes
-pub flowed-asks : {w : ℕ} {X : Type 0} {asked : ℕ → Option (BeatA w)} (asked' : ℕ → Option (BeatA w)) {rest : Channel
-    → List (Beat w)} {d : ℕ}
-    {s : State X} {t : History w}
-    → ((i : ℕ) → asked' i ≡ asked i) → MonitorRelation asked rest d s t → MonitorRelation asked' rest d s t
+pub flowed-asks : {w : ℕ} {X : Type 0} {asked : ℕ → Option (BeatA w)} (asked' : ℕ → Option (BeatA w))
+    {rest : Channel → List (Beat w)} {d : ℕ} {s : State X} {t : History w} → ((i : ℕ) → asked' i ≡ asked i)
+    → MonitorRelation asked rest d s t → MonitorRelation asked' rest d s t
 flowed-asks {asked} asked' {rest} {d} {s} {t} asks = flowed-untouched (record {
   held_is = λ n. refl;
   requests = λ i. refl;

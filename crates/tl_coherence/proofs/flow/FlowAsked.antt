@@ -1,16 +1,16 @@
 -- What is delivered on a client's link stays as it is when the client itself is asked for something.
 use Rattle.std.proofs.Common.{◌≡◌, ℕ, Bool, true, false, not, ◌&&◌, ◌||◌, Option, Some, None, refl, sym, ◌∙◌, ap, List}
-use Rattle.std.proofs.Common.{inl, inr, ◌==◌, if◌then◌else◌}
+use Rattle.std.proofs.Common.{arith, inl, inr, if◌then◌else◌}
 use Rattle.tl_coherence.proofs
 use proofs.Imports.{cases_eq, Beat, BeatA, Channel, Grow, Prune, comes_in_request, comes_in_release, is_of, set_at}
-use proofs.Imports.{ClientBlock, NoAcquire, ReleasePhase, NoRelease, ReleaseSent, after_release, after_acquire, Block}
-use proofs.Imports.{State, SourceState, SourceFree, Asked, Acquires, view, access_asked, acquire_asked, acquiring_block}
+use proofs.Imports.{ClientBlock, NoAcquire, NoRelease, ReleaseSent, after_release, after_acquire, Block, State}
+use proofs.Imports.{SourceState, SourceFree, Asked, Acquires, view, access_asked, acquire_asked, acquiring_block}
 use proofs.Imports.{release_asked, releasing_block, is_acknowledging, is_answered, is_granting, is_wanting, is_unserved}
 use proofs.Imports.{comes_granting, is_requested, is_release_pending, is_let_by, cap_waited}
 use proofs.client.{Aside.set_at-else, ClientEnd.comes-same}
 use proofs.flow.{FlowSame.IsUntouched, FlowSunk.sunk_in, FlowSunk.sunk-as, FlowAside.requested-blocks}
 use proofs.flow.{FlowAside.let_by-same, FlowStep.held_by, FlowStep.acquired_by, FlowStep.let_of, FlowStep.granted_by}
-use proofs.queues.Tokens.{same_number, set-same, set-each, set-part, set_at-same}
+use proofs.queues.Tokens.{same_number, set-same, set-part, set_at-same}
 
 -- ---- a request
 
@@ -21,11 +21,8 @@ requested-now : {w : ℕ} {X : Type 0} (c source : ℕ) (u : SourceState) (rest 
     → ((n : ℕ) → is_unserved (view (s'.block n).service c) ≡ is_unserved (view (s.block n).service c)) → (i : ℕ)
     → is_requested c i rest (s'.uses c i) s' ≡ is_requested c i rest (s.uses c i) s
 requested-now c source u rest s s' closed uses none same i = elim (cases_eq i source) [
-  | inl here ↦ rw here (ap (λ (v : SourceState). is_requested c source rest v s')
-      (uses source ∙ set_at-same c source u s.uses) ∙ none ∙ sym
-      (ap (λ (v : SourceState). is_requested c source rest v s) closed))
-  | inr other ↦ ap (λ (v : SourceState). is_requested c i rest v s') (uses i ∙ set_at-else c source i u s.uses other c)
-      ∙ requested-blocks c i rest (s.uses c i) s s' same
+  | inl here ↦ rw here (cc (uses source, set_at-same c source u s.uses))
+  | inr other ↦ cc (uses i, set_at-else c source i u s.uses other c, requested-blocks c i rest (s.uses c i) s s' same)
 ]
 
 asked-now : {w : ℕ} {X : Type 0} (c source : ℕ) (asked asked' : ℕ → Option (BeatA w)) (rest : List (Beat w))
@@ -66,6 +63,9 @@ pub untouched-acquire_asked : {w : ℕ} {X : Type 0} (c n source : ℕ) (whole :
     → ((m : ℕ) → comes_granting m asked' (rest Channel.D) ≡ comes_granting m asked (rest Channel.D))
     → IsUntouched asked asked' rest c s (acquire_asked c n source whole g bytes s)
 untouched-acquire_asked {w} {X} c n source whole g bytes asked asked' rest s closed calm unserved asks grants =
+    let b = s.block n in
+    let new = acquiring_block c source whole g bytes b in
+    let pair = set-same c (after_acquire whole g (b.pair c)) b.pair in
     let served : (p q : Bool) → q ≡ true → (p && not q) ≡ false = elim [ true ↦ λ q e. rw e refl | false ↦ λ q e. refl ]
     in
     let s' : State X = acquire_asked c n source whole g bytes s in
@@ -93,15 +93,6 @@ untouched-acquire_asked {w} {X} c n source whole g bytes asked asked' rest s clo
       caps = λ m e. set-part (λ (z : Block X). cap_waited z.service) n new s.block refl m;
       trackers = λ m e. set-part (λ (z : Block X). z.tracker) n new s.block refl m;
     }
-  where
-    b : Block X
-    b = s.block n
-
-    new : Block X
-    new = acquiring_block c source whole g bytes b
-
-    pair : new.pair c ≡ after_acquire whole g (b.pair c)
-    pair = set-same c (after_acquire whole g (b.pair c)) b.pair
 
 -- ---- a Release
 
@@ -119,10 +110,7 @@ untouched-release_asked {w} {X} c n source r asked asked' rest s free none kept 
       | inr other ↦ sym (set_at-else c source i (Some n) s.lets other c) ∙ f
     ] in
     record {
-      held_is = set-part (held_by c) n new s.block
-          (ap (λ (z : Bool). if z then (new.pair c).held else (new.pair c).recorded) ungranted
-          ∙ ap (λ (p : ClientBlock). p.recorded) pair ∙ sym
-          (ap (λ (z : Bool). if z then (b.pair c).held else (b.pair c).recorded) ungranted));
+      held_is = set-part (held_by c) n new s.block (cc (ungranted, pair));
       requests = λ i. requested-blocks c i (rest Channel.A) (s.uses c i) s s'
           (set-part (λ (z : Block X). is_unserved (view z.service c)) n new s.block refl);
       asked_is = λ i e. asks i;
@@ -131,15 +119,11 @@ untouched-release_asked {w} {X} c n source r asked asked' rest s free none kept 
       release_sources = lets;
       lets = λ i m e f. still i m e f;
       releases = set-part (let_of c (rest Channel.C)) n new s.block
-          (ap (λ (l : ReleasePhase). is_release_pending (new.release_source c) (rest Channel.C) l) letting_is
-          ∙ ap (λ (j : ℕ). comes_in_release j (rest Channel.C)) (set-same c source b.release_source) ∙ none
-          ∙ sym (ap (is_release_pending (b.release_source c) (rest Channel.C)) kept));
+          (cc (letting_is, set-same c source b.release_source, none, kept));
       sinks = λ i. sunk-as c i (rest Channel.D) (s.tracked i) s s'
           (set-part (sunk_in c i (rest Channel.D)) n new s.block refl);
-      grants = λ m. cc (
-        comes-same m asked asked' (rest Channel.D) asks,
-        set-part (granted_by c m asked (rest Channel.D)) n new s.block refl m,
-      );
+      grants = λ m. let fact = set-part (granted_by c m asked (rest Channel.D)) n new s.block refl m in
+          cc (comes-same m asked asked' (rest Channel.D) asks);
       probes = set-part (λ (z : Block X). is_answered (z.pair c).probing) n new s.block
           (ap (λ (p : ClientBlock). is_answered p.probing) pair);
       caps = λ m e. set-part (λ (z : Block X). cap_waited z.service) n new s.block refl m;
@@ -163,21 +147,10 @@ untouched-release_asked {w} {X} c n source r asked asked' rest s free none kept 
 
     others : (i : ℕ) (o : Option ℕ) → is_of n o ≡ false → is_let_by c i (rest Channel.C) o s' ≡ is_let_by c i
         (rest Channel.C) o s
-    others i None e = refl
-    others i (Some m) e = elim (cases_eq m n) [
-      | inl here ↦ absurd (let no : (n == n) ≡ false = rw here at e in let yes : true ≡ false =
-          sym (same_number n) ∙ no in cc)
-      | inr other ↦ set-each (λ j z. (j ≡ n → ⊥)
-          → is_release_pending i (rest Channel.C) (z.pair c).letting ≡ is_release_pending i (rest Channel.C)
-          ((s.block j).pair c).letting) n new s.block (λ ne. absurd (ne refl)) (λ j ne f. refl) m other
-    ]
+    others i o e = grind (arith, cases_eq, same_number)
 
     lets : (i : ℕ) → is_let_by c i (rest Channel.C) (s'.lets c i) s' ≡ is_let_by c i (rest Channel.C) (s.lets c i) s
     lets i = elim (cases_eq i source) [
-      | inl here ↦ rw here (ap (λ (o : Option ℕ). is_let_by c source (rest Channel.C) o s')
-          (set_at-same c source (Some n) s.lets) ∙ ap (λ (z : Block X). is_release_pending source (rest Channel.C)
-          (z.pair c).letting) (set-same n new s.block) ∙ ap (is_release_pending source (rest Channel.C)) letting_is
-          ∙ none ∙ sym (ap (λ (o : Option ℕ). is_let_by c source (rest Channel.C) o s) free))
-      | inr other ↦ ap (λ (o : Option ℕ). is_let_by c i (rest Channel.C) o s')
-          (set_at-else c source i (Some n) s.lets other c) ∙ others i (s.lets c i) (unused i)
+      | inl here ↦ rw here (cc (set_at-same c source (Some n) s.lets, set-same n new s.block, letting_is, none, free))
+      | inr other ↦ cc (set_at-else c source i (Some n) s.lets other c, others i (s.lets c i) (unused i))
     ]

@@ -1,6 +1,6 @@
 -- What of a message was delivered before and after one of its beats.
-use Rattle.std.proofs.Common.{◌≡◌, ℕ, zero, suc, Bool, true, false, not, ◌&&◌, List, [], ◌∷◌, refl, sym, ◌∙◌, ap, inl}
-use Rattle.std.proofs.Common.{inr, ne_eqb, ◌==◌, if◌then◌else◌}
+use Rattle.std.proofs.Common.{◌≡◌, ℕ, zero, suc, Bool, true, false, not, ◌&&◌, List, [], ◌∷◌, refl, sym, ◌∙◌, inl}
+use Rattle.std.proofs.Common.{arith, inr, ne_eqb, ◌==◌, if◌then◌else◌}
 use Rattle.tl_coherence.proofs
 use proofs.Imports.{cases_eq, and_right, Beat, Message, begun, beats_of, grown, is_empty, completes, Perm, same_perm}
 use proofs.Imports.{acquires_of, AreNamed, set_at, State, is_wanting}
@@ -17,24 +17,18 @@ came-so {w} f {m} v next none some =
 
 pub comes-so : {w : ℕ} (f : List (Beat w) → Bool) (x : Beat w) (rest : List (Beat w)) (v : Bool) → f [] ≡ false
     → f (x ∷ rest) ≡ v → f (grown x rest) ≡ (not (completes x rest) && v)
-comes-so {w} f x rest v none here =
-    let go : (b : Bool) → f (if b then [] else x ∷ rest) ≡ (not b && v) = elim [ true ↦ none | false ↦ here ] in
-    go (completes x rest)
+comes-so {w} f x rest v none here = grind arith
 
 -- the first beat is beat 0
 pub first-zero : {w : ℕ} {m : Message w} {x : Beat w} {rest : List (Beat w)} {ms : List (Message w)}
     {queue : List (Beat w)} → (next : IsNext x rest m ms queue) → is_empty rest ≡ true → next.k ≡ 0
-first-zero {w} {m} next e =
-    let go : (k : ℕ) → is_empty (begun m k) ≡ true → k ≡ 0 = elim [ zero ↦ λ f. refl | suc j ↦ λ f. absurd cc ] in
-    go next.k (sym (ap is_empty next.rest_is) ∙ e)
+first-zero {w} {m} next e = grind arith
 
 -- a message of one beat
 pub one-beat : {w : ℕ} {m : Message w} {x : Beat w} {rest : List (Beat w)} {ms : List (Message w)}
     {queue : List (Beat w)} → (next : IsNext x rest m ms queue)
     → beats_of m ≡ 1 → (next.k ≡ 0) × (rest ≡ []) × (completes x rest ≡ true)
-one-beat {m} next one =
-    let zeroth : next.k ≡ 0 = first_beat next.k (beats_of m) next.within one in
-    (zeroth, next.rest_is ∙ ap (begun m) zeroth, next.completes_is ∙ rw (zeroth, one) refl)
+one-beat {m} next one = grind (arith, first_beat)
 
 -- ---- small facts
 
@@ -47,10 +41,7 @@ set_at-if c source i y f j e = elim (cases_eq i source) [
 ]
 
 pub same_perms : (p q : Perm) → same_perm p q ≡ true → q ≡ p
-same_perms Perm.None Perm.None e = refl
-same_perms Perm.Branch Perm.Branch e = refl
-same_perms Perm.Trunk Perm.Trunk e = refl
-same_perms p q e = absurd cc
+same_perms p q e = grind arith
 
 pub first_false : (p q : Bool) → p ≡ false → (p && q) ≡ false
 first_false p q e = rw e refl
@@ -62,5 +53,4 @@ unused-else c n i {s} named e = named.acquires c i n ∙ and_right (is_wanting (
     (i == (s.block n).source c) (ne_eqb i ((s.block n).source c) apart)
   where
     apart : i ≡ (s.block n).source c → ⊥
-    apart same = let no : ((s.block n).source c == (s.block n).source c) ≡ false = rw same at e in
-        let yes : true ≡ false = sym (same_number ((s.block n).source c)) ∙ no in cc
+    apart same = grind (arith, same_number)

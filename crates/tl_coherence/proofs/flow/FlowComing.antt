@@ -101,8 +101,7 @@ half-granted {w} {config} {log} {mail} {request} {s} {sys} c x more h is grants 
         absurd (let no : [] ≡ Beat.D x ∷ more = sym none.0 ∙ is in cc)
     go (y ∷ ys) first carried =
         let some : IsCarried rest_now (message_of mail s c y ∷ map (message_of mail s c) ys)
-        (sys.channels c Channel.D) =
-        subst (λ (ms : List (Message w)). IsCarried rest_now ms (sys.channels c Channel.D))
+        (sys.channels c Channel.D) = subst (λ (ms : List (Message w)). IsCarried rest_now ms (sys.channels c Channel.D))
         (ap (map (message_of mail s c)) first) carried in
         begun_alone c s (message_of mail s c y) some.0 x more
         (each y.kind y.number ys first (own_kind (is_caching config) s c Channel.D y.kind y.number ys h.invariant
@@ -118,8 +117,7 @@ coming-sink {w} {config} {log} {mail} {request} {s} {sys} c i h = go (unfinished
     go : (beats : List (Beat w)) → unfinished Channel.D (sys.clients c).past ≡ beats → comes_in_grant i beats ≡ true
         → (n : ℕ) × IsGrantDue c n s × (s.tracked i ≡ Some n)
     go (Beat.D x ∷ more) e f =
-        let of = half-granted c x more h e (and_left (is_grant x.opcode) (x.sink == i) f)
-        in
+        let of = half-granted c x more h e (and_left (is_grant x.opcode) (x.sink == i) f) in
         let same : i ≡ (s.block of.0).tracker = sym (eqb-true x.sink i (and_right (is_grant x.opcode) (x.sink == i) f))
         ∙ of.3 in
         (of.0, of.1, ap s.tracked same ∙ tracker-of of.0 h.invariant.named (rw of.1.service refl))
@@ -170,9 +168,8 @@ coming-asked {w} {config} {log} {mail} {request} {s} {sys} c m asked asked' h sa
 
 -- a beat of this message, if it is one of a Release, has the source of one that isn't answered
 IsReleaseAlone : {w : ℕ} → ℕ → State (List ℕ) → Message w → Type 0
-IsReleaseAlone {w} c s m = (y : MessageC w) × (m ≡ Message.C y)
-    × (is_release y.opcode ≡ true → (n : ℕ) × (is_releasing ((s.block n).pair c).letting ≡ true)
-    × (y.source ≡ (s.block n).release_source c))
+IsReleaseAlone {w} c s m = (y : MessageC w) × (m ≡ Message.C y) × (is_release y.opcode ≡ true
+    → (n : ℕ) × (is_releasing ((s.block n).pair c).letting ≡ true) × (y.source ≡ (s.block n).release_source c))
 
 alone_report : {w : ℕ} (c n : ℕ) {s : State (List ℕ)} (width : IsWidth w) {config : Config} {log : Log w}
     {mail : AccessMessages w} {request : ℕ → MessageA w}
@@ -229,8 +226,7 @@ half-released {w} {config} {log} {mail} {request} {s} {sys} c x more width h is 
     each : (k : Kind) (i : ℕ) (rest : List Packet) → (s.link c).c ≡ packet k i ∷ rest → is_on Channel.C k ≡ true
         → IsReleaseAlone c s (message_of_kind k mail s c i)
     each ProbeAck i rest first own = alone_report c i width h
-    each Release i rest first own = alone_release c i width h
-        (first-shown h.invariant c Release refl first)
+    each Release i rest first own = alone_release c i width h (first-shown h.invariant c Release refl first)
     each k i rest first own = absurd cc
 
     go : (xs : List Packet) → (s.link c).c ≡ xs → IsCarried rest_now (map (message_of mail s c) (s.link c).c)
@@ -242,8 +238,7 @@ half-released {w} {config} {log} {mail} {request} {s} {sys} c x more width h is 
         absurd (let no : [] ≡ Beat.C x ∷ more = sym none.0 ∙ is in cc)
     go (y ∷ ys) first carried =
         let some : IsCarried rest_now (message_of mail s c y ∷ map (message_of mail s c) ys)
-        (sys.channels c Channel.C) =
-        subst (λ (ms : List (Message w)). IsCarried rest_now ms (sys.channels c Channel.C))
+        (sys.channels c Channel.C) = subst (λ (ms : List (Message w)). IsCarried rest_now ms (sys.channels c Channel.C))
         (ap (map (message_of mail s c)) first) carried in
         begun_release c s (message_of mail s c y) some.0 x more
         (each y.kind y.number ys first (own_kind (is_caching config) s c Channel.C y.kind y.number ys h.invariant

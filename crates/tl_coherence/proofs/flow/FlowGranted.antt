@@ -1,6 +1,6 @@
 -- What is delivered on a link, as a beat of a Grant is.
 use Rattle.std.proofs.Common.{◌≡◌, ℕ, Bool, true, false, not, ◌&&◌, ◌||◌, ◌∷◌, Option, Some, None, refl, sym, ◌∙◌, ap}
-use Rattle.std.proofs.Common.{List, ne_eqb, ◌==◌, if◌then◌else◌, option_map, unwrap_or}
+use Rattle.std.proofs.Common.{arith, List, ne_eqb, ◌==◌, if◌then◌else◌, option_map, unwrap_or}
 use Rattle.tl_coherence.proofs
 use proofs.Imports.{and_right, Beat, BeatA, BeatD, Channel, History, RequestSource, Cap, Perm, cap_right}
 use proofs.Imports.{comes_in_request, comes_in_grant, begins, ends, block_at, pending, is_grant, is_release_ack}
@@ -8,12 +8,12 @@ use proofs.Imports.{asks_for, request_of, release_of, probe_of, grant_sink, capp
 use proofs.Imports.{acquires_of, View, Granting, Acknowledging, Block, State, SourceState, SourceFree, Asked, InService}
 use proofs.Imports.{Replied, Acquires, view, is_granting, is_acknowledging, is_answered, is_wanting, is_unserved}
 use proofs.Imports.{comes_granting, MonitorRelation, is_requested, is_let_by, is_sunk, probe_beat, cap_waited}
-use Rattle.tl_rules.specs.statement.History.{releases}
-use proofs.flow.{FlowAlone.AreRests, FlowAside.let_by-same, FlowReport.unclosed as not_last, FlowAnswered.probed-of}
-use proofs.flow.{FlowAnswered.unclosed, FlowAnswered.closes_last, FlowReleased.AreElsewhere, FlowReleased.each-block}
-use proofs.flow.{FlowReleased.part-block, FlowReleased.opened, FlowReleased.with_true}
-use proofs.queues.Tokens.{same_number}
+use Rattle.tl_rules.{specs.statement.History.releases}
+use proofs.flow.{FlowAlone.AreRests, FlowAside.let_by-same, FlowReport.unclosed as not_last}
+use proofs.flow.FlowAnswered.{probed-of, unclosed, closes_last}
+use proofs.flow.FlowReleased.{AreElsewhere, each-block, part-block, opened, with_true}
 use proofs.flow.FlowStep.{flowed-next, held_by, acquired_by, let_of, granted_by, step, step_quiet}
+use proofs.queues.{Tokens.same_number}
 
 abbrev pub seen_after : Bool → Bool → Cap → View
 seen_after true d k = Acknowledging
@@ -21,8 +21,7 @@ seen_after false d k = Granting d k
 
 -- a beat of the Grant of block n to client c
 pub record IsGranting {w : ℕ} {X : Type 0} (c n : ℕ) (d : Bool) (k : Cap) (y : BeatD w) (first last : Bool)
-    (asked asked' : ℕ → Option (BeatA w))
-    (rest rest' : Channel → List (Beat w)) (s s' : State X) : Type 0 where
+    (asked asked' : ℕ → Option (BeatA w)) (rest rest' : Channel → List (Beat w)) (s s' : State X) : Type 0 where
   pub grant : is_grant y.opcode ≡ true
   pub ack : is_release_ack y.opcode ≡ false
   pub sink : y.sink ≡ (s.block n).tracker
@@ -54,27 +53,19 @@ pub record IsGranting {w : ℕ} {X : Type 0} (c n : ℕ) (d : Bool) (k : Cap) (y
 
 said : (last g : Bool) (v p : Perm) → g ≡ true → (if last then unwrap_or (if g then Some v else None) p else p)
     ≡ (if last then v else p)
-said true g v p e = rw e refl
-said false g v p e = refl
+said last g v p e = grind arith
 
 unsaid : (last g : Bool) (v p : Perm) → g ≡ false → (if last then unwrap_or (if g then Some v else None) p else p) ≡ p
-unsaid true g v p e = rw e refl
-unsaid false g v p e = refl
+unsaid last g v p e = grind arith
 
 closed : (first last a q p : Bool) → a ≡ false → q ≡ true → p ≡ true → step first last false (not a && q) p ≡ not last
-closed first true a q p e f g = rw (e, f) (closes_last first true p)
-closed first false a q p e f g = not_last first (not a && q) p ∙ g
+closed first last a q p e f g = grind (arith, closes_last, not_last)
 
 unclosed_by : (first last a q p : Bool) → q ≡ false → step first last false (a && q) p ≡ p
-unclosed_by first last true q p e = rw e (step_quiet first last p)
-unclosed_by first last false q p e = step_quiet first last p
+unclosed_by first last a q p e = grind (arith, step_quiet)
 
 ended : (first last g p : Bool) → g ≡ true → p ≡ true → step first last false g p ≡ not last
-ended first true g p e f = rw e (closes_last first true p)
-ended first false g p e f = not_last first g p ∙ f
-
-unended : (first last g p : Bool) → g ≡ false → step first last false g p ≡ p
-unended first last g p e = rw e (step_quiet first last p)
+ended first last g p e f = grind (arith, closes_last, not_last)
 
 pub begun : (first last g p : Bool) → g ≡ true → p ≡ not first → step first last g false p ≡ true
 begun first last g p e f = opened first last true g p refl e f
@@ -87,16 +78,12 @@ of_block : {w : ℕ} (m : ℕ) (y : BeatD w) (t : History w) (first : Bool) (v :
     → (is_grant y.opcode && asks_for m (request_of y.source t)) ≡ true → y.sink ≡ v
     → (first ≡ false → grant_sink m t ≡ Some v) → grant_sink m (Beat.D y ∷ t) ≡ Some v
 unfolding grant_sink
-of_block m y t true v e f g before = rw (e, f) (ap Some g)
-of_block m y t false v e f g before = rw e (before refl)
+of_block m y t first v e f g h = grind arith
 
 of_other : {w : ℕ} (m : ℕ) (y : BeatD w) (t : History w)
     → (is_grant y.opcode && asks_for m (request_of y.source t)) ≡ false → grant_sink m (Beat.D y ∷ t) ≡ grant_sink m t
 unfolding grant_sink
-of_other {w} m y t e =
-    let go : (p q : Bool) → q ≡ false → (if p && q then Some y.sink else grant_sink m t) ≡ grant_sink m t =
-    elim [ true ↦ λ q f. rw f refl | false ↦ λ q f. refl ] in
-    go (begins (Beat.D y) t) (is_grant y.opcode && asks_for m (request_of y.source t)) e
+of_other {w} m y t e = grind arith
 
 -- a use that isn't of the block in which the states differ
 pub requested-apart : {w : ℕ} {X : Type 0} (c i n : ℕ) (rest rest' : List (Beat w)) (u : SourceState) (s s' : State X)
@@ -111,35 +98,34 @@ requested-apart {w} {X} c i n rest rest' (Acquires m) s s' same comes e =
 
 now_requested : (last d : Bool) (k : Cap) (v : View) → v ≡ seen_after last d k → last ≡ false
     → not (is_unserved v) ≡ true
-now_requested true d k v e f = absurd cc
-now_requested false d k v e f = ap (λ (u : View). not (is_unserved u)) e
+now_requested last d k v e f = grind arith
 
 now_acquired : (last d : Bool) (k : Cap) (v : View) (a : Bool) → v ≡ seen_after last d k → a ≡ not last
     → (a && not (is_unserved v)) ≡ not last
-now_acquired true d k v a e f = rw f refl
-now_acquired false d k v a e f = rw (f, e) refl
+now_acquired last d k v a e f = grind arith
 
 now_granted : (last d : Bool) (k : Cap) (v : View) (a : Bool) → v ≡ seen_after last d k → a ≡ not last
     → (is_acknowledging v || a) ≡ true
-now_granted true d k v a e f = rw e refl
-now_granted false d k v a e f = rw (f, e) refl
+now_granted last d k v a e f = grind arith
 
 now_sunk : (last d : Bool) (k : Cap) (v : View) (a : Bool) → v ≡ seen_after last d k → a ≡ not last
     → (is_acknowledging v || (is_granting v && a)) ≡ true
-now_sunk true d k v a e f = rw e refl
-now_sunk false d k v a e f = rw (f, e) refl
+now_sunk last d k v a e f = grind arith
 
 pub flowed-grant : {w : ℕ} {X : Type 0} {c n : ℕ} {d : Bool} {k : Cap} {y : BeatD w} {first last : Bool}
     {asked asked' : ℕ → Option (BeatA w)} {rest rest' : Channel → List (Beat w)} {s s' : State X} {t : History w}
     → begins (Beat.D y) t ≡ first → ends (Beat.D y) t ≡ last → AreRests (Beat.D y) rest rest'
     → IsGranting c n d k y first last asked asked' rest rest' s s' → MonitorRelation asked rest c s t
     → MonitorRelation asked' rest' c s' (Beat.D y ∷ t)
-flowed-grant {w} {X} {c} {n} {d} {k} {y} {first} {last} {asked} {asked'} {rest} {rest'} {s} {s'} {t} first_is last_is
-    rests is before =
+flowed-grant {w} {X} {c} {n} {d} {k} {y} {first} {last} {asked} {asked'} {rest} {rest'} {s} {s'}
+    {t} first_is last_is rests is before =
+    let probed = each-block (λ m z. is_answered (z.pair c).probing ≡ true
+    → probe_of m t ≡ Some (probe_beat m (cap_waited z.service))) n s s' is.elsewhere
+    (λ e. absurd (let f : false ≡ true = sym is.quiet ∙ sym is.answered ∙ e in cc)) (λ m ne e. before.probed m e) in
+    let answered = part-block (λ (z : Block X). is_answered (z.pair c).probing) n s s' is.elsewhere is.answered in
     let b : Block X = s.block n in
     let grants_at : ℕ → Bool = λ m. is_grant y.opcode && asks_for m (request_of y.source t) in
-    let names : (m : ℕ) → (is_grant y.opcode && asks_for m (request_of y.source t)) ≡ (n == m) =
-    λ m. cc (
+    let names : (m : ℕ) → (is_grant y.opcode && asks_for m (request_of y.source t)) ≡ (n == m) = λ m. cc (
       is.grant,
       before.asked_is y.source (before.requests y.source ∙ was_requested y.source (same_number y.source)),
       is.asks m,
@@ -156,44 +142,40 @@ flowed-grant {w} {X} {c} {n} {d} {k} {y} {first} {last} {asked} {asked'} {rest} 
       is.granted m,
       and_right (not first) (n == m) (ne_eqb n m (λ e. ne (sym e))),
     ) in
-    let let_same : (m : ℕ) → let_of c (rest Channel.C) (s'.block m) ≡ let_of c (rest Channel.C) (s.block m) =
-    part-block (let_of c (rest Channel.C)) n s s' is.elsewhere (rw (is.release_source, is.letting_is) refl) in
     flowed-next (record {
       first_is = first_is;
       last_is = last_is;
       rests = rests;
-      held_is = each-block (λ m z. held_by c z
-          ≡ (if last then unwrap_or (if is_grant y.opcode && asks_for m (request_of y.source t) then Some
-          (capped y.param) else None) (held_by c (s.block m)) else held_by c (s.block m))) n s s' is.elsewhere
-          (is.held_is ∙ ap (λ (q : Perm). if last then q else held_by c b) (sym is.says)
-          ∙ sym (said last (grants_at n) (capped y.param) (held_by c b) (names n ∙ same_number n)))
+      held_is = each-block (λ m z. held_by c z ≡ (if last then unwrap_or (if is_grant y.opcode && asks_for m
+          (request_of y.source t) then Some (capped y.param) else None) (held_by c (s.block m)) else held_by c
+          (s.block m))) n s s' is.elsewhere (is.held_is ∙ ap (λ (q : Perm). if last then q else held_by c b)
+          (sym is.says) ∙ sym (said last (grants_at n) (capped y.param) (held_by c b) (names n ∙ same_number n)))
           (λ m ne. sym (unsaid last (grants_at m) (capped y.param) (held_by c (s.block m)) (apart m ne)));
       requests = λ i. use_at i ∙ requests i last (y.source == i) refl refl;
       asked_is = λ i e. asked_still i e (last && (y.source == i)) refl;
-      acquires = each-block (λ m z. acquired_by c z ≡ step first last false
-          (is_grant y.opcode && asks_for m (request_of y.source t)) (acquired_by c (s.block m))) n s s' is.elsewhere
-          (now_acquired last d k (view new.service c) (is_wanting (new.pair c).acquiring) is.seen_is is.wants_is
-          ∙ sym (ended first last (grants_at n) (acquired_by c b) (names n ∙ same_number n)
-          (rw (is.wants, is.seen) refl)))
-          (λ m ne. sym (unended first last (grants_at m) (acquired_by c (s.block m)) (apart m ne)));
+      acquires = each-block (λ m z. acquired_by c z ≡ step first last false (is_grant y.opcode && asks_for m
+          (request_of y.source t)) (acquired_by c (s.block m))) n s s' is.elsewhere (now_acquired last d k
+          (view new.service c) (is_wanting (new.pair c).acquiring) is.seen_is is.wants_is ∙ sym (ended first last
+          (grants_at n) (acquired_by c b) (names n ∙ same_number n) (rw (is.wants, is.seen) refl)))
+          (λ m ne. sym (rw (apart m ne) (step_quiet first last (acquired_by c (s.block m)))));
       release_sources = λ i. lets i ∙ sym (unclosed first last (is_release_ack y.opcode) (y.source == i)
           (is_let_by c i (rest Channel.C) (s.lets c i) s) is.ack);
       released = λ i m e f. ap (option_map (λ z. block_at z.address)) (release_of-d i y t) ∙ before.released i m
           (sym (is.lets i) ∙ e) (before.release_sources i ∙ sym (lets i) ∙ f);
       sizes = λ i m e f. ap (option_map (λ z. z.size)) (release_of-d i y t) ∙ before.sizes i m (sym (is.lets i) ∙ e)
           (before.release_sources i ∙ sym (lets i) ∙ f);
-      releases = λ m. ap (λ (l : List (Beat w)). let_of c l (s'.block m)) (rests Channel.C) ∙ let_same m
+      releases = λ m. ap (λ (l : List (Beat w)). let_of c l (s'.block m)) (rests Channel.C)
+          ∙ (part-block (let_of c (rest Channel.C)) n s s' is.elsewhere (rw (is.release_source, is.letting_is) refl)) m
           ∙ sym (unclosed first last (is_release_ack y.opcode) (releases m (release_of y.source t))
           (let_of c (rest Channel.C) (s.block m)) is.ack);
       sinks = λ i. ap (λ (o : Option ℕ). is_sunk c i (rest' Channel.D) o s') (is.tracked i) ∙ sinks i (y.sink == i)
           (s.tracked i) refl refl;
-      grants = each-block (λ m z. granted_by c m asked' (rest' Channel.D) z
-          ≡ step first last (is_grant y.opcode && asks_for m (request_of y.source t)) false
+      grants = each-block (λ m z. granted_by c m asked' (rest' Channel.D) z ≡ step first last
+          (is_grant y.opcode && asks_for m (request_of y.source t)) false
           (granted_by c m asked (rest Channel.D) (s.block m))) n s s' is.elsewhere
-          (now_granted last d k (view new.service c) (comes_granting n asked' (rest' Channel.D)) is.seen_is (is.grants n
-          ∙ with_true (not last) (n == n) (same_number n))
-          ∙ sym (begun first last (grants_at n) (granted_by c n asked (rest Channel.D) b) (names n ∙ same_number n)
-          granted_then)) (λ m ne. grants_other m ne
+          (now_granted last d k (view new.service c) (comes_granting n asked' (rest' Channel.D)) is.seen_is
+          (is.grants n ∙ with_true (not last) (n == n) (same_number n)) ∙ sym (begun first last (grants_at n)
+          (granted_by c n asked (rest Channel.D) b) (names n ∙ same_number n) granted_then)) (λ m ne. grants_other m ne
           ∙ sym (unbegun first last (grants_at m) (granted_by c m asked (rest Channel.D) (s.block m)) (apart m ne)));
       probes = λ m. answered m ∙ sym (step_quiet first last (is_answered ((s.block m).pair c).probing));
       probed = λ m e. probed-of m y t ∙ probed m e;
@@ -217,17 +199,11 @@ flowed-grant {w} {X} {c} {n} {d} {k} {y} {first} {last} {asked} {asked'} {rest} 
     requests : (i : ℕ) (z here : Bool) → last ≡ z → (y.source == i) ≡ here
         → is_requested c i (rest Channel.A) (if z && here then SourceFree else s.uses c i) s' ≡ step first last false
         (not (is_release_ack y.opcode) && (y.source == i)) (is_requested c i (rest Channel.A) (s.uses c i) s)
-    requests i true true e f =
-        ap not (sym e) ∙ sym (closed first last (is_release_ack y.opcode) (y.source == i)
+    requests i true true e f = ap not (sym e) ∙ sym (closed first last (is_release_ack y.opcode) (y.source == i)
         (is_requested c i (rest Channel.A) (s.uses c i) s) is.ack f (was_requested i f))
-    requests i false true e f =
-        cc (
-          is.use_is i f,
-          now_requested last d k (view new.service c) is.seen_is e,
-          e,
-          closed first last (is_release_ack y.opcode) (y.source == i) (is_requested c i (rest Channel.A) (s.uses c i) s)
-              is.ack f (was_requested i f),
-        )
+    requests i false true e f = let fact = closed first last (is_release_ack y.opcode) (y.source == i)
+        (is_requested c i (rest Channel.A) (s.uses c i) s) is.ack f (was_requested i f) in
+        cc (is.use_is i f, now_requested last d k (view new.service c) is.seen_is e, e)
     requests i true false e f = requested-apart c i n (rest Channel.A) (rest Channel.A) (s.uses c i) s s' is.elsewhere
         refl (is.no_use i f) ∙ sym (unclosed_by first last (not (is_release_ack y.opcode)) (y.source == i)
         (is_requested c i (rest Channel.A) (s.uses c i) s) f)
@@ -238,9 +214,8 @@ flowed-grant {w} {X} {c} {n} {d} {k} {y} {first} {last} {asked} {asked'} {rest} 
     was_pending : (i : ℕ) → is_requested c i (rest Channel.A) (s.uses c i) s' ≡ true → (here : Bool)
         → (y.source == i) ≡ here → pending (RequestSource i) t ≡ true
     was_pending i e true f = before.requests i ∙ was_requested i f
-    was_pending i e false f =
-        before.requests i ∙ sym (requested-apart c i n (rest Channel.A) (rest Channel.A) (s.uses c i) s s' is.elsewhere
-        refl (is.no_use i f)) ∙ e
+    was_pending i e false f = before.requests i ∙ sym (requested-apart c i n (rest Channel.A) (rest Channel.A)
+        (s.uses c i) s s' is.elsewhere refl (is.no_use i f)) ∙ e
 
     asked_still : (i : ℕ) → is_requested c i (rest' Channel.A) (s'.uses c i) s' ≡ true → (z : Bool)
         → (last && (y.source == i)) ≡ z → request_of i (Beat.D y ∷ t) ≡ asked' i
@@ -249,54 +224,29 @@ flowed-grant {w} {X} {c} {n} {d} {k} {y} {first} {last} {asked} {asked'} {rest} 
         sym (use_at i ∙ ap (λ (z : Bool). is_requested c i (rest Channel.A) (if z then SourceFree else s.uses c i) s')
         f) ∙ e in cc)
     asked_still i e false f =
-        cc (
-          request_of-d i y t,
-          before.asked_is i (was_pending i
-              (sym (use_at i ∙ ap (λ (z : Bool). is_requested c i (rest Channel.A)
-              (if z then SourceFree else s.uses c i) s') f) ∙ e) (y.source == i) refl),
-          is.asked_is i f,
-        )
+        cc (request_of-d i y t, before.asked_is i (was_pending i (cc (use_at i)) (y.source == i) refl), is.asked_is i f)
 
     lets : (i : ℕ) → is_let_by c i (rest' Channel.C) (s'.lets c i) s' ≡ is_let_by c i (rest Channel.C) (s.lets c i) s
-    lets i = cc (
-      rests Channel.C,
-      is.lets i,
-      let_by-same c i (rest Channel.C) (s.lets c i) s s'
-          (part-block (λ (z : Block X). (z.pair c).letting) n s s' is.elsewhere is.letting_is),
-    )
+    lets i = let fact = let_by-same c i (rest Channel.C) (s.lets c i) s s' (part-block
+        (λ (z : Block X). (z.pair c).letting) n s s' is.elsewhere is.letting_is) in cc (rests Channel.C, is.lets i)
 
     sinks : (i : ℕ) (z : Bool) (o : Option ℕ) → (y.sink == i) ≡ z → s.tracked i ≡ o → is_sunk c i (rest' Channel.D) o s'
         ≡ step first last (is_grant y.opcode && (y.sink == i)) false (is_sunk c i (rest Channel.D) o s)
     sinks i true o e f =
         let at_n : o ≡ Some n = sym f ∙ is.tracks i e in
-        let then_sunk : is_sunk c i (rest Channel.D) o s ≡ not first =
-        cc (at_n, is.seen, is.came i, with_true (not first) (y.sink == i) e) in
-        cc (
-          at_n,
-          now_sunk last d k (view new.service c) (comes_in_grant i (rest' Channel.D)) is.seen_is (is.comes i
-              ∙ with_true (not last) (y.sink == i) e),
-          opened first last (is_grant y.opcode) (y.sink == i) (is_sunk c i (rest Channel.D) o s) is.grant e then_sunk,
-        )
-    sinks i false None e f =
-        sym (unbegun first last (is_grant y.opcode && (y.sink == i)) false
+        let fact = now_sunk last d k (view new.service c) (comes_in_grant i (rest' Channel.D)) is.seen_is
+        (is.comes i ∙ with_true (not last) (y.sink == i) e) in let other_fact =
+        opened first last (is_grant y.opcode) (y.sink == i) (is_sunk c i (rest Channel.D) o s) is.grant e
+        (cc (at_n, is.seen, is.came i, with_true (not first) (y.sink == i) e)) in cc at_n
+    sinks i false None e f = sym (unbegun first last (is_grant y.opcode && (y.sink == i)) false
         (and_right (is_grant y.opcode) (y.sink == i) e))
-    sinks i false (Some m) e f =
-        cc (
-          is.elsewhere m (λ g. let h : (n == n) ≡ false = sym (rw (f, g) refl) ∙ is.tracks_not i e in
-              let j : true ≡ false = sym (same_number n) ∙ h in cc),
-          is.comes i,
-          and_right (not last) (y.sink == i) e,
-          is.came i,
-          and_right (not first) (y.sink == i) e,
-          unbegun first last (is_grant y.opcode && (y.sink == i))
-              (is_sunk c i (rest Channel.D) (Some m) s) (and_right (is_grant y.opcode) (y.sink == i) e),
-        )
-
-    answered : (m : ℕ) → is_answered ((s'.block m).pair c).probing ≡ is_answered ((s.block m).pair c).probing
-    answered = part-block (λ (z : Block X). is_answered (z.pair c).probing) n s s' is.elsewhere is.answered
-
-    probed : (m : ℕ) → is_answered ((s'.block m).pair c).probing ≡ true
-        → probe_of m t ≡ Some (probe_beat m (cap_waited (s'.block m).service))
-    probed = each-block (λ m z. is_answered (z.pair c).probing ≡ true
-        → probe_of m t ≡ Some (probe_beat m (cap_waited z.service))) n s s' is.elsewhere
-        (λ e. absurd (let f : false ≡ true = sym is.quiet ∙ sym is.answered ∙ e in cc)) (λ m ne e. before.probed m e)
+    sinks i false (Some m) e f = cc (
+      is.elsewhere m (λ g. let h : (n == n) ≡ false = sym (rw (f, g) refl) ∙ is.tracks_not i e in
+          let j : true ≡ false = sym (same_number n) ∙ h in cc),
+      is.comes i,
+      and_right (not last) (y.sink == i) e,
+      is.came i,
+      and_right (not first) (y.sink == i) e,
+      unbegun first last (is_grant y.opcode && (y.sink == i))
+          (is_sunk c i (rest Channel.D) (Some m) s) (and_right (is_grant y.opcode) (y.sink == i) e),
+    )

@@ -104,13 +104,10 @@ module _ {w : ℕ} {config : Config} {log : Log w} (h : AbstractState w) {sys : 
         own : view (s.block n).service q ≡ Own
         own = rw (waits, same_number q) refl
 
-        seen : is_other (view (s.block n).service c) ≡ true
-        seen = answered_other _ ((s.block n).pair c) (view (s.block n).service c) ((is.invariant.blocks n).phases c)
-            (first-report is.invariant known.0)
-
         apart : q ≡ c → ⊥
-        apart same = let no : is_other Own ≡ true =
-            sym (ap is_other own) ∙ ap (λ (i : ℕ). is_other (view (s.block n).service i)) same ∙ seen in cc
+        apart same = let no : is_other Own ≡ true = sym (ap is_other own)
+            ∙ ap (λ (i : ℕ). is_other (view (s.block n).service i)) same ∙ (answered_other _ ((s.block n).pair c)
+            (view (s.block n).service c) ((is.invariant.blocks n).phases c) (first-report is.invariant known.0)) in cc
 
         -- no Grant that was delivered in part is of a block that waits
         none_comes : (i : ℕ) → s.tracked i ≡ Some n → comes_in_grant i (rest Channel.D) ≡ false
@@ -128,9 +125,7 @@ module _ {w : ℕ} {config : Config} {log : Log w} (h : AbstractState w) {sys : 
         → IsReady tracker c k i h → Begins toks k i → Leaves d h (kind_taken config tracker c k i toks h)
         → FlowedAs (kind_taken config tracker c k i toks h)
     settled k i toks first ready begins = true-taken config tracker c toks h (IsSettling toks) Follows k i (record {
-      nothing = λ j n known idle l. absurd (let busy = never-idle config tracker c j n toks h is.invariant known.0
-          known.1
-          in let no : false ≡ true = sym busy ∙ idle in cc);
+      nothing = λ j n known idle l. absurd (cc (never-idle config tracker c j n toks h is.invariant known.0 known.1));
       access_answered = λ source m o known from caps none l.
           let after = access_taken c source m tracker false None toks h in
           flowed-aside (left-access_answered d before (asked_by after.mail after.state d) rest s (asks-left d h after l)
@@ -210,9 +205,8 @@ module _ {w : ℕ} {config : Config} {log : Log w} (h : AbstractState w) {sys : 
           grant = λ n q x j taken sent l.
               let due = grant-due (is_caching config) c n toks s is.invariant taken.0 in
               let same : q ≡ c = let both = sym sent ∙ due.service in cc in
-              flowed-aside (left-grant_taken d then_asked _ (unfinished_at sys d) s
-              (asks-left d h (taken_by_client c n (GrantSent q x j) toks h) l) comes c n _ x j toks ne
-              (sent ∙ ap (λ (i : ℕ). GrantSent i x j) same))
+              flowed-aside (left-grant_taken d then_asked _ (unfinished_at sys d) s (asks-left d h (taken_by_client c n
+              (GrantSent q x j) toks h) l) comes c n _ x j toks ne (sent ∙ ap (λ (i : ℕ). GrantSent i x j) same))
               flowed;
           release_ack = λ n taken l. flowed-aside (left-release_ack_taken d then_asked _ (unfinished_at sys d) s
               (asks-left d h (kind_taken config tracker c ReleaseAck n toks h) l) comes c n toks ne) flowed;

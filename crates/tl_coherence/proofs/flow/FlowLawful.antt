@@ -1,5 +1,5 @@
 -- A beat of channel B or C that is delivered breaks no rule after what was delivered before it.
-use Rattle.std.proofs.Common.{◌≡◌, ℕ, true, false, List, [], ◌∷◌, Some, None, refl, sym, ◌∙◌, ap, subst, map}
+use Rattle.std.proofs.Common.{◌≡◌, ℕ, true, false, List, [], ◌∷◌, Some, None, refl, sym, ◌∙◌, ap, subst, map, arith}
 use Rattle.tl_coherence.proofs
 use proofs.Imports.{Beat, Channel, IsWidth, Message, MessageA, MessageC, beat_of, c_beat_of, History, channel_of}
 use proofs.Imports.{unfinished, channel_in, Config, Level, Prune, Report, Profile, report_at, on_link, broken_in_order}
@@ -11,12 +11,11 @@ use proofs.Imports.{message_of, message_of_kind, block_message, prune_told, repo
 use proofs.Imports.{MonitorRelations, is_caching, cap_waited, flow, Log, System}
 use proofs.queues.{Carried.IsNext, FirstToken.IsFirst, FirstToken.first-token, Phases.and_left, Phases.and_right}
 use proofs.queues.{Tokens.same_number, Facts.answered_other, Facts.granting_alone, Facts.is_other, Facts.release_begins}
-use proofs.queues.{PhaseFacts.acknowledging_quiet, PhaseFacts.release_alone, PhaseFacts.report_first}
-use proofs.queues.{PhaseFacts.report_fits}
+use proofs.queues.PhaseFacts.{acknowledging_quiet, release_alone, report_first, report_fits}
 use proofs.client.{ClientTakes.sound-beat, ProbeDelivered.not_coming}
 use proofs.flow.FlowOrders.{beat-flows, probe-flows, report-flows, release-flows}
-use proofs.manager.{ManagerTakes.by-first_c, ManagerTakes.same_report-is, ManagerTakes.seen_cap}
-use proofs.manager.{ManagerTakes.unanswered, Reporting.report-about, Reporting.release-about}
+use proofs.manager.ManagerTakes.{by-first_c, same_report-is, seen_cap, unanswered}
+use proofs.manager.Reporting.{report-about, release-about}
 use proofs.protocol.{BothParts.is_of-is, FirstTokens.first-release, FirstTokens.first-report, FirstTokens.first-shown}
 
 -- the next beat of a message whose first breaks no rule of order
@@ -25,25 +24,19 @@ pub next-flows : {w : ℕ} (l : Level) (p : Profile) {m : Message w} {x : Beat w
     (t : History w) → illegal l (channel_of x) x ≡ None → IsNext x rest m ms queue → unfinished (channel_in m) t ≡ rest
     → (rest ≡ [] → broken_in_order p (beat_of m 0) t ≡ None) → broken_after l p x t ≡ None
 next-flows {w} l p {m} t lawful next is first =
-    cc (
-      next.beat_is,
-      beat-flows l p m next.k t (sym (ap (λ (y : Beat w). illegal l (channel_of y) y) next.beat_is)
-          ∙ lawful) (is ∙ next.rest_is) (λ e. first (sym is ∙ e)),
-    )
+    cc (next.beat_is, beat-flows l p m next.k t (cc next.beat_is) (is ∙ next.rest_is) (λ e. first (sym is ∙ e)))
 
 pub lawful-beat : {w : ℕ} {config : Config} {log : Log w} {mail : AccessMessages w} {request : ℕ → MessageA w}
     {s : State (List ℕ)} {sys : System w} (c : ℕ)
     (ch : Channel) (l : Level) (x : Beat w) (queue : List (Beat w)) → SimulationRelation config log mail request s sys
     → sys.channels c ch ≡ x ∷ queue → level_of config c ≡ Some l → illegal l (channel_of x) x ≡ None
-lawful-beat {w} {config} {log} {mail} {request} {s} {sys} c ch l x queue is beats level =
-    cc (level, (sound-beat c ch x queue is beats).lawful)
+lawful-beat c ch l x queue is beats level = cc (level, (sound-beat c ch x queue is beats).lawful)
 
 -- ---- channel C
 
 -- who sees another's service isn't granted the block
 pub other_ungranted : (v : View) → is_other v ≡ true → is_granting v ≡ false
-other_ungranted (Granting d k) e = absurd cc
-other_ungranted v e = refl
+other_ungranted v e = grind arith
 
 report-lawful : {w : ℕ} {config : Config} {log : Log w} {mail : AccessMessages w} {request : ℕ → MessageA w}
     {s : State (List ℕ)} {sys : System w} (c n : ℕ) (toks : List Packet) (l : Level) {x : Beat w}
@@ -57,9 +50,8 @@ report-lawful {w} {config} {log} {mail} {s} {sys} c n toks l {x} {ms} {queue} wi
     let about = report-about r n b.truth width (is.sized n).truth in
     let m : MessageC w = about.0 in
     let told : r ≡ report_at (cap_waited b.service) (b.pair c).recorded =
-    cc (same_report-is r (report_at (cap_waited b.service) (b.pair c).recorded)
-    (seen_cap (λ k. same_report r (report_at k (b.pair c).recorded)) b.service c
-    (report_fits r (b.pair c) (view b.service c) ok_is answered))) in
+    cc (same_report-is r (report_at (cap_waited b.service) (b.pair c).recorded) (seen_cap (λ k. same_report r
+    (report_at k (b.pair c).recorded)) b.service c (report_fits r (b.pair c) (view b.service c) ok_is answered))) in
     next-flows l config.profile (flow c log) lawful
     (subst (λ (i : Message w). IsNext x rest i ms queue) about.1 next) ((flowed c).rest_is Channel.C)
     (λ none. report-flows config.profile n (cap_waited b.service) r (c_beat_of m 0) (flowed c) none about.2.reports
@@ -93,16 +85,14 @@ unfolding block_message
 release-lawful {w} {config} {log} {mail} {s} {sys} c n toks l {x} {ms} {queue} width is flowed lawful tokens next =
     let rest : List (Beat w) = unfinished Channel.C (on_link c sys.manager.trace) in
     let about = release-about r (b.release_source c) n b.truth width (is.sized n).truth in
-    let m : MessageC w = about.0 in
     let used = is_of-is n (s.lets c (b.release_source c)) (is.invariant.named.releases c (b.release_source c) n
     ∙ rw (releasing, same_number (b.release_source c)) refl) in
-    let fits = release_begins r (b.pair c) (view b.service c) ok_is releasing
-    (unanswered (is_caching config) c n toks s is.invariant tokens) in
     next-flows l config.profile (flow c log) lawful
     (subst (λ (i : Message w). IsNext x rest i ms queue) about.1 next) ((flowed c).rest_is Channel.C)
-    (λ none. release-flows config.profile n r (c_beat_of m 0)
-    (flowed c) none about.2.releases about.2.block about.2.param_is
-    (ap (s.lets c) about.3 ∙ used) releasing (calm (b.pair c).acquiring refl) (ungranted (view b.service c) refl) fits)
+    (λ none. release-flows config.profile n r (c_beat_of about.0 0)
+    (flowed c) none about.2.releases about.2.block about.2.param_is (ap (s.lets c) about.3 ∙ used) releasing
+    (calm (b.pair c).acquiring refl) (ungranted (view b.service c) refl) (release_begins r (b.pair c)
+    (view b.service c) ok_is releasing (unanswered (is_caching config) c n toks s is.invariant tokens)))
   where
     b : Block (List ℕ)
     b = s.block n
@@ -123,9 +113,8 @@ release-lawful {w} {config} {log} {mail} {s} {sys} c n toks l {x} {ms} {queue} w
 
     ungranted : (v : View) → view b.service c ≡ v → is_granting v ≡ false
     ungranted (Granting d k) f =
-        let alone = granting_alone d k (b.pair c) (view b.service c) ok_is f in
-        let held_back : is_unreleased (b.pair c).letting ≡ true =
-        and_left (is_unreleased (b.pair c).letting) _ (and_right (is_unprobed (b.pair c).probing) _ alone) in
+        let held_back : is_unreleased (b.pair c).letting ≡ true = and_left (is_unreleased (b.pair c).letting) _
+        (and_right (is_unprobed (b.pair c).probing) _ (granting_alone d k (b.pair c) (view b.service c) ok_is f)) in
         absurd (let no : false ≡ true = rw releasing at held_back in cc)
     ungranted v f = refl
 
@@ -144,8 +133,7 @@ flows-c {w} {config} {log} {mail} {request} {s} {sys} c l x queue width is flowe
 -- ---- channel B
 
 unanswered_yet : (p : ProbePhase) → is_sent p ≡ true → is_answered p ≡ false
-unanswered_yet (ProbeSent k) e = refl
-unanswered_yet p e = absurd cc
+unanswered_yet p e = grind arith
 
 -- a Probe on its way hasn't been answered, and is of another's service
 probe-lawful : {w : ℕ} {config : Config} {log : Log w} {mail : AccessMessages w} {request : ℕ → MessageA w}
@@ -155,8 +143,7 @@ probe-lawful : {w : ℕ} {config : Config} {log : Log w} {mail : AccessMessages 
     → is_acknowledging (view (s.block n).service c) ≡ false → IsNext x (unfinished Channel.B (sys.clients c).past)
     (block_message Probe c n (s.block n)) ms queue → broken_after l config.profile x (flow c log) ≡ None
 unfolding block_message
-probe-lawful {w} {config} {log} {mail} {request} {s} {sys} c n toks l {x} {ms} {queue} is flowed lawful tokens
-    unacknowledged next =
+probe-lawful {config} {log} {s} c n toks l is flowed lawful tokens unacknowledged next =
     let b : Block (List ℕ) = s.block n in
     let shows : is_sent (b.pair c).probing ≡ true = first-shown is.invariant c Probe refl tokens in
     next-flows l config.profile

@@ -1,17 +1,16 @@
 -- A message of channel A, B, C or E that is delivered breaks no rule of order after what was delivered before it.
-use Rattle.std.proofs.Common.{◌≡◌, ℕ, zero, suc, Bool, true, false, not, ◌&&◌, ◌||◌, [], Option, Some, None, refl, ◌∙◌}
-use Rattle.std.proofs.Common.{ap, List}
+use Rattle.std.proofs.Common.{◌≡◌, ℕ, zero, suc, Bool, true, false, ◌&&◌, ◌||◌, [], Option, Some, None, refl, ◌∙◌}
+use Rattle.std.proofs.Common.{arith, ap, List}
 use Rattle.tl_coherence.proofs
 use proofs.Imports.{and-false, Beat, BeatA, BeatB, BeatC, BeatE, Channel, first_if, Message, beat_of, begun, History}
-use proofs.Imports.{channel_of, unfinished, channel_in, Key, Level, Cap, Prune, Report, Profile, H1, H13, prune_code}
-use proofs.Imports.{prune_left, report_code, prune_of, report_at, later-legal, broken_in_order, broken_after}
-use proofs.Imports.{comes_in_release, comes_in_grant, same_perm, broken_order, grows_from, prunes_from, block_at}
-use proofs.Imports.{is_acquire, is_probe_ack, is_release, held, pending, is_probe, illegal, View, Idle, ReleasePhase}
-use proofs.Imports.{NoRelease, ReleaseSent, ReleaseAcked, NoAcquire, ProbeAnswered, State, SourceState, Asked, Acquires}
-use proofs.Imports.{view, is_granting, is_acknowledging, is_answered, is_acked, is_wanting, is_unserved, comes_granting}
-use proofs.Imports.{MonitorRelation, is_requested, is_release_pending, is_let_by, probe_beat, cap_waited}
-use Rattle.tl_params.specs.declared.rule.Rule.TheVariants.{H9}
-use Rattle.tl_client.proofs.messages.InOrder.{prune_again}
+use proofs.Imports.{channel_of, unfinished, channel_in, Key, Level, Cap, Prune, Report, Profile, prune_code, prune_left}
+use proofs.Imports.{report_code, prune_of, report_at, later-legal, broken_in_order, broken_after, comes_in_grant}
+use proofs.Imports.{same_perm, broken_order, grows_from, prunes_from, block_at, is_acquire, is_probe_ack, is_release}
+use proofs.Imports.{held, pending, is_probe, illegal, Idle, ReleasePhase, NoRelease, ReleaseSent, NoAcquire}
+use proofs.Imports.{ProbeAnswered, State, Asked, Acquires, view, is_granting, is_acknowledging, is_answered, is_acked}
+use proofs.Imports.{is_wanting, comes_granting, MonitorRelation, is_release_pending, is_let_by, probe_beat, cap_waited}
+use Rattle.tl_params.{specs.declared.rule.Rule.TheVariants.H9}
+use Rattle.tl_client.{proofs.messages.InOrder.prune_again}
 use proofs.manager.Orders.{report-legal, acquire-legal}
 
 -- who isn't granted the block holds what is recorded, as far as was delivered
@@ -28,9 +27,8 @@ pub request-flows : {w : ℕ} {X : Type 0} (p : Profile) {c : ℕ} (x : BeatA w)
     ≡ None
 unfolding broken_order
 request-flows {w} p x {t} flowed whole plain used =
-    let none : unfinished Channel.A t ≡ [] = flowed.rest_is Channel.A ∙ whole in
     let free : pending (Key.RequestSource x.source) t ≡ false = cc (flowed.requests x.source, used, whole) in
-    rw (none, plain, free) refl
+    rw (flowed.rest_is Channel.A ∙ whole, plain, free) refl
 
 pub acquire-flows : {w : ℕ} {X : Type 0} (p : Profile) {c : ℕ} (n : ℕ) (x : BeatA w) {asked : ℕ → Option (BeatA w)}
     {rest : Channel → List (Beat w)} {s : State X} {t : History w} → MonitorRelation asked rest c s t
@@ -38,18 +36,15 @@ pub acquire-flows : {w : ℕ} {X : Type 0} (p : Profile) {c : ℕ} (n : ℕ) (x 
     → view (s.block n).service c ≡ Idle → ((s.block n).pair c).letting ≡ NoRelease
     → grows_from x.param ((s.block n).pair c).recorded ≡ true → broken_in_order p (Beat.A x) t ≡ None
 acquire-flows {w} p {c} n x {asked} {rest} {s} {t} flowed whole acquires block used idle kept grows =
-    cc (acquire-legal p n
-    ((s.block n).pair c).recorded x t acquires block (flowed.rest_is Channel.A ∙ whole) (flowed.requests x.source ∙ ap
-    (λ (u : SourceState). is_requested c x.source (rest Channel.A) u s) used ∙ ap (λ (v : View). not (is_unserved v))
-    idle) (flowed.acquires n ∙ ap (λ (v : View). is_wanting ((s.block n).pair c).acquiring && not (is_unserved v)) idle
-    ∙ and-false (is_wanting ((s.block n).pair c).acquiring)) (flowed.releases n ∙ ap (is_release_pending ((s.block
-    n).release_source c) (rest Channel.C)) kept) (held_as n flowed (ap is_granting idle)) grows)
+    cc (acquire-legal p n ((s.block n).pair c).recorded x t acquires block (flowed.rest_is Channel.A ∙ whole)
+    (cc (flowed.requests x.source)) (cc (flowed.acquires n, and-false (is_wanting ((s.block n).pair c).acquiring)))
+    (flowed.releases n ∙ ap (is_release_pending ((s.block n).release_source c) (rest Channel.C)) kept)
+    (held_as n flowed (ap is_granting idle)) grows)
 
 -- ---- channel B
 
 unprobed : (probes a b : Bool) → a ≡ false → b ≡ false → first_if (probes && (a || b)) H9 None ≡ None
-unprobed true a b e f = rw (e, f) refl
-unprobed false a b e f = refl
+unprobed probes a b e f = grind arith
 
 pub probe-flows : {w : ℕ} {X : Type 0} (p : Profile) {c : ℕ} (n : ℕ) (x : BeatB w) {asked : ℕ → Option (BeatA w)}
     {rest : Channel → List (Beat w)} {s : State X} {t : History w} → MonitorRelation asked rest c s t
@@ -58,19 +53,14 @@ pub probe-flows : {w : ℕ} {X : Type 0} (p : Profile) {c : ℕ} (n : ℕ) (x : 
     → broken_in_order p (Beat.B x) t ≡ None
 unfolding broken_order
 probe-flows {w} p n x {t} flowed whole block unanswered open_ none_comes =
-    let none : unfinished Channel.B t ≡ [] = flowed.rest_is Channel.B ∙ whole in
-    let probes : pending (Key.ProbeOf n) t ≡ false = flowed.probes n ∙ unanswered in
-    let grants : pending (Key.GrantAckOf n) t ≡ false = cc (flowed.grants n, open_, none_comes) in
-    rw (none, block) (unprobed (is_probe x.opcode) (pending (Key.ProbeOf n) t) (pending (Key.GrantAckOf n) t) probes
-    grants)
+    rw (flowed.rest_is Channel.B ∙ whole, block) (unprobed (is_probe x.opcode) (pending (Key.ProbeOf n) t)
+    (pending (Key.GrantAckOf n) t) (flowed.probes n ∙ unanswered) (cc (flowed.grants n, open_, none_comes)))
 
 -- ---- channel C
 
 unlet : {w : ℕ} (source : ℕ) (rest : List (Beat w)) (l : ReleasePhase) → rest ≡ [] → is_acked l ≡ false
     → is_release_pending source rest l ≡ false
-unlet source rest NoRelease e f = refl
-unlet source rest (ReleaseSent r) e f = ap (comes_in_release source) e
-unlet source rest ReleaseAcked e f = absurd cc
+unlet source rest l e f = grind arith
 
 pub report-flows : {w : ℕ} {X : Type 0} (p : Profile) {c : ℕ} (n : ℕ) (k : Cap) (r : Report) (x : BeatC w) {asked : ℕ
     → Option (BeatA w)} {rest : Channel → List (Beat w)} {s : State X} {t : History w}
@@ -79,8 +69,7 @@ pub report-flows : {w : ℕ} {X : Type 0} (p : Profile) {c : ℕ} (n : ℕ) (k :
     ≡ ProbeAnswered r → cap_waited (s.block n).service ≡ k → is_acked ((s.block n).pair c).letting ≡ false
     → is_granting (view (s.block n).service c) ≡ false → r ≡ report_at k ((s.block n).pair c).recorded
     → broken_in_order p (Beat.C x) t ≡ None
-report-flows {w} p {c} n k r x {asked} {rest} {s} {t} flowed whole acks other block param answered waited unacked
-    ungranted told =
+report-flows p {c} n k r x {rest} {s} {t} flowed whole acks other block param answered waited unacked ungranted told =
     let answers : is_answered ((s.block n).pair c).probing ≡ true = ap is_answered answered in
     report-legal p n k r ((s.block n).pair c).recorded x t acks other block param (flowed.rest_is Channel.C ∙ whole)
     (flowed.probes n ∙ answers)
@@ -88,10 +77,6 @@ report-flows {w} p {c} n k r x {asked} {rest} {s} {t} flowed whole acks other bl
     unacked)
     (flowed.probed n answers ∙ ap (λ (j : Cap). Some (probe_beat n j)) waited)
     (held_as n flowed ungranted) told
-
-releases : (taken acquires again prunes : Bool) → taken ≡ false → acquires ≡ false → again ≡ false → prunes ≡ true
-    → first_if taken H1 (first_if (acquires || (again || not prunes)) H13 None) ≡ None
-releases taken acquires again prunes e f g h = rw (e, f, g, h) refl
 
 pub release-flows : {w : ℕ} {X : Type 0} (p : Profile) {c : ℕ} (n : ℕ) (r : Prune) (x : BeatC w) {asked : ℕ
     → Option (BeatA w)} {rest : Channel → List (Beat w)} {s : State X} {t : History w}
@@ -110,8 +95,7 @@ release-flows {w} p {c} n r x {asked} {rest} {s} {t} flowed whole is block param
     (rest Channel.C) ((s.block n).pair c).letting whole (ap is_acked lets) in
     let prunes : prunes_from (prune_of x.param) (held n t) ≡ true =
     rw (param, prune_again r, held_as n flowed ungranted) left in
-    rw (none, is, block) (releases (pending (Key.ReleaseSource x.source) t) (pending (Key.AcquireOf n) t)
-    (pending (Key.ReleaseOf n) t) (prunes_from (prune_of x.param) (held n t)) free once again prunes)
+    rw (none, is, block) (rw (free, once, again, prunes) refl)
 
 -- ---- channel E
 
@@ -121,10 +105,9 @@ pub grant_ack-flows : {w : ℕ} {X : Type 0} (p : Profile) {c : ℕ} (n : ℕ) (
     → comes_in_grant x.sink (rest Channel.D) ≡ false → broken_in_order p (Beat.E x) t ≡ None
 unfolding broken_order
 grant_ack-flows {w} p n x {t} flowed whole tracked acknowledging none_comes =
-    let none : unfinished Channel.E t ≡ [] = flowed.rest_is Channel.E ∙ whole in
     let sunk : pending (Key.GrantSink x.sink) t ≡ true = cc (flowed.sinks x.sink, tracked, acknowledging) in
     let apart : comes_in_grant x.sink (unfinished Channel.D t) ≡ false = cc (flowed.rest_is Channel.D, none_comes) in
-    rw (none, sunk, apart) refl
+    rw (flowed.rest_is Channel.E ∙ whole, sunk, apart) refl
 
 -- ---- each beat of a message
 

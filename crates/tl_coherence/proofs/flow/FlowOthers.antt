@@ -1,16 +1,16 @@
 -- What an event leaves of its block for what is delivered on the links that it isn't of.
 use Rattle.std.proofs.Common.{◌≡◌, ℕ, Bool, true, false, ◌&&◌, ◌||◌, refl, sym, ◌∙◌, ap, ◌⊎◌, inl, inr, ne_eqb, ◌==◌}
-use Rattle.std.proofs.Common.{if◌then◌else◌}
+use Rattle.std.proofs.Common.{arith, if◌then◌else◌}
 use Rattle.tl_coherence.proofs
-use proofs.Imports.{Cap, Grow, Prune, Report, set, ClientBlock, View, Idle, Own, Other, Granting, Acknowledging}
-use proofs.Imports.{GrantedOther, ProbeSent, is_unprobed, ProbePhase, after_release, after_probe, after_report}
-use proofs.Imports.{after_release_ack, after_acquire, is_above, after_served, after_grant_sent, after_release_taken}
-use proofs.Imports.{after_grant, Service, Free, Waits, GrantSent, GrantTaken, Block, view, acquiring_block}
-use proofs.Imports.{releasing_block, granted_at_once, served_block, probed_block, reported_block, let_block}
-use proofs.Imports.{taken_block, let_go_block, freed_block, stored_block, performed_block, served_pair, ended_block}
-use proofs.Imports.{granted_block, is_granting, is_acknowledging, is_answered, is_wanting, is_unserved, cap_waited}
-use proofs.flow.FlowAside.{IsSameBlock}
-use proofs.protocol.BothParts.{quiet_unanswered}
+use proofs.Imports.{Cap, Grow, Prune, Report, set, ClientBlock, View, Idle, Own, Other, Granting, GrantedOther}
+use proofs.Imports.{ProbeSent, is_unprobed, ProbePhase, after_release, after_probe, after_report, after_release_ack}
+use proofs.Imports.{after_acquire, is_above, after_served, after_grant_sent, after_release_taken, after_grant, Service}
+use proofs.Imports.{Free, Waits, GrantSent, GrantTaken, Block, view, acquiring_block, releasing_block, granted_at_once}
+use proofs.Imports.{served_block, probed_block, reported_block, let_block, taken_block, let_go_block, freed_block}
+use proofs.Imports.{stored_block, performed_block, served_pair, ended_block, granted_block, is_granting}
+use proofs.Imports.{is_acknowledging, is_answered, is_wanting, is_unserved, cap_waited}
+use proofs.flow.{FlowAside.IsSameBlock}
+use proofs.protocol.{BothParts.quiet_unanswered}
 use proofs.queues.Tokens.{same_number, set-same, set-other}
 
 -- the service looks the same to the client's link
@@ -48,29 +48,7 @@ is_outside GrantedOther = true
 is_outside _ = false
 
 outside-same : (v v' : View) → is_outside v ≡ true → is_outside v' ≡ true → IsSameView v v'
-outside-same v v' e f = record {
-  granting = granting v' f ∙ sym (granting v e);
-  unserved = unserved v' f ∙ sym (unserved v e);
-  acknowledging = acknowledging v' f ∙ sym (acknowledging v e);
-}
-  where
-    granting : (u : View) → is_outside u ≡ true → is_granting u ≡ false
-    granting Own g = absurd cc
-    granting (Granting d k) g = absurd cc
-    granting Acknowledging g = absurd cc
-    granting u g = refl
-
-    unserved : (u : View) → is_outside u ≡ true → is_unserved u ≡ true
-    unserved Own g = absurd cc
-    unserved (Granting d k) g = absurd cc
-    unserved Acknowledging g = absurd cc
-    unserved u g = refl
-
-    acknowledging : (u : View) → is_outside u ≡ true → is_acknowledging u ≡ false
-    acknowledging Own g = absurd cc
-    acknowledging (Granting d k) g = absurd cc
-    acknowledging Acknowledging g = absurd cc
-    acknowledging u g = refl
+outside-same v v' e f = grind arith
 
 -- only the one who asked sees a service from inside
 pub outside-waits : (d r source : ℕ) (own : Bool) (k : Cap) → (own && (d == r)) ≡ false
@@ -84,10 +62,7 @@ pub outside-taken : (d r : ℕ) → (d ≡ r → ⊥) → is_outside (view (Gran
 outside-taken d r ne = rw (ne_eqb d r ne) refl
 
 not_in : (v : View) → is_outside v ≡ true → (is_acknowledging v || is_granting v) ≡ false
-not_in Own e = absurd cc
-not_in (Granting d k) e = absurd cc
-not_in Acknowledging e = absurd cc
-not_in v e = refl
+not_in v e = grind arith
 
 -- ---- each event
 
@@ -150,25 +125,25 @@ pub same-granted : {X : Type 0} (d c q source : ℕ) (r : Report) (j k : Cap) (x
     → b.service ≡ Waits q true source j → is_answered ((reported_block c r b).pair d).probing ≡ false
     → IsSameBlock d (reported_block c r b) (granted_block c q r x k b)
 same-granted {X} d c q source r j k x b other waits quiet =
-    others-same d (reported_block c r b) (granted_block c q r x k b)
-    (set-other q d (after_grant_sent k (b.pair q)) (set c (after_report r (b.pair c)) b.pair) other) refl (inl refl)
-    (outside-same (view b.service d) (view (GrantSent q x k) d) (ap (λ (i : Service). is_outside (view i d)) waits
-    ∙ outside-waits d q source true j (ne_eqb d q other)) (outside-sent d q x k other))
-    (λ e. absurd (let g : false ≡ true = sym quiet ∙ e in cc))
+    others-same d (reported_block c r b) (granted_block c q r x k b) (set-other q d (after_grant_sent k (b.pair q))
+    (set c (after_report r (b.pair c)) b.pair) other) refl (inl refl) (outside-same (view b.service d)
+    (view (GrantSent q x k) d) (ap (λ (i : Service). is_outside (view i d)) waits ∙ outside-waits d q source true j
+    (ne_eqb d q other)) (outside-sent d q x k other)) (λ e. absurd (let g : false ≡ true = sym quiet ∙ e in cc))
 
 -- who asked for the block had as much of it as was recorded
 pub same-given : {X : Type 0} (c q source : ℕ) (r : Report) (j k : Cap) (x : Bool) (b : Block X) → (q ≡ c → ⊥)
     → b.service ≡ Waits q true source j → (b.pair q).held ≡ (b.pair q).recorded → is_answered (b.pair q).probing ≡ false
     → IsSameBlock q (reported_block c r b) (granted_block c q r x k b)
 same-given {X} c q source r j k x b other waits even quiet =
+    let new = granted_block c q r x k b in
+    let pair = set-same q (after_grant_sent k (b.pair q)) (set c (after_report r (b.pair c)) b.pair) in
     let old : Block X = reported_block c r b in
     let same : old.pair q ≡ b.pair q = set-other c q (after_report r (b.pair c)) b.pair other in
     let now : view new.service q ≡ Granting x k = rw (same_number q) refl in
     let then_ : view old.service q ≡ Own = rw (waits, same_number q) refl in
     record {
       held = cc (now, pair, even, then_, same);
-      wanting = ap (λ (p : ClientBlock). is_wanting p.acquiring) pair ∙ sym
-          (ap (λ (p : ClientBlock). is_wanting p.acquiring) same);
+      wanting = cc;
       unserved = ap is_unserved now ∙ sym (ap is_unserved then_);
       letting = ap (λ (p : ClientBlock). p.letting) pair ∙ sym (ap (λ (p : ClientBlock). p.letting) same);
       source = refl;
@@ -178,12 +153,6 @@ same-given {X} c q source r j k x b other waits even quiet =
           ∙ e in cc);
       tracker = inl refl;
     }
-  where
-    new : Block X
-    new = granted_block c q r x k b
-
-    pair : new.pair q ≡ after_grant_sent k (b.pair q)
-    pair = set-same q (after_grant_sent k (b.pair q)) (set c (after_report r (b.pair c)) b.pair)
 
 pub same-let : {X : Type 0} (d c : ℕ) (r : Prune) (b : Block X) → (d ≡ c → ⊥) → IsSameBlock d b (let_block c r b)
 same-let d c r b ne = others-same d b (let_block c r b) (set-other c d (after_release_taken r (b.pair c)) b.pair ne)
@@ -195,24 +164,21 @@ same-let_go d c b ne = others-same d b (let_go_block c b) (set-other c d (after_
 
 pub same-taken : {X : Type 0} (d c : ℕ) (whole x : Bool) (k : Cap) (b : Block X) → (d ≡ c → ⊥)
     → b.service ≡ GrantSent c x k → IsSameBlock d b (taken_block c whole x k b)
-same-taken {X} d c whole x k b ne sent =
-    others-same d b (taken_block c whole x k b) (set-other c d (after_grant k (b.pair c)) b.pair ne) refl (inl refl)
-    (outside-same (view b.service d) (view (GrantTaken c) d) (ap (λ (i : Service). is_outside (view i d)) sent
-    ∙ outside-sent d c x k ne) (outside-taken d c ne)) (λ e. sym (ap cap_waited sent))
+same-taken {X} d c whole x k b ne sent = others-same d b (taken_block c whole x k b)
+    (set-other c d (after_grant k (b.pair c)) b.pair ne) refl (inl refl) (outside-same (view b.service d)
+    (view (GrantTaken c) d) (cc (outside-sent d c x k ne)) (outside-taken d c ne)) (λ e. sym (ap cap_waited sent))
 
 pub same-freed : {X : Type 0} (d c : ℕ) (b : Block X) → (d ≡ c → ⊥) → b.service ≡ GrantTaken c
     → IsSameBlock d b (freed_block b)
 same-freed {X} d c b ne taken = others-same d b (freed_block b) refl refl (inl refl)
-    (outside-same (view b.service d) (view Free d) (ap (λ (i : Service). is_outside (view i d)) taken
-    ∙ outside-taken d c ne) refl) (λ e. sym (ap cap_waited taken))
+    (outside-same (view b.service d) (view Free d) (cc (outside-taken d c ne)) refl) (λ e. sym (ap cap_waited taken))
 
 -- ---- what another client is asked for
 
 pub same-acquiring : {X : Type 0} (d c source : ℕ) (whole : Bool) (g : Grow) (bytes : X) (b : Block X) → (d ≡ c → ⊥)
     → IsSameBlock d b (acquiring_block c source whole g bytes b)
-same-acquiring d c source whole g bytes b ne = others-same d b (acquiring_block c source whole g bytes b)
-    (set-other c d (after_acquire whole g (b.pair c)) b.pair ne) refl (inl refl) (same-view (view b.service d))
-    (λ e. refl)
+same-acquiring d c source whole g bytes b ne = others-same d b (acquiring_block c source whole g bytes b) (set-other c d
+    (after_acquire whole g (b.pair c)) b.pair ne) refl (inl refl) (same-view (view b.service d)) (λ e. refl)
 
 pub same-releasing : {X : Type 0} (d c source : ℕ) (r : Prune) (b : Block X) → (d ≡ c → ⊥)
     → IsSameBlock d b (releasing_block c source r b)

@@ -4,7 +4,7 @@ use Rattle.std.proofs.Common.{if◌then◌else◌}
 use Rattle.tl_coherence.proofs
 use proofs.Imports.{Beat, Channel, IsWidth, Message, MessageA, MessageC, MessageE, beat_of, History, completes, Config}
 use proofs.Imports.{Cap, cap_asked, Kind, Request, Acquire, Probe, ProbeAck, Release, Answer, Grant, ReleaseAck}
-use proofs.Imports.{GrantAck, Packet, is_whole, ClientBlock, AcquirePhase, AcquireOpen, is_granted_data, after_probe}
+use proofs.Imports.{GrantAck, Packet, is_whole, ClientBlock, AcquireOpen, is_granted_data, after_probe}
 use proofs.Imports.{after_release_ack, packets_on, is_probed, Block, State, packet, is_on, probed_block, probe_taken}
 use proofs.Imports.{let_go_block, release_ack_taken, release_taken, acquire_served, acquire_granted, AbstractState}
 use proofs.Imports.{kind_taken, with_state, some_below, is_unheld, gift, acquire_taken, MonitorRelation, cap_sent}
@@ -37,10 +37,9 @@ module _ {w : ℕ} {config : Config} {log : Log w} (h : AbstractState w) {sys : 
       (rests : AreRests x (unfinished_at sys c) rest') where
     -- after the beat, which was the last of its message or not
     abbrev Goes : Channel → Kind → Type 0
-    Goes ch k = packets_on ch (h.state.link c) ≡ packet k i ∷ toks
-        → IsNext x (unfinished_at sys c ch) (message_of_kind k h.mail h.state c i) ms queue → (b : Bool)
-        → completes x (unfinished_at sys c ch) ≡ b → (b ≡ true → IsReady tracker c k i h)
-        → FlowsWith x (if b then kind_taken config tracker c k i toks h else h)
+    Goes ch k = packets_on ch (h.state.link c) ≡ packet k i ∷ toks → IsNext x (unfinished_at sys c ch)
+        (message_of_kind k h.mail h.state c i) ms queue → (b : Bool) → completes x (unfinished_at sys c ch) ≡ b
+        → (b ≡ true → IsReady tracker c k i h) → FlowsWith x (if b then kind_taken config tracker c k i toks h else h)
 
     contrary : {A : Type 0} (b : Bool) → b ≡ true → b ≡ false → A
     contrary b e f = absurd (let no : true ≡ false = sym e ∙ f in cc)
@@ -96,9 +95,8 @@ module _ {w : ℕ} {config : Config} {log : Log w} (h : AbstractState w) {sys : 
                 (cap_asked (AcquireOpen wanted.whole wanted.grow)) toks s
 
             granted : State (List ℕ)
-            granted = acquire_granted c i tracker
-                (is_granted_data wanted.whole wanted.grow ((s.block i).pair c).recorded)
-                (gift config.profile wanted.whole wanted.grow
+            granted = acquire_granted c i tracker (is_granted_data wanted.whole wanted.grow
+                ((s.block i).pair c).recorded) (gift config.profile wanted.whole wanted.grow
                 (is_unheld (length config.clients.items) (s.block i).pair)) toks s
 
             either : (z : Bool) → Leaves c h (with_state (if z then served else granted) h)
@@ -106,19 +104,16 @@ module _ {w : ℕ} {config : Config} {log : Log w} (h : AbstractState w) {sys : 
             either true l = own-acquire_served h is flowed rest' wanted r.0 tracker r.1
                 (asked_by h.mail served c) (asks-left c h (with_state served h) l)
                 (cap_asked (AcquireOpen wanted.whole wanted.grow)) toks x ms queue here rests
-            either false l = own-acquire_granted h is flowed rest' wanted r.0 tracker r.1
-                (asked_by h.mail granted c) (asks-left c h (with_state granted h) l)
-                (is_granted_data wanted.whole wanted.grow ((s.block i).pair c).recorded)
-                (gift config.profile wanted.whole wanted.grow
+            either false l = own-acquire_granted h is flowed rest' wanted r.0 tracker r.1 (asked_by h.mail granted c)
+                (asks-left c h (with_state granted h) l) (is_granted_data wanted.whole wanted.grow
+                ((s.block i).pair c).recorded) (gift config.profile wanted.whole wanted.grow
                 (is_unheld (length config.clients.items) (s.block i).pair)) toks x ms queue here rests
 
         go : (z : Bool) → completes x (unfinished_at sys c Channel.A) ≡ z → (z ≡ true → IsReady tracker c Acquire i h)
             → FlowsWith x (if z then kind_taken config tracker c Acquire i toks h else h)
         go false e r = contrary (completes x (unfinished_at sys c Channel.A)) one e
-        go true e r = rw wanted.wants
-            (taken (r refl) (subst (λ (a : AcquirePhase). Leaves c h
-            (acquire_taken (length config.clients.items) config.profile c i a tracker toks h)) wanted.wants
-            (leaves-at_manager config tracker c Acquire i toks h c refl is.invariant tokens)))
+        go true e r = rw wanted.wants (taken (r refl)
+            (rw wanted.wants at (leaves-at_manager config tracker c Acquire i toks h c refl is.invariant tokens)))
 
     -- ---- channel B
 

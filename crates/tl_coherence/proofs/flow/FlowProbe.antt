@@ -1,10 +1,10 @@
 -- What is delivered on a link, as a Probe is.
 use Rattle.std.proofs.Common.{◌≡◌, ℕ, ◌*◌, Bool, true, false, not, ◌&&◌, ◌∷◌, Option, Some, None, refl, sym, ◌∙◌, ap}
-use Rattle.std.proofs.Common.{List, ne_eqb, ◌==◌, if◌then◌else◌, option_map}
+use Rattle.std.proofs.Common.{List, ne_eqb, ◌==◌, if◌then◌else◌}
 use Rattle.tl_coherence.proofs
 use proofs.Imports.{Beat, BeatA, BeatB, Channel, History, Cap, begins, ends, block_at, release_of, probe_of, grant_sink}
-use proofs.Imports.{is_probe, Packet, set, View, Other, ClientBlock, after_probe, Block, State, view, probe_taken}
-use proofs.Imports.{probed_block, is_granting, is_answered, is_wanting, is_unserved, comes_granting, MonitorRelation}
+use proofs.Imports.{is_probe, Packet, set, Other, ClientBlock, after_probe, Block, State, view, probe_taken}
+use proofs.Imports.{probed_block, is_answered, is_wanting, is_unserved, comes_granting, MonitorRelation}
 use proofs.Imports.{is_requested, is_release_pending, is_let_by, is_sunk, probe_beat, cap_waited}
 use Rattle.tl_client.proofs.pending.Opens.{request_of-b}
 use proofs.flow.{FlowAlone.AreRests, FlowAside.requested-blocks, FlowAside.let_by-same}
@@ -48,30 +48,22 @@ flowed-probe {w} {X} {c} n k toks {asked} asked' {rest} rest' {s} {t} first last
       requested-blocks c i (rest Channel.A) (s.uses c i) s s'
           (set-part (λ (z : Block X). is_unserved (view z.service c)) n new s.block refl),
     ) in
-    let grants : (m : ℕ) → granted_by c m asked' (rest' Channel.D) (s'.block m) ≡ granted_by c m asked (rest Channel.D)
-    (s.block m) = λ m. cc (
-      rests Channel.D,
-      comes m,
-      set-part (granted_by c m asked (rest Channel.D)) n new s.block refl m,
-    ) in
+    let grants : (m : ℕ)
+    → granted_by c m asked' (rest' Channel.D) (s'.block m) ≡ granted_by c m asked (rest Channel.D) (s.block m) =
+    λ m. cc (rests Channel.D, comes m, set-part (granted_by c m asked (rest Channel.D)) n new s.block refl m) in
     flowed-next (record {
       first_is = first;
       last_is = last;
       rests = rests;
       held_is = set-part (held_by c) n new s.block
-          (ap (λ (v : View). if is_granting v then (new.pair c).held else (new.pair c).recorded) seen ∙ part_of
-          (λ (p : ClientBlock). p.recorded) c (after_probe k (b.pair c)) b.pair refl
-          ∙ sym (ap (λ (v : View). if is_granting v then (b.pair c).held else (b.pair c).recorded) seen));
+          (cc (part_of (λ (p : ClientBlock). p.recorded) c (after_probe k (b.pair c)) b.pair refl));
       requests = requests;
-      asked_is = λ i e. request_of-b i y t ∙ before.asked_is i (before.requests i ∙ sym (requests i) ∙ e) ∙ sym
-          (asks i);
+      asked_is = λ i e. request_of-b i y t ∙ before.asked_is i (cc (before.requests i, requests i)) ∙ sym (asks i);
       acquires = set-part (acquired_by c) n new s.block (ap (λ (z : Bool). z && not (is_unserved (view b.service c)))
           (part_of (λ (p : ClientBlock). is_wanting p.acquiring) c (after_probe k (b.pair c)) b.pair refl));
       release_sources = lets;
-      released = λ i m e f. ap (option_map (λ z. block_at z.address)) (released-of i y t) ∙ before.released i m e
-          (before.release_sources i ∙ sym (lets i) ∙ f);
-      sizes = λ i m e f. ap (option_map (λ z. z.size)) (released-of i y t) ∙ before.sizes i m e
-          (before.release_sources i ∙ sym (lets i) ∙ f);
+      released = λ i m e f. cc (released-of i y t, before.released i m e (before.release_sources i ∙ sym (lets i) ∙ f));
+      sizes = λ i m e f. cc (released-of i y t, before.sizes i m e (before.release_sources i ∙ sym (lets i) ∙ f));
       releases = λ m. ap (λ (r : List (Beat w)). let_of c r (s'.block m)) (rests Channel.C)
           ∙ set-part (let_of c (rest Channel.C)) n new s.block
           (ap (is_release_pending (b.release_source c) (rest Channel.C)) letting_same) m;
@@ -79,10 +71,9 @@ flowed-probe {w} {X} {c} n k toks {asked} asked' {rest} rest' {s} {t} first last
           (s.tracked i);
       grants = grants;
       probes = set-each (λ m z. is_answered (z.pair c).probing ≡ step true true (block_at (64 * n) == m) false
-          (is_answered ((s.block m).pair c).probing)) n new s.block (part_true
-          ∙ sym (whole_opened (block_at (64 * n) == n) (is_answered (b.pair c).probing) (rw at (same_number n))))
-          (λ m ne. sym (whole_unopened (block_at (64 * n) == m) (is_answered ((s.block m).pair c).probing)
-          (rw at (ne_eqb n m (λ e. ne (sym e))))));
+          (is_answered ((s.block m).pair c).probing)) n new s.block (part_true ∙ sym (whole_opened (block_at
+          (64 * n) == n) (is_answered (b.pair c).probing) (rw at (same_number n)))) (λ m ne. sym (whole_unopened
+          (block_at (64 * n) == m) (is_answered ((s.block m).pair c).probing) (rw at (ne_eqb n m (λ e. ne (sym e))))));
       probed = λ m e. probed-of m y t first ∙ probed m e;
       sunk = λ m e. sunk-of m y t ∙ before.sunk m (before.grants m ∙ sym (grants m) ∙ e) ∙ ap Some
           (sym (set-part (λ (z : Block X). z.tracker) n new s.block refl m));
@@ -104,11 +95,8 @@ flowed-probe {w} {X} {c} n k toks {asked} asked' {rest} rest' {s} {t} first last
     letting_same = part_of (λ (p : ClientBlock). p.letting) c (after_probe k (b.pair c)) b.pair refl
 
     lets : (i : ℕ) → is_let_by c i (rest' Channel.C) (s'.lets c i) s' ≡ is_let_by c i (rest Channel.C) (s.lets c i) s
-    lets i = cc (
-      rests Channel.C,
-      let_by-same c i (rest Channel.C) (s.lets c i) s s'
-          (set-part (λ (z : Block X). (z.pair c).letting) n new s.block letting_same),
-    )
+    lets i = let fact = let_by-same c i (rest Channel.C) (s.lets c i) s s'
+        (set-part (λ (z : Block X). (z.pair c).letting) n new s.block letting_same) in cc (rests Channel.C)
 
     probed : (m : ℕ) → is_answered ((s'.block m).pair c).probing ≡ true
         → (if true && (block_at (64 * n) == m) then Some y else probe_of m t) ≡ Some

@@ -1,5 +1,5 @@
 -- What the receivers have after a delivery.
-use Rattle.std.proofs.Common.{◌≡◌, subst, ℕ, Bool, true, false, ◌&&◌, List, [], ◌∷◌, Some, None, refl, sym, ◌∙◌, ap}
+use Rattle.std.proofs.Common.{◌≡◌, subst, ℕ, Bool, true, false, ◌&&◌, List, [], ◌∷◌, Some, None, refl, ◌∙◌, ap, arith}
 use Rattle.std.proofs.Common.{◌==◌, if◌then◌else◌}
 use Rattle.tl_coherence.proofs
 use proofs.Imports.{Beat, Link, Channel, IsWidth, grown, completes, Config, EndConfig, Handed, reaction, Deliver}
@@ -21,9 +21,7 @@ use proofs.simulation.{Popped.unfinished_at, Moved.client-moves, Moved.client-he
 -- messages that are handed out change no receiver
 receiver_handed : {w : ℕ} (handed : Handed w) (sys : System w) (d : ℕ) (at : Channel)
     → receiver at d (with_messages handed sys) ≡ receiver at d sys
-receiver_handed handed sys d Channel.B = cc (clients-with_messages handed sys)
-receiver_handed handed sys d Channel.D = cc (clients-with_messages handed sys)
-receiver_handed handed sys d at = cc (manager-with_messages handed sys)
+receiver_handed handed sys d at = grind (arith, clients-with_messages, manager-with_messages)
 
 -- what is left of a beat that is moved on channel ch of client c's link: what was delivered, what receivers have, and
 -- what the protocol is
@@ -49,27 +47,22 @@ moved-to_manager : {w : ℕ} {config : Config} {log : Log w} (link : Link) (ch :
     → IsMovedOn config log link ch h x queue
 unfolding with_messages
 moved-to_manager {w} {config} {log} link ch h terms x queue width is known down beats moving =
+    let sys = system_after config log in
+    let handed : Handed w = (reaction config link x sys.manager).handed in
     let at = at-manager link ch h terms x queue width is known down beats moving in
     let e : manager_end.End w = manager_offer.taken link x (reaction config link x sys.manager) sys.manager in
-    let base : System w = with_manager e (with_channel link.0 ch queue sys) in
     record {
       first = at.first;
       on_ch = at.on_it;
       delivered = λ d. cc (at.step_is, flow_moved link ch (Outcome.Moved x) x log d refl);
       rests = λ d i. cc (
         at.step_is,
-        receiver_handed handed base d i,
+        receiver_handed handed (with_manager e (with_channel link.0 ch queue sys)) d i,
         (landed-manager link.0 ch x queue (λ k j. None) [] e
             sys down at.beats at.on_it at.heard (λ k j. refl)).rests d i,
       );
       follows = at.follows;
     }
-  where
-    sys : System w
-    sys = system_after config log
-
-    handed : Handed w
-    handed = (reaction config link x sys.manager).handed
 
 moved-to_client : {w : ℕ} {config : Config} {log : Log w} (link : Link) (ch : Channel) (h : AbstractState w)
     (terms : EndConfig) (x : Beat w) (queue : List (Beat w)) → IsWidth w
@@ -87,9 +80,8 @@ moved-to_client {w} {config} {log} link ch h terms x queue width is known up bea
     record {
       first = first;
       on_ch = on_ch;
-      delivered = λ d. ap (λ (y : Step w). flow d ((Deliver link ch, y.outcome) ∷ log)) t.step_is
-          ∙ flow_moved link ch (outcome_of x t.verdict_is) x log d
-          (taken_at link ch x t.verdict_is d (sym (ap (λ (y : Step w). is_moving y.outcome) t.step_is) ∙ moving));
+      delivered = λ d. ap (λ (y : Step w). flow d ((Deliver link ch, y.outcome) ∷ log)) t.step_is ∙ flow_moved link ch
+          (outcome_of x t.verdict_is) x log d (taken_at link ch x t.verdict_is d (cc t.step_is));
       rests = λ d i. ap (λ (y : Step w). unfinished_at y.after d i) t.step_is
           ∙ (landed-client link.0 ch x queue t.message (offer.taken x (sys.clients link.0)).after sys up beats on_ch
           (client-heard width (is.kept link.0) t)).rests d i;

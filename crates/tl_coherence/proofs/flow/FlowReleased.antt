@@ -1,17 +1,17 @@
 -- What is delivered on a link, as the beats of a Release are.
 use Rattle.std.proofs.Common.{◌≡◌, ℕ, Bool, true, false, not, ◌&&◌, ◌||◌, ◌∷◌, Option, Some, None, refl, sym, ◌∙◌, ap}
-use Rattle.std.proofs.Common.{List, ◌⊎◌, inl, inr, ne_eqb, ◌==◌, if◌then◌else◌, option_map, unwrap_or}
+use Rattle.std.proofs.Common.{arith, List, ◌⊎◌, inl, inr, ne_eqb, ◌==◌, if◌then◌else◌, option_map, unwrap_or}
 use Rattle.tl_coherence.proofs
 use proofs.Imports.{cases_eq, and_right, Beat, BeatA, BeatC, Channel, History, ReleaseSource, Prune, Perm, prune_right}
 use proofs.Imports.{comes_in_release, begins, ends, block_at, pending, is_probe_ack, is_release, release_of, reported}
 use proofs.Imports.{grant_sink-c, probe_of-c, request_of-c, is_of, releases_with, ReleasePhase, ReleaseSent}
-use proofs.Imports.{ReleaseAcked, AcquirePhase, is_unreleased, Service, Block, State, view, is_acknowledging}
-use proofs.Imports.{is_answered, is_wanting, is_unserved, comes_granting, MonitorRelation, is_requested}
-use proofs.Imports.{is_release_pending, is_let_by, is_sunk, probe_beat, cap_waited}
+use proofs.Imports.{ReleaseAcked, is_unreleased, Service, Block, State, view, is_acknowledging, is_answered}
+use proofs.Imports.{is_unserved, comes_granting, MonitorRelation, is_requested, is_release_pending, is_let_by, is_sunk}
+use proofs.Imports.{probe_beat, cap_waited}
 use proofs.flow.{FlowAlone.AreRests, FlowAside.requested-blocks, FlowReported.unsaid}
-use proofs.queues.Tokens.{same_number}
-use proofs.protocol.BothParts.{is_of-is}
 use proofs.flow.FlowStep.{flowed-next, held_by, acquired_by, let_of, granted_by, step, step_quiet}
+use proofs.queues.{Tokens.same_number}
+use proofs.protocol.{BothParts.is_of-is}
 
 -- ---- another value of one block
 
@@ -62,42 +62,33 @@ pub record IsReleased {w : ℕ} {X : Type 0} (c n : ℕ) (r : Prune) (y : BeatC 
 
 said : (last ack let_go here : Bool) (q p : Perm) → let_go ≡ true → here ≡ true
     → (if last then unwrap_or (if (ack || let_go) && here then Some q else None) p else p) ≡ (if last then q else p)
-said true true let_go here q p e f = rw f refl
-said true false let_go here q p e f = rw (e, f) refl
-said false ack let_go here q p e f = refl
+said last ack let_go here q p e f = grind arith
 
 unsaid_any : (last ack let_go here : Bool) (q p : Perm) → here ≡ false
     → (if last then unwrap_or (if (ack || let_go) && here then Some q else None) p else p) ≡ p
-unsaid_any true ack let_go here q p e = unsaid ack let_go here q p e
-unsaid_any false ack let_go here q p e = refl
+unsaid_any last ack let_go here q p e = grind (arith, unsaid)
 
 pub opened : (first last r q p : Bool) → r ≡ true → q ≡ true → p ≡ not first → step first last (r && q) false p ≡ true
-opened true last r q p e f g = rw (e, f) refl
-opened false true r q p e f g = g
-opened false false r q p e f g = g
+opened first last r q p e f g = grind arith
 
 unopened : (first last r q p : Bool) → q ≡ false → step first last (r && q) false p ≡ p
-unopened first last true q p e = rw e (step_quiet first last p)
-unopened first last false q p e = step_quiet first last p
+unopened first last r q p e = grind (arith, step_quiet)
 
 let_now : {w : ℕ} (i : ℕ) (last : Bool) (r : Prune) (rest : List (Beat w)) (l : ReleasePhase) → l ≡ letting_after last r
     → comes_in_release i rest ≡ not last → is_release_pending i rest l ≡ true
-let_now i true r rest l e f = ap (is_release_pending i rest) e
-let_now i false r rest l e f = ap (is_release_pending i rest) e ∙ f
+let_now i last r rest l e f = grind arith
 
 let_then : {w : ℕ} (i : ℕ) (first : Bool) (r : Prune) (rest : List (Beat w)) (l : ReleasePhase) → l ≡ ReleaseSent r
     → comes_in_release i rest ≡ not first → is_release_pending i rest l ≡ not first
 let_then i first r rest l e f = ap (is_release_pending i rest) e ∙ f
 
 pub with_true : (p q : Bool) → q ≡ true → (p && q) ≡ p
-with_true true q e = e
-with_true false q e = refl
+with_true p q e = grind arith
 
 let_other : {w : ℕ} (i : ℕ) (rest rest' : List (Beat w)) (l : ReleasePhase)
     → (is_unreleased l ≡ false → comes_in_release i rest' ≡ comes_in_release i rest)
     → is_release_pending i rest' l ≡ is_release_pending i rest l
-let_other i rest rest' (ReleaseSent r) h = h refl
-let_other i rest rest' l h = refl
+let_other i rest rest' l e = grind arith
 
 -- the last Release with the source of the beat, and with another one
 of_source : {w : ℕ} {A : Type 0} (part : BeatC w → A) (v : A) (i : ℕ) (y : BeatC w) (t : History w) (first : Bool)
@@ -111,15 +102,10 @@ of_source part v i y t false e f g h before = rw e (before refl)
 of_other : {w : ℕ} (i : ℕ) (y : BeatC w) (t : History w) → (y.source == i) ≡ false
     → release_of i (Beat.C y ∷ t) ≡ release_of i t
 unfolding release_of
-of_other {w} i y t e = go (begins (Beat.C y) t) (is_release y.opcode) (y.source == i) e
-  where
-    go : (p q r : Bool) → r ≡ false → (if p && (q && r) then Some y else release_of i t) ≡ release_of i t
-    go true true r f = rw f refl
-    go p q r f = refl
+of_other {w} i y t e = grind arith
 
 both_some : (n m : ℕ) (o : Option ℕ) → o ≡ Some n → o ≡ Some m → n ≡ m
-both_some n m None e f = absurd cc
-both_some n m (Some i) e f = let g : Some n ≡ Some m = sym e ∙ f in cc
+both_some n m o e f = grind arith
 
 pub flowed-release : {w : ℕ} {X : Type 0} {c n : ℕ} {r : Prune} {y : BeatC w} {first last : Bool} {asked : ℕ
     → Option (BeatA w)} {rest rest' : Channel → List (Beat w)} {s s' : State X} {t : History w}
@@ -146,13 +132,10 @@ flowed-release {w} {X} {c} {n} {r} {y} {first} {last} {asked} {rest} {rest'} {s}
     (s.uses c i) s = λ i. cc (
       rests Channel.A,
       is.uses i,
-      requested-blocks c i (rest Channel.A) (s.uses c i) s s'
-          (part-block (λ (z : Block X). is_unserved (view z.service c)) n s s' is.elsewhere
-          (ap (λ (q : Service). is_unserved (view q c)) is.service)),
+      requested-blocks c i (rest Channel.A) (s.uses c i) s s' (part-block (λ (z : Block X). is_unserved
+          (view z.service c)) n s s' is.elsewhere (ap (λ (q : Service). is_unserved (view q c)) is.service)),
     ) in
-    let acquires = part-block (acquired_by c) n s s' is.elsewhere
-    (ap (λ (l : AcquirePhase). is_wanting l && not (is_unserved (view new.service c))) is.acquiring
-    ∙ ap (λ (q : Service). is_wanting (b.pair c).acquiring && not (is_unserved (view q c))) is.service) in
+    let acquires = part-block (acquired_by c) n s s' is.elsewhere (cc (is.acquiring, is.service)) in
     let answered : (m : ℕ) → is_answered ((s'.block m).pair c).probing ≡ is_answered ((s.block m).pair c).probing =
     part-block (λ (z : Block X). is_answered (z.pair c).probing) n s s' is.elsewhere (ap is_answered is.probing) in
     let not_closed : (m : ℕ) → step first last false (is_probe_ack y.opcode && (block_at y.address == m))
@@ -163,42 +146,36 @@ flowed-release {w} {X} {c} {n} {r} {y} {first} {last} {asked} {rest} {rest'} {s}
       rests Channel.D,
       part-block (granted_by c m asked (rest Channel.D)) n s s' is.elsewhere
           (ap (λ (q : Service). is_acknowledging (view q c) || comes_granting m asked (rest Channel.D)) is.service) m,
-    )
-    in
+    ) in
     flowed-next (record {
       first_is = first_is;
       last_is = last_is;
       rests = rests;
-      held_is = each-block (λ m z. held_by c z
-          ≡ (if last then unwrap_or (if (is_probe_ack y.opcode || is_release y.opcode) && (block_at y.address == m) then
-          Some (reported y.param) else None) (held_by c (s.block m)) else held_by c (s.block m))) n s s' is.elsewhere
-          (is.held_is ∙ ap (λ (q : Perm). if last then q else held_by c b) (sym is.says)
-          ∙ sym (said last (is_probe_ack y.opcode) (is_release y.opcode) (block_at y.address == n) (reported y.param)
-          (held_by c b) is.release here_at))
-          (λ m ne. sym (unsaid_any last (is_probe_ack y.opcode) (is_release y.opcode) (block_at y.address == m)
-          (reported y.param) (held_by c (s.block m)) (apart m ne)));
+      held_is =
+          each-block (λ m z. held_by c z ≡ (if last then unwrap_or (if (is_probe_ack y.opcode || is_release y.opcode)
+          && (block_at y.address == m) then Some (reported y.param) else None) (held_by c (s.block m)) else held_by c
+          (s.block m))) n s s' is.elsewhere (is.held_is ∙ ap (λ (q : Perm). if last then q else held_by c b)
+          (sym is.says) ∙ sym (said last (is_probe_ack y.opcode) (is_release y.opcode) (block_at y.address == n)
+          (reported y.param) (held_by c b) is.release here_at)) (λ m ne. sym (unsaid_any last (is_probe_ack y.opcode)
+          (is_release y.opcode) (block_at y.address == m) (reported y.param) (held_by c (s.block m)) (apart m ne)));
       requests = λ i. requests i ∙ sym (step_quiet first last (is_requested c i (rest Channel.A) (s.uses c i) s));
       asked_is = λ i e. request_of-c i y t ∙ before.asked_is i (before.requests i ∙ sym (requests i) ∙ e);
       acquires = λ m. acquires m ∙ sym (step_quiet first last (acquired_by c (s.block m)));
       release_sources = lets;
       released = λ i m e f. released i m (sym (is.lets i) ∙ e) f (cases_eq i y.source);
       sizes = λ i m e f. sizes i m (sym (is.lets i) ∙ e) f (cases_eq i y.source);
-      releases = each-block (λ m z. let_of c (rest' Channel.C) z ≡ step first last
-          (is_release y.opcode && (block_at y.address == m)) false (let_of c (rest Channel.C) (s.block m))) n s s'
-          is.elsewhere
+      releases = each-block (λ m z. let_of c (rest' Channel.C) z ≡ step first last (is_release y.opcode
+          && (block_at y.address == m)) false (let_of c (rest Channel.C) (s.block m))) n s s' is.elsewhere
           (let_now (new.release_source c) last r (rest' Channel.C) (new.pair c).letting is.letting_is
           (is.comes (new.release_source c) ∙ with_true (not last) (y.source == new.release_source c)
-          (rw (is.release_source, is.source) (same_number (b.release_source c))))
-          ∙ sym (opened first last (is_release y.opcode) (block_at y.address == n) (let_of c (rest Channel.C) b)
-          is.release here_at then_here))
-          (λ m ne. let_rest m ne ∙ sym (unopened first last (is_release y.opcode) (block_at y.address == m)
-          (let_of c (rest Channel.C) (s.block m)) (apart m ne)));
+          (rw (is.release_source, is.source) (same_number (b.release_source c)))) ∙ sym (opened first last
+          (is_release y.opcode) (block_at y.address == n) (let_of c (rest Channel.C) b) is.release here_at then_here))
+          (λ m ne. cc (let_rest m ne, apart m ne, step_quiet first last (let_of c (rest Channel.C) (s.block m))));
       sinks = λ i. sinks i ∙ sym (step_quiet first last (is_sunk c i (rest Channel.D) (s.tracked i) s));
       grants = λ m. grants m ∙ sym (step_quiet first last (granted_by c m asked (rest Channel.D) (s.block m)));
       probes = λ m. answered m ∙ sym (not_closed m);
-      probed = λ m e. probe_of-c m y t ∙ before.probed m (sym (answered m) ∙ e)
-          ∙ sym (ap (λ k. Some (probe_beat m k)) (part-block (λ (z : Block X). cap_waited z.service) n s s' is.elsewhere
-          (ap cap_waited is.service) m));
+      probed = λ m e. probe_of-c m y t ∙ before.probed m (sym (answered m) ∙ e) ∙ sym (ap (λ k. Some (probe_beat m k))
+          (part-block (λ (z : Block X). cap_waited z.service) n s s' is.elsewhere (ap cap_waited is.service) m));
       sunk = λ m e. grant_sink-c m y t ∙ before.sunk m (before.grants m ∙ sym (grants m) ∙ e) ∙ ap Some
           (sym (part-block (λ (z : Block X). z.tracker) n s s' is.elsewhere is.tracker m));
     }) before
@@ -211,8 +188,7 @@ flowed-release {w} {X} {c} {n} {r} {y} {first} {last} {asked} {rest} {rest'} {s}
 
     -- the source is that of the block's Release, and of no other
     of_block : (i : ℕ) → i ≡ y.source → s.lets c i ≡ Some n
-    of_block i e = is_of-is n (s.lets c i)
-        (named i n ∙ rw (is.letting, e, is.source) (same_number (b.release_source c)))
+    of_block i e = is_of-is n (s.lets c i) (cc (named i n, is.letting, is.source, same_number (b.release_source c)))
 
     of_no_block : (i : ℕ) → (i ≡ y.source → ⊥) → is_of n (s.lets c i) ≡ false
     of_no_block i ne = named i n ∙ rw is.letting (ne_eqb i (b.release_source c) (λ e. ne (e ∙ sym is.source)))
@@ -233,34 +209,24 @@ flowed-release {w} {X} {c} {n} {r} {y} {first} {last} {asked} {rest} {rest'} {s}
         same (Some m) = cc (part-block (λ (z : Block X). z.service) n s s' is.elsewhere is.service m)
 
     then_by : (i : ℕ) (o : Option ℕ) → s.lets c i ≡ o → i ≡ y.source → is_let_by c i (rest Channel.C) o s ≡ not first
-    then_by i o e same = cc (
-      e,
-      of_block i same,
-      let_then i first r (rest Channel.C) (b.pair c).letting is.letting
-          (is.came i ∙ with_true (not first) (y.source == i) (rw same (same_number y.source))),
-    )
+    then_by i o e same = let fact = let_then i first r (rest Channel.C) (b.pair c).letting is.letting
+        (is.came i ∙ with_true (not first) (y.source == i) (rw same (same_number y.source))) in cc (e, of_block i same)
 
     lets_with : (i : ℕ) (o : Option ℕ) → s.lets c i ≡ o → (i ≡ y.source) ⊎ (i ≡ y.source → ⊥)
         → is_let_by c i (rest' Channel.C) o s' ≡ step first last (is_release y.opcode && (y.source == i)) false
         (is_let_by c i (rest Channel.C) o s)
-    lets_with i o e (inl same) =
-        cc (
-          e,
-          of_block i same,
-          let_now i last r (rest' Channel.C) (new.pair c).letting is.letting_is (is.comes i
-              ∙ with_true (not last) (y.source == i) (rw same (same_number y.source))),
-          opened first last (is_release y.opcode) (y.source == i) (is_let_by c i (rest Channel.C) o s) is.release
-              (rw same (same_number y.source)) (then_by i o e same),
-        )
+    lets_with i o e (inl same) = let fact = let_now i last r (rest' Channel.C) (new.pair c).letting is.letting_is
+        (is.comes i ∙ with_true (not last) (y.source == i) (rw same (same_number y.source))) in let other_fact =
+        opened first last (is_release y.opcode) (y.source == i) (is_let_by c i (rest Channel.C) o s) is.release
+        (rw same (same_number y.source)) (then_by i o e same) in cc (e, of_block i same)
     lets_with i None e (inr ne) = sym (unopened first last (is_release y.opcode) (y.source == i) false (another i ne))
-    lets_with i (Some m) e (inr ne) =
-        cc (
-          is.elsewhere m (λ f. let g : (n == n) ≡ false = sym (rw (e, f) refl) ∙ of_no_block i ne in
-              let h : true ≡ false = sym (same_number n) ∙ g in cc),
-          let_other i (rest Channel.C) (rest' Channel.C) ((s.block m).pair c).letting (λ begun. comes_other i ne),
-          unopened first last (is_release y.opcode)
-              (y.source == i) (is_release_pending i (rest Channel.C) ((s.block m).pair c).letting) (another i ne),
-        )
+    lets_with i (Some m) e (inr ne) = cc (
+      is.elsewhere m (λ f. let g : (n == n) ≡ false = sym (rw (e, f) refl) ∙ of_no_block i ne in
+          let h : true ≡ false = sym (same_number n) ∙ g in cc),
+      let_other i (rest Channel.C) (rest' Channel.C) ((s.block m).pair c).letting (λ begun. comes_other i ne),
+      unopened first last (is_release y.opcode)
+          (y.source == i) (is_release_pending i (rest Channel.C) ((s.block m).pair c).letting) (another i ne),
+    )
 
     lets : (i : ℕ) → is_let_by c i (rest' Channel.C) (s'.lets c i) s' ≡ step first last
         (is_release y.opcode && (y.source == i)) false (is_let_by c i (rest Channel.C) (s.lets c i) s)

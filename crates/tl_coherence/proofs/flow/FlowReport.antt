@@ -1,26 +1,22 @@
 -- What is delivered on a link, as the beats of a ProbeAck are.
-use Rattle.std.proofs.Common.{◌≡◌, ℕ, Bool, true, false, not, ◌&&◌, ◌∷◌, Option, Some, None, refl, sym, ◌∙◌, ap, List}
-use Rattle.std.proofs.Common.{◌==◌, if◌then◌else◌, option_map}
+use Rattle.std.proofs.Common.{◌≡◌, ℕ, Bool, false, not, ◌&&◌, ◌∷◌, Option, Some, None, refl, sym, ◌∙◌, ap, List, arith}
+use Rattle.std.proofs.Common.{◌==◌, option_map}
 use Rattle.tl_coherence.proofs
 use proofs.Imports.{Beat, BeatA, BeatC, Channel, History, comes_in_release, begins, ends, block_at, is_probe_ack}
-use proofs.Imports.{is_release, release_of, probe_of-c, grant_sink-c, request_of-c, ReleasePhase, ReleaseSent, State}
-use proofs.Imports.{view, is_answered, is_wanting, is_unserved, MonitorRelation, is_requested, is_release_pending}
-use proofs.Imports.{is_let_by, is_sunk}
-use proofs.flow.{FlowAlone.AreRests, FlowStep.flowed-next, FlowStep.let_of, FlowStep.granted_by, FlowStep.step}
-use proofs.flow.{FlowStep.step_quiet}
+use proofs.Imports.{is_release, release_of, probe_of-c, grant_sink-c, request_of-c, ReleasePhase, State, view}
+use proofs.Imports.{is_answered, is_wanting, is_unserved, MonitorRelation, is_requested, is_release_pending, is_let_by}
+use proofs.Imports.{is_sunk}
+use proofs.flow.{FlowAlone.AreRests}
+use proofs.flow.FlowStep.{flowed-next, let_of, granted_by, step, step_quiet}
 
 pub released-of : {w : ℕ} (i : ℕ) (y : BeatC w) (t : History w) → is_release y.opcode ≡ false
     → release_of i (Beat.C y ∷ t) ≡ release_of i t
 unfolding release_of
-released-of {w} i y t e =
-    let go : (b r : Bool) → r ≡ false → (if b && (r && (y.source == i)) then Some y else release_of i t)
-    ≡ release_of i t = elim [ true ↦ λ r f. rw f refl | false ↦ λ r f. refl ] in
-    go (begins (Beat.C y) t) (is_release y.opcode) e
+released-of {w} i y t e = grind arith
 
 pub let_rest : {w : ℕ} (i : ℕ) (rest rest' : List (Beat w)) (l : ReleasePhase)
     → comes_in_release i rest' ≡ comes_in_release i rest → is_release_pending i rest' l ≡ is_release_pending i rest l
-let_rest i rest rest' (ReleaseSent r) e = e
-let_rest i rest rest' l e = refl
+let_rest i rest rest' l e = grind arith
 
 pub let_by_rest : {w : ℕ} {X : Type 0} (c i : ℕ) (rest rest' : List (Beat w)) (o : Option ℕ) (s : State X)
     → comes_in_release i rest' ≡ comes_in_release i rest → is_let_by c i rest' o s ≡ is_let_by c i rest o s
@@ -31,8 +27,7 @@ pub unopened : (first last r q p : Bool) → r ≡ false → step first last (r 
 unopened first last r q p e = rw e (step_quiet first last p)
 
 pub unclosed : (first q p : Bool) → step first false false q p ≡ p
-unclosed true q p = refl
-unclosed false q p = refl
+unclosed first q p = grind arith
 
 -- a beat that isn't the last: nothing but what of the ProbeAck was delivered changes
 pub flowed-report_part : {w : ℕ} {X : Type 0} {c : ℕ} (y : BeatC w) (first : Bool) {asked : ℕ → Option (BeatA w)}
@@ -59,12 +54,10 @@ flowed-report_part {w} {X} {c} y first {asked} {rest} rest' {s} {t} first_is las
           (is_let_by c i (rest Channel.C) (s.lets c i) s) other);
       released = λ i m e f. ap (option_map (λ z. block_at z.address)) (released-of i y t other) ∙ before.released i m e
           (before.release_sources i ∙ sym (lets i) ∙ f);
-      sizes = λ i m e f. ap (option_map (λ z. z.size)) (released-of i y t other) ∙ before.sizes i m e
-          (before.release_sources i ∙ sym (lets i) ∙ f);
+      sizes = λ i m e f. cc (released-of i y t other, before.sizes i m e (before.release_sources i ∙ sym (lets i) ∙ f));
       releases = λ n. let_rest ((s.block n).release_source c) (rest Channel.C) (rest' Channel.C)
-          ((s.block n).pair c).letting (comes ((s.block n).release_source c))
-          ∙ sym (unopened first false (is_release y.opcode) (block_at y.address == n)
-          (let_of c (rest Channel.C) (s.block n)) other);
+          ((s.block n).pair c).letting (comes ((s.block n).release_source c)) ∙ sym (unopened first false
+          (is_release y.opcode) (block_at y.address == n) (let_of c (rest Channel.C) (s.block n)) other);
       sinks = λ i. ap (λ (r : List (Beat w)). is_sunk c i r (s.tracked i) s) (rests Channel.D) ∙ sym
           (step_quiet first false (is_sunk c i (rest Channel.D) (s.tracked i) s));
       grants = λ n. grants n ∙ sym (step_quiet first false (granted_by c n asked (rest Channel.D) (s.block n)));

@@ -1,6 +1,6 @@
 -- What is delivered on a link, as the last beat of a ProbeAck is.
 use Rattle.std.proofs.Common.{◌≡◌, ℕ, Bool, true, false, not, ◌&&◌, ◌||◌, ◌∷◌, Option, Some, None, refl, sym, ◌∙◌, ap}
-use Rattle.std.proofs.Common.{List, ne_eqb, ◌==◌, if◌then◌else◌, option_map, unwrap_or}
+use Rattle.std.proofs.Common.{arith, List, ne_eqb, ◌==◌, if◌then◌else◌, option_map, unwrap_or}
 use Rattle.tl_coherence.proofs
 use proofs.Imports.{Beat, BeatA, BeatC, Channel, History, Report, Perm, report_right, comes_in_release, begins, ends}
 use proofs.Imports.{block_at, is_probe_ack, is_release, probe_of, reported, grant_sink-c, probe_of-c, request_of-c}
@@ -8,19 +8,15 @@ use proofs.Imports.{Packet, ClientBlock, after_report, Block, State, view, repor
 use proofs.Imports.{is_answered, is_wanting, is_unserved, MonitorRelation, is_requested, is_release_pending, is_let_by}
 use proofs.Imports.{is_sunk, probe_beat, cap_waited}
 use proofs.flow.{FlowAlone.AreRests, FlowAside.requested-blocks, FlowAside.let_by-same, FlowProbe.part_of}
-use proofs.flow.{FlowReport.released-of, FlowReport.let_rest, FlowReport.let_by_rest, FlowReport.unopened}
+use proofs.flow.FlowReport.{released-of, let_rest, let_by_rest, unopened}
 use proofs.flow.FlowStep.{flowed-next, held_by, acquired_by, let_of, granted_by, step, step_quiet}
 use proofs.queues.Tokens.{same_number, set-same, set-each, set-part}
 
 closed : (first ack here p : Bool) → ack ≡ true → here ≡ true → step first true false (ack && here) p ≡ false
-closed true ack here p e f = rw (e, f) refl
-closed false ack here p e f = rw (e, f) refl
+closed first ack here p e f = grind arith
 
 elsewhere : (first ack here p : Bool) → here ≡ false → step first true false (ack && here) p ≡ p
-elsewhere true true here p e = rw e refl
-elsewhere true false here p e = refl
-elsewhere false true here p e = rw e refl
-elsewhere false false here p e = refl
+elsewhere first ack here p e = grind arith
 
 said : (ack let_go here : Bool) (q p : Perm) → ack ≡ true → here ≡ true
     → unwrap_or (if (ack || let_go) && here then Some q else None) p ≡ q
@@ -28,8 +24,7 @@ said ack let_go here q p e f = rw (e, f) refl
 
 pub unsaid : (ack let_go here : Bool) (q p : Perm) → here ≡ false
     → unwrap_or (if (ack || let_go) && here then Some q else None) p ≡ p
-unsaid false false here q p e = refl
-unsaid ack let_go here q p e = rw e refl
+unsaid ack let_go here q p e = grind arith
 
 -- the state in which nothing but the report is taken
 pub flowed-report : {w : ℕ} {X : Type 0} {c : ℕ} (n : ℕ) (r : Report) (toks : List Packet) (y : BeatC w) (first : Bool)
@@ -39,9 +34,12 @@ pub flowed-report : {w : ℕ} {X : Type 0} {c : ℕ} (n : ℕ) (r : Report) (tok
     → ((i : ℕ) → comes_in_release i (rest' Channel.C) ≡ comes_in_release i (rest Channel.C)) → block_at y.address ≡ n
     → reported y.param ≡ report_right r → is_granting (view (s.block n).service c) ≡ false
     → MonitorRelation asked rest c s t → MonitorRelation asked rest' c (report_taken c n r toks s) (Beat.C y ∷ t)
-flowed-report {w} {X} {c} n r toks y first {asked} {rest} rest' {s} {t} first_is last_is rests ack other comes at says
-    alone
-    before =
+flowed-report {w} {X} {c} n r toks y first {asked} {rest} rest' {s}
+    {t} first_is last_is rests ack other comes at says alone before =
+    let quiet = ap (λ (p : ClientBlock). is_answered p.probing) (set-same c (after_report r (b.pair c)) b.pair) in
+    let probed = set-each (λ m z. is_answered (z.pair c).probing ≡ true → probe_of m t
+    ≡ Some (probe_beat m (cap_waited z.service))) n new s.block (λ e. absurd cc) (λ m ne e. before.probed m e) in
+    let recorded = ap (λ (p : ClientBlock). p.recorded) (set-same c (after_report r (b.pair c)) b.pair) in
     let sunk_same : (i : ℕ) (o : Option ℕ) → is_sunk c i (rest Channel.D) o s' ≡ is_sunk c i (rest Channel.D) o s =
     λ i. elim [ None ↦ refl | Some m ↦ cc (set-part (λ (z : Block X). z.service) n new s.block refl m) ] in
     let apart : (m : ℕ) → (m ≡ n → ⊥) → (block_at y.address == m) ≡ false =
@@ -54,28 +52,23 @@ flowed-report {w} {X} {c} n r toks y first {asked} {rest} rest' {s} {t} first_is
     ) in
     let acquires = set-part (acquired_by c) n new s.block (ap (λ (z : Bool). z && not (is_unserved (view b.service c)))
     (part_of (λ (p : ClientBlock). is_wanting p.acquiring) c (after_report r (b.pair c)) b.pair refl)) in
-    let releases : (m : ℕ) → let_of c (rest' Channel.C) (s'.block m) ≡ let_of c (rest Channel.C) (s.block m) =
-    λ m. cc (
+    let releases : (m : ℕ) → let_of c (rest' Channel.C) (s'.block m) ≡ let_of c (rest Channel.C) (s.block m) = λ m. cc (
       let_rest ((s'.block m).release_source c) (rest Channel.C) (rest' Channel.C)
           ((s'.block m).pair c).letting (comes ((s'.block m).release_source c)),
       set-part (let_of c (rest Channel.C)) n
           new s.block (ap (is_release_pending (b.release_source c) (rest Channel.C)) letting_same) m,
     ) in
     let grants : (m : ℕ) → granted_by c m asked (rest' Channel.D) (s'.block m) ≡ granted_by c m asked (rest Channel.D)
-    (s.block m) = λ m. cc (rests Channel.D, set-part (granted_by c m asked (rest Channel.D)) n new s.block refl m)
-    in
+    (s.block m) = λ m. cc (rests Channel.D, set-part (granted_by c m asked (rest Channel.D)) n new s.block refl m) in
     flowed-next (record {
       first_is = first_is;
       last_is = last_is;
       rests = rests;
-      held_is = set-each (λ m z. held_by c z
-          ≡ unwrap_or (if (is_probe_ack y.opcode || is_release y.opcode) && (block_at y.address == m) then Some
-          (reported y.param) else None) (held_by c (s.block m))) n new s.block
-          (ap (λ (g : Bool). if g then (new.pair c).held else (new.pair c).recorded) alone ∙ recorded ∙ sym says
-          ∙ sym (said (is_probe_ack y.opcode) (is_release y.opcode) (block_at y.address == n) (reported y.param)
-          (held_by c b) ack (rw at (same_number n))))
-          (λ m ne. sym (unsaid (is_probe_ack y.opcode) (is_release y.opcode) (block_at y.address == m)
-          (reported y.param) (held_by c (s.block m)) (apart m ne)));
+      held_is = set-each (λ m z. held_by c z ≡ unwrap_or (if (is_probe_ack y.opcode || is_release y.opcode)
+          && (block_at y.address == m) then Some (reported y.param) else None) (held_by c (s.block m))) n new s.block
+          (cc (said (is_probe_ack y.opcode) (is_release y.opcode) (block_at y.address == n) (reported y.param)
+          (held_by c b) ack (rw at (same_number n)))) (λ m ne. sym (unsaid (is_probe_ack y.opcode) (is_release y.opcode)
+          (block_at y.address == m) (reported y.param) (held_by c (s.block m)) (apart m ne)));
       requests = λ i. requests i ∙ sym (step_quiet first true (is_requested c i (rest Channel.A) (s.uses c i) s));
       asked_is = λ i e. request_of-c i y t ∙ before.asked_is i (before.requests i ∙ sym (requests i) ∙ e);
       acquires = λ m. acquires m ∙ sym (step_quiet first true (acquired_by c (s.block m)));
@@ -83,19 +76,16 @@ flowed-report {w} {X} {c} n r toks y first {asked} {rest} rest' {s} {t} first_is
           (is_let_by c i (rest Channel.C) (s.lets c i) s) other);
       released = λ i m e f. ap (option_map (λ z. block_at z.address)) (released-of i y t other) ∙ before.released i m e
           (before.release_sources i ∙ sym (lets i) ∙ f);
-      sizes = λ i m e f. ap (option_map (λ z. z.size)) (released-of i y t other) ∙ before.sizes i m e
-          (before.release_sources i ∙ sym (lets i) ∙ f);
-      releases = λ m. releases m ∙ sym (unopened first true (is_release y.opcode) (block_at y.address == m)
-          (let_of c (rest Channel.C) (s.block m)) other);
+      sizes = λ i m e f. cc (released-of i y t other, before.sizes i m e (before.release_sources i ∙ sym (lets i) ∙ f));
+      releases = λ m. cc (releases m, other, step_quiet first true (let_of c (rest Channel.C) (s.block m)));
       sinks = λ i. ap (λ (l : List (Beat w)). is_sunk c i l (s.tracked i) s') (rests Channel.D)
           ∙ sunk_same i (s.tracked i) ∙ sym (step_quiet first true (is_sunk c i (rest Channel.D) (s.tracked i) s));
       grants = λ m. grants m ∙ sym (step_quiet first true (granted_by c m asked (rest Channel.D) (s.block m)));
       probes = set-each (λ m z. is_answered (z.pair c).probing ≡ step first true false
           (is_probe_ack y.opcode && (block_at y.address == m)) (is_answered ((s.block m).pair c).probing)) n new s.block
-          (quiet ∙ sym (closed first (is_probe_ack y.opcode) (block_at y.address == n) (is_answered (b.pair c).probing)
-          ack (rw at (same_number n))))
-          (λ m ne. sym (elsewhere first (is_probe_ack y.opcode) (block_at y.address == m)
-          (is_answered ((s.block m).pair c).probing) (apart m ne)));
+          (quiet ∙ sym (closed first (is_probe_ack y.opcode) (block_at y.address == n)
+          (is_answered (b.pair c).probing) ack (rw at (same_number n)))) (λ m ne. sym (elsewhere first
+          (is_probe_ack y.opcode) (block_at y.address == m) (is_answered ((s.block m).pair c).probing) (apart m ne)));
       probed = λ m e. probe_of-c m y t ∙ probed m e;
       sunk = λ m e. grant_sink-c m y t ∙ before.sunk m (before.grants m ∙ sym (grants m) ∙ e) ∙ ap Some
           (sym (set-part (λ (z : Block X). z.tracker) n new s.block refl m));
@@ -110,21 +100,9 @@ flowed-report {w} {X} {c} n r toks y first {asked} {rest} rest' {s} {t} first_is
     s' : State X
     s' = report_taken c n r toks s
 
-    recorded : (new.pair c).recorded ≡ report_right r
-    recorded = ap (λ (p : ClientBlock). p.recorded) (set-same c (after_report r (b.pair c)) b.pair)
-
-    quiet : is_answered (new.pair c).probing ≡ false
-    quiet = ap (λ (p : ClientBlock). is_answered p.probing) (set-same c (after_report r (b.pair c)) b.pair)
-
     letting_same : (new.pair c).letting ≡ (b.pair c).letting
     letting_same = part_of (λ (p : ClientBlock). p.letting) c (after_report r (b.pair c)) b.pair refl
 
     lets : (i : ℕ) → is_let_by c i (rest' Channel.C) (s'.lets c i) s' ≡ is_let_by c i (rest Channel.C) (s.lets c i) s
     lets i = let_by_rest c i (rest Channel.C) (rest' Channel.C) (s.lets c i) s' (comes i) ∙ let_by-same c i
         (rest Channel.C) (s.lets c i) s s' (set-part (λ (z : Block X). (z.pair c).letting) n new s.block letting_same)
-
-    probed : (m : ℕ) → is_answered ((s'.block m).pair c).probing ≡ true
-        → probe_of m t ≡ Some (probe_beat m (cap_waited (s'.block m).service))
-    probed = set-each (λ m z. is_answered (z.pair c).probing ≡ true
-        → probe_of m t ≡ Some (probe_beat m (cap_waited z.service))) n new s.block
-        (λ e. absurd (let f : false ≡ true = sym quiet ∙ e in cc)) (λ m ne e. before.probed m e)

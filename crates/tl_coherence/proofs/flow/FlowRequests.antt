@@ -35,8 +35,7 @@ acquire-lawful : {w : ℕ} {config : Config} {log : Log w} {mail : AccessMessage
     → IsNext x (unfinished Channel.A (on_link c sys.manager.trace)) (Message.A (acquire_wanted c n s wanted)) ms queue
     → must_wait config (record { 0 = c }) x sys.manager.trace ≡ false → broken_after l config.profile x (flow c log)
     ≡ None
-acquire-lawful {w} {config} {log} {mail} {request} {s} {sys} {c} {n} l {x} {ms} {queue} is flowed lawful wanted next
-    moves =
+acquire-lawful {w} {config} {log} {s} {sys} {c} {n} l is flowed lawful wanted next moves =
     let p : ClientBlock = (s.block n).pair c in
     let well : ok p (view (s.block n).service c) ≡ true = (is.invariant.blocks n).phases c in
     let idle : view (s.block n).service c ≡ Idle = rw free refl in
@@ -56,12 +55,11 @@ acquire-lawful {w} {config} {log} {mail} {request} {s} {sys} {c} {n} l {x} {ms} 
 
     free : (s.block n).service ≡ Free
     free =
-        let one = acquisition_beats w wanted.whole wanted.grow ((s.block n).source c) n in
         let moves_so : must_wait config (record { 0 = c }) (Beat.A (a_beat_of m next.k)) sys.manager.trace ≡ false =
         rw next.beat_is at moves in
         let ended : ends (Beat.A (a_beat_of m next.k)) (on_link c sys.manager.trace) ≡ true =
-        ends-burst c next.k m sys.manager next.rest_is
-        ∙ is_last next.k (beats_of (Message.A m)) (omega (arith, next.within, one)) in
+        ends-burst c next.k m sys.manager next.rest_is ∙ is_last next.k (beats_of (Message.A m))
+        (omega (arith, next.within, acquisition_beats w wanted.whole wanted.grow ((s.block n).source c) n)) in
         let free_at = unserved-free (block_at m.address) is.managed
         (or_parts (is_in_service (block_at m.address) (services sys.manager.trace))
         (nat_le config.trackers (length (services sys.manager.trace))) (rw ended at moves_so)).0 in

@@ -35,9 +35,8 @@ flow-answer : {w : ℕ} {config : Config} {log : Log w} {mail : AccessMessages w
 flow-answer {w} {config} {log} {mail} {request} {s} {sys} {c} {source} h flowed due whole =
     let kind = access_kind due.answer.opcode due.answers_access in
     let asks = asks-access c source due.request mail s (ap is_access due.used) due.request_is in
-    let live = (flowed c).requests source ∙ ap
-    (λ (u : SourceState). is_requested c source (unfinished Channel.A (on_link c sys.manager.trace)) u s) due.used
-    in
+    let live = (flowed c).requests source ∙ ap (λ (u : SourceState). is_requested c source
+    (unfinished Channel.A (on_link c sys.manager.trace)) u s) due.used in
     answer-legal config.profile (record {
       whole = (flowed c).rest_is Channel.D ∙ whole;
       complete = cc (
@@ -61,9 +60,8 @@ none_of w = []
 pub grant_quiet : {caching : ℕ → Bool} {c n : ℕ} {s : State (List ℕ)} → IsInvariant caching s → (due : IsGrantDue c n s)
     → is_answered ((s.block n).pair c).probing ≡ false
 grant_quiet {c} {n} {s} inv due =
-    let mine = own_view c due.data_too due.k (s.block n).service due.service in
     let alone = granting_alone due.data_too due.k ((s.block n).pair c) (view (s.block n).service c)
-    ((inv.blocks n).phases c) mine in
+    ((inv.blocks n).phases c) (own_view c due.data_too due.k (s.block n).service due.service) in
     quiet_unanswered ((s.block n).pair c).probing (and_left _ _ alone)
 
 -- the tracker of a Grant is of its block
@@ -186,8 +184,7 @@ not-coming_c {w} {config} {mail} {s} {sys} c n h let_ acked = go (s.link c).c re
     each : (k : Kind) (i : ℕ) (rest : List Packet) → (s.link c).c ≡ packet k i ∷ rest → is_on Channel.C k ≡ true
         → IsUnreleased source (message_of_kind k mail s c i)
     each ProbeAck i rest first own = rendered_report w c i source s
-    each Release i rest first own =
-        rendered_release w c i source s
+    each Release i rest first own = rendered_release w c i source s
         (differ i (first-shown h.invariant c Release refl first) ((s.block i).release_source c == source) refl)
     each k i rest first own = absurd cc
 
@@ -200,8 +197,7 @@ not-coming_c {w} {config} {mail} {s} {sys} c n h let_ acked = go (s.link c).c re
         ap (comes_in_release source) nothing.0
     go (x ∷ xs) first carried =
         let some : IsCarried rest_now (message_of mail s c x ∷ map (message_of mail s c) xs)
-        (sys.channels c Channel.C) =
-        subst (λ (ms : List (Message w)). IsCarried rest_now ms (sys.channels c Channel.C))
+        (sys.channels c Channel.C) = subst (λ (ms : List (Message w)). IsCarried rest_now ms (sys.channels c Channel.C))
         (ap (map (message_of mail s c)) first) carried in
         unreleased source (message_of mail s c x) some.0 rest_now some.2
         (each x.kind x.number xs first (own_kind (is_caching config) s c Channel.C x.kind x.number xs h.invariant
@@ -281,19 +277,14 @@ legal_d {w} {config} {log} {mail} {request} {s} {sys} c x queue width h flowed b
         (subst (λ (m : Message w). IsNext x rest_now m ms queue) (grant-rendered c n s due) next)
         (flow-grant h flowed due (given n due))
 
-    ack : (n : ℕ) → (s.link c).d ≡ packet ReleaseAck n ∷ first.rest
-        → IsNext x rest_now (block_message ReleaseAck c n (s.block n)) ms queue
-        → broken_in_order config.profile x (flow c log) ≡ None
-    ack n tokens next = legal_next c (ack_message ((s.block n).release_source c)) h flowed (ack_next c n s next)
-        (flow-ack c n h flowed (ack-due c n first.rest h.invariant tokens)
-        (first-shown h.invariant c ReleaseAck refl tokens))
-
     go : (k : Kind) (i : ℕ) → (s.link c).d ≡ packet k i ∷ first.rest → is_on Channel.D k ≡ true
         → IsNext x rest_now (message_of_kind k mail s c i) ms queue
         → broken_in_order config.profile x (flow c log) ≡ None
     go Answer i tokens own next = answer i tokens next
     go Grant i tokens own next = grant i tokens next
-    go ReleaseAck i tokens own next = ack i tokens next
+    go ReleaseAck i tokens own next =
+        legal_next c (ack_message ((s.block i).release_source c)) h flowed (ack_next c i s next) (flow-ack c i h flowed
+        (ack-due c i first.rest h.invariant tokens) (first-shown h.invariant c ReleaseAck refl tokens))
     go k i tokens own next = absurd cc
 
 in_order : {w : ℕ} (l : Level) (p : Profile) (x : Beat w) (t : History w) → illegal l (channel_of x) x ≡ None
@@ -306,6 +297,5 @@ pub flows-d : {w : ℕ} {config : Config} {log : Log w} {mail : AccessMessages w
     → SimulationRelation config log mail request s sys → MonitorRelations log mail s sys
     → sys.channels c Channel.D ≡ x ∷ queue → level_of config c ≡ Some l → broken_after l config.profile x (flow c log)
     ≡ None
-flows-d {config} {log} {mail} {request} {s} {sys} c l x queue width h flowed beats level =
-    in_order l config.profile x (flow c log) (lawful-beat c Channel.D l x queue h beats
-    level) (legal_d c x queue width h flowed beats)
+flows-d {config} {log} {mail} {request} {s} {sys} c l x queue width h flowed beats level = in_order l config.profile x
+    (flow c log) (lawful-beat c Channel.D l x queue h beats level) (legal_d c x queue width h flowed beats)

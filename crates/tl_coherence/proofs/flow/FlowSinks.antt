@@ -1,7 +1,7 @@
 -- A beat of channel E that is delivered breaks no rule after what was delivered before it: no Grant
 -- with its sink is still coming.
-use Rattle.std.proofs.Common.{◌≡◌, ℕ, zero, suc, Bool, true, false, ◌&&◌, List, [], ◌∷◌, Some, None, refl, sym, ◌∙◌, ap}
-use Rattle.std.proofs.Common.{subst, ne_eqb, ◌==◌, map}
+use Rattle.std.proofs.Common.{◌≡◌, ℕ, Bool, true, false, ◌&&◌, List, [], ◌∷◌, Some, None, refl, sym, ◌∙◌, ap, arith}
+use Rattle.std.proofs.Common.{ne_eqb, ◌==◌, map}
 use Rattle.tl_coherence.proofs
 use proofs.Imports.{and_right, same_Some, Beat, BeatE, Channel, IsWidth, Message, MessageA, MessageD, begun, unfinished}
 use proofs.Imports.{channel_of, Config, Level, Cap, broken_after, comes_in_grant, on_link, is_grant, illegal}
@@ -11,8 +11,8 @@ use proofs.Imports.{block_message, SimulationRelation, MonitorRelations, is_cach
 use proofs.queues.{Carried.IsNext, FirstToken.first-token, FirstToken.own_kind, Codes.access_kind}
 use proofs.flow.{FlowBeats.first_false, FlowLawful.lawful-beat, FlowLawful.next-flows, FlowOrders.grant_ack-flows}
 use proofs.manager.{ManagedEndings.tracker-of, ManagerTakes.by-first_e}
-use proofs.protocol.{BothParts.acknowledging-is, HeadOfD.ack_message, HeadOfD.answer-due, HeadOfD.grant-due}
-use proofs.protocol.{HeadOfD.grant-rendered, HeadOfD.grant_message, FirstTokens.first-shown}
+use proofs.protocol.{BothParts.acknowledging-is, FirstTokens.first-shown}
+use proofs.protocol.HeadOfD.{ack_message, answer-due, grant-due, grant-rendered, grant_message}
 
 -- the message is no Grant with this sink
 IsElse : {w : ℕ} → ℕ → Message w → Type 0
@@ -21,9 +21,7 @@ IsElse {w} sink m = (x : MessageD w) × (m ≡ Message.D x) × ((is_grant x.opco
 comes_else : {w : ℕ} (sink : ℕ) (m : Message w) (k : ℕ) (rest : List (Beat w)) → rest ≡ begun m k → IsElse sink m
     → comes_in_grant sink rest ≡ false
 unfolding IsElse
-comes_else sink m k rest e is =
-    let go : (i : ℕ) → comes_in_grant sink (begun (Message.D is.0) i) ≡ false = elim [ zero ↦ refl | suc i ↦ is.2 ] in
-    ap (comes_in_grant sink) e ∙ ap (λ y. comes_in_grant sink (begun y k)) is.1 ∙ go k
+comes_else sink m k rest e is = grind arith
 
 not_both : (c : ℕ) (d : Bool) (k : Cap) (q : Service) → q ≡ GrantSent c d k → q ≡ GrantTaken c → ⊥
 not_both c d k q e f = let g : GrantSent c d k ≡ GrantTaken c = sym e ∙ f in cc
@@ -34,12 +32,9 @@ else_answer : {w : ℕ} {config : Config} {log : Log w} {mail : AccessMessages w
     → IsElse sink (mail.answer c i)
 unfolding IsElse
 else_answer {config} {mail} {s} c sink i rest h first =
-    let due = answer-due (is_caching config) c i rest mail s h.invariant (h.answered c i) first in (
-      due.answer,
-      due.answer_is,
-      first_false (is_grant due.answer.opcode) (due.answer.sink == sink)
-          (access_kind due.answer.opcode due.answers_access).0,
-    )
+    let due = answer-due (is_caching config) c i rest mail s h.invariant (h.answered c i) first in let fact =
+    first_false (is_grant due.answer.opcode) (due.answer.sink == sink)
+    (access_kind due.answer.opcode due.answers_access).0 in (due.answer, due.answer_is, fact)
 
 -- a Grant that is on its way has another block's tracker for its sink
 else_grant : {w : ℕ} {config : Config} {log : Log w} {mail : AccessMessages w} {request : ℕ → MessageA w}
@@ -54,12 +49,10 @@ else_grant {w} {config} {s} c n i rest h first taken =
     let theirs : s.tracked (s.block n).tracker ≡ Some n = tracker-of n h.invariant.named (rw taken refl) in
     let apart : (s.block i).tracker ≡ (s.block n).tracker → ⊥ =
     λ e. not_both c due.data_too due.k (s.block i).service due.service
-    (ap (λ (j : ℕ). (s.block j).service) (same_Some i n (sym mine ∙ ap s.tracked e ∙ theirs)) ∙ taken) in (
-      grant_message due.data_too due.k ((s.block i).source c) (s.block i).tracker (s.block i).truth,
-      grant-rendered c i s due,
-      and_right (is_grant (grant_opcode due.data_too)) ((s.block i).tracker == (s.block n).tracker)
-          (ne_eqb (s.block i).tracker (s.block n).tracker apart),
-    )
+    (ap (λ (j : ℕ). (s.block j).service) (same_Some i n (sym mine ∙ ap s.tracked e ∙ theirs)) ∙ taken) in
+    let fact = grant_message due.data_too due.k ((s.block i).source c) (s.block i).tracker (s.block i).truth in
+    let other_fact = and_right (is_grant (grant_opcode due.data_too)) ((s.block i).tracker == (s.block n).tracker)
+    (ne_eqb (s.block i).tracker (s.block n).tracker apart) in (fact, grant-rendered c i s due, other_fact)
 
 else_ack : {w : ℕ} (mail : AccessMessages w) (s : State (List ℕ)) (c sink i : ℕ)
     → IsElse {w = w} sink (block_message {w = w} ReleaseAck c i (s.block i))
@@ -89,14 +82,11 @@ no_grant_coming {w} {config} {log} {mail} {request} {s} {sys} c n h taken = go (
         (sys.channels c Channel.D) → comes_in_grant sink rest_now ≡ false
     go [] first carried =
         let none : IsCarried rest_now [] (sys.channels c Channel.D) =
-        subst (λ (ms : List (Message w)). IsCarried rest_now ms (sys.channels c Channel.D))
-        (ap (map (message_of mail s c)) first) carried in
+        rw (ap (map (message_of mail s c)) first) at carried in
         ap (comes_in_grant sink) none.0
     go (x ∷ xs) first carried =
         let some : IsCarried rest_now (message_of mail s c x ∷ map (message_of mail s c) xs)
-        (sys.channels c Channel.D) =
-        subst (λ (ms : List (Message w)). IsCarried rest_now ms (sys.channels c Channel.D))
-        (ap (map (message_of mail s c)) first) carried in
+        (sys.channels c Channel.D) = rw (ap (map (message_of mail s c)) first) at carried in
         comes_else sink (message_of mail s c x) some.0 rest_now some.2
         (elses x.kind x.number xs first (own_kind (is_caching config) s c Channel.D x.kind x.number xs h.invariant
         first))

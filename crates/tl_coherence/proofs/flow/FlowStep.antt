@@ -1,24 +1,21 @@
 -- What is delivered on a link, with one more beat: each value of it is as the beat leaves it.
 use Rattle.std.proofs.Common.{◌≡◌, ℕ, Bool, true, false, not, ◌&&◌, ◌||◌, ◌∷◌, Option, Some, refl, sym, ◌∙◌, List}
-use Rattle.std.proofs.Common.{if◌then◌else◌, option_map, unwrap_or}
+use Rattle.std.proofs.Common.{arith, if◌then◌else◌, option_map, unwrap_or}
 use Rattle.tl_coherence.proofs
 use proofs.Imports.{Beat, BeatA, Channel, History, unfinished, grown, Key, RequestSource, ReleaseSource, AcquireOf}
 use proofs.Imports.{ReleaseOf, GrantSink, GrantAckOf, ProbeOf, Perm, begins, ends, pending, held, block_at, request_of}
 use proofs.Imports.{release_of, probe_of, grant_sink, opens, closes, Block, State, view, is_granting, is_acknowledging}
 use proofs.Imports.{is_answered, is_wanting, is_unserved, comes_granting, MonitorRelation, is_requested}
 use proofs.Imports.{is_release_pending, is_let_by, is_sunk, probe_beat, cap_waited}
-use Rattle.tl_burst.specs.statement.Messages.{on}
-use Rattle.tl_rules.specs.statement.History.{says_held}
+use Rattle.tl_burst.{specs.statement.Messages.on}
+use Rattle.tl_rules.{specs.statement.History.says_held}
 
 -- a key that was pending so, after a beat that begins and completes its message so and opens and closes the key so
 abbrev pub step : Bool → Bool → Bool → Bool → Bool → Bool
 step first last opened closed p = if first && opened then true else if last && closed then false else p
 
 pub step_quiet : (first last p : Bool) → step first last false false p ≡ p
-step_quiet true true p = refl
-step_quiet true false p = refl
-step_quiet false true p = refl
-step_quiet false false p = refl
+step_quiet first last p = grind arith
 
 -- a beat that is a whole message, which opens it or not
 pub whole_opened : (o p : Bool) → o ≡ true → step true true o false p ≡ true
@@ -58,8 +55,7 @@ granted_by c n asked rest b = is_acknowledging (view b.service c) || comes_grant
 
 -- each value after the beat, given those before it
 pub record IsStepped {w : ℕ} {X : Type 0} (x : Beat w) (first last : Bool) (asked asked' : ℕ → Option (BeatA w))
-    (rest rest' : Channel → List (Beat w)) (c : ℕ)
-    (s s' : State X) (t : History w) : Type 0 where
+    (rest rest' : Channel → List (Beat w)) (c : ℕ) (s s' : State X) (t : History w) : Type 0 where
   pub first_is : begins x t ≡ first
   pub last_is : ends x t ≡ last
   pub rests : (ch : Channel) → rest' ch ≡ (if on ch x then grown x (rest ch) else rest ch)
@@ -93,18 +89,13 @@ stepped : {w : ℕ} (k : Key) (x : Beat w) (t : History w) (first last p p' : Bo
     → pending k t ≡ p → p' ≡ step first last (opens k x t) (closes k x t) p → pending k (x ∷ t) ≡ p'
 stepped k x t first last p p' e f before after = cc (pending-next k x t first last e f, before, after)
 
-held_stepped : {w : ℕ} (n : ℕ) (x : Beat w) (t : History w) (last : Bool) (p p' : Perm) → ends x t ≡ last → held n t ≡ p
-    → p' ≡ (if last then unwrap_or (says_held n x t) p else p) → held n (x ∷ t) ≡ p'
-held_stepped n x t last p p' f before after = cc (held-next n x t last f, before, after)
-
 pub flowed-next : {w : ℕ} {X : Type 0} {x : Beat w} {first last : Bool} {asked asked' : ℕ → Option (BeatA w)}
     {rest rest' : Channel → List (Beat w)} {c : ℕ} {s s' : State X} {t : History w}
     → IsStepped x first last asked asked' rest rest' c s s' t → MonitorRelation asked rest c s t
     → MonitorRelation asked' rest' c s' (x ∷ t)
 flowed-next {w} {X} {x} {first} {last} {asked} {asked'} {rest} {rest'} {c} {s} {s'} {t} is before = record {
   rest_is = λ ch. cc (unfinished-next ch x t, before.rest_is ch, is.rests ch);
-  held_is = λ n. held_stepped n x t last (held_by c (s.block n)) (held_by c (s'.block n)) is.last_is (before.held_is n)
-      (is.held_is n);
+  held_is = λ n. cc (held-next n x t last is.last_is, (before.held_is n), (is.held_is n));
   requests = requests;
   asked_is = λ i e. is.asked_is i (sym (requests i) ∙ e);
   acquires = λ n. stepped (AcquireOf n) x t first last (acquired_by c (s.block n)) (acquired_by c (s'.block n))
@@ -128,9 +119,8 @@ flowed-next {w} {X} {x} {first} {last} {asked} {asked'} {rest} {rest'} {c} {s} {
         (is_requested c i (rest' Channel.A) (s'.uses c i) s') is.first_is is.last_is (before.requests i) (is.requests i)
 
     lets : (i : ℕ) → pending (ReleaseSource i) (x ∷ t) ≡ is_let_by c i (rest' Channel.C) (s'.lets c i) s'
-    lets i = stepped (ReleaseSource i) x t first last (is_let_by c i (rest Channel.C) (s.lets c i) s)
-        (is_let_by c i (rest' Channel.C) (s'.lets c i) s') is.first_is is.last_is (before.release_sources i)
-        (is.release_sources i)
+    lets i = stepped (ReleaseSource i) x t first last (is_let_by c i (rest Channel.C) (s.lets c i) s) (is_let_by c i
+        (rest' Channel.C) (s'.lets c i) s') is.first_is is.last_is (before.release_sources i) (is.release_sources i)
 
     grants : (n : ℕ) → pending (GrantAckOf n) (x ∷ t) ≡ granted_by c n asked' (rest' Channel.D) (s'.block n)
     grants n = stepped (GrantAckOf n) x t first last (granted_by c n asked (rest Channel.D) (s.block n))

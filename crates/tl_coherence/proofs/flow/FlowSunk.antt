@@ -1,11 +1,10 @@
 -- Which sinks are those of Grants that were delivered, as an event changes one block and its tracker.
 use Rattle.std.proofs.Common.{◌≡◌, ℕ, Bool, true, false, ◌&&◌, ◌||◌, Option, Some, None, refl, sym, ◌∙◌, ap, List, ◌⊎◌}
-use Rattle.std.proofs.Common.{inl, inr}
+use Rattle.std.proofs.Common.{arith, inl, inr}
 use Rattle.tl_coherence.proofs
-use proofs.Imports.{cases_eq, Beat, comes_in_grant, set, View, Own, Granting, Acknowledging, Block, State, view}
-use proofs.Imports.{is_granting, is_acknowledging, is_sunk}
+use proofs.Imports.{cases_eq, Beat, comes_in_grant, set, View, Block, State, view, is_granting, is_acknowledging}
+use proofs.Imports.{is_sunk}
 use proofs.flow.{FlowOthers.is_outside, FlowReleased.AreElsewhere}
-use proofs.queues.Tokens.{set-same, set-other}
 
 -- the Grant of the block, if it has this sink, was delivered to client c, and its GrantAck wasn't
 abbrev pub sunk_in : {w : ℕ} {X : Type 0} → ℕ → ℕ → List (Beat w) → Block X → Bool
@@ -39,37 +38,17 @@ sunk-elsewhere {w} {X} c i n rest o o' s s' same (inl e) before now = cc (e, go 
   where
     go : (p : Option ℕ) → (p ≡ Some n → sunk_in c i rest (s.block n) ≡ false)
         → (p ≡ Some n → sunk_in c i rest (s'.block n) ≡ false) → is_sunk c i rest p s' ≡ is_sunk c i rest p s
-    go None f g = refl
-    go (Some m) f g = elim (cases_eq m n) [
-      | inl here ↦ ap (λ (j : ℕ). sunk_in c i rest (s'.block j)) here ∙ g (ap Some here) ∙ sym
-          (ap (λ (j : ℕ). sunk_in c i rest (s.block j)) here ∙ f (ap Some here))
-      | inr other ↦ ap (λ (b : Block X). sunk_in c i rest b) (same m other)
-    ]
+    go p e f = grind (arith, cases_eq)
 
 -- a tracker that gets block n, or loses it
 pub tracked-new : (n tracker : ℕ) (tracked : ℕ → Option ℕ) → tracked tracker ≡ None → (i : ℕ)
     → (set tracker (Some n) tracked i ≡ tracked i)
     ⊎ (IsWithin n (tracked i) × IsWithin n (set tracker (Some n) tracked i))
-tracked-new n tracker tracked free i = elim (cases_eq i tracker) [
-  | inl same ↦ inr (
-    inl (ap tracked same ∙ free),
-    inr (ap (set tracker (Some n) tracked) same ∙ set-same tracker (Some n) tracked),
-  )
-  | inr other ↦ inl (set-other tracker i (Some n) tracked other)
-]
+tracked-new n tracker tracked free i = grind (arith, cases_eq)
 
 pub tracked-free : (n tracker : ℕ) (tracked : ℕ → Option ℕ) → tracked tracker ≡ Some n → (i : ℕ)
     → (set tracker None tracked i ≡ tracked i) ⊎ (IsWithin n (tracked i) × IsWithin n (set tracker None tracked i))
-tracked-free n tracker tracked used i = elim (cases_eq i tracker) [
-  | inl same ↦ inr (
-    inr (ap tracked same ∙ used),
-    inl (ap (set tracker None tracked) same ∙ set-same tracker None tracked),
-  )
-  | inr other ↦ inl (set-other tracker i None tracked other)
-]
+tracked-free n tracker tracked used i = grind (arith, cases_eq)
 
 pub outside-unsunk : (v : View) (b : Bool) → is_outside v ≡ true → (is_acknowledging v || (is_granting v && b)) ≡ false
-outside-unsunk Own b e = absurd cc
-outside-unsunk (Granting d k) b e = absurd cc
-outside-unsunk Acknowledging b e = absurd cc
-outside-unsunk v b e = refl
+outside-unsunk v b e = grind arith

@@ -1,20 +1,15 @@
 -- Each beat that is taken was first on its channel: what holds of all that are holds of what is delivered.
-use Rattle.std.proofs.Common.{◌≡◌, ℕ, Bool, true, false, List, ◌∷◌, Some, refl, sym, ◌∙◌, ap, ◌++◌, ◌==◌, if◌then◌else◌}
-use Rattle.std.proofs.Common.{[]}
+use Rattle.std.proofs.Common.{◌≡◌, ℕ, Bool, true, false, List, ◌∷◌, refl, sym, ◌∙◌, ap, ◌++◌, ◌==◌, if◌then◌else◌, []}
 use Rattle.tl_coherence.proofs
-use proofs.Imports.{Beat, Link, Channel, IsWidth, History, channel_of, Config, Finish, EndConfig, Event, Deliver}
-use proofs.Imports.{Outcome, AbstractState, SimulationRelation, is_moving, flow, taken_at, IsGiven, Log, system_after}
-use proofs.Imports.{stepped, is_to_client, terms_at}
-use Rattle.tl_coherence.specs.{statement.Flow.IsTaken, statement.Flow.EachTaken, statement.Log.IsLog}
-use proofs.bound.Settling.{given-before}
-use proofs.deliveries.Matching.{shadow}
-use proofs.flow.FlowReceived.{moved-on}
+use proofs.Imports.{Beat, Link, Channel, IsWidth, channel_of, Config, Finish, Event, Deliver, Outcome, AbstractState}
+use proofs.Imports.{SimulationRelation, is_moving, flow, taken_at, IsGiven, Log, system_after, stepped, is_to_client}
+use Rattle.tl_coherence.{specs.statement.Flow.IsTaken, specs.statement.Flow.EachTaken, specs.statement.Log.IsLog}
+use proofs.bound.{Settling.given-before}
+use proofs.deliveries.{Matching.shadow}
+use proofs.flow.{FlowReceived.moved-on}
 use proofs.links.{FromInvariant.matched-given, HeadsOfLinks.first-of}
-use proofs.outstanding.Outstanding.{first-moved}
-use proofs.queues.Tokens.{same_number}
-
-first_of_two : {w : ℕ} (x y : Beat w) (t : History w) → x ∷ t ≡ y ∷ t → y ≡ x
-first_of_two x y t e = cc
+use proofs.outstanding.{Outstanding.first-moved}
+use proofs.queues.{Tokens.same_number}
 
 -- a beat that is moved was first on its channel
 moved-first : {w : ℕ} {config : Config} {log : Log w} (h : AbstractState w) (link : Link) (ch : Channel) (o : Outcome w)
@@ -23,28 +18,15 @@ moved-first : {w : ℕ} {config : Config} {log : Log w} (h : AbstractState w) (l
     → ((d : ℕ) → flow d ((Deliver link ch, o) ∷ log) ≡ (if link.0 == d then x ∷ flow d log else flow d log))
     → (queue : List (Beat w)) × ((system_after config log).channels link.0 (channel_of x) ≡ x ∷ queue)
 moved-first {w} {config} {log} h link ch o x width is o_is moves delivered =
-    let head : (b : Bool) → b ≡ true → (if b then x ∷ flow link.0 log else flow link.0 log)
-    ≡ (if b then at.0 ∷ flow link.0 log else flow link.0 log) → at.0 ≡ x =
-    elim [ true ↦ λ e f. first_of_two x at.0 (flow link.0 log) f | false ↦ λ e f. absurd cc ] in
+    let moving = sym (ap is_moving o_is) ∙ moves in
+    let at = first-moved config link ch (system_after config log) moving in
+    let on : channel_of at.0 ≡ ch = (first-of config log h link.0 at.2 ch at.0 at.1 width is at.3.1 at.3.0).on in
+    let head : (b : Bool) → b ≡ true → (if b then x ∷ flow link.0 log else flow link.0 log) ≡ (if b then at.0
+    ∷ flow link.0 log else flow link.0 log) → at.0 ≡ x = elim [ true ↦ λ e f. cc | false ↦ λ e f. absurd cc ] in
     let moved = moved-on link ch h at.0 at.1 at.2 width is at.3.0 at.3.1 moving (is_to_client ch) refl in
-    let both : (if link.0 == link.0 then x ∷ flow link.0 log else flow link.0 log)
-    ≡ (if link.0 == link.0 then at.0 ∷ flow link.0 log else flow link.0 log) =
-    cc (delivered link.0, o_is, moved.delivered link.0) in
-    let same : at.0 ≡ x = head (link.0 == link.0) (same_number link.0) both in (
-      at.1,
-      ap ((system_after config log).channels link.0) (sym (ap (λ (z : Beat w). channel_of z) same) ∙ on) ∙ at.3.0
-          ∙ ap (λ (z : Beat w). z ∷ at.1) same,
-    )
-  where
-    moving : is_moving (stepped config (Deliver link ch) (system_after config log)).outcome ≡ true
-    moving = sym (ap is_moving o_is) ∙ moves
-
-    at : (z : Beat w) × (queue : List (Beat w)) × (terms : EndConfig)
-        × (((system_after config log).channels link.0 ch ≡ z ∷ queue) × (terms_at config link.0 ≡ Some terms))
-    at = first-moved config link ch (system_after config log) moving
-
-    on : channel_of at.0 ≡ ch
-    on = (first-of config log h link.0 at.2 ch at.0 at.1 width is at.3.1 at.3.0).on
+    let both : (if link.0 == link.0 then x ∷ flow link.0 log else flow link.0 log) ≡ (if link.0 == link.0 then at.0
+    ∷ flow link.0 log else flow link.0 log) = cc (delivered link.0, o_is, moved.delivered link.0) in
+    let same : at.0 ≡ x = head (link.0 == link.0) (same_number link.0) both in (at.1, cc at.3.0)
 
 -- the beat of an outcome
 moved-beat : {w : ℕ} {config : Config} {log : Log w} (h : AbstractState w) (link : Link) (ch : Channel) (x : Beat w)

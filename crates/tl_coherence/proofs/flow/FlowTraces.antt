@@ -1,34 +1,29 @@
 -- What is delivered, on all links at once, has no first fault.
-use Rattle.std.proofs.Common.{◌≡◌, ℕ, Bool, true, false, ◌&&◌, List, [], ◌∷◌, ◌++◌, refl, sym, ◌∙◌, ap, subst, Option}
+use Rattle.std.proofs.Common.{◌≡◌, ℕ, Bool, true, ◌&&◌, List, [], ◌∷◌, ◌++◌, refl, sym, ◌∙◌, ap, subst, Option, arith}
 use Rattle.std.proofs.Common.{Some, None, append_assoc, append-nil, ◌==◌, if◌then◌else◌, is_none, reverse, slice_get}
+use Rattle.std.{proofs.lemmas.List.reverse-reverse, proofs.lemmas.Option.slice_get-map}
 use Rattle.tl_coherence.proofs
 use proofs.Imports.{eqb-false, reverse-append, ⊤, Beat, Link, Channel, History, ClientConfig, Config, Level, Profile}
 use proofs.Imports.{Rule, broken_after, on_link, Trace, level_of, Event, Ask, Deliver, Outcome, is_moving, flow}
 use proofs.Imports.{taken_at, taken_on, IsGiven, Log, system_after}
-use Rattle.std.{proofs.lemmas.List.reverse-reverse, proofs.lemmas.Option.slice_get-map}
 use Rattle.tl_rules.specs.statement.Conformance.{broken_at_level, broken_on_link, fault_from, is_legal}
-use Rattle.tl_coherence.specs.{statement.Delivery.Faultless, statement.Delivery.levels_of, statement.Flow.trace_of}
-use Rattle.tl_coherence.specs.{statement.Log.IsLog}
-use proofs.bound.Settling.{given-before}
-use proofs.flow.Flows.{flows}
-use proofs.outstanding.Outstanding.{first-moved}
-use proofs.simulation.BeatsInFlight.{level-terms}
+use Rattle.tl_coherence.{specs.statement.Flow.trace_of, specs.statement.Log.IsLog}
+use Rattle.tl_coherence.specs.statement.Delivery.{Faultless, levels_of}
+use proofs.bound.{Settling.given-before}
+use proofs.flow.{Flows.flows}
+use proofs.outstanding.{Outstanding.first-moved}
+use proofs.simulation.{BeatsInFlight.level-terms}
 
 -- ---- the beats of all links, and those of one
 
 on-link : {w : ℕ} (n : ℕ) (link : Link) (x : Beat w) (t : Trace w)
     → on_link n ((link, x) ∷ t) ≡ (if link.0 == n then x ∷ [] else []) ++ on_link n t
 unfolding on_link
-on-link {w} n link x t =
-    let go : (b : Bool) → (if b then x ∷ on_link n t else on_link n t) ≡ (if b then x ∷ [] else []) ++ on_link n t =
-    elim [ true ↦ refl | false ↦ refl ] in
-    go (link.0 == n)
+on-link {w} n link x t = grind arith
 
 taken-flows : {w : ℕ} (n : ℕ) (event : Event w) (o : Outcome w) (t : Trace w)
     → on_link n (taken_at event o ++ t) ≡ taken_on n event o ++ on_link n t
-taken-flows n (Deliver link ch) (Outcome.Moved x) t = on-link n link x t
-taken-flows n (Deliver link ch) (Outcome.Done x source f) t = on-link n link x t
-taken-flows n event o t = refl
+taken-flows n event o t = grind (arith, on-link)
 
 pub trace-flows : {w : ℕ} (n : ℕ) (log : Log w) → on_link n (trace_of log) ≡ flow n log
 unfolding on_link flow trace_of
@@ -37,10 +32,7 @@ trace-flows n (x ∷ log) = cc (taken-flows n x.0 x.1 (trace_of log), trace-flow
 
 -- what was taken on a link is first in its flow
 pub taken : {w : ℕ} (link : Link) (x : Beat w) (t : History w) → (if link.0 == link.0 then x ∷ [] else []) ++ t ≡ x ∷ t
-taken {w} link x t =
-    let go : (b : Bool) → (link.0 == link.0) ≡ b → (if b then x ∷ [] else []) ++ t ≡ x ∷ t =
-    elim [ true ↦ λ e. refl | false ↦ λ e. absurd (eqb-false link.0 link.0 e refl) ] in
-    go (link.0 == link.0) refl
+taken {w} link x t = grind (arith, eqb-false)
 
 -- ---- a beat that is delivered breaks no rule after the earlier ones
 
@@ -63,8 +55,7 @@ levelled {w} config log link ch o given moving =
     }
 
 unbroken : (o : Option Rule) (b : Bool) → (is_none o && b) ≡ true → o ≡ None
-unbroken None b e = refl
-unbroken (Some rule) b e = absurd cc
+unbroken o b e = grind arith
 
 pub delivered-unbroken : {w : ℕ} (config : Config) (log : Log w) (link : Link) (ch : Channel) (o : Outcome w)
     (x : Beat w) → IsGiven config ((Deliver link ch, o) ∷ log)
@@ -74,13 +65,10 @@ unfolding is_legal
 delivered-unbroken {w} config log link ch o x given moving flowing =
     let whole : Log w = (Deliver link ch, o) ∷ log in
     let is = levelled config log link ch o given moving in
-    let legal : is_legal is.level config.profile (x ∷ flow link.0 log) ≡ true =
-    subst (λ (t : History w). is_legal is.level config.profile t ≡ true) flowing
-    (flows given link.0 is.level is.of_link) in
     ap (λ (l : Option Level). broken_at_level l config.profile x (on_link link.0 (trace_of log))) is.in_levels
     ∙ ap (λ (t : History w). broken_after is.level config.profile x t) (trace-flows link.0 log)
     ∙ unbroken (broken_after is.level config.profile x (flow link.0 log))
-    (is_legal is.level config.profile (flow link.0 log)) legal
+    (is_legal is.level config.profile (flow link.0 log)) (rw flowing at (flows given link.0 is.level is.of_link))
 
 -- ---- nor does any
 
@@ -100,25 +88,21 @@ no-fault : {w : ℕ} (levels : List Level) (p : Profile) (before trace : Trace w
 unfolding AreGood fault_from
 no-fault levels p before [] good = refl
 no-fault {w} levels p before (x ∷ trace) good =
-    let turned : reverse (x ∷ trace) ++ before ≡ reverse trace ++ (x ∷ before) =
-    ap (λ (t : Trace w). t ++ before) (reverse-append (x ∷ []) trace) ∙ append_assoc (reverse trace) (x ∷ []) before in
-    let all : AreGood levels p (reverse trace ++ (x ∷ before)) = subst (AreGood levels p) turned good in
+    let all : AreGood levels p (reverse trace ++ (x ∷ before)) = subst (AreGood levels p) (ap (λ (t : Trace w). t
+    ++ before) (reverse-append (x ∷ []) trace) ∙ append_assoc (reverse trace) (x ∷ []) before) good in
     rw (older-good levels p (reverse trace) (x ∷ before) all).0 (no-fault levels p (x ∷ before) trace all)
 
 all-good : {w : ℕ} {config : Config} (log : Log w) → IsGiven config log
     → AreGood (levels_of config) config.profile (trace_of log)
 unfolding AreGood trace_of flow
 all-good [] given = tt
-all-good {config} ((Ask client op, o) ∷ log) given =
-    all-good log (given-before config (Ask client op, o) log given)
-all-good {config} ((Deliver link ch, Outcome.Moved x) ∷ log) given = (
-  delivered-unbroken config log link ch (Outcome.Moved x) x given refl (taken link x (flow link.0 log)),
-  all-good log (given-before config (Deliver link ch, Outcome.Moved x) log given),
-)
-all-good {config} ((Deliver link ch, Outcome.Done x source f) ∷ log) given = (
-  delivered-unbroken config log link ch (Outcome.Done x source f) x given refl (taken link x (flow link.0 log)),
-  all-good log (given-before config (Deliver link ch, Outcome.Done x source f) log given),
-)
+all-good {config} ((Ask client op, o) ∷ log) given = all-good log (given-before config (Ask client op, o) log given)
+all-good {config} ((Deliver link ch, Outcome.Moved x) ∷ log) given =
+    let fact = delivered-unbroken config log link ch (Outcome.Moved x) x given refl (taken link x (flow link.0 log)) in
+    (fact, all-good log (given-before config (Deliver link ch, Outcome.Moved x) log given))
+all-good {config} ((Deliver link ch, Outcome.Done x source f) ∷ log) given = let fact =
+    delivered-unbroken config log link ch (Outcome.Done x source f) x given refl (taken link x (flow link.0 log)) in
+    (fact, all-good log (given-before config (Deliver link ch, Outcome.Done x source f) log given))
 all-good {config} ((Deliver link ch, Outcome.Replied r) ∷ log) given =
     all-good log (given-before config (Deliver link ch, Outcome.Replied r) log given)
 all-good {config} ((Deliver link ch, Outcome.Empty) ∷ log) given =
@@ -130,5 +114,4 @@ all-good {config} ((Deliver link ch, Outcome.NoSuchClient) ∷ log) given =
 
 pub faultless : {w : ℕ} → Faultless w
 faultless {w} config log given = no-fault (levels_of config) config.profile [] (reverse (trace_of log))
-    (subst (AreGood (levels_of config) config.profile)
-    (sym (append-nil (reverse (reverse (trace_of log))) ∙ reverse-reverse (trace_of log))) (all-good log given))
+    (rw (append-nil (reverse (reverse (trace_of log))) ∙ reverse-reverse (trace_of log)) (all-good log given))

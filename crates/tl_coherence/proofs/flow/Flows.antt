@@ -3,7 +3,7 @@ use Rattle.std.proofs.Common.{◌≡◌, subst, ℕ, Bool, true, false, List, []
 use Rattle.std.proofs.Common.{inl, inr, ne_eqb, eqb-true, ◌==◌, if◌then◌else◌, map}
 use Rattle.tl_coherence.proofs
 use proofs.Imports.{cases_eq, Beat, Link, Channel, IsWidth, History, completes, Config, Level, Profile, broken_after}
-use proofs.Imports.{unfinished-asked, Op, EndConfig, level_of, Event, Ask, Deliver, Outcome, packet, on, AbstractState}
+use proofs.Imports.{unfinished-asked, Op, EndConfig, level_of, Event, Ask, Deliver, Outcome, AbstractState}
 use proofs.Imports.{kind_taken, abstract_step, abstract_step_by, asked, MonitorRelation, message_of, SimulationRelation}
 use proofs.Imports.{MonitorRelations, asked_by, is_moving, flow, IsGiven, Log, system_after, Step, stepped, replied}
 use proofs.Imports.{is_to_client, System, terms_at}
@@ -43,10 +43,8 @@ moved-flowed {w} {config} {log} {link} {ch} {h} {x} {queue} width is flowed beat
     (unfinished_at sys' d) d z.state t in
     subst (λ (z : AbstractState w). Here z
     (flow d ((Deliver link ch, (stepped config (Deliver link ch) sys).outcome) ∷ log))) (sym at.follows)
-    (subst (λ (t : History w). Here h' t) (sym (at.delivered d))
-    (elim (cases_eq d c) [
-      | inl same ↦ subst (λ (i : ℕ). MonitorRelation (asked_by h'.mail h'.state i) (unfinished_at sys' i) i h'.state
-          (if c == i then x ∷ flow i log else flow i log)) (sym same) own
+    (subst (λ (t : History w). Here h' t) (sym (at.delivered d)) (elim (cases_eq d c) [
+      | inl same ↦ rw same own
       | inr other ↦ others other
     ]))
   where
@@ -69,9 +67,6 @@ moved-flowed {w} {config} {log} {link} {ch} {h} {x} {queue} width is flowed beat
     ready e = ready-delivered {link = link} ch {x = x} {queue = queue} width is
         (record { moves = moving; beats = beats; whole = e; first = at.first })
 
-    on_kind : on at.first.kind (h.state.link c) ≡ packet at.first.kind at.first.number ∷ at.first.rest
-    on_kind = on_same ch at.first.kind (h.state.link c) at.first.own ∙ at.first.tokens
-
     own : MonitorRelation (asked_by h'.mail h'.state c) (unfinished_at sys' c) c h'.state
         (if c == c then x ∷ flow c log else flow c log)
     own = rw (same_number c) (own-kind h width is (next_tracker sys) (flowed c)
@@ -90,8 +85,9 @@ moved-flowed {w} {config} {log} {link} {ch} {h} {x} {queue} width is flowed beat
 
         either : (b : Bool) → last ≡ b → FlowsAs h c is (next_tracker sys) d ne (flow d log)
             (if b then kind_taken config (next_tracker sys) c at.first.kind at.first.number at.first.rest h else h)
-        either true e = other-kind h c is (next_tracker sys) d ne (flow d log) at.first.kind
-            at.first.number at.first.rest on_kind (ready e) (flowed d)
+        either true e =
+            other-kind h c is (next_tracker sys) d ne (flow d log) at.first.kind at.first.number at.first.rest
+            (on_same ch at.first.kind (h.state.link c) at.first.own ∙ at.first.tokens) (ready e) (flowed d)
         either false e = flowed d
 
 delivered-flowed : {w : ℕ} {config : Config} {log : Log w} (link : Link) (ch : Channel) (h : AbstractState w)
@@ -109,15 +105,9 @@ delivered-flowed {w} {config} {log} link ch h width is flowed =
         let at = first-moved config link ch sys moving in
         moved-flowed width is flowed at.3.0 moving
         (moved-on link ch h at.0 at.1 at.2 width is at.3.0 at.3.1 moving (is_to_client ch) refl)
-    go false still = λ d. subst (λ (z : AbstractState w). MonitorRelation (asked_by z.mail z.state d)
-        (unfinished_at (stepped config (Deliver link ch) sys).after d) d z.state
-        (flow d ((Deliver link ch, (stepped config (Deliver link ch) sys).outcome) ∷ log)))
-        (sym (followed-still config link ch sys h still))
-        (subst (λ (t : History w). MonitorRelation (asked_by h.mail h.state d)
-        (unfinished_at (stepped config (Deliver link ch) sys).after d) d h.state t)
-        (sym (flow_still (Deliver link ch) (stepped config (Deliver link ch) sys).outcome log d still))
-        (flowed-rests (unfinished_at (stepped config (Deliver link ch) sys).after d)
-        (λ i. (unmoved config link ch sys still).rests d i) (flowed d)))
+    go false still = λ d. rw (followed-still config link ch sys h still) (rw (flow_still (Deliver link ch)
+        (stepped config (Deliver link ch) sys).outcome log d still) (flowed-rests (unfinished_at
+        (stepped config (Deliver link ch) sys).after d) (λ i. (unmoved config link ch sys still).rests d i) (flowed d)))
 
 -- ---- and after a client was asked
 
@@ -135,8 +125,7 @@ asked-flowed {w} {config} {log} c o h width is flowed = go (terms_at config c) r
 
     go : (i : Option EndConfig) → terms_at config c ≡ i → After (stepped config (Ask c o) sys)
     go None none = subst After (sym (stepped-nobody config (Ask c o) sys none))
-        (λ d. subst (λ (t : History w). MonitorRelation (asked_by h.mail h.state d) (unfinished_at sys d) d h.state t)
-        (sym (flow_still (Ask c o) Outcome.NoSuchClient log d refl)) (flowed d))
+        (λ d. rw (flow_still (Ask c o) Outcome.NoSuchClient log d refl) (flowed d))
     go (Some terms) known =
         let a : ask.Asked w = ask.asked terms o (sys.clients c) in
         let h' : AbstractState w = asked c o a.reply h in
@@ -209,9 +198,8 @@ legal-event : {w : ℕ} {config : Config} {log : Log w} (h : AbstractState w) (e
     → is_legal l config.profile (flow d log) ≡ true
     → is_legal l config.profile (flow d ((event, (stepped config event (system_after config log)).outcome) ∷ log))
     ≡ true
-legal-event {w} {config} {log} h (Ask c o) d l width is values level legal =
-    ap (is_legal l config.profile) (flow_still (Ask c o) (stepped config (Ask c o) (system_after config log)).outcome
-    log d (asked-still config log c o)) ∙ legal
+legal-event {w} {config} {log} h (Ask c o) d l width is values level legal = ap (is_legal l config.profile) (flow_still
+    (Ask c o) (stepped config (Ask c o) (system_after config log)).outcome log d (asked-still config log c o)) ∙ legal
 legal-event {w} {config} {log} h (Deliver link ch) d l width is values level legal =
     go (is_moving (stepped config (Deliver link ch) sys).outcome) refl
   where

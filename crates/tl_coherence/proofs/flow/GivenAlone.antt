@@ -1,19 +1,18 @@
 -- What all links carry together: at a Grant the others hold no more than it leaves them.
-use Rattle.std.proofs.Common.{◌≡◌, ℕ, zero, suc, Bool, true, false, List, ◌∷◌, Some, refl, sym, ◌∙◌, ap, subst, inl}
-use Rattle.std.proofs.Common.{inr, ◌||◌, length, Option, ne_eqb, ◌==◌, if◌then◌else◌, eq-eqb}
+use Rattle.std.proofs.Common.{◌≡◌, ℕ, zero, suc, Bool, true, false, List, ◌∷◌, Some, refl, sym, ◌∙◌, ap, subst, arith}
+use Rattle.std.proofs.Common.{◌||◌, Option, if◌then◌else◌}
 use Rattle.tl_coherence.proofs
-use proofs.Imports.{cases_eq, or_right, Beat, BeatD, Channel, History, channel_of, unfinished, Config, Cap, Perm}
-use proofs.Imports.{cap_right, on_link, same_perm, Trace, held, grants, capped, leaves, cap-gives, View, Granting}
-use proofs.Imports.{GrantedOther, is_unprobed, is_unreleased, Block, Service, GrantSent, view, is_granting}
-use proofs.Imports.{AbstractState, SimulationRelation, MonitorRelations, flow, trace_of, IsGiven, Log, system_after}
-use proofs.Imports.{perm_le}
+use proofs.Imports.{cases_eq, Beat, BeatD, Channel, History, channel_of, Config, Cap, Perm, cap_right, on_link}
+use proofs.Imports.{same_perm, Trace, held, grants, capped, leaves, cap-gives, View, Granting, is_unprobed}
+use proofs.Imports.{is_unreleased, Block, Service, GrantSent, view, is_granting, AbstractState, SimulationRelation}
+use proofs.Imports.{flow, trace_of, IsGiven, Log, system_after, perm_le}
 use Rattle.tl_rules.specs.statement.Windows.{is_spared, is_free}
 use Rattle.tl_coherence.specs.statement.OneWriter.{IsGivenAlone, IsOneWriter, IsApart}
-use proofs.deliveries.Matching.{shadow}
+use proofs.deliveries.{Matching.shadow}
 use proofs.flow.{FlowBeats.same_perms, FlowStep.held_by, FlowTaken.each-taken, FlowTraces.trace-flows, Flows.flowed}
-use proofs.flow.{NextOnD.IsGrantBeat, NextOnD.grant-next}
-use proofs.links.FromInvariant.{matched-given}
-use proofs.protocol.HeadOfD.{IsGrantDue, own_view}
+use proofs.flow.{NextOnD.grant-next}
+use proofs.links.{FromInvariant.matched-given}
+use proofs.protocol.{HeadOfD.own_view}
 use proofs.queues.{Facts.granting_alone, Facts.held_at_most, Phases.and_right, Perms.none_below, Perms.trunk_below}
 
 -- ---- all links
@@ -31,14 +30,7 @@ free-where (suc n) spared given block t each = rw (free-where n spared given blo
 -- who isn't granted the block in service sees another's
 other_view : (c other : ℕ) (d : Bool) (k : Cap) (service : Service) → service ≡ GrantSent c d k → (other ≡ c → ⊥)
     → is_granting (view service other) ≡ false
-other_view c other d k service e ne = cc (e, here (other == c) (ne_eqb other c ne))
-  where
-    here : (x : Bool) → x ≡ false → is_granting (if x then Granting d k else GrantedOther) ≡ false
-    here x f = rw f refl
-
-ungranted_holds : {X : Type 0} (c : ℕ) (b : Block X) → is_granting (view b.service c) ≡ false
-    → held_by c b ≡ (b.pair c).recorded
-ungranted_holds c b e = rw e refl
+other_view c other d k service e ne = grind arith
 
 -- what is held by what was delivered is at most what is recorded
 pub held_by_most : {X : Type 0} (c : ℕ) (b : Block X) (v : View) → perm_le (b.pair c).held (b.pair c).recorded ≡ true
@@ -52,19 +44,20 @@ held_by_most c b v e =
 -- ---- a beat of a Grant that is next on channel D
 
 given-next : {w : ℕ} {config : Config} {log : Log w} → IsGiven config log → (c : ℕ) (y : BeatD w)
-    (queue : List (Beat w)) → (system_after config log).channels c Channel.D ≡ Beat.D y ∷ queue
-    → (n other : ℕ) → grants n y (flow c log) ≡ true → (other ≡ c → ⊥)
-    → leaves (capped y.param) (held n (flow other log)) ≡ true
+    (queue : List (Beat w)) → (system_after config log).channels c Channel.D ≡ Beat.D y ∷ queue → (n other : ℕ)
+    → grants n y (flow c log) ≡ true → (other ≡ c → ⊥) → leaves (capped y.param) (held n (flow other log)) ≡ true
 given-next {w} {config} {log} given c y queue beats n other granted ne =
+    let values = flowed config log given.width given.typed given.is_log in
+    let grant = grant-next config log h c y queue given.width is values beats n granted in
+    let due = grant.due in
     let seen : view b.service c ≡ Granting due.data_too due.k = own_view c due.data_too due.k b.service due.service in
     let gives : capped y.param ≡ cap_right due.k = cc (grant.beat_is, cap-gives due.k) in
-    let holds : held n (flow other log) ≡ (b.pair other).recorded = (values other).held_is n
-    ∙ ungranted_holds other b (other_view c other due.data_too due.k b.service due.service ne) in
     let even : (b.pair c).recorded ≡ cap_right due.k = sym (same_perms (b.pair c).recorded (cap_right due.k) (and_right
     (is_unreleased (b.pair c).letting) _ (and_right (is_unprobed (b.pair c).probing) _ (granting_alone due.data_too
     due.k (b.pair c) (view b.service c) ((is.invariant.blocks n).phases c) seen)))) in
     subst (λ (p : Perm). leaves p (held n (flow other log)) ≡ true) (sym gives)
-    (subst (λ (p : Perm). leaves (cap_right due.k) p ≡ true) (sym holds)
+    (subst (λ (p : Perm). leaves (cap_right due.k) p ≡ true)
+    (sym ((values other).held_is n ∙ (rw (other_view c other due.data_too due.k b.service due.service ne) refl)))
     (left (cap_right due.k) (b.pair other).recorded even refl))
   where
     h : AbstractState w
@@ -72,15 +65,6 @@ given-next {w} {config} {log} given c y queue beats n other granted ne =
 
     is : SimulationRelation config log h.mail h.request h.state (system_after config log)
     is = matched-given config log given
-
-    values : MonitorRelations log h.mail h.state (system_after config log)
-    values = flowed config log given.width given.typed given.is_log
-
-    grant : IsGrantBeat c n h.state y (length (unfinished Channel.D (flow c log)))
-    grant = grant-next config log h c y queue given.width is values beats n granted
-
-    due : IsGrantDue c n h.state
-    due = grant.due
 
     b : Block (List ℕ)
     b = h.state.block n
@@ -96,19 +80,14 @@ given-next {w} {config} {log} given c y queue beats n other granted ne =
 -- each other link leaves what is granted
 beside : (link other : ℕ) (given held : Perm) → ((other ≡ link → ⊥) → leaves given held ≡ true)
     → (is_spared other (Some link) || leaves given held) ≡ true
-beside link other given held left = elim (cases_eq other link) [
-  | inl same ↦ rw (eq-eqb link other (sym same)) refl
-  | inr ne ↦ or_right (link == other) (leaves given held) (left ne)
-]
+beside link other given held left = grind (arith, cases_eq)
 
 given-moved : {w : ℕ} (config : Config) (log : Log w) → IsGiven config log → (c : ℕ) (x : Beat w)
     (queue : List (Beat w)) → (system_after config log).channels c (channel_of x) ≡ x ∷ queue
     → IsGivenAlone c x (trace_of log)
-given-moved {w} config log given c (Beat.D y) queue beats = λ n block begun granted.
-    free-where n (Some c) (capped y.param) block (trace_of log)
-    (λ other. beside c other (capped y.param) (held block (on_link other (trace_of log)))
-    (λ ne. subst (λ (t : History w). leaves (capped y.param) (held block t) ≡ true) (sym (trace-flows other log))
-    (given-next given c y queue beats block other
+given-moved {w} config log given c (Beat.D y) queue beats = λ n block begun granted. free-where n (Some c)
+    (capped y.param) block (trace_of log) (λ other. beside c other (capped y.param) (held block
+    (on_link other (trace_of log))) (λ ne. rw (trace-flows other log) (given-next given c y queue beats block other
     (subst (λ (t : History w). grants block y t ≡ true) (trace-flows c log) granted) ne)))
 given-moved config log given c (Beat.A y) queue beats = tt
 given-moved config log given c (Beat.B y) queue beats = tt
@@ -119,21 +98,15 @@ given-moved config log given c (Beat.E y) queue beats = tt
 
 one-writer : {w : ℕ} {config : Config} {log : Log w} → IsGiven config log → IsOneWriter (trace_of log)
 one-writer {w} {config} {log} given one other n ne trunk =
-    let h : AbstractState w = shadow config log in
-    let b : Block (List ℕ) = h.state.block n in
+    let b : Block (List ℕ) = (shadow config log).state.block n in
     let at = matched-given config log given in
     let values : (c : ℕ) → held n (flow c log) ≡ held_by c b =
     λ c. (flowed config log given.width given.typed given.is_log c).held_is n in
-    let most : (c : ℕ) → perm_le (held_by c b) (b.pair c).recorded ≡ true =
-    λ c. held_by_most c b (view b.service c)
+    let most : (c : ℕ) → perm_le (held_by c b) (b.pair c).recorded ≡ true = λ c. held_by_most c b (view b.service c)
     (held_at_most (b.pair c) (view b.service c) ((at.invariant.blocks n).phases c)) in
-    cc (
-      trace-flows other log,
-      values other,
-      none_below (held_by other b) (b.pair other).recorded (most other)
-          ((at.invariant.blocks n).one_owner one other (trunk_below (held_by one b) (b.pair one).recorded (most one)
-          (sym (values one) ∙ sym (ap (held n) (trace-flows one log)) ∙ trunk)) ne),
-    )
+    let fact = none_below (held_by other b) (b.pair other).recorded (most other)
+    ((at.invariant.blocks n).one_owner one other (trunk_below (held_by one b) (b.pair one).recorded (most one)
+    (cc (values one, trace-flows one log))) ne) in cc (trace-flows other log, values other)
 
 pub apart : {w : ℕ} (config : Config) (log : Log w) → IsGiven config log → IsApart log
 apart config log given = record {

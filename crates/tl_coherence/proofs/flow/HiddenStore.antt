@@ -1,24 +1,20 @@
 -- A client stores to its copy only where its link holds Trunk.
-use Rattle.std.proofs.Common.{◌≡◌, ℕ, Bool, true, false, List, refl, sym, ◌∙◌, ap, subst, Option, Some, None}
-use Rattle.std.proofs.Common.{if◌then◌else◌}
+use Rattle.std.proofs.Common.{◌≡◌, ℕ, Bool, true, List, refl, sym, ◌∙◌, ap, Option, Some, None, if◌then◌else◌, arith}
 use Rattle.tl_coherence.proofs
 use proofs.Imports.{Perm, block_at, held, Op, Reply, EndConfig, Ask, Outcome, view, Block, is_granting, AbstractState}
-use proofs.Imports.{SimulationRelation, is_caching, system_after, perm_le, Step, terms_at}
-use Rattle.tl_coherence.specs.statement.HiddenStores.{HiddenStores}
+use proofs.Imports.{SimulationRelation, system_after, perm_le, Step, terms_at}
+use Rattle.tl_coherence.{specs.statement.HiddenStores.HiddenStores}
 use Rattle.tl_client.specs.statement.Ask as ask
-use proofs.client.Askable.{askable}
+use proofs.client.{Askable.askable}
 use proofs.deliveries.Matching.{shadow, stepped-nobody}
 use proofs.flow.{FlowBeats.same_perms, FlowTraces.trace-flows, Flows.flowed}
-use proofs.links.FromInvariant.{matched-given}
-use proofs.protocol.FollowKept.{IsAskable}
+use proofs.links.{FromInvariant.matched-given}
 use proofs.queues.{Facts.held_at_most, Steps.stepped-asked}
 
 -- who holds Trunk holds it by what was delivered too
 still_trunk : (granting : Bool) (held recorded : Perm) → perm_le held recorded ≡ true → held ≡ Perm.Trunk
     → (if granting then held else recorded) ≡ Perm.Trunk
-still_trunk true held recorded le trunk = trunk
-still_trunk false held Perm.Trunk le trunk = refl
-still_trunk false held recorded le trunk = absurd (let refuse : false ≡ true = rw trunk at le in cc)
+still_trunk granting held recorded e f = grind arith
 
 same_reply : {w : ℕ} (r s : Reply) → ◌≡◌ {A = Outcome w} (Outcome.Replied r) (Outcome.Replied s) → r ≡ s
 same_reply r s e = cc
@@ -28,13 +24,9 @@ not_nobody r e = cc
 
 pub hidden_stores : {w : ℕ} → HiddenStores w
 hidden_stores {w} config log given c address size value stored =
-    cc (
-      trace-flows c log,
-      (flowed config log given.width given.typed given.is_log c).held_is (block_at address),
-      still_trunk (is_granting (view b.service c)) (b.pair c).held (b.pair c).recorded
-          (held_at_most (b.pair c) (view b.service c) ((is.invariant.blocks (block_at address)).phases c))
-          (go (terms_at config c) refl),
-    )
+    let fact = still_trunk (is_granting (view b.service c)) (b.pair c).held (b.pair c).recorded (held_at_most (b.pair c)
+    (view b.service c) ((is.invariant.blocks (block_at address)).phases c)) (go (terms_at config c) refl) in
+    cc (trace-flows c log, (flowed config log given.width given.typed given.is_log c).held_is (block_at address))
   where
     h : AbstractState w
     h = shadow config log
@@ -49,11 +41,9 @@ hidden_stores {w} config log given c address size value stored =
     store = Op.Store address size value
 
     go : (o : Option EndConfig) → terms_at config c ≡ o → (b.pair c).held ≡ Perm.Trunk
-    go None nobody = absurd (not_nobody {w = w} Reply.Stored
-        (sym (ap (λ (s : Step w). s.outcome) (stepped-nobody config (Ask c store) (system_after config log) nobody))
-        ∙ stored))
-    go (Some terms) known = cc
-        (same_perms (b.pair c).held Perm.Trunk (subst (λ (r : Reply). IsAskable (is_caching config) c store r h)
-        (same_reply {w = w} (ask.asked terms store ((system_after config log).clients c)).reply Reply.Stored
+    go None nobody = absurd (not_nobody {w = w} Reply.Stored (sym (ap (λ (s : Step w). s.outcome)
+        (stepped-nobody config (Ask c store) (system_after config log) nobody)) ∙ stored))
+    go (Some terms) known = cc (same_perms (b.pair c).held Perm.Trunk
+        (rw (same_reply {w = w} (ask.asked terms store ((system_after config log).clients c)).reply Reply.Stored
         (sym (ap (λ (s : Step w). s.outcome) (stepped-asked config c store (system_after config log) terms known))
-        ∙ stored)) (askable terms c store is known)))
+        ∙ stored)) at (askable terms c store is known)))

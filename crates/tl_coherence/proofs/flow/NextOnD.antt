@@ -84,8 +84,7 @@ module _ {w : ℕ} (config : Config) (log : Log w) (h : AbstractState w) (c : �
       ∙ ap (λ (v : View). not (is_unserved v)) (own_view c due.data_too due.k b.service due.service) in
       let asked : request_of y.source (flow c log) ≡ asked_by h.mail s c (b.source c) =
       cc ((flowed c).asked_is y.source ((flowed c).requests y.source ∙ requested), from) in
-      let asked_for : asks_for n (request_of y.source (flow c log)) ≡ (i == n) =
-      cc (
+      let asked_for : asks_for n (request_of y.source (flow c log)) ≡ (i == n) = cc (
         asked,
         asks-acquire c (b.source c) i (b.source c) due.whole due.g h.mail s due.used due.wants refl,
         same_block i,

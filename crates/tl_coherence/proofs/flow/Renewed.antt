@@ -1,30 +1,27 @@
 -- What the protocol does at an event to the accesses that are answered: each was answered before, or nobody is recorded
 -- any more with what excludes it, and it is answered what the block had.
 use Rattle.std.proofs.Common.{◌≡◌, ℕ, true, false, not, ◌&&◌, List, ◌∷◌, ◌⊎◌, Option, Some, None, refl, sym, ◌∙◌, ap}
-use Rattle.std.proofs.Common.{inl, inr, length, ◌==◌}
+use Rattle.std.proofs.Common.{arith, inl, inr, length, ◌==◌}
 use Rattle.tl_coherence.proofs
-use proofs.Imports.{cases_eq, Message, MessageA, Config, Cap, Report, cap_right, answer_of, block_at, is_acquire}
-use proofs.Imports.{leaves, needs, Op, Reply, access, access_answer, cap_probed, Kind, ProbeAck, Answer, Packet, set}
-use proofs.Imports.{set_at, Other, ProbeAnswered, is_unprobed, after_report, Block, Waits, GrantSent, State}
-use proofs.Imports.{SourceState, SourceFree, Asked, InService, Replied, Acquires, view, packet, on, written}
-use proofs.Imports.{performed_block, ended_block, AbstractState, asked, kind_taken, access_taken, last_taken}
-use proofs.Imports.{taken_by_client, some_below, probes_some, performs, answers, bytes_at, report_told}
-use proofs.Imports.{SimulationRelation, is_caching, IsFor, Log, perm_le, System}
-use proofs.client.AnswersKept.{set_at-apart}
-use proofs.manager.Choices.{plain-past}
+use proofs.Imports.{Message, MessageA, Config, Cap, Report, answer_of, block_at, is_acquire, leaves, needs, Op, Reply}
+use proofs.Imports.{access, access_answer, cap_probed, Kind, ProbeAck, Answer, Packet, set, set_at, Other}
+use proofs.Imports.{ProbeAnswered, is_unprobed, after_report, Block, Waits, GrantSent, State, SourceState, SourceFree}
+use proofs.Imports.{Asked, InService, Replied, Acquires, view, packet, on, written, performed_block, ended_block}
+use proofs.Imports.{AbstractState, asked, kind_taken, access_taken, last_taken, taken_by_client, some_below}
+use proofs.Imports.{probes_some, performs, answers, bytes_at, report_told, SimulationRelation, is_caching, IsFor, Log}
+use proofs.Imports.{System}
+use proofs.client.{AnswersKept.set_at-apart}
+use proofs.manager.{Choices.plain-past}
 use proofs.queues.{Codes.low_cap, Tokens.set-same, Tokens.set_at-same}
-use proofs.protocol.{Granted.recorded_within, Events.IsReady, Events.ready-access, Events.true-taken}
-use proofs.protocol.{RequestsKept.unprobed, RequestsKept.settled_all, FirstTokens.first-report}
+use proofs.protocol.{Granted.recorded_within, RequestsKept.unprobed, RequestsKept.settled_all, FirstTokens.first-report}
+use proofs.protocol.Events.{IsReady, ready-access, true-taken}
 use proofs.flow.Excluded.{above_le, leaves_within, leaves_all}
 use proofs.memory.BesideTaken.{intent-reply, memory-reported, memory-unprobed}
 
 -- ---- one place of two numbers
 
 placed : (c k d j : ℕ) → ((d ≡ c) × (j ≡ k)) ⊎ ((d ≡ c) × (j ≡ k) → ⊥)
-placed c k d j = elim (cases_eq d c) [
-  | inl same ↦ elim (cases_eq j k) [ inl here ↦ inl (same, here) | inr other ↦ inr (λ both. other both.1) ]
-  | inr ne ↦ inr (λ both. ne both.0)
-]
+placed c k d j = grind arith
 
 -- ---- accesses that are answered
 
@@ -40,10 +37,9 @@ AreSameMessages h i c source = (i.mail.request c source ≡ h.mail.request c sou
 -- Each was answered before, or is answered now: nobody is recorded any more with what excludes it, and it is answered
 -- what the block had.
 abbrev pub AreRenewed : {w : ℕ} → AbstractState w → AbstractState w → Type 0
-AreRenewed {w} h i = (c source : ℕ) → i.state.uses c source ≡ Replied
-    → ((h.state.uses c source ≡ Replied) × AreSameMessages h i c source)
-    ⊎ ((m : MessageA w) × (i.mail.request c source ≡ Message.A m) × IsSettledFor m i.state
-    × (i.mail.answer c source ≡ answers m (h.state.block (block_at m.address)).truth))
+AreRenewed {w} h i = (c source : ℕ) → i.state.uses c source ≡ Replied → ((h.state.uses c source ≡ Replied)
+    × AreSameMessages h i c source) ⊎ ((m : MessageA w) × (i.mail.request c source ≡ Message.A m)
+    × IsSettledFor m i.state × (i.mail.answer c source ≡ answers m (h.state.block (block_at m.address)).truth))
 
 -- each was answered before
 abbrev pub AreKept : {w : ℕ} → AbstractState w → AbstractState w → Type 0
@@ -53,11 +49,7 @@ AreKept {w} h i = (c source : ℕ) → i.state.uses c source ≡ Replied → (h.
 kept-set : {w : ℕ} (c k : ℕ) (u : SourceState) (h i : AbstractState w) → (u ≡ Replied → ⊥)
     → ((d j : ℕ) → i.state.uses d j ≡ set_at c k u h.state.uses d j)
     → ((d j : ℕ) → ((d ≡ c) × (j ≡ k) → ⊥) → AreSameMessages h i d j) → AreKept h i
-kept-set c k u h i never uses mail d j e = elim (placed c k d j) [
-  | inl same ↦ absurd (never (sym (set_at-same c k u h.state.uses) ∙ sym (rw (same.0, same.1) at (uses d j)) ∙ rw
-      (same.0, same.1) at e))
-  | inr other ↦ (sym (set_at-apart c k u h.state.uses d j other) ∙ sym (uses d j) ∙ e, mail d j other)
-]
+kept-set c k u h i never uses mail d j e = grind (arith, placed)
 
 renewed-set : {w : ℕ} (c k : ℕ) (u : SourceState) (h i : AbstractState w) → (u ≡ Replied → ⊥)
     → ((d j : ℕ) → i.state.uses d j ≡ set_at c k u h.state.uses d j)
@@ -87,12 +79,10 @@ renewed-reply c k m bytes h i uses requests replies is settled found d j e = eli
 -- ---- a client is asked
 
 pub kept-asked : {w : ℕ} (c : ℕ) (o : Op w) (r : Reply) (h : AbstractState w) → AreKept h (asked c o r h)
-kept-asked c (Op.Acquire n g) (Reply.Started source) h =
-    kept-set c source (Acquires n) h (asked c (Op.Acquire n g) (Reply.Started source) h) (λ e. cc)
-    (λ d j. refl) (λ d j other. (refl, refl))
-kept-asked c (Op.AcquireWhole n bytes) (Reply.Started source) h =
-    kept-set c source (Acquires n) h (asked c (Op.AcquireWhole n bytes) (Reply.Started source) h) (λ e. cc)
-    (λ d j. refl) (λ d j other. (refl, refl))
+kept-asked c (Op.Acquire n g) (Reply.Started source) h = kept-set c source (Acquires n) h
+    (asked c (Op.Acquire n g) (Reply.Started source) h) (λ e. cc) (λ d j. refl) (λ d j other. (refl, refl))
+kept-asked c (Op.AcquireWhole n bytes) (Reply.Started source) h = kept-set c source (Acquires n) h
+    (asked c (Op.AcquireWhole n bytes) (Reply.Started source) h) (λ e. cc) (λ d j. refl) (λ d j other. (refl, refl))
 kept-asked c (Op.Access (Message.A m)) (Reply.Started source) h =
     kept-set c source Asked h (asked c (Op.Access (Message.A m)) (Reply.Started source) h)
     (λ e. cc) (λ d j. refl) (λ d j other. (set_at-apart c source (access source m) h.mail.request d j other, refl))
@@ -150,13 +140,10 @@ renewed-kind_taken {w} {config} tracker c k i rest h is first ready =
         b = h.state.block n
 
         found : (x : Option Cap) → cap_probed m.opcode m.param ≡ x → probes_some clients c false x b.pair ≡ false
-            → ((d : ℕ) → leaves (needs m.opcode) (b.pair d).recorded ≡ true)
-            × (answers m b.memory ≡ answers m b.truth)
-        found None f e = (
-          λ d. leaves_all m.opcode m.param (b.pair d).recorded plain f,
-          ap (λ r. access_answer m (answer_of (Message.A m) r))
-              (intent-reply m (bytes_at n b.memory) (bytes_at n b.truth) f),
-        )
+            → ((d : ℕ) → leaves (needs m.opcode) (b.pair d).recorded ≡ true) × (answers m b.memory ≡ answers m b.truth)
+        found None f e = let fact = ap (λ r. access_answer m (answer_of (Message.A m) r))
+            (intent-reply m (bytes_at n b.memory) (bytes_at n b.truth) f) in
+            (λ d. leaves_all m.opcode m.param (b.pair d).recorded plain f, fact)
         found (Some j) f e = (
           λ d. leaves_within m.opcode m.param j (b.pair d).recorded plain f (above_le j (b.pair d).recorded
               (unprobed clients (is_caching config) c false j b.pair (plain-past config) (is.invariant.blocks n).outside
@@ -170,12 +157,10 @@ renewed-kind_taken {w} {config} tracker c k i rest h is first ready =
         → (h.state.block n).service ≡ Waits q false source j
         → AreRenewed h (last_taken clients config.profile c n (report_told ((h.state.block n).pair c).probing)
         (Waits q false source j) rest h)
-    reported n q source j known last waits =
-        renewed-reply q source m (written r b.truth b.memory) h
+    reported n q source j known last waits = renewed-reply q source m (written r b.truth b.memory) h
         (last_taken clients config.profile c n r (Waits q false source j) rest h) (λ d i. refl) (λ d i. refl)
-        (λ d i. refl) (rw waits at (is.served_with n)) settled (ap (answers m)
-        (memory-reported c q source r j (is.invariant.blocks n) waits answer quiet ∙ ap
-        (λ (i : ℕ). (h.state.block i).truth) (sym for.2)))
+        (λ d i. refl) (rw waits at (is.served_with n)) settled (ap (answers m) (memory-reported c q source r j
+        (is.invariant.blocks n) waits answer quiet ∙ ap (λ (i : ℕ). (h.state.block i).truth) (sym for.2)))
       where
         b : Block (List ℕ)
         b = h.state.block n
@@ -199,13 +184,11 @@ renewed-kind_taken {w} {config} tracker c k i rest h is first ready =
         other : (d : ℕ) → view b.service d ≡ Other j
         other d = rw waits refl
 
-        low : (d : ℕ) → perm_le (set c (after_report r (b.pair c)) b.pair d).recorded (cap_right j) ≡ true
-        low d = recorded_within c r j (is.invariant.blocks n) answer quiet (other c) d (other d)
-
         settled : IsSettledFor m (last_taken clients config.profile c n r (Waits q false source j) rest h).state
         settled d = ap (λ (i : ℕ). leaves (needs m.opcode) ((set n new h.state.block i).pair d).recorded) for.2
             ∙ ap (λ (z : Block (List ℕ)). leaves (needs m.opcode) (z.pair d).recorded) (set-same n new h.state.block)
-            ∙ leaves_within m.opcode m.param j (set c (after_report r (b.pair c)) b.pair d).recorded for.0 for.3 (low d)
+            ∙ leaves_within m.opcode m.param j (set c (after_report r (b.pair c)) b.pair d).recorded for.0 for.3
+            (recorded_within c r j (is.invariant.blocks n) answer quiet (other c) d (other d))
           where
             new : Block (List ℕ)
             new = ended_block c r (performs m) b

@@ -1,20 +1,18 @@
 -- Each beat of an AccessAckData has bytes that the one memory had in a window of its access.
-use Rattle.std.proofs.Common.{◌≡◌, ℕ, Bool, true, false, List, [], ◌∷◌, ◌⊎◌, Some, None, refl, sym, ◌∙◌, ap, subst, inl}
-use Rattle.std.proofs.Common.{inr, ◌%◌, ◌^◌, Option, length, is_some}
+use Rattle.std.proofs.Common.{◌≡◌, ℕ, Bool, true, false, List, [], ◌∷◌, ◌⊎◌, Some, None, sym, ◌∙◌, ap, subst, inl}
+use Rattle.std.proofs.Common.{arith, inr, length, is_some}
 use Rattle.tl_coherence.proofs
-use proofs.Imports.{Beat, BeatA, BeatD, Channel, OpA, OpD, Message, MessageA, MessageD, a_beat_of, d_beat_of, lanes_at}
-use proofs.Imports.{channel_of, unfinished, Config, open_request, on_link, Memory, answer_of, as_payload, bytes_from}
-use proofs.Imports.{effect, block_at, request_of, is_free, needs, illegal_message_at, access_answer, grant_opcode}
-use proofs.Imports.{level_of, Replied, SourceState, AbstractState, answers, SimulationRelation, MonitorRelations}
-use proofs.Imports.{IsSourced, flow, trace_of, IsGiven, Log, system_after, one_memory_after, System}
-use Rattle.tl_rules.specs.statement.Effect.{access_result}
+use proofs.Imports.{Beat, BeatA, BeatD, Channel, OpD, Message, MessageA, MessageD, a_beat_of, d_beat_of, channel_of}
+use proofs.Imports.{unfinished, Config, open_request, on_link, Memory, answer_of, effect, block_at, request_of, is_free}
+use proofs.Imports.{needs, access_answer, grant_opcode, level_of, Replied, AbstractState, answers, SimulationRelation}
+use proofs.Imports.{MonitorRelations, flow, trace_of, IsGiven, Log, system_after, one_memory_after, System}
 use Rattle.tl_coherence.specs.statement.TrueReads.{IsTrueRead, TrueReads, WasFound, lanes_found}
-use proofs.bound.Settling.{given-before}
-use proofs.deliveries.Matching.{shadow}
+use proofs.bound.{Settling.given-before}
+use proofs.deliveries.{Matching.shadow}
 use proofs.flow.{FlowTaken.each-taken, FlowTraces.trace-flows, Flows.flowed, NextOnD.next-on_d, Renewed.IsSettledFor}
-use proofs.links.FromInvariant.{matched-given}
-use proofs.memory.{OneMemory.reply-performed, BesideTaken.same_message}
 use proofs.flow.Windowed.{asked_flow, closed_first, free-now, opened-now, renewed-followed, same_first}
+use proofs.links.{FromInvariant.matched-given}
+use proofs.memory.{OneMemory.reply-performed, BesideTaken.same_message}
 
 -- ---- what is answered
 
@@ -29,11 +27,6 @@ unfoldable WasAnswered : {w : ℕ} → Config → ℕ → ℕ → MessageA w →
 WasAnswered config c source m reply [] = ⊥
 WasAnswered config c source m reply (e ∷ log) = (is_some (open_request source (on_link c (trace_of (e ∷ log)))) ≡ true)
     × (IsAnswered config m reply (e ∷ log) log ⊎ WasAnswered config c source m reply log)
-
-lawful_request : {w : ℕ} (config : Config) (c source : ℕ) (m : MessageA w) (r : Message w) (u : SourceState)
-    → IsSourced config c source r u → u ≡ Replied → r ≡ Message.A m
-    → illegal_message_at (level_of config c) (Message.A m) ≡ None
-lawful_request config c source m r u sourced used is = (rw (used, is) at sourced).1
 
 -- each access that is answered was so
 answered : {w : ℕ} {config : Config} (log : Log w) → IsGiven config log → (c source : ℕ) (m : MessageA w)
@@ -52,15 +45,12 @@ answered {w} {config} (x ∷ log) given c source m used request =
     let now : (i : MessageA w) → h'.mail.request c source ≡ Message.A i → IsSettledFor i h'.state
     → h'.mail.answer c source ≡ answers i (h.state.block (block_at i.address)).truth → i ≡ m
     → IsAnswered config m (h'.mail.answer c source) (x ∷ log) log = λ i asked settled replied same. record {
-      free = λ n. free-now config (x ∷ log) h' sys' is' values c source m used request
-          (subst (λ (j : MessageA w). IsSettledFor j h'.state) same settled) n;
-      reply_is = subst (λ (j : MessageA w). h'.mail.answer c source
-          ≡ answers j (h.state.block (block_at j.address)).truth) same replied
-          ∙ ap (λ r. access_answer m (answer_of (Message.A m) r))
-          (sym (reply-performed (level_of config c) m (one_memory_after config log).memory
-          (h.state.block (block_at m.address)).truth given.width
-          (lawful_request config c source m (h'.mail.request c source) (h'.state.uses c source) (is'.sourced c source)
-          used request) (is.beside.memory (block_at m.address)) (is.sized (block_at m.address)).truth));
+      free = λ n. free-now config (x ∷ log) h' sys' is' values c source m used request (rw same at settled) n;
+      reply_is = subst (λ (j : MessageA w). h'.mail.answer c source ≡ answers j
+          (h.state.block (block_at j.address)).truth) same replied ∙ ap (λ r. access_answer m
+          (answer_of (Message.A m) r)) (sym (reply-performed (level_of config c) m (one_memory_after config log).memory
+          (h.state.block (block_at m.address)).truth given.width ((rw (used, request) at (is'.sourced c source)).1)
+          (is.beside.memory (block_at m.address)) (is.sized (block_at m.address)).truth));
     } in (
       opened-now config (x ∷ log) h' sys' is' values c source m used request,
       elim (renewed-followed config log x.0 h given.width is c source used) [
@@ -77,27 +67,7 @@ lanes_answered : {w : ℕ} (m : MessageA w) (f : Memory) (z : MessageD w) (k : �
     → Message.D z ≡ access_answer m (answer_of (Message.A m) (effect (Message.A m) f).1) → z.opcode ≡ OpD.AccessAckData
     → (d_beat_of z k).lanes ≡ lanes_found (a_beat_of m 0) f k
 unfolding effect
-lanes_answered {w} m f z k is with_data = go m.opcode is
-  where
-    same : (u v : MessageD w) → Message.D u ≡ Message.D v → u ≡ v
-    same u v e = cc
-
-    lanes : (payload : List ℕ) (i : MessageD w) → z ≡ i → i.opcode ≡ OpD.AccessAckData → i.payload ≡ payload
-        → (d_beat_of z k).lanes ≡ lanes_at true w payload k
-    lanes payload i e o p = cc (e, o, p)
-
-    never : (i : MessageD w) → z ≡ i → (i.opcode ≡ OpD.AccessAckData → ⊥)
-        → (d_beat_of z k).lanes ≡ lanes_found (a_beat_of m 0) f k
-    never i e refuse = absurd (refuse (sym (ap (λ (u : MessageD w). u.opcode) e) ∙ with_data))
-
-    go : (o : OpA) → Message.D z ≡ access_answer m (answer_of (Message.A m) (access_result o m f))
-        → (d_beat_of z k).lanes ≡ lanes_found (a_beat_of m 0) f k
-    go OpA.Get e = lanes (as_payload (m.address % w) (bytes_from f m.address (2 ^ m.size))) _ (same z _ e) refl refl
-    go OpA.ArithmeticData e =
-        lanes (as_payload (m.address % w) (bytes_from f m.address (2 ^ m.size))) _ (same z _ e) refl refl
-    go OpA.LogicalData e =
-        lanes (as_payload (m.address % w) (bytes_from f m.address (2 ^ m.size))) _ (same z _ e) refl refl
-    go o e = never _ (same z _ e) (λ i. cc)
+lanes_answered {w} m f z k is with_data = grind arith
 
 found-beat : {w : ℕ} (config : Config) (c source : ℕ) (m : MessageA w) (z : MessageD w) (k : ℕ) (log : Log w)
     → z.opcode ≡ OpD.AccessAckData → WasAnswered config c source m (Message.D z) log
@@ -154,17 +124,13 @@ true-next {w} {config} {log} given c y queue beats x with_data asks =
         subst (λ (u : BeatA w). WasFound config c y.source u y.lanes k log)
         (same_first x (a_beat_of m 0) (sym asks
         ∙ asked_flow config log h (system_after config log) is values c y.source m used_y request_y))
-        (subst (λ (l : Option (List ℕ)). WasFound config c y.source (a_beat_of m 0) l k log)
-        (sym (ap (λ (u : BeatD w). u.lanes) e))
+        (rw (ap (λ (u : BeatD w). u.lanes) e)
         (found-beat config c y.source m z k log (sym (ap (λ (u : BeatD w). u.opcode) e) ∙ with_data)
-        (subst (λ (r : Message w). WasAnswered config c y.source m r log) (ap (h.mail.answer c) from ∙ reply)
-        (answered log given c y.source m used_y request_y))))
+        (rw (ap (h.mail.answer c) from ∙ reply) at (answered log given c y.source m used_y request_y))))
 
 true-moved : {w : ℕ} (config : Config) (log : Log w) → IsGiven config log → (c : ℕ) (x : Beat w) (queue : List (Beat w))
     → (system_after config log).channels c (channel_of x) ≡ x ∷ queue → IsTrueRead config c x log
-true-moved {w} config log given c (Beat.D y) queue beats = λ x with_data asks.
-    subst (λ (t : List (Beat w)). WasFound config c y.source x y.lanes (length (unfinished Channel.D t)) log)
-    (sym (trace-flows c log))
+true-moved {w} config log given c (Beat.D y) queue beats = λ x with_data asks. rw (trace-flows c log)
     (true-next given c y queue beats x with_data (ap (request_of y.source) (sym (trace-flows c log)) ∙ asks))
 true-moved config log given c (Beat.A y) queue beats = tt
 true-moved config log given c (Beat.B y) queue beats = tt

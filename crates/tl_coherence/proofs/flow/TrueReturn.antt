@@ -1,8 +1,8 @@
 -- Each beat of data that are given back has bytes of the one memory.
-use Rattle.std.proofs.Common.{◌≡◌, ℕ, Bool, true, List, ◌∷◌, sym, ◌∙◌, ap, subst, length}
+use Rattle.std.proofs.Common.{◌≡◌, ℕ, Bool, true, List, ◌∷◌, sym, ◌∙◌, ap, length}
 use Rattle.tl_coherence.proofs
 use proofs.Imports.{Beat, BeatC, Channel, c_carries_data, length-begun, Message, MessageC, beat_of, begun, c_beat_of}
-use proofs.Imports.{lanes_at, History, channel_of, unfinished, Config, on_link, IsBlock, block_at, AbstractState}
+use proofs.Imports.{lanes_at, channel_of, unfinished, Config, on_link, IsBlock, block_at, AbstractState}
 use proofs.Imports.{SimulationRelation, is_caching, flow, trace_of, IsGiven, Log, system_after, one_memory_after}
 use Rattle.tl_coherence.specs.statement.TrueReturns.{IsTrueReturn, TrueReturns}
 use proofs.deliveries.Matching.{shadow}
@@ -12,18 +12,14 @@ use proofs.links.FromInvariant.{matched-given}
 use proofs.manager.{ManagerTakes.by-first_c, Reporting.IsAbout}
 use proofs.queues.FirstToken.{first-token}
 
-same_beat : {w : ℕ} (x y : BeatC w) → Beat.C x ≡ Beat.C y → x ≡ y
-same_beat x y e = cc
-
 true-next : {w : ℕ} {config : Config} {log : Log w} → IsGiven config log → (c : ℕ) (y : BeatC w) (queue : List (Beat w))
     → (system_after config log).channels c Channel.C ≡ Beat.C y ∷ queue → c_carries_data y.opcode ≡ true
     → (bytes : List ℕ) × IsBlock (one_memory_after config log).memory (block_at y.address) bytes
     × (y.lanes ≡ lanes_at true w bytes (length (unfinished Channel.C (flow c log))))
 true-next {w} {config} {log} given c y queue beats with_data =
-    let values = flowed config log given.width given.typed given.is_log in
     let place : (m : Message w) (k : ℕ) → unfinished Channel.C (on_link c (system_after config log).manager.trace)
-    ≡ begun m k → k ≡ length (unfinished Channel.C (flow c log)) =
-    λ m k e. sym (ap length ((values c).rest_is Channel.C ∙ e) ∙ length-begun m k) in
+    ≡ begun m k → k ≡ length (unfinished Channel.C (flow c log)) = λ m k e. sym (ap length
+    (((flowed config log given.width given.typed given.is_log) c).rest_is Channel.C ∙ e) ∙ length-begun m k) in
     by-first_c (λ i. True) c h.mail h.state (system_after config log) (Beat.C y) queue
     (first-token (is_caching config) Channel.C c h.mail h.state (system_after config log) (Beat.C y) queue given.width
     is.invariant is.carried beats)
@@ -50,30 +46,23 @@ true-next {w} {config} {log} given c y queue beats with_data =
         → IsAbout b n param carries (h.state.block n).truth m → (k : ℕ) → Beat.C y ≡ beat_of (Message.C m) k
         → k ≡ length (unfinished Channel.C (flow c log)) → True
     about n b param carries m says k beat_is at =
-        let same : y ≡ c_beat_of m k = same_beat y (c_beat_of m k) beat_is in
+        let same : y ≡ c_beat_of m k = cc in
         let of_block : block_at y.address ≡ n = ap (λ (z : BeatC w). block_at z.address) same ∙ says.block in
         let data_too : c_carries_data m.opcode ≡ true = cc (same, with_data) in
         let lanes : y.lanes ≡ lanes_at true w (h.state.block n).truth (length (unfinished Channel.C (flow c log))) =
-        cc (same, data_too, says.payload_is (sym says.carries_is ∙ data_too), at) in (
-          (h.state.block n).truth,
-          subst (λ (i : ℕ). IsBlock (one_memory_after config log).memory i
-              (h.state.block n).truth) (sym of_block) (is.beside.memory n),
-          lanes,
-        )
+        cc (same, data_too, says.payload_is (sym says.carries_is ∙ data_too), at) in
+        ((h.state.block n).truth, rw of_block (is.beside.memory n), lanes)
 
 true-moved : {w : ℕ} (config : Config) (log : Log w) → IsGiven config log → (c : ℕ) (x : Beat w) (queue : List (Beat w))
     → (system_after config log).channels c (channel_of x) ≡ x ∷ queue
     → IsTrueReturn (one_memory_after config log).memory c x (trace_of log)
-true-moved {w} config log given c (Beat.C y) queue beats = λ with_data.
-    subst (λ (t : History w). (bytes : List ℕ) × IsBlock (one_memory_after config log).memory (block_at y.address) bytes
-    × (y.lanes ≡ lanes_at true w bytes (length (unfinished Channel.C t)))) (sym (trace-flows c log))
-    (true-next given c y queue beats with_data)
+true-moved {w} config log given c (Beat.C y) queue beats =
+    λ with_data. rw (trace-flows c log) (true-next given c y queue beats with_data)
 true-moved config log given c (Beat.A y) queue beats = tt
 true-moved config log given c (Beat.B y) queue beats = tt
 true-moved config log given c (Beat.D y) queue beats = tt
 true-moved config log given c (Beat.E y) queue beats = tt
 
 pub true_returns : {w : ℕ} → TrueReturns w
-true_returns config log given =
-    each-taken config (λ earlier link x. IsTrueReturn (one_memory_after config earlier).memory link x
-    (trace_of earlier)) (true-moved config) log given
+true_returns config log given = each-taken config (λ earlier link x. IsTrueReturn
+    (one_memory_after config earlier).memory link x (trace_of earlier)) (true-moved config) log given

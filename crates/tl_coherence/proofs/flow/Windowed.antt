@@ -1,6 +1,7 @@
 -- Each access is answered after a moment, since it was asked whole, at which nobody held what excludes it.
 use Rattle.std.proofs.Common.{◌≡◌, ℕ, Bool, true, false, List, [], ◌∷◌, Option, Some, None, refl, sym, ◌∙◌, ap, subst}
-use Rattle.std.proofs.Common.{inl, inr, ◌++◌, is_some}
+use Rattle.std.proofs.Common.{arith, inl, inr, ◌++◌, is_some}
+use Rattle.std.proofs.lemmas.Bool.{or_left}
 use Rattle.tl_coherence.proofs
 use proofs.Imports.{or_right, Beat, BeatA, BeatD, Link, Channel, OpA, IsWidth, Message, MessageA, a_beat_of, History}
 use proofs.Imports.{channel_of, unfinished, Config, RequestSource, Perm, open_request, Trace, on_link, comes_in_request}
@@ -9,32 +10,26 @@ use proofs.Imports.{is_access_answer, Event, Ask, Deliver, Outcome, Acquire, Blo
 use proofs.Imports.{view, AbstractState, abstract_step, abstract_step_by, block_message, SimulationRelation}
 use proofs.Imports.{MonitorRelations, asked_for, block_used, first_of, is_moving, flow, taken_at, IsGiven, Log}
 use proofs.Imports.{system_after, perm_le, Step, stepped, System, terms_at}
-use Rattle.std.proofs.lemmas.Bool.{or_left}
-use Rattle.tl_rules.specs.statement.Windows.{has_window}
-use Rattle.tl_coherence.specs.{statement.AnsweredInTime.IsAnsweredInTime, statement.AnsweredInTime.AnsweredInTime}
-use Rattle.tl_coherence.specs.{statement.Flow.trace_of, statement.Headline.AreTyped, statement.Log.IsLog}
+use Rattle.tl_rules.{specs.statement.Windows.has_window}
+use Rattle.tl_coherence.{specs.statement.Flow.trace_of, specs.statement.Headline.AreTyped, specs.statement.Log.IsLog}
+use Rattle.tl_coherence.specs.statement.AnsweredInTime.{IsAnsweredInTime, AnsweredInTime}
 use Rattle.tl_client.specs.statement.Ask as ask
-use proofs.deliveries.{DeliverDAfter.followed-still, InvariantKept.ready-delivered, Matching.shadow, Matching.matched}
-use proofs.deliveries.{Matching.stepped-nobody}
-use proofs.flow.{ComingRequests.not-coming_a, ComingRequests.waits_on_a, FlowStep.held_by, Flows.flowed}
-use proofs.flow.{FlowTaken.each-taken, FlowTraces.trace-flows, GivenAlone.free-where, GivenAlone.held_by_most}
-use proofs.flow.{NextOnD.next-on_d, Renewed.AreRenewed, Renewed.AreKept, Renewed.IsSettledFor, Renewed.kept-asked}
-use proofs.flow.{Renewed.renewed-kind_taken}
-use proofs.links.FromInvariant.{matched-given}
-use proofs.manager.UnwaitedRequests.{next_tracker}
+use proofs.deliveries.{DeliverDAfter.followed-still, InvariantKept.ready-delivered}
+use proofs.deliveries.Matching.{shadow, matched, stepped-nobody}
+use proofs.flow.{FlowStep.held_by, Flows.flowed, FlowTaken.each-taken, FlowTraces.trace-flows, NextOnD.next-on_d}
+use proofs.flow.ComingRequests.{not-coming_a, waits_on_a}
+use proofs.flow.GivenAlone.{free-where, held_by_most}
+use proofs.flow.Renewed.{AreRenewed, AreKept, IsSettledFor, kept-asked, renewed-kind_taken}
+use proofs.links.{FromInvariant.matched-given}
+use proofs.manager.{UnwaitedRequests.next_tracker}
 use proofs.queues.{Facts.held_at_most, Perms.nothing_below, Steps.stepped-asked}
 use proofs.simulation.FollowCases.{followed-cases, on-first}
-use proofs.memory.BesideTaken.{same_message}
+use proofs.memory.{BesideTaken.same_message}
 
 -- ---- what is held and excludes nothing
 
 leaves_below : (o : OpA) (p q : Perm) → perm_le p q ≡ true → leaves (needs o) q ≡ true → leaves (needs o) p ≡ true
-leaves_below OpA.Intent p q e f = refl
-leaves_below OpA.Get Perm.None q e f = refl
-leaves_below OpA.Get Perm.Branch q e f = refl
-leaves_below OpA.Get Perm.Trunk Perm.Trunk e f = f
-leaves_below OpA.Get Perm.Trunk q e f = absurd cc
-leaves_below o p q e f = nothing_below p q e f
+leaves_below o p q e f = grind (arith, nothing_below)
 
 pub same_first : {w : ℕ} (x y : BeatA w) → Some x ≡ Some y → y ≡ x
 same_first x y e = cc
@@ -57,19 +52,14 @@ module _ {w : ℕ} (config : Config) (log : Log w) (h : AbstractState w) (sys : 
   pending_flow = cc ((values c).requests source, used)
 
   pub asked_flow : request_of source (flow c log) ≡ Some (a_beat_of m 0)
-  asked_flow = cc (
-    (values c).asked_is source pending_flow,
-    asked_replied (h.state.uses c source)
-        (h.mail.request c source) (block_message Acquire c (block_used (h.state.uses c source))
-        (h.state.block (block_used (h.state.uses c source)))) used,
-    request,
-  )
+  asked_flow = let fact = asked_replied (h.state.uses c source) (h.mail.request c source) (block_message Acquire c
+      (block_used (h.state.uses c source)) (h.state.block (block_used (h.state.uses c source)))) used in
+      cc ((values c).asked_is source pending_flow, request)
 
   -- its request is pending and complete
   pub opened-now : is_some (open_request source (on_link c (trace_of log))) ≡ true
   opened-now =
-      let whole : comes_in_request source (unfinished Channel.A (flow c log)) ≡ false =
-      cc (
+      let whole : comes_in_request source (unfinished Channel.A (flow c log)) ≡ false = cc (
         (values c).rest_is Channel.A,
         not-coming_a c source is (ap (λ (u : SourceState). waits_on_a c u h.state) used),
       ) in
@@ -81,10 +71,9 @@ module _ {w : ℕ} (config : Config) (log : Log w) (h : AbstractState w) (sys : 
   free-now settled n =
       let k : ℕ = block_at m.address in
       let b : Block (List ℕ) = h.state.block k in
-      cc (free-where n None (needs m.opcode) k (trace_of log)
-      (λ other. ap (λ (t : History w). leaves (needs m.opcode) (held k t)) (trace-flows other log)
-      ∙ ap (leaves (needs m.opcode)) ((values other).held_is k) ∙ leaves_below m.opcode (held_by other b)
-      (b.pair other).recorded (held_by_most other b (view b.service other)
+      cc (free-where n None (needs m.opcode) k (trace_of log) (λ other. ap (λ (t : History w). leaves (needs m.opcode)
+      (held k t)) (trace-flows other log) ∙ ap (leaves (needs m.opcode)) ((values other).held_is k)
+      ∙ leaves_below m.opcode (held_by other b) (b.pair other).recorded (held_by_most other b (view b.service other)
       (held_at_most (b.pair other) (view b.service other) ((is.invariant.blocks k).phases other))) (settled other)))
 
 -- ---- after one more event
@@ -97,16 +86,13 @@ windowed-more : {w : ℕ} {config : Config} {log' : Log w} (h h' : AbstractState
 unfolding has_window
 windowed-more {w} {config} {log'} h h' {sys'} y t is values more renewed before n c source m used request =
     let opened : is_some (open_request source (on_link c (y ∷ t))) ≡ true =
-    subst (λ (s : Trace w). is_some (open_request source (on_link c s)) ≡ true) more
-    (opened-now config log' h' sys' is values c source m used request) in
+    rw more at (opened-now config log' h' sys' is values c source m used request) in
     rw opened (elim (renewed c source used) [
-      | inl old ↦ or_right (is_free n None (needs m.opcode) (block_at m.address) (y ∷ t))
-          (has_window n c source (needs m.opcode) (block_at m.address) t)
-          (before n c source m old.0 (sym old.1.0 ∙ request))
-      | inr new ↦ or_left (is_free n None (needs m.opcode) (block_at m.address) (y ∷ t))
-          (has_window n c source (needs m.opcode) (block_at m.address) t)
-          (subst (λ (s : Trace w). is_free n None (needs m.opcode) (block_at m.address) s ≡ true) more
-          (free-now config log' h' sys' is values c source m used request
+      | inl old ↦ or_right (is_free n None (needs m.opcode) (block_at m.address) (y ∷ t)) (has_window n c source
+          (needs m.opcode) (block_at m.address) t) (before n c source m old.0 (sym old.1.0 ∙ request))
+      | inr new ↦ or_left (is_free n None (needs m.opcode) (block_at m.address) (y ∷ t)) (has_window n c source
+          (needs m.opcode) (block_at m.address) t) (subst (λ (s : Trace w). is_free n None (needs m.opcode)
+          (block_at m.address) s ≡ true) more (free-now config log' h' sys' is values c source m used request
           (subst (λ (i : MessageA w). IsSettledFor i h'.state) (same_message new.0 m (sym new.1 ∙ request)) new.2) n))
     ])
 
@@ -123,8 +109,7 @@ kept-ask {w} config c o sys h = go (terms_at config c) refl
     After x = AreKept h (abstract_step_by config (Ask c o) x.outcome sys h)
 
     go : (i : Option EndConfig) → terms_at config c ≡ i → After (stepped config (Ask c o) sys)
-    go None none = subst After (sym (stepped-nobody config (Ask c o) sys none))
-        (λ d j e. (e, (refl, refl)))
+    go None none = subst After (sym (stepped-nobody config (Ask c o) sys none)) (λ d j e. (e, (refl, refl)))
     go (Some terms) known = subst After (sym (stepped-asked config c o sys terms known))
         (kept-asked c o (ask.asked terms o (sys.clients c)).reply h)
 
@@ -151,9 +136,8 @@ windowed-event : {w : ℕ} {config : Config} {log : Log w} (h : AbstractState w)
     (stepped config event (system_after config log)).after → AreWindowed h (trace_of log)
     → AreWindowed (abstract_step config event (system_after config log) h) (taken_at event o ++ trace_of log)
 unfolding trace_of
-windowed-event {config} {log} h (Ask c i) o width is o_is is' values before =
-    windowed-kept h (abstract_step config (Ask c i) (system_after config log) h) (trace_of log)
-    (kept-ask config c i (system_after config log) h) before
+windowed-event {config} {log} h (Ask c i) o width is o_is is' values before = windowed-kept h (abstract_step config
+    (Ask c i) (system_after config log) h) (trace_of log) (kept-ask config c i (system_after config log) h) before
 windowed-event {config} {log} h (Deliver link ch) (Outcome.Moved x) width is o_is is' values before =
     windowed-more h (abstract_step config (Deliver link ch) (system_after config log) h) (link, x) (trace_of log) is'
     values refl (renewed-followed config log (Deliver link ch) h width is) before
@@ -176,24 +160,21 @@ windowed : {w : ℕ} (config : Config) (log : Log w) → IsWidth w → AreTyped 
     → AreWindowed (shadow config log) (trace_of log)
 unfolding shadow system_after AreTyped IsLog trace_of
 windowed config [] width typed is = λ n c source m used request. absurd (closed_first used)
-windowed {w} config (x ∷ log) width typed is =
-    windowed-event (shadow config log) x.0 x.1 width (matched config log width typed.1 is.1) is.0
-    (matched config (x ∷ log) width typed is) (flowed config (x ∷ log) width typed is)
-    (windowed config log width typed.1 is.1)
+windowed {w} config (x ∷ log) width typed is = windowed-event (shadow config log) x.0 x.1 width
+    (matched config log width typed.1 is.1) is.0 (matched config (x ∷ log) width typed is)
+    (flowed config (x ∷ log) width typed is) (windowed config log width typed.1 is.1)
 
 -- ---- an answer that begins
 
 pub grants_no_access : (d : Bool) → is_access_answer (grant_opcode d) ≡ false
-grants_no_access true = refl
-grants_no_access false = refl
+grants_no_access d = grind arith
 
 answered-next : {w : ℕ} {config : Config} {log : Log w} → IsGiven config log → (c : ℕ) (y : BeatD w)
     (queue : List (Beat w)) → (system_after config log).channels c Channel.D ≡ Beat.D y ∷ queue
     → (n : ℕ) (x : BeatA w) → is_access_answer y.opcode ≡ true → request_of y.source (on_link c (trace_of log)) ≡ Some x
     → has_window n c y.source (needs x.opcode) (block_at x.address) (trace_of log) ≡ true
 answered-next {w} {config} {log} given c y queue beats n x answers asks =
-    let no_answer : is_access_answer y.opcode ≡ false → Windowed x =
-    λ e. absurd (let no : false ≡ true = sym e ∙ answers in cc) in
+    let no_answer : is_access_answer y.opcode ≡ false → Windowed x = λ e. absurd cc in
     cc (next-on_d config log h c y queue given.width is values beats (Windowed x)
     (λ i due e. answer i due.request (ap (λ (z : BeatD w). z.source) e ∙ due.from) due.used due.request_is)
     (λ i grant. no_answer (ap (λ (z : BeatD w). is_access_answer z.opcode) grant.beat_is

@@ -31,23 +31,21 @@ module _ {w : ℕ} {config : Config} {log : Log w} (given : IsGiven config log) 
   first = first-token (is_caching config) ch c (shadow config log).mail (shadow config log).state
       (system_after config log) x queue given.width is.invariant is.carried beats
 
-  pub first-writable : IsWritable x
+  first-writable : IsWritable x
   first-writable =
       let lawful = lawful-beat c ch terms.level x queue is beats (level-terms config c terms known).0 in
       subst IsWritable (sym first.next.beat_is) (legal-writable terms.level (channel_of x) _ first.next.k given.width
       (ap (λ (y : Beat w). illegal terms.level (channel_of x) y) (sym first.next.beat_is) ∙ lawful))
 
-  pub first-in_range : AreRanged log → IsInRange x
+  first-in_range : AreRanged log → IsInRange x
   first-in_range ranged =
       let few = limits config given.fits in
-      let sound = sound-beat c ch x queue is beats in
-      let lanes : AreLanes x =
-      All-head AreLanes x queue (subst (λ (l : List (Beat w)). All AreLanes l) beats (is.typed c ch)) in
+      let lanes : AreLanes x = All-head AreLanes x queue (rw beats at (is.typed c ch)) in
       let bounds = matched-bounded config log (shadow config log).mail (shadow config log).request
       (shadow config log).state (system_after config log) is c (sources-own config log c given.width) in
       subst IsInRange (sym first.next.beat_is)
-      (ranged-beat config.blocks _ first.next.k few.1
-      (ap (λ (y : Beat w). is_outside config.blocks y) (sym first.next.beat_is) ∙ sound.inside)
+      (ranged-beat config.blocks _ first.next.k few.1 (ap (λ (y : Beat w). is_outside config.blocks y)
+      (sym first.next.beat_is) ∙ (sound-beat c ch x queue is beats).inside)
       (subst AreLanes first.next.beat_is lanes) (first-ranged is (remembered-ranged config log ranged) bounds
       (few-sources config c given.fits) few.2 ch first.kind first.number first.rest first.own first.tokens))
 
@@ -66,9 +64,8 @@ module _ {w : ℕ} (config : Config) (P : Beat w → Type 0) (Q : Log w → Type
 
     next : {log : Log w} (event : Event w) (d : ℕ) → IsGiven config log → Q log → All P (flow d log)
         → All P (flow d ((event, (stepped config event (system_after config log)).outcome) ∷ log))
-    next {log} (Ask c o) d given q rest =
-        subst (All P) (sym (flow_still (Ask c o) (stepped config (Ask c o) (system_after config log)).outcome log d
-        (asked-still config log c o))) rest
+    next {log} (Ask c o) d given q rest = subst (All P) (sym (flow_still (Ask c o)
+        (stepped config (Ask c o) (system_after config log)).outcome log d (asked-still config log c o))) rest
     next {log} (Deliver link ch) d given q rest =
         go (is_moving (stepped config (Deliver link ch) (system_after config log)).outcome) refl
       where
@@ -81,20 +78,15 @@ module _ {w : ℕ} (config : Config) (P : Beat w → Type 0) (Q : Log w → Type
             (matched-given config log given) at.3.0 at.3.1 moving (is_to_client ch) refl in
             subst (All P) (sym (moved.delivered d))
             (with-beat d log at.0 (link.0 == d) (front log given q link.0 at.2 at.3.1 ch at.0 at.1 at.3.0) rest)
-        go false still = subst (All P)
-            (sym (flow_still (Deliver link ch) (stepped config (Deliver link ch) (system_after config log)).outcome log
-            d still)) rest
+        go false still = subst (All P) (sym (flow_still (Deliver link ch)
+            (stepped config (Deliver link ch) (system_after config log)).outcome log d still)) rest
 
-    pub all-delivered : (log : Log w) → IsGiven config log → Q log → (d : ℕ) → All P (flow d log)
+    all-delivered : (log : Log w) → IsGiven config log → Q log → (d : ℕ) → All P (flow d log)
     unfolding AreTyped IsLog flow
     all-delivered [] given q d = All-nil P
     all-delivered (x ∷ log) given q d =
-        let before : IsGiven config log = record {
-          width = given.width;
-          fits = given.fits;
-          typed = given.typed.1;
-          is_log = given.is_log.1;
-        } in
+        let before : IsGiven config log =
+        record { width = given.width; fits = given.fits; typed = given.typed.1; is_log = given.is_log.1 } in
         subst (λ (o : Outcome w). All P (flow d ((x.0, o) ∷ log))) (sym given.is_log.0)
         (next x.0 d before (earlier x log q) (all-delivered log before (earlier x log q) d))
 
@@ -106,6 +98,5 @@ have-room config log given link = all-delivered config IsWritable (λ l. Unit {0
 pub are-in_range : {w : ℕ} (config : Config) (log : Log w) → IsGiven config log → AreRanged log → (link : ℕ)
     → All IsInRange (flow link log)
 unfolding AreRanged
-are-in_range config log given ranged link =
-    all-delivered config IsInRange AreRanged (λ x l q. q.1) (λ l g q c terms known ch x queue beats. first-in_range g c
-    terms known ch x queue beats q) log given ranged link
+are-in_range config log given ranged link = all-delivered config IsInRange AreRanged (λ x l q. q.1)
+    (λ l g q c terms known ch x queue beats. first-in_range g c terms known ch x queue beats q) log given ranged link

@@ -1,19 +1,18 @@
 -- The numbers of each beat on a channel are within their types.
 use Rattle.std.proofs.Common.{◌≡◌, ℕ, zero, suc, ◌+◌, ◌-◌, ◌*◌, ◌%◌, ◌^◌, ◌<◌, ◌≤◌, Bool, true, false, List, [], ◌∷◌}
-use Rattle.std.proofs.Common.{◌++◌, Option, Some, None, length, refl, sym, ◌∙◌, lit<, arith, leb-true, IfSome, drop}
-use Rattle.std.proofs.Common.{nat_le, option_map, replicate, slice_get, leb-false}
+use Rattle.std.proofs.Common.{◌++◌, Option, Some, None, length, refl, sym, lit<, arith, leb-true, IfSome, drop, nat_le}
+use Rattle.std.proofs.Common.{option_map, replicate, slice_get}
+use Rattle.std.proofs.lemmas.List.Elements.{All-drop, All-from_get_or, All-replicate, All-take}
 use Rattle.tl_coherence.proofs
-use proofs.Imports.{and_parts, All-append, Channel, OpB, IsInRange, a_carries_data, b_carries_data, c_carries_data}
-use proofs.Imports.{d_carries_data, Message, MessageA, beat_of, lanes_at, ClientConfig, Config, Prune, Report, Perm}
-use proofs.Imports.{all_sources_fit, blocks_fit, config_fault, sources_fit, trackers_fit, is_from_to, is_outside}
-use proofs.Imports.{answer_of, as_payload, block_at, Op, EndConfig, probe_ack, release, sourced, one_if, access_answer}
+use proofs.Imports.{and_parts, All-append, Channel, OpB, IsInRange, Message, MessageA, beat_of, lanes_at, ClientConfig}
+use proofs.Imports.{Config, Prune, Report, Perm, all_sources_fit, config_fault, sources_fit, is_outside, answer_of}
+use proofs.Imports.{as_payload, block_at, Op, EndConfig, probe_ack, release, sourced, one_if, access_answer}
 use proofs.Imports.{release_ack, Kind, Request, Acquire, Probe, ProbeAck, Release, Answer, Grant, ReleaseAck, GrantAck}
 use proofs.Imports.{Packet, count, is, AcquirePhase, AcquireOpen, Service, GrantSent, State, SourceState, SourceFree}
 use proofs.Imports.{Asked, Replied, Acquires, packet, packets_on, is_on, Answers, IsOpened, AccessMessages, acquire_of}
 use proofs.Imports.{grant_of, message_of_kind, prune_told, block_message, report_told, AreLanes, SimulationRelation}
 use proofs.Imports.{sources_of, Log, Requests, one_memory_after, AreBytes, System, terms_at}
-use Rattle.std.proofs.lemmas.List.Elements.{All-drop, All-from_get_or, All-replicate, All-take}
-use Rattle.tl_beat.specs.statement.Line.{AreLanes as HasLanes}
+use Rattle.tl_beat.{specs.statement.Line.AreLanes as HasLanes}
 use Rattle.tl_rules.specs.statement.Effect as memory
 use proofs.memory.Bytes.{IsRangedMachine, IsRangedOpen, IsRangedReply}
 use proofs.protocol.Capacities.{acquire_named, answer_named, grant_ack_named, grant_named, release_ack_named}
@@ -33,29 +32,17 @@ IsRangedMessage (Message.E m) = m.sink < 2 ^ 8
 
 ranged-lanes : (w : ℕ) (carries : Bool) (payload : List ℕ) (k : ℕ) → AreBytes payload
     → IfSome (lanes_at carries w payload k) (λ lanes. length lanes ≡ w) → HasLanes w (lanes_at carries w payload k)
-ranged-lanes w true payload k bytes long = (
-  long,
-  All-take (λ byte. byte < 2 ^ 8) (w * k + w - w * k) (drop (w * k) payload)
-      (All-drop (λ byte. byte < 2 ^ 8) (w * k) payload bytes),
-)
+ranged-lanes w true payload k bytes long = let fact = All-take (λ byte. byte < 2 ^ 8) (w * k + w - w * k)
+    (drop (w * k) payload) (All-drop (λ byte. byte < 2 ^ 8) (w * k) payload bytes) in (long, fact)
 ranged-lanes w false payload k bytes long = tt
 
 -- an address inside the map
 inside-below : (blocks address : ℕ) → blocks ≤ 1024 → nat_le blocks (block_at address) ≡ false → address < 2 ^ 32
-inside-below blocks address few inside = let less = leb-false blocks (block_at address) inside in
-    omega (arith, less, few)
+inside-below blocks address few inside = grind arith
 
 pub ranged-beat : {w : ℕ} (blocks : ℕ) (m : Message w) (k : ℕ) → blocks ≤ 1024 → is_outside blocks (beat_of m k) ≡ false
     → AreLanes (beat_of m k) → IsRangedMessage m → IsInRange (beat_of m k)
-ranged-beat {w} blocks (Message.A m) k few inside lanes is =
-    (is.0, inside-below blocks m.address few inside, ranged-lanes w (a_carries_data m.opcode) m.payload k is.1 lanes.1)
-ranged-beat {w} blocks (Message.B m) k few inside lanes is =
-    (is.0, inside-below blocks m.address few inside, ranged-lanes w (b_carries_data m.opcode) m.payload k is.1 lanes)
-ranged-beat {w} blocks (Message.C m) k few inside lanes is =
-    (is.0, inside-below blocks m.address few inside, ranged-lanes w (c_carries_data m.opcode) m.payload k is.1 lanes)
-ranged-beat {w} blocks (Message.D m) k few inside lanes is =
-    (is.0, is.1, ranged-lanes w (d_carries_data m.opcode) m.payload k is.2 lanes)
-ranged-beat blocks (Message.E m) k few inside lanes is = is
+ranged-beat blocks m k e f g h = grind (arith, inside-below, ranged-lanes)
 
 -- ---- what messages are made of
 
@@ -113,8 +100,7 @@ pub few-sources : (config : Config) (c : ℕ) → config_fault config ≡ None �
 few-sources config c fits = go (slice_get config.clients.items c) refl
   where
     all : all_sources_fit config.clients.items ≡ true
-    all = (limits-fit (is_from_to 1 16 (length config.clients.items)) (blocks_fit config.blocks)
-        (trackers_fit config.trackers) (all_sources_fit config.clients.items) fits).3
+    all = grind (arith, limits-fit, fits)
 
     go : (o : Option ClientConfig) → slice_get config.clients.items c ≡ o
         → sources_of (option_map {U = EndConfig} (λ x. record {
@@ -139,8 +125,7 @@ module _ {w : ℕ} {config : Config} {log : Log w} {mail : AccessMessages w} {re
       rw (sym (matched.beside.memory n i inside)) (ranged.memory (64 * n + i)))
 
   used-small : (source : ℕ) (u : SourceState) → s.uses c source ≡ u → (u ≡ SourceFree → ⊥) → source < 2 ^ 8
-  used-small source u e used = let less = bounds.requests source (λ none. used (sym e ∙ none)) in
-      omega (arith, less, few_sources)
+  used-small source u e used = grind arith
 
   let-small : (source n : ℕ) → s.lets c source ≡ Some n → source < 2 ^ 8
   let-small source n e = let less = bounds.releases source n e in omega (arith, less, few_sources)
@@ -178,17 +163,14 @@ module _ {w : ℕ} {config : Config} {log : Log w} {mail : AccessMessages w} {re
       (truth-bytes n)
   kind-ranged Release n shows =
       release-ranged w (prune_told ((s.block n).pair c).letting) ((s.block n).release_source c) n (s.block n).truth
-      (let-small ((s.block n).release_source c) n (release_named c n matched.invariant shows))
-      (truth-bytes n)
+      (let-small ((s.block n).release_source c) n (release_named c n matched.invariant shows)) (truth-bytes n)
   kind-ranged Grant n shows = grant-ranged w (s.block n).service ((s.block n).source c) (s.block n).tracker
       (s.block n).truth (used-small ((s.block n).source c) (Acquires n) (grant_named c n matched.invariant shows)
       (λ e. absurd cc)) (λ q d k e. tracker-small (s.block n).tracker n
       (tracker_of_service n matched.invariant (rw e refl))) (truth-bytes n)
-  kind-ranged ReleaseAck n shows =
-      ack-ranged w ((s.block n).release_source c)
+  kind-ranged ReleaseAck n shows = ack-ranged w ((s.block n).release_source c)
       (let-small ((s.block n).release_source c) n (release_ack_named c n matched.invariant shows))
-  kind-ranged GrantAck n shows =
-      tracker-small (s.block n).tracker n (grant_ack_named c n matched.invariant shows)
+  kind-ranged GrantAck n shows = tracker-small (s.block n).tracker n (grant_ack_named c n matched.invariant shows)
 
   pub first-ranged : (ch : Channel) (k : Kind) (n : ℕ) (rest : List Packet) → is_on ch k ≡ true
       → packets_on ch (s.link c) ≡ packet k n ∷ rest → IsRangedMessage (message_of_kind k mail s c n)

@@ -1,16 +1,14 @@
 -- A beat of a message that breaks no rule of legality has room in its line.
 use Rattle.std.proofs.Common.{◌≡◌, ℕ, ◌<◌, ◌≤◌, ◌*◌, ◌/◌, ◌^◌, Bool, true, false, ◌&&◌, refl, arith, inl, inr, None}
 use Rattle.std.proofs.Common.{eqb-true, ne_eqb, pow_pos, is_some, ◌==◌}
+use Rattle.std.proofs.lemmas.Bool.{both_ways}
 use Rattle.tl_coherence.proofs
 use proofs.Imports.{cases_lt, not-false, and_parts, mod_below, Beat, B, C, Channel, OpA, OpC, OpD, IsWritable, IsWidth}
-use proofs.Imports.{Message, beat_of, Level, L1, L2, L3, cap_of, next_rule, a_has_param, a_has_size, illegal}
-use Rattle.std.proofs.lemmas.Bool.{both_ways}
+use proofs.Imports.{Message, beat_of, Level, cap_of, next_rule, a_has_param, a_has_size, illegal}
 use Rattle.tl_beat.specs.declared.beat.Beat.TheVariants.{A, D, E}
-use Rattle.tl_params.specs.declared.rule.Rule.TheVariants.{L7}
-use Rattle.tl_rules.proofs.Sizes.{response-small}
-use Rattle.tl_rules.specs.statement.Legality.{breaks_l1, breaks_l2, breaks_l3, breaks_l7, c_has_param, c_has_source}
-use Rattle.tl_rules.specs.statement.Legality.{d_has_param, d_has_sink}
-use Rattle.tl_manager.proofs.words_of_clients.Masks.{request_small}
+use Rattle.tl_rules.{proofs.Sizes.response-small}
+use Rattle.tl_rules.specs.statement.Legality.{breaks_l2, breaks_l3, c_has_param, c_has_source, d_has_param, d_has_sink}
+use Rattle.tl_manager.{proofs.words_of_clients.Masks.request_small}
 
 -- ---- params
 
@@ -21,40 +19,13 @@ cap-large : (n : ℕ) → 4 ≤ n → is_some (cap_of n) ≡ false
 cap-large n large = rw (apart n 0 (omega arith), apart n 1 (omega arith), apart n 2 (omega arith)) refl
 
 a-large : (opcode : OpA) (n : ℕ) → 8 ≤ n → a_has_param opcode n ≡ false
-a-large OpA.ArithmeticData n large =
-    rw (
-      apart n 0 (omega arith),
-      apart n 1 (omega arith),
-      apart n 2 (omega arith),
-      apart n 3 (omega arith),
-      apart n 4 (omega arith),
-    ) refl
-a-large OpA.LogicalData n large =
-    rw (apart n 0 (omega arith), apart n 1 (omega arith), apart n 2 (omega arith), apart n 3 (omega arith)) refl
-a-large OpA.Intent n large = rw (apart n 0 (omega arith), apart n 1 (omega arith)) refl
-a-large OpA.AcquireBlock n large = rw (apart n 0 (omega arith), apart n 1 (omega arith), apart n 2 (omega arith)) refl
-a-large OpA.AcquirePerm n large = rw (apart n 0 (omega arith), apart n 1 (omega arith), apart n 2 (omega arith)) refl
-a-large opcode n large = apart n 0 (omega arith)
+a-large opcode n e = grind arith
 
 c-large : (opcode : OpC) (n : ℕ) → 8 ≤ n → c_has_param opcode n ≡ false
-c-large OpC.ProbeAck n large =
-    rw (
-      apart n 0 (omega arith),
-      apart n 1 (omega arith),
-      apart n 2 (omega arith),
-      apart n 3 (omega arith),
-      apart n 4 (omega arith),
-      apart n 5 (omega arith),
-    ) refl
-c-large OpC.ProbeAckData n large = rw (apart n 0 (omega arith), apart n 1 (omega arith), apart n 3 (omega arith)) refl
-c-large OpC.Release n large = rw (apart n 0 (omega arith), apart n 1 (omega arith), apart n 2 (omega arith)) refl
-c-large OpC.ReleaseData n large = rw (apart n 0 (omega arith), apart n 1 (omega arith)) refl
-c-large opcode n large = apart n 0 (omega arith)
+c-large opcode n e = grind arith
 
 d-large : (opcode : OpD) (n : ℕ) → 4 ≤ n → d_has_param opcode n ≡ false
-d-large OpD.Grant n large = cap-large n large
-d-large OpD.GrantData n large = cap-large n large
-d-large opcode n large = apart n 0 (omega arith)
+d-large opcode n e = grind (arith, cap-large, apart)
 
 -- a number that passes a test which those from a limit on don't pass
 below : (n limit : ℕ) (b : Bool) → (limit ≤ n → b ≡ false) → b ≡ true → n < limit
@@ -82,12 +53,7 @@ record Keeps {w : ℕ} (l : Level) (x : Beat w) : Type 0 where
 
 keeps : {w : ℕ} (l : Level) (ch : Channel) (x : Beat w) → illegal l ch x ≡ None → Keeps l x
 unfolding illegal
-keeps l ch x e =
-    let one = next_rule (breaks_l1 l ch x) L1 _ e in
-    let seven = next_rule (breaks_l7 x) L7 _ one.1 in
-    let two = next_rule (breaks_l2 x) L2 _ seven.1 in
-    let three = next_rule (breaks_l3 l x) L3 _ two.1 in
-    record { two = two.0; three = three.0 }
+keeps l ch x e = grind (arith, next_rule)
 
 roomy : {w : ℕ} (l : Level) (ch : Channel) (x : Beat w) → IsWidth w → IsNarrow x → illegal l ch x ≡ None → IsWritable x
 roomy {w} l ch (A x) width mask e =
@@ -101,8 +67,7 @@ roomy {w} l ch (B x) width mask e =
     let both = and_parts (is_some (cap_of x.param)) (x.source == 0)
     (not-false (is_some (cap_of x.param) && (x.source == 0)) k.two) in
     let param : x.param < 4 = below x.param 4 (is_some (cap_of x.param)) (cap-large x.param) both.0 in
-    let is : x.size ≡ 6 = eqb-true x.size 6 (not-false (x.size == 6) k.three) in
-    (omega arith, omega (arith, is), mask)
+    (omega arith, omega (arith, eqb-true x.size 6 (not-false (x.size == 6) k.three)), mask)
 roomy {w} l ch (C x) width mask e =
     let k = keeps l ch (C x) e in
     let both = and_parts (c_has_param x.opcode x.param) (c_has_source x.opcode x.source)
@@ -110,9 +75,8 @@ roomy {w} l ch (C x) width mask e =
     let is : x.size ≡ 6 = eqb-true x.size 6 (not-false (x.size == 6) k.three) in
     (below x.param 8 (c_has_param x.opcode x.param) (c-large x.opcode x.param) both.0, omega (arith, is))
 roomy {w} l ch (D x) width mask e =
-    let k = keeps l ch (D x) e in
     let both = and_parts (d_has_param x.opcode x.param) (d_has_sink x.opcode x.sink)
-    (not-false (d_has_param x.opcode x.param && d_has_sink x.opcode x.sink) k.two) in
+    (not-false (d_has_param x.opcode x.param && d_has_sink x.opcode x.sink) (keeps l ch (D x) e).two) in
     let size = response-small l ch x width e in
     (below x.param 4 (d_has_param x.opcode x.param) (d-large x.opcode x.param) both.0, omega (arith, size))
 roomy l ch (E x) width mask e = tt

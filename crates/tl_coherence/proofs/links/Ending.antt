@@ -31,15 +31,6 @@ pub record IsEnding {w : ℕ} (config : Config) (log : Log w) (link : Link) (ch 
   pub follows : abstract_step config (Deliver link Channel.D) (system_after config log) h ≡ kind_taken config
       (next_tracker (system_after config log)) link.0 first.kind first.number first.rest h
 
-done_beat : {w : ℕ} (x y : Beat w) (i j : ℕ) (f g : Finish) → Outcome.Done x i f ≡ Outcome.Done y j g → x ≡ y
-done_beat x y i j f g e = cc
-
-done_source : {w : ℕ} (x y : Beat w) (i j : ℕ) (f g : Finish) → Outcome.Done x i f ≡ Outcome.Done y j g → i ≡ j
-done_source x y i j f g e = cc
-
-done_finish : {w : ℕ} (x y : Beat w) (i j : ℕ) (f g : Finish) → Outcome.Done x i f ≡ Outcome.Done y j g → f ≡ g
-done_finish x y i j f g e = cc
-
 done_moved : {w : ℕ} (x y : Beat w) (i : ℕ) (f : Finish) → Outcome.Done x i f ≡ Outcome.Moved y → ⊥
 done_moved x y i f e = absurd cc
 
@@ -100,9 +91,7 @@ ending_d {w} {config} {log} link h terms y queue x source f width is known beats
         (ap (λ (i : Beat w). (offer.taken i e).answer) y_is ∙ answer)).0
 
     go : (b : Bool) → completes y (unfinished Channel.D e.past) ≡ b → IsEnding config log link Channel.D h x source f
-    go false part =
-        let unended : completes (Beat.D z) (unfinished Channel.D e.past) ≡ false = cc (y_is, part) in
-        absurd (done_moved x y source f (outcome_is Verdict.Taken None (answer-part z e unended)))
+    go false part = absurd (done_moved x y source f (outcome_is Verdict.Taken None (answer-part z e (cc (y_is, part)))))
     go true last =
         let same : x ≡ y → source ≡ z.source → f ≡ finish_at z e → completes y (unfinished Channel.D e.past) ≡ true
         → IsEnding config log link Channel.D h x source f =
@@ -123,9 +112,9 @@ ending_d {w} {config} {log} link h terms y queue x source f width is known beats
         }) in
         let ended : completes (Beat.D z) (unfinished Channel.D e.past) ≡ true = cc (y_is, last) in
         let o = outcome_is (Verdict.Done z.source (finish_at z e)) (acked z.opcode z.sink) (answer-last z e ended) in
-        let x_is : x ≡ y = done_beat x y source z.source f (finish_at z e) o in
-        same x_is (done_source x y source z.source f (finish_at z e) o)
-        (done_finish x y source z.source f (finish_at z e) o) last
+        let x_is : x ≡ y = cc in
+        same x_is (cc)
+        (cc) last
 
 pub ending : {w : ℕ} (config : Config) (log : Log w) (link : Link) (ch : Channel) (h : AbstractState w) (x : Beat w)
     (source : ℕ) (f : Finish) → IsWidth w → SimulationRelation config log h.mail h.request h.state

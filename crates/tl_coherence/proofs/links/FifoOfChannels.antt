@@ -1,5 +1,6 @@
 -- Channels lose nothing and keep order, whatever happens.
-use Rattle.std.proofs.Common.{◌≡◌, ℕ, Bool, true, false, List, [], ◌∷◌, Option, Some, None, refl, sym, ◌∙◌, ap, subst}
+use Rattle.std.proofs.Common.{◌≡◌, ℕ, Bool, true, false, List, [], ◌∷◌, Option}
+use Rattle.std.proofs.Common.{Some, None, refl, sym, ◌∙◌, ap, subst, arith}
 use Rattle.std.proofs.Common.{inl, inr, ◌++◌, ne_eqb, ◌==◌, if◌then◌else◌, All, map, Ok}
 use Rattle.tl_coherence.proofs
 use proofs.Imports.{cases_eq, All-head, ⊤, Beat, Link, Channel, IsWidth, Message, beat_of, burst_of, History, Config}
@@ -76,11 +77,10 @@ manages-passing : {w : ℕ} (config : Config) (handed : Handed w) (t : Trace w) 
     → ArePassing p (λ d. on_link d (with_handed handed t)) (with_messages handed s).channels f
 unfolding with_messages with_handed
 manages-passing config [] t s each is = is
-manages-passing {w} config (x ∷ handed) t s {p} {f} each is =
-    manages-passing config handed (map (λ b. (x.0, b)) (burst_of x.1) ++ t) (with_message x.0.0 x.1 s) each.1
-    (passing-same p (λ d. on_link d (map (λ b. (x.0, b)) (burst_of x.1) ++ t)) (with_message x.0.0 x.1 s).channels f
-    (λ d. refl) (λ d. beats_on_link d x.0 (burst_of x.1) t) (λ d at. refl) (λ d. refl)
-    (manager-says x.0.0 x.1 each.0.ours is))
+manages-passing {w} config (x ∷ handed) t s {p} {f} each is = manages-passing config handed
+    (map (λ b. (x.0, b)) (burst_of x.1) ++ t) (with_message x.0.0 x.1 s) each.1 (passing-same p
+    (λ d. on_link d (map (λ b. (x.0, b)) (burst_of x.1) ++ t)) (with_message x.0.0 x.1 s).channels f (λ d. refl)
+    (λ d. beats_on_link d x.0 (burst_of x.1) t) (λ d at. refl) (λ d. refl) (manager-says x.0.0 x.1 each.0.ours is))
 
 -- ---- what is delivered
 
@@ -98,15 +98,12 @@ flow_moved {w} link ch o x log d is =
 pub taken_at : {w : ℕ} (link : Link) (ch : Channel) (x : Beat w) (v : Verdict) (d : ℕ)
     → is_moving (outcome_of x v) ≡ true
     → taken_on d (Deliver link ch) (outcome_of x v) ≡ (if link.0 == d then x ∷ [] else [])
-taken_at link ch x Verdict.Stalled d e = absurd cc
-taken_at link ch x v d e = refl
+taken_at link ch x v d e = grind arith
 
 pub flow_still : {w : ℕ} (event : Event w) (o : Outcome w) (log : Log w) (d : ℕ) → is_moving o ≡ false
     → flow d ((event, o) ∷ log) ≡ flow d log
 unfolding flow
-flow_still (Deliver link ch) (Outcome.Moved x) log d e = absurd cc
-flow_still (Deliver link ch) (Outcome.Done x source f) log d e = absurd cc
-flow_still event o log d e = refl
+flow_still event o log d e = grind arith
 
 -- ---- events
 
@@ -140,9 +137,8 @@ asked-passing {w} {config} {log} c o {mail} {request} {s} matched typed is = go 
     go (Some terms) known =
         let x = ask.asked terms o (sys.clients c) in
         subst (λ (i : Step w). IsPassing i.after f) (sym (stepped-asked config c o sys terms known))
-        (says-passing c x.message x.after (sys.clients c).past sys
-        (ours x.message (fit-asked terms o (sys.clients c) typed (copy-long matched c)))
-        (past-asked terms o (sys.clients c)) (λ d other. refl) is)
+        (says-passing c x.message x.after (sys.clients c).past sys (ours x.message (fit-asked terms o
+        (sys.clients c) typed (copy-long matched c))) (past-asked terms o (sys.clients c)) (λ d other. refl) is)
       where
         ours : (m : Option (Message w)) → IsFitIfAny terms.blocks m → IsOurs m
         ours None fit = tt
@@ -201,42 +197,36 @@ moved-passing {w} config log link ch terms x queue width typed logged known beat
                 let handed_is : (v : Verdict) (m : Option (Message w)) → is_moving (outcome_of x v) ≡ true
                 → sent_if_any (client_after.handed (Ok (v, m))) (x ∷ (sys.clients c).past) ≡ sent_if_any m
                 (x ∷ (sys.clients c).past) = elim [ Verdict.Stalled ↦ λ m e. absurd cc | v ↦ λ m e. refl ] in
-                passing-same _ _ _ _ (λ d. refl) (λ d. refl) (λ d at. refl) (λ d. flow_moved link ch (outcome_of x v) x
-                log d (taken_at link ch x v d moves)) (says-passing c m (offer.taken x (sys.clients c)).after
-                (sys.clients c).past (with_channel c ch queue sys) (ours v m answer) (ap (λ (o : offer.Offered w).
-                o.after.past) (sym t.takes) ∙ past-offered terms ch x (sys.clients c) ∙ ap (sent_if_any
-                (client_after.handed (offer.offered terms ch x (sys.clients c)).answer)) t.heard ∙ ap (λ a.
-                sent_if_any (client_after.handed a) (x ∷ (sys.clients c).past)) (ap (λ (o : offer.Offered w).
-                o.answer) t.takes ∙ answer) ∙ handed_is v m moves ∙ rw (same_number c) refl) (λ d other. rw (ne_eqb
-                c d (λ i. other (sym i))) refl) (client-hears c ch x queue up on_ch beats is))
+                passing-same _ _ _ _ (λ d. refl) (λ d. refl) (λ d at. refl)
+                (λ d. flow_moved link ch (outcome_of x v) x log d (taken_at link ch x v d moves))
+                (says-passing c m (offer.taken x (sys.clients c)).after (sys.clients c).past
+                (with_channel c ch queue sys) (ours v m answer)
+                (cc (t.takes, past-offered terms ch x (sys.clients c), t.heard, handed_is v m moves, same_number c))
+                (λ d other. rw (ne_eqb c d (λ i. other (sym i))) refl)
+                (client-hears c ch x queue up on_ch beats is))
               where
                 ours : (v : Verdict) (m : Option (Message w)) → (offer.taken x (sys.clients c)).answer ≡ Ok (v, m)
                     → IsOurs m
                 ours v None e = tt
                 ours v (Some m) e =
-                    let fit : IsFitAnswer config.blocks (Ok (v, Some m)) =
-                    subst (IsFitAnswer config.blocks) e (fit-taken config.blocks x (sys.clients c) head.inside
-                    (copy-long h c)) in
+                    let fit : IsFitAnswer config.blocks (Ok (v, Some m)) = subst (IsFitAnswer config.blocks) e
+                    (fit-taken config.blocks x (sys.clients c) head.inside (copy-long h c)) in
                     ours_from m fit.ours
     go false down = by_manager (manager-moves config link ch sys terms x queue known beats down moving)
       where
         by_manager : IsTakenByManager config link ch x queue sys (stepped config (Deliver link ch) sys)
             → IsPassing (stepped config (Deliver link ch) sys).after f'
         by_manager t =
+            let handed : Handed w = (manager_reaction.reaction config link x sys.manager).handed in
             let e = manager_offer.taken link x (manager_reaction.reaction config link x sys.manager) sys.manager in
             let now : System w = with_manager e (with_channel c ch queue sys) in
             subst (λ (y : Step w). IsPassing y.after (λ d. flow d ((Deliver link ch, y.outcome) ∷ log))) (sym t.step_is)
-            (passing-same _ _ (with_messages handed now).channels _
-            (λ d. ap (λ (i : ℕ → Endpoint w). (i d).past) (clients-with_messages handed now))
-            (λ d. ap (λ (i : manager_end.End w). on_link d i.trace) (manager-with_messages handed now))
-            (λ d at. refl) (λ d. flow_moved link ch (Outcome.Moved x) x log d refl)
-            (manages-passing config handed ((link, x) ∷ sys.manager.trace) now
-            (reaction_handable config link x sys.manager width head h.manager_kept.sound)
-            (passing-same _ _ _ _ (λ d. refl) (λ d. refl) (λ d at. refl) (λ d. refl)
-            (manager-hears c ch x queue down on_ch beats is))))
-          where
-            handed : Handed w
-            handed = (manager_reaction.reaction config link x sys.manager).handed
+            (passing-same _ _ (with_messages handed now).channels _ (λ d. ap (λ (i : ℕ → Endpoint w). (i d).past)
+            (clients-with_messages handed now)) (λ d. ap (λ (i : manager_end.End w). on_link d i.trace)
+            (manager-with_messages handed now)) (λ d at. refl) (λ d. flow_moved link ch
+            (Outcome.Moved x) x log d refl) (manages-passing config handed ((link, x) ∷ sys.manager.trace) now
+            (reaction_handable config link x sys.manager width head h.manager_kept.sound) (passing-same _ _ _ _
+            (λ d. refl) (λ d. refl) (λ d at. refl) (λ d. refl) (manager-hears c ch x queue down on_ch beats is))))
 
 -- ---- after every log
 
@@ -280,9 +270,8 @@ pub passing : {w : ℕ} (config : Config) (log : Log w) → IsWidth w → AreTyp
     → IsPassing (system_after config log) (λ d. flow d log)
 unfolding system_after AreTyped IsLog
 passing {w} config [] width typed logged = first-passing w
-passing {w} config (x ∷ log) width typed logged =
-    rw logged.0 (passing-event config log x.0 width typed.1 logged.1 typed.0
-    (passing config log width typed.1 logged.1))
+passing {w} config (x ∷ log) width typed logged = rw logged.0
+    (passing-event config log x.0 width typed.1 logged.1 typed.0 (passing config log width typed.1 logged.1))
 
 pub carried-passing : {w : ℕ} (config : Config) (log : Log w) (link : ℕ) (ch : Channel)
     → IsPassing (system_after config log) (λ d. flow d log) → IsFifo (system_after config log) log link ch

@@ -1,12 +1,12 @@
 -- Channels lose nothing and keep order: for histories of the two ends of each link, and what is on its channels.
 use Rattle.std.proofs.Common.{◌≡◌, ℕ, zero, suc, Bool, true, false, not, List, [], ◌∷◌, refl, sym, ◌∙◌, ap, inl, inr}
-use Rattle.std.proofs.Common.{◌++◌, ◌&&◌, ne_eqb, append_assoc, ◌==◌, if◌then◌else◌, reverse}
+use Rattle.std.proofs.Common.{arith, ◌++◌, ◌&&◌, ne_eqb, append_assoc, ◌==◌, if◌then◌else◌, reverse}
 use Rattle.tl_coherence.proofs
 use proofs.Imports.{cases_eq, reverse-append, Beat, Channel, Message, beat_of, beats_of, begun, burst_of, History}
 use proofs.Imports.{beats_from, is_from_client, is_to_client, same_channel, channel_of_message}
 use Rattle.tl_burst.specs.statement.Messages.{carried_on, on}
 use proofs.queues.{Beats.reverse-beats_from, Landed.IsOn, Tokens.same_number, Channels.same_channel-is}
-use proofs.deliveries.ManagersAfter.{on_message}
+use proofs.deliveries.{ManagersAfter.on_message}
 
 -- ---- lists
 
@@ -17,14 +17,8 @@ IsInOrder sent queue taken = sent ≡ reverse queue ++ taken
 push_order : {w : ℕ} (b : Bool) (m : Message w) (sent queue own taken : List (Beat w)) → (b ≡ true → own ≡ queue)
     → IsInOrder sent queue taken
     → IsInOrder (if b then burst_of m ++ sent else sent) (if b then own ++ beats_from m 0 (beats_of m) else queue) taken
-push_order true m sent queue own taken same is =
-    cc (
-      is,
-      append_assoc (burst_of m) (reverse queue) taken,
-      reverse-beats_from m (beats_of m),
-      reverse-append queue (beats_from m 0 (beats_of m)),
-      same refl,
-    )
+push_order true m sent queue own taken same is = let fact = reverse-append queue (beats_from m 0 (beats_of m)) in
+    cc (is, append_assoc (burst_of m) (reverse queue) taken, reverse-beats_from m (beats_of m), same refl)
 push_order false m sent queue own taken same is = is
 
 pop_order : {w : ℕ} (b : Bool) (x : Beat w) (rest sent queue taken : List (Beat w)) → (b ≡ true → queue ≡ x ∷ rest)
@@ -49,9 +43,7 @@ carried-begun {w} m (suc k) at t = go (on at (beat_of m k)) (same_channel at (ch
         → carried_on at (begun m k ++ t) ≡ (if b then begun m k ++ carried_on at t else carried_on at t)
         → (if a then beat_of m k ∷ carried_on at (begun m k ++ t) else carried_on at (begun m k ++ t))
         ≡ (if b then beat_of m k ∷ (begun m k ++ carried_on at t) else carried_on at t)
-    go true true e f = ap (λ xs. beat_of m k ∷ xs) f
-    go false false e f = f
-    go a b e f = absurd cc
+    go a b e f = grind arith
 
 carried-beat : {w : ℕ} (x : Beat w) (ch at : Channel) (t : History w) → IsOn ch x
     → carried_on at (x ∷ t) ≡ (if same_channel at ch then x ∷ carried_on at t else carried_on at t)
@@ -59,29 +51,11 @@ unfolding carried_on
 carried-beat x ch at t is = ap (λ b. if b then x ∷ carried_on at t else carried_on at t) (is at)
 
 apart : (at ch : Channel) (b : Bool) → is_to_client at ≡ b → is_to_client ch ≡ not b → same_channel at ch ≡ false
-apart at ch b e f = go (same_channel at ch) refl
-  where
-    differ : (x y : Bool) → x ≡ y → x ≡ b → y ≡ not b → ⊥
-    differ true true e f g =
-        let differs : (b : Bool) → true ≡ b → true ≡ not b → ⊥ = elim [ true ↦ λ f g. cc | false ↦ λ f g. cc ] in
-        absurd (differs b f g)
-    differ false false e f g =
-        let differs : (b : Bool) → false ≡ b → false ≡ not b → ⊥ = elim [ true ↦ λ f g. cc | false ↦ λ f g. cc ] in
-        absurd (differs b f g)
-    differ x y e f g = cc
-
-    go : (x : Bool) → same_channel at ch ≡ x → x ≡ false
-    go false g = refl
-    go true g = absurd (differ (is_to_client at) (is_to_client ch) (ap is_to_client (same_channel-is at ch g)) e f)
+apart at ch b e f = grind (arith, same_channel-is)
 
 sends : {w : ℕ} (m : Message w) (b : Bool) → is_from_client (beat_of m 0) ≡ not b
     → is_to_client (channel_of_message m) ≡ b
-sends (Message.A m) false e = refl
-sends (Message.B m) true e = refl
-sends (Message.C m) false e = refl
-sends (Message.D m) true e = refl
-sends (Message.E m) false e = refl
-sends m b e = absurd cc
+sends m b e = grind arith
 
 -- ---- the two ends of each link
 
@@ -122,20 +96,11 @@ said_here {w} l m p q d at taken is = elim (cases_eq d l) [
 -- on a channel on which it doesn't send, nothing changes
 unsaid_history : {w : ℕ} (l : ℕ) (m : Message w) (p : ℕ → History w) (d : ℕ) (at : Channel)
     → same_channel at (channel_of_message m) ≡ false → carried_on at (said_at l m p d) ≡ carried_on at (p d)
-unsaid_history {w} l m p d at differs =
-    let go : (b : Bool) → carried_on at (if b then burst_of m ++ p d else p d) ≡ carried_on at (p d) =
-    elim [ true ↦ cc (carried-begun m (beats_of m) at (p d), differs) | false ↦ refl ] in
-    go (l == d)
+unsaid_history {w} l m p d at differs = grind (arith, carried-begun)
 
 unsaid_queue : {w : ℕ} (l : ℕ) (m : Message w) (q : ℕ → Channel → List (Beat w)) (d : ℕ) (at : Channel)
     → same_channel at (channel_of_message m) ≡ false → queued_at l m q d at ≡ q d at
-unsaid_queue {w} l m q d at differs = go (d == l) (same_channel at (channel_of_message m)) differs
-  where
-    go : (a b : Bool) → b ≡ false
-        → (if a && b then q l (channel_of_message m) ++ beats_from m 0 (beats_of m) else q d at) ≡ q d at
-    go true false e = refl
-    go false false e = refl
-    go a true e = absurd cc
+unsaid_queue {w} l m q d at differs = grind arith
 
 pub client-says : {w : ℕ} (l : ℕ) (m : Message w) {p t : ℕ → History w} {q : ℕ → Channel → List (Beat w)} {f : ℕ
     → History w}
@@ -161,10 +126,7 @@ manager-says {w} l m {p} {t} {q} ours is = record {
 heard_history : {w : ℕ} (c : ℕ) (ch : Channel) (x : Beat w) (p : ℕ → History w) (d : ℕ) (at : Channel) → IsOn ch x
     → carried_on at (heard_at c x p d) ≡ (if (c == d) && same_channel at ch then x ∷ carried_on at (p d) else carried_on
     at (p d))
-heard_history {w} c ch x p d at is =
-    let go : (b : Bool) → carried_on at (if b then x ∷ p d else p d) ≡ (if b && same_channel at ch then x ∷ carried_on
-    at (p d) else carried_on at (p d)) = elim [ true ↦ carried-beat x ch at (p d) is | false ↦ refl ] in
-    go (c == d)
+heard_history {w} c ch x p d at is = grind (arith, carried-beat)
 
 heard_here : {w : ℕ} (c : ℕ) (ch : Channel) (x : Beat w) (queue : List (Beat w)) (p : ℕ → History w) (q : ℕ → Channel
     → List (Beat w)) (f : ℕ → History w) (d : ℕ) (at : Channel) (sent : List (Beat w)) → IsOn ch x → q c ch ≡ x ∷ queue
@@ -173,14 +135,11 @@ heard_here : {w : ℕ} (c : ℕ) (ch : Channel) (x : Beat w) (queue : List (Beat
     × (carried_on at (heard_at c x p d) ≡ carried_on at (heard_at c x f d))
 heard_here {w} c ch x queue p q f d at sent on first is =
     let order : IsInOrder sent (popped_at c ch queue q d at) (carried_on at (heard_at c x p d)) = elim (cases_eq d c) [
-      | inl here ↦ rw (here, heard_history c ch x p c at on, same_number c)
-          (pop_order (same_channel at ch) x queue sent (q c at) (carried_on at (p c))
-          (λ e. ap (q c) (same_channel-is at ch e) ∙ first) (rw here at is.0))
+      | inl here ↦ rw (here, heard_history c ch x p c at on, same_number c) (pop_order (same_channel at ch) x queue sent
+          (q c at) (carried_on at (p c)) (λ e. ap (q c) (same_channel-is at ch e) ∙ first) (rw here at is.0))
       | inr other ↦ rw (heard_history c ch x p d at on, ne_eqb d c other, ne_eqb c d (λ e. other (sym e))) is.0
     ] in
-    let same : carried_on at (heard_at c x p d) ≡ carried_on at (heard_at c x f d) =
-    cc (heard_history c ch x p d at on, is.1, heard_history c ch x f d at on) in
-    (order, same)
+    (order, cc (heard_history c ch x p d at on, is.1, heard_history c ch x f d at on))
 
 unheard : {w : ℕ} (c : ℕ) (ch : Channel) (x : Beat w) (p : ℕ → History w) (d : ℕ) (at : Channel) → IsOn ch x
     → same_channel at ch ≡ false → carried_on at (heard_at c x p d) ≡ carried_on at (p d)
@@ -188,18 +147,11 @@ unheard {w} c ch x p d at on differs = heard_history c ch x p d at on ∙ go (c 
   where
     go : (a b : Bool) → b ≡ false → (if a && b then x ∷ carried_on at (p d) else carried_on at (p d)) ≡ carried_on at
         (p d)
-    go true false e = refl
-    go false false e = refl
-    go a true e = absurd cc
+    go a b e = grind arith
 
 unpopped : {w : ℕ} (c : ℕ) (ch : Channel) (queue : List (Beat w)) (q : ℕ → Channel → List (Beat w)) (d : ℕ)
     (at : Channel) → same_channel at ch ≡ false → popped_at c ch queue q d at ≡ q d at
-unpopped {w} c ch queue q d at differs = go (d == c) (same_channel at ch) differs
-  where
-    go : (a b : Bool) → b ≡ false → (if a && b then queue else q d at) ≡ q d at
-    go true false e = refl
-    go false false e = refl
-    go a true e = absurd cc
+unpopped {w} c ch queue q d at differs = grind arith
 
 pub client-hears : {w : ℕ} (c : ℕ) (ch : Channel) (x : Beat w) (queue : List (Beat w)) {p t : ℕ → History w} {q : ℕ
     → Channel → List (Beat w)} {f : ℕ → History w} → is_to_client ch ≡ true → IsOn ch x → q c ch ≡ x ∷ queue
@@ -228,7 +180,4 @@ pub passing-same : {w : ℕ} {p t : ℕ → History w} (p' t' : ℕ → History 
     → Channel → List (Beat w)) {f : ℕ → History w} (f' : ℕ → History w) → ((d : ℕ) → p' d ≡ p d)
     → ((d : ℕ) → t' d ≡ t d) → ((d : ℕ) (at : Channel) → q' d at ≡ q d at) → ((d : ℕ) → f' d ≡ f d) → ArePassing p t q f
     → ArePassing p' t' q' f'
-passing-same p' t' q' f' ps ts qs fs is = record {
-  down = λ d at e. rw (ps d, ts d, qs d at, fs d) (is.down d at e);
-  up = λ d at e. rw (ps d, ts d, qs d at, fs d) (is.up d at e);
-}
+passing-same p' t' q' f' ps ts qs fs is = grind arith

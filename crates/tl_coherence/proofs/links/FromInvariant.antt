@@ -1,5 +1,6 @@
 -- What holds of every manager and its clients, whatever happens to them: of what is kept of the whole.
-use Rattle.std.proofs.Common.{◌≡◌, ◌∙◌, ℕ, true, ◌∷◌, Option, Some, None, refl, sym, ap₂, ◌≤◌, ◌/◌, length, is_some}
+use Rattle.std.proofs.Common.{◌≡◌, ◌∙◌, ℕ, true, ◌∷◌, Some}
+use Rattle.std.proofs.Common.{sym, ap₂, ◌≤◌, ◌/◌, length, arith}
 use Rattle.tl_coherence.proofs
 use proofs.Imports.{Beat, Link, Channel, Config, Perm, Op, op_block, EndConfig, held_at, recorded, Deliver, Outcome}
 use proofs.Imports.{view, SimulationRelation, started, IsCoherent, IsFifo, IsExact, capacity, sources_of, IsGiven, Log}
@@ -34,10 +35,7 @@ coherent config log given = coherent-matched (matched-given config log given)
 -- a client has terms
 client_terms : (config : Config) (c : ℕ) → is_client config c ≡ true → (terms : EndConfig)
     × (terms_at config c ≡ Some terms)
-client_terms config c is =
-    let go : (o : Option EndConfig) → terms_at config c ≡ o → is_some o ≡ true → (terms : EndConfig)
-    × (terms_at config c ≡ Some terms) = elim [ Some terms ↦ λ e f. (terms, e) | None ↦ λ e f. absurd cc ] in
-    go (terms_at config c) refl is
+client_terms config c is = grind arith
 
 pub stalls : {w : ℕ} {config : Config} {log : Log w} → IsGiven config log → (link : ℕ) (ch : Channel)
     → is_client config link ≡ true → IsExact config log link ch

@@ -1,19 +1,18 @@
 -- At a Grant the client holds what it is granted.
 use Rattle.std.proofs.Common.{◌≡◌, ℕ, Bool, true, false, List, ◌∷◌, Option, Some, None, refl, sym, ◌∙◌, ap, option_map}
+use Rattle.std.proofs.Common.{arith}
 use Rattle.tl_coherence.proofs
-use proofs.Imports.{Beat, BeatD, Link, Channel, OpD, IsWidth, Message, MessageD, d_beat_of, unfinished, Config, Cap}
-use proofs.Imports.{Perm, cap_code, cap_right, payload_of, held, request_of, Op, Finish, op_block, Endpoint}
-use proofs.Imports.{address_asked, finish_of, cap-gives, grant_opcode, is_access_answer, Deliver, Outcome, Kind, Answer}
-use proofs.Imports.{Grant, ReleaseAck, Packet, ClientBlock, AcquirePhase, AcquireOpen, is_whole, after_grant, is_on}
-use proofs.Imports.{packet, Service, Block, SourceState, Acquires, taken_block, AbstractState, abstract_step}
-use proofs.Imports.{kind_taken, taken_by_client, IsOpened, op_of, message_of_kind, block_message, SimulationRelation}
-use proofs.Imports.{is_caching, started, Log, system_after, Open, Requests, one_memory_after, stepped, System}
-use proofs.memory.Coherence.{opened-started}
+use proofs.Imports.{Beat, BeatD, Link, Channel, OpD, IsWidth, Message, MessageD, d_beat_of, Config, Cap, Perm, cap_code}
+use proofs.Imports.{cap_right, held, Op, Finish, op_block, Endpoint, finish_of, grant_opcode, is_access_answer, Deliver}
+use proofs.Imports.{Outcome, Kind, Answer, Grant, ReleaseAck, Packet, AcquirePhase, is_on, packet, SourceState}
+use proofs.Imports.{Acquires, AbstractState, abstract_step, kind_taken, op_of, message_of_kind, block_message}
+use proofs.Imports.{SimulationRelation, is_caching, started, Log, system_after, Open, Requests, one_memory_after}
+use proofs.Imports.{stepped, System}
+use proofs.memory.{Coherence.opened-started}
 use proofs.links.Ending.{IsEnding, ending}
-use proofs.client.DeliverD.{finish_at}
-use proofs.deliveries.Matching.{matched-event}
-use proofs.manager.UnwaitedRequests.{next_tracker}
-use proofs.queues.Tokens.{set-same}
+use proofs.client.{DeliverD.finish_at}
+use proofs.deliveries.{Matching.matched-event}
+use proofs.manager.{UnwaitedRequests.next_tracker}
 use proofs.protocol.HeadOfD.{IsGrantDue, ack_message, answer-due, grant-due, grant-rendered, grant_message}
 
 -- ---- how a response ends its operation
@@ -21,15 +20,9 @@ use proofs.protocol.HeadOfD.{IsGrantDue, ack_message, answer-due, grant-due, gra
 pub same-response : {w : ℕ} (m n : MessageD w) → Message.D m ≡ Message.D n → m ≡ n
 same-response m n e = cc
 
-pub granted-finish : (w : ℕ) (d : Bool) (k : Cap) (size address : ℕ) (payload : List ℕ)
-    → finish_of w (grant_opcode d) (cap_code k) size address payload ≡ Finish.Granted (cap_right k)
-granted-finish w true k size address payload = ap Finish.Granted (cap-gives k)
-granted-finish w false k size address payload = ap Finish.Granted (cap-gives k)
-
 answer_grants : (w : ℕ) (o : OpD) (param size address : ℕ) (payload : List ℕ) (p : Perm) → is_access_answer o ≡ true
     → Finish.Granted p ≡ finish_of w o param size address payload → ⊥
-answer_grants w OpD.AccessAck param size address payload p e f = absurd cc
-answer_grants w o param size address payload p e f = absurd cc
+answer_grants w o param size address payload p e f = grind arith
 
 ack_grants : (p : Perm) → Finish.Granted p ≡ Finish.Released → ⊥
 ack_grants p e = absurd cc
@@ -37,16 +30,11 @@ ack_grants p e = absurd cc
 -- at a beat
 pub granted-at : {w : ℕ} (y : BeatD w) (e : Endpoint w) (d : Bool) (k : Cap) → y.opcode ≡ grant_opcode d
     → y.param ≡ cap_code k → finish_at y e ≡ Finish.Granted (cap_right k)
-granted-at {w} y e d k opcode param =
-    let address = address_asked (request_of y.source e.past) in
-    let payload = payload_of (Beat.D y ∷ unfinished Channel.D e.past) in
-    ap (λ o. finish_of w o y.param y.size address payload) opcode ∙ ap
-    (λ i. finish_of w (grant_opcode d) i y.size address payload) param ∙ granted-finish w d k y.size address payload
+granted-at {w} y e d k opcode param = grind arith
 
 answer_at : {w : ℕ} (y : BeatD w) (e : Endpoint w) (p : Perm) → is_access_answer y.opcode ≡ true
     → Finish.Granted p ≡ finish_at y e → ⊥
-answer_at {w} y e p is f = answer_grants w y.opcode y.param y.size (address_asked (request_of y.source e.past))
-    (payload_of (Beat.D y ∷ unfinished Channel.D e.past)) p is f
+answer_at {w} y e p is f = grind (arith, answer_grants)
 
 pub released-at : {w : ℕ} (y : BeatD w) (e : Endpoint w) → y.opcode ≡ OpD.ReleaseAck → finish_at y e ≡ Finish.Released
 released-at {w} y e opcode = cc opcode
@@ -57,22 +45,13 @@ same_grant p q e = cc
 -- ---- the operation that it answers
 
 acquired_block : (w : ℕ) (x : AcquirePhase) (n : ℕ) (bytes : List ℕ) → op_block (op_of {w = w} x n bytes) ≡ n
-acquired_block w (AcquireOpen true g) n bytes = refl
-acquired_block w x n bytes = refl
+acquired_block w x n bytes = grind arith
 
 pub opened-acquire : {w : ℕ} (config : Config) (log : Log w) (h : AbstractState w) (sys : System w) (c source n : ℕ)
     (u : SourceState) → SimulationRelation config log h.mail h.request h.state sys → h.state.uses c source ≡ u
     → u ≡ Acquires n → (one_memory_after config log).opened c Requests source ≡ Some
     (record { asked = op_of ((h.state.block n).pair c).acquiring n ((h.state.block n).waiting c); answer = None })
-opened-acquire {w} config log h sys c source n u is e f =
-    let go : (v : SourceState) → v ≡ Acquires n
-    → IsOpened c source h.mail h.state v ((one_memory_after config log).opened c Requests source)
-    → (one_memory_after config log).opened c Requests source
-    ≡ Some (record {
-      asked = op_of ((h.state.block n).pair c).acquiring n ((h.state.block n).waiting c);
-      answer = None;
-    }) = λ v g i. rw g at i in
-    go (h.state.uses c source) (e ∙ f) (is.beside.requests c source)
+opened-acquire {w} config log h sys c source n u is e f = grind arith
 
 same_op : {w : ℕ} (x y : Op w) → Some x ≡ Some y → x ≡ y
 same_op x y e = cc
@@ -82,12 +61,7 @@ same_op x y e = cc
 pub held_granted : {w : ℕ} (config : Config) (tracker : ℕ) {c n : ℕ} (rest : List Packet) (h : AbstractState w)
     (due : IsGrantDue c n h.state)
     → (((kind_taken config tracker c Grant n rest h).state.block n).pair c).held ≡ cap_right due.k
-held_granted {w} config tracker {c} {n} rest h due =
-    let b : Block (List ℕ) = h.state.block n in
-    ap (λ (v : Service). ((((taken_by_client c n v rest h).state).block n).pair c).held) due.service
-    ∙ ap (λ (i : Block (List ℕ)). (i.pair c).held)
-    (set-same n (taken_block c (is_whole (b.pair c).acquiring) due.data_too due.k b) h.state.block)
-    ∙ ap (λ (p : ClientBlock). p.held) (set-same c (after_grant due.k (b.pair c)) b.pair)
+held_granted {w} config tracker {c} {n} rest h due = grind arith
 
 pub granted-holds : {w : ℕ} {config : Config} {log : Log w} (link : Link) (ch : Channel) (h : AbstractState w)
     (x : Beat w) (source : ℕ) (p : Perm) (op : Op w)
@@ -116,11 +90,6 @@ granted-holds {w} {config} {log} link ch h x source p op width is done asked = g
     response_is : (k : Kind) → end.first.kind ≡ k → message_of_kind k h.mail h.state c n ≡ Message.D end.response
     response_is k e = ap (λ (i : Kind). message_of_kind i h.mail h.state c n) (sym e) ∙ end.response_is
 
-    then_matched : SimulationRelation config ((Deliver link ch, (stepped config (Deliver link ch) sys).outcome) ∷ log)
-        (abstract_step config (Deliver link ch) sys h).mail (abstract_step config (Deliver link ch) sys h).request
-        (abstract_step config (Deliver link ch) sys h).state (stepped config (Deliver link ch) sys).after
-    then_matched = matched-event h (Deliver link ch) width tt is
-
     grant : (e : end.first.kind ≡ Grant)
         → held (op_block op) ((stepped config (Deliver link ch) sys).after.clients c).past ≡ p
     grant e =
@@ -128,23 +97,20 @@ granted-holds {w} {config} {log} link ch h x source p op width is done asked = g
         let m : MessageD w = grant_message due.data_too due.k ((h.state.block n).source c) (h.state.block n).tracker
         (h.state.block n).truth in
         let same = same-response end.response m (sym (response_is Grant e) ∙ grant-rendered c n h.state due) in
-        let cap_is : p ≡ cap_right due.k = same_grant p (cap_right due.k)
-        (end.finish_is ∙ granted-at (d_beat_of end.response end.first.next.k) (sys.clients c) due.data_too due.k
-        (ap (λ (i : MessageD w). i.opcode) same) (ap (λ (i : MessageD w). i.param) same)) in
-        let from : source ≡ (h.state.block n).source c = end.source_is ∙ ap (λ (i : MessageD w). i.source) same in
         let opened = opened-acquire config log h sys c source n (h.state.uses c source) is refl
-        (ap (h.state.uses c) from ∙ due.used) in
+        (ap (h.state.uses c) (end.source_is ∙ ap (λ (i : MessageD w). i.source) same) ∙ due.used) in
         let op_is = same_op op _ (sym asked ∙ sym (opened-started config log c Requests source)
         ∙ ap (λ (o : Option (Open w)). option_map (λ i. i.asked) o) opened) in
-        let block_is : op_block op ≡ n = ap op_block op_is ∙ acquired_block w ((h.state.block n).pair c).acquiring n
-        ((h.state.block n).waiting c) in
         ap (λ (i : ℕ). held i ((stepped config (Deliver link ch) sys).after.clients c).past)
-        block_is ∙ (then_matched.known c).held_is n
+        (ap op_block op_is ∙ acquired_block w ((h.state.block n).pair c).acquiring n ((h.state.block n).waiting c))
+        ∙ ((matched-event h (Deliver link ch) width tt is).known c).held_is n
         ∙ ap (λ (at : Channel). (((abstract_step config (Deliver link at) sys h).state.block n).pair c).held) end.on_d
         ∙ ap (λ (i : AbstractState w). ((i.state.block n).pair c).held) end.follows ∙ ap
         (λ (k : Kind). (((kind_taken config (next_tracker sys) c k n end.first.rest h).state.block n).pair c).held)
         e
-        ∙ held_granted config (next_tracker sys) end.first.rest h due ∙ sym cap_is
+        ∙ held_granted config (next_tracker sys) end.first.rest h due ∙ sym (same_grant p (cap_right due.k)
+        (end.finish_is ∙ granted-at (d_beat_of end.response end.first.next.k) (sys.clients c) due.data_too due.k
+        (ap (λ (i : MessageD w). i.opcode) same) (ap (λ (i : MessageD w). i.param) same)))
 
     go : (k : Kind) → end.first.kind ≡ k → is_on Channel.D end.first.kind ≡ true
         → held (op_block op) ((stepped config (Deliver link ch) sys).after.clients c).past ≡ p
@@ -157,7 +123,6 @@ granted-holds {w} {config} {log} link ch h x source p op width is done asked = g
         (ap (λ (i : MessageD w). is_access_answer i.opcode) same ∙ due.answers_access) end.finish_is)
     go ReleaseAck e own =
         let m : MessageD w = ack_message ((h.state.block n).release_source c) in
-        let same : end.response ≡ m = same-response end.response m (sym (response_is ReleaseAck e)) in
         absurd (ack_grants p (end.finish_is ∙ released-at (d_beat_of end.response end.first.next.k) (sys.clients c)
-        (ap (λ (i : MessageD w). i.opcode) same)))
+        (ap (λ (i : MessageD w). i.opcode) (same-response end.response m (sym (response_is ReleaseAck e))))))
     go k e own = absurd (let f : false ≡ true = rw e at own in cc)

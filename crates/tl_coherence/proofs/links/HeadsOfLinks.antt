@@ -1,7 +1,7 @@
 -- The first beat of each channel of a client's link: it is one of the channel, no rule refuses it, and
 -- on channel B it is a Probe.
-use Rattle.std.proofs.Common.{◌≡◌, ℕ, Bool, true, false, List, ◌∷◌, Option, Some, refl, sym, ◌∙◌, ap, subst, map}
-use Rattle.std.proofs.Common.{Result, Ok, Err}
+use Rattle.std.proofs.Common.{◌≡◌, ℕ, Bool, true, false, List, ◌∷◌, Option, Some, refl, sym, ◌∙◌, ap, subst, map, arith}
+use Rattle.std.proofs.Common.{Result}
 use Rattle.tl_coherence.proofs
 use proofs.Imports.{Beat, BeatB, Channel, IsWidth, Message, beat_of, channel_of, unfinished, Config, Cap, Rule}
 use proofs.Imports.{is_probe, kept_up, Verdict, is_refused, EndConfig, Offered, offered, silent, taken, Kind, Answer}
@@ -12,16 +12,15 @@ use Rattle.tl_manager.specs.statement.End as manager_end
 use Rattle.tl_manager.specs.statement.Offer as manager
 use Rattle.tl_coherence.proofs.queues.FirstToken as packet
 use proofs.queues.{Carried.IsNext, FirstToken.first-token}
-use proofs.client.{ClientDelivered.shadow_of, ClientDelivered.delivered-d, ProbeDelivered.IsProbed}
-use proofs.client.{ProbeDelivered.delivered-b}
-use proofs.manager.{ManagerTakes.by-first_c, ManagerTakes.by-first_e, Reporting.report-about, Reporting.release-about}
-use proofs.manager.{UnwaitedRequests.next_tracker}
+use proofs.client.ClientDelivered.{shadow_of, delivered-d}
+use proofs.client.ProbeDelivered.{IsProbed, delivered-b}
+use proofs.manager.{Reporting.report-about, Reporting.release-about, UnwaitedRequests.next_tracker}
+use proofs.manager.ManagerTakes.{by-first_c, by-first_e}
 use proofs.memory.Runs.{IsTakenUp, IsTakenIn}
-use proofs.links.Stalling.{IsFirst}
+use proofs.links.{Stalling.IsFirst}
 use proofs.protocol.HeadOfD.{answer-due, grant-due, grant-rendered}
-use proofs.deliveries.{ManagerDelivered.channel_c-delivered, ManagerDelivered.channel_e-delivered}
-use proofs.deliveries.{FirstRequest.IsArrival, FirstRequest.arrival-first, FirstRequest.request-taken}
-use proofs.deliveries.{FirstRequest.request-stalled}
+use proofs.deliveries.ManagerDelivered.{channel_c-delivered, channel_e-delivered}
+use proofs.deliveries.FirstRequest.{IsArrival, arrival-first, request-taken, request-stalled}
 
 -- ---- the channel of the first beat
 
@@ -70,9 +69,8 @@ on_d {w} {config} h {sys} c x queue width is beats = go first.kind first.number 
         let due = answer-due (is_caching config) c i first.rest h.mail h.state is.invariant (is.answered c i) tokens in
         ap (λ (y : Beat w). channel_of y) (next.beat_is ∙ ap (λ (m : Message w). beat_of m next.k) due.answer_is)
     go Grant n tokens own next =
-        let due = grant-due (is_caching config) c n first.rest h.state is.invariant tokens in
         ap (λ (y : Beat w). channel_of y) (next.beat_is ∙ ap (λ (m : Message w). beat_of m next.k)
-        (grant-rendered c n h.state due))
+        (grant-rendered c n h.state (grant-due (is_caching config) c n first.rest h.state is.invariant tokens)))
     go ReleaseAck n tokens own next = ap (λ (y : Beat w). channel_of y) next.beat_is
     go k i tokens own next = absurd cc
 
@@ -87,8 +85,7 @@ same_b x y e = cc
 -- ---- no rule refuses it
 
 unrefused_up : {w : ℕ} (a : Result (Verdict × Option (Message w)) Rule) → is_refused a ≡ false → IsTakenUp a
-unrefused_up (Ok v) e = tt
-unrefused_up (Err rule) e = absurd cc
+unrefused_up a e = grind arith
 
 taken_in : {w : ℕ} (a b : manager.Reception w × manager_end.End w) → a ≡ b → IsTakenIn b → IsTakenIn a
 taken_in a b e is = subst IsTakenIn (sym e) is
@@ -142,9 +139,8 @@ first-of {w} config log h c terms Channel.B x queue width is at beats =
     either false e = taken_up (offered terms Channel.B x (sys.clients c)) (silent Verdict.Stalled (sys.clients c))
         (probed.1.waits_for e) tt
 first-of {w} config log h c terms Channel.C x queue width is at beats =
-    let sys : System w = system_after config log in
     let on = on_c h c x queue width is beats in
-    let d = channel_c-delivered (next_tracker sys) h c x queue width is beats in
+    let d = channel_c-delivered (next_tracker (system_after config log)) h c x queue width is beats in
     record {
       on = on;
       taken = (λ e. absurd cc, λ e. taken_in _ _ d.up.answer tt);
@@ -164,9 +160,8 @@ first-of {w} config log h c terms Channel.D x queue width is at beats =
       probes = λ y e. not_probe x y Channel.D on (λ f. absurd cc) e;
     }
 first-of {w} config log h c terms Channel.E x queue width is at beats =
-    let sys : System w = system_after config log in
     let on = on_e h c x queue width is beats in
-    let d = channel_e-delivered (next_tracker sys) h c x queue width is beats in
+    let d = channel_e-delivered (next_tracker (system_after config log)) h c x queue width is beats in
     record {
       on = on;
       taken = (λ e. absurd cc, λ e. taken_in _ _ d.up.answer tt);

@@ -1,11 +1,12 @@
 -- Which deliveries are stalled: a Probe while a Release of its block is outstanding, and the last beat of a request
 -- whose block is in service, or for which there is no tracker.
-use Rattle.std.proofs.Common.{◌≡◌, ℕ, Bool, true, false, List, [], ◌∷◌, refl, sym, ◌∙◌, ap, not, ◌&&◌, Option, Some}
+use Rattle.std.proofs.Common.{◌≡◌, ℕ, Bool, true, false, List, [], ◌∷◌, refl}
+use Rattle.std.proofs.Common.{sym, ◌∙◌, ap, not, ◌&&◌, Option, Some, arith}
 use Rattle.std.proofs.Common.{None, is_none, is_some, option_map}
 use Rattle.tl_coherence.proofs
 use proofs.Imports.{and-false, not-true, not-false, Beat, BeatB, Channel, MessageA, channel_of, is_empty, Config}
 use proofs.Imports.{ReleaseOf, Level, Prune, Rule, block_at, is_probe, pending, Op, EndConfig, offered, must_wait}
-use proofs.Imports.{Passes, offered_as, open_level, Deliver, is_of, releases_with, is_unreleased, State, IsLet}
+use proofs.Imports.{Passes, offered_as, open_level, Deliver, releases_with, is_unreleased, State, IsLet}
 use proofs.Imports.{AccessMessages, SimulationRelation, started, IsCoherent, IsExact, Moves, is_stall, is_moving, Log}
 use proofs.Imports.{system_after, Open, Releases, is_client, is_movable, moves, stalls, one_memory_after, stepped}
 use proofs.Imports.{delivered, stepped_at, System, terms_at}
@@ -32,9 +33,7 @@ waits-as-it-must config link x e None None false rest silent taken = silent
 waits-as-it-must config link x e a b must rest silent taken = absurd taken
 
 passes-or-breaks : (a b : Option Rule) → is_waiting (breaks_or a (breaks_or b Passes)) ≡ false
-passes-or-breaks (Some r) b = refl
-passes-or-breaks None (Some r) = refl
-passes-or-breaks None None = refl
+passes-or-breaks a b = grind arith
 
 stalled-as-it-must : {w : ℕ} (config : Config) (link : _) (ch : Channel) (x : Beat w) (e : manager_end.End w)
     → IsTakenIn (manager.offered config link ch x e)
@@ -64,13 +63,10 @@ stalled-as-it-waits terms ch x e taken = rw (up-unbroken terms ch x e taken) ref
 
 -- ---- what is outstanding of a Release
 
-is_some_of : (n : ℕ) (o : Option ℕ) → o ≡ Some n → is_of n o ≡ true
-is_some_of n o e = rw e (same_number n)
-
 module _ {w : ℕ} {config : Config} {log : Log w} {mail : AccessMessages w} {request : ℕ → MessageA w}
     {s : State (List ℕ)} (matched : SimulationRelation config log mail request s (system_after config log))
     (coherent : IsCoherent (system_after config log) log (one_memory_after config log)) (c n : ℕ) where
-  pub releasing-started : pending (ReleaseOf n) ((system_after config log).clients c).past ≡ true → IsReleasing c n log
+  releasing-started : pending (ReleaseOf n) ((system_after config log).clients c).past ≡ true → IsReleasing c n log
   releasing-started p =
       let not_kept = not-true (is_unreleased ((s.block n).pair c).letting) (sym ((matched.known c).releases n) ∙ p) in
       let let_by : s.lets c source ≡ Some n = source_of_release c n matched.invariant not_kept in
@@ -82,10 +78,8 @@ module _ {w : ℕ} {config : Config} {log : Log w} {mail : AccessMessages w} {re
 
       of_let : IsLet (Some n) ((one_memory_after config log).opened c Releases source)
           → (prune : Prune) × (started c Releases source log ≡ Some (Release n prune))
-      of_let (p, is) = (
-        p,
-        sym (coherent.opened c Releases source) ∙ ap (λ (o : Option (Open w)). option_map (λ x. x.asked) o) is,
-      )
+      of_let (p, is) =
+          (p, sym (coherent.opened c Releases source) ∙ ap (λ (o : Option (Open w)). option_map (λ x. x.asked) o) is)
 
   pub started-releasing : IsReleasing c n log → pending (ReleaseOf n) ((system_after config log).clients c).past ≡ true
   started-releasing (source, prune, is) = go (s.lets c source) refl (matched.beside.releases c source)
@@ -107,9 +101,8 @@ module _ {w : ℕ} {config : Config} {log : Log w} {mail : AccessMessages w} {re
       go (Some m) e (p, opened) =
           let asked : option_map (λ x. x.asked) ((one_memory_after config log).opened c Releases source) ≡ Some
           (Release m p) = rw opened refl in
-          let same : m ≡ n = same_release m p _ _ asked asked_is refl in
           let named : releases_with c source (s.block n) ≡ true = sym (matched.invariant.named.releases c source n)
-          ∙ is_some_of n (s.lets c source) (e ∙ ap (λ (i : ℕ). Some i) same) in
+          ∙ (rw (e ∙ ap (λ (i : ℕ). Some i) (same_release m p _ _ asked asked_is refl)) (same_number n)) in
           (matched.known c).releases n ∙ and_left (not (is_unreleased ((s.block n).pair c).letting)) _ named
 
 -- ---- deliveries
@@ -126,9 +119,8 @@ moving-else : {w : ℕ} (config : Config) (terms : EndConfig) (link : ℕ) (ch :
     → is_stall (delivered config terms link ch beats s).outcome ≡ false
     → is_moving (delivered config terms link ch beats s).outcome ≡ true
 moving-else config terms link ch [] s some unstalled = absurd cc
-moving-else config terms link ch (x ∷ rest) s some unstalled =
-    first-outcome (λ o. is_stall o ≡ false → is_moving o ≡ true) config terms link ch x rest s (λ e. absurd cc)
-    (λ e. refl) (λ source f e. refl) unstalled
+moving-else config terms link ch (x ∷ rest) s some unstalled = first-outcome (λ o. is_stall o ≡ false
+    → is_moving o ≡ true) config terms link ch x rest s (λ e. absurd cc) (λ e. refl) (λ source f e. refl) unstalled
 
 -- a movable delivery moves a beat, where empty and stalled ones are what they should be
 pub movable-moves : {w : ℕ} (config : Config) (log : Log w) (c : ℕ) (ch : Channel)
@@ -191,15 +183,11 @@ module _ {w : ℕ} {config : Config} {log : Log w} {mail : AccessMessages w} {re
   moves-exactly Channel.B (Beat.B y) rest e first =
       let waits : is_movable config c Channel.B (system_after config log)
       ≡ not (pending (ReleaseOf (block_at y.address)) ((system_after config log).clients c).past) =
-      movable-is Channel.B (Beat.B y) rest e
-      ∙ ap not (stalled-as-it-waits terms Channel.B (Beat.B y) ((system_after config log).clients c)
-      (first.taken.0 refl) ∙ rw (first.probes y refl) refl) in
-      let there : is_movable config c Channel.B (system_after config log) ≡ false
-      → IsReleasing c (block_at y.address) log = λ h. releasing-started matched coherent c
-      (block_at y.address) (not-false _ (sym waits ∙ h)) in
-      let back : IsReleasing c (block_at y.address) log → is_movable config c Channel.B (system_after config log)
-      ≡ false = λ h. waits ∙ ap not (started-releasing matched coherent c (block_at y.address) h) in
-      (there, back)
+      movable-is Channel.B (Beat.B y) rest e ∙ ap not (stalled-as-it-waits terms Channel.B (Beat.B y)
+      ((system_after config log).clients c) (first.taken.0 refl) ∙ rw (first.probes y refl) refl) in
+      let there : is_movable config c Channel.B (system_after config log) ≡ false → IsReleasing c
+      (block_at y.address) log = λ h. releasing-started matched coherent c (block_at y.address) (not-false _ (cc)) in
+      (there, (λ h. waits ∙ ap not (started-releasing matched coherent c (block_at y.address) h)))
   moves-exactly ch x rest e first = absurd (let on = first.on in cc)
 
   pub exact : (ch : Channel) → ((x : Beat w) (rest : List (Beat w)) → (system_after config log).channels c ch ≡ x ∷ rest
@@ -212,8 +200,7 @@ module _ {w : ℕ} {config : Config} {log : Log w} {mail : AccessMessages w} {re
   }
     where
       not_not : (b : Bool) → b ≡ not (not b)
-      not_not true = refl
-      not_not false = refl
+      not_not b = grind arith
 
       stall : (beats : List (Beat w)) → (system_after config log).channels c ch ≡ beats
           → is_stall (outcome_of_delivery config log c ch) ≡ not (is_empty ((system_after config log).channels c ch))

@@ -1,11 +1,11 @@
 -- What the manager knows follows from five things: what it recorded, which ProbeAcks it misses, which service each
 -- block has, and which request that is. This is for all of its events alike.
-use Rattle.std.proofs.Common.{◌≡◌, ℕ, Bool, true, false, not, ◌&&◌, ◌||◌, Option, Some, None, refl, sym, ◌∙◌, ap}
+use Rattle.std.proofs.Common.{◌≡◌, ℕ, Bool, true, false, not, ◌&&◌, ◌||◌, Option, Some, None, refl, sym, ◌∙◌, ap, arith}
 use Rattle.std.proofs.Common.{eqb-true, ◌==◌, if◌then◌else◌}
 use Rattle.tl_coherence.proofs
 use proofs.Imports.{same_Some, Channel, MessageA, unfinished, Config, Cap, Trace, on_link, comes_in_request, probe_of}
 use proofs.Imports.{some_is, IsKept, is_any, IsProbed, End, cap_probed, services, service_of_block, IsInvariant}
-use proofs.Imports.{is_busy, IsOwnSource, is_serving, tracks_with, View, Own, Other, Granting, Acknowledging}
+use proofs.Imports.{is_busy, IsOwnSource, is_serving, View, Own, Other, Granting, Acknowledging}
 use proofs.Imports.{GrantedOther, is_unprobed, Service, Free, Waits, GrantSent, GrantTaken, State, SourceState}
 use proofs.Imports.{SourceFree, Asked, InService, Replied, Acquires, view, is_granting, is_acknowledging, is_wanting}
 use proofs.Imports.{ManagerRelation, is_own, client_in, service_with, probe_beat, ServedSourceRelation, IsFor}
@@ -29,8 +29,7 @@ asking-served : {w : ℕ} {X : Type 0} {caching : ℕ → Bool} (request : ℕ �
 asking-served request c source n tracker Free inv f for ungranted r client same here = absurd cc
 asking-served request c source n tracker (GrantSent q d k) inv f for ungranted r client same here = absurd cc
 asking-served request c source n tracker (GrantTaken q) inv f for ungranted r client same here = absurd cc
-asking-served {w} {X} request {s} c source n tracker (Waits q own src k) inv f for ungranted r client same here =
-    go own refl
+asking-served request {s} c source n tracker (Waits q own src k) inv f for ungranted r client same here = go own refl
   where
     q_is : q ≡ c
     q_is = same_Some q r client ∙ eqb-true r c same
@@ -41,19 +40,15 @@ asking-served {w} {X} request {s} c source n tracker (Waits q own src k) inv f f
     go : (b : Bool) → own ≡ b → is_served c (s.uses c source) s ≡ true
     go true g =
         let waits_so : (s.block n).service ≡ Waits c true source k = f ∙ rw (q_is, src_is, g) refl in
-        let sourced : IsOwnSource (Waits c true source k) (s.block n).source =
-        rw waits_so at (inv.blocks n).own_source in
         let own_view : view (s.block n).service c ≡ Own = rw (waits_so, same_number c) refl in
         let wants = not-calm ((s.block n).pair c).acquiring (own_wants ((s.block n).pair c) (view (s.block n).service c)
         ((inv.blocks n).phases c) own_view) in
-        let used = acquires_of-is n (s.uses c source)
-        (inv.named.acquires c source n ∙ rw (wants, ← sourced, same_number source) refl) in
+        let used = acquires_of-is n (s.uses c source) (inv.named.acquires c source n
+        ∙ rw (wants, ← (rw waits_so at (inv.blocks n).own_source), same_number source) refl) in
         rw (used, own_view) refl
     go false g =
         let waits_so : (s.block n).service ≡ Waits c false source k = f ∙ rw (q_is, src_is, g) refl in
-        let used = serves_of-is n (s.uses c source)
-        (inv.named.serves c source n ∙ rw (waits_so, same_number c, same_number source) refl) in
-        rw used refl
+        rw (serves_of-is n (s.uses c source) (cc (inv.named.serves c source n, same_number c, same_number source))) refl
 
 -- the block whose service a served use is of
 pub record IsServing {X : Type 0} (c source : ℕ) (s : State X) : Type 0 where
@@ -79,12 +74,10 @@ served-waits {X} {s} c source (InService n) inv f e =
 served-waits {X} {s} c source (Acquires n) inv f e = go (s.block n).service refl e
   where
     only : (b : Bool) (k : Cap) → is_own (if b then Own else Other k) ≡ true → b ≡ true
-    only true k g = refl
-    only false k g = absurd cc
+    only b k e = grind arith
 
     no_grant : (b : Bool) (u v : View) → is_own u ≡ false → is_own v ≡ false → is_own (if b then u else v) ≡ false
-    no_grant true u v g h = g
-    no_grant false u v g h = h
+    no_grant b u v e f = grind arith
 
     named : (source == (s.block n).source c) ≡ true
     named = and_right (is_wanting ((s.block n).pair c).acquiring) (source == (s.block n).source c)
@@ -189,14 +182,12 @@ to-granted c (GrantTaken q) e f = let same : q ≡ c = same_Some q c f in rw (sa
 to-granted c service e f = absurd cc
 
 busy-granted : (service : Service) → is_granted_in service ≡ true → is_busy service ≡ true
-busy-granted Free e = absurd cc
-busy-granted service e = refl
+busy-granted service e = grind arith
 
 sinks-traced : {w : ℕ} {X : Type 0} {caching : ℕ → Bool} {config : Config} {request : ℕ → MessageA w} {s : State X}
     {e : End w} → IsInvariant caching s → IsKept config e → IsTraced request s e.trace
     → (c sink : ℕ) → is_any (is_granted_with c sink e.trace) (services e.trace) ≡ is_granted c (s.tracked sink) s
-sinks-traced {w} {X} {caching} {config} {request} {s} {e} inv kept is c sink =
-    one_truth _ _ granted_with (with_granted (s.tracked sink) refl)
+sinks-traced {w} {request} {s} {e} inv kept is c sink = one_truth _ _ granted_with (with_granted (s.tracked sink) refl)
   where
     t : Trace w
     t = e.trace
@@ -212,19 +203,16 @@ sinks-traced {w} {X} {caching} {config} {request} {s} {e} inv kept is c sink =
         let one = any-found (is_granted_with c sink t) (services t) kept.blocks_apart any in
         let n : ℕ = one.block in
         let v : manager.Service w = one.service in
-        let client = eqb-true v.link.0 c (and_left (v.link.0 == c) _ one.passes) in
-        let number = eqb-true v.tracker sink (and_left (v.tracker == sink) _ (and_right (v.link.0 == c) _ one.passes))
-        in
         let yes = and_right (v.tracker == sink) _ (and_right (v.link.0 == c) _ one.passes) in
         let granted : is_granted_in (s.block n).service ≡ true = sym (granted-is inv kept is n v one.serves) ∙ yes in
         let of = client_of (client_in (s.block n).service) (s.block n).tracker (request n) v
         (sym (is.serving_is n) ∙ one.serves) in
-        let tracker_is : sink ≡ (s.block n).tracker = sym number ∙ of.1 in
-        let tracked = is_of-is n (s.tracked sink)
-        (inv.named.trackers sink n ∙ rw (busy-granted (s.block n).service granted, ← tracker_is, same_number sink)
-        refl) in
-        ap (λ (o : Option ℕ). is_granted c o s) tracked ∙ to-granted c (s.block n).service granted
-        (of.0 ∙ ap Some client)
+        let tracker_is : sink ≡ (s.block n).tracker = sym (eqb-true v.tracker sink
+        (and_left (v.tracker == sink) _ (and_right (v.link.0 == c) _ one.passes))) ∙ of.1 in
+        ap (λ (o : Option ℕ). is_granted c o s) (is_of-is n (s.tracked sink) (inv.named.trackers sink n
+        ∙ rw (busy-granted (s.block n).service granted, ← tracker_is, same_number sink) refl)) ∙ to-granted c
+        (s.block n).service granted
+        (of.0 ∙ ap Some (eqb-true v.link.0 c (and_left (v.link.0 == c) _ one.passes)))
 
     with_granted : (o : Option ℕ) → s.tracked sink ≡ o → is_granted c o s ≡ true
         → is_any (is_granted_with c sink t) (services t) ≡ true
@@ -233,13 +221,10 @@ sinks-traced {w} {X} {caching} {config} {request} {s} {e} inv kept is c sink =
         let to = granted-to c (s.block n).service g in
         let v : manager.Service w = at_service c (s.block n).tracker (request n) in
         let found : service_of_block n (services t) ≡ Some v = cc (is.serving_is n, to.1) in
-        let granted : waits.is_granted t v ≡ true = granted-is inv kept is n v found ∙ to.0 in
-        let tracks : tracks_with sink (s.block n) ≡ true = sym (inv.named.trackers sink n) ∙ rw (f, same_number n) refl
-        in
-        let number = eqb-true sink (s.block n).tracker
-        (and_right (is_busy (s.block n).service) (sink == (s.block n).tracker) tracks) in
+        let number = eqb-true sink (s.block n).tracker (and_right (is_busy (s.block n).service)
+        (sink == (s.block n).tracker) (sym (inv.named.trackers sink n) ∙ rw (f, same_number n) refl)) in
         any-of n (is_granted_with c sink t) (services t) v found
-        (rw (same_number c, granted, ← number, same_number sink) refl)
+        (rw (same_number c, granted-is inv kept is n v found ∙ to.0, ← number, same_number sink) refl)
 
 -- ---- all of it
 
@@ -266,23 +251,19 @@ probes-traced : {w : ℕ} {X : Type 0} {caching : ℕ → Bool} {config : Config
     → probe_of n (on_link c e.trace) ≡ Some (probe_beat n (cap_waited (s.block n).service))
 probes-traced {w} {X} {caching} {config} {request} {s} {e} inv kept is c n sent =
     let probed : IsProbed c n e.trace = (kept.steady.accounted.blocks n).probes c (is.probes c n ∙ ap not sent) in
-    let granted : is_granted_in (s.block n).service ≡ false =
-    sym (granted-is inv kept is n probed.service probed.serves) ∙ probed.unanswered in
     let of = request-with (s.block n).service (s.block n).tracker (request n) probed.service
     (sym (is.serving_is n) ∙ probed.serves) in
     let caps : cap_probed (request n).opcode (request n).param ≡ Some probed.cap = rw (← of.0) probed.caps in
     probed.probe ∙ ap (λ (k : Cap). Some (probe_beat n k)) (cap-of (s.block n).service n (request n) probed.cap
-    (is.requests n) granted of.1 caps)
+    (is.requests n) (sym (granted-is inv kept is n probed.service probed.serves) ∙ probed.unanswered) of.1 caps)
 
 pub are_served-traced : {w : ℕ} {X : Type 0} {caching : ℕ → Bool} {config : Config} {request : ℕ → MessageA w}
     {s : State X} {e : End w} → IsInvariant caching s
     → IsKept config e → IsTraced request s e.trace → ServedSourceRelation request s e.trace
 are_served-traced {w} {X} {caching} {config} {request} {s} {e} inv kept is = record {
-  sources = λ c source. cc (
-    source-pending c source e.trace kept.steady.accounted,
-    sources-traced inv kept is c source,
-    or_comm (comes_in_request source (unfinished Channel.A (on_link c e.trace))) (is_served c (s.uses c source) s),
-  );
+  sources = λ c source. let fact =
+      or_comm (comes_in_request source (unfinished Channel.A (on_link c e.trace))) (is_served c (s.uses c source) s) in
+      cc (source-pending c source e.trace kept.steady.accounted, sources-traced inv kept is c source);
   sinks = λ c sink. sink-pending c sink e.trace kept.sinks ∙ sinks-traced inv kept is c sink;
   requests = is.requests;
   asked = is.asked;

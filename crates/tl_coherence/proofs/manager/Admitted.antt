@@ -1,16 +1,16 @@
 -- A beat of channel A that is delivered breaks no rule: it is taken, unless it has to wait.
-use Rattle.std.proofs.Common.{◌≡◌, ℕ, zero, suc, Bool, true, false, not, ◌&&◌, ◌||◌, List, [], ◌∷◌, Option, Some, None}
-use Rattle.std.proofs.Common.{refl, sym, ◌∙◌, ap, arith, ne_eqb, eqb-true, ◌==◌, map, is_some, All}
+use Rattle.std.proofs.Common.{◌≡◌, ℕ, zero, suc, Bool, true, false, ◌&&◌, List, [], ◌∷◌, Option, Some, None}
+use Rattle.std.proofs.Common.{refl, sym, ◌∙◌, ap, arith, eqb-true, ◌==◌, map, is_some, All}
 use Rattle.tl_coherence.proofs
 use proofs.Imports.{Beat, BeatA, Link, Channel, OpB, first_if, Message, MessageA, a_beat_of, begun, History, unfinished}
 use proofs.Imports.{Config, Key, Level, Grow, Prune, Report, Perm, Profile, H4, H5, report_left, grow_code, later-legal}
 use proofs.Imports.{is_outside, is_spoiled, Trace, on_link, broken_order, broken_in_order, same_perm, grows_from}
-use proofs.Imports.{pending, block_at, is_acquire, held, illegal, is_one_of, same_block, acquisition, probe_ack}
+use proofs.Imports.{pending, is_acquire, held, illegal, is_one_of, same_block, acquisition, probe_ack}
 use proofs.Imports.{release, judged-passes, tracker_among, IsSound, comes_of, one_if, End, Passes, level_of, must_wait}
 use proofs.Imports.{open_level, before_stall, offered_as, reaction, services, service_of_block, least_untaken}
 use proofs.Imports.{trackers_of, is_in_service, IsInvariant, is_busy, tracks_with, Kind, ProbeAck, Release, Packet}
-use proofs.Imports.{count, is, ClientBlock, View, Own, is_unprobed, ok, Idle, AcquireOpen, ReleasePhase, NoRelease}
-use proofs.Imports.{is_unreleased, grow_fits, Service, Free, Waits, GrantSent, GrantTaken, Asked, State, packet, is_on}
+use proofs.Imports.{count, is, ClientBlock, View, Own, is_unprobed, ok, Idle, AcquireOpen, ReleasePhase}
+use proofs.Imports.{is_unreleased, grow_fits, Service, Free, Waits, GrantSent, GrantTaken, Asked, State, packet}
 use proofs.Imports.{view, is_releasing, is_unserved, acquire_opcode, IsCarried, ManagerRelation, is_own, client_in}
 use proofs.Imports.{service_with, AccessMessages, block_message, message_of, report_told, prune_told}
 use proofs.Imports.{SimulationRelation, AreLanes, is_served, Log, System}
@@ -28,18 +28,12 @@ use proofs.protocol.{Heads.IsWanted, FirstTokens.first-shown}
 -- the beats of a ProbeAck are of no Release
 ack_comes : (w : ℕ) (p : Perm) (r : Report) (i n k : ℕ) (payload : List ℕ)
     → comes_of n (begun (probe_ack {w = w} OpB.ProbeBlock p r i payload) k) ≡ false
-ack_comes w p r i n zero payload = refl
-ack_comes w Perm.Trunk r i n (suc k) payload = refl
-ack_comes w Perm.Branch r i n (suc k) payload = refl
-ack_comes w Perm.None r i n (suc k) payload = refl
+ack_comes w p r i n k payload = grind arith
 
 -- those of a Release are of its block
 release_comes : (w : ℕ) (r : Prune) (source i n k : ℕ) (payload : List ℕ) → (i ≡ n → ⊥)
     → comes_of n (begun (release {w = w} r source i payload) k) ≡ false
-release_comes w r source i n zero payload ne = refl
-release_comes w Prune.TtoB source i n (suc k) payload ne = rw (same_block i) (ne_eqb i n ne)
-release_comes w Prune.TtoN source i n (suc k) payload ne = rw (same_block i) (ne_eqb i n ne)
-release_comes w Prune.BtoN source i n (suc k) payload ne = rw (same_block i) (ne_eqb i n ne)
+release_comes w r source i n k payload e = grind (arith, same_block)
 
 -- the first token of a list stands there
 pub first_counts : (x : Packet) (xs : List Packet) → count x.kind x.number (x ∷ xs) ≡ 0 → ⊥
@@ -47,7 +41,7 @@ unfolding count
 first_counts x xs none = let one : one_if (is x.kind x.number x) ≡ 1 =
     rw (same_kind_again x.kind, same_number x.number) refl in absurd (omega (arith, none, one))
 
-pub release-comes : {w : ℕ} {config : Config} {log : Log w} {mail : AccessMessages w} {request : ℕ → MessageA w}
+release-comes : {w : ℕ} {config : Config} {log : Log w} {mail : AccessMessages w} {request : ℕ → MessageA w}
     {s : State (List ℕ)} {sys : System w} (c n : ℕ)
     → SimulationRelation config log mail request s sys → is_releasing ((s.block n).pair c).letting ≡ false
     → comes_of n (unfinished Channel.C (on_link c sys.manager.trace)) ≡ false
@@ -61,22 +55,18 @@ release-comes {w} {mail} {s} {sys} c n is kept = go (s.link c).c refl
         → IsCarried t (map (message_of mail s c) xs) (sys.channels c Channel.C)
     carried xs e = rw e at (is.carried c Channel.C)
 
-    apart : (x : Packet) (xs : List Packet) → (s.link c).c ≡ x ∷ xs → is_on Channel.C x.kind ≡ false → ⊥
-    apart x xs e off = first_counts x xs (rw e at (is.invariant.own_kinds c Channel.C x.kind x.number off))
-
     kinds : (k : Kind) (x : Packet) (xs : List Packet) → (s.link c).c ≡ x ∷ xs → x.kind ≡ k → (i : ℕ)
         → comes_of n (begun (message_of mail s c x) i) ≡ false
-    kinds ProbeAck x xs e f i =
-        rw f (ack_comes w (report_left (report_told ((s.block x.number).pair c).probing))
+    kinds ProbeAck x xs e f i = rw f (ack_comes w (report_left (report_told ((s.block x.number).pair c).probing))
         (report_told ((s.block x.number).pair c).probing) x.number n i (s.block x.number).truth)
     kinds Release x xs e f i =
         rw f (release_comes w (prune_told ((s.block x.number).pair c).letting) ((s.block x.number).release_source c)
         x.number n i (s.block x.number).truth (λ same.
-        let first : (s.link c).c ≡ packet Release x.number ∷ xs = e ∙ ap (λ (k : Kind). packet k x.number ∷ xs) f in
-        let shows = first-shown is.invariant c Release refl first in
+        let shows = first-shown is.invariant c Release refl (e ∙ ap (λ (k : Kind). packet k x.number ∷ xs) f) in
         let no : true ≡ false = sym shows ∙ ap (λ j. is_releasing ((s.block j).pair c).letting) same ∙ kept in
         cc))
-    kinds k x xs e f i = absurd (apart x xs e (rw f refl))
+    kinds k x xs e f i =
+        absurd (first_counts x xs (rw e at (is.invariant.own_kinds c Channel.C x.kind x.number (rw f refl))))
 
     go : (xs : List Packet) → (s.link c).c ≡ xs → comes_of n t ≡ false
     go [] e = rw (carried [] e).0 refl
@@ -103,34 +93,24 @@ pub order-access : {w : ℕ} {config : Config} {log : Log w} {mail : AccessMessa
     → SimulationRelation config log mail request s sys → s.uses c source ≡ Asked → m.source ≡ source
     → is_acquire m.opcode ≡ false → unfinished Channel.A (on_link c sys.manager.trace) ≡ begun (Message.A m) k
     → broken_in_order config.profile (Beat.A (a_beat_of m k)) (on_link c sys.manager.trace) ≡ None
-order-access {w} {config} {log} {mail} {request} {s} {sys} c source m zero is used source_is access burst =
-    access-order config.profile (a_beat_of m 0) (on_link c sys.manager.trace) access burst
-    (rw source_is (source-free c source is (rw used refl) burst))
+order-access {config} {sys} c source m zero is used source_is access burst = access-order config.profile (a_beat_of m 0)
+    (on_link c sys.manager.trace) access burst (rw source_is (source-free c source is (rw used refl) burst))
 order-access {config} {sys} c source m (suc i) is used source_is access burst =
     later-legal config.profile (Message.A m) i (on_link c sys.manager.trace) burst
 
 none_grows : (g : Grow) → grows_from (grow_code g) Perm.None ≡ true
-none_grows Grow.NtoB = refl
-none_grows g = refl
+none_grows g = grind arith
 
 -- what may grow from what is held may grow from what is recorded, where they agree
 pub grows : (whole : Bool) (p q : Perm) (g : Grow) → grow_fits q (AcquireOpen whole g) ≡ true → same_perm p q ≡ true
     → grows_from (grow_code g) p ≡ true
-grows true Perm.None Perm.None g e f = none_grows g
-grows false Perm.None Perm.None g e f = none_grows g
-grows true Perm.Branch Perm.Branch Grow.BtoT e f = refl
-grows false Perm.Branch Perm.Branch Grow.BtoT e f = refl
-grows true Perm.Trunk Perm.Trunk Grow.BtoT e f = absurd cc
-grows false Perm.Trunk Perm.Trunk Grow.BtoT e f = absurd cc
-grows whole p q g e f = absurd cc
+grows whole p q g e f = grind (arith, none_grows)
 
 kept-is : (x : ReleasePhase) → is_unreleased x ≡ true → is_releasing x ≡ false
-kept-is NoRelease e = refl
-kept-is x e = absurd cc
+kept-is x e = grind arith
 
 pub first_three : (x y z more : Bool) → (x && (y && (z && more))) ≡ true → ((x && y) && z) ≡ true
-first_three true true true more e = refl
-first_three x y z more e = absurd cc
+first_three x y z more e = grind arith
 
 -- a beat of an Acquire that is wanted, whose block isn't in service
 pub order-acquire : {w : ℕ} {config : Config} {log : Log w} {mail : AccessMessages w} {request : ℕ → MessageA w}
@@ -158,8 +138,7 @@ order-acquire {w} {config} {log} {mail} {request} {s} {sys} {c} {n} zero is is_i
     (grows is_it.whole p.recorded p.held is_it.grow (acquire_fits is_it.whole is_it.grow p (view (s.block n).service c)
     well is_it.wants)
     (and_right (is_unprobed p.probing && is_unreleased p.letting) (same_perm p.recorded p.held) settled))
-order-acquire {w} {config} {s} {sys} {c} {n} (suc i) is is_it free burst =
-    later-legal config.profile
+order-acquire {w} {config} {s} {sys} {c} {n} (suc i) is is_it free burst = later-legal config.profile
     (Message.A (acquisition (acquire_opcode is_it.whole) is_it.grow ((s.block n).source c) n)) i
     (on_link c sys.manager.trace) burst
 
@@ -183,12 +162,8 @@ free-untracked {w} {request} {s} {t} inv is = go (s.tracked i) refl
     among : (n r : ℕ) → service_of_block n (services t) ≡ service_with (Some r) (s.block n).tracker (request n)
         → i ≡ (s.block n).tracker → ⊥
     among n r found same =
-        let one : is_one_of (s.block n).tracker (trackers_of (services t)) ≡ true =
-        tracker_among n (services t) (record {
-          tracker = (s.block n).tracker;
-          link = record { 0 = r };
-          request = request n;
-        }) found in
+        let one : is_one_of (s.block n).tracker (trackers_of (services t)) ≡ true = tracker_among n (services t)
+        (record { tracker = (s.block n).tracker; link = record { 0 = r }; request = request n }) found in
         let none : is_one_of (s.block n).tracker (trackers_of (services t)) ≡ false =
         cc (same, least_free-is_free (trackers_of (services t))) in
         cc
@@ -196,10 +171,8 @@ free-untracked {w} {request} {s} {t} inv is = go (s.tracked i) refl
     taken : (n : ℕ) (service : Service) → (s.block n).service ≡ service → is_busy service ≡ true
         → (i == (s.block n).tracker) ≡ true → ⊥
     taken n Free f busy same = cc
-    taken n (Waits r own source k) f busy same =
-        among n r (is.serving_is n ∙ rw f refl) (eqb-true i (s.block n).tracker same)
-    taken n (GrantSent q d k) f busy same =
-        among n q (is.serving_is n ∙ rw f refl) (eqb-true i (s.block n).tracker same)
+    taken n (Waits r own source k) f busy same = among n r (cc (is.serving_is n)) (eqb-true i (s.block n).tracker same)
+    taken n (GrantSent q d k) f busy same = among n q (cc (is.serving_is n)) (eqb-true i (s.block n).tracker same)
     taken n (GrantTaken q) f busy same = among n q (is.serving_is n ∙ rw f refl) (eqb-true i (s.block n).tracker same)
 
     go : (o : Option ℕ) → s.tracked i ≡ o → o ≡ None
@@ -266,17 +239,12 @@ waits-first {config} {c} {x} {sys} live is order waits = rw (open-level config i
 
 -- what is judged before the stall is none of an Acquire either
 early_none : (x y : Bool) → before_stall (first_if x H4 (first_if y H5 None)) ≡ None
-early_none true y = refl
-early_none false true = refl
-early_none false false = refl
+early_none x y = grind arith
 
 early_first : {w : ℕ} (p : Profile) (x : BeatA w) (t : History w) → unfinished Channel.A t ≡ []
     → pending (Key.RequestSource x.source) t ≡ false → before_stall (broken_in_order p (Beat.A x) t) ≡ None
 unfolding broken_order
-early_first p x t none free = rw (none, free) (early_none
-    (is_acquire x.opcode && (pending (Key.AcquireOf (block_at x.address)) t || pending
-    (Key.ReleaseOf (block_at x.address)) t))
-    (is_acquire x.opcode && not (grows_from x.param (held (block_at x.address) t))))
+early_first p x t none free = grind (arith, early_none, held)
 
 pub early-acquire : {w : ℕ} {config : Config} {log : Log w} {mail : AccessMessages w} {request : ℕ → MessageA w}
     {s : State (List ℕ)} {sys : System w} {c n : ℕ} (k : ℕ) → SimulationRelation config log mail request s sys
@@ -292,8 +260,7 @@ early-acquire {w} {config} {log} {mail} {request} {s} {sys} {c} {n} zero is is_i
     0) (on_link c sys.manager.trace) burst
     (source-free c ((s.block n).source c) is
     (rw is_it.used (unserved_own (view (s.block n).service c) is_it.unserved)) burst)
-early-acquire {w} {config} {s} {sys} {c} {n} (suc i) is is_it burst =
-    ap before_stall (later-legal config.profile
+early-acquire {w} {config} {s} {sys} {c} {n} (suc i) is is_it burst = ap before_stall (later-legal config.profile
     (Message.A (acquisition (acquire_opcode is_it.whole) is_it.grow ((s.block n).source c) n)) i
     (on_link c sys.manager.trace) burst)
 

@@ -1,6 +1,6 @@
 -- A beat of a request that comes to the manager: what the manager makes of it.
-use Rattle.std.proofs.Common.{◌≡◌, subst, ℕ, zero, suc, ◌+◌, ◌-◌, ◌*◌, ◌<◌, ◌≤◌, Bool, true, false, ◌&&◌, List, [], ◌∷◌}
-use Rattle.std.proofs.Common.{Option, Some, None, length, refl, sym, ◌∙◌, ap, arith, le-leb, ne_eqb, ◌==◌}
+use Rattle.std.proofs.Common.{◌≡◌, subst, ℕ, zero, suc, ◌+◌, ◌-◌, ◌*◌, ◌<◌, ◌≤◌, Bool, true, false, List, [], ◌∷◌}
+use Rattle.std.proofs.Common.{Option, Some, None, length, refl, sym, ◌∙◌, ap, arith, le-leb, ◌==◌}
 use Rattle.std.proofs.Common.{if◌then◌else◌, replicate, drop, min, IfSome, length-take, length-drop, slice_range}
 use Rattle.tl_coherence.proofs
 use proofs.Imports.{length-replicate, ⊤, Beat, BeatA, Link, Channel, a_carries_data, IsWidth, length-begun, A, MessageA}
@@ -30,8 +30,7 @@ IsOpened t _ = ⊤
 
 opened-other : {w : ℕ} (t u : History w) (o : Option (Beat w)) → ((s : ℕ) → request_of s u ≡ request_of s t)
     → IsOpened t o → IsOpened u o
-opened-other t u (Some (Beat.A x)) same ok = same x.source ∙ ok
-opened-other t u o same ok = tt
+opened-other t u o e f = grind arith
 
 -- a request that begins
 now_opened : {w : ℕ} (x : BeatA w) (t : History w) → begins (Beat.A x) t ≡ true
@@ -87,10 +86,7 @@ request-taken m (suc i) t burst = still_opened (a_beat_of m (suc i)) t m.source 
 pub request-else : {w : ℕ} (x : BeatA w) (t : History w) (s : ℕ) → (x.source ≡ s → ⊥)
     → request_of s (Beat.A x ∷ t) ≡ request_of s t
 unfolding request_of
-request-else {w} x t s other =
-    let go : (b : Bool) → (if b && false then Some x else request_of s t) ≡ request_of s t =
-    elim [ true ↦ refl | false ↦ refl ] in
-    rw (ne_eqb x.source s other) (go (begins (Beat.A x) t))
+request-else {w} x t s other = grind arith
 
 -- ---- its payload has 64 bytes
 
@@ -99,12 +95,10 @@ payload-from : (from w : ℕ) (payload : List ℕ) → 0 < w → from + w ≤ 64
 payload-from from w payload some room lanes blank =
     let none : ℕ = 0 in
     let cut = length-take (from + w - from) (drop from payload) in
-    let dropped = length-drop from payload in
-    let rest = length-drop (from + w) payload in
     let zeros = length-replicate (64 - (from + w)) none in
     let total : length (drop (from + w) payload) ≡ length (replicate (64 - (from + w)) none) = ap length blank in
     let few : min (from + w - from) (length (drop from payload)) ≤ length (drop from payload) = omega arith in
-    omega (arith, cut, dropped, rest, zeros, total, room, lanes, few, some)
+    omega (arith, cut, length-drop from payload, length-drop (from + w) payload, zeros, total, room, lanes, few, some)
 
 payload-length : (w k n : ℕ) (carries : Bool) (payload : List ℕ) → 0 < w → n ≡ suc k → w * n ≤ 64
     → IfSome (lanes_at carries w payload k) (λ lanes. length lanes ≡ w)
@@ -114,11 +108,10 @@ payload-length w k n true payload some last room lanes blank =
     payload-from (w * k) w payload some (rw whole at room) lanes (rw whole at blank)
 payload-length w k n false payload some last room lanes blank =
     let none : ℕ = 0 in
-    let zeros = length-replicate 64 none in
     let total : length payload ≡ length (replicate 64 none) = ap length blank in
-    omega (arith, zeros, total)
+    omega (arith, length-replicate 64 none, total)
 
-pub request-filled : {w : ℕ} (m : MessageA w) (k : ℕ) → IsWidth w → beats_of (A m) ≡ suc k
+request-filled : {w : ℕ} (m : MessageA w) (k : ℕ) → IsWidth w → beats_of (A m) ≡ suc k
     → IsTyped (Beat.A (a_beat_of m k)) → IsBlankAfter (beats_of (A m)) (A m) → length m.payload ≡ 64
 request-filled {w} m k width last typed blank = payload-length w k (beats_of (A m)) (a_carries_data m.opcode) m.payload
     (positive w width) last (beats_room (A m) width) typed.1 blank.0
@@ -142,7 +135,7 @@ pub record IsComing {w : ℕ} (config : Config) (c k : ℕ) (m : MessageA w) (e 
   pub blank : IsBlankAfter (beats_of (A m)) (A m)
   pub passes : judged config (link_of c) Channel.A (Beat.A (a_beat_of m k)) e ≡ Passes
 
-pub taken-coming : {w : ℕ} {config : Config} {c k : ℕ} {m : MessageA w} {e : End w} → IsComing config c k m e
+taken-coming : {w : ℕ} {config : Config} {c k : ℕ} {m : MessageA w} {e : End w} → IsComing config c k m e
     → IsTaken config (link_of c) (Beat.A (a_beat_of m k)) e
 taken-coming {config} {c} {k} {m} {e} is = is_taken config (link_of c) (Beat.A (a_beat_of m k)) e is.width
     (passed config (link_of c) Channel.A (Beat.A (a_beat_of m k)) e is.typed is.passes) is.kept
@@ -159,15 +152,9 @@ pub served-last : {w : ℕ} {config : Config} {c k : ℕ} {m : MessageA w} {e : 
     → beats_of (A m) ≡ suc k → IsServed (link_of c) (a_beat_of m k) (service_for c m e.trace) e.trace
 served-last {w} {config} {c} {k} {m} {e} is last = record {
   last = ends-coming is ∙ rw last (is_last k (suc k) (omega arith));
-  made = cc (
-    is.burst,
-    request-again m (begun (A m) (suc k)) is.width
-        (request-filled m k is.width last is.typed is.blank) (ap (begun (A m)) (sym last), is.blank),
-  );
+  made = let fact = request-again m (begun (A m) (suc k)) is.width (request-filled m k is.width last is.typed is.blank)
+      (ap (begun (A m)) (sym last), is.blank) in cc is.burst;
 }
-  where
-    with_tracker : MessageA w → Service w
-    with_tracker r = record { tracker = least_untaken (trackers_of (services e.trace)); link = link_of c; request = r }
 
 -- and it may be performed
 pub ready-last : {w : ℕ} {config : Config} {c k : ℕ} {m : MessageA w} {e : End w} → IsComing config c k m e
@@ -175,7 +162,6 @@ pub ready-last : {w : ℕ} {config : Config} {c k : ℕ} {m : MessageA w} {e : E
 ready-last {w} {config} {c} {k} {m} {e} is last =
     let served = served-last is last in
     let found = made (link_of c) (a_beat_of m k) e.trace served.last (le-leb m.size 6 m.small) in
-    let same = some_is (service_made (link_of c) (a_beat_of m k) e.trace found.0) (service_for c m e.trace)
-    (sym found.1.made ∙ served.made) in
-    subst (λ (v : Service w). IsReady config (block_at m.address) v (with_beat c m k e.trace)) same
+    subst (λ (v : Service w). IsReady config (block_at m.address) v (with_beat c m k e.trace)) (some_is (service_made
+    (link_of c) (a_beat_of m k) e.trace found.0) (service_for c m e.trace) (sym found.1.made ∙ served.made))
     (request-ready config (link_of c) (a_beat_of m k) e found.0 (taken-coming is) found.1)

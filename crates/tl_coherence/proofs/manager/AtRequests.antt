@@ -3,19 +3,18 @@
 use Rattle.std.proofs.Common.{◌≡◌, subst, ℕ, suc, ◌+◌, ◌*◌, ◌<◌, Bool, false, List, Some, None, refl, sym, ◌∙◌, ap, ap₂}
 use Rattle.std.proofs.Common.{inl, inr, ne_eqb}
 use Rattle.tl_coherence.proofs
-use proofs.Imports.{cases_eq, Beat, Channel, A, MessageA, a_beat_of, beats_of, Config, Cap, not_last, on_link}
-use proofs.Imports.{bytes_from, effect, ends, block_at, memory-elsewhere, performed-access, performed-acquire}
-use proofs.Imports.{reaction-part, IsKept, illegal_message_at, End, Reaction, with_handed, probes, performed, nothing}
-use proofs.Imports.{is_nobody, probed, cap_probed, level_of, reaction, services, least_untaken, trackers_of, set, Waits}
-use proofs.Imports.{Block, State, granted_at_once, served_block, performed_block, performs, AccessMessages}
-use proofs.Imports.{IsServedWith}
+use proofs.Imports.{cases_eq, Beat, Channel, A, MessageA, a_beat_of, beats_of, Config, Cap, not_last, bytes_from}
+use proofs.Imports.{effect, block_at, memory-elsewhere, performed-access, performed-acquire, reaction-part, IsKept}
+use proofs.Imports.{illegal_message_at, End, Reaction, with_handed, probes, performed, is_nobody, probed, cap_probed}
+use proofs.Imports.{level_of, reaction, services, least_untaken, trackers_of, set, Waits, Block, State, granted_at_once}
+use proofs.Imports.{served_block, performed_block, performs, AccessMessages, IsServedWith}
 use Rattle.tl_manager.{proofs.calls.Events.reaction-probes, proofs.calls.Keeping.kept-offered}
-use Rattle.tl_manager.{specs.statement.Offer.taken, specs.statement.Offer.Reception}
+use Rattle.tl_manager.specs.statement.Offer.{taken, Reception}
 use proofs.manager.{Admitted.offered-taken, Choices.some-clients, Memories.block-same, Memories.performed-block}
-use proofs.manager.{Probing.IsProbing, Probing.traced-probing, Requests.IsUnwaited, Requests.traced-more}
-use proofs.manager.{Arrivals.link_of, Arrivals.with_beat, Arrivals.IsComing, Arrivals.ends-coming, Arrivals.service_for}
-use proofs.manager.{Arrivals.served-last, ManagersEnd.IsAtManager, Performing.IsAnswering, Performing.traced-answered}
-use proofs.manager.{Performing.IsGranting, Performing.traced-granted}
+use proofs.manager.{Probing.IsProbing, Probing.traced-probing, ManagersEnd.IsAtManager}
+use proofs.manager.Requests.{IsUnwaited, traced-more}
+use proofs.manager.Arrivals.{link_of, with_beat, IsComing, ends-coming, service_for, served-last}
+use proofs.manager.Performing.{IsAnswering, traced-answered, IsGranting, traced-granted}
 use proofs.queues.Tokens.{set-same, set-other, set-part}
 
 -- the manager's end after this beat
@@ -27,14 +26,14 @@ end_after config c k m e =
 abbrev pub end_with : {w : ℕ} → ℕ → ℕ → MessageA w → Reaction w → End w → End w
 end_with c k m d e = taken (link_of c) (Beat.A (a_beat_of m k)) d e
 
-pub kept-coming : {w : ℕ} {config : Config} {c k : ℕ} {m : MessageA w} {e : End w} → IsComing config c k m e
+kept-coming : {w : ℕ} {config : Config} {c k : ℕ} {m : MessageA w} {e : End w} → IsComing config c k m e
     → IsKept config (end_after config c k m e)
 kept-coming {w} {config} {c} {k} {m} {e} is = subst (λ (p : Reception w × End w). IsKept config p.1)
     (offered-taken config (link_of c) Channel.A (Beat.A (a_beat_of m k)) e is.passes)
     (kept-offered config (link_of c) Channel.A (Beat.A (a_beat_of m k)) e is.width is.typed is.kept)
 
 -- other blocks of the memory stay
-pub memory-coming : {w : ℕ} {config : Config} {c k : ℕ} (i : ℕ) {m : MessageA w} {e : End w} → IsComing config c k m e
+memory-coming : {w : ℕ} {config : Config} {c k : ℕ} (i : ℕ) {m : MessageA w} {e : End w} → IsComing config c k m e
     → (i ≡ block_at m.address → ⊥)
     → bytes_from (end_after config c k m e).memory (64 * i) 64 ≡ bytes_from e.memory (64 * i) 64
 memory-coming {w} {config} {c} {k} i {m} {e} is other =
@@ -51,16 +50,13 @@ pub at_manager-more : {w : ℕ} {config : Config} {mail : AccessMessages w} {req
     → IsAtManager config mail request s (end_after config c k m e)
 unfolding with_handed
 at_manager-more {w} {config} {mail} {request} {s} {c} {k} {m} {e} is more unwaited known =
-    let part : ends (Beat.A (a_beat_of m k)) (on_link c e.trace) ≡ false =
-    ends-coming is ∙ not_last k (beats_of (A m)) more in
-    let done = reaction-part config (link_of c) (Beat.A (a_beat_of m k)) e part in
-    let kept : IsKept config (end_with c k m (nothing e.memory) e) =
-    subst (λ (d : Reaction w). IsKept config (end_with c k m d e)) done (kept-coming is) in
+    let done =
+    reaction-part config (link_of c) (Beat.A (a_beat_of m k)) e (ends-coming is ∙ not_last k (beats_of (A m)) more) in
     subst (λ (d : Reaction w). IsAtManager config mail request s (end_with c k m d e)) (sym done)
     (record {
       traced = traced-more is more unwaited known.traced;
       served_with = known.served_with;
-      manager_kept = kept;
+      manager_kept = subst (λ (d : Reaction w). IsKept config (end_with c k m d e)) done (kept-coming is);
       memory = known.memory;
       all_live = known.all_live;
     })
@@ -100,29 +96,24 @@ at_manager-probing {w} {config} {mail} {request} {c} {k} {n} {own} {source} {j} 
       | inr other ↦ rw (blocks i, set-other n i new s.block other, set-other n i m request other) (known.served_with i)
     ] in
     let done = reaction-probing config c k n j m e is.comes is.last is.for.2 is.for.3 someone in
-    let kept : IsKept config (end_with c k m probing e) = subst (λ (d : Reaction w). IsKept config (end_with c k m d e))
-    done (kept-coming is.comes) in
     subst (λ (d : Reaction w). IsAtManager config mail (set n m request) u (end_with c k m d e)) (sym done)
     (record {
       traced = traced-probing u blocks is known.traced;
       served_with = λ i. served_now i;
-      manager_kept = kept;
-      memory = λ i. known.memory i ∙ sym (ap (λ (b : Block (List ℕ)). b.memory) (blocks i) ∙ set-part
-          (λ (b : Block (List ℕ)). b.memory) n new s.block refl i);
+      manager_kept = subst (λ (d : Reaction w). IsKept config (end_with c k m d e)) done (kept-coming is.comes);
+      memory = λ i. cc (known.memory i, blocks i, set-part (λ (b : Block (List ℕ)). b.memory) n new s.block refl i);
       all_live = known.all_live;
     })
 
 -- ---- the last one: the access is answered
 
-pub at_manager-answered : {w : ℕ} {config : Config} {mail : AccessMessages w} {request : ℕ
-    → MessageA w} {c k n : ℕ} {m : MessageA w} {s u : State (List ℕ)} {e : End w}
+pub at_manager-answered : {w : ℕ} {config : Config} {mail : AccessMessages w} {request : ℕ → MessageA w} {c k n : ℕ}
+    {m : MessageA w} {s u : State (List ℕ)} {e : End w}
     → ((i : ℕ) → u.block i ≡ set n (performed_block (performs m) (s.block n)) s.block i)
-    → IsAnswering config c k n m s e → illegal_message_at (level_of config c) (A m) ≡ None
-    → reaction config (link_of c) (Beat.A (a_beat_of m k)) e ≡ performed config (service_for c m e.trace)
-    (with_beat c m k e.trace) e.memory
+    → IsAnswering config c k n m s e → illegal_message_at (level_of config c) (A m) ≡ None → reaction config (link_of c)
+    (Beat.A (a_beat_of m k)) e ≡ performed config (service_for c m e.trace) (with_beat c m k e.trace) e.memory
     → IsAtManager config mail request s e → IsAtManager config mail request u (end_after config c k m e)
-at_manager-answered {w} {config} {mail} {request} {c} {k} {n} {m} {s} {u} {e} blocks is lawful done
-    known =
+at_manager-answered {w} {config} {mail} {request} {c} {k} {n} {m} {s} {u} {e} blocks is lawful done known =
     let answering : Reaction w = performed config (service_for c m e.trace) (with_beat c m k e.trace) e.memory in
     let new : Block (List ℕ) = performed_block (performs m) (s.block n) in
     let served_now : (i : ℕ) → IsServedWith mail (u.block i).service (request i) =
@@ -138,13 +129,11 @@ at_manager-answered {w} {config} {mail} {request} {c} {k} {n} {m} {s} {u} {e} bl
       | inl same ↦ rw (same, blocks n, set-same n new s.block) memory_here
       | inr other ↦ rw (blocks i, set-other n i new s.block other) (memory_else i other ∙ known.memory i)
     ] in
-    let kept : IsKept config (end_with c k m answering e) =
-    subst (λ (d : Reaction w). IsKept config (end_with c k m d e)) done (kept-coming is.comes) in
     subst (λ (d : Reaction w). IsAtManager config mail request u (end_with c k m d e)) (sym done)
     (record {
       traced = traced-answered (performs m) u e.memory blocks is known.traced;
       served_with = λ i. served_now i;
-      manager_kept = kept;
+      manager_kept = subst (λ (d : Reaction w). IsKept config (end_with c k m d e)) done (kept-coming is.comes);
       memory = λ i. memory_now i;
       all_live = known.all_live;
     })
@@ -165,20 +154,17 @@ at_manager-granted {w} {config} {mail} {request} {c} {k} {n} b {j} {m} {s} {u} {
       | inl same ↦ rw (same, blocks n, set-same n new s.block) tt
       | inr other ↦ rw (blocks i, set-other n i new s.block other, set-other n i m request other) (known.served_with i)
     ] in
-    let memory_now : (i : ℕ) → bytes_from granting.memory (64 * i) 64 ≡ (u.block i).memory =
-    λ i. cc (
+    let memory_now : (i : ℕ) → bytes_from granting.memory (64 * i) 64 ≡ (u.block i).memory = λ i. cc (
       performed-acquire config (service_for c m e.trace) (with_beat c m k e.trace) e.memory is.acquires,
       known.memory i,
       blocks i,
       set-part (λ (y : Block (List ℕ)). y.memory) n new s.block refl i,
     ) in
-    let kept : IsKept config (end_with c k m granting e) =
-    subst (λ (d : Reaction w). IsKept config (end_with c k m d e)) done (kept-coming is.comes) in
     subst (λ (d : Reaction w). IsAtManager config mail (set n m request) u (end_with c k m d e)) (sym done)
     (record {
       traced = traced-granted b u e.memory blocks is known.traced;
       served_with = λ i. served_now i;
-      manager_kept = kept;
+      manager_kept = subst (λ (d : Reaction w). IsKept config (end_with c k m d e)) done (kept-coming is.comes);
       memory = λ i. memory_now i;
       all_live = known.all_live;
     })

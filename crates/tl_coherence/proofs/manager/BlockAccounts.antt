@@ -1,14 +1,14 @@
 -- What one block's service says of the links of its clients.
 use Rattle.std.proofs.Common.{◌≡◌, ℕ, Bool, true, false, not, ◌&&◌, ◌||◌, List, [], ◌∷◌, Some, None, refl, sym, ◌∙◌, ap}
-use Rattle.std.proofs.Common.{inl, inr, ne_eqb, ◌==◌, if◌then◌else◌}
+use Rattle.std.proofs.Common.{arith, inl, inr, ne_eqb, ◌==◌, if◌then◌else◌}
 use Rattle.tl_coherence.proofs
 use proofs.Imports.{or-true, cases_eq, MessageA, a_beat_of, Config, ProbeOf, Cap, Trace, on_link, pending, block_at}
 use proofs.Imports.{request_of, swapped, some_is, IsKept, AreApart, blocks_of, is_any, IsProbed, End, recorded}
 use proofs.Imports.{services, service_of_block, IsInvariant, IsAwaited, ClientBlock, View, Own, Other, Granting}
 use proofs.Imports.{Acknowledging, GrantedOther, is_unprobed, ok, Service, Free, Waits, GrantSent, GrantTaken, State}
-use proofs.Imports.{view, is_granting, is_acknowledging, ManagerRelation, is_own, client_in, service_with, IsFor}
+use proofs.Imports.{view, ManagerRelation, is_own, client_in, service_with, IsFor}
 use Rattle.tl_manager.{proofs.pending.Settled.all-settled, proofs.services.Serving.none_of_block}
-use Rattle.tl_manager.{specs.laws.Pending.is_acquiring, specs.laws.Pending.is_granted_to, specs.laws.Pending.is_awaited}
+use Rattle.tl_manager.specs.laws.Pending.{is_acquiring, is_granted_to, is_awaited}
 use Rattle.tl_manager.specs.laws.Pending as waits
 use Rattle.tl_manager.specs.statement.Service as manager
 use proofs.queues.{Facts.is_other, Phases.each_phase, Phases.of_phase, Tokens.same_number, Tokens.if-part}
@@ -94,9 +94,7 @@ abbrev pub at_service : {w : ℕ} → ℕ → ℕ → MessageA w → manager.Ser
 at_service r tracker m = record { tracker = tracker; link = record { 0 = r }; request = m }
 
 granted_views : (s : Service) (c : ℕ) → is_granted_in s ≡ true → is_other (view s c) ≡ false
-granted_views (GrantSent q d k) c e = if-part is_other (c == q) refl refl
-granted_views (GrantTaken q) c e = if-part is_other (c == q) refl refl
-granted_views s c e = absurd cc
+granted_views s c e = grind (arith, if-part, is_other)
 
 -- a request is granted exactly where the protocol says so
 pub granted-is : {w : ℕ} {X : Type 0} {caching : ℕ → Bool} {config : Config} {request : ℕ → MessageA w} {s : State X}
@@ -110,12 +108,10 @@ granted-is {w} {X} {config} {s} {e} inv kept is n v found = go (s.block n).servi
     granted : is_granted_in (s.block n).service ≡ true → waits.is_granted t v ≡ true
     granted f =
         let only : (b : Bool) → (b || false) ≡ true → b ≡ true = elim [ true ↦ λ g. refl | false ↦ λ g. absurd cc ] in
-        let settled = all-settled config n t (λ c. is.probes c n
-        ∙ ap not (quiet_unless ((s.block n).pair c) (view (s.block n).service c) ((inv.blocks n).phases c)
-        (granted_views (s.block n).service c f)))
-        in
         let awaited : is_awaited config n t (Some v) ≡ true = cc (found, kept.steady.awaited n) in
-        only (waits.is_granted t v) (rw settled at awaited)
+        only (waits.is_granted t v)
+        (rw (all-settled config n t (λ c. is.probes c n ∙ ap not (quiet_unless ((s.block n).pair c) (view
+        (s.block n).service c) ((inv.blocks n).phases c) (granted_views (s.block n).service c f)))) at awaited)
 
     waiting : (service : Service) → (s.block n).service ≡ service → IsAwaited service (s.block n).pair
         → is_granted_in service ≡ false → (service ≡ Free → ⊥) → waits.is_granted t v ≡ false
@@ -123,8 +119,7 @@ granted-is {w} {X} {config} {s} {e} inv kept is n v found = go (s.block n).servi
     waiting (Waits r own source k) f someone g busy =
         let missing : pending (ProbeOf n) (on_link someone.0 t) ≡ true = is.probes someone.0 n ∙ ap not someone.1 in
         let probed : IsProbed someone.0 n t = (kept.steady.accounted.blocks n).probes someone.0 missing in
-        let same : probed.service ≡ v = some_is probed.service v (sym probed.serves ∙ found) in
-        rw same at probed.unanswered
+        rw (some_is probed.service v (sym probed.serves ∙ found)) at probed.unanswered
     waiting service f someone g busy = absurd cc
 
     go : (service : Service) → (s.block n).service ≡ service → waits.is_granted t v ≡ is_granted_in service
@@ -145,8 +140,7 @@ acquiring-is c n tracker m t (Waits r own source k) for granted =
     rw (granted (at_service r tracker m) refl, for.0, swapped r c) (go own (c == r))
   where
     go : (b same : Bool) → (b && (same && true)) ≡ is_own (if b && same then Own else Other k)
-    go true true = refl
-    go b same = refl
+    go b same = grind arith
 acquiring-is c n tracker m t (GrantSent q d k) for granted =
     let go : (same : Bool) → (true && (same && false)) ≡ is_own (if same then Granting d k else GrantedOther) =
     elim [ true ↦ refl | false ↦ refl ] in
@@ -156,31 +150,6 @@ acquiring-is c n tracker m t (GrantTaken q) for granted =
     elim [ true ↦ refl | false ↦ refl ] in
     rw (granted (at_service q tracker m) refl, for.0, swapped q c) (go (c == q))
 
-abbrev is_grant_of : View → Bool
-is_grant_of v = is_granting v || is_acknowledging v
-
-granting-is : {w : ℕ} (c n tracker : ℕ) (m : MessageA w) (t : Trace w) (service : Service)
-    → ((v : manager.Service w) → service_with (client_in service) tracker m ≡ Some v
-    → waits.is_granted t v ≡ is_granted_in service)
-    → is_granted_to c t (service_with (client_in service) tracker m) ≡ is_grant_of (view service c)
-granting-is c n tracker m t Free granted = refl
-granting-is c n tracker m t (Waits r own source k) granted =
-    rw (granted (at_service r tracker m) refl) (go (r == c) (own && (c == r)))
-  where
-    go : (b same : Bool) → (b && false) ≡ is_grant_of (if same then Own else Other k)
-    go true true = refl
-    go true false = refl
-    go false true = refl
-    go false false = refl
-granting-is c n tracker m t (GrantSent q d k) granted =
-    let go : (same : Bool) → (same && true) ≡ is_grant_of (if same then Granting d k else GrantedOther) =
-    elim [ true ↦ refl | false ↦ refl ] in
-    rw (granted (at_service q tracker m) refl, swapped q c) (go (c == q))
-granting-is c n tracker m t (GrantTaken q) granted =
-    let go : (same : Bool) → (same && true) ≡ is_grant_of (if same then Acknowledging else GrantedOther) =
-    elim [ true ↦ refl | false ↦ refl ] in
-    rw (granted (at_service q tracker m) refl, swapped q c) (go (c == q))
-
 pub managed-traced : {w : ℕ} {X : Type 0} {caching : ℕ → Bool} {config : Config} {request : ℕ → MessageA w}
     {s : State X} {e : End w} → IsInvariant caching s
     → IsKept config e → IsTraced request s e.trace → ManagerRelation request s e.trace
@@ -189,8 +158,6 @@ managed-traced {w} {X} {caching} {config} {request} {s} {e} inv kept is = record
   probes = is.probes;
   acquires = λ c n. (kept.steady.accounted.blocks n).acquires c ∙ ap (is_acquiring c e.trace) (is.serving_is n)
       ∙ acquiring-is c n (s.block n).tracker (request n) e.trace (s.block n).service (is.requests n) (granted n);
-  grant_acks = λ c n. (kept.steady.accounted.blocks n).grants c ∙ ap (is_granted_to c e.trace) (is.serving_is n)
-      ∙ granting-is c n (s.block n).tracker (request n) e.trace (s.block n).service (granted n);
   serving_is = is.serving_is;
 }
   where

@@ -2,13 +2,12 @@
 -- request that waits has.
 use Rattle.std.proofs.Common.{◌≡◌, ℕ, zero, suc, ◌<◌, ◌≤◌, Bool, true, false, not, ◌||◌, List, [], ◌∷◌, length, refl}
 use Rattle.std.proofs.Common.{sym, ◌∙◌, ap, arith, lt-ltb, if◌then◌else◌}
-use Rattle.tl_coherence.proofs
-use proofs.Imports.{Config, Cap, is_one_of, is_nobody, IsInvariant, IsOwnSource, Own, Waits, State, Acquires, InService}
-use proofs.Imports.{view, some_below, is_caching}
 use Rattle.std.proofs.lemmas.Option.{slice_get_past}
-use Rattle.tl_manager.{proofs.words_of_clients.Clients.among-where, proofs.words_of_clients.Clients.nobody-is}
-use Rattle.tl_manager.{proofs.words_of_clients.Clients.nobody-where, proofs.words_of_clients.Clients.where-same}
+use Rattle.tl_coherence.proofs
+use proofs.Imports.{Config, Cap, is_one_of, is_nobody, IsInvariant, IsOwnSource, Waits, State, Acquires, InService}
+use proofs.Imports.{view, some_below, is_caching}
 use Rattle.tl_manager.{specs.statement.Holders.clients_where}
+use Rattle.tl_manager.proofs.words_of_clients.Clients.{among-where, nobody-is, nobody-where, where-same}
 use proofs.queues.{Facts.own_wants, Tokens.same_number}
 use proofs.protocol.{RequestsKept.some-none, BothParts.acquires_of-is, BothParts.serves_of-is, BothParts.not-calm}
 
@@ -21,11 +20,10 @@ some-found (suc n) test e = go (test n) refl e (λ f. some-found n test f)
   where
     go : (b : Bool) → test n ≡ b → (b || some_below n test) ≡ true
         → (some_below n test ≡ true → (i : ℕ) × (i < n) × (test i ≡ true)) → (i : ℕ) × (i < suc n) × (test i ≡ true)
-    go true f g h = (n, omega arith, f)
-    go false f g h = let one = h g in (one.0, omega (arith, one.1), one.2)
+    go b e f g = grind arith
 
 -- nobody passes, as the manager finds them, where none does below the number of clients
-pub nobody-some : (config : Config) (test : ℕ → Bool)
+nobody-some : (config : Config) (test : ℕ → Bool)
     → is_nobody (clients_where config test) ≡ not (some_below (length config.clients.items) test)
 nobody-some config test = go (some_below (length config.clients.items) test) refl
     (is_nobody (clients_where config test)) refl
@@ -47,12 +45,10 @@ pub nobody-same : (config : Config) (f g : ℕ → Bool) → ((d : ℕ) → f d 
 nobody-same config f g same = ap is_nobody (where-same 0 (length config.clients.items) f g same) ∙ nobody-some config g
 
 pub some-clients : (clients : List ℕ) → is_nobody clients ≡ false → (d : ℕ) × (ds : List ℕ) × (clients ≡ d ∷ ds)
-some-clients [] e = absurd cc
-some-clients (d ∷ ds) e = (d, ds, refl)
+some-clients clients e = grind arith
 
 pub no-clients : (clients : List ℕ) → is_nobody clients ≡ true → clients ≡ []
-no-clients [] e = refl
-no-clients (d ∷ ds) e = absurd cc
+no-clients clients e = grind arith
 
 -- who isn't a client keeps no copies
 pub plain-past : (config : Config) (d : ℕ) → length config.clients.items ≤ d → is_caching config d ≡ false
@@ -65,9 +61,8 @@ pub waits-used : {X : Type 0} {caching : ℕ → Bool} {s : State X} (n r source
     → s.uses r source ≡ (if own then Acquires n else InService n)
 waits-used {s} n r source true k inv e =
     let sourced : IsOwnSource (Waits r true source k) (s.block n).source = rw e at (inv.blocks n).own_source in
-    let own_view : view (s.block n).service r ≡ Own = rw (e, same_number r) refl in
     let wants = not-calm ((s.block n).pair r).acquiring (own_wants ((s.block n).pair r) (view (s.block n).service r)
-    ((inv.blocks n).phases r) own_view) in
+    ((inv.blocks n).phases r) (rw (e, same_number r) refl)) in
     acquires_of-is n (s.uses r source) (inv.named.acquires r source n ∙ rw (wants, ← sourced, same_number source) refl)
 waits-used {s} n r source false k inv e =
     serves_of-is n (s.uses r source) (inv.named.serves r source n ∙ rw (e, same_number r, same_number source) refl)

@@ -1,5 +1,5 @@
 -- A Grant of a block to a client whose request asks for it: what is pending on the link after it.
-use Rattle.std.proofs.Common.{◌≡◌, ℕ, Bool, true, false, ◌&&◌, [], Some, None, refl, sym, ap, inl, inr, subst, eqb-true}
+use Rattle.std.proofs.Common.{◌≡◌, ℕ, Bool, true, false, ◌&&◌, [], Some, None, refl, sym, ap, inl, inr, eqb-true, arith}
 use Rattle.std.proofs.Common.{ne_eqb, ◌==◌, if◌then◌else◌, unwrap_or}
 use Rattle.tl_coherence.proofs
 use proofs.Imports.{cases_eq, Channel, IsWidth, beats-positive, D, MessageD, unfinished, held-sent_d, Trace, on_link}
@@ -26,18 +26,12 @@ given-records {w} {q} {n} {m} {u} is d i = go (q == d) refl
   where
     said : (b : Bool) → unwrap_or (if b then Some (capped m.param) else None) (recorded d i u)
         ≡ (if b then capped m.param else recorded d i u)
-    said true = refl
-    said false = refl
+    said b = grind arith
 
     go : (b : Bool) → (q == d) ≡ b → recorded d i (after_sent (record { 0 = q }) (D m) u)
         ≡ (if b && (n == i) then capped m.param else recorded d i u)
-    go true e = cc (
-      own_link d (record { 0 = q }) (D m) u e,
-      held-sent_d i m (on_link d u) (subst (λ (j : ℕ). unfinished Channel.D (on_link j u) ≡ []) (eqb-true q d e)
-          is.whole) (beats-positive (D m) is.width),
-      grants_it is d i e,
-      said (n == i),
-    )
+    go true e = let fact = held-sent_d i m (on_link d u) (rw (eqb-true q d e) at is.whole) (beats-positive
+        (D m) is.width) in cc (own_link d (record { 0 = q }) (D m) u e, grants_it is d i e, said (n == i))
     go false e = ap (held i) (other_link d (record { 0 = q }) (D m) u e)
 
 -- ---- one client of one block has another pair than it had in the block's place

@@ -1,10 +1,11 @@
 -- What the manager knows after a GrantAck, which frees its block.
-use Rattle.std.proofs.Common.{◌≡◌, ℕ, Bool, true, false, not, ◌&&◌, List, ◌∷◌, Option, Some, None, refl, sym, ◌∙◌, ap}
+use Rattle.std.proofs.Common.{◌≡◌, ℕ, Bool, true, false, not, ◌&&◌, List, ◌∷◌}
+use Rattle.std.proofs.Common.{Option, Some, None, refl, sym, ◌∙◌, ap, arith}
 use Rattle.std.proofs.Common.{inl, inr, ne_eqb, ◌==◌, if◌then◌else◌}
 use Rattle.tl_coherence.proofs
 use proofs.Imports.{cases_eq, same_Some, Beat, BeatE, MessageA, a_beat_of, Key, Cap, held_unsaid, pending-quiet, Trace}
 use proofs.Imports.{on_link, is_acquire, held, pending, request_of, request_of-e, beat-keeps, AreApart, blocks_of}
-use proofs.Imports.{services, service_of_block, AreNamed, is_busy, Packet, set, is_unprobed, Service, Free, Waits}
+use proofs.Imports.{services, service_of_block, AreNamed, is_busy, Packet, set, is_unprobed, Service, Waits}
 use proofs.Imports.{GrantTaken, Block, State, grant_ack_taken, freed_block, client_in, service_with, IsFor}
 use Rattle.tl_manager.{proofs.pending.Acked.services-e, proofs.services.Serving.if_passes}
 use Rattle.tl_manager.{proofs.services.Serving.serving-filter, specs.statement.Service.is_ended_by}
@@ -29,8 +30,7 @@ pub record IsAcked {w : ℕ} {X : Type 0} (c n : ℕ) (x : BeatE) (request : ℕ
 
 -- a block that is in service has a client
 client_busy : (s : Service) (r : ℕ) → client_in s ≡ Some r → is_busy s ≡ true
-client_busy Free r e = absurd cc
-client_busy s r e = refl
+client_busy s r e = grind arith
 
 -- ---- services
 
@@ -41,11 +41,9 @@ serving-acked : {w : ℕ} {X : Type 0} {c n : ℕ} {x : BeatE} {request : ℕ �
 serving-acked {w} {c} {n} {x} {request} {s} {t} is known i =
     let passed : service_of_block i (services (acked c x t)) ≡ if_passes keeps (service_of_block i (services t)) =
     ap (service_of_block i) (services-e (record { 0 = c }) x t) ∙ serving-filter i keeps (services t) is.apart in
-    let here : if_passes keeps (service_with (Some c) (s.block n).tracker (request n))
-    ≡ (if n == n then None else service_with (Some c) (s.block n).tracker (request n)) =
-    rw (same_number c, is.acquires, is.sink_is, same_number (s.block n).tracker, same_number n) refl in
     passed ∙ elim (cases_eq i n) [
-      | inl same ↦ rw (same, known.serving_is n, is.taken) here
+      | inl same ↦ rw (same, known.serving_is n, is.taken)
+          (rw (same_number c, is.acquires, is.sink_is, same_number (s.block n).tracker, same_number n) refl)
       | inr other ↦ rw (ne_eqb i n other, known.serving_is i) (kept other (client_in (s.block i).service) refl)
     ]
   where
@@ -54,14 +52,12 @@ serving-acked {w} {c} {n} {x} {request} {s} {t} is known i =
 
     -- no two blocks have one tracker
     differ : (r : ℕ) → (i ≡ n → ⊥) → client_in (s.block i).service ≡ Some r → ((s.block i).tracker == x.sink) ≡ false
-    differ r other e = cc (ne_eqb (s.block i).tracker x.sink (λ same. let first =
-        tracker-of i is.named (client_busy (s.block i).service r e) in let second =
-        tracker-of n is.named (rw is.taken refl) in let both : Some i ≡ Some n =
-        sym first ∙ ap s.tracked (same ∙ is.sink_is) ∙ second in other (same_Some i n both)))
+    differ r other e = cc (ne_eqb (s.block i).tracker x.sink (λ same. let first = tracker-of i is.named (client_busy
+        (s.block i).service r e) in let second = tracker-of n is.named (rw is.taken refl) in let both : Some i
+        ≡ Some n = sym first ∙ ap s.tracked (same ∙ is.sink_is) ∙ second in other (same_Some i n both)))
 
     never : (a b : Bool) → (a && (b && false)) ≡ false
-    never true true = refl
-    never a b = refl
+    never a b = grind arith
 
     stays : (a : Bool) (v : manager.Service w) → a ≡ false → (if not a then Some v else None) ≡ Some v
     stays a v e = rw e refl
@@ -70,8 +66,7 @@ serving-acked {w} {c} {n} {x} {request} {s} {t} is known i =
         → if_passes keeps (service_with o (s.block i).tracker (request i)) ≡ service_with o (s.block i).tracker
         (request i)
     kept other None e = refl
-    kept other (Some r) e =
-        stays (is_ended_by (record { 0 = c }, Beat.E x)
+    kept other (Some r) e = stays (is_ended_by (record { 0 = c }, Beat.E x)
         (record { tracker = (s.block i).tracker; link = record { 0 = r }; request = request i })) _
         (rw (differ r other e) (never (r == c) (is_acquire (request i).opcode)))
 

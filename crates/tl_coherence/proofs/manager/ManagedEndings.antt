@@ -2,7 +2,7 @@
 use Rattle.std.proofs.Common.{◌≡◌, ℕ, Bool, true, false, List, ◌∷◌, Some, refl, sym, ◌∙◌, ap, inl, inr, ne_eqb}
 use Rattle.tl_coherence.proofs
 use proofs.Imports.{cases_eq, Beat, BeatC, D, MessageA, MessageD, a_beat_of, Key, Cap, Report, report_right, Trace}
-use proofs.Imports.{on_link, is_acquire, is_grant, is_probe_ack, request_of, after_sent, IsReply, reply-quiet}
+use proofs.Imports.{on_link, is_acquire, is_probe_ack, request_of, after_sent, IsReply, reply-quiet}
 use proofs.Imports.{request-reply, services, service_of_block, is_access_answer, AreNamed, is_busy, Packet, set, Waits}
 use proofs.Imports.{Block, State, report_answers, ended_block, IsFor}
 use Rattle.tl_manager.{proofs.pending.Accesses.answer_kind, proofs.pending.Accesses.services-answer}
@@ -48,24 +48,20 @@ pub traced-ended : {w : ℕ} {X : Type 0} {request : ℕ → MessageA w} {c q n 
 traced-ended {w} {X} {request} {c} {q} {n} {r} f rest {x} {m} {s} {t} is known =
     let u : Trace w = taken c x t in
     let new : Block X = ended_block c r f (s.block n) in
-    let other : is_grant m.opcode ≡ false = answer_kind m.opcode is.answers in
     let asked_now : (i p source : ℕ) (own : Bool) (cap : Cap) → (set n new s.block i).service ≡ Waits p own source cap
     → request_of source (on_link p t) ≡ Some (a_beat_of (request i) 0) =
-    λ i p source own cap. set-each (λ j z. z.service ≡ Waits p own source cap
-    → request_of source (on_link p t) ≡ Some (a_beat_of (request j) 0)) n new s.block (λ e. absurd cc)
-    (λ j ne. known.asked j p source own cap) i in
+    λ i p source own cap. set-each (λ j z. z.service ≡ Waits p own source cap → request_of source (on_link p t)
+    ≡ Some (a_beat_of (request j) 0)) n new s.block (λ e. absurd cc) (λ j ne. known.asked j p source own cap) i in
     record {
-      recorded_is = λ d i. recorded-answer (record { 0 = q }) m u is.reply.width is.reply.whole other d i
-          ∙ reported-records r new is.last (λ j. refl) known d i;
+      recorded_is = λ d i. recorded-answer (record { 0 = q }) m u is.reply.width is.reply.whole
+          (answer_kind m.opcode is.answers) d i ∙ reported-records r new is.last (λ j. refl) known d i;
       probes = λ d i. reply-quiet (Key.ProbeOf i) (record { 0 = q }) m u d is.reply.width is.reply.whole
           (λ e. (refl, refl)) ∙ reported-missing r new is.last is.report (λ j. refl) known d i;
       serving_is = λ i. ap (service_of_block i) (services-answer n (service_for q n request s) m u is.reply is.answers
           is.access is.accounted) ∙ serving-without n i (services u)
           ∙ elim (cases_eq n i) [
             | inl same ↦ rw (← same, same_number n) refl
-            | inr apart ↦
-                let differ : i ≡ n → ⊥ = λ e. apart (sym e) in
-                rw (ne_eqb n i apart, ne_eqb i n differ)
+            | inr apart ↦ rw (ne_eqb n i apart, ne_eqb i n (λ e. apart (sym e)))
                 (ap (service_of_block i) (quiet-c (record { 0 = c }) x t).serves ∙ known.serving_is i)
           ];
       requests = set-each (λ i z. IsFor z.service i (request i)) n new s.block tt (λ i ne. known.requests i);

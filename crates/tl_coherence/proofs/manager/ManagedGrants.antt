@@ -33,13 +33,8 @@ conceded-given {c} {q} {source} {x} {t} is = record {
   width = is.grant.reply.width;
   whole = is.grant.reply.whole;
   grants = is.grant.grants;
-  asks = λ i. cc (
-    is.grant.reply.source,
-    is.source_is,
-    (quiet-c (record { 0 = c }) x t).requests q source,
-    is.asked,
-    is.block_is,
-  );
+  asks = λ i. let fact = (quiet-c (record { 0 = c }) x t).requests q source in
+      cc (is.grant.reply.source, is.source_is, is.asked, is.block_is);
 }
 
 pub traced-conceded : {w : ℕ} {X : Type 0} {request : ℕ → MessageA w} {c q n source : ℕ} {k gift : Cap} {r : Report}
@@ -47,6 +42,8 @@ pub traced-conceded : {w : ℕ} {X : Type 0} {request : ℕ → MessageA w} {c q
     → IsConceded c q n source k gift r x m request s t → IsTraced request s t
     → IsTraced request (report_grants c q n r dt gift rest s) (after_sent (record { 0 = q }) (D m) (taken c x t))
 traced-conceded {w} {X} {request} {c} {q} {n} {gift} {r} dt rest {x} {m} {s} {t} is known =
+    let new = granted_block c q r dt gift (s.block n) in
+    let u = taken c x t in
     let given : IsGiven q n m u = conceded-given is in
     let records_now : (d i : ℕ) → (if (q == d) && (n == i) then capped m.param else recorded d i u)
     ≡ (if (q == d) && (n == i) then cap_right gift else ((set n mid s.block i).pair d).recorded) =
@@ -74,14 +71,8 @@ traced-conceded {w} {X} {request} {c} {q} {n} {gift} {r} dt rest {x} {m} {s} {t}
           ∙ (quiet-c (record { 0 = c }) x t).requests p from ∙ asked_now i p from own low e;
     }
   where
-    u : Trace w
-    u = taken c x t
-
     mid : Block X
     mid = reported_block c r (s.block n)
-
-    new : Block X
-    new = granted_block c q r dt gift (s.block n)
 
     gives : ClientBlock
     gives = after_grant_sent gift ((s.block n).pair q)
@@ -92,10 +83,9 @@ traced-conceded {w} {X} {request} {c} {q} {n} {gift} {r} dt rest {x} {m} {s} {t}
     probing_same d i false e = refl
     probing_same d i true e =
         let p = and_parts (q == d) (n == i) e in
-        let others : q ≡ c → ⊥ = λ f. is.apart (sym f) in
         rw (
           ← eqb-true q d p.0,
           ← eqb-true n i p.1,
           set-same n mid s.block,
-          set-other c q (after_report r ((s.block n).pair c)) (s.block n).pair others,
+          set-other c q (after_report r ((s.block n).pair c)) (s.block n).pair (λ f. is.apart (sym f)),
         ) refl

@@ -16,19 +16,16 @@ use proofs.manager.QuiescentManager.{recorded-answer, AreStill, pair-part, pair-
 
 -- ---- a beat that isn't the last one
 
-pub nothing-changes : {X : Type 0} (s : State X) → AreStill s s
-nothing-changes s = record { services = λ n. refl; trackers = λ n. refl }
-
 pub traced-report_part : {w : ℕ} {X : Type 0} {request : ℕ → MessageA w} (c : ℕ) (x : BeatC w) {s : State X}
     {t : Trace w} → ends (Beat.C x) (on_link c t) ≡ false → IsTraced request s t
     → IsTraced request s ((record { 0 = c }, Beat.C x) ∷ t)
-traced-report_part c x {s} {t} part known =
-    traced-still (quiet-c (record { 0 = c }) x t) (nothing-changes s) (λ d i. recorded-part c x t part d i
+traced-report_part c x {s} {t} part known = traced-still (quiet-c (record { 0 = c }) x t)
+    (record { services = λ n. refl; trackers = λ n. refl }) (λ d i. recorded-part c x t part d i
     ∙ known.recorded_is d i) (λ d i. missing-part c x t part d i ∙ known.probes d i) known
 
 -- ---- a ProbeAck, where others are missing
 
-pub still-reported : {X : Type 0} (c n : ℕ) (r : Report) (rest : List Packet) (s : State X)
+still-reported : {X : Type 0} (c n : ℕ) (r : Report) (rest : List Packet) (s : State X)
     → AreStill s (report_taken c n r rest s)
 still-reported {X} c n r rest s = record {
   services = λ i. set-part (λ (b : Block X). b.service) n (reported_block c r (s.block n)) s.block refl i;
@@ -59,9 +56,8 @@ reported-missing {c} {n} r new {x} {s} {t} is report pairs known d i =
 pub traced-reported : {w : ℕ} {X : Type 0} {request : ℕ → MessageA w} {c n : ℕ} (r : Report) (rest : List Packet)
     {x : BeatC w} {s : State X} {t : Trace w} → IsLastOf c n (report_right r) x t → is_probe_ack x.opcode ≡ true
     → IsTraced request s t → IsTraced request (report_taken c n r rest s) ((record { 0 = c }, Beat.C x) ∷ t)
-traced-reported {c} {n} r rest {x} {s} {t} is report known =
-    traced-still (quiet-c (record { 0 = c }) x t) (still-reported c n r rest s)
-    (λ d i. reported-records r (reported_block c r (s.block n)) is (λ j. refl) known d i)
+traced-reported {c} {n} r rest {x} {s} {t} is report known = traced-still (quiet-c (record { 0 = c }) x t)
+    (still-reported c n r rest s) (λ d i. reported-records r (reported_block c r (s.block n)) is (λ j. refl) known d i)
     (λ d i. reported-missing r (reported_block c r (s.block n)) is report (λ j. refl) known d i) known
 
 -- ---- a Release
@@ -90,8 +86,7 @@ pub record IsReleased {w : ℕ} (c : ℕ) (x : BeatC w) (m : MessageD w) (t : Tr
 
 released-quiet : {w : ℕ} {c : ℕ} {x : BeatC w} {m : MessageD w} {t : Trace w} → IsReleased c x m t
     → AreQuiet t (after_sent (record { 0 = c }) (D m) ((record { 0 = c }, Beat.C x) ∷ t))
-released-quiet {c} {x} {m} {t} is =
-    quiet-then (quiet-c (record { 0 = c }) x t)
+released-quiet {c} {x} {m} {t} is = quiet-then (quiet-c (record { 0 = c }) x t)
     (quiet-release_ack (record { 0 = c }) m ((record { 0 = c }, Beat.C x) ∷ t) is.width is.whole is.ack is.none)
 
 pub traced-released : {w : ℕ} {X : Type 0} {request : ℕ → MessageA w} {c n : ℕ} (r : Prune) (rest : List Packet)

@@ -12,16 +12,15 @@ use proofs.Imports.{reaction-ack, memory_with, whole-taken, IsKept, End, Reactio
 use proofs.Imports.{is_settled, reaction, Packet, ClientBlock, is_unprobed, Block, State, reported_block, let_block}
 use proofs.Imports.{report_taken, release_taken, grant_ack_taken, freed_block, AbstractState, some_below, with_state}
 use proofs.Imports.{IsServedWith}
-use Rattle.tl_rules.proofs.Payload.{payload-c}
-use Rattle.tl_manager.{proofs.calls.Events.reaction-release, proofs.calls.Events.reaction-report}
+use Rattle.tl_rules.{proofs.Payload.payload-c}
 use Rattle.tl_manager.{proofs.calls.Keeping.kept-offered, specs.statement.Holders.is_missing}
-use Rattle.tl_manager.{specs.statement.Offer.offered, specs.statement.Offer.taken}
-use proofs.manager.{BlockAccounts.IsTraced, ManagedAcks.traced-acked, ManagedAcks.IsAcked}
-use proofs.manager.{ManagedReports.traced-report_part, ManagedReports.traced-reported, ManagedReports.traced-released}
-use proofs.manager.{ManagedReports.IsReleased, ManagersEnd.IsAtManager, Choices.nobody-same, ManagerTakes.IsTakenUp}
-use proofs.manager.{Reporting.IsAbout, Reporting.reported-prune, ManagerMemory.block_in, ManagerMemory.other-blocks}
-use proofs.manager.{ManagerMemory.blocks-now, ManagerMemory.block-taken, QuiescentManager.IsLastOf}
-use proofs.manager.{QuiescentManager.missing-last}
+use Rattle.tl_manager.proofs.calls.Events.{reaction-release, reaction-report}
+use Rattle.tl_manager.specs.statement.Offer.{offered, taken}
+use proofs.manager.{BlockAccounts.IsTraced, ManagedAcks.traced-acked, ManagedAcks.IsAcked, ManagersEnd.IsAtManager}
+use proofs.manager.{Choices.nobody-same, ManagerTakes.IsTakenUp, Reporting.IsAbout, Reporting.reported-prune}
+use proofs.manager.ManagedReports.{traced-report_part, traced-reported, traced-released, IsReleased}
+use proofs.manager.ManagerMemory.{block_in, other-blocks, blocks-now, block-taken}
+use proofs.manager.QuiescentManager.{IsLastOf, missing-last}
 use proofs.queues.Tokens.{set-each, same_number, set-part}
 
 -- what is kept of the manager's end beside the protocol as it follows
@@ -47,9 +46,8 @@ kept-left {config} {c} x d {e} width up is kept = subst (IsKept config) (left-is
 pub others-left : {w : ℕ} {config : Config} {c : ℕ} (n : ℕ) (x : BeatC w) (d : Reaction w) {e : End w} → IsWidth w
     → IsTakenUp config c Channel.C (Beat.C x) e → reaction config (record { 0 = c }) (Beat.C x) e ≡ d → IsKept config e
     → block_at x.address ≡ n → (i : ℕ) → (i ≡ n → ⊥) → block_in d.memory i ≡ block_in e.memory i
-others-left {w} {config} {c} n x d {e} width up is kept block i other =
-    ap (λ (z : End w). block_in z.memory i) (sym (left-is d up is)) ∙ other-blocks
-    (record { 0 = c }) Channel.C x n width kept block i other
+others-left {w} {config} {c} n x d {e} width up is kept block i other = ap (λ (z : End w). block_in z.memory i)
+    (sym (left-is d up is)) ∙ other-blocks (record { 0 = c }) Channel.C x n width kept block i other
 
 -- ---- a beat of channel C that isn't the last of its message
 
@@ -83,15 +81,11 @@ pub ends-it : {w : ℕ} {b : Bool} {c n param : ℕ} {carries : Bool} {truth : L
 ends-it {k} {m} is = rw (is.rest, length-begun (Message.C m) k) (is_last k (beats_of (Message.C m)) is.last)
 
 -- the bytes that it carries
-pub payload-end : {w : ℕ} {b : Bool} {c n param : ℕ} {carries : Bool} {truth : List ℕ} {k : ℕ} {m : MessageC w}
+payload-end : {w : ℕ} {b : Bool} {c n param : ℕ} {carries : Bool} {truth : List ℕ} {k : ℕ} {m : MessageC w}
     {e : End w} → IsEnd b c n param carries truth k m e → carries ≡ true
     → payload_of (Beat.C (c_beat_of m k) ∷ unfinished Channel.C (on_link c e.trace)) ≡ truth
-payload-end {w} {k} {m} is some =
-    cc (
-      is.rest,
-      payload-c m (begun (Message.C m) (suc k)) is.width is.about.long (whole, is.about.blank),
-      is.about.payload_is some,
-    )
+payload-end {w} {k} {m} is some = let fact = payload-c m (begun (Message.C m) (suc k)) is.width is.about.long
+    (whole, is.about.blank) in cc (is.rest, is.about.payload_is some)
   where
     whole : begun (Message.C m) (suc k) ≡ burst_of (Message.C m)
     whole = let all : suc k ≡ beats_of (Message.C m) = omega (arith, is.last) in
@@ -139,13 +133,11 @@ pub released-left : {w : ℕ} {config : Config} {c n k : ℕ} (r : Prune) (rest 
     (left c (Beat.C (c_beat_of m k)) (reaction config (record { 0 = c }) (Beat.C (c_beat_of m k)) e) e)
 unfolding with_handed
 released-left {w} {config} {c} {n} {k} r rest {m} h {e} up end is =
+    let truth : List ℕ = (h.state.block n).truth in
     let x : BeatC w = c_beat_of m k in
-    let carries : Bool = same_perm (prune_left r) Perm.Trunk in
     let after : State (List ℕ) = release_taken c n r rest h.state in
-    let does : Reaction w = record {
-      handed = (record { 0 = c }, release_ack x.source) ∷ [];
-      memory = memory_with (record { 0 = c }) x e;
-    } in
+    let does : Reaction w =
+    record { handed = (record { 0 = c }, release_ack x.source) ∷ []; memory = memory_with (record { 0 = c }) x e } in
     let done : reaction config (record { 0 = c }) (Beat.C x) e ≡ does = reaction-released config r h end in
     let answer = release_is x.source in
     let released : IsReleased c x answer.0 e.trace = record {
@@ -163,14 +155,11 @@ released-left {w} {config} {c} {n} {k} r rest {m} h {e} up end is =
           (traced-released r rest (last-of (prune_right r) end (reported-prune r)) released is.traced);
       served_with = λ i. still i;
       manager_kept = kept-left x does end.width up done is.manager_kept;
-      memory = λ i. cc (blocks-now e.memory does.memory n (let_block c r (h.state.block n)) h.state (memory-end end
-          ∙ ap (λ z. if carries then truth else z) (is.memory n))
+      memory = λ i. cc (blocks-now e.memory does.memory n (let_block c r (h.state.block n)) h.state
+          (memory-end end ∙ ap (λ z. if (same_perm (prune_left r) Perm.Trunk) then truth else z) (is.memory n))
           (others-left n x does end.width up done is.manager_kept end.about.block) is.memory i);
       all_live = is.all_live;
     })
-  where
-    truth : List ℕ
-    truth = (h.state.block n).truth
 
 -- ---- which ProbeAcks are missing
 
@@ -220,26 +209,22 @@ pub reported-left : {w : ℕ} {config : Config} {c n k : ℕ} (r : Report) (rest
     (left c (Beat.C (c_beat_of m k)) (reaction config (record { 0 = c }) (Beat.C (c_beat_of m k)) e) e)
 unfolding with_handed
 reported-left {w} {config} {c} {n} {k} r rest {m} h {e} up end others is =
+    let truth : List ℕ = (h.state.block n).truth in
     let x : BeatC w = c_beat_of m k in
-    let carries : Bool = same_perm (report_left r) Perm.Trunk in
     let after : State (List ℕ) = report_taken c n r rest h.state in
     let does : Reaction w = nothing (memory_with (record { 0 = c }) x e) in
-    let last = last-of (report_right r) end (reported-report r) in
     let done = reaction-reported config r h end others is.traced in
     let still = set-each (λ i z. IsServedWith h.mail z.service (h.request i)) n (reported_block c r (h.state.block n))
     h.state.block (is.served_with n) (λ i ne. is.served_with i) in
     subst (λ (d : Reaction w). IsManagerOf config (with_state after h) (left c (Beat.C x) d e)) (sym done) (record {
-      traced = traced-reported r rest last end.about.reports is.traced;
+      traced = traced-reported r rest (last-of (report_right r) end (reported-report r)) end.about.reports is.traced;
       served_with = λ i. still i;
       manager_kept = kept-left x does end.width up done is.manager_kept;
-      memory = λ i. cc (blocks-now e.memory does.memory n (reported_block c r (h.state.block n)) h.state (memory-end end
-          ∙ ap (λ z. if carries then truth else z) (is.memory n))
+      memory = λ i. cc (blocks-now e.memory does.memory n (reported_block c r (h.state.block n)) h.state
+          (memory-end end ∙ ap (λ z. if (same_perm (report_left r) Perm.Trunk) then truth else z) (is.memory n))
           (others-left n x does end.width up done is.manager_kept end.about.block) is.memory i);
       all_live = is.all_live;
     })
-  where
-    truth : List ℕ
-    truth = (h.state.block n).truth
 
 -- ---- a GrantAck
 

@@ -11,12 +11,10 @@ use proofs.queues.{Tokens.set-same, Codes.gives-some}
 
 -- who is granted the block is recorded with what it is given, so that nobody else has it to write: the
 -- memory is its truth
-pub granted-memory : {caching : ℕ → Bool} (c q : ℕ) (r : Report) (d : Bool) (k : Cap) (b : Block (List ℕ))
+granted-memory : {caching : ℕ → Bool} (c q : ℕ) (r : Report) (d : Bool) (k : Cap) (b : Block (List ℕ))
     → same_perm (cap_right k) Perm.None ≡ false → IsWell caching (granted_block c q r d k b)
     → protocol.written r b.truth b.memory ≡ b.truth
-granted-memory {caching} c q r d k b some well =
-    memory-granted q d k well refl
-    (ap (λ (p : ClientBlock). p.recorded)
+granted-memory {caching} c q r d k b some well = memory-granted q d k well refl (ap (λ (p : ClientBlock). p.recorded)
     (set-same q (after_grant_sent k (b.pair q)) (set c (after_report r (b.pair c)) b.pair))) some
 
 -- the Grant that is handed out is the one of the token
@@ -27,9 +25,8 @@ pub grant-rendered : {w : ℕ} (config : Config) {caching : ℕ → Bool} (c q n
     ≡ block_message Grant q n (granted_block c q r (is_granted_data whole g ((h.state.block n).pair q).recorded)
     (gift_after config c n r whole g h) (h.state.block n))
 unfolding block_message
-grant-rendered config c q n source r whole g h own well =
-    rw (
-      own,
-      granted-memory c q r (is_granted_data whole g ((h.state.block n).pair q).recorded)
-          (gift_after config c n r whole g h) (h.state.block n) (gives-some config.profile whole g _) well,
-    ) refl
+grant-rendered config c q n source r whole g h own well = rw (
+  own,
+  granted-memory c q r (is_granted_data whole g ((h.state.block n).pair q).recorded)
+      (gift_after config c n r whole g h) (h.state.block n) (gives-some config.profile whole g _) well,
+) refl

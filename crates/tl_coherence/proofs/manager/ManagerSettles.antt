@@ -1,5 +1,6 @@
 -- All that is kept of the manager's end, after the last ProbeAck that a request waited for.
-use Rattle.std.proofs.Common.{◌≡◌, ℕ, Bool, true, false, not, List, [], ◌∷◌, length, refl, sym, ◌∙◌, ap, ap₂, subst}
+use Rattle.std.proofs.Common.{◌≡◌, ℕ, Bool, true, false, not, List, [], ◌∷◌}
+use Rattle.std.proofs.Common.{length, refl, sym, ◌∙◌, ap, ap₂, subst, arith}
 use Rattle.tl_coherence.proofs
 use proofs.Imports.{Beat, BeatC, Message, MessageA, MessageC, MessageD, c_beat_of, Config, Cap, Grow, Report, Perm}
 use proofs.Imports.{cap_code, grow_code, Trace, same_perm, effect, Memory, block_at, is_release_ack, is_grant, capped}
@@ -85,9 +86,8 @@ ended-left {w} {config} {c} {q} {n} {source} {k} {low} {r} rest {m} {h} {e} at =
     (λ i ne. at.is.served_with i) in
     subst (λ (d : Reaction w). IsManagerOf config (with_answer q source said (with_state after h))
     (left c (Beat.C x) d e)) (sym done) (record {
-      traced = subst (λ (i : Message w). IsTraced h.request after
-          (with_handed ((record { 0 = q }, i) ∷ []) (trace_with c k m e))) (sym reply.1)
-          (traced-ended (performs (h.request n)) rest ending at.is.traced);
+      traced = subst (λ (i : Message w). IsTraced h.request after (with_handed ((record { 0 = q }, i) ∷ [])
+          (trace_with c k m e))) (sym reply.1) (traced-ended (performs (h.request n)) rest ending at.is.traced);
       served_with = λ i. still i;
       manager_kept = kept-left x does at.end.width at.up done at.is.manager_kept;
       memory = λ i. cc (blocks-now e.memory does.memory n new h.state (block-performed (level_of config q) (h.request n)
@@ -100,7 +100,7 @@ ended-left {w} {config} {c} {q} {n} {source} {k} {low} {r} rest {m} {h} {e} at =
 -- ---- an Acquire
 
 -- the Grant of an Acquire, by what is recorded
-pub grant-made : {w : ℕ} (config : Config) (q n tracker : ℕ) (v : MessageA w) (t : Trace w) (memory : Memory)
+grant-made : {w : ℕ} (config : Config) (q n tracker : ℕ) (v : MessageA w) (t : Trace w) (memory : Memory)
     (whole : Bool) (g : Grow) (unheld : Bool) (p : Perm) → v.opcode ≡ acquire_opcode whole → v.param ≡ grow_code g
     → block_at v.address ≡ n → holders.is_unheld config n t ≡ unheld → recorded q n t ≡ p
     → grant config (record { tracker = tracker; link = record { 0 = q }; request = v }) t memory ≡ grant_of
@@ -133,8 +133,7 @@ settling-records {w} {config} {c} {q} {n} {source} {k} {own} {low} {r} {m} {h} {
     ∙ ap (λ (b : Block (List ℕ)). (b.pair d).recorded) (set-same n (reported_block c r (h.state.block n)) h.state.block)
 
 has_copy-is : (p : Perm) → has_copy p ≡ not (same_perm p Perm.None)
-has_copy-is Perm.None = refl
-has_copy-is p = refl
+has_copy-is p = grind arith
 
 -- the Acquire that is granted is the one that client q has open
 pub record IsWanted {w : ℕ} (c q n source : ℕ) (whole : Bool) (g : Grow) (h : AbstractState w) : Type 0 where
@@ -149,10 +148,9 @@ gift_after config c n r whole g h =
     gift config.profile whole g (is_unheld (length config.clients.items) (pairs_after c r (h.state.block n).pair))
 
 abbrev pub grant_after : {w : ℕ} → Config → ℕ → ℕ → ℕ → ℕ → Report → Bool → Grow → AbstractState w → Message w
-grant_after config c q n source r whole g h =
-    grant_of (GrantSent q (is_granted_data whole g ((h.state.block n).pair q).recorded)
-    (gift_after config c n r whole g h)) source (h.state.block n).tracker
-    (protocol.written r (h.state.block n).truth (h.state.block n).memory)
+grant_after config c q n source r whole g h = grant_of (GrantSent q
+    (is_granted_data whole g ((h.state.block n).pair q).recorded) (gift_after config c n r whole g h)) source
+    (h.state.block n).tracker (protocol.written r (h.state.block n).truth (h.state.block n).memory)
 
 -- what is done: the Grant is handed out, with what the ProbeAcks left of the block
 pub reaction-conceded : {w : ℕ} {config : Config} {c q n source k : ℕ} {low : Cap} {r : Report} {whole : Bool}
@@ -167,23 +165,17 @@ reaction-conceded {w} {config} {c} {q} {n} {source} {k} {low} {r} {whole} {g} {m
     let memory : Memory = memory_with (record { 0 = c }) (c_beat_of m k) e in
     let unheld : Bool = is_unheld (length config.clients.items) (pairs_after c r (h.state.block n).pair) in
     let for = settling-for at in
-    let none : holders.is_unheld config n u ≡ unheld =
-    cc (nobody-same config (λ d. has_copy (recorded d n u))
+    let none : holders.is_unheld config n u ≡ unheld = cc (nobody-same config (λ d. has_copy (recorded d n u))
     (λ d. not (same_perm (pairs_after c r (h.state.block n).pair d).recorded Perm.None))
     (λ d. ap has_copy (settling-records at d) ∙ has_copy-is (pairs_after c r (h.state.block n).pair d).recorded)) in
-    let mine = ap (λ (p : ClientBlock). p.recorded) (set-other c q (after_report r ((h.state.block n).pair c))
-    (h.state.block n).pair (λ f. wanted.apart (sym f))) in
     let sent : grant_of (GrantSent q (is_granted_data whole g ((h.state.block n).pair q).recorded)
     (gift config.profile whole g unheld)) (h.request n).source (h.state.block n).tracker (block_in memory n)
     ≡ grant_after config c q n source r whole g h = rw (for.1, settling-memory at) refl in
-    cc (
-      settling-reaction at,
-      performed-acquire config (service_for q n h.request h.state) u memory for.0,
-      grant-made config q n (h.state.block n).tracker (h.request n) u
-          memory whole g unheld ((h.state.block n).pair q).recorded wanted.opcode_is wanted.param_is for.2 none
-          (settling-records at q ∙ mine),
-      sent,
-    )
+    let fact = grant-made config q n (h.state.block n).tracker (h.request n) u memory whole g unheld
+    ((h.state.block n).pair q).recorded wanted.opcode_is wanted.param_is for.2 none
+    (settling-records at q ∙ (ap (λ (p : ClientBlock). p.recorded)
+    (set-other c q (after_report r ((h.state.block n).pair c)) (h.state.block n).pair (λ f. wanted.apart (sym f))))) in
+    cc (settling-reaction at, performed-acquire config (service_for q n h.request h.state) u memory for.0, sent)
 
 pub conceded-left : {w : ℕ} {config : Config} {c q n source k : ℕ} {low : Cap} {r : Report} {whole : Bool} {g : Grow}
     (rest : List Packet) {m : MessageC w} {h : AbstractState w} {e : End w}
@@ -226,9 +218,8 @@ conceded-left {w} {config} {c} {q} {n} {source} {k} {low} {r} {whole} {g} rest {
     let still = set-each (λ i z. IsServedWith h.mail z.service (h.request i)) n new h.state.block tt
     (λ i ne. at.is.served_with i) in
     subst (λ (d : Reaction w). IsManagerOf config (with_state after h) (left c (Beat.C x) d e)) (sym done) (record {
-      traced = subst (λ (i : Message w). IsTraced h.request after
-          (with_handed ((record { 0 = q }, i) ∷ []) (trace_with c k m e))) (sym reply.1)
-          (traced-conceded data_too rest conceded at.is.traced);
+      traced = subst (λ (i : Message w). IsTraced h.request after (with_handed ((record { 0 = q }, i) ∷ [])
+          (trace_with c k m e))) (sym reply.1) (traced-conceded data_too rest conceded at.is.traced);
       served_with = λ i. still i;
       manager_kept = kept-left x does at.end.width at.up done at.is.manager_kept;
       memory = λ i. blocks-now e.memory does.memory n new h.state (settling-memory at)

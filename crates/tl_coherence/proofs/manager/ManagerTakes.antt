@@ -3,23 +3,22 @@ use Rattle.std.proofs.Common.{sym, subst, ◌≡◌, ℕ, zero, suc, Bool, true,
 use Rattle.std.proofs.Common.{Some, None, refl, ◌∙◌, ap, arith, ◌==◌, if◌then◌else◌, map}
 use Rattle.tl_coherence.proofs
 use proofs.Imports.{Beat, BeatE, Channel, first_if, Message, MessageA, MessageC, begun, c_beat_of, History, unfinished}
-use proofs.Imports.{channel_of, Config, Key, Level, Cap, Prune, Report, Perm, Profile, H1, H13, prune_code, prune_left}
+use proofs.Imports.{channel_of, Config, Key, Level, Cap, Prune, Report, Perm, Profile, prune_code, prune_left}
 use proofs.Imports.{report_code, prune_of, report_at, later-legal, on_link, broken_in_order, broken_order, same_perm}
 use proofs.Imports.{prunes_from, held, pending, judged-passes, whole-e, IsKept, IsSound, illegal_at, one_if, End}
 use proofs.Imports.{Passes, level_of, must_wait, is_from_client, open_level, reaction, IsInvariant, AreNamed, Kind}
-use proofs.Imports.{ProbeAck, Release, GrantAck, Packet, is, count, View, Own, Other, Acknowledging, GrantedOther}
-use proofs.Imports.{is_unprobed, ProbeAnswered, ReleaseSent, is_unreleased, same_report, Service, GrantTaken, Block}
-use proofs.Imports.{State, view, is_on, packet, is_granting, is_acknowledging, is_answered, ManagerRelation, is_own}
-use proofs.Imports.{AccessMessages, block_message, message_of, message_of_kind, ServedSourceRelation, cap_waited}
-use proofs.Imports.{is_granted, System}
-use Rattle.tl_params.specs.declared.rule.Rule.TheVariants.{H8}
-use Rattle.tl_manager.{proofs.judging.Judged.manager-takes, specs.statement.Offer.judged, specs.statement.Offer.offered}
-use Rattle.tl_manager.{specs.statement.Offer.taken, specs.statement.Offer.unlawful}
+use proofs.Imports.{ProbeAck, Release, GrantAck, Packet, is, count, View, Own, Acknowledging, GrantedOther, is_unprobed}
+use proofs.Imports.{ProbeAnswered, ReleaseSent, is_unreleased, same_report, Service, GrantTaken, Block, State, view}
+use proofs.Imports.{is_on, packet, is_granting, is_acknowledging, is_answered, ManagerRelation, is_own, AccessMessages}
+use proofs.Imports.{block_message, message_of, message_of_kind, ServedSourceRelation, cap_waited, is_granted, System}
+use Rattle.tl_params.{specs.declared.rule.Rule.TheVariants.H8}
+use Rattle.tl_manager.{proofs.judging.Judged.manager-takes}
+use Rattle.tl_manager.specs.statement.Offer.{judged, offered, taken, unlawful}
 use Rattle.tl_manager.specs.statement.Offer as manager_offer
-use proofs.protocol.BothParts.{cap-waited}
-use proofs.queues.{FirstToken.IsFirst, Carried.IsNext, Facts.is_other, Facts.release_begins, PhaseFacts.report_fits}
-use proofs.queues.{PhaseFacts.own_alone, Phases.and_left, Phases.and_right, PhaseSteps.on_other, Tokens.same_number}
-use proofs.queues.{Tokens.ordered-first}
+use proofs.protocol.{BothParts.cap-waited}
+use proofs.queues.{FirstToken.IsFirst, Carried.IsNext, Facts.is_other, Facts.release_begins, Phases.and_left}
+use proofs.queues.{Phases.and_right, PhaseSteps.on_other, Tokens.same_number, Tokens.ordered-first}
+use proofs.queues.PhaseFacts.{report_fits, own_alone}
 use proofs.manager.{Orders.report-legal, ManagedEndings.tracker-of, Reporting.IsAbout}
 
 -- ---- the first message of channel C or E
@@ -41,9 +40,7 @@ by-first_c {w} P c mail s sys x queue at report release = subst P (sym at.tokens
 
     go : (k : Kind) → is_on Channel.C k ≡ true → (s.link c).c ≡ packet k at.number ∷ at.rest → Next k
         → P (packet k at.number ∷ at.rest)
-    go ProbeAck e first next = report at.number at.rest first next
-    go Release e first next = release at.number at.rest first next
-    go k e first next = absurd cc
+    go k e f g = grind (arith, report, release)
 
 -- or a GrantAck
 pub by-first_e : {w : ℕ} (P : List Packet → Type 0) {c : ℕ} {mail : AccessMessages w} {s : State (List ℕ)}
@@ -63,11 +60,10 @@ by-first_e {w} P {c} {mail} {s} {sys} {x} {queue} at ack =
 
 pub record IsTakenUp {w : ℕ} (config : Config) (c : ℕ) (ch : Channel) (x : Beat w) (e : End w) : Type 0 where
   pub passes : judged config (record { 0 = c }) ch x e ≡ Passes
-  pub answer : offered config (record { 0 = c }) ch x e
-      ≡ (
-        manager_offer.Sent (reaction config (record { 0 = c }) x e).handed,
-        taken (record { 0 = c }) x (reaction config (record { 0 = c }) x e) e,
-      )
+  pub answer : offered config (record { 0 = c }) ch x e ≡ (
+    manager_offer.Sent (reaction config (record { 0 = c }) x e).handed,
+    taken (record { 0 = c }) x (reaction config (record { 0 = c }) x e) e,
+  )
 
 pub takes : {w : ℕ} {config : Config} (c : ℕ) (ch : Channel) (x : Beat w) (e : End w)
     → IsSound config (record { 0 = c }, x) → is_from_client x ≡ true → channel_of x ≡ ch → e.closed ≡ []
@@ -88,22 +84,12 @@ takes {w} {config} c ch x e sound theirs own live order free = go (level_of conf
 -- ---- a ProbeAck
 
 pub same_report-is : (p q : Report) → same_report p q ≡ true → p ≡ q
-same_report-is Report.TtoB Report.TtoB e = refl
-same_report-is Report.TtoN Report.TtoN e = refl
-same_report-is Report.BtoN Report.BtoN e = refl
-same_report-is Report.TtoT Report.TtoT e = refl
-same_report-is Report.BtoB Report.BtoB e = refl
-same_report-is Report.NtoN Report.NtoN e = refl
-same_report-is p q e = absurd cc
+same_report-is p q e = grind arith
 
 -- what holds of the cap that a client sees holds of that of the service
 pub seen_cap : (test : Cap → Bool) (s : Service) (c : ℕ) → (on_other (view s c) test && is_other (view s c)) ≡ true
     → test (cap_waited s) ≡ true
-seen_cap test s c = go (view s c) refl
-  where
-    go : (v : View) → view s c ≡ v → (on_other v test && is_other v) ≡ true → test (cap_waited s) ≡ true
-    go (Other k) f e = rw (cap-waited k s c f) (and_left (test k) true e)
-    go v f e = absurd cc
+seen_cap test s c = grind (arith, cap-waited, and_left)
 
 -- the place of a beat in its message
 abbrev NextOrder : {w : ℕ} → Profile → MessageC w → ℕ → History w → Type 0
@@ -130,11 +116,6 @@ report-order {w} {config} c {n} k r {m} {s} {e} inv managed served kept answered
     b : Block (List ℕ)
     b = s.block n
 
-    told : r ≡ report_at (cap_waited b.service) (b.pair c).recorded
-    told = cc (same_report-is r (report_at (cap_waited b.service) (b.pair c).recorded)
-        (seen_cap (λ k. same_report r (report_at k (b.pair c).recorded)) b.service c
-        (report_fits r (b.pair c) (view b.service c) ((inv.blocks n).phases c) answered)))
-
     first : unfinished Channel.C t ≡ [] → NextOrder config.profile m 0 t
     first none =
         let missing : pending (Key.ProbeOf n) t ≡ true = managed.probes c n ∙ rw answered refl in
@@ -142,21 +123,14 @@ report-order {w} {config} c {n} k r {m} {s} {e} inv managed served kept answered
         let probe = served.probes c n (rw answered refl) in
         report-legal config.profile n (cap_waited b.service) r (b.pair c).recorded
         (c_beat_of m 0) t about.reports about.releases about.block about.param_is none missing released probe
-        (managed.recorded_is c n) told
+        (managed.recorded_is c n) (cc (same_report-is r (report_at (cap_waited b.service) (b.pair c).recorded)
+        (seen_cap (λ k. same_report r (report_at k (b.pair c).recorded)) b.service c
+        (report_fits r (b.pair c) (view b.service c) ((inv.blocks n).phases c) answered))))
 
 -- ---- a Release
 
-abbrev first_release : Bool → Bool → Bool → Bool → Type 0
-first_release used acquires releases fits = first_if used H1 (first_if (acquires || (releases || not fits)) H13 None)
-    ≡ None
-
-release_rules : (used acquires releases fits : Bool) → used ≡ false → acquires ≡ false → releases ≡ false → fits ≡ true
-    → first_release used acquires releases fits
-release_rules used acquires releases fits e f g h = rw (e, f, g, h) refl
-
 pruned : (r : Prune) (p : Perm) → same_perm (prune_left r) p ≡ true → prunes_from (prune_of (prune_code r)) p ≡ true
-pruned Prune.TtoB p e = e
-pruned r p e = e
+pruned r p e = grind arith
 
 -- a Release that is first has no ProbeAck of its block behind it
 pub unanswered : (caching : ℕ → Bool) (c n : ℕ) (rest : List Packet) (s : State (List ℕ)) → IsInvariant caching s
@@ -203,14 +177,11 @@ release-order {w} {config} {caching} c {n} k r rest {m} {s} {e} inv managed kept
     first : unfinished Channel.C t ≡ [] → NextOrder config.profile m 0 t
     first none =
         let used : pending (Key.ReleaseSource m.source) t ≡ false = (kept.releases c).sources m.source ∙ rw none refl in
-        let acquires : pending (Key.AcquireOf n) t ≡ false = managed.acquires c n ∙ not_own (view b.service c) refl in
         let releases : pending (Key.ReleaseOf n) t ≡ false = (kept.releases c).blocks n ∙ rw none refl in
         let legal : prunes_from (prune_of (prune_code r)) (held n t) ≡ true =
         rw (managed.recorded_is c n) (pruned r (b.pair c).recorded fits) in
         rw (none, about.releases, about.block, about.param_is)
-        (release_rules (pending (Key.ReleaseSource m.source) t) (pending (Key.AcquireOf n) t)
-        (pending (Key.ReleaseOf n) t)
-        (prunes_from (prune_of (prune_code r)) (held n t)) used acquires releases legal)
+        (rw (used, managed.acquires c n ∙ not_own (view b.service c) refl, releases, legal) refl)
 
 -- ---- a GrantAck
 
@@ -224,8 +195,7 @@ pub ack-order : {w : ℕ} {config : Config} {request : ℕ → MessageA w} (c n 
     × (broken_in_order {w = w} config.profile (Beat.E x) (on_link c e.trace) ≡ None)
 unfolding broken_order
 ack-order {w} c n x {s} {e} named served kept taken_is sink =
-    let awaits : (b : Bool) → b ≡ true
-    → (is_granting (if b then Acknowledging else GrantedOther) || is_acknowledging
+    let awaits : (b : Bool) → b ≡ true → (is_granting (if b then Acknowledging else GrantedOther) || is_acknowledging
     (if b then Acknowledging else GrantedOther)) ≡ true = λ b f. rw f refl in
     let pends : pending (Key.GrantSink x.sink) (on_link c e.trace) ≡ true = served.sinks c x.sink
     ∙ ap (λ i. is_granted c (s.tracked i) s) sink

@@ -1,5 +1,5 @@
 -- The manager's end beside the protocol: all that is kept of it in one, and what follows from one trace and one memory.
-use Rattle.std.proofs.Common.{◌≡◌, ℕ, ◌*◌, List, [], sym, ◌∙◌}
+use Rattle.std.proofs.Common.{◌≡◌, ℕ, ◌*◌, List, [], arith}
 use Rattle.tl_coherence.proofs
 use proofs.Imports.{MessageA, Config, bytes_from, IsKept, End, Service, Waits, GrantSent, State, AccessMessages}
 use proofs.Imports.{SimulationRelation, IsServedWith, Log, System}
@@ -38,11 +38,4 @@ same_with mail service after m e ok = rw e ok
 pub at_manager-same : {w : ℕ} {config : Config} {mail : AccessMessages w} {request : ℕ → MessageA w}
     {s u : State (List ℕ)} {e : End w} → IsSameToManager s u → ((n : ℕ) → (u.block n).memory ≡ (s.block n).memory)
     → IsAtManager config mail request s e → IsAtManager config mail request u e
-at_manager-same {mail} {request} {s} {u} same memory is = record {
-  traced = traced-same same is.traced;
-  served_with = λ n. same_with mail (s.block n).service (u.block n).service (request n) (same.service_same n)
-      (is.served_with n);
-  manager_kept = is.manager_kept;
-  memory = λ n. is.memory n ∙ sym (memory n);
-  all_live = is.all_live;
-}
+at_manager-same {mail} {request} {s} {u} same memory is = grind (arith, traced-same, same_with)

@@ -17,7 +17,7 @@ byte_in f x (suc n) zero lt = ap f (omega arith)
 byte_in f x (suc n) (suc i) lt = byte_in f (x + 1) n i (omega (arith, lt)) ∙ ap f (omega arith)
 
 -- the memory that has a block's bytes has that block
-pub again-same : (f : Memory) (n : ℕ) → SameBlock n f (bytes_at n (bytes_from f (64 * n) 64))
+again-same : (f : Memory) (n : ℕ) → SameBlock n f (bytes_at n (bytes_from f (64 * n) 64))
 again-same f n x e =
     let lt : x - 64 * n < 64 = omega (arith, e) in
     let place : 64 * n + (x - 64 * n) ≡ x = omega (arith, e) in
@@ -27,17 +27,15 @@ again-same f n x e =
 pub access-room : {w : ℕ} (o : Option Level) (m : MessageA w) → IsWidth w → illegal_message_at o (A m) ≡ None
     → m.address % 64 + 2 ^ m.size ≤ 64
 access-room None m width lawful = absurd cc
-access-room {w} (Some l) m width lawful = room_in_block m.size m.address m.small
-    (eqb-true (m.address % 2 ^ m.size) 0 (control_aligned w l m.opcode m.param m.size m.address
-    (control_of_legal l m width lawful)))
+access-room {w} (Some l) m width lawful = room_in_block m.size m.address m.small (eqb-true (m.address % 2 ^ m.size) 0
+    (control_aligned w l m.opcode m.param m.size m.address (control_of_legal l m width lawful)))
 
 -- the memory's bytes of the block after the access are those that the protocol gives the block
 pub performed-block : {w : ℕ} (o : Option Level) (m : MessageA w) (f : Memory) → IsWidth w
     → illegal_message_at o (A m) ≡ None → bytes_from (effect (A m) f).0 (64 * block_at m.address) 64
     ≡ performs m (bytes_from f (64 * block_at m.address) 64)
 unfolding effect
-performed-block {w} o m f width lawful =
-    block-same (effect (A m) f).0
+performed-block {w} o m f width lawful = block-same (effect (A m) f).0
     (effect (A m) (bytes_at (block_at m.address) (bytes_from f (64 * block_at m.address) 64))).0 (block_at m.address)
     (after-local m.opcode m f (bytes_at (block_at m.address) (bytes_from f (64 * block_at m.address) 64))
     (access-room o m width lawful) (again-same f (block_at m.address)))
@@ -47,6 +45,5 @@ pub performed-reply : {w : ℕ} (o : Option Level) (m : MessageA w) (f : Memory)
     → illegal_message_at o (A m) ≡ None
     → (effect (A m) f).1 ≡ (effect (A m) (bytes_at (block_at m.address) (bytes_from f (64 * block_at m.address) 64))).1
 unfolding effect
-performed-reply {w} o m f width lawful =
-    reply-local m.opcode m f (bytes_at (block_at m.address) (bytes_from f (64 * block_at m.address) 64))
-    (access-room o m width lawful) (again-same f (block_at m.address))
+performed-reply {w} o m f width lawful = reply-local m.opcode m f (bytes_at (block_at m.address)
+    (bytes_from f (64 * block_at m.address) 64)) (access-room o m width lawful) (again-same f (block_at m.address))

@@ -1,27 +1,14 @@
 -- A message that the values of a history allow breaks no rule of order after it: for the manager's end and for what
 -- is delivered alike.
-use Rattle.std.proofs.Common.{◌≡◌, ℕ, Bool, true, false, not, ◌&&◌, ◌||◌, [], Option, Some, None, refl}
+use Rattle.std.proofs.Common.{◌≡◌, ℕ, Bool, true, false, not, ◌&&◌, ◌||◌, [], Some, None, refl, arith}
 use Rattle.tl_coherence.proofs
-use proofs.Imports.{and-false, Beat, BeatA, BeatB, BeatC, Channel, first_if, c_carries_data, History, unfinished, Key}
+use proofs.Imports.{and-false, Beat, BeatA, BeatC, Channel, first_if, c_carries_data, History, unfinished, Key}
 use proofs.Imports.{Cap, Report, Perm, Profile, H1, H4, H5, report_code, report_at, broken_order, broken_in_order}
 use proofs.Imports.{grows_from, block_at, is_acquire, is_probe_ack, is_release, held, pending, probe_of, probe_beat}
-use Rattle.tl_params.specs.declared.rule.Rule.TheVariants.{H10, H11, H12}
 use Rattle.tl_rules.specs.statement.Conformance.{answers_wrong_probe, misreports}
 use proofs.queues.{Tokens.same_number, Codes.cap-again}
 
 -- ---- a ProbeAck: H10, H11 and H12
-
-rules : (wrong late bad : Bool) → wrong ≡ false → late ≡ false → bad ≡ false
-    → first_if wrong H10 (first_if late H11 (first_if bad H12 None)) ≡ None
-rules wrong late bad e f g = rw (e, f, g) refl
-
-answers_it : {w : ℕ} (x : BeatC w) (n : ℕ) (k : Cap) (o : Option (BeatB w)) → o ≡ Some (probe_beat n k)
-    → answers_wrong_probe x o ≡ false
-answers_it x n k o e = rw e (and-false (c_carries_data x.opcode))
-
-reports_it : {w : ℕ} (x : BeatC w) (n : ℕ) (k : Cap) (r : Report) (p : Perm) (o : Option (BeatB w))
-    → o ≡ Some (probe_beat n k) → x.param ≡ report_code r → r ≡ report_at k p → misreports x o p ≡ false
-reports_it x n k r p o e param told = rw (e, cap-again k, param, told, same_number (report_code (report_at k p))) refl
 
 pub report-legal : {w : ℕ} (profile : Profile) (n : ℕ) (k : Cap) (r : Report) (p : Perm) (x : BeatC w) (t : History w)
     → is_probe_ack x.opcode ≡ true → is_release x.opcode ≡ false → block_at x.address ≡ n → x.param ≡ report_code r
@@ -32,14 +19,12 @@ unfolding broken_order
 report-legal {w} profile n k r p x t acks not_release block param none probed released probe is told =
     let found : probe_of (block_at x.address) t ≡ Some (probe_beat n k) = rw block probe in
     let wrong : (not (pending (Key.ProbeOf (block_at x.address)) t) || answers_wrong_probe x
-    (probe_of (block_at x.address) t)) ≡ false = rw (block, probed) (answers_it x n k (probe_of n t) probe) in
+    (probe_of (block_at x.address) t)) ≡ false = rw (block, probed) (rw probe (and-false (c_carries_data x.opcode))) in
     let late : pending (Key.ReleaseOf (block_at x.address)) t ≡ false = rw block released in
     let bad : misreports x (probe_of (block_at x.address) t) (held (block_at x.address) t) ≡ false =
-    rw (block, is) (reports_it x n k r p (probe_of n t) probe param told) in
+    rw (block, is) (rw (probe, cap-again k, param, told, same_number (report_code (report_at k p))) refl) in
     rw (none, not_release, acks)
-    (rules (not (pending (Key.ProbeOf (block_at x.address)) t) || answers_wrong_probe x
-    (probe_of (block_at x.address) t)) (pending (Key.ReleaseOf (block_at x.address)) t)
-    (misreports x (probe_of (block_at x.address) t) (held (block_at x.address) t)) wrong late bad)
+    (rw (wrong, late, bad) refl)
 
 -- ---- an Acquire: H1, H4 and H5
 
@@ -53,7 +38,4 @@ pub acquire-legal : {w : ℕ} (profile : Profile) (n : ℕ) (p : Perm) (x : Beat
     → pending (Key.ReleaseOf n) t ≡ false → held n t ≡ p → grows_from x.param p ≡ true
     → broken_in_order profile (Beat.A x) t ≡ None
 unfolding broken_order
-acquire-legal profile n p x t acquires block none free once released is grows =
-    rw (none, acquires, block, is) (requests (pending (Key.RequestSource x.source) t)
-    (pending (Key.AcquireOf n) t || pending (Key.ReleaseOf n) t)
-    (grows_from x.param p) free (rw (once, released) refl) grows)
+acquire-legal profile n p x t acquires block none free once released is grows = grind (arith, requests)

@@ -42,9 +42,8 @@ one-handed c m t = refl
 recorded-reply : {w : ℕ} (link : ℕ) (m : MessageD w) (t : Trace w) (d i : ℕ) → IsWidth w
     → ((c : ℕ) → unfinished Channel.D (on_link c t) ≡ []) → is_grant m.opcode ≡ false
     → recorded d i (after_sent (link_of link) (D m) t) ≡ recorded d i t
-recorded-reply link m t d i width whole other =
-    sent-keeps (held i) d (link_of link) (D m) t (λ h f. held-sent_d i m h (ap (unfinished Channel.D) f ∙ whole d)
-    (beats-positive (D m) width) ∙ rw other refl)
+recorded-reply link m t d i width whole other = sent-keeps (held i) d (link_of link) (D m) t
+    (λ h f. held-sent_d i m h (ap (unfinished Channel.D) f ∙ whole d) (beats-positive (D m) width) ∙ rw other refl)
 
 -- ---- an access
 
@@ -66,10 +65,9 @@ traced-answered {w} {X} {config} {request} {c} {k} {n} f {m} {s} u memory {e} bl
     let new : Block X = performed_block f (s.block n) in
     let here : u.block n ≡ new = blocks n ∙ set-same n new s.block in
     let reply = answer_of_d m (answer_of (A m) (effect (A m) memory).1) in
-    let after_is : after ≡ after_sent (link_of c) (D reply.0) t =
-    ap (λ (d : Reaction w). with_handed d.handed t) (performed-access config (service_for c m e.trace) t memory
-    is.access) ∙ one-handed c (access_answer m (answer_of (A m) (effect (A m) memory).1)) t
-    ∙ ap (λ (i : Message w). after_sent (link_of c) i t) reply.1 in
+    let after_is : after ≡ after_sent (link_of c) (D reply.0) t = ap (λ (d : Reaction w). with_handed d.handed t)
+    (performed-access config (service_for c m e.trace) t memory is.access) ∙ one-handed c (access_answer m
+    (answer_of (A m) (effect (A m) memory).1)) t ∙ ap (λ (i : Message w). after_sent (link_of c) i t) reply.1 in
     let recorded_same : (d i : ℕ) → recorded d i after ≡ recorded d i e.trace = λ d i. ap (recorded d i) after_is
     ∙ recorded-reply c reply.0 t d i is.comes.width whole reply.2 ∙ recorded-beat c k m e.trace d i in
     let missing_same : (d i : ℕ) → pending (ProbeOf i) (on_link d after) ≡ pending (ProbeOf i) (on_link d e.trace) =
@@ -80,10 +78,9 @@ traced-answered {w} {X} {config} {request} {c} {k} {n} f {m} {s} u memory {e} bl
     ) in
     let asked_same : (r src : ℕ) → request_of src (on_link r after) ≡ request_of src (on_link r t) =
     λ r src. cc (after_is, request-reply (link_of c) reply.0 t r src) in
-    let served : (i : ℕ) → service_of_block i (services after)
-    ≡ (if not (is_acquire m.opcode) && (block_at m.address == i) then None else service_of_block i (services t)) =
-    λ i. performed-serving config (block_at m.address) i (service_for c m e.trace) t memory
-    (ready-last is.comes is.last) in
+    let served : (i : ℕ) → service_of_block i (services after) ≡ (if not (is_acquire m.opcode)
+    && (block_at m.address == i) then None else service_of_block i (services t)) = λ i. performed-serving config
+    (block_at m.address) i (service_for c m e.trace) t memory (ready-last is.comes is.last) in
     traced-at (record {
       other_blocks = λ i ne. blocks i ∙ set-other n i new s.block ne;
       other_requests = λ i ne. refl;
@@ -173,8 +170,7 @@ traced-granted {w} {X} {config} {request} {c} {k} {n} b {j} {m} {s} u memory {e}
       probes_here = λ d. missing_same d n ∙ known.probes d n ∙ sym
           (ap (λ (y : Block X). not (is_unprobed (y.pair d).probing)) here ∙ ap not (quiet_same d));
       probes_else = λ d i ne. missing_same d i;
-      serving_here =
-          served n ∙ serving-last n is.comes is.last is.block
+      serving_here = served n ∙ serving-last n is.comes is.last is.block
           ∙ sym (ap (λ (y : Block X). service_with (client_in y.service) y.tracker (set n m request n)) here
           ∙ ap (λ (r : MessageA w). Some (record { tracker = tracker; link = link_of c; request = r }))
           (set-same n m request));
@@ -215,15 +211,11 @@ traced-granted {w} {X} {config} {request} {c} {k} {n} b {j} {m} {s} u memory {e}
         ∙ rw (reply.2, asks i, reply.4, recorded-beat c k m e.trace c i) refl
 
     recorded_apart : (d i : ℕ) → (d ≡ c → ⊥) → recorded d i after ≡ recorded d i e.trace
-    recorded_apart d i ne =
-        let differ : c ≡ d → ⊥ = λ f. ne (sym f) in
-        ap (recorded d i) after_is ∙ ap (held i) (other_link d (link_of c) (D reply.0) t (ne_eqb c d differ))
-        ∙ recorded-beat c k m e.trace d i
+    recorded_apart d i ne = ap (recorded d i) after_is ∙ ap (held i)
+        (other_link d (link_of c) (D reply.0) t (ne_eqb c d (λ f. ne (sym f)))) ∙ recorded-beat c k m e.trace d i
 
     recorded_other : (d i : ℕ) → (i ≡ n → ⊥) → recorded d i after ≡ recorded d i e.trace
-    recorded_other d i ne =
-        let differ : n ≡ i → ⊥ = λ f. ne (sym f) in
-        elim (cases_eq d c) [
-          | inl same ↦ rw same (recorded_own i ∙ rw (ne_eqb n i differ) refl)
-          | inr apart ↦ recorded_apart d i apart
-        ]
+    recorded_other d i ne = elim (cases_eq d c) [
+      | inl same ↦ rw same (recorded_own i ∙ rw (ne_eqb n i (λ f. ne (sym f))) refl)
+      | inr apart ↦ recorded_apart d i apart
+    ]

@@ -5,19 +5,18 @@ use Rattle.tl_coherence.proofs
 use proofs.Imports.{and-false, cases_lt, Beat, Channel, A, MessageA, a_beat_of, beats_of, unfinished, Config, ProbeOf}
 use proofs.Imports.{Cap, Perm, held_unsaid, sent, Trace, on_link, pending, held, block_at, request_of, swapped}
 use proofs.Imports.{whole-taken, End, with_handed, probes, probe_of_block, recorded, is_spared, probed, services}
-use proofs.Imports.{service_of_block, least_untaken, trackers_of, set, ClientBlock, is_unprobed, ProbeSent, is_above}
-use proofs.Imports.{after_served, Free, Waits, Block, State, served_pair, served_block, client_in, service_with, IsFor}
-use Rattle.tl_manager.{proofs.pending.Probed.probes-keep, proofs.pending.Probes.probes-within}
-use Rattle.tl_manager.{proofs.pending.Probes.probes-beyond, proofs.pending.Probes.services-probes}
-use Rattle.tl_manager.{proofs.pending.Probing.missing-own_b, proofs.pending.Probing.missing-else_b}
-use Rattle.tl_manager.{proofs.pending.Probing.request_of-b, specs.statement.Handing.probe_beat}
+use proofs.Imports.{least_untaken, trackers_of, set, ClientBlock, is_unprobed, ProbeSent, is_above, after_served, Free}
+use proofs.Imports.{Waits, Block, State, served_pair, served_block, client_in, service_with, IsFor}
+use Rattle.tl_manager.{proofs.pending.Probed.probes-keep, specs.statement.Handing.probe_beat}
 use Rattle.tl_manager.{specs.statement.Service.Service}
+use Rattle.tl_manager.proofs.pending.Probes.{probes-within, probes-beyond, services-probes}
+use Rattle.tl_manager.proofs.pending.Probing.{missing-own_b, missing-else_b, request_of-b}
 use Rattle.tl_manager.specs.statement.Holders as holders
-use proofs.manager.{BlockAccounts.IsTraced, Traces.traced-at, ManagedServed.same_above, Arrivals.link_of}
-use proofs.manager.{Arrivals.with_beat, Arrivals.IsComing, Arrivals.service_for}
-use proofs.queues.{Tokens.set-same, Tokens.set-other, Perms.nothing-above}
+use proofs.manager.{BlockAccounts.IsTraced, Traces.traced-at, ManagedServed.same_above}
+use proofs.manager.Arrivals.{link_of, with_beat, IsComing, service_for}
 use proofs.manager.Requests.{recorded-beat, missing-beat, request-beat, request-own, IsUnwaited, serving-last}
 use proofs.manager.Requests.{serving-others}
+use proofs.queues.{Tokens.set-same, Tokens.set-other, Perms.nothing-above}
 
 -- the trace after the last beat of a request, and the Probes
 abbrev pub with_probes : {w : ℕ} → Config → ℕ → ℕ → MessageA w → ℕ → Cap → Trace w → Trace w
@@ -61,8 +60,7 @@ traced-probing {w} {X} {config} {request} {c} {k} {n} {own} {source} {j} {m} {s}
     -- who is probed
     let test : ℕ → Bool = λ d. holders.is_above j (recorded d (block_at m.address) t) && not
     (is_spared (service_for c m e.trace) d) in
-    let test_is : (d : ℕ) → test d ≡ (is_above j ((s.block n).pair d).recorded && not (own && (d == c))) =
-    λ d. rw (
+    let test_is : (d : ℕ) → test d ≡ (is_above j ((s.block n).pair d).recorded && not (own && (d == c))) = λ d. rw (
       is.for.2,
       recorded-beat c k m e.trace d n,
       known.recorded_is d n,
@@ -91,13 +89,8 @@ traced-probing {w} {X} {config} {request} {c} {k} {n} {own} {source} {j} {m} {s}
           probes-keep (pending (ProbeOf i)) d n j asked_clients t (λ h. missing-else_b i n j h (ne_eqb n i differ))
           ∙ missing-beat c k m e.trace d i;
       serving_here =
-          ap (service_of_block n) (services-probes n j asked_clients t) ∙ serving-last n is.comes is.last
-          is.for.2
-          ∙ sym (ap (λ (b : Block X). service_now b) here ∙ ap
-          (λ (r : MessageA w). Some (record { tracker = tracker; link = link_of c; request = r }))
-          (set-same n m request));
-      serving_else = λ i ne. ap (service_of_block i) (services-probes n j asked_clients t)
-          ∙ serving-others n i is.comes is.last is.for.2 ne;
+          cc (services-probes n j asked_clients t, serving-last n is.comes is.last is.for.2, set-same n m request);
+      serving_else = λ i ne. cc (services-probes n j asked_clients t, serving-others n i is.comes is.last is.for.2 ne);
       request_here = rw (here, set-same n m request) is.for;
       asked_here = λ r src o l f. asked_now r src o l (ap (λ (b : Block X). b.service) (sym here) ∙ f);
       asked_else = λ i r src o l ne f. asked_same r src ∙ request-beat c k m e.trace r src

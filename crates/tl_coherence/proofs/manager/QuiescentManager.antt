@@ -1,16 +1,16 @@
 -- Beats and answers after which the manager's end says the same of all but what is recorded and which
 -- ProbeAcks are missing.
 use Rattle.std.proofs.Common.{◌≡◌, ℕ, Bool, true, false, not, ◌&&◌, ◌||◌, [], ◌∷◌, Some, None, refl, sym, ◌∙◌, ap}
-use Rattle.std.proofs.Common.{subst, inl, inr, eqb-true, ne_eqb, ◌==◌, if◌then◌else◌, unwrap_or}
+use Rattle.std.proofs.Common.{arith, inl, inr, eqb-true, ne_eqb, ◌==◌, if◌then◌else◌, unwrap_or}
 use Rattle.tl_coherence.proofs
 use proofs.Imports.{cases_eq, Beat, BeatC, Link, Channel, IsWidth, beats-positive, D, MessageA, MessageD, unfinished}
 use proofs.Imports.{Key, Perm, held-sent_d, Trace, on_link, ends, block_at, is_grant, is_probe_ack, is_release}
 use proofs.Imports.{is_release_ack, pending, reported, request_of, held, after_sent, own_link, other_link, own_beat}
-use proofs.Imports.{other_beat, beat-keeps, request_of-c, request-reply, recorded, services, service_of_block, set}
-use proofs.Imports.{ClientBlock, is_unprobed, Block, State}
+use proofs.Imports.{other_beat, beat-keeps, request_of-c, request-reply, recorded, services, set, ClientBlock}
+use proofs.Imports.{is_unprobed, Block, State}
 use Rattle.tl_manager.{proofs.pending.Accesses.services-release_ack, proofs.pending.Handed.recorded-taken}
 use Rattle.tl_manager.{proofs.pending.LinkHistories.pending-closed, proofs.pending.Probing.services-c}
-use proofs.manager.BlockAccounts.{IsTraced}
+use proofs.manager.{BlockAccounts.IsTraced}
 use proofs.queues.Tokens.{same_number, set-same, set-other}
 
 -- ---- the manager's end
@@ -21,10 +21,7 @@ pub record AreQuiet {w : ℕ} (t u : Trace w) : Type 0 where
 
 -- one after another
 pub quiet-then : {w : ℕ} {t u v : Trace w} → AreQuiet t u → AreQuiet u v → AreQuiet t v
-quiet-then a b = record {
-  serves = b.serves ∙ a.serves;
-  requests = λ c q. b.requests c q ∙ a.requests c q;
-}
+quiet-then a b = record { serves = b.serves ∙ a.serves; requests = λ c q. b.requests c q ∙ a.requests c q }
 
 -- ---- a beat of channel C
 
@@ -59,8 +56,7 @@ recorded-last {w} {c} {n} {right} {x} {t} is d i =
     ]
 
 part_or : (p : Perm) (b : Bool) (q : Perm) → unwrap_or (if b && false then Some p else None) q ≡ q
-part_or p true q = refl
-part_or p false q = refl
+part_or p b q = grind arith
 
 -- a beat that isn't the last one
 pub recorded-part : {w : ℕ} (c : ℕ) (x : BeatC w) (t : Trace w) → ends (Beat.C x) (on_link c t) ≡ false → (d i : ℕ)
@@ -88,40 +84,26 @@ missing-c {w} c x t d i = go (c == d) refl
 pub missing-last : {w : ℕ} {c n : ℕ} {right : Perm} {x : BeatC w} {t : Trace w} → IsLastOf c n right x t
     → is_probe_ack x.opcode ≡ true → (d i : ℕ) → pending (Key.ProbeOf i) (on_link d ((record { 0 = c }, Beat.C x) ∷ t))
     ≡ (if (c == d) && (n == i) then false else pending (Key.ProbeOf i) (on_link d t))
-missing-last {c} {x} {t} is report d i = missing-c c x t d i ∙ elim (cases_eq c d) [
-  | inl same ↦ rw (← same, is.last, report, is.block, same_number c) refl
-  | inr other ↦ rw (ne_eqb c d other) refl
-]
+missing-last {c} {x} {t} is report d i = grind (arith, missing-c, cases_eq)
 
 none_or : (a b p : Bool) → (if a && (b && false) then false else p) ≡ p
-none_or true true p = refl
-none_or a b p = refl
+none_or a b p = grind arith
 
 pub missing-release : {w : ℕ} (c : ℕ) (x : BeatC w) (t : Trace w) → is_probe_ack x.opcode ≡ false → (d i : ℕ)
     → pending (Key.ProbeOf i) (on_link d ((record { 0 = c }, Beat.C x) ∷ t)) ≡ pending (Key.ProbeOf i) (on_link d t)
-missing-release {w} c x t kind d i = missing-c c x t d i
-    ∙ rw kind (none_or (c == d) (ends (Beat.C x) (on_link d t)) (pending (Key.ProbeOf i) (on_link d t)))
-
-pub part_none : (a b : Bool) → (if a && false then false else b) ≡ b
-part_none true b = refl
-part_none false b = refl
+missing-release {w} c x t kind d i = grind (arith, missing-c, none_or)
 
 pub missing-part : {w : ℕ} (c : ℕ) (x : BeatC w) (t : Trace w) → ends (Beat.C x) (on_link c t) ≡ false → (d i : ℕ)
     → pending (Key.ProbeOf i) (on_link d ((record { 0 = c }, Beat.C x) ∷ t)) ≡ pending (Key.ProbeOf i) (on_link d t)
-missing-part {w} c x t part d i = missing-c c x t d i ∙ elim (cases_eq c d) [
-  | inl same ↦ rw (← same, part) (part_none (c == c) (pending (Key.ProbeOf i) (on_link c t)))
-  | inr other ↦ rw (ne_eqb c d other) refl
-]
+missing-part {w} c x t part d i = grind (arith, missing-c, cases_eq)
 
 -- ---- an answer to a Release
 
 pub quiet-release_ack : {w : ℕ} (link : Link) (m : MessageD w) (t : Trace w) → IsWidth w
     → unfinished Channel.D (on_link link.0 t) ≡ [] → is_release_ack m.opcode ≡ true → is_grant m.opcode ≡ false
     → AreQuiet t (after_sent link (D m) t)
-quiet-release_ack link m t width none ack other = record {
-  serves = services-release_ack link m t width none ack;
-  requests = λ c q. request-reply link m t c q;
-}
+quiet-release_ack link m t width none ack other =
+    record { serves = services-release_ack link m t width none ack; requests = λ c q. request-reply link m t c q }
 
 -- what is recorded after an answer that is no Grant
 pub recorded-answer : {w : ℕ} (link : Link) (m : MessageD w) (t : Trace w) → IsWidth w
@@ -130,9 +112,8 @@ pub recorded-answer : {w : ℕ} (link : Link) (m : MessageD w) (t : Trace w) →
 recorded-answer {w} link m t width none other d i = go (link.0 == d) refl
   where
     go : (b : Bool) → (link.0 == d) ≡ b → recorded d i (after_sent link (D m) t) ≡ recorded d i t
-    go true e = ap (held i) (own_link d link (D m) t e)
-        ∙ held-sent_d i m (on_link d t) (subst (λ (j : ℕ). unfinished Channel.D (on_link j t) ≡ [])
-        (eqb-true link.0 d e) none) (beats-positive (D m) width) ∙ rw other refl
+    go true e = ap (held i) (own_link d link (D m) t e) ∙ held-sent_d i m (on_link d t)
+        (rw (eqb-true link.0 d e) at none) (beats-positive (D m) width) ∙ rw other refl
     go false e = ap (held i) (other_link d link (D m) t e)
 
 -- ---- the protocol: no service or tracker changes
@@ -148,8 +129,7 @@ pub traced-still : {w : ℕ} {X : Type 0} {request : ℕ → MessageA w} {s z : 
 traced-still quiet still records missing known = record {
   recorded_is = records;
   probes = missing;
-  serving_is = λ n. ap (service_of_block n) quiet.serves ∙ known.serving_is n ∙ rw (still.services n, still.trackers n)
-      refl;
+  serving_is = λ n. cc (quiet.serves, known.serving_is n, still.services n, still.trackers n);
   requests = λ n. rw (still.services n) (known.requests n);
   asked = λ n r source own k e. quiet.requests r source ∙ known.asked n r source own k (sym (still.services n) ∙ e);
 }
@@ -176,8 +156,7 @@ pair-part {X} {A} part c n p new block is d i =
 pub pair-still : {X A : Type 0} (part : ClientBlock → A) (c n : ℕ) (p : ClientBlock) (new : Block X) (block : ℕ
     → Block X) → ((d : ℕ) → new.pair d ≡ set c p (block n).pair d) → part p ≡ part ((block n).pair c) → (d i : ℕ)
     → part ((set n new block i).pair d) ≡ part ((block i).pair d)
-pair-still {X} {A} part c n p new block is same d i = pair-part part c n p new block is d i ∙ go (c == d) (n == i) refl
-    refl
+pair-still part c n p new block is same d i = pair-part part c n p new block is d i ∙ go (c == d) (n == i) refl refl
   where
     go : (a b : Bool) → (c == d) ≡ a → (n == i) ≡ b → (if a && b then part p else part ((block i).pair d)) ≡ part
         ((block i).pair d)

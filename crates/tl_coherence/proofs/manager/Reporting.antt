@@ -1,5 +1,5 @@
 -- What the messages of channel C say that a client has in flight, and what the manager takes of them.
-use Rattle.std.proofs.Common.{◌≡◌, ℕ, ◌*◌, Bool, true, false, not, List, length, refl, arith, lit<, pow_pos}
+use Rattle.std.proofs.Common.{◌≡◌, ℕ, ◌*◌, Bool, true, false, not, List, length, refl, arith, pow_pos}
 use Rattle.tl_coherence.proofs
 use proofs.Imports.{drop_all, OpB, OpC, c_carries_data, IsWidth, Message, MessageC, beats_of, data_beats, IsZeroFrom}
 use proofs.Imports.{IsBlankAfter, Prune, Report, Perm, prune_code, prune_left, prune_right, report_code, report_left}
@@ -38,16 +38,7 @@ about_data {w} b opcode param source n truth width reports releases carries long
 about_none : {w : ℕ} (b : Bool) (opcode : OpC) (param source n : ℕ) (truth : List ℕ) → is_probe_ack opcode ≡ b
     → is_release opcode ≡ not b → c_carries_data opcode ≡ false
     → IsAbout {w = w} b n param false truth (about opcode param source n zeros)
-about_none b opcode param source n truth reports releases bare = record {
-  reports = reports;
-  releases = releases;
-  block = same_block n;
-  param_is = refl;
-  carries_is = bare;
-  payload_is = λ e. absurd cc;
-  long = refl;
-  blank = rw bare (refl, lit< tt);
-}
+about_none b opcode param source n truth reports releases bare = grind (arith, same_block)
 
 -- a ProbeAck
 pub report-about : {w : ℕ} (r : Report) (n : ℕ) (truth : List ℕ) → IsWidth w → length truth ≡ 64
@@ -72,5 +63,4 @@ release-about r source n truth width long =
     (_, refl, about_data false OpC.ReleaseData (prune_code r) source n truth width refl refl refl long, refl)
 
 pub reported-prune : (r : Prune) → reported (prune_code r) ≡ prune_right r
-reported-prune Prune.TtoB = refl
-reported-prune r = refl
+reported-prune r = grind arith

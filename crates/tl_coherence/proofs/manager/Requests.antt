@@ -1,5 +1,5 @@
 -- What the manager knows after a beat of a request, and after one that is not the last.
-use Rattle.std.proofs.Common.{◌≡◌, ℕ, suc, ◌+◌, ◌<◌, Bool, ◌∷◌, Some, refl, sym, ◌∙◌, ap, inl, inr, ne_eqb}
+use Rattle.std.proofs.Common.{◌≡◌, ℕ, suc, ◌+◌, ◌<◌, Bool, ◌∷◌, Some, refl, sym, ◌∙◌, ap, inl, inr, ne_eqb, arith}
 use Rattle.tl_coherence.proofs
 use proofs.Imports.{cases_eq, Beat, A, MessageA, a_beat_of, beats_of, Config, ProbeOf, Cap, held_unsaid, pending-quiet}
 use proofs.Imports.{not_last, Trace, on_link, pending, held, block_at, request_of, own_beat, other_beat, beat-keeps}
@@ -34,9 +34,8 @@ request-beat c k m t d src other = elim (cases_eq c d) [
 -- and this is the last one with its own
 pub request-own : {w : ℕ} {config : Config} {c k : ℕ} {m : MessageA w} {e : End w} → IsComing config c k m e
     → request_of m.source (on_link c (with_beat c m k e.trace)) ≡ Some (a_beat_of m 0)
-request-own {c} {k} {m} {e} is =
-    ap (request_of m.source) (own_beat c (link_of c) (Beat.A (a_beat_of m k)) e.trace (same_number c)) ∙ request-taken m
-    k (on_link c e.trace) is.burst
+request-own {c} {k} {m} {e} is = ap (request_of m.source) (own_beat c (link_of c) (Beat.A (a_beat_of m k)) e.trace
+    (same_number c)) ∙ request-taken m k (on_link c e.trace) is.burst
 
 -- ---- which source a request in service has
 
@@ -46,7 +45,7 @@ IsUnwaited c source s = (i src : ℕ) (own : Bool) (k : Cap) → (s.block i).ser
 
 -- ---- a beat that isn't the last
 
-pub services-more : {w : ℕ} {config : Config} {c k : ℕ} {m : MessageA w} {e : End w} → IsComing config c k m e
+services-more : {w : ℕ} {config : Config} {c k : ℕ} {m : MessageA w} {e : End w} → IsComing config c k m e
     → k + 1 < beats_of (A m) → services (with_beat c m k e.trace) ≡ services e.trace
 services-more {config} {c} {k} {m} {e} is more = services-part (link_of c, Beat.A (a_beat_of m k)) e.trace
     (ends-coming is ∙ not_last k (beats_of (A m)) more)
@@ -59,15 +58,14 @@ traced-more {w} {X} {config} {s} {c} {k} {m} {e} is more unwaited known = record
   probes = λ d i. missing-beat c k m e.trace d i ∙ known.probes d i;
   serving_is = λ i. ap (service_of_block i) (services-more is more) ∙ known.serving_is i;
   requests = known.requests;
-  asked = λ i r src own j f. request-beat c k m e.trace r src
-      (λ same g. unwaited i src own j (ap (λ z. (s.block i).service) same ∙ f ∙ ap (λ z. Waits z own src j) same) g)
-      ∙ known.asked i r src own j f;
+  asked = λ i r src own j f. request-beat c k m e.trace r src (λ same g. unwaited i src own j
+      (ap (λ z. (s.block i).service) same ∙ f ∙ ap (λ z. Waits z own src j) same) g) ∙ known.asked i r src own j f;
 }
 
 -- ---- the last beat
 
 -- one service more
-pub services-last : {w : ℕ} {config : Config} {c k : ℕ} {m : MessageA w} {e : End w} → IsComing config c k m e
+services-last : {w : ℕ} {config : Config} {c k : ℕ} {m : MessageA w} {e : End w} → IsComing config c k m e
     → beats_of (A m) ≡ suc k → services (with_beat c m k e.trace) ≡ service_for c m e.trace ∷ services e.trace
 services-last {config} {c} {k} {m} {e} is last = services-request (link_of c) (a_beat_of m k) (service_for c m e.trace)
     e.trace (served-last is last)
@@ -75,12 +73,9 @@ services-last {config} {c} {k} {m} {e} is last = services-request (link_of c) (a
 pub serving-last : {w : ℕ} {config : Config} {c k : ℕ} (n : ℕ) {m : MessageA w} {e : End w} → IsComing config c k m e
     → beats_of (A m) ≡ suc k
     → block_at m.address ≡ n → service_of_block n (services (with_beat c m k e.trace)) ≡ Some (service_for c m e.trace)
-serving-last {config} {c} {k} n {m} {e} is last block = ap (service_of_block n) (services-last is last) ∙ rw
-    (block, same_number n) refl
+serving-last {config} {c} {k} n {m} {e} is last block = cc (services-last is last, same_number n)
 
 pub serving-others : {w : ℕ} {config : Config} {c k : ℕ} (n i : ℕ) {m : MessageA w} {e : End w}
     → IsComing config c k m e → beats_of (A m) ≡ suc k → block_at m.address ≡ n → (i ≡ n → ⊥)
     → service_of_block i (services (with_beat c m k e.trace)) ≡ service_of_block i (services e.trace)
-serving-others {config} {c} {k} n i {m} {e} is last block other =
-    let differ : n ≡ i → ⊥ = λ f. other (sym f) in
-    ap (service_of_block i) (services-last is last) ∙ rw (block, ne_eqb n i differ) refl
+serving-others {config} {c} {k} n i {m} {e} is last block other = grind (arith, services-last)

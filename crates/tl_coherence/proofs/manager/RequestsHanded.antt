@@ -1,24 +1,21 @@
 -- What the manager hands out at the last beat of a request: the messages of the tokens that the protocol pushes.
-use Rattle.std.proofs.Common.{◌≡◌, ℕ, suc, ◌*◌, Bool, true, false, not, ◌&&◌, List, [], ◌∷◌, refl, sym, ◌∙◌, ap, ap₂}
-use Rattle.std.proofs.Common.{inl, inr, length, if◌then◌else◌}
+use Rattle.std.proofs.Common.{◌≡◌, ℕ, suc, ◌*◌, Bool, true, false, List, [], ◌∷◌, refl, ◌∙◌, ap, ap₂, arith, length}
+use Rattle.std.proofs.Common.{if◌then◌else◌}
 use Rattle.tl_coherence.proofs
-use proofs.Imports.{and-false, cases_eq, Beat, Message, MessageA, a_beat_of, beats_of, Config, Cap, Perm, cap_right}
-use proofs.Imports.{Trace, same_perm, Memory, bytes_from, answer_of, block_at, same_block, performed-access}
-use proofs.Imports.{performed-acquire, End, Reaction, access_answer, cap_granted, recorded, cap_probed, level_of}
-use proofs.Imports.{reaction, IsWell, is_out, Grant, ClientBlock, after_grant_sent, is_granted_data, GrantSent, Block}
-use proofs.Imports.{State, view, granted_at_once, is_granting, answers, gift, is_unheld, probes_some, AccessMessages}
-use proofs.Imports.{block_message, grant_of, SimulationRelation, Log, System}
-use Rattle.std.proofs.lemmas.Bool.{false_from_ne_true}
+use proofs.Imports.{cases_eq, Beat, Message, MessageA, a_beat_of, beats_of, Config, Cap, Perm, cap_right, Trace}
+use proofs.Imports.{same_perm, Memory, bytes_from, block_at, same_block, performed-access, performed-acquire, End}
+use proofs.Imports.{Reaction, cap_granted, recorded, cap_probed, level_of, reaction, IsWell, Grant, ClientBlock}
+use proofs.Imports.{after_grant_sent, is_granted_data, GrantSent, Block, State, granted_at_once, answers, gift}
+use proofs.Imports.{is_unheld, probes_some, AccessMessages, block_message, grant_of, SimulationRelation, Log, System}
 use Rattle.tl_manager.specs.statement.Handing.{grant_with, grant_payload}
-use Rattle.tl_rules.specs.statement.Effect as memory
 use Rattle.tl_manager.specs.statement.Handing as handing
 use Rattle.tl_manager.specs.statement.Holders as holders
 use Rattle.tl_manager.specs.statement.Service as manager
-use proofs.manager.{Arrivals.link_of, Arrivals.with_beat, Arrivals.IsComing, Arrivals.service_for}
 use proofs.manager.{Memories.performed-reply, Requests.recorded-beat, RequestsTaken.acquire_wanted}
-use proofs.manager.{UnwaitedRequests.next_tracker, UnwaitedRequests.reaction-performed, UnwaitedRequests.unheld-same}
+use proofs.manager.Arrivals.{link_of, with_beat, IsComing, service_for}
+use proofs.manager.UnwaitedRequests.{next_tracker, reaction-performed, unheld-same}
 use proofs.protocol.Heads.{IsAsked, IsWanted}
-use proofs.queues.{Tokens.same_number, Tokens.set-same, Codes.acquires-so, Codes.gives-some, Codes.data-same}
+use proofs.queues.{Tokens.set-same, Codes.acquires-so, Codes.gives-some, Codes.data-same}
 
 -- ---- an access that is answered
 
@@ -33,12 +30,10 @@ handed-answered {w} {config} {log} {mail} {request} {s} {sys} {c} {k} is asked c
     let m : MessageA w = asked.request in
     let n : ℕ = block_at m.address in
     let e : End w = sys.manager in
-    let bytes_are : bytes_from e.memory (64 * n) 64 ≡ (s.block n).memory = is.memory n in
     ap (λ (d : Reaction w). d.handed) (reaction-performed c k n false m is comes last asked.access refl
     none ∙ performed-access config (service_for c m e.trace) (with_beat c m k e.trace) e.memory asked.access)
     ∙ ap (λ (i : Message w). (link_of c, i) ∷ [])
-    (ap (λ (r : memory.AccessResult). access_answer m (answer_of (Message.A m) r))
-    (performed-reply (level_of config c) m e.memory comes.width asked.lawful) ∙ ap (answers m) bytes_are)
+    (cc (performed-reply (level_of config c) m e.memory comes.width asked.lawful, is.memory n))
 
 -- ---- a Grant
 
@@ -47,32 +42,16 @@ handed-answered {w} {config} {log} {mail} {request} {s} {sys} {c} {k} is asked c
 pub memory-granted : {caching : ℕ → Bool} (q : ℕ) (d : Bool) (k : Cap) {new : Block (List ℕ)} → IsWell caching new
     → new.service ≡ GrantSent q d k → (new.pair q).recorded ≡ cap_right k → same_perm (cap_right k) Perm.None ≡ false
     → new.memory ≡ new.truth
-memory-granted q d k {new} well granted given some =
-    let own_view : is_granting (view new.service q) ≡ true = rw (granted, same_number q) refl in
-    let nobody : (i : ℕ) → is_out (new.pair i) (view new.service i) ≡ false = λ i. elim (cases_eq i q) [
-      | inl same ↦ rw same (ap (λ x. same_perm (new.pair q).recorded Perm.Trunk && not x) own_view ∙ and-false
-          (same_perm (new.pair q).recorded Perm.Trunk))
-      | inr other ↦ ap (λ x. x && not (is_granting (view new.service i))) (not_trunk i other)
-    ] in
-    well.memory nobody
-  where
-    not_trunk : (i : ℕ) → (i ≡ q → ⊥) → same_perm (new.pair i).recorded Perm.Trunk ≡ false
-    not_trunk i other = false_from_ne_true (same_perm (new.pair i).recorded Perm.Trunk) (λ top.
-        let alone : same_perm (new.pair q).recorded Perm.None ≡ true = well.one_owner i q top (λ f. other (sym f)) in
-        let none : same_perm (cap_right k) Perm.None ≡ true = rw given at alone in
-        let differ : false ≡ true = sym some ∙ none in
-        cc)
+memory-granted q d k {new} well granted given some = grind (arith, cases_eq)
 
 payload-same : (d : Bool) (f : Memory) (n : ℕ) (truth : List ℕ) → bytes_from f (64 * n) 64 ≡ truth
     → grant_payload d f n ≡ (if d then truth else handing.no_payload)
-payload-same true f n truth e = e
-payload-same false f n truth e = refl
+payload-same d f n truth e = grind arith
 
 grant-is : {w : ℕ} (v : manager.Service w) (q n source tracker : ℕ) (d : Bool) (k : Cap) (f : Memory) (truth : List ℕ)
     → v.request.source ≡ source → v.tracker ≡ tracker → block_at v.request.address ≡ n
     → bytes_from f (64 * n) 64 ≡ truth → grant_with v k d f ≡ grant_of (GrantSent q d k) source tracker truth
-grant-is v q n source tracker d k f truth sourced tracked block bytes =
-    rw (sourced, tracked, block, payload-same d f n truth bytes) refl
+grant-is v q n source tracker d k f truth sourced tracked block bytes = grind (arith, payload-same)
 
 -- the Grant is that of the token, where the block is well afterwards
 pub handed-granted : {w : ℕ} {config : Config} {log : Log w} {mail : AccessMessages w} {request : ℕ → MessageA w}
@@ -87,10 +66,9 @@ pub handed-granted : {w : ℕ} {config : Config} {log : Log w} {mail : AccessMes
     → (reaction config (link_of c) (Beat.A (a_beat_of (acquire_wanted c n s asked) k)) sys.manager).handed
     ≡ (
       link_of c,
-      block_message Grant c n
-          (granted_at_once c (next_tracker sys) (is_granted_data asked.whole asked.grow ((s.block n).pair c).recorded)
-          (gift config.profile asked.whole asked.grow (is_unheld (length config.clients.items) (s.block n).pair))
-          (s.block n)),
+      block_message Grant c n (granted_at_once c (next_tracker sys) (is_granted_data asked.whole asked.grow
+          ((s.block n).pair c).recorded) (gift config.profile asked.whole asked.grow
+          (is_unheld (length config.clients.items) (s.block n).pair)) (s.block n)),
     ) ∷ []
 unfolding block_message
 handed-granted {w} {config} {log} {mail} {request} {s} {sys} {caching} {c} {n} {k} is asked comes last none well =
@@ -105,8 +83,7 @@ handed-granted {w} {config} {log} {mail} {request} {s} {sys} {caching} {c} {n} {
     let recorded_now = ap (λ (p : ClientBlock). p.recorded) (set-same c (after_grant_sent gift_is (b.pair c)) b.pair) in
     let given : cap_granted config.profile m.opcode m.param (holders.is_unheld config (block_at m.address) u)
     ≡ gift_is = cc (same_block n, unheld-same c k n m is) in
-    let carried : handing.is_granted_data m.opcode m.param (recorded c (block_at m.address) u) ≡ data_too =
-    cc (
+    let carried : handing.is_granted_data m.opcode m.param (recorded c (block_at m.address) u) ≡ data_too = cc (
       same_block n,
       recorded-beat c k m e.trace c n,
       is.managed.recorded_is c n,

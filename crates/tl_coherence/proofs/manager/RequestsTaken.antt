@@ -1,22 +1,22 @@
 -- The last beat of a request that is taken: what the protocol does then is what the manager does.
-use Rattle.std.proofs.Common.{◌≡◌, subst, ℕ, suc, Bool, true, false, not, List, Option, Some, None, length, refl, sym}
+use Rattle.std.proofs.Common.{◌≡◌, subst, ℕ, suc, Bool, true, false, not, List}
+use Rattle.std.proofs.Common.{Option, Some, None, length, refl, sym, arith}
 use Rattle.std.proofs.Common.{◌∙◌, ap, if◌then◌else◌}
 use Rattle.tl_coherence.proofs
 use proofs.Imports.{Beat, Message, MessageA, a_beat_of, beats_of, Config, Cap, Grow, block_at, is_acquire, same_block}
-use proofs.Imports.{acquisition, End, performed, cap_granted, is_nobody, probed, cap_probed, must_wait, reaction}
-use proofs.Imports.{cap_asked, Request, Acquire, Packet, set, AcquirePhase, AcquireOpen, is_granted_data, Service, Free}
-use proofs.Imports.{Waits, GrantSent, GrantTaken, Block, State, Asked, InService, Acquires, is_probed, acquire_served}
-use proofs.Imports.{acquire_granted, AbstractState, some_below, acquire_opcode, is_unheld, gift, kind_taken}
-use proofs.Imports.{probes_some, access_taken, request_taken, acquire_taken, AccessMessages, SimulationRelation}
-use proofs.Imports.{IsServedWith, Log, System}
-use proofs.manager.{Arrivals.link_of, Arrivals.with_beat, Arrivals.IsComing, Arrivals.service_for, Choices.waits-used}
-use proofs.manager.{Performing.IsAnswering, Requests.IsUnwaited, ManagerAfter.IsManagerOf, ManagersEnd.IsAtManager}
-use proofs.manager.{ManagersEnd.at_manager-matched}
+use proofs.Imports.{acquisition, End, cap_granted, cap_probed, must_wait, cap_asked, Request, Acquire, Packet, set}
+use proofs.Imports.{AcquireOpen, is_granted_data, Service, Free, Waits, GrantSent, GrantTaken, Block, State, Asked}
+use proofs.Imports.{InService, Acquires, is_probed, acquire_served, acquire_granted, AbstractState, some_below}
+use proofs.Imports.{acquire_opcode, is_unheld, gift, kind_taken, probes_some, access_taken, AccessMessages}
+use proofs.Imports.{SimulationRelation, IsServedWith, Log, System}
+use proofs.manager.{Choices.waits-used, Performing.IsAnswering, Requests.IsUnwaited, ManagerAfter.IsManagerOf}
+use proofs.manager.Arrivals.{link_of, IsComing}
+use proofs.manager.ManagersEnd.{IsAtManager, at_manager-matched}
 use proofs.manager.AtRequests.{end_after, at_manager-probing, at_manager-answered, at_manager-granted}
-use proofs.protocol.{Events.IsReady, Heads.IsAsked, Heads.IsWanted}
-use proofs.queues.Codes.{acquires-so}
 use proofs.manager.UnwaitedRequests.{next_tracker, free-last, untracked-next, probed-some, unheld-same, quiet-free}
 use proofs.manager.UnwaitedRequests.{beyond-none, reaction-performed, somebody-probed}
+use proofs.protocol.{Events.IsReady, Heads.IsAsked, Heads.IsWanted}
+use proofs.queues.{Codes.acquires-so}
 
 -- ---- an access
 
@@ -41,10 +41,9 @@ with-same mail after (GrantSent q d k) m same ok = tt
 with-same mail after (GrantTaken q) m same ok = tt
 
 -- other answers change nothing
-pub at_manager-answers : {w : ℕ} {config : Config} {mail : AccessMessages w} (after : AccessMessages w) {request : ℕ
-    → MessageA w}
-    {s : State (List ℕ)} {e : End w}
-    → after.request ≡ mail.request → IsAtManager config mail request s e → IsAtManager config after request s e
+at_manager-answers : {w : ℕ} {config : Config} {mail : AccessMessages w} (after : AccessMessages w)
+    {request : ℕ → MessageA w} {s : State (List ℕ)} {e : End w} → after.request ≡ mail.request
+    → IsAtManager config mail request s e → IsAtManager config after request s e
 at_manager-answers {mail} after {request} {s} same is = record {
   traced = is.traced;
   served_with = λ n. with-same mail after (s.block n).service (request n) same (is.served_with n);
@@ -68,9 +67,7 @@ pub at_manager-request_taken : {w : ℕ} {config : Config} {log : Log w} (h : Ab
     → beats_of (Message.A asked.request) ≡ suc k → must_wait config (link_of c) (Beat.A (a_beat_of asked.request k))
     sys.manager.trace ≡ false → IsManagerOf config (kind_taken config (next_tracker sys) c Request source rest h)
     (end_after config c k asked.request sys.manager)
-at_manager-request_taken {w} {config} {log} h {sys} {c} {source} {k} rest is asked comes last moves =
-    subst (λ (i : Message w). IsManagerOf config (request_taken clients c source i tracker rest h) after)
-    (sym asked.is_it)
+at_manager-request_taken {w} {config} {log} h {sys} {c} {source} {k} rest is asked comes last moves = rw asked.is_it
     (go (probes_some clients c false (cap_probed m.opcode m.param) b.pair) (cap_probed m.opcode m.param) refl refl)
   where
     m : MessageA w
@@ -110,28 +107,12 @@ at_manager-request_taken {w} {config} {log} h {sys} {c} {source} {k} rest is ask
       unwaited = λ i src own j f same. unwaited i src own j f (sym asked.source_is ∙ same);
     }
 
-    answered : (p : Bool) (o : Option Cap)
-        → access_taken c source m tracker p o rest h ≡ access_taken c source m tracker false None rest h
-        → reaction config (link_of c) (Beat.A (a_beat_of m k)) e ≡ performed config (service_for c m e.trace)
-        (with_beat c m k e.trace) e.memory → IsManagerOf config (access_taken c source m tracker p o rest h) after
-    answered p o same done = subst (λ (i : AbstractState w). IsManagerOf config i after) (sym same)
-        (at_manager-answered (λ i. refl) answering asked.lawful done
-        (at_manager-answers (access_taken c source m tracker false None rest h).mail refl (at_manager-matched is)))
-
-    done : probes_some clients c false (cap_probed m.opcode m.param) b.pair ≡ false
-        → reaction config (link_of c) (Beat.A (a_beat_of m k)) e ≡ performed config (service_for c m e.trace)
-        (with_beat c m k e.trace) e.memory
-    done none = reaction-performed c k n false m is comes last asked.access refl none
-
-    some_cap : (x y : Option Cap) (i j : Cap) → x ≡ Some i → x ≡ y → y ≡ Some j → i ≡ j
-    some_cap x y i j f g l = let same : Some i ≡ Some j = sym f ∙ g ∙ l in cc
-
     go : (p : Bool) (o : Option Cap) → probes_some clients c false (cap_probed m.opcode m.param) b.pair ≡ p
         → cap_probed m.opcode m.param ≡ o → IsManagerOf config (access_taken c source m tracker p o rest h) after
     go true None f g = absurd (let no : false ≡ true = rw g at f in cc)
     go true (Some j) f g =
         let some = somebody-probed c k n false m is asked.access refl f in
-        let same : some.0 ≡ j = some_cap (cap_probed m.opcode m.param) (Some j) some.0 j some.1 g refl in
+        let same : some.0 ≡ j = (let same : Some some.0 ≡ Some j = sym some.1 ∙ g ∙ refl in cc) in
         at_manager-probing (λ i. refl)
         (record {
           comes = comes;
@@ -143,36 +124,28 @@ at_manager-request_taken {w} {config} {log} h {sys} {c} {source} {k} rest is ask
           unwaited = unwaited;
         })
         (rw same at some.2) asked.is_it (at_manager-matched is)
-    go false o f g = answered false o refl (done f)
+    go false o f g = subst (λ (i : AbstractState w). IsManagerOf config i after) (sym refl) (at_manager-answered
+        (λ i. refl) answering asked.lawful (reaction-performed c k n false m is comes last asked.access refl f)
+        (at_manager-answers (access_taken c source m tracker false None rest h).mail refl (at_manager-matched is)))
 
 -- ---- an Acquire
 
 unwaited-acquires : {w : ℕ} {config : Config} {log : Log w} {mail : AccessMessages w} {request : ℕ → MessageA w}
     {s : State (List ℕ)} {sys : System w} (c source n : ℕ) → SimulationRelation config log mail request s sys
     → s.uses c source ≡ Acquires n → (s.block n).service ≡ Free → IsUnwaited c source s
-unwaited-acquires {w} {config} {s} c source n is used free i src own j e same =
-    go own e (waits-used i c src own j is.invariant e)
+unwaited-acquires {s} c source n is used free i src own j e same = go own e (waits-used i c src own j is.invariant e)
   where
     here : s.uses c src ≡ Acquires n
     here = ap (s.uses c) (sym same) ∙ used
 
-    number_is : (a b : ℕ) → Acquires a ≡ Acquires b → b ≡ a
-    number_is a b f = cc
-
     go : (b : Bool) → (s.block i).service ≡ Waits c b src j → s.uses c src ≡ (if b then Acquires i else InService i) → ⊥
-    go true f g = let at_n : i ≡ n = number_is n i (sym here ∙ g) in let no : Free ≡ Waits c true src j =
-        sym free ∙ ap (λ l. (s.block l).service) (sym at_n) ∙ f in cc
+    go true f g = let at_n : i ≡ n = cc in let no : Free ≡ Waits c true src j = cc in cc
     go false f g = let no : Acquires n ≡ InService i = sym here ∙ g in cc
 
 pub caps_asked : (w : ℕ) (whole : Bool) (g : Grow) (source n : ℕ)
     → cap_probed (acquisition {w = w} (acquire_opcode whole) g source n).opcode
     (acquisition {w = w} (acquire_opcode whole) g source n).param ≡ Some (cap_asked (AcquireOpen whole g))
-caps_asked w true Grow.NtoB source n = refl
-caps_asked w true Grow.NtoT source n = refl
-caps_asked w true Grow.BtoT source n = refl
-caps_asked w false Grow.NtoB source n = refl
-caps_asked w false Grow.NtoT source n = refl
-caps_asked w false Grow.BtoT source n = refl
+caps_asked w whole g source n = grind arith
 
 -- the Acquire that is wanted
 abbrev pub acquire_wanted : {w : ℕ} (c n : ℕ) (s : State (List ℕ)) → IsWanted w c n s → MessageA w
@@ -196,9 +169,7 @@ pub at_manager-acquire_taken : {w : ℕ} {config : Config} {log : Log w} (h : Ab
     → IsManagerOf config (kind_taken config (next_tracker sys) c Acquire n rest h)
     (end_after config c k (acquire_wanted c n h.state asked) sys.manager)
 at_manager-acquire_taken {w} {config} {log} h {sys} {c} {n} {k} rest is asked comes last moves =
-    subst (λ (i : AcquirePhase). IsManagerOf config (acquire_taken clients config.profile c n i tracker rest h) after)
-    (sym asked.wants)
-    (go (some_below clients (λ d. is_probed c true j (b.pair d).recorded d)) refl)
+    rw asked.wants (go (some_below clients (λ d. is_probed c true j (b.pair d).recorded d)) refl)
   where
     b : Block (List ℕ)
     b = h.state.block n
@@ -233,10 +204,6 @@ at_manager-acquire_taken {w} {config} {log} h {sys} {c} {n} {k} rest is asked co
     unwaited : IsUnwaited c m.source h.state
     unwaited = unwaited-acquires c m.source n is asked.used ready.0
 
-    nobody : is_nobody (probed config (service_for c m e.trace) j (with_beat c m k e.trace)) ≡ not
-        (some_below clients (λ d. is_probed c true j (b.pair d).recorded d))
-    nobody = probed-some c k n true j m is acquires (same_block n)
-
     given : Cap
     given = gift config.profile asked.whole asked.grow (is_unheld clients b.pair)
 
@@ -247,27 +214,20 @@ at_manager-acquire_taken {w} {config} {log} h {sys} {c} {n} {k} rest is asked co
 
     go : (x : Bool) → some_below clients (λ d. is_probed c true j (b.pair d).recorded d) ≡ x
         → IsAtManager config h.mail (set n m h.request) (state_of x) after
-    go true f =
-        at_manager-probing (λ i. refl)
-        (record {
-          comes = comes;
-          last = last;
-          for = (acquires, refl, same_block n, caps);
-          free = ready.0;
-          quiet = quiet-free n is ready.0;
-          beyond = beyond-none n is;
-          unwaited = unwaited;
-        })
-        (nobody ∙ ap not f) tt (at_manager-matched is)
-    go false f =
-        at_manager-granted (is_granted_data asked.whole asked.grow (b.pair c).recorded) (λ i. refl)
-        (record {
-          comes = comes;
-          last = last;
-          acquires = acquires;
-          block = same_block n;
-          given = ap (cap_granted config.profile m.opcode m.param) (unheld-same c k n m is);
-          unwaited = unwaited;
-        })
-        (reaction-performed c k n true m is comes last acquires (same_block n) (rw caps f))
-        (at_manager-matched is)
+    go true f = at_manager-probing (λ i. refl) (record {
+      comes = comes;
+      last = last;
+      for = (acquires, refl, same_block n, caps);
+      free = ready.0;
+      quiet = quiet-free n is ready.0;
+      beyond = beyond-none n is;
+      unwaited = unwaited;
+    }) ((probed-some c k n true j m is acquires (same_block n)) ∙ ap not f) tt (at_manager-matched is)
+    go false f = at_manager-granted (is_granted_data asked.whole asked.grow (b.pair c).recorded) (λ i. refl) (record {
+      comes = comes;
+      last = last;
+      acquires = acquires;
+      block = same_block n;
+      given = ap (cap_granted config.profile m.opcode m.param) (unheld-same c k n m is);
+      unwaited = unwaited;
+    }) (reaction-performed c k n true m is comes last acquires (same_block n) (rw caps f)) (at_manager-matched is)

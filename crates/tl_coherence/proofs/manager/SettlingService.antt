@@ -1,5 +1,5 @@
 -- The service that the last report of a block settles.
-use Rattle.std.proofs.Common.{◌≡◌, ℕ, Bool, true, false, not, Some, length, refl, ◌∙◌, ap, if◌then◌else◌}
+use Rattle.std.proofs.Common.{◌≡◌, ℕ, Bool, true, false, not, Some, length, refl, ◌∙◌, ap, arith}
 use Rattle.tl_coherence.proofs
 use proofs.Imports.{Beat, Channel, MessageC, MessageD, c_beat_of, Config, Cap, Report, Perm, report_code, report_left}
 use proofs.Imports.{report_right, Trace, same_perm, is_release_ack, reported-report, memory_with, is_taken, passed}
@@ -41,28 +41,24 @@ settling-all {config} {c} {q} {n} {source} {k} {own} {low} {r} {m} {h} {e} at =
 settling-found : {w : ℕ} {config : Config} {c q n source k : ℕ} {own : Bool} {low : Cap} {r : Report} {m : MessageC w}
     {h : AbstractState w} {e : End w} → IsSettling config c q n source k own low r m h e
     → service_of_block n (services (trace_with c k m e)) ≡ Some (service_for q n h.request h.state)
-settling-found {c} {n} {k} {m} {e} at =
-    ap (service_of_block n) ((quiet-c (record { 0 = c }) (c_beat_of m k) e.trace).serves) ∙ at.is.traced.serving_is
-    n ∙ rw at.waits refl
+settling-found {c} {n} {k} {m} {e} at = grind (arith, quiet-c)
 
 pub settling-ready : {w : ℕ} {config : Config} {c q n source k : ℕ} {own : Bool} {low : Cap} {r : Report}
     {m : MessageC w} {h : AbstractState w} {e : End w} → IsSettling config c q n source k own low r m h e
     → IsReady config n (service_for q n h.request h.state) (trace_with c k m e)
-settling-ready {w} {config} {c} {q} {n} {source} {k} {own} {low} {r} {m} {h} {e} at =
-    rw at.end.about.block at (report-ready config (record { 0 = c }) (c_beat_of m k) (service_for q n h.request h.state)
-    e (is_taken config (record { 0 = c }) (Beat.C (c_beat_of m k)) e at.end.width
-    (passed config (record { 0 = c }) Channel.C (Beat.C (c_beat_of m k)) e tt at.up.passes) at.is.manager_kept)
-    at.end.about.reports (ap (λ (i : ℕ). service_of_block i (services (trace_with c k m e))) at.end.about.block
-    ∙ settling-found at) (ap (λ (i : ℕ). is_settled config i (trace_with c k m e)) at.end.about.block
-    ∙ settling-all at))
+settling-ready {w} {config} {c} {q} {n} {source} {k} {own} {low} {r} {m} {h} {e} at = rw at.end.about.block at
+    (report-ready config (record { 0 = c }) (c_beat_of m k) (service_for q n h.request h.state) e
+    (is_taken config (record { 0 = c }) (Beat.C (c_beat_of m k)) e at.end.width (passed config
+    (record { 0 = c }) Channel.C (Beat.C (c_beat_of m k)) e tt at.up.passes) at.is.manager_kept) at.end.about.reports
+    (ap (λ (i : ℕ). service_of_block i (services (trace_with c k m e))) at.end.about.block ∙ settling-found at)
+    (ap (λ (i : ℕ). is_settled config i (trace_with c k m e)) at.end.about.block ∙ settling-all at))
 
 pub settling-reaction : {w : ℕ} {config : Config} {c q n source k : ℕ} {own : Bool} {low : Cap} {r : Report}
     {m : MessageC w} {h : AbstractState w} {e : End w} → IsSettling config c q n source k own low r m h e
     → reaction config (record { 0 = c }) (Beat.C (c_beat_of m k)) e ≡ performed config
     (service_for q n h.request h.state) (trace_with c k m e) (memory_with (record { 0 = c }) (c_beat_of m k) e)
-settling-reaction {w} {config} {c} {q} {n} {source} {k} {own} {low} {r} {m} {h} {e} at =
-    cc (reaction-settled config (record { 0 = c }) (c_beat_of m k) (service_for q n h.request h.state) e
-    (ends-it at.end) at.end.about.releases at.end.about.reports
+settling-reaction {config} {c} {q} {n} {k} {m} {h} {e} at = cc (reaction-settled config (record { 0 = c })
+    (c_beat_of m k) (service_for q n h.request h.state) e (ends-it at.end) at.end.about.releases at.end.about.reports
     (ap (λ (i : ℕ). is_settled config i (trace_with c k m e)) at.end.about.block ∙ settling-all at)
     (ap (λ (i : ℕ). service_of_block i (services (trace_with c k m e))) at.end.about.block ∙ settling-found at))
 
@@ -102,5 +98,4 @@ pub settling-memory : {w : ℕ} {config : Config} {c q n source k : ℕ} {own : 
     {m : MessageC w} {h : AbstractState w} {e : End w} → IsSettling config c q n source k own low r m h e
     → block_in (memory_with (record { 0 = c }) (c_beat_of m k) e) n ≡ protocol.written r (h.state.block n).truth
     (h.state.block n).memory
-settling-memory {c} {n} {k} {r} {m} {h} {e} at = memory-end at.end
-    ∙ ap (λ z. if same_perm (report_left r) Perm.Trunk then (h.state.block n).truth else z) (at.is.memory n)
+settling-memory {c} {n} {k} {r} {m} {h} {e} at = cc (memory-end at.end, at.is.memory n)

@@ -1,8 +1,8 @@
 -- The values of a trace that all else follows from, as one block changes, and where nothing changes to the manager.
-use Rattle.std.proofs.Common.{◌≡◌, ℕ, Bool, not, Option, Some, sym, ◌∙◌, ap, ap₂, inl, inr}
+use Rattle.std.proofs.Common.{◌≡◌, ℕ, Bool, not, Option, Some, sym, ◌∙◌, ap, ap₂, inl, inr, arith}
 use Rattle.tl_coherence.proofs
 use proofs.Imports.{cases_eq, MessageA, a_beat_of, ProbeOf, Cap, Trace, on_link, pending, request_of, recorded}
-use proofs.Imports.{services, service_of_block, is_unprobed, ok, Service, Free, Waits, GrantSent, GrantTaken, Block}
+use proofs.Imports.{services, service_of_block, is_unprobed, ok, Service, Free, Waits, GrantSent, GrantTaken}
 use proofs.Imports.{State, client_in, service_with, IsFor}
 use proofs.manager.BlockAccounts.{IsTraced}
 
@@ -31,19 +31,15 @@ pub traced-at : {w : ℕ} {X : Type 0} {n : ℕ} {request after : ℕ → Messag
 traced-at {w} {X} {n} {s} {u} at is = record {
   recorded_is = λ c i. elim (cases_eq i n) [
     | inl same ↦ rw same (at.recorded_here c)
-    | inr other ↦ at.recorded_else c i other ∙ is.recorded_is c i ∙ ap (λ (b : Block X). (b.pair c).recorded)
-        (sym (at.other_blocks i other))
+    | inr other ↦ cc (at.recorded_else c i other, is.recorded_is c i, at.other_blocks i other)
   ];
   probes = λ c i. elim (cases_eq i n) [
     | inl same ↦ rw same (at.probes_here c)
-    | inr other ↦ at.probes_else c i other ∙ is.probes c i ∙ ap (λ (b : Block X). not (is_unprobed (b.pair c).probing))
-        (sym (at.other_blocks i other))
+    | inr other ↦ cc (at.probes_else c i other, is.probes c i, at.other_blocks i other)
   ];
   serving_is = λ i. elim (cases_eq i n) [
     | inl same ↦ rw same at.serving_here
-    | inr other ↦ at.serving_else i other ∙ is.serving_is i ∙ ap₂
-        (λ (b : Block X) (m : MessageA w). service_with (client_in b.service) b.tracker m)
-        (sym (at.other_blocks i other)) (sym (at.other_requests i other))
+    | inr other ↦ cc (at.serving_else i other, is.serving_is i, at.other_blocks i other, at.other_requests i other)
   ];
   requests = λ i. elim (cases_eq i n) [
     | inl same ↦ rw same at.request_here
@@ -74,10 +70,7 @@ pub record IsSameToManager {X : Type 0} (s u : State X) : Type 0 where
   pub service_same : (n : ℕ) → SameService (s.block n).service (u.block n).service
 
 same_client : (service after : Service) → SameService service after → client_in after ≡ client_in service
-same_client (GrantSent q d k) (GrantTaken r) e = ap Some e
-same_client (GrantSent q d k) Free e = absurd cc
-same_client (GrantSent q d k) (Waits r own source j) e = absurd cc
-same_client service after e = ap client_in e
+same_client service after e = grind arith
 
 same_for : {w : ℕ} (service after : Service) (n : ℕ) (m : MessageA w) → SameService service after → IsFor service n m
     → IsFor after n m
@@ -86,15 +79,9 @@ same_for (GrantSent q d k) (Waits r own source j) n m e ok = absurd cc
 same_for (GrantSent q d k) after n m e ok = ok
 same_for service after n m e ok = rw e ok
 
-pub same_waits : (service after : Service) (r source : ℕ) (own : Bool) (k : Cap) → SameService service after
+same_waits : (service after : Service) (r source : ℕ) (own : Bool) (k : Cap) → SameService service after
     → after ≡ Waits r own source k → service ≡ Waits r own source k
-same_waits (GrantSent q d j) (GrantTaken i) r source own k e f = absurd cc
-same_waits (GrantSent q d j) Free r source own k e f = absurd cc
-same_waits (GrantSent q d j) (Waits i o src l) r source own k e f = absurd cc
-same_waits (GrantSent q d j) (GrantSent i b l) r source own k e f = absurd cc
-same_waits Free after r source own k e f = sym e ∙ f
-same_waits (Waits i o src l) after r source own k e f = sym e ∙ f
-same_waits (GrantTaken i) after r source own k e f = sym e ∙ f
+same_waits service after r source own k e f = grind arith
 
 pub traced-same : {w : ℕ} {X : Type 0} {request : ℕ → MessageA w} {s u : State X} {t : Trace w} → IsSameToManager s u
     → IsTraced request s t → IsTraced request u t

@@ -1,12 +1,13 @@
 -- Events that the manager doesn't see: clients that are asked, and beats that clients take. What it knows stays so.
-use Rattle.std.proofs.Common.{◌≡◌, ℕ, Bool, true, false, List, ◌∷◌, refl, sym, ◌∙◌, ap, ap₂, inl, inr, eqb-true, ◌==◌}
+use Rattle.std.proofs.Common.{◌≡◌, ℕ, Bool, true, false, List, ◌∷◌, refl, sym}
+use Rattle.std.proofs.Common.{◌∙◌, ap, ap₂, inl, inr, eqb-true, ◌==◌, arith}
 use Rattle.tl_coherence.proofs
-use proofs.Imports.{cases_eq, Message, MessageA, Config, Cap, Grow, Prune, block_at, Op, Reply, copy_stored, whole_grow}
+use proofs.Imports.{cases_eq, Message, MessageA, Config, Cap, Grow, block_at, Op, Reply, copy_stored, whole_grow}
 use proofs.Imports.{access, End, IsInvariant, Kind, Probe, Answer, Grant, ReleaseAck, Packet, set, set_at, ClientBlock}
-use proofs.Imports.{is_unprobed, ProbeSent, is_whole, after_acquire, after_release, after_probe, after_grant}
+use proofs.Imports.{is_unprobed, is_whole, after_acquire, after_release, after_probe, after_grant}
 use proofs.Imports.{after_release_ack, Service, Free, Waits, GrantSent, GrantTaken, Block, State, SourceFree, InService}
-use proofs.Imports.{on, packet, view, acquiring_block, releasing_block, stored_block, probed_block, taken_block}
-use proofs.Imports.{let_go_block, is_granting, AbstractState, kind_taken, asked, taken_by_client, channel_for}
+use proofs.Imports.{on, packet, acquiring_block, releasing_block, stored_block, probed_block, taken_block}
+use proofs.Imports.{let_go_block, AbstractState, kind_taken, asked, taken_by_client, channel_for}
 use proofs.Imports.{AccessMessages, cap_sent, IsServedWith, is_to_client}
 use proofs.manager.{Traces.IsSameToManager, Traces.SameService, Choices.waits-used, ManagersEnd.IsAtManager}
 use proofs.manager.{ManagersEnd.at_manager-same, ManagerAfter.IsManagerOf}
@@ -16,8 +17,7 @@ use proofs.queues.Tokens.{set-same, set-other, set-part}
 -- ---- one block changes, and not to the manager
 
 same-again : (service : Service) → SameService service service
-same-again Free = refl
-same-again service = refl
+same-again service = grind arith
 
 -- the block is the same to the manager
 pub record IsSameBlock {X : Type 0} (b new : Block X) : Type 0 where
@@ -27,7 +27,7 @@ pub record IsSameBlock {X : Type 0} (b new : Block X) : Type 0 where
   pub service_same : SameService b.service new.service
   pub memory_same : new.memory ≡ b.memory
 
-pub same-blocks : {X : Type 0} (n : ℕ) {new : Block X} (s u : State X) → ((i : ℕ) → u.block i ≡ set n new s.block i)
+same-blocks : {X : Type 0} (n : ℕ) {new : Block X} (s u : State X) → ((i : ℕ) → u.block i ≡ set n new s.block i)
     → IsSameBlock (s.block n) new → IsSameToManager s u × ((i : ℕ) → (u.block i).memory ≡ (s.block i).memory)
 same-blocks {X} n {new} s u blocks is = (
   record {
@@ -47,26 +47,23 @@ same-blocks {X} n {new} s u blocks is = (
     same part e i = ap part (blocks i) ∙ set-part part n new s.block e i
 
 -- and what is kept of the manager's end stays
-pub at_manager-unseen : {w : ℕ} {config : Config} {mail : AccessMessages w} {request : ℕ
-    → MessageA w} (n : ℕ) {new : Block (List ℕ)} {s u : State (List ℕ)} {e : End w}
-    → ((i : ℕ) → u.block i ≡ set n new s.block i) → IsSameBlock (s.block n) new → IsAtManager config mail request s e
-    → IsAtManager config mail request u e
+at_manager-unseen : {w : ℕ} {config : Config} {mail : AccessMessages w} {request : ℕ → MessageA w} (n : ℕ)
+    {new : Block (List ℕ)} {s u : State (List ℕ)} {e : End w} → ((i : ℕ) → u.block i ≡ set n new s.block i)
+    → IsSameBlock (s.block n) new → IsAtManager config mail request s e → IsAtManager config mail request u e
 at_manager-unseen n {new} {s} {u} blocks same is =
     let all = same-blocks n s u blocks same in
     at_manager-same all.0 all.1 is
 
 -- where no block changes at all
-pub at_manager-untouched : {w : ℕ} {config : Config} {mail : AccessMessages w} {request : ℕ
+at_manager-untouched : {w : ℕ} {config : Config} {mail : AccessMessages w} {request : ℕ
     → MessageA w} {s u : State (List ℕ)} {e : End w} → ((i : ℕ) → u.block i ≡ s.block i)
     → IsAtManager config mail request s e → IsAtManager config mail request u e
-at_manager-untouched {s} {u} blocks is =
-    at_manager-same (record {
-      recorded_same = λ c i. ap (λ (b : Block (List ℕ)). (b.pair c).recorded) (blocks i);
-      quiet_same = λ c i. ap (λ (b : Block (List ℕ)). is_unprobed (b.pair c).probing) (blocks i);
-      tracker_same = λ i. ap (λ (b : Block (List ℕ)). b.tracker) (blocks i);
-      service_same = λ i. rw (blocks i) (same-again (s.block i).service);
-    })
-    (λ i. ap (λ (b : Block (List ℕ)). b.memory) (blocks i)) is
+at_manager-untouched {s} {u} blocks is = at_manager-same (record {
+  recorded_same = λ c i. ap (λ (b : Block (List ℕ)). (b.pair c).recorded) (blocks i);
+  quiet_same = λ c i. ap (λ (b : Block (List ℕ)). is_unprobed (b.pair c).probing) (blocks i);
+  tracker_same = λ i. ap (λ (b : Block (List ℕ)). b.tracker) (blocks i);
+  service_same = λ i. rw (blocks i) (same-again (s.block i).service);
+}) (λ i. ap (λ (b : Block (List ℕ)). b.memory) (blocks i)) is
 
 -- a client's pair in place of one that is the same to the manager
 same-pair : {X : Type 0} (c : ℕ) (p : ClientBlock) (b : Block X) → p.recorded ≡ (b.pair c).recorded
@@ -85,10 +82,6 @@ same-acquiring : {X : Type 0} (c source : ℕ) (whole : Bool) (g : Grow) (bytes 
 same-acquiring c source whole g bytes b = same-pair c (after_acquire whole g (b.pair c)) b refl refl
     (acquiring_block c source whole g bytes b) refl refl (same-again b.service) refl
 
-same-releasing : {X : Type 0} (c source : ℕ) (r : Prune) (b : Block X) → IsSameBlock b (releasing_block c source r b)
-same-releasing c source r b = same-pair c (after_release r (b.pair c)) b refl refl (releasing_block c source r b) refl
-    refl (same-again b.service) refl
-
 same-stored : {X : Type 0} (c : ℕ) (bytes : X) (b : Block X) → IsSameBlock b (stored_block c bytes b)
 same-stored c bytes b = record {
   recorded_same = λ d. refl;
@@ -98,19 +91,10 @@ same-stored c bytes b = record {
   memory_same = refl;
 }
 
-same-probed : {X : Type 0} (c : ℕ) (k j : Cap) (b : Block X) → (b.pair c).probing ≡ ProbeSent j
-    → IsSameBlock b (probed_block c k b)
-same-probed c k j b sent = same-pair c (after_probe k (b.pair c)) b refl (sym (ap is_unprobed sent))
-    (probed_block c k b) refl refl (same-again b.service) refl
-
 same-taken : {X : Type 0} (c : ℕ) (whole d : Bool) (k j : Cap) (b : Block X) → b.service ≡ GrantSent c d j
     → IsSameBlock b (taken_block c whole d k b)
 same-taken c whole d k j b sent = same-pair c (after_grant k (b.pair c)) b refl refl (taken_block c whole d k b) refl
     refl (rw sent refl) refl
-
-same-let_go : {X : Type 0} (c : ℕ) (b : Block X) → IsSameBlock b (let_go_block c b)
-same-let_go c b = same-pair c (after_release_ack (b.pair c)) b refl refl (let_go_block c b) refl refl
-    (same-again b.service) refl
 
 -- ---- a client is asked
 
@@ -128,8 +112,7 @@ asked_with {w} {caching} c source n i mail {s} m inv closed (Waits r false src k
     | inr other ↦ rw client (ap (λ (f : ℕ → Message w). f src) (set-same c (set source i (mail.request c)) mail.request)
         ∙ set-other source src i (mail.request c) other ∙ ap (λ j. mail.request j src) (sym client) ∙ ok)
   ]
-  | inr other ↦ ap (λ (f : ℕ → Message w). f src) (set-other c r (set source i (mail.request c)) mail.request other)
-      ∙ ok
+  | inr other ↦ cc (set-other c r (set source i (mail.request c)) mail.request other)
 ]
 asked_with c source n i mail m inv closed (GrantSent q d k) e ok = tt
 asked_with c source n i mail m inv closed (GrantTaken q) e ok = tt
@@ -160,8 +143,9 @@ at_manager-asked config c (Op.Acquire n g) (Reply.Started source) h e inv may is
 at_manager-asked config c (Op.AcquireWhole n bytes) (Reply.Started source) h e inv may is =
     let g = whole_grow ((h.state.block n).pair c).held in
     at_manager-unseen n (λ i. refl) (same-acquiring c source true g bytes (h.state.block n)) is
-at_manager-asked config c (Op.Release n p) (Reply.Started source) h e inv may is =
-    at_manager-unseen n (λ i. refl) (same-releasing c source p (h.state.block n)) is
+at_manager-asked config c (Op.Release n p) (Reply.Started source) h e inv may is = at_manager-unseen n (λ i. refl)
+    (same-pair c (after_release p ((h.state.block n).pair c)) (h.state.block n) refl refl
+    (releasing_block c source p (h.state.block n)) refl refl (same-again (h.state.block n).service) refl) is
 at_manager-asked config c (Op.Access (Message.A m)) (Reply.Started source) h e inv may is =
     at_manager-access config c source m h e inv may is
 at_manager-asked config c o r h e inv may is = is
@@ -180,18 +164,19 @@ pub at_manager-client_taken : {w : ℕ} {caching : ℕ → Bool} (config : Confi
 at_manager-client_taken config tracker c Probe n rest h e kind inv first is =
     let k = cap_sent ((h.state.block n).pair c).probing in
     let sent = first-probe inv first in
-    at_manager-unseen n (λ i. refl) (same-probed c k k (h.state.block n) sent) is
+    at_manager-unseen n (λ i. refl)
+    (same-pair c (after_probe k ((h.state.block n).pair c)) (h.state.block n) refl (sym (ap is_unprobed sent))
+    (probed_block c k (h.state.block n)) refl refl (same-again (h.state.block n).service) refl) is
 at_manager-client_taken config tracker c Answer n rest h e kind inv first is = at_manager-untouched (λ i. refl) is
-at_manager-client_taken config tracker c ReleaseAck n rest h e kind inv first is =
-    at_manager-unseen n (λ i. refl) (same-let_go c (h.state.block n)) is
+at_manager-client_taken config tracker c ReleaseAck n rest h e kind inv first is = at_manager-unseen n (λ i. refl)
+    (same-pair c (after_release_ack ((h.state.block n).pair c)) (h.state.block n) refl refl
+    (let_go_block c (h.state.block n)) refl refl (same-again (h.state.block n).service) refl) is
 at_manager-client_taken {w} config tracker c Grant n rest h e kind inv first is = go (h.state.block n).service refl
   where
     go : (service : Service) → (h.state.block n).service ≡ service
         → IsManagerOf config (taken_by_client c n service rest h) e
     go (GrantSent q d k) f =
-        let seen : is_granting (view (GrantSent q d k) c) ≡ true =
-        rw f at (first-shown inv c Grant refl first) in
-        let same : c ≡ q = eqb-true c q (granting-own (c == q) d k seen) in
+        let same : c ≡ q = eqb-true c q (granting-own (c == q) d k (rw f at (first-shown inv c Grant refl first))) in
         let whole = is_whole ((h.state.block n).pair c).acquiring in
         at_manager-unseen n (λ i. refl) (same-taken c whole d k k (h.state.block n) (f ∙ rw same refl)) is
     go service f = is

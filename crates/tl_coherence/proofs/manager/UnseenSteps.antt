@@ -4,18 +4,16 @@ use Rattle.std.proofs.Common.{◌≡◌, subst, ℕ, Bool, true, false, ◌&&◌
 use Rattle.std.proofs.Common.{ap, if◌then◌else◌, Result, Ok}
 use Rattle.tl_coherence.proofs
 use proofs.Imports.{true_from_ne_false, Beat, Link, Channel, Message, unfinished, Config, Rule, Op, Verdict, offered}
-use proofs.Imports.{Event, Ask, Deliver, Outcome, Kind, Packet, packet, is_on, on, packets_on, AbstractState}
-use proofs.Imports.{abstract_step_by, packet_taken, abstract_step, SimulationRelation, is_caching, receiver, is_moving}
-use proofs.Imports.{Log, Step, handed_by, judged, is_to_client, client_of, stepped, System, terms_at, with_client}
-use proofs.Imports.{with_channel}
-use Rattle.tl_coherence.specs.refinement.AbstractStep.{is_last}
+use proofs.Imports.{Event, Ask, Deliver, Outcome, Kind, Packet, is_on, packets_on, AbstractState, abstract_step_by}
+use proofs.Imports.{packet_taken, abstract_step, SimulationRelation, is_caching, receiver, is_moving, Log, Step}
+use proofs.Imports.{handed_by, judged, is_to_client, client_of, stepped, System, terms_at, with_client, with_channel}
+use Rattle.tl_coherence.{specs.refinement.AbstractStep.is_last}
 use Rattle.tl_client.specs.statement.Ask as client_ask
 use Rattle.tl_client.specs.statement.Endpoint as client
-use Rattle.tl_coherence.specs.refinement.AbstractStep as follow
 use proofs.manager.{Admitted.first_counts, ManagersEnd.at_manager-matched, UnwaitedRequests.next_tracker}
-use proofs.manager.{ManagerAfter.IsManagerOf, Unseen.at_manager-asked, Unseen.is_to_clients}
-use proofs.manager.{Unseen.at_manager-client_taken}
-use proofs.protocol.FollowKept.{IsAskable}
+use proofs.manager.{ManagerAfter.IsManagerOf}
+use proofs.manager.Unseen.{at_manager-asked, is_to_clients, at_manager-client_taken}
+use proofs.protocol.{FollowKept.IsAskable}
 use proofs.queues.Steps.{manager-with_messages, stepped-asked, stepped-to-client, stepped-empty}
 use proofs.queues.KindMoves.{kind_channel, on_same}
 
@@ -41,8 +39,7 @@ at_manager-ask {w} {config} {log} h {sys} c o terms is there may =
     let a = client_ask.asked terms o (sys.clients c) in
     subst (λ (s : Step w). IsManagerOf config (abstract_step_by config (Ask c o) s.outcome sys h) s.after.manager)
     (sym (stepped-asked config c o sys terms there))
-    (subst (IsManagerOf config (follow.asked c o a.reply h))
-    (sym (manager-with_messages (handed_by c a.message) (with_client c a.after sys)))
+    (rw (manager-with_messages (handed_by c a.message) (with_client c a.after sys))
     (at_manager-asked config c o a.reply h sys.manager is.invariant may (at_manager-matched is)))
 
 -- ---- a delivery to a client
@@ -56,7 +53,7 @@ manager-judged (Ok (Verdict.Done source f, m)) link ch x rest e s =
     manager-with_messages (handed_by link m) (with_client link e (with_channel link ch rest s))
 manager-judged r link ch x rest e s = refl
 
-pub manager-to-client : {w : ℕ} (config : Config) (link : Link) (ch : Channel) (sys : System w)
+manager-to-client : {w : ℕ} (config : Config) (link : Link) (ch : Channel) (sys : System w)
     (terms : client.EndConfig) → terms_at config link.0 ≡ Some terms
     → is_to_client ch ≡ true → (stepped config (Deliver link ch) sys).after.manager ≡ sys.manager
 manager-to-client {w} config link ch sys terms there up = go (sys.channels link.0 ch) refl
@@ -71,8 +68,7 @@ manager-to-client {w} config link ch sys terms there up = go (sys.channels link.
 
 -- the kinds of a channel to clients
 to_clients : (ch : Channel) (k : Kind) → is_to_client ch ≡ true → (is_on ch k ≡ false → ⊥) → is_to_clients k ≡ true
-to_clients ch k up on_it =
-    ap is_to_client (kind_channel ch k (true_from_ne_false (is_on ch k) on_it)) ∙ up
+to_clients ch k up on_it = ap is_to_client (kind_channel ch k (true_from_ne_false (is_on ch k) on_it)) ∙ up
 
 -- where the invariant is kept, so is what is kept of the manager's end
 pub at_manager-to_client : {w : ℕ} {config : Config} {log : Log w} (h : AbstractState w) {sys : System w} (link : Link)
@@ -101,7 +97,6 @@ at_manager-to_client {w} {config} {log} h {sys} link ch terms is there up =
     taken (y ∷ ys) e =
         let here : is_on ch y.kind ≡ false → ⊥ =
         λ off. first_counts y ys (rw e at (is.invariant.own_kinds c ch y.kind y.number off)) in
-        let first : on y.kind (h.state.link c) ≡ packet y.kind y.number ∷ ys =
-        on_same ch y.kind (h.state.link c) (true_from_ne_false (is_on ch y.kind) here) ∙ e in
         at_manager-client_taken config (next_tracker sys) c y.kind y.number ys h sys.manager
-        (to_clients ch y.kind up here) is.invariant first known
+        (to_clients ch y.kind up here) is.invariant
+        (on_same ch y.kind (h.state.link c) (true_from_ne_false (is_on ch y.kind) here) ∙ e) known

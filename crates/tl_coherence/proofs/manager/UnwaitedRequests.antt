@@ -23,10 +23,9 @@ abbrev pub next_tracker : {w : ℕ} → System w → ℕ
 next_tracker sys = least_untaken (trackers_of (services sys.manager.trace))
 
 pub free-last : {w : ℕ} {config : Config} {log : Log w} {mail : AccessMessages w} {request : ℕ → MessageA w}
-    {s : State (List ℕ)} {sys : System w} {c k : ℕ} {m : MessageA w}
-    → SimulationRelation config log mail request s sys → IsComing config c k m sys.manager
-    → beats_of (Message.A m) ≡ suc k → must_wait config (link_of c) (Beat.A (a_beat_of m k)) sys.manager.trace ≡ false
-    → (s.block (block_at m.address)).service ≡ Free
+    {s : State (List ℕ)} {sys : System w} {c k : ℕ} {m : MessageA w} → SimulationRelation config log mail request s sys
+    → IsComing config c k m sys.manager → beats_of (Message.A m) ≡ suc k → must_wait config (link_of c)
+    (Beat.A (a_beat_of m k)) sys.manager.trace ≡ false → (s.block (block_at m.address)).service ≡ Free
 free-last {w} {config} {request} {s} {sys} {c} {k} {m} is comes last moves =
     let ended : ends (Beat.A (a_beat_of m k)) (on_link c sys.manager.trace) ≡ true =
     ends-coming comes ∙ rw last (is_last k (suc k) (omega arith)) in
@@ -44,11 +43,10 @@ serving-for : {w : ℕ} (service : Service) (n : ℕ) (m : MessageA w) → IsFor
 serving-for (Waits r false source k) n m for = (for.0, for.3)
 serving-for service n m for = tt
 
-pub serving-matched : {w : ℕ} {config : Config} {log : Log w} {mail : AccessMessages w} {request : ℕ → MessageA w}
+serving-matched : {w : ℕ} {config : Config} {log : Log w} {mail : AccessMessages w} {request : ℕ → MessageA w}
     {s : State (List ℕ)} {sys : System w}
     → SimulationRelation config log mail request s sys → (n : ℕ) → IsServing (s.block n).service (request n)
-serving-matched {request} {s} is n =
-    serving-for (s.block n).service n (request n) (is.served.requests n)
+serving-matched {request} {s} is n = serving-for (s.block n).service n (request n) (is.served.requests n)
 
 -- the invariant is kept
 pub invariant-taken : {w : ℕ} {config : Config} {log : Log w} (h : AbstractState w) {sys : System w} (c : ℕ) (k : Kind)
@@ -80,17 +78,15 @@ probed-some {w} {config} {s} {sys} c k n own j m is kind block =
     ) (and_comm (is_above j ((s.block n).pair d).recorded) (not (own && (d == c)))))
 
 copies_so : (p : Perm) → holders.has_copy p ≡ not (same_perm p Perm.None)
-copies_so Perm.None = refl
-copies_so p = refl
+copies_so p = grind arith
 
 -- nobody has a copy, as the manager's record says, where the protocol says so
 pub unheld-same : {w : ℕ} {config : Config} {log : Log w} {mail : AccessMessages w} {request : ℕ → MessageA w}
     {s : State (List ℕ)} {sys : System w} (c k n : ℕ) (m : MessageA w)
     → SimulationRelation config log mail request s sys → holders.is_unheld config n (with_beat c m k sys.manager.trace)
     ≡ is_unheld (length config.clients.items) (s.block n).pair
-unheld-same {w} {config} {s} {sys} c k n m is =
-    nobody-same config (λ d. holders.has_copy (recorded d n (with_beat c m k sys.manager.trace)))
-    (λ d. not (same_perm ((s.block n).pair d).recorded Perm.None))
+unheld-same {w} {config} {s} {sys} c k n m is = nobody-same config (λ d. holders.has_copy
+    (recorded d n (with_beat c m k sys.manager.trace))) (λ d. not (same_perm ((s.block n).pair d).recorded Perm.None))
     (λ d. rw (recorded-beat c k m sys.manager.trace d n, is.managed.recorded_is d n)
     (copies_so ((s.block n).pair d).recorded))
 
@@ -117,8 +113,7 @@ pub reaction-performed : {w : ℕ} {config : Config} {log : Log w} {mail : Acces
     → probes_some (length config.clients.items) c own (cap_probed m.opcode m.param) (s.block n).pair ≡ false
     → reaction config (link_of c) (Beat.A (a_beat_of m k)) sys.manager
     ≡ performed config (service_for c m sys.manager.trace) (with_beat c m k sys.manager.trace) sys.manager.memory
-reaction-performed {w} {config} {log} {mail} {request} {s} {sys} c k n own m is comes last kind block none =
-    go (cap_probed m.opcode m.param) refl
+reaction-performed {w} {config} {sys} c k n own m is comes last kind block none = go (cap_probed m.opcode m.param) refl
   where
     e : End w
     e = sys.manager
@@ -127,12 +122,9 @@ reaction-performed {w} {config} {log} {mail} {request} {s} {sys} c k n own m is 
         e ≡ performed config (service_for c m e.trace) (with_beat c m k e.trace) e.memory
     go None f = reaction-intent config (link_of c) (a_beat_of m k) (service_for c m e.trace) e
         (served-last comes last) f
-    go (Some j) f =
-        let nobody : is_nobody (probed config (service_for c m e.trace) j (with_beat c m k e.trace)) ≡ true =
-        probed-some c k n own j m is kind block ∙ ap not (rw f at none) in
-        reaction-unprobed config (link_of c) (a_beat_of m k) (service_for c m e.trace) j e
-        (served-last comes last) f
-        (no-clients (probed config (service_for c m e.trace) j (with_beat c m k e.trace)) nobody)
+    go (Some j) f = reaction-unprobed config (link_of c) (a_beat_of m k) (service_for c m e.trace) j e
+        (served-last comes last) f (no-clients (probed config (service_for c m e.trace) j (with_beat c m k e.trace))
+        (probed-some c k n own j m is kind block ∙ ap not (rw f at none)))
 
 -- somebody is, with this cap
 pub somebody-probed : {w : ℕ} {config : Config} {log : Log w} {mail : AccessMessages w} {request : ℕ → MessageA w}
@@ -141,14 +133,9 @@ pub somebody-probed : {w : ℕ} {config : Config} {log : Log w} {mail : AccessMe
     → probes_some (length config.clients.items) c own (cap_probed m.opcode m.param) (s.block n).pair ≡ true
     → (j : Cap) × (cap_probed m.opcode m.param ≡ Some j)
     × (is_nobody (probed config (service_for c m sys.manager.trace) j (with_beat c m k sys.manager.trace)) ≡ false)
-somebody-probed {w} {config} {log} {mail} {request} {s} {sys} c k n own m is kind block some =
-    go (cap_probed m.opcode m.param) refl
+somebody-probed {config} {sys} c k n own m is kind block some = go (cap_probed m.opcode m.param) refl
   where
     go : (o : Option Cap) → cap_probed m.opcode m.param ≡ o → (j : Cap) × (cap_probed m.opcode m.param ≡ Some j)
         × (is_nobody (probed config (service_for c m sys.manager.trace) j (with_beat c m k sys.manager.trace)) ≡ false)
     go None f = absurd (let no : false ≡ true = rw f at some in cc)
-    go (Some j) f = (
-      j,
-      f,
-      probed-some c k n own j m is kind block ∙ ap not (rw f at some),
-    )
+    go (Some j) f = (j, f, probed-some c k n own j m is kind block ∙ ap not (rw f at some))

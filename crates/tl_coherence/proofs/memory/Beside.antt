@@ -1,11 +1,11 @@
 -- The one-memory machine beside the protocol, after events: what is open at each source, and the memory.
-use Rattle.std.proofs.Common.{◌≡◌, ℕ, Bool, true, false, ◌&&◌, List, [], ◌∷◌, Option, Some, None, refl, sym, ◌∙◌, subst}
-use Rattle.std.proofs.Common.{◌⊎◌, inl, inr, ne_eqb, ◌==◌, if◌then◌else◌}
+use Rattle.std.proofs.Common.{◌≡◌, ℕ, List, [], ◌∷◌, Option, Some, None, refl, sym, ◌∙◌, subst, arith, ◌⊎◌, inl, inr}
+use Rattle.std.proofs.Common.{ne_eqb}
 use Rattle.tl_coherence.proofs
 use proofs.Imports.{cases_eq, ⊤, Message, IsBlock, effect, Op, set_at, State, SourceState, SourceFree, Asked, InService}
 use proofs.Imports.{Replied, Acquires, IsAccess, MemoryRelation, Answers, IsOpened, IsLet, AccessMessages, Machine}
-use proofs.Imports.{Open, Pool, Requests, Releases, same_pool, with_open, with_memory, performing}
-use Rattle.tl_coherence.specs.statement.Machine.{performed}
+use proofs.Imports.{Open, Pool, Requests, Releases, with_open, with_memory, performing}
+use Rattle.tl_coherence.{specs.statement.Machine.performed}
 use proofs.queues.Tokens.{same_number, set_at-same}
 
 -- ---- one place of two numbers
@@ -15,10 +15,7 @@ abbrev pub IsElsewhere : ℕ → ℕ → ℕ → ℕ → Type 0
 IsElsewhere c source d i = d ≡ c → i ≡ source → ⊥
 
 pub place-cases : (c source d i : ℕ) → ((d ≡ c) × (i ≡ source)) ⊎ IsElsewhere c source d i
-place-cases c source d i = elim (cases_eq d c) [
-  | inl same ↦ elim (cases_eq i source) [ inl also ↦ inl (same, also) | inr other ↦ inr (λ e f. other f) ]
-  | inr other ↦ inr (λ e f. other e)
-]
+place-cases c source d i = grind arith
 
 pub set_at-there : {X : Type 0} {c source : ℕ} (x : X) (f : ℕ → ℕ → X) {d i : ℕ} → IsElsewhere c source d i
     → set_at c source x f d i ≡ f d i
@@ -32,36 +29,19 @@ set_at-there {c} {source} x f {d} {i} else_ = elim (cases_eq d c) [
 
 pub open-here : {w : ℕ} (c : ℕ) (pool : Pool) (source : ℕ) (o : Option (Open w)) (m : Machine w)
     → (with_open c pool source o m).opened c pool source ≡ o
-open-here c Requests source o m = rw (same_number c, same_number source) refl
-open-here c Releases source o m = rw (same_number c, same_number source) refl
+open-here c pool source o m = grind arith
 
 pub open-there : {w : ℕ} (c : ℕ) (pool : Pool) (source : ℕ) (o : Option (Open w)) (m : Machine w) (d i : ℕ)
     → IsElsewhere c source d i → (with_open c pool source o m).opened d pool i ≡ m.opened d pool i
-open-there {w} c pool source o m d i else_ = elim (cases_eq d c) [
-  | inl same ↦ elim (cases_eq i source) [
-    | inl also ↦ absurd (else_ same also)
-    | inr other ↦ rw (ne_eqb i source other) (none (d == c) (same_pool pool pool) (m.opened d pool i))
-  ]
-  | inr other ↦ rw (ne_eqb d c other) refl
-]
-  where
-    none : (a b : Bool) (x : Option (Open w)) → (if a && (b && false) then o else x) ≡ x
-    none true true x = refl
-    none a b x = refl
+open-there {w} c pool source o m d i else_ = grind arith
 
 pub open-releases : {w : ℕ} (c source : ℕ) (o : Option (Open w)) (m : Machine w) (d i : ℕ)
     → (with_open c Requests source o m).opened d Releases i ≡ m.opened d Releases i
-open-releases {w} c source o m d i =
-    let go : (b : Bool) → (if b && false then o else m.opened d Releases i) ≡ m.opened d Releases i =
-    elim [ true ↦ refl | false ↦ refl ] in
-    go (d == c)
+open-releases {w} c source o m d i = grind arith
 
 pub open-requests : {w : ℕ} (c source : ℕ) (o : Option (Open w)) (m : Machine w) (d i : ℕ)
     → (with_open c Releases source o m).opened d Requests i ≡ m.opened d Requests i
-open-requests {w} c source o m d i =
-    let go : (b : Bool) → (if b && false then o else m.opened d Requests i) ≡ m.opened d Requests i =
-    elim [ true ↦ refl | false ↦ refl ] in
-    go (d == c)
+open-requests {w} c source o m d i = grind arith
 
 -- ---- what is open with a source
 
@@ -76,18 +56,16 @@ abbrev pub IsSameAnswer : {w : ℕ} → SourceState → Message w → Message w 
 IsSameAnswer Replied x y = y ≡ x
 IsSameAnswer u x y = ⊤
 
-pub opened-still : {w : ℕ} (c source : ℕ) (mail mail' : AccessMessages w) (s s' : State (List ℕ)) (u : SourceState)
-    (o : Option (Open w))
-    → mail'.request c source ≡ mail.request c source → IsSameAnswer u (mail.answer c source) (mail'.answer c source)
-    → IsSameAcquire c s s' u → IsOpened c source mail s u o → IsOpened c source mail' s' u o
+opened-still : {w : ℕ} (c source : ℕ) (mail mail' : AccessMessages w) (s s' : State (List ℕ)) (u : SourceState)
+    (o : Option (Open w)) → mail'.request c source ≡ mail.request c source → IsSameAnswer u (mail.answer c source)
+    (mail'.answer c source) → IsSameAcquire c s s' u → IsOpened c source mail s u o → IsOpened c source mail' s' u o
 opened-still c source mail mail' s s' SourceFree o request answer acquire h = h
 opened-still {w} c source mail mail' s s' Asked o request answer acquire h = rw request h
 opened-still {w} c source mail mail' s s' (InService n) o request answer acquire h = rw request h
 opened-still {w} c source mail mail' s s' Replied o request answer acquire h = (
   h.0,
   subst (λ (m : Message w). IsAccess source m (Some h.0) o) (sym request) h.1,
-  subst (λ (m : Message w). Answers m h.0 (mail'.answer c source)) (sym request)
-      (subst (λ (x : Message w). Answers (mail.request c source) h.0 x) (sym answer) h.2),
+  rw request (subst (λ (x : Message w). Answers (mail.request c source) h.0 x) (sym answer) h.2),
 )
 opened-still {w} c source mail mail' s s' (Acquires n) o request answer acquire h = h ∙ rw (acquire.0, acquire.1) refl
 
@@ -105,12 +83,10 @@ pub record IsStill {w : ℕ} (mail : AccessMessages w) (s s' : State (List ℕ))
 pub same_acquire : (c : ℕ) (s s' : State (List ℕ)) (u : SourceState)
     → ((n : ℕ) → (((s'.block n).pair c).acquiring ≡ ((s.block n).pair c).acquiring)
     × ((s'.block n).waiting c ≡ (s.block n).waiting c)) → IsSameAcquire c s s' u
-same_acquire c s s' (Acquires n) e = e n
-same_acquire c s s' u e = tt
+same_acquire c s s' u e = grind arith
 
 same_answer : {w : ℕ} (u : SourceState) (x : Message w) → IsSameAnswer u x x
-same_answer Replied x = refl
-same_answer u x = tt
+same_answer u x = grind arith
 
 moved_opened : {w : ℕ} (c source : ℕ) (mail : AccessMessages w) (s : State (List ℕ)) (u v : SourceState)
     (o p : Option (Open w)) → v ≡ u → p ≡ o → IsOpened c source mail s u o → IsOpened c source mail s v p
@@ -145,8 +121,7 @@ pub record IsUsed {w : ℕ} (c source : ℕ) (u : SourceState) (mail mail' : Acc
   pub acquires : (d i : ℕ) → IsElsewhere c source d i → IsSameAcquire d s s' (s.uses d i)
 
 answer_as : {w : ℕ} (u : SourceState) (x y : Message w) → y ≡ x → IsSameAnswer u x y
-answer_as Replied x y e = e
-answer_as u x y e = tt
+answer_as u x y e = grind arith
 
 pub beside-used : {w : ℕ} {c source : ℕ} {u : SourceState} {mail mail' : AccessMessages w} {s s' : State (List ℕ)}
     {m m' : Machine w} → IsUsed c source u mail mail' s s' m m' → MemoryRelation mail s m → MemoryRelation mail' s' m'
@@ -156,10 +131,9 @@ beside-used {w} {c} {source} {u} {mail} {mail'} {s} {s'} {m} {m'} is h = record 
     | inl same ↦ rw (same.0, same.1) (moved_opened c source mail' s' u (s'.uses c source) (m'.opened c Requests source)
         (m'.opened c Requests source) (is.uses c source ∙ set_at-same c source u s.uses) refl is.here)
     | inr else_ ↦ moved_opened d i mail' s' (s.uses d i) (s'.uses d i) (m.opened d Requests i) (m'.opened d Requests i)
-        (is.uses d i ∙ set_at-there u s.uses else_) (is.there d i else_)
-        (opened-still d i mail mail' s s' (s.uses d i) (m.opened d Requests i) (is.requests d i else_)
-        (answer_as (s.uses d i) (mail.answer d i) (mail'.answer d i) (is.answers d i else_)) (is.acquires d i else_)
-        (h.requests d i))
+        (is.uses d i ∙ set_at-there u s.uses else_) (is.there d i else_) (opened-still d i mail mail' s s' (s.uses d i)
+        (m.opened d Requests i) (is.requests d i else_) (answer_as (s.uses d i) (mail.answer d i) (mail'.answer d i)
+        (is.answers d i else_)) (is.acquires d i else_) (h.requests d i))
   ];
   releases = λ d i. moved_let (s.lets d i) (s'.lets d i) (m.opened d Releases i) (m'.opened d Releases i) (is.lets d i)
       (is.releases d i) (h.releases d i);

@@ -1,6 +1,6 @@
 -- The one-memory machine beside the protocol, after an operation that a client is asked for.
 use Rattle.std.proofs.Common.{◌≡◌, ℕ, Bool, true, false, ◌&&◌, List, Option, Some, None, length, refl, sym, ◌∙◌, ap}
-use Rattle.std.proofs.Common.{subst, ◌⊎◌, inl, inr, ◌==◌}
+use Rattle.std.proofs.Common.{arith, subst, ◌⊎◌, inl, inr, ◌==◌}
 use Rattle.tl_coherence.proofs
 use proofs.Imports.{cases_eq, ⊤, Message, MessageA, Grow, Prune, Perm, same_perm, Memory, IsBlock, block_at, word_room}
 use proofs.Imports.{Op, Reply, copy_stored, is_word, whole_grow, access, acquires_of, IsInvariant, set_at, set}
@@ -10,11 +10,11 @@ use proofs.Imports.{stored_block, block_stored, is_wanting, AbstractState, asked
 use proofs.Imports.{AreSized, Machine, Open, Requests, Releases, with_open, after_reply, with_number}
 use proofs.memory.Beside.{IsElsewhere, IsSameAcquire, set_at-there, open-here, open-there, open-releases, open-requests}
 use proofs.memory.Beside.{beside-still, beside-used, beside-let}
-use proofs.protocol.FollowKept.{IsAskable}
 use proofs.memory.OneMemory.{block-stored, block-unstored}
-use proofs.simulation.SizedAfter.{IsSizedAsk}
-use proofs.queues.{Perms.trunk-some, Tokens.same_number, Tokens.set-same, Tokens.set-other, Tokens.set-part}
-use proofs.queues.{Tokens.set_at-same}
+use proofs.protocol.{FollowKept.IsAskable}
+use proofs.simulation.{SizedAfter.IsSizedAsk}
+use proofs.queues.{Perms.trunk-some}
+use proofs.queues.Tokens.{same_number, set-same, set-other, set-part, set_at-same}
 
 -- ---- Acquires of other sources
 
@@ -25,42 +25,14 @@ pub acquires-else : (c n source : ℕ) (new : Block (List ℕ)) (p : ClientBlock
     → ((d : ℕ) → (d ≡ c → ⊥) → new.waiting d ≡ (s.block n).waiting d)
     → ((i : ℕ) → (i ≡ source → ⊥) → s.uses c i ≡ Acquires n → ⊥)
     → (d i : ℕ) → IsElsewhere c source d i → IsSameAcquire d s s' (s.uses d i)
-acquires-else c n source new p s s' blocks pairs waits alone d i else_ = go (s.uses d i) refl
-  where
-    here : (d ≡ c → ⊥) → (((s'.block n).pair d).acquiring ≡ ((s.block n).pair d).acquiring)
-        × ((s'.block n).waiting d ≡ (s.block n).waiting d)
-    here ne =
-        let at : s'.block n ≡ new = blocks n ∙ set-same n new s.block in (
-          ap (λ (b : Block (List ℕ)). (b.pair d).acquiring) at ∙ ap (λ (q : ClientBlock). q.acquiring)
-              (pairs d ∙ set-other c d p (s.block n).pair ne),
-          ap (λ (b : Block (List ℕ)). b.waiting d) at ∙ waits d ne,
-        )
-
-    there : (k : ℕ) → (k ≡ n → ⊥) → (((s'.block k).pair d).acquiring ≡ ((s.block k).pair d).acquiring)
-        × ((s'.block k).waiting d ≡ (s.block k).waiting d)
-    there k ne =
-        let at : s'.block k ≡ s.block k = blocks k ∙ set-other n k new s.block ne in
-        (ap (λ (b : Block (List ℕ)). (b.pair d).acquiring) at, ap (λ (b : Block (List ℕ)). b.waiting d) at)
-
-    apart : (k : ℕ) → s.uses d i ≡ Acquires k → k ≡ n → d ≡ c → ⊥
-    apart k e same at = alone i (λ f. else_ at f) (rw (at, same) at e)
-
-    go : (u : SourceState) → s.uses d i ≡ u → IsSameAcquire d s s' u
-    go (Acquires k) e = elim (cases_eq k n) [
-      | inl same ↦ subst (λ (j : ℕ). (((s'.block j).pair d).acquiring ≡ ((s.block j).pair d).acquiring)
-          × ((s'.block j).waiting d ≡ (s.block j).waiting d)) (sym same) (here (apart k e same))
-      | inr other ↦ there k other
-    ]
-    go u e = tt
+acquires-else c n source new p s s' blocks pairs waits alone d i else_ = grind (arith, cases_eq)
 
 -- who acquires nothing of a block has no source for it
-pub calm-none : {caching : ℕ → Bool} {s : State (List ℕ)} (c n i : ℕ) → IsInvariant caching s
+calm-none : {caching : ℕ → Bool} {s : State (List ℕ)} (c n i : ℕ) → IsInvariant caching s
     → ((s.block n).pair c).acquiring ≡ NoAcquire → s.uses c i ≡ Acquires n → ⊥
 calm-none {s} c n i inv calm e =
-    let named = inv.named.acquires c i n in
-    let yes : acquires_of n (s.uses c i) ≡ true = ap (acquires_of n) e ∙ same_number n in
     let no = ap (λ (x : AcquirePhase). is_wanting x && (i == (s.block n).source c)) calm in
-    let differ : true ≡ false = sym yes ∙ named ∙ no in cc
+    let differ : true ≡ false = sym (ap (acquires_of n) e ∙ same_number n) ∙ (inv.named.acquires c i n) ∙ no in cc
 
 -- ---- what is asked
 
@@ -78,7 +50,7 @@ truth_as : (f : Memory) (n i : ℕ) (new : Block (List ℕ)) (block : ℕ → Bl
     → IsBlock f i (block i).truth → IsBlock f i (set n new block i).truth
 truth_as f n i new block e h = rw (set-part (λ (b : Block (List ℕ)). b.truth) n new block e i) h
 
-pub beside-acquire_asked : {w : ℕ} {caching : ℕ → Bool} (c n source : ℕ) (whole : Bool) (g : Grow) (bytes : List ℕ)
+beside-acquire_asked : {w : ℕ} {caching : ℕ → Bool} (c n source : ℕ) (whole : Bool) (g : Grow) (bytes : List ℕ)
     (o : Op w) {mail : AccessMessages w} {s : State (List ℕ)} {m : Machine w} → IsInvariant caching s
     → ((s.block n).pair c).acquiring ≡ NoAcquire → op_of (AcquireOpen whole g) n bytes ≡ o → MemoryRelation mail s m
     → MemoryRelation mail (acquire_asked c n source whole g bytes s)
@@ -86,7 +58,6 @@ pub beside-acquire_asked : {w : ℕ} {caching : ℕ → Bool} (c n source : ℕ)
 beside-acquire_asked {w} {caching} c n source whole g bytes o {mail} {s} {m} inv calm is h =
     let after : ClientBlock = after_acquire whole g ((s.block n).pair c) in
     let new : Block (List ℕ) = acquiring_block c source whole g bytes (s.block n) in
-    let s' : State (List ℕ) = acquire_asked c n source whole g bytes s in
     let m' : Machine w = with_open c Requests source (Some (record { asked = o; answer = None })) m in
     let opened_as : AcquirePhase → List ℕ → Option (Open w) =
     λ x y. Some (record { asked = op_of x n y; answer = None }) in
@@ -94,22 +65,20 @@ beside-acquire_asked {w} {caching} c n source whole g bytes o {mail} {s} {m} inv
       memory = λ i. truth_as m.memory n i new s.block refl (h.memory i);
       uses = λ d i. refl;
       lets = λ d i. refl;
-      here =
-          open-here c Requests source (Some (record { asked = o; answer = None })) m
+      here = open-here c Requests source (Some (record { asked = o; answer = None })) m
           ∙ ap (λ (y : Op w). Some (record { asked = y; answer = None })) (sym is)
           ∙ sym (ap (λ (b : Block (List ℕ)). opened_as (b.pair c).acquiring (b.waiting c)) (set-same n new s.block)
-          ∙ ap (λ (p : ClientBlock). opened_as p.acquiring (set c bytes (s.block n).waiting c))
-          (set-same c after (s.block n).pair)
-          ∙ ap (opened_as (AcquireOpen whole g)) (set-same c bytes (s.block n).waiting));
+          ∙ ap (λ (p : ClientBlock). opened_as p.acquiring (set c bytes (s.block n).waiting c)) (set-same c after
+          (s.block n).pair) ∙ ap (opened_as (AcquireOpen whole g)) (set-same c bytes (s.block n).waiting));
       there = λ d i else_. open-there c Requests source (Some (record { asked = o; answer = None })) m d i else_;
       releases = λ d i. open-releases c source (Some (record { asked = o; answer = None })) m d i;
       requests = λ d i else_. refl;
       answers = λ d i else_. refl;
-      acquires = acquires-else c n source new after s s' (λ i. refl) (λ d. refl)
+      acquires = acquires-else c n source new after s (acquire_asked c n source whole g bytes s) (λ i. refl) (λ d. refl)
           (λ d ne. set-other c d bytes (s.block n).waiting ne) (λ i ne e. calm-none c n i inv calm e);
     }) h
 
-pub beside-release_asked : {w : ℕ} (c n source : ℕ) (r : Prune) {mail : AccessMessages w} {s : State (List ℕ)}
+beside-release_asked : {w : ℕ} (c n source : ℕ) (r : Prune) {mail : AccessMessages w} {s : State (List ℕ)}
     {m : Machine w} → MemoryRelation mail s m → MemoryRelation mail (release_asked c n source r s)
     (with_open c Releases source (Some (record { asked = Op.Release n r; answer = None })) m)
 beside-release_asked {w} c n source r {mail} {s} {m} h =
@@ -123,15 +92,12 @@ beside-release_asked {w} c n source r {mail} {s} {m} h =
       there = λ d i else_. open-there c Releases source (Some (record { asked = Op.Release n r; answer = None })) m d i
           else_;
       requests = λ d i. open-requests c source (Some (record { asked = Op.Release n r; answer = None })) m d i;
-      acquires = λ d i. (
-        set-part (λ (b : Block (List ℕ)). (b.pair d).acquiring) n new s.block
-            (set-part (λ (p : ClientBlock). p.acquiring) c (after_release r ((s.block n).pair c)) (s.block n).pair refl
-            d) i,
-        set-part (λ (b : Block (List ℕ)). b.waiting d) n new s.block refl i,
-      );
+      acquires = λ d i. let fact = set-part (λ (b : Block (List ℕ)). (b.pair d).acquiring) n new s.block (set-part
+          (λ (p : ClientBlock). p.acquiring) c (after_release r ((s.block n).pair c)) (s.block n).pair refl d) i in
+          (fact, set-part (λ (b : Block (List ℕ)). b.waiting d) n new s.block refl i);
     }) h
 
-pub beside-access_asked : {w : ℕ} (c source : ℕ) (a : MessageA w) {mail : AccessMessages w} {s : State (List ℕ)}
+beside-access_asked : {w : ℕ} (c source : ℕ) (a : MessageA w) {mail : AccessMessages w} {s : State (List ℕ)}
     {m : Machine w} → MemoryRelation mail s m
     → MemoryRelation (record { request = set_at c source (access source a) mail.request; answer = mail.answer })
     (access_asked c source s)
@@ -144,11 +110,9 @@ beside-access_asked {w} c source a {mail} {s} {m} h =
       memory = h.memory;
       uses = λ d i. refl;
       lets = λ d i. refl;
-      here = (
-        a,
-        set_at-same c source (access source a) mail.request,
-        open-here c Requests source (Some (record { asked = Op.Access (Message.A a); answer = None })) m,
-      );
+      here =
+          let fact = open-here c Requests source (Some (record { asked = Op.Access (Message.A a); answer = None })) m in
+          (a, set_at-same c source (access source a) mail.request, fact);
       there = λ d i else_. open-there c Requests source
           (Some (record { asked = Op.Access (Message.A a); answer = None })) m d i else_;
       releases = λ d i. open-releases c source (Some (record { asked = Op.Access (Message.A a); answer = None })) m d i;
@@ -157,7 +121,7 @@ beside-access_asked {w} c source a {mail} {s} {m} h =
       acquires = λ d i else_. same_blocks d (s.uses d i);
     }) h
 
-pub beside-block_stored : {w : ℕ} {caching : ℕ → Bool} (c address size value : ℕ) {mail : AccessMessages w}
+beside-block_stored : {w : ℕ} {caching : ℕ → Bool} (c address size value : ℕ) {mail : AccessMessages w}
     {s : State (List ℕ)} {m : Machine w} → IsInvariant caching s
     → AreSized (s.block (block_at address)) → is_word address size ≡ true
     → same_perm ((s.block (block_at address)).pair c).held Perm.Trunk ≡ true → MemoryRelation mail s m
@@ -171,10 +135,8 @@ beside-block_stored {w} c address size value {mail} {s} {m} inv sized word trunk
       uses = λ d i. refl;
       lets = λ d i. refl;
       opened = λ d pool i. refl;
-      acquires = λ d i. (
-        set-part (λ (b : Block (List ℕ)). (b.pair d).acquiring) n new s.block refl i,
-        set-part (λ (b : Block (List ℕ)). b.waiting d) n new s.block refl i,
-      );
+      acquires = λ d i. let fact = set-part (λ (b : Block (List ℕ)). (b.pair d).acquiring) n new s.block refl i in
+          (fact, set-part (λ (b : Block (List ℕ)). b.waiting d) n new s.block refl i);
     }) h
   where
     n : ℕ
@@ -195,9 +157,7 @@ beside-block_stored {w} c address size value {mail} {s} {m} inv sized word trunk
 
     bytes : (i : ℕ) → (i ≡ n) ⊎ (i ≡ n → ⊥) → IsBlock (with_number address size value m.memory) i
         (set n new s.block i).truth
-    bytes i (inl at) = rw at
-        (subst (λ (b : Block (List ℕ)). IsBlock (with_number address size value m.memory) n b.truth)
-        (sym (set-same n new s.block)) here)
+    bytes i (inl at) = rw at (rw (set-same n new s.block) here)
     bytes i (inr other) = rw (set-other n i new s.block other) (block-unstored address size value i (s.block i).truth
         m.memory (word_room address size word) other (h.memory i))
 
@@ -212,8 +172,7 @@ beside-asked c (Op.Acquire n g) (Reply.Started source) h inv sized is may word b
 beside-asked c (Op.AcquireWhole n bytes) (Reply.Started source) h inv sized is may word b =
     beside-acquire_asked c n source true (whole_grow ((h.state.block n).pair c).held) bytes
     (Op.AcquireWhole n bytes) inv may.2 refl b
-beside-asked c (Op.Release n p) (Reply.Started source) h inv sized is may word b =
-    beside-release_asked c n source p b
+beside-asked c (Op.Release n p) (Reply.Started source) h inv sized is may word b = beside-release_asked c n source p b
 beside-asked c (Op.Access (Message.A a)) (Reply.Started source) h inv sized is may word b =
     beside-access_asked c source a b
 beside-asked c o (Reply.Started source) h inv sized is may word b = absurd is

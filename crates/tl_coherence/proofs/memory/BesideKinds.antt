@@ -1,15 +1,14 @@
 -- The one-memory machine beside the protocol, after each message that is taken.
 use Rattle.std.proofs.Common.{◌≡◌, subst, ℕ, ◌≤◌, Bool, true, false, not, ◌&&◌, List, [], ◌∷◌, Option, Some, None}
-use Rattle.std.proofs.Common.{length, refl, sym, ◌∙◌, ap, ◌⊎◌, inl, inr, ◌==◌, if◌then◌else◌}
+use Rattle.std.proofs.Common.{arith, length, refl, sym, ◌∙◌, ap, ◌⊎◌, inl, inr, ◌==◌, if◌then◌else◌}
 use Rattle.tl_coherence.proofs
-use proofs.Imports.{cases_eq, ⊤, Message, MessageA, Config, Cap, Report, Profile, effect, block_at, cap_probed}
-use proofs.Imports.{IsInvariant, set_at, Kind, Request, ProbeAck, Packet, set, ClientBlock, AcquireOpen, ProbeAnswered}
-use proofs.Imports.{AcquirePhase, NoAcquire, is_unprobed, after_served, after_grant_sent, after_report, Block, State}
-use proofs.Imports.{is_probed, Service, Waits, written, performed_block, served_block, granted_at_once, reported_block}
-use proofs.Imports.{ended_block, granted_block, granted_pair, access_answered, access_served, report_taken}
-use proofs.Imports.{report_answers, AbstractState, some_below, bytes_at, performs, answers, probes_some, access_taken}
-use proofs.Imports.{request_taken, acquire_taken, granted_after, last_taken, ack_taken, MemoryRelation, AccessMessages}
-use proofs.Imports.{Machine, performing}
+use proofs.Imports.{⊤, Message, MessageA, Config, Cap, Report, Profile, effect, block_at, cap_probed, IsInvariant}
+use proofs.Imports.{set_at, Kind, Request, ProbeAck, Packet, set, ClientBlock, AcquireOpen, ProbeAnswered, AcquirePhase}
+use proofs.Imports.{NoAcquire, is_unprobed, after_served, after_grant_sent, after_report, Block, State, Service, Waits}
+use proofs.Imports.{written, performed_block, served_block, granted_at_once, reported_block, ended_block, granted_block}
+use proofs.Imports.{granted_pair, access_answered, access_served, report_taken, report_answers, AbstractState}
+use proofs.Imports.{some_below, bytes_at, performs, answers, probes_some, access_taken, request_taken, acquire_taken}
+use proofs.Imports.{granted_after, last_taken, ack_taken, MemoryRelation, AccessMessages, Machine, performing}
 use proofs.memory.Beside.{beside-still, beside-used, same_acquire}
 use proofs.memory.BesideTaken.{IsPerformed, beside-performed, memory-unprobed, memory-reported, intent-reply}
 use proofs.queues.{Tokens.set-same, Tokens.set-other, Tokens.set-part, Codes.low_cap}
@@ -21,9 +20,8 @@ access_list c source true (Some k) = []
 access_list c source _ _ = (c, source) ∷ []
 
 abbrev pub request_accesses : {w : ℕ} → ℕ → ℕ → ℕ → Message w → AbstractState w → List (ℕ × ℕ)
-request_accesses clients c source (Message.A m) h =
-    access_list c source (probes_some clients c false (cap_probed m.opcode m.param)
-    (h.state.block (block_at m.address)).pair) (cap_probed m.opcode m.param)
+request_accesses clients c source (Message.A m) h = access_list c source (probes_some clients c false
+    (cap_probed m.opcode m.param) (h.state.block (block_at m.address)).pair) (cap_probed m.opcode m.param)
 request_accesses clients c source _ h = []
 
 abbrev pub last_accesses : Service → List (ℕ × ℕ)
@@ -33,10 +31,8 @@ last_accesses _ = []
 -- the accesses that are answered as this message is taken
 abbrev pub accesses_by : {w : ℕ} → Config → ℕ → Kind → ℕ → AbstractState w → List (ℕ × ℕ)
 accesses_by config c Request i h = request_accesses (length config.clients.items) c i (h.mail.request c i) h
-accesses_by config c ProbeAck n h =
-    if some_below (length config.clients.items)
-    (λ d. not (d == c) && not (is_unprobed ((h.state.block n).pair d).probing)) then [] else last_accesses
-    (h.state.block n).service
+accesses_by config c ProbeAck n h = if some_below (length config.clients.items) (λ d. not (d == c)
+    && not (is_unprobed ((h.state.block n).pair d).probing)) then [] else last_accesses (h.state.block n).service
 accesses_by config c _ i h = []
 
 -- ---- one block changes, and no source
@@ -46,19 +42,7 @@ pub beside_block : {w : ℕ} (n : ℕ) (new : Block (List ℕ)) {mail : AccessMe
     → ((d i : ℕ) → s'.uses d i ≡ s.uses d i) → ((d i : ℕ) → s'.lets d i ≡ s.lets d i) → new.truth ≡ (s.block n).truth
     → ((d : ℕ) → (new.pair d).acquiring ≡ ((s.block n).pair d).acquiring)
     → ((d : ℕ) → new.waiting d ≡ (s.block n).waiting d) → MemoryRelation mail s m → MemoryRelation mail s' m
-beside_block {w} n new {mail} {s} s' {m} blocks uses lets truth acquiring waiting h = beside-still (record {
-  memory = λ i. rw (ap (λ (b : Block (List ℕ)). b.truth) (blocks i) ∙ set-part (λ (b : Block (List ℕ)). b.truth) n new
-      s.block truth i) (h.memory i);
-  uses = uses;
-  lets = lets;
-  opened = λ d pool i. refl;
-  acquires = λ d i. (
-    ap (λ (b : Block (List ℕ)). (b.pair d).acquiring) (blocks i) ∙ set-part
-        (λ (b : Block (List ℕ)). (b.pair d).acquiring) n new s.block (acquiring d) i,
-    ap (λ (b : Block (List ℕ)). b.waiting d) (blocks i) ∙ set-part (λ (b : Block (List ℕ)). b.waiting d) n new s.block
-        (waiting d) i,
-  );
-}) h
+beside_block {w} n new {mail} {s} s' {m} blocks uses lets truth acquiring waiting h = grind (arith, beside-still)
 
 -- one client's pair changes, and not what it acquires
 pub same_acquiring : (c : ℕ) (p : ClientBlock) (f : ℕ → ClientBlock) → p.acquiring ≡ (f c).acquiring → (d : ℕ)
@@ -67,21 +51,11 @@ same_acquiring c p f e d = set-part (λ (q : ClientBlock). q.acquiring) c p f e 
 
 served_acquiring : (r : ℕ) (own : Bool) (k : Cap) (pair : ℕ → ClientBlock) (d : ℕ)
     → (if own && (d == r) then pair d else after_served k (pair d)).acquiring ≡ (pair d).acquiring
-served_acquiring r own k pair d =
-    let go : (x : Bool) → (if x then pair d else after_served k (pair d)).acquiring ≡ (pair d).acquiring =
-    elim [ true ↦ refl | false ↦ refl ] in
-    go (own && (d == r))
+served_acquiring r own k pair d = grind arith
 
 granted_acquiring : (c q : ℕ) (r : Report) (k : Cap) (pair : ℕ → ClientBlock) (d : ℕ)
     → (granted_pair c q r k pair d).acquiring ≡ (pair d).acquiring
-granted_acquiring c q r k pair d = elim (cases_eq d q) [
-  | inl same ↦ ap (λ (j : ℕ). (granted_pair c q r k pair j).acquiring) same ∙ ap (λ (p : ClientBlock). p.acquiring)
-      (set-same q (after_grant_sent k (pair q)) (set c (after_report r (pair c)) pair)) ∙ sym
-      (ap (λ (j : ℕ). (pair j).acquiring) same)
-  | inr other ↦ ap (λ (p : ClientBlock). p.acquiring)
-      (set-other q d (after_grant_sent k (pair q)) (set c (after_report r (pair c)) pair) other) ∙ same_acquiring c
-      (after_report r (pair c)) pair refl d
-]
+granted_acquiring c q r k pair d = grind arith
 
 -- ---- a request
 
@@ -101,12 +75,11 @@ beside_served {w} {c} {source} {x} tracker k rest {mail} {s} {m} is h =
       releases = λ d i. refl;
       requests = λ d i else_. refl;
       answers = λ d i else_. refl;
-      acquires = λ d i else_. same_acquire d s s' (s.uses d i)
-          (λ j. (
-            set-part (λ (b : Block (List ℕ)). (b.pair d).acquiring) n new s.block
-                (served_acquiring c false k (s.block n).pair d) j,
-            set-part (λ (b : Block (List ℕ)). b.waiting d) n new s.block refl j,
-          ));
+      acquires = λ d i else_. same_acquire d s s' (s.uses d i) (λ j. (
+        set-part (λ (b : Block (List ℕ)). (b.pair d).acquiring) n new s.block
+            (served_acquiring c false k (s.block n).pair d) j,
+        set-part (λ (b : Block (List ℕ)). b.waiting d) n new s.block refl j,
+      ));
     }) h
 
 beside_answered : {w : ℕ} {config : Config} {c source : ℕ} {x : MessageA w} (rest : List Packet)
@@ -162,11 +135,8 @@ beside-request {w} {caching} {config} {c} {source} tracker {x} rest h {m} inv pl
     go true (Some k) e f = beside_served tracker k rest is beside
     go true None e f = beside_answered rest is (inr f) beside
     go false None e f = beside_answered rest is (inr f) beside
-    go false (Some k) e f =
-        let none : some_below clients (λ d. is_probed c false k (b.pair d).recorded d) ≡ false = rw f at e in
-        beside_answered rest is
-        (inl (memory-unprobed clients c k plain (inv.blocks (block_at x.address))
-        (low_cap x.opcode x.param k f) none)) beside
+    go false (Some k) e f = beside_answered rest is (inl (memory-unprobed clients c k plain
+        (inv.blocks (block_at x.address)) (low_cap x.opcode x.param k f) (rw f at e))) beside
 
 -- ---- an Acquire
 
@@ -211,9 +181,7 @@ beside_ended {w} {caching} {config} c {q} n {source} r k rest h {m} inv waits an
     let new : Block (List ℕ) = ended_block c r (performs x) b in
     let s' : State (List ℕ) = report_answers c q n source r (performs x) rest h.state in
     let told = memory-reported c q source r k (inv.blocks n) waits answered settled in
-    let reply_same : (effect (Message.A x) (bytes_at (block_at x.address) (h.state.block (block_at x.address)).truth)).1
-    ≡ (effect (Message.A x) (bytes_at (block_at x.address) (written r b.truth b.memory))).1 = cc (at, told) in
-    beside-performed (written r b.truth b.memory) s' is (λ f block. reply_same)
+    beside-performed (written r b.truth b.memory) s' is (λ f block. cc (at, told))
     (λ i ne. ap (λ (y : Block (List ℕ)). y.truth) (set-other n i new h.state.block (λ e. ne (e ∙ sym at))))
     (subst (λ (j : ℕ). (set n new h.state.block j).truth ≡ performs x (h.state.block j).truth) (sym at)
     (ap (λ (y : Block (List ℕ)). y.truth) (set-same n new h.state.block)))
@@ -253,9 +221,8 @@ pub beside-report : {w : ℕ} {caching : ℕ → Bool} (config : Config) (c n : 
     (ack_taken (length config.clients.items) config.profile c n r rest h).state
     (performing (accesses_by config c ProbeAck n h) m)
 unfolding performing
-beside-report {w} {caching} config c n r rest h {m} inv answered settled is beside =
-    go (some_below (length config.clients.items)
-    (λ d. not (d == c) && not (is_unprobed ((h.state.block n).pair d).probing))) refl
+beside-report {w} {caching} config c n r rest h {m} inv answered settled is beside = go (some_below
+    (length config.clients.items) (λ d. not (d == c) && not (is_unprobed ((h.state.block n).pair d).probing))) refl
   where
     reported : AbstractState w
     reported = record h { state = report_taken c n r rest h.state }

@@ -1,25 +1,24 @@
 -- The one-memory machine beside the protocol after a beat of a request is taken: an access that is
 -- answered is performed.
 use Rattle.std.proofs.Common.{◌≡◌, subst, ℕ, suc, Bool, true, false, not, List, [], ◌∷◌, Option, Some, None, length}
-use Rattle.std.proofs.Common.{refl, sym, ◌∙◌, ap, ◌⊎◌, inl, inr, if◌then◌else◌}
+use Rattle.std.proofs.Common.{arith, refl, sym, ◌∙◌, ap, ◌⊎◌, inl, inr}
 use Rattle.tl_coherence.proofs
 use proofs.Imports.{Beat, Message, MessageA, a_beat_of, beats_of, Config, Cap, Trace, Memory, effect, answer_of}
-use proofs.Imports.{block_at, same_block, performed-acquire, Handed, Reaction, probes, access_answer, grant_opcode}
-use proofs.Imports.{grant, cap_probed, recorded, probed, reaction, is_access_answer, cap_asked, Request, Acquire}
-use proofs.Imports.{Packet, AcquireOpen, Block, is_probed, AbstractState, bytes_at, some_below, probes_some}
-use proofs.Imports.{request_taken, kind_taken, IsAccess, MemoryRelation, SimulationRelation, Log, Machine, Requests}
-use proofs.Imports.{accesses_answered, performing, System}
-use Rattle.tl_rules.specs.declared.answer.Answer.{Answer}
-use Rattle.tl_manager.{specs.statement.Handing.is_granted_data, specs.statement.Service.Service}
-use Rattle.tl_coherence.specs.statement.Machine.{Performs}
-use proofs.manager.{Arrivals.link_of, Arrivals.with_beat, Arrivals.IsComing, Arrivals.service_for}
+use proofs.Imports.{block_at, same_block, performed-acquire, Handed, Reaction, probes, access_answer, grant, cap_probed}
+use proofs.Imports.{probed, reaction, cap_asked, Request, Acquire, Packet, AcquireOpen, Block, is_probed, AbstractState}
+use proofs.Imports.{bytes_at, some_below, probes_some, request_taken, kind_taken, IsAccess, MemoryRelation}
+use proofs.Imports.{SimulationRelation, Log, Machine, Requests, accesses_answered, performing, System}
+use Rattle.tl_rules.{specs.declared.answer.Answer.Answer}
+use Rattle.tl_manager.{specs.statement.Service.Service}
+use Rattle.tl_coherence.{specs.statement.Machine.Performs}
 use proofs.manager.{AtRequests.reaction-probing, Choices.plain-past, RequestsHanded.handed-answered}
-use proofs.manager.{RequestsTaken.caps_asked, RequestsTaken.acquire_wanted, UnwaitedRequests.next_tracker}
-use proofs.manager.{UnwaitedRequests.probed-some, UnwaitedRequests.reaction-performed}
+use proofs.manager.Arrivals.{link_of, with_beat, IsComing, service_for}
+use proofs.manager.RequestsTaken.{caps_asked, acquire_wanted}
+use proofs.manager.UnwaitedRequests.{next_tracker, probed-some, reaction-performed}
 use proofs.memory.{BesideTaken.IsPerformed, Beside.done_at, Beside.performed-open, Beside.performing-one}
-use proofs.memory.{BesideKinds.access_list, BesideKinds.beside-request, BesideKinds.beside-acquire}
+use proofs.memory.BesideKinds.{access_list, beside-request, beside-acquire}
 use proofs.protocol.Heads.{IsAsked, IsWanted}
-use proofs.queues.Codes.{acquires-so}
+use proofs.queues.{Codes.acquires-so}
 
 -- ---- which accesses are answered
 
@@ -31,17 +30,12 @@ accesses-probes w n j (d ∷ clients) = accesses-probes w n j clients
 pub accesses-answer : {w : ℕ} (c : ℕ) (m : MessageA w) (r : Answer)
     → accesses_answered ((link_of c, access_answer m r) ∷ []) ≡ (c, m.source) ∷ []
 unfolding accesses_answered
-accesses-answer c m Answer.Ack = refl
-accesses-answer c m r = refl
+accesses-answer c m r = grind arith
 
 accesses-grant : {w : ℕ} (config : Config) (c : ℕ) (v : Service w) (t : Trace w) (memory : Memory)
     → accesses_answered ((link_of c, grant config v t memory) ∷ []) ≡ []
 unfolding accesses_answered
-accesses-grant config c v t memory =
-    let one : List (ℕ × ℕ) = (c, v.request.source) ∷ [] in
-    let go : (b : Bool) → (if is_access_answer (grant_opcode b) then one else []) ≡ [] =
-    elim [ true ↦ refl | false ↦ refl ] in
-    go (is_granted_data v.request.opcode v.request.param (recorded v.link.0 (block_at v.request.address) t))
+accesses-grant config c v t memory = grind arith
 
 -- ---- an access
 
@@ -54,14 +48,13 @@ pub once-performs : {w : ℕ} (l : List (ℕ × ℕ)) (h : AbstractState w) (m :
     → Performs l m (performing l m)
 unfolding Performs performing
 once-performs l h m (inl none) = rw none refl
-once-performs l h m (inr (q, source, one, opened)) =
-    rw one (
-      done_at q source (Message.A opened.0) m,
-      performed-open q source (Message.A opened.0) m opened.2,
-      performing-one q source (Message.A opened.0) m opened.2,
-    )
+once-performs l h m (inr (q, source, one, opened)) = rw one (
+  done_at q source (Message.A opened.0) m,
+  performed-open q source (Message.A opened.0) m opened.2,
+  performing-one q source (Message.A opened.0) m opened.2,
+)
 
-pub request-accesses : {w : ℕ} {config : Config} {log : Log w} (h : AbstractState w) {sys : System w} {c source k : ℕ}
+request-accesses : {w : ℕ} {config : Config} {log : Log w} (h : AbstractState w) {sys : System w} {c source k : ℕ}
     → SimulationRelation config log h.mail h.request h.state sys → (asked : IsAsked config c source h.mail h.state)
     → IsComing config c k asked.request sys.manager → beats_of (Message.A asked.request) ≡ suc k
     → accesses_answered (reaction config (link_of c) (Beat.A (a_beat_of asked.request k)) sys.manager).handed
@@ -88,11 +81,8 @@ request-accesses {w} {config} {log} h {sys} {c} {source} {k} is asked comes last
 
     answered : probes_some clients c false (cap_probed m.opcode m.param) b.pair ≡ false
         → accesses_answered done ≡ (c, source) ∷ []
-    answered none = cc (
-      handed-answered is asked comes last none,
-      accesses-answer c m (answer_of (Message.A m) (effect (Message.A m) (bytes_at n b.memory)).1),
-      asked.source_is,
-    )
+    answered none = let fact = handed-answered is asked comes last none in let other_fact = accesses-answer c m
+        (answer_of (Message.A m) (effect (Message.A m) (bytes_at n b.memory)).1) in cc asked.source_is
 
     accesses : (p : Bool) (o : Option Cap) → probes_some clients c false (cap_probed m.opcode m.param) b.pair ≡ p
         → cap_probed m.opcode m.param ≡ o → accesses_answered done ≡ access_list c source p o
@@ -136,11 +126,11 @@ pub beside-request_taken : {w : ℕ} {config : Config} {log : Log w} (h : Abstra
     (performing (accesses_answered (reaction config (link_of c) (Beat.A (a_beat_of asked.request k))
     sys.manager).handed) machine)
 beside-request_taken {w} {config} {log} h {sys} {c} {source} {k} rest {machine} is asked comes last beside =
+    let clients = length config.clients.items in
     let m : MessageA w = asked.request in
     let n : ℕ = block_at m.address in
     let b : Block (List ℕ) = h.state.block n in
     let tracker : ℕ = next_tracker sys in
-    let done : Handed w = (reaction config (link_of c) (Beat.A (a_beat_of m k)) sys.manager).handed in
     let performed_so : IsPerformed config c source m h.mail h.state machine = record {
       width = comes.width;
       request = asked.is_it;
@@ -150,15 +140,10 @@ beside-request_taken {w} {config} {log} h {sys} {c} {source} {k} rest {machine} 
       long = (is.sized n).truth;
     } in
     subst (λ (i : Message w). MemoryRelation (request_taken clients c source i tracker rest h).mail
-    (request_taken clients c source i tracker rest h).state
-    (performing (accesses_answered done) machine)) (sym asked.is_it)
-    (subst (λ (l : List (ℕ × ℕ)). MemoryRelation (request_taken clients c source (Message.A m) tracker rest h).mail
-    (request_taken clients c source (Message.A m) tracker rest h).state (performing l machine))
-    (sym (request-accesses h is asked comes last)) (beside-request tracker rest h is.invariant (plain-past config)
-    performed_so beside))
-  where
-    clients : ℕ
-    clients = length config.clients.items
+    (request_taken clients c source i tracker rest h).state (performing (accesses_answered
+    (reaction config (link_of c) (Beat.A (a_beat_of m k)) sys.manager).handed) machine)) (sym asked.is_it)
+    (rw (request-accesses h is asked comes last)
+    (beside-request tracker rest h is.invariant (plain-past config) performed_so beside))
 
 -- ---- an Acquire
 
@@ -188,18 +173,14 @@ acquire-accesses {w} {config} {log} h {sys} {c} {n} k is asked comes last =
 
     none : (x : Bool) → some_below clients (λ d. is_probed c true j (b.pair d).recorded d) ≡ x
         → accesses_answered (reaction config (link_of c) (Beat.A (a_beat_of m k)) sys.manager).handed ≡ []
-    none true f = cc (
-      reaction-probing config c k n j m sys.manager comes last (same_block n) caps
-          (probed-some c k n true j m is (acquires-so asked.whole) (same_block n) ∙ ap not f),
-      accesses-probes w n j (probed config (service_for c m sys.manager.trace) j (with_beat c m k sys.manager.trace)),
-    )
-    none false f = cc (
-      reaction-performed c k n true m is comes last (acquires-so asked.whole) (same_block n) (rw caps f),
-      performed-acquire config (service_for c m sys.manager.trace) (with_beat c m k sys.manager.trace)
-          sys.manager.memory (acquires-so asked.whole),
-      accesses-grant config c (service_for c m sys.manager.trace)
-          (with_beat c m k sys.manager.trace) sys.manager.memory,
-    )
+    none true f = let fact = reaction-probing config c k n j m sys.manager comes last (same_block n) caps
+        (probed-some c k n true j m is (acquires-so asked.whole) (same_block n) ∙ ap not f) in cc (accesses-probes w n j
+        (probed config (service_for c m sys.manager.trace) j (with_beat c m k sys.manager.trace)))
+    none false f = let fact = performed-acquire config (service_for c m sys.manager.trace)
+        (with_beat c m k sys.manager.trace) sys.manager.memory (acquires-so asked.whole) in let other_fact =
+        accesses-grant config c (service_for c m sys.manager.trace)
+        (with_beat c m k sys.manager.trace) sys.manager.memory in
+        cc (reaction-performed c k n true m is comes last (acquires-so asked.whole) (same_block n) (rw caps f))
 
 pub beside-acquire_taken : {w : ℕ} {config : Config} {log : Log w} (h : AbstractState w) {sys : System w} {c n k : ℕ}
     (rest : List Packet) {machine : Machine w} → SimulationRelation config log h.mail h.request h.state sys
@@ -211,6 +192,5 @@ pub beside-acquire_taken : {w : ℕ} {config : Config} {log : Log w} (h : Abstra
     (reaction config (link_of c) (Beat.A (a_beat_of (acquire_wanted c n h.state asked) k)) sys.manager).handed) machine)
 unfolding performing
 beside-acquire_taken {w} {config} {log} h {sys} {c} {n} {k} rest {machine} is asked comes last beside =
-    rw (acquire-accesses h k is asked comes last)
-    (beside-acquire (length config.clients.items) config.profile c n ((h.state.block n).pair c).acquiring
-    (next_tracker sys) rest h beside)
+    rw (acquire-accesses h k is asked comes last) (beside-acquire (length config.clients.items) config.profile c n
+    ((h.state.block n).pair c).acquiring (next_tracker sys) rest h beside)

@@ -1,15 +1,15 @@
 -- The one memory stays beside the protocol where a client takes a response.
 use Rattle.std.proofs.Common.{◌≡◌, subst, ℕ, Bool, true, false, ◌&&◌, List, Option, Some, None, refl, sym, ◌∙◌, ap, ◌⊎◌}
-use Rattle.std.proofs.Common.{inl, inr, ne_eqb, ◌==◌}
+use Rattle.std.proofs.Common.{arith, inl, inr, ne_eqb, ◌==◌}
 use Rattle.tl_coherence.proofs
 use proofs.Imports.{and-false, cases_eq, Message, Cap, IsBlock, Op, acquires_of, IsInvariant, Packet, set, AcquireOpen}
 use proofs.Imports.{AcquirePhase, NoAcquire, is_unreleased, is_whole, after_release_ack, after_grant, Block, State}
 use proofs.Imports.{SourceState, Replied, Acquires, taken_block, granted_truth, let_go_block, answer_taken, grant_taken}
 use proofs.Imports.{release_ack_taken, is_wanting, MemoryRelation, op_of, IsOpened, IsLet, AccessMessages, Machine}
 use proofs.Imports.{Open, Requests, Releases, with_open, with_memory, memory_after, after_end}
-use Rattle.tl_manager.proofs.blocks.Blocks.{block-put}
-use proofs.memory.Beside.{open-here, open-there, open-releases, open-requests, beside-used, beside-let, same_acquire}
+use Rattle.tl_manager.{proofs.blocks.Blocks.block-put}
 use proofs.memory.{BesideAsked.acquires-else, OneMemory.block-besides, BesideKinds.same_acquiring}
+use proofs.memory.Beside.{open-here, open-there, open-releases, open-requests, beside-used, beside-let, same_acquire}
 use proofs.protocol.BothParts.{is_of-is, acquires_of-is}
 use proofs.queues.Tokens.{same_number, set-same, set-other, set-part}
 
@@ -26,15 +26,13 @@ beside-answer {w} c source rest {mail} {s} {m} used h =
     go : (o : Option (Open w)) → m.opened c Requests source ≡ o
         → IsOpened c source mail s Replied (m.opened c Requests source)
         → MemoryRelation mail (answer_taken c source rest s) (after_end c Requests source o m)
-    go None e i = absurd (let no : Some (record { asked = Op.Access (Message.A i.1.0); answer = Some i.0 }) ≡ None =
-        sym i.1.2 ∙ e in cc)
+    go None e i = absurd (cc i.1.2)
     go (Some o) e i =
         let some_is : (x y : Open w) → Some x ≡ Some y → x ≡ y = λ x y e. cc in
         let asked = some_is o (record { asked = Op.Access (Message.A i.1.0); answer = Some i.0 }) (sym e ∙ i.1.2) in
         subst (λ (y : Open w). MemoryRelation mail (answer_taken c source rest s)
         (after_end c Requests source (Some y) m)) (sym asked)
-        (beside-used
-        (record {
+        (beside-used (record {
           memory = h.memory;
           uses = λ d j. refl;
           lets = λ d j. refl;
@@ -50,11 +48,9 @@ beside-answer {w} c source rest {mail} {s} {m} used h =
 only_source : {caching : ℕ → Bool} {s : State (List ℕ)} (c n i : ℕ) → IsInvariant caching s
     → (i ≡ (s.block n).source c → ⊥) → s.uses c i ≡ Acquires n → ⊥
 only_source {s} c n i inv ne e =
-    let yes : acquires_of n (s.uses c i) ≡ true = ap (acquires_of n) e ∙ same_number n in
-    let named = inv.named.acquires c i n in
     let no : (is_wanting ((s.block n).pair c).acquiring && (i == (s.block n).source c)) ≡ false =
     cc (ne_eqb i ((s.block n).source c) ne, and-false (is_wanting ((s.block n).pair c).acquiring)) in
-    let differ : true ≡ false = sym yes ∙ named ∙ no in cc
+    let differ : true ≡ false = sym (ap (acquires_of n) e ∙ same_number n) ∙ (inv.named.acquires c i n) ∙ no in cc
 
 pub beside-grant : {w : ℕ} {caching : ℕ → Bool} (c n : ℕ) (d : Bool) (k : Cap) (rest : List Packet)
     {mail : AccessMessages w} {s : State (List ℕ)} {m : Machine w}
@@ -104,9 +100,7 @@ beside-grant {w} {caching} c n d k rest {mail} {s} {m} inv wants h =
 
     here : (x : AcquirePhase) (waits : List ℕ) → is_wanting x ≡ true
         → IsBlock (memory_after (op_of {w = w} x n waits) m.memory) n (granted_truth (is_whole x) waits b.truth)
-    here NoAcquire waits e = absurd cc
-    here (AcquireOpen true g) waits e = block-put m.memory n waits
-    here (AcquireOpen false g) waits e = h.memory n
+    here x waits e = grind (arith, block-put)
 
     there : (x : AcquirePhase) (waits : List ℕ) (i : ℕ) → is_wanting x ≡ true → (i ≡ n → ⊥)
         → IsBlock (memory_after (op_of {w = w} x n waits) m.memory) i (s.block i).truth
@@ -115,9 +109,7 @@ beside-grant {w} {caching} c n d k rest {mail} {s} {m} inv wants h =
     there (AcquireOpen false g) waits i e ne = h.memory i
 
     block_now : (i : ℕ) → (i ≡ n) ⊎ (i ≡ n → ⊥) → IsBlock (memory_after asked m.memory) i (set n new s.block i).truth
-    block_now i (inl same) = subst (λ (j : ℕ). IsBlock (memory_after asked m.memory) j (set n new s.block j).truth)
-        (sym same) (subst (λ (y : Block (List ℕ)). IsBlock (memory_after asked m.memory) n y.truth)
-        (sym (set-same n new s.block)) (here (b.pair c).acquiring (b.waiting c) wants))
+    block_now i (inl same) = rw same (rw (set-same n new s.block) (here (b.pair c).acquiring (b.waiting c) wants))
     block_now i (inr other) = subst (λ (y : Block (List ℕ)). IsBlock (memory_after asked m.memory) i y.truth)
         (sym (set-other n i new s.block other)) (there (b.pair c).acquiring (b.waiting c) i wants other)
 
@@ -136,21 +128,17 @@ beside-release_ack {w} c n rest {mail} {s} {m} inv acked h =
       here = open-here c Releases source None m;
       there = λ e i else_. open-there c Releases source None m e i else_;
       requests = λ e i. open-requests c source None m e i;
-      acquires = λ e i. (
-        set-part (λ (y : Block (List ℕ)). (y.pair e).acquiring) n new s.block
-            (same_acquiring c (after_release_ack ((s.block n).pair c)) (s.block n).pair refl e) i,
-        set-part (λ (y : Block (List ℕ)). y.waiting e) n new s.block refl i,
-      );
+      acquires = λ e i. let fact = set-part (λ (y : Block (List ℕ)). (y.pair e).acquiring) n new s.block
+          (same_acquiring c (after_release_ack ((s.block n).pair c)) (s.block n).pair refl e) i in
+          (fact, set-part (λ (y : Block (List ℕ)). y.waiting e) n new s.block refl i);
     }) h)
   where
     source : ℕ
     source = (s.block n).release_source c
 
-    let_is : s.lets c source ≡ Some n
-    let_is = is_of-is n (s.lets c source) (inv.named.releases c source n ∙ rw (acked, same_number source) refl)
-
     released : IsLet (Some n) (m.opened c Releases source)
     released =
         let go : (l : Option ℕ) → l ≡ Some n → IsLet l (m.opened c Releases source)
         → IsLet (Some n) (m.opened c Releases source) = λ l e i. rw e at i in
-        go (s.lets c source) let_is (h.releases c source)
+        go (s.lets c source) (is_of-is n (s.lets c source)
+        (inv.named.releases c source n ∙ rw (acked, same_number source) refl)) (h.releases c source)

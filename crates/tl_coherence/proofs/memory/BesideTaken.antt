@@ -1,31 +1,26 @@
 -- The one-memory machine beside the protocol, after a message that is taken: which accesses are
 -- performed, and which operation ends.
 use Rattle.std.proofs.Common.{◌≡◌, subst, ℕ, ◌^◌, ◌≤◌, Bool, true, false, not, ◌&&◌, List, [], ◌∷◌, Some, None, length}
-use Rattle.std.proofs.Common.{refl, sym, ◌∙◌, ap, ◌⊎◌, inl, inr, if◌then◌else◌}
+use Rattle.std.proofs.Common.{arith, refl, sym, ◌∙◌, ap, ◌⊎◌, inl, inr, if◌then◌else◌}
 use Rattle.tl_coherence.proofs
 use proofs.Imports.{cases_eq, cases_lt, not-true, OpA, IsWidth, Message, MessageA, Config, Cap, Report, Perm}
-use proofs.Imports.{report_left, same_perm, Memory, IsBlock, effect, answer_of, block_at, is_acquire, Op, sourced}
-use proofs.Imports.{length-bytes, access_answer, cap_probed, level_of, IsWell, set_at, ClientBlock, View, ProbePhase}
-use proofs.Imports.{NoProbe, ProbeAnswered, ok, same_cap, is_unprobed, is_above, Block, State, SourceState, Replied}
-use proofs.Imports.{Acquires, is_probed, Waits, view, written, is_sent, some_below, bytes_at, performs, answers}
-use proofs.Imports.{IsAccess, MemoryRelation, IsReach, Answers, AccessMessages, report_told, IsRequest, Machine, Open}
-use proofs.Imports.{Requests, with_memory, performing}
+use proofs.Imports.{report_left, same_perm, Memory, IsBlock, effect, block_at, is_acquire, Op, sourced, length-bytes}
+use proofs.Imports.{cap_probed, level_of, IsWell, set_at, ClientBlock, View, ProbePhase, ProbeAnswered, ok, same_cap}
+use proofs.Imports.{is_unprobed, is_above, Block, State, SourceState, Replied, Acquires, is_probed, Waits, view}
+use proofs.Imports.{written, is_sent, some_below, bytes_at, performs, answers, IsAccess, MemoryRelation, IsReach}
+use proofs.Imports.{Answers, AccessMessages, report_told, IsRequest, Machine, Open, Requests, with_memory, performing}
 use Rattle.tl_rules.specs.statement.Effect as memory
 use proofs.memory.Beside.{IsSameAcquire, set_at-there, open-here, open-there, open-releases, performing-one}
 use proofs.memory.Beside.{beside-used}
-use proofs.queues.{Facts.is_other, Perms.nothing-above, Perms.not_out, Tokens.set_at-same, Phases.each_phase}
-use proofs.queues.{Phases.of_phase, Phases.implies, Phases.implies_is}
-use proofs.protocol.RequestsKept.{some-none}
 use proofs.memory.OneMemory.{blocks-performed, reply-performed, effect-sourced}
+use proofs.queues.{Facts.is_other, Perms.nothing-above, Perms.not_out, Tokens.set_at-same}
+use proofs.queues.Phases.{each_phase, of_phase, implies, implies_is}
+use proofs.protocol.{RequestsKept.some-none}
 
 -- ---- the manager's memory is the one memory, where nobody has what he was given to write
 
 never_above : (k : Cap) (p : Perm) → same_cap k Cap.ToT ≡ false → is_above k p ≡ false → same_perm p Perm.Trunk ≡ false
-never_above Cap.ToT p e f = absurd cc
-never_above k Perm.None e f = refl
-never_above k Perm.Branch e f = refl
-never_above Cap.ToB Perm.Trunk e f = absurd cc
-never_above Cap.ToN Perm.Trunk e f = absurd cc
+never_above k p e f = grind arith
 
 -- nobody is probed
 pub memory-unprobed : (clients : ℕ) {caching : ℕ → Bool} (c : ℕ) (k : Cap) {b : Block (List ℕ)}
@@ -50,9 +45,8 @@ low_recorded : (p : ClientBlock) (v : View) → ok p v ≡ true
     → (is_other v && (not (same_perm (report_left (report_told p.probing)) Perm.Trunk) && not (is_sent p.probing)))
     ≡ true → not (same_perm p.recorded Perm.Trunk) ≡ true
 unfolding low_test
-low_recorded p v h e = implies_is
-    (is_other v && (not (same_perm (report_left (report_told p.probing)) Perm.Trunk) && not (is_sent p.probing)))
-    (not (same_perm p.recorded Perm.Trunk)) (of_phase low_test low_all p v h) e
+low_recorded p v h e = implies_is (is_other v && (not (same_perm (report_left (report_told p.probing)) Perm.Trunk)
+    && not (is_sent p.probing))) (not (same_perm p.recorded Perm.Trunk)) (of_phase low_test low_all p v h) e
 
 -- the last report has been told
 pub memory-reported : {caching : ℕ → Bool} (c q source : ℕ) (r : Report) (k : Cap) {b : Block (List ℕ)}
@@ -68,13 +62,7 @@ memory-reported c q source r k {b} well waits answered settled =
 
     quiet_low : (x : ProbePhase) → is_unprobed x ≡ true
         → (not (same_perm (report_left (report_told x)) Perm.Trunk) && not (is_sent x)) ≡ true
-    quiet_low NoProbe e = refl
-    quiet_low x e = absurd cc
-
-    told_low : same_perm (report_left r) Perm.Trunk ≡ false
-        → (not (same_perm (report_left (report_told (b.pair c).probing)) Perm.Trunk) && not
-        (is_sent (b.pair c).probing)) ≡ true
-    told_low e = rw (answered, e) refl
+    quiet_low x e = grind arith
 
     low : (d : ℕ) → same_perm (report_left r) Perm.Trunk ≡ false → same_perm (b.pair d).recorded Perm.Trunk ≡ false
     low d e = not-true (same_perm (b.pair d).recorded Perm.Trunk)
@@ -83,9 +71,7 @@ memory-reported c q source r k {b} well waits answered settled =
         both : (d : ℕ) → (d ≡ c) ⊎ (d ≡ c → ⊥)
             → (is_other (view b.service d) && (not (same_perm (report_left (report_told (b.pair d).probing)) Perm.Trunk)
             && not (is_sent (b.pair d).probing))) ≡ true
-        both d (inl same) = rw (seen d)
-            (ap (λ (j : ℕ). not (same_perm (report_left (report_told (b.pair j).probing)) Perm.Trunk) && not
-            (is_sent (b.pair j).probing)) same ∙ told_low e)
+        both d (inl same) = rw (seen d) (cc)
         both d (inr other) = rw (seen d) (quiet_low (b.pair d).probing (settled d other))
 
 -- ---- an access is performed
@@ -139,18 +125,13 @@ beside-performed {w} {config} {c} {source} {a} bytes {mail} {s} s' {m} is same_r
     λ d. elim [ Acquires k ↦ acquires d k | u ↦ tt ] in
     let mail' : AccessMessages w =
     record { request = mail.request; answer = set_at c source (answers a bytes) mail.answer } in
-    let now : Open w = record {
-      asked = Op.Access (Message.A is.opened.0);
-      answer = Some (effect (Message.A is.opened.0) m.memory).1;
-    } in
-    let reply_is : (effect (Message.A is.opened.0) m.memory).1 ≡ (effect (Message.A a) (bytes_at n bytes)).1 =
-    cc (
+    let now : Open w =
+    record { asked = Op.Access (Message.A is.opened.0); answer = Some (effect (Message.A is.opened.0) m.memory).1 } in
+    let reply_is : (effect (Message.A is.opened.0) m.memory).1 ≡ (effect (Message.A a) (bytes_at n bytes)).1 = cc (
       effect_is,
       reply-performed (level_of config c) a m.memory (s.block n).truth is.width is.sent.1 (h.memory n) is.long,
       same_reply m.memory (h.memory n),
     ) in
-    let reaches : IsReach a (effect (Message.A is.opened.0) m.memory).1 =
-    subst (λ (y : Memory × memory.AccessResult). IsReach a y.1) (sym effect_is) (reply_reach a m.memory) in
     subst (λ (z : Machine w). MemoryRelation mail' s' z)
     (sym (performing-one c source (Message.A is.opened.0) m is.opened.2))
     (beside-used (record {
@@ -159,17 +140,13 @@ beside-performed {w} {config} {c} {source} {a} bytes {mail} {s} s' {m} is same_r
       lets = lets;
       here = (
         (effect (Message.A is.opened.0) m.memory).1,
-        (
-          is.opened.0,
-          is.opened.1,
-          open-here c Requests source (Some now) (with_memory (effect (Message.A is.opened.0) m.memory).0 m),
-        ),
+        let fact = open-here c Requests source (Some now) (with_memory (effect (Message.A is.opened.0) m.memory).0 m) in
+            (is.opened.0, is.opened.1, fact),
         subst (λ (x : Message w). Answers x (effect (Message.A is.opened.0) m.memory).1
             (set_at c source (answers a bytes) mail.answer c source))
             (sym is.request) (
-              set_at-same c source (answers a bytes) mail.answer
-                  ∙ ap (λ r. access_answer a (answer_of (Message.A a) r)) (sym reply_is),
-              reaches,
+              cc (set_at-same c source (answers a bytes) mail.answer),
+              subst (λ (y : Memory × memory.AccessResult). IsReach a y.1) (sym effect_is) (reply_reach a m.memory),
             ),
       );
       there = λ d i else_. open-there c Requests source (Some now)
@@ -184,11 +161,9 @@ beside-performed {w} {config} {c} {source} {a} bytes {mail} {s} s' {m} is same_r
     n : ℕ
     n = block_at a.address
 
-    as_asked : a ≡ sourced source is.opened.0
-    as_asked = same_message a (sourced source is.opened.0) (sym is.request ∙ is.opened.1)
-
     effect_is : effect (Message.A is.opened.0) m.memory ≡ effect (Message.A a) m.memory
-    effect_is = effect_asked source a is.opened.0 m.memory as_asked
+    effect_is = effect_asked source a is.opened.0 m.memory
+        (same_message a (sourced source is.opened.0) (sym is.request ∙ is.opened.1))
 
     blocks : IsBlock (effect (Message.A a) m.memory).0 n (performs a (s.block n).truth)
         × ((i : ℕ) → (i ≡ n → ⊥) → IsBlock (effect (Message.A a) m.memory).0 i (s.block i).truth)
@@ -197,18 +172,12 @@ beside-performed {w} {config} {c} {source} {a} bytes {mail} {s} s' {m} is same_r
 
     block_now : (i : ℕ) → (i ≡ n) ⊎ (i ≡ n → ⊥) → IsBlock (effect (Message.A is.opened.0) m.memory).0 i
         (s'.block i).truth
-    block_now i (inl same) = subst (λ (j : ℕ). IsBlock (effect (Message.A is.opened.0) m.memory).0 j (s'.block j).truth)
-        (sym same) (subst (λ (y : Memory × memory.AccessResult). IsBlock y.0 n (s'.block n).truth) (sym effect_is)
-        (subst (λ (z : List ℕ). IsBlock (effect (Message.A a) m.memory).0 n z) (sym changed) blocks.0))
-    block_now i (inr other) = subst (λ (y : Memory × memory.AccessResult). IsBlock y.0 i (s'.block i).truth)
-        (sym effect_is) (subst (λ (z : List ℕ). IsBlock (effect (Message.A a) m.memory).0 i z) (sym (others i other))
-        (blocks.1 i other))
+    block_now i (inl same) = rw same (subst (λ (y : Memory × memory.AccessResult). IsBlock y.0 n (s'.block n).truth)
+        (sym effect_is) (subst (λ (z : List ℕ). IsBlock (effect (Message.A a) m.memory).0 n z) (sym changed) blocks.0))
+    block_now i (inr other) = rw effect_is (rw (others i other) (blocks.1 i other))
 
 -- what an Intent is answered doesn't depend on the bytes
 pub intent-reply : {w : ℕ} (x : MessageA w) (f g : Memory) → cap_probed x.opcode x.param ≡ None
     → (effect (Message.A x) f).1 ≡ (effect (Message.A x) g).1
 unfolding effect
-intent-reply {w} x f g e =
-    let go : (o : OpA) → x.opcode ≡ o → cap_probed o x.param ≡ None → memory.access_result x.opcode x f
-    ≡ memory.access_result x.opcode x g = elim [ OpA.Intent ↦ λ e h. rw e refl | o ↦ λ e h. absurd cc ] in
-    go x.opcode refl e
+intent-reply {w} x f g e = grind arith

@@ -1,15 +1,15 @@
 -- The one memory has bytes, and so have the operations that are open and their answers.
 use Rattle.std.proofs.Common.{◌≡◌, ℕ, zero, suc, ◌+◌, ◌-◌, ◌/◌, ◌%◌, ◌^◌, ◌<◌, Bool, true, false, List, [], ◌∷◌, Option}
-use Rattle.std.proofs.Common.{Some, None, length, refl, inl, inr, lit<, ◌&&◌, ◌==◌, if◌then◌else◌, slice_get}
+use Rattle.std.proofs.Common.{arith, Some, None, length, inl, inr, lit<, ◌&&◌, ◌==◌, if◌then◌else◌, slice_get}
 use Rattle.std.proofs.Common.{slice_index, unwrap_or}
+use Rattle.std.{proofs.lemmas.List.get_or_past, proofs.lemmas.List.Elements.All-get_or}
+use Rattle.std.{proofs.lemmas.Option.get_or_from_slice_get}
 use Rattle.tl_coherence.proofs
 use proofs.Imports.{cases_lt, All-nil, All-cons, mod_below, OpA, a_carries_data, Message, MessageA, reaches, Config}
 use proofs.Imports.{Memory, effect, bytes_from, byte_of, block_at, Op, Reply, Event, Ask, Deliver, Outcome, Log}
 use proofs.Imports.{system_after, Machine, Open, Pool, Requests, after_end, after_reply, memory_after, same_pool}
-use proofs.Imports.{with_memory, with_open, first, moved, performed_op, performed_open, pool_of, pool_of_op}
-use proofs.Imports.{accesses_answered, performing, one_memory_after, AreBytes, stepped}
-use Rattle.std.{proofs.lemmas.List.get_or_past, proofs.lemmas.List.Elements.All-get_or}
-use Rattle.std.{proofs.lemmas.Option.get_or_from_slice_get}
+use proofs.Imports.{with_memory, with_open, moved, performed_op, performed_open, pool_of, pool_of_op, accesses_answered}
+use proofs.Imports.{performing, one_memory_after, AreBytes, stepped}
 use Rattle.tl_burst.specs.statement.Burst.{bit, byte_if, place_of}
 use Rattle.tl_coherence.specs.statement.Ranged.{AreRanged, IsRanged, IsRangedOp}
 use Rattle.tl_rules.specs.statement.Effect as memory
@@ -27,8 +27,7 @@ byte-at bytes i are = elim (cases_lt i (length bytes)) [
 ]
 
 either : (b : Bool) (x y : ℕ) → x < 2 ^ 8 → y < 2 ^ 8 → (if b then x else y) < 2 ^ 8
-either true x y h k = h
-either false x y h k = k
+either b x y e f = grind arith
 
 of-number : (n i : ℕ) → byte_of n i < 2 ^ 8
 of-number n i = mod_below (n / 256 ^ i) (2 ^ 8) (lit< tt)
@@ -48,11 +47,7 @@ got-byte (Some x) bytes i old e are small = rw (get_or_from_slice_get bytes i x 
 
 put-byte : (counts : ℕ → Bool) (payload : List ℕ) (p : Option ℕ) (old : ℕ) → AreBytes payload → old < 2 ^ 8
     → unwrap_or (byte_if counts payload p) old < 2 ^ 8
-put-byte counts payload None old are small = small
-put-byte counts payload (Some p) old are small =
-    let go : (b : Bool) → unwrap_or (if b then slice_get payload p else None) old < 2 ^ 8 =
-    elim [ true ↦ got-byte (slice_get payload p) payload p old refl are small | false ↦ small ] in
-    go (counts p)
+put-byte counts payload p old e f = grind (arith, got-byte)
 
 -- what is answered are bytes
 abbrev pub IsRangedReply : memory.AccessResult → Type 0
@@ -63,12 +58,7 @@ module _ {w : ℕ} (m : MessageA w) (f : Memory) (payload : AreBytes m.payload) 
   stored-byte : (address : ℕ)
       → unwrap_or (if a_carries_data m.opcode then byte_if (λ p. bit m.mask p) m.payload (place_of w m.address address)
       else None) (f address) < 2 ^ 8
-  stored-byte address = go (a_carries_data m.opcode)
-    where
-      go : (b : Bool) → unwrap_or (if b then byte_if (λ p. bit m.mask p) m.payload (place_of w m.address address) else
-          None) (f address) < 2 ^ 8
-      go true = put-byte (λ p. bit m.mask p) m.payload (place_of w m.address address) (f address) payload (are address)
-      go false = are address
+  stored-byte address = grind (arith, put-byte)
 
   made-byte : (n address : ℕ) → memory.with_number m n f address < 2 ^ 8
   made-byte n address = either (reaches m.address m.size address) (byte_of n (address - m.address)) (f address)
@@ -107,9 +97,6 @@ pub record IsRangedMachine {w : ℕ} (m : Machine w) : Type 0 where
   pub memory : HasBytes m.memory
   pub opened : (c : ℕ) (pool : Pool) (source : ℕ) → IsRangedOpen (m.opened c pool source)
 
-first-ranged : {w : ℕ} → IsRangedMachine (first {w = w})
-first-ranged = record { memory = λ address. lit< tt; opened = λ c pool source. tt }
-
 opened-ranged : {w : ℕ} (client : ℕ) (at : Pool) (n : ℕ) (o : Option (Open w)) (f : Memory) {m : Machine w} → HasBytes f
     → IsRangedOpen o → IsRangedMachine m → IsRangedMachine (with_open client at n o (with_memory f m))
 opened-ranged {w} client at n o f {m} bytes is was =
@@ -123,8 +110,7 @@ opened-ranged {w} client at n o f {m} bytes is was =
 started-ranged : {w : ℕ} (client : ℕ) (o : Op w) (n : ℕ) {m : Machine w} → IsRangedOp o → IsRangedMachine m
     → IsRangedMachine (with_open client (pool_of_op o) n (Some (record { asked = o; answer = None })) m)
 started-ranged client o n {m} is was =
-    opened-ranged client (pool_of_op o) n (Some (record { asked = o; answer = None }))
-    m.memory was.memory (is, tt) was
+    opened-ranged client (pool_of_op o) n (Some (record { asked = o; answer = None })) m.memory was.memory (is, tt) was
 
 reply-ranged : {w : ℕ} (client : ℕ) (o : Op w) (r : Reply) {m : Machine w} → IsRangedOp o → IsRangedMachine m
     → IsRangedMachine (after_reply client o r m)
@@ -137,19 +123,17 @@ reply-ranged client (Op.AcquireWhole k bytes) (Reply.Started n) {m} is was =
     started-ranged client (Op.AcquireWhole k bytes) n is was
 reply-ranged client (Op.Release k p) (Reply.Started n) {m} is was = started-ranged client (Op.Release k p) n is was
 reply-ranged client (Op.Access x) (Reply.Started n) {m} is was = started-ranged client (Op.Access x) n is was
-reply-ranged client (Op.Store address size value) Reply.Stored {m} is was =
-    record {
-      memory = λ i. either (reaches address size i) (byte_of value (i - address)) (m.memory i)
-          (of-number value (i - address)) (was.memory i);
-      opened = was.opened;
-    }
+reply-ranged client (Op.Store address size value) Reply.Stored {m} is was = record {
+  memory = λ i. either (reaches address size i) (byte_of value (i - address)) (m.memory i)
+      (of-number value (i - address)) (was.memory i);
+  opened = was.opened;
+}
 reply-ranged client o r is was = was
 
 -- a whole block is stored as it is granted
 stored-ranged : {w : ℕ} (o : Op w) {f : Memory} → IsRangedOp o → HasBytes f → HasBytes (memory_after o f)
-stored-ranged (Op.AcquireWhole k bytes) {f} is are =
-    λ address. either (block_at address == k) (slice_index bytes (address % 64)) (f address)
-    (byte-at bytes (address % 64) is) (are address)
+stored-ranged (Op.AcquireWhole k bytes) {f} is are = λ address. either (block_at address == k)
+    (slice_index bytes (address % 64)) (f address) (byte-at bytes (address % 64) is) (are address)
 stored-ranged o is are = are
 
 end-ranged : {w : ℕ} (client : ℕ) (at : Pool) (n : ℕ) (o : Option (Open w)) {m : Machine w} → IsRangedOpen o
@@ -188,7 +172,7 @@ performing-ranged (x ∷ accesses) {m} was = performing-ranged accesses
 pub remembered-ranged : {w : ℕ} (config : Config) (log : Log w) → AreRanged log
     → IsRangedMachine (one_memory_after config log)
 unfolding one_memory_after AreRanged
-remembered-ranged config [] ranged = first-ranged
+remembered-ranged config [] ranged = record { memory = λ address. lit< tt; opened = λ c pool source. tt }
 remembered-ranged config (x ∷ log) ranged =
     performing-ranged (accesses_answered (stepped config x.0 (system_after config log)).handed)
     (moved-ranged x.0 x.1 ranged.0 (remembered-ranged config log ranged.1))

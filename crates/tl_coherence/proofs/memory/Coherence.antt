@@ -1,13 +1,12 @@
 -- Copies are coherent with the one memory, and the open operations are those that were started.
-use Rattle.std.proofs.Common.{◌≡◌, ℕ, Bool, true, false, ◌&&◌, List, [], ◌∷◌, Option, Some, None, refl, sym, ◌∙◌, ap}
-use Rattle.std.proofs.Common.{subst, eqb-true, ◌==◌, if◌then◌else◌, option_map, unwrap_or, is_some}
+use Rattle.std.proofs.Common.{◌≡◌, ℕ, true, ◌&&◌, List, [], ◌∷◌, Option, Some, None, refl, sym, ◌∙◌, ap, arith, subst}
+use Rattle.std.proofs.Common.{◌==◌, if◌then◌else◌, option_map, unwrap_or}
 use Rattle.tl_coherence.proofs
-use proofs.Imports.{MessageA, Config, IsBlock, swapped, Op, Reply, holds, Event, Ask, Deliver, Outcome, State, view}
-use proofs.Imports.{AccessMessages, SimulationRelation, started, IsCoherent, Log, system_after, Machine, Open, Pool}
-use proofs.Imports.{Requests, Releases, same_pool, with_open, with_memory, memory_after, after_reply, after_end}
-use proofs.Imports.{pool_of, moved, performed_op, performed_open, one_memory_after, performing, accesses_answered}
-use proofs.Imports.{stepped}
-use Rattle.tl_coherence.specs.{statement.Coherent.started_at, statement.Machine.performed}
+use proofs.Imports.{MessageA, Config, IsBlock, Op, Reply, Event, Ask, Outcome, State, view, AccessMessages}
+use proofs.Imports.{SimulationRelation, started, IsCoherent, Log, system_after, Machine, Open, Pool, Requests, Releases}
+use proofs.Imports.{same_pool, with_open, with_memory, after_reply, after_end, moved, performed_op, performed_open}
+use proofs.Imports.{one_memory_after, performing, accesses_answered, stepped}
+use Rattle.tl_coherence.{specs.statement.Coherent.started_at, specs.statement.Machine.performed}
 use Rattle.tl_rules.specs.statement.Effect as memory
 use proofs.queues.{Facts.held_at_most, Perms.held-some, Perms.none_below, Perms.trunk_below}
 
@@ -16,40 +15,22 @@ use proofs.queues.{Facts.held_at_most, Perms.held-some, Perms.none_below, Perms.
 abbrev asked_at : {w : ℕ} → ℕ → Pool → ℕ → Machine w → Option (Op w)
 asked_at c pool source m = option_map (λ o. o.asked) (m.opened c pool source)
 
-pool_swap : (p q : Pool) → same_pool p q ≡ same_pool q p
-pool_swap Requests Requests = refl
-pool_swap Requests Releases = refl
-pool_swap Releases Requests = refl
-pool_swap Releases Releases = refl
-
 same_pool_is : (p q : Pool) → same_pool p q ≡ true → p ≡ q
-same_pool_is Requests Releases e = absurd cc
-same_pool_is Releases Requests e = absurd cc
-same_pool_is p q e = refl
+same_pool_is p q e = grind arith
 
 -- with another operation at one place
 opened_with : {w : ℕ} (client : ℕ) (at : Pool) (n : ℕ) (o : Option (Open w)) (m : Machine w) (c : ℕ) (pool : Pool)
     (source : ℕ)
     → asked_at c pool source (with_open client at n o m) ≡ (if (client == c) && (same_pool at pool && (n == source))
     then option_map (λ i. i.asked) o else asked_at c pool source m)
-opened_with {w} client at n o m c pool source =
-    let go : (b : Bool) → option_map (λ i. i.asked) (if b then o else m.opened c pool source)
-    ≡ (if b then option_map (λ i. i.asked) o else asked_at c pool source m) = elim [ true ↦ refl | false ↦ refl ] in
-    rw (swapped client c, pool_swap at pool, swapped n source)
-    (go ((c == client) && (same_pool pool at && (source == n))))
+opened_with {w} client at n o m c pool source = grind arith
 
 -- where that is what was there, nothing changes
 same_there : {w : ℕ} (client : ℕ) (at : Pool) (n : ℕ) (x : Option (Op w)) (m : Machine w) (c : ℕ) (pool : Pool)
     (source : ℕ) → asked_at client at n m ≡ x
     → asked_at c pool source m ≡ (if (client == c) && (same_pool at pool && (n == source)) then x else asked_at c pool
     source m)
-same_there {w} client at n x m c pool source e = go (client == c) (same_pool at pool) (n == source) refl refl refl
-  where
-    go : (a b d : Bool) → (client == c) ≡ a → same_pool at pool ≡ b → (n == source) ≡ d
-        → asked_at c pool source m ≡ (if a && (b && d) then x else asked_at c pool source m)
-    go true true true f g h = let one = eqb-true client c f in let two = same_pool_is at pool g in let three =
-        eqb-true n source h in rw (← one, ← two, ← three) e
-    go a b d f g h = refl
+same_there {w} client at n x m c pool source e = grind (arith, same_pool_is)
 
 reply_opened : {w : ℕ} (client : ℕ) (o : Op w) (r : Reply) (m : Machine w) (c : ℕ) (pool : Pool) (source : ℕ)
     → asked_at c pool source (after_reply client o r m) ≡ started_at (Ask client o) (Outcome.Replied r) c pool source
@@ -71,17 +52,11 @@ reply_opened client o r m c pool source = refl
 end_opened : {w : ℕ} (client : ℕ) (at : Pool) (n : ℕ) (o : Option (Open w)) (m : Machine w) (c : ℕ) (pool : Pool)
     (source : ℕ) → m.opened client at n ≡ o → asked_at c pool source (after_end client at n o m)
     ≡ (if (client == c) && (same_pool at pool && (n == source)) then None else asked_at c pool source m)
-end_opened client at n None m c pool source e =
-    same_there client at n None m c pool source (ap (option_map (λ o. o.asked)) e)
-end_opened client at n (Some o) m c pool source e =
-    opened_with client at n None (with_memory (memory_after o.asked m.memory) m) c pool source
+end_opened client at n o m c pool source e = grind (arith, same_there, opened_with)
 
 moved_opened : {w : ℕ} (e : Event w) (o : Outcome w) (m : Machine w) (c : ℕ) (pool : Pool) (source : ℕ)
     → asked_at c pool source (moved e o m) ≡ started_at e o c pool source (asked_at c pool source m)
-moved_opened (Ask client i) (Outcome.Replied r) m c pool source = reply_opened client i r m c pool source
-moved_opened (Deliver link ch) (Outcome.Done x n f) m c pool source =
-    end_opened link.0 (pool_of f) n (m.opened link.0 (pool_of f) n) m c pool source refl
-moved_opened e o m c pool source = refl
+moved_opened e o m c pool source = grind (arith, reply_opened, end_opened)
 
 -- ---- performing asks for nothing else
 
@@ -92,8 +67,7 @@ op_opened {w} client n o m c pool source e = go o.asked o.answer (ap (option_map
   where
     go : (x : Op w) (r : Option memory.AccessResult) → asked_at client Requests n m ≡ Some x
         → asked_at c pool source (unwrap_or (performed_op client n x r m) m) ≡ asked_at c pool source m
-    go (Op.Access a) None f =
-        opened_with client Requests n
+    go (Op.Access a) None f = opened_with client Requests n
         (Some (record { asked = Op.Access a; answer = Some (memory.effect a m.memory).1 }))
         (with_memory (memory.effect a m.memory).0 m) c pool source
         ∙ sym (same_there client Requests n (Some (Op.Access a)) m c pool source f)
@@ -101,11 +75,7 @@ op_opened {w} client n o m c pool source e = go o.asked o.answer (ap (option_map
 
 one_opened : {w : ℕ} (client n : ℕ) (m : Machine w) (c : ℕ) (pool : Pool) (source : ℕ)
     → asked_at c pool source (unwrap_or (performed client n m) m) ≡ asked_at c pool source m
-one_opened {w} client n m c pool source =
-    let go : (o : Option (Open w)) → m.opened client Requests n ≡ o
-    → asked_at c pool source (unwrap_or (performed_open client n o m) m) ≡ asked_at c pool source m =
-    elim [ None ↦ λ e. refl | Some o ↦ λ e. op_opened client n o m c pool source e ] in
-    go (m.opened client Requests n) refl
+one_opened {w} client n m c pool source = grind (arith, op_opened)
 
 performing_opened : {w : ℕ} (accesses : List (ℕ × ℕ)) (m : Machine w) (c : ℕ) (pool : Pool) (source : ℕ)
     → asked_at c pool source (performing accesses m) ≡ asked_at c pool source m
@@ -120,12 +90,9 @@ pub opened-started : {w : ℕ} (config : Config) (log : Log w) (c : ℕ) (pool :
 unfolding one_memory_after started
 opened-started config [] c pool source = refl
 opened-started {w} config (x ∷ log) c pool source =
-    cc (
-      performing_opened (accesses_answered (stepped config x.0 (system_after config log)).handed)
-          (moved x.0 x.1 (one_memory_after config log)) c pool source,
-      moved_opened x.0 x.1 (one_memory_after config log) c pool source,
-      opened-started config log c pool source,
-    )
+    let fact = performing_opened (accesses_answered (stepped config x.0 (system_after config log)).handed)
+    (moved x.0 x.1 (one_memory_after config log)) c pool source in
+    cc (moved_opened x.0 x.1 (one_memory_after config log) c pool source, opened-started config log c pool source)
 
 -- ---- coherent copies
 
@@ -136,15 +103,13 @@ coherent-matched {w} {config} {log} {s} h =
     let some_is : (x y : List ℕ) → Some x ≡ Some y → x ≡ y = λ x y e. cc in
     record {
       one_writer = λ c d n differ writes.
-          let top = trunk_below ((s.block n).pair c).held ((s.block n).pair c).recorded
-          (held_at_most ((s.block n).pair c) (view (s.block n).service c) ((h.invariant.blocks n).phases c))
-          (sym ((h.known c).held_is n) ∙ writes) in
-          let none = (h.invariant.blocks n).one_owner c d top (λ e. differ (sym e)) in
+          let none = (h.invariant.blocks n).one_owner c d (trunk_below ((s.block n).pair c).held
+          ((s.block n).pair c).recorded (held_at_most ((s.block n).pair c) (view (s.block n).service c)
+          ((h.invariant.blocks n).phases c)) (sym ((h.known c).held_is n) ∙ writes)) (λ e. differ (sym e)) in
           (h.known d).held_is n ∙ none_below ((s.block n).pair d).held ((s.block n).pair d).recorded
           (held_at_most ((s.block n).pair d) (view (s.block n).service d) ((h.invariant.blocks n).phases d)) none;
       copies = λ c n bytes copy.
-          let some = held-some ((s.block n).pair c).held
-          (sym (sym (ap is_some copy) ∙ (h.kept c).copies_held n ∙ ap holds ((h.known c).held_is n))) in
+          let some = held-some ((s.block n).pair c).held (sym (cc ((h.kept c).copies_held n, (h.known c).held_is n))) in
           let same : (s.block n).truth ≡ bytes = sym ((h.invariant.blocks n).copies c some)
           ∙ some_is ((s.block n).copy c) bytes (sym (h.copies c n some) ∙ copy) in
           subst (λ (b : List ℕ). IsBlock (one_memory_after config log).memory n b) same (h.beside.memory n);

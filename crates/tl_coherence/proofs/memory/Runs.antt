@@ -1,5 +1,5 @@
 -- Runs of the one-memory machine, and exact stalls.
-use Rattle.std.proofs.Common.{◌≡◌, List, [], ◌∷◌, refl, sym, ◌∙◌, ℕ, Bool, true, false, Option, Result, Ok, Err}
+use Rattle.std.proofs.Common.{◌≡◌, List, [], ◌∷◌, refl, sym, ◌∙◌, ℕ, Bool, true, false, Option, Result, Ok, Err, arith}
 use Rattle.tl_coherence.proofs
 use proofs.Imports.{⊤, Beat, Channel, Message, Config, Rule, Verdict, EndConfig, is_stalled, offered, is_stall}
 use proofs.Imports.{Continues, Log, stalls, one_memory_after, delivered, is_to_client, judged, manager_took, System}
@@ -44,16 +44,12 @@ IsTaken config terms link ch x s = (is_to_client ch ≡ true → IsTakenUp (offe
 stall-judged : {w : ℕ} (answer : Result (Verdict × Option (Message w)) Rule) (link : ℕ) (ch : Channel) (x : Beat w)
     (rest : List (Beat w)) (e : client.Endpoint w) (s : System w)
     → IsTakenUp answer → is_stall (judged answer link ch x rest e s).outcome ≡ is_stalled answer
-stall-judged (Err rule) link ch x rest e s taken = absurd taken
-stall-judged (Ok (Verdict.Stalled, m)) link ch x rest e s taken = refl
-stall-judged (Ok (Verdict.Taken, m)) link ch x rest e s taken = refl
-stall-judged (Ok (Verdict.Done source finish, m)) link ch x rest e s taken = refl
+stall-judged answer link ch x rest e s f = grind arith
 
 stall-managed : {w : ℕ} (answer : manager.Reception w × manager_end.End w) (link : ℕ) (ch : Channel) (x : Beat w)
     (rest : List (Beat w)) (s : System w)
     → IsTakenIn answer → is_stall (manager_took link ch x rest answer s).outcome ≡ kept.is_stalled answer.0
-stall-managed (manager.Refused rule, e) link ch x rest s taken = absurd taken
-stall-managed answer link ch x rest s taken = refl
+stall-managed answer link ch x rest s e = grind arith
 
 pub stall-delivered : {w : ℕ} (config : Config) (terms : EndConfig) (link : ℕ) (ch : Channel) (x : Beat w)
     (rest : List (Beat w)) (s : System w) → IsTaken config terms link ch x s

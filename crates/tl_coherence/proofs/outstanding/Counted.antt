@@ -1,6 +1,5 @@
 -- What is outstanding after a log is what is open: the starts of the log are its ends and what is open after it.
-use Rattle.std.proofs.Common.{◌≡◌, ℕ, ◌+◌, Bool, true, false, [], ◌∷◌, length, refl, arith, ◌*◌, ◌/◌, if◌then◌else◌}
-use Rattle.std.proofs.Common.{filter}
+use Rattle.std.proofs.Common.{◌≡◌, ℕ, ◌+◌, Bool, [], ◌∷◌, refl, arith, ◌*◌, ◌/◌}
 use Rattle.tl_coherence.proofs
 use proofs.Imports.{IsWidth, Config, one_if, open_requests, open_releases, total, Event, Outcome, State, AbstractState}
 use proofs.Imports.{abstract_step, first_state, SimulationRelation, starts_request, starts_release, outstanding}
@@ -17,17 +16,13 @@ pub record AreCounted {w : ℕ} {X : Type 0} (config : Config) (log : Log w) (s 
 
 pub number-next : {w : ℕ} (test : Event w → Outcome w → Bool) (event : Event w) (o : Outcome w) (log : Log w)
     → number test ((event, o) ∷ log) ≡ number test log + one_if (test event o)
-number-next {w} test event o log =
-    let go : (b : Bool) → length (if b then (event, o) ∷ filter (λ x. test x.0 x.1) log else filter (λ x. test x.0 x.1)
-    log) ≡ number test log + one_if b = elim [ true ↦ omega arith | false ↦ omega arith ] in
-    go (test event o)
+number-next {w} test event o log = grind arith
 
 -- nothing has started, and nothing is open
 pub counted-first : {w : ℕ} (config : Config) → AreCounted {w = w} config [] first_state
 counted-first config =
-    let requests_none : open_requests config first_state ≡ 0 =
-    total-zero (clients_in config) (λ c. total (sources_in config c) (λ i. 0) + 0)
-    (λ c few. let none : total (sources_in config c) (λ i. 0) ≡ 0 =
+    let requests_none : open_requests config first_state ≡ 0 = total-zero (clients_in config)
+    (λ c. total (sources_in config c) (λ i. 0) + 0) (λ c few. let none : total (sources_in config c) (λ i. 0) ≡ 0 =
     total-zero (sources_in config c) (λ i. 0) (λ i lt. refl) in omega (arith, none)) in
     let releases_none = total-zero (clients_in config) (λ c. total (sources_in config c) (λ i. 0))
     (λ c few. total-zero (sources_in config c) (λ i. 0) (λ i lt. refl)) in
@@ -58,9 +53,8 @@ pub counted-next : {w : ℕ} {config : Config} {log : Log w} (h : AbstractState 
     → SimulationRelation config log h.mail h.request h.state (system_after config log) → AreCounted config log h.state
     → AreCounted config ((event, (stepped config event (system_after config log)).outcome) ∷ log)
     (abstract_step config event (system_after config log) h).state
-counted-next {config} {log} h event width matched before =
-    counted-balance event (stepped config event (system_after config log)).outcome
-    (counted-followed h width matched event) before
+counted-next {config} {log} h event width matched before = counted-balance event
+    (stepped config event (system_after config log)).outcome (counted-followed h width matched event) before
 
 -- what is outstanding is what is open
 pub requests-open : {w : ℕ} {X : Type 0} (config : Config) (log : Log w) (s : State X) → AreCounted config log s

@@ -16,7 +16,7 @@ use proofs.links.Stalling.{IsFirst}
 use proofs.queues.{QuiescentQueues.client_below, Sums.total-zero}
 
 -- a sum is 0 where each of its numbers is
-pub total-none : (n : ℕ) (f : ℕ → ℕ) → total n f ≡ 0 → (i : ℕ) → i < n → f i ≡ 0
+total-none : (n : ℕ) (f : ℕ → ℕ) → total n f ≡ 0 → (i : ℕ) → i < n → f i ≡ 0
 unfolding total
 total-none zero f e i lt = absurd (omega (arith, lt))
 total-none (suc n) f e i lt = go (cases_eq i n) (total-none n f (omega (arith, e)) i)
@@ -26,27 +26,24 @@ total-none (suc n) f e i lt = go (cases_eq i n) (total-none n f (omega (arith, e
     go (inr differs) rest = rest (omega (arith, lt, differs))
 
 not_used : (u : SourceState) → one_if (is_used u) ≡ 0 → u ≡ SourceFree
-not_used SourceFree e = refl
-not_used u e = absurd (omega (arith, e))
+not_used u e = grind arith
 
 not_let : (o : Option ℕ) → one_if (is_let o) ≡ 0 → o ≡ None
-not_let None e = refl
-not_let (Some n) e = absurd (omega (arith, e))
+not_let o e = grind arith
 
 nothing_in : (xs : List Packet) → length xs ≡ 0 → xs ≡ []
 nothing_in [] e = refl
 nothing_in (x ∷ xs) e = absurd (omega (arith, e))
 
 -- nothing is counted where nothing is open
-pub none-counted : {X : Type 0} (config : Config) {s : State X} → IsClosed s → ((c : ℕ) → (s.link c).e ≡ [])
+none-counted : {X : Type 0} (config : Config) {s : State X} → IsClosed s → ((c : ℕ) → (s.link c).e ≡ [])
     → open_requests config s + open_releases config s ≡ 0
 none-counted config {s} closed no_acks =
     let requests : open_requests config s ≡ 0 =
     total-zero (clients_in config) (λ c. total (sources_in config c) (λ i. one_if (is_used (s.uses c i))) + length
     (s.link c).e) (λ c few.
-    let uses : total (sources_in config c) (λ i. one_if (is_used (s.uses c i))) ≡ 0 =
-    total-zero (sources_in config c) (λ i. one_if (is_used (s.uses c i)))
-    (λ i lt. ap (λ (u : SourceState). one_if (is_used u)) (closed.uses c i)) in
+    let uses : total (sources_in config c) (λ i. one_if (is_used (s.uses c i))) ≡ 0 = total-zero (sources_in config c)
+    (λ i. one_if (is_used (s.uses c i))) (λ i lt. ap (λ (u : SourceState). one_if (is_used u)) (closed.uses c i)) in
     let acks : length (s.link c).e ≡ 0 = ap length (no_acks c) in
     omega (arith, uses, acks)) in
     let releases = total-zero (clients_in config) (λ c. total (sources_in config c) (λ i. one_if (is_let (s.lets c i))))
@@ -61,12 +58,10 @@ module _ {w : ℕ} {config : Config} {log : Log w} {mail : AccessMessages w} {re
   of_client : (c : ℕ) → c < clients_in config
       → (total (sources_in config c) (λ i. one_if (is_used (s.uses c i))) + length (s.link c).e ≡ 0)
       × (total (sources_in config c) (λ i. one_if (is_let (s.lets c i))) ≡ 0)
-  of_client c few = (
-    total-none (clients_in config) (λ d. total (sources_in config d) (λ i. one_if (is_used (s.uses d i))) + length
-        (s.link d).e) (omega (arith, none)) c few,
-    total-none (clients_in config)
-        (λ d. total (sources_in config d) (λ i. one_if (is_let (s.lets d i)))) (omega (arith, none)) c few,
-  )
+  of_client c few = let fact = total-none (clients_in config) (λ d. total (sources_in config d)
+      (λ i. one_if (is_used (s.uses d i))) + length (s.link d).e) (omega (arith, none)) c few in let other_fact =
+      total-none (clients_in config) (λ d. total (sources_in config d) (λ i. one_if (is_let (s.lets d i))))
+      (omega (arith, none)) c few in (fact, other_fact)
 
   bounds : (c : ℕ) → AreBounded c (sources_in config c) config.trackers s
   bounds c = matched-bounded config log mail request s (system_after config log) matched c
@@ -81,8 +76,7 @@ module _ {w : ℕ} {config : Config} {log : Log w} {mail : AccessMessages w} {re
           total-none (sources_in config c) (λ i. one_if (is_used (s.uses c i))) (omega (arith, both)) source lt
 
       used : (u : SourceState) → s.uses c source ≡ u → (u ≡ SourceFree → ⊥) → s.uses c source ≡ SourceFree
-      used u e open_ = not_used (s.uses c source)
-          (zero_there ((bounds c).requests source (λ closed. open_ (sym e ∙ closed))))
+      used u e open_ = not_used (s.uses c source) (zero_there ((bounds c).requests source (λ closed. open_ (cc))))
 
       go : (u : SourceState) → s.uses c source ≡ u → s.uses c source ≡ SourceFree
       go SourceFree e = e
@@ -114,7 +108,7 @@ module _ {w : ℕ} {config : Config} {log : Log w} {mail : AccessMessages w} {re
       let_is c source None at = strangers.no_let matched width c at source
       let_is c source (Some terms) at = closed_let c source terms at
 
-  pub no-acks-counted : (c : ℕ) → (s.link c).e ≡ []
+  no-acks-counted : (c : ℕ) → (s.link c).e ≡ []
   no-acks-counted c = go (terms_at config c) refl
     where
       go : (o : Option EndConfig) → terms_at config c ≡ o → (s.link c).e ≡ []

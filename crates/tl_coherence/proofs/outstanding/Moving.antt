@@ -1,20 +1,19 @@
 -- A delivery is movable exactly where a channel carries a message.
-use Rattle.std.proofs.Common.{◌≡◌, ℕ, ◌<◌, Bool, true, false, List, ◌∷◌, sym, ◌∙◌, ap, arith, not, Option, Some, None}
-use Rattle.std.proofs.Common.{map, nat_le, [], refl}
+use Rattle.std.proofs.Common.{◌≡◌, ℕ, ◌<◌, Bool, true, false, List, ◌∷◌, sym, ◌∙◌, arith, not, Option, Some, None, map}
+use Rattle.std.proofs.Common.{nat_le, [], refl}
 use Rattle.tl_coherence.proofs
-use proofs.Imports.{and-false, true_from_ne_false, nat_tests, Beat, Channel, IsWidth, Message, MessageA, unfinished}
-use proofs.Imports.{Config, ReleaseOf, on_link, block_at, ends, pending, EndConfig, one_if, services, service_of_block}
-use proofs.Imports.{Packet, Release, ReleaseAck, count, ReleasePhase, NoRelease, ReleaseSent, ReleaseAcked}
-use proofs.Imports.{is_unreleased, State, Service, shown, IsCarried, client_in, service_with, AccessMessages}
-use proofs.Imports.{message_of, messages_on, SimulationRelation, IsCoherent, Moves, receiver, Log, system_after}
-use proofs.Imports.{next_delivery, is_movable, one_memory_after, terms_at}
-use Rattle.tl_coherence.specs.protocol.Protocol.{packets_on}
+use proofs.Imports.{and-false, true_from_ne_false, nat_tests, Beat, Channel, IsWidth, Message, MessageA, Config}
+use proofs.Imports.{ReleaseOf, on_link, block_at, ends, pending, EndConfig, one_if, services, service_of_block, Packet}
+use proofs.Imports.{Release, ReleaseAck, count, ReleasePhase, NoRelease, ReleaseSent, ReleaseAcked, is_unreleased}
+use proofs.Imports.{State, shown, AccessMessages, message_of, messages_on, SimulationRelation, IsCoherent, Moves, Log}
+use proofs.Imports.{system_after, next_delivery, is_movable, one_memory_after, terms_at}
+use Rattle.tl_coherence.{specs.protocol.Protocol.packets_on}
 use Rattle.tl_manager.specs.statement.Service as manager
 use Rattle.tl_coherence.proofs.simulation.Strangers as strangers
-use proofs.queues.{Carried.carried-none, Tokens.same_number, QuiescentQueues.nothing-moves, QuiescentQueues.no-next}
-use proofs.queues.{QuiescentQueues.empty-still}
-use proofs.protocol.{QuiescentBlock.IsSilent, QuiescentBlock.free-when_silent, QuiescentProtocol.IsBare}
-use proofs.protocol.{QuiescentProtocol.IsClosed, QuiescentProtocol.bare-when-closed, QuiescentProtocol.closed-when_bare}
+use proofs.queues.{Carried.carried-none, Tokens.same_number}
+use proofs.queues.QuiescentQueues.{nothing-moves, no-next, empty-still}
+use proofs.protocol.QuiescentBlock.{IsSilent, free-when_silent}
+use proofs.protocol.QuiescentProtocol.{IsBare, IsClosed, bare-when-closed, closed-when_bare}
 use proofs.links.Stalling.{IsFirst, exact, started-releasing}
 
 no_tokens : {w : ℕ} (f : Packet → Message w) (xs : List Packet) → map f xs ≡ [] → xs ≡ []
@@ -46,11 +45,7 @@ module _ {w : ℕ} {config : Config} {log : Log w} {mail : AccessMessages w} {re
 
   -- and without a message it has no beat
   no_beat : (c : ℕ) (ch : Channel) → packets_on ch (s.link c) ≡ [] → (system_after config log).channels c ch ≡ []
-  no_beat c ch none =
-      let go : (ms : List (Message w)) → ms ≡ [] → IsCarried (unfinished ch (receiver ch c (system_after config log)))
-      ms ((system_after config log).channels c ch) → (system_after config log).channels c ch ≡ [] =
-      elim [ [] ↦ λ e h. h.1 | m ∷ ms ↦ λ e h. absurd cc ] in
-      go (messages_on ch mail s c) (ap (map (message_of mail s c)) none) (matched.carried c ch)
+  no_beat c ch none = grind arith
 
   -- a channel whose first beat is movable, if there is one, is empty where no delivery is next
   module _ (none : next_delivery config (system_after config log) ≡ None) where
@@ -102,26 +97,19 @@ module _ {w : ℕ} {config : Config} {log : Log w} {mail : AccessMessages w} {re
     unfolding count
     none_releasing c n terms is = (matched.known c).releases n ∙ go ((s.block n).pair c).letting refl
       where
-        no_c : packets_on Channel.C (s.link c) ≡ []
-        no_c = no_message c Channel.C (empty_c c terms is)
-
-        no_d : packets_on Channel.D (s.link c) ≡ []
-        no_d = no_message c Channel.D (empty_d c terms is)
-
         none_shown : (b : Bool) → 0 ≡ one_if b → b ≡ false
-        none_shown true e = absurd (omega (arith, e))
-        none_shown false e = refl
+        none_shown b e = grind arith
 
         go : (x : ReleasePhase) → ((s.block n).pair c).letting ≡ x → not (is_unreleased x) ≡ false
         go NoRelease e = refl
         go (ReleaseSent r) e =
             let no = none_shown (shown Release c (s.block n))
-            (rw no_c at (matched.invariant.transfers c Release refl n)) in
+            (rw (no_message c Channel.C (empty_c c terms is)) at (matched.invariant.transfers c Release refl n)) in
             absurd (let it : shown Release c (s.block n) ≡ true = rw e refl in let both : true ≡ false = sym it ∙ no in
             cc)
         go ReleaseAcked e =
             let no = none_shown (shown ReleaseAck c (s.block n))
-            (rw no_d at (matched.invariant.transfers c ReleaseAck refl n)) in
+            (rw (no_message c Channel.D (empty_d c terms is)) at (matched.invariant.transfers c ReleaseAck refl n)) in
             absurd (let it : shown ReleaseAck c (s.block n) ≡ true = rw e refl in let both : true ≡ false =
             sym it ∙ no in cc)
 
@@ -156,9 +144,8 @@ module _ {w : ℕ} {config : Config} {log : Log w} {mail : AccessMessages w} {re
       }
 
       none_in_service : services (system_after config log).manager.trace ≡ []
-      none_in_service = none_served (services (system_after config log).manager.trace) (λ n.
-          matched.managed.serving_is n ∙ ap (λ (x : Service). service_with (client_in x) (s.block n).tracker
-          (request n)) (free-when_silent n matched.invariant silent))
+      none_in_service = none_served (services (system_after config log).manager.trace)
+          (λ n. cc (matched.managed.serving_is n, free-when_silent n matched.invariant silent))
 
       empty_a : (c : ℕ) (terms : EndConfig) → terms_at config c ≡ Some terms
           → (system_after config log).channels c Channel.A ≡ []
@@ -167,9 +154,7 @@ module _ {w : ℕ} {config : Config} {log : Log w} {mail : AccessMessages w} {re
         where
           go : (x : Beat w) → IsFirst config terms c Channel.A x (system_after config log) → Moves config log c x
               → is_movable config c Channel.A (system_after config log) ≡ true
-          go (Beat.A y) first m =
-              let free : nat_le config.trackers 0 ≡ false = few_test config.trackers trackers in
-              m ∙ rw (none_in_service, free)
+          go (Beat.A y) first m = m ∙ rw (none_in_service, few_test config.trackers trackers)
               (rw (and-false (ends (Beat.A y) (on_link c (system_after config log).manager.trace))) refl)
           go x first m = absurd (let on = first.on in cc)
 
@@ -183,13 +168,8 @@ module _ {w : ℕ} {config : Config} {log : Log w} {mail : AccessMessages w} {re
   -- where nothing is open, and no GrantAck is on its way, no delivery is next
   pub standing-when-closed : IsClosed s → ((c : ℕ) → (s.link c).e ≡ [])
       → next_delivery config (system_after config log) ≡ None
-  standing-when-closed closed no_acks = no-next config (system_after config log)
-      (λ c ch. empty-still config (system_after config log) c ch
-      (no_beat c ch (bare_on ch c (bare-when-closed matched.invariant closed no_acks))))
+  standing-when-closed closed no_acks = no-next config (system_after config log) (λ c ch. empty-still config
+      (system_after config log) c ch (no_beat c ch (bare_on ch c (bare-when-closed matched.invariant closed no_acks))))
     where
       bare_on : (ch : Channel) (c : ℕ) → IsBare s → packets_on ch (s.link c) ≡ []
-      bare_on Channel.A c bare = bare.a c
-      bare_on Channel.B c bare = bare.silent.b c
-      bare_on Channel.C c bare = bare.silent.c c
-      bare_on Channel.D c bare = bare.silent.d c
-      bare_on Channel.E c bare = bare.silent.e c
+      bare_on ch c e = grind arith

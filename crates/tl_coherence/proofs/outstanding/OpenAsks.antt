@@ -6,7 +6,7 @@ use proofs.Imports.{Message, Config, RequestSource, ReleaseSource, Grow, Prune, 
 use proofs.Imports.{asked-cases, least_free-some, Busy, Op, Reply, done, store, free_request, free_release, source_or_0}
 use proofs.Imports.{EndConfig, Endpoint, held_at, one_if, is_used, is_let, Ask, Outcome, Request, Acquire, Release}
 use proofs.Imports.{State, SourceState, SourceFree, Asked, Acquires, packet, with_a, with_c, access_asked}
-use proofs.Imports.{acquire_asked, release_asked, AbstractState, asked, SimulationRelation, is_caching, sources_of}
+use proofs.Imports.{acquire_asked, release_asked, AbstractState, asked, SimulationRelation, is_caching}
 use proofs.Imports.{starts_request, starts_release, Log, System, terms_at}
 use Rattle.tl_client.specs.statement.Ask.{load}
 use Rattle.tl_client.specs.statement.Ask as ask
@@ -18,53 +18,44 @@ use proofs.protocol.OpenCounts.{marked-set, acks-same, clients_in, sources_in, I
 module _ {X : Type 0} (config : Config) (s : State X) where
   access-asked : (c source : ℕ) → c < clients_in config → source < sources_in config c → s.uses c source ≡ SourceFree
       → IsBalance config s (access_asked c source s) true false false false
-  access-asked c source few lt free =
-      let u = marked-set is_used (clients_in config) (sources_in config) c source Asked s.uses few lt in
-      let was : one_if (is_used (s.uses c source)) ≡ 0 = ap (λ (x : SourceState). one_if (is_used x)) free in
-      let a = acks-same (clients_in config) (access_asked c source s).link s.link
-      (λ d. set-part (λ x. x.e) c (with_a (packet Request source) (s.link c)) s.link refl d) in
-      record {
-        requests = omega (
-          arith,
-          u,
-          was,
-          a,
-          requests-split config s,
-          requests-split config (access_asked c source s),
-        );
-        releases = refl;
-      }
+  access-asked c source few lt free = record {
+    requests = omega (
+      arith,
+      marked-set is_used (clients_in config) (sources_in config) c source Asked s.uses few lt,
+      ap (λ (x : SourceState). one_if (is_used x)) free,
+      acks-same (clients_in config) (access_asked c source s).link s.link
+          (λ d. set-part (λ x. x.e) c (with_a (packet Request source) (s.link c)) s.link refl d),
+      requests-split config s,
+      requests-split config (access_asked c source s),
+    );
+    releases = refl;
+  }
 
   acquire-asked : (c n source : ℕ) (whole : Bool) (g : Grow) (bytes : X) → c < clients_in config
       → source < sources_in config c → s.uses c source ≡ SourceFree
       → IsBalance config s (acquire_asked c n source whole g bytes s) true false false false
-  acquire-asked c n source whole g bytes few lt free =
-      let u = marked-set is_used (clients_in config) (sources_in config) c source (Acquires n) s.uses few lt in
-      let was : one_if (is_used (s.uses c source)) ≡ 0 = ap (λ (x : SourceState). one_if (is_used x)) free in
-      let a = acks-same (clients_in config) (acquire_asked c n source whole g bytes s).link s.link
-      (λ d. set-part (λ x. x.e) c (with_a (packet Acquire n) (s.link c)) s.link refl d) in
-      record {
-        requests = omega (
-          arith,
-          u,
-          was,
-          a,
-          requests-split config s,
-          requests-split config (acquire_asked c n source whole g bytes s),
-        );
-        releases = refl;
-      }
+  acquire-asked c n source whole g bytes few lt free = record {
+    requests = omega (
+      arith,
+      marked-set is_used (clients_in config) (sources_in config) c source (Acquires n) s.uses few lt,
+      ap (λ (x : SourceState). one_if (is_used x)) free,
+      acks-same (clients_in config) (acquire_asked c n source whole g bytes s).link s.link
+          (λ d. set-part (λ x. x.e) c (with_a (packet Acquire n) (s.link c)) s.link refl d),
+      requests-split config s,
+      requests-split config (acquire_asked c n source whole g bytes s),
+    );
+    releases = refl;
+  }
 
   release-asked : (c n source : ℕ) (r : Prune) → c < clients_in config → source < sources_in config c
       → s.lets c source ≡ None → IsBalance config s (release_asked c n source r s) false false true false
   release-asked c n source r few lt free =
       let l = marked-set is_let (clients_in config) (sources_in config) c source (Some n) s.lets few lt in
-      let was : one_if (is_let (s.lets c source)) ≡ 0 = ap (λ (x : Option ℕ). one_if (is_let x)) free in
       let a = acks-same (clients_in config) (release_asked c n source r s).link s.link
       (λ d. set-part (λ x. x.e) c (with_c (packet Release n) (s.link c)) s.link refl d) in
       record {
         requests = omega (arith, a, requests-split config s, requests-split config (release_asked c n source r s));
-        releases = omega (arith, l, was);
+        releases = omega (arith, l, ap (λ (x : Option ℕ). one_if (is_let x)) free);
       }
 
 module _ {w : ℕ} (config : Config) (c : ℕ) (h : AbstractState w) where
@@ -90,8 +81,7 @@ module _ {w : ℕ} (config : Config) (c : ℕ) (h : AbstractState w) where
   module _ (terms : EndConfig) (e : Endpoint w) (at : terms_at config c ≡ Some terms) (few : c < clients_in config)
     where
       own_source : (source : ℕ) → source < 0 + terms.sources → source < sources_in config c
-      own_source source lt = let is : sources_in config c ≡ terms.sources =
-          ap (λ (o : Option EndConfig). sources_of o) at in omega (arith, lt, is)
+      own_source source lt = grind (arith, sources_in)
 
       done-opens : (o : Op w) → NotBusy terms o e → IsAskable (is_caching config) c o (done terms o e).reply h
           → IsOpenAfter o (done terms o e).reply

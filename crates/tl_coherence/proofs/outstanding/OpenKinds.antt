@@ -1,7 +1,7 @@
 -- What is open after the first token of a channel is taken: an answer ends a request, a Grant turns one into a
 -- GrantAck,
 -- a GrantAck ends it, a ReleaseAck ends a Release, and all else leaves what is open.
-use Rattle.std.proofs.Common.{◌≡◌, ℕ, suc, ◌<◌, Bool, true, false, List, [], ◌∷◌, ◌++◌, length, refl, sym, ◌∙◌, ap}
+use Rattle.std.proofs.Common.{◌≡◌, ℕ, suc, ◌<◌, Bool, true, false, List, [], ◌∷◌, length, refl, sym, ◌∙◌, ap}
 use Rattle.std.proofs.Common.{arith, Option, Some, None, length-append, ◌==◌, if◌then◌else◌}
 use Rattle.tl_coherence.proofs
 use proofs.Imports.{Config, Cap, Prune, Report, one_if, is_used, is_let, ReleaseAck, Packet, Kind, Answer, Grant}
@@ -27,10 +27,7 @@ pub served_e : {X : Type 0} (r : ℕ) (own : Bool) (n : ℕ) (k : Cap) (rest : L
 served_e {X} r own n k rest b link d = go (is_probed r own k (b.pair d).recorded d) (d == r)
   where
     go : (x y : Bool) → (with_probe n x (if y then record (link d) { a = rest } else link d)).e ≡ (link d).e
-    go true true = refl
-    go true false = refl
-    go false true = refl
-    go false false = refl
+    go x y = grind arith
 
 pub set_e : (c : ℕ) (l : Link) (link : ℕ → Link) → l.e ≡ (link c).e → (d : ℕ) → (set c l link d).e ≡ (link d).e
 set_e c l link same d = set-part (λ (x : Link). x.e) c l link same d
@@ -40,15 +37,11 @@ popped_e c rest link d = set_e c (record (link c) { c = rest }) link refl d
 
 pub ended_e : (c q : ℕ) (x : Packet) (rest : List Packet) (link : ℕ → Link) (d : ℕ)
     → (ended_link c q x rest link d).e ≡ (link d).e
-ended_e c q x rest link d =
-    let go : (b : Bool) → (if b then record (popped_link c rest link d) { d = (popped_link c rest link d).d ++ x ∷ [] }
-    else popped_link c rest link d).e ≡ (popped_link c rest link d).e = elim [ true ↦ refl | false ↦ refl ] in
-    go (d == q) ∙ popped_e c rest link d
+ended_e c q x rest link d = grind arith
 
 pub granted_e : (c q n : ℕ) (rest : List Packet) (link : ℕ → Link) (d : ℕ)
     → (granted_link c q n rest link d).e ≡ (link d).e
-granted_e c q n rest link d = set_e q (record (link q) { d = (link q).d ++ packet Grant n ∷ [] })
-    (popped_link c rest link) (sym (popped_e c rest link q)) d ∙ popped_e c rest link d
+granted_e c q n rest link d = grind (arith, set_e, popped_e)
 
 -- ---- events that leave what is open
 
@@ -108,44 +101,34 @@ module _ {X : Type 0} (config : Config) (s : State X) where
 
   answer-taken : (c source : ℕ) (rest : List Packet) → c < clients_in config → source < sources_in config c
       → s.uses c source ≡ Replied → IsBalance config s (answer_taken c source rest s) false true false false
-  answer-taken c source rest few lt used =
-      let u = marked-set is_used (clients_in config) (sources_in config) c source SourceFree s.uses few lt in
-      let was : one_if (is_used (s.uses c source)) ≡ 1 = ap (λ (x : SourceState). one_if (is_used x)) used in
-      let a = acks-same (clients_in config) (answer_taken c source rest s).link s.link
-      (set_e c (record (s.link c) { d = rest }) s.link refl) in
-      record {
-        requests = omega (
-          arith,
-          u,
-          was,
-          a,
-          requests-split config s,
-          requests-split config (answer_taken c source rest s),
-        );
-        releases = refl;
-      }
+  answer-taken c source rest few lt used = record {
+    requests = omega (
+      arith,
+      marked-set is_used (clients_in config) (sources_in config) c source SourceFree s.uses few lt,
+      ap (λ (x : SourceState). one_if (is_used x)) used,
+      acks-same (clients_in config) (answer_taken c source rest s).link s.link
+          (set_e c (record (s.link c) { d = rest }) s.link refl),
+      requests-split config s,
+      requests-split config (answer_taken c source rest s),
+    );
+    releases = refl;
+  }
 
   grant-taken : (c n : ℕ) (whole d : Bool) (k : Cap) (rest : List Packet) → c < clients_in config
       → (s.block n).source c < sources_in config c → s.uses c ((s.block n).source c) ≡ Acquires n
       → IsBalance config s (grant_taken c n whole d k rest s) false false false false
-  grant-taken c n whole d k rest few lt used =
-      let u = marked-set is_used (clients_in config) (sources_in config) c ((s.block n).source c) SourceFree s.uses few
-      lt in
-      let was = ap (λ (x : SourceState). one_if (is_used x)) used in
-      let a = acks-set (clients_in config) c (taken_link n rest (s.link c)) s.link few in
-      let more = length-append (s.link c).e (packet GrantAck n ∷ []) in
-      record {
-        requests = omega (
-          arith,
-          u,
-          was,
-          a,
-          more,
-          requests-split config s,
-          requests-split config (grant_taken c n whole d k rest s),
-        );
-        releases = refl;
-      }
+  grant-taken c n whole d k rest few lt used = record {
+    requests = omega (
+      arith,
+      marked-set is_used (clients_in config) (sources_in config) c ((s.block n).source c) SourceFree s.uses few lt,
+      ap (λ (x : SourceState). one_if (is_used x)) used,
+      acks-set (clients_in config) c (taken_link n rest (s.link c)) s.link few,
+      length-append (s.link c).e (packet GrantAck n ∷ []),
+      requests-split config s,
+      requests-split config (grant_taken c n whole d k rest s),
+    );
+    releases = refl;
+  }
 
   release-ack-taken : (c n : ℕ) (rest : List Packet) → c < clients_in config
       → (s.block n).release_source c < sources_in config c → s.lets c ((s.block n).release_source c) ≡ Some n
@@ -153,12 +136,11 @@ module _ {X : Type 0} (config : Config) (s : State X) where
   release-ack-taken c n rest few lt used =
       let l = marked-set is_let (clients_in config) (sources_in config) c ((s.block n).release_source c) None s.lets few
       lt in
-      let was = ap (λ (x : Option ℕ). one_if (is_let x)) used in
       let a = acks-same (clients_in config) (release_ack_taken c n rest s).link s.link
       (set_e c (record (s.link c) { d = rest }) s.link refl) in
       record {
         requests = omega (arith, a, requests-split config s, requests-split config (release_ack_taken c n rest s));
-        releases = omega (arith, l, was);
+        releases = omega (arith, l, ap (λ (x : Option ℕ). one_if (is_let x)) used);
       }
 
   grant-ack-taken : (c n : ℕ) (rest : List Packet) → c < clients_in config → (s.link c).e ≡ packet GrantAck n ∷ rest
@@ -186,10 +168,9 @@ is_letting_go _ = false
 
 -- a message of another kind ends nothing
 still-kind : {w : ℕ} {config : Config} {log : Log w} (tracker c : ℕ) (k : Kind) (i : ℕ) (rest : List Packet)
-    (h : AbstractState w) {sys : System w}
-    → SimulationRelation config log h.mail h.request h.state sys → c < clients_in config
-    → AreBounded c (sources_in config c) config.trackers h.state → on k (h.state.link c) ≡ packet k i ∷ rest
-    → is_ending k ≡ false → is_letting_go k ≡ false
+    (h : AbstractState w) {sys : System w} → SimulationRelation config log h.mail h.request h.state sys
+    → c < clients_in config → AreBounded c (sources_in config c) config.trackers h.state
+    → on k (h.state.link c) ≡ packet k i ∷ rest → is_ending k ≡ false → is_letting_go k ≡ false
     → IsBalance config h.state (kind_taken config tracker c k i rest h).state false false false false
 still-kind {w} {config} tracker c k i rest h is few own first ends lets = true-taken config tracker c rest h
     (λ j n. (on j (h.state.link c) ≡ packet j n ∷ rest) × (is_ending j ≡ false) × (is_letting_go j ≡ false))

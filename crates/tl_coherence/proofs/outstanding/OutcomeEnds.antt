@@ -1,15 +1,13 @@
 -- What an outcome ends of what is outstanding.
-use Rattle.std.proofs.Common.{◌≡◌, subst, ℕ, zero, suc, ◌+◌, ◌<◌, Bool, true, false, List, [], ◌∷◌, refl, sym, ◌∙◌, ap}
-use Rattle.std.proofs.Common.{arith, Option, Some, None, ◌==◌, map, Result, Ok, Err}
+use Rattle.std.proofs.Common.{◌≡◌, ℕ, ◌+◌, ◌<◌, Bool, true, false, List, ◌∷◌, refl, arith, Option, Some, ◌==◌, Ok}
 use Rattle.tl_coherence.proofs
-use proofs.Imports.{Beat, Link, Channel, OpD, Message, beat_of, beats_of, channel_of, unfinished, Config, Rule}
-use proofs.Imports.{is_release_ack, Verdict, EndConfig, finish_of, grant_opcode, is_access_answer, Deliver, Outcome}
-use proofs.Imports.{Request, Acquire, Release, Kind, Probe, ProbeAck, GrantAck, Block, is_on, AbstractState, message_of}
-use proofs.Imports.{message_of_kind, block_message, receiver, is_moving, ends_request, ends_release, is_to_client}
-use proofs.Imports.{outcome_of, stepped, stepped_at, delivered, System, terms_at}
+use proofs.Imports.{Beat, Link, Channel, OpD, Message, beat_of, beats_of, channel_of, Config, is_release_ack, Verdict}
+use proofs.Imports.{EndConfig, finish_of, grant_opcode, is_access_answer, Deliver, Outcome, Kind, Probe, GrantAck}
+use proofs.Imports.{Block, is_on, AbstractState, block_message, is_moving, ends_request, ends_release, is_to_client}
+use proofs.Imports.{outcome_of, stepped, System, terms_at}
 use Rattle.tl_client.specs.statement.Endpoint as client
 use Rattle.tl_client.specs.statement.Offer as offer
-use proofs.queues.{Carried.IsNext, FirstToken.IsFirst}
+use proofs.queues.{FirstToken.IsFirst}
 use proofs.outstanding.OpenKinds.{is_ending, is_letting_go}
 
 -- ---- what an outcome ends
@@ -18,9 +16,7 @@ abbrev pub Ends : {w : ℕ} → Outcome w → Bool → Bool → Type 0
 Ends o ends lets_go = (ends_request o ≡ ends) × (ends_release o ≡ lets_go)
 
 pub still-ends : {w : ℕ} (o : Outcome w) → is_moving o ≡ false → Ends o false false
-still-ends (Outcome.Moved x) e = absurd cc
-still-ends (Outcome.Done x source f) e = absurd cc
-still-ends o e = (refl, refl)
+still-ends o e = grind arith
 
 abbrev pub is_e : Channel → Bool
 is_e Channel.E = true
@@ -40,12 +36,7 @@ finish-ends x source o param size address payload = (refl, refl)
 
 pub manager-kind : (ch : Channel) (k : Kind) → is_to_client ch ≡ false → is_on ch k ≡ true → (is_ending k ≡ is_e ch)
     × (is_letting_go k ≡ false)
-manager-kind Channel.A Request down own = (refl, refl)
-manager-kind Channel.A Acquire down own = (refl, refl)
-manager-kind Channel.C ProbeAck down own = (refl, refl)
-manager-kind Channel.C Release down own = (refl, refl)
-manager-kind Channel.E GrantAck down own = (refl, refl)
-manager-kind ch k down own = absurd cc
+manager-kind ch k e f = grind arith
 
 -- a GrantAck is one beat
 pub ack_whole : (w c n : ℕ) (b : Block (List ℕ)) → beats_of (block_message {w = w} GrantAck c n b) ≡ 1
@@ -53,65 +44,28 @@ unfolding block_message
 ack_whole w c n b = refl
 
 pub one_whole : (k n : ℕ) → n ≡ 1 → k < n → (k + 1 == n) ≡ true
-one_whole zero n e lt = rw e refl
-one_whole (suc k) n e lt = absurd (omega (arith, e, lt))
+one_whole k n e f = grind arith
 
 pub grant_kind : (b : Bool) → (is_access_answer (grant_opcode b) ≡ false) × (is_release_ack (grant_opcode b) ≡ false)
-grant_kind true = (refl, refl)
-grant_kind false = (refl, refl)
+grant_kind b = grind arith
 
 probe_on_b : (w c n k : ℕ) (b : Block (List ℕ)) → channel_of (beat_of (block_message {w = w} Probe c n b) k) ≡ Channel.B
 unfolding block_message
 probe_on_b w c n k b = refl
 
--- a Probe ends nothing
-answer_verdict : {w : ℕ} → Result (Verdict × Option (Message w)) Rule → Verdict
-answer_verdict (Ok p) = p.0
-answer_verdict (Err rule) = Verdict.Stalled
-
-probe-verdict : {w : ℕ} (x : Beat w) (e : client.Endpoint w) (v : Verdict) (m : Option (Message w))
-    → channel_of x ≡ Channel.B → (offer.taken x e).answer ≡ Ok (v, m) → v ≡ Verdict.Taken
-unfolding answer_verdict
-probe-verdict {w} (Beat.B y) e v m of_b answer = sym (ap (answer_verdict {w = w}) answer)
-probe-verdict (Beat.A y) e v m of_b answer = absurd cc
-probe-verdict (Beat.C y) e v m of_b answer = absurd cc
-probe-verdict (Beat.D y) e v m of_b answer = absurd cc
-probe-verdict (Beat.E y) e v m of_b answer = absurd cc
-
 pub probe-ends : {w : ℕ} (x : Beat w) (e : client.Endpoint w) (v : Verdict) (m : Option (Message w))
     → channel_of x ≡ Channel.B → (offer.taken x e).answer ≡ Ok (v, m) → Ends (outcome_of x v) false false
-probe-ends {w} x e v m of_b answer =
-    let ends = moved-ends x in
-    subst (λ (u : Verdict). Ends (outcome_of x u) false false) (sym (probe-verdict x e v m of_b answer))
-    (ends.0 ∙ ap is_e of_b, ends.1)
+probe-ends {w} x e v m of_b answer = grind (arith, moved-ends)
 
 -- the first beat of channel B is one of a Probe
 pub first-probe : {w : ℕ} {c : ℕ} (h : AbstractState w) {sys : System w} {x : Beat w} {queue : List (Beat w)}
     (first : IsFirst Channel.B c h.mail h.state sys x queue)
     → (channel_of x ≡ Channel.B) × ((is_ending first.kind ≡ false) × (is_letting_go first.kind ≡ false))
-first-probe {w} {c} h {sys} {x} {queue} first = go first.kind first.own first.next
-  where
-    go : (k : Kind) → is_on Channel.B k ≡ true → IsNext x (unfinished Channel.B (receiver Channel.B c sys))
-        (message_of_kind k h.mail h.state c first.number) (map (message_of h.mail h.state c) first.rest) queue
-        → (channel_of x ≡ Channel.B) × ((is_ending k ≡ false) × (is_letting_go k ≡ false))
-    go Probe own next = (
-      ap (λ (z : Beat w). channel_of z) next.beat_is ∙ probe_on_b w c first.number next.k (h.state.block first.number),
-      (refl, refl),
-    )
-    go k own next = absurd cc
+first-probe {w} {c} h {sys} {x} {queue} first = grind (arith, probe_on_b)
 
 -- a delivery that moves a beat is one of a client's link, which has that beat
 pub first-moved : {w : ℕ} (config : Config) (link : Link) (ch : Channel) (sys : System w)
     → is_moving (stepped config (Deliver link ch) sys).outcome ≡ true → (x : Beat w) × (queue : List (Beat w))
     × (terms : EndConfig) × ((sys.channels link.0 ch ≡ x ∷ queue) × (terms_at config link.0 ≡ Some terms))
 unfolding stepped
-first-moved {w} config link ch sys moving =
-    let First : Type 0 = (x : Beat w) × (queue : List (Beat w)) × (terms : EndConfig)
-    × ((sys.channels link.0 ch ≡ x ∷ queue) × (terms_at config link.0 ≡ Some terms)) in
-    let at : (terms : EndConfig) → terms_at config link.0 ≡ Some terms → (beats : List (Beat w))
-    → sys.channels link.0 ch ≡ beats → is_moving (delivered config terms link.0 ch beats sys).outcome ≡ true
-    → First = λ terms e. elim [ [] ↦ λ f m. absurd cc | x ∷ queue ↦ λ f m. (x, queue, terms, (f, e)) ] in
-    let go : (o : Option EndConfig) → terms_at config link.0 ≡ o
-    → is_moving (stepped_at config o (Deliver link ch) sys).outcome ≡ true → First =
-    elim [ None ↦ λ e m. absurd cc | Some terms ↦ λ e m. at terms e (sys.channels link.0 ch) refl m ] in
-    go (terms_at config link.0) refl moving
+first-moved {w} config link ch sys moving = grind arith

@@ -2,31 +2,29 @@
 -- it
 -- opens and closes.
 use Rattle.std.proofs.Common.{◌≡◌, subst, ℕ, ◌+◌, ◌<◌, Bool, true, false, List, ◌∷◌, refl, sym, ◌∙◌, ap, Option, Some}
-use Rattle.std.proofs.Common.{None, if◌then◌else◌, map, Ok}
+use Rattle.std.proofs.Common.{arith, None, if◌then◌else◌, map, Ok}
 use Rattle.tl_coherence.proofs
-use proofs.Imports.{Beat, BeatD, Link, Channel, IsWidth, Message, MessageD, beat_of, beats_of, d_beat_of, channel_of}
-use proofs.Imports.{unfinished, completes, Config, is_release_ack, Verdict, EndConfig, one_if, is_access_answer}
-use proofs.Imports.{open_requests, open_releases, Event, Ask, Deliver, Outcome, ReleaseAck, Packet, Kind, Answer, Grant}
-use proofs.Imports.{GrantAck, packet, is_on, on, AbstractState, abstract_step, abstract_step_by, kind_taken, message_of}
-use proofs.Imports.{message_of_kind, SimulationRelation, is_caching, receiver, is_moving, starts_request}
-use proofs.Imports.{starts_release, ends_request, ends_release, Log, system_after, Step, is_to_client, outcome_of}
-use proofs.Imports.{stepped, stepped_at, terms_at}
+use proofs.Imports.{Beat, BeatD, Link, Channel, IsWidth, Message, MessageD, beat_of, beats_of, d_beat_of, unfinished}
+use proofs.Imports.{completes, Config, is_release_ack, Verdict, EndConfig, one_if, is_access_answer, open_requests}
+use proofs.Imports.{open_releases, Event, Ask, Deliver, Outcome, ReleaseAck, Packet, Kind, Answer, Grant, packet, is_on}
+use proofs.Imports.{on, AbstractState, abstract_step, abstract_step_by, kind_taken, message_of, message_of_kind}
+use proofs.Imports.{SimulationRelation, is_caching, receiver, is_moving, starts_request, starts_release, ends_request}
+use proofs.Imports.{ends_release, Log, system_after, Step, is_to_client, outcome_of, stepped, stepped_at, terms_at}
 use Rattle.tl_client.specs.statement.Endpoint as client
 use Rattle.tl_client.specs.statement.Offer as offer
+pub use Rattle.tl_coherence.proofs.outstanding.OutcomeEnds.{first-moved}
 use proofs.simulation.{Bounded.matched-bounded, Moved.IsTakenByClient, Moved.client-moves, Owned.sources-own}
-use proofs.protocol.{TokenNames.AreBounded, HeadOfD.answer-due, HeadOfD.grant-due, HeadOfD.grant_message}
-use proofs.protocol.{HeadOfD.ack_message, HeadOfD.grant-rendered, OpenCounts.clients_in, OpenCounts.sources_in}
-use proofs.protocol.{OpenCounts.IsBalance}
-use proofs.queues.{Carried.IsNext, FirstToken.IsFirst, FirstToken.first-token, QuiescentQueues.client_below}
-use proofs.queues.{Codes.access_kind, KindMoves.on_same}
-use proofs.client.DeliverD.{finish_at, answer-last, answer-part, same_answers, acked}
-use proofs.deliveries.{DeliverDWhole.rendered_release_ack, DeliverDAfter.followed-moving, DeliverDAfter.followed-still}
-use proofs.deliveries.{ManagersAfter.at-manager}
+use proofs.protocol.HeadOfD.{answer-due, grant-due, grant_message, ack_message, grant-rendered}
+use proofs.protocol.OpenCounts.{clients_in, IsBalance}
+use proofs.queues.{Carried.IsNext, QuiescentQueues.client_below, Codes.access_kind, KindMoves.on_same}
+use proofs.queues.FirstToken.{IsFirst, first-token}
+use proofs.client.DeliverD.{finish_at, answer-last, same_answers, acked}
+use proofs.deliveries.{DeliverDWhole.rendered_release_ack, ManagersAfter.at-manager}
+use proofs.deliveries.DeliverDAfter.{followed-moving, followed-still}
 use proofs.outstanding.{OpenAsks.balance-asked, OpenKinds.is_ending, OpenKinds.is_letting_go, OpenKinds.balance-kind}
-use proofs.manager.UnwaitedRequests.{next_tracker}
 use proofs.outstanding.OutcomeEnds.{Ends, still-ends, is_e, moved-ends, finish-ends, manager-kind, ack_whole, one_whole}
 use proofs.outstanding.OutcomeEnds.{grant_kind, probe-ends, first-probe}
-pub use Rattle.tl_coherence.proofs.outstanding.OutcomeEnds.{first-moved}
+use proofs.manager.{UnwaitedRequests.next_tracker}
 
 -- ---- one event
 
@@ -36,10 +34,6 @@ module _ {w : ℕ} {config : Config} {log : Log w} (h : AbstractState w) (width 
   abbrev pub IsCounted : Event w → Outcome w → AbstractState w → Type 0
   IsCounted event o h' = IsBalance config h.state h'.state (starts_request event o) (ends_request o)
       (starts_release event o) (ends_release o)
-
-  bounds : (c : ℕ) → AreBounded c (sources_in config c) config.trackers h.state
-  bounds c = matched-bounded config log h.mail h.request h.state (system_after config log) matched c
-      (sources-own config log c width)
 
   counted-as : (link : Link) (ch : Channel) (o : Outcome w) (h' : AbstractState w) {ends lets : Bool} → Ends o ends lets
       → IsBalance config h.state h'.state false ends false lets → IsCounted (Deliver link ch) o h'
@@ -58,25 +52,19 @@ module _ {w : ℕ} {config : Config} {log : Log w} (h : AbstractState w) (width 
       → IsCounted (Deliver link ch) o (if b then kind_taken config tracker link.0 k i rest h else h)
   counted-either link ch o tracker k i rest true few first last part =
       counted-as link ch o (kind_taken config tracker link.0 k i rest h) (last refl)
-      (balance-kind tracker k i rest h matched few (bounds link.0) first)
-  counted-either link ch o tracker k i rest false few first last part =
-      counted-as link ch o h (part refl) unopened
+      (balance-kind tracker k i rest h matched few (matched-bounded config log h.mail h.request h.state
+      (system_after config log) matched link.0 (sources-own config log link.0 width)) first)
+  counted-either link ch o tracker k i rest false few first last part = counted-as link ch o h (part refl) unopened
 
   -- ---- what the manager takes
 
   whole_e : (c : ℕ) (k : Kind) (n : ℕ) → is_on Channel.E k ≡ true → beats_of (message_of_kind k h.mail h.state c n) ≡ 1
-  whole_e c GrantAck n on_it = ack_whole w c n (h.state.block n)
-  whole_e c k n on_it = absurd cc
+  whole_e c k n e = grind (arith, ack_whole)
 
   part_apart : (ch : Channel) (c : ℕ) (x : Beat w) (queue : List (Beat w))
       → IsFirst ch c h.mail h.state (system_after config log) x queue
       → completes x (unfinished ch (receiver ch c (system_after config log))) ≡ false → is_e ch ≡ false
-  part_apart Channel.E c x queue first part =
-      let one = whole_e c first.kind first.number first.own in
-      let yes = first.next.completes_is ∙ one_whole first.next.k
-      (beats_of (message_of_kind first.kind h.mail h.state c first.number)) one first.next.within in
-      absurd (let both : true ≡ false = sym yes ∙ part in cc)
-  part_apart ch c x queue first part = refl
+  part_apart ch c x queue e f = grind (arith, whole_e, one_whole)
 
   counted-manager : (link : Link) (ch : Channel) (terms : EndConfig) (x : Beat w) (queue : List (Beat w))
       → terms_at config link.0 ≡ Some terms → is_to_client ch ≡ false → (system_after config log).channels link.0 ch
@@ -85,8 +73,7 @@ module _ {w : ℕ} {config : Config} {log : Log w} (h : AbstractState w) (width 
       (abstract_step config (Deliver link ch) (system_after config log) h)
   counted-manager link ch terms x queue known down beats moving =
       let at = at-manager link ch h terms x queue width matched known down beats moving in
-      let ends : Ends (Outcome.Moved x) (is_e ch) false = subst (λ (i : Channel). Ends (Outcome.Moved x) (is_e i) false)
-      at.of_it (moved-ends x) in
+      let ends : Ends (Outcome.Moved x) (is_e ch) false = rw at.of_it at (moved-ends x) in
       let kinds = manager-kind ch at.first.kind down at.first.own in
       subst (λ (o : Outcome w). IsCounted (Deliver link ch) o
       (abstract_step config (Deliver link ch) (system_after config log) h))
@@ -116,20 +103,16 @@ module _ {w : ℕ} {config : Config} {log : Log w} (h : AbstractState w) (width 
       (abstract_step config (Deliver link ch) (system_after config log) h)
   counted-client link {ch} {terms} {x} {queue} known beats moving first t ends =
       let done : Bool = completes x (unfinished ch (receiver ch link.0 (system_after config log))) in
-      let follows : abstract_step config (Deliver link ch) (system_after config log) h
-      ≡ (if done then kind_taken config (next_tracker (system_after config log)) link.0 first.kind first.number
-      first.rest h else h) = cc (
-        followed-moving config link ch (system_after config log) h x queue moving beats,
-        first.tokens,
-      ) in
+      let follows : abstract_step config (Deliver link ch) (system_after config log) h ≡ (if done then kind_taken config
+      (next_tracker (system_after config log)) link.0 first.kind first.number first.rest h else h) =
+      cc (followed-moving config link ch (system_after config log) h x queue moving beats, first.tokens) in
       subst (λ (o : Outcome w). IsCounted (Deliver link ch) o
       (abstract_step config (Deliver link ch) (system_after config log) h))
       (sym (ap (λ (y : Step w). y.outcome) t.step_is))
-      (subst (λ (z : AbstractState w). IsCounted (Deliver link ch) (outcome_of x t.verdict_is) z) (sym follows)
-      (counted-either link ch (outcome_of x t.verdict_is) (next_tracker (system_after config log)) first.kind
-      first.number first.rest done (client_below config link.0 terms known)
-      (on_same ch first.kind (h.state.link link.0) first.own ∙ first.tokens) (ends t.verdict_is t.message t.answer).0
-      (ends t.verdict_is t.message t.answer).1))
+      (rw follows (counted-either link ch (outcome_of x t.verdict_is) (next_tracker
+      (system_after config log)) first.kind first.number first.rest done (client_below config link.0 terms known)
+      (on_same ch first.kind (h.state.link link.0) first.own ∙ first.tokens)
+      (ends t.verdict_is t.message t.answer).0 (ends t.verdict_is t.message t.answer).1))
 
   counted-b : (link : Link) (terms : EndConfig) (x : Beat w) (queue : List (Beat w))
       → terms_at config link.0 ≡ Some terms → (system_after config log).channels link.0 Channel.B ≡ x ∷ queue
@@ -176,12 +159,7 @@ module _ {w : ℕ} {config : Config} {log : Log w} (h : AbstractState w) (width 
           (ends.0 ∙ access, ends.1 ∙ ack)
 
       part : completes x (unfinished Channel.D e.past) ≡ false → Ends (outcome_of x v) false false
-      part f =
-          let same = (same_answers v Verdict.Taken m None (offer.taken x e).answer answer
-          (ap (λ (z : Beat w). (offer.taken z e).answer) x_is ∙ answer-part y e (at false f))).0 in
-          let ends = moved-ends x in
-          subst (λ (u : Verdict). Ends (outcome_of x u) false false) (sym same)
-          (ends.0 ∙ ap (λ (z : Beat w). is_e (channel_of z)) x_is, ends.1)
+      part f = grind arith
 
   counted-d : (link : Link) (terms : EndConfig) (x : Beat w) (queue : List (Beat w))
       → terms_at config link.0 ≡ Some terms → (system_after config log).channels link.0 Channel.D ≡ x ∷ queue
@@ -202,9 +180,8 @@ module _ {w : ℕ} {config : Config} {log : Log w} (h : AbstractState w) (width 
       Here : Kind → Type 0
       Here k = (v : Verdict) (m : Option (Message w)) → (offer.taken x ((system_after config log).clients c)).answer
           ≡ Ok (v, m) → (completes x (unfinished Channel.D ((system_after config log).clients c).past) ≡ true
-          → Ends (outcome_of x v) (is_ending k) (is_letting_go k))
-          × (completes x (unfinished Channel.D ((system_after config log).clients c).past) ≡ false
-          → Ends (outcome_of x v) false false)
+          → Ends (outcome_of x v) (is_ending k) (is_letting_go k)) × (completes x
+          (unfinished Channel.D ((system_after config log).clients c).past) ≡ false → Ends (outcome_of x v) false false)
 
       kinds : (k : Kind) → (h.state.link c).d ≡ packet k first.number ∷ first.rest → is_on Channel.D k ≡ true
           → IsNext x (unfinished Channel.D (receiver Channel.D c (system_after config log)))
@@ -223,8 +200,7 @@ module _ {w : ℕ} {config : Config} {log : Log w} (h : AbstractState w) (width 
           (grant_kind due.data_too).0 (grant_kind due.data_too).1
       kinds ReleaseAck tokens own next =
           response-ends c ReleaseAck (ack_message ((h.state.block first.number).release_source c)) next.k x
-          (next.beat_is ∙ ap (λ (m : Message w). beat_of m next.k)
-          (rendered_release_ack c first.number (h.state.block first.number))) refl refl
+          (cc (next.beat_is, rendered_release_ack c first.number (h.state.block first.number))) refl refl
       kinds k tokens own next = absurd cc
 
   -- ---- any event

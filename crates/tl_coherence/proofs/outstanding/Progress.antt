@@ -1,9 +1,9 @@
 -- Whatever happens to a manager and its clients, what is outstanding is what is open, and a delivery is next exactly
 -- while
 -- something is outstanding.
-use Rattle.std.proofs.Common.{◌≡◌, ℕ, ◌<◌, true, [], ◌∷◌, None, length, arith, ◌==◌, is_none}
+use Rattle.std.proofs.Common.{◌≡◌, ℕ, ◌<◌, true, [], ◌∷◌, None, arith, ◌==◌, is_none}
 use Rattle.tl_coherence.proofs
-use proofs.Imports.{nat_tests, IsWidth, Config, config_fault, blocks_fit, trackers_fit, all_sources_fit, is_from_to}
+use proofs.Imports.{nat_tests, IsWidth, Config, config_fault, trackers_fit}
 use proofs.Imports.{IsGiven, outstanding, Log, system_after, next_delivery}
 use Rattle.tl_coherence.specs.{statement.Headline.AreTyped, statement.Log.IsLog}
 use proofs.outstanding.{Counted.AreCounted, Counted.counted-first, Counted.counted-next}
@@ -17,17 +17,15 @@ pub counted : {w : ℕ} (config : Config) (log : Log w) → IsWidth w → AreTyp
     → AreCounted config log (shadow config log).state
 unfolding shadow AreTyped IsLog
 counted config [] width typed is = counted-first config
-counted {w} config (x ∷ log) width typed is =
-    rw is.0 (counted-next (shadow config log) x.0 width (matched config log width typed.1 is.1)
-    (counted config log width typed.1 is.1))
+counted {w} config (x ∷ log) width typed is = rw is.0 (counted-next (shadow config log) x.0 width
+    (matched config log width typed.1 is.1) (counted config log width typed.1 is.1))
 
 -- a configuration without a fault has a tracker
 some_tracker : (n : ℕ) → trackers_fit n ≡ true → 0 < n
-some_tracker n e = grind (arith, nat_tests, e)
+some_tracker n e = grind (arith, nat_tests)
 
 tracked : (config : Config) → config_fault config ≡ None → 0 < config.trackers
-tracked config e = some_tracker config.trackers (limits-fit (is_from_to 1 16 (length config.clients.items))
-    (blocks_fit config.blocks) (trackers_fit config.trackers) (all_sources_fit config.clients.items) e).2
+tracked config e = grind (arith, some_tracker, limits-fit)
 
 -- a delivery is next exactly while something is outstanding
 pub moving : {w : ℕ} (config : Config) (log : Log w) → IsGiven config log

@@ -17,11 +17,10 @@ use proofs.protocol.Blocks.{gentle-same, awaited-set, asked_cap-set, alone-set, 
 
 -- ---- a ReleaseAck
 
-pub let_go-block : {X : Type 0} {caching : ℕ → Bool} (c : ℕ) {b : Block X} → IsWell caching b
+let_go-block : {X : Type 0} {caching : ℕ → Bool} (c : ℕ) {b : Block X} → IsWell caching b
     → (b.pair c).letting ≡ ReleaseAcked → IsWell caching (let_go_block c b)
 let_go-block {caching} c {b} h acked =
     let after : ClientBlock = after_release_ack (b.pair c) in
-    let held_same = set-part (λ (p : ClientBlock). p.held) c after b.pair refl in
     let recorded_same = set-part (λ (p : ClientBlock). p.recorded) c after b.pair refl in
     record {
       phases = set-each (λ d q. ok q (view b.service d) ≡ true) c after b.pair
@@ -33,7 +32,7 @@ let_go-block {caching} c {b} h acked =
       one_owner = owned-set c b.pair (gentle-same (b.pair c) after refl refl) h.one_owner;
       outside = outside-set caching c after b.pair (busy-inside caching c b.pair (λ p. is_acked p.letting) refl
           (rw acked refl) h.outside) h.outside;
-      copies = λ d some. h.copies d (rw (held_same d) at some);
+      copies = λ d some. h.copies d (rw ((set-part (λ (p : ClientBlock). p.held) c after b.pair refl) d) at some);
       memory = λ none. h.memory (λ d. rw (recorded_same d) at (none d));
     }
 
@@ -76,15 +75,14 @@ release_ack_taken-kept {X} {caching} c n rest {s} inv first acked =
           (λ i. rw (set-part (λ (p : ClientBlock). p.acquiring) c after old refl d) refl) (inv.named.acquires d);
       serves = λ d. names-block serves_of (serves_with d) (s.uses d) n new s.block (λ i. refl) (inv.named.serves d);
       releases = names-set_at is_of releases_with c source None s.lets n new s.block (rw (set-same c after old) refl)
-          (λ m ne. rw used (sym (ne_eqb m n ne))) (λ i ne. rw (set-same c after old, ne_eqb i source ne)
-          (sym (and-false (not (is_unreleased (old c).letting))))) (λ d i ne. rw (set-other c d after old ne) refl)
-          inv.named.releases;
+          (λ m ne. rw used (sym (ne_eqb m n ne))) (λ i ne. rw (set-same c after old, ne_eqb i source ne) (sym (and-false
+          (not (is_unreleased (old c).letting))))) (λ d i ne. rw (set-other c d after old ne) refl) inv.named.releases;
       trackers = names-block is_of tracks_with s.tracked n new s.block (λ i. refl) inv.named.trackers;
     })
 
 -- ---- a GrantAck
 
-pub freed-block : {X : Type 0} {caching : ℕ → Bool} (c : ℕ) {b : Block X} → IsWell caching b → b.service ≡ GrantTaken c
+freed-block : {X : Type 0} {caching : ℕ → Bool} (c : ℕ) {b : Block X} → IsWell caching b → b.service ≡ GrantTaken c
     → IsWell caching (freed_block b)
 freed-block c {b} h taken =
     let ungranted : (d : ℕ) (x : Bool) → (d == c) ≡ x → is_out (b.pair d) (view b.service d) ≡ is_out (b.pair d) Idle =

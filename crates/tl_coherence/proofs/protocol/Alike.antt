@@ -1,12 +1,11 @@
 -- What the messages of a block are made of, before and after each event.
-use Rattle.std.proofs.Common.{◌≡◌, ℕ, Bool, true, false, List, refl, ◌⊎◌, inr}
+use Rattle.std.proofs.Common.{◌≡◌, ℕ, Bool, true, false, List, refl, ◌⊎◌, inr, arith}
 use Rattle.tl_coherence.proofs
 use proofs.Imports.{Cap, Prune, Report, Kind, set, ClientBlock, ProbeSent, after_grant_sent, after_report, after_grant}
-use proofs.Imports.{after_probe, after_release_taken, after_release_ack, Free, Waits, GrantSent, GrantTaken, Block}
-use proofs.Imports.{granted_block, taken_block, probed_block, reported_block, ended_block, let_block, let_go_block}
-use proofs.Imports.{freed_block, granted_pair, shown}
+use proofs.Imports.{after_release_taken, after_release_ack, Waits, GrantSent, GrantTaken, Block, granted_block}
+use proofs.Imports.{taken_block, probed_block, reported_block, ended_block, let_block, let_go_block, freed_block, shown}
 use proofs.queues.{Showing.AreAlike, Showing.carries, Tokens.set-each}
-use proofs.protocol.BothParts.{waits_ungranted, waits_unacknowledged, sent_unacknowledged, taken_ungranted}
+use proofs.protocol.BothParts.{sent_unacknowledged, taken_ungranted}
 use proofs.protocol.AlikeRequests.{ungranted, unacknowledged, IsAlikePair, AreAlikeGrants, alike-parts, alike-pair}
 use proofs.protocol.AlikeRequests.{alike-pairs}
 
@@ -19,37 +18,20 @@ same-grants b b' service tracker i = (λ e f. (service, tracker), λ e f. tracke
 -- a service that waits shows nothing
 waiting-grants : (q source : ℕ) (own : Bool) (k : Cap) (b b' : Block (List ℕ)) → b.service ≡ Waits q own source k
     → AreAlikeGrants b b'
-waiting-grants q source own k b b' waits i = (
-  λ e f. absurd (ungranted b.service i (Waits q own source k) waits (waits_ungranted own q source k i) e),
-  λ e f. absurd (unacknowledged b.service i (Waits q own source k) waits (waits_unacknowledged own q source k i) e),
-)
+waiting-grants q source own k b b' waits i = grind arith
 
 -- the Probe is no longer on its way, and the ProbeAck isn't yet
 pub alike-probed : (c : ℕ) (k : Cap) (b : Block (List ℕ)) → (b.pair c).probing ≡ ProbeSent k → (i : ℕ)
     → AreAlike i b (probed_block c k b)
-alike-probed c k b sent =
-    let here : IsAlikePair (b.pair c) (after_probe k (b.pair c)) =
-    record {
-      acquiring = λ e f. refl;
-      sent = λ e f. absurd cc;
-      answered = λ e f. absurd (let no : false ≡ true = rw sent at e in cc);
-      letting = λ e f. refl;
-    } in
-    alike-pairs b (probed_block c k b) (alike-pair c (after_probe k (b.pair c)) b.pair here) refl refl
-    (same-grants b (probed_block c k b) refl refl) (λ j i e f. inr refl)
+alike-probed c k b sent = grind arith
 
 reported-pair : (r : Report) (p : ClientBlock) → IsAlikePair p (after_report r p)
-reported-pair r p = record {
-  acquiring = λ e f. refl;
-  sent = λ e f. absurd cc;
-  answered = λ e f. absurd cc;
-  letting = λ e f. refl;
-}
+reported-pair r p =
+    record { acquiring = λ e f. refl; sent = λ e f. absurd cc; answered = λ e f. absurd cc; letting = λ e f. refl }
 
 pub alike-reported : (c : ℕ) (r : Report) (b : Block (List ℕ)) → (i : ℕ) → AreAlike i b (reported_block c r b)
-alike-reported c r b = alike-pairs b (reported_block c r b)
-    (alike-pair c (after_report r (b.pair c)) b.pair (reported-pair r (b.pair c))) refl refl
-    (same-grants b (reported_block c r b) refl refl) (λ j i e f. inr refl)
+alike-reported c r b = alike-pairs b (reported_block c r b) (alike-pair c (after_report r (b.pair c)) b.pair
+    (reported-pair r (b.pair c))) refl refl (same-grants b (reported_block c r b) refl refl) (λ j i e f. inr refl)
 
 -- the bytes change only where nothing that is left carries them
 pub alike-ended : (c q source : ℕ) (r : Report) (k : Cap) (f : List ℕ → List ℕ) (b : Block (List ℕ))
@@ -62,16 +44,13 @@ alike-ended c q source r k f b waits bytes = alike-pairs b (ended_block c r f b)
 
 pub alike-granted : (c q source : ℕ) (r : Report) (own d : Bool) (k gift : Cap) (b : Block (List ℕ))
     → b.service ≡ Waits q own source k → (c ≡ q → ⊥) → (i : ℕ) → AreAlike i b (granted_block c q r d gift b)
-alike-granted c q source r own d k gift b waits apart = alike-pairs b (granted_block c q r d gift b) pairs refl refl
+alike-granted c q source r own d k gift b waits apart =
+    let reported = set c (after_report r (b.pair c)) b.pair in
+    let pairs = set-each (λ i x. IsAlikePair (b.pair i) x) q (after_grant_sent gift (b.pair q)) reported
+    (alike-parts (b.pair q) (after_grant_sent gift (b.pair q)) refl refl refl)
+    (λ i ne. alike-pair c (after_report r (b.pair c)) b.pair (reported-pair r (b.pair c)) i) in
+    alike-pairs b (granted_block c q r d gift b) pairs refl refl
     (waiting-grants q source own k b (granted_block c q r d gift b) waits) (λ j i e f. inr refl)
-  where
-    reported : ℕ → ClientBlock
-    reported = set c (after_report r (b.pair c)) b.pair
-
-    pairs : (i : ℕ) → IsAlikePair (b.pair i) (granted_pair c q r gift b.pair i)
-    pairs = set-each (λ i x. IsAlikePair (b.pair i) x) q (after_grant_sent gift (b.pair q)) reported
-        (alike-parts (b.pair q) (after_grant_sent gift (b.pair q)) refl refl refl)
-        (λ i ne. alike-pair c (after_report r (b.pair c)) b.pair (reported-pair r (b.pair c)) i)
 
 -- ---- a Release, and its answer
 
@@ -104,9 +83,4 @@ alike-taken c whole d k b sent bytes =
     )) bytes
 
 pub alike-freed : (c : ℕ) (b : Block (List ℕ)) → b.service ≡ GrantTaken c → (i : ℕ) → AreAlike i b (freed_block b)
-alike-freed c b taken =
-    alike-pairs b (freed_block b) (λ i. alike-parts (b.pair i) (b.pair i) refl refl refl) refl refl
-    (λ i. (
-      λ e f. absurd (ungranted b.service i (GrantTaken c) taken (taken_ungranted c i) e),
-      λ e f. absurd (unacknowledged Free i Free refl refl f),
-    )) (λ j i e f. inr refl)
+alike-freed c b taken = grind (arith, alike-pairs, alike-parts)

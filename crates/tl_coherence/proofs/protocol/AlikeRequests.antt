@@ -1,15 +1,14 @@
 -- What is shown of a block stays where a client is asked, and where a request is taken.
-use Rattle.std.proofs.Common.{◌≡◌, ℕ, Bool, true, false, not, ◌&&◌, List, refl, sym, ◌∙◌, ap, ◌⊎◌, inl, inr, ◌==◌}
+use Rattle.std.proofs.Common.{◌≡◌, ℕ, Bool, true, false, ◌&&◌, List, refl, sym, ◌∙◌, ap, ◌⊎◌, inl, inr, ◌==◌, arith}
 use Rattle.std.proofs.Common.{if◌then◌else◌}
 use Rattle.tl_coherence.proofs
 use proofs.Imports.{cases_eq, Cap, Grow, Prune, IsWell, Kind, Acquire, Probe, ProbeAck, Release, Grant, ReleaseAck}
-use proofs.Imports.{GrantAck, set, ClientBlock, View, Granting, ProbePhase, NoProbe, ReleasePhase, NoRelease}
-use proofs.Imports.{AcquirePhase, NoAcquire, is_unacquired, is_unprobed, after_grant_sent, after_acquire, after_release}
-use proofs.Imports.{after_served, Service, Free, Block, view, acquiring_block, releasing_block, granted_at_once}
-use proofs.Imports.{served_block, served_pair, is_wanting, is_sent, is_answered, is_releasing, is_acked, is_granting}
-use proofs.Imports.{is_acknowledging, shown, is_unserved}
-use proofs.queues.{Facts.granting_asks, PhaseFacts.quiet_at_rest, Showing.IsAlike, Showing.AreAlike, Showing.carries}
-use proofs.queues.{Tokens.set-same, Tokens.set-other, Tokens.set-each, Phases.and_left}
+use proofs.Imports.{GrantAck, set, ClientBlock, View, Granting, ProbePhase, NoRelease, NoAcquire, is_unprobed}
+use proofs.Imports.{after_acquire, after_release, after_served, Service, Free, Block, view}
+use proofs.Imports.{acquiring_block, releasing_block, granted_at_once, served_block, served_pair, is_wanting, is_sent}
+use proofs.Imports.{is_answered, is_releasing, is_granting, is_acknowledging, shown}
+use proofs.queues.{Facts.granting_asks, PhaseFacts.quiet_at_rest, Showing.AreAlike, Showing.carries}
+use proofs.queues.{Tokens.set-same, Tokens.set-each, Phases.and_left}
 
 -- ---- what a service shows
 
@@ -19,8 +18,7 @@ ungranted v i u e f g = let h : is_granting (view u i) ≡ true = rw e at g in l
 
 pub unacknowledged : (v : Service) (i : ℕ) (u : Service) → v ≡ u → is_acknowledging (view u i) ≡ false
     → is_acknowledging (view v i) ≡ true → ⊥
-unacknowledged v i u e f g = let h : is_acknowledging (view u i) ≡ true = rw e at g in let k : false ≡ true =
-    sym f ∙ h in cc
+unacknowledged v i u e f g = let h : is_acknowledging (view u i) ≡ true = rw e at g in let k : false ≡ true = cc in cc
 
 -- a part of pairs where one client's changes
 pub pair_at : (c : ℕ) (p : ClientBlock) (f : ℕ → ClientBlock) → set c p f c ≡ p
@@ -47,38 +45,19 @@ alike-pair c q pair here = set-each (λ i x. IsAlikePair (pair i) x) c q pair he
 
 -- nor is anything shown of a Grant both before and after, or its service and tracker stay
 abbrev pub AreAlikeGrants : Block (List ℕ) → Block (List ℕ) → Type 0
-AreAlikeGrants b b' = (i : ℕ)
-    → (is_granting (view b.service i) ≡ true → is_granting (view b'.service i) ≡ true
-    → (b'.service ≡ b.service) × (b'.tracker ≡ b.tracker))
-    × (is_acknowledging (view b.service i) ≡ true → is_acknowledging (view b'.service i) ≡ true
-    → b'.tracker ≡ b.tracker)
+AreAlikeGrants b b' = (i : ℕ) → (is_granting (view b.service i) ≡ true → is_granting (view b'.service i) ≡ true
+    → (b'.service ≡ b.service) × (b'.tracker ≡ b.tracker)) × (is_acknowledging (view b.service i) ≡ true
+    → is_acknowledging (view b'.service i) ≡ true → b'.tracker ≡ b.tracker)
 
 pub alike-pairs : (b b' : Block (List ℕ)) → ((i : ℕ) → IsAlikePair (b.pair i) (b'.pair i))
     → b'.source ≡ b.source → b'.release_source ≡ b.release_source → AreAlikeGrants b b'
     → ((k : Kind) (i : ℕ) → shown k i b ≡ true → shown k i b' ≡ true → (carries k i b ≡ false)
     ⊎ (b'.truth ≡ b.truth)) → (i : ℕ) → AreAlike i b b'
-alike-pairs b b' pairs source release grants bytes i k e f = (alike k e f, bytes k i e f)
-  where
-    alike : (k : Kind) → shown k i b ≡ true → shown k i b' ≡ true → IsAlike k i b b'
-    alike Acquire e f = (
-      (pairs i).acquiring (and_left _ (is_unserved (view b.service i)) e)
-          (and_left _ (is_unserved (view b'.service i)) f),
-      ap (λ (g : ℕ → ℕ). g i) source,
-    )
-    alike Probe e f = (pairs i).sent e f
-    alike ProbeAck e f = (pairs i).answered e f
-    alike Release e f = ((pairs i).letting e f, ap (λ (g : ℕ → ℕ). g i) release)
-    alike Grant e f = let same = (grants i).0 e f in (same.0, ap (λ (g : ℕ → ℕ). g i) source, same.1)
-    alike ReleaseAck e f = ap (λ (g : ℕ → ℕ). g i) release
-    alike GrantAck e f = (grants i).1 e f
-    alike k e f = tt
+alike-pairs b b' pairs source release grants bytes i k e f = grind (arith, and_left)
 
 -- a service that is free shows nothing
-pub free-grants : (b b' : Block (List ℕ)) → b.service ≡ Free → AreAlikeGrants b b'
-free-grants b b' free i = (
-  λ e f. absurd (ungranted b.service i Free free refl e),
-  λ e f. absurd (unacknowledged b.service i Free free refl e),
-)
+free-grants : (b b' : Block (List ℕ)) → b.service ≡ Free → AreAlikeGrants b b'
+free-grants b b' free i = grind arith
 
 -- ---- a client is asked
 
@@ -96,19 +75,13 @@ alike-acquiring c source whole g bytes {b} well calm i = elim (cases_eq i c) [
     new : Block (List ℕ)
     new = acquiring_block c source whole g bytes b
 
-    uncalm : (x : AcquirePhase) → x ≡ NoAcquire → not (is_unacquired x) ≡ true → ⊥
-    uncalm x e f = let h : false ≡ true = rw e at f in cc
-
-    unwanted : (x : AcquirePhase) (y : Bool) → x ≡ NoAcquire → (is_wanting x && y) ≡ true → ⊥
-    unwanted x y e f = let h : false ≡ true = rw e at f in cc
-
     granted : (v : View) → view b.service c ≡ v → is_granting v ≡ true → ⊥
     granted (Granting d k) e f =
-        uncalm (b.pair c).acquiring calm (granting_asks d k (b.pair c) (view b.service c) (well.phases c) e)
+        (let h : false ≡ true = rw calm at (granting_asks d k (b.pair c) (view b.service c) (well.phases c) e) in cc)
     granted v e f = cc
 
     here : AreAlike c b new
-    here Acquire e f = absurd (unwanted (b.pair c).acquiring _ calm e)
+    here Acquire e f = absurd (let h : false ≡ true = rw calm at e in cc)
     here Probe e f = (ap (λ (p : ClientBlock). p.probing) (pair_at c after b.pair), inr refl)
     here ProbeAck e f = (ap (λ (p : ClientBlock). p.probing) (pair_at c after b.pair), inr refl)
     here Release e f = ((ap (λ (p : ClientBlock). p.letting) (pair_at c after b.pair), refl), inr refl)
@@ -118,17 +91,7 @@ alike-acquiring c source whole g bytes {b} well calm i = elim (cases_eq i c) [
     here _ e f = (tt, inr refl)
 
     there : (i ≡ c → ⊥) → AreAlike i b new
-    there ne Acquire e f = (
-      (ap (λ (p : ClientBlock). p.acquiring) (set-other c i after b.pair ne), set-other c i source b.source ne),
-      inr refl,
-    )
-    there ne Probe e f = (ap (λ (p : ClientBlock). p.probing) (set-other c i after b.pair ne), inr refl)
-    there ne ProbeAck e f = (ap (λ (p : ClientBlock). p.probing) (set-other c i after b.pair ne), inr refl)
-    there ne Release e f = ((ap (λ (p : ClientBlock). p.letting) (set-other c i after b.pair ne), refl), inr refl)
-    there ne Grant e f = ((refl, set-other c i source b.source ne, refl), inr refl)
-    there ne ReleaseAck e f = (refl, inr refl)
-    there ne GrantAck e f = (refl, inr refl)
-    there ne _ e f = (tt, inr refl)
+    there e = grind arith
 
 pub alike-releasing : (c source : ℕ) (r : Prune) (b : Block (List ℕ)) → (b.pair c).letting ≡ NoRelease → (i : ℕ)
     → AreAlike i b (releasing_block c source r b)
@@ -140,71 +103,36 @@ alike-releasing c source r b kept i = elim (cases_eq i c) [ inl same ↦ rw same
     new : Block (List ℕ)
     new = releasing_block c source r b
 
-    unreleased : (x : ReleasePhase) → x ≡ NoRelease → is_releasing x ≡ true → ⊥
-    unreleased x e f = let h : false ≡ true = rw e at f in cc
-
-    unacked : (x : ReleasePhase) → x ≡ NoRelease → is_acked x ≡ true → ⊥
-    unacked x e f = let h : false ≡ true = rw e at f in cc
-
     here : AreAlike c b new
     here Acquire e f = ((ap (λ (p : ClientBlock). p.acquiring) (pair_at c after b.pair), refl), inr refl)
     here Probe e f = (ap (λ (p : ClientBlock). p.probing) (pair_at c after b.pair), inr refl)
     here ProbeAck e f = (ap (λ (p : ClientBlock). p.probing) (pair_at c after b.pair), inr refl)
-    here Release e f = absurd (unreleased (b.pair c).letting kept e)
+    here Release e f = absurd (let h : false ≡ true = rw kept at e in cc)
     here Grant e f = ((refl, refl, refl), inr refl)
-    here ReleaseAck e f = absurd (unacked (b.pair c).letting kept e)
+    here ReleaseAck e f = absurd (let h : false ≡ true = rw kept at e in cc)
     here GrantAck e f = (refl, inr refl)
     here _ e f = (tt, inr refl)
 
     there : (i ≡ c → ⊥) → AreAlike i b new
-    there ne Acquire e f = ((ap (λ (p : ClientBlock). p.acquiring) (set-other c i after b.pair ne), refl), inr refl)
-    there ne Probe e f = (ap (λ (p : ClientBlock). p.probing) (set-other c i after b.pair ne), inr refl)
-    there ne ProbeAck e f = (ap (λ (p : ClientBlock). p.probing) (set-other c i after b.pair ne), inr refl)
-    there ne Release e f = (
-      (ap (λ (p : ClientBlock). p.letting) (set-other c i after b.pair ne), set-other c i source b.release_source ne),
-      inr refl,
-    )
-    there ne Grant e f = ((refl, refl, refl), inr refl)
-    there ne ReleaseAck e f = (set-other c i source b.release_source ne, inr refl)
-    there ne GrantAck e f = (refl, inr refl)
-    there ne _ e f = (tt, inr refl)
+    there e = grind arith
 
 -- the same of a block whose copies, memory and bytes change alone
 pub alike-bytes : (b b' : Block (List ℕ)) → b'.pair ≡ b.pair → b'.source ≡ b.source
     → b'.release_source ≡ b.release_source → b'.service ≡ b.service → b'.tracker ≡ b.tracker
     → ((k : Kind) (i : ℕ) → (carries k i b ≡ false) ⊎ (b'.truth ≡ b.truth)) → (i : ℕ) → AreAlike i b b'
-alike-bytes b b' pair source release service tracker bytes i k e f = (alike k, bytes k i)
-  where
-    same : b'.pair i ≡ b.pair i
-    same = ap (λ (p : ℕ → ClientBlock). p i) pair
-
-    alike : (k : Kind) → IsAlike k i b b'
-    alike Acquire = (ap (λ (p : ClientBlock). p.acquiring) same, ap (λ (p : ℕ → ℕ). p i) source)
-    alike Probe = ap (λ (p : ClientBlock). p.probing) same
-    alike ProbeAck = ap (λ (p : ClientBlock). p.probing) same
-    alike Release = (ap (λ (p : ClientBlock). p.letting) same, ap (λ (p : ℕ → ℕ). p i) release)
-    alike Grant = (service, ap (λ (p : ℕ → ℕ). p i) source, tracker)
-    alike ReleaseAck = ap (λ (p : ℕ → ℕ). p i) release
-    alike GrantAck = tracker
-    alike k = tt
+alike-bytes b b' pair source release service tracker bytes i k e f = grind arith
 
 -- ---- a request is taken
 
 pub alike-granted_at_once : (r tracker : ℕ) (d : Bool) (k : Cap) (b : Block (List ℕ)) → b.service ≡ Free → (i : ℕ)
     → AreAlike i b (granted_at_once r tracker d k b)
-alike-granted_at_once r tracker d k b free =
-    let new : Block (List ℕ) = granted_at_once r tracker d k b in
-    alike-pairs b new (alike-pair r (after_grant_sent k (b.pair r)) b.pair
-    (alike-parts (b.pair r) (after_grant_sent k (b.pair r)) refl refl refl)) refl refl (free-grants b new free)
-    (λ j i e f. inr refl)
+alike-granted_at_once r tracker d k b free = grind arith
 
 unsent : (x : ProbePhase) → is_unprobed x ≡ true → is_sent x ≡ true → ⊥
-unsent NoProbe e f = cc
-unsent x e f = cc
+unsent x e f = grind arith
 
 unanswered : (x : ProbePhase) → is_unprobed x ≡ true → is_answered x ≡ true → ⊥
-unanswered NoProbe e f = cc
-unanswered x e f = cc
+unanswered x e f = grind arith
 
 pub alike-served : {caching : ℕ → Bool} (r : ℕ) (own : Bool) (source tracker : ℕ) (k : Cap) {b : Block (List ℕ)}
     → IsWell caching b → b.service ≡ Free → (i : ℕ) → AreAlike i b (served_block r own source tracker k b)

@@ -1,15 +1,14 @@
 -- An access that is answered as it is taken, and an answer that is taken, keep the invariant.
-use Rattle.std.proofs.Common.{◌≡◌, refl, sym, ◌∙◌, ap, ◌⊎◌, inl, inr, ℕ, Bool, true, false, List, ◌∷◌}
+use Rattle.std.proofs.Common.{◌≡◌, refl, sym, ◌∙◌, ap, ◌⊎◌, inl, inr, ℕ, Bool, true, false, List, ◌∷◌, arith}
 use Rattle.tl_coherence.proofs
 use proofs.Imports.{Channel, Perm, same_perm, is_of, acquires_of, serves_of, acquires_with, serves_with, releases_with}
 use proofs.Imports.{tracks_with, IsWell, IsInvariant, Kind, Request, ProbeAck, Answer, Packet, Block, State, Asked}
 use proofs.Imports.{Replied, view, packet, performed_block, answered_link, access_answered, answer_taken, shown}
 use proofs.Imports.{is_transfer, Move, Stays, Pushes, Pops, AreMoved, is_own_move, channel_for}
-use Rattle.tl_coherence.specs.protocol.Protocol.{Link}
-use proofs.queues.Moves.{event-at, bare-elsewhere, invariant-moved_access, names-block, names-set_at}
-use proofs.queues.Moves.{invariant-moved_use}
-use proofs.queues.{KindMoves.spares, KindMoves.spared-agrees, Tokens.same_number, Facts.held_at_most}
-use proofs.queues.{Perms.nothing_below}
+use Rattle.tl_coherence.{specs.protocol.Protocol.Link}
+use proofs.queues.{Moves.event-at, Moves.bare-elsewhere, Moves.invariant-moved_access, Moves.names-block}
+use proofs.queues.{Moves.names-set_at, Moves.invariant-moved_use, KindMoves.spares, KindMoves.spared-agrees}
+use proofs.queues.{Tokens.same_number, Facts.held_at_most, Perms.nothing_below}
 
 -- ---- the block
 
@@ -33,10 +32,8 @@ performed-block {X} f {b} h spared = record {
   where
     copy_is : (d : ℕ) → same_perm (b.pair d).held Perm.None ≡ false → Spares f b → b.copy d ≡ f b.truth
     copy_is d some (inl same) = h.copies d some ∙ sym same
-    copy_is d some (inr none) =
-        absurd (let no = nothing_below (b.pair d).held (b.pair d).recorded
-        (held_at_most (b.pair d) (view b.service d) (h.phases d)) (none d) in let differs : true ≡ false =
-        sym no ∙ some in cc)
+    copy_is d some (inr none) = absurd (let no = nothing_below (b.pair d).held (b.pair d).recorded (held_at_most
+        (b.pair d) (view b.service d) (h.phases d)) (none d) in let differs : true ≡ false = sym no ∙ some in cc)
 
 -- ---- the whole
 
@@ -47,9 +44,7 @@ answer_moves source Channel.D = Pushes Answer source
 answer_moves source _ = Stays
 
 answer_spared : (source : ℕ) (k : Kind) → is_transfer k ≡ true → spares (answer_moves source (channel_for k)) k ≡ true
-answer_spared source Request t = absurd cc
-answer_spared source Answer t = absurd cc
-answer_spared source k t = refl
+answer_spared source k e = grind arith
 
 pub access_answered-kept : {X : Type 0} {caching : ℕ → Bool} (c n source : ℕ) (f : X → X) (rest : List Packet)
     {s : State X} → IsInvariant caching s → (s.link c).a ≡ packet Request source ∷ rest → s.uses c source ≡ Asked
@@ -73,12 +68,10 @@ access_answered-kept {X} {caching} c n source f rest {s} inv first asked spared 
     (rw (same_number c, same_number source) refl) (rw (same_number c, asked, same_number source) refl)
     (bare-elsewhere c (answer_moves source))
     (record {
-      acquires = names-set_at acquires_of acquires_with c source Replied s.uses n new s.block
-          (rw asked at (inv.named.acquires c source n))
-          (λ m ne. rw asked refl) (λ i ne. refl) (λ d i ne. refl) inv.named.acquires;
-      serves = names-set_at serves_of serves_with c source Replied s.uses n new s.block
-          (rw asked at (inv.named.serves c source n)) (λ m ne. rw asked refl)
-          (λ i ne. refl) (λ d i ne. refl) inv.named.serves;
+      acquires = names-set_at acquires_of acquires_with c source Replied s.uses n new s.block (rw asked at
+          (inv.named.acquires c source n)) (λ m ne. rw asked refl) (λ i ne. refl) (λ d i ne. refl) inv.named.acquires;
+      serves = names-set_at serves_of serves_with c source Replied s.uses n new s.block (rw asked at
+          (inv.named.serves c source n)) (λ m ne. rw asked refl) (λ i ne. refl) (λ d i ne. refl) inv.named.serves;
       releases = λ d. names-block is_of (releases_with d) (s.lets d) n new s.block (λ i. refl) (inv.named.releases d);
       trackers = names-block is_of tracks_with s.tracked n new s.block (λ i. refl) inv.named.trackers;
     })
@@ -89,9 +82,7 @@ done_moves source Channel.D = Pops Answer source
 done_moves source _ = Stays
 
 done_spared : (source : ℕ) (k : Kind) → is_transfer k ≡ true → spares (done_moves source (channel_for k)) k ≡ true
-done_spared source Request t = absurd cc
-done_spared source Answer t = absurd cc
-done_spared source k t = refl
+done_spared source k e = grind arith
 
 pub answer_taken-kept : {X : Type 0} {caching : ℕ → Bool} (c source : ℕ) (rest : List Packet) {s : State X}
     → IsInvariant caching s → (s.link c).d ≡ packet Answer source ∷ rest → s.uses c source ≡ Replied

@@ -1,9 +1,9 @@
 -- What a client is asked keeps the invariant: an access, an Acquire, a Release and a store.
-use Rattle.std.proofs.Common.{◌≡◌, refl, sym, ◌∙◌, ap, inl, inr, ℕ, Bool, true, false, not, Some, None, ne_eqb}
+use Rattle.std.proofs.Common.{◌≡◌, refl, sym, ◌∙◌, ap, inl, inr, ℕ, Bool, true, false, not, Some, None, ne_eqb, arith}
 use Rattle.tl_coherence.proofs
 use proofs.Imports.{cases_eq, Channel, Grow, Prune, Perm, prune_left, same_perm, is_out, is_of, acquires_of, serves_of}
 use proofs.Imports.{acquires_with, serves_with, releases_with, tracks_with, IsWell, IsInvariant, Kind, Request, Acquire}
-use proofs.Imports.{ProbeAck, Release, Answer, ReleaseAck, set_at, ClientBlock, View, Own, NoRelease, NoAcquire}
+use proofs.Imports.{ProbeAck, Release, ReleaseAck, set_at, ClientBlock, View, Own, NoRelease, NoAcquire}
 use proofs.Imports.{AcquireOpen, is_unacquired, grow_fits, ok, after_acquire, after_release, Block, State, SourceFree}
 use proofs.Imports.{Acquires, view, packet, with_a, with_c, acquiring_block, releasing_block, stored_block}
 use proofs.Imports.{access_asked, acquire_asked, release_asked, block_stored, shows, shown, is_transfer, is_unserved}
@@ -20,13 +20,11 @@ use proofs.queues.Moves.{names-set_at, invariant-moved, invariant-moved_use}
 
 -- ---- blocks
 
-pub acquiring-block : {X : Type 0} {caching : ℕ → Bool} (c source : ℕ) (whole : Bool) (g : Grow) (bytes : X)
-    {b : Block X} → IsWell caching b → caching c ≡ true → (b.pair c).acquiring ≡ NoAcquire
-    → (b.pair c).letting ≡ NoRelease
+acquiring-block : {X : Type 0} {caching : ℕ → Bool} (c source : ℕ) (whole : Bool) (g : Grow) (bytes : X) {b : Block X}
+    → IsWell caching b → caching c ≡ true → (b.pair c).acquiring ≡ NoAcquire → (b.pair c).letting ≡ NoRelease
     → grow_fits (b.pair c).held (AcquireOpen whole g) ≡ true → IsWell caching (acquiring_block c source whole g bytes b)
 acquiring-block {caching} c source whole g bytes {b} h inside calm kept fits =
     let after : ClientBlock = after_acquire whole g (b.pair c) in
-    let held_same = set-part (λ (p : ClientBlock). p.held) c after b.pair refl in
     let recorded_same = set-part (λ (p : ClientBlock). p.recorded) c after b.pair refl in
     record {
       phases = set-each (λ d q. ok q (view b.service d) ≡ true) c after b.pair
@@ -36,9 +34,8 @@ acquiring-block {caching} c source whole g bytes {b} h inside calm kept fits =
       own_source = own_source-other b.service c source b.source (λ e. not_own e) h.own_source;
       alone = alone-set c b.pair (gentle-same (b.pair c) after refl refl) h.alone;
       one_owner = owned-set c b.pair (gentle-same (b.pair c) after refl refl) h.one_owner;
-      outside = outside-set caching c after b.pair (λ e. absurd (let f : true ≡ false = sym inside ∙ e in cc))
-          h.outside;
-      copies = λ d some. h.copies d (rw (held_same d) at some);
+      outside = outside-set caching c after b.pair (λ e. absurd cc) h.outside;
+      copies = λ d some. h.copies d (rw ((set-part (λ (p : ClientBlock). p.held) c after b.pair refl) d) at some);
       memory = λ none. h.memory (λ d. rw (recorded_same d) at (none d));
     }
   where
@@ -48,13 +45,9 @@ acquiring-block {caching} c source whole g bytes {b} h inside calm kept fits =
 
 -- what is given up was held
 left_some : (r : Prune) (p : Perm) → same_perm p (prune_left r) ≡ true → same_perm p Perm.None ≡ false
-left_some Prune.TtoB Perm.None e = absurd cc
-left_some Prune.TtoN Perm.None e = absurd cc
-left_some Prune.BtoN Perm.None e = absurd cc
-left_some r Perm.Branch e = refl
-left_some r Perm.Trunk e = refl
+left_some r p e = grind arith
 
-pub releasing-block : {X : Type 0} {caching : ℕ → Bool} (c source : ℕ) (r : Prune) {b : Block X} → IsWell caching b
+releasing-block : {X : Type 0} {caching : ℕ → Bool} (c source : ℕ) (r : Prune) {b : Block X} → IsWell caching b
     → caching c ≡ true → (b.pair c).acquiring ≡ NoAcquire → (b.pair c).letting ≡ NoRelease
     → same_perm (b.pair c).held (prune_left r) ≡ true → IsWell caching (releasing_block c source r b)
 releasing-block {caching} c source r {b} h inside calm kept fits =
@@ -68,8 +61,7 @@ releasing-block {caching} c source r {b} h inside calm kept fits =
       own_source = h.own_source;
       alone = alone-set c b.pair (gentle-same (b.pair c) after refl refl) h.alone;
       one_owner = owned-set c b.pair (gentle-same (b.pair c) after refl refl) h.one_owner;
-      outside = outside-set caching c after b.pair (λ e. absurd (let f : true ≡ false = sym inside ∙ e in cc))
-          h.outside;
+      outside = outside-set caching c after b.pair (λ e. absurd cc) h.outside;
       copies = λ d some. elim (cases_eq d c) [
         | inl same ↦ rw same (h.copies c (left_some r (b.pair c).held fits))
         | inr other ↦ h.copies d (rw (set-other c d after b.pair other) at some)
@@ -77,7 +69,7 @@ releasing-block {caching} c source r {b} h inside calm kept fits =
       memory = λ none. h.memory (λ d. rw (recorded_same d) at (none d));
     }
 
-pub stored-block : {X : Type 0} {caching : ℕ → Bool} (c : ℕ) (bytes : X) {b : Block X} → IsWell caching b
+stored-block : {X : Type 0} {caching : ℕ → Bool} (c : ℕ) (bytes : X) {b : Block X} → IsWell caching b
     → same_perm (b.pair c).held Perm.Trunk ≡ true → IsWell caching (stored_block c bytes b)
 stored-block c bytes {b} h may =
     let out : is_out (b.pair c) (view b.service c) ≡ true = held_out (b.pair c) (view b.service c) (h.phases c) may in
@@ -92,9 +84,8 @@ stored-block c bytes {b} h may =
       outside = h.outside;
       copies = λ d some. elim (cases_eq d c) [
         | inl same ↦ rw same (set-same c bytes b.copy)
-        | inr other ↦ absurd (let none =
-            nothing_below (b.pair d).held (b.pair d).recorded (held_at_most (b.pair d) (view b.service d) (h.phases d))
-            (h.one_owner c d owns other) in let differs : true ≡ false = sym none ∙ some in cc)
+        | inr other ↦ absurd (cc (nothing_below (b.pair d).held (b.pair d).recorded
+            (held_at_most (b.pair d) (view b.service d) (h.phases d)) (h.one_owner c d owns other)))
       ];
       memory = λ none. absurd (let differs : true ≡ false = sym out ∙ none c in cc);
     }
@@ -107,9 +98,7 @@ access_moves source Channel.A = Pushes Request source
 access_moves source _ = Stays
 
 access_spared : (source : ℕ) (k : Kind) → is_transfer k ≡ true → spares (access_moves source (channel_for k)) k ≡ true
-access_spared source Request t = absurd cc
-access_spared source Answer t = absurd cc
-access_spared source k t = refl
+access_spared source k e = grind arith
 
 pub access_asked-kept : {X : Type 0} {caching : ℕ → Bool} (c source : ℕ) {s : State X} → IsInvariant caching s
     → s.uses c source ≡ SourceFree → IsInvariant caching (access_asked c source s)
@@ -173,9 +162,8 @@ acquire_asked-kept {X} {caching} c n source whole g bytes {s} inv inside closed 
           (λ i ne. rw (set-same c after old, set-same c source (s.block n).source, ne_eqb i source ne, calm) refl)
           (λ d i ne. rw (set-other c d after old ne, set-other c d source (s.block n).source ne) refl)
           inv.named.acquires;
-      serves = names-set_at serves_of serves_with c source (Acquires n) s.uses n new s.block
-          (rw closed at (inv.named.serves c source n))
-          (λ m ne. rw closed refl) (λ i ne. refl) (λ d i ne. refl) inv.named.serves;
+      serves = names-set_at serves_of serves_with c source (Acquires n) s.uses n new s.block (rw closed at
+          (inv.named.serves c source n)) (λ m ne. rw closed refl) (λ i ne. refl) (λ d i ne. refl) inv.named.serves;
       releases = λ d. names-block is_of (releases_with d) (s.lets d) n new s.block
           (λ i. rw (set-part (λ (p : ClientBlock). p.letting) c after old refl d) refl) (inv.named.releases d);
       trackers = names-block is_of tracks_with s.tracked n new s.block (λ i. refl) inv.named.trackers;

@@ -1,21 +1,20 @@
 -- An Acquire that is granted as it is taken keeps the invariant.
 use Rattle.std.proofs.Common.{◌≡◌, refl, sym, ◌∙◌, ◌⊎◌, inl, inr, ℕ, Bool, true, false, not, List, ◌∷◌, Some, None}
-use Rattle.std.proofs.Common.{ne_eqb}
+use Rattle.std.proofs.Common.{arith, ne_eqb}
 use Rattle.tl_coherence.proofs
 use proofs.Imports.{cases_eq, Channel, Cap, Grow, Perm, cap_right, same_perm, is_of, acquires_of, serves_of}
 use proofs.Imports.{acquires_with, serves_with, releases_with, tracks_with, IsWell, IsInvariant, cap_asked, Kind}
-use proofs.Imports.{Acquire, ProbeAck, Grant, Packet, set, ClientBlock, Idle, Granting}
-use proofs.Imports.{AcquireOpen, same_cap, is_unacquired, is_unprobed, cap_fits, is_above, is_granted_data}
-use proofs.Imports.{after_grant_sent, Free, Block, State, view, packet, granted_at_once, answered_link, acquire_granted}
-use proofs.Imports.{shows, is_transfer, is_wanting, Move, Stays, Pushes, Pops, AreMoved, agrees, is_own_move}
-use proofs.Imports.{channel_for}
-use Rattle.tl_coherence.specs.protocol.Protocol.{Link}
-use proofs.queues.{Moves.event-at, Moves.bare-at, Moves.names-block, Moves.names-set, Moves.invariant-moved}
-use proofs.queues.{KindMoves.same_again, Facts.asked_low, PhaseFacts.quiet_at_rest, Perms.not_out, Tokens.same_number}
-use proofs.queues.{Tokens.set-same, Tokens.set-other, Tokens.set-part, PhaseSteps.grant_at_once-ok}
-use proofs.queues.{PhaseSteps.granted_other-ok}
-use proofs.protocol.{Blocks.busy-inside, Blocks.outside-set, Granted.gives, Granted.none_or_trunk}
-use proofs.protocol.{Granted.grows_to_trunk, BothParts.shows-beside}
+use proofs.Imports.{Acquire, ProbeAck, Grant, Packet, set, ClientBlock, Idle, Granting, AcquireOpen, same_cap}
+use proofs.Imports.{is_unacquired, is_unprobed, cap_fits, is_above, is_granted_data, after_grant_sent, Free, Block}
+use proofs.Imports.{State, view, packet, granted_at_once, answered_link, acquire_granted, shows, is_transfer}
+use proofs.Imports.{is_wanting, Move, Stays, Pushes, Pops, AreMoved, agrees, is_own_move, channel_for}
+use Rattle.tl_coherence.{specs.protocol.Protocol.Link}
+use proofs.queues.{KindMoves.same_again, Facts.asked_low, PhaseFacts.quiet_at_rest, Perms.not_out}
+use proofs.queues.Moves.{event-at, bare-at, names-block, names-set, invariant-moved}
+use proofs.queues.Tokens.{same_number, set-same, set-other, set-part}
+use proofs.queues.PhaseSteps.{grant_at_once-ok, granted_other-ok}
+use proofs.protocol.{Blocks.busy-inside, Blocks.outside-set, BothParts.shows-beside}
+use proofs.protocol.Granted.{gives, none_or_trunk, grows_to_trunk}
 
 -- ---- the block
 
@@ -27,14 +26,13 @@ pub record IsGrantable {X : Type 0} (r : ℕ) (whole : Bool) (g : Grow) (gift : 
   pub low : (d : ℕ) → (d ≡ r → ⊥) → same_perm (b.pair d).recorded Perm.Trunk ≡ false
   pub room : same_cap gift Cap.ToT ≡ true → (d : ℕ) → (d ≡ r → ⊥) → same_perm (b.pair d).recorded Perm.None ≡ true
 
-pub granted_at_once-block : {X : Type 0} {caching : ℕ → Bool} {r : ℕ} (tracker : ℕ) {whole : Bool} {g : Grow}
+granted_at_once-block : {X : Type 0} {caching : ℕ → Bool} {r : ℕ} (tracker : ℕ) {whole : Bool} {g : Grow}
     {gift : Cap} {b : Block X} → IsWell caching b → IsGrantable r whole g gift b
     → IsWell caching (granted_at_once r tracker (is_granted_data whole g (b.pair r).recorded) gift b)
 granted_at_once-block {caching} {r} tracker {whole} {g} {gift} {b} h is =
     let quiet : (d : ℕ) → is_unprobed (b.pair d).probing ≡ true =
     λ d. quiet_at_rest (b.pair d) (view b.service d) (h.phases d) (idle d) in
     let quiet_same = set-part (λ (p : ClientBlock). is_unprobed p.probing) r after b.pair refl in
-    let held_same = set-part (λ (p : ClientBlock). p.held) r after b.pair refl in
     record {
       phases = λ d. elim (cases_eq d r) [
         | inl same ↦ rw (same, set-same r after b.pair, same_number r)
@@ -49,7 +47,7 @@ granted_at_once-block {caching} {r} tracker {whole} {g} {gift} {b} h is =
       one_owner = λ i j trunk ne. owner (gives whole g gift is.fits) i j trunk ne;
       outside = outside-set caching r after b.pair (busy-inside caching r b.pair (λ p. not (is_unacquired p.acquiring))
           refl (rw is.wants refl) h.outside) h.outside;
-      copies = λ d some. h.copies d (rw (held_same d) at some);
+      copies = λ d some. h.copies d (rw ((set-part (λ (p : ClientBlock). p.held) r after b.pair refl) d) at some);
       memory = λ none. h.memory (λ d. not_out (b.pair d) (view b.service d) (low d (cases_eq d r)));
     }
   where
@@ -82,21 +80,12 @@ granted_at_once-block {caching} {r} tracker {whole} {g} {gift} {b} h is =
 -- nobody is to be probed with the cap that an Acquire asks for: so nobody has Trunk
 pub low-unprobed : (whole : Bool) (g : Grow) (p : Perm) → is_above (cap_asked (AcquireOpen whole g)) p ≡ false
     → same_perm p Perm.Trunk ≡ false
-low-unprobed whole g Perm.None e = refl
-low-unprobed whole g Perm.Branch e = refl
-low-unprobed whole Grow.NtoB Perm.Trunk e = absurd cc
-low-unprobed whole Grow.NtoT Perm.Trunk e = absurd cc
-low-unprobed whole Grow.BtoT Perm.Trunk e = absurd cc
+low-unprobed whole g p e = grind arith
 
 -- and nobody is recorded where it asks for Trunk
 pub none-unprobed : (whole : Bool) (g : Grow) (p : Perm) → grows_to_trunk g ≡ true
     → is_above (cap_asked (AcquireOpen whole g)) p ≡ false → same_perm p Perm.None ≡ true
-none-unprobed whole g Perm.None t e = refl
-none-unprobed whole Grow.NtoB p t e = absurd cc
-none-unprobed whole Grow.NtoT Perm.Branch t e = absurd cc
-none-unprobed whole Grow.NtoT Perm.Trunk t e = absurd cc
-none-unprobed whole Grow.BtoT Perm.Branch t e = absurd cc
-none-unprobed whole Grow.BtoT Perm.Trunk t e = absurd cc
+none-unprobed whole g p e f = grind arith
 
 -- ---- the whole
 

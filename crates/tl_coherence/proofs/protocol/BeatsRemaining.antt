@@ -2,8 +2,8 @@
 use Rattle.std.proofs.Common.{◌≡◌, ℕ, ◌-◌, ◌<◌, ◌≤◌, Bool, true, false, List, [], ◌∷◌, ◌++◌, refl, sym, ap, subst}
 use Rattle.std.proofs.Common.{arith, ◌⊎◌, inl, inr, length}
 use Rattle.tl_coherence.proofs
-use proofs.Imports.{cases_eq, Beat, Channel, beats_of, one_if, Left, Kind, Request, Answer, Packet, count, is, State}
-use proofs.Imports.{packet, packets_on, is_on, is_transfer, shown, Move, Stays, Pushes, Pops, IsMoved, channel_for}
+use proofs.Imports.{cases_eq, Beat, Channel, beats_of, Left, Kind, Request, Answer, Packet, count, is, State}
+use proofs.Imports.{packets_on, is_on, is_transfer, shown, Move, Pops, IsMoved, channel_for}
 use proofs.Imports.{AccessMessages, block_message, message_of_kind}
 use proofs.protocol.TokenNames.{once, shown_there, shows_it}
 use proofs.queues.Channels.{IsShowing}
@@ -41,32 +41,20 @@ IsHere s c k m = 0 < count k m (packets_on (channel_for k) (s.link c))
 front-there : (k : Kind) (m : ℕ) (xs : List Packet) (x : Packet) → 0 < count k m xs
     → is_front k m (xs ++ x ∷ []) ≡ is_front k m xs
 unfolding count
-front-there k m [] x there = absurd (omega (arith, there))
-front-there k m (y ∷ ys) x there = refl
+front-there k m xs x e = grind arith
 
 -- where its channel loses no token, as much was taken of it
 taken-stays : {w : ℕ} (move : Move) (k : Kind) (m : ℕ) (xs ys : List Packet) (rest rest' : List (Beat w))
     → IsMoved move xs ys → is_pop move ≡ false → rest' ≡ rest → 0 < count k m xs
     → taken_of rest' (is_front k m ys) ≡ taken_of rest (is_front k m xs)
-taken-stays Stays k m xs ys rest rest' e p same there = rw (e, same) refl
-taken-stays (Pushes j i) k m xs ys rest rest' e p same there =
-    rw (e, same) (ap (taken_of rest) (front-there k m xs (packet j i) there))
-taken-stays (Pops j i) k m xs ys rest rest' e p same there = absurd cc
+taken-stays move k m xs ys rest rest' e f g h = grind (arith, taken_of, front-there)
 
 -- where its channel loses its first token, it wasn't the first, and nothing was taken of it
 taken-none : {w : ℕ} (k : Kind) (m : ℕ) (x : Packet) (xs ys : List Packet) (rest rest' : List (Beat w)) → xs ≡ x ∷ ys
     → rest' ≡ [] → count k m xs ≤ 1 → 0 < count k m ys
     → taken_of rest' (is_front k m ys) ≡ taken_of rest (is_front k m xs)
 unfolding count
-taken-none {w} k m x xs ys rest rest' e none once there = rw e (go (is k m x) refl (is_front k m ys))
-  where
-    all : count k m (x ∷ ys) ≤ 1
-    all = rw e at once
-
-    go : (b : Bool) → is k m x ≡ b → (c : Bool) → taken_of rest' c ≡ taken_of rest b
-    go true f c = absurd (let one : one_if (is k m x) ≡ 1 = rw f refl in omega (arith, all, there, one))
-    go false f true = rw none refl
-    go false f false = refl
+taken-none {w} k m x xs ys rest rest' e none once there = grind (arith, is_front)
 
 -- what each receiver has of the first messages after an event that takes the first message of channel ch of client c
 pub record IsPopped {w : ℕ} {X : Type 0} (c : ℕ) (ch : Channel) (moves : ℕ → Channel → Move) (rest rest' : ℕ → Channel
@@ -78,16 +66,10 @@ pub record IsPopped {w : ℕ} {X : Type 0} (c : ℕ) (ch : Channel) (moves : ℕ
   pub rests : (d : ℕ) (at : Channel) → (d ≡ c → at ≡ ch → ⊥) → rest' d at ≡ rest d at
 
 pub same_channels : (a b : Channel) → (a ≡ b) ⊎ (a ≡ b → ⊥)
-same_channels Channel.A Channel.A = inl refl
-same_channels Channel.B Channel.B = inl refl
-same_channels Channel.C Channel.C = inl refl
-same_channels Channel.D Channel.D = inl refl
-same_channels Channel.E Channel.E = inl refl
-same_channels a b = inr (λ e. absurd cc)
+same_channels a b = grind arith
 
 own_kind : (k : Kind) → is_on (channel_for k) k ≡ true
-own_kind Request = refl
-own_kind k = refl
+own_kind k = grind arith
 
 module _ {w : ℕ} {caching : ℕ → Bool} {n : ℕ} {moves : ℕ → Channel → Move} {mail mail' : AccessMessages w}
     {s s' : State (List ℕ)} (showing : IsShowing caching n moves mail mail' s s') where
@@ -102,12 +84,11 @@ module _ {w : ℕ} {caching : ℕ → Bool} {n : ℕ} {moves : ℕ → Channel �
   transfer_same d k m t before after = go (cases_eq m n)
     where
       go : (m ≡ n) ⊎ (m ≡ n → ⊥) → block_message {w = w} k d m (s'.block m) ≡ block_message k d m (s.block m)
-      go (inl same) = subst (λ (i : ℕ). shown k d (s.block i) ≡ true → shown k d (s'.block i) ≡ true
-          → block_message {w = w} k d i (s'.block i) ≡ block_message k d i (s.block i)) (sym same) (showing.same d k t)
-          before after
+      go (inl same) = subst (λ (i : ℕ). shown k d (s.block i) ≡ true → shown k d (s'.block i) ≡ true → block_message
+          {w = w} k d i (s'.block i) ≡ block_message k d i (s.block i)) (sym same) (showing.same d k t) before after
       go (inr other) = rw (showing.blocks m other) refl
 
-  pub message-same : (d : ℕ) (k : Kind) (m : ℕ) → IsHere s d k m → IsHere s' d k m
+  message-same : (d : ℕ) (k : Kind) (m : ℕ) → IsHere s d k m → IsHere s' d k m
       → message_of_kind k mail' s' d m ≡ message_of_kind k mail s d m
   message-same d Request m before after = showing.requests d m (shows_before d Request m before)
       (shows_after d Request m after)

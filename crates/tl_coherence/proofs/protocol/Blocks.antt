@@ -1,46 +1,35 @@
 -- What is kept across clients where one client's part of a block changes.
-use Rattle.std.proofs.Common.{◌≡◌, refl, ◌∙◌, ap, inl, inr, ℕ, Bool, true, false}
+use Rattle.std.proofs.Common.{◌≡◌, ℕ, Bool, true, false, arith}
 use Rattle.tl_coherence.proofs
 use proofs.Imports.{cases_eq, Perm, same_perm, resting, IsAskedCap, IsAwaited, IsOwnSource, AreOutside, set}
-use proofs.Imports.{ClientBlock, Own, is_unprobed, Service, Waits, view}
+use proofs.Imports.{ClientBlock, Own, is_unprobed, Service, view}
 use Rattle.tl_coherence.specs.protocol.Invariant.{IsAlone, IsOwned}
-use proofs.queues.Tokens.{same_number, set-other, set-each, set-part}
+use proofs.queues.Tokens.{set-each, set-part}
 
 -- ---- who is waited for
 
 pub awaited_by : (s : Service) (pair : ℕ → ClientBlock) (c : ℕ) → is_unprobed (pair c).probing ≡ false
     → IsAwaited s pair
-awaited_by (Waits r own s k) pair c h = (c, h)
-awaited_by s pair c h = tt
+awaited_by s pair c e = grind arith
 
 pub awaited-set : (s : Service) (c : ℕ) (q : ClientBlock) (pair : ℕ → ClientBlock)
     → is_unprobed q.probing ≡ is_unprobed (pair c).probing → IsAwaited s pair → IsAwaited s (set c q pair)
-awaited-set (Waits r own s k) c q pair e h = (h.0, set-part (λ p. is_unprobed p.probing) c q pair e h.0 ∙ h.1)
-awaited-set s c q pair e h = tt
+awaited-set s c q pair e f = grind (arith, set-part)
 
 -- the cap stays where the Acquires do
 pub asked_cap-set : (s : Service) (c : ℕ) (q : ClientBlock) (pair : ℕ → ClientBlock)
     → q.acquiring ≡ (pair c).acquiring → IsAskedCap s pair → IsAskedCap s (set c q pair)
-asked_cap-set (Waits r true s k) c q pair e h = rw (set-part (λ p. p.acquiring) c q pair e r) h
-asked_cap-set s c q pair e h = tt
+asked_cap-set s c q pair e f = grind (arith, set-part)
 
 -- and where another's changes than the one that is served
 pub asked_cap-other : (s : Service) (c : ℕ) (q : ClientBlock) (pair : ℕ → ClientBlock) → (view s c ≡ Own → ⊥)
     → IsAskedCap s pair → IsAskedCap s (set c q pair)
-asked_cap-other (Waits r true s k) c q pair ne h = elim (cases_eq r c) [
-  | inl same ↦ absurd (ne (rw (same, same_number c) refl))
-  | inr other ↦ rw (set-other c r q pair other) h
-]
-asked_cap-other s c q pair ne h = tt
+asked_cap-other s c q pair e f = grind (arith, cases_eq)
 
 -- the source stays where another's changes than that of the one that is served
 pub own_source-other : (s : Service) (c i : ℕ) (source : ℕ → ℕ) → (view s c ≡ Own → ⊥) → IsOwnSource s source
     → IsOwnSource s (set c i source)
-own_source-other (Waits r true s k) c i source ne h = elim (cases_eq r c) [
-  | inl same ↦ absurd (ne (rw (same, same_number c) refl))
-  | inr other ↦ rw (set-other c r i source other) h
-]
-own_source-other s c i source ne h = tt
+own_source-other s c i source e f = grind (arith, cases_eq)
 
 -- ---- who owns the block
 
@@ -57,26 +46,19 @@ gentle-same p q e f = record { trunk = λ h. rw e at h; none = λ h. rw e h; qui
 
 trunk_at : (c i : ℕ) {q : ClientBlock} (pair : ℕ → ClientBlock) → IsGentle (pair c) q
     → same_perm (set c q pair i).recorded Perm.Trunk ≡ true → same_perm (pair i).recorded Perm.Trunk ≡ true
-trunk_at c i {q} pair g = set-each (λ d p. same_perm p.recorded Perm.Trunk ≡ true
-    → same_perm (pair d).recorded Perm.Trunk ≡ true) c q pair g.trunk (λ d ne e. e) i
+trunk_at c i {q} pair g = grind (arith, set-each)
 
 none_at : (c i : ℕ) {q : ClientBlock} (pair : ℕ → ClientBlock) → IsGentle (pair c) q
     → same_perm (pair i).recorded Perm.None ≡ true → same_perm (set c q pair i).recorded Perm.None ≡ true
-none_at c i {q} pair g = set-each (λ d p. same_perm (pair d).recorded Perm.None ≡ true
-    → same_perm p.recorded Perm.None ≡ true) c q pair g.none (λ d ne e. e) i
+none_at c i {q} pair g = grind (arith, set-each)
 
 quiet_at : (c i : ℕ) {q : ClientBlock} (pair : ℕ → ClientBlock) → IsGentle (pair c) q
     → is_unprobed (pair i).probing ≡ true → is_unprobed (set c q pair i).probing ≡ true
-quiet_at c i {q} pair g = set-each (λ d p. is_unprobed (pair d).probing ≡ true → is_unprobed p.probing ≡ true) c q
-    pair g.quiet (λ d ne e. e) i
+quiet_at c i {q} pair g = grind (arith, set-each)
 
 probed_at : (c i : ℕ) {q : ClientBlock} (pair : ℕ → ClientBlock) → IsGentle (pair c) q
     → is_unprobed (set c q pair i).probing ≡ false → is_unprobed (pair i).probing ≡ false
-probed_at c i {q} pair g e = go (is_unprobed (pair i).probing) refl
-  where
-    go : (b : Bool) → is_unprobed (pair i).probing ≡ b → b ≡ false
-    go true f = let now : is_unprobed (set c q pair i).probing ≡ true = quiet_at c i pair g f in absurd cc
-    go false f = refl
+probed_at c i {q} pair g e = grind (arith, quiet_at)
 
 pub alone-set : (c : ℕ) {q : ClientBlock} (pair : ℕ → ClientBlock) → IsGentle (pair c) q → IsAlone pair
     → IsAlone (set c q pair)
@@ -91,13 +73,9 @@ owned-set c {q} pair g h i j trunk ne = none_at c j pair g (h i j (trunk_at c i 
 
 pub outside-set : (caching : ℕ → Bool) (c : ℕ) (q : ClientBlock) (pair : ℕ → ClientBlock) → (caching c ≡ false → ⊥)
     → AreOutside caching pair → AreOutside caching (set c q pair)
-outside-set caching c q pair inside h d plain = elim (cases_eq d c) [
-  | inl same ↦ absurd (inside (rw same at plain))
-  | inr other ↦ rw (set-other c d q pair other) (h d plain)
-]
+outside-set caching c q pair inside h d plain = grind (arith, cases_eq)
 
 -- one who has something under way
 pub busy-inside : (caching : ℕ → Bool) (c : ℕ) (pair : ℕ → ClientBlock) (busy : ClientBlock → Bool)
     → busy resting ≡ false → busy (pair c) ≡ true → AreOutside caching pair → caching c ≡ false → ⊥
-busy-inside caching c pair busy none some h plain = let e : busy (pair c) ≡ false = ap busy (h c plain) ∙ none in
-    absurd cc
+busy-inside caching c pair busy none some h plain = grind arith

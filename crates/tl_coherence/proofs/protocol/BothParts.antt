@@ -1,104 +1,82 @@
 -- What a test says of a part of the protocol's state: of a use, a wish, a Probe, a Release, a view.
-use Rattle.std.proofs.Common.{◌≡◌, ℕ, Bool, true, false, not, Option, Some, None, refl, ◌&&◌, eqb-true, ◌==◌}
-use Rattle.std.proofs.Common.{if◌then◌else◌, ap, sym, ◌∙◌}
+use Rattle.std.proofs.Common.{◌≡◌, ℕ, Bool, true, false, not, Option, Some, refl, ◌&&◌, ◌==◌, arith, if◌then◌else◌}
 use Rattle.tl_coherence.proofs
-use proofs.Imports.{Cap, Grow, is_asked, is_replied, is_of, acquires_of, serves_of, Kind, Request, Own, Other, Granting}
+use proofs.Imports.{Cap, Grow, is_asked, is_replied, is_of, acquires_of, serves_of, Kind, Other, Granting}
 use proofs.Imports.{Acknowledging, GrantedOther, is_unacquired, ProbePhase, NoProbe, ProbeSent, ProbeAnswered}
 use proofs.Imports.{ReleasePhase, NoRelease, ReleaseSent, ReleaseAcked, AcquirePhase, NoAcquire, AcquireOpen}
-use proofs.Imports.{is_unprobed, is_unreleased, Idle, ClientBlock, Service, Free, Waits, GrantSent, GrantTaken}
-use proofs.Imports.{SourceState, Asked, InService, Replied, Acquires, view, is_wanting, is_sent, is_answered}
-use proofs.Imports.{is_releasing, is_acked, is_granting, is_acknowledging, shows, cap_sent, report_told, prune_told}
-use proofs.Imports.{cap_waited}
+use proofs.Imports.{is_unprobed, is_unreleased, Idle, ClientBlock, Service, Waits, GrantSent, GrantTaken, SourceState}
+use proofs.Imports.{Asked, InService, Replied, Acquires, view, is_wanting, is_sent, is_answered, is_releasing, is_acked}
+use proofs.Imports.{is_granting, is_acknowledging, shows, cap_sent, report_told, prune_told, cap_waited}
 use proofs.queues.{Tokens.if-part, Facts.is_other}
 
 -- ---- numbers and uses
 
 -- a number that is of a block
 pub is_of-is : (n : ℕ) (o : Option ℕ) → is_of n o ≡ true → o ≡ Some n
-is_of-is n None e = absurd cc
-is_of-is n (Some m) e = rw (eqb-true n m e) refl
+is_of-is n o e = grind arith
 
 pub acquires_of-is : (n : ℕ) (u : SourceState) → acquires_of n u ≡ true → u ≡ Acquires n
-acquires_of-is n (Acquires m) e = rw (eqb-true n m e) refl
-acquires_of-is n u e = absurd cc
+acquires_of-is n u e = grind arith
 
 pub serves_of-is : (n : ℕ) (u : SourceState) → serves_of n u ≡ true → u ≡ InService n
-serves_of-is n (InService m) e = rw (eqb-true n m e) refl
-serves_of-is n u e = absurd cc
+serves_of-is n u e = grind arith
 
 pub is_asked-is : (u : SourceState) → is_asked u ≡ true → u ≡ Asked
-is_asked-is Asked e = refl
-is_asked-is u e = absurd cc
+is_asked-is u e = grind arith
 
 pub is_replied-is : (u : SourceState) → is_replied u ≡ true → u ≡ Replied
-is_replied-is Replied e = refl
-is_replied-is u e = absurd cc
+is_replied-is u e = grind arith
 
 -- ---- what is wanted
 
 pub wanting-is : (x : AcquirePhase) → is_wanting x ≡ true → (whole : Bool) × (g : Grow) × (x ≡ AcquireOpen whole g)
-wanting-is NoAcquire e = absurd cc
-wanting-is (AcquireOpen whole g) e = (whole, g, refl)
+wanting-is x e = grind arith
 
 pub not-calm : (x : AcquirePhase) → not (is_unacquired x) ≡ true → is_wanting x ≡ true
-not-calm NoAcquire e = absurd cc
-not-calm (AcquireOpen whole g) e = refl
+not-calm x e = grind arith
 
 pub calm-is : (a : AcquirePhase) → is_wanting a ≡ false → a ≡ NoAcquire
-calm-is NoAcquire e = refl
-calm-is (AcquireOpen whole g) e = absurd cc
+calm-is a e = grind arith
 
 -- ---- Probes
 
 pub quiet-is : (x : ProbePhase) → is_unprobed x ≡ true → x ≡ NoProbe
-quiet-is NoProbe e = refl
-quiet-is x e = absurd cc
+quiet-is x e = grind arith
 
 pub sent-is : (x : ProbePhase) → is_sent x ≡ true → x ≡ ProbeSent (cap_sent x)
-sent-is (ProbeSent k) e = refl
-sent-is x e = absurd cc
+sent-is x e = grind arith
 
 pub answered-is : (x : ProbePhase) → is_answered x ≡ true → x ≡ ProbeAnswered (report_told x)
-answered-is (ProbeAnswered r) e = refl
-answered-is x e = absurd cc
+answered-is x e = grind arith
 
 pub not-sent : (x : ProbePhase) → is_sent x ≡ true → is_unprobed x ≡ false
-not-sent (ProbeSent k) e = refl
-not-sent x e = absurd cc
+not-sent x e = grind arith
 
 pub not-answered : (x : ProbePhase) → is_answered x ≡ true → is_unprobed x ≡ false
-not-answered (ProbeAnswered r) e = refl
-not-answered x e = absurd cc
+not-answered x e = grind arith
 
 pub quiet_unanswered : (x : ProbePhase) → is_unprobed x ≡ true → is_answered x ≡ false
-quiet_unanswered (ProbeAnswered r) e = absurd cc
-quiet_unanswered x e = refl
+quiet_unanswered x e = grind arith
 
 -- ---- Releases
 
 pub kept-is : (x : ReleasePhase) → is_unreleased x ≡ true → x ≡ NoRelease
-kept-is NoRelease e = refl
-kept-is x e = absurd cc
+kept-is x e = grind arith
 
 pub kept-letting : (l : ReleasePhase) → not (is_unreleased l) ≡ false → l ≡ NoRelease
-kept-letting NoRelease e = refl
-kept-letting l e = absurd cc
+kept-letting l e = grind arith
 
 pub releasing-is : (x : ReleasePhase) → is_releasing x ≡ true → x ≡ ReleaseSent (prune_told x)
-releasing-is (ReleaseSent r) e = refl
-releasing-is x e = absurd cc
+releasing-is x e = grind arith
 
 pub acked-is : (x : ReleasePhase) → is_acked x ≡ true → x ≡ ReleaseAcked
-acked-is ReleaseAcked e = refl
-acked-is x e = absurd cc
+acked-is x e = grind arith
 
 pub releasing-open : (x : ReleasePhase) → is_releasing x ≡ true → is_unreleased x ≡ false
-releasing-open (ReleaseSent r) e = refl
-releasing-open x e = absurd cc
+releasing-open x e = grind arith
 
 pub acked-open : (x : ReleasePhase) → is_acked x ≡ true → is_unreleased x ≡ false
-acked-open ReleaseAcked e = refl
-acked-open x e = absurd cc
+acked-open x e = grind arith
 
 -- ---- services and views
 
@@ -118,43 +96,21 @@ taken_ungranted q i = if-part is_granting (i == q) refl refl
 
 -- a client shows beside another's Grant what it shows of a free block
 pub shows-beside : (k : Kind) (p : ClientBlock) → shows k p GrantedOther ≡ shows k p Idle
-shows-beside Request p = refl
-shows-beside k p = refl
+shows-beside k p = grind arith
 
 -- who sees another's service sees the cap that it probes with
 pub cap-waited : (k : Cap) (s : Service) (c : ℕ) → view s c ≡ Other k → cap_waited s ≡ k
-cap-waited k Free c e = absurd (let no : Idle ≡ Other k = e in cc)
-cap-waited k (Waits r own source j) c e =
-    let go : (b : Bool) → (if b then Own else Other j) ≡ Other k → j ≡ k =
-    elim [ true ↦ λ f. absurd cc | false ↦ λ f. cc ] in
-    go (own && (c == r)) e
-cap-waited k (GrantSent r d j) c e =
-    let no : is_other (view (GrantSent r d j) c) ≡ false = if-part is_other (c == r) refl refl in
-    absurd (let yes : false ≡ true = sym no ∙ ap is_other e in cc)
-cap-waited k (GrantTaken r) c e =
-    let no : is_other (view (GrantTaken r) c) ≡ false = if-part is_other (c == r) refl refl in
-    absurd (let yes : false ≡ true = sym no ∙ ap is_other e in cc)
+cap-waited k s c e = grind (arith, if-part)
 
 -- who sees its GrantAck under way
 pub acknowledging-is : (s : Service) (c : ℕ) → is_acknowledging (view s c) ≡ true → s ≡ GrantTaken c
-acknowledging-is Free c e = absurd cc
-acknowledging-is (Waits q o source k) c e =
-    absurd (let no : false ≡ true = sym (waits_unacknowledged o q source k c) ∙ e in cc)
-acknowledging-is (GrantSent q d k) c e =
-    absurd (let no : false ≡ true = sym (sent_unacknowledged q d k c) ∙ e in cc)
-acknowledging-is (GrantTaken q) c e =
-    let own : (x : Bool) → is_acknowledging (if x then Acknowledging else GrantedOther) ≡ true → x ≡ true =
-    elim [ true ↦ λ f. refl | false ↦ λ f. absurd cc ] in
-    let same : c ≡ q = eqb-true c q (own (c == q) e) in rw same refl
+acknowledging-is s c e = grind (arith, waits_unacknowledged, sent_unacknowledged)
 
 pub granting-own : (b d : Bool) (k : Cap) → is_granting (if b then Granting d k else GrantedOther) ≡ true → b ≡ true
-granting-own true d k e = refl
-granting-own false d k e = absurd cc
+granting-own b d k e = grind arith
 
 pub taken-unseen : (y : Bool) → is_other (if y then Acknowledging else GrantedOther) ≡ true → ⊥
-taken-unseen true g = cc
-taken-unseen false g = cc
+taken-unseen y e = grind arith
 
 pub granted-unseen : (y d : Bool) (k : Cap) → is_other (if y then Granting d k else GrantedOther) ≡ true → ⊥
-granted-unseen true d k g = cc
-granted-unseen false d k g = cc
+granted-unseen y d k e = grind arith

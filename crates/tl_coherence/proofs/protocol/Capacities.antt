@@ -36,11 +36,10 @@ module _ {X : Type 0} {caching : ℕ → Bool} {s : State X} (c n : ℕ) (inv : 
   release_ack_named e = source_of_release c n inv (acked-open ((s.block n).pair c).letting e)
 
   tracked_probing : is_unprobed ((s.block n).pair c).probing ≡ false → s.tracked (s.block n).tracker ≡ Some n
-  tracked_probing e = tracker_of_service n inv
-      (busy_unless_idle (s.block n).service c (probes_serve ((s.block n).pair c) (view (s.block n).service c)
-      ((inv.blocks n).phases c) e))
+  tracked_probing e = tracker_of_service n inv (busy_unless_idle (s.block n).service c
+      (probes_serve ((s.block n).pair c) (view (s.block n).service c) ((inv.blocks n).phases c) e))
 
-  pub probe_named : shown Probe c (s.block n) ≡ true → s.tracked (s.block n).tracker ≡ Some n
+  probe_named : shown Probe c (s.block n) ≡ true → s.tracked (s.block n).tracker ≡ Some n
   probe_named e = tracked_probing (not-sent ((s.block n).pair c).probing e)
 
   pub report_named : shown ProbeAck c (s.block n) ≡ true → s.tracked (s.block n).tracker ≡ Some n
@@ -89,18 +88,14 @@ module _ {X : Type 0} (caching : ℕ → Bool) (s : State X) (c sources trackers
             used_below bounds x.number Asked used (λ h. absurd cc),
           )
       go Acquire e on_it =
-          let used = acquire_named c x.number inv (shown_there c Channel.A Acquire x.number inv refl
-          (rw e at there)) in (
-            rw used (ap (λ (y : Packet). Some y) (token-is x Acquire e)),
-            used_below bounds ((s.block x.number).source c) (Acquires x.number) used (λ h. absurd cc),
-          )
+          let used = acquire_named c x.number inv (shown_there c Channel.A Acquire x.number inv refl (rw e at there)) in
+          let fact = used_below bounds ((s.block x.number).source c) (Acquires x.number) used (λ h. absurd cc) in
+          (rw used (ap (λ (y : Packet). Some y) (token-is x Acquire e)), fact)
       go k e on_it = absurd cc
 
   pub few_on_a : length (s.link c).a ≤ sources
-  few_on_a =
-      let all = few (λ x. true) (λ x. name s c x.kind x.number) (λ i. asked_by i (s.uses c i)) sources (s.link c).a
-      (once c Channel.A inv) (λ x there pass. asked_token x there) in
-      rw (all-pass (s.link c).a) at all
+  few_on_a = rw (all-pass (s.link c).a) at (few (λ x. true) (λ x. name s c x.kind x.number)
+      (λ i. asked_by i (s.uses c i)) sources (s.link c).a (once c Channel.A inv) (λ x there pass. asked_token x there))
 
   -- what is answered on D, the ReleaseAcks aside
   answered_token : (x : Packet) → IsThere x (s.link c).d → not (same_kind x.kind ReleaseAck) ≡ true
@@ -112,17 +107,14 @@ module _ {X : Type 0} (caching : ℕ → Bool) (s : State X) (c sources trackers
           → (answered_by (name s c k x.number) (s.uses c (name s c k x.number)) ≡ Some x)
           × (name s c k x.number < sources)
       go Answer e on_it pass =
-          let used = answer_named c x.number inv (shown_there c Channel.D Answer x.number inv refl
-          (rw e at there)) in (
+          let used = answer_named c x.number inv (shown_there c Channel.D Answer x.number inv refl (rw e at there)) in (
             rw used (ap (λ (y : Packet). Some y) (token-is x Answer e)),
             used_below bounds x.number Replied used (λ h. absurd cc),
           )
       go Grant e on_it pass =
-          let used = grant_named c x.number inv (shown_there c Channel.D Grant x.number inv refl
-          (rw e at there)) in (
-            rw used (ap (λ (y : Packet). Some y) (token-is x Grant e)),
-            used_below bounds ((s.block x.number).source c) (Acquires x.number) used (λ h. absurd cc),
-          )
+          let used = grant_named c x.number inv (shown_there c Channel.D Grant x.number inv refl (rw e at there)) in
+          let fact = used_below bounds ((s.block x.number).source c) (Acquires x.number) used (λ h. absurd cc) in
+          (rw used (ap (λ (y : Packet). Some y) (token-is x Grant e)), fact)
       go k e on_it pass = absurd cc
 
   -- a Release by its source, and its ReleaseAck
@@ -140,9 +132,8 @@ module _ {X : Type 0} (caching : ℕ → Bool) (s : State X) (c sources trackers
   released_there : (ch : Channel) (k : Kind) (x : Packet) → is_on ch k ≡ true → is_of_release k ≡ true
       → IsThere x (packets_on ch (s.link c)) → x.kind ≡ k
       → (of_block k (s.lets c (name s c x.kind x.number)) ≡ Some x) × (name s c x.kind x.number < sources)
-  released_there ch k x on_it which there e =
-      subst (λ (j : Kind). (of_block k (s.lets c (name s c j x.number)) ≡ Some x) × (name s c j x.number < sources))
-      (sym e) (released_token ch x k e on_it there which)
+  released_there ch k x on_it which there e = subst (λ (j : Kind). (of_block k (s.lets c (name s c j x.number))
+      ≡ Some x) × (name s c j x.number < sources)) (sym e) (released_token ch x k e on_it there which)
 
   -- what goes by its tracker
   tracked_token : (ch : Channel) (x : Packet) (k : Kind) → x.kind ≡ k → is_on ch k ≡ true
@@ -162,25 +153,21 @@ module _ {X : Type 0} (caching : ℕ → Bool) (s : State X) (c sources trackers
   tracked_there : (ch : Channel) (k : Kind) (x : Packet) → is_on ch k ≡ true → is_tracked k ≡ true
       → IsThere x (packets_on ch (s.link c)) → x.kind ≡ k
       → (of_block k (s.tracked (name s c x.kind x.number)) ≡ Some x) × (name s c x.kind x.number < trackers)
-  tracked_there ch k x on_it which there e =
-      subst (λ (j : Kind). (of_block k (s.tracked (name s c j x.number)) ≡ Some x) × (name s c j x.number < trackers))
-      (sym e) (tracked_token ch x k e on_it there which)
+  tracked_there ch k x on_it which there e = subst (λ (j : Kind). (of_block k (s.tracked (name s c j x.number))
+      ≡ Some x) × (name s c j x.number < trackers)) (sym e) (tracked_token ch x k e on_it there which)
 
   -- a kind of the channel that isn't the one is the other
   only_kind : (ch : Channel) (x : Packet) → IsThere x (packets_on ch (s.link c)) → is_on ch x.kind ≡ true
   only_kind ch x there = kind_there c ch x inv there
 
   probe_alone : (k : Kind) → is_on Channel.B k ≡ true → k ≡ Probe
-  probe_alone Probe e = refl
-  probe_alone _ e = absurd cc
+  probe_alone k e = grind arith
 
   ack_alone : (k : Kind) → is_on Channel.E k ≡ true → k ≡ GrantAck
-  ack_alone GrantAck e = refl
-  ack_alone _ e = absurd cc
+  ack_alone k e = grind arith
 
   report_or_release : (k : Kind) → is_on Channel.C k ≡ true → not (same_kind k Release) ≡ true → k ≡ ProbeAck
-  report_or_release ProbeAck e f = refl
-  report_or_release _ e f = absurd cc
+  report_or_release k e f = grind arith
 
   pub few_on_b : length (s.link c).b ≤ trackers
   few_on_b =
@@ -213,6 +200,5 @@ module _ {X : Type 0} (caching : ℕ → Bool) (s : State X) (c sources trackers
       (λ x there pass. released_there Channel.D ReleaseAck x refl refl there (kind_is x.kind ReleaseAck pass))
 
   pub few_responses_on_d : passing (λ x. not (same_kind x.kind ReleaseAck)) (s.link c).d ≤ sources
-  few_responses_on_d = few (λ x. not (same_kind x.kind ReleaseAck)) (λ x. name s c x.kind x.number)
-      (λ i. answered_by i (s.uses c i)) sources (s.link c).d (once c Channel.D inv)
-      (λ x there pass. answered_token x there pass)
+  few_responses_on_d = few (λ x. not (same_kind x.kind ReleaseAck)) (λ x. name s c x.kind x.number) (λ i. answered_by i
+      (s.uses c i)) sources (s.link c).d (once c Channel.D inv) (λ x there pass. answered_token x there pass)

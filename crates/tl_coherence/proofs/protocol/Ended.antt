@@ -1,5 +1,5 @@
 -- The last ProbeAck that is taken, with which the access that waited is answered, keeps the invariant.
-use Rattle.std.proofs.Common.{◌≡◌, refl, sym, subst, ◌∙◌, ap, ◌⊎◌, inl, inr, ℕ, Bool, true, false, List, ◌∷◌, Some}
+use Rattle.std.proofs.Common.{◌≡◌, refl, sym, subst, ◌∙◌, ap, ◌⊎◌, inl, inr, ℕ, Bool, true, false, List, ◌∷◌, arith}
 use Rattle.std.proofs.Common.{None, ne_eqb, eqb-true, ◌==◌, if◌then◌else◌}
 use Rattle.tl_coherence.proofs
 use proofs.Imports.{cases_eq, Channel, Cap, Report, Perm, report_left, same_perm, is_out, is_of, acquires_of, serves_of}
@@ -27,7 +27,7 @@ pub record IsLastOf {X : Type 0} (c q : ℕ) (r : Report) (f : X → X) (source 
   pub settled : (d : ℕ) → (d ≡ c → ⊥) → is_unprobed (b.pair d).probing ≡ true
   pub spares : (f b.truth ≡ b.truth) ⊎ (k ≡ Cap.ToN)
 
-pub ended-block : {X : Type 0} {caching : ℕ → Bool} {c q : ℕ} {r : Report} {f : X → X} {source : ℕ} {k : Cap}
+ended-block : {X : Type 0} {caching : ℕ → Bool} {c q : ℕ} {r : Report} {f : X → X} {source : ℕ} {k : Cap}
     {b : Block X} → IsWell caching b → IsLastOf c q r f source k b → IsWell caching (ended_block c r f b)
 ended-block {X} {caching} {c} {r} {f} {k} {b} h last =
     let begins : same_perm (report_left r) (b.pair c).recorded ≡ true =
@@ -40,9 +40,8 @@ ended-block {X} {caching} {c} {r} {f} {k} {b} h last =
       | inr ne ↦ low_within (b.pair d).recorded k (spared_within k (b.pair d) (view b.service d) (h.phases d) (other d)
           (quiet-is (b.pair d).probing (last.settled d ne))) low
     ]) in
-    let memory_is : (data_too : Bool) → same_perm (report_left r) Perm.Trunk ≡ data_too
-    → written r b.truth b.memory ≡ b.truth =
-    elim [ true ↦ λ e. rw e refl | false ↦ λ e. rw e (h.memory (none_out e)) ] in
+    let memory_is : (data_too : Bool) → same_perm (report_left r) Perm.Trunk ≡ data_too → written r b.truth b.memory
+    ≡ b.truth = elim [ true ↦ λ e. rw e refl | false ↦ λ e. rw e (h.memory (none_out e)) ] in
     record {
       phases = phase;
       awaited = tt;
@@ -70,9 +69,6 @@ ended-block {X} {caching} {c} {r} {f} {k} {b} h last =
           (quiet-is (b.pair d).probing (last.settled d ne))).0
     ]
 
-    held_same : (d : ℕ) → (set c after b.pair d).held ≡ (b.pair d).held
-    held_same = set-part (λ (p : ClientBlock). p.held) c after b.pair refl
-
     -- where all were probed, nobody is recorded any more
     nobody : k ≡ Cap.ToN → (d : ℕ) → same_perm (set c after b.pair d).recorded Perm.None ≡ true
     nobody e d = low_none k (set c after b.pair d).recorded e
@@ -80,7 +76,8 @@ ended-block {X} {caching} {c} {r} {f} {k} {b} h last =
 
     copy_is : (d : ℕ) → same_perm (set c after b.pair d).held Perm.None ≡ false → (f b.truth ≡ b.truth) ⊎ (k ≡ Cap.ToN)
         → b.copy d ≡ f b.truth
-    copy_is d some (inl same) = h.copies d (rw (held_same d) at some) ∙ sym same
+    copy_is d some (inl same) =
+        h.copies d (rw ((set-part (λ (p : ClientBlock). p.held) c after b.pair refl) d) at some) ∙ sym same
     copy_is d some (inr all) =
         let no = nothing_below (set c after b.pair d).held (set c after b.pair d).recorded
         (held_at_most (set c after b.pair d) Idle (phase d)) (nobody all d) in
@@ -107,21 +104,13 @@ ended_shows true y n source ProbeAck r k p t e = rw (same_number n) refl
 ended_shows x y n source j r k p t e = same_again (shows j p (Other k))
 
 ended_own : (ch : Channel) (x y : Bool) (n source : ℕ) → is_own_move ch (ended_move x y n source ch) ≡ true
-ended_own Channel.C true y n source = refl
-ended_own Channel.C false y n source = refl
-ended_own Channel.D x true n source = refl
-ended_own Channel.D x false n source = refl
-ended_own ch x y n source = refl
+ended_own ch x y n source = grind arith
 
 pub ended_moved : (x y : Bool) (ch : Channel) (n source : ℕ) (l : Link) (rest : List Packet)
     → (x ≡ true → l.c ≡ packet ProbeAck n ∷ rest) → IsMoved (ended_move x y n source ch) (packets_on ch l)
     (packets_on ch (if y then with_d (packet Answer source) (if x then record l { c = rest } else l) else
     (if x then record l { c = rest } else l)))
-ended_moved true true Channel.C n source l rest e = e refl
-ended_moved true false Channel.C n source l rest e = e refl
-ended_moved false true Channel.C n source l rest e = refl
-ended_moved false false Channel.C n source l rest e = refl
-ended_moved x y ch n source l rest e = refl
+ended_moved x y ch n source l rest e = grind arith
 
 -- ---- the whole
 
@@ -144,11 +133,9 @@ report_answers-kept {X} {c} {q} n {r} {f} {source} {k} rest {s} inv first last =
     let popped : (d : ℕ) → popped_link c rest s.link d ≡ (if d == c then record (s.link d) { c = rest } else s.link d) =
     λ d. elim (cases_eq d c) [ inl same ↦ rw (same, same_number c) refl | inr ne ↦ rw (ne_eqb d c ne) refl ] in
     let by_link : (d : ℕ) (ch : Channel) → IsMoved (ended_move (d == c) (d == q) n source ch) (packets_on ch (s.link d))
-    (packets_on ch (if d == q then with_d (packet Answer source) (if d == c then record (s.link d) { c = rest } else
-    s.link d) else (if d == c then record (s.link d) { c = rest } else s.link d)))
-    → IsMoved (ended_move (d == c) (d == q) n source ch) (packets_on ch (s.link d)) (packets_on ch (links d)) =
-    λ d ch h. subst (λ (l : Link). IsMoved (ended_move (d == c) (d == q) n source ch) (packets_on ch (s.link d))
-    (packets_on ch (if d == q then with_d (packet Answer source) l else l))) (sym (popped d)) h in
+    (packets_on ch (if d == q then with_d (packet Answer source) (if d == c then record (s.link d) { c = rest }
+    else s.link d) else (if d == c then record (s.link d) { c = rest } else s.link d))) → IsMoved (ended_move (d == c)
+    (d == q) n source ch) (packets_on ch (s.link d)) (packets_on ch (links d)) = λ d ch h. rw (popped d) h in
     invariant-moved_use q source Replied
     (set tracker None s.tracked) inv (record {
       well = ended-block (inv.blocks n) last;
@@ -168,9 +155,9 @@ report_answers-kept {X} {c} {q} n {r} {f} {source} {k} rest {s} inv first last =
           (λ d i ne. rw (last.waits, ne_eqb d q ne) refl) inv.named.serves;
       releases = λ d. names-block is_of (releases_with d) (s.lets d) n new s.block
           (λ i. rw (set-part (λ (p : ClientBlock). p.letting) c after old refl d) refl) (inv.named.releases d);
-      trackers = names-set is_of tracks_with s.tracked tracker None n new s.block refl
-          (λ m ne. rw tracked (sym (ne_eqb m n ne)))
-          (λ i ne. rw (last.waits, ne_eqb i tracker ne) refl) inv.named.trackers;
+      trackers = names-set is_of tracks_with s.tracked tracker None n new s.block refl (λ m ne. rw (is_of-is n
+          (s.tracked tracker) (inv.named.trackers tracker n ∙ rw (last.waits, same_number tracker) refl))
+          (sym (ne_eqb m n ne))) (λ i ne. rw (last.waits, ne_eqb i tracker ne) refl) inv.named.trackers;
     })
   where
     old : ℕ → ClientBlock
@@ -185,16 +172,11 @@ report_answers-kept {X} {c} {q} n {r} {f} {source} {k} rest {s} inv first last =
     tracker : ℕ
     tracker = (s.block n).tracker
 
-    tracked : s.tracked tracker ≡ Some n
-    tracked = is_of-is n (s.tracked tracker) (inv.named.trackers tracker n ∙ rw (last.waits, same_number tracker) refl)
-
-    pair_is : (d : ℕ) → set c after old d ≡ (if d == c then after_report r (old d) else old d)
-    pair_is d = elim (cases_eq d c) [ inl same ↦ rw (same, same_number c) refl | inr ne ↦ rw (ne_eqb d c ne) refl ]
-
     by_pair : (d : ℕ) (j : Kind) (m : Move)
         → agrees m j n (shows j (old d) (Other k)) (shows j (if d == c then after_report r (old d) else old d) Idle)
         ≡ true → agrees m j n (shown j d (s.block n)) (shown j d new) ≡ true
     by_pair d j m h =
         let seen : view (s.block n).service d ≡ Other k = rw last.waits refl in
-        rw seen (subst (λ (p : ClientBlock). agrees m j n (shows j (old d) (Other k)) (shows j p Idle) ≡ true)
-        (sym (pair_is d)) h)
+        rw seen
+        (subst (λ (p : ClientBlock). agrees m j n (shows j (old d) (Other k)) (shows j p Idle) ≡ true) (sym (elim
+        (cases_eq d c) [ inl same ↦ rw (same, same_number c) refl | inr ne ↦ rw (ne_eqb d c ne) refl ])) h)

@@ -1,6 +1,6 @@
 -- Each message that is taken is one event of the protocol, or does nothing: what holds after each of them holds.
-use Rattle.std.proofs.Common.{◌≡◌, ℕ, Bool, true, false, not, ◌&&◌, List, Option, Some, None, length, refl, sym, ◌∙◌}
-use Rattle.std.proofs.Common.{◌==◌, if◌then◌else◌}
+use Rattle.std.proofs.Common.{◌≡◌, ℕ, Bool, true, false, not, ◌&&◌, List, Option, Some, None, length, refl, arith, ◌==◌}
+use Rattle.std.proofs.Common.{if◌then◌else◌}
 use Rattle.tl_coherence.proofs
 use proofs.Imports.{⊤, Message, MessageA, Config, Cap, Grow, Report, block_at, is_acquire, acquisition, cap_probed}
 use proofs.Imports.{cap_asked, Kind, Request, Acquire, Probe, ProbeAck, Release, Answer, Grant, ReleaseAck, GrantAck}
@@ -9,7 +9,7 @@ use proofs.Imports.{is_granted_data, Block, Service, Waits, GrantSent, Free, is_
 use proofs.Imports.{report_taken, AbstractState, with_state, some_below, gift, is_unheld, probes_some, acquire_opcode}
 use proofs.Imports.{access_taken, request_taken, acquire_taken, granted_after, last_taken, taken_by_client, kind_taken}
 use proofs.Imports.{report_told}
-use Rattle.tl_coherence.specs.refinement.AbstractStep.{with_served}
+use Rattle.tl_coherence.{specs.refinement.AbstractStep.with_served}
 
 -- what isn't told by the token alone: a request isn't stalled, and has a tracker that no block has; nor is a Probe
 abbrev pub IsReady : {w : ℕ} → ℕ → ℕ → Kind → ℕ → AbstractState w → Type 0
@@ -25,9 +25,7 @@ pub ready-access : {w : ℕ} (tracker c source : ℕ) (m : MessageA w) (h : Abst
     → IsReady tracker c Request source h → h.mail.request c source ≡ Message.A m
     → (is_acquire m.opcode ≡ false) × ((h.state.block (block_at m.address)).service ≡ Free)
     × (h.state.tracked tracker ≡ None)
-ready-access tracker c source m h ready from =
-    let same : ready.0 ≡ m = let both = sym ready.1 ∙ from in cc in
-    rw (← same) (ready.2, ready.3, ready.4)
+ready-access tracker c source m h ready from = grind arith
 
 -- ---- messages that are taken
 
@@ -60,8 +58,7 @@ module _ {w : ℕ} (config : Config) (c : ℕ) (h : AbstractState w) where
 
   -- others than client c have still to report
   abbrev pub waits_for_others : ℕ → Bool
-  waits_for_others n =
-      some_below clients (λ i. not (i == c) && not (is_unprobed ((h.state.block n).pair i).probing))
+  waits_for_others n = some_below clients (λ i. not (i == c) && not (is_unprobed ((h.state.block n).pair i).probing))
 
   abbrev pub told : ℕ → Report
   told n = report_told ((h.state.block n).pair c).probing
@@ -128,15 +125,12 @@ module _ {w : ℕ} (config : Config) (tracker c : ℕ) (rest : List Packet) (h :
   true-access : (source : ℕ) (m : MessageA w) (o : Option Cap) (p : Bool) → IsTrueAfterEach → IsKnown Request source
       → h.mail.request c source ≡ Message.A m → cap_probed m.opcode m.param ≡ o → probes_for_access config c h m o ≡ p
       → P (access_taken c source m tracker p o rest h)
-  true-access source m (Some k) true each known is caps probes = each.access_served source m k known is caps probes
-  true-access source m None true each known is caps probes = absurd cc
-  true-access source m o false each known is caps probes = each.access_answered source m o known is caps probes
+  true-access source m o p e f g h i = grind arith
 
   true-request : (source : ℕ) (m : Message w) → IsTrueAfterEach → IsKnown Request source
       → h.mail.request c source ≡ m → P (request_taken all_clients c source m tracker rest h)
-  true-request source (Message.A m) each known is =
-      true-access source m (cap_probed m.opcode m.param) (probes_for_access config c h m (cap_probed m.opcode m.param))
-      each known is refl refl
+  true-request source (Message.A m) each known is = true-access source m (cap_probed m.opcode m.param)
+      (probes_for_access config c h m (cap_probed m.opcode m.param)) each known is refl refl
   true-request source m each known is = each.nothing Request source known (rw is refl)
 
   true-acquire : (n : ℕ) (a : AcquirePhase) → IsTrueAfterEach → IsKnown Acquire n
@@ -160,28 +154,20 @@ module _ {w : ℕ} (config : Config) (tracker c : ℕ) (rest : List Packet) (h :
       → waits_for_others config c h n ≡ false → (h.state.block n).service ≡ Waits q true source k
       → ((h.state.block n).pair q).acquiring ≡ a
       → P (granted_after all_clients config.profile c q n (told config c h n) a rest h)
-  true-granted n q source k NoAcquire each known last waits is = each.nothing ProbeAck n known (rw (waits, is) refl)
-  true-granted n q source k (AcquireOpen whole g) each known last waits is =
-      each.report_grants n q source k whole g known last waits is
+  true-granted n q source k a e f g h i = grind arith
 
   true-last : (n : ℕ) (v : Service) → IsTrueAfterEach → IsKnown ProbeAck n → waits_for_others config c h n ≡ false
-      → (h.state.block n).service ≡ v
-      → P (last_taken all_clients config.profile c n (told config c h n) v rest h)
-  true-last n (Waits q true source k) each known last is =
-      true-granted n q source k ((h.state.block n).pair q).acquiring each known last is refl
-  true-last n (Waits q false source k) each known last is = each.report_answers n q source k known last is
-  true-last n v each known last is = each.nothing ProbeAck n known (rw is refl)
+      → (h.state.block n).service ≡ v → P (last_taken all_clients config.profile c n (told config c h n) v rest h)
+  true-last n v e f g h = grind (arith, true-granted)
 
   true-report : (n : ℕ) (x : Bool) → IsTrueAfterEach → IsKnown ProbeAck n → waits_for_others config c h n ≡ x
       → P (if x then with_state (report_taken c n (told config c h n) rest h.state) h else last_taken all_clients
       config.profile c n (told config c h n) (h.state.block n).service rest h)
-  true-report n true each known e = each.report n known e
-  true-report n false each known e = true-last n (h.state.block n).service each known e refl
+  true-report n x e f g = grind (arith, true-last)
 
   true-grant : (n : ℕ) (v : Service) → IsTrueAfterEach → IsKnown Grant n → (h.state.block n).service ≡ v
       → P (taken_by_client c n v rest h)
-  true-grant n (GrantSent q d k) each known is = each.grant n q d k known is
-  true-grant n v each known is = each.nothing Grant n known (rw is refl)
+  true-grant n v e f g = grind arith
 
   pub true-taken : (k : Kind) (i : ℕ) → IsTrueAfterEach → IsKnown k i → P (kind_taken config tracker c k i rest h)
   true-taken Request source each known = true-request source (h.mail.request c source) each known refl

@@ -1,14 +1,14 @@
 -- The protocol keeps its invariant as it follows the world: at each message that is taken, the first token and the
 -- invariant give what its event asks for.
 use Rattle.std.proofs.Common.{◌≡◌, ℕ, ◌≤◌, Bool, true, false, not, ◌&&◌, List, ◌∷◌, Some, None, length, refl, sym, ◌∙◌}
-use Rattle.std.proofs.Common.{inl, inr, eqb-true, ◌==◌}
+use Rattle.std.proofs.Common.{arith, inl, inr, eqb-true, ◌==◌}
 use Rattle.tl_coherence.proofs
 use proofs.Imports.{not-true, same_Some, ⊤, Message, MessageA, Config, Cap, Grow, Report, Perm, prune_left, grow_left}
 use proofs.Imports.{same_perm, block_at, is_acquire, Op, Reply, copy_stored, whole_grow, cap_probed, IsInvariant, Kind}
 use proofs.Imports.{ProbeAck, Grant, Packet, set, ClientBlock, ProbeAnswered, NoRelease, NoAcquire, AcquireOpen}
 use proofs.Imports.{is_unprobed, grow_fits, is_whole, after_report, Service, Waits, GrantSent, Block, SourceFree, view}
-use proofs.Imports.{packet, on, report_taken, grant_taken, report_answers, is_granting, is_answered, AbstractState}
-use proofs.Imports.{asked, some_below, performs, is_unheld, granted_after, kind_taken, report_told}
+use proofs.Imports.{packet, on, report_taken, grant_taken, report_answers, is_answered, AbstractState, asked}
+use proofs.Imports.{some_below, performs, is_unheld, granted_after, kind_taken, report_told}
 use proofs.queues.{Phases.and_right, Tokens.same_number, Facts.acquire_fits, Facts.answered_other, Facts.granting_asks}
 use proofs.protocol.{Blocks.outside-set, Blocks.busy-inside, Probed.probe_taken-kept, Answered.answer_taken-kept}
 use proofs.protocol.{Granted.room-trunk, GrantedAll.report_grants-kept, Ended.report_answers-kept}
@@ -45,8 +45,7 @@ module _ {w : ℕ} {caching : ℕ → Bool} (config : Config) (c : ℕ) (rest : 
   quiet n last = settled_all clients caching c (h.state.block n).pair plain (inv.blocks n).outside last
 
   report-followed : (n : ℕ) → (h.state.link c).c ≡ packet ProbeAck n ∷ rest
-      → some_below clients (others_probed n) ≡ true
-      → IsInvariant caching (report_taken c n (r n) rest h.state)
+      → some_below clients (others_probed n) ≡ true → IsInvariant caching (report_taken c n (r n) rest h.state)
   report-followed n first more =
       let one = some-one clients (others_probed n) more in
       let apart : (d : ℕ) → others_probed n d ≡ true → d ≡ c → ⊥ =
@@ -83,11 +82,11 @@ module _ {w : ℕ} {caching : ℕ → Bool} (config : Config) (c : ℕ) (rest : 
     wants = wants;
     fits = gift_fits config.profile whole g (b.pair q).held (is_unheld clients after) fits;
     room = λ top d ne. elim (gift_trunk config.profile whole g (b.pair q).held (is_unheld clients after) fits top) [
-      | inl grows ↦ room-trunk c q (r n) whole g source k (inv.blocks n) waits answered (quiet n last) wants grows
-          differ
-          d ne
+      | inl grows ↦ room-trunk c q (r n) whole g source k (inv.blocks n) waits answered
+          (quiet n last) wants grows differ d ne
       | inr unheld ↦ unheld_none clients caching after plain
-          (outside-set caching c (after_report (r n) (b.pair c)) b.pair inside (inv.blocks n).outside) unheld d
+          (outside-set caching c (after_report (r n) (b.pair c)) b.pair (busy-inside caching c b.pair
+          (λ x. is_answered x.probing) refl (rw answered refl) (inv.blocks n).outside) (inv.blocks n).outside) unheld d
     ];
   })
     where
@@ -103,9 +102,6 @@ module _ {w : ℕ} {caching : ℕ → Bool} (config : Config) (c : ℕ) (rest : 
       answered : (b.pair c).probing ≡ ProbeAnswered (r n)
       answered = first-report inv first
 
-      inside : caching c ≡ false → ⊥
-      inside = busy-inside caching c b.pair (λ x. is_answered x.probing) refl (rw answered refl) (inv.blocks n).outside
-
       differ : c ≡ q → ⊥
       differ e =
           let seen = answered_other (r n) (b.pair c) (view b.service c) ((inv.blocks n).phases c) answered in
@@ -114,18 +110,16 @@ module _ {w : ℕ} {caching : ℕ → Bool} (config : Config) (c : ℕ) (rest : 
 
 -- ---- Grants
 
-pub grant-followed : {w : ℕ} {caching : ℕ → Bool} (c n q : ℕ) (d : Bool) (k : Cap) (rest : List Packet)
+grant-followed : {w : ℕ} {caching : ℕ → Bool} (c n q : ℕ) (d : Bool) (k : Cap) (rest : List Packet)
     (h : AbstractState w) → IsInvariant caching h.state → (h.state.link c).d ≡ packet Grant n ∷ rest
     → (h.state.block n).service ≡ GrantSent q d k
     → IsInvariant caching (grant_taken c n (is_whole ((h.state.block n).pair c).acquiring) d k rest h.state)
 grant-followed {w} {caching} c n q d k rest h inv first e =
     let b : Block (List ℕ) = h.state.block n in
-    let seen : is_granting (view (GrantSent q d k) c) ≡ true = rw e at (first-shown inv c Grant refl first) in
-    let same : c ≡ q = eqb-true c q (granting-own (c == q) d k seen) in
+    let same : c ≡ q = eqb-true c q (granting-own (c == q) d k (rw e at (first-shown inv c Grant refl first))) in
     let here : b.service ≡ GrantSent c d k = rw same e in
-    let asks = granting_asks d k (b.pair c) (view b.service c) ((inv.blocks n).phases c)
-    (rw (here, same_number c) refl) in
-    let wants = wanting-is (b.pair c).acquiring (not-calm (b.pair c).acquiring asks) in
+    let wants = wanting-is (b.pair c).acquiring (not-calm (b.pair c).acquiring
+    (granting_asks d k (b.pair c) (view b.service c) ((inv.blocks n).phases c) (rw (here, same_number c) refl))) in
     rw wants.2 (grant_taken-kept c n d wants.0 wants.1 k rest inv first here wants.2)
 
 -- ---- all messages that are taken
@@ -141,11 +135,10 @@ kind_taken-kept {w} {caching} config tracker c k i rest h inv plain long serving
       nothing = λ j n known idle. inv;
       access_answered = λ source m o known from caps none. access_answered-followed config c rest h inv plain source m o
           known.0 (ready-access tracker c source m h known.1 from).0 (long (block_at m.address)) caps none;
-      access_served = λ source m j known from caps some. access_served-followed config c rest h inv plain tracker source
-          m
-          j known.0 (ready-access tracker c source m h known.1 from).1
-          (ready-access tracker c source m h known.1 from).2
-          caps some;
+      access_served =
+          λ source m j known from caps some. access_served-followed config c rest h inv plain tracker source m j known.0
+          (ready-access tracker c source m h known.1 from).1
+          (ready-access tracker c source m h known.1 from).2 caps some;
       acquire_granted = λ n whole g known wants none. acquire_granted-followed config c rest h inv plain tracker n whole
           g
           known.0 known.1.0 known.1.1 wants none;
@@ -171,10 +164,9 @@ kind_taken-kept {w} {caching} config tracker c k i rest h inv plain long serving
 abbrev pub IsAskable : {w : ℕ} → (ℕ → Bool) → ℕ → Op w → Reply → AbstractState w → Type 0
 IsAskable caching c (Op.Store address size value) Reply.Stored h =
     same_perm ((h.state.block (block_at address)).pair c).held Perm.Trunk ≡ true
-IsAskable caching c (Op.Acquire n g) (Reply.Started source) h =
-    (caching c ≡ true) × (h.state.uses c source ≡ SourceFree) × (((h.state.block n).pair c).acquiring ≡ NoAcquire)
-    × (((h.state.block n).pair c).letting ≡ NoRelease)
-    × (same_perm (grow_left g) ((h.state.block n).pair c).held ≡ true)
+IsAskable caching c (Op.Acquire n g) (Reply.Started source) h = (caching c ≡ true) × (h.state.uses c source
+    ≡ SourceFree) × (((h.state.block n).pair c).acquiring ≡ NoAcquire) × (((h.state.block n).pair c).letting
+    ≡ NoRelease) × (same_perm (grow_left g) ((h.state.block n).pair c).held ≡ true)
 IsAskable caching c (Op.AcquireWhole n bytes) (Reply.Started source) h =
     (caching c ≡ true) × (h.state.uses c source ≡ SourceFree) × (((h.state.block n).pair c).acquiring ≡ NoAcquire)
     × (((h.state.block n).pair c).letting ≡ NoRelease) × (same_perm Perm.Trunk ((h.state.block n).pair c).held ≡ false)
@@ -185,28 +177,20 @@ IsAskable caching c (Op.Access m) (Reply.Started source) h = h.state.uses c sour
 IsAskable caching c o r h = ⊤
 
 begins_fit : (g : Grow) (p : Perm) → same_perm (grow_left g) p ≡ true → grow_fits p (AcquireOpen false g) ≡ true
-begins_fit Grow.NtoB Perm.None e = refl
-begins_fit Grow.NtoT Perm.None e = refl
-begins_fit Grow.BtoT Perm.Branch e = refl
-begins_fit g p e = absurd cc
+begins_fit g p e = grind arith
 
 whole_fits : (p : Perm) → same_perm Perm.Trunk p ≡ false → grow_fits p (AcquireOpen true (whole_grow p)) ≡ true
-whole_fits Perm.Trunk e = absurd cc
-whole_fits p e = refl
+whole_fits p e = grind arith
 
 pub asked-kept : {w : ℕ} {caching : ℕ → Bool} (c : ℕ) (o : Op w) (r : Reply) (h : AbstractState w)
     → IsInvariant caching h.state → IsAskable caching c o r h → IsInvariant caching (asked c o r h).state
-asked-kept {caching} c (Op.Store address size value) Reply.Stored h inv may =
-    block_stored-kept c (block_at address)
+asked-kept {caching} c (Op.Store address size value) Reply.Stored h inv may = block_stored-kept c (block_at address)
     (copy_stored address size value ((h.state.block (block_at address)).copy c)) inv may
-asked-kept {caching} c (Op.Acquire n g) (Reply.Started source) h inv is =
-    acquire_asked-kept c n source false g ((h.state.block n).waiting c) inv is.0 is.1 is.2 is.3
-    (begins_fit g ((h.state.block n).pair c).held is.4)
-asked-kept {caching} c (Op.AcquireWhole n bytes) (Reply.Started source) h inv is =
-    acquire_asked-kept c n source true (whole_grow ((h.state.block n).pair c).held) bytes inv is.0 is.1
-    is.2 is.3 (whole_fits ((h.state.block n).pair c).held is.4)
+asked-kept {caching} c (Op.Acquire n g) (Reply.Started source) h inv is = acquire_asked-kept c n source false g
+    ((h.state.block n).waiting c) inv is.0 is.1 is.2 is.3 (begins_fit g ((h.state.block n).pair c).held is.4)
+asked-kept c (Op.AcquireWhole n bytes) (Reply.Started source) h inv is = acquire_asked-kept c n source true (whole_grow
+    ((h.state.block n).pair c).held) bytes inv is.0 is.1 is.2 is.3 (whole_fits ((h.state.block n).pair c).held is.4)
 asked-kept {caching} c (Op.Release n r) (Reply.Started source) h inv is =
     release_asked-kept c n source r inv is.0 is.1 is.2 is.3 is.4
-asked-kept {caching} c (Op.Access (Message.A m)) (Reply.Started source) h inv closed =
-    access_asked-kept c source inv closed
+asked-kept c (Op.Access (Message.A m)) (Reply.Started source) h inv closed = access_asked-kept c source inv closed
 asked-kept c o r h inv is = inv

@@ -1,15 +1,14 @@
 -- The last ProbeAck that is taken, with which the Acquire that waited is granted, keeps what holds of a block.
-use Rattle.std.proofs.Common.{◌≡◌, refl, sym, ◌∙◌, ap, ◌⊎◌, inl, inr, ℕ, Bool, true, false, ne_eqb}
+use Rattle.std.proofs.Common.{◌≡◌, refl, sym, ◌∙◌, ◌⊎◌, inl, inr, ℕ, Bool, true, false, ne_eqb, arith}
 use Rattle.tl_coherence.proofs
 use proofs.Imports.{cases_eq, not-true, Cap, Grow, Report, Perm, cap_right, report_left, same_perm, cap_asked}
-use proofs.Imports.{IsAskedCap, resting, is_out, IsWell, set, ClientBlock, Own, Other, Granting, GrantedOther, NoProbe}
-use proofs.Imports.{ProbeAnswered, NoAcquire, AcquireOpen, ok, same_cap, is_unprobed, cap_fits, is_granted_data}
-use proofs.Imports.{after_grant_sent, after_report, Waits, GrantSent, Block, view, granted_block, written, granted_pair}
-use proofs.Imports.{perm_le}
-use proofs.queues.{Tokens.same_number, Tokens.set-same, Tokens.set-other, Tokens.set-part, PhaseSteps.grant_last-ok}
-use proofs.queues.{PhaseSteps.report-ok, PhaseSteps.ended-ok, Perms.not_out}
+use proofs.Imports.{IsAskedCap, resting, is_out, IsWell, set, ClientBlock, Own, Other, Granting, GrantedOther}
+use proofs.Imports.{ProbeAnswered, AcquireOpen, ok, same_cap, is_unprobed, cap_fits, is_granted_data, after_grant_sent}
+use proofs.Imports.{after_report, Waits, GrantSent, Block, view, granted_block, written, granted_pair, perm_le}
+use proofs.queues.{Tokens.same_number, Tokens.set-same, Tokens.set-other, Tokens.set-part, Perms.not_out}
+use proofs.queues.PhaseSteps.{grant_last-ok, report-ok, ended-ok}
 use proofs.queues.Facts.{spared_within, reported_within, cap_is_low, own_low, own_quiet, report_begins}
-use proofs.protocol.BothParts.{quiet-is}
+use proofs.protocol.{BothParts.quiet-is}
 
 -- ---- the views before and after
 
@@ -30,27 +29,18 @@ granted_view q c d k ne = rw (ne_eqb c q ne) refl
 -- what is within a low cap isn't Trunk
 pub low_within : (p : Perm) (k : Cap) → perm_le p (cap_right k) ≡ true → same_cap k Cap.ToT ≡ false
     → same_perm p Perm.Trunk ≡ false
-low_within Perm.None k e low = refl
-low_within Perm.Branch k e low = refl
-low_within Perm.Trunk Cap.ToT e low = absurd cc
-low_within Perm.Trunk Cap.ToB e low = absurd cc
-low_within Perm.Trunk Cap.ToN e low = absurd cc
+low_within p k e f = grind arith
 
 pub both_trunk : (p q : Perm) → same_perm p q ≡ true → same_perm p Perm.Trunk ≡ false → same_perm q Perm.Trunk ≡ false
-both_trunk Perm.None Perm.Trunk e f = absurd cc
-both_trunk Perm.Branch Perm.Trunk e f = absurd cc
-both_trunk Perm.Trunk q e f = absurd cc
-both_trunk p q e f = refl
+both_trunk p q e f = grind arith
 
 pub none_or_trunk : (p : Perm) → same_perm p Perm.None ≡ true → same_perm p Perm.Trunk ≡ true → ⊥
-none_or_trunk Perm.None e f = absurd cc
-none_or_trunk p e f = absurd cc
+none_or_trunk p e f = grind arith
 
 -- a Grant that fits gives Trunk or Branch
 pub gives : (whole : Bool) (g : Grow) (k : Cap) → cap_fits whole g k ≡ true → (same_cap k Cap.ToT ≡ true)
     ⊎ (same_perm (cap_right k) Perm.Trunk ≡ false)
-gives whole g Cap.ToT e = inl refl
-gives whole g k e = inr refl
+gives whole g k e = grind arith
 
 -- ---- the block
 
@@ -94,9 +84,8 @@ granted-block {X} {c} {q} {r} {whole} {g} {gift} {source} {k} {b} h last =
             (other d ne) (quiet-is (b.pair d).probing (last.settled d neither))) low
       ]
     ]) in
-    let memory_is : (data_too : Bool) → same_perm (report_left r) Perm.Trunk ≡ data_too
-    → written r b.truth b.memory ≡ b.truth =
-    elim [ true ↦ λ e. rw e refl | false ↦ λ e. rw e (h.memory (none_out e)) ] in
+    let memory_is : (data_too : Bool) → same_perm (report_left r) Perm.Trunk ≡ data_too → written r b.truth b.memory
+    ≡ b.truth = elim [ true ↦ λ e. rw e refl | false ↦ λ e. rw e (h.memory (none_out e)) ] in
     let with_data : Bool = is_granted_data whole g (b.pair q).recorded in
     let all_quiet : (j : ℕ) → is_unprobed (granted_pair c q r gift b.pair j).probing ≡ true = λ j. elim (cases_eq j q) [
       | inl same ↦ rw (same, granted_here) (own_quiet (b.pair q) (view b.service q) (h.phases q) own)
@@ -139,8 +128,7 @@ granted-block {X} {c} {q} {r} {whole} {g} {gift} {source} {k} {b} h last =
     apart : c ≡ q → ⊥
     apart e =
         let quiet : is_unprobed (b.pair q).probing ≡ true = own_quiet (b.pair q) (view b.service q) (h.phases q) own in
-        let answered : (b.pair q).probing ≡ ProbeAnswered r = rw e at last.answered in
-        let no : is_unprobed (ProbeAnswered r) ≡ true = rw answered at quiet in
+        let no : is_unprobed (ProbeAnswered r) ≡ true = rw (rw e at last.answered) at quiet in
         absurd cc
 
     low : same_cap k Cap.ToT ≡ false
@@ -187,12 +175,10 @@ granted-block {X} {c} {q} {r} {whole} {g} {gift} {source} {k} {b} h last =
     ]
 
     not_calm : (p : ClientBlock) → p.acquiring ≡ AcquireOpen whole g → p ≡ resting → ⊥
-    not_calm p e f = let i : p.acquiring ≡ NoAcquire = ap (λ (x : ClientBlock). x.acquiring) f in
-        let j : AcquireOpen whole g ≡ NoAcquire = sym e ∙ i in absurd cc
+    not_calm p e f = grind arith
 
     not_quiet : (p : ClientBlock) → p.probing ≡ ProbeAnswered r → p ≡ resting → ⊥
-    not_quiet p e f = let i : p.probing ≡ NoProbe = ap (λ (x : ClientBlock). x.probing) f in
-        let j : ProbeAnswered r ≡ NoProbe = sym e ∙ i in absurd cc
+    not_quiet p e f = grind arith
 
 -- ---- the cap of a Grant that gives Trunk
 
@@ -203,17 +189,14 @@ grows_to_trunk _ = true
 -- ---- Trunk is granted only where nobody else is recorded
 
 pub low_none : (k : Cap) (p : Perm) → k ≡ Cap.ToN → perm_le p (cap_right k) ≡ true → same_perm p Perm.None ≡ true
-low_none k Perm.None e f = refl
-low_none k p e f = absurd (let g : perm_le p (cap_right Cap.ToN) ≡ true = rw e at f in cc)
+low_none k p e f = grind arith
 
 is_none : (k : Cap) → same_cap k Cap.ToN ≡ true → k ≡ Cap.ToN
-is_none Cap.ToN e = refl
-is_none k e = absurd cc
+is_none k e = grind arith
 
 asks_none : (k : Cap) (whole : Bool) (g : Grow) → grows_to_trunk g ≡ true
     → same_cap k (cap_asked (AcquireOpen whole g)) ≡ true → k ≡ Cap.ToN
-asks_none k whole Grow.NtoB e f = absurd cc
-asks_none k whole g e f = is_none k f
+asks_none k whole g e f = grind (arith, is_none)
 
 -- where the Acquire asks for Trunk, all others were probed to None
 pub room-trunk : {X : Type 0} {caching : ℕ → Bool} (c q : ℕ) (r : Report) (whole : Bool) (g : Grow) (source : ℕ)
@@ -225,6 +208,5 @@ room-trunk c q r whole g source k {b} h waits answered settled wants trunk apart
     let seen : (i : ℕ) → (i ≡ q → ⊥) → view b.service i ≡ Other k =
     λ i differs. rw waits (other_view q source i k differs) in
     let asked : IsAskedCap (Waits q true source k) b.pair = rw waits at h.asked_cap in
-    let cap_is : k ≡ Cap.ToN = asks_none k whole g trunk (rw wants at asked) in
-    low_none k (set c (after_report r (b.pair c)) b.pair d).recorded cap_is
+    low_none k (set c (after_report r (b.pair c)) b.pair d).recorded (asks_none k whole g trunk (rw wants at asked))
     (recorded_within c r k h answered settled (seen c apart) d (seen d ne))

@@ -62,19 +62,17 @@ pub report_grants-kept : {X : Type 0} {caching : ℕ → Bool} {c q : ℕ} (n : 
     → IsInvariant caching (report_grants c q n r (is_granted_data whole g ((s.block n).pair q).recorded) gift rest s)
 report_grants-kept {X} {caching} {c} {q} n {r} {whole} {g} {gift} {source} {k} rest {s} inv first last =
     let links : ℕ → Link = granted_link c q n rest s.link in
-    let links_q : links q ≡ at_q = set-same q at_q (set c at_c s.link) in
-    let links_c : links c ≡ at_c = set-other q c at_q (set c at_c s.link) apart ∙ set-same c at_c s.link in
     let links_other : (d : ℕ) → (d ≡ q → ⊥) → (d ≡ c → ⊥) → links d ≡ s.link d =
     λ d m o. set-other q d at_q (set c at_c s.link) m ∙ set-other c d at_c s.link o in
     let moved : (d : ℕ) (ch : Channel) → IsMoved (granted_moves n c q d ch) (packets_on ch (s.link d))
     (packets_on ch (links d)) = λ d ch. elim (cases_eq d q) [
       | inl same ↦ rw same (moved_as (granted_moves n c q q ch) (granted_moves n 0 1 1 ch) (packets_on ch (s.link q))
-          (packets_on ch (links q))
-          (packets_on ch at_q) (moves_of_sender n c q ch apart_too) (ap (packets_on ch) links_q) (moved_q ch))
+          (packets_on ch (links q)) (packets_on ch at_q) (moves_of_sender n c q ch apart_too)
+          (ap (packets_on ch) (set-same q at_q (set c at_c s.link))) (moved_q ch))
       | inr m ↦ elim (cases_eq d c) [
         | inl same ↦ rw same (moved_as (granted_moves n c q c ch) (granted_moves n 1 0 1 ch) (packets_on ch (s.link c))
-            (packets_on ch (links c))
-            (packets_on ch at_c) (moves_of_reporter n c q ch apart) (ap (packets_on ch) links_c) (moved_c ch))
+            (packets_on ch (links c)) (packets_on ch at_c) (moves_of_reporter n c q ch apart)
+            (ap (packets_on ch) (set-other q c at_q (set c at_c s.link) apart ∙ set-same c at_c s.link)) (moved_c ch))
         | inr o ↦ moved_as (granted_moves n c q d ch) Stays (packets_on ch (s.link d)) (packets_on ch (links d))
             (packets_on ch (s.link d)) (moves_of_other n c q d ch o m) (ap (packets_on ch) (links_other d m o)) refl
       ]
@@ -99,8 +97,7 @@ report_grants-kept {X} {caching} {c} {q} n {r} {whole} {g} {gift} {source} {k} r
     apart e =
         let own : view (s.block n).service q ≡ Own = rw (last.waits, same_number q) refl in
         let quiet = own_quiet ((s.block n).pair q) (view (s.block n).service q) ((inv.blocks n).phases q) own in
-        let answered : ((s.block n).pair q).probing ≡ ProbeAnswered r = rw e at last.answered in
-        let differs : is_unprobed (ProbeAnswered r) ≡ true = rw answered at quiet in
+        let differs : is_unprobed (ProbeAnswered r) ≡ true = rw (rw e at last.answered) at quiet in
         absurd cc
 
     apart_too : q ≡ c → ⊥
@@ -151,23 +148,8 @@ report_grants-kept {X} {caching} {c} {q} n {r} {whole} {g} {gift} {source} {k} r
     after : ClientBlock
     after = after_report r (old c)
 
-    pair_q : new.pair q ≡ after_grant_sent gift (old q)
-    pair_q = set-same q (after_grant_sent gift (old q)) (set c after old)
-
-    pair_c : new.pair c ≡ after
-    pair_c = set-other q c (after_grant_sent gift (old q)) (set c after old) apart ∙ set-same c after old
-
-    pair_other : (d : ℕ) → (d ≡ q → ⊥) → (d ≡ c → ⊥) → new.pair d ≡ old d
-    pair_other d m o = set-other q d (after_grant_sent gift (old q)) (set c after old) m ∙ set-other c d after old o
-
-    view_q : view (s.block n).service q ≡ Own
-    view_q = rw (last.waits, same_number q) refl
-
     view_other : (d : ℕ) → (d ≡ q → ⊥) → view (s.block n).service d ≡ Other k
     view_other d m = rw (last.waits, ne_eqb d q m) refl
-
-    new_q : view new.service q ≡ Granting with_data gift
-    new_q = rw (same_number q) refl
 
     new_other : (d : ℕ) → (d ≡ q → ⊥) → view new.service d ≡ GrantedOther
     new_other d m = rw (ne_eqb d q m) refl
@@ -186,18 +168,18 @@ report_grants-kept {X} {caching} {c} {q} n {r} {whole} {g} {gift} {source} {k} r
 
     fits : (d : ℕ) (j : Kind) → is_transfer j ≡ true → (d ≡ q) ⊎ (d ≡ q → ⊥) → (d ≡ c) ⊎ (d ≡ c → ⊥)
         → agrees (granted_moves n c q d (channel_for j)) j n (shown j d (s.block n)) (shown j d new) ≡ true
-    fits d j t (inl same) o =
-        rw same (agrees_as j (granted_moves n c q q (channel_for j)) (granted_moves n 0 1 1 (channel_for j))
-        (shown j q (s.block n)) (shown j q new)
-        (shows j (old q) Own) (shows j (after_grant_sent gift (old q)) (Granting with_data gift))
-        (moves_of_sender n c q (channel_for j) apart_too) (ap (shows j (old q)) view_q) (ap₂ (shows j) pair_q new_q)
-        (at_sender n j (old q) with_data gift t))
-    fits d j t (inr m) (inl same) =
-        rw same (agrees_as j (granted_moves n c q c (channel_for j)) (granted_moves n 1 0 1 (channel_for j))
-        (shown j c (s.block n)) (shown j c new) (shows j (old c) (Other k)) (shows j after GrantedOther)
-        (moves_of_reporter n c q (channel_for j) apart) (ap (shows j (old c)) (view_other c apart))
-        (ap₂ (shows j) pair_c (new_other c apart)) (at_reporter n j r (old c) k t last.answered))
+    fits d j t (inl same) o = rw same (agrees_as j (granted_moves n c q q (channel_for j))
+        (granted_moves n 0 1 1 (channel_for j)) (shown j q (s.block n)) (shown j q new) (shows j (old q) Own) (shows j
+        (after_grant_sent gift (old q)) (Granting with_data gift)) (moves_of_sender n c q (channel_for j) apart_too)
+        (ap (shows j (old q)) (rw (last.waits, same_number q) refl)) (ap₂ (shows j) (set-same q (after_grant_sent gift
+        (old q)) (set c after old)) (rw (same_number q) refl)) (at_sender n j (old q) with_data gift t))
+    fits d j t (inr m) (inl same) = rw same (agrees_as j (granted_moves n c q c (channel_for j))
+        (granted_moves n 1 0 1 (channel_for j)) (shown j c (s.block n)) (shown j c new) (shows j (old c) (Other k))
+        (shows j after GrantedOther) (moves_of_reporter n c q (channel_for j) apart) (ap (shows j (old c))
+        (view_other c apart)) (ap₂ (shows j) (set-other q c (after_grant_sent gift (old q)) (set c after old) apart
+        ∙ set-same c after old) (new_other c apart)) (at_reporter n j r (old c) k t last.answered))
     fits d j t (inr m) (inr o) = agrees_as j (granted_moves n c q d (channel_for j)) Stays (shown j d (s.block n))
         (shown j d new) (shows j (old d) (Other k)) (shows j (old d) GrantedOther)
-        (moves_of_other n c q d (channel_for j) o m) (ap (shows j (old d)) (view_other d m))
-        (ap₂ (shows j) (pair_other d m o) (new_other d m)) (at_other n j (old d) k t)
+        (moves_of_other n c q d (channel_for j) o m) (ap (shows j (old d)) (view_other d m)) (ap₂ (shows j)
+        (set-other q d (after_grant_sent gift (old q)) (set c after old) m ∙ set-other c d after old o) (new_other d m))
+        (at_other n j (old d) k t)

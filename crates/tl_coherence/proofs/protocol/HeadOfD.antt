@@ -1,15 +1,15 @@
 -- What is due to a client: the message of the first token of channel D, and what it answers.
-use Rattle.std.proofs.Common.{◌≡◌, ℕ, Bool, true, false, not, List, ◌∷◌, Some, refl, ◌∙◌, ap, lit≤, eqb-true, ◌==◌}
-use Rattle.std.proofs.Common.{if◌then◌else◌, sym}
+use Rattle.std.proofs.Common.{◌≡◌, ℕ, Bool, true, false, not, List, ◌∷◌, Some, refl, ◌∙◌, ap, lit≤, ◌==◌, arith}
+use Rattle.std.proofs.Common.{if◌then◌else◌}
 use Rattle.tl_coherence.proofs
 use proofs.Imports.{and_from, OpD, Message, MessageA, MessageD, Cap, Grow, cap_code, grant_opcode, no_payload}
-use proofs.Imports.{is_access_answer, IsInvariant, Answer, Grant, ReleaseAck, Packet, Granting, GrantedOther}
-use proofs.Imports.{ReleasePhase, ReleaseAcked, AcquirePhase, NoAcquire, AcquireOpen, is_unacquired, is_unreleased}
-use proofs.Imports.{grant_fits, Service, Free, Waits, GrantSent, GrantTaken, State, Replied, Acquires, view, packet}
-use proofs.Imports.{is_wanting, is_granting, is_acked, AccessMessages, block_message, IsAnswered}
-use Rattle.tl_rules.specs.statement.Conformance.{answers}
-use proofs.protocol.{BothParts.waits_ungranted, BothParts.taken_ungranted, BothParts.is_of-is, BothParts.acquires_of-is}
-use proofs.protocol.{FirstTokens.first-answer, FirstTokens.first-shown}
+use proofs.Imports.{is_access_answer, IsInvariant, Answer, Grant, ReleaseAck, Packet, Granting, ReleasePhase}
+use proofs.Imports.{AcquirePhase, AcquireOpen, is_unacquired, is_unreleased, grant_fits, Service, GrantSent, State}
+use proofs.Imports.{Replied, Acquires, view, packet, is_wanting, is_granting, is_acked, AccessMessages, block_message}
+use proofs.Imports.{IsAnswered}
+use Rattle.tl_rules.{specs.statement.Conformance.answers}
+use proofs.protocol.BothParts.{waits_ungranted, taken_ungranted, is_of-is, acquires_of-is}
+use proofs.protocol.FirstTokens.{first-answer, first-shown}
 use proofs.queues.{Facts.grant_is_fit, Facts.granting_asks, Tokens.same_number}
 
 -- ---- an answer
@@ -64,18 +64,10 @@ pub record IsGrantDue (c n : ℕ) (s : State (List ℕ)) : Type 0 where
 
 pub granting-service : (s : Service) (c : ℕ) → is_granting (view s c) ≡ true → (d : Bool) × (k : Cap)
     × (s ≡ GrantSent c d k)
-granting-service Free c e = absurd cc
-granting-service (Waits q o source k) c e =
-    absurd (let no : false ≡ true = sym (waits_ungranted o q source k c) ∙ e in cc)
-granting-service (GrantTaken q) c e = absurd (let no : false ≡ true = sym (taken_ungranted q c) ∙ e in cc)
-granting-service (GrantSent q d k) c e =
-    let own : (x : Bool) → is_granting (if x then Granting d k else GrantedOther) ≡ true → x ≡ true =
-    elim [ true ↦ λ f. refl | false ↦ λ f. absurd cc ] in
-    let same : c ≡ q = eqb-true c q (own (c == q) e) in (d, k, rw same refl)
+granting-service s c e = grind (arith, waits_ungranted, taken_ungranted)
 
 wanting_is : (x : AcquirePhase) → not (is_unacquired x) ≡ true → (whole : Bool) × (g : Grow) × (x ≡ AcquireOpen whole g)
-wanting_is NoAcquire e = absurd cc
-wanting_is (AcquireOpen whole g) e = (whole, g, refl)
+wanting_is x e = grind arith
 
 -- the use of the source of an open Acquire
 pub acquire-used : (caching : ℕ → Bool) (c n : ℕ) (s : State (List ℕ)) → IsInvariant caching s
@@ -87,16 +79,13 @@ acquire-used caching c n s inv wanting = acquires_of-is n (s.uses c ((s.block n)
 -- how the client of a Grant sees the block
 pub own_view : (c : ℕ) (d : Bool) (k : Cap) (service : Service) → service ≡ GrantSent c d k
     → view service c ≡ Granting d k
-own_view c d k service e =
-    let here : (x : Bool) → x ≡ true → (if x then Granting d k else GrantedOther) ≡ Granting d k = λ x f. rw f refl in
-    ap (λ (x : Service). view x c) e ∙ here (c == c) (same_number c)
+own_view c d k service e = grind arith
 
 pub grant-due : (caching : ℕ → Bool) (c n : ℕ) (rest : List Packet) (s : State (List ℕ)) → IsInvariant caching s
     → (s.link c).d ≡ packet Grant n ∷ rest → IsGrantDue c n s
 grant-due caching c n rest s inv first =
     let b = s.block n in
-    let seen : is_granting (view b.service c) ≡ true = first-shown inv c Grant refl first in
-    let sent = granting-service b.service c seen in
+    let sent = granting-service b.service c (first-shown inv c Grant refl first) in
     let mine : view b.service c ≡ Granting sent.0 sent.1 = own_view c sent.0 sent.1 b.service sent.2 in
     let wants = wanting_is (b.pair c).acquiring (granting_asks sent.0 sent.1 (b.pair c) (view b.service c)
     ((inv.blocks n).phases c) mine) in
@@ -149,15 +138,11 @@ ack_message source = record {
 }
 
 acked_open : (x : ReleasePhase) → is_acked x ≡ true → not (is_unreleased x) ≡ true
-acked_open ReleaseAcked e = refl
-acked_open x e = absurd cc
+acked_open x e = grind arith
 
 pub ack-due : {caching : ℕ → Bool} (c n : ℕ) (rest : List Packet) {s : State (List ℕ)} → IsInvariant caching s
     → (s.link c).d ≡ packet ReleaseAck n ∷ rest → s.lets c ((s.block n).release_source c) ≡ Some n
-ack-due c n rest {s} inv first =
-    let acked = first-shown inv c ReleaseAck refl first in
-    let live = acked_open ((s.block n).pair c).letting acked in
-    is_of-is n (s.lets c ((s.block n).release_source c))
+ack-due c n rest {s} inv first = is_of-is n (s.lets c ((s.block n).release_source c))
     (inv.named.releases c ((s.block n).release_source c) n ∙ and_from (not (is_unreleased ((s.block n).pair c).letting))
-    ((s.block n).release_source c == (s.block n).release_source c) live
-    (same_number ((s.block n).release_source c)))
+    ((s.block n).release_source c == (s.block n).release_source c) (acked_open ((s.block n).pair c).letting
+    (first-shown inv c ReleaseAck refl first)) (same_number ((s.block n).release_source c)))

@@ -1,6 +1,6 @@
 -- The request whose beat is first on channel A of a link: an access that was asked, or an Acquire that is wanted.
 use Rattle.std.proofs.Common.{◌≡◌, ℕ, ◌-◌, ◌*◌, ◌^◌, ◌<◌, Bool, true, false, List, ◌∷◌, Some, None, refl, sym, ◌∙◌, ap}
-use Rattle.std.proofs.Common.{inl, inr, arith, map}
+use Rattle.std.proofs.Common.{arith, map}
 use Rattle.tl_coherence.proofs
 use proofs.Imports.{same_Some, Beat, Channel, IsWidth, beats-positive, Message, MessageA, beats_of, a_beat_of}
 use proofs.Imports.{IsBlankAfter, unfinished, Config, Grow, on_link, block_at, is_acquire, same_block, open_beat}
@@ -39,8 +39,7 @@ pub rendered-acquire : {w : ℕ} (c n : ℕ) (b : Block (List ℕ)) (whole : Boo
     → (b.pair c).acquiring ≡ AcquireOpen whole g
     → block_message {w = w} Acquire c n b ≡ Message.A (acquisition (acquire_opcode whole) g (b.source c) n)
 unfolding block_message
-rendered-acquire {w} c n b true g e = rw e refl
-rendered-acquire {w} c n b false g e = rw e refl
+rendered-acquire c n b whole g e = grind arith
 
 -- an access that was asked is no Acquire: the client has one Acquire of a block open at most, and that is another one
 asked-access : {w : ℕ} {config : Config} {log : Log w} {mail : AccessMessages w} {request : ℕ → MessageA w}
@@ -72,10 +71,8 @@ asked-access {w} {s} {sys} c source m is used mailed =
         let opens_too : open_beat (b.source c) (sys.clients c).past ≡ Some
         (a_beat_of (acquisition (acquire_opcode asks.0) asks.1 (b.source c) n) 0) =
         (is.known c).opens (b.source c) ∙ rw used_too (ap first_of (rendered-acquire c n b asks.0 asks.1 asks.2)) in
-        let theirs : acquires n (open_beat (b.source c) (sys.clients c).past) ≡ true =
-        rw (opens_too, acquires-so asks.0, same_block n, same_number n) refl in
-        let same : source ≡ b.source c = (is.kept c).once source (b.source c) n mine theirs in
-        let no : Asked ≡ Acquires n = sym used ∙ ap (s.uses c) same ∙ used_too in
+        let no : Asked ≡ Acquires n = sym used ∙ ap (s.uses c) ((is.kept c).once source (b.source c) n mine
+        (rw (opens_too, acquires-so asks.0, same_block n, same_number n) refl)) ∙ used_too in
         cc
 
 pub asked-first : {w : ℕ} {config : Config} {log : Log w} {mail : AccessMessages w} {request : ℕ → MessageA w}
@@ -83,6 +80,8 @@ pub asked-first : {w : ℕ} {config : Config} {log : Log w} {mail : AccessMessag
     → SimulationRelation config log mail request s sys → (s.link c).a ≡ packet Request source ∷ rest
     → IsAsked config c source mail s
 asked-first {w} {config} {log} {mail} {request} {s} {sys} c source rest is first =
+    let used = first-request is.invariant first in
+    let sourced : IsRequest config c source (mail.request c source) = rw used at (is.sourced c source) in
     let of : IsOfSource source (mail.request c source) = of_source source (mail.request c source) sourced.0 in
     record {
       request = of.request;
@@ -93,12 +92,6 @@ asked-first {w} {config} {log} {mail} {request} {s} {sys} c source rest is first
       lawful = rw of.is_it at sourced.1;
       blank = rw of.is_it at sourced.2;
     }
-  where
-    used : s.uses c source ≡ Asked
-    used = first-request is.invariant first
-
-    sourced : IsRequest config c source (mail.request c source)
-    sourced = rw used at (is.sourced c source)
 
 -- ---- an Acquire that is wanted
 
@@ -131,10 +124,7 @@ wanted-first {w} {s} c n rest is first =
 
 -- all that no beat of it carries is zero
 narrow : (w : ℕ) → IsWidth w → 2 ^ w - 1 < 2 ^ (w * 1)
-narrow w is = elim is [
-  | inl four ↦ rw four (omega arith)
-  | inr more ↦ elim more [ inl eight ↦ rw eight (omega arith) | inr sixteen ↦ rw sixteen (omega arith) ]
-]
+narrow w is = grind arith
 
 acquisition_blank : (w : ℕ) (whole : Bool) (g : Grow) (source n : ℕ) → IsWidth w
     → IsBlankAfter {w = w} 1 (Message.A (acquisition (acquire_opcode whole) g source n))
@@ -143,8 +133,7 @@ acquisition_blank w false g source n width = (refl, narrow w width, omega arith)
 
 pub acquisition_beats : (w : ℕ) (whole : Bool) (g : Grow) (source n : ℕ)
     → beats_of {w = w} (Message.A (acquisition (acquire_opcode whole) g source n)) ≡ 1
-acquisition_beats w true g source n = refl
-acquisition_beats w false g source n = refl
+acquisition_beats w whole g source n = grind arith
 
 pub acquisition-blank : (w : ℕ) (whole : Bool) (g : Grow) (source n : ℕ) → IsWidth w
     → IsBlankAfter {w = w} (beats_of {w = w} (Message.A (acquisition (acquire_opcode whole) g source n)))
@@ -166,6 +155,4 @@ front-of {w} {mail} {s} {sys} c first rest m x queue width is tokens is_it beats
     carried-next x (unfinished Channel.A (on_link c sys.manager.trace)) (Message.A m) (map (message_of mail s c) rest)
     queue (λ i. beats-positive i width)
     (carried_so (messages_on Channel.A mail s c) (Message.A m ∷ map (message_of mail s c) rest)
-    (sys.channels c Channel.A) (x ∷ queue)
-    (ap (map (message_of mail s c)) tokens ∙ ap (λ (i : Message w). i ∷ map (message_of mail s c) rest) is_it) beats
-    (is.carried c Channel.A))
+    (sys.channels c Channel.A) (x ∷ queue) (cc) beats (is.carried c Channel.A))

@@ -31,9 +31,7 @@ never-idle {w} config tracker c ProbeAck n rest h inv first ready = go b.service
     go (GrantTaken q) e = absurd (taken-unseen (c == q) (rw e at seen))
     go (Waits q false source k) e = refl
     go (Waits q true source k) e =
-        let wants = own_wants (b.pair q) (view b.service q) ((inv.blocks n).phases q) (rw (e, same_number q) refl) in
-        not-true _ wants
+        not-true _ (own_wants (b.pair q) (view b.service q) ((inv.blocks n).phases q) (rw (e, same_number q) refl))
 never-idle config tracker c Grant n rest h inv first ready =
-    let sent = granting-service (h.state.block n).service c (first-shown inv c Grant refl first) in
-    rw sent.2 refl
+    rw (granting-service (h.state.block n).service c (first-shown inv c Grant refl first)).2 refl
 never-idle config tracker c k i rest h inv first ready = refl

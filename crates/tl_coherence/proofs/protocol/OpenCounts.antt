@@ -9,9 +9,7 @@ use proofs.queues.{Sums.total-same, Sums.total-plus, Sums.total-set, Tokens.set-
 -- one summand differs
 total-at : (n m : ℕ) (f g : ℕ → ℕ) → m < n → ((i : ℕ) → (i ≡ m → ⊥) → f i ≡ g i) → total n f + g m ≡ total n g + f m
 total-at n m f g lt others =
-    let same = total-same n f (set m (f m) g) (λ i below. each i (cases_eq i m)) in
-    let changed : total n (set m (f m) g) + g m ≡ total n g + f m = total-set n m (f m) g lt in
-    omega (arith, same, changed)
+    omega (arith, total-same n f (set m (f m) g) (λ i below. each i (cases_eq i m)), total-set n m (f m) g lt)
   where
     each : (i : ℕ) → (i ≡ m) ⊎ (i ≡ m → ⊥) → f i ≡ set m (f m) g i
     each i (inl e) = rw e (sym (set-same m (f m) g))
@@ -31,17 +29,15 @@ marked-set {B} test clients sources c k x f few lt =
     let row : ℕ → (ℕ → B) → ℕ = λ d g. total (sources d) (λ i. one_if (test (g i))) in
     let inner = total-at (sources c) k (λ i. one_if (test (set k x (f c) i))) (λ i. one_if (test (f c i))) lt
     (λ i ne. ap (λ (y : B). one_if (test y)) (set-other k i x (f c) ne)) in
-    let here = ap (λ (y : B). one_if (test y)) (set-same k x (f c)) in
     let outer = total-at clients c (λ d. row d (set_at c k x f d)) (λ d. row d (f d)) few
     (λ d ne. ap (row d) (set-other c d (set k x (f c)) f ne)) in
     let changed : row c (set_at c k x f c) ≡ row c (set k x (f c)) = ap (row c) (set-same c (set k x (f c)) f) in
-    omega (arith, inner, here, outer, changed)
+    omega (arith, inner, ap (λ (y : B). one_if (test y)) (set-same k x (f c)), outer, changed)
 
 -- no place changes, as the test has it
-pub marked-same : {B : Type 0} (test : B → Bool) (clients : ℕ) (sources : ℕ → ℕ) (f g : ℕ → ℕ → B)
+marked-same : {B : Type 0} (test : B → Bool) (clients : ℕ) (sources : ℕ → ℕ) (f g : ℕ → ℕ → B)
     → ((c i : ℕ) → test (f c i) ≡ test (g c i)) → marked test clients sources f ≡ marked test clients sources g
-marked-same test clients sources f g same =
-    cc (total-same clients (λ c. total (sources c) (λ i. one_if (test (f c i))))
+marked-same test clients sources f g same = cc (total-same clients (λ c. total (sources c) (λ i. one_if (test (f c i))))
     (λ c. total (sources c) (λ i. one_if (test (g c i)))) (λ c few. total-same (sources c) (λ i. one_if (test (f c i)))
     (λ i. one_if (test (g c i))) (λ i lt. ap one_if (same c i))))
 
@@ -61,14 +57,12 @@ acks clients link = total clients (λ c. length (link c).e)
 pub acks-set : (clients c : ℕ) (l : Link) (link : ℕ → Link) → c < clients
     → acks clients (set c l link) + length (link c).e ≡ acks clients link + length l.e
 acks-set clients c l link few =
-    let here : length (set c l link c).e ≡ length l.e = ap (λ (x : Link). length x.e) (set-same c l link) in
     let changed = total-at clients c (λ d. length (set c l link d).e) (λ d. length (link d).e) few
     (λ d ne. ap (λ (x : Link). length x.e) (set-other c d l link ne)) in
-    omega (arith, here, changed)
+    omega (arith, ap (λ (x : Link). length x.e) (set-same c l link), changed)
 
 pub acks-same : (clients : ℕ) (f g : ℕ → Link) → ((c : ℕ) → (f c).e ≡ (g c).e) → acks clients f ≡ acks clients g
-acks-same clients f g same = total-same clients (λ c. length (f c).e) (λ c. length (g c).e)
-    (λ c few. ap length (same c))
+acks-same clients f g same = grind (arith, total-same)
 
 -- ---- the whole
 
@@ -86,9 +80,8 @@ pub record IsBalance {X : Type 0} (config : Config) (s s' : State X) (starts end
 pub requests-split : {X : Type 0} (config : Config) (s : State X)
     → open_requests config s ≡ marked is_used (clients_in config) (sources_in config) s.uses + acks (clients_in config)
     s.link
-requests-split config s =
-    total-plus (clients_in config) (λ c. total (sources_in config c) (λ i. one_if (is_used (s.uses c i))))
-    (λ c. length (s.link c).e)
+requests-split config s = total-plus (clients_in config)
+    (λ c. total (sources_in config c) (λ i. one_if (is_used (s.uses c i)))) (λ c. length (s.link c).e)
 
 -- nothing is opened or ended
 pub balance-same : {X : Type 0} (config : Config) (s s' : State X)
@@ -98,8 +91,7 @@ pub balance-same : {X : Type 0} (config : Config) (s s' : State X)
 balance-same config s s' uses lets links =
     let u = marked-same is_used (clients_in config) (sources_in config) s'.uses s.uses uses in
     let a = acks-same (clients_in config) s'.link s.link links in
-    let l = marked-same is_let (clients_in config) (sources_in config) s'.lets s.lets lets in
     record {
       requests = omega (arith, u, a, requests-split config s, requests-split config s');
-      releases = omega (arith, l);
+      releases = omega (arith, marked-same is_let (clients_in config) (sources_in config) s'.lets s.lets lets);
     }

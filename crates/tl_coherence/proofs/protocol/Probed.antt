@@ -1,15 +1,14 @@
 -- A Probe that is taken keeps the invariant.
-use Rattle.std.proofs.Common.{◌≡◌, refl, sym, ◌∙◌, ap, inl, inr, ℕ, Bool, true, false, List, ◌∷◌}
+use Rattle.std.proofs.Common.{◌≡◌, refl, ◌∙◌, ap, inl, inr, ℕ, Bool, true, false, List, ◌∷◌, arith}
 use Rattle.tl_coherence.proofs
 use proofs.Imports.{cases_eq, Channel, Cap, Perm, report_right, report_at, same_perm, resting, IsWell, IsInvariant}
-use proofs.Imports.{Kind, Probe, ProbeAck, Release, Packet, set, count, ClientBlock, View, NoProbe, ProbeSent}
-use proofs.Imports.{NoRelease, is_unprobed, ok, after_probe, Block, State, view, packet, probed_block, probed_link}
-use proofs.Imports.{probe_taken, is_transfer, shows, Move, Stays, Pushes, Pops, AreMoved, agrees, is_own_move}
-use proofs.Imports.{channel_for}
-use Rattle.tl_coherence.specs.protocol.Protocol.{Link}
-use proofs.queues.{Moves.event-at, Moves.bare-at, Moves.names-kept, Moves.invariant-moved, KindMoves.same_again}
-use proofs.queues.{PhaseSteps.probe-ok, Tokens.same_number, Tokens.set-same, Tokens.set-each, Tokens.set-other}
-use proofs.queues.{Tokens.set-part}
+use proofs.Imports.{Kind, Probe, ProbeAck, Release, Packet, set, count, ClientBlock, View, ProbeSent, NoRelease}
+use proofs.Imports.{is_unprobed, ok, after_probe, Block, State, view, packet, probed_block, probed_link, probe_taken}
+use proofs.Imports.{is_transfer, shows, Move, Stays, Pushes, Pops, AreMoved, agrees, is_own_move, channel_for}
+use Rattle.tl_coherence.{specs.protocol.Protocol.Link}
+use proofs.queues.{KindMoves.same_again, PhaseSteps.probe-ok}
+use proofs.queues.Moves.{event-at, bare-at, names-kept, invariant-moved}
+use proofs.queues.Tokens.{same_number, set-same, set-each, set-other, set-part}
 use proofs.protocol.Blocks.{awaited_by, asked_cap-set}
 
 -- ---- the block
@@ -17,13 +16,9 @@ use proofs.protocol.Blocks.{awaited_by, asked_cap-set}
 -- what is left after a report was held before
 less_left : (k : Cap) (p : Perm) → same_perm (report_right (report_at k p)) Perm.None ≡ false
     → same_perm p Perm.None ≡ false
-less_left k Perm.Branch e = refl
-less_left k Perm.Trunk e = refl
-less_left Cap.ToT Perm.None e = e
-less_left Cap.ToB Perm.None e = e
-less_left Cap.ToN Perm.None e = e
+less_left k p e = grind arith
 
-pub probed-block : {X : Type 0} {caching : ℕ → Bool} (c : ℕ) (k : Cap) {b : Block X} → IsWell caching b
+probed-block : {X : Type 0} {caching : ℕ → Bool} (c : ℕ) (k : Cap) {b : Block X} → IsWell caching b
     → (b.pair c).probing ≡ ProbeSent k → (b.pair c).letting ≡ NoRelease → IsWell caching (probed_block c k b)
 probed-block c k {b} h sent kept =
     let after : ClientBlock = after_probe k (b.pair c) in
@@ -50,8 +45,7 @@ probed-block c k {b} h sent kept =
     }
   where
     not_resting : (p : ClientBlock) (k : Cap) → p.probing ≡ ProbeSent k → p ≡ resting → ⊥
-    not_resting p k e f = let g : p.probing ≡ NoProbe = ap (λ (q : ClientBlock). q.probing) f in
-        let i : ProbeSent k ≡ NoProbe = sym e ∙ g in absurd cc
+    not_resting p k e f = grind arith
 
 -- ---- the whole
 

@@ -32,14 +32,11 @@ free-when_silent {X} {caching} {s} n inv silent = go (s.block n).service refl
         quiet_of ((s.block n).pair c).probing (nothing_shown c n Probe inv refl (silent.b c))
         (nothing_shown c n ProbeAck inv refl (silent.c c))
 
-    waited : (c : ℕ) → is_unprobed ((s.block n).pair c).probing ≡ false → ⊥
-    waited c e = let f = not_probed c in absurd cc
-
     go : (service : Service) → (s.block n).service ≡ service → service ≡ Free
     go Free e = refl
     go (Waits r own source k) e =
         let someone : IsAwaited (Waits r own source k) (s.block n).pair = rw e at (inv.blocks n).awaited in
-        absurd (waited someone.0 someone.1)
+        absurd (let f = not_probed someone.0 in absurd cc)
     go (GrantSent q d k) e =
         let none : shown Grant q (s.block n) ≡ false = nothing_shown q n Grant inv refl (silent.d q) in
         let some : shown Grant q (s.block n) ≡ true = rw (e, same_number q) refl in

@@ -5,7 +5,7 @@ use Rattle.std.proofs.Common.{◌≡◌, ℕ, ◌<◌, Bool, true, false, List, 
 use Rattle.std.proofs.Common.{Some, None, ◌==◌}
 use Rattle.tl_coherence.proofs
 use proofs.Imports.{Channel, part_bit, one_if, IsInvariant, acquires_of, serves_of, is_of, is_asked, is_replied}
-use proofs.Imports.{serves_with, releases_with, Kind, Request, Acquire, Probe, ProbeAck, Release, Answer, Grant}
+use proofs.Imports.{serves_with, Kind, Request, Acquire, Probe, ProbeAck, Release, Answer, Grant}
 use proofs.Imports.{ReleaseAck, GrantAck, Packet, count, ClientBlock, View, Own, ReleasePhase, NoRelease, ReleaseSent}
 use proofs.Imports.{ReleaseAcked, is_unprobed, is_unreleased, ok, Service, Free, Waits, GrantSent, GrantTaken, State}
 use proofs.Imports.{SourceState, SourceFree, Asked, InService, Replied, Acquires, view, on, packets_on, is_on}
@@ -29,8 +29,7 @@ pub record IsClosed {X : Type 0} (s : State X) : Type 0 where
   pub lets : (c source : ℕ) → s.lets c source ≡ None
 
 none_there : (n : ℕ) (b : Bool) → 0 ≡ one_if b → b ≡ true → ⊥
-none_there n true e f = absurd (omega (arith, e))
-none_there n false e f = absurd cc
+none_there n b e f = grind arith
 
 probed_by_other : ClientBlock → View → Bool
 probed_by_other p v = is_unprobed p.probing || is_other v
@@ -39,8 +38,7 @@ asks_for_own : ClientBlock → View → Bool
 asks_for_own p v = not (is_own v) || is_wanting p.acquiring
 
 or_second : (a b : Bool) → (a || b) ≡ true → a ≡ false → b ≡ true
-or_second true b e f = absurd cc
-or_second false b e f = e
+or_second a b e f = grind arith
 
 pub serves_another : (p : ClientBlock) (v : View) → ok p v ≡ true → is_unprobed p.probing ≡ false → is_other v ≡ true
 unfolding each_phase probed_by_other
@@ -70,14 +68,12 @@ module _ {X : Type 0} {caching : ℕ → Bool} {s : State X} (inv : IsInvariant 
       use_is c source SourceFree e = refl
       use_is c source Asked e =
           absurd (none_there source (is_asked (s.uses c source)) (rw (bare.a c) at (inv.requests c source)) (rw e refl))
-      use_is c source Replied e =
-          absurd (none_there source (is_replied (s.uses c source)) (rw (bare.silent.d c) at (inv.answers c source))
-          (rw e refl))
+      use_is c source Replied e = absurd (none_there source (is_replied (s.uses c source))
+          (rw (bare.silent.d c) at (inv.answers c source)) (rw e refl))
       use_is c source (InService n) e =
-          let named : serves_of n (s.uses c source) ≡ serves_with c source (s.block n) = inv.named.serves c source n in
           let it : serves_of n (s.uses c source) ≡ true = rw e (same_number n) in
           let not_it : serves_with c source (s.block n) ≡ false = rw (free n) refl in
-          absurd (let both : true ≡ false = sym it ∙ named ∙ not_it in cc)
+          absurd (let both : true ≡ false = sym it ∙ (inv.named.serves c source n) ∙ not_it in cc)
       use_is c source (Acquires n) e =
           let named = inv.named.acquires c source n in
           let it : acquires_of n (s.uses c source) ≡ true = rw e (same_number n) in
@@ -92,18 +88,16 @@ module _ {X : Type 0} {caching : ℕ → Bool} {s : State X} (inv : IsInvariant 
       let_is : (c source : ℕ) (o : Option ℕ) → s.lets c source ≡ o → o ≡ None
       let_is c source None e = refl
       let_is c source (Some n) e =
-          let named : is_of n (s.lets c source) ≡ releases_with c source (s.block n) = inv.named.releases c source n in
           let it : is_of n (s.lets c source) ≡ true = rw e (same_number n) in
-          absurd (let_of c n ((s.block n).pair c).letting refl
-          (and_left (not (is_unreleased ((s.block n).pair c).letting)) _ (sym named ∙ it)))
+          absurd (let_of c n ((s.block n).pair c).letting refl (and_left
+          (not (is_unreleased ((s.block n).pair c).letting)) _ (sym (inv.named.releases c source n) ∙ it)))
 
   -- ---- the other way round
 
   -- a client that is probed is probed for a request that is open
   probed-for : (c n : ℕ) → is_unprobed ((s.block n).pair c).probing ≡ false → IsClosed s → ⊥
-  probed-for c n probed closed =
-      go (s.block n).service refl (serves_another ((s.block n).pair c) (view (s.block n).service c)
-      ((inv.blocks n).phases c) probed)
+  probed-for c n probed closed = go (s.block n).service refl
+      (serves_another ((s.block n).pair c) (view (s.block n).service c) ((inv.blocks n).phases c) probed)
     where
       go : (service : Service) → (s.block n).service ≡ service → is_other (view service c) ≡ true → ⊥
       go Free e is = absurd cc
@@ -111,15 +105,13 @@ module _ {X : Type 0} {caching : ℕ → Bool} {s : State X} (inv : IsInvariant 
       go (GrantTaken q) e is = taken-unseen (c == q) is
       go (Waits r true source k) e is =
           let own : view (s.block n).service r ≡ Own = rw (e, same_number r) refl in
-          let wants = owns_ask ((s.block n).pair r) (view (s.block n).service r) ((inv.blocks n).phases r) (rw own refl)
-          in
-          let used : s.uses r ((s.block n).source r) ≡ Acquires n = source_of_acquire r n inv wants in
+          let used : s.uses r ((s.block n).source r) ≡ Acquires n = source_of_acquire r n inv
+          (owns_ask ((s.block n).pair r) (view (s.block n).service r) ((inv.blocks n).phases r) (rw own refl)) in
           absurd (let both : Acquires n ≡ SourceFree = sym used ∙ closed.uses r ((s.block n).source r) in cc)
       go (Waits r false source k) e is =
-          let named : serves_of n (s.uses r source) ≡ serves_with r source (s.block n) = inv.named.serves r source n in
           let it : serves_with r source (s.block n) ≡ true = rw (e, same_number r, same_number source) refl in
           let none : serves_of n (s.uses r source) ≡ false = rw (closed.uses r source) refl in
-          absurd (let both : true ≡ false = sym it ∙ sym named ∙ none in cc)
+          absurd (let both : true ≡ false = sym it ∙ sym (inv.named.serves r source n) ∙ none in cc)
 
   no_use : (c source n : ℕ) → s.uses c source ≡ Acquires n → IsClosed s → ⊥
   no_use c source n e closed = absurd (let both : Acquires n ≡ SourceFree = sym e ∙ closed.uses c source in cc)
@@ -180,6 +172,4 @@ module _ {X : Type 0} {caching : ℕ → Bool} {s : State X} (inv : IsInvariant 
       is_e _ = false
 
       apart : (ch : Channel) → is_e ch ≡ false → (k : Kind) → is_on ch k ≡ true → is_on Channel.E k ≡ false
-      apart Channel.E e k on_it = absurd cc
-      apart ch e GrantAck on_it = absurd cc
-      apart ch e k on_it = refl
+      apart ch e k f = grind arith

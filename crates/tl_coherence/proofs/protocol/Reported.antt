@@ -8,56 +8,45 @@ use proofs.Imports.{after_report, after_release_taken, Service, Block, State, vi
 use proofs.Imports.{report_taken, let_block, let_link, release_taken, shows, is_transfer, is_answered, is_releasing}
 use proofs.Imports.{Move, Stays, Pushes, Pops, AreMoved, agrees, is_own_move, channel_for}
 use Rattle.tl_coherence.specs.protocol.Protocol.{Link, written_from}
-use proofs.queues.{Moves.event-at, Moves.bare-at, Moves.names-kept, Moves.invariant-moved, KindMoves.same_again}
-use proofs.queues.{PhaseSteps.report-ok, PhaseSteps.release_taken-ok, Facts.report_begins, Facts.release_begins}
-use proofs.queues.{Perms.not_out, Tokens.same_number, Tokens.set-same, Tokens.set-each, Tokens.set-other}
-use proofs.queues.{Tokens.set-part, Tokens.ordered-first}
-use proofs.protocol.Granted.{both_trunk}
-use proofs.protocol.Blocks.{IsGentle, awaited_by, awaited-set, asked_cap-set, alone-set, owned-set, outside-set}
-use proofs.protocol.Blocks.{busy-inside}
+use proofs.queues.{KindMoves.same_again, Facts.report_begins, Facts.release_begins, Perms.not_out}
+use proofs.queues.Moves.{event-at, bare-at, names-kept, invariant-moved}
+use proofs.queues.PhaseSteps.{report-ok, release_taken-ok}
+use proofs.queues.Tokens.{same_number, set-same, set-each, set-other, set-part, ordered-first}
+use proofs.protocol.{Granted.both_trunk, Blocks.IsGentle, Blocks.awaited_by, Blocks.awaited-set, Blocks.asked_cap-set}
+use proofs.protocol.{Blocks.alone-set, Blocks.owned-set, Blocks.outside-set, Blocks.busy-inside}
 
 -- ---- what is recorded falls
 
 report_trunk : (r : Report) (p : Perm) → same_perm (report_left r) p ≡ true
     → same_perm (report_right r) Perm.Trunk ≡ true → same_perm p Perm.Trunk ≡ true
-report_trunk Report.TtoT Perm.Trunk e f = refl
-report_trunk r p e f = absurd cc
+report_trunk r p e f = grind arith
 
 report_none : (p : Perm) (r : Report) → same_perm (report_left r) p ≡ true → same_perm p Perm.None ≡ true
     → same_perm (report_right r) Perm.None ≡ true
-report_none Perm.None Report.NtoN e f = refl
-report_none p r e f = absurd cc
+report_none p r e f = grind arith
 
 pub gentle-report : (r : Report) (p : ClientBlock) → same_perm (report_left r) p.recorded ≡ true
     → IsGentle p (after_report r p)
-gentle-report r p e = record {
-  trunk = λ f. report_trunk r p.recorded e f;
-  none = λ f. report_none p.recorded r e f;
-  quiet = λ f. refl;
-}
+gentle-report r p e =
+    record { trunk = λ f. report_trunk r p.recorded e f; none = λ f. report_none p.recorded r e f; quiet = λ f. refl }
 
 prune_trunk : (r : Prune) (p : Perm) → same_perm (prune_left r) p ≡ true → same_perm (prune_right r) Perm.Trunk ≡ true
     → same_perm p Perm.Trunk ≡ true
-prune_trunk Prune.TtoB p e f = absurd cc
-prune_trunk r p e f = absurd cc
+prune_trunk r p e f = grind arith
 
 prune_none : (p : Perm) (r : Prune) → same_perm (prune_left r) p ≡ true → same_perm p Perm.None ≡ true
     → same_perm (prune_right r) Perm.None ≡ true
-prune_none Perm.None Prune.TtoB e f = absurd cc
-prune_none p r e f = absurd cc
+prune_none p r e f = grind arith
 
 gentle-prune : (r : Prune) (p : ClientBlock) → same_perm (prune_left r) p.recorded ≡ true
     → IsGentle p (after_release_taken r p)
-gentle-prune r p e = record {
-  trunk = λ f. prune_trunk r p.recorded e f;
-  none = λ f. prune_none p.recorded r e f;
-  quiet = λ f. f;
-}
+gentle-prune r p e =
+    record { trunk = λ f. prune_trunk r p.recorded e f; none = λ f. prune_none p.recorded r e f; quiet = λ f. f }
 
 -- ---- memory: who gives Trunk up brings the data, and whoever else is out stays so
 
 -- the memory with the data of a message of client c that begins at what is recorded of it, if afterwards nobody is out
-pub memory-written : {X : Type 0} (c : ℕ) (left : Perm) (q : ClientBlock) (service : Service) (pair : ℕ → ClientBlock)
+memory-written : {X : Type 0} (c : ℕ) (left : Perm) (q : ClientBlock) (service : Service) (pair : ℕ → ClientBlock)
     (memory truth : X) → same_perm left (pair c).recorded ≡ true
     → (((d : ℕ) → is_out (pair d) (view service d) ≡ false) → memory ≡ truth)
     → ((d : ℕ) → is_out (set c q pair d) (view service d) ≡ false) → written_from left truth memory ≡ truth
@@ -73,13 +62,12 @@ memory-written {X} c left q service pair memory truth begins h none =
 
 -- ---- blocks
 
-pub reported-block : {X : Type 0} {caching : ℕ → Bool} (c : ℕ) (r : Report) {b : Block X} → IsWell caching b
+reported-block : {X : Type 0} {caching : ℕ → Bool} (c : ℕ) (r : Report) {b : Block X} → IsWell caching b
     → (b.pair c).probing ≡ ProbeAnswered r → (w : ℕ) → (w ≡ c → ⊥) → is_unprobed (b.pair w).probing ≡ false
     → IsWell caching (reported_block c r b)
 reported-block {caching} c r {b} h answered w apart missing =
     let after : ClientBlock = after_report r (b.pair c) in
     let begins = report_begins r (b.pair c) (view b.service c) (h.phases c) answered in
-    let held_same = set-part (λ (p : ClientBlock). p.held) c after b.pair refl in
     record {
       phases = set-each (λ d q. ok q (view b.service d) ≡ true) c after b.pair
           (report-ok r (b.pair c) (view b.service c) (h.phases c) answered).0 (λ d ne. h.phases d);
@@ -90,16 +78,15 @@ reported-block {caching} c r {b} h answered w apart missing =
       one_owner = owned-set c b.pair (gentle-report r (b.pair c) begins) h.one_owner;
       outside = outside-set caching c after b.pair (busy-inside caching c b.pair (λ p. is_answered p.probing) refl
           (rw answered refl) h.outside) h.outside;
-      copies = λ d some. h.copies d (rw (held_same d) at some);
+      copies = λ d some. h.copies d (rw ((set-part (λ (p : ClientBlock). p.held) c after b.pair refl) d) at some);
       memory = λ none. memory-written c (report_left r) after b.service b.pair b.memory b.truth begins h.memory none;
     }
 
-pub let-block : {X : Type 0} {caching : ℕ → Bool} (c : ℕ) (r : Prune) {b : Block X} → IsWell caching b
+let-block : {X : Type 0} {caching : ℕ → Bool} (c : ℕ) (r : Prune) {b : Block X} → IsWell caching b
     → (b.pair c).letting ≡ ReleaseSent r → is_answered (b.pair c).probing ≡ false → IsWell caching (let_block c r b)
 let-block {caching} c r {b} h releasing first =
     let after : ClientBlock = after_release_taken r (b.pair c) in
     let begins = release_begins r (b.pair c) (view b.service c) (h.phases c) releasing first in
-    let held_same = set-part (λ (p : ClientBlock). p.held) c after b.pair refl in
     record {
       phases = set-each (λ d q. ok q (view b.service d) ≡ true) c after b.pair
           (release_taken-ok r (b.pair c) (view b.service c) (h.phases c) releasing first) (λ d ne. h.phases d);
@@ -110,7 +97,7 @@ let-block {caching} c r {b} h releasing first =
       one_owner = owned-set c b.pair (gentle-prune r (b.pair c) begins) h.one_owner;
       outside = outside-set caching c after b.pair (busy-inside caching c b.pair (λ p. is_releasing p.letting) refl
           (rw releasing refl) h.outside) h.outside;
-      copies = λ d some. h.copies d (rw (held_same d) at some);
+      copies = λ d some. h.copies d (rw ((set-part (λ (p : ClientBlock). p.held) c after b.pair refl) d) at some);
       memory = λ none. memory-written c (prune_left r) after b.service b.pair b.memory b.truth begins h.memory none;
     }
 
@@ -120,7 +107,7 @@ abbrev pub report_moves : ℕ → Channel → Move
 report_moves n Channel.C = Pops ProbeAck n
 report_moves n _ = Stays
 
-pub report_shows : (n : ℕ) (k : Kind) (r : Report) (p : ClientBlock) (v : View) → is_transfer k ≡ true
+report_shows : (n : ℕ) (k : Kind) (r : Report) (p : ClientBlock) (v : View) → is_transfer k ≡ true
     → p.probing ≡ ProbeAnswered r
     → agrees (report_moves n (channel_for k)) k n (shows k p v) (shows k (after_report r p) v) ≡ true
 report_shows n Probe r p v t e = rw e refl
@@ -168,7 +155,7 @@ let_shows n ReleaseAck r p v t e = rw (e, same_number n) refl
 let_shows n k r p v t e = same_again (shows k p v)
 
 -- a Release that is first has no ProbeAck of its block beside it
-pub release_first : {X : Type 0} {caching : ℕ → Bool} (c n : ℕ) (rest : List Packet) {s : State X}
+release_first : {X : Type 0} {caching : ℕ → Bool} (c n : ℕ) (rest : List Packet) {s : State X}
     → IsInvariant caching s → (s.link c).c ≡ packet Release n ∷ rest → is_answered ((s.block n).pair c).probing ≡ false
 unfolding count
 release_first c n rest {s} inv first =
@@ -176,9 +163,7 @@ release_first c n rest {s} inv first =
     in
     let behind : count ProbeAck n rest ≡ 0 = ordered-first n (s.link c).c rest (packet Release n) first
     (rw (same_number n) refl) (inv.ordered c n) in
-    let all : count ProbeAck n (packet Release n ∷ rest) ≡ one_if (is_answered ((s.block n).pair c).probing) =
-    rw first at (inv.transfers c ProbeAck refl n) in
-    go (is_answered ((s.block n).pair c).probing) (omega (arith, behind, all))
+    go (is_answered ((s.block n).pair c).probing) (omega (arith, behind, rw first at (inv.transfers c ProbeAck refl n)))
 
 pub release_taken-kept : {X : Type 0} {caching : ℕ → Bool} (c n : ℕ) (r : Prune) (rest : List Packet) {s : State X}
     → IsInvariant caching s → (s.link c).c ≡ packet Release n ∷ rest
@@ -201,7 +186,6 @@ release_taken-kept {X} {caching} c n r rest {s} inv first releasing =
       in_order = λ m e. absurd (let f : Pops Release n ≡ Pushes ProbeAck m = e in cc);
     }))
     (bare-at c (let_moves n) refl refl)
-    (names-kept n new (set c here s.link) s inv.named
-    (λ d i. rw (set-part (λ (p : ClientBlock). p.acquiring) c after old refl d) refl) (λ d i. refl)
-    (λ d i. rw (set-part (λ (p : ClientBlock). is_unreleased p.letting) c after old (rw releasing refl) d) refl)
-    (λ i. refl))
+    (names-kept n new (set c here s.link) s inv.named (λ d i. rw (set-part
+    (λ (p : ClientBlock). p.acquiring) c after old refl d) refl) (λ d i. refl) (λ d i. rw (set-part
+    (λ (p : ClientBlock). is_unreleased p.letting) c after old (rw releasing refl) d) refl) (λ i. refl))

@@ -1,8 +1,8 @@
 -- Each request that is taken keeps the invariant of the protocol, and what that needs of the clients that are probed.
 use Rattle.std.proofs.Common.{◌≡◌, ℕ, zero, suc, ◌*◌, ◌<◌, ◌≤◌, Bool, true, false, not, ◌&&◌, ◌||◌, List, ◌∷◌, Option}
-use Rattle.std.proofs.Common.{Some, None, length, refl, sym, ◌∙◌, ap, ◌⊎◌, inl, inr, arith, ne_eqb, ◌==◌, slice_index}
+use Rattle.std.proofs.Common.{Some, None, length, refl, ◌∙◌, ap, ◌⊎◌, inl, inr, arith, ne_eqb, ◌==◌, slice_index}
 use Rattle.tl_coherence.proofs
-use proofs.Imports.{cases_lt, not-true, not-false, OpA, Message, MessageA, Config, Cap, Grow, Perm, Profile, same_perm}
+use proofs.Imports.{cases_lt, not-true, not-false, Message, MessageA, Config, Cap, Grow, Perm, Profile, same_perm}
 use proofs.Imports.{Memory, bytes_from, effect, block_at, is_acquire, bytes_are, cap_probed, cap_asked, IsInvariant}
 use proofs.Imports.{AreOutside, Request, Acquire, Packet, ClientBlock, AcquireOpen, same_cap, is_unprobed, cap_fits}
 use proofs.Imports.{grow_fits, is_above, is_granted_data, Free, Block, view, packet, is_probed, acquire_served}
@@ -22,19 +22,14 @@ some-none (suc n) test e i lt = go (test n) refl e (λ f. some-none n test f i)
   where
     go : (b : Bool) → test n ≡ b → (b || some_below n test) ≡ false
         → (some_below n test ≡ false → i < n → test i ≡ false) → test i ≡ false
-    go true f g h = absurd cc
-    go false f g h = elim (cases_lt i n) [
-      | inl less ↦ h g less
-      | inr more ↦ let same : i ≡ n = omega (arith, lt, more) in rw same f
-    ]
+    go b e f g = grind arith
 
 pub some-one : (n : ℕ) (test : ℕ → Bool) → some_below n test ≡ true → (i : ℕ) × (test i ≡ true)
 unfolding some_below
 some-one zero test e = absurd cc
 some-one (suc n) test e =
-    let go : (b : Bool) → test n ≡ b → (b || some_below n test) ≡ true
-    → (some_below n test ≡ true → (i : ℕ) × (test i ≡ true)) → (i : ℕ) × (test i ≡ true) =
-    elim [ true ↦ λ f g h. (n, f) | false ↦ λ f g h. h g ] in
+    let go : (b : Bool) → test n ≡ b → (b || some_below n test) ≡ true → (some_below n test ≡ true
+    → (i : ℕ) × (test i ≡ true)) → (i : ℕ) × (test i ≡ true) = elim [ true ↦ λ f g h. (n, f) | false ↦ λ f g h. h g ] in
     go (test n) refl e (λ f. some-one n test f)
 
 -- who isn't a client has nothing, and isn't probed
@@ -62,30 +57,19 @@ settled_all clients caching c pair plain outside none d ne = elim (cases_lt d cl
 
 -- ---- what accesses do to the bytes of a block
 
-block_again : (n : ℕ) (bytes : List ℕ) → length bytes ≡ 64 → bytes_from (bytes_at n bytes) (64 * n) 64 ≡ bytes
-block_again n bytes e = rw e at
-    (bytes_are (bytes_at n bytes) (64 * n) bytes (λ i lt. ap (slice_index bytes) (omega arith)))
-
 -- an access that doesn't probe all leaves the memory
 leaves_memory : {w : ℕ} (m : MessageA w) (memory : Memory) → is_acquire m.opcode ≡ false
     → (cap_probed m.opcode m.param ≡ Some Cap.ToN) ⊎ ((effect (Message.A m) memory).0 ≡ memory)
 unfolding effect
-leaves_memory m memory e = go m.opcode refl
-  where
-    go : (o : OpA) → m.opcode ≡ o → (cap_probed m.opcode m.param ≡ Some Cap.ToN)
-        ⊎ ((effect (Message.A m) memory).0 ≡ memory)
-    go OpA.Get f = inr (rw f refl)
-    go OpA.Intent f = inr (rw f refl)
-    go OpA.AcquireBlock f = inr (rw f refl)
-    go OpA.AcquirePerm f = inr (rw f refl)
-    go o f = inl (rw f refl)
+leaves_memory m memory e = grind arith
 
 pub leaves-bytes : {w : ℕ} (m : MessageA w) (bytes : List ℕ) → is_acquire m.opcode ≡ false → length bytes ≡ 64
     → (performs m bytes ≡ bytes) ⊎ (cap_probed m.opcode m.param ≡ Some Cap.ToN)
 leaves-bytes m bytes e long = elim (leaves_memory m (bytes_at (block_at m.address) bytes) e) [
   | inl all ↦ inr all
-  | inr same ↦ inl (ap (λ (f : Memory). bytes_from f (64 * block_at m.address) 64) same ∙ block_again
-      (block_at m.address) bytes long)
+  | inr same ↦ inl (ap (λ (f : Memory). bytes_from f (64 * block_at m.address) 64) same
+      ∙ (rw long at (bytes_are (bytes_at (block_at m.address) bytes) (64 * (block_at m.address)) bytes
+      (λ i lt. ap (slice_index bytes) (omega arith)))))
 ]
 
 -- ---- what is granted
@@ -93,24 +77,13 @@ leaves-bytes m bytes e long = elim (leaves_memory m (bytes_at (block_at m.addres
 -- what is granted fits what was asked for
 pub gift_fits : (p : Profile) (whole : Bool) (g : Grow) (held : Perm) (unheld : Bool)
     → grow_fits held (AcquireOpen whole g) ≡ true → cap_fits whole g (gift p whole g unheld) ≡ true
-gift_fits p true Grow.NtoB held unheld e = absurd cc
-gift_fits Profile.One true Grow.NtoT held unheld e = refl
-gift_fits Profile.Two true Grow.NtoT held unheld e = refl
-gift_fits Profile.One true Grow.BtoT held unheld e = refl
-gift_fits Profile.Two true Grow.BtoT held unheld e = refl
-gift_fits Profile.One false Grow.NtoB held unheld e = refl
-gift_fits Profile.Two false Grow.NtoB held true e = refl
-gift_fits Profile.Two false Grow.NtoT held true e = refl
-gift_fits Profile.Two false Grow.BtoT held true e = refl
-gift_fits p whole g held unheld e = refl
+gift_fits p whole g held unheld e = grind arith
 
 -- Trunk is granted to who asked for it, or where nobody has a copy
 pub gift_trunk : (p : Profile) (whole : Bool) (g : Grow) (held : Perm) (unheld : Bool)
     → grow_fits held (AcquireOpen whole g) ≡ true → same_cap (gift p whole g unheld) Cap.ToT ≡ true
     → (grows_to_trunk g ≡ true) ⊎ (unheld ≡ true)
-gift_trunk Profile.Two false Grow.NtoB held true e f = inr refl
-gift_trunk p whole Grow.NtoB held unheld e f = absurd cc
-gift_trunk p whole g held unheld e f = inl refl
+gift_trunk p whole g held unheld e f = grind arith
 
 -- nobody is recorded
 pub unheld_none : (clients : ℕ) (caching : ℕ → Bool) (pair : ℕ → ClientBlock)
@@ -135,9 +108,8 @@ module _ {w : ℕ} {caching : ℕ → Bool} (config : Config) (c : ℕ) (rest : 
       is_probed c true (cap_asked (AcquireOpen whole g)) ((h.state.block n).pair d).recorded d
 
   pub access_answered-followed : (source : ℕ) (m : MessageA w) (o : Option Cap)
-      → (h.state.link c).a ≡ packet Request source ∷ rest
-      → is_acquire m.opcode ≡ false → length (h.state.block (block_at m.address)).truth ≡ 64
-      → cap_probed m.opcode m.param ≡ o
+      → (h.state.link c).a ≡ packet Request source ∷ rest → is_acquire m.opcode ≡ false
+      → length (h.state.block (block_at m.address)).truth ≡ 64 → cap_probed m.opcode m.param ≡ o
       → probes_some clients c false o (h.state.block (block_at m.address)).pair ≡ false
       → IsInvariant caching (access_answered c (block_at m.address) source (performs m) rest h.state)
   access_answered-followed source m o first access long caps none =
@@ -145,15 +117,11 @@ module _ {w : ℕ} {caching : ℕ → Bool} (config : Config) (c : ℕ) (rest : 
       (elim (leaves-bytes m b.truth access long) [
         | inl same ↦ inl same
         | inr all ↦ inr (λ d. none-above (b.pair d).recorded (unprobed clients caching c false Cap.ToN b.pair plain
-            (inv.blocks (block_at m.address)).outside (asked_all all) d refl))
+            (inv.blocks (block_at m.address)).outside (let same : o ≡ Some Cap.ToN = cc in rw same at none) d refl))
       ])
     where
       b : Block (List ℕ)
       b = h.state.block (block_at m.address)
-
-      asked_all : cap_probed m.opcode m.param ≡ Some Cap.ToN
-          → some_below clients (λ d. is_probed c false Cap.ToN (b.pair d).recorded d) ≡ false
-      asked_all all = let same : o ≡ Some Cap.ToN = sym caps ∙ all in rw same at none
 
   pub access_served-followed : (tracker source : ℕ) (m : MessageA w) (k : Cap)
       → (h.state.link c).a ≡ packet Request source ∷ rest → (h.state.block (block_at m.address)).service ≡ Free
@@ -161,9 +129,8 @@ module _ {w : ℕ} {caching : ℕ → Bool} (config : Config) (c : ℕ) (rest : 
       → some_below clients (λ d. is_probed c false k ((h.state.block (block_at m.address)).pair d).recorded d) ≡ true
       → IsInvariant caching (access_served c (block_at m.address) source tracker k rest h.state)
   access_served-followed tracker source m k first free unused caps some =
-      let one = some-one clients (λ d. is_probed c false k ((h.state.block (block_at m.address)).pair d).recorded d)
-      some
-      in
+      let one =
+      some-one clients (λ d. is_probed c false k ((h.state.block (block_at m.address)).pair d).recorded d) some in
       access_served-kept c (block_at m.address) source tracker k rest inv first free (first-request inv first)
       (low_cap m.opcode m.param k caps) unused one.0 one.1
 

@@ -1,6 +1,6 @@
 -- How many beats a channel holds, by the messages that are on it.
-use Rattle.std.proofs.Common.{◌≡◌, ℕ, ◌+◌, ◌-◌, ◌*◌, ◌/◌, ◌<◌, ◌≤◌, Bool, true, false, List, [], ◌∷◌, ◌++◌, refl, ◌∙◌}
-use Rattle.std.proofs.Common.{ap, arith, inl, inr, not, length, length-append, map}
+use Rattle.std.proofs.Common.{◌≡◌, ℕ, ◌+◌, ◌-◌, ◌*◌, ◌/◌, ◌<◌, ◌≤◌, Bool, true, false, List, [], ◌∷◌, refl, ◌∙◌}
+use Rattle.std.proofs.Common.{ap, arith, not, length, length-append, map}
 use Rattle.tl_coherence.proofs
 use proofs.Imports.{Beat, Channel, IsWidth, Message, beats_of, beats_room, beats_from, one_if, IsInvariant, Kind, Probe}
 use proofs.Imports.{ReleaseAck, GrantAck, Packet, same_kind, State, is_on, packets_on, IsCarried, AccessMessages}
@@ -13,9 +13,7 @@ use proofs.protocol.Capacities.{few_on_a, few_on_b, few_on_c, few_on_e, few_acks
 use proofs.protocol.TokenNames.{AreBounded, kind_there}
 
 pub positive : (w : ℕ) → IsWidth w → 0 < w
-positive w (inl e) = omega (arith, e)
-positive w (inr (inl e)) = omega (arith, e)
-positive w (inr (inr e)) = omega (arith, e)
+positive w e = grind arith
 
 commuted : (a b : ℕ) → a * b ≡ b * a
 commuted a b = grind arith
@@ -30,18 +28,14 @@ length-carried : {w : ℕ} (rest : List (Beat w)) (ms : List (Message w)) (queue
     → IsCarried rest ms queue → length queue ≤ length (spelled ms)
 unfolding spelled
 length-carried rest [] queue h = let none : length queue ≡ 0 = ap length h.1 in omega (arith, none)
-length-carried {w} rest (m ∷ ms) queue (k, lt, r, q) =
-    let all : length queue ≡ length (beats_from m k (beats_of m - k) ++ spelled ms) = ap length q in
-    let first = length-beats_from m k (beats_of m - k) in
-    let whole = length-beats_from m 0 (beats_of m) in
-    omega (
-      arith,
-      all,
-      first,
-      whole,
-      length-append (beats_from m k (beats_of m - k)) (spelled ms),
-      length-append (beats_from m 0 (beats_of m)) (spelled ms),
-    )
+length-carried {w} rest (m ∷ ms) queue (k, lt, r, q) = omega (
+  arith,
+  ap length q,
+  length-beats_from m k (beats_of m - k),
+  length-beats_from m 0 (beats_of m),
+  length-append (beats_from m k (beats_of m - k)) (spelled ms),
+  length-append (beats_from m 0 (beats_of m)) (spelled ms),
+)
 
 -- those of light tokens have one beat each
 spelled-few : {w : ℕ} (message : Packet → Message w) (light : Packet → Bool) (xs : List Packet) → IsWidth w
@@ -59,13 +53,7 @@ spelled-few {w} message light (x ∷ xs) width one =
   where
     sums : (n b heavy few : ℕ) (l : Bool) (rest all : ℕ) → b ≤ n → (l ≡ true → b ≡ 1) → rest ≤ n * heavy + few
         → all ≡ b + rest → all ≤ n * (one_if (not l) + heavy) + (one_if l + few)
-    sums n b heavy few true rest all le is_one le2 e =
-        let one_beat : b ≡ 1 = is_one refl in
-        let same : n * (0 + heavy) ≡ n * heavy = grind arith in
-        omega (arith, one_beat, le2, e, same)
-    sums n b heavy few false rest all le is_one le2 e =
-        let more : n * (1 + heavy) ≡ n + n * heavy = grind arith in
-        omega (arith, le, le2, e, more)
+    sums n b heavy few l rest all e f g h = grind arith
 
 -- ---- messages of one beat
 
@@ -78,19 +66,16 @@ is_light _ = false
 pub light-one : {w : ℕ} (mail : AccessMessages w) (s : State (List ℕ)) (c : ℕ) (k : Kind) (n : ℕ) → is_light k ≡ true
     → beats_of (message_of_kind k mail s c n) ≡ 1
 unfolding block_message
-light-one mail s c Probe n e = refl
-light-one mail s c ReleaseAck n e = refl
-light-one mail s c GrantAck n e = refl
-light-one mail s c _ n e = absurd cc
+light-one mail s c k n e = grind arith
 
 -- ---- the five channels
 
 room_for : (n heavy light sources : ℕ) (len : ℕ) → len ≤ n * heavy + light → heavy ≤ sources → light ≤ sources
     → len ≤ (n + 1) * sources
-room_for n heavy light sources len le h l = grind (arith, le, h, l)
+room_for n heavy light sources len le h l = grind (arith, le)
 
 times : (n a z b len most : ℕ) → len ≤ most → most ≤ n * a + z → z ≡ 0 → a ≤ b → len ≤ n * b
-times n a z b len most le l e f = grind (arith, le, l, e, f)
+times n a z b len most le l e f = grind (arith, le)
 
 no_heavy : (n z a b len most : ℕ) → len ≤ most → most ≤ n * z + a → z ≡ 0 → a ≤ b → len ≤ b
 no_heavy n z a b len most le l e f = let none : n * z ≡ 0 = rw e (omega arith) in omega (arith, le, l, none, f)
@@ -101,16 +86,13 @@ none-pass [] = refl
 none-pass (x ∷ xs) = omega (arith, none-pass xs)
 
 light_on_b : (k : Kind) → is_on Channel.B k ≡ true → is_light k ≡ true
-light_on_b Probe e = refl
-light_on_b _ e = absurd cc
+light_on_b k e = grind arith
 
 light_on_e : (k : Kind) → is_on Channel.E k ≡ true → is_light k ≡ true
-light_on_e GrantAck e = refl
-light_on_e _ e = absurd cc
+light_on_e k e = grind arith
 
 light_ack : (k : Kind) → same_kind k ReleaseAck ≡ true → is_light k ≡ true
-light_ack ReleaseAck e = refl
-light_ack _ e = absurd cc
+light_ack k e = grind arith
 
 -- no channel holds more beats than it is made for
 pub channel-few : {w : ℕ} {caching : ℕ → Bool} (mail : AccessMessages w) {s : State (List ℕ)} {c sources trackers : ℕ}
@@ -125,23 +107,20 @@ channel-few {w} {caching} mail {s} {c} {sources} {trackers} ch rest queue width 
     go : (d : Channel) → IsCarried rest (messages_on d mail s c) queue
         → length queue ≤ capacity (64 / w) sources trackers d
     go Channel.A h =
-        let le = length-carried rest (messages_on Channel.A mail s c) queue h in
         let all = spelled-few (message_of mail s c) (λ x. false) (s.link c).a width (λ x there e. absurd cc) in
         times (64 / w) (passing (λ x. true) (s.link c).a) (passing (λ x. false) (s.link c).a) sources (length queue) _
-        le all (none-pass (s.link c).a)
+        (length-carried rest (messages_on Channel.A mail s c) queue h) all (none-pass (s.link c).a)
         (rw (all-pass (s.link c).a) (few_on_a caching s c sources trackers inv bounds))
     go Channel.B h =
-        let le = length-carried rest (messages_on Channel.B mail s c) queue h in
         let all = spelled-few (message_of mail s c) (λ x. true) (s.link c).b width
         (λ x there e. one Channel.B x there (light_on_b x.kind)) in
         no_heavy (64 / w) (passing (λ x. false) (s.link c).b) (passing (λ x. true) (s.link c).b) trackers (length queue)
-        _ le all (none-pass (s.link c).b)
+        _ (length-carried rest (messages_on Channel.B mail s c) queue h) all (none-pass (s.link c).b)
         (rw (all-pass (s.link c).b) (few_on_b caching s c sources trackers inv bounds))
     go Channel.C h =
-        let le = length-carried rest (messages_on Channel.C mail s c) queue h in
         let all = spelled-few (message_of mail s c) (λ x. false) (s.link c).c width (λ x there e. absurd cc) in
         times (64 / w) (passing (λ x. true) (s.link c).c) (passing (λ x. false) (s.link c).c) (sources + trackers)
-        (length queue) _ le all
+        (length queue) _ (length-carried rest (messages_on Channel.C mail s c) queue h) all
         (none-pass (s.link c).c) (rw (all-pass (s.link c).c) (few_on_c caching s c sources trackers inv bounds))
     go Channel.D h =
         let le = length-carried rest (messages_on Channel.D mail s c) queue h in
@@ -151,9 +130,8 @@ channel-few {w} {caching} mail {s} {c} {sources} {trackers} ch rest queue width 
         (few_responses_on_d caching s c sources trackers inv bounds)
         (few_acks_on_d caching s c sources trackers inv bounds)
     go Channel.E h =
-        let le = length-carried rest (messages_on Channel.E mail s c) queue h in
         let all = spelled-few (message_of mail s c) (λ x. true) (s.link c).e width
         (λ x there e. one Channel.E x there (light_on_e x.kind)) in
         no_heavy (64 / w) (passing (λ x. false) (s.link c).e) (passing (λ x. true) (s.link c).e) trackers (length queue)
-        _ le all (none-pass (s.link c).e)
+        _ (length-carried rest (messages_on Channel.E mail s c) queue h) all (none-pass (s.link c).e)
         (rw (all-pass (s.link c).e) (few_on_e caching s c sources trackers inv bounds))

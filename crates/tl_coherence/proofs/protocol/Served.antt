@@ -1,5 +1,5 @@
 -- A request that is taken, and for which clients are probed, keeps the invariant.
-use Rattle.std.proofs.Common.{◌≡◌, refl, sym, ◌∙◌, ℕ, Bool, true, false, not, List, ◌∷◌, ◌&&◌, Some, None}
+use Rattle.std.proofs.Common.{◌≡◌, refl, sym, ◌∙◌, ℕ, Bool, true, false, not, List, ◌∷◌, ◌&&◌, Some, None, arith}
 use Rattle.std.proofs.Common.{eqb-true, ne_eqb, ◌==◌, if◌then◌else◌}
 use Rattle.tl_coherence.proofs
 use proofs.Imports.{Channel, Cap, Grow, Perm, same_perm, cap_asked, resting, is_out, is_of, acquires_of, serves_of}
@@ -30,11 +30,7 @@ unprobed_part part r own k pair e d =
 
 -- one who has nothing isn't probed
 none_above : (k : Cap) (p : Perm) → same_perm p Perm.None ≡ true → is_above k p ≡ false
-none_above Cap.ToT Perm.None e = refl
-none_above Cap.ToB Perm.None e = refl
-none_above Cap.ToN Perm.None e = refl
-none_above k Perm.Branch e = absurd cc
-none_above k Perm.Trunk e = absurd cc
+none_above k p e = grind arith
 
 -- ---- the block
 
@@ -44,11 +40,7 @@ out_same p q v u e f = rw (e, f) refl
 
 never_top : (k : Cap) (whole : Bool) (g : Grow) → same_cap k (cap_asked (AcquireOpen whole g)) ≡ true
     → same_cap k Cap.ToT ≡ false
-never_top Cap.ToT whole Grow.NtoB e = absurd cc
-never_top Cap.ToT whole Grow.NtoT e = absurd cc
-never_top Cap.ToT whole Grow.BtoT e = absurd cc
-never_top Cap.ToB whole g e = refl
-never_top Cap.ToN whole g e = refl
+never_top k whole g e = grind arith
 
 -- the request probes with this cap: an Acquire (`own`) with the cap that it asks for, and no access with toT
 abbrev pub Probes : Bool → Cap → ClientBlock → Type 0
@@ -57,10 +49,9 @@ Probes true k p = (whole : Bool) × (g : Grow) × (p.acquiring ≡ AcquireOpen w
 Probes false k p = same_cap k Cap.ToT ≡ false
 
 is_low : (own : Bool) (k : Cap) (p : ClientBlock) → Probes own k p → same_cap k Cap.ToT ≡ false
-is_low true k p a = never_top k a.0 a.1 a.3
-is_low false k p a = a
+is_low own k p e = grind (arith, never_top)
 
-pub served-block : {X : Type 0} {caching : ℕ → Bool} (r : ℕ) {own : Bool} (source tracker : ℕ) {k : Cap} {b : Block X}
+served-block : {X : Type 0} {caching : ℕ → Bool} (r : ℕ) {own : Bool} (source tracker : ℕ) {k : Cap} {b : Block X}
     → IsWell caching b → b.service ≡ Free → Probes own k (b.pair r) → IsOwnSource (Waits r own source k) b.source
     → (w : ℕ) → is_probed r own k (b.pair w).recorded w ≡ true → IsWell caching (served_block r own source tracker k b)
 served-block r {own} source tracker {k} {b} h free asks sourced w probed =
@@ -75,7 +66,6 @@ served-block r {own} source tracker {k} {b} h free asks sourced w probed =
     let bare : (d : ℕ) (x : Bool) → b.pair d ≡ resting → (if x then b.pair d else after_served k (b.pair d)) ≡ resting =
     λ d. elim [ true ↦ λ e. e | false ↦ λ e. rw (e, none_above k Perm.None refl) refl ] in
     let recorded_same = unprobed_part (λ p. p.recorded) r own k b.pair (λ p. refl) in
-    let held_same = unprobed_part (λ p. p.held) r own k b.pair (λ p. refl) in
     record {
       phases = λ d. phase d (own && (d == r)) refl;
       awaited = (w, sent (own && (w == r)) probed);
@@ -84,7 +74,7 @@ served-block r {own} source tracker {k} {b} h free asks sourced w probed =
       alone = λ i j trunk sent_ ne. left j (own && (j == r)) (h.one_owner i j (rw (recorded_same i) at trunk) ne);
       one_owner = λ i j trunk ne. rw (recorded_same j) (h.one_owner i j (rw (recorded_same i) at trunk) ne);
       outside = λ d plain. bare d (own && (d == r)) (h.outside d plain);
-      copies = λ d some. h.copies d (rw (held_same d) at some);
+      copies = λ d some. h.copies d (rw ((unprobed_part (λ p. p.held) r own k b.pair (λ p. refl)) d) at some);
       memory = λ none. h.memory (λ d.
           let before : is_granting (view b.service d) ≡ false = rw (idle d) refl in
           sym (out_same (b.pair d) (served_pair r own k b.pair d) (view b.service d) (view (Waits r own source k) d)
@@ -125,9 +115,8 @@ number_served true n source = n
 number_served false n source = source
 
 abbrev pub served_moves : ℕ → Bool → ℕ → ℕ → Cap → (ℕ → ClientBlock) → ℕ → Channel → Move
-served_moves r own n source k pair d =
-    request_move (if d == r then Pops (kind_served own) (number_served own n source) else Stays)
-    (is_probed r own k (pair d).recorded d) n
+served_moves r own n source k pair d = request_move (if d == r then Pops (kind_served own) (number_served own n source)
+    else Stays) (is_probed r own k (pair d).recorded d) n
 
 -- what the sender of an Acquire shows
 sender_shows : (n : ℕ) (j : Kind) (p : ClientBlock) → is_transfer j ≡ true → is_wanting p.acquiring ≡ true
@@ -166,21 +155,12 @@ any_shows n source j false false k p t wants q = other_shows n j Stays k p (is_a
 pub any_moved : (x y : Bool) (ch : Channel) (j : Kind) (i n : ℕ) (l : Link) (rest : List Packet)
     → (x ≡ true → l.a ≡ packet j i ∷ rest) → IsMoved (request_move (if x then Pops j i else Stays) y n ch)
     (packets_on ch l) (packets_on ch (with_probe n y (if x then record l { a = rest } else l)))
-any_moved true true Channel.A j i n l rest e = e refl
-any_moved true false Channel.A j i n l rest e = e refl
-any_moved false true Channel.A j i n l rest e = refl
-any_moved false false Channel.A j i n l rest e = refl
-any_moved x y ch j i n l rest e = refl
+any_moved x y ch j i n l rest e = grind arith
 
 any_own : (ch : Channel) (n source : ℕ) (own x p : Bool)
     → is_own_move ch (request_move (if x then Pops (kind_served own) (number_served own n source) else Stays) p n ch)
     ≡ true
-any_own Channel.A n source true true p = refl
-any_own Channel.A n source false true p = refl
-any_own Channel.A n source own false p = refl
-any_own Channel.B n source own x true = refl
-any_own Channel.B n source own x false = refl
-any_own ch n source own x p = refl
+any_own ch n source own x p = grind arith
 
 -- ---- the whole
 
@@ -213,8 +193,7 @@ served-event {caching} r n {own} source tracker {k} rest {s} inv first free asks
 -- no access is taken or answered where an Acquire is taken
 bare_move : (x p : Bool) (n : ℕ) → (spares (request_move (if x then Pops Acquire n else Stays) p n Channel.A) Request
     ≡ true) × (spares (request_move (if x then Pops Acquire n else Stays) p n Channel.D) Answer ≡ true)
-bare_move true p n = (refl, refl)
-bare_move false p n = (refl, refl)
+bare_move x p n = grind arith
 
 -- where Acquires stay, and Releases
 abbrev same_acquires : {X : Type 0} (r source tracker : ℕ) (own : Bool) (k : Cap) (b : Block X) → (c i : ℕ)
@@ -237,8 +216,7 @@ pub acquire_served-kept : {X : Type 0} {caching : ℕ → Bool} (r n source trac
     → same_cap k (cap_asked (AcquireOpen whole g)) ≡ true → s.tracked tracker ≡ None → source ≡ (s.block n).source r
     → (w : ℕ) → is_probed r true k ((s.block n).pair w).recorded w ≡ true
     → IsInvariant caching (acquire_served r n source tracker k rest s)
-acquire_served-kept {X} {caching} r n source tracker whole g k rest {s} inv first free wants low unused sourced w
-    probed =
+acquire_served-kept {X} r n source tracker whole g k rest {s} inv first free wants low unused sourced w probed =
     let new : Block X = served_block r true source tracker k (s.block n) in
     invariant-moved s.lets (set tracker (Some n) s.tracked) inv
     (served-event r n source tracker rest inv first free (whole, g, wants, low) sourced w probed)

@@ -1,13 +1,12 @@
 -- A Grant that is taken keeps what holds of a block, also where it changes what all copies stand for.
-use Rattle.std.proofs.Common.{◌≡◌, ℕ, Bool, true, false, not, ◌&&◌, ◌||◌, refl, sym, ◌∙◌, ap, inl, inr, ne_eqb}
+use Rattle.std.proofs.Common.{◌≡◌, ℕ, Bool, true, false, not, ◌&&◌, ◌||◌, refl, sym, ◌∙◌, ap, inl, inr, ne_eqb, arith}
 use Rattle.tl_coherence.proofs
 use proofs.Imports.{and-false, cases_eq, Cap, Grow, Perm, cap_right, same_perm, resting, is_out, IsWell, set}
-use proofs.Imports.{ClientBlock, Granting, Acknowledging, GrantedOther, NoAcquire, AcquireOpen, is_unprobed, cap_fits}
-use proofs.Imports.{grant_fits, after_grant, GrantSent, GrantTaken, Block, view, taken_block, granted_copy}
-use proofs.Imports.{granted_truth}
+use proofs.Imports.{ClientBlock, Granting, Acknowledging, GrantedOther, AcquireOpen, is_unprobed, cap_fits, grant_fits}
+use proofs.Imports.{after_grant, GrantSent, GrantTaken, Block, view, taken_block, granted_copy, granted_truth}
 use proofs.queues.{Phases.and_left, Phases.and_right, PhaseSteps.grant_taken-ok, Facts.held_at_most, Facts.grant_is_fit}
-use proofs.queues.{Perms.nothing_below, Perms.whole_cap, Tokens.same_number, Tokens.set-same, Tokens.set-other}
-use proofs.queues.{Tokens.set-part}
+use proofs.queues.Perms.{nothing_below, whole_cap}
+use proofs.queues.Tokens.{same_number, set-same, set-other, set-part}
 
 -- a Grant for a store of the whole block gives Trunk
 whole_trunk : (g : Grow) (k : Cap) (p : Perm) → same_perm p (cap_right k) ≡ true → cap_fits true g k ≡ true
@@ -15,8 +14,7 @@ whole_trunk : (g : Grow) (k : Cap) (p : Perm) → same_perm p (cap_right k) ≡ 
 whole_trunk g k p e f = sym (ap (λ (j : Cap). same_perm p (cap_right j)) (whole_cap g k f)) ∙ e
 
 some_held : (p : Perm) → same_perm p Perm.Branch ≡ true → same_perm p Perm.None ≡ false
-some_held Perm.Branch e = refl
-some_held p e = absurd cc
+some_held p e = grind arith
 
 pub taken-block : {X : Type 0} {caching : ℕ → Bool} (c : ℕ) (d whole : Bool) (g : Grow) (k : Cap) {b : Block X}
     → IsWell caching b → b.service ≡ GrantSent c d k
@@ -82,16 +80,13 @@ taken-block {X} c d whole g k {b} h granting wants = record {
         (rw e at (and_left (cap_fits whole g k)
         (not (whole && d) && (whole || (d || same_perm (b.pair c).held Perm.Branch))) fit_rest))
 
-    had_branch : whole ≡ false → d ≡ false → same_perm (b.pair c).held Perm.Branch ≡ true
-    had_branch e f = rw (e, f) at (and_right (not (whole && d)) (whole || (d || same_perm (b.pair c).held Perm.Branch))
-        (and_right (cap_fits whole g k) (not (whole && d) && (whole || (d || same_perm (b.pair c).held Perm.Branch)))
-        fit_rest))
-
     own_copy : (all : Bool) → whole ≡ all → (data_too : Bool) → d ≡ data_too
         → granted_copy whole d (b.waiting c) b.truth (b.copy c) ≡ granted_truth whole (b.waiting c) b.truth
     own_copy true e data_too f = rw e refl
     own_copy false e true f = rw (e, f) refl
-    own_copy false e false f = let had = some_held (b.pair c).held (had_branch e f) in rw (e, f) (h.copies c had)
+    own_copy false e false f = let had = some_held (b.pair c).held (rw (e, f) at (and_right (not (whole && d))
+        (whole || (d || same_perm (b.pair c).held Perm.Branch)) (and_right (cap_fits whole g k) (not (whole && d)
+        && (whole || (d || same_perm (b.pair c).held Perm.Branch))) fit_rest))) in rw (e, f) (h.copies c had)
 
     other_copy : (i : ℕ) → (i ≡ c → ⊥) → (all : Bool) → whole ≡ all → same_perm (b.pair i).held Perm.None ≡ false
         → b.copy i ≡ granted_truth whole (b.waiting c) b.truth
@@ -115,5 +110,4 @@ taken-block {X} c d whole g k {b} h granting wants = record {
     ]))
 
     not_calm : (p : ClientBlock) → p.acquiring ≡ AcquireOpen whole g → p ≡ resting → ⊥
-    not_calm p e f = let i : p.acquiring ≡ NoAcquire = ap (λ (x : ClientBlock). x.acquiring) f in
-        let j : AcquireOpen whole g ≡ NoAcquire = sym e ∙ i in absurd cc
+    not_calm p e f = grind arith

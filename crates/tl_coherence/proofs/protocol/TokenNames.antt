@@ -4,7 +4,7 @@ use Rattle.std.proofs.Common.{None}
 use Rattle.tl_coherence.proofs
 use proofs.Imports.{Channel, part_bit, one_if, IsInvariant, is_asked, is_replied, is_busy, Kind, Request, Acquire}
 use proofs.Imports.{Release, Answer, Grant, ReleaseAck, Packet, count, is, ClientBlock, View, is_unreleased}
-use proofs.Imports.{is_unprobed, ok, is_idle, Service, Free, State, SourceState, SourceFree, Asked, Replied, Acquires}
+use proofs.Imports.{is_unprobed, ok, is_idle, Service, State, SourceState, SourceFree, Asked, Replied, Acquires}
 use proofs.Imports.{packet, view, on, packets_on, is_on, is_wanting, is_granting, shown}
 use proofs.queues.{Distinct.IsThere, Tokens.same_number, Phases.each_phase, Phases.of_phase, KindMoves.on_same}
 use proofs.protocol.BothParts.{is_of-is, acquires_of-is}
@@ -18,12 +18,10 @@ pub record AreBounded {X : Type 0} (c sources trackers : ℕ) (s : State X) : Ty
 -- ---- a token that is there is shown by its block or its source
 
 there_shown : (n : ℕ) (b : Bool) → 0 < n → n ≡ one_if b → b ≡ true
-there_shown n true lt e = refl
-there_shown n false lt e = absurd (omega (arith, lt, e))
+there_shown n b e f = grind arith
 
 at_most_one : (n : ℕ) (b : Bool) → n ≡ one_if b → n ≤ 1
-at_most_one n true e = omega (arith, e)
-at_most_one n false e = omega (arith, e)
+at_most_one n b e = grind arith
 
 not_there : (n : ℕ) → n ≡ 0 → 0 < n → ⊥
 not_there n e lt = absurd (omega (arith, e, lt))
@@ -120,8 +118,7 @@ tracker_of_service {s} n inv busy = is_of-is n (s.tracked (s.block n).tracker) (
 -- ---- what phases say
 
 pub busy_unless_idle : (service : Service) (c : ℕ) → is_idle (view service c) ≡ false → is_busy service ≡ true
-busy_unless_idle Free c e = absurd cc
-busy_unless_idle service c e = refl
+busy_unless_idle service c e = grind arith
 
 asks_for_grant : ClientBlock → View → Bool
 asks_for_grant p v = not (is_granting v) || is_wanting p.acquiring
@@ -130,8 +127,7 @@ probes_in_service : ClientBlock → View → Bool
 probes_in_service p v = is_unprobed p.probing || not (is_idle v)
 
 unless : (a b : Bool) → (a || not b) ≡ true → a ≡ false → b ≡ false
-unless false false e f = refl
-unless a b e f = absurd cc
+unless a b e f = grind arith
 
 pub grants_ask : (p : ClientBlock) (v : View) → ok p v ≡ true → is_granting v ≡ true → is_wanting p.acquiring ≡ true
 unfolding each_phase asks_for_grant

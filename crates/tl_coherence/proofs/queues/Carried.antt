@@ -1,5 +1,5 @@
 -- A message that is pushed, and a beat that is taken.
-use Rattle.std.proofs.Common.{◌≡◌, ℕ, zero, suc, ◌<◌, ◌+◌, ◌-◌, List, [], ◌∷◌, ◌++◌, refl, sym, ◌∙◌, ap, arith}
+use Rattle.std.proofs.Common.{◌≡◌, ℕ, suc, ◌<◌, ◌+◌, ◌-◌, List, [], ◌∷◌, ◌++◌, refl, sym, ◌∙◌, ap, arith}
 use Rattle.std.proofs.Common.{append_assoc, append-nil, ◌==◌}
 use Rattle.tl_coherence.proofs
 use proofs.Imports.{Beat, length-begun, Message, beats_of, beat_of, begun, burst_of, grown, completes, not_last}
@@ -38,8 +38,7 @@ carried-push {w} rest (n ∷ ms) queue m pos (k, lt, r, q) = (
 from_next : {w : ℕ} (m : Message w) (k n : ℕ) → n ≡ suc (n - 1) → beats_from m k n ≡ beat_of m k ∷ beats_from m (k + 1)
     (n - 1)
 unfolding beats_from
-from_next m k zero e = absurd (omega (arith, e))
-from_next m k (suc n) e = let one : suc n - 1 ≡ n = omega arith in rw one refl
+from_next m k n e = grind arith
 
 no_beats : {w : ℕ} (m : Message w) (k : ℕ) (beats : List (Beat w)) → (beats_from m k 0 ++ beats) ≡ beats
 unfolding beats_from
@@ -63,8 +62,7 @@ tail_is x y xs ys e = (cc, cc)
 
 carried_rest : {w : ℕ} (ms : List (Message w)) → ((n : Message w) → 0 < beats_of n) → IsCarried [] ms (spelled ms)
 unfolding spelled
-carried_rest [] pos = (refl, refl)
-carried_rest (m ∷ ms) pos = let all : beats_of m - 0 ≡ beats_of m = omega arith in (0, pos m, refl, rw all refl)
+carried_rest ms e = grind arith
 
 pub carried-next : {w : ℕ} (x : Beat w) (rest : List (Beat w)) (m : Message w) (ms : List (Message w))
     (queue : List (Beat w)) → ((n : Message w) → 0 < beats_of n)
@@ -74,9 +72,8 @@ carried-next {w} x rest m ms queue pos (k, lt, r, q) =
     let ap₂_from : (a b c d : ℕ) → a ≡ b → c ≡ d → (beats_from m a c ++ spelled ms) ≡ (beats_from m b d ++ spelled ms) =
     λ a b c d e f. rw (e, f) refl in
     let n = beats_of m in
-    let some : n - k ≡ suc (n - k - 1) = omega (arith, lt) in
     let parts = tail_is x (beat_of m k) queue (beats_from m (k + 1) (n - k - 1) ++ spelled ms)
-    (q ∙ ap (λ (b : List (Beat w)). b ++ spelled ms) (from_next m k (n - k) some)) in
+    (q ∙ ap (λ (b : List (Beat w)). b ++ spelled ms) (from_next m k (n - k) (omega (arith, lt)))) in
     let left : n - k - 1 ≡ n - (k + 1) = omega arith in
     record {
       k = k;
@@ -86,12 +83,8 @@ carried-next {w} x rest m ms queue pos (k, lt, r, q) =
       completes_is = rw (parts.0, r, length-begun m k, length-of_beat m k) refl;
       more = λ lt2. (
         rw (parts.0, r, length-begun m k, length-of_beat m k, not_last k n lt2) refl,
-        (
-          suc k,
-          next_lt lt2,
-          rw (parts.0, r) refl,
-          parts.1 ∙ ap₂_from (k + 1) (suc k) (n - k - 1) (n - suc k) (omega arith) (omega arith),
-        ),
+        let fact = parts.1 ∙ ap₂_from (k + 1) (suc k) (n - k - 1) (n - suc k) (omega arith) (omega arith) in
+            (suc k, next_lt lt2, rw (parts.0, r) refl, fact),
       );
       last = λ e.
           let none : n - k - 1 ≡ 0 = omega (arith, e) in
@@ -111,6 +104,5 @@ pub carried-none : {w : ℕ} (rest : List (Beat w)) (ms : List (Message w)) → 
 carried-none rest [] h = refl
 carried-none {w} rest (m ∷ ms) (k, lt, r, q) =
     let nothing_is : (x : Beat w) (xs : List (Beat w)) → [] ≡ x ∷ xs → ⊥ = λ x xs e. absurd cc in
-    let some : beats_of m - k ≡ suc (beats_of m - k - 1) = omega (arith, lt) in
     absurd (nothing_is (beat_of m k) (beats_from m (k + 1) (beats_of m - k - 1) ++ spelled ms)
-    (q ∙ ap (λ (b : List (Beat w)). b ++ spelled ms) (from_next m k (beats_of m - k) some)))
+    (q ∙ ap (λ (b : List (Beat w)). b ++ spelled ms) (from_next m k (beats_of m - k) (omega (arith, lt)))))

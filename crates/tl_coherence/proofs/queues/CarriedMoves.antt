@@ -1,5 +1,5 @@
 -- The beats of a channel after the move of an event: one lemma for all events.
-use Rattle.std.proofs.Common.{◌≡◌, ℕ, true, ◌+◌, List, [], ◌∷◌, ◌++◌, refl, sym, ◌∙◌, ap, ap₂, eqb-true, map}
+use Rattle.std.proofs.Common.{◌≡◌, ℕ, true, ◌+◌, List, [], ◌∷◌, ◌++◌, refl, sym, ◌∙◌, ap, eqb-true, map}
 use Rattle.tl_coherence.proofs
 use proofs.Imports.{Beat, IsWidth, beats-positive, Message, beats_of, completes, beats_from, Kind, Packet, packet}
 use proofs.Imports.{IsCarried, Move, Stays, Pushes, Pops, IsMoved}
@@ -24,16 +24,13 @@ pub carried-moved : {w : ℕ} (move : Move) (xs ys : List Packet) (f g : Packet 
     → ((k : Kind) (n : ℕ) → move ≡ Pushes k n → g (packet k n) ≡ m k n)
     → map g (staying move xs ys) ≡ map f (staying move xs ys) → IsCarried r (map f xs) q
     → IsCarried rest (map g ys) after
-carried-moved {w} Stays xs ys f g m q after r rest width moved queued new kept h =
-    rw (moved, kept, queued.0, queued.1) h
+carried-moved Stays xs ys f g m q after r rest width moved queued new kept h = rw (moved, kept, queued.0, queued.1) h
 carried-moved {w} (Pushes k n) xs ys f g m q after r rest width moved queued new kept h =
-    let messages : map g ys ≡ map f xs ++ m k n ∷ [] = ap (map g) moved ∙ map-append g xs (packet k n ∷ [])
-    ∙ ap₂ (λ (i j : List (Message w)). i ++ j) kept (ap (λ (i : Message w). i ∷ []) (new k n refl)) in
+    let messages : map g ys ≡ map f xs ++ m k n ∷ [] = cc (map-append g xs (packet k n ∷ []), new k n refl) in
     rw (messages, queued.0, queued.1) (carried-push r (map f xs) q (m k n) (beats-positive (m k n) width) h)
 carried-moved {w} (Pops k n) xs ys f g m q after r rest width moved (x, beats, whole, none) new kept h =
     let same : (ms ns : List (Message w)) → ms ≡ ns → IsCarried r ms q → IsCarried r ns (x ∷ after) =
     λ ms ns e i. rw (← e, ← beats) i in
     let before = same (map f xs) (f (packet k n) ∷ map f ys) (ap (map f) moved) h in
     let next = carried-next x r (f (packet k n)) (map f ys) after (λ i. beats-positive i width) before in
-    let last = next.last (eqb-true (next.k + 1) (beats_of (f (packet k n))) (sym next.completes_is ∙ whole)) in
-    rw (none, kept) last.2
+    rw (none, kept) (next.last (eqb-true (next.k + 1) (beats_of (f (packet k n))) (sym next.completes_is ∙ whole))).2

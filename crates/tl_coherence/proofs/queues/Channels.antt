@@ -23,14 +23,11 @@ count_behind k n (y ∷ xs) x = omega (arith, count_behind k n xs x)
 stay_before : (move : Move) (k : Kind) (n : ℕ) (xs ys : List Packet) → IsMoved move xs ys
     → count k n (staying move xs ys) ≤ count k n xs
 unfolding count
-stay_before (Pops j i) k n xs ys e = rw e (omega arith)
-stay_before move k n xs ys e = omega arith
+stay_before move k n xs ys e = grind arith
 
 stay_after : (move : Move) (k : Kind) (n : ℕ) (xs ys : List Packet) → IsMoved move xs ys
     → count k n (staying move xs ys) ≤ count k n ys
-stay_after Stays k n xs ys e = rw e (omega arith)
-stay_after (Pushes j i) k n xs ys e = rw e (count_behind k n xs (packet j i))
-stay_after (Pops j i) k n xs ys e = omega arith
+stay_after move k n xs ys e = grind (arith, count_behind)
 
 -- messages of tokens are the same where those of each token that is there are
 map_kept : {A : Type 0} (f g : Kind → ℕ → A) (xs : List Packet)
@@ -68,17 +65,14 @@ pub record IsShowing {w : ℕ} (caching : ℕ → Bool) (n : ℕ) (moves : ℕ �
 
 -- a kind of which there is one where the test says so
 not_there : (a b : Bool) (n : ℕ) → n ≤ one_if a → n ≤ one_if b → (n ≡ 0) ⊎ ((a ≡ true) × (b ≡ true))
-not_there true true n le me = inr (refl, refl)
-not_there false b n le me = inl (omega (arith, le))
-not_there true false n le me = inl (omega (arith, me))
+not_there a b n e f = grind arith
 
-pub messages-stay : {w : ℕ} {caching : ℕ → Bool} {n : ℕ} {moves : ℕ → Channel → Move} {mail mail' : AccessMessages w}
+messages-stay : {w : ℕ} {caching : ℕ → Bool} {n : ℕ} {moves : ℕ → Channel → Move} {mail mail' : AccessMessages w}
     {s s' : State (List ℕ)} → IsShowing caching n moves mail mail' s s' → (d : ℕ) (ch : Channel)
     → map (message_of mail' s' d) (staying (moves d ch) (packets_on ch (s.link d)) (packets_on ch (s'.link d)))
     ≡ map (message_of mail s d) (staying (moves d ch) (packets_on ch (s.link d)) (packets_on ch (s'.link d)))
-messages-stay {w} {n} {moves} {mail} {mail'} {s} {s'} event d ch =
-    map_kept (λ k i. message_of_kind k mail s d i) (λ k i. message_of_kind k mail' s' d i) stay
-    (λ k i. each k i (is_on ch k) refl)
+messages-stay {w} {n} {moves} {mail} {mail'} {s} {s'} event d ch = map_kept (λ k i. message_of_kind k mail s d i)
+    (λ k i. message_of_kind k mail' s' d i) stay (λ k i. each k i (is_on ch k) refl)
   where
     xs : List Packet
     xs = packets_on ch (s.link d)
@@ -123,13 +117,11 @@ messages-stay {w} {n} {moves} {mail} {mail'} {s} {s'} event d ch =
 
     asked : (i : ℕ) → (count Request i stay ≡ 0) ⊎ ((is_asked (s.uses d i) ≡ true) × (is_asked (s'.uses d i) ≡ true))
         → Kept Request i
-    asked i (inl none) = inl none
-    asked i (inr both) = inr (event.requests d i both.0 both.1)
+    asked i e = grind arith
 
     replied : (i : ℕ) → (count Answer i stay ≡ 0)
         ⊎ ((is_replied (s.uses d i) ≡ true) × (is_replied (s'.uses d i) ≡ true)) → Kept Answer i
-    replied i (inl none) = inl none
-    replied i (inr both) = inr (event.answers d i both.0 both.1)
+    replied i e = grind arith
 
     mine : (k : Kind) (i : ℕ) → is_on ch k ≡ true → Kept k i
     mine Request i own = asked i (here Request i (is_asked (s.uses d i)) (is_asked (s'.uses d i)) own
@@ -172,15 +164,11 @@ abbrev pub behind : {w : ℕ} → Option (Message w) → List (Beat w) → List 
 behind None beats = beats
 behind (Some m) beats = beats ++ beats_from m 0 (beats_of m)
 
-pub queued-by : {w : ℕ} (pop : Bool) (push : Option (Message w)) (move : Move) (render : Kind → ℕ → Message w)
+queued-by : {w : ℕ} (pop : Bool) (push : Option (Message w)) (move : Move) (render : Kind → ℕ → Message w)
     (x : Beat w) (queue q after r rest : List (Beat w)) → Fits pop push move render
     → after ≡ behind push (if pop then queue else q) → rest ≡ (if pop then [] else r)
     → (pop ≡ true → (q ≡ x ∷ queue) × (completes x r ≡ true)) → IsQueued move render q after r rest
-queued-by true None (Pops k n) render x queue q after r rest fits e f taken =
-    (x, (taken refl).0 ∙ ap (λ l. x ∷ l) (sym e), (taken refl).1, f)
-queued-by false None Stays render x queue q after r rest fits e f taken = (e, f)
-queued-by false (Some m) (Pushes k n) render x queue q after r rest fits e f taken = (rw fits e, f)
-queued-by pop push move render x queue q after r rest fits e f taken = absurd fits
+queued-by pop push move render x queue q after r rest e f g h = grind arith
 
 -- The whole after the last beat of the first message on channel ch of client c's link was taken, and
 -- messages were handed out.
@@ -194,12 +182,7 @@ pub record IsTaken {w : ℕ} (c : ℕ) (ch : Channel) (x : Beat w) (queue : List
       ≡ (if (d == c) && same_channel at ch then [] else unfinished at (receiver at d sys))
 
 pub same_channel-is : (a b : Channel) → same_channel a b ≡ true → a ≡ b
-same_channel-is Channel.A Channel.A e = refl
-same_channel-is Channel.B Channel.B e = refl
-same_channel-is Channel.C Channel.C e = refl
-same_channel-is Channel.D Channel.D e = refl
-same_channel-is Channel.E Channel.E e = refl
-same_channel-is a b e = absurd cc
+same_channel-is a b e = grind arith
 
 pub queued-taken : {w : ℕ} {c : ℕ} {ch : Channel} {x : Beat w} {queue : List (Beat w)} {pushes : ℕ → Channel
     → Option (Message w)} (moves : ℕ → Channel → Move) (mail : AccessMessages w) (s : State (List ℕ))
@@ -226,17 +209,14 @@ pub queued-handed : {w : ℕ} {pushes : ℕ → Channel → Option (Message w)} 
     (mail : AccessMessages w) (s : State (List ℕ)) {sys sys' : System w} → IsHanded pushes sys sys'
     → ((d : ℕ) (at : Channel) → Fits false (pushes d at) (moves d at) (λ k i. message_of mail s d (packet k i)))
     → AreQueued moves mail s sys sys'
-queued-handed {w} {pushes} moves mail s {sys} {sys'} is fits d at =
-    queued-with (pushes d at) (moves d at) (sys.channels d at)
-    (sys'.channels d at) (unfinished at (receiver at d sys)) (unfinished at (receiver at d sys'))
+queued-handed {w} {pushes} moves mail s {sys} {sys'} is fits d at = queued-with (pushes d at) (moves d at)
+    (sys.channels d at) (sys'.channels d at) (unfinished at (receiver at d sys)) (unfinished at (receiver at d sys'))
     (λ k i. message_of mail s d (packet k i)) (fits d at) (is.channels d at) (is.rests d at)
   where
     queued-with : (push : Option (Message w)) (move : Move) (q after r rest : List (Beat w)) (render : Kind → ℕ
         → Message w) → Fits false push move render
         → after ≡ behind push q → rest ≡ r → IsQueued move render q after r rest
-    queued-with None Stays q after r rest render f e g = (e, g)
-    queued-with (Some m) (Pushes k n) q after r rest render f e g = (rw f e, g)
-    queued-with push move q after r rest render f e g = absurd f
+    queued-with push move q after r rest render e f g = grind arith
 
 -- ---- at one client
 
@@ -247,12 +227,10 @@ pushes_at c pushes d ch = if d == c then pushes ch else None
 pub moved-at : (c : ℕ) (moves : Channel → Move) (l : Link) (link : ℕ → Link) → AreMoved moves (link c) l → (d : ℕ)
     → AreMoved (moves_at c moves d) (link d) (set c l link d)
 moved-at c moves l link h d ch =
-    let popped : (b : Bool) (k : Link) → b ≡ true → k ≡ l
-    → IsMoved (if b then moves ch else Stays) (packets_on ch (link c)) (packets_on ch k) =
-    λ b k e f. rw (e, f) (h ch) in
+    let popped : (b : Bool) (k : Link) → b ≡ true → k ≡ l → IsMoved (if b then moves ch else Stays)
+    (packets_on ch (link c)) (packets_on ch k) = λ b k e f. rw (e, f) (h ch) in
     let still : (b : Bool) (k : Link) → b ≡ false → k ≡ link d
-    → IsMoved (if b then moves ch else Stays) (packets_on ch (link d)) (packets_on ch k) =
-    λ b k e f. rw (e, f) refl in
+    → IsMoved (if b then moves ch else Stays) (packets_on ch (link d)) (packets_on ch k) = λ b k e f. rw (e, f) refl in
     elim (cases_eq d c) [
       | inl same ↦ rw same (popped (c == c) (set c l link c) (same_number c) (set-same c l link))
       | inr other ↦ still (d == c) (set c l link d) (ne_eqb d c other) (set-other c d l link other)

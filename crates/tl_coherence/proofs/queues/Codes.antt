@@ -1,5 +1,5 @@
 -- What the opcodes and the parameters of a message say.
-use Rattle.std.proofs.Common.{Bool, Some, false, refl, true, ℕ, ◌≡◌, if◌then◌else◌, ◌==◌}
+use Rattle.std.proofs.Common.{Bool, Some, false, true, ℕ, ◌≡◌, arith}
 use Rattle.tl_coherence.proofs
 use proofs.Imports.{OpA, OpD, Cap, Grow, Perm, Profile, cap_code, cap_of, cap_right, grow_code, same_perm, is_acquire}
 use proofs.Imports.{is_grant, is_release_ack, grant_opcode, cap_probed, is_access_answer, same_cap, is_granted_data}
@@ -9,50 +9,28 @@ use Rattle.tl_manager.specs.statement.Handing as handing
 -- ---- opcodes
 
 pub grants-so : (b : Bool) → is_grant (grant_opcode b) ≡ true
-grants-so true = refl
-grants-so false = refl
+grants-so b = grind arith
 
 pub acquires-so : (whole : Bool) → is_acquire (acquire_opcode whole) ≡ true
-acquires-so true = refl
-acquires-so false = refl
+acquires-so whole = grind arith
 
 pub access_kind : (o : OpD) → is_access_answer o ≡ true → (is_grant o ≡ false) × (is_release_ack o ≡ false)
-access_kind OpD.Grant e = absurd cc
-access_kind OpD.GrantData e = absurd cc
-access_kind OpD.ReleaseAck e = absurd cc
-access_kind o e = (refl, refl)
+access_kind o e = grind arith
 
 -- ---- caps
 
 pub cap-again : (k : Cap) → cap_of (cap_code k) ≡ Some k
-cap-again Cap.ToT = refl
-cap-again k = refl
+cap-again k = grind arith
 
 pub low_cap : (o : OpA) (param : ℕ) (k : Cap) → cap_probed o param ≡ Some k → same_cap k Cap.ToT ≡ false
-low_cap o param Cap.ToB e = refl
-low_cap o param Cap.ToN e = refl
-low_cap OpA.AcquireBlock param Cap.ToT e =
-    let never : (b : Bool) → Some (if b then Cap.ToB else Cap.ToN) ≡ Some Cap.ToT → ⊥ =
-    elim [ true ↦ λ f. cc | false ↦ λ f. cc ] in
-    absurd (never (param == 0) e)
-low_cap OpA.AcquirePerm param Cap.ToT e =
-    let never : (b : Bool) → Some (if b then Cap.ToB else Cap.ToN) ≡ Some Cap.ToT → ⊥ =
-    elim [ true ↦ λ f. cc | false ↦ λ f. cc ] in
-    absurd (never (param == 0) e)
-low_cap o param Cap.ToT e = absurd cc
+low_cap o param k e = grind arith
 
 -- a Grant gives something
 pub gives-some : (p : Profile) (whole : Bool) (g : Grow) (unheld : Bool)
     → same_perm (cap_right (gift p whole g unheld)) Perm.None ≡ false
-gives-some Profile.One true Grow.NtoB unheld = refl
-gives-some Profile.One false Grow.NtoB unheld = refl
-gives-some Profile.Two true Grow.NtoB unheld = refl
-gives-some Profile.Two false Grow.NtoB true = refl
-gives-some p whole g unheld = refl
+gives-some p whole g unheld = grind arith
 
 -- it carries the block where the protocol says so
 pub data-same : (whole : Bool) (g : Grow) (p : Perm) → handing.is_granted_data (acquire_opcode whole) (grow_code g)
     p ≡ is_granted_data whole g p
-data-same true Grow.NtoB p = refl
-data-same false Grow.BtoT Perm.None = refl
-data-same whole g p = refl
+data-same whole g p = grind arith

@@ -1,6 +1,6 @@
 -- Tokens with names of their own: where each name below a bound is of one token at most, there are no more tokens.
-use Rattle.std.proofs.Common.{◌≡◌, ℕ, ◌+◌, ◌<◌, ◌≤◌, Bool, true, false, List, [], ◌∷◌, refl, sym, ◌∙◌, ap, ◌⊎◌, inl}
-use Rattle.std.proofs.Common.{inr, arith, ◌&&◌, not, length, Option, Some, None, ne_eqb, eqb-true, ◌==◌, if◌then◌else◌}
+use Rattle.std.proofs.Common.{◌≡◌, ℕ, ◌+◌, ◌<◌, ◌≤◌, Bool, true, false, List, [], ◌∷◌, refl, sym, ◌∙◌, ap, ◌⊎◌}
+use Rattle.std.proofs.Common.{arith, ◌&&◌, not, length, Option, Some, None, eqb-true, ◌==◌, if◌then◌else◌}
 use Rattle.tl_coherence.proofs
 use proofs.Imports.{cases_eq, and_parts, same_Some, one_if, total, Kind, Packet, is, count}
 use proofs.queues.{Rendered.same_kind_again, Tokens.same_number, Sums.total-same, Sums.total-le, Sums.total-plus}
@@ -11,7 +11,7 @@ unfoldable pub passing : (Packet → Bool) → List Packet → ℕ
 passing test [] = 0
 passing test (x ∷ xs) = one_if (test x) + passing test xs
 
-pub is-itself : (x : Packet) → is x.kind x.number x ≡ true
+is-itself : (x : Packet) → is x.kind x.number x ≡ true
 is-itself x = rw (same_kind_again x.kind, same_number x.number) refl
 
 pub all-pass : (xs : List Packet) → passing (λ x. true) xs ≡ length xs
@@ -43,7 +43,7 @@ later-there y x xs there = omega (arith, there)
 
 -- ---- all that pass are one token
 
-pub passing-one : (test : Packet → Bool) (k : Kind) (n : ℕ) (xs : List Packet)
+passing-one : (test : Packet → Bool) (k : Kind) (n : ℕ) (xs : List Packet)
     → ((x : Packet) → IsThere x xs → test x ≡ true → is k n x ≡ true) → passing test xs ≤ count k n xs
 unfolding passing count
 passing-one test k n [] one = omega arith
@@ -53,7 +53,7 @@ passing-one test k n (x ∷ xs) one =
     let rest = passing-one test k n xs (λ y there. one y (later-there y x xs there)) in
     omega (arith, rest, here (test x) (is k n x) (one x (first-there x xs)))
 
-pub passing-none : (test : Packet → Bool) (xs : List Packet) → ((x : Packet) → IsThere x xs → test x ≡ false)
+passing-none : (test : Packet → Bool) (xs : List Packet) → ((x : Packet) → IsThere x xs → test x ≡ false)
     → passing test xs ≡ 0
 unfolding passing
 passing-none test [] none = refl
@@ -73,8 +73,7 @@ one-name true n bound below = total-same bound (λ i. one_if (n == i)) (λ i. if
     (λ i lt. at i (cases_eq i n)) ∙ total-one bound n 1 (below refl)
   where
     at : (i : ℕ) → (i ≡ n) ⊎ (i ≡ n → ⊥) → one_if (n == i) ≡ (if i == n then 1 else 0)
-    at i (inl e) = rw (e, same_number n) refl
-    at i (inr ne) = let other : n ≡ i → ⊥ = λ e. ne (sym e) in rw (ne_eqb i n ne, ne_eqb n i other) refl
+    at i e = grind arith
 
 -- each that passes has one name
 by-names : (test : Packet → Bool) (name : Packet → ℕ) (bound : ℕ) (xs : List Packet)
@@ -98,15 +97,13 @@ few test name owner bound xs once own =
   where
     at : (i : ℕ) (o : Option Packet) → owner i ≡ o → passing (named test name i) xs ≤ 1
     at i None e =
-        let none = passing-none (named test name i) xs (λ x there. unnamed x there (named test name i x) refl) in
-        omega (arith, none)
+        omega (arith, passing-none (named test name i) xs (λ x there. unnamed x there (named test name i x) refl))
       where
         unnamed : (x : Packet) → IsThere x xs → (b : Bool) → named test name i x ≡ b → b ≡ false
         unnamed x there false h = refl
         unnamed x there true h =
             let parts = and_parts (test x) (name x == i) h in
-            let same : name x ≡ i = eqb-true (name x) i parts.1 in
-            let is : owner i ≡ Some x = ap owner (sym same) ∙ (own x there parts.0).0 in
+            let is : owner i ≡ Some x = ap owner (sym (eqb-true (name x) i parts.1)) ∙ (own x there parts.0).0 in
             absurd cc
     at i (Some t) e =
         let one = passing-one (named test name i) t.kind t.number xs
@@ -116,8 +113,5 @@ few test name owner bound xs once own =
         same_token : (x : Packet) → IsThere x xs → (test x ≡ true) × ((name x == i) ≡ true)
             → is t.kind t.number x ≡ true
         same_token x there parts =
-            let same : name x ≡ i = eqb-true (name x) i parts.1 in
-            let is_it : owner i ≡ Some x = ap owner (sym same) ∙ (own x there parts.0).0 in
-            let it : Some t ≡ Some x = sym e ∙ is_it in
-            let that : t ≡ x = same_Some _ _ it in
-            rw that (is-itself x)
+            let is_it : owner i ≡ Some x = ap owner (sym (eqb-true (name x) i parts.1)) ∙ (own x there parts.0).0 in
+            rw (same_Some _ _ (sym e ∙ is_it)) (is-itself x)

@@ -1,9 +1,9 @@
 -- What every client's calls keep holds of every client's end, whatever has happened.
-use Rattle.std.proofs.Common.{◌≡◌, ℕ, Bool, true, false, List, [], ◌∷◌, refl, Option, Some, None, eqb-true, ◌==◌}
+use Rattle.std.proofs.Common.{◌≡◌, ℕ, Bool, true, false, List, [], ◌∷◌, refl, Option, Some, None, eqb-true, ◌==◌, arith}
 use Rattle.std.proofs.Common.{if◌then◌else◌, Result, Ok, Err}
 use Rattle.tl_coherence.proofs
 use proofs.Imports.{Beat, Channel, Message, Config, Rule, Op, Verdict, EndConfig, Endpoint, offered, Event, Ask}
-use proofs.Imports.{Deliver, Log, system_after, is_to_client, stepped, stepped_at, client_of, delivered, judged}
+use proofs.Imports.{Deliver, Log, system_after, stepped, stepped_at, client_of, delivered, judged}
 use proofs.Imports.{manager_took, handed_by, System, terms_at, with_client, with_manager, with_channel}
 use Rattle.tl_client.{specs.statement.Ask.asked, specs.statement.Endpoint.fresh}
 use Rattle.tl_manager.specs.statement.End as manager_end
@@ -33,12 +33,10 @@ module _ {w : ℕ} (config : Config) (P : ℕ → Endpoint w → Type 0) (keep :
       → (c : ℕ) → P c ((judged r k ch x rest e s).after.clients c)
   judged-kept (Err rule) k ch x rest e s here all c = other_end k e s here all c
   judged-kept (Ok (Verdict.Stalled, m)) k ch x rest e s here all c = all c
-  judged-kept (Ok (Verdict.Taken, m)) k ch x rest e s here all c =
-      rw (clients-with_messages (handed_by k m) (with_client k e (with_channel k ch rest s)))
-      (other_end k e (with_channel k ch rest s) here all c)
-  judged-kept (Ok (Verdict.Done source f, m)) k ch x rest e s here all c =
-      rw (clients-with_messages (handed_by k m) (with_client k e (with_channel k ch rest s)))
-      (other_end k e (with_channel k ch rest s) here all c)
+  judged-kept (Ok (Verdict.Taken, m)) k ch x rest e s here all c = rw (clients-with_messages (handed_by k m)
+      (with_client k e (with_channel k ch rest s))) (other_end k e (with_channel k ch rest s) here all c)
+  judged-kept (Ok (Verdict.Done source f, m)) k ch x rest e s here all c = rw (clients-with_messages (handed_by k m)
+      (with_client k e (with_channel k ch rest s))) (other_end k e (with_channel k ch rest s) here all c)
 
   managed-kept : (a : manager.Reception w × manager_end.End w) (k : ℕ) (ch : Channel) (x : Beat w)
       (rest : List (Beat w)) (s : System w) → ((c : ℕ) → P c (s.clients c))
@@ -50,15 +48,7 @@ module _ {w : ℕ} (config : Config) (P : ℕ → Endpoint w → Type 0) (keep :
   delivered-kept : (terms : EndConfig) (k : ℕ) (ch : Channel) (beats : List (Beat w)) (s : System w)
       → terms_at config k ≡ Some terms → ((c : ℕ) → P c (s.clients c))
       → (c : ℕ) → P c ((delivered config terms k ch beats s).after.clients c)
-  delivered-kept terms k ch [] s is all c = all c
-  delivered-kept terms k ch (x ∷ rest) s is all c = go (is_to_client ch)
-    where
-      go : (b : Bool) → P c ((if b then judged (offered terms ch x (s.clients k)).answer k ch x rest
-          (offered terms ch x (s.clients k)).after s else manager_took k ch x rest
-          (manager.offered config (record { 0 = k }) ch x s.manager) s).after.clients c)
-      go true = judged-kept (offered terms ch x (s.clients k)).answer k ch x rest
-          (offered terms ch x (s.clients k)).after s (keep.offered k terms ch x (s.clients k) is (all k)) all c
-      go false = managed-kept (manager.offered config (record { 0 = k }) ch x s.manager) k ch x rest s all c
+  delivered-kept terms k ch beats s e f c = grind (arith, judged-kept, managed-kept)
 
   stepped-kept : (event : Event w) (s : System w) → ((c : ℕ) → P c (s.clients c)) → (c : ℕ)
       → P c ((stepped config event s).after.clients c)
@@ -68,8 +58,7 @@ module _ {w : ℕ} (config : Config) (P : ℕ → Endpoint w → Type 0) (keep :
       go : (x : Event w) (o : Option EndConfig) → terms_at config (client_of x) ≡ o
           → P c ((stepped_at config o x s).after.clients c)
       go x None is = all c
-      go (Ask k op) (Some terms) is =
-          rw (clients-with_messages (handed_by k (asked terms op (s.clients k)).message)
+      go (Ask k op) (Some terms) is = rw (clients-with_messages (handed_by k (asked terms op (s.clients k)).message)
           (with_client k (asked terms op (s.clients k)).after s))
           (other_end k (asked terms op (s.clients k)).after s (keep.asked k terms op (s.clients k) is (all k)) all c)
       go (Deliver link ch) (Some terms) is = delivered-kept terms link.0 ch (s.channels link.0 ch) s is all c

@@ -23,9 +23,8 @@ first_left_all = refl
 -- ---- one who isn't probed, or has answered, keeps no more than the cap
 
 within_test : ClientBlock → View → Bool
-within_test p v =
-    on_other v (λ k. not (same_cap k Cap.ToT) && (on_quiet p.probing (perm_le p.recorded (cap_right k)) && on_answered
-    p.probing (λ r. perm_le (report_right r) (cap_right k))))
+within_test p v = on_other v (λ k. not (same_cap k Cap.ToT) && (on_quiet p.probing
+    (perm_le p.recorded (cap_right k)) && on_answered p.probing (λ r. perm_le (report_right r) (cap_right k))))
 
 within_all : each_phase within_test ≡ true
 unfolding each_phase within_test
@@ -128,8 +127,7 @@ release_begins r p v h e first =
     let t = and_right (on_answered p.probing (λ j. same_perm (report_left j) p.recorded))
     (on_releasing p.letting (λ j. is_answered p.probing || same_perm (prune_left j) p.recorded))
     (of_phase first_left_test first_left_all p v h) in
-    let u = releasing_is p.letting (λ j. is_answered p.probing || same_perm (prune_left j) p.recorded) r e t in
-    rw first at u
+    rw first at (releasing_is p.letting (λ j. is_answered p.probing || same_perm (prune_left j) p.recorded) r e t)
 
 -- one who is to be granted at once isn't recorded Trunk
 asked_low_test : ClientBlock → View → Bool
@@ -143,9 +141,8 @@ pub asked_low : (whole : Bool) (g : Grow) (p : ClientBlock) (v : View) → ok p 
     → p.acquiring ≡ AcquireOpen whole g → same_perm p.recorded Perm.Trunk ≡ false
 unfolding asked_low_test
 asked_low whole g p v h e wants =
-    let t = idle_is v (is_unacquired p.acquiring || not (same_perm p.recorded Perm.Trunk)) e
-    (of_phase asked_low_test asked_low_all p v h) in
-    not-true (same_perm p.recorded Perm.Trunk) (rw wants at t)
+    not-true (same_perm p.recorded Perm.Trunk) (rw wants at (idle_is v (is_unacquired p.acquiring
+    || not (same_perm p.recorded Perm.Trunk)) e (of_phase asked_low_test asked_low_all p v h)))
 
 -- what one holds Trunk of is out
 out_test : ClientBlock → View → Bool

@@ -1,5 +1,5 @@
 -- The beat that comes first on a channel belongs to the message of the first token there.
-use Rattle.std.proofs.Common.{◌≡◌, ℕ, ◌+◌, Bool, true, false, List, [], ◌∷◌, refl, sym, ◌∙◌, ap, arith, map}
+use Rattle.std.proofs.Common.{◌≡◌, ℕ, Bool, true, false, List, [], ◌∷◌, refl, sym, ◌∙◌, ap, arith, map}
 use Rattle.tl_coherence.proofs
 use proofs.Imports.{Beat, Channel, IsWidth, beats-positive, Message, unfinished, one_if, IsInvariant, Kind, Packet, is}
 use proofs.Imports.{count, State, packet, packets_on, is_on, IsCarried, ChannelRelation, AccessMessages, message_of}
@@ -26,10 +26,8 @@ own_kind caching s c ch k n rest inv tokens = go (is_on ch k) refl
     go : (b : Bool) → is_on ch k ≡ b → b ≡ true
     go true e = refl
     go false e =
-        let none : count k n (packets_on ch (s.link c)) ≡ 0 = inv.own_kinds c ch k n e in
-        let all : one_if (is k n (packet k n)) + count k n rest ≡ 0 = sym (ap (count k n) tokens) ∙ none in
         let one : one_if (is k n (packet k n)) ≡ 1 = rw (same_kind_again k, same_number n) refl in
-        absurd (omega (arith, all, one))
+        absurd (omega (arith, sym (ap (count k n) tokens) ∙ (inv.own_kinds c ch k n e), one))
 
 nothing_first : {w : ℕ} (x : Beat w) (queue : List (Beat w)) {rest : List (Beat w)} {channel : List (Beat w)}
     → channel ≡ x ∷ queue → IsCarried rest [] channel → ⊥

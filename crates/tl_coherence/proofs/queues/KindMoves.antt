@@ -1,24 +1,20 @@
 -- What a move of one token does to each kind of token on a channel.
-use Rattle.std.proofs.Common.{◌≡◌, ℕ, Bool, true, false, not, ◌&&◌, List, [], ◌∷◌, ◌++◌, refl, ◌⊎◌, inl, inr, ap, sym}
+use Rattle.std.proofs.Common.{◌≡◌, ℕ, Bool, true, false, not, ◌&&◌, List, [], ◌∷◌, ◌++◌, refl, ◌⊎◌, inl, inr, ap, arith}
 use Rattle.std.proofs.Common.{◌∙◌, ne_eqb, eqb-true, ◌==◌, if◌then◌else◌}
 use Rattle.tl_coherence.proofs
-use proofs.Imports.{cases_eq, not-true, beq, Channel, Kind, Request, Acquire, Probe, ProbeAck, Release, Answer, Grant}
-use proofs.Imports.{ReleaseAck, GrantAck, Packet, same_kind, count, set, Holds, IsOrdered, packet, packets_on, is_on}
-use proofs.Imports.{Block, on, shown, is_transfer, Move, Stays, Pushes, Pops, IsMoved, AreMoved, agrees, is_own_move}
-use proofs.Imports.{channel_for}
-use Rattle.tl_coherence.specs.protocol.Protocol.{Link}
+use proofs.Imports.{cases_eq, not-true, beq, Channel, Kind, ProbeAck, Release, Packet, same_kind, count, set, Holds}
+use proofs.Imports.{IsOrdered, packet, packets_on, is_on, Block, on, shown, is_transfer, Move, Stays, Pushes, Pops}
+use proofs.Imports.{IsMoved, AreMoved, agrees, is_own_move, channel_for}
+use Rattle.tl_coherence.{specs.protocol.Protocol.Link}
 use proofs.queues.Tokens.{holds-set, holds-push, holds-push_other, holds-pop, holds-pop_other, none-push, none-pop}
 use proofs.queues.Tokens.{ordered-pop, ordered-push_other, ordered-push_report}
 use proofs.queues.Phases.{and_left, and_right}
 
 pub same_again : (b : Bool) → beq b b ≡ true
-same_again true = refl
-same_again false = refl
+same_again b = grind arith
 
 same_bools : (a b : Bool) → beq a b ≡ true → b ≡ a
-same_bools true false e = absurd cc
-same_bools false true e = absurd cc
-same_bools a b e = refl
+same_bools a b e = grind arith
 
 -- the tokens of a kind after a move, where number n gets another value
 pub holds-moved : {B : Type 0} (k : Kind) (move : Move) (xs ys : List Packet) (q : B → Bool) (f : ℕ → B) (n : ℕ) (y : B)
@@ -28,8 +24,7 @@ holds-moved k Stays xs ys q f n y moved fits h = rw moved (holds-set k xs q f n 
 holds-moved {B} k (Pushes j i) xs ys q f n y moved fits h = rw moved (go (same_kind j k) refl fits)
   where
     both : (a b : Bool) → (not a && b) ≡ true → (a ≡ false) × (b ≡ true)
-    both false true e = (refl, refl)
-    both a b e = absurd cc
+    both a b e = grind arith
 
     go : (own : Bool) → same_kind j k ≡ own → (if own then (i == n) && (not (q (f n)) && q y) else beq (q (f n)) (q y))
         ≡ true → Holds k (xs ++ packet j i ∷ []) (λ m. q (set n y f m))
@@ -54,9 +49,7 @@ spares (Pushes j i) k = not (same_kind j k)
 spares (Pops j i) k = not (same_kind j k)
 
 pub spared-agrees : (m : Move) (k : Kind) (n : ℕ) (a : Bool) → spares m k ≡ true → agrees m k n a a ≡ true
-spared-agrees Stays k n a e = same_again a
-spared-agrees (Pushes j i) k n a e = rw (not-true (same_kind j k) e) (same_again a)
-spared-agrees (Pops j i) k n a e = rw (not-true (same_kind j k) e) (same_again a)
+spared-agrees m k n a e = grind (arith, same_again, not-true)
 
 pub holds-spared : (k : Kind) (move : Move) (xs ys : List Packet) (test : ℕ → Bool) → IsMoved move xs ys
     → spares move k ≡ true → Holds k xs test → Holds k ys test
@@ -67,21 +60,11 @@ holds-spared k (Pops j i) xs ys test moved fits h =
     holds-pop_other k xs ys (packet j i) test moved (not-true (same_kind j k) fits) h
 
 pub on_is : (k : Kind) (l : Link) → on k l ≡ packets_on (channel_for k) l
-on_is Request l = refl
-on_is k l = refl
+on_is k l = grind arith
 
 -- the kind is one of its channel alone
 pub kind_channel : (ch : Channel) (k : Kind) → is_on ch k ≡ true → channel_for k ≡ ch
-kind_channel Channel.A Request e = refl
-kind_channel Channel.A Acquire e = refl
-kind_channel Channel.B Probe e = refl
-kind_channel Channel.C ProbeAck e = refl
-kind_channel Channel.C Release e = refl
-kind_channel Channel.D Answer e = refl
-kind_channel Channel.D Grant e = refl
-kind_channel Channel.D ReleaseAck e = refl
-kind_channel Channel.E GrantAck e = refl
-kind_channel ch k e = absurd cc
+kind_channel ch k e = grind arith
 
 pub on_same : (ch : Channel) (k : Kind) (l : Link) → is_on ch k ≡ true → on k l ≡ packets_on ch l
 on_same ch k l own = on_is k l ∙ ap (λ (i : Channel). packets_on i l) (kind_channel ch k own)
@@ -96,27 +79,11 @@ transfers-moved moves l m d n b block moved fits h k t =
     (shown k d) block n b (moved (channel_for k)) (fits k t) (rw (on_is k l) at (h k t)))
 
 pub kind_is : (k j : Kind) → same_kind k j ≡ true → k ≡ j
-kind_is Request Request e = refl
-kind_is Acquire Acquire e = refl
-kind_is Probe Probe e = refl
-kind_is ProbeAck ProbeAck e = refl
-kind_is Release Release e = refl
-kind_is Answer Answer e = refl
-kind_is Grant Grant e = refl
-kind_is ReleaseAck ReleaseAck e = refl
-kind_is GrantAck GrantAck e = refl
-kind_is _ _ e = absurd cc
+kind_is k j e = grind arith
 
 -- a kind that isn't one of the channel isn't one that is
-pub kinds_apart : (ch : Channel) (k j : Kind) → is_on ch k ≡ true → is_on ch j ≡ false → same_kind k j ≡ false
-kinds_apart ch k j e f =
-    let go : (b : Bool) → same_kind k j ≡ b → b ≡ false =
-    elim [
-      | false ↦ λ g. refl
-      | true ↦ λ g. absurd (let no : true ≡ false = sym e ∙ ap (is_on ch) (kind_is k j g) ∙ f in
-          cc)
-    ] in
-    go (same_kind k j) refl
+kinds_apart : (ch : Channel) (k j : Kind) → is_on ch k ≡ true → is_on ch j ≡ false → same_kind k j ≡ false
+kinds_apart ch k j e f = grind (arith, kind_is)
 
 -- a channel has tokens of its own kinds after its move
 pub own_kinds-moved : (ch : Channel) (move : Move) (xs ys : List Packet) (k : Kind) (i : ℕ) → is_own_move ch move ≡ true

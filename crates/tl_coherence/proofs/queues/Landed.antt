@@ -1,5 +1,6 @@
 -- The whole after an event: what each channel gained and lost, and what each receiver has of the first messages.
-use Rattle.std.proofs.Common.{◌≡◌, ℕ, Bool, true, false, List, [], ◌∷◌, ◌++◌, refl, sym, ◌∙◌, ap, ◌⊎◌, inl, inr, ◌&&◌}
+use Rattle.std.proofs.Common.{◌≡◌, ℕ, Bool, true, false, List, [], ◌∷◌, ◌++◌}
+use Rattle.std.proofs.Common.{refl, sym, ◌∙◌, ap, ◌⊎◌, inl, inr, ◌&&◌, arith}
 use Rattle.std.proofs.Common.{Option, Some, None, ne_eqb, ◌==◌, if◌then◌else◌}
 use Rattle.tl_coherence.proofs
 use proofs.Imports.{cases_eq, Beat, Channel, Message, beats_of, unfinished, History, grown, channel_of, completes}
@@ -66,9 +67,7 @@ rests-ended {w} c ch x sys last d at = ended (cases_eq d c) (same_channel at ch)
 
     ended : (d ≡ c) ⊎ (d ≡ c → ⊥) → (y : Bool) → same_channel at ch ≡ y
         → (if (d == c) && y then grown x (rest d at) else rest d at) ≡ (if (d == c) && y then [] else rest d at)
-    ended (inl same) true f = rw (same, same_channel-is at ch f, last) refl
-    ended (inl same) false f = rw (same, same_number c) refl
-    ended (inr other) y f = rw (ne_eqb d c other) refl
+    ended e y f = grind arith
 
 pub taken-landed : {w : ℕ} {c : ℕ} {ch : Channel} {x : Beat w} {queue : List (Beat w)} {pushes : ℕ → Channel
     → Option (Message w)} {sys sys' : System w} → IsLanded c ch x queue pushes sys sys'
@@ -85,12 +84,7 @@ abbrev pub IsOn : {w : ℕ} → Channel → Beat w → Type 0
 IsOn ch x = (at : Channel) → on at x ≡ same_channel at ch
 
 pub on_own_channel : {w : ℕ} (x : Beat w) → IsOn (channel_of x) x
-on_own_channel (Beat.A x) Channel.A = refl
-on_own_channel (Beat.B x) Channel.A = refl
-on_own_channel (Beat.C x) Channel.A = refl
-on_own_channel (Beat.D x) Channel.A = refl
-on_own_channel (Beat.E x) Channel.A = refl
-on_own_channel x at = refl
+on_own_channel x = grind arith
 
 -- a channel to a client isn't one to the manager
 apart_channels : (a b : Channel) → (is_to_client a ≡ is_to_client b → ⊥) → same_channel a b ≡ false
@@ -114,11 +108,8 @@ pub landed-client : {w : ℕ} (c : ℕ) (ch : Channel) (x : Beat w) (queue : Lis
     (e : client.Endpoint w) (sys : System w) → is_to_client ch ≡ true → sys.channels c ch ≡ x ∷ queue → IsOn ch x
     → HasHeard x (sys.clients c) e → IsLanded c ch x queue (pushes_at c (pushes_of m)) sys
     (with_messages (handed_by c m) (with_client c e (with_channel c ch queue sys)))
-landed-client {w} c ch x queue m e sys to_client first is heard = record {
-  first = first;
-  channels = λ d at. channels-handed c m base d at;
-  rests = rests;
-}
+landed-client {w} c ch x queue m e sys to_client first is heard =
+    record { first = first; channels = λ d at. channels-handed c m base d at; rests = rests }
   where
     base : System w
     base = with_client c e (with_channel c ch queue sys)
@@ -137,9 +128,8 @@ landed-client {w} c ch x queue m e sys to_client first is heard = record {
         (unfinished at (sys.clients d).past) else unfinished at (sys.clients d).past)
     ours d at (inl same) = rw same (ap (λ (f : ℕ → client.Endpoint w). unfinished at (f c).past) clients_are
         ∙ ap (λ (b : Bool). unfinished at (if b then e else sys.clients c).past) (same_number c) ∙ heard at
-        ∙ grown_history ch at x (sys.clients c).past is
-        ∙ sym (ap (λ (b : Bool). if b && same_channel at ch then grown x (unfinished at (sys.clients c).past) else
-        unfinished at (sys.clients c).past) (same_number c)))
+        ∙ grown_history ch at x (sys.clients c).past is ∙ sym (ap (λ (b : Bool). if b && same_channel at ch then grown x
+        (unfinished at (sys.clients c).past) else unfinished at (sys.clients c).past) (same_number c)))
     ours d at (inr other) = ap (λ (f : ℕ → client.Endpoint w). unfinished at (f d).past) clients_are
         ∙ ap (λ (b : Bool). unfinished at (if b then e else sys.clients d).past) (ne_eqb d c other)
         ∙ sym (ap (λ (b : Bool). if b && same_channel at ch then grown x (unfinished at (sys.clients d).past) else
@@ -219,9 +209,6 @@ rests-manager {w} c ch x queue handed e sys to_manager is heard = rests
     manager_is : after.manager ≡ e
     manager_is = manager-with_messages handed base
 
-    swapped : (d : ℕ) → (d ≡ c → ⊥) → (c == d) ≡ false
-    swapped d ne = ne_eqb c d (λ f. ne (sym f))
-
     theirs : (d : ℕ) (at : Channel) → is_to_client at ≡ false → (d ≡ c) ⊎ (d ≡ c → ⊥)
         → unfinished at (on_link d after.manager.trace) ≡ (if (d == c) && same_channel at ch then grown x
         (unfinished at (on_link d sys.manager.trace)) else unfinished at (on_link d sys.manager.trace))
@@ -230,7 +217,7 @@ rests-manager {w} c ch x queue handed e sys to_manager is heard = rests
         sys.manager.trace)) (same_number c) ∙ grown_history ch at x (on_link c sys.manager.trace) is
         ∙ sym (ap (λ (b : Bool). if b && same_channel at ch then grown x (unfinished at (on_link c sys.manager.trace))
         else unfinished at (on_link c sys.manager.trace)) (same_number c)))
-    theirs d at up (inr other) = cc (manager_is, heard d at up, swapped d other, ne_eqb d c other)
+    theirs d at up (inr other) = cc (manager_is, heard d at up, ne_eqb c d (λ f. other (sym f)), ne_eqb d c other)
 
     not_here : (ch at : Channel) → is_to_client ch ≡ false → is_to_client at ≡ true → same_channel at ch ≡ false
     not_here ch at a b = apart_channels at ch (λ e. cc)
@@ -239,11 +226,9 @@ rests-manager {w} c ch x queue handed e sys to_manager is heard = rests
         → unfinished at (after.clients d).past ≡ (if (d == c) && same_channel at ch then grown x
         (unfinished at (sys.clients d).past) else unfinished at (sys.clients d).past)
     ours d at f =
-        let unless : (b : Bool) → unfinished at (sys.clients d).past
-        ≡ (if b && false then grown x (unfinished at (sys.clients d).past) else unfinished at (sys.clients d).past)
-        = elim [ true ↦ refl | false ↦ refl ] in
-        rw f (ap (λ (g : ℕ → client.Endpoint w). unfinished at (g d).past) (clients-with_messages handed base)
-        ∙ unless (d == c))
+        let unless : (b : Bool) → unfinished at (sys.clients d).past ≡ (if b && false then grown x (unfinished at
+        (sys.clients d).past) else unfinished at (sys.clients d).past) = elim [ true ↦ refl | false ↦ refl ] in
+        rw f (cc (clients-with_messages handed base, unless (d == c)))
 
     rests : (d : ℕ) (at : Channel)
         → unfinished at (receiver at d after) ≡ (if (d == c) && same_channel at ch then grown x
@@ -258,8 +243,5 @@ pub landed-manager : {w : ℕ} (c : ℕ) (ch : Channel) (x : Beat w) (queue : Li
     → ((d : ℕ) (at : Channel) → (with_messages handed (with_manager e (with_channel c ch queue sys))).channels d at
     ≡ behind (pushes d at) ((with_channel c ch queue sys).channels d at))
     → IsLanded c ch x queue pushes sys (with_messages handed (with_manager e (with_channel c ch queue sys)))
-landed-manager c ch x queue pushes handed e sys to_manager first is heard pushed = record {
-  first = first;
-  channels = pushed;
-  rests = rests-manager c ch x queue handed e sys to_manager is heard;
-}
+landed-manager c ch x queue pushes handed e sys to_manager first is heard pushed =
+    record { first = first; channels = pushed; rests = rests-manager c ch x queue handed e sys to_manager is heard }

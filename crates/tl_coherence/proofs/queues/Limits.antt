@@ -21,5 +21,4 @@ limits_broken a b c e = if not a then Some NewFault.N1 else if not b then Some N
     NewFault.N3 else if not e then Some NewFault.N4 else None
 
 pub limits-fit : (a b c e : Bool) → limits_broken a b c e ≡ None → (a ≡ true) × (b ≡ true) × (c ≡ true) × (e ≡ true)
-limits-fit true true true true f = (refl, refl, refl, refl)
-limits-fit a b c e f = absurd cc
+limits-fit a b c e f = grind arith

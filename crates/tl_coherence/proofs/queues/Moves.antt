@@ -1,12 +1,12 @@
 -- Tokens, and what they stand for, after the moves of an event: one lemma for all events.
-use Rattle.std.proofs.Common.{◌≡◌, ℕ, Bool, true, false, List, Option, refl, sym, ◌∙◌, ap, inl, inr, ne_eqb, ◌==◌}
+use Rattle.std.proofs.Common.{◌≡◌, ℕ, Bool, true, List, Option, refl, sym, ◌∙◌, ap, inl, inr, ne_eqb, ◌==◌, arith}
 use Rattle.std.proofs.Common.{if◌then◌else◌}
 use Rattle.tl_coherence.proofs
 use proofs.Imports.{cases_eq, Channel, IsInvariant, is_asked, is_replied, IsWell, AreNamed, is_of, acquires_of}
 use proofs.Imports.{serves_of, acquires_with, serves_with, releases_with, tracks_with, Kind, Request, ProbeAck, Release}
 use proofs.Imports.{Answer, Packet, count, set, Holds, set_at, State, packets_on, Block, SourceState, shown}
 use proofs.Imports.{is_transfer, Move, Stays, Pushes, IsMoved, AreMoved, agrees, is_own_move, channel_for}
-use Rattle.tl_coherence.specs.{protocol.Invariant.Names, protocol.Protocol.Link}
+use Rattle.tl_coherence.{specs.protocol.Invariant.Names, specs.protocol.Protocol.Link}
 use proofs.queues.Tokens.{same_number, set-same, set-other, set-each}
 use proofs.queues.KindMoves.{holds-moved, spares, holds-spared, on_is, transfers-moved, own_kinds-moved, ordered-moved}
 
@@ -73,7 +73,7 @@ names-kept n b link s h acquires serves releases trackers = record {
 -- ---- accesses and their answers, where one source's use changes
 
 -- the tokens of a kind of all clients, where the value of number i of client c changes, and others move no token of it
-pub holds-set_at : {A : Type 0} (k : Kind) (moves : ℕ → Move) (f g : ℕ → List Packet) (q : A → Bool) (uses : ℕ → ℕ → A)
+holds-set_at : {A : Type 0} (k : Kind) (moves : ℕ → Move) (f g : ℕ → List Packet) (q : A → Bool) (uses : ℕ → ℕ → A)
     (c i : ℕ) (y : A) → ((d : ℕ) → IsMoved (moves d) (f d) (g d)) → agrees (moves c) k i (q (uses c i)) (q y) ≡ true
     → ((d : ℕ) → (d ≡ c → ⊥) → spares (moves d) k ≡ true) → ((d : ℕ) → Holds k (f d) (λ j. q (uses d j))) → (d : ℕ)
     → Holds k (g d) (λ j. q (set_at c i y uses d j))
@@ -87,7 +87,7 @@ holds-set_at k moves f g q uses c i y moved fits others h d = elim (cases_eq d c
 -- ---- the whole invariant
 
 -- the invariant is kept by every event that has shown this, with these accesses and numbers
-pub invariant-moved_with : {X : Type 0} {caching : ℕ → Bool} {n : ℕ} {b : Block X} {link : ℕ → Link} {moves : ℕ
+invariant-moved_with : {X : Type 0} {caching : ℕ → Bool} {n : ℕ} {b : Block X} {link : ℕ → Link} {moves : ℕ
     → Channel → Move} (uses : ℕ → ℕ → SourceState) (lets : ℕ → ℕ → Option ℕ) (tracked : ℕ → Option ℕ) {s : State X}
     → IsInvariant caching s → IsEvent caching n b link moves s
     → ((d : ℕ) → Holds Request (link d).a (λ i. is_asked (uses d i)))
@@ -160,8 +160,7 @@ agrees_as : (k : Kind) (n : ℕ) (m p : Move) (a b : Bool) → m ≡ p → agree
 agrees_as k n m p a b e h = rw e h
 
 agrees_still : (k : Kind) (n : ℕ) (m : Move) (a b : Bool) → m ≡ Stays → b ≡ a → agrees m k n a b ≡ true
-agrees_still k n m a true e f = rw (e, ← f) refl
-agrees_still k n m a false e f = rw (e, ← f) refl
+agrees_still k n m a b e f = grind arith
 
 never_pushed : (m : Move) (i : ℕ) {A : Type 0} → m ≡ Stays → m ≡ Pushes ProbeAck i → A
 never_pushed m i e f = absurd (let g : Stays ≡ Pushes ProbeAck i = sym e ∙ f in cc)
@@ -202,23 +201,18 @@ event-at {c} {n} {b} {l} {moves} {s} event = record {
 }
   where
     own : (ch : Channel) (b : Bool) → is_own_move ch (if b then moves ch else Stays) ≡ true
-    own ch true = event.own ch
-    own ch false = refl
+    own ch b = grind arith
 
 -- where no access is taken or answered at client c
 pub bare-at : (c : ℕ) (moves : Channel → Move) → spares (moves Channel.A) Request ≡ true
     → spares (moves Channel.D) Answer ≡ true → (d : ℕ)
     → (spares (moves_at c moves d Channel.A) Request ≡ true) × (spares (moves_at c moves d Channel.D) Answer ≡ true)
-bare-at c moves a e d =
-    let go : (b : Bool) (m : Move) (k : Kind) → spares m k ≡ true → spares (if b then m else Stays) k ≡ true =
-    elim [ true ↦ λ m k h. h | false ↦ λ m k h. refl ] in
-    (go (d == c) (moves Channel.A) Request a, go (d == c) (moves Channel.D) Answer e)
+bare-at c moves a e d = grind arith
 
 -- at other clients than c nothing moves
 pub bare-elsewhere : (c : ℕ) (moves : Channel → Move) (d : ℕ) → (d ≡ c → ⊥)
     → (spares (moves_at c moves d Channel.A) Request ≡ true) × (spares (moves_at c moves d Channel.D) Answer ≡ true)
-bare-elsewhere c moves d ne =
-    (rw (moves-there c d moves Channel.A ne) refl, rw (moves-there c d moves Channel.D ne) refl)
+bare-elsewhere c moves d ne = grind (arith, moves-there)
 
 -- ---- accesses, which change no block's tokens
 
@@ -251,10 +245,9 @@ pub invariant-moved_access : {X : Type 0} {caching : ℕ → Bool} {c source : �
 invariant-moved_access {c} {source} {u} {l} {moves} {s} inv event = record {
   blocks = inv.blocks;
   transfers = λ d k t. elim (cases_eq d c) [
-    | inl same ↦ rw (same, set-same c l s.link)
-        (rw (on_is k l) (holds-spared k (moves (channel_for k)) (packets_on (channel_for k) (s.link c))
-        (packets_on (channel_for k) l) (λ i. shown k c (s.block i)) (event.moved (channel_for k)) (event.spared k t)
-        (rw (on_is k (s.link c)) at (inv.transfers c k t))))
+    | inl same ↦ rw (same, set-same c l s.link) (rw (on_is k l) (holds-spared k (moves (channel_for k))
+        (packets_on (channel_for k) (s.link c)) (packets_on (channel_for k) l) (λ i. shown k c (s.block i))
+        (event.moved (channel_for k)) (event.spared k t) (rw (on_is k (s.link c)) at (inv.transfers c k t))))
     | inr other ↦ rw (set-other c d l s.link other) (inv.transfers d k t)
   ];
   requests = holds-set_at Request (λ d. moves_at c moves d Channel.A) (λ d. (s.link d).a) (λ d. (set c l s.link d).a)

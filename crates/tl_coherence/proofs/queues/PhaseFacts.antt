@@ -52,9 +52,8 @@ carried_all = refl
 pub data_carried : (p : ClientBlock) (v : View) → ok p v ≡ true → carries_data p.probing p.letting ≡ true
     → (same_perm p.recorded Perm.Trunk && (not (same_perm p.held Perm.Trunk) && not (is_granting v))) ≡ true
 unfolding carried_test
-data_carried p v h e = implies_is (carries_data p.probing p.letting)
-    (same_perm p.recorded Perm.Trunk && (not (same_perm p.held Perm.Trunk) && not (is_granting v)))
-    (of_phase carried_test carried_all p v h) e
+data_carried p v h e = implies_is (carries_data p.probing p.letting) (same_perm p.recorded Perm.Trunk
+    && (not (same_perm p.held Perm.Trunk) && not (is_granting v))) (of_phase carried_test carried_all p v h) e
 
 -- ---- held Trunk: recorded Trunk, nothing on C, no Acquire, no Grant
 
@@ -64,8 +63,7 @@ is_silent _ (ReleaseSent r) = false
 is_silent _ _ = true
 
 trunk_test : ClientBlock → View → Bool
-trunk_test p v = implies (same_perm p.held Perm.Trunk)
-    (same_perm p.recorded Perm.Trunk
+trunk_test p v = implies (same_perm p.held Perm.Trunk) (same_perm p.recorded Perm.Trunk
     && (is_silent p.probing p.letting && (is_unacquired p.acquiring && not (is_granting v))))
 
 trunk_all : each_phase trunk_test ≡ true
@@ -76,8 +74,7 @@ pub trunk_held : (p : ClientBlock) (v : View) → ok p v ≡ true → same_perm 
     → (same_perm p.recorded Perm.Trunk
     && (is_silent p.probing p.letting && (is_unacquired p.acquiring && not (is_granting v)))) ≡ true
 unfolding trunk_test
-trunk_held p v h e = implies_is (same_perm p.held Perm.Trunk)
-    (same_perm p.recorded Perm.Trunk
+trunk_held p v h e = implies_is (same_perm p.held Perm.Trunk) (same_perm p.recorded Perm.Trunk
     && (is_silent p.probing p.letting && (is_unacquired p.acquiring && not (is_granting v))))
     (of_phase trunk_test trunk_all p v h) e
 
@@ -94,9 +91,8 @@ granting_all = refl
 pub granting_alone : (d : Bool) (k : Cap) (p : ClientBlock) (v : View) → ok p v ≡ true → v ≡ Granting d k
     → (is_unprobed p.probing && (is_unreleased p.letting && same_perm p.recorded (cap_right k))) ≡ true
 unfolding granting_test
-granting_alone d k p v h e =
-    granting_is v (λ c j. is_unprobed p.probing && (is_unreleased p.letting && same_perm p.recorded (cap_right j))) d k
-    e (of_phase granting_test granting_all p v h)
+granting_alone d k p v h e = granting_is v (λ c j. is_unprobed p.probing && (is_unreleased p.letting
+    && same_perm p.recorded (cap_right j))) d k e (of_phase granting_test granting_all p v h)
 
 -- ---- in service for the client's own Acquire: no Probe, no Release, recorded is held
 
@@ -120,9 +116,8 @@ grows_from Grow.BtoT p = not (same_perm p Perm.Trunk)
 grows_from _ p = same_perm p Perm.None
 
 asked_test : ClientBlock → View → Bool
-asked_test p v = on_idle v
-    (on_wants p.acquiring (λ whole g. is_unprobed
-    p.probing && (is_unreleased p.letting && (same_perm p.recorded p.held && grows_from g p.recorded))))
+asked_test p v = on_idle v (on_wants p.acquiring (λ whole g. is_unprobed p.probing
+    && (is_unreleased p.letting && (same_perm p.recorded p.held && grows_from g p.recorded))))
 
 asked_all : each_phase asked_test ≡ true
 unfolding each_phase asked_test
@@ -133,13 +128,10 @@ pub asked_alone : (whole : Bool) (g : Grow) (p : ClientBlock) (v : View) → ok 
     → (is_unprobed p.probing && (is_unreleased p.letting && (same_perm p.recorded p.held && grows_from g p.recorded)))
     ≡ true
 unfolding asked_test
-asked_alone whole g p v h e f =
-    wants_is p.acquiring (λ w j. is_unprobed
-    p.probing && (is_unreleased p.letting && (same_perm p.recorded p.held && grows_from j p.recorded))) whole g f
-    (idle_is v (on_wants p.acquiring
-    (λ w j. is_unprobed p.probing
-    && (is_unreleased p.letting && (same_perm p.recorded p.held && grows_from j p.recorded)))) e
-    (of_phase asked_test asked_all p v h))
+asked_alone whole g p v h e f = wants_is p.acquiring (λ w j. is_unprobed p.probing
+    && (is_unreleased p.letting && (same_perm p.recorded p.held && grows_from j p.recorded))) whole g f
+    (idle_is v (on_wants p.acquiring (λ w j. is_unprobed p.probing && (is_unreleased p.letting
+    && (same_perm p.recorded p.held && grows_from j p.recorded)))) e (of_phase asked_test asked_all p v h))
 
 -- ---- H9: GrantAck on E: no Probe
 

@@ -1,5 +1,5 @@
 -- Each event leads from a phase that is well to one that is well: by computation over all phases.
-use Rattle.std.proofs.Common.{◌≡◌, refl, Bool, true, false, not, ◌&&◌, ◌||◌}
+use Rattle.std.proofs.Common.{◌≡◌, refl, Bool, true, false, not, ◌&&◌, ◌||◌, arith}
 use Rattle.tl_coherence.proofs
 use proofs.Imports.{Cap, Grow, Prune, Report, Perm, prune_left, same_perm, ClientBlock, View, Idle, Own, Other}
 use proofs.Imports.{Granting, Acknowledging, GrantedOther, ProbePhase, NoProbe, ProbeAnswered, ReleasePhase}
@@ -76,14 +76,8 @@ granting_is v f d k e h = rw e at h
 pub acknowledging_is : (v : View) (b : Bool) → v ≡ Acknowledging → on_acknowledging v b ≡ true → b ≡ true
 acknowledging_is v b e h = rw e at h
 
-pub granted_other_is : (v : View) (b : Bool) → v ≡ GrantedOther → on_granted_other v b ≡ true → b ≡ true
-granted_other_is v b e h = rw e at h
-
 pub quiet_is : (x : ProbePhase) (b : Bool) → x ≡ NoProbe → on_quiet x b ≡ true → b ≡ true
 quiet_is x b e h = rw e at h
-
-pub sent_is : (x : ProbePhase) (f : Cap → Bool) (k : Cap) → x ≡ ProbeSent k → on_sent x f ≡ true → f k ≡ true
-sent_is x f k e h = rw e at h
 
 pub answered_is : (x : ProbePhase) (f : Report → Bool) (r : Report) → x ≡ ProbeAnswered r → on_answered x f ≡ true
     → f r ≡ true
@@ -92,9 +86,6 @@ answered_is x f r e h = rw e at h
 pub releasing_is : (x : ReleasePhase) (f : Prune → Bool) (r : Prune) → x ≡ ReleaseSent r → on_releasing x f ≡ true
     → f r ≡ true
 releasing_is x f r e h = rw e at h
-
-pub acked_is : (x : ReleasePhase) (b : Bool) → x ≡ ReleaseAcked → on_acked x b ≡ true → b ≡ true
-acked_is x b e h = rw e at h
 
 pub wants_is : (x : AcquirePhase) (f : Bool → Grow → Bool) (whole : Bool) (g : Grow) → x ≡ AcquireOpen whole g
     → on_wants x f ≡ true → f whole g ≡ true
@@ -174,8 +165,7 @@ served-ok k p v h idle low = go (same_cap k Cap.ToT) low (ok (after_served k p) 
     (of_phase served_test served_all p v h)) k)
   where
     go : (a : Bool) → a ≡ false → (b : Bool) → (not a && b || a) ≡ true → b ≡ true
-    go false e true t = refl
-    go a e b t = absurd cc
+    go a e b f = grind arith
 
 -- a Grant is handed out, at once or with the last ProbeAck
 granted_to : ClientBlock → Bool → Grow → Cap → Bool
@@ -189,10 +179,9 @@ granted_from : (p : ClientBlock) (whole : Bool) (g : Grow) (k : Cap) → p.acqui
     → cap_fits whole g k ≡ true → granted_well p ≡ true
     → ok (after_grant_sent k p) (Granting (is_granted_data whole g p.recorded) k) ≡ true
 unfolding granted_well granted_to
-granted_from p whole g k wants fits h =
-    where_is (cap_fits whole g k) (λ u. ok (after_grant_sent k p) (Granting (is_granted_data whole g p.recorded) k))
-    (of_cap (λ j. granted_to p whole g j) (wants_is p.acquiring (λ w i. each_cap (λ j. granted_to p w i j)) whole g
-    wants h) k) fits
+granted_from p whole g k wants fits h = where_is (cap_fits whole g k) (λ u. ok (after_grant_sent k p)
+    (Granting (is_granted_data whole g p.recorded) k)) (of_cap (λ j. granted_to p whole g j)
+    (wants_is p.acquiring (λ w i. each_cap (λ j. granted_to p w i j)) whole g wants h) k) fits
 
 grant_test : ClientBlock → View → Bool
 grant_test p v = on_idle v (granted_well p) && on_own v (granted_well p)
@@ -205,19 +194,15 @@ pub grant_at_once-ok : (whole : Bool) (g : Grow) (k : Cap) (p : ClientBlock) (v 
     → p.acquiring ≡ AcquireOpen whole g → cap_fits whole g k ≡ true
     → ok (after_grant_sent k p) (Granting (is_granted_data whole g p.recorded) k) ≡ true
 unfolding grant_test
-grant_at_once-ok whole g k p v h idle wants fits =
-    granted_from p whole g k wants fits
-    (idle_is v (granted_well p) idle (and_left (on_idle v (granted_well p)) (on_own v (granted_well p))
-    (of_phase grant_test grant_all p v h)))
+grant_at_once-ok whole g k p v h idle wants fits = granted_from p whole g k wants fits (idle_is v (granted_well p) idle
+    (and_left (on_idle v (granted_well p)) (on_own v (granted_well p)) (of_phase grant_test grant_all p v h)))
 
 pub grant_last-ok : (whole : Bool) (g : Grow) (k : Cap) (p : ClientBlock) (v : View) → ok p v ≡ true → v ≡ Own
     → p.acquiring ≡ AcquireOpen whole g → cap_fits whole g k ≡ true
     → ok (after_grant_sent k p) (Granting (is_granted_data whole g p.recorded) k) ≡ true
 unfolding grant_test
-grant_last-ok whole g k p v h own wants fits =
-    granted_from p whole g k wants fits
-    (own_is v (granted_well p) own (and_right (on_idle v (granted_well p)) (on_own v (granted_well p))
-    (of_phase grant_test grant_all p v h)))
+grant_last-ok whole g k p v h own wants fits = granted_from p whole g k wants fits (own_is v (granted_well p) own
+    (and_right (on_idle v (granted_well p)) (on_own v (granted_well p)) (of_phase grant_test grant_all p v h)))
 
 -- ---- messages that are taken
 
@@ -228,15 +213,11 @@ probe_all : each_phase probe_test ≡ true
 unfolding each_phase probe_test ok
 probe_all = refl
 
-kept_is : (x : ReleasePhase) → x ≡ NoRelease → is_unreleased x ≡ true
-kept_is x e = rw e refl
-
 pub probe-ok : (k : Cap) (p : ClientBlock) (v : View) → ok p v ≡ true → p.probing ≡ ProbeSent k → p.letting ≡ NoRelease
     → ok (after_probe k p) v ≡ true
 unfolding probe_test
 probe-ok k p v h sent kept = where_is (is_unreleased p.letting) (λ u. ok (after_probe k p) v)
-    (sent_is p.probing (λ j. where_true (is_unreleased p.letting) (λ u. ok (after_probe j p) v)) k sent
-    (of_phase probe_test probe_all p v h)) (kept_is p.letting kept)
+    (rw sent at (of_phase probe_test probe_all p v h)) (rw kept refl)
 
 -- a ProbeAck is taken: others are missing, the access is answered, or another's Acquire is granted
 report_test : ClientBlock → View → Bool
@@ -252,14 +233,13 @@ pub report-ok : (r : Report) (p : ClientBlock) (v : View) → ok p v ≡ true �
     × (ok (after_report r p) GrantedOther ≡ true)
 unfolding report_test
 report-ok r p v h answered =
-    let t = answered_is p.probing
-    (λ j. ok (after_report j p) v && (ok (after_report j p) Idle && ok (after_report j p) GrantedOther)) r answered
-    (of_phase report_test report_all p v h) in
-    let u = and_right (ok (after_report r p) v) (ok (after_report r p) Idle && ok (after_report r p) GrantedOther) t in (
-      and_left (ok (after_report r p) v) (ok (after_report r p) Idle && ok (after_report r p) GrantedOther) t,
-      and_left (ok (after_report r p) Idle) (ok (after_report r p) GrantedOther) u,
-      and_right (ok (after_report r p) Idle) (ok (after_report r p) GrantedOther) u,
-    )
+    let t = answered_is p.probing (λ j. ok (after_report j p) v && (ok (after_report j p) Idle && ok
+    (after_report j p) GrantedOther)) r answered (of_phase report_test report_all p v h) in
+    let u = and_right (ok (after_report r p) v) (ok (after_report r p) Idle && ok (after_report r p) GrantedOther) t in
+    let fact =
+    and_left (ok (after_report r p) v) (ok (after_report r p) Idle && ok (after_report r p) GrantedOther) t in
+    let other_fact = and_right (ok (after_report r p) Idle) (ok (after_report r p) GrantedOther) u in
+    (fact, and_left (ok (after_report r p) Idle) (ok (after_report r p) GrantedOther) u, other_fact)
 
 release_taken_test : ClientBlock → View → Bool
 release_taken_test p v =
@@ -286,8 +266,7 @@ release_ack_all = refl
 pub release_ack-ok : (p : ClientBlock) (v : View) → ok p v ≡ true → p.letting ≡ ReleaseAcked
     → ok (after_release_ack p) v ≡ true
 unfolding release_ack_test
-release_ack-ok p v h acked = acked_is p.letting (ok (after_release_ack p) v) acked
-    (of_phase release_ack_test release_ack_all p v h)
+release_ack-ok p v h acked = rw acked at (of_phase release_ack_test release_ack_all p v h)
 
 grant_taken_test : ClientBlock → View → Bool
 grant_taken_test p v = on_granting v (λ d k. ok (after_grant k p) Acknowledging)
@@ -311,14 +290,12 @@ ack_taken_all = refl
 
 pub ack_taken-ok : (p : ClientBlock) (v : View) → ok p v ≡ true → v ≡ Acknowledging → ok p Idle ≡ true
 unfolding ack_taken_test
-ack_taken-ok p v h e = acknowledging_is v (ok p Idle) e
-    (and_left (on_acknowledging v (ok p Idle)) (on_granted_other v (ok p Idle))
-    (of_phase ack_taken_test ack_taken_all p v h))
+ack_taken-ok p v h e = acknowledging_is v (ok p Idle) e (and_left (on_acknowledging v (ok p Idle))
+    (on_granted_other v (ok p Idle)) (of_phase ack_taken_test ack_taken_all p v h))
 
 pub ack_taken_other-ok : (p : ClientBlock) (v : View) → ok p v ≡ true → v ≡ GrantedOther → ok p Idle ≡ true
 unfolding ack_taken_test
-ack_taken_other-ok p v h e =
-    granted_other_is v (ok p Idle) e (and_right (on_acknowledging v (ok p Idle)) (on_granted_other v (ok p Idle))
+ack_taken_other-ok p v h e = rw e at (and_right (on_acknowledging v (ok p Idle)) (on_granted_other v (ok p Idle))
     (of_phase ack_taken_test ack_taken_all p v h))
 
 -- ---- what others do
@@ -350,7 +327,6 @@ pub ended-ok : (k : Cap) (p : ClientBlock) (v : View) → ok p v ≡ true → v 
     → (ok p Idle ≡ true) × (ok p GrantedOther ≡ true)
 unfolding ended_test
 ended-ok k p v h other quiet =
-    let t = quiet_is p.probing (ok p Idle && ok p GrantedOther) quiet
-    (other_is v (λ j. on_quiet p.probing (ok p Idle && ok p GrantedOther)) k other
-    (of_phase ended_test ended_all p v h)) in
+    let t = quiet_is p.probing (ok p Idle && ok p GrantedOther) quiet (other_is v
+    (λ j. on_quiet p.probing (ok p Idle && ok p GrantedOther)) k other (of_phase ended_test ended_all p v h)) in
     (and_left (ok p Idle) (ok p GrantedOther) t, and_right (ok p Idle) (ok p GrantedOther) t)

@@ -1,5 +1,5 @@
 -- Every phase that is well, by computation.
-use Rattle.std.proofs.Common.{◌≡◌, refl, Bool, true, false, ◌&&◌}
+use Rattle.std.proofs.Common.{◌≡◌, Bool, true, false, ◌&&◌, arith}
 use Rattle.tl_coherence.proofs
 use proofs.Imports.{⊤, Cap, Grow, Prune, Report, Perm, ClientBlock, View, Idle, Own, Other, Granting, Acknowledging}
 use proofs.Imports.{GrantedOther, ProbePhase, NoProbe, ProbeAnswered, ReleasePhase, ReleaseSent, NoAcquire, AcquireOpen}
@@ -42,9 +42,8 @@ abbrev pub each_acquiring : (AcquirePhase → Bool) → Bool
 each_acquiring f = f NoAcquire && each_bool (λ whole. each_grow (λ g. f (AcquireOpen whole g)))
 
 abbrev pub each_view : (View → Bool) → Bool
-each_view f =
-    f Idle && (f Own && (each_cap (λ k. f (Other k)) && (each_bool (λ d. each_cap (λ k. f (Granting d k)))
-    && (f Acknowledging && f GrantedOther))))
+each_view f = f Idle && (f Own && (each_cap
+    (λ k. f (Other k)) && (each_bool (λ d. each_cap (λ k. f (Granting d k))) && (f Acknowledging && f GrantedOther))))
 
 abbrev pub pair_of : Perm → ProbePhase → ReleasePhase → Perm → AcquirePhase → ClientBlock
 pair_of recorded probing letting held acquiring =
@@ -52,25 +51,21 @@ pair_of recorded probing letting held acquiring =
 
 -- the test holds in each phase that is well
 unfoldable pub each_phase : (ClientBlock → View → Bool) → Bool
-each_phase f =
-    each_view (λ v. each_probing (λ probing. where_true (ok_first probing v) (λ a.
-    each_letting (λ letting. each_acquiring (λ acquiring. where_true (ok_second probing letting acquiring v) (λ b.
-    each_perm (λ recorded. each_perm (λ held. where_true (ok_third (pair_of recorded probing letting held acquiring) v)
+each_phase f = each_view (λ v. each_probing (λ probing. where_true (ok_first probing v) (λ a. each_letting
+    (λ letting. each_acquiring (λ acquiring. where_true (ok_second probing letting acquiring v) (λ b. each_perm
+    (λ recorded. each_perm (λ held. where_true (ok_third (pair_of recorded probing letting held acquiring) v)
     (λ c. f (pair_of recorded probing letting held acquiring) v)))))))))
 
 -- ---- a test that holds of all holds of each
 
 pub and_left : (a b : Bool) → (a && b) ≡ true → a ≡ true
-and_left true b e = refl
-and_left false b e = absurd cc
+and_left a b e = grind arith
 
 pub and_right : (a b : Bool) → (a && b) ≡ true → b ≡ true
-and_right true b e = e
-and_right false b e = absurd cc
+and_right a b e = grind arith
 
 pub where_is : (a : Bool) (f : ⊤ → Bool) → where_true a f ≡ true → a ≡ true → f tt ≡ true
-where_is true f e h = e
-where_is false f e h = absurd cc
+where_is a f e g = grind arith
 
 abbrev IsThree : Bool → Bool → Bool → Type 0
 IsThree a b c = (a ≡ true) × (b ≡ true) × (c ≡ true)
@@ -79,38 +74,25 @@ abbrev IsSix : Bool → Bool → Bool → Bool → Bool → Bool → Type 0
 IsSix a b c d e f = (a ≡ true) × (b ≡ true) × (c ≡ true) × (d ≡ true) × (e ≡ true) × (f ≡ true)
 
 three : (a b c : Bool) → (a && (b && c)) ≡ true → IsThree a b c
-three true true c e = (refl, refl, e)
-three a b c e = absurd cc
+three a b c e = grind arith
 
 six : (a b c d e f : Bool) → (a && (b && (c && (d && (e && f))))) ≡ true → IsSix a b c d e f
-six a b c d e f h =
-    let p = three a b (c && (d && (e && f))) h in
-    let q = three c d (e && f) p.2 in
-    (p.0, p.1, q.0, q.1, and_left e f q.2, and_right e f q.2)
+six a b c d e f h = grind (arith, three)
 
 pub of_bool : (f : Bool → Bool) → each_bool f ≡ true → (x : Bool) → f x ≡ true
-of_bool f e true = and_left (f true) (f false) e
-of_bool f e false = and_right (f true) (f false) e
+of_bool f e x = grind (arith, and_left, and_right)
 
-pub of_perm : (f : Perm → Bool) → each_perm f ≡ true → (x : Perm) → f x ≡ true
-of_perm f e Perm.None = (three (f Perm.None) (f Perm.Branch) (f Perm.Trunk) e).0
-of_perm f e Perm.Branch = (three (f Perm.None) (f Perm.Branch) (f Perm.Trunk) e).1
-of_perm f e Perm.Trunk = (three (f Perm.None) (f Perm.Branch) (f Perm.Trunk) e).2
+of_perm : (f : Perm → Bool) → each_perm f ≡ true → (x : Perm) → f x ≡ true
+of_perm f e x = grind (arith, three)
 
 pub of_cap : (f : Cap → Bool) → each_cap f ≡ true → (x : Cap) → f x ≡ true
-of_cap f e Cap.ToT = (three (f Cap.ToT) (f Cap.ToB) (f Cap.ToN) e).0
-of_cap f e Cap.ToB = (three (f Cap.ToT) (f Cap.ToB) (f Cap.ToN) e).1
-of_cap f e Cap.ToN = (three (f Cap.ToT) (f Cap.ToB) (f Cap.ToN) e).2
+of_cap f e x = grind (arith, three)
 
 pub of_grow : (f : Grow → Bool) → each_grow f ≡ true → (x : Grow) → f x ≡ true
-of_grow f e Grow.NtoB = (three (f Grow.NtoB) (f Grow.NtoT) (f Grow.BtoT) e).0
-of_grow f e Grow.NtoT = (three (f Grow.NtoB) (f Grow.NtoT) (f Grow.BtoT) e).1
-of_grow f e Grow.BtoT = (three (f Grow.NtoB) (f Grow.NtoT) (f Grow.BtoT) e).2
+of_grow f e x = grind (arith, three)
 
 pub of_prune : (f : Prune → Bool) → each_prune f ≡ true → (x : Prune) → f x ≡ true
-of_prune f e Prune.TtoB = (three (f Prune.TtoB) (f Prune.TtoN) (f Prune.BtoN) e).0
-of_prune f e Prune.TtoN = (three (f Prune.TtoB) (f Prune.TtoN) (f Prune.BtoN) e).1
-of_prune f e Prune.BtoN = (three (f Prune.TtoB) (f Prune.TtoN) (f Prune.BtoN) e).2
+of_prune f e x = grind (arith, three)
 
 -- a test of six reports
 abbrev SixReports : (Report → Bool) → Type 0
@@ -119,35 +101,27 @@ SixReports f = IsSix (f Report.TtoB) (f Report.TtoN) (f Report.BtoN) (f Report.T
 six_reports : (f : Report → Bool) → each_report f ≡ true → SixReports f
 six_reports f e = six (f Report.TtoB) (f Report.TtoN) (f Report.BtoN) (f Report.TtoT) (f Report.BtoB) (f Report.NtoN) e
 
-pub of_report : (f : Report → Bool) → each_report f ≡ true → (x : Report) → f x ≡ true
-of_report f e Report.TtoB = (six_reports f e).0
-of_report f e Report.TtoN = (six_reports f e).1
-of_report f e Report.BtoN = (six_reports f e).2
-of_report f e Report.TtoT = (six_reports f e).3
-of_report f e Report.BtoB = (six_reports f e).4
-of_report f e Report.NtoN = (six_reports f e).5
+of_report : (f : Report → Bool) → each_report f ≡ true → (x : Report) → f x ≡ true
+of_report f e x = grind (arith, six_reports)
 
-pub of_probing : (f : ProbePhase → Bool) → each_probing f ≡ true → (x : ProbePhase) → f x ≡ true
+of_probing : (f : ProbePhase → Bool) → each_probing f ≡ true → (x : ProbePhase) → f x ≡ true
 of_probing f e NoProbe =
     (three (f NoProbe) (each_cap (λ k. f (ProbeSent k))) (each_report (λ r. f (ProbeAnswered r))) e).0
-of_probing f e (ProbeSent k) =
-    of_cap (λ j. f (ProbeSent j)) (three (f NoProbe) (each_cap (λ j. f (ProbeSent j)))
-    (each_report (λ r. f (ProbeAnswered r))) e).1 k
-of_probing f e (ProbeAnswered r) =
-    of_report (λ j. f (ProbeAnswered j)) (three (f NoProbe) (each_cap (λ k. f (ProbeSent k)))
-    (each_report (λ j. f (ProbeAnswered j))) e).2 r
+of_probing f e (ProbeSent k) = of_cap (λ j. f (ProbeSent j))
+    (three (f NoProbe) (each_cap (λ j. f (ProbeSent j))) (each_report (λ r. f (ProbeAnswered r))) e).1 k
+of_probing f e (ProbeAnswered r) = of_report (λ j. f (ProbeAnswered j))
+    (three (f NoProbe) (each_cap (λ k. f (ProbeSent k))) (each_report (λ j. f (ProbeAnswered j))) e).2 r
 
-pub of_letting : (f : ReleasePhase → Bool) → each_letting f ≡ true → (x : ReleasePhase) → f x ≡ true
+of_letting : (f : ReleasePhase → Bool) → each_letting f ≡ true → (x : ReleasePhase) → f x ≡ true
 of_letting f e NoRelease = (three (f NoRelease) (each_prune (λ r. f (ReleaseSent r))) (f ReleaseAcked) e).0
 of_letting f e (ReleaseSent r) =
     of_prune (λ j. f (ReleaseSent j)) (three (f NoRelease) (each_prune (λ j. f (ReleaseSent j))) (f ReleaseAcked) e).1 r
 of_letting f e ReleaseAcked = (three (f NoRelease) (each_prune (λ r. f (ReleaseSent r))) (f ReleaseAcked) e).2
 
-pub of_acquiring : (f : AcquirePhase → Bool) → each_acquiring f ≡ true → (x : AcquirePhase) → f x ≡ true
+of_acquiring : (f : AcquirePhase → Bool) → each_acquiring f ≡ true → (x : AcquirePhase) → f x ≡ true
 of_acquiring f e NoAcquire = and_left (f NoAcquire) (each_bool (λ whole. each_grow (λ g. f (AcquireOpen whole g)))) e
-of_acquiring f e (AcquireOpen whole g) =
-    of_grow (λ h. f (AcquireOpen whole h)) (of_bool (λ b. each_grow (λ h. f (AcquireOpen b h)))
-    (and_right (f NoAcquire) (each_bool (λ b. each_grow (λ h. f (AcquireOpen b h)))) e) whole) g
+of_acquiring f e (AcquireOpen whole g) = of_grow (λ h. f (AcquireOpen whole h)) (of_bool (λ b. each_grow (λ h. f
+    (AcquireOpen b h))) (and_right (f NoAcquire) (each_bool (λ b. each_grow (λ h. f (AcquireOpen b h)))) e) whole) g
 
 abbrev SixViews : (View → Bool) → Type 0
 SixViews f = IsSix (f Idle) (f Own) (each_cap (λ k. f (Other k))) (each_bool (λ d. each_cap (λ k. f (Granting d k))))
@@ -157,7 +131,7 @@ six_views : (f : View → Bool) → each_view f ≡ true → SixViews f
 six_views f e = six (f Idle) (f Own) (each_cap (λ k. f (Other k))) (each_bool (λ d. each_cap (λ k. f (Granting d k))))
     (f Acknowledging) (f GrantedOther) e
 
-pub of_view : (f : View → Bool) → each_view f ≡ true → (x : View) → f x ≡ true
+of_view : (f : View → Bool) → each_view f ≡ true → (x : View) → f x ≡ true
 of_view f e Idle = (six_views f e).0
 of_view f e Own = (six_views f e).1
 of_view f e (Other k) = of_cap (λ j. f (Other j)) (six_views f e).2 k
@@ -173,7 +147,6 @@ unfolding each_phase ok
 of_phase f e p v h =
     let rest = and_right (ok_first p.probing v) (ok_second p.probing p.letting p.acquiring v && ok_third p v) h in
     let first = and_left (ok_first p.probing v) (ok_second p.probing p.letting p.acquiring v && ok_third p v) h in
-    let second = and_left (ok_second p.probing p.letting p.acquiring v) (ok_third p v) rest in
     let third : ok_third p v ≡ true = and_right (ok_second p.probing p.letting p.acquiring v) (ok_third p v) rest in
     let last = λ (probing : ProbePhase) (letting : ReleasePhase) (acquiring : AcquirePhase) (u : View)
     (recorded held : Perm).
@@ -182,23 +155,19 @@ of_phase f e p v h =
     let middle = λ (probing : ProbePhase) (u : View) (letting : ReleasePhase) (acquiring : AcquirePhase).
     where_true (ok_second probing letting acquiring u)
     (λ b. each_perm (λ recorded. each_perm (λ held. last probing letting acquiring u recorded held))) in
-    let outer = λ (u : View) (probing : ProbePhase).
-    where_true (ok_first probing u)
+    let outer = λ (u : View) (probing : ProbePhase). where_true (ok_first probing u)
     (λ a. each_letting (λ letting. each_acquiring (λ acquiring. middle probing u letting acquiring))) in
-    let one = of_probing (λ probing. outer v probing) (of_view (λ u. each_probing (λ probing. outer u probing)) e v)
-    p.probing in
     let two = where_is (ok_first p.probing v)
-    (λ a. each_letting (λ letting. each_acquiring (λ acquiring. middle p.probing v letting acquiring))) one first in
-    let three_ = of_acquiring (λ acquiring. middle p.probing v p.letting acquiring)
-    (of_letting (λ letting. each_acquiring (λ acquiring. middle p.probing v letting acquiring)) two p.letting)
-    p.acquiring in
+    (λ a. each_letting (λ letting. each_acquiring (λ acquiring. middle p.probing v letting acquiring))) (of_probing
+    (λ probing. outer v probing) (of_view (λ u. each_probing (λ probing. outer u probing)) e v) p.probing) first in
+    let three_ = of_acquiring (λ acquiring. middle p.probing v p.letting acquiring) (of_letting
+    (λ letting. each_acquiring (λ acquiring. middle p.probing v letting acquiring)) two p.letting) p.acquiring in
     let four = where_is (ok_second p.probing p.letting p.acquiring v)
     (λ b. each_perm (λ recorded. each_perm (λ held. last p.probing p.letting p.acquiring v recorded held))) three_
-    second in
-    let five = of_perm (λ held. last p.probing p.letting p.acquiring v p.recorded held)
-    (of_perm (λ recorded. each_perm (λ held. last p.probing p.letting p.acquiring v recorded held)) four p.recorded)
-    p.held in
-    where_is (ok_third p v) (λ c. f p v) five third
+    (and_left (ok_second p.probing p.letting p.acquiring v) (ok_third p v) rest) in
+    where_is (ok_third p v) (λ c. f p v)
+    (of_perm (λ held. last p.probing p.letting p.acquiring v p.recorded held) (of_perm (λ recorded. each_perm
+    (λ held. last p.probing p.letting p.acquiring v recorded held)) four p.recorded) p.held) third
 
 -- ---- tests that are tried only where another one holds
 
@@ -207,5 +176,4 @@ implies true b = b
 implies false b = true
 
 pub implies_is : (a b : Bool) → implies a b ≡ true → a ≡ true → b ≡ true
-implies_is true b h e = h
-implies_is false b h e = absurd cc
+implies_is a b e f = grind arith

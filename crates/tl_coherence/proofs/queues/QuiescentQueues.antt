@@ -1,9 +1,9 @@
 -- Where no delivery is movable, nothing is on a channel; and where nothing is on a channel, none is movable.
-use Rattle.std.proofs.Common.{◌≡◌, ℕ, zero, suc, ◌+◌, ◌<◌, ◌≤◌, Bool, true, false, [], refl, inl, inr, arith, length}
+use Rattle.std.proofs.Common.{◌≡◌, ℕ, zero, suc, ◌+◌, ◌<◌, ◌≤◌, Bool, true, false, [], refl, arith, length}
 use Rattle.std.proofs.Common.{Option, Some, None, if◌then◌else◌, option_map, slice_get}
 use Rattle.tl_coherence.proofs
 use proofs.Imports.{cases_eq, same_Some, Link, Channel, ClientConfig, Config, EndConfig, is_movable, first_movable}
-use proofs.Imports.{moves, next_delivery, System, terms_at}
+use proofs.Imports.{next_delivery, System, terms_at}
 use Rattle.std.proofs.lemmas.Option.{slice_get_within}
 use Rattle.tl_coherence.specs.statement.Movable.{movable_on, or_later}
 
@@ -20,11 +20,7 @@ none-first config ch link (suc n) s none c low high =
         → (if b then Some (record { 0 = link }, ch) else first_movable config ch (link + 1) n s) ≡ None
         → (first_movable config ch (link + 1) n s ≡ None → link + 1 ≤ c → is_movable config c ch s ≡ false)
         → is_movable config c ch s ≡ false
-    go true e h rest = absurd cc
-    go false e h rest = elim (cases_eq c link) [
-      | inl same ↦ rw same e
-      | inr differs ↦ rest h (omega (arith, low, differs))
-    ]
+    go b e f g = grind (arith, cases_eq)
 
 pub first-none : {w : ℕ} (config : Config) (ch : Channel) (link n : ℕ) (s : System w)
     → ((c : ℕ) → is_movable config c ch s ≡ false) → first_movable config ch link n s ≡ None
@@ -35,13 +31,9 @@ first-none config ch link (suc n) s none = rw (none link) (first-none config ch 
 pub client_below : (config : Config) (c : ℕ) (terms : EndConfig) → terms_at config c ≡ Some terms
     → c < length config.clients.items
 client_below config c terms is =
-    let go : (o : Option ClientConfig) → slice_get config.clients.items c ≡ o
-    → option_map (λ x. record {
-      level = x.level;
-      profile = config.profile;
-      sources = x.sources;
-      blocks = config.blocks;
-    }) o ≡ Some terms → c < length config.clients.items =
+    let go : (o : Option ClientConfig) → slice_get config.clients.items c ≡ o → option_map
+    (λ x. record { level = x.level; profile = config.profile; sources = x.sources; blocks = config.blocks }) o
+    ≡ Some terms → c < length config.clients.items =
     elim [ None ↦ λ e f. absurd cc | Some x ↦ λ e f. slice_get_within config.clients.items c x e ] in
     go (slice_get config.clients.items c) refl is
 
@@ -67,11 +59,7 @@ nothing-moves config s c terms ch is none =
     go : (x : Channel) → movable_on config Channel.E s ≡ None → movable_on config Channel.D s ≡ None
         → movable_on config Channel.C s ≡ None → movable_on config Channel.B s ≡ None
         → movable_on config Channel.A s ≡ None → is_movable config c x s ≡ false
-    go Channel.E e d c_is b a = on Channel.E e
-    go Channel.D e d c_is b a = on Channel.D d
-    go Channel.C e d c_is b a = on Channel.C c_is
-    go Channel.B e d c_is b a = on Channel.B b
-    go Channel.A e d c_is b a = on Channel.A a
+    go x e f g h i = grind (arith, on)
 
 pub no-next : {w : ℕ} (config : Config) (s : System w) → ((c : ℕ) (ch : Channel) → is_movable config c ch s ≡ false)
     → next_delivery config s ≡ None
@@ -99,28 +87,14 @@ first-some config ch link (suc n) s d e =
     go true f g rest = rw (← (same_Some (record { 0 = link }, ch) d g)) f
     go false f g rest = rest g
 
-by-either : {X : Type 0} (a b : Option X) (x : X) (P : Type 0) → (a ≡ Some x → P) → (b ≡ Some x → P)
-    → or_later a b ≡ Some x → P
-by-either (Some y) b x P first later e = first e
-by-either None b x P first later e = later e
-
 pub next-movable : {w : ℕ} (config : Config) (s : System w) (d : Link × Channel) → next_delivery config s ≡ Some d
     → is_movable config d.0.0 d.1 s ≡ true
 unfolding next_delivery
-next-movable {w} config s d next =
-    let IsIt : Type 0 = is_movable config d.0.0 d.1 s ≡ true in
-    let on : (ch : Channel) → movable_on config ch s ≡ Some d → IsIt =
-    λ ch e. first-some config ch 0 (length config.clients.items) s d e in
-    by-either (movable_on config Channel.E s) _ d IsIt (on Channel.E)
-    (by-either (movable_on config Channel.D s) _ d IsIt (on Channel.D)
-    (by-either (movable_on config Channel.C s) _ d IsIt (on Channel.C)
-    (by-either (movable_on config Channel.B s) _ d IsIt (on Channel.B) (on Channel.A)))) next
+next-movable {w} config s d next = grind (arith, first-some)
 
 -- ---- a channel without a beat
 
 pub empty-still : {w : ℕ} (config : Config) (s : System w) (c : ℕ) (ch : Channel) → s.channels c ch ≡ []
     → is_movable config c ch s ≡ false
 unfolding is_movable
-empty-still config s c ch none =
-    let go : (o : Option EndConfig) → moves config o c ch [] s ≡ false = elim [ None ↦ refl | Some t ↦ refl ] in
-    rw none (go (terms_at config c))
+empty-still config s c ch none = grind arith

@@ -1,8 +1,7 @@
 -- A kind of message is the same as itself.
-use Rattle.std.proofs.Common.{◌≡◌, true, refl}
+use Rattle.std.proofs.Common.{◌≡◌, true, arith}
 use Rattle.tl_coherence.proofs
-use proofs.Imports.{Kind, Request, same_kind}
+use proofs.Imports.{Kind, same_kind}
 
 pub same_kind_again : (k : Kind) → same_kind k k ≡ true
-same_kind_again Request = refl
-same_kind_again k = refl
+same_kind_again k = grind arith

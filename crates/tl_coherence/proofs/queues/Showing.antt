@@ -1,14 +1,14 @@
 -- What a token stands for that is there before and after an event: the same message.
 use Rattle.std.proofs.Common.{◌≡◌, ℕ, Bool, true, false, not, ◌&&◌, ◌||◌, List, refl, sym, ◌∙◌, ap, ◌⊎◌, inl, inr, ◌==◌}
-use Rattle.std.proofs.Common.{if◌then◌else◌}
+use Rattle.std.proofs.Common.{arith, if◌then◌else◌}
 use Rattle.tl_coherence.proofs
 use proofs.Imports.{not-true, or_parts, ⊤, Channel, OpB, Prune, Report, Perm, prune_left, report_left, same_perm}
 use proofs.Imports.{release, probe_ack, IsInvariant, is_asked, is_replied, IsWell, Kind, Request, Acquire, Probe}
 use proofs.Imports.{ProbeAck, Release, Answer, Grant, ReleaseAck, GrantAck, set, ClientBlock, View, Granting}
 use proofs.Imports.{GrantedOther, ok, State, Service, GrantSent, Block, view, shown, is_granting, Move, AreMoved}
 use proofs.Imports.{AccessMessages, report_told, prune_told, grant_of, block_message}
-use proofs.queues.{Channels.IsShowing, Phases.and_left, Phases.and_right, Phases.each_phase, Phases.of_phase}
-use proofs.queues.{Phases.implies, Phases.implies_is, Tokens.same_number, Tokens.set-same, Tokens.set-other}
+use proofs.queues.{Channels.IsShowing, Tokens.same_number, Tokens.set-same, Tokens.set-other}
+use proofs.queues.Phases.{and_left, and_right, each_phase, of_phase, implies, implies_is}
 
 -- ---- one message
 
@@ -37,28 +37,24 @@ IsAlike k d b b' = ⊤
 
 ack_bytes : (w : ℕ) (p : Perm) (r : Report) (n : ℕ) (x y : List ℕ) → same_perm p Perm.Trunk ≡ false
     → probe_ack {w = w} OpB.ProbeBlock p r n x ≡ probe_ack OpB.ProbeBlock p r n y
-ack_bytes w Perm.Trunk r n x y e = absurd cc
-ack_bytes w p r n x y e = refl
+ack_bytes w p r n x y e = grind arith
 
 release_bytes : (w : ℕ) (p : Prune) (source n : ℕ) (x y : List ℕ) → same_perm (prune_left p) Perm.Trunk ≡ false
     → release {w = w} p source n x ≡ release p source n y
-release_bytes w Prune.BtoN source n x y e = refl
-release_bytes w p source n x y e = absurd cc
+release_bytes w p source n x y e = grind arith
 
 grant_bytes : (w : ℕ) (v : Service) (source sink : ℕ) (x y : List ℕ) → is_given v ≡ false
     → grant_of {w = w} v source sink x ≡ grant_of v source sink y
-grant_bytes w (GrantSent q d k) source sink x y e = rw e refl
-grant_bytes w v source sink x y e = refl
+grant_bytes w v source sink x y e = grind arith
 
-pub rendered-alike : (w : ℕ) (k : Kind) (d n : ℕ) (b b' : Block (List ℕ)) → IsAlike k d b b' → (carries k d b ≡ false)
+rendered-alike : (w : ℕ) (k : Kind) (d n : ℕ) (b b' : Block (List ℕ)) → IsAlike k d b b' → (carries k d b ≡ false)
     ⊎ (b'.truth ≡ b.truth) → block_message {w = w} k d n b' ≡ block_message k d n b
 unfolding block_message
 rendered-alike w Request d n b b' same bytes = refl
 rendered-alike w Answer d n b b' same bytes = refl
 rendered-alike w Acquire d n b b' same bytes = rw (same.0, same.1) refl
-rendered-alike w ProbeAck d n b b' same (inl none) =
-    rw same (ack_bytes w (report_left (report_told (b.pair d).probing)) (report_told (b.pair d).probing) n b'.truth
-    b.truth none)
+rendered-alike w ProbeAck d n b b' same (inl none) = rw same (ack_bytes w (report_left (report_told (b.pair d).probing))
+    (report_told (b.pair d).probing) n b'.truth b.truth none)
 rendered-alike w ProbeAck d n b b' same (inr e) = rw (same, e) refl
 rendered-alike w Release d n b b' same (inl none) =
     rw (same.0, same.1) (release_bytes w (prune_told (b.pair d).letting) (b.release_source d) n b'.truth b.truth none)
@@ -137,14 +133,7 @@ ungiven v none = refl
 
 pub uncarried : (k : Kind) (d : ℕ) (b : Block (List ℕ)) → is_told (b.pair d) ≡ false → is_given b.service ≡ false
     → carries k d b ≡ false
-uncarried ProbeAck d b told given =
-    (or_parts (same_perm (report_left (report_told (b.pair d).probing)) Perm.Trunk)
-    (same_perm (prune_left (prune_told (b.pair d).letting)) Perm.Trunk) told).0
-uncarried Release d b told given =
-    (or_parts (same_perm (report_left (report_told (b.pair d).probing)) Perm.Trunk)
-    (same_perm (prune_left (prune_told (b.pair d).letting)) Perm.Trunk) told).1
-uncarried Grant d b told given = given
-uncarried k d b told given = refl
+uncarried k d b e f = grind (arith, or_parts)
 
 pub none-carried : {caching : ℕ → Bool} {b : Block (List ℕ)} → IsWell caching b
     → ((d : ℕ) → (same_perm (b.pair d).held Perm.Trunk || same_perm (b.pair d).recorded Perm.None) ≡ true)

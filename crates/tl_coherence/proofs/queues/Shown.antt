@@ -21,5 +21,4 @@ pub carried-shown : {w : ℕ} {caching : ℕ → Bool} {n c : ℕ} {ch : Channel
     → ChannelRelation mail s sys → ChannelRelation mail' s' sys'
 carried-shown {caching = caching} {n = n} {c = c} {ch = ch} {pushes = pushes} {mail = mail} {mail' = mail'} {s = s}
     {s' = s'} {sys = sys} {sys' = sys'} {x = x} {queue = queue} width shown taken h =
-    carried-event sys sys' width shown.showing
-    (queued-taken shown.moves mail' s' taken shown.fits) h
+    carried-event sys sys' width shown.showing (queued-taken shown.moves mail' s' taken shown.fits) h

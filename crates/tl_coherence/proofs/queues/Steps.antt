@@ -1,5 +1,5 @@
 -- What a step changes, part by part.
-use Rattle.std.proofs.Common.{◌≡◌, ℕ, List, [], ◌∷◌, Some, refl, false, true, Option, Bool, Result, Ok, Err}
+use Rattle.std.proofs.Common.{◌≡◌, ℕ, List, [], ◌∷◌, Some, refl, false, true, Option, Bool, Result, Ok, Err, arith}
 use Rattle.std.proofs.Common.{if◌then◌else◌}
 use Rattle.tl_coherence.proofs
 use proofs.Imports.{Beat, Link, Channel, Message, Config, Rule, Op, Finish, Verdict, EndConfig, Endpoint, offered, End}
@@ -27,8 +27,7 @@ unfolding stepped
 stepped-asked config k op s t e = rw e refl
 
 pub same_channel-refl : (c : Channel) → same_channel c c ≡ true
-same_channel-refl Channel.A = refl
-same_channel-refl c = refl
+same_channel-refl c = grind arith
 
 -- ---- a beat is delivered
 

@@ -40,10 +40,7 @@ total-set (suc n) m v f lt = go (cases_eq n m) (λ below. total-set n m v f belo
         let here : set m v f n ≡ v = rw same (set-same m v f) in
         let was : f n ≡ f m = ap f same in
         omega (arith, others, here, was)
-    go (inr differs) rest =
-        let here : set m v f n ≡ f n = set-other m n v f differs in
-        let before : total n (set m v f) + f m ≡ total n f + v = rest (omega (arith, lt, differs)) in
-        omega (arith, here, before)
+    go (inr differs) rest = omega (arith, set-other m n v f differs, rest (omega (arith, lt, differs)))
 
 -- only one summand counts
 pub total-one : (n m v : ℕ) → m < n → total n (λ i. if i == m then v else 0) ≡ v
@@ -60,10 +57,8 @@ one-at-most (suc n) m v = go (cases_eq n m) (one-at-most n m v)
     go : (n ≡ m) ⊎ (n ≡ m → ⊥) → total n (λ i. if i == m then v else 0) ≤ v
         → total n (λ i. if i == m then v else 0) + (if n == m then v else 0) ≤ v
     go (inl same) rest =
-        let none : total n (λ i. if i == m then v else 0) ≡ 0 =
-        total-zero n (λ i. if i == m then v else 0) (λ i lt. let ne : i ≡ m → ⊥ =
-        λ e. absurd (omega (arith, e, lt, same)) in rw (ne_eqb i m ne) refl)
-        in
+        let none : total n (λ i. if i == m then v else 0) ≡ 0 = total-zero n (λ i. if i == m then v else 0)
+        (λ i lt. let ne : i ≡ m → ⊥ = λ e. absurd (omega (arith, e, lt, same)) in rw (ne_eqb i m ne) refl) in
         rw (same, same_number m) (let z : total m (λ i. if i == m then v else 0) ≡ 0 = rw same at none in
         omega (arith, z))
     go (inr differs) rest = rw (ne_eqb n m differs) (omega (arith, rest))

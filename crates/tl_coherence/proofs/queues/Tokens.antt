@@ -27,8 +27,7 @@ set-each P k y f here others n = elim (cases_eq n k) [
 -- a part that two values have in common is that of the chosen one
 pub if-part : {A Y : Type 0} (part : Y → A) {a : A} (b : Bool) {x y : Y} → part x ≡ a → part y ≡ a
     → part (if b then x else y) ≡ a
-if-part part true e f = e
-if-part part false e f = f
+if-part part b e f = grind arith
 
 -- a part that the new value has in common with the old one is everywhere as before
 pub set-part : {A Y : Type 0} (part : Y → A) (k : ℕ) (y : Y) (f : ℕ → Y) → part y ≡ part (f k) → (n : ℕ)
@@ -46,7 +45,7 @@ unfolding count
 count-push k n [] x = omega arith
 count-push k n (y ∷ xs) x = omega (arith, count-push k n xs x)
 
-pub kind_apart : (k : Kind) (x : Packet) → same_kind x.kind k ≡ false → (n : ℕ) → is k n x ≡ false
+kind_apart : (k : Kind) (x : Packet) → same_kind x.kind k ≡ false → (n : ℕ) → is k n x ≡ false
 kind_apart k x e n = rw e refl
 
 -- ---- the tokens of a kind, by blocks or sources that have this test
@@ -84,21 +83,13 @@ holds-push k xs x q f m y on at was now h n = elim (cases_eq n m) [
 pub holds-pop_other : (k : Kind) (xs rest : List Packet) (x : Packet) (test : ℕ → Bool) → xs ≡ x ∷ rest
     → same_kind x.kind k ≡ false → Holds k xs test → Holds k rest test
 unfolding count
-holds-pop_other k xs rest x test e off h n =
-    let no : one_if (is k n x) ≡ 0 = rw (kind_apart k x off n) refl in
-    let all : count k n (x ∷ rest) ≡ one_if (test n) = rw e at (h n) in
-    omega (arith, all, no)
+holds-pop_other k xs rest x test e off h n = grind (arith, kind_apart)
 
 -- the first is one that passes the test
 pub holds-first : (k : Kind) (xs rest : List Packet) (x : Packet) (test : ℕ → Bool) → xs ≡ x ∷ rest
     → same_kind x.kind k ≡ true → Holds k xs test → test x.number ≡ true
 unfolding count
-holds-first k xs rest x test e on h =
-    let go : (b : Bool) → one_if b ≡ 1 + count k x.number rest → b ≡ true =
-    elim [ true ↦ λ f. refl | false ↦ λ f. absurd (omega (arith, f)) ] in
-    let yes : one_if (is k x.number x) ≡ 1 = rw (on, same_number x.number) refl in
-    let all : count k x.number (x ∷ rest) ≡ one_if (test x.number) = rw e at (h x.number) in
-    go (test x.number) (omega (arith, all, yes))
+holds-first k xs rest x test e on h = grind arith
 
 -- a token of the kind is popped
 pub holds-pop : {B : Type 0} (k : Kind) (xs rest : List Packet) (x : Packet) (q : B → Bool) (f : ℕ → B) (m : ℕ) (y : B)
@@ -111,8 +102,7 @@ holds-pop k xs rest x q f m y e on at now h n =
     elim (cases_eq n m) [
       | inl same ↦
           let yes : one_if (is k m x) ≡ 1 = rw (on, at, same_number m) refl in
-          let all : count k m (x ∷ rest) ≡ one_if (q (f m)) = rw e at (h m) in
-          rw (same, set-same m y f, now) (none_left (q (f m)) (count k m rest) (omega (arith, all, yes)))
+          rw (same, set-same m y f, now) (none_left (q (f m)) (count k m rest) (omega (arith, rw e at (h m), yes)))
       | inr other ↦
           let no : one_if (is k n x) ≡ 0 = rw (on, at, ne_eqb n m other) refl in
           let all : count k n (x ∷ rest) ≡ one_if (q (f n)) = rw e at (h n) in

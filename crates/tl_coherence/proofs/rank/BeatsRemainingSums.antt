@@ -1,14 +1,14 @@
 -- How many beats are left of what is on the channels: no more than a block has, of a report one unless it is the
 -- writer's,
 -- and of an access and its answer one more than a block has.
-use Rattle.std.proofs.Common.{◌≡◌, ℕ, ◌+◌, ◌/◌, ◌≤◌, Bool, true, false, List, [], ◌∷◌, refl, sym, ◌∙◌, arith, inl, inr}
-use Rattle.std.proofs.Common.{not, ◌||◌, Option, Some, None, eqb-true, ◌==◌, if◌then◌else◌}
+use Rattle.std.proofs.Common.{◌≡◌, ℕ, ◌+◌, ◌/◌, ◌≤◌, Bool, true, false, List, [], ◌∷◌, refl, sym, ◌∙◌, arith}
+use Rattle.std.proofs.Common.{not, Option, Some, None, if◌then◌else◌}
 use Rattle.tl_coherence.proofs
 use proofs.Imports.{not-false, Beat, Channel, OpA, OpB, OpD, a_carries_data, d_carries_data, IsWidth, Message, MessageA}
 use proofs.Imports.{beats_of, data_beats, Config, Level, Report, Perm, L1, L2, L3, report_left, control_of_legal}
-use proofs.Imports.{next_rule, same_perm, is_one_of, a_has_param, a_has_size, probe_ack, illegal_message_at, level_of}
+use proofs.Imports.{next_rule, same_perm, is_one_of, a_has_param, a_has_size, probe_ack, illegal_message_at}
 use proofs.Imports.{is_access_answer, IsInvariant, Request, Acquire, ProbeAck, Answer, View, ProbePhase, ProbeAnswered}
-use proofs.Imports.{ClientBlock, AcquirePhase, AcquireOpen, ok, State, Asked, Replied, view, AccessMessages, acquire_of}
+use proofs.Imports.{ClientBlock, AcquirePhase, ok, State, Replied, view, AccessMessages, acquire_of}
 use proofs.Imports.{report_told, block_message, message_of_kind, IsRequest, IsSourced, IsAnswer, IsAnswered}
 use Rattle.tl_rules.{specs.statement.Conformance.answers, specs.statement.Legality.a_of_level}
 use proofs.queues.{PhaseFacts.data_carried, Phases.and_left}
@@ -48,87 +48,50 @@ data-few {w} m width = beats-few (Message.D (record {
 
 -- a block has four beats or more
 pub wide-block : (w : ℕ) → IsWidth w → 4 ≤ 64 / w
-wide-block w (inl e) = rw e (omega arith)
-wide-block w (inr (inl e)) = rw e (omega arith)
-wide-block w (inr (inr e)) = rw e (omega arith)
+wide-block w e = grind arith
 
-pub answer-few : {w : ℕ} (m : Message w) → IsWidth w → answer_beats m ≤ 64 / w
-answer-few {w} (Message.A m) width = go (is_read m.opcode)
-  where
-    go : (b : Bool) → (if b then data_beats w m.size else 1) ≤ 64 / w
-    go true = data-few m width
-    go false = let four = wide-block w width in omega (arith, four)
-answer-few {w} m width = let four = wide-block w width in omega (arith, four)
+answer-few : {w : ℕ} (m : Message w) → IsWidth w → answer_beats m ≤ 64 / w
+answer-few m e = grind (arith, data-few, wide-block)
 
 -- an answer has as many beats as its request is answered with
 answer_opcode : (x : OpD) (o : OpA) (n : ℕ) → is_access_answer x ≡ true → answers x o ≡ true
     → (if d_carries_data x then n else 1) ≡ (if is_read o then n else 1)
-answer_opcode OpD.AccessAck OpA.PutFullData n e f = refl
-answer_opcode OpD.AccessAck OpA.PutPartialData n e f = refl
-answer_opcode OpD.AccessAckData OpA.ArithmeticData n e f = refl
-answer_opcode OpD.AccessAckData OpA.LogicalData n e f = refl
-answer_opcode OpD.AccessAckData OpA.Get n e f = refl
-answer_opcode OpD.HintAck OpA.Intent n e f = refl
-answer_opcode _ _ n e f = absurd cc
+answer_opcode x o n e f = grind arith
 
-pub answer-is : {w : ℕ} (source : ℕ) (m x : Message w) → IsAnswer source m x → beats_of x ≡ answer_beats m
-answer-is {w} source (Message.A m) (Message.D x) h =
-    rw h.3 (answer_opcode x.opcode m.opcode (data_beats w m.size) h.0 h.1)
-answer-is source m x h = absurd h
+answer-is : {w : ℕ} (source : ℕ) (m x : Message w) → IsAnswer source m x → beats_of x ≡ answer_beats m
+answer-is source m x e = grind (arith, answer_opcode)
 
 -- ---- an access and its answer
 
 -- an atomic has four bytes or eight
 atomic-few : (w size : ℕ) → IsWidth w → is_one_of size (2 ∷ 3 ∷ []) ≡ true → data_beats w size ≤ 2
-atomic-few w size width e = go (size == 2) (size == 3) refl refl e
-  where
-    by_width : (w : ℕ) → IsWidth w → (data_beats w 2 ≤ 2) × (data_beats w 3 ≤ 2)
-    by_width w (inl f) = rw f (omega arith, omega arith)
-    by_width w (inr (inl f)) = rw f (omega arith, omega arith)
-    by_width w (inr (inr f)) = rw f (omega arith, omega arith)
-
-    go : (x y : Bool) → (size == 2) ≡ x → (size == 3) ≡ y → (x || (y || false)) ≡ true → data_beats w size ≤ 2
-    go true y f g h = rw (eqb-true size 2 f) (by_width w width).0
-    go false true f g h = rw (eqb-true size 3 g) (by_width w width).1
-    go false false f g h = absurd cc
+atomic-few w size width e = grind arith
 
 both-few : (w size : ℕ) (l : Level) (o : OpA) → IsWidth w → a_has_size w l o size ≡ true → data_beats w size ≤ 64 / w
     → (if a_carries_data o then data_beats w size else 1) + (if is_read o then data_beats w size else 1) ≤ 64 / w + 1
-both-few w size l OpA.ArithmeticData width e few = let two = atomic-few w size width e in let four =
-    wide-block w width in
-    omega (arith, two, four)
-both-few w size l OpA.LogicalData width e few = let two = atomic-few w size width e in let four = wide-block w width in
-    omega (arith, two, four)
-both-few w size l OpA.Intent width e few = let four = wide-block w width in omega (arith, four)
-both-few w size l OpA.AcquireBlock width e few = let four = wide-block w width in omega (arith, four)
-both-few w size l OpA.AcquirePerm width e few = let four = wide-block w width in omega (arith, four)
-both-few w size l o width e few = omega (arith, few)
+both-few w size l o e f g = grind (arith, atomic-few, wide-block)
 
 access_at : {w : ℕ} (o : Option Level) (m : MessageA w) → IsWidth w → illegal_message_at o (Message.A m) ≡ None
     → beats_of (Message.A m) + answer_beats (Message.A m) ≤ 64 / w + 1
 access_at None m width e = absurd cc
 access_at {w} (Some l) m width e =
-    let control = control_of_legal l m width e in
-    let one = next_rule (not (a_of_level l m.opcode)) L1 _ control in
+    let one = next_rule (not (a_of_level l m.opcode)) L1 _ (control_of_legal l m width e) in
     let two = next_rule (not (a_has_param m.opcode m.param)) L2 _ one.1 in
     let three = next_rule (not (a_has_size w l m.opcode m.size)) L3 _ two.1 in
     both-few w m.size l m.opcode width (not-false _ three.0) (data-few m width)
 
-pub access-few : {w : ℕ} (config : Config) (c source : ℕ) (m : Message w) → IsWidth w → IsRequest config c source m
+access-few : {w : ℕ} (config : Config) (c source : ℕ) (m : Message w) → IsWidth w → IsRequest config c source m
     → beats_of m + answer_beats m ≤ 64 / w + 1
-access-few config c source (Message.A m) width h = access_at (level_of config c) m width h.1
-access-few config c source m width h = absurd (let no = h.0 in cc)
+access-few config c source m e f = grind (arith, access_at)
 
 -- ---- an Acquire, and a report
 
 acquire-one : (w : ℕ) (x : AcquirePhase) (source n : ℕ) → beats_of (acquire_of {w = w} x source n) ≡ 1
-acquire-one w (AcquireOpen true g) source n = refl
-acquire-one w x source n = refl
+acquire-one w x source n = grind arith
 
 report-one : (w : ℕ) (p : Perm) (r : Report) (n : ℕ) (bytes : List ℕ) → same_perm p Perm.Trunk ≡ false
     → beats_of (probe_ack {w = w} OpB.ProbeBlock p r n bytes) ≡ 1
-report-one w Perm.Trunk r n bytes e = absurd cc
-report-one w p r n bytes e = refl
+report-one w p r n bytes e = grind arith
 
 untold : (p : ClientBlock) (v : View) → ok p v ≡ true → same_perm p.recorded Perm.Trunk ≡ false
     → same_perm (report_left (report_told p.probing)) Perm.Trunk ≡ false
@@ -157,24 +120,17 @@ module _ {w : ℕ} (config : Config) {caching : ℕ → Bool} (mail : AccessMess
     acquires = λ c m. let all = left-few mail s rest c Acquire m in let one =
         acquire-one w ((s.block m).pair c).acquiring ((s.block m).source c) m in omega (arith, all, one);
     reports = λ c m probed spared.
-        let all = left-few mail s rest c ProbeAck m in
         let told = untold ((s.block m).pair c) (view (s.block m).service c) ((inv.blocks m).phases c) spared in
         let one = report-one w (report_left (report_told ((s.block m).pair c).probing))
         (report_told ((s.block m).pair c).probing) m (s.block m).truth told in
-        omega (arith, all, one);
+        omega (arith, left-few mail s rest c ProbeAck m, one);
     accesses = λ c source asked.
-        let all = left-few mail s rest c Request source in
-        let request : IsSourced config c source (mail.request c source) Asked = rw asked at (sourced c source) in
-        let few = access-few config c source (mail.request c source) width request in
-        omega (arith, all, few);
+        let few = access-few config c source (mail.request c source) width (rw asked at (sourced c source)) in
+        omega (arith, left-few mail s rest c Request source, few);
     answers = λ c source. answer-few (mail.request c source) width;
   }
 
   -- what is left of an answer
   pub answer-left : (c source : ℕ) → IsAnswered source (mail.request c source) (mail.answer c source) (s.uses c source)
       → s.uses c source ≡ Replied → beats_left mail s rest c Answer source ≤ answer_to mail c source
-  answer-left c source answered replied =
-      let all = left-few mail s rest c Answer source in
-      let it : IsAnswered source (mail.request c source) (mail.answer c source) Replied = rw replied at answered in
-      let same = answer-is source (mail.request c source) (mail.answer c source) it in
-      omega (arith, all, same)
+  answer-left c source answered replied = grind (arith, answer-is)

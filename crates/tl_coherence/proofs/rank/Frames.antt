@@ -1,5 +1,5 @@
 -- What is owed for what an event leaves alone.
-use Rattle.std.proofs.Common.{◌≡◌, ℕ, ◌+◌, ◌<◌, ◌≤◌, Bool, true, false, List, refl, sym, ◌∙◌, arith, ◌⊎◌, inl, inr}
+use Rattle.std.proofs.Common.{◌≡◌, ℕ, ◌+◌, ◌<◌, ◌≤◌, Bool, true, List, refl, sym, ◌∙◌, arith, ◌⊎◌, inl, inr}
 use Rattle.std.proofs.Common.{Option, Some, None, length}
 use Rattle.tl_coherence.proofs
 use proofs.Imports.{cases_eq, and_from, Beat, Channel, Config, one_if, Left, pair_weight, probes_weight, acquire_weight}
@@ -15,26 +15,25 @@ use proofs.protocol.BeatsRemaining.{IsHere, IsPopped, beats_left, left-same}
 -- ---- what is shown is there
 
 here_if : (b : Bool) (n : ℕ) → n ≡ one_if b → b ≡ true → 0 < n
-here_if true n e f = omega (arith, e)
-here_if false n e f = absurd cc
+here_if b n e f = grind arith
 
 module _ {X : Type 0} {caching : ℕ → Bool} {s : State X} (inv : IsInvariant caching s) where
-  pub request-here : (d i : ℕ) → s.uses d i ≡ Asked → IsHere s d Request i
+  request-here : (d i : ℕ) → s.uses d i ≡ Asked → IsHere s d Request i
   request-here d i e = here_if (is_asked (s.uses d i)) _ (inv.requests d i) (rw e refl)
 
-  pub answer-here : (d i : ℕ) → s.uses d i ≡ Replied → IsHere s d Answer i
+  answer-here : (d i : ℕ) → s.uses d i ≡ Replied → IsHere s d Answer i
   answer-here d i e = here_if (is_replied (s.uses d i)) _ (inv.answers d i) (rw e refl)
 
-  pub acquire-here : (d m : ℕ) → shown Acquire d (s.block m) ≡ true → IsHere s d Acquire m
+  acquire-here : (d m : ℕ) → shown Acquire d (s.block m) ≡ true → IsHere s d Acquire m
   acquire-here d m e = here_if (shown Acquire d (s.block m)) _ (inv.transfers d Acquire refl m) e
 
-  pub grant-here : (d m : ℕ) → shown Grant d (s.block m) ≡ true → IsHere s d Grant m
+  grant-here : (d m : ℕ) → shown Grant d (s.block m) ≡ true → IsHere s d Grant m
   grant-here d m e = here_if (shown Grant d (s.block m)) _ (inv.transfers d Grant refl m) e
 
   pub report-here : (d m : ℕ) → shown ProbeAck d (s.block m) ≡ true → IsHere s d ProbeAck m
   report-here d m e = here_if (shown ProbeAck d (s.block m)) _ (inv.transfers d ProbeAck refl m) e
 
-  pub release-here : (d m : ℕ) → shown Release d (s.block m) ≡ true → IsHere s d Release m
+  release-here : (d m : ℕ) → shown Release d (s.block m) ≡ true → IsHere s d Release m
   release-here d m e = here_if (shown Release d (s.block m)) _ (inv.transfers d Release refl m) e
 
 -- the Acquire with a source is one that its block has
@@ -45,9 +44,7 @@ wants-used {s} inv d i m e = and_left (is_wanting ((s.block m).pair d).acquiring
 
 -- an Acquire that isn't served
 pub unserved-weight : (n a g p : ℕ) (v : View) → is_unserved v ≡ true → acquire_weight n a g p v ≡ a + n + 32
-unserved-weight n a g p Own e = absurd cc
-unserved-weight n a g p (Granting d k) e = absurd cc
-unserved-weight n a g p v e = refl
+unserved-weight n a g p v e = grind arith
 
 -- ---- what an event leaves as it was
 
@@ -111,9 +108,8 @@ module _ {w : ℕ} {config : Config} {mail mail' : AccessMessages w} {s s' : Sta
       → pair_weight size left' m d ((s'.block m).pair d) ≤ pair_weight size left m d ((s.block m).pair d)
   pair-stays d m probing recorded = rw (probing, recorded) (go ((s.block m).pair d).probing refl)
     where
-      go : (x : ProbePhase) → ((s.block m).pair d).probing ≡ x
-          → probing_weight size (left' d ProbeAck m) ((s.block m).pair d).recorded x ≤ probing_weight size
-          (left d ProbeAck m) ((s.block m).pair d).recorded x
+      go : (x : ProbePhase) → ((s.block m).pair d).probing ≡ x → probing_weight size (left' d ProbeAck m)
+          ((s.block m).pair d).recorded x ≤ probing_weight size (left d ProbeAck m) ((s.block m).pair d).recorded x
       go (ProbeAnswered r) e = same d ProbeAck m (report-here showing.before d m (rw e refl))
           (report-here showing.after d m (rw (probing, e) refl))
       go x e = omega arith
@@ -166,9 +162,8 @@ module _ {w : ℕ} {config : Config} {mail mail' : AccessMessages w} {s s' : Sta
         → acquire_weight size (left' d Acquire n) (left' d Grant n) (probes_weight number size left' n (s'.block n))
         (view (s'.block n).service d) ≤ acquire_weight size (left d Acquire n) (left d Grant n)
         (probes_weight number size left n (s.block n)) (view (s.block n).service d)
-    pub lets : (d i : ℕ) → s.lets d i ≡ Some n → s'.lets d i ≡ Some n
-        → letting_weight (left' d Release n) ((s'.block n).pair d).letting ≤ letting_weight (left d Release n)
-        ((s.block n).pair d).letting
+    pub lets : (d i : ℕ) → s.lets d i ≡ Some n → s'.lets d i ≡ Some n → letting_weight (left' d Release n)
+        ((s'.block n).pair d).letting ≤ letting_weight (left d Release n) ((s.block n).pair d).letting
 
   probes-else : (m : ℕ) → (m ≡ n → ⊥) → probes_weight number size left' m (s'.block m) ≤ probes_weight number size left
       m (s.block m)
@@ -196,8 +191,7 @@ module _ {w : ℕ} {config : Config} {mail mail' : AccessMessages w} {s s' : Sta
     -- a request that is used as before
     pub use-stays : (d i : ℕ) → s'.uses d i ≡ s.uses d i → owed_use' config size left left' answer answer s s' d
         i ≤ owed_use config size left left' answer answer s s' d i
-    use-stays d i e =
-        use-no-more config size left left' answer answer s s' d i (s.uses d i) refl e (omega arith)
+    use-stays d i e = use-no-more config size left left' answer answer s s' d i (s.uses d i) refl e (omega arith)
         (λ u. same d Request i (request-here showing.before d i u) (request-here showing.after d i (e ∙ u)))
         (λ u. same d Answer i (answer-here showing.before d i u) (answer-here showing.after d i (e ∙ u)))
         (λ m u. serve m u (cases_eq m n)) (λ m u. acquire m u (cases_eq m n))

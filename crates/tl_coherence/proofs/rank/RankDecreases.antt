@@ -2,7 +2,7 @@
 use Rattle.std.proofs.Common.{◌≡◌, ℕ, zero, suc, ◌+◌, ◌<◌, ◌≤◌, true, refl, arith, ◌⊎◌, inl, inr, length}
 use Rattle.tl_coherence.proofs
 use proofs.Imports.{cases_eq, Config, Left, pair_weight, probes_weight, acquire_weight, let_weight, rank, use_weight}
-use proofs.Imports.{client_weight, Request, Acquire, Answer, Grant, View, Own, Granting, State, SourceState, SourceFree}
+use proofs.Imports.{client_weight, Request, Acquire, Answer, Grant, View, State, SourceState, SourceFree}
 use proofs.Imports.{Asked, InService, Replied, Acquires, view, is_unserved, sources_of, terms_at}
 use Rattle.tl_coherence.specs.bound.Rank.{total}
 use proofs.queues.Sums.{total-le}
@@ -20,10 +20,7 @@ total-falls (suc n) m k f g lt le less =
         let others = total-le n g f (λ i h. le i (omega (arith, h))) in
         let here : g n + k ≤ f n = rw same less in
         omega (arith, others, here)
-    go (inr differs) rest =
-        let others = rest (omega (arith, lt, differs)) in
-        let here = le n (omega arith) in
-        omega (arith, others, here)
+    go (inr differs) rest = omega (arith, rest (omega (arith, lt, differs)), le n (omega arith))
 
 module _ {X : Type 0} (config : Config) (n : ℕ) (left left' : Left) (answer answer' : ℕ → ℕ → ℕ) (s s' : State X) where
   abbrev pub clients : ℕ
@@ -62,8 +59,7 @@ module _ {X : Type 0} (config : Config) (n : ℕ) (left left' : Left) (answer an
   no-more-client is d =
       let uses = total-le (sources_of (terms_at config d)) (owed_use' d) (owed_use d) (λ i h. is.uses d i) in
       let lets = total-le (sources_of (terms_at config d)) (owed_let' d) (owed_let d) (λ i h. is.lets d i) in
-      let acks = is.acks d in
-      omega (arith, uses, lets, acks)
+      omega (arith, uses, lets, is.acks d)
 
   pub stays : IsNoMore → rank config n left' answer' s' ≤ rank config n left answer s
   stays is = total-le clients (λ d. client_weight clients n left' answer' s' (sources_of (terms_at config d)) d)
@@ -76,8 +72,7 @@ module _ {X : Type 0} (config : Config) (n : ℕ) (left left' : Left) (answer an
       let uses = total-falls (sources_of (terms_at config c)) i 1 (owed_use c) (owed_use' c) below (λ j h. is.uses c j)
       less in
       let lets = total-le (sources_of (terms_at config c)) (owed_let' c) (owed_let c) (λ j h. is.lets c j) in
-      let acks = is.acks c in
-      falls c lt (no-more-client is) (omega (arith, uses, lets, acks))
+      falls c lt (no-more-client is) (omega (arith, uses, lets, is.acks c))
 
   -- what is owed for one Release falls
   pub let-falls : (c i : ℕ) → c < clients → i < sources_of (terms_at config c) → IsNoMore
@@ -86,8 +81,7 @@ module _ {X : Type 0} (config : Config) (n : ℕ) (left left' : Left) (answer an
       let uses = total-le (sources_of (terms_at config c)) (owed_use' c) (owed_use c) (λ j h. is.uses c j) in
       let lets = total-falls (sources_of (terms_at config c)) i 1 (owed_let c) (owed_let' c) below (λ j h. is.lets c j)
       less in
-      let acks = is.acks c in
-      falls c lt (no-more-client is) (omega (arith, uses, lets, acks))
+      falls c lt (no-more-client is) (omega (arith, uses, lets, is.acks c))
 
   -- a GrantAck is taken
   pub ack-falls : (c : ℕ) → c < clients → IsNoMore → length (s'.link c).e + 1 ≤ length (s.link c).e
@@ -110,17 +104,15 @@ module _ {X : Type 0} (config : Config) (n : ℕ) (left left' : Left) (answer an
       here =
           let u = total-falls (sources_of (terms_at config c)) i 2 (owed_use c) (owed_use' c) below (λ j h. uses c j)
           less in
-          let l = total-le (sources_of (terms_at config c)) (owed_let' c) (owed_let c) (λ j h. lets c j) in
-          omega (arith, u, l, more)
+          omega (arith, u, total-le (sources_of (terms_at config c)) (owed_let' c) (owed_let c) (λ j h. lets c j), more)
 
       each : (d : ℕ) → (d ≡ c) ⊎ (d ≡ c → ⊥) → client_weight clients n left' answer' s' (sources_of (terms_at config d))
           d ≤ client_weight clients n left answer s (sources_of (terms_at config d)) d
       each d (inl same) = rw same (let h = here in omega (arith, h))
       each d (inr differs) =
-          let u = total-le (sources_of (terms_at config d)) (owed_use' d) (owed_use d) (λ j h. uses d j) in
           let l = total-le (sources_of (terms_at config d)) (owed_let' d) (owed_let d) (λ j h. lets d j) in
           let a = acks d differs in
-          omega (arith, u, l, a)
+          omega (arith, total-le (sources_of (terms_at config d)) (owed_use' d) (owed_use d) (λ j h. uses d j), l, a)
 
   -- ---- one request, or Release, that is used as before
 
@@ -148,6 +140,4 @@ module _ {X : Type 0} (config : Config) (n : ℕ) (left left' : Left) (answer an
 -- an Acquire that is served as before
 pub acquire-no-more : (n a a' g g' p p' : ℕ) (v : View) → (is_unserved v ≡ true → a' ≤ a) → g' ≤ g → p' ≤ p
     → acquire_weight n a' g' p' v ≤ acquire_weight n a g p v
-acquire-no-more n a a' g g' p p' Own ha hg hp = omega (arith, hp)
-acquire-no-more n a a' g g' p p' (Granting d k) ha hg hp = omega (arith, hg)
-acquire-no-more n a a' g g' p p' v ha hg hp = let h = ha refl in omega (arith, h)
+acquire-no-more n a a' g g' p p' v e f h = grind arith

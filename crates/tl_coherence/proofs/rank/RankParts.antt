@@ -1,10 +1,10 @@
 -- What is owed falls with each delivery: block by block.
 use Rattle.std.proofs.Common.{◌≡◌, ℕ, ◌+◌, ◌<◌, ◌≤◌, Bool, true, false, List, refl, sym, ◌∙◌, ap, arith, ◌⊎◌, inl, inr}
-use Rattle.std.proofs.Common.{Some, length, eqb-true, ◌==◌, if◌then◌else◌}
+use Rattle.std.proofs.Common.{Some, length, eqb-true, if◌then◌else◌}
 use Rattle.tl_coherence.proofs
 use proofs.Imports.{cases_eq, Config, Cap, Left, pair_weight, probes_weight, letting_weight, IsInvariant, serves_of}
-use proofs.Imports.{serves_with, Release, Own, Granting, Acknowledging, GrantedOther, is_unprobed, State, SourceState}
-use proofs.Imports.{SourceFree, InService, Acquires, view, Service, Free, Waits, GrantSent, GrantTaken, AccessMessages}
+use proofs.Imports.{serves_with, Release, Own, is_unprobed, State, SourceState}
+use proofs.Imports.{SourceFree, InService, Acquires, view, Service, Waits, AccessMessages}
 use proofs.rank.Frames.{Taking, Falls, AreAsBefore, AreElsewhere, AreNoMore, use-stays, let-all, IsBlockNoMore}
 use proofs.rank.Frames.{acquire-stays, let-stays, pair-stays, wants-used}
 use proofs.protocol.{TokenNames.source_of_acquire, BeatsRemaining.beats_left, QuiescentProtocol.owns_ask}
@@ -40,8 +40,7 @@ asking {caching} {s} n q false source k inv e = record { at = source; used = ser
 
 pub open_use : (own : Bool) (n : ℕ) (u : SourceState) → u ≡ (if own then Acquires n else InService n) → u ≡ SourceFree
     → ⊥
-open_use true n u e f = absurd (let both : Acquires n ≡ SourceFree = sym e ∙ f in cc)
-open_use false n u e f = absurd (let both : InService n ≡ SourceFree = sym e ∙ f in cc)
+open_use own n u e f = grind arith
 
 module _ {w : ℕ} {config : Config} {mail mail' : AccessMessages w} {s s' : State (List ℕ)}
     (taking : Taking config mail mail' s s') where
@@ -57,7 +56,7 @@ module _ {w : ℕ} {config : Config} {mail mail' : AccessMessages w} {s s' : Sta
   number = clients config size left left' answer answer s s'
 
   -- a Probe or report of the block, which is in service as before, owes one less
-  pub service-falls : (q : ℕ) (own : Bool) (source : ℕ) (k : Cap) → (s.block n).service ≡ Waits q own source k
+  service-falls : (q : ℕ) (own : Bool) (source : ℕ) (k : Cap) → (s.block n).service ≡ Waits q own source k
       → (s'.block n).service ≡ (s.block n).service → AreAsBefore s'.uses s.uses → AreAsBefore s'.lets s.lets
       → AreNoMore s'.link s.link → ((d : ℕ) → ((s'.block n).pair d).acquiring ≡ ((s.block n).pair d).acquiring)
       → ((d i : ℕ) → s.lets d i ≡ Some n
@@ -106,22 +105,12 @@ pub record IsWaited (service : Service) : Type 0 where
   pub is : service ≡ Waits client own source cap
 
 pub waited : (service : Service) (c : ℕ) → is_other (view service c) ≡ true → IsWaited service
-waited Free c e = absurd cc
-waited (Waits q own source k) c e = record { client = q; own = own; source = source; cap = k; is = refl }
-waited (GrantSent q d k) c e =
-    let never : (b : Bool) → is_other (if b then Granting d k else GrantedOther) ≡ true → IsWaited (GrantSent q d k) =
-    elim [ true ↦ λ f. absurd cc | false ↦ λ f. absurd cc ] in
-    never (c == q) e
-waited (GrantTaken q) c e =
-    let never : (b : Bool) → is_other (if b then Acknowledging else GrantedOther) ≡ true → IsWaited (GrantTaken q) =
-    elim [ true ↦ λ f. absurd cc | false ↦ λ f. absurd cc ] in
-    never (c == q) e
+waited service c e = grind arith
 
 pub waited-probing : {X : Type 0} {caching : ℕ → Bool} {s : State X} (c n : ℕ) → IsInvariant caching s
     → is_unprobed ((s.block n).pair c).probing ≡ false → IsWaited (s.block n).service
-waited-probing {s} c n inv probed =
-    waited (s.block n).service c (serves_another ((s.block n).pair c) (view (s.block n).service c)
-    ((inv.blocks n).phases c) probed)
+waited-probing {s} c n inv probed = waited (s.block n).service c
+    (serves_another ((s.block n).pair c) (view (s.block n).service c) ((inv.blocks n).phases c) probed)
 
 -- ---- a Probe is taken, or a report that isn't the last one missing
 
@@ -169,78 +158,70 @@ module _ {w : ℕ} {config : Config} {mail mail' : AccessMessages w} {s s' : Sta
         lets = λ d i e f. let-stays taking d n (rw same refl);
       }
 
-  module _ (block : IsBlockNoMore taking)
-    where
-      abbrev owed : ℕ → ℕ → ℕ
-      owed d i = owed_use config size (beats_left mail s rest) (beats_left mail' s' rest') answer answer s s' d i
+  module _ (block : IsBlockNoMore taking) where
+    abbrev owed : ℕ → ℕ → ℕ
+    owed d i = owed_use config size (beats_left mail s rest) (beats_left mail' s' rest') answer answer s s' d i
 
-      abbrev owed' : ℕ → ℕ → ℕ
-      owed' d i = owed_use' config size (beats_left mail s rest) (beats_left mail' s' rest') answer answer s s' d i
+    abbrev owed' : ℕ → ℕ → ℕ
+    owed' d i = owed_use' config size (beats_left mail s rest) (beats_left mail' s' rest') answer answer s s' d i
 
-      abbrev due : ℕ → ℕ → ℕ
-      due d i = owed_let config size (beats_left mail s rest) (beats_left mail' s' rest') answer answer s s' d i
+    abbrev due : ℕ → ℕ → ℕ
+    due d i = owed_let config size (beats_left mail s rest) (beats_left mail' s' rest') answer answer s s' d i
 
-      abbrev due' : ℕ → ℕ → ℕ
-      due' d i = owed_let' config size (beats_left mail s rest) (beats_left mail' s' rest') answer answer s s' d i
+    abbrev due' : ℕ → ℕ → ℕ
+    due' d i = owed_let' config size (beats_left mail s rest) (beats_left mail' s' rest') answer answer s s' d i
 
-      -- where one request's use changes alone, and it owes no more, none does
-      uses-else : (q j : ℕ) → AreElsewhere q j s'.uses s.uses → owed' q j ≤ owed q j → (d i : ℕ) → owed' d i ≤ owed d i
-      uses-else q j unlike here d i = go (cases_eq d q) (cases_eq i j)
-        where
-          other : (d ≡ q → i ≡ j → ⊥) → owed' d i ≤ owed d i
-          other ne = use-stays taking block d i (unlike d i ne)
+    -- where one request's use changes alone, and it owes no more, none does
+    uses-else : (q j : ℕ) → AreElsewhere q j s'.uses s.uses → owed' q j ≤ owed q j → (d i : ℕ) → owed' d i ≤ owed d i
+    uses-else q j unlike here d i = go (cases_eq d q) (cases_eq i j)
+      where
+        other : (d ≡ q → i ≡ j → ⊥) → owed' d i ≤ owed d i
+        other ne = use-stays taking block d i (unlike d i ne)
 
-          go : (d ≡ q) ⊎ (d ≡ q → ⊥) → (i ≡ j) ⊎ (i ≡ j → ⊥) → owed' d i ≤ owed d i
-          go (inl e) (inl f) = rw (e, f) here
-          go (inr ne) at = other (λ e f. ne e)
-          go (inl e) (inr ne) = other (λ g f. ne f)
+        go : (d ≡ q) ⊎ (d ≡ q → ⊥) → (i ≡ j) ⊎ (i ≡ j → ⊥) → owed' d i ≤ owed d i
+        go e f = grind (arith, here, other)
 
-      lets-else : (q j : ℕ) → AreElsewhere q j s'.lets s.lets → due' q j ≤ due q j → (d i : ℕ) → due' d i ≤ due d i
-      lets-else q j unlike here d i = go (cases_eq d q) (cases_eq i j)
-        where
-          other : (d ≡ q → i ≡ j → ⊥) → due' d i ≤ due d i
-          other ne = let-all taking block d i (unlike d i ne)
+    lets-else : (q j : ℕ) → AreElsewhere q j s'.lets s.lets → due' q j ≤ due q j → (d i : ℕ) → due' d i ≤ due d i
+    lets-else q j unlike here d i = go (cases_eq d q) (cases_eq i j)
+      where
+        other : (d ≡ q → i ≡ j → ⊥) → due' d i ≤ due d i
+        other ne = let-all taking block d i (unlike d i ne)
 
-          go : (d ≡ q) ⊎ (d ≡ q → ⊥) → (i ≡ j) ⊎ (i ≡ j → ⊥) → due' d i ≤ due d i
-          go (inl e) (inl f) = rw (e, f) here
-          go (inr ne) at = other (λ e f. ne e)
-          go (inl e) (inr ne) = other (λ g f. ne f)
+        go : (d ≡ q) ⊎ (d ≡ q → ⊥) → (i ≡ j) ⊎ (i ≡ j → ⊥) → due' d i ≤ due d i
+        go e f = grind (arith, here, other)
 
-      lets-same : AreAsBefore s'.lets s.lets → (d i : ℕ) → due' d i ≤ due d i
-      lets-same same d i = let-all taking block d i (same d i)
+    lets-same : AreAsBefore s'.lets s.lets → (d i : ℕ) → due' d i ≤ due d i
+    lets-same same d i = let-all taking block d i (same d i)
 
-      uses-same : AreAsBefore s'.uses s.uses → (d i : ℕ) → owed' d i ≤ owed d i
-      uses-same same d i = use-stays taking block d i (same d i)
+    uses-same : AreAsBefore s'.uses s.uses → (d i : ℕ) → owed' d i ≤ owed d i
+    uses-same same d i = use-stays taking block d i (same d i)
 
-      -- one request owes one less
-      pub request-falls : (q j : ℕ) → (s.uses q j ≡ SourceFree → ⊥) → AreElsewhere q j s'.uses s.uses
-          → AreAsBefore s'.lets s.lets → AreNoMore s'.link s.link → owed' q j + 1 ≤ owed q j → Falls taking
-      request-falls q j used unlike lets acks less =
-          use-falls config size (beats_left mail s rest) (beats_left mail' s' rest') answer answer s s' q j
-          (all.clients q j used) (all.sources q j used)
-          (record { uses = uses-else q j unlike (omega (arith, less)); lets = lets-same lets; acks = acks }) less
+    -- one request owes one less
+    pub request-falls : (q j : ℕ) → (s.uses q j ≡ SourceFree → ⊥) → AreElsewhere q j s'.uses s.uses
+        → AreAsBefore s'.lets s.lets → AreNoMore s'.link s.link → owed' q j + 1 ≤ owed q j → Falls taking
+    request-falls q j used unlike lets acks less = use-falls config size (beats_left mail s rest)
+        (beats_left mail' s' rest') answer answer s s' q j (all.clients q j used) (all.sources q j used)
+        (record { uses = uses-else q j unlike (omega (arith, less)); lets = lets-same lets; acks = acks }) less
 
-      -- one Release owes one less
-      pub release-falls : (q j m : ℕ) → s.lets q j ≡ Some m → AreAsBefore s'.uses s.uses
-          → AreElsewhere q j s'.lets s.lets → AreNoMore s'.link s.link → due' q j + 1 ≤ due q j → Falls taking
-      release-falls q j m is uses unlike acks less =
-          let-falls config size (beats_left mail s rest) (beats_left mail' s' rest') answer answer s s' q j
-          (all.letters q j m is) (all.releases q j m is)
-          (record { uses = uses-same uses; lets = lets-else q j unlike (omega (arith, less)); acks = acks }) less
+    -- one Release owes one less
+    pub release-falls : (q j m : ℕ) → s.lets q j ≡ Some m → AreAsBefore s'.uses s.uses
+        → AreElsewhere q j s'.lets s.lets → AreNoMore s'.link s.link → due' q j + 1 ≤ due q j → Falls taking
+    release-falls q j m is uses unlike acks less = let-falls config size (beats_left mail s rest)
+        (beats_left mail' s' rest') answer answer s s' q j (all.letters q j m is) (all.releases q j m is)
+        (record { uses = uses-same uses; lets = lets-else q j unlike (omega (arith, less)); acks = acks }) less
 
-      -- a GrantAck is taken
-      pub acknowledged-falls : (q : ℕ) → q < length config.clients.items → AreAsBefore s'.uses s.uses
-          → AreAsBefore s'.lets s.lets → AreNoMore s'.link s.link
-          → length (s'.link q).e + 1 ≤ length (s.link q).e → Falls taking
-      acknowledged-falls q lt uses lets acks less =
-          ack-falls config size (beats_left mail s rest) (beats_left mail' s' rest') answer answer s s' q lt
-          (record { uses = uses-same uses; lets = lets-same lets; acks = acks }) less
+    -- a GrantAck is taken
+    pub acknowledged-falls : (q : ℕ) → q < length config.clients.items → AreAsBefore s'.uses s.uses
+        → AreAsBefore s'.lets s.lets → AreNoMore s'.link s.link
+        → length (s'.link q).e + 1 ≤ length (s.link q).e → Falls taking
+    acknowledged-falls q lt uses lets acks less =
+        ack-falls config size (beats_left mail s rest) (beats_left mail' s' rest') answer answer s s' q lt
+        (record { uses = uses-same uses; lets = lets-same lets; acks = acks }) less
 
-      -- a Grant is taken
-      pub granted-falls : (q j : ℕ) → (s.uses q j ≡ SourceFree → ⊥) → AreElsewhere q j s'.uses s.uses
-          → AreAsBefore s'.lets s.lets → ((d : ℕ) → (d ≡ q → ⊥) → length (s'.link d).e ≤ length (s.link d).e)
-          → length (s'.link q).e ≡ length (s.link q).e + 1 → owed' q j + 2 ≤ owed q j → Falls taking
-      granted-falls q j used unlike lets acks more less =
-          grant-falls config size (beats_left mail s rest) (beats_left mail' s' rest') answer answer s s' q j
-          (all.clients q j used) (all.sources q j used)
-          (uses-else q j unlike (omega (arith, less))) (lets-same lets) acks more less
+    -- a Grant is taken
+    pub granted-falls : (q j : ℕ) → (s.uses q j ≡ SourceFree → ⊥) → AreElsewhere q j s'.uses s.uses
+        → AreAsBefore s'.lets s.lets → ((d : ℕ) → (d ≡ q → ⊥) → length (s'.link d).e ≤ length (s.link d).e)
+        → length (s'.link q).e ≡ length (s.link q).e + 1 → owed' q j + 2 ≤ owed q j → Falls taking
+    granted-falls q j used unlike lets acks more less = grant-falls config size (beats_left mail s rest)
+        (beats_left mail' s' rest') answer answer s s' q j (all.clients q j used) (all.sources q j used)
+        (uses-else q j unlike (omega (arith, less))) (lets-same lets) acks more less

@@ -1,15 +1,14 @@
 -- What is owed for each open request is at most 33 beats and those of a block, for each Release one
 -- and those of a block.
 use Rattle.std.proofs.Common.{◌≡◌, ℕ, zero, suc, ◌+◌, ◌*◌, ◌<◌, ◌≤◌, Bool, true, false, refl, arith, ◌⊎◌, inl, inr, not}
-use Rattle.std.proofs.Common.{◌&&◌, Option, Some, None, length, ne_eqb, ◌==◌, if◌then◌else◌}
+use Rattle.std.proofs.Common.{◌&&◌, Option, length, ne_eqb, ◌==◌, if◌then◌else◌}
 use Rattle.tl_coherence.proofs
 use proofs.Imports.{cases_eq, Config, Perm, same_perm, one_if, Left, pair_weight, probes_weight, acquire_weight}
 use proofs.Imports.{letting_weight, let_weight, rank, probing_weight, use_weight, client_weight, is_used, is_let}
-use proofs.Imports.{open_requests, open_releases, IsInvariant, Request, Acquire, ProbeAck, Release, Answer, Grant, Kind}
-use proofs.Imports.{View, Own, Granting, ProbePhase, NoProbe, ProbeSent, ProbeAnswered, ReleasePhase, NoRelease}
-use proofs.Imports.{ReleaseSent, ReleaseAcked, is_unprobed, State, SourceState, SourceFree, Asked, InService, Replied}
+use proofs.Imports.{open_requests, open_releases, IsInvariant, Request, Acquire, ProbeAck, Answer, Grant, Kind, View}
+use proofs.Imports.{ProbePhase, ReleasePhase, is_unprobed, State, SourceState, SourceFree, Asked, InService, Replied}
 use proofs.Imports.{Acquires, view, some_below, sources_of, terms_at}
-use Rattle.tl_coherence.specs.bound.Rank.{total}
+use Rattle.tl_coherence.{specs.bound.Rank.total}
 use proofs.protocol.RequestsKept.{some-none, some-one}
 use proofs.queues.{Sums.total-le, Sums.total-const, Sums.probes-light, Sums.one-at-most, Tokens.same_number}
 
@@ -49,32 +48,17 @@ total-less (suc bound) m f lt le none =
         let all = total-const bound 2 in
         let here : f bound ≡ 0 = rw (← same) none in
         omega (arith, others, all, here)
-    go (inr differs) rest =
-        let others = rest (omega (arith, lt, differs)) in
-        let here = le bound (omega arith) in
-        omega (arith, others, here)
+    go (inr differs) rest = omega (arith, rest (omega (arith, lt, differs)), le bound (omega arith))
 
 -- ---- the Probes and reports of a block
 
-light-pair : (n left : ℕ) (recorded : Perm) (x : ProbePhase) → same_perm recorded Perm.Trunk ≡ false
-    → (is_unprobed x ≡ false → left ≤ 1) → probing_weight n left recorded x ≤ 2
-light-pair n left recorded NoProbe e le = omega arith
-light-pair n left recorded (ProbeSent k) e le = rw e (omega arith)
-light-pair n left recorded (ProbeAnswered r) e le = let one = le refl in omega (arith, one)
-
 quiet-pair : (n left : ℕ) (recorded : Perm) (x : ProbePhase) → is_unprobed x ≡ true
     → probing_weight n left recorded x ≡ 0
-quiet-pair n left recorded NoProbe e = refl
-quiet-pair n left recorded x e = absurd cc
+quiet-pair n left recorded x e = grind arith
 
 heavy-pair : (n left : ℕ) (recorded : Perm) (x : ProbePhase) → left ≤ n → 1 ≤ n
     → probing_weight n left recorded x ≤ n + 1
-heavy-pair n left recorded NoProbe le some = omega arith
-heavy-pair n left recorded (ProbeSent k) le some =
-    let go : (b : Bool) → 1 + (if b then n else 1) ≤ n + 1 = elim [ true ↦ omega arith | false ↦ omega (arith, some) ]
-    in
-    go (same_perm recorded Perm.Trunk)
-heavy-pair n left recorded (ProbeAnswered r) le some = omega (arith, le)
+heavy-pair n left recorded x e f = grind arith
 
 module _ {X : Type 0} {caching : ℕ → Bool} {s : State X} (inv : IsInvariant caching s) (n : ℕ) (left : Left) (answer : ℕ
     → ℕ → ℕ) (is : IsLeft n left answer s) (some : 1 ≤ n) (few : n ≤ 16) (clients : ℕ) (sixteen : clients ≤ 16) where
@@ -84,12 +68,10 @@ module _ {X : Type 0} {caching : ℕ → Bool} {s : State X} (inv : IsInvariant 
       Perm.Trunk
 
   both : (a b : Bool) → (not a && b) ≡ true → (a ≡ false) × (b ≡ true)
-  both false true e = (refl, refl)
-  both a b e = absurd cc
+  both a b e = grind arith
 
   neither : (a b : Bool) → (not a && b) ≡ false → a ≡ false → b ≡ false
-  neither false b e f = e
-  neither true b e f = absurd cc
+  neither a b e f = grind arith
 
   -- a bound for the Probes and reports where each client weighs two at most, and which one with a block's beats meets
   -- too
@@ -108,12 +90,7 @@ module _ {X : Type 0} {caching : ℕ → Bool} {s : State X} (inv : IsInvariant 
         where
           each : (d : ℕ) (b : Bool) → is_unprobed ((s.block m).pair d).probing ≡ b → writes_probed m d ≡ false
               → pair_weight n left m d ((s.block m).pair d) ≤ 2
-          each d true e f = let z = quiet-pair n (left d ProbeAck m) ((s.block m).pair d).recorded
-              ((s.block m).pair d).probing e in omega (arith, z)
-          each d false e f =
-              let spared = neither _ _ f e in
-              light-pair n (left d ProbeAck m) ((s.block m).pair d).recorded ((s.block m).pair d).probing spared
-              (λ probed. is.reports d m probed spared)
+          each d b e f = grind (arith, quiet-pair, neither)
       go true found =
           let d = some-one clients (writes_probed m) found in
           let parts = both _ _ d.1 in
@@ -150,18 +127,15 @@ module _ {X : Type 0} {caching : ℕ → Bool} {s : State X} (inv : IsInvariant 
       without : ((d : ℕ) → d < clients → pair_weight n left m d ((s.block m).pair d) ≤ 2)
           → probes_weight clients n left m (s.block m) ≤ 30
       without light =
-          let none = quiet-pair n (left r ProbeAck m) ((s.block m).pair r).recorded ((s.block m).pair r).probing quiet
-          in
-          let others = total-less clients r (λ d. pair_weight n left m d ((s.block m).pair d)) lt light none in
+          let others = total-less clients r (λ d. pair_weight n left m d ((s.block m).pair d)) lt light
+          (quiet-pair n (left r ProbeAck m) ((s.block m).pair r).recorded ((s.block m).pair r).probing quiet) in
           omega (arith, others, sixteen)
 
   -- ---- each open request, and each Release
 
   acquire-few : (asked granted probes : ℕ) (v : View) → asked ≤ 1 → granted ≤ n → probes ≤ 32
       → acquire_weight n asked granted probes v ≤ n + 33
-  acquire-few asked granted probes Own a g p = omega (arith, p)
-  acquire-few asked granted probes (Granting d k) a g p = omega (arith, g)
-  acquire-few asked granted probes v a g p = omega (arith, a)
+  acquire-few asked granted probes v e f g = grind arith
 
   use-few : (c source : ℕ) (u : SourceState) → s.uses c source ≡ u
       → use_weight clients n left answer s c source u ≤ (n + 33) * one_if (is_used u)
@@ -175,14 +149,10 @@ module _ {X : Type 0} {caching : ℕ → Bool} {s : State X} (inv : IsInvariant 
       omega (arith, all)
 
   letting-few : (l : ℕ) (x : ReleasePhase) → l ≤ n → letting_weight l x ≤ n + 1
-  letting-few l NoRelease le = omega arith
-  letting-few l (ReleaseSent r) le = omega (arith, le)
-  letting-few l ReleaseAcked le = omega (arith, some)
+  letting-few l x e = grind (arith, some)
 
   let-few : (c source : ℕ) (o : Option ℕ) → s.lets c source ≡ o → let_weight left s c o ≤ (n + 1) * one_if (is_let o)
-  let-few c source None e = omega arith
-  let-few c source (Some m) e = let all = letting-few (left c Release m) ((s.block m).pair c).letting
-      (is.few c Release m) in omega (arith, all)
+  let-few c source o e = grind (arith, letting-few, left)
 
   -- ---- the whole
 
@@ -204,16 +174,13 @@ module _ {X : Type 0} {caching : ℕ → Bool} {s : State X} (inv : IsInvariant 
       (λ i. one_if (is_used (s.uses c i))) (λ i. use-few c i (s.uses c i) refl) in
       let lets = times-total (n + 1) sources (λ i. let_weight left s c (s.lets c i)) (λ i. one_if (is_let (s.lets c i)))
       (λ i. let-few c i (s.lets c i) refl) in
-      let acks = one-each (n + 33) (length (s.link c).e) (omega arith) in
       let split : (n + 33) * (total sources (λ i. one_if (is_used (s.uses c i))) + length (s.link c).e)
-      ≡ (n + 33) * total sources
-      (λ i. one_if (is_used (s.uses c i))) + (n + 33) * length (s.link c).e = grind arith in
-      omega (arith, uses, lets, acks, split)
+      ≡ (n + 33) * total sources (λ i. one_if (is_used (s.uses c i))) + (n + 33) * length (s.link c).e = grind arith in
+      omega (arith, uses, lets, one-each (n + 33) (length (s.link c).e) (omega arith), split)
 
   pub potential-few : (config : Config) → length config.clients.items ≡ clients
       → rank config n left answer s ≤ (n + 33) * open_requests config s + (n + 1) * open_releases config s
-  potential-few config e =
-      rw e (two-totals clients (λ c. client_weight clients n left answer s (sources_of (terms_at config c)) c)
-      (λ c. total (sources_of (terms_at config c)) (λ i. one_if (is_used (s.uses c i))) + length (s.link c).e)
-      (λ c. total (sources_of (terms_at config c)) (λ i. one_if (is_let (s.lets c i)))) (n + 33) (n + 1)
+  potential-few config e = rw e (two-totals clients (λ c. client_weight clients n left answer s (sources_of
+      (terms_at config c)) c) (λ c. total (sources_of (terms_at config c)) (λ i. one_if (is_used (s.uses c i))) + length
+      (s.link c).e) (λ c. total (sources_of (terms_at config c)) (λ i. one_if (is_let (s.lets c i)))) (n + 33) (n + 1)
       (λ c. client-few (sources_of (terms_at config c)) c))

@@ -1,12 +1,12 @@
 -- Each beat on a channel is sound, and has the lanes of its width: of those that stay, and of those
 -- that are handed out.
 use Rattle.std.proofs.Common.{◌≡◌, ℕ, zero, suc, ◌+◌, ◌<◌, Bool, true, false, ◌&&◌, ◌||◌, List, [], ◌∷◌, ◌++◌, Option}
-use Rattle.std.proofs.Common.{Some, None, refl, sym, ◌∙◌, ap, inl, inr, arith, length, ne_eqb, ◌==◌, if◌then◌else◌, All}
-use Rattle.std.proofs.Common.{slice_get, nat_le, option_map, Result, Ok, Err}
+use Rattle.std.proofs.Common.{Some, None, refl, ◌∙◌, inl, inr, arith, length, ne_eqb, ◌==◌, if◌then◌else◌, All}
+use Rattle.std.proofs.Common.{nat_le, Result, Ok, Err}
 use Rattle.tl_coherence.proofs
 use proofs.Imports.{cases_eq, All-nil, All-cons, All-append, ⊤, Beat, BeatD, Channel, OpB, OpD, IsWidth, Message}
-use proofs.Imports.{beats_of, beat_of, unfinished, channel_of, ClientConfig, Config, Level, Prune, Report, Perm, Rule}
-use proofs.Imports.{legal_beat, is_outside, is_spoiled, payload_of, block_at, ends, request_of, beats_from, illegal}
+use proofs.Imports.{beats_of, beat_of, unfinished, channel_of, Config, Level, Prune, Report, Perm, Rule}
+use proofs.Imports.{legal_beat, is_outside, is_spoiled, payload_of, block_at, ends, request_of, beats_from}
 use proofs.Imports.{NotBusy, asked-cases, same_block, Op, Finish, Verdict, done, store, free_release, source_or_0}
 use proofs.Imports.{EndConfig, Endpoint, copy_at, held_at, with_past, Offered, taken, ended, responded, silent}
 use proofs.Imports.{report_for, release, probe_ack, IsHandable, Each, Handed, level_of, AreLanes, IsTypedOp, System}
@@ -29,7 +29,7 @@ all_beats P m k zero each = All-nil P
 all_beats P m k (suc n) each = All-cons P (beat_of m k) (beats_from m (k + 1) n) (each k (omega arith))
     (all_beats P m (k + 1) n (λ i lt. each i (omega (arith, lt))))
 
-pub all-message : {w : ℕ} (P : ℕ → Beat w → Type 0) (l : ℕ) (m : Message w) (s : System w)
+all-message : {w : ℕ} (P : ℕ → Beat w → Type 0) (l : ℕ) (m : Message w) (s : System w)
     → ((i : ℕ) → i < beats_of m → P l (beat_of m i)) → ((d : ℕ) (at : Channel) → All (P d) (s.channels d at))
     → (d : ℕ) (at : Channel) → All (P d) ((with_message l m s).channels d at)
 all-message {w} P l m s each before d at = elim (cases_eq d l) [
@@ -94,13 +94,11 @@ typed_is (Beat.A x) typed = typed
 typed_is x typed = tt
 
 same_channel_of : {w : ℕ} (m : Message w) (i : ℕ) → channel_of (beat_of m i) ≡ channel_of (beat_of m 0)
-same_channel_of (Message.A m) i = refl
-same_channel_of m i = refl
+same_channel_of m i = grind arith
 
 same_outside : {w : ℕ} (blocks : ℕ) (m : Message w) (i : ℕ) → is_outside blocks (beat_of m i) ≡ is_outside blocks
     (beat_of m 0)
-same_outside blocks (Message.A m) i = refl
-same_outside blocks m i = refl
+same_outside blocks m i = grind arith
 
 -- of a channel on which clients send
 abbrev pub IsOfClient : {w : ℕ} → Message w → Type 0
@@ -109,10 +107,7 @@ IsOfClient (Message.D m) = ⊥
 IsOfClient _ = ⊤
 
 unspoiled : {w : ℕ} (m : Message w) (i : ℕ) → IsOfClient m → corrupt_in m ≡ 0 → is_spoiled (beat_of m i) ≡ false
-unspoiled (Message.B m) i is clean = absurd is
-unspoiled (Message.D m) i is clean = absurd is
-unspoiled (Message.E m) i is clean = refl
-unspoiled m i is clean = rw clean (no_bit i)
+unspoiled m i e f = grind (arith, no_bit)
 
 pub good-message : {w : ℕ} (config : Config) (c : ℕ) {l : Level} {m : Message w} → IsWidth w
     → level_of config c ≡ Some l → IsSound l m → IsOfClient m
@@ -121,8 +116,7 @@ good-message {w} config c {l} {m} width level sound ours inside long i lt =
     let typed : rules.IsTyped (beat_of m i) = typed-beat m i width long lt in
     record {
       sound = record {
-        lawful = rw level (ap (λ ch. illegal l ch (beat_of m i)) (same_channel_of m i) ∙ legal_beat l
-            (channel_of (beat_of m 0)) m i sound.is_legal lt);
+        lawful = rw level (cc (same_channel_of m i, legal_beat l (channel_of (beat_of m 0)) m i sound.is_legal lt));
         inside = same_outside config.blocks m i ∙ inside;
         clean = unspoiled m i ours sound.is_clean;
         typed = typed_is (beat_of m i) typed;
@@ -145,33 +139,19 @@ good-handed config (x ∷ handed) width each = (
 
 -- ---- the terms of a client
 
-abbrev terms_in : Config → ClientConfig → EndConfig
-terms_in config x = record { level = x.level; profile = config.profile; sources = x.sources; blocks = config.blocks }
-
 pub level-terms : (config : Config) (c : ℕ) (terms : EndConfig) → terms_at config c ≡ Some terms
     → (level_of config c ≡ Some terms.level) × (terms.blocks ≡ config.blocks)
-level-terms config c terms e = go (slice_get config.clients.items c) e
-  where
-    some_is : (t u : EndConfig) → Some t ≡ Some u → t ≡ u
-    some_is t u f = cc
-
-    go : (o : Option ClientConfig) → option_map (terms_in config) o ≡ Some terms
-        → (option_map (λ x. x.level) o ≡ Some terms.level) × (terms.blocks ≡ config.blocks)
-    go None f = absurd cc
-    go (Some x) f = let g : terms_in config x ≡ terms = some_is (terms_in config x) terms f in
-        (ap (λ (t : EndConfig). Some t.level) g, sym (ap (λ (t : EndConfig). t.blocks) g))
+level-terms config c terms e = grind arith
 
 -- ---- what a client is asked for
 
 copied_release : (w : ℕ) (p : Prune) (source n : ℕ) (copy : List ℕ) → length copy ≡ 64
     → HasBlock {w = w} (release p source n copy) × IsOfClient {w = w} (release p source n copy)
-copied_release w Prune.BtoN source n copy long = (refl, tt)
-copied_release w p source n copy long = (long, tt)
+copied_release w p source n copy e = grind arith
 
 release_inside : (w blocks : ℕ) (p : Prune) (source n : ℕ) (copy : List ℕ) → nat_le blocks n ≡ false
     → is_outside blocks (beat_of {w = w} (release p source n copy) 0) ≡ false
-release_inside w blocks Prune.TtoB source n copy e = rw (same_block n) e
-release_inside w blocks p source n copy e = rw (same_block n) e
+release_inside w blocks p source n copy e = grind (arith, same_block)
 
 -- what a message that a client hands out is besides sound
 pub record IsFit {w : ℕ} (blocks : ℕ) (m : Message w) : Type 0 where
@@ -184,18 +164,15 @@ IsFitIfAny blocks None = ⊤
 IsFitIfAny blocks (Some m) = IsFit blocks m
 
 first_false : (x y : Bool) → (x || y) ≡ false → x ≡ false
-first_false false y e = refl
-first_false true y e = absurd cc
+first_false x y e = grind arith
 
 fit_load : {w : ℕ} (blocks address size : ℕ) (p : Perm) (e : Endpoint w)
     → IsFitIfAny blocks (load address size p e).message
-fit_load blocks address size Perm.None e = tt
-fit_load blocks address size p e = tt
+fit_load blocks address size p e = grind arith
 
 fit_store : {w : ℕ} (blocks address size value : ℕ) (p : Perm) (e : Endpoint w)
     → IsFitIfAny blocks (store address size value p e).message
-fit_store blocks address size value Perm.None e = tt
-fit_store blocks address size value p e = tt
+fit_store blocks address size value p e = grind arith
 
 fit_done : {w : ℕ} {terms : EndConfig} (op : Op w) {e : Endpoint w} → NotBusy terms op e → IsTypedOp op
     → ((n : ℕ) → length (copy_at e n) ≡ 64) → IsFitIfAny terms.blocks (done terms op e).message

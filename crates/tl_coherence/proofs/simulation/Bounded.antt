@@ -1,9 +1,10 @@
 -- Sources and trackers that are used are below the numbers that the configuration gives.
-use Rattle.std.proofs.Common.{◌≡◌, ℕ, ◌<◌, Bool, true, false, List, [], ◌∷◌, refl, sym, ◌∙◌, ap, ◌||◌, Option, Some}
+use Rattle.std.proofs.Common.{◌≡◌, ℕ, ◌<◌, Bool, true, false, List, [], ◌∷◌}
+use Rattle.std.proofs.Common.{refl, sym, ◌∙◌, ap, ◌||◌, Option, Some, arith}
 use Rattle.std.proofs.Common.{eqb-true, ◌==◌, is_some}
 use Rattle.tl_coherence.proofs
 use proofs.Imports.{and_parts, Message, MessageA, Config, RequestSource, ReleaseSource, pending, is_one_of}
-use proofs.Imports.{tracker_among, services, service_of_block, trackers_of, tracks_with, is_busy, Service, Free, Waits}
+use proofs.Imports.{tracker_among, services, trackers_of, is_busy, Service, Free, Waits}
 use proofs.Imports.{GrantSent, GrantTaken, State, SourceState, SourceFree, Asked, InService, Replied, Acquires}
 use proofs.Imports.{client_in, service_with, IsOpened, AccessMessages, block_message, SimulationRelation, asked_by}
 use proofs.Imports.{first_of, request_source, IsSourced, sources_of, Log, Requests, one_memory_after, System, terms_at}
@@ -21,16 +22,12 @@ pub record IsOwn {w : ℕ} (config : Config) (c : ℕ) (sys : System w) : Type 0
 
 -- ---- an open request has a first beat
 
-has_first : {w : ℕ} (m : Message w) (n : MessageA w) → m ≡ Message.A n → is_some (first_of m) ≡ true
-has_first m n e = rw e refl
-
 source_known : {w : ℕ} (m : Message w) (source : ℕ) → request_source m ≡ Some source → is_some (first_of m) ≡ true
-source_known (Message.A m) source e = refl
-source_known m source e = absurd cc
+source_known m source e = grind arith
 
 -- ---- trackers
 
-pub of_each : (P : ℕ → Type 0) (ns : List ℕ) (n : ℕ) → is_one_of n ns ≡ true → kept.Each P ns → P n
+of_each : (P : ℕ → Type 0) (ns : List ℕ) (n : ℕ) → is_one_of n ns ≡ true → kept.Each P ns → P n
 of_each P [] n e each = absurd cc
 of_each P (m ∷ ns) n e each = go (n == m) refl e (λ f. of_each P ns n f each.1)
   where
@@ -63,22 +60,19 @@ module _ {w : ℕ} (config : Config) (log : Log w) (mail : AccessMessages w) (re
   asked_of source Replied e used =
       let opened : IsOpened c source mail s Replied ((one_memory_after config log).opened c Requests source) =
       rw e at (matched.beside.requests c source) in
-      rw e (has_first (mail.request c source) _ opened.1.1)
+      rw e (rw opened.1.1 refl)
   asked_of source (Acquires n) e used =
       rw e (acquires_something w ((s.block n).pair c).acquiring ((s.block n).source c) n)
 
   tracker_below : (i n : ℕ) → s.tracked i ≡ Some n → i < config.trackers
   tracker_below i n e =
-      let named : tracks_with i (s.block n) ≡ true = sym (matched.invariant.named.trackers i n) ∙ rw e (same_number n)
-      in
-      let parts = and_parts (is_busy (s.block n).service) (i == (s.block n).tracker) named in
+      let parts = and_parts (is_busy (s.block n).service) (i == (s.block n).tracker)
+      (sym (matched.invariant.named.trackers i n) ∙ rw e (same_number n)) in
       let q = someone (s.block n).service parts.0 in
-      let is : service_of_block n (services sys.manager.trace) ≡ Some
-      (record { tracker = (s.block n).tracker; link = record { 0 = q.0 }; request = request n }) =
-      matched.managed.serving_is n ∙ ap (λ (o : Option ℕ). service_with o (s.block n).tracker (request n)) q.1 in
       let same : i ≡ (s.block n).tracker = eqb-true i (s.block n).tracker parts.1 in
       rw same (of_each (λ k. k < config.trackers) (trackers_of (services sys.manager.trace)) (s.block n).tracker
-      (tracker_among n (services sys.manager.trace) _ is) matched.manager_kept.tracked)
+      (tracker_among n (services sys.manager.trace) _ (matched.managed.serving_is n
+      ∙ ap (λ (o : Option ℕ). service_with o (s.block n).tracker (request n)) q.1)) matched.manager_kept.tracked)
 
   pub matched-bounded : IsOwn config c sys → AreBounded c (sources_of (terms_at config c)) config.trackers s
   matched-bounded own = record {

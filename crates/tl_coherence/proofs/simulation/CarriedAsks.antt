@@ -1,17 +1,17 @@
 -- The channels carry the messages of the tokens after a client is asked.
 use Rattle.std.proofs.Common.{◌≡◌, ℕ, Bool, true, false, List, Option, Some, None, refl, ◌∙◌, ap, ◌⊎◌, inl, inr, ne_eqb}
-use Rattle.std.proofs.Common.{◌==◌, if◌then◌else◌}
+use Rattle.std.proofs.Common.{arith, ◌==◌, if◌then◌else◌}
 use Rattle.tl_coherence.proofs
 use proofs.Imports.{cases_eq, Channel, IsWidth, Message, Grow, Prune, IsInvariant, is_asked, Kind, Request, Acquire}
 use proofs.Imports.{Release, set, set_at, NoAcquire, NoRelease, Block, State, SourceFree, packet, with_a, with_c}
 use proofs.Imports.{access_asked, acquire_asked, acquiring_block, release_asked, releasing_block, block_stored}
 use proofs.Imports.{stored_block, ChannelRelation, Move, Stays, AreMoved, AccessMessages, block_message, message_of}
 use proofs.Imports.{System, same_channel, channel_of_message}
-use proofs.protocol.{AlikeRequests.alike-acquiring, AlikeRequests.alike-releasing, AlikeRequests.alike-bytes}
-use proofs.protocol.{Asked.access_moves, Asked.acquire_moves, Asked.release_moves}
+use proofs.protocol.AlikeRequests.{alike-acquiring, alike-releasing, alike-bytes}
+use proofs.protocol.Asked.{access_moves, acquire_moves, release_moves}
+use proofs.queues.{Landed.pushes_of, Moves.moves_at, Tokens.same_number, Tokens.set-same}
 use proofs.queues.Channels.{IsHanded, Fits, carried-event, queued-handed, moved-at, fits-handed, pushes_at}
-use proofs.queues.{Landed.pushes_of, Moves.moves_at, Showing.carries, Showing.showing-block, Tokens.same_number}
-use proofs.queues.{Tokens.set-same}
+use proofs.queues.Showing.{carries, showing-block}
 
 -- ---- one message that is handed out
 
@@ -50,10 +50,9 @@ access_asked-carried {w} {caching} c source m mail {s} {sys} {sys'} width inv in
       requests = λ d i e f. requests d i e (cases_eq d c) (cases_eq i source);
       answers = λ d i e f. refl;
     })
-    (queued-handed (moves_at c (access_moves source)) mail' s' handed
-    (fits-handed c (pushes_of (Some m)) (access_moves source) (λ d k i. message_of mail' s' d (packet k i))
-    (λ at. fits_pushed false m Channel.A at (access_moves source at) (λ k i. message_of mail' s' c (packet k i)) chan
-    (fits at))))
+    (queued-handed (moves_at c (access_moves source)) mail' s' handed (fits-handed c (pushes_of (Some m))
+    (access_moves source) (λ d k i. message_of mail' s' d (packet k i)) (λ at. fits_pushed false m Channel.A at
+    (access_moves source at) (λ k i. message_of mail' s' c (packet k i)) chan (fits at))))
     h
   where
     mail' : AccessMessages w
@@ -81,18 +80,14 @@ pub acquire_asked-carried : {w : ℕ} {caching : ℕ → Bool} (c n source : ℕ
     → block_message Acquire c n (acquiring_block c source whole g bytes (s.block n)) ≡ m
     → IsHanded (pushes_at c (pushes_of (Some m))) sys sys' → ChannelRelation mail s sys
     → ChannelRelation mail (acquire_asked c n source whole g bytes s) sys'
-acquire_asked-carried {w} {caching} c n source whole g bytes m mail {s} {sys} {sys'} width inv inv' calm chan is handed
-    h =
+acquire_asked-carried c n source whole g bytes m mail {s} {sys} {sys'} width inv inv' calm chan is handed h =
     let new : Block (List ℕ) = acquiring_block c source whole g bytes (s.block n) in
     let s' : State (List ℕ) = acquire_asked c n source whole g bytes s in
-    let moved : AreMoved (acquire_moves n) (s.link c) (with_a (packet Acquire n) (s.link c)) =
-    elim [ Channel.A ↦ refl | _ ↦ refl ] in
-    let fits : (at : Channel) → Fits false (only_on Channel.A m at) (acquire_moves n at)
-    (λ k i. message_of mail s' c (packet k i)) =
-    elim [ Channel.A ↦ new_there Acquire c n new s.block m is | at ↦ tt ] in
+    let fits : (at : Channel) → Fits false (only_on Channel.A m at) (acquire_moves n at) (λ k i. message_of mail s' c
+    (packet k i)) = elim [ Channel.A ↦ new_there Acquire c n new s.block m is | at ↦ tt ] in
     carried-event sys sys' width
-    (showing-block n new (moves_at c (acquire_moves n)) mail mail inv inv'
-    (moved-at c (acquire_moves n) (with_a (packet Acquire n) (s.link c)) s.link moved) (λ i. refl)
+    (showing-block n new (moves_at c (acquire_moves n)) mail mail inv inv' (moved-at c (acquire_moves n)
+    (with_a (packet Acquire n) (s.link c)) s.link (elim [ Channel.A ↦ refl | _ ↦ refl ])) (λ i. refl)
     (λ d. alike-acquiring c source whole g bytes (inv.blocks n) calm d) (λ d i e f. refl) (λ d i e f. refl))
     (queued-handed (moves_at c (acquire_moves n)) mail s' handed (fits-handed c (pushes_of (Some m)) (acquire_moves n)
     (λ d k i. message_of mail s' d (packet k i)) (λ at. fits_pushed false m Channel.A at (acquire_moves n at)
@@ -107,14 +102,11 @@ pub release_asked-carried : {w : ℕ} {caching : ℕ → Bool} (c n source : ℕ
 release_asked-carried {w} {caching} c n source r m mail {s} {sys} {sys'} width inv inv' kept chan is handed h =
     let new : Block (List ℕ) = releasing_block c source r (s.block n) in
     let s' : State (List ℕ) = release_asked c n source r s in
-    let moved : AreMoved (release_moves n) (s.link c) (with_c (packet Release n) (s.link c)) =
-    elim [ Channel.A ↦ refl | _ ↦ refl ] in
-    let fits : (at : Channel) → Fits false (only_on Channel.C m at) (release_moves n at)
-    (λ k i. message_of mail s' c (packet k i)) =
-    elim [ Channel.C ↦ new_there Release c n new s.block m is | at ↦ tt ] in
+    let fits : (at : Channel) → Fits false (only_on Channel.C m at) (release_moves n at) (λ k i. message_of mail s' c
+    (packet k i)) = elim [ Channel.C ↦ new_there Release c n new s.block m is | at ↦ tt ] in
     carried-event sys sys' width
-    (showing-block n new (moves_at c (release_moves n)) mail mail inv inv'
-    (moved-at c (release_moves n) (with_c (packet Release n) (s.link c)) s.link moved) (λ i. refl)
+    (showing-block n new (moves_at c (release_moves n)) mail mail inv inv' (moved-at c (release_moves n)
+    (with_c (packet Release n) (s.link c)) s.link (elim [ Channel.A ↦ refl | _ ↦ refl ])) (λ i. refl)
     (λ d. alike-releasing c source r (s.block n) kept d) (λ d i e f. refl) (λ d i e f. refl))
     (queued-handed (moves_at c (release_moves n)) mail s' handed (fits-handed c (pushes_of (Some m)) (release_moves n)
     (λ d k i. message_of mail s' d (packet k i)) (λ at. fits_pushed false m Channel.C at (release_moves n at)
@@ -125,8 +117,7 @@ abbrev still_moves : ℕ → Channel → Move
 still_moves d ch = Stays
 
 no_push : {w : ℕ} (b : Bool) (render : Kind → ℕ → Message w) → Fits false (if b then None else None) Stays render
-no_push true render = tt
-no_push false render = tt
+no_push b render = grind arith
 
 pub nothing_asked-carried : {w : ℕ} {caching : ℕ → Bool} (c : ℕ) (mail : AccessMessages w) {s : State (List ℕ)}
     {sys sys' : System w} → IsWidth w → IsInvariant caching s → IsHanded (pushes_at c (pushes_of None)) sys sys'

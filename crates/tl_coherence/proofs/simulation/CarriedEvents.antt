@@ -6,7 +6,7 @@ use proofs.Imports.{cases_eq, Channel, Message, Cap, Prune, Report, IsInvariant,
 use proofs.Imports.{Probe, ProbeAck, Release, Answer, Grant, ReleaseAck, Packet, set, set_at, ProbeSent, Free, Block}
 use proofs.Imports.{State, Asked, packet, answered_link, let_link, probed_link, access_answered, performed_block}
 use proofs.Imports.{acquire_granted, granted_at_once, probe_taken, probed_block, report_taken, reported_block}
-use proofs.Imports.{release_taken, let_block, Stays, AreMoved, AccessMessages, block_message, message_of, same_channel}
+use proofs.Imports.{release_taken, let_block, Stays, AccessMessages, block_message, message_of, same_channel}
 use proofs.Imports.{channel_of_message}
 use proofs.protocol.{AlikeRequests.alike-bytes, AlikeRequests.alike-granted_at_once, Alike.alike-probed}
 use proofs.protocol.{Alike.alike-reported, Alike.alike-let, Answered.answer_moves, AtOnce.once_moves}
@@ -26,15 +26,13 @@ pub access_answered-shown : {w : ℕ} {caching : ℕ → Bool} (c n source : ℕ
     → channel_of_message m ≡ Channel.D → IsShown caching n c Channel.A (pushes_at c (pushes_of (Some m))) mail
     (record { request = mail.request; answer = set_at c source m mail.answer }) s (access_answered c n source f rest s)
 access_answered-shown {w} {caching} c n source f rest m mail {s} inv inv' first used bytes chan =
-    let moved : AreMoved (answer_moves source) (s.link c) (answered_link (packet Answer source) rest (s.link c)) =
-    elim [ Channel.A ↦ first | _ ↦ refl ] in
     let new : Block (List ℕ) = performed_block f (s.block n) in
     record {
       moves = (moves_at c (answer_moves source));
       showing = showing-block n new (moves_at c (answer_moves source)) mail mail' inv inv'
-          (moved-at c (answer_moves source) (answered_link (packet Answer source) rest (s.link c)) s.link moved)
-          (λ i. refl) (alike-bytes (s.block n) new refl refl refl refl refl bytes) (λ d i e g. refl)
-          (λ d i e g. answers d i e (cases_eq d c) (cases_eq i source));
+          (moved-at c (answer_moves source) (answered_link (packet Answer source) rest (s.link c)) s.link (elim
+          [ Channel.A ↦ first | _ ↦ refl ])) (λ i. refl) (alike-bytes (s.block n) new refl refl refl refl refl bytes)
+          (λ d i e g. refl) (λ d i e g. answers d i e (cases_eq d c) (cases_eq i source));
       fits = fits-at c Channel.A (pushes_of (Some m)) (answer_moves source)
           (λ d k i. message_of mail' s' d (packet k i)) (λ at. fits_pushed (same_channel at Channel.A) m Channel.D at
           (answer_moves source at) (λ k i. message_of mail' s' c (packet k i)) chan (fits at));
@@ -68,15 +66,12 @@ pub acquire_granted-shown : {w : ℕ} {caching : ℕ → Bool} (r n tracker : �
 acquire_granted-shown {w} {caching} r n tracker d k rest m mail {s} inv inv' first free chan is =
     let new : Block (List ℕ) = granted_at_once r tracker d k (s.block n) in
     let s' : State (List ℕ) = acquire_granted r n tracker d k rest s in
-    let moved : AreMoved (once_moves n) (s.link r) (answered_link (packet Grant n) rest (s.link r)) =
-    elim [ Channel.A ↦ first | _ ↦ refl ] in
     let fits : (at : Channel) → Fits (same_channel at Channel.A) (only_on Channel.D m at) (once_moves n at)
-    (λ j l. message_of mail s' r (packet j l)) = elim [ Channel.D ↦ new_there Grant r n new s.block m is | at ↦ tt ]
-    in
+    (λ j l. message_of mail s' r (packet j l)) = elim [ Channel.D ↦ new_there Grant r n new s.block m is | at ↦ tt ] in
     record {
       moves = (moves_at r (once_moves n));
-      showing = showing-block n new (moves_at r (once_moves n)) mail mail inv inv'
-          (moved-at r (once_moves n) (answered_link (packet Grant n) rest (s.link r)) s.link moved) (λ i. refl)
+      showing = showing-block n new (moves_at r (once_moves n)) mail mail inv inv' (moved-at r (once_moves n)
+          (answered_link (packet Grant n) rest (s.link r)) s.link (elim [ Channel.A ↦ first | _ ↦ refl ])) (λ i. refl)
           (alike-granted_at_once r tracker d k (s.block n) free) (λ i j e f. refl) (λ i j e f. refl);
       fits = fits-at r Channel.A (pushes_of (Some m)) (once_moves n) (λ i j l. message_of mail s' i (packet j l))
           (λ at. fits_pushed (same_channel at Channel.A) m Channel.D at (once_moves n at)
@@ -94,16 +89,14 @@ pub probe_taken-shown : {w : ℕ} {caching : ℕ → Bool} (c n : ℕ) (k : Cap)
 probe_taken-shown {w} {caching} c n k rest m mail {s} inv inv' first sent chan is =
     let new : Block (List ℕ) = probed_block c k (s.block n) in
     let s' : State (List ℕ) = probe_taken c n k rest s in
-    let moved : AreMoved (probe_moves n) (s.link c) (probed_link n rest (s.link c)) =
-    elim [ Channel.B ↦ first | _ ↦ refl ] in
     let fits : (at : Channel) → Fits (same_channel at Channel.B) (only_on Channel.C m at) (probe_moves n at)
     (λ j l. message_of mail s' c (packet j l)) =
     elim [ Channel.C ↦ new_there ProbeAck c n new s.block m is | at ↦ tt ] in
     record {
       moves = (moves_at c (probe_moves n));
       showing = showing-block n new (moves_at c (probe_moves n)) mail mail inv inv'
-          (moved-at c (probe_moves n) (probed_link n rest (s.link c)) s.link moved) (λ i. refl)
-          (alike-probed c k (s.block n) sent) (λ i j e f. refl) (λ i j e f. refl);
+          (moved-at c (probe_moves n) (probed_link n rest (s.link c)) s.link (elim [ Channel.B ↦ first | _ ↦ refl ]))
+          (λ i. refl) (alike-probed c k (s.block n) sent) (λ i j e f. refl) (λ i j e f. refl);
       fits = fits-at c Channel.B (pushes_of (Some m)) (probe_moves n) (λ i j l. message_of mail s' i (packet j l))
           (λ at. fits_pushed (same_channel at Channel.B) m Channel.C at (probe_moves n at)
           (λ j l. message_of mail s' c (packet j l)) chan (fits at));
@@ -115,17 +108,13 @@ pub report_taken-shown : {w : ℕ} {caching : ℕ → Bool} (c n : ℕ) (r : Rep
     (mail : AccessMessages w) {s : State (List ℕ)} → IsInvariant caching s
     → IsInvariant caching (report_taken c n r rest s) → (s.link c).c ≡ packet ProbeAck n ∷ rest
     → IsShown caching n c Channel.C (λ d at. None) mail mail s (report_taken c n r rest s)
-report_taken-shown {w} {caching} c n r rest mail {s} inv inv' first =
-    let moved : AreMoved (report_moves n) (s.link c) (record (s.link c) { c = rest }) =
-    elim [ Channel.C ↦ first | _ ↦ refl ] in
-    let new : Block (List ℕ) = reported_block c r (s.block n) in
-    record {
-      moves = (moves_at c (report_moves n));
-      showing = showing-block n new (moves_at c (report_moves n)) mail mail inv inv'
-          (moved-at c (report_moves n) (record (s.link c) { c = rest }) s.link moved) (λ i. refl)
-          (alike-reported c r (s.block n)) (λ i j e f. refl) (λ i j e f. refl);
-      fits = λ d at. fits d at (d == c);
-    }
+report_taken-shown {w} {caching} c n r rest mail {s} inv inv' first = record {
+  moves = (moves_at c (report_moves n));
+  showing = showing-block n (reported_block c r (s.block n)) (moves_at c (report_moves n)) mail mail inv inv'
+      (moved-at c (report_moves n) (record (s.link c) { c = rest }) s.link (elim [ Channel.C ↦ first | _ ↦ refl ]))
+      (λ i. refl) (alike-reported c r (s.block n)) (λ i j e f. refl) (λ i j e f. refl);
+  fits = λ d at. fits d at (d == c);
+}
   where
     s' : State (List ℕ)
     s' = report_taken c n r rest s
@@ -150,16 +139,14 @@ pub release_taken-shown : {w : ℕ} {caching : ℕ → Bool} (c n : ℕ) (r : Pr
 release_taken-shown {w} {caching} c n r rest m mail {s} inv inv' first chan is =
     let new : Block (List ℕ) = let_block c r (s.block n) in
     let s' : State (List ℕ) = release_taken c n r rest s in
-    let moved : AreMoved (let_moves n) (s.link c) (let_link n rest (s.link c)) =
-    elim [ Channel.C ↦ first | _ ↦ refl ] in
     let fits : (at : Channel) → Fits (same_channel at Channel.C) (only_on Channel.D m at) (let_moves n at)
     (λ j l. message_of mail s' c (packet j l)) =
     elim [ Channel.D ↦ new_there ReleaseAck c n new s.block m is | at ↦ tt ] in
     record {
       moves = (moves_at c (let_moves n));
       showing = showing-block n new (moves_at c (let_moves n)) mail mail inv inv'
-          (moved-at c (let_moves n) (let_link n rest (s.link c)) s.link moved) (λ i. refl)
-          (alike-let c r (s.block n)) (λ i j e f. refl) (λ i j e f. refl);
+          (moved-at c (let_moves n) (let_link n rest (s.link c)) s.link (elim [ Channel.C ↦ first | _ ↦ refl ]))
+          (λ i. refl) (alike-let c r (s.block n)) (λ i j e f. refl) (λ i j e f. refl);
       fits = fits-at c Channel.C (pushes_of (Some m)) (let_moves n) (λ i j l. message_of mail s' i (packet j l))
           (λ at. fits_pushed (same_channel at Channel.C) m Channel.D at (let_moves n at)
           (λ j l. message_of mail s' c (packet j l)) chan (fits at));

@@ -1,29 +1,24 @@
 -- The channels carry the messages of the tokens after the last report, for which a service ends.
-use Rattle.std.proofs.Common.{◌≡◌, ℕ, Bool, true, false, ◌&&◌, List, [], ◌∷◌, ◌++◌, Some, None, refl, sym, ◌∙◌, ap, ◌⊎◌}
+use Rattle.std.proofs.Common.{◌≡◌, ℕ, Bool, true, false, ◌&&◌, List, ◌∷◌, Some, None, refl, sym, ◌∙◌, ap, ◌⊎◌, arith}
 use Rattle.std.proofs.Common.{inl, inr, ne_eqb, ◌==◌, if◌then◌else◌, eqb-true}
 use Rattle.tl_coherence.proofs
 use proofs.Imports.{cases_eq, Channel, Message, Cap, Report, IsInvariant, is_replied, Kind, ProbeAck, Answer, Grant}
 use proofs.Imports.{Packet, set, set_at, Waits, Block, State, packet, packets_on, popped_link, granted_link}
-use proofs.Imports.{report_answers, ended_block, report_grants, granted_block, shown, Move, Stays, Pushes, Pops}
-use proofs.Imports.{IsMoved, AccessMessages, block_message, message_of, same_channel, channel_of_message}
-use Rattle.tl_coherence.specs.protocol.Protocol.{Link}
-use proofs.protocol.{Alike.alike-ended, Alike.alike-granted, Ended.ended_move, Ended.ended_moved}
-use proofs.protocol.{GrantedAll.granted_moves}
-use proofs.simulation.CarriedAsks.{only_on}
+use proofs.Imports.{report_answers, ended_block, report_grants, granted_block, shown, Move, IsMoved, AccessMessages}
+use proofs.Imports.{block_message, message_of, same_channel, channel_of_message}
+use Rattle.tl_coherence.{specs.protocol.Protocol.Link}
+use proofs.protocol.{Alike.alike-ended, Alike.alike-granted, GrantedAll.granted_moves}
+use proofs.protocol.Ended.{ended_move, ended_moved}
+use proofs.simulation.{CarriedAsks.only_on}
 use proofs.queues.{Channels.Fits, Channels.pushes_at, Landed.pushes_of, Shown.IsShown, Showing.carries}
-use proofs.queues.{Showing.showing-block, Tokens.same_number, Tokens.set-same, Tokens.set-other}
+use proofs.queues.{Showing.showing-block, Tokens.same_number, Tokens.set-same}
 
 -- ---- the last report, for which an access is answered
 
 ended_fits : {w : ℕ} (x y : Bool) (n source : ℕ) (m : Message w) (at : Channel) (render : Kind → ℕ → Message w)
-    → (y ≡ true → render Answer source ≡ m)
-    → Fits (x && same_channel at Channel.C) (if y then only_on Channel.D m at else None) (ended_move x y n source at)
-    render
-ended_fits true true n source m Channel.D render e = e refl
-ended_fits true false n source m Channel.D render e = tt
-ended_fits false true n source m Channel.D render e = e refl
-ended_fits false false n source m Channel.D render e = tt
-ended_fits x y n source m at render e = tt
+    → (y ≡ true → render Answer source ≡ m) → Fits (x && same_channel at Channel.C)
+    (if y then only_on Channel.D m at else None) (ended_move x y n source at) render
+ended_fits x y n source m at render e = grind arith
 
 -- the first token of c's channel C, wherever it is looked for
 first_of_c : (c d : ℕ) (t : Packet) (rest : List Packet) (link : ℕ → Link) → (link c).c ≡ t ∷ rest → (d == c) ≡ true
@@ -32,10 +27,7 @@ first_of_c c d t rest link first e = rw (eqb-true d c e) first
 
 popped_is : (c d : ℕ) (rest : List Packet) (link : ℕ → Link)
     → popped_link c rest link d ≡ (if d == c then record (link d) { c = rest } else link d)
-popped_is c d rest link = elim (cases_eq d c) [
-  | inl same ↦ rw (same, same_number c) refl
-  | inr other ↦ rw (ne_eqb d c other) refl
-]
+popped_is c d rest link = grind (arith, cases_eq)
 
 pub report_answers-shown : {w : ℕ} {caching : ℕ → Bool} (c q n source : ℕ) (r : Report) (k : Cap) (f : List ℕ → List ℕ)
     (rest : List Packet) (m : Message w) (mail : AccessMessages w) {s : State (List ℕ)} → IsInvariant caching s
@@ -47,7 +39,6 @@ pub report_answers-shown : {w : ℕ} {caching : ℕ → Bool} (c q n source : �
     (record { request = mail.request; answer = set_at q source m mail.answer }) s
     (report_answers c q n source r f rest s)
 report_answers-shown {w} {caching} c q n source r k f rest m mail {s} inv inv' first waits used bytes chan =
-    let new : Block (List ℕ) = ended_block c r f (s.block n) in
     let mail' : AccessMessages w = record { request = mail.request; answer = set_at q source m mail.answer } in
     let s' : State (List ℕ) = report_answers c q n source r f rest s in
     let moves : ℕ → Channel → Move = λ d. ended_move (d == c) (d == q) n source in
@@ -61,8 +52,8 @@ report_answers-shown {w} {caching} c q n source r k f rest m mail {s} inv inv' f
     (d == q) n source m at (λ j l. message_of mail' s' d (packet j l)) (answer_is d)) in
     record {
       moves = moves;
-      showing = showing-block n new moves mail mail' inv inv' (λ d ch. moved d ch) (λ i. refl)
-          (alike-ended c q source r k f (s.block n) waits bytes) (λ d i e g. refl)
+      showing = showing-block n (ended_block c r f (s.block n)) moves mail mail' inv inv' (λ d ch. moved d ch)
+          (λ i. refl) (alike-ended c q source r k f (s.block n) waits bytes) (λ d i e g. refl)
           (λ d i e g. answers d i e (cases_eq d q) (cases_eq i source));
       fits = λ d at. fits d at;
     }
@@ -79,61 +70,12 @@ report_answers-shown {w} {caching} c q n source r k f rest m mail {s} inv inv' f
 granted_moved : (n c q d : ℕ) (ch : Channel) (rest : List Packet) (link : ℕ → Link) → (c ≡ q → ⊥)
     → (link c).c ≡ packet ProbeAck n ∷ rest
     → IsMoved (granted_moves n c q d ch) (packets_on ch (link d)) (packets_on ch (granted_link c q n rest link d))
-granted_moved n c q d ch rest link apart first = elim (cases_eq d q) [
-  | inl same ↦ rw same (at_sender ch (granted_link c q n rest link q)
-      (set-same q (record (link q) { d = (link q).d ++ packet Grant n ∷ [] }) (popped_link c rest link)))
-  | inr other ↦ elim (cases_eq d c) [
-    | inl also ↦ rw also (at_reporter ch (granted_link c q n rest link c)
-        (set-other q c (record (link q) { d = (link q).d ++ packet Grant n ∷ [] }) (popped_link c rest link) apart
-        ∙ set-same c (record (link c) { c = rest }) link))
-    | inr neither ↦ at_other ch (granted_link c q n rest link d) other neither
-        (set-other q d (record (link q) { d = (link q).d ++ packet Grant n ∷ [] }) (popped_link c rest link)
-        other ∙ set-other c d (record (link c) { c = rest }) link neither)
-  ]
-]
-  where
-    swapped : (q ≡ c → ⊥)
-    swapped e = apart (sym e)
-
-    at_sender : (ch : Channel) (l : Link) → l ≡ record (link q) { d = (link q).d ++ packet Grant n ∷ [] }
-        → IsMoved (granted_moves n c q q ch) (packets_on ch (link q)) (packets_on ch l)
-    at_sender Channel.C l e = rw (e, ne_eqb q c swapped) refl
-    at_sender Channel.D l e = rw (e, same_number q) refl
-    at_sender ch l e = rw e refl
-
-    at_reporter : (ch : Channel) (l : Link) → l ≡ record (link c) { c = rest }
-        → IsMoved (granted_moves n c q c ch) (packets_on ch (link c)) (packets_on ch l)
-    at_reporter Channel.C l e = rw (e, same_number c) first
-    at_reporter Channel.D l e = rw (e, ne_eqb c q apart) refl
-    at_reporter ch l e = rw e refl
-
-    at_other : (ch : Channel) (l : Link) → (d ≡ q → ⊥) → (d ≡ c → ⊥) → l ≡ link d
-        → IsMoved (granted_moves n c q d ch) (packets_on ch (link d)) (packets_on ch l)
-    at_other Channel.C l o i e = rw (e, ne_eqb d c i) refl
-    at_other Channel.D l o i e = rw (e, ne_eqb d q o) refl
-    at_other ch l o i e = rw e refl
+granted_moved n c q d ch rest link apart first = grind arith
 
 granted_fits : {w : ℕ} (n : ℕ) (m : Message w) (at : Channel) (c q d : ℕ) (render : Kind → ℕ → Message w)
-    → ((d == q) ≡ true → render Grant n ≡ m)
-    → Fits ((d == c) && same_channel at Channel.C) (if d == q then only_on Channel.D m at else None)
-    (granted_moves n c q d at) render
-granted_fits {w} n m at c q d render e =
-    let same : (at : Channel) → granted_moves n c q d at ≡ moves (d == c) (d == q) at =
-    elim [ Channel.A ↦ refl | at ↦ refl ] in
-    rw (same at) (cases (d == c) (d == q) at e)
-  where
-    moves : Bool → Bool → Channel → Move
-    moves x y Channel.C = if x then Pops ProbeAck n else Stays
-    moves x y Channel.D = if y then Pushes Grant n else Stays
-    moves x y _ = Stays
-
-    cases : (x y : Bool) (at : Channel) → (y ≡ true → render Grant n ≡ m)
-        → Fits (x && same_channel at Channel.C) (if y then only_on Channel.D m at else None) (moves x y at) render
-    cases true true Channel.D e = e refl
-    cases true false Channel.D e = tt
-    cases false true Channel.D e = e refl
-    cases false false Channel.D e = tt
-    cases x y at e = tt
+    → ((d == q) ≡ true → render Grant n ≡ m) → Fits ((d == c) && same_channel at Channel.C)
+    (if d == q then only_on Channel.D m at else None) (granted_moves n c q d at) render
+granted_fits {w} n m at c q d render e = grind arith
 
 pub report_grants-shown : {w : ℕ} {caching : ℕ → Bool} (c q n source : ℕ) (r : Report) (d : Bool) (k gift : Cap)
     (rest : List Packet) (m : Message w) (mail : AccessMessages w) {s : State (List ℕ)} → IsInvariant caching s
@@ -150,9 +92,8 @@ report_grants-shown {w} {caching} c q n source r d k gift rest m mail {s} inv in
       | inl same ↦ rw same (ap (block_message Grant q n) (set-same n new s.block) ∙ is)
       | inr other ↦ absurd (let f : false ≡ true = sym (ne_eqb i q other) ∙ e in cc)
     ] in
-    let fits : (i : ℕ) (at : Channel)
-    → Fits ((i == c) && same_channel at Channel.C) (pushes_at q (pushes_of (Some m)) i at) (moves i at)
-    (λ j l. message_of mail s' i (packet j l)) =
+    let fits : (i : ℕ) (at : Channel) → Fits ((i == c) && same_channel at Channel.C)
+    (pushes_at q (pushes_of (Some m)) i at) (moves i at) (λ j l. message_of mail s' i (packet j l)) =
     λ i at. rw chan (granted_fits n m at c q i (λ j l. message_of mail s' i (packet j l)) (grant_is i)) in
     record {
       moves = moves;

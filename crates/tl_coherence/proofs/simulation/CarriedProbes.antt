@@ -1,24 +1,19 @@
 -- The channels carry the messages of the tokens after an event at two clients or more: a request that probes, and the
 -- last report, for which an access is answered or an Acquire is granted.
-use Rattle.std.proofs.Common.{◌≡◌, ℕ, zero, suc, ◌+◌, ◌<◌, ◌≤◌, Bool, true, false, not, ◌&&◌, List, [], ◌∷◌, ◌++◌}
-use Rattle.std.proofs.Common.{Option, Some, None, refl, ◌∙◌, ◌⊎◌, inl, inr, arith, ne_eqb, ◌==◌, if◌then◌else◌}
-use Rattle.std.proofs.Common.{eqb-true}
+use Rattle.std.proofs.Common.{◌≡◌, ℕ, zero, suc, ◌+◌, ◌<◌, ◌≤◌, Bool, true, false, ◌&&◌, List, [], ◌∷◌, Option, Some}
+use Rattle.std.proofs.Common.{None, refl, ◌∙◌, ◌⊎◌, inl, inr, arith, ne_eqb, ◌==◌, if◌then◌else◌, eqb-true}
 use Rattle.tl_coherence.proofs
-use proofs.Imports.{cases_eq, cases_lt, Channel, Message, beats_of, Cap, beats_from, probes, probe_of_block}
-use proofs.Imports.{clients_from, IsInvariant, Kind, Request, Acquire, Probe, Packet, set, ClientBlock, is_above}
-use proofs.Imports.{after_served, Free, Block, State, packet, packets_on, is_probed, served_link}
-use proofs.Imports.{served_block, acquire_served, access_served, Move, Stays, Pops, IsMoved, AccessMessages}
-use proofs.Imports.{block_message, message_of, cap_sent, System, same_channel, with_messages, with_message}
-use proofs.protocol.{AlikeRequests.alike-served, Served.request_move, Served.any_moved, Served.served_moves}
-use proofs.protocol.{Served.kind_served, Served.number_served}
-use proofs.queues.{Channels.Fits, Channels.behind, Shown.IsShown, Showing.showing-block, Tokens.same_number}
-use proofs.queues.{Tokens.set-same}
+use proofs.Imports.{cases_eq, cases_lt, Channel, Message, Cap, probes, probe_of_block, clients_from, IsInvariant, Kind}
+use proofs.Imports.{Request, Acquire, Probe, Packet, set, ClientBlock, after_served, Free, Block, State, packet}
+use proofs.Imports.{packets_on, is_probed, served_link, served_block, acquire_served, access_served, Move, Stays, Pops}
+use proofs.Imports.{IsMoved, AccessMessages, block_message, message_of, cap_sent, System, same_channel, with_messages}
+use proofs.Imports.{with_message}
+use proofs.protocol.{AlikeRequests.alike-served}
+use proofs.protocol.Served.{request_move, any_moved, served_moves, kind_served, number_served}
+use proofs.queues.{Shown.IsShown, Showing.showing-block, Tokens.same_number, Tokens.set-same}
+use proofs.queues.Channels.{Fits, behind}
 
 -- ---- Probes that are handed out
-
-own_probe : {w : ℕ} (n : ℕ) (k : Cap) (d : ℕ) (s : System w) → (with_message d (probe_of_block n k) s).channels d
-    Channel.B ≡ s.channels d Channel.B ++ beats_from (probe_of_block n k) 0 (beats_of (probe_of_block {w = w} n k))
-own_probe n k d s = rw (same_number d) refl
 
 other_probe : {w : ℕ} (n : ℕ) (k : Cap) (c d : ℕ) (at : Channel) (s : System w) → (d ≡ c → ⊥)
     → (with_message c (probe_of_block n k) s).channels d at ≡ s.channels d at
@@ -26,14 +21,10 @@ other_probe n k c d at s ne = rw (ne_eqb d c ne) refl
 
 aside_probe : {w : ℕ} (n : ℕ) (k : Cap) (c d : ℕ) (at : Channel) (s : System w) → same_channel at Channel.B ≡ false
     → (with_message c (probe_of_block n k) s).channels d at ≡ s.channels d at
-aside_probe {w} n k c d at s aside =
-    let go : (b : Bool) → (if b && false then s.channels c Channel.B ++ beats_from (probe_of_block n k) 0
-    (beats_of (probe_of_block {w = w} n k)) else s.channels d at) ≡ s.channels d at =
-    elim [ true ↦ refl | false ↦ refl ] in
-    rw aside (go (d == c))
+aside_probe {w} n k c d at s aside = grind arith
 
 -- Probes go on channel B
-pub probes-aside : {w : ℕ} (n : ℕ) (k : Cap) (clients : List ℕ) (d : ℕ) (at : Channel) (s : System w)
+probes-aside : {w : ℕ} (n : ℕ) (k : Cap) (clients : List ℕ) (d : ℕ) (at : Channel) (s : System w)
     → same_channel at Channel.B ≡ false → (with_messages (probes n k clients) s).channels d at ≡ s.channels d at
 unfolding with_messages
 probes-aside n k [] d at s aside = refl
@@ -41,7 +32,7 @@ probes-aside n k (c ∷ clients) d at s aside = probes-aside n k clients d at (w
     aside ∙ aside_probe n k c d at s aside
 
 -- none goes to one who isn't among those clients
-pub probes-outside : {w : ℕ} (n : ℕ) (k : Cap) (first count : ℕ) (test : ℕ → Bool) (d : ℕ) (s : System w)
+probes-outside : {w : ℕ} (n : ℕ) (k : Cap) (first count : ℕ) (test : ℕ → Bool) (d : ℕ) (s : System w)
     → (d < first) ⊎ (first + count ≤ d)
     → (with_messages (probes n k (clients_from first count test)) s).channels d Channel.B ≡ s.channels d Channel.B
 unfolding with_messages clients_from
@@ -50,22 +41,19 @@ probes-outside {w} n k first (suc count) test d s out =
     go (λ u. probes-outside n k (first + 1) count test d u (later out)) (test first)
   where
     later : (d < first) ⊎ (first + suc count ≤ d) → (d < first + 1) ⊎ (first + 1 + count ≤ d)
-    later (inl lt) = inl (omega (arith, lt))
-    later (inr le) = inr (omega (arith, le))
+    later e = grind arith
 
     apart : (d < first) ⊎ (first + suc count ≤ d) → d ≡ first → ⊥
-    apart (inl lt) e = absurd (omega (arith, e, lt))
-    apart (inr le) e = absurd (omega (arith, e, le))
+    apart e f = grind arith
 
     go : ((u : System w) → (with_messages (probes n k (clients_from (first + 1) count test)) u).channels d
         Channel.B ≡ u.channels d Channel.B) → (b : Bool)
         → (with_messages (probes n k (if b then first ∷ clients_from (first + 1) count test else clients_from
         (first + 1) count test)) s).channels d Channel.B ≡ s.channels d Channel.B
-    go rest true =
-        rest (with_message first (probe_of_block n k) s) ∙ other_probe n k first d Channel.B s (apart out)
+    go rest true = rest (with_message first (probe_of_block n k) s) ∙ other_probe n k first d Channel.B s (apart out)
     go rest false = rest s
 
-pub probes-among : {w : ℕ} (n : ℕ) (k : Cap) (first count : ℕ) (test : ℕ → Bool) (d : ℕ) (s : System w) → first ≤ d
+probes-among : {w : ℕ} (n : ℕ) (k : Cap) (first count : ℕ) (test : ℕ → Bool) (d : ℕ) (s : System w) → first ≤ d
     → d < first + count → (with_messages (probes n k (clients_from first count test)) s).channels d Channel.B
     ≡ behind (if test d then Some (probe_of_block n k) else None) (s.channels d Channel.B)
 unfolding with_messages clients_from
@@ -85,8 +73,8 @@ probes-among {w} n k first (suc count) test d s le lt =
     at_first : (b : Bool) → (with_messages
         (probes n k (if b then d ∷ clients_from (d + 1) count test else clients_from (d + 1) count test)) s).channels d
         Channel.B ≡ behind (if b then Some (probe_of_block n k) else None) (s.channels d Channel.B)
-    at_first true = probes-outside n k (d + 1) count test d (with_message d (probe_of_block n k) s) (inl (omega arith))
-        ∙ own_probe n k d s
+    at_first true = probes-outside n k (d + 1) count test d (with_message d (probe_of_block n k) s)
+        (inl (omega arith)) ∙ (rw (same_number d) refl)
     at_first false = probes-outside n k (d + 1) count test d s (inl (omega arith))
 
     later : (d ≡ first → ⊥) → Rest → (b : Bool)
@@ -114,30 +102,19 @@ channels-probes n k count test probed s same none d at = probes-aside n k (clien
 -- ---- a request that probes
 
 served_fits : {w : ℕ} (n : ℕ) (k : Cap) (x y : Bool) (at : Channel) (j : Kind) (i : ℕ) (render : Kind → ℕ → Message w)
-    → (y ≡ true → render Probe n ≡ probe_of_block n k)
-    → Fits (x && same_channel at Channel.A) (probe_pushes n k (λ d. y) 0 at)
-    (request_move (if x then Pops j i else Stays) y n at) render
-served_fits n k true true Channel.B j i render e = e refl
-served_fits n k true false Channel.B j i render e = tt
-served_fits n k false true Channel.B j i render e = e refl
-served_fits n k false false Channel.B j i render e = tt
-served_fits n k x y at j i render e = tt
+    → (y ≡ true → render Probe n ≡ probe_of_block n k) → Fits (x && same_channel at Channel.A)
+    (probe_pushes n k (λ d. y) 0 at) (request_move (if x then Pops j i else Stays) y n at) render
+served_fits n k x y at j i render e = grind arith
 
 -- the channel decides, and then whether one is probed
 pushes_is : {w : ℕ} (n : ℕ) (k : Cap) (test : ℕ → Bool) (d : ℕ) (at : Channel)
     → probe_pushes {w = w} n k test d at ≡ probe_pushes n k (λ i. test d) 0 at
-pushes_is n k test d Channel.A = refl
-pushes_is n k test d at = refl
+pushes_is n k test d at = grind arith
 
 -- the Probe that one is sent
 sent_probe : (w r : ℕ) (own : Bool) (n : ℕ) (k : Cap) (d : ℕ) (p : ClientBlock) → is_probed r own k p.recorded d ≡ true
     → probe_of_block {w = w} n (cap_sent (if own && (d == r) then p else after_served k p).probing) ≡ probe_of_block n k
-sent_probe w r own n k d p e = go (own && (d == r)) (is_above k p.recorded) refl e
-  where
-    go : (x y : Bool) → is_above k p.recorded ≡ y → (not x && y) ≡ true
-        → probe_of_block {w = w} n (cap_sent (if x then p else after_served k p).probing) ≡ probe_of_block n k
-    go false true f g = rw f refl
-    go x y f g = absurd cc
+sent_probe w r own n k d p e = grind arith
 
 sent_rendered : {w : ℕ} (r : ℕ) (own : Bool) (source tracker : ℕ) (n : ℕ) (k : Cap) (d : ℕ) (b : Block (List ℕ))
     → is_probed r own k (b.pair d).recorded d ≡ true

@@ -43,16 +43,13 @@ pub release_ack_taken-shown : {w : ℕ} {caching : ℕ → Bool} (c n : ℕ) (re
     → IsShown caching n c Channel.D (pushes_at c (pushes_of None)) mail mail s (release_ack_taken c n rest s)
 release_ack_taken-shown {w} {caching} c n rest mail {s} inv inv' first =
     let s' : State (List ℕ) = release_ack_taken c n rest s in
-    let moved : AreMoved (let_go_moves n) (s.link c) (record (s.link c) { d = rest }) =
-    elim [ Channel.D ↦ first | _ ↦ refl ] in
     let fits : (at : Channel) → Fits (same_channel at Channel.D) None (let_go_moves n at)
     (λ j l. message_of mail s' c (packet j l)) = elim [ Channel.A ↦ tt | at ↦ tt ] in
-    let new : Block (List ℕ) = let_go_block c (s.block n) in
     record {
       moves = (moves_at c (let_go_moves n));
-      showing = showing-block n new (moves_at c (let_go_moves n)) mail mail inv inv'
-          (moved-at c (let_go_moves n) (record (s.link c) { d = rest }) s.link moved) (λ i. refl)
-          (alike-let_go c (s.block n)) (λ i j e f. refl) (λ i j e f. refl);
+      showing = showing-block n (let_go_block c (s.block n)) (moves_at c (let_go_moves n)) mail mail inv inv'
+          (moved-at c (let_go_moves n) (record (s.link c) { d = rest }) s.link (elim [ Channel.D ↦ first | _ ↦ refl ]))
+          (λ i. refl) (alike-let_go c (s.block n)) (λ i j e f. refl) (λ i j e f. refl);
       fits = fits-at c Channel.D (pushes_of None) (let_go_moves n) (λ i j l. message_of mail s' i (packet j l)) fits;
     }
 
@@ -67,16 +64,14 @@ pub grant_taken-shown : {w : ℕ} {caching : ℕ → Bool} (c n : ℕ) (whole d 
 grant_taken-shown {w} {caching} c n whole d k rest m mail {s} inv inv' first sent bytes chan is =
     let new : Block (List ℕ) = taken_block c whole d k (s.block n) in
     let s' : State (List ℕ) = grant_taken c n whole d k rest s in
-    let moved : AreMoved (taken_moves n) (s.link c) (taken_link n rest (s.link c)) =
-    elim [ Channel.D ↦ first | _ ↦ refl ] in
     let fits : (at : Channel) → Fits (same_channel at Channel.D) (only_on Channel.E m at) (taken_moves n at)
     (λ j l. message_of mail s' c (packet j l)) =
     elim [ Channel.E ↦ new_there GrantAck c n new s.block m is | at ↦ tt ] in
     record {
       moves = (moves_at c (taken_moves n));
       showing = showing-block n new (moves_at c (taken_moves n)) mail mail inv inv'
-          (moved-at c (taken_moves n) (taken_link n rest (s.link c)) s.link moved) (λ i. refl)
-          (alike-taken c whole d k (s.block n) sent bytes) (λ i j e f. refl) (λ i j e f. refl);
+          (moved-at c (taken_moves n) (taken_link n rest (s.link c)) s.link (elim [ Channel.D ↦ first | _ ↦ refl ]))
+          (λ i. refl) (alike-taken c whole d k (s.block n) sent bytes) (λ i j e f. refl) (λ i j e f. refl);
       fits = fits-at c Channel.D (pushes_of (Some m)) (taken_moves n) (λ i j l. message_of mail s' i (packet j l))
           (λ at. fits_pushed (same_channel at Channel.D) m Channel.E at (taken_moves n at)
           (λ j l. message_of mail s' c (packet j l)) chan (fits at));
@@ -88,17 +83,13 @@ pub grant_ack_taken-shown : {w : ℕ} {caching : ℕ → Bool} (c n : ℕ) (rest
     {s : State (List ℕ)} → IsInvariant caching s → IsInvariant caching (grant_ack_taken c n rest s)
     → (s.link c).e ≡ packet GrantAck n ∷ rest → (s.block n).service ≡ GrantTaken c
     → IsShown caching n c Channel.E (λ d at. None) mail mail s (grant_ack_taken c n rest s)
-grant_ack_taken-shown {w} {caching} c n rest mail {s} inv inv' first sent =
-    let moved : AreMoved (freed_moves n) (s.link c) (record (s.link c) { e = rest }) =
-    elim [ Channel.E ↦ first | _ ↦ refl ] in
-    let new : Block (List ℕ) = freed_block (s.block n) in
-    record {
-      moves = (moves_at c (freed_moves n));
-      showing = showing-block n new (moves_at c (freed_moves n)) mail mail inv inv'
-          (moved-at c (freed_moves n) (record (s.link c) { e = rest }) s.link moved) (λ i. refl)
-          (alike-freed c (s.block n) sent) (λ i j e f. refl) (λ i j e f. refl);
-      fits = λ d at. fits d (d == c) at;
-    }
+grant_ack_taken-shown {w} {caching} c n rest mail {s} inv inv' first sent = record {
+  moves = (moves_at c (freed_moves n));
+  showing = showing-block n (freed_block (s.block n)) (moves_at c (freed_moves n)) mail mail inv inv'
+      (moved-at c (freed_moves n) (record (s.link c) { e = rest }) s.link (elim [ Channel.E ↦ first | _ ↦ refl ]))
+      (λ i. refl) (alike-freed c (s.block n) sent) (λ i j e f. refl) (λ i j e f. refl);
+  fits = λ d at. fits d (d == c) at;
+}
   where
     s' : State (List ℕ)
     s' = grant_ack_taken c n rest s

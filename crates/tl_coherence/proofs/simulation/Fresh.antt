@@ -2,7 +2,7 @@
 use Rattle.std.proofs.Common.{◌≡◌, ℕ, zero, suc, ◌*◌, ◌+◌, true, List, [], ◌∷◌, Bool, refl, sym, ap, arith, replicate}
 use Rattle.tl_coherence.proofs
 use proofs.Imports.{Channel, unfinished, Config, on_link, bytes_from, IsBlock, pending, held, kept-fresh, zeros}
-use proofs.Imports.{services, IsInvariant, IsWell, Kind, Request, count, Holds, ok, on, packets_on, shown, is_transfer}
+use proofs.Imports.{services, IsInvariant, IsWell, Kind, count, Holds, ok, on, packets_on, shown, is_transfer}
 use proofs.Imports.{first_state, first_abstract_state, IsCarried, messages_on, SimulationRelation, is_caching}
 use proofs.Imports.{MonitorRelations, receiver, flow, one_memory_after, fresh}
 use Rattle.std.proofs.lemmas.List.{get_or-replicate}
@@ -29,15 +29,13 @@ first-well caching = record {
 
 none-shown : (c : ℕ) (k : Kind) → is_transfer k ≡ true → Holds k (on k first_link) (λ n. shown k c first_block)
 unfolding count
-none-shown c Request t n = refl
-none-shown c k t n = refl
+none-shown c k e = grind arith
 
 none-there : (ch : Channel) (k : Kind) (n : ℕ) → count k n (packets_on ch first_link) ≡ 0
 unfolding count
-none-there Channel.A k n = refl
-none-there ch k n = refl
+none-there ch k n = grind arith
 
-pub first-invariant : (caching : ℕ → Bool) → IsInvariant caching first_state
+first-invariant : (caching : ℕ → Bool) → IsInvariant caching first_state
 unfolding count IsOrdered
 first-invariant caching = record {
   blocks = λ n. first-well caching;
@@ -69,8 +67,7 @@ none-carried w c ch = (refl, refl)
 
 none-left : (w c : ℕ) (ch : Channel) → unfinished {w = w} ch [] ≡ unfinished ch (receiver ch c fresh)
 unfolding unfinished on_link
-none-left w c Channel.A = refl
-none-left w c ch = refl
+none-left w c ch = grind arith
 
 -- a whole of ends and channels that are fresh is that of the protocol's first state
 pub fresh-matched : {w : ℕ} (config : Config) → SimulationRelation {w = w} config [] first_abstract_state.mail
@@ -111,7 +108,6 @@ fresh-matched {w} config = record {
     recorded_is = λ c n. refl;
     probes = λ c n. refl;
     acquires = λ c n. refl;
-    grant_acks = λ c n. refl;
     serving_is = λ n. refl;
   };
   served = record {

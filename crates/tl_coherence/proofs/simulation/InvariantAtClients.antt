@@ -16,9 +16,8 @@ pub invariant-asked : {w : ℕ} {config : Config} {log : Log w} {mail : AccessMe
     → SimulationRelation config log mail request s sys → terms_at config c ≡ Some terms
     → IsInvariant (is_caching config) (asked c o (ask.asked terms o (sys.clients c)).reply
     (shadow_of mail request s)).state
-invariant-asked {config} {log} {mail} {request} {s} {sys} terms c o h at =
-    asked-kept c o (ask.asked terms o (sys.clients c)).reply (shadow_of mail request s) h.invariant
-    (askable terms c o h at)
+invariant-asked {config} {log} {mail} {request} {s} {sys} terms c o h at = asked-kept c o
+    (ask.asked terms o (sys.clients c)).reply (shadow_of mail request s) h.invariant (askable terms c o h at)
 
 pub nobody_moves : {w : ℕ} (config : Config) (sys : System w) (link : Link) (ch : Channel)
     → terms_at config link.0 ≡ None → is_moving (stepped config (Deliver link ch) sys).outcome ≡ false
@@ -59,9 +58,8 @@ pub ready-client : {w : ℕ} {config : Config} {log : Log w} {mail : AccessMessa
     → sys.channels link.0 ch ≡ x ∷ queue → packets_on ch (s.link link.0) ≡ packet k i ∷ rest
     → IsNext x (unfinished ch (receiver ch link.0 sys)) (message_of_kind k mail s link.0 i)
     (map (message_of mail s link.0) rest) queue → IsReady (next_tracker sys) link.0 k i (shadow_of mail request s)
-ready-client {config} {log} {mail} {request} {s} {sys} link Channel.B Probe i rest {x} {queue} width h up own moves
-    beats first next =
-    probe_ready link i rest width h moves beats first next
+ready-client {config} {log} {mail} {request} {s} {sys} link Channel.B Probe i rest {x}
+    {queue} width h up own moves beats first next = probe_ready link i rest width h moves beats first next
 ready-client link Channel.D Answer i rest width h up own moves beats first next = tt
 ready-client link Channel.D Grant i rest width h up own moves beats first next = tt
 ready-client link Channel.D ReleaseAck i rest width h up own moves beats first next = tt

@@ -35,14 +35,12 @@ unfolding offer.offered
 offered-taken {w} terms ch x e is =
     let later : (o : Option Rule) → is_taken (offer.judged_later o x e).answer ≡ true
     → offer.judged_later o x e ≡ offer.taken x e = elim [ None ↦ λ h. refl | Some rule ↦ λ h. absurd cc ] in
-    let waiting : (b : Bool)
-    → is_taken (if b then offer.silent Verdict.Stalled e else offer.judged_later (offer.broken_later terms x e) x
-    e).answer ≡ true → (if b then offer.silent Verdict.Stalled e else offer.judged_later
-    (offer.broken_later terms x e) x e) ≡ offer.taken x e =
-    elim [ true ↦ λ h. absurd cc | false ↦ λ h. later (offer.broken_later terms x e) h ] in
-    let before : (o : Option Rule) → is_taken (offer.judged o terms x e).answer ≡ true
-    → offer.judged o terms x e ≡ offer.taken x e =
-    elim [ None ↦ λ h. waiting (offer.waits x e.past) h | Some rule ↦ λ h. absurd cc ] in
+    let waiting : (b : Bool) → is_taken
+    (if b then offer.silent Verdict.Stalled e else offer.judged_later (offer.broken_later terms x e) x e).answer ≡ true
+    → (if b then offer.silent Verdict.Stalled e else offer.judged_later (offer.broken_later terms x e) x e)
+    ≡ offer.taken x e = elim [ true ↦ λ h. absurd cc | false ↦ λ h. later (offer.broken_later terms x e) h ] in
+    let before : (o : Option Rule) → is_taken (offer.judged o terms x e).answer ≡ true → offer.judged o terms x e
+    ≡ offer.taken x e = elim [ None ↦ λ h. waiting (offer.waits x e.past) h | Some rule ↦ λ h. absurd cc ] in
     before (offer.broken_before terms ch x e) is
 
 -- the step, where a client takes the beat
@@ -85,9 +83,7 @@ client_moves {w} terms c ch x queue sys moving = go (offer.offered terms ch x (s
     go : (a : Result (Verdict × Option (Message w)) Rule) → o.answer ≡ a
         → is_moving (judged a c ch x queue o.after sys).outcome ≡ true
         → IsTakenByClient terms c ch x queue sys (judged o.answer c ch x queue o.after sys)
-    go (Ok (Verdict.Taken, m)) e h = made Verdict.Taken m e refl refl refl
-    go (Ok (Verdict.Done source finish, m)) e h = made (Verdict.Done source finish) m e refl refl refl
-    go a e h = absurd cc
+    go a e f = grind (arith, made)
 
 pub client-moves : {w : ℕ} (config : Config) (link : Link) (ch : Channel) (sys : System w) (terms : client.EndConfig)
     (x : Beat w) (queue : List (Beat w)) → terms_at config link.0 ≡ Some terms → sys.channels link.0 ch ≡ x ∷ queue
@@ -116,24 +112,15 @@ pub offered-passes : {w : ℕ} (config : Config) (link : Link) (ch : Channel) (x
       manager_offer.taken link x (manager_reaction.reaction config link x e) e,
     )
 unfolding manager_offer.offered
-offered-passes {w} config link ch x e handed is =
-    let go : (j : manager_offer.Judgement) → (manager_offer.offered_as j config link x e).0 ≡ manager_offer.Sent handed
-    → manager_offer.offered_as j config link x e
-    ≡ (
-      manager_offer.Sent (manager_reaction.reaction config link x e).handed,
-      manager_offer.taken link x (manager_reaction.reaction config link x e) e,
-    ) =
-    elim [ manager_offer.Passes ↦ λ h. refl | j ↦ λ h. absurd cc ] in
-    go (manager_offer.judged config link ch x e) is
+offered-passes {w} config link ch x e handed is = grind arith
 
 -- the step, where the manager takes the beat
 pub record IsTakenByManager {w : ℕ} (config : Config) (link : Link) (ch : Channel) (x : Beat w) (queue : List (Beat w))
     (sys : System w) (step : Step w) : Type 0 where
-  pub takes : manager_offer.offered config link ch x sys.manager
-      ≡ (
-        manager_offer.Sent (manager_reaction.reaction config link x sys.manager).handed,
-        manager_offer.taken link x (manager_reaction.reaction config link x sys.manager) sys.manager,
-      )
+  pub takes : manager_offer.offered config link ch x sys.manager ≡ (
+    manager_offer.Sent (manager_reaction.reaction config link x sys.manager).handed,
+    manager_offer.taken link x (manager_reaction.reaction config link x sys.manager) sys.manager,
+  )
   pub step_is : step ≡ handing (Outcome.Moved x) (manager_reaction.reaction config link x sys.manager).handed
       (with_manager (manager_offer.taken link x (manager_reaction.reaction config link x sys.manager) sys.manager)
       (with_channel link.0 ch queue sys))
@@ -187,10 +174,7 @@ manager-heard {w} config link ch x queue sys step width typed kept is d = λ at.
         (on_link d (manager_offer.taken link x (manager_reaction.reaction config link x sys.manager) sys.manager).trace)
         ≡ unfinished at
         (if link.0 == d then x ∷ on_link d sys.manager.trace else on_link d sys.manager.trace)
-    go Channel.A f = one Channel.A refl
-    go Channel.C f = one Channel.C refl
-    go Channel.E f = one Channel.E refl
-    go at f = absurd cc
+    go at e = grind (arith, one)
 
 -- ---- a beat that isn't the last of its message
 
@@ -220,19 +204,13 @@ carried-part {w} mail s {c} {ch} {x} {queue} {sys} {sys'} width is none part h d
         rw (more.0) more.1
       where
         before : (k n : ℕ) → k < n → (k + 1 == n) ≡ false → k + 1 < n
-        before k n le ne = elim (cases_eq (k + 1) n) [
-          | inl same ↦ absurd (let yes : (k + 1 == n) ≡ true = rw same (same_number n) in let no : true ≡ false =
-              sym yes ∙ ne in cc)
-          | inr other ↦ omega (arith, le, other)
-        ]
+        before k n le ne = grind (arith, same_number)
 
     go : (d ≡ c) ⊎ (d ≡ c → ⊥) → (b : Bool) → same_channel at ch ≡ b
         → IsCarried (unfinished at (receiver at d sys')) (messages_on at mail s d) (sys'.channels d at)
-    go (inl same) true e =
-        let there : at ≡ ch = same_channel-is at ch e in
-        moved (grown x (rest d at)) queue (is.rests d at ∙ rw (same, same_number c, e) refl)
+    go (inl same) true e = moved (grown x (rest d at)) queue (is.rests d at ∙ rw (same, same_number c, e) refl)
         (channel_is ∙ rw (same, same_number c, e) refl)
-        (rw (same, there) (first (messages_on ch mail s c) (rw is.first at (h c ch))))
+        (rw (same, same_channel-is at ch e) (first (messages_on ch mail s c) (rw is.first at (h c ch))))
     go (inl same) false e = moved (rest d at) (sys.channels d at) (is.rests d at ∙ rw (same, same_number c, e) refl)
         (channel_is ∙ rw (same, same_number c, e) refl) (h d at)
     go (inr other) b e = moved (rest d at) (sys.channels d at) (is.rests d at ∙ rw (ne_eqb d c other) refl)

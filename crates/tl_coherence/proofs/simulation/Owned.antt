@@ -40,16 +40,12 @@ within-kept {w} config width = record {
   };
 }
 
-pub ends-within : {w : ℕ} (config : Config) (log : Log w) (c : ℕ) → IsWidth w
-    → IsWithin config c ((system_after config log).clients c)
-ends-within config log c width = ends-kept config (IsWithin config) (within-kept config width) log c
-
 pub sources-own : {w : ℕ} (config : Config) (log : Log w) (c : ℕ) → IsWidth w → IsOwn config c (system_after config log)
 unfolding pending
 sources-own {w} config log c width = go (terms_at config c) refl
   where
     within : IsWithin config c ((system_after config log).clients c)
-    within = ends-within config log c width
+    within = ends-kept config (IsWithin config) (within-kept config width) log c
 
     not_pending : (k : Key) → ((system_after config log).clients c) ≡ fresh
         → pending k ((system_after config log).clients c).past ≡ true → pending k (fresh {w = w}).past ≡ true
@@ -71,6 +67,5 @@ pub channels-few : {w : ℕ} {config : Config} {log : Log w} {mail : AccessMessa
     → (c : ℕ) (ch : Channel) → length ((system_after config log).channels c ch) ≤ capacity (64 / w)
     (sources_of (terms_at config c)) config.trackers ch
 channels-few {w} {config} {log} {mail} {request} {s} width matched c ch =
-    channel-few mail ch _ _ width
-    matched.invariant (matched-bounded config log mail request s (system_after config log) matched c
-    (sources-own config log c width)) (matched.carried c ch)
+    channel-few mail ch _ _ width matched.invariant (matched-bounded config log mail request s
+    (system_after config log) matched c (sources-own config log c width)) (matched.carried c ch)

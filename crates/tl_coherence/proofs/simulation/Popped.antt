@@ -1,9 +1,9 @@
 -- What a delivery leaves on the channels, who has something open, and how much is left of what is taken.
-use Rattle.std.proofs.Common.{◌≡◌, ℕ, ◌+◌, ◌<◌, Bool, true, false, List, [], ◌∷◌, refl, sym, ◌∙◌, ap, arith, ◌&&◌}
-use Rattle.std.proofs.Common.{Option, Some, None, length, eqb-true, ◌==◌, if◌then◌else◌}
+use Rattle.std.proofs.Common.{◌≡◌, ℕ, ◌+◌, ◌<◌, Bool, true, false, List, [], ◌∷◌, refl, ◌∙◌, ap, arith, ◌&&◌}
+use Rattle.std.proofs.Common.{Option, Some, None, length, ◌==◌, if◌then◌else◌}
 use Rattle.tl_coherence.proofs
 use proofs.Imports.{Beat, Channel, IsWidth, length-begun, Message, MessageA, beats_of, unfinished, Config, EndConfig}
-use proofs.Imports.{Kind, Packet, is, State, SourceFree, packet, packets_on, Move, Stays, Pushes, Pops, IsMoved}
+use proofs.Imports.{Kind, Packet, is, State, SourceFree, packet, packets_on, Move, Pops, IsMoved}
 use proofs.Imports.{AreMoved, channel_for, AccessMessages, message_of_kind, SimulationRelation, receiver, Log}
 use proofs.Imports.{system_after, System, same_channel, terms_at}
 use proofs.simulation.{Bounded.matched-bounded, Owned.sources-own, Strangers.no_use, Strangers.no_let}
@@ -35,16 +35,10 @@ popped_first push move render xs ys fits e = absurd fits
 
 not_popped : {w : ℕ} (push : Option (Message w)) (move : Move) (render : Kind → ℕ → Message w)
     → Fits false push move render → is_pop move ≡ false
-not_popped None Stays render fits = refl
-not_popped (Some m) (Pushes k n) render fits = refl
-not_popped push move render fits = absurd fits
+not_popped push move render e = grind arith
 
 pub elsewhere : (c d : ℕ) (ch at : Channel) → (d ≡ c → at ≡ ch → ⊥) → ((d == c) && same_channel at ch) ≡ false
-elsewhere c d ch at ne = go (d == c) (same_channel at ch) refl refl
-  where
-    go : (a b : Bool) → (d == c) ≡ a → same_channel at ch ≡ b → (a && b) ≡ false
-    go true true e f = absurd (ne (eqb-true d c e) (same_channel-is at ch f))
-    go a b e f = refl
+elsewhere c d ch at ne = grind (arith, same_channel-is)
 
 fits_by : {w : ℕ} (a b : Bool) (push : Option (Message w)) (move : Move) (render : Kind → ℕ → Message w) → a ≡ b
     → Fits a push move render → Fits b push move render
@@ -64,9 +58,8 @@ popped-received {w} c ch pushes moves render s s' sys sys' received fits moved =
       first = head.first;
       tokens = head.is;
       none = received c ch ∙ ap (λ (b : Bool). if b then [] else unfinished_at sys c ch) here;
-      unpopped = λ d at ne. not_popped (pushes d at) (moves d at) (render d)
-          (fits_by ((d == c) && same_channel at ch) false (pushes d at) (moves d at) (render d) (elsewhere c d ch at ne)
-          (fits d at));
+      unpopped = λ d at ne. not_popped (pushes d at) (moves d at) (render d) (fits_by ((d == c)
+          && same_channel at ch) false (pushes d at) (moves d at) (render d) (elsewhere c d ch at ne) (fits d at));
       rests = λ d at ne. cc (received d at, elsewhere c d ch at ne);
     }
 
@@ -92,10 +85,7 @@ module _ {w : ℕ} {config : Config} {log : Log w} {mail : AccessMessages w} {re
 
       letter : (d i n : ℕ) (o : Option EndConfig) → terms_at config d ≡ o → s.lets d i ≡ Some n
           → d < length config.clients.items
-      letter d i n None is e =
-          absurd (let none : s.lets d i ≡ None = no_let matched width d is i in let both =
-          sym e ∙ none in cc)
-      letter d i n (Some terms) is e = client_below config d terms is
+      letter d i n o e f = grind (arith, no_let, client_below)
 
 -- ---- what is taken
 
@@ -114,5 +104,4 @@ first-left {w} {ch} {c} {mail} {s} {sys} first =
       same_number first.number,
       first.next.rest_is,
     ) (length-begun (message_of_kind first.kind mail s c first.number) first.next.k) in
-    let within = first.next.within in
-    omega (arith, taken, within)
+    omega (arith, taken, first.next.within)

@@ -1,13 +1,12 @@
 -- The bytes of each block are 64, who isn't a client has nothing open, and each access that is under way has its
 -- source: after every event.
-use Rattle.std.proofs.Common.{◌≡◌, ℕ, Bool, List, Some, None, refl, sym, ◌∙◌, inl, inr, ne_eqb}
+use Rattle.std.proofs.Common.{◌≡◌, ℕ, Bool, List, Some, None, refl, sym, ◌∙◌, inl, inr, ne_eqb, arith}
 use Rattle.tl_coherence.proofs
-use proofs.Imports.{cases_eq, ⊤, Message, Config, block_at, Op, Reply, EndConfig, IsInvariant, Kind, Packet, set_at}
-use proofs.Imports.{SourceState, SourceFree, Asked, InService, Replied, Acquires, AbstractState, asked, kind_taken}
-use proofs.Imports.{terms_at}
+use proofs.Imports.{cases_eq, ⊤, Config, block_at, Op, Reply, EndConfig, IsInvariant, Kind, Packet, set_at, SourceState}
+use proofs.Imports.{SourceFree, InService, Replied, AbstractState, asked, kind_taken, terms_at}
 use proofs.queues.Tokens.{same_number, set-each}
-use proofs.rank.RankParts.{serving-use}
-use proofs.protocol.Events.{true-taken}
+use proofs.rank.{RankParts.serving-use}
+use proofs.protocol.{Events.true-taken}
 
 -- ---- one place of two numbers
 
@@ -25,9 +24,8 @@ AreStrange config uses = (c source : ℕ) → terms_at config c ≡ None → use
 
 strange_set : (config : Config) (c source : ℕ) (u : SourceState) (uses : ℕ → ℕ → SourceState) (terms : EndConfig)
     → terms_at config c ≡ Some terms → AreStrange config uses → AreStrange config (set_at c source u uses)
-strange_set config c source u uses terms known before d i =
-    each-set_at (λ j k v. terms_at config j ≡ None → v ≡ SourceFree) c source u uses
-    (λ none. absurd (let e : Some terms ≡ None = sym known ∙ none in cc)) before d i
+strange_set config c source u uses terms known before d i = each-set_at (λ j k v. terms_at config j ≡ None
+    → v ≡ SourceFree) c source u uses (λ none. absurd (let e : Some terms ≡ None = sym known ∙ none in cc)) before d i
 
 strange_closed : (config : Config) (c source : ℕ) (uses : ℕ → ℕ → SourceState) → AreStrange config uses
     → AreStrange config (set_at c source SourceFree uses)
@@ -68,12 +66,4 @@ strangers-kind_taken {w} {caching} config tracker c k i rest h terms inv known b
 
 pub strangers-asked : {w : ℕ} (config : Config) (c : ℕ) (o : Op w) (r : Reply) (h : AbstractState w) (terms : EndConfig)
     → terms_at config c ≡ Some terms → AreStrange config h.state.uses → AreStrange config (asked c o r h).state.uses
-strangers-asked config c (Op.Acquire n g) (Reply.Started source) h terms known before =
-    strange_set config c source (Acquires n) h.state.uses terms known before
-strangers-asked config c (Op.AcquireWhole n bytes) (Reply.Started source) h terms known before =
-    strange_set config c source (Acquires n) h.state.uses terms known before
-strangers-asked config c (Op.Access (Message.A m)) (Reply.Started source) h terms known before =
-    strange_set config c source Asked h.state.uses terms known before
-strangers-asked config c (Op.Store address size value) Reply.Stored h terms known before = before
-strangers-asked config c (Op.Release n p) (Reply.Started source) h terms known before = before
-strangers-asked config c o r h terms known before = before
+strangers-asked config c o r h terms e f = grind (arith, strange_set)

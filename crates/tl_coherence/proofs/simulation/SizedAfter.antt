@@ -1,6 +1,6 @@
 -- The bytes of each block are 64, and each access that is under way has its source, after every event.
 use Rattle.std.proofs.Common.{◌≡◌, ℕ, ◌*◌, Bool, true, false, ◌&&◌, List, refl, sym, ◌∙◌, ap, ◌⊎◌, inl, inr, length}
-use Rattle.std.proofs.Common.{◌==◌, if◌then◌else◌}
+use Rattle.std.proofs.Common.{arith, ◌==◌, if◌then◌else◌}
 use Rattle.tl_coherence.proofs
 use proofs.Imports.{cases_eq, ⊤, Message, Config, Cap, Grow, Report, Perm, same_perm, block_at, word_room}
 use proofs.Imports.{length-stored, Op, Reply, copy_stored, is_word, length-bytes, IsInvariant, Kind, Packet, set}
@@ -9,7 +9,7 @@ use proofs.Imports.{after_grant_sent, after_probe, after_report, after_release_t
 use proofs.Imports.{Block, State, acquiring_block, stored_block, served_block, granted_block, granted_pair, taken_block}
 use proofs.Imports.{granted_truth, AbstractState, asked, kind_taken, AreSized, IsTypedOp}
 use proofs.queues.{Tokens.set-same, Tokens.set-other, Tokens.set-each, Tokens.set-part, Perms.trunk-some}
-use proofs.protocol.Events.{true-taken}
+use proofs.protocol.{Events.true-taken}
 
 -- ---- bytes
 
@@ -35,10 +35,7 @@ still_acquires c p f same d e = sym (ap is_whole (set-part (λ (q : ClientBlock)
 sized_pair : (c : ℕ) (p : ClientBlock) {old : Block (List ℕ)} (new : Block (List ℕ)) → new.pair ≡ set c p old.pair
     → p.acquiring ≡ (old.pair c).acquiring → new.truth ≡ old.truth
     → new.waiting ≡ old.waiting → AreSized old → AreSized new
-sized_pair c p {old} new pairs same truth waiting h =
-    sized_same new (ap length truth ∙ h.truth) (λ d. ap (λ (f : ℕ → List ℕ). f d) waiting)
-    (λ d e. still_acquires c p old.pair same d (ap (λ (f : ℕ → ClientBlock). is_whole (f d).acquiring) (sym pairs)
-    ∙ e)) h
+sized_pair c p {old} new pairs same truth waiting h = grind (arith, sized_same, still_acquires)
 
 sized_served : (r : ℕ) (own : Bool) (source tracker : ℕ) (k : Cap) {b : Block (List ℕ)} → AreSized b
     → AreSized (served_block r own source tracker k b)
@@ -68,18 +65,14 @@ sized_granted_block c q r d k {b} h = sized_same (granted_block c q r d k b) h.t
 sized_taken_block : (c : ℕ) (d : Bool) (k : Cap) {b : Block (List ℕ)} → AreSized b
     → AreSized (taken_block c (is_whole (b.pair c).acquiring) d k b)
 sized_taken_block c d k {b} h =
-    let bytes : (x : AcquirePhase) → (b.pair c).acquiring ≡ x
-    → length (granted_truth (is_whole x) (b.waiting c) b.truth) ≡ 64 =
-    elim [ AcquireOpen true g ↦ λ e. h.waiting c (ap is_whole e) | x ↦ λ e. h.truth ] in
+    let bytes : (x : AcquirePhase) → (b.pair c).acquiring ≡ x → length (granted_truth (is_whole x)
+    (b.waiting c) b.truth) ≡ 64 = elim [ AcquireOpen true g ↦ λ e. h.waiting c (ap is_whole e) | x ↦ λ e. h.truth ] in
     sized_same (taken_block c (is_whole (b.pair c).acquiring) d k b) (bytes (b.pair c).acquiring refl) (λ i. refl)
     (λ i e. storing i (cases_eq i c) e) h
   where
     storing : (i : ℕ) → (i ≡ c) ⊎ (i ≡ c → ⊥) → is_whole (set c (after_grant k (b.pair c)) b.pair i).acquiring ≡ true
         → is_whole (b.pair i).acquiring ≡ true
-    storing i (inl same) e = absurd (let f : is_whole (set c (after_grant k (b.pair c)) b.pair c).acquiring ≡ true =
-        rw same at e in let g : false ≡ true =
-        sym (ap (λ (p : ClientBlock). is_whole p.acquiring) (set-same c (after_grant k (b.pair c)) b.pair)) ∙ f in cc)
-    storing i (inr other) e = cc (set-other c i (after_grant k (b.pair c)) b.pair other, e)
+    storing i e f = grind (arith, set-same, set-other)
 
 -- ---- messages that are taken
 
@@ -88,9 +81,8 @@ pub sized-kind_taken : {w : ℕ} (config : Config) (tracker c : ℕ) (k : Kind) 
 sized-kind_taken {w} config tracker c k i rest h before =
     true-taken config tracker c rest h (λ j n. ⊤) (λ (x : AbstractState w). AllSized x.state) k i (record {
       nothing = λ j n known idle. before;
-      access_answered = λ source m o known from caps none. changed (block_at m.address)
-          (sized_same _ (length-bytes _ (64 * block_at m.address) 64) (λ d. refl) (λ d e. e)
-          (before (block_at m.address)));
+      access_answered = λ source m o known from caps none. changed (block_at m.address) (sized_same _
+          (length-bytes _ (64 * block_at m.address) 64) (λ d. refl) (λ d e. e) (before (block_at m.address)));
       access_served = λ source m j known from caps some. changed (block_at m.address)
           (sized_served c false source tracker j (before (block_at m.address)));
       acquire_granted = λ n whole g known wants none. one n (after_grant_sent _ (pair n c)) _ refl refl refl refl;
@@ -138,31 +130,23 @@ sized_acquiring c source whole g bytes {b} long h = record { truth = h.truth; wa
 
     go : (d : ℕ) → (d ≡ c) ⊎ (d ≡ c → ⊥) → is_whole (set c after b.pair d).acquiring ≡ true
         → length (set c bytes b.waiting d) ≡ 64
-    go d (inl same) e =
-        let f : whole ≡ true = sym (ap (λ (p : ClientBlock). is_whole p.acquiring) (set-same c after b.pair)) ∙ ap
-        (λ (j : ℕ). is_whole (set c after b.pair j).acquiring) (sym same) ∙ e in
-        rw same (ap length (set-same c bytes b.waiting) ∙ long f)
-    go d (inr other) e = ap length (set-other c d bytes b.waiting other) ∙ h.waiting d
-        (sym (ap (λ (p : ClientBlock). is_whole p.acquiring) (set-other c d after b.pair other)) ∙ e)
+    go d e f = grind (arith, set-same, set-other)
 
 pub sized-asked : {w : ℕ} {caching : ℕ → Bool} (c : ℕ) (o : Op w) (r : Reply) (h : AbstractState w)
     → IsInvariant caching h.state → IsTypedOp o → IsSizedAsk c o r h → AllSized h.state → AllSized (asked c o r h).state
 sized-asked c (Op.Store address size value) Reply.Stored h inv typed ask before = λ i.
     let n : ℕ = block_at address in
     let b : Block (List ℕ) = h.state.block n in
-    let long : length (b.copy c) ≡ 64 = ap length ((inv.blocks n).copies c (trunk-some (b.pair c).held ask.1))
-    ∙ (before n).truth in
     sized_block n h.state.block
-    (sized_same (stored_block c (copy_stored address size value (b.copy c)) b)
-    (length-stored address size value (b.copy c) long (word_room address size ask.0)) (λ d. refl) (λ d e. e) (before n))
+    (sized_same (stored_block c (copy_stored address size value (b.copy c)) b) (length-stored address size value
+    (b.copy c) (ap length ((inv.blocks n).copies c (trunk-some (b.pair c).held ask.1)) ∙ (before n).truth)
+    (word_room address size ask.0)) (λ d. refl) (λ d e. e) (before n))
     before i
-sized-asked c (Op.Acquire n g) (Reply.Started source) h inv typed ask before = λ i.
-    sized_block n h.state.block (sized_acquiring c source false g ((h.state.block n).waiting c)
-    (λ e. absurd cc) (before n)) before i
+sized-asked c (Op.Acquire n g) (Reply.Started source) h inv typed ask before = λ i. sized_block n h.state.block
+    (sized_acquiring c source false g ((h.state.block n).waiting c) (λ e. absurd cc) (before n)) before i
 sized-asked c (Op.AcquireWhole n bytes) (Reply.Started source) h inv typed ask before =
     λ i. sized_block n h.state.block (sized_acquiring c source true _ bytes (λ e. typed) (before n)) before i
-sized-asked c (Op.Release n p) (Reply.Started source) h inv typed ask before = λ i.
-    sized_block n h.state.block (sized_pair c (after_release p ((h.state.block n).pair c)) _ refl
-    refl refl refl (before n)) before i
+sized-asked c (Op.Release n p) (Reply.Started source) h inv typed ask before = λ i. sized_block n h.state.block
+    (sized_pair c (after_release p ((h.state.block n).pair c)) _ refl refl refl refl (before n)) before i
 sized-asked c (Op.Access (Message.A m)) (Reply.Started source) h inv typed ask before = before
 sized-asked c o r h inv typed ask before = before

@@ -1,9 +1,9 @@
 -- Each beat on a channel is sound and has its lanes, after every event.
-use Rattle.std.proofs.Common.{◌≡◌, ℕ, Bool, true, false, List, [], ◌∷◌, Option, Some, None, refl, ◌∙◌, ap, subst}
+use Rattle.std.proofs.Common.{◌≡◌, ℕ, Bool, true, false, List, [], ◌∷◌, Option, Some, None, refl, ap, subst, arith}
 use Rattle.std.proofs.Common.{length, if◌then◌else◌, All, Result, Ok, unwrap_or, is_some}
 use Rattle.tl_coherence.proofs
 use proofs.Imports.{All-head, Beat, Link, Channel, IsWidth, Message, MessageA, Config, Perm, Rule, same_perm, Op}
-use proofs.Imports.{Verdict, zeros, copy_at, holds, reaction_handable, Each, Event, Deliver, Ask, State, AccessMessages}
+use proofs.Imports.{Verdict, zeros, copy_at, reaction_handable, Each, Event, Deliver, Ask, State, AccessMessages}
 use proofs.Imports.{SimulationRelation, AreLanes, IsTypedOp, IsTyped, Log, stepped, stepped_at, client_took}
 use proofs.Imports.{is_to_client, client_of, delivered, handed_by, judged, manager_took, System, terms_at, with_channel}
 use proofs.Imports.{with_messages, with_client, with_manager}
@@ -23,8 +23,7 @@ use proofs.simulation.BeatsInFlight.{good-handed, level-terms, fit-asked, fit-ta
 -- ---- copies have 64 bytes
 
 copy_of : (o : Option (List ℕ)) → is_some o ≡ false → length (unwrap_or o zeros) ≡ 64
-copy_of None e = refl
-copy_of (Some bytes) e = absurd cc
+copy_of o e = grind arith
 
 pub copy-long : {w : ℕ} {config : Config} {log : Log w} {mail : AccessMessages w} {request : ℕ → MessageA w}
     {s : State (List ℕ)} {sys : System w}
@@ -35,8 +34,7 @@ copy-long {w} {s} {sys} h c n = go ((s.block n).pair c).held refl
     there e = cc (h.copies c n e, (h.invariant.blocks n).copies c e, (h.sized n).truth)
 
     go : (p : Perm) → ((s.block n).pair c).held ≡ p → length (copy_at (sys.clients c) n) ≡ 64
-    go Perm.None e = copy_of ((sys.clients c).copies n)
-        ((h.kept c).copies_held n ∙ ap holds ((h.known c).held_is n ∙ e))
+    go Perm.None e = copy_of ((sys.clients c).copies n) (cc ((h.kept c).copies_held n, (h.known c).held_is n))
     go p e = there (ap (λ p. same_perm p Perm.None) e)
 
 -- ---- what is handed out
@@ -47,8 +45,7 @@ AllGood config sys = (d : ℕ) (at : Channel) → All (IsGood config d) (sys.cha
 one_good : {w : ℕ} (config : Config) (c : ℕ) (m : Option (Message w)) (sys : System w) (terms : client.EndConfig)
     → IsWidth w → terms_at config c ≡ Some terms → IsSoundIfAny terms.level m → IsFitIfAny config.blocks m
     → AllGood config sys → AllGood config (with_messages (handed_by c m) sys)
-one_good {w} config c None sys terms width known sound fit before d at =
-    all-messages (IsGood config) [] sys tt before d at
+one_good config c None sys terms width known sound fit before d at = all-messages (IsGood config) [] sys tt before d at
 one_good {w} config c (Some m) sys terms width known sound fit before d at =
     all-messages (IsGood config) (handed_by c (Some m)) sys
     (good-message config c width (level-terms config c terms known).0 sound fit.ours fit.inside fit.long, tt) before d
@@ -73,21 +70,19 @@ manager_good : {w : ℕ} (config : Config) (link : Link) (ch : Channel) (x : Bea
     → AllGood config (manager_took link.0 ch x queue (manager_offer.offered_as j config link x e) sys).after
 manager_good config link ch x queue (manager_offer.Breaks rule) e sys width sound trace first before d at = before d at
 manager_good config link ch x queue manager_offer.Waits e sys width sound trace first before d at = before d at
-manager_good {w} config link ch x queue manager_offer.Passes e sys width sound trace first before d at =
-    all-messages (IsGood config) (manager_reaction.reaction config link x e).handed
-    (with_manager (manager_offer.taken link x (manager_reaction.reaction config link x e) e)
-    (with_channel link.0 ch queue sys)) (good-handed config (manager_reaction.reaction config link x e).handed width
-    (reaction_handable config link x e width sound trace)) (all-popped (IsGood config) link.0 ch x queue sys first
-    before) d at
+manager_good {w} config link ch x queue manager_offer.Passes e sys width sound trace first before d at = all-messages
+    (IsGood config) (manager_reaction.reaction config link x e).handed (with_manager (manager_offer.taken link x
+    (manager_reaction.reaction config link x e) e) (with_channel link.0 ch queue sys)) (good-handed config
+    (manager_reaction.reaction config link x e).handed width (reaction_handable config link x e width sound trace))
+    (all-popped (IsGood config) link.0 ch x queue sys first before) d at
 
 -- ---- an event
 
-pub good-after : {w : ℕ} {config : Config} {log : Log w} {mail : AccessMessages w} {request : ℕ → MessageA w}
+good-after : {w : ℕ} {config : Config} {log : Log w} {mail : AccessMessages w} {request : ℕ → MessageA w}
     {s : State (List ℕ)} {sys : System w} → IsWidth w → SimulationRelation config log mail request s sys
     → (event : Event w) → IsTyped event → AllGood config (stepped config event sys).after
 unfolding stepped manager_offer.offered
-good-after {w} {config} {log} {mail} {request} {s} {sys} width h event typed =
-    go (terms_at config (client_of event)) refl event refl typed
+good-after {w} {config} {sys} width h event typed = go (terms_at config (client_of event)) refl event refl typed
   where
     before : AllGood config sys
     before d at k y lt = record { sound = h.sound d at k y lt; lanes = h.typed d at k y lt }
@@ -146,12 +141,10 @@ pub sound-after : {w : ℕ} {config : Config} {log : Log w} {mail : AccessMessag
     {s : State (List ℕ)} {sys : System w} → IsWidth w
     → SimulationRelation config log mail request s sys → (event : Event w) → IsTyped event → (c : ℕ) (ch : Channel)
     → All (λ x. manager.IsSound config (record { 0 = c }, x)) ((stepped config event sys).after.channels c ch)
-sound-after {config} {log} {mail} {request} {s} {sys} width h event typed c ch k y lt =
-    (good-after width h event typed c ch k y lt).sound
+sound-after width h event typed c ch k y lt = (good-after width h event typed c ch k y lt).sound
 
 pub typed-after : {w : ℕ} {config : Config} {log : Log w} {mail : AccessMessages w} {request : ℕ → MessageA w}
     {s : State (List ℕ)} {sys : System w} → IsWidth w
     → SimulationRelation config log mail request s sys → (event : Event w) → IsTyped event → (c : ℕ) (ch : Channel)
     → All AreLanes ((stepped config event sys).after.channels c ch)
-typed-after {config} {log} {mail} {request} {s} {sys} width h event typed c ch k y lt =
-    (good-after width h event typed c ch k y lt).lanes
+typed-after width h event typed c ch k y lt = (good-after width h event typed c ch k y lt).lanes

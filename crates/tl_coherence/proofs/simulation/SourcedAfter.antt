@@ -32,8 +32,7 @@ served-request config q source n m u e h = rw e at h
 
 pub first-asked : {w : ℕ} {caching : ℕ → Bool} (c i : ℕ) (rest : List Packet) (h : AbstractState w)
     → IsInvariant caching h.state → on Request (h.state.link c) ≡ packet Request i ∷ rest → h.state.uses c i ≡ Asked
-first-asked c i rest h inv first =
-    first-request inv first
+first-asked c i rest h inv first = first-request inv first
 
 pub sourced-kind_taken : {w : ℕ} {caching : ℕ → Bool} (config : Config) (tracker c : ℕ) (k : Kind) (i : ℕ)
     (rest : List Packet) (h : AbstractState w) → IsInvariant caching h.state → on k (h.state.link c) ≡ packet k i ∷ rest
@@ -81,11 +80,9 @@ sourced-asked config c (Op.AcquireWhole n bytes) (Reply.Started source) h ask be
     sourced_set config h.mail.request c source (Acquires n) h.state.uses tt before
 sourced-asked {w} config c (Op.Access (Message.A m)) (Reply.Started source) h ask before = λ d i. elim (cases_eq d c) [
   | inl same ↦ elim (cases_eq i source) [
-    | inl also ↦ rw (same, also)
-        (now _ _ (ap (λ (f : ℕ → Message w). f source) (set-same c (set source (access source m) (h.mail.request c))
-        h.mail.request) ∙ set-same source (access source m) (h.mail.request c))
-        (ap (λ (f : ℕ → SourceState). f source) (set-same c (set source Asked (h.state.uses c)) h.state.uses) ∙ set-same
-        source Asked (h.state.uses c)))
+    | inl also ↦ rw (same, also) (now _ _ (ap (λ (f : ℕ → Message w). f source) (set-same c (set source
+        (access source m) (h.mail.request c)) h.mail.request) ∙ set-same source (access source m) (h.mail.request c))
+        (cc (set-same c (set source Asked (h.state.uses c)) h.state.uses, set-same source Asked (h.state.uses c))))
     | inr other ↦ rw (same, same_number c, ne_eqb i source other) (before c i)
   ]
   | inr other ↦ rw (ne_eqb d c other) (before d i)

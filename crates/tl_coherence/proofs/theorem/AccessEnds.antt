@@ -1,23 +1,22 @@
 -- What the one-memory machine allows at a delivery: how an access ends as its answer comes.
-use Rattle.std.proofs.Common.{◌≡◌, ℕ, ◌+◌, ◌-◌, ◌*◌, ◌%◌, ◌^◌, ◌≤◌, Bool, true, false, List, ◌∷◌, ◌++◌, length, Option}
-use Rattle.std.proofs.Common.{Some, None, refl, sym, ◌∙◌, ap, subst, cond, arith, eqb-true, append_assoc, pow_pos, drop}
-use Rattle.std.proofs.Common.{replicate, take, drop_at, take_at}
+use Rattle.std.proofs.Common.{◌≡◌, ℕ, ◌-◌, ◌*◌, ◌%◌, ◌^◌, ◌≤◌, List, ◌∷◌, ◌++◌, length, Option, Some, None, refl, sym}
+use Rattle.std.proofs.Common.{◌∙◌, ap, subst, arith, eqb-true, append_assoc, pow_pos, drop, replicate, take, drop_at}
+use Rattle.std.proofs.Common.{take_at}
 use Rattle.tl_coherence.proofs
 use proofs.Imports.{length-replicate, Beat, BeatA, Link, Channel, OpD, IsWidth, Message, MessageA, MessageD, a_beat_of}
-use proofs.Imports.{beats_of, burst_of, d_beat_of, data_beats, IsBlankAfter, History, unfinished, Config, RequestSource}
-use proofs.Imports.{Level, control_of_legal, control_aligned, payload-d, payload_of, as_payload, answer_of, pending}
-use proofs.Imports.{request_of, Access, Finish, finish_of, open_beat, sourced, illegal_message_at, access_answer}
-use proofs.Imports.{no_payload, level_of, Kind, Acquire, Answer, SourceState, packet, Replied, AbstractState, Answers}
-use proofs.Imports.{IsOpened, IsReach, message_of_kind, block_message, SimulationRelation, is_caching, IsRequest}
-use proofs.Imports.{IsSourced, block_used, first_of, Log, system_after, Ends, Machine, pool_of, Requests}
-use proofs.Imports.{finish_with, one_memory_after, System}
-use Rattle.tl_client.specs.statement.Offer.{padded}
+use proofs.Imports.{beats_of, burst_of, d_beat_of, data_beats, IsBlankAfter, History, unfinished, Config, Level}
+use proofs.Imports.{control_of_legal, control_aligned, payload-d, payload_of, as_payload, answer_of, request_of, Access}
+use proofs.Imports.{Finish, finish_of, open_beat, sourced, illegal_message_at, access_answer, no_payload, level_of}
+use proofs.Imports.{Kind, Acquire, Answer, SourceState, packet, Replied, AbstractState, Answers, IsOpened, IsReach}
+use proofs.Imports.{message_of_kind, block_message, SimulationRelation, is_caching, IsRequest, block_used, first_of}
+use proofs.Imports.{Log, system_after, Ends, Machine, pool_of, Requests, finish_with, one_memory_after, System}
+use Rattle.tl_client.{specs.statement.Offer.padded}
 use Rattle.tl_manager.proofs.messages.Filled.{data_room, payload-long, payload-zero, room_in_beats}
 use Rattle.tl_rules.specs.statement.Effect as memory
-use proofs.client.AnswersKept.{answer_message}
+use proofs.client.{AnswersKept.answer_message}
 use proofs.protocol.HeadOfD.{IsAnswerDue, answer-due}
 use proofs.links.{Ending.IsEnding, Granting.same-response}
-use proofs.flow.Windowed.{asked_replied}
+use proofs.flow.{Windowed.asked_replied}
 
 -- ---- the bytes of an answer
 
@@ -36,9 +35,8 @@ bytes_again first bytes =
 aligned : {w : ℕ} (o : Option Level) (m : MessageA w) → IsWidth w → illegal_message_at o (Message.A m) ≡ None
     → m.address % 2 ^ m.size ≡ 0
 aligned None m width lawful = absurd cc
-aligned {w} (Some l) m width lawful =
-    eqb-true (m.address % 2 ^ m.size) 0 (control_aligned w l m.opcode m.param m.size m.address
-    (control_of_legal l m width lawful))
+aligned {w} (Some l) m width lawful = eqb-true (m.address % 2 ^ m.size) 0
+    (control_aligned w l m.opcode m.param m.size m.address (control_of_legal l m width lawful))
 
 -- the bytes that come are those of the reply
 bytes_come : {w : ℕ} (o : Option Level) (m : MessageA w) (bytes : List ℕ) (beats : List (Beat w)) → IsWidth w
@@ -76,8 +74,7 @@ ends_answered {w} o m d (memory.Bytes bytes) beats width lawful answer reach bur
 -- the source makes no difference
 finish_sourced : {w : ℕ} (source : ℕ) (m : MessageA w) (r : memory.AccessResult)
     → finish_with (Message.A (sourced source m)) r ≡ finish_with (Message.A m) r
-finish_sourced source m memory.Done = refl
-finish_sourced source m r = refl
+finish_sourced source m r = grind arith
 
 -- ---- as the machine allows
 
@@ -85,20 +82,12 @@ finish_sourced source m r = refl
 open_ends : {w : ℕ} (c source : ℕ) (m : Machine w) (a : MessageA w) (r : memory.AccessResult) (x : Beat w)
     → m.opened c Requests source ≡ Some (record { asked = Access (Message.A a); answer = Some r })
     → Ends (m.opened c (pool_of (finish_with (Message.A a) r)) source) x (finish_with (Message.A a) r)
-open_ends c source m a memory.Done x e = rw e refl
-open_ends c source m a r x e = rw e refl
+open_ends c source m a r x e = grind arith
 
 -- a request that is open is the pending one
 request_open : {w : ℕ} (source : ℕ) (x : BeatA w) (t : History w) → open_beat source t ≡ Some x
     → request_of source t ≡ Some x
-request_open {w} source x t e =
-    let go : (b : Bool) → cond b (request_of source t) None ≡ Some x → request_of source t ≡ Some x =
-    elim [ true ↦ λ f. f | false ↦ λ f. absurd cc ] in
-    go (pending (RequestSource source) t) e
-
-sourced_request : {w : ℕ} (config : Config) (c source : ℕ) (m : Message w) (u : SourceState) → u ≡ Replied
-    → IsSourced config c source m u → IsRequest config c source m
-sourced_request config c source m u e h = rw e at h
+request_open {w} source x t e = grind arith
 
 -- what is open of an access that was answered
 record IsOver {w : ℕ} (config : Config) (log : Log w) (c source : ℕ) (h : AbstractState w) : Type 0 where
@@ -118,10 +107,9 @@ over : {w : ℕ} {config : Config} {log : Log w} (c source : ℕ) (h : AbstractS
     → SimulationRelation config log h.mail h.request h.state (system_after config log)
     → h.state.uses c source ≡ Replied → IsOver config log c source h
 over {w} {config} {log} c source h is used =
-    let opened_as : (u : SourceState) → u ≡ Replied
-    → IsOpened c source h.mail h.state u ((one_memory_after config log).opened c Requests source)
-    → IsOpened c source h.mail h.state Replied ((one_memory_after config log).opened c Requests source) =
-    λ u e i. rw e at i in
+    let opened_as : (u : SourceState) → u ≡ Replied → IsOpened c source h.mail h.state u
+    ((one_memory_after config log).opened c Requests source) → IsOpened c source h.mail h.state Replied
+    ((one_memory_after config log).opened c Requests source) = λ u e i. rw e at i in
     let open_ = opened_as (h.state.uses c source) used (is.beside.requests c source) in
     let answers : Answers (Message.A (sourced source open_.1.0)) open_.0 (h.mail.answer c source) =
     subst (λ (i : Message w). Answers i open_.0 (h.mail.answer c source)) open_.1.1 open_.2 in
@@ -129,8 +117,7 @@ over {w} {config} {log} c source h is used =
       asked = open_.1.0;
       reply = open_.0;
       request = open_.1.1;
-      lawful = (subst (IsRequest config c source) open_.1.1 (sourced_request config c source (h.mail.request c source)
-          (h.state.uses c source) used (is.sourced c source))).1;
+      lawful = (subst (IsRequest config c source) open_.1.1 (rw used at (is.sourced c source))).1;
       opened = open_.1.2;
       answer = answers.0;
       reach = answers.1;
@@ -145,12 +132,7 @@ whole_response : {w : ℕ} {config : Config} {log : Log w} {link : Link} {ch : C
     {source : ℕ} {f : Finish} (end : IsEnding config log link ch h x source f)
     → Beat.D (d_beat_of end.response end.first.next.k) ∷ unfinished Channel.D
     ((system_after config log).clients link.0).past ≡ burst_of (Message.D end.response)
-whole_response {w} end =
-    cc (
-      end.beat_is,
-      (end.first.next.last (eqb-true (end.first.next.k + 1) _ (sym end.first.next.completes_is ∙ end.last))).1,
-      end.response_is,
-    )
+whole_response {w} end = grind arith
 
 -- an answer ends its access as the machine allows
 pub ends-answer : {w : ℕ} {config : Config} {log : Log w} {link : Link} {ch : Channel} {h : AbstractState w}
@@ -161,19 +143,15 @@ ends-answer {w} {config} {log} {link} {ch} {h} {x} {source} {f} width is end e =
     let sys : System w = system_after config log in
     let m : Machine w = one_memory_after config log in
     let it : IsOver config log c n h = over c n h is due.used in
-    let asked_is : request_of end.response.source (sys.clients c).past ≡ Some (a_beat_of (sourced n it.asked) 0) =
-    ap (λ (i : ℕ). request_of i (sys.clients c).past) (sym end.source_is ∙ from) ∙ it.pending_is in
     let payload : List ℕ = payload_of (Beat.D (d_beat_of end.response end.first.next.k) ∷ unfinished Channel.D
     (sys.clients c).past) in
-    let fin : f ≡ finish_with (Message.A it.asked) it.reply =
-    cc (
+    let fin : f ≡ finish_with (Message.A it.asked) it.reply = cc (
       end.finish_is,
-      asked_is,
+      ap (λ (i : ℕ). request_of i (sys.clients c).past) (sym end.source_is ∙ from) ∙ it.pending_is,
       ends_answered (level_of config c) (sourced n it.asked) end.response it.reply _
           width it.lawful (response_is ∙ it.answer) it.reach (whole_response end),
       finish_sourced n it.asked it.reply,
-    )
-    in
+    ) in
     subst (λ (i : Finish). Ends (m.opened c (pool_of i) source) x i) (sym fin)
     (subst (λ (i : ℕ). Ends (m.opened c (pool_of (finish_with (Message.A it.asked) it.reply)) i) x
     (finish_with (Message.A it.asked) it.reply)) (sym from) (open_ends c n m it.asked it.reply x it.opened))

@@ -1,5 +1,6 @@
 -- What the one-memory machine allows at a delivery: how a Grant and a ReleaseAck end their operations.
-use Rattle.std.proofs.Common.{◌≡◌, ℕ, Bool, true, false, List, ◌∷◌, Option, Some, None, refl, sym, ◌∙◌, ap, subst}
+use Rattle.std.proofs.Common.{◌≡◌, ℕ, Bool, true, false, List, ◌∷◌, Option}
+use Rattle.std.proofs.Common.{Some, None, refl, sym, ◌∙◌, ap, subst, arith}
 use Rattle.tl_coherence.proofs
 use proofs.Imports.{Beat, Link, Channel, Message, MessageD, d_beat_of, Config, Cap, Grow, Perm, cap_right, Finish}
 use proofs.Imports.{cap-gives, Kind, Answer, Grant, ReleaseAck, AcquirePhase, AcquireOpen, grant_fits, packet, is_on}
@@ -19,14 +20,11 @@ whole_trunk recorded held d k g e = ap cap_right (whole_cap g k (fits_cap record
 ends_granted : {w : ℕ} (n : ℕ) (bytes : List ℕ) (x : Beat w) (k : Cap) (whole : Bool) (g : Grow) (y : AcquirePhase)
     → y ≡ AcquireOpen whole g → cap_named x ≡ cap_right k → (whole ≡ true → cap_right k ≡ Perm.Trunk)
     → EndsOp (op_of {w = w} y n bytes) None x (Finish.Granted (cap_right k))
-ends_granted n bytes x k true g y e named trunk = rw e (ap Finish.Granted (trunk refl))
-ends_granted n bytes x k false g y e named trunk = rw e (ap Finish.Granted (sym named))
+ends_granted n bytes x k whole g y e f h = grind arith
 
 let_open : {w : ℕ} (n : ℕ) (o : Option ℕ) (opened : Option (Open w)) (x : Beat w) → o ≡ Some n → IsLet o opened
     → Ends opened x Finish.Released
-let_open {w} n o opened x e is =
-    let go : IsLet (Some n) opened → Ends opened x Finish.Released = λ found. rw found.1 refl in
-    go (rw e at is)
+let_open {w} n o opened x e is = grind arith
 
 -- a Grant, and a ReleaseAck, end their operations as the machine allows
 pub ends-transfer : {w : ℕ} {config : Config} {log : Log w} {link : Link} {ch : Channel} {h : AbstractState w}
@@ -61,33 +59,27 @@ ends-transfer {w} {config} {log} {link} {h} {x} {source} {f} is end other = go e
         let sent : MessageD w = grant_message due.data_too due.k ((h.state.block n).source c) (h.state.block n).tracker
         (h.state.block n).truth in
         let same = same-response end.response sent (sym (response_is Grant e) ∙ grant-rendered c n h.state due) in
-        let fin : f ≡ Finish.Granted (cap_right due.k) =
-        cc (
+        let fin : f ≡ Finish.Granted (cap_right due.k) = cc (
           end.finish_is,
           granted-at (d_beat_of end.response end.first.next.k) (sys.clients c) due.data_too due.k
               (ap (λ (i : MessageD w). i.opcode) same) (ap (λ (i : MessageD w). i.param) same),
         ) in
-        let from : source ≡ (h.state.block n).source c = end.source_is ∙ ap (λ (i : MessageD w). i.source) same in
         let opened = opened-acquire config log h sys c source n (h.state.uses c source) is refl
-        (ap (h.state.uses c) from ∙ due.used) in
+        (ap (h.state.uses c) (end.source_is ∙ ap (λ (i : MessageD w). i.source) same) ∙ due.used) in
         let named : cap_named x ≡ cap_right due.k = cc (end.beat_is, same, cap-gives due.k) in
         let fits = due.fits in
         subst (λ (i : Finish). Ends (m.opened c (pool_of i) source) x i) (sym fin)
-        (subst (λ (o : Option (Open w)). Ends o x (Finish.Granted (cap_right due.k))) (sym opened)
-        (ends_granted n ((h.state.block n).waiting c) x due.k due.whole due.g ((h.state.block n).pair c).acquiring
-        due.wants named (λ whole. whole_trunk ((h.state.block n).pair c).recorded ((h.state.block n).pair c).held
-        due.data_too due.k due.g
-        (ap (λ (b : Bool). grant_fits ((h.state.block n).pair c).recorded ((h.state.block n).pair c).held
-        due.data_too due.k (AcquireOpen b due.g)) (sym whole) ∙ fits))))
+        (rw opened (ends_granted n ((h.state.block n).waiting c) x due.k due.whole due.g
+        ((h.state.block n).pair c).acquiring due.wants named (λ whole. whole_trunk
+        ((h.state.block n).pair c).recorded ((h.state.block n).pair c).held due.data_too due.k due.g (cc))))
     go ReleaseAck e own =
         let sent : MessageD w = ack_message ((h.state.block n).release_source c) in
         let same : end.response ≡ sent = same-response end.response sent (sym (response_is ReleaseAck e)) in
         let fin : f ≡ Finish.Released = end.finish_is ∙ released-at (d_beat_of end.response end.first.next.k)
         (sys.clients c) (ap (λ (i : MessageD w). i.opcode) same) in
         let from : source ≡ (h.state.block n).release_source c = cc (end.source_is, same) in
-        let lets : h.state.lets c source ≡ Some n = ap (h.state.lets c) from ∙ ack-due c n
-        end.first.rest is.invariant (tokens ReleaseAck e) in
         subst (λ (i : Finish). Ends (m.opened c (pool_of i) source) x i) (sym fin)
-        (let_open n (h.state.lets c source) (m.opened c Releases source) x lets (is.beside.releases c source))
+        (let_open n (h.state.lets c source) (m.opened c Releases source) x (ap (h.state.lets c) from
+        ∙ ack-due c n end.first.rest is.invariant (tokens ReleaseAck e)) (is.beside.releases c source))
     go Answer e own = absurd (other e)
     go k e own = absurd (let g : false ≡ true = rw e at own in cc)

@@ -1,28 +1,26 @@
 -- What a delivery answers of accesses is performed after the step of the one-memory machine.
 use Rattle.std.proofs.Common.{◌≡◌, ℕ, Bool, true, false, List, [], ◌∷◌, Option, Some, None, refl, ◌∙◌, ap, subst, ◌⊎◌}
-use Rattle.std.proofs.Common.{inl, inr, All, Ok}
+use Rattle.std.proofs.Common.{arith, inl, inr, All, Ok}
 use Rattle.tl_coherence.proofs
 use proofs.Imports.{All-head, Beat, BeatE, Link, Channel, IsWidth, Message, channel_of, Config, Verdict, EndConfig}
 use proofs.Imports.{reaction-ack, reaction, Deliver, AbstractState, IsAccess, SimulationRelation, is_moving, Log}
 use proofs.Imports.{system_after, Machine, Requests, moved, one_memory_after, performing, accesses_answered, Step}
 use proofs.Imports.{stepped, handed_by, is_to_client, System, terms_at}
-use Rattle.tl_coherence.specs.statement.Machine.{Performs}
+use Rattle.tl_coherence.{specs.statement.Machine.Performs}
 use Rattle.tl_manager.specs.code.Kept as manager
 use proofs.memory.BesideRequests.{IsOnce, once-performs}
-use proofs.links.HeadsOfLinks.{first-of}
-use proofs.deliveries.{DeliverDUnmoved.unmoved, Matching.not_moving, Matching.stepped-nobody}
-use proofs.deliveries.{ReportsAfter.once-followed_c, RequestsDelivered.once-delivered_a}
-use proofs.simulation.{Moved.client-moves, Moved.manager-moves, SoundAfter.copy-long, BeatsInFlight.IsOfClient}
-use proofs.simulation.{BeatsInFlight.IsFitAnswer, BeatsInFlight.fit-taken}
-use proofs.queues.Steps.{stepped-empty}
+use proofs.links.{HeadsOfLinks.first-of}
+use proofs.deliveries.{DeliverDUnmoved.unmoved, ReportsAfter.once-followed_c, RequestsDelivered.once-delivered_a}
+use proofs.deliveries.Matching.{not_moving, stepped-nobody}
+use proofs.simulation.{Moved.client-moves, Moved.manager-moves, SoundAfter.copy-long}
+use proofs.simulation.BeatsInFlight.{IsOfClient, IsFitAnswer, fit-taken}
+use proofs.queues.{Steps.stepped-empty}
 
 -- ---- what a client hands out answers no access
 
 ours-quiet : {w : ℕ} (c : ℕ) (m : Message w) → IsOfClient m → accesses_answered (handed_by c (Some m)) ≡ []
 unfolding accesses_answered
-ours-quiet c (Message.B m) is = absurd is
-ours-quiet c (Message.D m) is = absurd is
-ours-quiet c m is = refl
+ours-quiet c m e = grind arith
 
 none-quiet : (w c : ℕ) → accesses_answered (handed_by {w = w} c None) ≡ []
 unfolding accesses_answered
@@ -41,8 +39,7 @@ performs-none l m e = rw e refl
 
 -- at most one access is answered, which the step of the machine leaves as it is
 abbrev pub IsAnswering : {w : ℕ} → List (ℕ × ℕ) → AbstractState w → Machine w → Machine w → Type 0
-IsAnswering l h before next = (l ≡ [])
-    ⊎ ((q : ℕ) × (source : ℕ) × (l ≡ (q, source) ∷ [])
+IsAnswering l h before next = (l ≡ []) ⊎ ((q : ℕ) × (source : ℕ) × (l ≡ (q, source) ∷ [])
     × IsAccess source (h.mail.request q source) None (before.opened q Requests source) × (next ≡ before))
 
 performs-answering : {w : ℕ} (l : List (ℕ × ℕ)) (h : AbstractState w) (before next : Machine w)
@@ -88,8 +85,7 @@ answering-delivered {w} config log link ch h width is = go (is_moving (stepped c
         → manager.IsSound config (record { 0 = c }, x)
     head at x queue beats =
         let same : sys.channels c at ≡ x ∷ queue → All (λ y. manager.IsSound config (record { 0 = c }, y))
-        (sys.channels c at) → All (λ y. manager.IsSound config (record { 0 = c }, y)) (x ∷ queue) =
-        λ e f. rw e at f in
+        (sys.channels c at) → All (λ y. manager.IsSound config (record { 0 = c }, y)) (x ∷ queue) = λ e f. rw e at f in
         All-head (λ y. manager.IsSound config (record { 0 = c }, y)) x queue (same beats (is.sound c at))
 
     -- a client takes it
@@ -98,11 +94,9 @@ answering-delivered {w} config log link ch h width is = go (is_moving (stepped c
         → sys.channels c at ≡ x ∷ queue → is_moving (stepped config (Deliver link at) sys).outcome ≡ true → Then at
     down at terms x queue theirs known beats moving =
         let t = client-moves config link at sys terms x queue known beats theirs moving in
-        let fit : IsFitAnswer config.blocks (Ok (t.verdict_is, t.message)) =
-        subst (IsFitAnswer config.blocks) t.answer
-        (fit-taken config.blocks x (sys.clients c) (head at x queue beats).inside (copy-long is c)) in
         inl (ap (λ (s : Step w). accesses_answered s.handed) t.step_is
-        ∙ fit-quiet config.blocks c t.verdict_is t.message fit)
+        ∙ fit-quiet config.blocks c t.verdict_is t.message (subst (IsFitAnswer config.blocks) t.answer
+        (fit-taken config.blocks x (sys.clients c) (head at x queue beats).inside (copy-long is c))))
 
     -- the manager takes it
     up : (at : Channel) (terms : EndConfig) (x : Beat w) (queue : List (Beat w)) → is_to_client at ≡ false
@@ -122,8 +116,7 @@ answering-delivered {w} config log link ch h width is = go (is_moving (stepped c
     moves Channel.A terms (x ∷ queue) known beats moving =
         let t = manager-moves config link Channel.A sys terms x queue known beats refl moving in
         up Channel.A terms x queue refl known beats moving
-        (subst (λ (s : Step w). IsOnce (accesses_answered s.handed) h m) t.step_is
-        (once-delivered_a h c terms width is known is.beside))
+        (rw t.step_is at (once-delivered_a h c terms width is known is.beside))
     moves Channel.B terms (x ∷ queue) known beats moving = down Channel.B terms x queue refl known beats moving
     moves Channel.C terms (x ∷ queue) known beats moving = up Channel.C terms x queue refl known beats moving
         (once-followed_c h c x queue width is beats is.beside)
@@ -152,8 +145,7 @@ pub performs-delivered : {w : ℕ} {config : Config} {log : Log w} (link : Link)
     (one_memory_after config ((Deliver link ch, (stepped config (Deliver link ch) (system_after config log)).outcome)
     ∷ log))
 unfolding one_memory_after
-performs-delivered {config} {log} link ch h width is =
-    performs-answering (accesses_answered (stepped config (Deliver link ch) (system_after config log)).handed) h
-    (one_memory_after config log)
+performs-delivered {config} {log} link ch h width is = performs-answering (accesses_answered
+    (stepped config (Deliver link ch) (system_after config log)).handed) h (one_memory_after config log)
     (moved (Deliver link ch) (stepped config (Deliver link ch) (system_after config log)).outcome
     (one_memory_after config log)) (answering-delivered config log link ch h width is)

@@ -1,5 +1,6 @@
 -- An Acquire that is started alone brings what it asks for, and an AcquireWhole brings Trunk.
-use Rattle.std.proofs.Common.{◌≡◌, ℕ, zero, suc, Bool, true, false, List, ◌∷◌, Option, Some, None, refl, sym, ◌∙◌, ap}
+use Rattle.std.proofs.Common.{◌≡◌, ℕ, zero, suc, Bool, true, false, List, ◌∷◌}
+use Rattle.std.proofs.Common.{Option, Some, None, refl, sym, ◌∙◌, ap, arith}
 use Rattle.tl_coherence.proofs
 use proofs.Imports.{Link, Channel, Config, Grow, Perm, Profile, same_perm, Op, whole_grow, held_at, Deliver, Ask}
 use proofs.Imports.{AcquirePhase, AcquireOpen, ClientBlock, after_acquire, SourceState, Block, State, SourceFree}
@@ -43,10 +44,9 @@ lone_asked p c n source whole g bytes {s} closed =
     record {
       others = λ d i else_. set_at-there (Acquires n) s.uses else_ ∙ closed.uses d i;
       brings = wanting (s'.uses c source) ((s'.block n).pair c) (set_at-same c source (Acquires n) s.uses)
-          (ap (λ (b : Block (List ℕ)). (b.pair c).acquiring)
-          (set-same n (acquiring_block c source whole g bytes (s.block n)) s.block)
-          ∙ ap (λ (x : ClientBlock). x.acquiring) (set-same c (after_acquire whole g ((s.block n).pair c))
-          (s.block n).pair));
+          (ap (λ (b : Block (List ℕ)). (b.pair c).acquiring) (set-same n
+          (acquiring_block c source whole g bytes (s.block n)) s.block) ∙ ap (λ (x : ClientBlock). x.acquiring)
+          (set-same c (after_acquire whole g ((s.block n).pair c)) (s.block n).pair));
     }
 
 -- what is asked for wants this, and is alone
@@ -60,8 +60,7 @@ lone_started : {w : ℕ} {config : Config} {log : Log w} {c n source : ℕ} {op 
     → Begins config log c n source op a
     → IsLone config.profile c n source a (shadow config ((Ask c op, Replied (Started source)) ∷ log)).state
 unfolding shadow IsLog
-lone_started {w} {config} {log} {c} {n} {source} {op} {a} is =
-    rw (← is.given.is_log.0)
+lone_started {w} {config} {log} {c} {n} {source} {op} {a} is = rw (← is.given.is_log.0)
     (is.begins (nothing_open (given-before config (Ask c op, Replied (Started source)) log is.given) is.alone))
 
 -- ---- as it is drained
@@ -103,9 +102,7 @@ lone_drained {config} (suc k) {log} {c} {n} {source} {a} is =
 
 brought : (p : Profile) (n : ℕ) (a : AcquirePhase) (u : SourceState) (x : ClientBlock) → u ≡ SourceFree
     → Brings p n a u x → grown p a x.held ≡ true
-brought p n a u x e is =
-    let go : Brings p n a SourceFree x → grown p a x.held ≡ true = λ i. i in
-    go (rw e at is)
+brought p n a u x e is = grind arith
 
 alone-drained : {w : ℕ} {config : Config} {log : Log w} {c block source n : ℕ} {op : Op w} {a : AcquirePhase}
     → Begins config log c block source op a → IsDrained config ((Ask c op, Replied (Started source)) ∷ log) n
@@ -113,45 +110,32 @@ alone-drained : {w : ℕ} {config : Config} {log : Log w} {c block source n : �
     (held_at ((system_after config (drained config n ((Ask c op, Replied (Started source)) ∷ log))).clients c) block)
     ≡ true
 alone-drained {w} {config} {log} {c} {block} {source} {n} {op} {a} is drains =
-    let start : Log w = (Ask c op, Replied (Started source)) ∷ log in
-    let end : Log w = drained config n start in
+    let end : Log w = drained config n ((Ask c op, Replied (Started source)) ∷ log) in
     let lone = lone_drained n (record { given = is.given; lone = lone_started is }) in
-    let closed = nothing_open lone.given drains.nothing_left in
     ap (grown config.profile a) (((matched-given config end lone.given).known c).held_is block)
     ∙ brought config.profile block a ((shadow config end).state.uses c source)
     (((shadow config end).state.block block).pair c)
-    (closed.uses c source) lone.lone.brings
+    ((nothing_open lone.given drains.nothing_left).uses c source) lone.lone.brings
 
 pub alone : {w : ℕ} → LoneAcquire w
-alone config log client block source n grow none given drains =
-    let s = (shadow config log).state in
-    alone-drained
-    (record {
-      given = given;
-      alone = none;
-      begins = λ closed. lone_asked config.profile client block source false grow
-          ((s.block block).waiting client) closed;
-    }) drains
+alone config log client block source n grow none given drains = alone-drained (record {
+  given = given;
+  alone = none;
+  begins = λ closed. lone_asked config.profile client block source false grow
+      (((shadow config log).state.block block).waiting client) closed;
+}) drains
 
 is_trunk : (held : Perm) → same_perm Perm.Trunk held ≡ true → held ≡ Perm.Trunk
-is_trunk Perm.Trunk e = refl
-is_trunk held e = absurd cc
+is_trunk held e = grind arith
 
 whole-brings : (p : Profile) (before held : Perm) → grown_to p (whole_grow before) held ≡ true → held ≡ Perm.Trunk
-whole-brings Profile.One Perm.None held e = is_trunk held e
-whole-brings Profile.One Perm.Branch held e = is_trunk held e
-whole-brings Profile.One Perm.Trunk held e = is_trunk held e
-whole-brings Profile.Two Perm.None held e = is_trunk held e
-whole-brings Profile.Two Perm.Branch held e = is_trunk held e
-whole-brings Profile.Two Perm.Trunk held e = is_trunk held e
+whole-brings p before held e = grind (arith, is_trunk)
 
 pub alone_whole : {w : ℕ} → LoneAcquireWhole w
 alone_whole config log client block source n bytes none given drains =
-    let s = (shadow config log).state in
-    let before : Perm = ((s.block block).pair client).held in
+    let before : Perm = (((shadow config log).state.block block).pair client).held in
     whole-brings config.profile before _
-    (alone-drained
-    (record {
+    (alone-drained (record {
       given = given;
       alone = none;
       begins = λ closed. lone_asked config.profile client block source true (whole_grow before) bytes closed;

@@ -1,7 +1,7 @@
 -- An Acquire that is alone: its client holds the block until it is granted what it asked for, and then that, whatever
 -- message is taken.
 use Rattle.std.proofs.Common.{◌≡◌, subst, ℕ, Bool, true, false, List, ◌∷◌, refl, sym, ◌∙◌, ap, ap₂, ◌⊎◌, inl, inr, ◌&&◌}
-use Rattle.std.proofs.Common.{if◌then◌else◌, ◌==◌}
+use Rattle.std.proofs.Common.{arith, if◌then◌else◌, ◌==◌}
 use Rattle.tl_coherence.proofs
 use proofs.Imports.{cases_eq, Config, Cap, Grow, Report, Perm, Profile, cap_right, IsInvariant, Kind, Request, Probe}
 use proofs.Imports.{Grant, Packet, set, set_at, AcquirePhase, AcquireOpen, ClientBlock, Own, Other, NoAcquire, cap_fits}
@@ -10,16 +10,16 @@ use proofs.Imports.{GrantTaken, Block, State, SourceFree, Asked, InService, Repl
 use proofs.Imports.{granted_at_once, granted_pair, probe_taken, reported_block, served_block, served_pair, let_block}
 use proofs.Imports.{let_go_block, freed_block, granted_block, is_sent, AbstractState, kind_taken, taken_by_client}
 use proofs.Imports.{IsGivenAsked, gives_asked, grown_to}
-use proofs.memory.Beside.{IsElsewhere, place-cases}
+use proofs.memory.{Beside.IsElsewhere}
 use proofs.protocol.{TokenNames.source_of_acquire, HeadOfD.IsGrantDue, HeadOfD.grant-due, QuiescentProtocol.owns_ask}
 use proofs.protocol.{QuiescentProtocol.serves_another, BothParts.not-sent, BothParts.taken-unseen}
 use proofs.protocol.{BothParts.granted-unseen, FirstTokens.first-answer, FirstTokens.first-shown, Events.true-taken}
 use proofs.client.{ClientEnd.is_access, GrantMatchesAcquire.AreGiven}
-use proofs.links.Granting.{held_granted}
-use proofs.queues.{Facts.is_other, Tokens.same_number, Tokens.set-each, Tokens.set-other, Tokens.set-same}
-use proofs.queues.{Tokens.set_at-same, Perms.fits_cap}
+use proofs.links.{Granting.held_granted}
+use proofs.queues.{Facts.is_other, Perms.fits_cap}
+use proofs.queues.Tokens.{same_number, set-each, set-other, set_at-same}
 use proofs.simulation.{Sized.each-set_at, SourcedAfter.first-asked}
-use proofs.rank.RankParts.{serving-use}
+use proofs.rank.{RankParts.serving-use}
 
 -- what may be held by one who wanted this, and of whom nothing else was asked
 abbrev pub grown : Profile → AcquirePhase → Perm → Bool
@@ -44,16 +44,11 @@ IsSteady x y = (y.held ≡ x.held) × (y.acquiring ≡ x.acquiring)
 
 brings_steady : (p : Profile) (n : ℕ) (a : AcquirePhase) (u v : SourceState) (x y : ClientBlock) → v ≡ u → IsSteady x y
     → Brings p n a u x → Brings p n a v y
-brings_steady p n a SourceFree v x y e same is = rw e (ap (grown p a) same.0 ∙ is)
-brings_steady p n a (Acquires m) v x y e same is = rw e (is.0, same.1 ∙ is.1)
-brings_steady p n a u v x y e same is = absurd is
+brings_steady p n a u v x y e f g = grind (arith, grown)
 
 steady_at : (m : ℕ) (b : Block (List ℕ)) (block : ℕ → Block (List ℕ)) (i d : ℕ)
     → (i ≡ m → IsSteady ((block m).pair d) (b.pair d)) → IsSteady ((block i).pair d) ((set m b block i).pair d)
-steady_at m b block i d same = elim (cases_eq i m) [
-  | inl here ↦ rw (here, set-same m b block) (same here)
-  | inr other ↦ rw (set-other m i b block other) (refl, refl)
-]
+steady_at m b block i d same = grind (arith, cases_eq)
 
 steady_pair : (d : ℕ) (x : ClientBlock) (pair : ℕ → ClientBlock) → IsSteady (pair d) x → (j : ℕ)
     → IsSteady (pair j) (set d x pair j)
@@ -63,9 +58,8 @@ steady_served : (r : ℕ) (own : Bool) (k : Cap) (pair : ℕ → ClientBlock) (d
     → IsSteady (pair d) (served_pair r own k pair d)
 steady_served r own k pair d = go (own && (d == r))
   where
-    go : (b : Bool) → IsSteady (pair d) (if b then pair d else record (pair d) {
-      probing = (served_pair r false k pair d).probing;
-    })
+    go : (b : Bool)
+        → IsSteady (pair d) (if b then pair d else record (pair d) { probing = (served_pair r false k pair d).probing })
     go true = (refl, refl)
     go false = (refl, refl)
 
@@ -82,14 +76,7 @@ steady_granted d q r k pair j =
 
 grows : (p : Profile) (whole : Bool) (g : Grow) (k : Cap) → cap_fits whole g k ≡ true
     → gives_asked p (AcquireOpen whole g) k ≡ true → grown_to p g (cap_right k) ≡ true
-grows Profile.One false Grow.NtoB Cap.ToB e f = refl
-grows Profile.Two false Grow.NtoB Cap.ToB e f = refl
-grows Profile.Two false Grow.NtoB Cap.ToT e f = refl
-grows Profile.One whole Grow.NtoT Cap.ToT e f = refl
-grows Profile.Two whole Grow.NtoT Cap.ToT e f = refl
-grows Profile.One whole Grow.BtoT Cap.ToT e f = refl
-grows Profile.Two whole Grow.BtoT Cap.ToT e f = refl
-grows p whole g k e f = absurd cc
+grows p whole g k e f = grind arith
 
 brings_granted : (p : Profile) (n : ℕ) (a : AcquirePhase) (u : SourceState) (x : ClientBlock) (q : Perm)
     → u ≡ SourceFree → x.held ≡ q → grown p a q ≡ true → Brings p n a u x
@@ -109,40 +96,19 @@ module _ (p : Profile) (c n source : ℕ) (a : AcquirePhase) where
   abbrev IsOwn : State (List ℕ) → ℕ → ℕ → Type 0
   IsOwn s d i = (d ≡ c) × (i ≡ source) × (s.uses d i ≡ Acquires n) × (((s.block n).pair c).acquiring ≡ a)
 
-  lone_use : {s : State (List ℕ)} → IsLone p c n source a s → (d i : ℕ) → (s.uses d i ≡ SourceFree) ⊎ IsOwn s d i
-  lone_use {s} is d i = elim (place-cases c source d i) [
-    | inl same ↦ go (s.uses c source) refl is.brings same.0 same.1
-    | inr else_ ↦ inl (is.others d i else_)
-  ]
-    where
-      go : (u : SourceState) → s.uses c source ≡ u → Brings p n a u ((s.block n).pair c) → d ≡ c → i ≡ source
-          → (s.uses d i ≡ SourceFree) ⊎ IsOwn s d i
-      go SourceFree e b x y = inl (ap₂ s.uses x y ∙ e)
-      go (Acquires m) e b x y = inr (x, y, ap₂ s.uses x y ∙ e ∙ ap Acquires b.0, b.1)
-      go u e b x y = absurd b
-
   no_access : {s : State (List ℕ)} (d i : ℕ) (u : SourceState) → IsLone p c n source a s → s.uses d i ≡ u
       → is_access u ≡ true → ⊥
-  no_access {s} d i u is e access = elim (lone_use is d i) [
-    | inl none ↦ let no : is_access SourceFree ≡ true = ap is_access (sym none ∙ e) ∙ access in cc
-    | inr own ↦ let no : is_access (Acquires n) ≡ true = ap is_access (sym own.2 ∙ e) ∙ access in cc
-  ]
+  no_access {s} d i u is e access = grind arith
 
   own_acquire : {s : State (List ℕ)} (d i m : ℕ) → IsLone p c n source a s → s.uses d i ≡ Acquires m
       → IsOwn s d i × (m ≡ n)
-  own_acquire {s} d i m is e =
-      let same : (k : ℕ) → Acquires k ≡ Acquires n → k ≡ n = λ k f. cc in
-      elim (lone_use is d i) [
-        | inl none ↦ absurd (let no : SourceFree ≡ Acquires m = sym none ∙ e in cc)
-        | inr own ↦ (own, same m (sym e ∙ own.2))
-      ]
+  own_acquire {s} d i m is e = grind arith
 
   -- its client isn't probed
   unprobed : {caching : ℕ → Bool} {s : State (List ℕ)} → IsInvariant caching s → IsLone p c n source a s
       → is_sent ((s.block n).pair c).probing ≡ true → ⊥
-  unprobed {caching} {s} inv is sent =
-      go (s.block n).service refl (serves_another ((s.block n).pair c) (view (s.block n).service c)
-      ((inv.blocks n).phases c) (not-sent ((s.block n).pair c).probing sent))
+  unprobed {caching} {s} inv is sent = go (s.block n).service refl (serves_another ((s.block n).pair c)
+      (view (s.block n).service c) ((inv.blocks n).phases c) (not-sent ((s.block n).pair c).probing sent))
     where
       go : (service : Service) → (s.block n).service ≡ service → is_other (view service c) ≡ true → ⊥
       go Free e other = absurd cc
@@ -153,9 +119,8 @@ module _ (p : Profile) (c n source : ℕ) (a : AcquirePhase) where
           let never : (b : Bool) → b ≡ true → is_other (if b then Own else Other k) ≡ true → ⊥ =
           elim [ true ↦ λ e f. absurd cc | false ↦ λ e f. absurd cc ] in
           let own : view (s.block n).service r ≡ Own = rw (e, same_number r) refl in
-          let wants = owns_ask ((s.block n).pair r) (view (s.block n).service r) ((inv.blocks n).phases r) (rw own refl)
-          in
-          let mine = own_acquire r ((s.block n).source r) n is (source_of_acquire r n inv wants) in
+          let mine = own_acquire r ((s.block n).source r) n is (source_of_acquire r n inv
+          (owns_ask ((s.block n).pair r) (view (s.block n).service r) ((inv.blocks n).phases r) (rw own refl))) in
           never (c == r) (ap (λ (j : ℕ). c == j) mine.0.0 ∙ same_number c) other
 
   -- ---- messages that are taken
@@ -168,8 +133,7 @@ module _ (p : Profile) (c n source : ℕ) (a : AcquirePhase) where
     where
       go : n ≡ m → (c ≡ d) ⊎ (c ≡ d → ⊥)
           → IsSteady ((s.block m).pair c) (set d (after_probe k ((s.block m).pair d)) (s.block m).pair c)
-      go here (inl same) = absurd
-          (unprobed inv is (ap₂ (λ (i j : ℕ). is_sent ((s.block i).pair j).probing) here same ∙ sent))
+      go here (inl same) = absurd (unprobed inv is (cc))
       go here (inr other) = rw (set-other d c (after_probe k ((s.block m).pair d)) (s.block m).pair other) (refl, refl)
 
   lone_grant : {w : ℕ} (config : Config) (tracker : ℕ) {d m : ℕ} (rest : List Packet) (h : AbstractState w)
@@ -179,19 +143,17 @@ module _ (p : Profile) (c n source : ℕ) (a : AcquirePhase) where
       let after : State (List ℕ) = (kind_taken config tracker d Grant m rest h).state in
       let uses_are : (e i : ℕ) → after.uses e i ≡ set_at d src SourceFree h.state.uses e i =
       λ e i. ap (λ (v : Service). (taken_by_client d m v rest h).state.uses e i) due.service in
-      let given_as : IsGivenAsked p (GrantSent d due.data_too due.k) (h.state.block m).pair =
-      subst (λ (v : Service). IsGivenAsked p v (h.state.block m).pair) due.service (given m) in
-      let gives : gives_asked p (AcquireOpen due.whole due.g) due.k ≡ true = cc (due.wants, given_as) in
+      let gives : gives_asked p (AcquireOpen due.whole due.g) due.k ≡ true =
+      cc (due.wants, subst (λ (v : Service). IsGivenAsked p v (h.state.block m).pair) due.service (given m)) in
       record {
         others = λ e i else_. uses_are e i ∙ each-set_at (λ j k (v : SourceState). IsElsewhere c source j k
             → v ≡ SourceFree) d src SourceFree h.state.uses (λ any. refl) is.others e i else_;
         brings = brings_granted p n a (after.uses c source) ((after.block n).pair c) (cap_right due.k)
             (uses_are c source ∙ ap₂ (set_at d src SourceFree h.state.uses) (sym mine.0.0) (sym mine.0.1)
             ∙ set_at-same d src SourceFree h.state.uses) (ap₂ (λ (i j : ℕ). ((after.block i).pair j).held) (sym mine.1)
-            (sym mine.0.0) ∙ held_granted config tracker rest h due)
-            (subst (λ (x : AcquirePhase). grown p x (cap_right due.k) ≡ true) wants
-            (grows p due.whole due.g due.k (fits_cap ((h.state.block m).pair d).recorded ((h.state.block m).pair d).held
-            due.data_too due.k due.whole due.g due.fits) gives));
+            (sym mine.0.0) ∙ held_granted config tracker rest h due) (subst (λ (x : AcquirePhase). grown p x
+            (cap_right due.k) ≡ true) wants (grows p due.whole due.g due.k (fits_cap ((h.state.block m).pair d).recorded
+            ((h.state.block m).pair d).held due.data_too due.k due.whole due.g due.fits) gives));
       }
     where
       src : ℕ
@@ -229,8 +191,7 @@ module _ (p : Profile) (c n source : ℕ) (a : AcquirePhase) where
         release = λ m known. steady m (let_block d _ (block m)) _ (λ e j. refl) (λ j. refl)
             (steady_pair d _ (block m).pair (refl, refl) c);
         answer = λ src known. absurd (no_access d src Replied is (first-answer inv known) refl);
-        grant = λ m q x j known sent. subst
-            (λ (v : Service). IsLone p c n source a (taken_by_client d m v rest h).state) sent
+        grant = λ m q x j known sent. rw sent at
             (lone_grant config tracker rest h given (grant-due caching d m rest h.state inv known) is);
         release_ack = λ m known. steady m (let_go_block d (block m)) _ (λ e j. refl) (λ j. refl)
             (steady_pair d _ (block m).pair (refl, refl) c);
@@ -247,5 +208,4 @@ module _ (p : Profile) (c n source : ℕ) (a : AcquirePhase) where
       steady : (m : ℕ) (new : Block (List ℕ)) (t : State (List ℕ)) → ((e j : ℕ) → t.uses e j ≡ h.state.uses e j)
           → ((j : ℕ) → t.block j ≡ set m new block j) → IsSteady ((block m).pair c) (new.pair c)
           → IsLone p c n source a t
-      steady m new t uses blocks same = lone_steady t uses (subst (λ (b : Block (List ℕ)). IsSteady ((block n).pair c)
-          (b.pair c)) (sym (blocks n)) (steady_at m new block n c (λ here. same))) is
+      steady m new t uses blocks same = lone_steady t uses (rw (blocks n) (steady_at m new block n c (λ here. same))) is

@@ -1,12 +1,12 @@
 -- Each event is a step of the one-memory machine, and performs what it answers: the outcomes are a run of it.
 use Rattle.std.proofs.Common.{◌≡◌, ℕ, Bool, true, false, List, [], ◌∷◌, Option, Some, None, refl, sym, ◌∙◌, ap, subst}
-use Rattle.std.proofs.Common.{is_some}
+use Rattle.std.proofs.Common.{arith, is_some}
 use Rattle.tl_coherence.proofs
 use proofs.Imports.{Beat, Link, Channel, IsWidth, Config, Finish, EndConfig, Event, Deliver, Ask, Outcome, Kind, Answer}
 use proofs.Imports.{AbstractState, SimulationRelation, Continues, Log, system_after, Ends, Machine, pool_of, Run}
 use proofs.Imports.{is_client, moved, one_memory_after, accesses_answered, performing, Step, stepped, System, terms_at}
-use Rattle.tl_coherence.specs.{statement.Headline.AreTyped, statement.Log.IsLog, statement.Machine.IsStep}
-use Rattle.tl_coherence.specs.{statement.Machine.Performs}
+use Rattle.tl_coherence.{specs.statement.Headline.AreTyped, specs.statement.Log.IsLog}
+use Rattle.tl_coherence.specs.statement.Machine.{IsStep, Performs}
 use Rattle.tl_coherence.specs.statement.Step as step
 use proofs.theorem.{Allowing.ends-transfer, AccessEnds.ends-answer, Continuing.performs-delivered}
 use proofs.deliveries.{AskedAfter.continues-ask, Matching.shadow, Matching.matched, Matching.stepped-nobody}
@@ -24,9 +24,7 @@ is_delivered _ = true
 delivered-so : {w : ℕ} (config : Config) (terms : EndConfig) (c : ℕ) (ch : Channel) (beats : List (Beat w))
     (s : System w) → is_delivered (step.delivered config terms c ch beats s).outcome ≡ true
 unfolding is_delivered
-delivered-so config terms c ch [] s = refl
-delivered-so config terms c ch (x ∷ rest) s =
-    first-outcome (λ o. is_delivered o ≡ true) config terms c ch x rest s refl refl (λ source f. refl)
+delivered-so config terms c ch beats s = grind (arith, first-outcome, is_delivered)
 
 stepped-so : {w : ℕ} (config : Config) (link : Link) (ch : Channel) (terms : EndConfig) (s : System w)
     → terms_at config link.0 ≡ Some terms → is_delivered (stepped config (Deliver link ch) s).outcome ≡ true
@@ -40,8 +38,7 @@ step_allowed : {w : ℕ} (config : Config) (link : Link) (ch : Channel) (o : Out
     → IsStep config (Deliver link ch) o m (moved (Deliver link ch) o m)
 unfolding is_delivered
 step_allowed config link Channel.D (Outcome.Done x source f) m so known done = (known, (done x source f refl).1, refl)
-step_allowed config link ch (Outcome.Done x source f) m so known done =
-    absurd (let e = (done x source f refl).0 in cc)
+step_allowed config link ch (Outcome.Done x source f) m so known done = absurd (let e = (done x source f refl).0 in cc)
 step_allowed config link ch (Outcome.Replied r) m so known done = absurd cc
 step_allowed config link ch Outcome.NoSuchClient m so known done = absurd cc
 step_allowed config link ch o m so known done = (known, tt, refl)
@@ -61,13 +58,12 @@ continues-delivered : {w : ℕ} {config : Config} {log : Log w} (link : Link) (c
     (terms : EndConfig) → IsWidth w → SimulationRelation config log h.mail h.request h.state (system_after config log)
     → terms_at config link.0 ≡ Some terms
     → Continues config (Deliver link ch, (stepped config (Deliver link ch) (system_after config log)).outcome) log
-continues-delivered {w} {config} {log} link ch h terms width is known = (
-  moved (Deliver link ch) (stepped config (Deliver link ch) (system_after config log)).outcome m,
-  accesses_answered (stepped config (Deliver link ch) (system_after config log)).handed,
-  step_allowed config link ch (stepped config (Deliver link ch) (system_after config log)).outcome m
-      (stepped-so config link ch terms (system_after config log) known) (ap is_some known) done,
-  performs-delivered link ch h width is,
-)
+continues-delivered {w} {config} {log} link ch h terms width is known =
+    let fact = moved (Deliver link ch) (stepped config (Deliver link ch) (system_after config log)).outcome m in
+    let other_fact = accesses_answered (stepped config (Deliver link ch) (system_after config log)).handed in
+    let third_fact = step_allowed config link ch (stepped config (Deliver link ch) (system_after config log)).outcome m
+    (stepped-so config link ch terms (system_after config log) known) (ap is_some known) done in
+    (fact, other_fact, third_fact, performs-delivered link ch h width is)
   where
     m : Machine w
     m = one_memory_after config log
@@ -92,9 +88,8 @@ continues_event {w} {config} {log} event h width is = go event (terms_at config 
         → Continues config (e, (stepped config e (system_after config log)).outcome) log
     go e None none = nobody-continues config log e none
     go (Deliver link ch) (Some terms) known = continues-delivered link ch h terms width is known
-    go (Ask c o) (Some terms) known = subst (λ (i : Outcome w). Continues config (Ask c o, i) log)
-        (sym (ap (λ (x : Step w). x.outcome) (stepped-asked config c o (system_after config log) terms known)))
-        (continues-ask h c terms o width is known)
+    go (Ask c o) (Some terms) known = rw (ap (λ (x : Step w). x.outcome)
+        (stepped-asked config c o (system_after config log) terms known)) (continues-ask h c terms o width is known)
 
 -- Each event goes on from the machine before it.
 pub continues : {w : ℕ} (config : Config) (log : Log w) (x : Event w × Outcome w) → IsWidth w → AreTyped log
@@ -114,10 +109,8 @@ all_continue : {w : ℕ} (config : Config) (log : Log w) → IsWidth w → AreTy
     → AllContinue config log
 unfolding AllContinue AreTyped
 all_continue config [] width typed logged = tt
-all_continue config (x ∷ log) width typed logged = (
-  continues config log x width typed.1 logged,
-  all_continue config log width typed.1 (logged_before config x log logged),
-)
+all_continue config (x ∷ log) width typed logged = let fact = all_continue config log width typed.1
+    (logged_before config x log logged) in (continues config log x width typed.1 logged, fact)
 
 -- The outcomes are a run of the one-memory machine.
 pub run : {w : ℕ} (config : Config) (log : Log w) → IsWidth w → AreTyped log → IsLog config log

@@ -1,18 +1,18 @@
 -- An access is performed at a moment at which no link holds what excludes it.
-use Rattle.std.proofs.Common.{◌≡◌, ℕ, true, List, [], ◌∷◌, Option, Some, None, refl, sym, ◌∙◌, ap, subst, inl, inr}
+use Rattle.std.proofs.Common.{◌≡◌, ℕ, true, List, [], ◌∷◌, Option, Some, None, sym, ◌∙◌, ap, subst, inl, inr, arith}
 use Rattle.tl_coherence.proofs
 use proofs.Imports.{BeatA, Link, Channel, Message, MessageA, a_beat_of, Config, on_link, AccessResult, effect, block_at}
-use proofs.Imports.{request_of, is_free, needs, Op, Event, Deliver, Outcome, State, SourceState, SourceFree, Replied}
-use proofs.Imports.{Acquires, AbstractState, IsAccess, IsOpened, AccessMessages, SimulationRelation, MonitorRelations}
-use proofs.Imports.{trace_of, IsGiven, Log, system_after, Machine, Open, Requests, moved, with_memory}
-use proofs.Imports.{accesses_answered, one_memory_after, stepped}
-use Rattle.tl_coherence.specs.{statement.Log.IsLog, statement.PerformedFree.PerformedFree}
-use proofs.bound.Settling.{given-before}
-use proofs.deliveries.Matching.{shadow}
-use proofs.flow.{FlowTraces.trace-flows, Flows.flowed, Renewed.IsSettledFor, Windowed.asked_flow, Windowed.free-now}
-use proofs.flow.{Windowed.renewed-followed, Windowed.same_first}
-use proofs.links.FromInvariant.{matched-given}
-use proofs.theorem.Continuing.{answering-delivered}
+use proofs.Imports.{request_of, is_free, needs, Op, Event, Deliver, Outcome, State, SourceState, Replied, AbstractState}
+use proofs.Imports.{IsAccess, IsOpened, AccessMessages, SimulationRelation, MonitorRelations, trace_of, IsGiven, Log}
+use proofs.Imports.{system_after, Machine, Open, Requests, moved, with_memory, accesses_answered, one_memory_after}
+use proofs.Imports.{stepped}
+use Rattle.tl_coherence.{specs.statement.Log.IsLog, specs.statement.PerformedFree.PerformedFree}
+use proofs.bound.{Settling.given-before}
+use proofs.deliveries.{Matching.shadow}
+use proofs.flow.{FlowTraces.trace-flows, Flows.flowed, Renewed.IsSettledFor}
+use proofs.flow.Windowed.{asked_flow, free-now, renewed-followed, same_first}
+use proofs.links.{FromInvariant.matched-given}
+use proofs.theorem.{Continuing.answering-delivered}
 use proofs.memory.Beside.{done_at, open-here, performing-one}
 
 -- the answer of what is open
@@ -29,23 +29,13 @@ unanswered o i j r e f = let same : None ≡ Some r = ap answer_in (sym e ∙ f)
 replied : {w : ℕ} (c source : ℕ) (mail : AccessMessages w) (s : State (List ℕ)) (u : SourceState)
     (opened : Option (Open w)) (m : Message w) (r : AccessResult) → IsOpened c source mail s u opened
     → opened ≡ Some (record { asked = Op.Access m; answer = Some r }) → u ≡ Replied
-replied c source mail s SourceFree opened m r is e = absurd (let same = sym is ∙ e in cc)
-replied c source mail s Replied opened m r is e = refl
-replied c source mail s (Acquires n) opened m r is e = absurd (unanswered opened _ (Op.Access m) r is e)
-replied c source mail s u opened m r is e = absurd (unanswered opened _ (Op.Access m) r is.2 e)
+replied c source mail s u opened m r e f = grind (arith, unanswered)
 
 -- one that is open without an answer isn't
 unreplied : {w : ℕ} (c source : ℕ) (mail : AccessMessages w) (s : State (List ℕ)) (u : SourceState)
     (opened : Option (Open w)) (m : Message w) → IsOpened c source mail s u opened
     → opened ≡ Some (record { asked = Op.Access m; answer = None }) → u ≡ Replied → ⊥
-unreplied c source mail s Replied opened m is e f = unanswered opened (Op.Access m) _ is.0 e is.1.2
-unreplied c source mail s u opened m is e f = cc
-
-same_one : (a b : ℕ × ℕ) (rest : List (ℕ × ℕ)) → a ∷ rest ≡ b ∷ [] → (b ≡ a) × (rest ≡ [])
-same_one a b rest e = (cc, cc)
-
-nothing_one : (a : ℕ × ℕ) (rest : List (ℕ × ℕ)) → a ∷ rest ≡ [] → ⊥
-nothing_one a rest e = cc
+unreplied c source mail s u opened m e f g = grind (arith, unanswered)
 
 module _ {w : ℕ} {config : Config} (log : Log w) (link : Link) (ch : Channel) (o : Outcome w)
     (given : IsGiven config ((Deliver link ch, o) ∷ log)) where
@@ -81,13 +71,7 @@ module _ {w : ℕ} {config : Config} (log : Log w) (link : Link) (ch : Channel) 
       ≡ one_memory_after config log
       → one_memory_after config after ≡ done_at q source (Message.A access.0) (one_memory_after config log)
   unfolding one_memory_after IsLog
-  machine_after q source one access still =
-      cc (
-        given.is_log.0,
-        still,
-        one,
-        performing-one q source (Message.A access.0) (one_memory_after config log) access.2,
-      )
+  machine_after q source one access still = grind (arith, performing-one)
 
   free-after : (q source : ℕ) → accesses ≡ (q, source) ∷ []
       → (access : IsAccess source (h.mail.request q source) None
@@ -97,13 +81,17 @@ module _ {w : ℕ} {config : Config} (log : Log w) (link : Link) (ch : Channel) 
       → is_free n None (needs x.opcode) (block_at x.address) (trace_of after) ≡ true
   unfolding shadow system_after
   free-after q source one access still x asks n =
+      let answer : AccessResult = (effect (Message.A access.0) (one_memory_after config log).memory).1 in
+      let opened = ap (λ (m : Machine w). m.opened q Requests source)
+      (machine_after q source one access still) ∙ open-here q Requests source
+      (Some (record { asked = Op.Access (Message.A access.0); answer = Some answer })) (with_memory
+      (effect (Message.A access.0) (one_memory_after config log).memory).0 (one_memory_after config log)) in
       let used : h'.state.uses q source ≡ Replied = replied q source h'.mail h'.state (h'.state.uses q source)
       ((one_memory_after config after).opened q Requests source) (Message.A access.0) answer
       (is'.beside.requests q source) opened in
       let free : (m : MessageA w) → h'.mail.request q source ≡ Message.A m → IsSettledFor m h'.state
-      → is_free n None (needs x.opcode) (block_at x.address) (trace_of after) ≡ true =
-      λ m request settled. subst (λ (z : BeatA w). is_free n None (needs z.opcode) (block_at z.address)
-      (trace_of after) ≡ true)
+      → is_free n None (needs x.opcode) (block_at x.address) (trace_of after) ≡ true = λ m request settled. subst
+      (λ (z : BeatA w). is_free n None (needs z.opcode) (block_at z.address) (trace_of after) ≡ true)
       (same_first x (a_beat_of m 0) (sym asks ∙ ap (request_of source) (trace-flows q after)
       ∙ asked_flow config after h' (system_after config after) is' values q source m used request))
       (free-now config after h' (system_after config after) is' values q source m used request settled n) in
@@ -113,16 +101,6 @@ module _ {w : ℕ} {config : Config} (log : Log w) (link : Link) (ch : Channel) 
             access.2 old.0)
         | inr new ↦ free new.0 new.1 new.2
       ]
-    where
-      answer : AccessResult
-      answer = (effect (Message.A access.0) (one_memory_after config log).memory).1
-
-      opened : (one_memory_after config after).opened q Requests source
-          ≡ Some (record { asked = Op.Access (Message.A access.0); answer = Some answer })
-      opened = ap (λ (m : Machine w). m.opened q Requests source) (machine_after q source one access still)
-          ∙ open-here q Requests source (Some (record { asked = Op.Access (Message.A access.0); answer = Some answer }))
-          (with_memory (effect (Message.A access.0) (one_memory_after config log).memory).0
-          (one_memory_after config log))
 
 pub performed_free : {w : ℕ} → PerformedFree w
 performed_free {w} config log link ch o given c source rest x answers asks =
@@ -138,6 +116,6 @@ performed_free {w} config log link ch o given c source rest x answers asks =
           (ap (λ (a : ℕ × ℕ). request_of a.1 (on_link a.0 (trace_of ((Deliver link ch, o) ∷ log)))) same.0 ∙ asks) n,
     ) in
     elim (answering-delivered config log link ch (shadow config log) given.width (is log link ch o given)) [
-      | inl none ↦ absurd (nothing_one (c, source) rest (sym answers ∙ none))
-      | inr one ↦ found one.0 one.1 one.2 one.3 one.4 (same_one (c, source) (one.0, one.1) rest (sym answers ∙ one.2))
+      | inl none ↦ absurd (cc)
+      | inr one ↦ found one.0 one.1 one.2 one.3 one.4 ((cc, cc))
     ]

@@ -1,7 +1,7 @@
 -- What the manager's end knows: the values of its trace are those of the protocol.
-use Rattle.std.specs.Prelude.{ℕ, Bool, true, false, not, ◌||◌, ◌≡◌, Option, Some, None}
+use Rattle.std.specs.Prelude.{ℕ, Bool, true, false, not, ◌≡◌, Option, Some, None}
 use Rattle.tl_burst.specs.declared.message.MessageA.{MessageA}
-use Rattle.tl_params.specs.declared.key.Key.TheVariants.{AcquireOf, GrantAckOf, ProbeOf}
+use Rattle.tl_params.specs.declared.key.Key.TheVariants.{AcquireOf, ProbeOf}
 use Rattle.tl_rules.specs.statement.Conformance.{Trace, on_link}
 use Rattle.tl_rules.specs.statement.History.{pending}
 use Rattle.tl_manager.specs.statement.Holders.{recorded}
@@ -9,7 +9,6 @@ use Rattle.tl_manager.specs.statement.Service as manager
 use Rattle.tl_manager.specs.statement.Service.{services, service_of_block}
 use Rattle.tl_coherence.specs.protocol.Phase.{View, Own, is_unprobed}
 use Rattle.tl_coherence.specs.protocol.Protocol.{Service, Free, Waits, GrantSent, GrantTaken, State, view}
-use Rattle.tl_coherence.specs.protocol.Tokens.{is_granting, is_acknowledging}
 
 abbrev pub is_own : View → Bool
 is_own Own = true
@@ -31,8 +30,5 @@ pub record ManagerRelation {w : ℕ} {X : Type 0} (request : ℕ → MessageA w)
   pub recorded_is : (c n : ℕ) → recorded c n t ≡ ((s.block n).pair c).recorded
   pub probes : (c n : ℕ) → pending (ProbeOf n) (on_link c t) ≡ not (is_unprobed ((s.block n).pair c).probing)
   pub acquires : (c n : ℕ) → pending (AcquireOf n) (on_link c t) ≡ is_own (view (s.block n).service c)
-  pub grant_acks : (c n : ℕ)
-      → pending (GrantAckOf n) (on_link c t) ≡ (is_granting (view (s.block n).service c) || is_acknowledging
-      (view (s.block n).service c))
   pub serving_is : (n : ℕ) → service_of_block n (services t) ≡ service_with (client_in (s.block n).service)
       (s.block n).tracker (request n)

@@ -7,3 +7,4 @@ pub mod Offered
 pub mod Reactions
 pub mod Rows
 pub mod Unchanged
+pub mod Writing

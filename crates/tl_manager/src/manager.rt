@@ -9,15 +9,23 @@ pub mod state;
 pub mod tracker;
 pub mod types;
 
-ghost use Rattle.std.specs.Prelude.{ℕ, ◌≡◌, ◌≤◌, length, is_none, []};
+ghost use Rattle.std.specs.Prelude.{ℕ, ◌≡◌, ◌≤◌, length, is_none, not, []};
 ghost use Rattle.std.specs.Bool.{OnTrue, OnFalse};
 ghost use Rattle.tl_beat.specs.statement.Width.{IsWidth};
 ghost use Rattle.tl_burst.specs.statement.Written.{written};
 ghost use Rattle.tl_params.specs.declared.config.Config.{Config};
 ghost use Rattle.tl_params.specs.declared.perm.Perm.TheVariants as perm;
 ghost use Rattle.tl_manager.specs.statement.Offer;
-ghost use Rattle.tl_manager.specs.statement.End.{End};
-ghost use Rattle.tl_manager.specs.statement.Offer.{Sent, offered, open_level};
+ghost use Rattle.tl_manager.specs.statement.End.{End, with_memory};
+ghost use Rattle.tl_manager.specs.statement.Offer.{Sent, judged, offered, open_level, refused};
+ghost use Rattle.tl_burst.specs.statement.Messages.{unfinished};
+ghost use Rattle.tl_burst.specs.statement.Part.{is_empty};
+ghost use Rattle.tl_manager.specs.code.Admission.{admission_of};
+ghost use Rattle.tl_manager.specs.statement.Holders.{recorded};
+ghost use Rattle.tl_manager.specs.statement.Reaction.{with_block};
+ghost use Rattle.tl_params.specs.declared.key.Key.TheVariants.{AcquireOf};
+ghost use Rattle.tl_rules.specs.statement.History.{pending};
+ghost use Rattle.tl_rules.specs.statement.Conformance.{on_link};
 
 use crate::directory::Directory;
 use crate::manager::admission::Admission;
@@ -28,6 +36,8 @@ use std::marker::Model;
 use tl_beat::beat::{Beat, Link};
 use tl_beat::channel::Channel;
 use tl_rules::config::{Config, NewFault};
+use tl_rules::level::Level;
+use tl_rules::perm::Perm;
 use tl_rules::rule::Rule;
 
 /// What comes of a beat that is offered and breaks no rule.
@@ -159,5 +169,73 @@ impl<const W: usize, D: Directory> Manager<W, D> {
             result ≡ is_none (open_level config link e) }
     {
         self.state.closed(link)
+    }
+}
+
+/// What a manager keeps of a link, and what it would say of a beat, for who offers it other beats than came.
+impl<const W: usize, D: Directory> Manager<W, D> {
+    ghost use Rattle.tl_manager.specs.code.Knows.{Knows};
+
+    /// How a beat would be judged: the rule that it breaks, or whether it waits or passes.
+    pub fn judge(&self, link: Link, channel: Channel, beat: &Beat<W>) -> Result<Admission, Rule>
+        ensures { (config : Config) (e : End W) → Knows D.perm_of self.now config e →
+            result ≡ admission_of (judged config link channel beat.now e) }
+    {
+        self.state.judge(link, channel, beat)
+    }
+
+    /// The level of a link that takes beats.
+    pub fn open_level(&self, link: Link) -> Option<Level>
+        ensures { (config : Config) (e : End W) → Knows D.perm_of self.now config e →
+            result ≡ open_level config link e }
+    {
+        self.state.open_level(link)
+    }
+
+    /// What the client of a link is recorded to hold of a block.
+    pub fn recorded(&self, link: Link, block: u32) -> Perm
+        ensures { (config : Config) (e : End W) → Knows D.perm_of self.now config e →
+            result ≡ recorded link.0 block e.trace }
+    {
+        self.state.recorded(link, block)
+    }
+
+    /// How many blocks its map has.
+    pub fn blocks(&self) -> usize
+        ensures { (config : Config) (e : End W) → Knows D.perm_of self.now config e → result ≡ config.blocks }
+    {
+        self.state.block_state.blocks.count()
+    }
+
+    /// Whether an Acquire of a block by the client of a link was taken and isn't granted.
+    pub fn is_acquiring(&self, link: Link, block: u32) -> bool
+        ensures { (config : Config) (e : End W) → Knows D.perm_of self.now config e →
+            result ≡ pending (AcquireOf block) (on_link link.0 e.trace) }
+    {
+        self.state.is_acquiring(link, block)
+    }
+
+    /// Replaces a block of memory whole.
+    pub fn write_block(&mut self, block: u32, bytes: &[u8; 64])
+        ensures { (config : Config) (e : End W) → Knows D.perm_of self.old config e →
+            Knows D.perm_of self.new config (with_memory (with_block block bytes.now e.memory) e) }
+    {
+        self.state.write_block(block, bytes)
+    }
+
+    /// Whether a message of channel C has begun on a link and isn't complete.
+    pub fn is_reporting(&self, link: Link) -> bool
+        ensures { (config : Config) (e : End W) → Knows D.perm_of self.now config e →
+            result ≡ not (is_empty (unfinished Channel.C (on_link link.0 e.trace))) }
+    {
+        self.state.is_reporting(link)
+    }
+
+    /// Closes a link, as a refusal does.
+    pub fn close(&mut self, link: Link)
+        ensures { (config : Config) (e : End W) → Knows D.perm_of self.old config e →
+            Knows D.perm_of self.new config (refused link e) }
+    {
+        self.state.refuse(link)
     }
 }

@@ -105,14 +105,14 @@ fn reports_from(param: u8, perm: Perm) -> bool
 }
 
 /// Whether a param says that nothing is held.
-fn reports_none(param: u8) -> bool
+pub fn reports_none(param: u8) -> bool
     ensures { result ≡ under.reports_none param }
 {
     param == Report::NtoN.param()
 }
 
 /// Whether a Release with this param starts from what is held.
-fn releases_from(liberties: Liberties, param: u8, perm: Perm) -> bool
+pub fn releases_from(liberties: Liberties, param: u8, perm: Perm) -> bool
     ensures { result ≡ under.releases_from liberties param perm }
 {
     if liberties.reports {

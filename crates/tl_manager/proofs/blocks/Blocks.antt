@@ -1,6 +1,6 @@
 -- The bytes of the blocks, read and written.
 use Rattle.tl_manager.proofs.Imports.{Memory, bytes_from, AreBlocks, with_block}
-use Rattle.std.proofs.Common.{◌≡◌, ℕ, ◌+◌, ◌*◌, ◌/◌, ◌%◌, ◌<◌, List, length, refl, sym, ◌∙◌, ap, arith, inl, inr}
+use Rattle.std.proofs.Common.{◌≡◌, ℕ, ◌+◌, ◌*◌, ◌/◌, ◌%◌, ◌<◌, ◌≤◌, List, length, refl, sym, ◌∙◌, ap, arith, inl, inr}
 use Rattle.std.specs.Prelude.{slice_index, slice_index_or, slice_set, replicate, ◌≢◌}
 use Rattle.std.proofs.lemmas.Bool.{eq-eqb, ne_eqb, cases_eq}
 use Rattle.std.proofs.lemmas.List.{get_or-set_same, get_or-set_other, get_or-replicate, length-replicate, length-set}
@@ -45,6 +45,15 @@ block-put memory n bytes = λ i lt.
 pub put-elsewhere : (memory : Memory) (n : ℕ) (bytes : List ℕ) (address : ℕ) → address / 64 ≢ n
     → with_block n bytes memory address ≡ memory address
 put-elsewhere memory n bytes address other = rw (ne_eqb (address / 64) n other) refl
+
+-- a block that is written outside of the map
+pub blocks-outside : (blocks : List (List ℕ)) (n : ℕ) (bytes : List ℕ) (memory : Memory) → length blocks ≤ n
+    → AreBlocks blocks memory → AreBlocks blocks (with_block n bytes memory)
+blocks-outside blocks n bytes memory outside are = λ k past lt. (
+  (are k past lt).0,
+  block-same memory (with_block n bytes memory) k (slice_index_or blocks k past)
+      (λ address at. put-elsewhere memory n bytes address (λ e. omega (arith, at, e, lt, outside))) (are k past lt).1,
+)
 
 -- blocks of zeros
 zero-byte : (n i : ℕ) → i < n → 0 ≡ slice_index (replicate n 0) i

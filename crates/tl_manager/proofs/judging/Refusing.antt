@@ -1,6 +1,6 @@
 -- What a manager knows after it refused a beat, and which links are closed.
 use Rattle.tl_manager.proofs.Imports.{Beat, Link, Channel, Config, Perm, admission_of, IsKept, Knows, End, Judgement}
-use Rattle.tl_manager.proofs.Imports.{Breaks, Waits, Passes, judged, refused, IsLinkState, ManagerState, LinkState}
+use Rattle.tl_manager.proofs.Imports.{Breaks, judged, refused, IsLinkState, ManagerState, LinkState, Memory}
 use Rattle.std.proofs.Common.{◌≡◌, ◌≢◌, ℕ, zero, suc, ◌≤◌, ◌==◌, true, false, List, [], ◌∷◌, length, Some, refl, sym}
 use Rattle.std.proofs.Common.{ap, ◌∙◌, arith, inl, inr}
 use Rattle.std.{specs.Prelude.slice_get, specs.Prelude.slice_set, proofs.lemmas.Bool.cases_eq}
@@ -10,7 +10,7 @@ use Rattle.tl_manager.{specs.code.Admission.is_stall, specs.statement.Offer.is_w
 
 -- ---- stalls
 
-stall-is : (j : Judgement) → is_stall (admission_of j) ≡ is_waiting j
+pub stall-is : (j : Judgement) → is_stall (admission_of j) ≡ is_waiting j
 stall-is (Breaks rule) = refl
 stall-is v = refl
 
@@ -19,12 +19,12 @@ pub stalls-judged : {w : ℕ} (config : Config) (link : Link) (ch : Channel) (x 
 unfolding stalls
 stalls-judged config link ch x e = stall-is (judged config link ch x e)
 
--- ---- links that are closed
-
 -- ---- refusals
 
-kept-refused : {w : ℕ} (config : Config) (link : Link) (e : End w) → IsKept config e → IsKept config (refused link e)
-kept-refused config link e k =
+-- what is kept depends on neither the links that are closed nor memory
+pub kept-beside : {w : ℕ} (config : Config) (closed : List ℕ) (memory : Memory) (e : End w) → IsKept config e
+    → IsKept config (record { trace = e.trace; closed = closed; memory = memory })
+kept-beside config closed memory e k =
     record {
       sound = k.sound;
       whole = k.whole;
@@ -51,7 +51,7 @@ pub knows-absent : {w : ℕ} {M : Type 0} (perm_of : M → ℕ → ℕ → Perm)
     → length state.link_states.items ≤ link.0 → Knows perm_of state config (refused link e)
 knows-absent perm_of state config link e k past = record {
   fits = k.fits;
-  kept = kept-refused config link e k.kept;
+  kept = kept-beside config (link.0 ∷ e.closed) e.memory e k.kept;
   block_state = k.block_state;
   size = k.size;
   count = k.count;
@@ -81,7 +81,7 @@ pub knows-refused : {w : ℕ} {M : Type 0} (perm_of : M → ℕ → ℕ → Perm
 knows-refused {w} perm_of old new config link before after e block_state link_states found level requests reports closed
     k = record {
       fits = k.fits;
-      kept = kept-refused config link e k.kept;
+      kept = kept-beside config (link.0 ∷ e.closed) e.memory e k.kept;
       block_state = rw block_state k.block_state;
       size = rw block_state k.size;
       count = ap length link_states ∙ length-set old.link_states.items link.0 after ∙ k.count;

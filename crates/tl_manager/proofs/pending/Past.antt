@@ -1,9 +1,11 @@
 -- What a link's past says, from what a manager keeps.
 use Rattle.tl_manager.proofs.Imports.{Link, MessageA, History, RequestSource, AcquireOf, GrantSink, GrantAckOf, ProbeOf}
 use Rattle.tl_manager.proofs.Imports.{Perm, on_link, comes_in_request, pending, held, tracker_at, Tracker, BlockState}
-use Rattle.tl_manager.proofs.Imports.{LinkState}
+use Rattle.tl_manager.proofs.Imports.{LinkState, Config, End, IsBlockState, IsKept, Trace, Each, IsSound, unfinished, Channel}
+use Rattle.tl_manager.{proofs.pending.Settled.silent-past}
+use Rattle.tl_burst.specs.statement.Part.{is_empty}
 use Rattle.std.proofs.Common.{◌≡◌, ℕ, ◌≤◌, Bool, true, false, ◌&&◌, ◌||◌, length, Option, None, refl, sym, ap, ◌∙◌}
-use Rattle.std.specs.Prelude.{is_some}
+use Rattle.std.specs.Prelude.{is_some, not}
 use Rattle.tl_rules.specs.code.Open.{open_probe, has_open_grant}
 use Rattle.tl_manager.{specs.code.Probed.probe_in, specs.code.Trackers.IsOfBlock, specs.code.Trackers.IsAsked}
 use Rattle.tl_manager.{specs.code.LinkState.IsLinkPast, proofs.pending.LookedSources.source-looked}
@@ -12,22 +14,34 @@ use Rattle.tl_manager.specs.code.Tracking.{awaits_grant, awaits_grant_ack, await
 use Rattle.tl_manager.proofs.pending.Looking.{AreLooked, acquiring-looked, granted-looked, missing-looked, sink-looked}
 use Rattle.tl_manager.proofs.pending.Looking.{probe-looked}
 
+pub looked-kept : {w : ℕ} {M : Type 0} (perm_of : M → ℕ → ℕ → Perm) (config : Config) (block_state : BlockState w M)
+    (e : End w) → IsKept config e → IsBlockState perm_of config block_state e.trace e.memory
+    → AreLooked block_state.trackers e.trace
+looked-kept perm_of config block_state e kept is = record {
+  tracked = λ n. is.tracked n tt;
+  accounted = kept.steady.accounted;
+  sinks = kept.sinks;
+  blocks_apart = kept.blocks_apart;
+  trackers_apart = kept.trackers_apart;
+}
+
 pub looked-past : {w : ℕ} {M : Type 0} (perm_of : M → ℕ → ℕ → Perm) (link : Link) (link_state : LinkState w)
     (block_state : BlockState w M) (t : History w) (p : IsLinkPast perm_of link link_state block_state t)
     → AreLooked block_state.trackers p.end.trace
-looked-past perm_of link link_state block_state t p = record {
-  tracked = λ n. p.block_state_is.tracked n tt;
-  accounted = p.kept.steady.accounted;
-  sinks = p.kept.sinks;
-  blocks_apart = p.kept.blocks_apart;
-  trackers_apart = p.kept.trackers_apart;
-}
+looked-past perm_of link link_state block_state t p =
+    looked-kept perm_of p.config block_state p.end p.kept p.block_state_is
 
 pub held-outside : {w : ℕ} {M : Type 0} (perm_of : M → ℕ → ℕ → Perm) (link : Link) (link_state : LinkState w)
     (block_state : BlockState w M) (t : History w) (block : ℕ) → IsLinkPast perm_of link link_state block_state t
     → length block_state.blocks.bytes.items ≤ block → Perm.None ≡ held block t
 held-outside perm_of link link_state block_state t block p past =
     sym (ap (held block) p.past ∙ recorded-outside p.config link.0 block p.end.trace p.kept.sound (rw p.size at past))
+
+-- past the last link no message has begun
+pub silent-report : {w : ℕ} (config : Config) (client : ℕ) (t : Trace w) → Each (IsSound config) t
+    → length config.clients.items ≤ client → false ≡ not (is_empty (unfinished Channel.C (on_link client t)))
+unfolding unfinished
+silent-report config client t sound past = rw (silent-past config t client sound past) refl
 
 -- ---- bursts
 

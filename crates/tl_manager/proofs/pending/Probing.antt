@@ -88,7 +88,7 @@ same-c link x t k = record {
 
 -- ---- the report that it is of
 
-probe_ack_kind : (opcode : OpC) → is_probe_ack opcode ≡ true → is_release opcode ≡ false
+pub probe_ack_kind : (opcode : OpC) → is_probe_ack opcode ≡ true → is_release opcode ≡ false
 probe_ack_kind OpC.ProbeAck e = refl
 probe_ack_kind OpC.ProbeAckData e = refl
 probe_ack_kind v e = absurd cc

@@ -13,3 +13,7 @@ pub record End (w : ℕ) : Type 0 where
 -- as a manager begins: nothing was taken or handed out, no link is closed, and memory is zero
 abbrev pub fresh : {w : ℕ} → End w
 fresh = record { trace = []; closed = []; memory = λ address. 0 }
+
+-- the same end with this memory
+abbrev pub with_memory : {w : ℕ} → Memory → End w → End w
+with_memory memory e = record { trace = e.trace; closed = e.closed; memory = memory }

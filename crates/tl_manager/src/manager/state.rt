@@ -1,7 +1,7 @@
 //! The links of a manager, and its blocks.
 
 ghost use Rattle.std.specs.Prelude.{ℕ, ◌≡◌, ◌<◌, ◌≤◌, ◌||◌, nat_le, is_none, IfOk};
-ghost use Rattle.std.specs.Prelude.{map, OnOk, Ok, Err, true, false, length, []};
+ghost use Rattle.std.specs.Prelude.{map, not, OnOk, Ok, Err, true, false, length, []};
 ghost use Rattle.std.specs.Bool.{OnTrue, OnFalse};
 ghost use Rattle.tl_beat.specs.statement.Width.{IsWidth};
 ghost use Rattle.tl_burst.specs.statement.Part.{IsTakeable};
@@ -16,8 +16,14 @@ ghost use Rattle.tl_manager.specs.code.Outbox.{messages_of};
 ghost use Rattle.tl_manager.specs.statement.Service.{services, is_in_service};
 ghost use Rattle.tl_manager.specs.statement.Offer;
 ghost use Rattle.tl_beat.specs.declared.channel.Channel.{Channel};
+ghost use Rattle.tl_burst.specs.statement.Messages.{unfinished};
+ghost use Rattle.tl_burst.specs.statement.Part.{is_empty};
+ghost use Rattle.tl_manager.specs.statement.Holders.{recorded};
+ghost use Rattle.tl_manager.specs.statement.Reaction.{with_block};
+ghost use Rattle.tl_params.specs.declared.key.Key.TheVariants.{AcquireOf};
+ghost use Rattle.tl_rules.specs.statement.History.{pending};
 ghost use Rattle.tl_manager.specs.statement.Reaction.{reaction};
-ghost use Rattle.tl_manager.specs.statement.End.{End};
+ghost use Rattle.tl_manager.specs.statement.End.{End, with_memory};
 ghost use Rattle.tl_manager.specs.statement.Offer.{judged, open_level, refused, taken};
 
 use crate::directory::Directory;
@@ -37,7 +43,10 @@ use tl_rules::admission::{is_outside, is_spoiled};
 use tl_rules::config::{ClientConfig, Config, NewFault};
 use tl_rules::key::block_at;
 use tl_rules::legality::beat::check_beat;
+use tl_rules::level::Level;
 use tl_rules::order::broken_order;
+use tl_rules::past::Past;
+use tl_rules::perm::Perm;
 use tl_rules::rule::Rule;
 
 /// Whether a beat is the first of its burst.
@@ -55,7 +64,7 @@ fn is_last(part: Part) -> bool
 }
 
 /// Whether a beat that was judged so waits.
-fn is_waiting(judged: Result<Admission, Rule>) -> bool
+pub fn is_waiting(judged: Result<Admission, Rule>) -> bool
     ensures { result ≡ is_stall judged }
 {
     match judged {
@@ -233,6 +242,69 @@ impl<const W: usize, D: Directory> ManagerState<W, D> {
             result ≡ Offer.stalls config link channel beat.now e }
     {
         self.may_wait(beat) && is_waiting(self.judge(link, channel, beat))
+    }
+
+    /// The level of a link that takes beats.
+    pub fn open_level(&self, link: Link) -> Option<Level>
+        ensures { (config : Config) (e : End W) → Knows D.perm_of self.now config e →
+            result ≡ open_level config link e }
+    {
+        match self.link_states.get(usize::from(link.0)) {
+            Some(link_state) if !link_state.closed => Some(link_state.level),
+            _ => None,
+        }
+    }
+
+    /// What the client of a link is recorded to hold of a block.
+    pub fn recorded(&self, link: Link, block: u32) -> Perm
+        requires known { IsManager D.perm_of D.blocks D.clients self.now }
+        ensures { (config : Config) (e : End W) → Knows D.perm_of self.now config e →
+            result ≡ recorded link.0 block e.trace }
+    {
+        let number = usize::from(link.0);
+        if number >= self.link_states.len() {
+            return Perm::None;
+        }
+        let past = LinkPast {
+            link,
+            link_state: &self.link_states[number],
+            block_state: &self.block_state,
+        };
+        past.held(block)
+    }
+
+    /// Whether an Acquire of a block by the client of a link was taken and isn't granted.
+    pub fn is_acquiring(&self, link: Link, block: u32) -> bool
+        ensures { (config : Config) (e : End W) → Knows D.perm_of self.now config e →
+            result ≡ pending (AcquireOf block) (on_link link.0 e.trace) }
+    {
+        self.block_state.trackers.of_block(block).awaits_grant(link)
+    }
+
+    /// Replaces a block whole.
+    pub fn write_block(&mut self, block: u32, bytes: &[u8; 64])
+        ensures knows { (config : Config) (e : End W) → Knows D.perm_of self.old config e →
+            Knows D.perm_of self.new config (with_memory (with_block block bytes.now e.memory) e) }
+        ensures directory { self.new.block_state.directory ≡ self.old.block_state.directory }
+        ensures size { length self.new.block_state.blocks.bytes.items ≡ length self.old.block_state.blocks.bytes.items }
+        ensures link_states { self.new.link_states ≡ self.old.link_states }
+    {
+        let block = block as usize;
+        if block < self.block_state.blocks.count() {
+            self.block_state.blocks.write(block, bytes);
+        }
+    }
+
+    /// Whether a message of channel C has begun on a link and isn't complete.
+    pub fn is_reporting(&self, link: Link) -> bool
+        ensures { (config : Config) (e : End W) → Knows D.perm_of self.now config e →
+            result ≡ not (is_empty (unfinished Channel.C (on_link link.0 e.trace))) }
+    {
+        let number = usize::from(link.0);
+        if number >= self.link_states.len() {
+            return false;
+        }
+        self.link_states[number].reports.has_begun()
     }
 
     /// Whether a link takes no beats: it was closed, or there is no such link.

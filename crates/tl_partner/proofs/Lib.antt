@@ -1,0 +1,14 @@
+pub mod Afterward
+pub mod Alike
+pub mod Carried
+pub mod Carrying
+pub mod Drops
+pub mod Leniently
+pub mod Offering
+pub mod Passing
+pub mod Said
+pub mod Same
+pub mod Stepping
+pub mod Taking
+pub mod Without
+pub mod Worked

@@ -1,0 +1,2 @@
+pub mod Cleanings
+pub mod New

@@ -1,0 +1,5 @@
+pub mod Cleaning
+pub mod Dropping
+pub mod Lenient
+pub mod Naming
+pub mod Partner

@@ -1,0 +1,76 @@
+//! What the definition of a partner amounts to, as laws.
+
+ghost use Rattle.std.specs.Prelude.{ℕ, ◌≡◌, ◌∷◌, [], ◌==◌, ◌&&◌, if◌then◌else◌, true, false};
+ghost use Rattle.tl_beat.specs.declared.beat.Beat.{Beat};
+ghost use Rattle.tl_beat.specs.declared.beat.Link.{Link};
+ghost use Rattle.tl_beat.specs.declared.channel.Channel.{Channel};
+ghost use Rattle.tl_beat.specs.statement.Width.{IsWidth};
+ghost use Rattle.tl_params.specs.declared.config.Config.{Config};
+ghost use Rattle.tl_params.specs.declared.perm.Perm.TheVariants as perm;
+ghost use Rattle.tl_rules.specs.statement.Conformance.{Trace, on_link};
+ghost use Rattle.tl_rules.specs.statement.Liberties.{held_under};
+ghost use Rattle.tl_manager.specs.code.Kept.{IsKept, IsTyped};
+ghost use Rattle.tl_manager.specs.statement.End.{End};
+ghost use Rattle.tl_manager.specs.statement.Handing.{release_ack};
+ghost use Rattle.tl_manager.specs.statement.Holders.{recorded};
+ghost use Rattle.tl_manager.specs.statement.Offer.{Passes, Sent, judged, offered, stalls};
+ghost use Rattle.tl_manager.specs.statement.Service.{services};
+ghost use Rattle.tl_partner.specs.declared.terms.Terms.{Terms};
+ghost use Rattle.tl_partner.specs.laws.Carried.{GrantsNoOther, IsCarried, carried_after};
+ghost use Rattle.tl_partner.specs.laws.Without.{GrantsNone};
+ghost use Rattle.tl_partner.specs.statement.Lenient.{offered_lenient};
+ghost use Rattle.tl_partner.specs.statement.Cleaning.{PartnerEnd, cleaning_on};
+ghost use Rattle.tl_partner.specs.statement.Partner.{beside, offered_under, stalls_under};
+ghost use Rattle.tl_partner.specs.statement.Dropping.{after_drop, block_of, is_drop, is_reporting, release_beat};
+
+/// Without liberties a partner does what the manager does, where no cleaning has begun on the link.
+pub fn is_the_manager<const W: usize>()
+    ensures offered { (terms : Terms) (config : Config) (link : Link) (ch : Channel) (x : Beat W) (e : PartnerEnd W) →
+        GrantsNone terms → cleaning_on link e ≡ [] →
+        offered_under terms config link ch x e ≡ beside (offered config link ch x e.manager) e }
+    ensures stalls { (terms : Terms) (config : Config) (link : Link) (ch : Channel) (x : Beat W) (e : PartnerEnd W) →
+        GrantsNone terms → cleaning_on link e ≡ [] →
+        stalls_under terms config link ch x e ≡ stalls config link ch x e.manager }
+{}
+
+/// What is recorded of a client and a block is what the beats leave held, under the terms' liberties, that the link
+/// carried: so it is at first, and after any beat that is offered to a manager whose clients have `drops` and `ids`.
+pub fn records_what_links_carried<const W: usize>()
+    requires { IsWidth W }
+    ensures fresh { (terms : Terms) → IsCarried {w = W} terms [] [] }
+    ensures step { (terms : Terms) (config : Config) (link : Link) (ch : Channel) (x : Beat W) (t : Trace W) (e : End W) →
+        GrantsNoOther terms → IsTyped x → IsKept config e → IsCarried terms t e.trace →
+        IsCarried terms (carried_after link x (offered_lenient terms config link ch x e).0 t)
+        (offered_lenient terms config link ch x e).1.trace }
+    ensures held { (terms : Terms) (t : Trace W) (e : End W) (client block : ℕ) → IsCarried terms t e.trace →
+        held_under terms.liberties block (on_link client t) ≡ recorded client block e.trace }
+{}
+
+/// Where a beat says that its client dropped a copy, and no message of channel C is unfinished on the link, the
+/// manager takes the Release that the client didn't send, and hands out nothing but its answer. It then records that
+/// the client holds nothing of the block. All else that it records stays, and so do memory, the links that are closed
+/// and the requests in service. The beat then breaks no rule, and needn't wait.
+pub fn says_what_was_dropped<const W: usize>()
+    requires { IsWidth W }
+    ensures answered { (terms : Terms) (config : Config) (link : Link) (ch : Channel) (x : Beat W) (e : End W) →
+        IsKept config e → is_drop terms config link ch x e ≡ true → is_reporting link e.trace ≡ false →
+        (offered config link Channel.C (release_beat (block_of x) (recorded link.0 (block_of x) e.trace)) e).0
+        ≡ Sent ((link, release_ack 0) ∷ []) }
+    ensures recorded { (terms : Terms) (config : Config) (link : Link) (ch : Channel) (x : Beat W) (e : End W)
+        (client block : ℕ) →
+        IsKept config e → is_drop terms config link ch x e ≡ true → is_reporting link e.trace ≡ false →
+        recorded client block (after_drop config link (block_of x) e).trace
+        ≡ (if (link.0 == client) && (block_of x == block) then perm.None else recorded client block e.trace) }
+    ensures memory { (terms : Terms) (config : Config) (link : Link) (ch : Channel) (x : Beat W) (e : End W) →
+        IsKept config e → is_drop terms config link ch x e ≡ true → is_reporting link e.trace ≡ false →
+        (after_drop config link (block_of x) e).memory ≡ e.memory }
+    ensures closed { (terms : Terms) (config : Config) (link : Link) (ch : Channel) (x : Beat W) (e : End W) →
+        IsKept config e → is_drop terms config link ch x e ≡ true → is_reporting link e.trace ≡ false →
+        (after_drop config link (block_of x) e).closed ≡ e.closed }
+    ensures services { (terms : Terms) (config : Config) (link : Link) (ch : Channel) (x : Beat W) (e : End W) →
+        IsKept config e → is_drop terms config link ch x e ≡ true → is_reporting link e.trace ≡ false →
+        services (after_drop config link (block_of x) e).trace ≡ services e.trace }
+    ensures passes { (terms : Terms) (config : Config) (link : Link) (ch : Channel) (x : Beat W) (e : End W) →
+        IsKept config e → is_drop terms config link ch x e ≡ true → is_reporting link e.trace ≡ false →
+        judged config link ch x (after_drop config link (block_of x) e) ≡ Passes }
+{}

@@ -18,7 +18,7 @@ ghost use Rattle.tl_engine.specs.declared.status.Status.{Status};
 
 use crate::engine::handle_input;
 use crate::examiner::{Found, examine};
-use crate::explain_fault::ExplainFault;
+use crate::explain_fault::{ExplainFault, number_behind};
 use crate::explain_memory::explain_memory;
 use crate::fault::Fault;
 use crate::header::Header;
@@ -42,13 +42,14 @@ use tl_explain::turns::Subject;
 use tl_explain::words::append_beat_line;
 use tl_explain::{legal, tell};
 use tl_params::key::block_at;
+use tl_params::liberties::Liberties;
 use tl_params::width::Width;
 use tl_rules::legality::beat::check_beat;
 use tl_rules::level::Level;
 use tl_rules::rule::Rule;
 
 /// The outcome of a run that writes into memory alone, where a writer fails for want of it.
-pub(crate) fn in_memory(outcome: Result<Status, ToolFault>) -> Result<Status, ToolFault>
+pub fn in_memory(outcome: Result<Status, ToolFault>) -> Result<Status, ToolFault>
     ensures ok { IfOk result (λ status. outcome ≡ Ok status) }
     ensures fault { IfErr result (λ fault. fault ≢ ToolFault.Write) }
     ensures done { IfOk outcome (λ status. result ≡ Ok status) }
@@ -60,14 +61,6 @@ pub(crate) fn in_memory(outcome: Result<Status, ToolFault>) -> Result<Status, To
         Ok(status) => Ok(status),
         Err(fault) => Err(fault),
     }
-}
-
-/// The number of the line behind so many.
-pub(crate) fn number_behind(good: u64) -> Result<u64, ExplainFault>
-    ensures number { IfOk result (λ number. number ≡ good + 1) }
-    ensures fault { IfErr result (λ fault. fault ≢ ExplainFault.Tool ToolFault.Write) }
-{
-    good.checked_add(1).ok_or(ExplainFault::Changed)
 }
 
 /// Whether a rule judges a beat by itself.
@@ -101,7 +94,7 @@ fn is_illegal<const W: usize>(level: Option<Level>, rule: Rule, beat: &Beat<W>) 
 }
 
 /// Appends what a rule says, and the beat that breaks it.
-fn append_front<const W: usize>(
+pub fn append_front<const W: usize>(
     rule: Rule,
     number: u64,
     line: &[u8],
@@ -117,7 +110,7 @@ fn append_front<const W: usize>(
 }
 
 /// What a verdict on a beat speaks of; the block is that of the request that a Grant answers.
-fn subject_of<const W: usize>(link: Link, beat: &Beat<W>, block: Option<u32>) -> Subject
+pub fn subject_of<const W: usize>(link: Link, beat: &Beat<W>, block: Option<u32>) -> Subject
     ensures { IsSubject result link beat.now }
 {
     let (block, source, sink) = match beat {
@@ -202,7 +195,8 @@ fn explain_legality<const W: usize, R: Read>(
         return Err(ExplainFault::Changed);
     }
     let mut grounds = Vec::new(alloc);
-    legal::tell(level, rule, &beat, &mut grounds)?;
+    let liberties = Liberties::of(header.profile);
+    legal::tell(liberties, level, rule, &beat, &mut grounds)?;
     append_front::<W>(rule, number, line, out)?;
     out.extend_from_slice(&grounds)?;
     Ok(())
@@ -235,7 +229,7 @@ fn explain_order<const W: usize, R: Read>(
     };
     let mut grounds = Vec::new(alloc);
     tell::tell(
-        replay.profile,
+        Liberties::of(replay.profile),
         &beat,
         &reason,
         &replay.recorder,
@@ -255,19 +249,19 @@ fn unsaid(coherent: bool) -> &'static str {
     }
 }
 
-/// Tells what is pending at the end of a trace without a fault.
-fn explain_clean<const W: usize, R: Read>(
+/// Tells what is pending at the end of a trace of so many links without a fault.
+pub fn explain_clean<const W: usize, R: Read>(
     alloc: Global,
     coherent: bool,
     reader: &mut R,
-    header: &Header,
+    links: usize,
     good: u64,
     out: &mut Vec<u8>,
 ) -> Result<(), ExplainFault>
     requires { IsWidth W }
     ensures fault { IfErr result (λ fault. fault ≢ ExplainFault.Tool ToolFault.Write) }
 {
-    let mut ledger = Ledger::new(alloc, header.levels.len())?;
+    let mut ledger = Ledger::new(alloc, links)?;
     let mut count = 0u64;
     let mut unread = Vec::new(alloc);
     let listing = Listing::<W> {
@@ -303,7 +297,8 @@ fn explain_found<const W: usize, R: Read>(
     let number = number_behind(found.good)?;
     match (status, &found.fault) {
         (Status::Clean, _) => {
-            explain_clean::<W, R>(alloc, coherent, reader, header, found.good, out)
+            let links = header.levels.len();
+            explain_clean::<W, R>(alloc, coherent, reader, links, found.good, out)
         }
         (Status::Broken, None) => {
             explain_spelling::<W, R>(alloc, reader, number, LineFault::F1, out)
@@ -356,7 +351,7 @@ fn reasons<R: Read>(
 }
 
 /// Writes a verdict, and the reasons behind it.
-fn write_both<W: Write>(verdict: &[u8], reasons: &[u8], writer: &mut W) -> Result<(), ToolFault>
+pub fn write_both<W: Write>(verdict: &[u8], reasons: &[u8], writer: &mut W) -> Result<(), ToolFault>
     ensures ok { OnOk result (Appends (W.contents writer.old) (W.contents writer.new) (verdict.now ++ reasons.now)) }
     ensures err { OnErr result (AppendsShort (W.contents writer.old) (W.contents writer.new)
         (verdict.now ++ reasons.now)) }

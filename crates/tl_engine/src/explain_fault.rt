@@ -1,6 +1,6 @@
 //! Why nothing is explained.
 
-ghost use Rattle.std.specs.Prelude.{◌≡◌};
+ghost use Rattle.std.specs.Prelude.{◌≡◌, ◌≢◌, ◌+◌, IfErr, IfOk};
 
 use crate::status::ToolFault;
 use std::alloc::AllocError;
@@ -44,4 +44,12 @@ impl From<io::Error> for ExplainFault {
     fn from(_error: io::Error) -> ExplainFault {
         ExplainFault::Tool(ToolFault::Memory)
     }
+}
+
+/// The number of the line behind so many.
+pub fn number_behind(good: u64) -> Result<u64, ExplainFault>
+    ensures number { IfOk result (λ number. number ≡ good + 1) }
+    ensures fault { IfErr result (λ fault. fault ≢ ExplainFault.Tool ToolFault.Write) }
+{
+    good.checked_add(1).ok_or(ExplainFault::Changed)
 }

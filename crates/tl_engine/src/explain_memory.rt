@@ -10,8 +10,7 @@ ghost use Rattle.tl_engine.specs.statement.Fault.{fault_text};
 
 use crate::engine::judge_input;
 use crate::examiner::Found;
-use crate::explain::number_behind;
-use crate::explain_fault::ExplainFault;
+use crate::explain_fault::{ExplainFault, number_behind};
 use crate::fault::{Fault, append_fault};
 use crate::lines::Lines;
 use crate::monitor_lines::MonitorLines;

@@ -15,7 +15,7 @@ pub mod header;
 pub mod law;
 pub mod line_handler;
 pub mod lines;
-mod malformed;
+pub mod malformed;
 pub mod monitor_lines;
 pub mod output;
 pub mod play;

@@ -17,7 +17,7 @@ use tl_explain::{heading, spelling};
 const LOOKED_AT: usize = 257;
 
 /// The beginning of the line of this number, from 1 on, with its LF if it stands there.
-fn fetch<R: Read>(alloc: Global, reader: &mut R, number: u64) -> Result<Vec<u8>, ExplainFault>
+pub fn fetch<R: Read>(alloc: Global, reader: &mut R, number: u64) -> Result<Vec<u8>, ExplainFault>
     ensures fault { IfErr result (λ fault. fault ≢ ExplainFault.Tool ToolFault.Write) }
 {
     let mut chunk = new_chunk(alloc)?;
@@ -60,7 +60,7 @@ pub(crate) fn explain_header<R: Read>(
 }
 
 /// Explains a line that spells no beat.
-pub(crate) fn explain_spelling<const W: usize, R: Read>(
+pub fn explain_spelling<const W: usize, R: Read>(
     alloc: Global,
     reader: &mut R,
     number: u64,

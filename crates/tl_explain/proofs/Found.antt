@@ -1,13 +1,12 @@
 -- A request, Release or Probe that is pending is told of, and what is told has its fields.
 use Rattle.std.proofs.Common.{◌≡◌, ℕ, ◌==◌, ◌&&◌, ◌||◌, true, false, Bool, not, refl, sym, ap, ap₂, ◌∙◌}
 use Rattle.std.proofs.Common.{subst, inl, inr, ◌⊎◌}
-use Rattle.std.specs.Prelude.{Option, Some, None, is_some}
+use Rattle.std.specs.Prelude.{Option, Some, None, if◌then◌else◌, is_some}
 use Rattle.tl_beat.specs.declared.beat.Beat.{Beat}
 use Rattle.tl_beat.specs.declared.beat.Beat.TheVariants as beat
 use Rattle.tl_beat.specs.declared.beat.BeatA.{BeatA}
 use Rattle.tl_beat.specs.declared.beat.BeatC.{BeatC}
 use Rattle.tl_beat.specs.declared.beat.BeatD.{BeatD}
-use Rattle.tl_beat.specs.declared.opcode.OpA.{OpA}
 use Rattle.tl_beat.specs.declared.opcode.OpD.{OpD}
 use Rattle.tl_beat.specs.declared.opcode.OpD.TheVariants as d
 use Rattle.tl_beat.specs.declared.channel.Channel.TheVariants as channel
@@ -16,17 +15,15 @@ use Rattle.tl_burst.specs.statement.Messages.{History, unfinished}
 use Rattle.tl_params.specs.declared.key.Key.{Key}
 use Rattle.tl_params.specs.declared.key.Key.TheVariants.{RequestSource, ReleaseSource}
 use Rattle.tl_params.specs.declared.key.Key.TheVariants.{ProbeOf}
+use Rattle.tl_params.specs.declared.liberties.Liberties.{Liberties}
 use Rattle.tl_params.specs.declared.perm.Perm.{Perm}
-use Rattle.tl_params.specs.declared.perm.Perm.TheVariants as perm
-use Rattle.tl_params.specs.declared.profile.Profile.{Profile}
 use Rattle.tl_params.specs.declared.rule.Rule.{Rule}
-use Rattle.tl_params.specs.statement.Param.{cap_of}
 use Rattle.tl_rules.specs.statement.Conformance.{Trace, on_link, admits, fits_grow}
-use Rattle.tl_rules.specs.statement.Conformance.{is_acquire_block, is_grant_without_data, is_report_at}
-use Rattle.tl_rules.specs.statement.Conformance.{same_perm}
-use Rattle.tl_rules.specs.statement.Conformance.{comes_in_release, comes_in_request, has_request}
-use Rattle.tl_rules.specs.statement.Conformance.{misgrants, misreports, size_asked}
-use Rattle.tl_rules.specs.statement.History.{begins, block_at, held, opens, pending, probe_of, release_of, request_of}
+use Rattle.tl_rules.specs.statement.Conformance.{comes_in_release, comes_in_request}
+use Rattle.tl_rules.specs.statement.Conformance.{size_asked}
+use Rattle.tl_rules.specs.statement.Liberties.{has_request_under, held_under, misgrants_under, misreports_under}
+use Rattle.tl_rules.specs.statement.Liberties.{profile_under}
+use Rattle.tl_rules.specs.statement.History.{begins, block_at, opens, pending, probe_of, release_of, request_of}
 use Rattle.tl_rules.specs.statement.History.{is_grant, is_release_ack}
 use Rattle.tl_beat.specs.statement.Control.{control_of}
 use Rattle.tl_beat.specs.declared.control.Control.TheVariants as control
@@ -37,20 +34,18 @@ use Rattle.tl_explain.specs.declared.recorder.Recorder.{Recorder}
 use Rattle.tl_explain.specs.declared.told.Mention.{Mention}
 use Rattle.tl_explain.specs.declared.told.Told.{Told}
 use Rattle.tl_explain.specs.declared.turn.Turn.{Turn}
-use Rattle.tl_explain.specs.code.Chosen.{asked_by}
-use Rattle.tl_explain.specs.code.Chosen.{grant_by, grant_in, held_by, probed_by, report_by}
-use Rattle.tl_explain.specs.code.Chosen.{size_by}
-use Rattle.tl_explain.specs.code.Recorded.{IsRecord, IsTurn, open_message}
-use Rattle.tl_explain.specs.statement.Evidence.{is_open, last_saying, left_of, mention_of}
-use Rattle.tl_explain.specs.statement.Reasons.{HasBlockAsked}
+use Rattle.tl_explain.specs.declared.reason.Reason.TheVariants.{WithoutData, WrongCap}
+use Rattle.tl_explain.specs.code.Chosen.{asked_by, grant_by, probed_by, report_by, size_by}
+use Rattle.tl_explain.specs.code.Recorded.{IsRecordUnder, IsTurn, open_message}
+use Rattle.tl_explain.specs.statement.Evidence.{is_open, mention_of}
+use Rattle.tl_explain.specs.statement.Reasons.{HasBlockAsked, gives_nothing, has_wrong_cap, is_misreport, lacks_data}
 use Rattle.tl_explain.specs.statement.Since.{IsPendingSince}
-use Rattle.tl_explain.proofs.convicts.Waiting.{AskedSo, ProbedSo, ReleasedSo, asked_by_beat, asked_so, held_is, named}
+use Rattle.tl_explain.proofs.convicts.Waiting.{AskedSo, ProbedSo, ReleasedSo, asked_by_beat, asked_so, named}
 use Rattle.tl_explain.proofs.convicts.Waiting.{probe_step, probed_by_beat, probed_so, release_step, released_by_beat}
 use Rattle.tl_explain.proofs.convicts.Waiting.{released_so, request_step}
 use Rattle.tl_explain.proofs.Rests.{pending_open}
-use Rattle.tl_explain.proofs.sound.Messages.{held_told}
 use Rattle.tl_explain.proofs.sound.Openings.{open_since}
-use Rattle.tl_explain.proofs.Plain.{is_one, both_true, not_true, same_true}
+use Rattle.tl_explain.proofs.Plain.{is_one, both_true, same_true}
 
 pub or_false : (a b : Bool) → (a || b) ≡ false → (a ≡ false) × (b ≡ false)
 or_false true b e = absurd cc
@@ -65,6 +60,23 @@ pub decides : (b : Bool) (r : Rule) (rest : Option Rule) (rule : Rule) → first
     → ((b ≡ true) × (r ≡ rule)) ⊎ ((b ≡ false) × (rest ≡ Some rule))
 decides true r rest rule e = inl (refl, is_one e)
 decides false r rest rule e = inr (refl, e)
+
+last_true : (a b c : Bool) → a ≡ false → b ≡ false → (a || (b || c)) ≡ true → c ≡ true
+last_true true b c e f g = absurd cc
+last_true false true c e f g = absurd cc
+last_true false false c e f g = g
+
+-- a Grant that has its cap and its data, and isn't one for its request, comes while a Probe of the block is pending
+probe_left : {w : ℕ} (lib : Liberties) (x : BeatD w) (a : ControlA) (z : BeatA w) (q : Perm) (k : ℕ) (h : History w)
+    → a.opcode ≡ z.opcode → a.param ≡ z.param → q ≡ held_under lib k h → k ≡ block_at z.address
+    → has_wrong_cap lib x a ≡ false → lacks_data lib x a q ≡ false → misgrants_under lib x (Some z) h ≡ true
+    → pending (ProbeOf k) h ≡ true
+probe_left lib x a z q k h opcode param held block fits has bad = go (gives_nothing lib x) refl
+  where
+    go : (b : Bool) → gives_nothing lib x ≡ b → pending (ProbeOf k) h ≡ true
+    go true e = rw block (rw e at bad)
+    go false e = rw block (last_true (not (fits_grow (profile_under lib) z.opcode z.param x.param)) _ _
+        (rw (e, opcode, param) at fits) (rw (e, opcode, held, block) at has) (rw e at bad))
 
 -- ---- a key that is pending has its message
 
@@ -202,7 +214,9 @@ grant_no_ack d.Grant e = refl
 grant_no_ack d.GrantData e = refl
 grant_no_ack d.ReleaseAck e = absurd cc
 
-module _ {w : ℕ} (p : Profile) (r : Recorder) (t : Trace w) (rec : IsRecord r t) where
+-- the rules are judged by some liberties, the record is kept under others, under which as much is held
+module _ {w : ℕ} (lib base : Liberties) (as_much : (k : ℕ) (h : History w) → held_under base k h ≡ held_under lib k h)
+    (r : Recorder) (t : Trace w) (rec : IsRecordUnder base r t) where
   abbrev h : History w
   h = on_link r.subject.link.0 t
 
@@ -229,13 +243,10 @@ module _ {w : ℕ} (p : Profile) (r : Recorder) (t : Trace w) (rec : IsRecord r 
   probe_told k e is = probe_open l t k r.turns.probe (subst (λ (i : ℕ). IsTurn r.turns.probe l (ProbeOf i) t) e
       rec.turns_are.probe_is) is
 
-  pub perm_is : (k : ℕ) → r.subject.block ≡ k → (held_by r.turns.said).perm ≡ held k h
-  perm_is k e =
-      held_is l k (left_of (mention_of r.turns.said)) (mention_of r.turns.said) t
-      (held_told l k t r.turns.said (subst (λ (i : ℕ). mention_of r.turns.said ≡ last_saying l i t) e
-      rec.turns_are.said_is))
+  pub perm_is : (k : ℕ) → r.subject.block ≡ k → r.held.perm ≡ held_under lib k h
+  perm_is k e = rec.held_is.perm_is ∙ ap (λ (i : ℕ). held_under base i h) e ∙ as_much k h
 
-  pub size_told : (x : BeatD w) → r.subject.source ≡ x.source → has_request x h ≡ true
+  pub size_told : (x : BeatD w) → r.subject.source ≡ x.source → has_request_under lib x h ≡ true
       → (x.size == size_asked x h) ≡ false
       → is_some (size_by x (asked_by x r)) ≡ true
   size_told x source has other = go (is_release_ack x.opcode) refl
@@ -243,7 +254,7 @@ module _ {w : ℕ} (p : Profile) (r : Recorder) (t : Trace w) (rec : IsRecord r 
       go : (b : Bool) → is_release_ack x.opcode ≡ b → is_some (size_by x (asked_by x r)) ≡ true
       go true ack =
           let is : pending (ReleaseSource x.source) h ≡ true =
-          (both_true (pending (ReleaseSource x.source) h) (not (comes_in_release x.source (unfinished channel.C h)))
+          (both_true (pending (ReleaseSource x.source) h) (not (not lib.early && comes_in_release x.source (unfinished channel.C h)))
           (rw ack at has)).0 in
           let m = release_told x.source source is in
           let size : (x.size == m.4.0.size) ≡ false = rw (ack, m.4.1) at other in
@@ -252,31 +263,23 @@ module _ {w : ℕ} (p : Profile) (r : Recorder) (t : Trace w) (rec : IsRecord r 
       go false ack =
           let is : pending (RequestSource x.source) h ≡ true =
           (both_true (pending (RequestSource x.source) h)
-          (not (comes_in_request x.source (unfinished channel.A h)) && admits x.opcode (request_of x.source h))
+          (not (not lib.early && comes_in_request x.source (unfinished channel.A h)) && admits x.opcode (request_of x.source h))
           (rw ack at has)).0 in
           let m = request_told x.source source is in
           let size : (x.size == m.4.0.size) ≡ false = rw (ack, m.4.1) at other in
           let own : (x.size == m.2.size) ≡ false = ap (λ (s : ℕ). x.size == s) m.4.4 ∙ size in
           rw (ack, m.1, m.3, own) refl
 
-  misgrant_parts : (x : BeatD w) (o : OpA) (param : ℕ) (q : Perm) (k : ℕ) (z : BeatA w) → o ≡ z.opcode → param ≡ z.param
-      → q ≡ held k h → k ≡ block_at z.address
-      → misgrants p x (Some z) h ≡ true
-      → (not (fits_grow p o param x.param)
-      || ((is_grant_without_data x.opcode && (is_acquire_block o && not (same_perm q perm.Branch))) || pending
-      (ProbeOf k) h)) ≡ true
-  misgrant_parts x o param q k z a b c d e = rw (a, b, c, d) e
-
   pub grant_told : (x : BeatD w) → r.subject.source ≡ x.source → HasBlockAsked r.subject (beat.D x) t
-      → has_request x h ≡ true → is_grant x.opcode ≡ true
-      → misgrants p x (request_of x.source h) h ≡ true → is_some (grant_by p x (open_message r.turns.request) r) ≡ true
-  grant_told x source asked has grant wrong =
-      rw (m.1, m.3) (fits (fits_grow p m.2.opcode m.2.param x.param) refl)
+      → has_request_under lib x h ≡ true → is_grant x.opcode ≡ true
+      → misgrants_under lib x (request_of x.source h) h ≡ true
+      → is_some (grant_by lib x (open_message r.turns.request) r) ≡ true
+  grant_told x source asked has grant wrong = rw (m.1, m.3) (capped (has_wrong_cap lib x m.2) refl)
     where
       is : pending (RequestSource x.source) h ≡ true
       is = (both_true (pending (RequestSource x.source) h)
-          (not (comes_in_request x.source (unfinished channel.A h)) && admits x.opcode (request_of x.source h))
-          (rw (grant_no_ack x.opcode grant) at has)).0
+          (not (not lib.early && comes_in_request x.source (unfinished channel.A h)) && admits x.opcode
+          (request_of x.source h)) (rw (grant_no_ack x.opcode grant) at has)).0
 
       m : (m : Told) × (open_message r.turns.request ≡ Some m) × (a : ControlA) × (m.mention.control ≡ control.A a)
           × AskedSo a (request_of x.source h)
@@ -291,39 +294,35 @@ module _ {w : ℕ} (p : Profile) (r : Recorder) (t : Trace w) (rec : IsRecord r 
       same : block_at m.2.address ≡ r.subject.block
       same = ap block_at m.4.5 ∙ sym block
 
-      bad : (not (fits_grow p m.2.opcode m.2.param x.param)
-          || ((is_grant_without_data
-          x.opcode && (is_acquire_block m.2.opcode && not (same_perm (held_by r.turns.said).perm perm.Branch)))
-          || pending (ProbeOf r.subject.block) h)) ≡ true
-      bad = misgrant_parts x m.2.opcode m.2.param (held_by r.turns.said).perm r.subject.block z m.4.2 m.4.3
-          (perm_is r.subject.block refl) block (rw m.4.1 at wrong)
+      bad : misgrants_under lib x (Some z) h ≡ true
+      bad = rw m.4.1 at wrong
 
       probing : pending (ProbeOf r.subject.block) h ≡ true → is_some (probed_by m.0 (open_message r.turns.probe)) ≡ true
       probing on = let q = probe_told r.subject.block refl on in rw q.1 refl
 
-      lacks : (b : Bool) → (is_grant_without_data
-          x.opcode && (is_acquire_block m.2.opcode && not (same_perm (held_by r.turns.said).perm perm.Branch))) ≡ b
-          → fits_grow p m.2.opcode m.2.param x.param ≡ true
-          → is_some (grant_in p x m.0 (control.A m.2) r) ≡ true
-      lacks true e fit = rw (fit, same_true (block_at m.2.address) r.subject.block same, e) refl
-      lacks false e fit =
-          let on : pending (ProbeOf r.subject.block) h ≡ true = rw (fit, e) at bad in
-          rw (fit, same_true (block_at m.2.address) r.subject.block same, e) (probing on)
+      lacking : (b : Bool) → lacks_data lib x m.2 r.held.perm ≡ b → has_wrong_cap lib x m.2 ≡ false
+          → is_some (if not (block_at m.2.address == r.subject.block) then None else
+          if b then Some (WithoutData m.0 r.held) else probed_by m.0 (open_message r.turns.probe)) ≡ true
+      lacking true e fits = rw (same_true (block_at m.2.address) r.subject.block same) refl
+      lacking false e fits = rw (same_true (block_at m.2.address) r.subject.block same)
+          (probing (probe_left lib x m.2 z r.held.perm r.subject.block h m.4.2 m.4.3 (perm_is r.subject.block refl) block
+          fits e bad))
 
-      fits : (b : Bool) → fits_grow p m.2.opcode m.2.param x.param ≡ b
-          → is_some (grant_in p x m.0 (control.A m.2) r) ≡ true
-      fits false e = rw e refl
-      fits true e = lacks (is_grant_without_data
-          x.opcode && (is_acquire_block m.2.opcode && not (same_perm (held_by r.turns.said).perm perm.Branch))) refl e
+      capped : (b : Bool) → has_wrong_cap lib x m.2 ≡ b
+          → is_some (if b then Some (WrongCap m.0) else if not (block_at m.2.address == r.subject.block) then None else
+          if lacks_data lib x m.2 r.held.perm then Some (WithoutData m.0 r.held)
+          else probed_by m.0 (open_message r.turns.probe)) ≡ true
+      capped true e = refl
+      capped false e = lacking (lacks_data lib x m.2 r.held.perm) refl e
 
   pub report_told : (x : BeatC w) → r.subject.block ≡ block_at x.address
       → pending (ProbeOf (block_at x.address)) h ≡ true
-      → misreports x (probe_of (block_at x.address) h) (held (block_at x.address) h) ≡ true
-      → is_some (report_by x (open_message r.turns.probe) (held_by r.turns.said)) ≡ true
+      → misreports_under lib x (probe_of (block_at x.address) h) (held_under lib (block_at x.address) h) ≡ true
+      → is_some (report_by lib x (open_message r.turns.probe) r.held) ≡ true
   report_told x block is wrong =
       let m = probe_told (block_at x.address) block is in
-      let other : is_report_at x.param (cap_of m.4.0.param) (held (block_at x.address) h) ≡ false =
-      not_true (is_report_at x.param (cap_of m.4.0.param) (held (block_at x.address) h)) (rw m.4.1 at wrong) in
-      let own : is_report_at x.param (cap_of m.2.param) (held_by r.turns.said).perm ≡ false =
-      rw (m.4.3, perm_is (block_at x.address) block) other in
+      let other : is_misreport lib x.param m.4.0.param (held_under lib (block_at x.address) h) ≡ true = rw m.4.1 at wrong
+      in
+      let own : is_misreport lib x.param m.2.param r.held.perm ≡ true =
+      ap₂ (λ (c : ℕ) (q : Perm). is_misreport lib x.param c q) m.4.3 (perm_is (block_at x.address) block) ∙ other in
       rw (m.1, m.3, own) refl

@@ -10,6 +10,7 @@ pub mod Places
 pub mod Plain
 pub mod Rests
 pub mod Room
+pub mod Sayings
 pub mod sound
 pub mod Waiting
 pub mod WholeBursts

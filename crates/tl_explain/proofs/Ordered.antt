@@ -7,19 +7,20 @@ use Rattle.tl_beat.specs.declared.opcode.OpC.{OpC}
 use Rattle.tl_beat.specs.declared.opcode.OpC.TheVariants as c
 use Rattle.tl_beat.specs.statement.First.{first_if}
 use Rattle.tl_burst.specs.statement.Messages.{History, breaks_burst, channel_of, unfinished}
+use Rattle.tl_params.specs.declared.level.Level.{Level}
 use Rattle.tl_params.specs.declared.liberties.Liberties.{Liberties}
 use Rattle.tl_params.specs.declared.profile.Profile.{Profile}
 use Rattle.tl_params.specs.declared.rule.Rule.{Rule}
 use Rattle.tl_params.specs.declared.rule.Rule.TheVariants.{A1, A2, A3, L1, L2, L3, L4, L5, L6, L7, S1, H1, H2, H3, H4}
 use Rattle.tl_params.specs.declared.rule.Rule.TheVariants.{H5, H6, H7, H8, H9, H10, H11, H12, H13}
 use Rattle.tl_params.specs.statement.Liberties.{liberties_of}
-use Rattle.tl_rules.specs.statement.Conformance.{broken_in_order, broken_order}
+use Rattle.tl_rules.specs.statement.Conformance.{broken_in_order, is_legal}
 use Rattle.tl_rules.specs.statement.History.{begins, is_probe_ack, is_release}
-use Rattle.tl_rules.specs.statement.Liberties.{broken_in_order_under, broken_order_under}
-use Rattle.tl_rules.proofs.Profiles.{order-of}
+use Rattle.tl_rules.specs.statement.Liberties.{broken_in_order_under, broken_order_under, is_legal_under}
+use Rattle.tl_rules.proofs.Profiles.{after-of, in_order-of}
 use Rattle.tl_explain.specs.statement.OrderRules.{BreaksBy, BreaksUnder, breaks_at_first_under, first_broken_under}
 use Rattle.tl_explain.specs.statement.OrderRules.{first_by, order_rules}
-use Rattle.tl_explain.specs.statement.Reasons.{Breaks, breaks_at_first, first_broken}
+use Rattle.tl_explain.specs.statement.Reasons.{Breaks, first_broken}
 use Rattle.tl_explain.proofs.Plain.{is_one}
 
 -- ---- a rule that is found is broken
@@ -129,34 +130,21 @@ module _ {w : ℕ} (l : Liberties) (x : Beat w) (t : History w) where
 
 -- ---- of a profile
 
-pub first_is : {w : ℕ} (p : Profile) (x : Beat w) (t : History w) → broken_order p x t ≡ first_broken p order_rules x t
-unfolding broken_order
-first_is p (beat.A x) t = refl
-first_is p (beat.B x) t = refl
-first_is p (beat.C x) t = release_or_report x.opcode _ _ _ _ _
-first_is p (beat.D x) t = refl
-first_is p (beat.E x) t = refl
-
-pub first-of_profile : {w : ℕ} (p : Profile) (x : Beat w) (t : History w)
-    → first_broken_under (liberties_of p) order_rules x t ≡ first_broken p order_rules x t
-first-of_profile p x t = sym (first-under (liberties_of p) x t) ∙ order-of p x t ∙ first_is p x t
-
 pub of_message : {w : ℕ} (p : Profile) (x : Beat w) (t : History w) → begins x t ≡ true
     → broken_in_order p x t ≡ first_broken p order_rules x t
-of_message p x t e = rw e (first_is p x t)
+of_message p x t e = sym (in_order-of p x t) ∙ of_message-under (liberties_of p) x t e
 
 pub of_burst : {w : ℕ} (p : Profile) (x : Beat w) (t : History w) → begins x t ≡ false
     → broken_in_order p x t ≡ first_if (breaks_burst x (unfinished (channel_of x) t)) S1 None
-of_burst p x t e = rw e refl
+of_burst p x t e = sym (in_order-of p x t) ∙ of_burst-under (liberties_of p) x t e
 
 pub breaks_first : {w : ℕ} (p : Profile) (rule : Rule) (x : Beat w) (t : History w)
     → broken_in_order p x t ≡ Some rule → Breaks p rule x t
-breaks_first {w} p rule x t e =
-    found-broken (λ r. breaks_at_first p r x t) (go x) x t (broken_order p x t) rule (first_is p x t) e
-  where
-    go : (y : Beat w) → breaks_at_first p S1 y t ≡ false
-    go (beat.A y) = refl
-    go (beat.B y) = refl
-    go (beat.C y) = refl
-    go (beat.D y) = refl
-    go (beat.E y) = refl
+breaks_first p rule x t e = breaks-under (liberties_of p) x t rule (in_order-of p x t ∙ e)
+
+-- the same beats are legal on a link of a profile
+pub legal-profile : {w : ℕ} (l : Level) (p : Profile) (h : History w)
+    → is_legal_under (liberties_of p) l h ≡ is_legal l p h
+unfolding is_legal is_legal_under
+legal-profile l p [] = refl
+legal-profile l p (x ∷ h) = rw (after-of p l x h, legal-profile l p h) refl

@@ -11,14 +11,15 @@ use Rattle.tl_burst.specs.statement.Messages.{unfinished}
 use Rattle.tl_burst.specs.statement.Part.{is_empty}
 use Rattle.tl_burst.proofs.ControlFields.{control_a, control_c, control_d}
 use Rattle.tl_monitor.proofs.Continued.{own-channel}
-use Rattle.tl_monitor.proofs.AtProfile.{continues}
+use Rattle.tl_monitor.proofs.Judged.{continues}
 use Rattle.tl_params.specs.declared.key.Key.{Key}
 use Rattle.tl_params.specs.declared.key.Key.TheVariants.{RequestSource, ReleaseSource, AcquireOf, ReleaseOf, GrantSink}
 use Rattle.tl_params.specs.declared.key.Key.TheVariants.{GrantAckOf, ProbeOf}
 use Rattle.tl_params.specs.declared.level.Level.{Level}
-use Rattle.tl_params.specs.declared.profile.Profile.{Profile}
+use Rattle.tl_params.specs.declared.liberties.Liberties.{Liberties}
 use Rattle.tl_params.specs.declared.rule.Rule.{Rule}
-use Rattle.tl_rules.specs.statement.Conformance.{Trace, broken_after, is_legal, on_link}
+use Rattle.tl_rules.specs.statement.Conformance.{Trace, on_link}
+use Rattle.tl_rules.specs.statement.Liberties.{broken_after_under, is_legal_under}
 use Rattle.tl_rules.specs.statement.History.{begins, opens}
 use Rattle.tl_explain.specs.declared.told.Mention.{Mention}
 use Rattle.tl_explain.specs.statement.Evidence.{burst_opening, last_opening, last_where, told}
@@ -137,7 +138,7 @@ joined k x [] first opened m o b e f g comes ih = rw (e, f) refl
 joined k x (y ∷ u) first opened m o b e f g comes ih =
     rw e (ih (same_key k x y (y ∷ u) u (not_false (same_control x y) g) comes))
 
-module _ {w : ℕ} (n : ℕ) (k : Key) (l : Level) (p : Profile) (x : Link × Beat w) (t : Trace w) where
+module _ {w : ℕ} (n : ℕ) (k : Key) (l : Level) (lib : Liberties) (x : Link × Beat w) (t : Trace w) where
   abbrev ch : Channel
   ch = opening_channel k
 
@@ -145,7 +146,7 @@ module _ {w : ℕ} (n : ℕ) (k : Key) (l : Level) (p : Profile) (x : Link × Be
   h = on_link n t
 
   abbrev Legal : Trace w → Type 0
-  Legal s = is_legal l p (on_link n s) ≡ true
+  Legal s = is_legal_under lib l (on_link n s) ≡ true
 
   abbrev Comes : Trace w → Type 0
   Comes s = comes_in k (unfinished ch (on_link n s)) ≡ true
@@ -153,7 +154,7 @@ module _ {w : ℕ} (n : ℕ) (k : Key) (l : Level) (p : Profile) (x : Link × Be
   abbrev Same : Trace w → Type 0
   Same s = last_opening n k s ≡ burst_opening n ch s
 
-  with_beat : on ch x.1 ≡ true → is_none (broken_after l p x.1 h) ≡ true → Legal t → (Legal t → Comes t → Same t)
+  with_beat : on ch x.1 ≡ true → is_none (broken_after_under lib l x.1 h) ≡ true → Legal t → (Legal t → Comes t → Same t)
       → (ends : Bool) → comes_in k (if ends then [] else x.1 ∷ unfinished ch h) ≡ true
       → (if begins x.1 h && opens k x.1 h then Some (told x t) else last_opening n k t)
       ≡ (if is_empty (if ends then [] else x.1 ∷ unfinished ch h) then None else
@@ -164,27 +165,27 @@ module _ {w : ℕ} (n : ℕ) (k : Key) (l : Level) (p : Profile) (x : Link × Be
       (burst_opening n ch t)
       (ap (λ (c : Channel). is_empty (unfinished c h)) (sym (own-channel ch x.1 own)))
       (opens_key k x.1 (unfinished ch h) h comes)
-      (ap (λ (c : Channel). breaks_burst x.1 (unfinished c h)) (own-channel ch x.1 own) ∙ continues l p x.1 h (no_rule _ unbroken))
+      (ap (λ (c : Channel). breaks_burst x.1 (unfinished c h)) (own-channel ch x.1 own) ∙ continues lib l x.1 h (no_rule _ unbroken))
       comes
       (λ before. ih legal before)
 
   step : (here : Bool) → (x.0.0 == n) ≡ here → (own : Bool) → on ch x.1 ≡ own → Legal (x ∷ t) → Comes (x ∷ t)
       → (Legal t → Comes t → Same t) → Same (x ∷ t)
-  unfolding on_link unfinished last_where burst_opening is_legal
+  unfolding on_link unfinished last_where burst_opening is_legal_under
   step false e own f legal comes ih = rw e (ih (rw e at legal) (rw e at comes))
   step true e false f legal comes ih =
-      let parts = both_true (is_none (broken_after l p x.1 h)) (is_legal l p h) (rw e at legal) in
+      let parts = both_true (is_none (broken_after_under lib l x.1 h)) (is_legal_under lib l h) (rw e at legal) in
       let before : Comes t = rw (e, f) at comes in
       rw (e, f, elsewhere k x.1 (unfinished ch h) h before f)
       (never (begins x.1 h) (Some (told x t)) (last_opening n k t) ∙ ih parts.1 before)
   step true e true f legal comes ih =
-      let parts = both_true (is_none (broken_after l p x.1 h)) (is_legal l p h) (rw e at legal) in
+      let parts = both_true (is_none (broken_after_under lib l x.1 h)) (is_legal_under lib l h) (rw e at legal) in
       rw (e, f) (with_beat f parts.0 parts.1 ih (length (unfinished ch h) + 1 == burst_length x.1) (rw (e, f) at comes))
 
-pub burst_opened : {w : ℕ} (n : ℕ) (k : Key) (l : Level) (p : Profile) (t : Trace w)
-    → is_legal l p (on_link n t) ≡ true → comes_in k (unfinished (opening_channel k) (on_link n t)) ≡ true
+pub burst_opened : {w : ℕ} (n : ℕ) (k : Key) (l : Level) (lib : Liberties) (t : Trace w)
+    → is_legal_under lib l (on_link n t) ≡ true → comes_in k (unfinished (opening_channel k) (on_link n t)) ≡ true
     → last_opening n k t ≡ burst_opening n (opening_channel k) t
 unfolding last_where burst_opening
-burst_opened n k l p [] legal comes = refl
-burst_opened n k l p (x ∷ t) legal comes =
-    step n k l p x t (x.0.0 == n) refl (on (opening_channel k) x.1) refl legal comes (burst_opened n k l p t)
+burst_opened n k l lib [] legal comes = refl
+burst_opened n k l lib (x ∷ t) legal comes =
+    step n k l lib x t (x.0.0 == n) refl (on (opening_channel k) x.1) refl legal comes (burst_opened n k l lib t)

@@ -3,4 +3,5 @@ pub mod Cuts
 pub mod Ledger
 pub mod Recorded
 pub mod Said
+pub mod Saying
 pub mod Spelled

@@ -1,6 +1,6 @@
 //! Which messages open and close a key.
 
-ghost use Rattle.std.specs.Prelude.{ℕ, Some, is_some, ◌≡◌};
+ghost use Rattle.std.specs.Prelude.{ℕ, ◌≡◌};
 ghost use Rattle.tl_burst.specs.statement.Messages.{History};
 ghost use Rattle.tl_explain.specs.code.Recorded.{block_of, comes_by};
 ghost use Rattle.tl_params.specs.declared.key.Key.TheVariants.{GrantAckOf};
@@ -51,20 +51,6 @@ pub fn closes<const W: usize>(
         (Key::GrantSink(sink), Beat::E(x)) => x.sink == sink,
         (Key::GrantAckOf(_), Beat::E(x)) => granted == Some(x.sink),
         (Key::ProbeOf(of), Beat::C(x)) => is_probe_ack(x.opcode) && block == Some(of),
-        _ => false,
-    }
-}
-
-/// Whether a message that is complete with this beat, and is of this block, leaves what is held of
-/// the block `of`.
-#[inline(always)]
-pub fn says_held<const W: usize>(of: u32, beat: &Beat<W>, block: Option<u32>) -> bool
-    ensures { (t : History W) → block ≡ block_of beat.now t →
-        result ≡ is_some (history.says_held of beat.now t) }
-{
-    match beat {
-        Beat::C(x) => (is_probe_ack(x.opcode) || is_release(x.opcode)) && block == Some(of),
-        Beat::D(x) => is_grant(x.opcode) && block == Some(of),
         _ => false,
     }
 }

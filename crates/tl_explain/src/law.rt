@@ -11,15 +11,16 @@ ghost use Rattle.tl_params.specs.declared.rule.Rule.{Rule};
 ghost use Rattle.tl_params.specs.declared.rule.Rule.TheVariants.{S1};
 ghost use Rattle.tl_rules.specs.statement.Conformance.{Trace, broken_in_order, on_link};
 ghost use Rattle.tl_rules.specs.statement.History.{begins, held, pending};
-ghost use Rattle.tl_rules.specs.statement.Liberties.{broken_in_order_under};
-ghost use Rattle.tl_params.specs.statement.Liberties.{liberties_of};
+ghost use Rattle.tl_rules.specs.statement.Liberties.{broken_in_order_under, held_under};
 ghost use Rattle.tl_explain.specs.declared.told.Mention.{Mention};
 ghost use Rattle.tl_explain.specs.statement.Evidence.{is_open, last_closing, last_opening, last_saying, left_of};
+ghost use Rattle.tl_explain.specs.statement.Evidence.{last_saying_under};
 ghost use Rattle.tl_explain.specs.statement.Evidence.{is_opening, is_closing, is_saying};
 ghost use Rattle.tl_explain.specs.declared.reason.Reason.{Reason};
-ghost use Rattle.tl_explain.specs.statement.Reasons.{Breaks, IsEvidence, convicted, first_broken};
+ghost use Rattle.tl_explain.specs.statement.Reasons.{Breaks, IsEvidence, IsEvidenceUnder, convicted, convicted_under};
+ghost use Rattle.tl_explain.specs.statement.Reasons.{first_broken};
 ghost use Rattle.tl_explain.specs.statement.OrderRules.{BreaksUnder, first_broken_under, order_rules};
-ghost use Rattle.tl_explain.specs.statement.Since.{IsHeldSince, IsLast, IsLastIfAny, IsPendingSince};
+ghost use Rattle.tl_explain.specs.statement.Since.{IsHeldSince, IsHeldSinceUnder, IsLast, IsLastIfAny, IsPendingSince};
 
 /// A key is pending where its last opening isn't followed by a closing.
 pub fn pending_where_open()
@@ -56,7 +57,9 @@ pub fn pending_since_opening()
 
 /// What is held of a block is so since the last message that says so; no later one changes it.
 pub fn held_since_saying()
-    ensures { (w n k : ℕ) (t : Trace w) → IsHeldSince n k (left_of (last_saying n k t)) (last_saying n k t) t }
+    ensures profile { (w n k : ℕ) (t : Trace w) → IsHeldSince n k (left_of (last_saying n k t)) (last_saying n k t) t }
+    ensures under { (w n k : ℕ) (l : Liberties) (t : Trace w) →
+        IsHeldSinceUnder l n k (held_under l k (on_link n t)) (last_saying_under l n k t) t }
 {}
 
 /// What is told for a verdict makes the rule broken: where what a reason tells of a trace is so, the
@@ -65,6 +68,13 @@ pub fn evidence_convicts()
     ensures { (w n : ℕ) (p : Profile) (rule : Rule) (x : Beat w) (reason : Reason) (t : Trace w) →
         IsEvidence n x reason t →
         convicted p x reason ≡ Some rule → Breaks p rule x (on_link n t) }
+{}
+
+/// The same under any liberties.
+pub fn evidence_convicts_under()
+    ensures { (w n : ℕ) (l : Liberties) (rule : Rule) (x : Beat w) (reason : Reason) (t : Trace w) →
+        IsEvidenceUnder l n x reason t →
+        convicted_under l x reason ≡ Some rule → BreaksUnder l rule x (on_link n t) }
 {}
 
 /// The rules of order, each by itself, are those that a monitor judges by. Of a beat that begins a message
@@ -80,7 +90,7 @@ pub fn first_rule_broken()
         broken_in_order p x t ≡ Some rule → Breaks p rule x t }
 {}
 
-/// The same under any liberties; under those of a profile the first rule that a beat breaks is that of the profile.
+/// The same under any liberties.
 pub fn first_rule_broken_under()
     ensures message { (w : ℕ) (l : Liberties) (x : Beat w) (t : History w) → begins x t ≡ true →
         broken_in_order_under l x t ≡ first_broken_under l order_rules x t }
@@ -88,6 +98,4 @@ pub fn first_rule_broken_under()
         broken_in_order_under l x t ≡ first_if (breaks_burst x (unfinished (channel_of x) t)) S1 None }
     ensures itself { (w : ℕ) (l : Liberties) (rule : Rule) (x : Beat w) (t : History w) →
         broken_in_order_under l x t ≡ Some rule → BreaksUnder l rule x t }
-    ensures profile { (w : ℕ) (p : Profile) (x : Beat w) (t : History w) →
-        first_broken_under (liberties_of p) order_rules x t ≡ first_broken p order_rules x t }
 {}

@@ -7,6 +7,7 @@ use std::io::Write;
 use tl_beat::beat::{Beat, BeatC, BeatD};
 use tl_beat::opcode::{OpA, OpC, OpD};
 use tl_params::level::Level;
+use tl_params::liberties::Liberties;
 use tl_params::rule::Rule;
 
 fn level_name(level: Level) -> &'static str {
@@ -60,9 +61,11 @@ fn params_of_a(opcode: OpA) -> &'static str {
     }
 }
 
-/// The params of an opcode of channel C.
-fn params_of_c(opcode: OpC) -> &'static str {
+/// The params of an opcode of channel C on a link with these liberties.
+fn params_of_c(liberties: Liberties, opcode: OpC) -> &'static str {
     match opcode {
+        OpC::Release if liberties.reports => "0 to 5: TtoB, TtoN, BtoN, TtoT, BtoB, NtoN",
+        OpC::ReleaseData if liberties.reports => "0, 1, 3: TtoB, TtoN, TtoT",
         OpC::ProbeAck => "0 to 5: TtoB, TtoN, BtoN, TtoT, BtoB, NtoN",
         OpC::ProbeAckData => "0, 1, 3: TtoB, TtoN, TtoT",
         OpC::Release => "0 to 2: TtoB, TtoN, BtoN",
@@ -87,17 +90,19 @@ fn tell_param(param: u8, legal: bool, params: &str, out: &mut Vec<u8>) -> io::Re
     write!(out, "  param is {param}, legal: {params}\n")
 }
 
-/// A source or a sink that has to be 0, where it isn't.
-fn tell_fixed(name: &str, number: u8, out: &mut Vec<u8>) -> io::Result<()> {
-    if number == 0 {
+/// A source or a sink that has to be 0, where it isn't; a link may have any.
+fn tell_fixed(any: bool, name: &str, number: u8, out: &mut Vec<u8>) -> io::Result<()> {
+    if any || number == 0 {
         return Ok(());
     }
     write!(out, "  {name} is {number:02x}, legal: 00\n")
 }
 
-/// Whether a message of channel C may have this param.
-fn fits_c(opcode: OpC, param: u8) -> bool {
+/// Whether a message of channel C may have this param on a link with these liberties.
+fn fits_c(liberties: Liberties, opcode: OpC, param: u8) -> bool {
     match opcode {
+        OpC::Release if liberties.reports => param <= 5,
+        OpC::ReleaseData if liberties.reports => matches!(param, 0 | 1 | 3),
         OpC::ProbeAck => param <= 5,
         OpC::ProbeAckData => matches!(param, 0 | 1 | 3),
         OpC::Release => param <= 2,
@@ -106,39 +111,51 @@ fn fits_c(opcode: OpC, param: u8) -> bool {
     }
 }
 
-fn tell_params_of_c<const W: usize>(x: &BeatC<W>, out: &mut Vec<u8>) -> io::Result<()> {
+fn tell_params_of_c<const W: usize>(
+    liberties: Liberties,
+    x: &BeatC<W>,
+    out: &mut Vec<u8>,
+) -> io::Result<()> {
     tell_param(
         x.param,
-        fits_c(x.opcode, x.param),
-        params_of_c(x.opcode),
+        fits_c(liberties, x.opcode, x.param),
+        params_of_c(liberties, x.opcode),
         out,
     )?;
     match x.opcode {
-        OpC::ProbeAck | OpC::ProbeAckData => tell_fixed("source", x.source, out),
+        OpC::ProbeAck | OpC::ProbeAckData => tell_fixed(liberties.ids, "source", x.source, out),
         _ => Ok(()),
     }
 }
 
-fn tell_params_of_d<const W: usize>(x: &BeatD<W>, out: &mut Vec<u8>) -> io::Result<()> {
+fn tell_params_of_d<const W: usize>(
+    liberties: Liberties,
+    x: &BeatD<W>,
+    out: &mut Vec<u8>,
+) -> io::Result<()> {
     let is_grant = matches!(x.opcode, OpD::Grant | OpD::GrantData);
     let legal = x.param == 0 || is_grant && x.param <= 2;
     tell_param(x.param, legal, params_of_d(x.opcode), out)?;
     if is_grant {
         Ok(())
     } else {
-        tell_fixed("sink", x.sink, out)
+        tell_fixed(liberties.sinks, "sink", x.sink, out)
     }
 }
 
-fn tell_params<const W: usize>(beat: &Beat<W>, out: &mut Vec<u8>) -> io::Result<()> {
+fn tell_params<const W: usize>(
+    liberties: Liberties,
+    beat: &Beat<W>,
+    out: &mut Vec<u8>,
+) -> io::Result<()> {
     match beat {
         Beat::A(x) => tell_param(x.param, false, params_of_a(x.opcode), out),
         Beat::B(x) => {
             tell_param(x.param, x.param <= 2, "0 to 2: toT, toB, toN", out)?;
-            tell_fixed("source", x.source, out)
+            tell_fixed(liberties.ids, "source", x.source, out)
         }
-        Beat::C(x) => tell_params_of_c(x, out),
-        Beat::D(x) => tell_params_of_d(x, out),
+        Beat::C(x) => tell_params_of_c(liberties, x, out),
+        Beat::D(x) => tell_params_of_d(liberties, x, out),
         Beat::E(_) => Ok(()),
     }
 }
@@ -238,17 +255,29 @@ fn tell_mask<const W: usize>(beat: &Beat<W>, out: &mut Vec<u8>) -> io::Result<()
     })
 }
 
-fn tell_flags<const W: usize>(beat: &Beat<W>, out: &mut Vec<u8>) -> io::Result<()> {
+/// What a response may be of denied and corrupt on a link with these liberties.
+fn flags_of(liberties: Liberties, opcode: OpD) -> &'static str {
+    match opcode {
+        OpD::AccessAck | OpD::HintAck => "corrupt=0; denied 0 or 1",
+        OpD::AccessAckData if liberties.uncorrupt => "corrupt 0 or 1; denied 0 or 1",
+        OpD::AccessAckData => "corrupt 0 or 1; denied=1 with corrupt=1 alone",
+        OpD::GrantData if liberties.denied => "corrupt 0 or 1; denied=1 with corrupt=1 alone",
+        OpD::GrantData => "corrupt 0 or 1; denied=0",
+        OpD::Grant if liberties.denied => "corrupt=0; denied 0 or 1",
+        OpD::Grant | OpD::ReleaseAck => "corrupt=0; denied=0",
+    }
+}
+
+fn tell_flags<const W: usize>(
+    liberties: Liberties,
+    beat: &Beat<W>,
+    out: &mut Vec<u8>,
+) -> io::Result<()> {
     match beat {
         Beat::D(x) => {
             let corrupt = u8::from(x.corrupt);
             let denied = u8::from(x.denied);
-            let legal = match x.opcode {
-                OpD::AccessAck | OpD::HintAck => "corrupt=0; denied 0 or 1",
-                OpD::AccessAckData => "corrupt 0 or 1; denied=1 with corrupt=1 alone",
-                OpD::GrantData => "corrupt 0 or 1; denied=0",
-                OpD::Grant | OpD::ReleaseAck => "corrupt=0; denied=0",
-            };
+            let legal = flags_of(liberties, x.opcode);
             write!(
                 out,
                 "  denied is {denied}, corrupt is {corrupt}, legal: {legal}\n"
@@ -266,8 +295,10 @@ fn tell_untaken<const W: usize>(beat: &Beat<W>, out: &mut Vec<u8>) -> io::Result
     })
 }
 
-/// Appends which field of a beat breaks a rule of legality, what it is and what it may be.
+/// Appends which field of a beat breaks a rule of legality, what it is and what it may be on a link with these
+/// liberties.
 pub fn tell<const W: usize>(
+    liberties: Liberties,
     level: Option<Level>,
     rule: Rule,
     beat: &Beat<W>,
@@ -280,11 +311,11 @@ pub fn tell<const W: usize>(
     };
     match rule {
         Rule::L1 => tell_level(level, beat, out),
-        Rule::L2 => tell_params(beat, out),
+        Rule::L2 => tell_params(liberties, beat, out),
         Rule::L3 => tell_sizes(known, beat, out),
         Rule::L4 => tell_alignment(beat, out),
         Rule::L5 => tell_mask(beat, out),
-        Rule::L6 => tell_flags(beat, out),
+        Rule::L6 => tell_flags(liberties, beat, out),
         Rule::L7 => tell_untaken(beat, out),
         _ => Ok(()),
     }

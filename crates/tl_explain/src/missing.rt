@@ -4,14 +4,16 @@ ghost use Rattle.std.specs.Prelude.{◌≡◌};
 ghost use Rattle.tl_explain.specs.code.Chosen;
 ghost use Rattle.tl_explain.specs.code.Recorded.{begun_by};
 
-use crate::bursts::begun_of;
+use crate::bursts::{Begun, begun_of};
+use crate::held::Held;
 use crate::key::comes;
-use crate::reason::{Held, Reason};
+use crate::reason::Reason;
 use crate::told::Told;
 use crate::turn::Turn;
 use crate::turns::Moment;
 use tl_monitor::bursts::Unfinished;
 use tl_params::key::Key;
+use tl_params::liberties::Liberties;
 
 /// Where the key is pending.
 pub fn where_pending(key: Key, turn: &Turn) -> Option<Reason>
@@ -21,14 +23,21 @@ pub fn where_pending(key: Key, turn: &Turn) -> Option<Reason>
     Some(Reason::Pending(key, told))
 }
 
+/// The burst of a message that has to be complete before its answer.
+pub fn awaited(liberties: Liberties, burst: &Option<Unfinished<Moment>>) -> Option<Begun>
+    ensures { result ≡ Chosen.awaited liberties (begun_by burst.now) }
+{
+    if liberties.early {
+        None
+    } else {
+        begun_of(burst)
+    }
+}
+
 /// Where no complete message has the key pending. The burst is that which is unfinished on the
 /// channel whose messages open the key.
-pub fn where_not_pending(
-    key: Key,
-    turn: &Turn,
-    burst: &Option<Unfinished<Moment>>,
-) -> Option<Reason>
-    ensures { result ≡ Chosen.where_missing key turn.now (begun_by burst.now) }
+pub fn where_not_pending(key: Key, turn: &Turn, burst: Option<Begun>) -> Option<Reason>
+    ensures { result ≡ Chosen.where_missing key turn.now burst }
 {
     let Some(opening) = turn.opening else {
         return Some(Reason::Never(key));
@@ -43,10 +52,10 @@ pub fn where_not_pending(
 }
 
 /// Where the burst is that of the message which has opened the key.
-fn where_unfinished(key: Key, opening: Told, burst: &Option<Unfinished<Moment>>) -> Option<Reason>
-    ensures { result ≡ Chosen.unfinished_by key opening (begun_by burst.now) }
+fn where_unfinished(key: Key, opening: Told, burst: Option<Begun>) -> Option<Reason>
+    ensures { result ≡ Chosen.unfinished_by key opening burst }
 {
-    let begun = begun_of(burst)?;
+    let begun = burst?;
     if begun.first.mention.line == opening.mention.line && comes(key, &begun.newest) {
         Some(Reason::Unfinished(key, opening, begun.came))
     } else {

@@ -3,36 +3,31 @@
 ghost use Rattle.std.specs.Prelude.{◌≡◌, true, Some, IfSome, is_some};
 ghost use Rattle.tl_beat.specs.declared.beat.Link.{Link};
 ghost use Rattle.tl_explain.specs.code.Chosen;
-ghost use Rattle.tl_explain.specs.code.Recorded.{IsRecord};
-ghost use Rattle.tl_explain.specs.statement.Reasons.{HasBlockAsked, IsEvidence, IsSubject, convicted, is_always_told};
-ghost use Rattle.tl_rules.specs.statement.Conformance.{Trace, on_link};
-ghost use Rattle.tl_explain.specs.statement.Evidence;
+ghost use Rattle.tl_explain.specs.code.Recorded.{IsRecord, IsRecordUnder};
+ghost use Rattle.tl_explain.specs.statement.Reasons.{HasBlockAsked, IsEvidence, IsEvidenceUnder, IsSubject, convicted};
+ghost use Rattle.tl_explain.specs.statement.Reasons.{convicted_under, is_always_told};
 ghost use Rattle.tl_params.specs.declared.level.Level.{Level};
-ghost use Rattle.tl_params.specs.statement.Param.{cap_of, prune_of};
+ghost use Rattle.tl_params.specs.declared.liberties.Liberties.{Liberties};
 ghost use Rattle.tl_rules.specs.statement.Conformance;
+ghost use Rattle.tl_rules.specs.statement.Conformance.{Trace, on_link};
+ghost use Rattle.tl_rules.specs.statement.Liberties.{broken_in_order_under, is_legal_under};
 
 use crate::answer::for_answer;
 use crate::bursts::{Begun, begun_of};
-use crate::missing::{first_of, unless_held, where_not_pending, where_pending};
+use crate::fits::{grows_from, is_misreport, releases_from};
+use crate::held::Held;
+use crate::missing::{awaited, first_of, unless_held, where_not_pending, where_pending};
 use crate::recorder::Recorder;
 use crate::told::Told;
 use tl_beat::beat::{Beat, BeatA, BeatB, BeatC, BeatE};
 use tl_beat::control::Control;
 use tl_beat::opcode::OpB;
 use tl_params::key::{Key, block_at};
-use tl_params::param::{Cap, Grow, Prune};
+use tl_params::liberties::Liberties;
+use tl_params::param::Cap;
 use tl_params::profile::Profile;
-use tl_params::report::report_of;
 use tl_params::rule::Rule;
-use tl_rules::kind::{capped, is_acquire, is_probe, is_probe_ack, is_release, reported};
-use tl_rules::perm::Perm;
-
-/// What is held of a block, and the message that left it so, if there was one.
-#[derive(Clone, Copy)]
-pub struct Held {
-    pub perm: Perm,
-    pub since: Option<Told>,
-}
+use tl_rules::kind::{is_acquire, is_probe, is_probe_ack, is_release};
 
 /// Why a beat breaks a rule of bursts or of the order of messages.
 #[derive(Clone, Copy)]
@@ -57,6 +52,8 @@ pub enum Reason {
     Probed(Told, Told),
     /// What is held doesn't fit the param.
     Holds(Held),
+    /// This Probe has another source.
+    OtherSource(Told),
     /// ProbeAckData answers this ProbePerm.
     WrongProbe(Told),
     /// The report to this Probe is another.
@@ -65,32 +62,13 @@ pub enum Reason {
     Differs(Begun),
 }
 
-/// What a Grant, ProbeAck or Release leaves.
-fn left_by(control: &Control) -> Perm
-    ensures { result ≡ Evidence.left_by control.now }
-{
-    match control {
-        Control::C(x) => reported(x.param),
-        Control::D(x) => capped(x.param),
-        _ => Perm::None,
-    }
-}
-
-/// What is held of the subject's block.
-pub fn held_of(recorder: &Recorder) -> Held
-    ensures { result ≡ Chosen.held_by recorder.now.turns.said }
-{
-    Held {
-        perm: match &recorder.turns.said {
-            None => Perm::None,
-            Some(told) => left_by(&told.mention.control),
-        },
-        since: recorder.turns.said,
-    }
-}
-
-fn for_request<const W: usize>(rule: Rule, x: &BeatA<W>, recorder: &Recorder) -> Option<Reason>
-    ensures { result ≡ Chosen.for_request rule x.now recorder.now }
+fn for_request<const W: usize>(
+    liberties: Liberties,
+    rule: Rule,
+    x: &BeatA<W>,
+    recorder: &Recorder,
+) -> Option<Reason>
+    ensures { result ≡ Chosen.for_request liberties rule x.now recorder.now }
 {
     let turns = &recorder.turns;
     let block = block_at(x.address);
@@ -109,21 +87,10 @@ fn for_request<const W: usize>(rule: Rule, x: &BeatA<W>, recorder: &Recorder) ->
             if !is_acquire(x.opcode) {
                 return None;
             }
-            let held = held_of(recorder);
-            unless_held(grows_from(x.param, held.perm), held)
+            let held = recorder.held;
+            unless_held(grows_from(liberties, x.param, held.perm), held)
         }
         _ => None,
-    }
-}
-
-/// BtoT grows from all but Trunk, NtoB and NtoT grow from nothing held.
-pub fn grows_from(param: u8, perm: Perm) -> bool
-    ensures { result ≡ Conformance.grows_from param perm }
-{
-    if param == Grow::BtoT.param() {
-        perm != Perm::Trunk
-    } else {
-        perm == Perm::None
     }
 }
 
@@ -146,8 +113,13 @@ fn for_probe<const W: usize>(rule: Rule, x: &BeatB<W>, recorder: &Recorder) -> O
     }
 }
 
-fn for_release<const W: usize>(rule: Rule, x: &BeatC<W>, recorder: &Recorder) -> Option<Reason>
-    ensures { result ≡ Chosen.for_release rule x.now recorder.now }
+fn for_release<const W: usize>(
+    liberties: Liberties,
+    rule: Rule,
+    x: &BeatC<W>,
+    recorder: &Recorder,
+) -> Option<Reason>
+    ensures { result ≡ Chosen.for_release liberties rule x.now recorder.now }
 {
     let turns = &recorder.turns;
     let block = block_at(x.address);
@@ -158,48 +130,50 @@ fn for_release<const W: usize>(rule: Rule, x: &BeatC<W>, recorder: &Recorder) ->
                 where_pending(Key::AcquireOf(block), &turns.acquire),
                 where_pending(Key::ReleaseOf(block), &turns.release),
             );
-            let held = held_of(recorder);
-            first_of(pending, unless_held(prunes_from(x.param, held.perm), held))
+            let held = recorder.held;
+            let fits = releases_from(liberties, x.param, held.perm);
+            first_of(pending, unless_held(fits, held))
         }
         _ => None,
     }
 }
 
-/// Whether a Release with this param gives up what is held.
-fn prunes_from(param: u8, perm: Perm) -> bool
-    ensures { result ≡ Conformance.prunes_from (prune_of param) perm }
-{
-    match Prune::from_param(param) {
-        None => false,
-        Some(prune) => prune.left() == perm,
-    }
-}
-
-fn for_probe_ack<const W: usize>(rule: Rule, x: &BeatC<W>, recorder: &Recorder) -> Option<Reason>
-    ensures { result ≡ Chosen.for_probe_ack rule x.now recorder.now }
+fn for_probe_ack<const W: usize>(
+    liberties: Liberties,
+    rule: Rule,
+    x: &BeatC<W>,
+    recorder: &Recorder,
+) -> Option<Reason>
+    ensures { result ≡ Chosen.for_probe_ack liberties rule x.now recorder.now }
 {
     let turns = &recorder.turns;
     match rule {
         Rule::H10 => match turns.probe.pending() {
-            None => where_not_pending(Key::ProbeOf(block_at(x.address)), &turns.probe, &None),
-            Some(probe) => where_wrong_probe(x, probe),
+            None => where_not_pending(Key::ProbeOf(block_at(x.address)), &turns.probe, None),
+            Some(probe) => where_wrong_probe(liberties, x, probe),
         },
         Rule::H11 => where_pending(Key::ReleaseOf(block_at(x.address)), &turns.release),
         Rule::H12 => {
             let probe = turns.probe.pending()?;
-            where_misreported(x, probe, held_of(recorder))
+            where_misreported(liberties, x, probe, recorder.held)
         }
         _ => None,
     }
 }
 
-/// Where an answer with data answers a Probe that asks for none.
-fn where_wrong_probe<const W: usize>(x: &BeatC<W>, probe: Told) -> Option<Reason>
-    ensures { result ≡ Chosen.probe_in x.now probe probe.mention.control }
+/// A Probe that has another source than its answer, or doesn't ask for the answer's data.
+fn where_wrong_probe<const W: usize>(
+    liberties: Liberties,
+    x: &BeatC<W>,
+    probe: Told,
+) -> Option<Reason>
+    ensures { result ≡ Chosen.probe_in liberties x.now probe probe.mention.control }
 {
     match probe.mention.control {
         Control::B(asked) => {
-            if x.opcode.carries_data() && asked.opcode != OpB::ProbeBlock {
+            if liberties.ids && x.source != asked.source {
+                Some(Reason::OtherSource(probe))
+            } else if x.opcode.carries_data() && asked.opcode != OpB::ProbeBlock {
                 Some(Reason::WrongProbe(probe))
             } else {
                 None
@@ -217,42 +191,39 @@ pub fn cap_asked(probe: &Told) -> Option<Cap> {
     }
 }
 
-/// Whether a param is the report of a Probe's cap and of what is held.
-fn is_report(param: u8, cap: u8, perm: Perm) -> bool
-    ensures { result ≡ Conformance.is_report_at param (cap_of cap) perm }
-{
-    match Cap::from_param(cap) {
-        None => false,
-        Some(cap) => param == report_of(cap, perm).param(),
-    }
-}
-
 /// Where a param isn't the report of a Probe's cap and of what is held.
-fn where_misreported<const W: usize>(x: &BeatC<W>, probe: Told, held: Held) -> Option<Reason>
-    ensures { result ≡ Chosen.report_in x.now probe probe.mention.control held }
+fn where_misreported<const W: usize>(
+    liberties: Liberties,
+    x: &BeatC<W>,
+    probe: Told,
+    held: Held,
+) -> Option<Reason>
+    ensures { result ≡ Chosen.report_in liberties x.now probe probe.mention.control held }
 {
     match probe.mention.control {
         Control::B(asked) => {
-            if is_report(x.param, asked.param, held.perm) {
-                None
-            } else {
+            if is_misreport(liberties, x.param, asked.param, held.perm) {
                 Some(Reason::Misreport(probe, held))
+            } else {
+                None
             }
         }
         _ => None,
     }
 }
 
-fn for_acknowledgement(rule: Rule, x: &BeatE, recorder: &Recorder) -> Option<Reason>
-    ensures { result ≡ Chosen.for_acknowledgement rule x.now recorder.now }
+fn for_acknowledgement(
+    liberties: Liberties,
+    rule: Rule,
+    x: &BeatE,
+    recorder: &Recorder,
+) -> Option<Reason>
+    ensures { result ≡ Chosen.for_acknowledgement liberties rule x.now recorder.now }
 {
     match rule {
         Rule::H8 => {
-            where_not_pending(
-                Key::GrantSink(x.sink),
-                &recorder.turns.sink,
-                &recorder.bursts.d,
-            )
+            let burst = awaited(liberties, &recorder.bursts.d);
+            where_not_pending(Key::GrantSink(x.sink), &recorder.turns.sink, burst)
         }
         _ => None,
     }
@@ -270,42 +241,47 @@ fn where_differs<const W: usize>(beat: &Beat<W>, burst: Option<Begun>) -> Option
     }
 }
 
-fn for_message_c<const W: usize>(rule: Rule, x: &BeatC<W>, recorder: &Recorder) -> Option<Reason>
-    ensures { result ≡ Chosen.for_message_c rule x.now recorder.now }
+fn for_message_c<const W: usize>(
+    liberties: Liberties,
+    rule: Rule,
+    x: &BeatC<W>,
+    recorder: &Recorder,
+) -> Option<Reason>
+    ensures { result ≡ Chosen.for_message_c liberties rule x.now recorder.now }
 {
     if is_release(x.opcode) {
-        for_release(rule, x, recorder)
+        for_release(liberties, rule, x, recorder)
     } else if is_probe_ack(x.opcode) {
-        for_probe_ack(rule, x, recorder)
+        for_probe_ack(liberties, rule, x, recorder)
     } else {
         None
     }
 }
 
 fn for_message<const W: usize>(
-    profile: Profile,
+    liberties: Liberties,
     rule: Rule,
     beat: &Beat<W>,
     recorder: &Recorder,
 ) -> Option<Reason>
-    ensures { result ≡ Chosen.for_message profile rule beat.now recorder.now }
+    ensures { result ≡ Chosen.for_message liberties rule beat.now recorder.now }
 {
     match beat {
-        Beat::A(x) => for_request(rule, x, recorder),
+        Beat::A(x) => for_request(liberties, rule, x, recorder),
         Beat::B(x) => for_probe(rule, x, recorder),
-        Beat::C(x) => for_message_c(rule, x, recorder),
-        Beat::D(x) => for_answer(profile, rule, x, recorder),
-        Beat::E(x) => for_acknowledgement(rule, x, recorder),
+        Beat::C(x) => for_message_c(liberties, rule, x, recorder),
+        Beat::D(x) => for_answer(liberties, rule, x, recorder),
+        Beat::E(x) => for_acknowledgement(liberties, rule, x, recorder),
     }
 }
 
 fn chosen_reason<const W: usize>(
-    profile: Profile,
+    liberties: Liberties,
     rule: Rule,
     beat: &Beat<W>,
     recorder: &Recorder,
 ) -> Option<Reason>
-    ensures { result ≡ Chosen.reason_by profile rule beat.now recorder.now }
+    ensures { result ≡ Chosen.reason_by liberties rule beat.now recorder.now }
 {
     let burst = begun_of(recorder.bursts.of(beat));
     if rule == Rule::S1 {
@@ -314,13 +290,15 @@ fn chosen_reason<const W: usize>(
     if burst.is_some() {
         return None;
     }
-    for_message(profile, rule, beat, recorder)
+    for_message(liberties, rule, beat, recorder)
 }
 
 /// Why the beat breaks the rule, by what is recorded of the beats before it; nothing where it doesn't.
 /// What is told is so, of the beats that were recorded, and from it and the beat alone the rule is
 /// broken. Of each rule of order a reason is told wherever it is the first that the beat breaks; of H2
 /// and H8 where no earlier beat of the link was at fault.
+///
+/// The record is one of a link without liberties.
 pub fn find_reason<const W: usize>(
     profile: Profile,
     rule: Rule,
@@ -342,5 +320,29 @@ pub fn find_reason<const W: usize>(
         Conformance.broken_in_order profile beat.now (on_link recorder.now.subject.link.0 t) ≡ Some rule →
         is_some result ≡ true }
 {
-    chosen_reason(profile, rule, beat, recorder)
+    chosen_reason(Liberties::of(profile), rule, beat, recorder)
+}
+
+/// The same on a link with liberties, which are those of the record.
+pub fn find_reason_under<const W: usize>(
+    rule: Rule,
+    beat: &Beat<W>,
+    recorder: &Recorder,
+) -> Option<Reason>
+    ensures told { (l : Liberties) (t : Trace W) (link : Link) → IsRecordUnder l recorder.now t →
+        IsSubject recorder.now.subject link beat.now →
+        IfSome result (λ reason. IsEvidenceUnder l recorder.now.subject.link.0 beat.now reason t
+        × (convicted_under l beat.now reason ≡ Some rule)) }
+    ensures first { (l : Liberties) (t : Trace W) (link : Link) → IsRecordUnder l recorder.now t →
+        IsSubject recorder.now.subject link beat.now → HasBlockAsked recorder.now.subject beat.now t →
+        is_always_told rule ≡ true →
+        broken_in_order_under l beat.now (on_link recorder.now.subject.link.0 t) ≡ Some rule →
+        is_some result ≡ true }
+    ensures first_fault { (l : Liberties) (t : Trace W) (link : Link) (level : Level) → IsRecordUnder l recorder.now t →
+        IsSubject recorder.now.subject link beat.now → HasBlockAsked recorder.now.subject beat.now t →
+        is_legal_under l level (on_link recorder.now.subject.link.0 t) ≡ true →
+        broken_in_order_under l beat.now (on_link recorder.now.subject.link.0 t) ≡ Some rule →
+        is_some result ≡ true }
+{
+    chosen_reason(recorder.liberties, rule, beat, recorder)
 }

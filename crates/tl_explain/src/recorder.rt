@@ -1,50 +1,68 @@
 //! What a verdict on one beat rests on, from the beats before it.
 
 ghost use Rattle.std.specs.Prelude.{ℕ, ◌≡◌, ◌∷◌, [], OnErr, OnOk};
+ghost use Rattle.tl_params.specs.declared.liberties.Liberties.{Liberties};
 ghost use Rattle.std.specs.Result.{is_err};
 ghost use Rattle.tl_beat.specs.statement.Width.{IsWidth};
-ghost use Rattle.tl_explain.specs.code.Recorded.{IsRecord, is_stray};
+ghost use Rattle.tl_explain.specs.code.Recorded.{IsRecord, IsRecordUnder, is_stray};
 ghost use Rattle.tl_explain.specs.statement.Evidence.{next_line};
 ghost use Rattle.tl_rules.specs.statement.Conformance.{Trace};
 
 use crate::blocks::Blocks;
 use crate::bursts::is_small;
+use crate::held::Held;
+use crate::saying::said_by;
 use crate::told::{Mention, Spelling, Told};
 use crate::turns::{Moment, Subject, Turns};
 use tl_beat::beat::{Beat, Link};
 use tl_burst::burst::burst_length;
 use tl_monitor::bursts::Bursts;
+use tl_params::liberties::Liberties;
 
 /// A recorder can't go on: a monitor has taken no such beats.
 #[derive(Clone, Copy, Debug, PartialEq, Eq)]
 pub struct Unrecorded;
 
-/// Follows the keys of a subject through the beats of its link.
+/// Follows the keys of a subject, and what is held of its block, through the beats of its link.
 #[derive(Drop)]
 pub struct Recorder {
     pub subject: Subject,
+    /// What the link may do beyond the first profile.
+    pub liberties: Liberties,
     pub bursts: Bursts<Moment>,
     blocks: Blocks,
     pub turns: Turns,
+    /// What is held of the subject's block.
+    pub held: Held,
 }
 
 impl Recorder {
-    /// A recorder that has seen no beat.
+    /// A recorder that has seen no beat, of a link without liberties.
     pub fn new(subject: Subject) -> Self
         ensures record { (w : ℕ) → IsRecord {w = w} result [] }
         ensures subject { result.subject ≡ subject }
     {
+        Recorder::with_liberties(Liberties::none(), subject)
+    }
+
+    /// The same, of a link with these liberties.
+    pub fn with_liberties(liberties: Liberties, subject: Subject) -> Self
+        ensures record { (w : ℕ) → IsRecordUnder {w = w} liberties result [] }
+        ensures subject { result.subject ≡ subject }
+    {
         Recorder {
             subject,
+            liberties,
             bursts: Bursts::new(),
             blocks: Blocks::new(),
             turns: Turns::new(),
+            held: Held::new(),
         }
     }
 
-    /// Takes the next beat of a trace, which stands in the line of this number. The subject stays. A beat is unrecorded
-    /// exactly where it is one of the subject's link and has no message's size, or doesn't continue the burst on its
-    /// channel. Then nothing changes.
+    /// Takes the next beat of a trace, which stands in the line of this number. The subject and the liberties stay. A
+    /// beat is unrecorded exactly where it is one of the subject's link and has no message's size, or doesn't continue
+    /// the burst on its channel. Then nothing changes.
     pub fn take<const W: usize>(
         &mut self,
         number: u64,
@@ -53,9 +71,10 @@ impl Recorder {
         beat: &Beat<W>,
     ) -> Result<(), Unrecorded>
         requires { IsWidth W }
-        ensures record { OnOk result ((t : Trace W) → number ≡ next_line t → IsRecord self.old t →
-            IsRecord self.new ((link, beat.now) ∷ t)) }
+        ensures record { OnOk result ((l : Liberties) (t : Trace W) → number ≡ next_line t →
+            IsRecordUnder l self.old t → IsRecordUnder l self.new ((link, beat.now) ∷ t)) }
         ensures subject { self.new.subject ≡ self.old.subject }
+        ensures liberties { self.new.liberties ≡ self.old.liberties }
         ensures unrecorded { is_err result ≡ is_stray self.old link beat.now }
         ensures left { OnErr result (self.new ≡ self.old) }
     {
@@ -78,6 +97,8 @@ impl Recorder {
             last: self.bursts.completes(beat),
             block: self.blocks.of(beat),
         };
+        let said = said_by(self, &moment, beat);
+        self.held.take(moment.last, said, &moment.told);
         self.turns.take(self.subject, beat, &moment);
         self.blocks.take(beat, moment.first);
         self.bursts.take(moment.last, beat, &moment);

@@ -2,13 +2,14 @@
 
 ghost use Rattle.tl_beat.specs.statement.Width.{IsWidth};
 
-use crate::answer::fits_grow;
 use crate::bursts::Begun;
+use crate::fits::fits_grow;
+use crate::holding::{tell_held, tell_holds, tell_misreport, tell_without_data};
 use crate::names::Names;
-use crate::reason::{Held, Reason, cap_asked, grows_from, held_of};
+use crate::reason::Reason;
 use crate::recorder::Recorder;
 use crate::told::Told;
-use crate::words::{address_of, append_key, append_told, perm_name};
+use crate::words::{append_key, append_told};
 use std::io;
 use std::io::Write;
 use tl_beat::beat::Beat;
@@ -16,14 +17,12 @@ use tl_beat::control::Control;
 use tl_beat::opcode::{OpA, OpD};
 use tl_burst::burst::burst_length;
 use tl_params::key::Key;
-use tl_params::param::{Cap, Grow, Prune};
-use tl_params::perm::Perm;
-use tl_params::profile::Profile;
-use tl_params::report::report_of;
+use tl_params::liberties::Liberties;
+use tl_params::param::Cap;
 use tl_rules::kind::answers;
 
 /// What is pending, since which message.
-fn tell_pending<const W: usize>(key: Key, told: &Told, out: &mut Vec<u8>) -> io::Result<()>
+pub fn tell_pending<const W: usize>(key: Key, told: &Told, out: &mut Vec<u8>) -> io::Result<()>
     requires { IsWidth W }
 {
     let line = told.mention.line;
@@ -143,86 +142,8 @@ fn tell_other_size<const W: usize>(request: &Told, out: &mut Vec<u8>) -> io::Res
     write!(out, "  wanted: size={size:x}\n")
 }
 
-/// What is held of a block, and the message that left it so.
-fn tell_held<const W: usize>(block: u32, held: &Held, out: &mut Vec<u8>) -> io::Result<()>
-    requires { IsWidth W }
-{
-    let address = address_of(block);
-    let name = perm_name(held.perm);
-    match &held.since {
-        None => write!(
-            out,
-            "  block {address:08x} is held as {name}: no Grant, ProbeAck or Release of it before\n"
-        ),
-        Some(told) => {
-            let line = told.mention.line;
-            write!(
-                out,
-                "  block {address:08x} is held as {name} since line {line}:\n"
-            )?;
-            append_told::<W>(told, out)
-        }
-    }
-}
-
-/// The grows that fit what is held.
-fn append_grows(perm: Perm, out: &mut Vec<u8>) -> io::Result<()> {
-    let mut names = Names { any: false };
-    for grow in [Grow::NtoB, Grow::NtoT, Grow::BtoT] {
-        if grows_from(grow.param(), perm) {
-            names.append(grow.name(), out)?;
-        }
-    }
-    if !names.any {
-        out.write_all(b"no Acquire of this block")?;
-    }
-    Ok(())
-}
-
-/// The prunes that fit what is held.
-fn append_prunes(perm: Perm, out: &mut Vec<u8>) -> io::Result<()> {
-    let mut names = Names { any: false };
-    for prune in [Prune::TtoB, Prune::TtoN, Prune::BtoN] {
-        if prune.left() == perm {
-            names.append(prune.name(), out)?;
-        }
-    }
-    if !names.any {
-        out.write_all(b"no Release of this block")?;
-    }
-    Ok(())
-}
-
-/// A Probe of the block that is pending, where there is one.
-fn tell_probe_besides<const W: usize>(record: &Recorder, out: &mut Vec<u8>) -> io::Result<()>
-    requires { IsWidth W }
-{
-    match record.turns.probe.pending() {
-        None => Ok(()),
-        Some(probe) => tell_pending::<W>(Key::ProbeOf(record.subject.block), &probe, out),
-    }
-}
-
-fn tell_holds<const W: usize>(
-    beat: &Beat<W>,
-    held: &Held,
-    record: &Recorder,
-    out: &mut Vec<u8>,
-) -> io::Result<()>
-    requires { IsWidth W }
-{
-    tell_held::<W>(record.subject.block, held, out)?;
-    tell_probe_besides::<W>(record, out)?;
-    out.write_all(b"  wanted: ")?;
-    match beat {
-        Beat::A(_) => append_grows(held.perm, out)?,
-        _ => append_prunes(held.perm, out)?,
-    }
-    out.write_all(b"\n")
-}
-
 fn tell_wrong_cap<const W: usize>(
-    profile: Profile,
+    liberties: Liberties,
     request: &Told,
     out: &mut Vec<u8>,
 ) -> io::Result<()>
@@ -235,7 +156,7 @@ fn tell_wrong_cap<const W: usize>(
     let mut names = Names { any: false };
     for cap in [Cap::ToT, Cap::ToB] {
         if let Control::A(x) = request.mention.control {
-            if fits_grow(profile, x.opcode, x.param, cap.param()) {
+            if fits_grow(liberties, x.opcode, x.param, cap.param()) {
                 names.append(cap.name(), out)?;
             }
         }
@@ -243,19 +164,25 @@ fn tell_wrong_cap<const W: usize>(
     out.write_all(b"\n")
 }
 
-fn tell_without_data<const W: usize>(
-    request: &Told,
-    held: &Held,
-    block: u32,
-    out: &mut Vec<u8>,
-) -> io::Result<()>
+/// The source of a message.
+fn source_of(control: &Control) -> u8 {
+    match control {
+        Control::A(x) => x.source,
+        Control::B(x) => x.source,
+        Control::C(x) => x.source,
+        Control::D(x) => x.source,
+        Control::E(_) => 0,
+    }
+}
+
+fn tell_other_source<const W: usize>(probe: &Told, out: &mut Vec<u8>) -> io::Result<()>
     requires { IsWidth W }
 {
-    let line = request.mention.line;
-    write!(out, "  the request, of line {line}, needs data:\n")?;
-    append_told::<W>(request, out)?;
-    tell_held::<W>(block, held, out)?;
-    out.write_all(b"  wanted: GrantData\n")
+    let line = probe.mention.line;
+    let source = source_of(&probe.mention.control);
+    write!(out, "  the Probe of line {line} has source {source:02x}:\n")?;
+    append_told::<W>(probe, out)?;
+    write!(out, "  wanted: source={source:02x}\n")
 }
 
 /// The request, and the Probe of its block that is pending.
@@ -271,27 +198,6 @@ fn tell_probed<const W: usize>(
     write!(out, "  the request, of line {line}:\n")?;
     append_told::<W>(request, out)?;
     tell_pending::<W>(Key::ProbeOf(block), probe, out)
-}
-
-fn tell_misreport<const W: usize>(
-    probe: &Told,
-    held: &Held,
-    block: u32,
-    out: &mut Vec<u8>,
-) -> io::Result<()>
-    requires { IsWidth W }
-{
-    let line = probe.mention.line;
-    write!(out, "  the Probe, of line {line}:\n")?;
-    append_told::<W>(probe, out)?;
-    tell_held::<W>(block, held, out)?;
-    match cap_asked(probe) {
-        None => Ok(()),
-        Some(cap) => {
-            let name = report_of(cap, held.perm).name();
-            write!(out, "  wanted: {name}\n")
-        }
-    }
 }
 
 /// The fields in which a beat differs from a burst's.
@@ -360,9 +266,9 @@ fn tell_differs<const W: usize>(beat: &Beat<W>, begun: &Begun, out: &mut Vec<u8>
     out.write_all(b"\n")
 }
 
-/// Appends what makes the rule broken.
+/// Appends what makes the rule broken, on a link with these liberties.
 pub fn tell<const W: usize>(
-    profile: Profile,
+    liberties: Liberties,
     beat: &Beat<W>,
     reason: &Reason,
     record: &Recorder,
@@ -375,7 +281,7 @@ pub fn tell<const W: usize>(
         Reason::Pending(key, told) => {
             tell_pending::<W>(*key, told, out)?;
             match beat {
-                Beat::C(_) => tell_held::<W>(block, &held_of(record), out),
+                Beat::C(_) => tell_held::<W>(liberties, block, &record.held, out),
                 _ => Ok(()),
             }
         }
@@ -386,15 +292,20 @@ pub fn tell<const W: usize>(
         }
         Reason::OtherKind(request) => tell_other_kind::<W>(request, out),
         Reason::OtherSize(request) => tell_other_size::<W>(request, out),
-        Reason::WrongCap(request) => tell_wrong_cap::<W>(profile, request, out),
-        Reason::WithoutData(request, held) => tell_without_data::<W>(request, held, block, out),
+        Reason::WrongCap(request) => tell_wrong_cap::<W>(liberties, request, out),
+        Reason::WithoutData(request, held) => {
+            tell_without_data::<W>(liberties, request, held, block, out)
+        }
         Reason::Probed(request, probe) => tell_probed::<W>(request, probe, block, out),
-        Reason::Holds(held) => tell_holds(beat, held, record, out),
+        Reason::Holds(held) => tell_holds(liberties, beat, held, record, out),
+        Reason::OtherSource(probe) => tell_other_source::<W>(probe, out),
         Reason::WrongProbe(probe) => {
             out.write_all(b"  the Probe asks for no data:\n")?;
             append_told::<W>(probe, out)
         }
-        Reason::Misreport(probe, held) => tell_misreport::<W>(probe, held, block, out),
+        Reason::Misreport(probe, held) => {
+            tell_misreport::<W>(liberties, probe, held, block, out)
+        }
         Reason::Differs(begun) => tell_differs(beat, begun, out),
     }
 }

@@ -14,7 +14,7 @@ pub struct Turn {
 
 /// Keeps a message, where it is one to be kept.
 #[inline(always)]
-pub fn keep_if(slot: &mut Option<Told>, keeps: bool, told: &Told)
+fn keep_if(slot: &mut Option<Told>, keeps: bool, told: &Told)
     ensures { slot.new ≡ (if keeps then Some told.now else slot.old) }
 {
     if keeps {

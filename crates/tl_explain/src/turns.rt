@@ -1,15 +1,14 @@
-//! The messages that opened and closed the keys of a subject, and the one that left what is held.
+//! The messages that opened and closed the keys of a subject.
 
 ghost use Rattle.std.specs.Prelude.{ℕ, ◌≡◌, ◌&&◌, ◌∷◌, []};
 ghost use Rattle.tl_beat.specs.declared.beat.Link.{Link};
 ghost use Rattle.tl_explain.specs.code.Recorded.{AreTurns, IsMoment, IsTurn, sink_in};
-ghost use Rattle.tl_explain.specs.statement.Evidence.{last_saying, mention_of};
 ghost use Rattle.tl_rules.specs.statement.Conformance.{Trace};
 ghost use Rattle.tl_explain.specs.declared.turns.Subject.{Subject};
 
-use crate::key::{closes, opens, says_held};
+use crate::key::{closes, opens};
 use crate::told::Told;
-use crate::turn::{Turn, keep_if};
+use crate::turn::Turn;
 use tl_beat::beat::{Beat, Link};
 use tl_beat::control::Control;
 use tl_params::key::Key;
@@ -44,13 +43,11 @@ pub struct Turns {
     pub sink: Turn,
     pub grant_ack: Turn,
     pub probe: Turn,
-    /// The message that left what is held of the block.
-    pub said: Option<Told>,
 }
 
 /// The sink of a Grant.
 #[inline(always)]
-fn sink_of(told: &Option<Told>) -> Option<u8>
+pub fn sink_of(told: &Option<Told>) -> Option<u8>
     ensures { result ≡ sink_in told.now }
 {
     match told {
@@ -84,17 +81,6 @@ fn note<const W: usize>(turn: &mut Turn, key: Key, beat: &Beat<W>, moment: &Mome
     );
 }
 
-/// Notes a message that leaves what is held of a block.
-#[inline(always)]
-fn note_said<const W: usize>(said: &mut Option<Told>, block: u32, beat: &Beat<W>, moment: &Moment)
-    ensures { (n : ℕ) (link : Link) (t : Trace W) → IsMoment moment.now n (link, beat.now) t →
-        mention_of said.old ≡ last_saying n block t →
-        mention_of said.new ≡ last_saying n block ((link, beat.now) ∷ t) }
-{
-    let says = says_held(block, beat, moment.block);
-    keep_if(said, both(moment.last, says), &moment.told);
-}
-
 impl Turns {
     /// There was no message.
     pub fn new() -> Self
@@ -108,7 +94,6 @@ impl Turns {
             sink: Turn::new(),
             grant_ack: Turn::new(),
             probe: Turn::new(),
-            said: None,
         }
     }
 
@@ -135,6 +120,5 @@ impl Turns {
         note(&mut self.sink, Key::GrantSink(sink), beat, moment);
         note(&mut self.grant_ack, Key::GrantAckOf(block), beat, moment);
         note(&mut self.probe, Key::ProbeOf(block), beat, moment);
-        note_said(&mut self.said, block, beat, moment);
     }
 }

@@ -12,6 +12,7 @@ use Rattle.tl_beat.specs.declared.beat.Link.{Link}
 use Rattle.tl_beat.specs.statement.Digits.{digits}
 use Rattle.tl_explain.specs.statement.Sentences.{perm_name}
 use Rattle.tl_params.specs.declared.perm.Perm.{Perm}
+use Rattle.tl_params.specs.statement.Liberties.{no_liberties}
 use Rattle.tl_rules.specs.statement.Conformance.{Trace, on_link}
 use Rattle.tl_rules.specs.statement.History.{held}
 use Rattle.tl_rules.specs.statement.Windows.{leaves}
@@ -21,15 +22,14 @@ use Rattle.tl_explain.specs.declared.bursts.Begun.{Begun}
 use Rattle.tl_monitor.specs.statement.Granting.{coming, coming_on, given_by}
 use Rattle.tl_params.specs.declared.level.Level.{Level}
 use Rattle.tl_explain.specs.code.Recorded.{IsRecord}
-use Rattle.tl_explain.specs.declared.reason.Held.{Held}
+use Rattle.tl_explain.specs.declared.held.Held.{Held}
 use Rattle.tl_explain.specs.declared.recorder.Recorder.{Recorder}
 use Rattle.tl_explain.specs.declared.told.Mention.{Mention}
 use Rattle.tl_explain.specs.declared.turns.Subject.{Subject}
-use Rattle.tl_explain.specs.code.Chosen.{held_by}
 use Rattle.tl_explain.specs.statement.Evidence.{burst_opening, last_saying, mention_of}
 use Rattle.tl_explain.specs.statement.Since.{IsHeldSince}
 use Rattle.tl_explain.proofs.follows.Links.{record_kept}
-use Rattle.tl_explain.proofs.sound.Messages.{held_told}
+use Rattle.tl_explain.proofs.Sayings.{held_told-none, saying_kept-none}
 use Rattle.tl_rules.specs.declared.past.Request.{Request}
 use Rattle.tl_rules.specs.statement.Windows.{needs}
 use Rattle.tl_together.specs.code.Windows.{asked_at}
@@ -95,7 +95,7 @@ first-knows h w n block is addressed links count are = record {
 kept : {w : ℕ} (r : Recorder) (link block : ℕ) (x : Link × Beat w) (t : Trace w) → (x.0.0 ≡ link → ⊥)
     → Records r link block t → Records r link block (x ∷ t)
 kept r link block x t apart is = record {
-  recorded = record_kept r x t (rw is.link_is (ne_eqb x.0.0 link apart)) is.recorded;
+  recorded = record_kept no_liberties r x t (rw is.link_is (ne_eqb x.0.0 link apart)) is.recorded;
   link_is = is.link_is;
   block_is = is.block_is;
 }
@@ -143,16 +143,17 @@ perm-held link block p None t is = is.0
 perm-held link block p (Some m) t is = is.0
 
 -- what a recorder has of its link
-pub said-is : {w : ℕ} (r : Recorder) (h : Held) (link block : ℕ) (t : Trace w) → h ≡ held_by r.turns.said
+pub said-is : {w : ℕ} (r : Recorder) (h : Held) (link block : ℕ) (t : Trace w) → h ≡ r.held
     → Records r link block t → mention_of h.since ≡ last_saying link block t
 said-is r h link block t is rec =
-    rw (is, ← rec.link_is, ← rec.block_is) rec.recorded.turns_are.said_is
+    rw (is, ← rec.link_is, ← rec.block_is)
+    (saying_kept-none r.held r.subject.link.0 r.subject.block t rec.recorded.held_is)
 
-pub since-is : {w : ℕ} (r : Recorder) (h : Held) (link block : ℕ) (t : Trace w) → h ≡ held_by r.turns.said
+pub since-is : {w : ℕ} (r : Recorder) (h : Held) (link block : ℕ) (t : Trace w) → h ≡ r.held
     → Records r link block t → IsHeldSince link block h.perm (mention_of h.since) t
 since-is r h link block t is rec =
     rw (is, ← rec.link_is, ← rec.block_is)
-    (held_told r.subject.link.0 r.subject.block t r.turns.said rec.recorded.turns_are.said_is)
+    (held_told-none r.held r.subject.link.0 r.subject.block t rec.recorded.held_is)
 
 -- a link that holds no more than may be held
 pub holder-left : {w : ℕ} (link block : ℕ) (given p : Perm) (m : Option Mention) (left : Bool) (t : Trace w)

@@ -10,7 +10,7 @@ use arrayvec::ArrayVec;
 use itoa::Buffer;
 use std::alloc::AllocError;
 use tl_beat::text::append_digits;
-use tl_explain::reason::Held;
+use tl_explain::held::Held;
 use tl_explain::told::Told;
 use tl_explain::words::perm_name;
 

@@ -19,7 +19,7 @@ use crate::text::append_permission;
 use std::alloc::{AllocError, Global};
 use tl_beat::beat::{Beat, Link};
 use tl_explain::bursts::begun_of;
-use tl_explain::reason::{Held, held_of};
+use tl_explain::held::Held;
 use tl_explain::recorder::{Recorder, Unrecorded};
 use tl_explain::told::Told;
 use tl_explain::turns::Subject;
@@ -102,7 +102,7 @@ impl Witness {
                 perm: Perm::None,
                 since: None,
             },
-            Some(recorder) => held_of(recorder),
+            Some(recorder) => recorder.held,
         }
     }
 

@@ -12,22 +12,24 @@ use Rattle.tl_burst.specs.statement.Messages.{History}
 use Rattle.tl_params.specs.declared.key.Key.{Key}
 use Rattle.tl_params.specs.declared.key.Key.TheVariants.{RequestSource, ReleaseSource}
 use Rattle.tl_params.specs.declared.key.Key.TheVariants.{ProbeOf}
+use Rattle.tl_params.specs.declared.liberties.Liberties.{Liberties}
 use Rattle.tl_params.specs.declared.perm.Perm.{Perm}
 use Rattle.tl_rules.specs.statement.Conformance.{Trace, on_link}
-use Rattle.tl_rules.specs.statement.History.{begins, block_at, held, opens, pending, probe_of, release_of, request_of}
+use Rattle.tl_rules.specs.statement.History.{begins, block_at, opens, pending, probe_of, release_of, request_of}
+use Rattle.tl_rules.specs.statement.Liberties.{held_under}
 use Rattle.tl_beat.specs.statement.Control.{control_of}
 use Rattle.tl_beat.specs.declared.control.Control.{Control}
 use Rattle.tl_beat.specs.declared.control.ControlA.{ControlA}
 use Rattle.tl_beat.specs.declared.control.ControlB.{ControlB}
 use Rattle.tl_beat.specs.declared.control.ControlC.{ControlC}
 use Rattle.tl_beat.specs.declared.control.Control.TheVariants as control
-use Rattle.tl_explain.specs.declared.reason.Held.{Held}
+use Rattle.tl_explain.specs.declared.held.Held.{Held}
 use Rattle.tl_explain.specs.declared.told.Mention.{Mention}
 use Rattle.tl_explain.specs.statement.Evidence.{is_opening}
 use Rattle.tl_explain.specs.statement.Evidence.{mention_of}
 use Rattle.tl_explain.specs.statement.Reasons.{IsHeldOf, IsUnanswered}
 use Rattle.tl_explain.specs.statement.Reasons.{answer_key, block_named}
-use Rattle.tl_explain.specs.statement.Since.{HasNone, IsHeldSince, IsPendingSince}
+use Rattle.tl_explain.specs.statement.Since.{HasNone, IsHeldSinceUnder, IsPendingSince}
 use Rattle.tl_explain.proofs.Places.{pending_told}
 use Rattle.tl_explain.proofs.Plain.{is_one}
 
@@ -114,7 +116,8 @@ abbrev pub ReleasedSo : {w : ℕ} → ControlC → Option (BeatC w) → Type 0
 ReleasedSo {w} r o = (z : BeatC w) × (o ≡ Some z) × (r.size ≡ z.size)
 
 abbrev pub ProbedSo : {w : ℕ} → ControlB → Option (BeatB w) → Type 0
-ProbedSo {w} r o = (z : BeatB w) × (o ≡ Some z) × (r.opcode ≡ z.opcode) × (r.param ≡ z.param)
+ProbedSo {w} r o =
+    (z : BeatB w) × (o ≡ Some z) × (r.opcode ≡ z.opcode) × (r.param ≡ z.param) × (r.source ≡ z.source)
 
 same_a : {a b : ControlA} → control.A a ≡ control.A b → a ≡ b
 same_a e = cc
@@ -156,8 +159,14 @@ pub probed_so : {w : ℕ} (r : ControlB) (y : Beat w) (o : Option (BeatB w)) →
     → o ≡ probed_by_beat y → ProbedSo r o
 unfolding probed_by_beat
 probed_so r (beat.A z) o e f = absurd cc
-probed_so r (beat.B z) o e f = let same = same_b e in
-    (z, f, ap (λ (c : ControlB). c.opcode) same, ap (λ (c : ControlB). c.param) same)
+probed_so r (beat.B z) o e f =
+    let same = same_b e in (
+      z,
+      f,
+      ap (λ (c : ControlB). c.opcode) same,
+      ap (λ (c : ControlB). c.param) same,
+      ap (λ (c : ControlB). c.source) same,
+    )
 probed_so r (beat.C z) o e f = absurd cc
 probed_so r (beat.D z) o e f = absurd cc
 probed_so r (beat.E z) o e f = absurd cc
@@ -200,12 +209,13 @@ probe_waits n m t r k e from waits =
           (named (ProbeOf k) (probe_of k) probed_by_beat (probe_step k) n m t since),
     )
 
-pub held_is : {w : ℕ} (n k : ℕ) (q : Perm) (o : Option Mention) (t : Trace w) → IsHeldSince n k q o t
-    → q ≡ held k (on_link n t)
-held_is n k q None t is = is.0
-held_is n k q (Some m) t is = is.0
+held_is : {w : ℕ} (l : Liberties) (n k : ℕ) (q : Perm) (o : Option Mention) (t : Trace w)
+    → IsHeldSinceUnder l n k q o t → q ≡ held_under l k (on_link n t)
+held_is l n k q None t is = is.0
+held_is l n k q (Some m) t is = is.0
 
-pub held_named : {w : ℕ} (n : ℕ) (c : Control) (h : Held) (t : Trace w) (k : ℕ) → block_named c ≡ Some k → IsHeldOf n c h t
-    → h.perm ≡ held k (on_link n t)
-held_named n c h t k e is = held_is n is.0 h.perm (mention_of h.since) t is.2 ∙ ap (λ (i : ℕ). held i (on_link n t))
-    (is_one (sym is.1 ∙ e))
+pub held_named : {w : ℕ} (l : Liberties) (n : ℕ) (c : Control) (h : Held) (t : Trace w) (k : ℕ)
+    → block_named c ≡ Some k → IsHeldOf l n c h t → h.perm ≡ held_under l k (on_link n t)
+held_named l n c h t k e is =
+    held_is l n is.0 h.perm (mention_of h.since) t is.2
+    ∙ ap (λ (i : ℕ). held_under l i (on_link n t)) (is_one (sym is.1 ∙ e))

@@ -1,6 +1,6 @@
 -- Where a rule is the first that a beat breaks, a reason is told.
-use Rattle.std.proofs.Common.{◌≡◌, ℕ, ◌==◌, ◌&&◌, ◌||◌, true, false, Bool, refl, sym, ap, ap₂, ◌∙◌}
-use Rattle.std.proofs.Common.{inl, inr, ◌⊎◌}
+use Rattle.std.proofs.Common.{◌≡◌, ℕ, ◌==◌, ◌&&◌, ◌||◌, true, false, Bool, not, refl, sym, ap, ap₂, ◌∙◌}
+use Rattle.std.proofs.Common.{inl, inr, ◌⊎◌, subst}
 use Rattle.std.specs.Prelude.{Option, Some, None, is_some, if◌then◌else◌}
 use Rattle.tl_beat.specs.declared.beat.Beat.{Beat}
 use Rattle.tl_beat.specs.declared.beat.Beat.TheVariants as beat
@@ -8,12 +8,12 @@ use Rattle.tl_beat.specs.declared.beat.BeatC.{BeatC}
 use Rattle.tl_burst.specs.statement.Messages.{History, unfinished}
 use Rattle.tl_params.specs.declared.key.Key.{Key}
 use Rattle.tl_params.specs.declared.level.Level.{Level}
-use Rattle.tl_params.specs.declared.profile.Profile.{Profile}
+use Rattle.tl_params.specs.declared.liberties.Liberties.{Liberties}
 use Rattle.tl_params.specs.declared.rule.Rule.{Rule}
 use Rattle.tl_params.specs.declared.rule.Rule.TheVariants.{A1, A2, A3, L1, L2, L3, L4, L5, L6, L7, S1, H1, H2, H3, H4}
 use Rattle.tl_params.specs.declared.rule.Rule.TheVariants.{H5, H6, H7, H8, H9, H10, H11, H12, H13}
 use Rattle.tl_rules.specs.statement.Conformance.{Trace}
-use Rattle.tl_rules.specs.statement.Conformance.{is_legal}
+use Rattle.tl_rules.specs.statement.Liberties.{is_legal_under}
 use Rattle.tl_rules.specs.statement.Conformance.{on_link}
 use Rattle.tl_rules.specs.statement.History.{is_probe_ack}
 use Rattle.tl_rules.specs.statement.History.{is_release, pending}
@@ -23,7 +23,7 @@ use Rattle.tl_explain.specs.declared.recorder.Recorder.{Recorder}
 use Rattle.tl_explain.specs.declared.told.Mention.{Mention}
 use Rattle.tl_explain.specs.declared.told.Told.{Told}
 use Rattle.tl_explain.specs.declared.turn.Turn.{Turn}
-use Rattle.tl_explain.specs.code.Chosen.{first_reason, for_message}
+use Rattle.tl_explain.specs.code.Chosen.{awaited, first_reason, for_message}
 use Rattle.tl_explain.specs.code.Chosen.{for_probe_ack, for_release}
 use Rattle.tl_explain.specs.code.Chosen.{is_of_bursts, missing_by}
 use Rattle.tl_explain.specs.code.Chosen.{where_missing, where_pending}
@@ -34,7 +34,7 @@ use Rattle.tl_explain.proofs.Found.{opened}
 use Rattle.tl_explain.proofs.Rests.{pending_open}
 use Rattle.tl_explain.proofs.sound.Openings.{comes-is, opened_some}
 use Rattle.tl_explain.proofs.WholeBursts.{burst_opened, none_comes}
-use Rattle.tl_explain.proofs.Plain.{is_one, same_true}
+use Rattle.tl_explain.proofs.Plain.{both_true, is_one, not_true, same_true}
 
 pub or_three : (a b c : Bool) → (a || (b || c)) ≡ true → ((a || b) ≡ true) ⊎ (c ≡ true)
 or_three true b c e = inl refl
@@ -72,11 +72,11 @@ module _ {w : ℕ} (n : ℕ) (t : Trace w) (k : Key) (turn : Turn) (is : IsTurn 
       go (Some m) None f = absurd cc
       go (Some m) (Some c) f = rw f refl
 
-  pub unfinished_told : (p : Profile) (b : Option Begun) → IsBegun b n (opening_channel k) t → pending k now ≡ true
-      → comes_in k (unfinished (opening_channel k) now) ≡ true → (v : Level) → is_legal v p now ≡ true
+  unfinished_told : (lib : Liberties) (b : Option Begun) → IsBegun b n (opening_channel k) t → pending k now ≡ true
+      → comes_in k (unfinished (opening_channel k) now) ≡ true → (v : Level) → is_legal_under lib v now ≡ true
       → is_some (where_missing k turn b) ≡ true
-  unfinished_told p None begun e comes v clean = absurd (none_comes w k (ap (comes_in k) (sym begun) ∙ comes))
-  unfinished_told p (Some b) begun e comes v clean =
+  unfinished_told lib None begun e comes v clean = absurd (none_comes w k (ap (comes_in k) (sym begun) ∙ comes))
+  unfinished_told lib (Some b) begun e comes v clean =
       unfinished_is turn.opening turn.closing (open_message turn) m.0 b of.1 m.1 line opens_key
     where
       unfinished_is : (o c q : Option Told) (m : Told) (b : Begun) → o ≡ Some m → q ≡ Some m
@@ -91,7 +91,7 @@ module _ {w : ℕ} (n : ℕ) (t : Trace w) (k : Key) (turn : Turn) (is : IsTurn 
       of = opened_some turn.opening turn.closing m.0 m.1
 
       same : b.first.mention ≡ m.0.mention
-      same = is_one (sym begun.5 ∙ sym (burst_opened n k v p t clean comes) ∙ sym is.opening_is
+      same = is_one (sym begun.5 ∙ sym (burst_opened n k v lib t clean comes) ∙ sym is.opening_is
           ∙ ap mention_of of.1)
 
       line : (b.first.mention.line == m.0.mention.line) ≡ true
@@ -100,44 +100,54 @@ module _ {w : ℕ} (n : ℕ) (t : Trace w) (k : Key) (turn : Turn) (is : IsTurn 
       opens_key : comes_by k b.newest ≡ true
       opens_key = ap (comes_by k) begun.3 ∙ comes-is k begun.0 begun.1 ∙ sym (ap (comes_in k) begun.2) ∙ comes
 
+  -- where the message has to be complete before its answer
+  pub awaited_told : (lib : Liberties) (b : Option Begun) → IsBegun b n (opening_channel k) t → pending k now ≡ true
+      → (not lib.early && comes_in k (unfinished (opening_channel k) now)) ≡ true → (v : Level)
+      → is_legal_under lib v now ≡ true → is_some (where_missing k turn (awaited lib b)) ≡ true
+  awaited_told lib b begun e late v clean =
+      let both = both_true (not lib.early) (comes_in k (unfinished (opening_channel k) now)) late in
+      subst (λ (o : Option Begun). is_some (where_missing k turn o) ≡ true)
+      (sym (ap (λ (early : Bool). if early then None else b) (not_true lib.early both.0)))
+      (unfinished_told lib b begun e both.1 v clean)
+
 -- ---- a reason of messages is of no rule of bursts
 
-no_message_c : {w : ℕ} (x : BeatC w) (r : Recorder) (a b : Bool)
-    → is_some (if a then for_release S1 x r else if b then for_probe_ack S1 x r else None) ≡ true → ⊥
-no_message_c x r true b e = absurd cc
-no_message_c x r false true e = absurd cc
-no_message_c x r false false e = absurd cc
+no_message_c : {w : ℕ} (lib : Liberties) (x : BeatC w) (r : Recorder) (a b : Bool)
+    → is_some (if a then for_release lib S1 x r else if b then for_probe_ack lib S1 x r else None) ≡ true → ⊥
+no_message_c lib x r true b e = absurd cc
+no_message_c lib x r false true e = absurd cc
+no_message_c lib x r false false e = absurd cc
 
-no_message : {w : ℕ} (p : Profile) (r : Recorder) (x : Beat w) → is_some (for_message p S1 x r) ≡ true → ⊥
-no_message p r (beat.A x) e = absurd cc
-no_message p r (beat.B x) e = absurd cc
-no_message p r (beat.C x) e = no_message_c x r (is_release x.opcode) (is_probe_ack x.opcode) e
-no_message p r (beat.D x) e = absurd cc
-no_message p r (beat.E x) e = absurd cc
+no_message : {w : ℕ} (lib : Liberties) (r : Recorder) (x : Beat w) → is_some (for_message lib S1 x r) ≡ true → ⊥
+no_message lib r (beat.A x) e = absurd cc
+no_message lib r (beat.B x) e = absurd cc
+no_message lib r (beat.C x) e = no_message_c lib x r (is_release x.opcode) (is_probe_ack x.opcode) e
+no_message lib r (beat.D x) e = absurd cc
+no_message lib r (beat.E x) e = absurd cc
 
-pub not_of_bursts : {w : ℕ} (p : Profile) (r : Recorder) (rule : Rule) (x : Beat w)
-    → is_some (for_message p rule x r) ≡ true → is_of_bursts rule ≡ false
-not_of_bursts p r S1 x e = absurd (no_message p r x e)
-not_of_bursts p r A1 x e = refl
-not_of_bursts p r A2 x e = refl
-not_of_bursts p r A3 x e = refl
-not_of_bursts p r L1 x e = refl
-not_of_bursts p r L2 x e = refl
-not_of_bursts p r L3 x e = refl
-not_of_bursts p r L4 x e = refl
-not_of_bursts p r L5 x e = refl
-not_of_bursts p r L6 x e = refl
-not_of_bursts p r L7 x e = refl
-not_of_bursts p r H1 x e = refl
-not_of_bursts p r H2 x e = refl
-not_of_bursts p r H3 x e = refl
-not_of_bursts p r H4 x e = refl
-not_of_bursts p r H5 x e = refl
-not_of_bursts p r H6 x e = refl
-not_of_bursts p r H7 x e = refl
-not_of_bursts p r H8 x e = refl
-not_of_bursts p r H9 x e = refl
-not_of_bursts p r H10 x e = refl
-not_of_bursts p r H11 x e = refl
-not_of_bursts p r H12 x e = refl
-not_of_bursts p r H13 x e = refl
+pub not_of_bursts : {w : ℕ} (lib : Liberties) (r : Recorder) (rule : Rule) (x : Beat w)
+    → is_some (for_message lib rule x r) ≡ true → is_of_bursts rule ≡ false
+not_of_bursts lib r S1 x e = absurd (no_message lib r x e)
+not_of_bursts lib r A1 x e = refl
+not_of_bursts lib r A2 x e = refl
+not_of_bursts lib r A3 x e = refl
+not_of_bursts lib r L1 x e = refl
+not_of_bursts lib r L2 x e = refl
+not_of_bursts lib r L3 x e = refl
+not_of_bursts lib r L4 x e = refl
+not_of_bursts lib r L5 x e = refl
+not_of_bursts lib r L6 x e = refl
+not_of_bursts lib r L7 x e = refl
+not_of_bursts lib r H1 x e = refl
+not_of_bursts lib r H2 x e = refl
+not_of_bursts lib r H3 x e = refl
+not_of_bursts lib r H4 x e = refl
+not_of_bursts lib r H5 x e = refl
+not_of_bursts lib r H6 x e = refl
+not_of_bursts lib r H7 x e = refl
+not_of_bursts lib r H8 x e = refl
+not_of_bursts lib r H9 x e = refl
+not_of_bursts lib r H10 x e = refl
+not_of_bursts lib r H11 x e = refl
+not_of_bursts lib r H12 x e = refl
+not_of_bursts lib r H13 x e = refl

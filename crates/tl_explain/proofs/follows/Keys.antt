@@ -1,7 +1,7 @@
 -- What a beat makes of the keys.
 use Rattle.std.proofs.Common.{◌≡◌, ℕ, ◌==◌, ◌&&◌, List, [], ◌∷◌}
 use Rattle.std.proofs.Common.{true, false, Bool, refl, sym, ap, ap₂, ◌∙◌, arith}
-use Rattle.std.specs.Prelude.{Option, Some, None, is_some, if◌then◌else◌}
+use Rattle.std.specs.Prelude.{Option, Some, None, if◌then◌else◌}
 use Rattle.tl_beat.specs.declared.beat.Beat.{Beat}
 use Rattle.tl_beat.specs.declared.beat.Beat.TheVariants as beat
 use Rattle.tl_beat.specs.declared.beat.BeatA.{BeatA}
@@ -13,7 +13,7 @@ use Rattle.tl_burst.specs.statement.Messages.{History, unfinished}
 use Rattle.tl_params.specs.declared.key.Key.{Key}
 use Rattle.tl_params.specs.declared.key.Key.TheVariants.{GrantAckOf}
 use Rattle.tl_rules.specs.statement.Conformance.{Trace, on_link}
-use Rattle.tl_rules.specs.statement.History.{begins, opens, closes, says_held, is_grant, is_release_ack}
+use Rattle.tl_rules.specs.statement.History.{begins, opens, closes, is_grant, is_release_ack}
 use Rattle.tl_rules.specs.statement.History.{asks_for, releases, request_of, release_of, grant_sink, is_sink}
 use Rattle.tl_beat.specs.statement.Control.{control_of}
 use Rattle.tl_explain.specs.declared.told.Mention.{Mention}
@@ -25,7 +25,7 @@ use Rattle.tl_monitor.specs.declared.bursts.Bursts.{Bursts}
 use Rattle.tl_beat.specs.declared.channel.Channel.{Channel}
 use Rattle.tl_beat.specs.declared.channel.Channel.TheVariants as channel
 use Rattle.tl_monitor.specs.code.Count.{at}
-use Rattle.tl_explain.specs.statement.Evidence.{last_opening, last_saying, last_where, mention_of, told}
+use Rattle.tl_explain.specs.statement.Evidence.{last_opening, last_where, mention_of, told}
 use Rattle.tl_explain.specs.code.Recorded.{AreBlocks, IsBegun, IsMoment, IsTurn}
 use Rattle.tl_explain.specs.code.Recorded.{begun_by}
 use Rattle.tl_monitor.specs.code.Bursts.{IsOf, burst_on}
@@ -63,10 +63,6 @@ release_block d.ReleaseAck k r a = released_is k r
 pub sink_is : (s : ℕ) (o : Option ℕ) → is_number s o ≡ is_sink s o
 sink_is s None = refl
 sink_is s (Some n) = refl
-
-pub some_if : {A : Type 0} (b : Bool) (v : A) → is_some (if b then Some v else None) ≡ b
-some_if true v = refl
-some_if false v = refl
 
 -- ---- the sink of the last Grant of a block
 
@@ -111,7 +107,7 @@ granted_is n b (x ∷ t) = sink_step b x.1 (on_link n t) (x.0.0 == n) (told x t)
 
 -- ---- one key, by one beat
 
-mention_if : (b : Bool) (m : Told) (rest : Option Told)
+pub mention_if : (b : Bool) (m : Told) (rest : Option Told)
     → mention_of (if b then Some m else rest) ≡ (if b then Some m.mention else mention_of rest)
 mention_if true m rest = refl
 mention_if false m rest = refl
@@ -143,24 +139,12 @@ turn_next old new n k m x t o c is turn opens closes opening closing =
           refl;
     }
 
-pub said_next : {w : ℕ} (old new : Option Told) (n k : ℕ) (m : Moment) (x : Link × Beat w) (t : Trace w) (s : Bool)
-    → IsMoment m n x t → mention_of old ≡ last_saying n k t → s ≡ is_some (says_held k x.1 (on_link n t))
-    → new ≡ (if m.last && s then Some m.told else old) → mention_of new ≡ last_saying n k (x ∷ t)
-unfolding last_where
-said_next old new n k m x t s is was says e =
-    let said = ap₂ (λ (a b : Bool). a && b) is.last_is says ∙ sym (here x.0.0 n _ is.of_link) in
-    ap mention_of e ∙ mention_if _ m.told old ∙ rw (said, is.told_is, was) refl
-
 -- ---- before any beat
 
 pub no_turn : {w : ℕ} (turn : Turn) (n : ℕ) (k : Key) → turn.opening ≡ None → turn.closing ≡ None
     → IsTurn {w = w} turn n k []
 unfolding last_where
 no_turn turn n k opening closing = record { opening_is = ap mention_of opening; closing_is = ap mention_of closing }
-
-pub no_saying : (w n k : ℕ) → mention_of None ≡ last_saying {w = w} n k []
-unfolding last_where
-no_saying w n k = refl
 
 pub no_blocks : (w : ℕ) (asked released : List (Option ℕ)) → ((s : ℕ) → at asked s ≡ None)
     → ((s : ℕ) → at released s ≡ None)

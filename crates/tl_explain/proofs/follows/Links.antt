@@ -25,8 +25,10 @@ use Rattle.tl_explain.specs.declared.recorder.Recorder.{Recorder}
 use Rattle.tl_beat.specs.declared.channel.Channel.{Channel}
 use Rattle.tl_beat.specs.declared.channel.Channel.TheVariants as channel
 use Rattle.tl_monitor.specs.code.Count.{at}
-use Rattle.tl_explain.specs.statement.Evidence.{last_saying, last_where, burst_opening, mention_of, told}
-use Rattle.tl_explain.specs.code.Recorded.{AreBlocks, AreTurns, IsBegun, IsMoment, IsRecord, IsTurn, asked_next}
+use Rattle.tl_explain.specs.statement.Evidence.{last_where, burst_opening, told}
+use Rattle.tl_explain.specs.code.Recorded.{AreBlocks, AreTurns, IsBegun, IsHeld, IsMoment, IsRecordUnder, IsTurn}
+use Rattle.tl_explain.specs.code.Recorded.{asked_next}
+use Rattle.tl_params.specs.declared.liberties.Liberties.{Liberties}
 use Rattle.tl_explain.specs.code.Recorded.{begun_by, begun_on, released_next, block_asked, block_of, block_released}
 use Rattle.tl_explain.proofs.sound.Openings.{grown_is}
 use Rattle.tl_monitor.specs.declared.bursts.Bursts.{Bursts}
@@ -40,6 +42,7 @@ use Rattle.tl_beat.specs.statement.Width.{IsWidth}
 use Rattle.tl_beat.specs.statement.Control.{has_control}
 use Rattle.tl_explain.proofs.follows.Keys.{here}
 use Rattle.tl_explain.proofs.Plain.{same_true}
+use Rattle.tl_explain.proofs.Sayings.{held_kept}
 
 -- a beat that makes nothing of a burst
 begun_kept : {w : ℕ} (b : Option Begun) (n : ℕ) (ch : Channel) (x : Link × Beat w) (t : Trace w)
@@ -62,10 +65,6 @@ module _ {w : ℕ} (n : ℕ) (x : Link × Beat w) (t : Trace w) (elsewhere : (x.
         is.closing_is ∙ rw elsewhere refl;
   }
 
-  saying_kept : (k : ℕ) (m : Option Mention) → m ≡ last_saying n k t → m ≡ last_saying n k (x ∷ t)
-  unfolding last_where
-  saying_kept k m is = is ∙ rw elsewhere refl
-
   opening_kept : (ch : Channel) → burst_opening n ch (x ∷ t) ≡ burst_opening n ch t
   unfolding burst_opening
   opening_kept ch = rw elsewhere refl
@@ -80,18 +79,19 @@ turns_kept r subject x t elsewhere is = record {
   sink_is = turn_kept subject.link.0 x t elsewhere r.sink _ is.sink_is;
   grant_ack_is = turn_kept subject.link.0 x t elsewhere r.grant_ack _ is.grant_ack_is;
   probe_is = turn_kept subject.link.0 x t elsewhere r.probe _ is.probe_is;
-  said_is = saying_kept subject.link.0 x t elsewhere subject.block (mention_of r.said) is.said_is;
 }
 
-pub record_kept : {w : ℕ} (r : Recorder) (x : Link × Beat w) (t : Trace w) → (x.0.0 == r.subject.link.0) ≡ false
-    → IsRecord r t → IsRecord r (x ∷ t)
-record_kept r x t elsewhere is = record {
+pub record_kept : {w : ℕ} (l : Liberties) (r : Recorder) (x : Link × Beat w) (t : Trace w)
+    → (x.0.0 == r.subject.link.0) ≡ false → IsRecordUnder l r t → IsRecordUnder l r (x ∷ t)
+record_kept l r x t elsewhere is = record {
+  liberties_are = is.liberties_are;
   bursts_are = rw (not_on r.subject.link.0 x t elsewhere) is.bursts_are;
   begun_are = λ ch. begun_kept (begun_on r ch) r.subject.link.0 ch x t
       (ap (unfinished ch) (not_on r.subject.link.0 x t elsewhere))
       (opening_kept r.subject.link.0 x t elsewhere ch) (is.begun_are ch);
   blocks_are = rw (not_on r.subject.link.0 x t elsewhere) is.blocks_are;
   turns_are = turns_kept r.turns r.subject x t elsewhere is.turns_are;
+  held_is = held_kept r.held l r.subject.link.0 r.subject.block x t elsewhere is.held_is;
 }
 
 -- ---- a beat of the link: what it makes of the burst on its channel
@@ -235,14 +235,14 @@ by_channel new old x m a b c d e channel.D = d
 by_channel new old x m a b c d e channel.E = e
 
 -- the next beat of a link
-pub moment_is : {w : ℕ} (r : Recorder) (m : Moment) (x : Link × Beat w) (t : Trace w) → IsWidth w
+pub moment_is : {w : ℕ} (l : Liberties) (r : Recorder) (m : Moment) (x : Link × Beat w) (t : Trace w) → IsWidth w
     → x.0.0 ≡ r.subject.link.0 → m.told.mention ≡ told x t → m.length ≡ burst_length x.1
     → m.first ≡ is_none (burst_on r.bursts (channel_of x.1))
     → m.last ≡ is_last x.1 (burst_on r.bursts (channel_of x.1))
     → ((h : History w) → AreBlocks r.blocks h → m.block ≡ block_of x.1 h)
-    → continues_burst x.1 (burst_on r.bursts (channel_of x.1)) ≡ true → IsRecord r t
+    → continues_burst x.1 (burst_on r.bursts (channel_of x.1)) ≡ true → IsRecordUnder l r t
     → IsMoment m r.subject.link.0 x t
-moment_is r m x t width own is long first last block goes rec =
+moment_is l r m x t width own is long first last block goes rec =
     let h = on_link r.subject.link.0 t in
     let u = burst_on r.bursts (channel_of x.1) in
     let of = rec.bursts_are (channel_of x.1) in
@@ -256,15 +256,15 @@ moment_is r m x t width own is long first last block goes rec =
       block_is = block h rec.blocks_are;
     }
 
-pub record_taken : {w : ℕ} (r q : Recorder) (m : Moment) (x : Link × Beat w) (t : Trace w) → IsWidth w
-    → IsMoment m r.subject.link.0 x t → q.subject ≡ r.subject
+pub record_taken : {w : ℕ} (l : Liberties) (r q : Recorder) (m : Moment) (x : Link × Beat w) (t : Trace w) → IsWidth w
+    → IsMoment m r.subject.link.0 x t → q.subject ≡ r.subject → q.liberties ≡ r.liberties
     → continues_burst x.1 (burst_on r.bursts (channel_of x.1)) ≡ true
-    → AreTurns q.turns r.subject (x ∷ t)
+    → AreTurns q.turns r.subject (x ∷ t) → IsHeld q.held l r.subject.link.0 r.subject.block (x ∷ t)
     → ((s : ℕ) → at q.blocks.asked s ≡ asked_next m.first x.1 s (at r.blocks.asked s))
     → ((s : ℕ) → at q.blocks.released s ≡ released_next m.first x.1 s (at r.blocks.released s))
-    → ((ch : Channel) → burst_on q.bursts ch ≡ burst_with ch x.1 m (burst_on r.bursts ch)) → IsRecord r t
-    → IsRecord q (x ∷ t)
-record_taken {w} r q m x t width is same goes turns asked released bursts rec =
+    → ((ch : Channel) → burst_on q.bursts ch ≡ burst_with ch x.1 m (burst_on r.bursts ch)) → IsRecordUnder l r t
+    → IsRecordUnder l q (x ∷ t)
+record_taken {w} l r q m x t width is same allowed goes turns held asked released bursts rec =
     let n = r.subject.link.0 in
     let here : (x.0.0 == n) ≡ true = same_true x.0.0 n is.of_link in
     let own : on_link n (x ∷ t) ≡ x.1 ∷ on_link n t = on_own_link n x t here in
@@ -284,4 +284,6 @@ record_taken {w} r q m x t width is same goes turns asked released bursts rec =
       begun_are = rw same all_begun;
       blocks_are = rw same all_blocks;
       turns_are = rw same turns;
+      liberties_are = allowed ∙ rec.liberties_are;
+      held_is = rw same held;
     }

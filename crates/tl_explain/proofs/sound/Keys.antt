@@ -6,7 +6,7 @@ use Rattle.std.proofs.lemmas.Bool.{eqb-true}
 use Rattle.tl_beat.specs.declared.beat.Beat.{Beat}
 use Rattle.tl_burst.specs.statement.Messages.{unfinished}
 use Rattle.tl_params.specs.declared.key.Key.{Key}
-use Rattle.tl_params.specs.declared.profile.Profile.{Profile}
+use Rattle.tl_params.specs.declared.liberties.Liberties.{Liberties}
 use Rattle.tl_params.specs.declared.rule.Rule.{Rule}
 use Rattle.tl_rules.specs.statement.Conformance.{Trace, on_link}
 use Rattle.tl_explain.specs.declared.bursts.Begun.{Begun}
@@ -15,12 +15,12 @@ use Rattle.tl_explain.specs.declared.reason.Reason.TheVariants.{Unfinished}
 use Rattle.tl_explain.specs.declared.told.Told.{Told}
 use Rattle.tl_explain.specs.declared.turn.Turn.{Turn}
 use Rattle.tl_explain.specs.code.Chosen.{first_reason, pending_by, closed_by, unfinished_by, opened_by}
-use Rattle.tl_explain.specs.code.Chosen.{missing_by, where_pending, where_missing}
+use Rattle.tl_explain.specs.code.Chosen.{awaited, missing_by, where_pending, where_missing}
 use Rattle.tl_explain.specs.code.Recorded.{IsBegun, IsTurn, open_message, comes_by}
 use Rattle.tl_explain.specs.statement.Evidence.{is_closing, is_opening}
 use Rattle.tl_explain.specs.statement.Evidence.{mention_of}
-use Rattle.tl_explain.specs.statement.Reasons.{IsTold}
-use Rattle.tl_explain.specs.statement.Reasons.{comes_in, convicted}
+use Rattle.tl_explain.specs.statement.Reasons.{IsToldUnder}
+use Rattle.tl_explain.specs.statement.Reasons.{comes_in, convicted_under}
 use Rattle.tl_explain.specs.statement.Reasons.{opening_channel, rule_of_missing, rule_of_pending}
 use Rattle.tl_explain.specs.statement.Reasons.{rule_of_unfinished}
 use Rattle.tl_explain.specs.statement.Since.{IsPendingSince}
@@ -28,10 +28,10 @@ use Rattle.tl_explain.proofs.Places.{last_found, none_found}
 use Rattle.tl_explain.proofs.sound.Openings.{comes-is, burst_since, later_line, open_since, opened_some}
 use Rattle.tl_explain.proofs.Plain.{is_one, both_true}
 
-module _ {w : ℕ} (p : Profile) (rule : Rule) (x : Beat w) (n : ℕ) (t : Trace w) where
+module _ {w : ℕ} (lib base : Liberties) (rule : Rule) (x : Beat w) (n : ℕ) (t : Trace w) where
   -- a reason, where there is one, is so, and makes the rule broken
   abbrev pub IsSound : Option Reason → Type 0
-  IsSound o = IfSome o (λ reason. IsTold n x reason t × (convicted p x reason ≡ Some rule))
+  IsSound o = IfSome o (λ reason. IsToldUnder base n x reason t × (convicted_under lib x reason ≡ Some rule))
 
   pub first_sound : (a b : Option Reason) → IsSound a → IsSound b → IsSound (first_reason a b)
   first_sound None b f g = g
@@ -83,8 +83,8 @@ module _ {w : ℕ} (p : Profile) (rule : Rule) (x : Beat w) (n : ℕ) (t : Trace
       go (Some opening) f = opened opening f (open_message turn) refl
 
   -- the burst of the message that opened the key
-  pub unfinished_sound : (k : Key) (b : Option Begun) → IsBegun b n (opening_channel k) t
-      → rule_of_unfinished x k ≡ Some rule
+  unfinished_sound : (k : Key) (b : Option Begun) → IsBegun b n (opening_channel k) t
+      → rule_of_unfinished lib x k ≡ Some rule
       → (opening : Told) → IsPendingSince n k opening.mention t → IsSound (unfinished_by k opening b)
   unfinished_sound k None begun e opening since = tt
   unfinished_sound k (Some b) begun e opening since =
@@ -109,3 +109,13 @@ module _ {w : ℕ} (p : Profile) (rule : Rule) (x : Beat w) (n : ℕ) (t : Trace
             ),
             e,
           )
+
+  -- which isn't awaited where a message may be answered before its end
+  pub awaited_sound : (k : Key) (b : Option Begun) → IsBegun b n (opening_channel k) t
+      → (lib.early ≡ false → rule_of_unfinished lib x k ≡ Some rule)
+      → (opening : Told) → IsPendingSince n k opening.mention t → IsSound (unfinished_by k opening (awaited lib b))
+  awaited_sound k b begun e opening since = go lib.early refl
+    where
+      go : (early : Bool) → lib.early ≡ early → IsSound (unfinished_by k opening (if early then None else b))
+      go true f = tt
+      go false f = unfinished_sound k b begun (e f) opening since

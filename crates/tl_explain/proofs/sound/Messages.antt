@@ -1,6 +1,6 @@
 -- The reasons of messages.
 use Rattle.std.proofs.Common.{◌≡◌, ℕ, ◌==◌, ◌&&◌, true, false, Bool}
-use Rattle.std.proofs.Common.{not, refl, sym, ap, ◌∙◌, subst}
+use Rattle.std.proofs.Common.{not, refl, sym, ap, ap₂, ◌∙◌, subst}
 use Rattle.std.specs.Prelude.{Option, Some, None, if◌then◌else◌}
 use Rattle.std.proofs.lemmas.Bool.{eqb-true}
 use Rattle.tl_beat.specs.declared.beat.Beat.{Beat}
@@ -12,43 +12,37 @@ use Rattle.tl_burst.specs.statement.Messages.{History}
 use Rattle.tl_params.specs.declared.key.Key.{Key}
 use Rattle.tl_params.specs.declared.key.Key.TheVariants.{RequestSource, ReleaseSource}
 use Rattle.tl_params.specs.declared.key.Key.TheVariants.{ProbeOf}
-use Rattle.tl_params.specs.declared.profile.Profile.{Profile}
+use Rattle.tl_params.specs.declared.liberties.Liberties.{Liberties}
 use Rattle.tl_params.specs.declared.rule.Rule.{Rule}
 use Rattle.tl_params.specs.declared.rule.Rule.TheVariants.{H2, H3}
 use Rattle.tl_params.specs.declared.rule.Rule.TheVariants.{H6, H10, H12}
-use Rattle.tl_params.specs.statement.Param.{cap_of}
-use Rattle.tl_rules.specs.statement.Conformance.{Trace, answers, fits_grow, is_acquire_block}
-use Rattle.tl_rules.specs.statement.Conformance.{is_grant_without_data, is_probe_block, is_report_at}
-use Rattle.tl_rules.specs.statement.Conformance.{same_perm}
+use Rattle.tl_rules.specs.statement.Conformance.{Trace, answers, is_probe_block}
 use Rattle.tl_rules.specs.statement.History.{block_at, opens, is_grant, is_probe}
 use Rattle.tl_rules.specs.statement.History.{is_probe_ack, is_release_ack}
 use Rattle.tl_beat.specs.statement.Control.{control_of}
 use Rattle.tl_beat.specs.declared.control.Control.{Control}
 use Rattle.tl_beat.specs.declared.control.ControlB.{ControlB}
-use Rattle.tl_params.specs.declared.perm.Perm.TheVariants as perm
 use Rattle.tl_beat.specs.declared.control.Control.TheVariants as control
 use Rattle.tl_explain.specs.declared.reason.Reason.{Reason}
 use Rattle.tl_explain.specs.declared.reason.Reason.TheVariants.{OtherKind}
 use Rattle.tl_explain.specs.declared.reason.Reason.TheVariants.{OtherSize, WrongCap, WithoutData}
-use Rattle.tl_explain.specs.declared.reason.Reason.TheVariants.{WrongProbe, Misreport}
+use Rattle.tl_explain.specs.declared.reason.Reason.TheVariants.{OtherSource, WrongProbe, Misreport}
 use Rattle.tl_explain.specs.declared.recorder.Recorder.{Recorder}
 use Rattle.tl_explain.specs.declared.told.Mention.{Mention}
 use Rattle.tl_explain.specs.declared.told.Told.{Told}
-use Rattle.tl_explain.specs.code.Chosen.{held_by}
 use Rattle.tl_explain.specs.code.Chosen.{kind_in, kind_by}
 use Rattle.tl_explain.specs.code.Chosen.{size_in, size_by, probed_by, grant_in, grant_by, probe_in, report_in}
-use Rattle.tl_explain.specs.code.Recorded.{open_message}
-use Rattle.tl_explain.specs.statement.Evidence.{last_saying, left_of, mention_of}
-use Rattle.tl_explain.specs.statement.Reasons.{IsUnanswered, answer_key, block_named}
-use Rattle.tl_explain.specs.statement.Since.{IsHeldSince, IsPendingSince}
-use Rattle.tl_explain.proofs.Places.{held_since}
+use Rattle.tl_explain.specs.code.Recorded.{IsHeld, open_message}
+use Rattle.tl_explain.specs.declared.held.Held.{Held}
+use Rattle.tl_explain.specs.statement.Evidence.{mention_of}
+use Rattle.tl_explain.specs.statement.Reasons.{IsUnanswered, answer_key, block_named, has_wrong_cap, is_misreport}
+use Rattle.tl_explain.specs.statement.Reasons.{lacks_data, rule_of_cap, rule_of_data, rule_of_report}
+use Rattle.tl_explain.specs.statement.Since.{IsHeldSinceUnder, IsPendingSince}
+use Rattle.tl_explain.proofs.Sayings.{held_told}
+use Rattle.tl_beat.specs.statement.First.{first_if}
 use Rattle.tl_explain.proofs.sound.Openings.{address_in, opening_of, probe_block, release_source, request_source, source_in}
 use Rattle.tl_explain.proofs.sound.Keys.{IsSound}
 use Rattle.tl_explain.proofs.Plain.{both_true, same_true}
-
-pub held_told : {w : ℕ} (n k : ℕ) (t : Trace w) (said : Option Told) → mention_of said ≡ last_saying n k t
-    → IsHeldSince n k (left_of (mention_of said)) (mention_of said) t
-held_told n k t said is = subst (λ (o : Option Mention). IsHeldSince n k (left_of o) o t) (sym is) (held_since n k t)
 
 unanswered : {w : ℕ} (n : ℕ) (k : Key) (m : Mention) (t : Trace w) (c : Control) → m.control ≡ c → answer_key c ≡ Some k
     → IsPendingSince n k m t → IsUnanswered n m t
@@ -69,9 +63,9 @@ probe_asked : {w : ℕ} (n k : ℕ) (m : Mention) (t : Trace w) → IsPendingSin
 probe_asked n k m t since = let o = opening_of n (ProbeOf k) m t since in
     ap (λ (c : Control). block_at (address_in c)) o.2 ∙ probe_block k o.0 o.1 o.3
 
-module _ {w : ℕ} (p : Profile) (x : BeatD w) (n : ℕ) (t : Trace w) where
+module _ {w : ℕ} (lib base : Liberties) (x : BeatD w) (n : ℕ) (t : Trace w) where
   abbrev Answers : Rule → Option Reason → Type 0
-  Answers rule o = IsSound p rule (beat.D x) n t o
+  Answers rule o = IsSound lib base rule (beat.D x) n t o
 
   pub kind_sound : (o : Option Told) → ((m : Told) → o ≡ Some m → IsPendingSince n (RequestSource x.source) m.mention t)
       → is_release_ack x.opcode ≡ false
@@ -202,21 +196,21 @@ probe_waits n k m t since =
     let z = probe_is n k m t since in
     unanswered n (ProbeOf k) m t (control.B z.0) z.1 (ap (λ (b : ℕ). Some (ProbeOf b)) z.2) since
 
-module _ {w : ℕ} (p : Profile) (x : BeatD w) (n : ℕ) (t : Trace w) (r : Recorder) where
+module _ {w : ℕ} (lib base : Liberties) (x : BeatD w) (n : ℕ) (t : Trace w) (r : Recorder) where
   abbrev Grants : Option Reason → Type 0
-  Grants o = IsSound p H6 (beat.D x) n t o
+  Grants o = IsSound lib base H6 (beat.D x) n t o
 
   pub grant_sound : (o : Option Told) → ((m : Told) → o ≡ Some m → IsPendingSince n (RequestSource x.source) m.mention t)
       → is_grant x.opcode ≡ true
-      → mention_of r.turns.said ≡ last_saying n r.subject.block t
+      → IsHeld r.held base n r.subject.block t
       → ((m : Told) → open_message r.turns.probe ≡ Some m → IsPendingSince n (ProbeOf r.subject.block) m.mention t)
-      → Grants (grant_by p x o r)
+      → Grants (grant_by lib x o r)
   unfolding source_in
   grant_sound None since grant said probed = tt
   grant_sound (Some m) since grant said probed = go m.mention.control refl
     where
-      go : (c : Control) → m.mention.control ≡ c → Grants (grant_in p x m c r)
-      go (control.A a) e = fits (fits_grow p a.opcode a.param x.param) refl
+      go : (c : Control) → m.mention.control ≡ c → Grants (grant_in lib x m c r)
+      go (control.A a) e = fits (has_wrong_cap lib x a) refl
         where
           from : a.source ≡ x.source
           from = sym (ap source_in e) ∙ request_asked n x.source m.mention t (since m refl)
@@ -241,62 +235,58 @@ module _ {w : ℕ} (p : Profile) (x : BeatD w) (n : ℕ) (t : Trace w) (r : Reco
                 ) refl,
               )
 
-          lacks : (b : Bool) → (is_grant_without_data
-              x.opcode && (is_acquire_block a.opcode && not (same_perm (held_by r.turns.said).perm perm.Branch))) ≡ b
-              → block_at a.address ≡ r.subject.block
-              → Grants (if b then Some (WithoutData m (held_by r.turns.said)) else probed_by m
-              (open_message r.turns.probe))
-          lacks true f block =
-              let one = both_true (is_grant_without_data x.opcode)
-              (is_acquire_block a.opcode && not (same_perm (held_by r.turns.said).perm perm.Branch)) f in
-              let two = both_true (is_acquire_block a.opcode) (not (same_perm (held_by r.turns.said).perm perm.Branch))
-              one.1 in (
-                (
-                  waits,
-                  (
-                    block_at a.address,
-                    ap block_named e,
-                    subst (λ (k : ℕ). IsHeldSince n k (held_by r.turns.said).perm (mention_of r.turns.said) t)
-                        (sym block) (held_told n r.subject.block t r.turns.said said),
-                  ),
-                ),
-                rw (e, one.0, two.0, same_true x.source a.source (sym from), two.1) refl,
-              )
+          lacks : (b : Bool) → lacks_data lib x a r.held.perm ≡ b → block_at a.address ≡ r.subject.block
+              → Grants (if b then Some (WithoutData m r.held) else probed_by m (open_message r.turns.probe))
+          lacks true f block = (
+            (
+              waits,
+              (
+                block_at a.address,
+                ap block_named e,
+                subst (λ (k : ℕ). IsHeldSinceUnder base n k r.held.perm (mention_of r.held.since) t) (sym block)
+                    (held_told r.held base n r.subject.block t said),
+              ),
+            ),
+            ap (λ (c : Control). rule_of_data lib (beat.D x) c r.held.perm) e
+                ∙ ap₂ (λ (b c : Bool). first_if (b && c) H6 None) (same_true x.source a.source (sym from)) f,
+          )
           lacks false f block = probing (open_message r.turns.probe) refl block
 
           of_block : (b : Bool) → (block_at a.address == r.subject.block) ≡ b
-              → Grants (if not b then None else if is_grant_without_data
-              x.opcode && (is_acquire_block a.opcode && not (same_perm (held_by r.turns.said).perm perm.Branch))
-              then Some (WithoutData m (held_by r.turns.said)) else probed_by m (open_message r.turns.probe))
+              → Grants (if not b then None else if lacks_data lib x a r.held.perm
+              then Some (WithoutData m r.held) else probed_by m (open_message r.turns.probe))
           of_block false f = tt
-          of_block true f = lacks (is_grant_without_data
-              x.opcode && (is_acquire_block a.opcode && not (same_perm (held_by r.turns.said).perm perm.Branch))) refl
+          of_block true f = lacks (lacks_data lib x a r.held.perm) refl
               (eqb-true (block_at a.address) r.subject.block f)
 
-          fits : (b : Bool) → fits_grow p a.opcode a.param x.param ≡ b
-              → Grants (if not b then Some (WrongCap m) else if not (block_at a.address == r.subject.block) then None
-              else
-              if is_grant_without_data
-              x.opcode && (is_acquire_block a.opcode && not (same_perm (held_by r.turns.said).perm perm.Branch))
-              then Some (WithoutData m (held_by r.turns.said)) else probed_by m (open_message r.turns.probe))
-          fits false f = (waits, rw (e, grant, same_true x.source a.source (sym from), f) refl)
-          fits true f = of_block (block_at a.address == r.subject.block) refl
+          fits : (b : Bool) → has_wrong_cap lib x a ≡ b
+              → Grants (if b then Some (WrongCap m) else if not (block_at a.address == r.subject.block) then None
+              else if lacks_data lib x a r.held.perm
+              then Some (WithoutData m r.held) else probed_by m (open_message r.turns.probe))
+          fits true f = (
+            waits,
+            ap (rule_of_cap lib (beat.D x)) e
+                ∙ ap₂ (λ (b c : Bool). first_if (b && (c && has_wrong_cap lib x a)) H6 None) grant
+                (same_true x.source a.source (sym from))
+                ∙ ap (λ (b : Bool). first_if b H6 None) f,
+          )
+          fits false f = of_block (block_at a.address == r.subject.block) refl
       go (control.B a) e = tt
       go (control.C a) e = tt
       go (control.D a) e = tt
       go (control.E a) e = tt
 
-module _ {w : ℕ} (p : Profile) (x : BeatC w) (n : ℕ) (t : Trace w) where
+module _ {w : ℕ} (lib base : Liberties) (x : BeatC w) (n : ℕ) (t : Trace w) where
   abbrev Acks : Rule → Option Reason → Type 0
-  Acks rule o = IsSound p rule (beat.C x) n t o
+  Acks rule o = IsSound lib base rule (beat.C x) n t o
 
   pub probe_sound : (m : Told) → IsPendingSince n (ProbeOf (block_at x.address)) m.mention t
-      → is_probe_ack x.opcode ≡ true → Acks H10 (probe_in x m m.mention.control)
+      → is_probe_ack x.opcode ≡ true → Acks H10 (probe_in lib x m m.mention.control)
   unfolding address_in
   probe_sound m since ack = go m.mention.control refl
     where
-      go : (c : Control) → m.mention.control ≡ c → Acks H10 (probe_in x m c)
-      go (control.B y) e = other (c_carries_data x.opcode && not (is_probe_block y.opcode)) refl
+      go : (c : Control) → m.mention.control ≡ c → Acks H10 (probe_in lib x m c)
+      go (control.B y) e = sourced (lib.ids && not (x.source == y.source)) refl
         where
           of : block_at y.address ≡ block_at x.address
           of = sym (ap (λ (c : Control). block_at (address_in c)) e) ∙ probe_asked n (block_at x.address) m.mention t
@@ -310,6 +300,16 @@ module _ {w : ℕ} (p : Profile) (x : BeatC w) (n : ℕ) (t : Trace w) where
                 (e, ack, same_true (block_at x.address) (block_at y.address) (sym of), f) refl,
           )
           other false f = tt
+
+          sourced : (b : Bool) → (lib.ids && not (x.source == y.source)) ≡ b
+              → Acks H10 (if b then Some (OtherSource m) else
+              if c_carries_data x.opcode && not (is_probe_block y.opcode) then Some (WrongProbe m) else None)
+          sourced true f = (
+            probe_waits n (block_at x.address) m.mention t since,
+            rw
+                (e, ack, same_true (block_at x.address) (block_at y.address) (sym of), f) refl,
+          )
+          sourced false f = other (c_carries_data x.opcode && not (is_probe_block y.opcode)) refl
       go (control.A y) e = tt
       go (control.C y) e = tt
       go (control.D y) e = tt
@@ -317,33 +317,35 @@ module _ {w : ℕ} (p : Profile) (x : BeatC w) (n : ℕ) (t : Trace w) where
 
   pub report_sound : (m : Told) → IsPendingSince n (ProbeOf (block_at x.address)) m.mention t
       → is_probe_ack x.opcode ≡ true
-      → (said : Option Told) → mention_of said ≡ last_saying n (block_at x.address) t
-      → Acks H12 (report_in x m m.mention.control (held_by said))
+      → (held : Held) → IsHeld held base n (block_at x.address) t
+      → Acks H12 (report_in lib x m m.mention.control held)
   unfolding address_in
-  report_sound m since ack said is = go m.mention.control refl
+  report_sound m since ack held is = go m.mention.control refl
     where
-      go : (c : Control) → m.mention.control ≡ c → Acks H12 (report_in x m c (held_by said))
-      go (control.B y) e = other (is_report_at x.param (cap_of y.param) (held_by said).perm) refl
+      go : (c : Control) → m.mention.control ≡ c → Acks H12 (report_in lib x m c held)
+      go (control.B y) e = other (is_misreport lib x.param y.param held.perm) refl
         where
           of : block_at y.address ≡ block_at x.address
           of = sym (ap (λ (c : Control). block_at (address_in c)) e) ∙ probe_asked n (block_at x.address) m.mention t
               since
 
-          other : (b : Bool) → is_report_at x.param (cap_of y.param) (held_by said).perm ≡ b
-              → Acks H12 (if b then None else Some (Misreport m (held_by said)))
-          other true f = tt
-          other false f = (
+          other : (b : Bool) → is_misreport lib x.param y.param held.perm ≡ b
+              → Acks H12 (if b then Some (Misreport m held) else None)
+          other false f = tt
+          other true f = (
             (
               probe_waits n (block_at x.address) m.mention t since,
               (
                 block_at y.address,
                 ap block_named e,
-                subst
-                    (λ (k : ℕ). IsHeldSince n k (held_by said).perm (mention_of said) t) (sym of)
-                    (held_told n (block_at x.address) t said is),
+                subst (λ (k : ℕ). IsHeldSinceUnder base n k held.perm (mention_of held.since) t) (sym of)
+                    (held_told held base n (block_at x.address) t is),
               ),
             ),
-            rw (e, ack, same_true (block_at x.address) (block_at y.address) (sym of), f) refl,
+            ap (λ (c : Control). rule_of_report lib (beat.C x) c held.perm) e
+                ∙ ap₂ (λ (b c : Bool). first_if (b && (c && is_misreport lib x.param y.param held.perm)) H12 None) ack
+                (same_true (block_at x.address) (block_at y.address) (sym of))
+                ∙ ap (λ (b : Bool). first_if b H12 None) f,
           )
       go (control.A y) e = tt
       go (control.C y) e = tt

@@ -12,13 +12,9 @@ use Rattle.tl_burst.specs.statement.Messages.{channel_of}
 use Rattle.tl_params.specs.declared.key.Key.{Key}
 use Rattle.tl_params.specs.declared.key.Key.TheVariants.{RequestSource, ReleaseSource, AcquireOf, ReleaseOf, GrantSink}
 use Rattle.tl_params.specs.declared.key.Key.TheVariants.{GrantAckOf, ProbeOf}
-use Rattle.tl_params.specs.declared.perm.Perm.{Perm}
-use Rattle.tl_params.specs.declared.perm.Perm.TheVariants as perm
-use Rattle.tl_params.specs.declared.profile.Profile.{Profile}
-use Rattle.tl_params.specs.statement.Param.{cap_of, prune_of}
-use Rattle.tl_rules.specs.statement.Conformance.{answers, fits_grow, grows_from, is_acquire_block}
-use Rattle.tl_rules.specs.statement.Conformance.{is_grant_without_data, is_probe_block, is_report_at, prunes_from}
-use Rattle.tl_rules.specs.statement.Conformance.{same_perm}
+use Rattle.tl_params.specs.declared.liberties.Liberties.{Liberties}
+use Rattle.tl_rules.specs.statement.Conformance.{answers, is_probe_block}
+use Rattle.tl_rules.specs.statement.Liberties.{grows_from_under, releases_from}
 use Rattle.tl_params.specs.declared.rule.Rule.{Rule}
 use Rattle.tl_params.specs.declared.rule.Rule.TheVariants.{S1, H1, H2, H3, H4, H5, H6, H7, H8, H9, H10, H11, H12, H13}
 use Rattle.tl_rules.specs.statement.History.{block_at, is_acquire, is_grant, is_probe, is_probe_ack, is_release}
@@ -28,25 +24,21 @@ use Rattle.tl_beat.specs.statement.Control.{has_control}
 use Rattle.tl_beat.specs.declared.control.Control.{Control}
 use Rattle.tl_beat.specs.declared.control.Control.TheVariants as control
 use Rattle.tl_explain.specs.declared.bursts.Begun.{Begun}
-use Rattle.tl_explain.specs.declared.reason.Held.{Held}
+use Rattle.tl_explain.specs.declared.held.Held.{Held}
 use Rattle.tl_explain.specs.declared.reason.Reason.{Reason}
 use Rattle.tl_explain.specs.declared.reason.Reason.TheVariants.{Pending, Never, Closed, Unfinished, OtherKind}
 use Rattle.tl_explain.specs.declared.reason.Reason.TheVariants.{OtherSize, WrongCap, WithoutData, Probed, Holds}
-use Rattle.tl_explain.specs.declared.reason.Reason.TheVariants.{WrongProbe, Misreport, Differs}
+use Rattle.tl_explain.specs.declared.reason.Reason.TheVariants.{OtherSource, WrongProbe, Misreport, Differs}
 use Rattle.tl_explain.specs.declared.recorder.Recorder.{Recorder}
 use Rattle.tl_explain.specs.declared.told.Told.{Told}
 use Rattle.tl_explain.specs.declared.turn.Turn.{Turn}
 use Rattle.tl_explain.specs.code.Recorded.{begun_on, open_message, comes_by}
-use Rattle.tl_explain.specs.statement.Evidence.{left_of, mention_of}
+use Rattle.tl_explain.specs.statement.Reasons.{has_wrong_cap, is_misreport, lacks_data}
 
 -- this reason, or else that
 abbrev pub first_reason : Option Reason → Option Reason → Option Reason
 first_reason None other = other
 first_reason (Some one) other = Some one
-
--- what is held, by the message that left it
-abbrev pub held_by : Option Told → Held
-held_by said = record { perm = left_of (mention_of said); since = said }
 
 abbrev pub pending_by : Key → Option Told → Option Reason
 pending_by k None = None
@@ -77,6 +69,10 @@ where_pending k turn = pending_by k (open_message turn)
 abbrev pub where_missing : Key → Turn → Option Begun → Option Reason
 where_missing k turn b = missing_by k turn.opening turn.closing (open_message turn) b
 
+-- the burst of a message that has to be complete before its answer
+abbrev pub awaited : Liberties → Option Begun → Option Begun
+awaited l b = if l.early then None else b
+
 -- where what is held doesn't fit
 abbrev pub unless_held : Bool → Held → Option Reason
 unless_held true h = None
@@ -102,60 +98,54 @@ size_by x None = None
 size_by x (Some m) = size_in x m m.mention.control
 
 -- where a Grant isn't one for the request that is pending
-abbrev pub lacks_data : {w : ℕ} → BeatD w → Control → Perm → Bool
-lacks_data x (control.A r) p =
-    is_grant_without_data x.opcode && (is_acquire_block r.opcode && not (same_perm p perm.Branch))
-lacks_data x _ p = false
-
 abbrev pub probed_by : Told → Option Told → Option Reason
 probed_by m None = None
 probed_by m (Some probe) = Some (Probed m probe)
 
-abbrev pub grant_in : {w : ℕ} → Profile → BeatD w → Told → Control → Recorder → Option Reason
-grant_in p x m (control.A a) r =
-    if not (fits_grow p a.opcode a.param x.param) then Some (WrongCap m) else
+abbrev pub grant_in : {w : ℕ} → Liberties → BeatD w → Told → Control → Recorder → Option Reason
+grant_in l x m (control.A a) r =
+    if has_wrong_cap l x a then Some (WrongCap m) else
     if not (block_at a.address == r.subject.block) then None else
-    if is_grant_without_data
-    x.opcode && (is_acquire_block a.opcode && not (same_perm (held_by r.turns.said).perm perm.Branch))
-    then Some (WithoutData m (held_by r.turns.said))
+    if lacks_data l x a r.held.perm then Some (WithoutData m r.held)
     else probed_by m (open_message r.turns.probe)
-grant_in p x m _ r = None
+grant_in l x m _ r = None
 
-abbrev pub grant_by : {w : ℕ} → Profile → BeatD w → Option Told → Recorder → Option Reason
-grant_by p x None r = None
-grant_by p x (Some m) r = grant_in p x m m.mention.control r
+abbrev pub grant_by : {w : ℕ} → Liberties → BeatD w → Option Told → Recorder → Option Reason
+grant_by l x None r = None
+grant_by l x (Some m) r = grant_in l x m m.mention.control r
 
--- where the Probe that is pending asks for no data, and is answered with some
-abbrev pub probe_in : {w : ℕ} → BeatC w → Told → Control → Option Reason
-probe_in x m (control.B y) = if c_carries_data x.opcode && not (is_probe_block y.opcode) then Some (WrongProbe m) else
-    None
-probe_in x m _ = None
+-- where the Probe that is pending has another source, or asks for no data, and is answered with some
+abbrev pub probe_in : {w : ℕ} → Liberties → BeatC w → Told → Control → Option Reason
+probe_in l x m (control.B y) =
+    if l.ids && not (x.source == y.source) then Some (OtherSource m) else
+    if c_carries_data x.opcode && not (is_probe_block y.opcode) then Some (WrongProbe m) else None
+probe_in l x m _ = None
 
-abbrev pub probe_by : {w : ℕ} → BeatC w → Turn → Option Told → Option Reason
-probe_by x turn None = where_missing (ProbeOf (block_at x.address)) turn None
-probe_by x turn (Some m) = probe_in x m m.mention.control
+abbrev pub probe_by : {w : ℕ} → Liberties → BeatC w → Turn → Option Told → Option Reason
+probe_by l x turn None = where_missing (ProbeOf (block_at x.address)) turn None
+probe_by l x turn (Some m) = probe_in l x m m.mention.control
 
 -- where the report to the Probe that is pending is another
-abbrev pub report_in : {w : ℕ} → BeatC w → Told → Control → Held → Option Reason
-report_in x m (control.B y) h = if is_report_at x.param (cap_of y.param) h.perm then None else Some (Misreport m h)
-report_in x m _ h = None
+abbrev pub report_in : {w : ℕ} → Liberties → BeatC w → Told → Control → Held → Option Reason
+report_in l x m (control.B y) h = if is_misreport l x.param y.param h.perm then Some (Misreport m h) else None
+report_in l x m _ h = None
 
-abbrev pub report_by : {w : ℕ} → BeatC w → Option Told → Held → Option Reason
-report_by x None h = None
-report_by x (Some m) h = report_in x m m.mention.control h
+abbrev pub report_by : {w : ℕ} → Liberties → BeatC w → Option Told → Held → Option Reason
+report_by l x None h = None
+report_by l x (Some m) h = report_in l x m m.mention.control h
 
 -- ---- the reason of a rule, by the channel of the beat
 
-abbrev pub for_request : {w : ℕ} → Rule → BeatA w → Recorder → Option Reason
-for_request H1 x r = where_pending (RequestSource x.source) r.turns.request
-for_request H4 x r =
+abbrev pub for_request : {w : ℕ} → Liberties → Rule → BeatA w → Recorder → Option Reason
+for_request l H1 x r = where_pending (RequestSource x.source) r.turns.request
+for_request l H4 x r =
     if is_acquire x.opcode
     then first_reason (where_pending (AcquireOf (block_at x.address)) r.turns.acquire)
     (where_pending (ReleaseOf (block_at x.address)) r.turns.release)
     else None
-for_request H5 x r = if is_acquire x.opcode then unless_held (grows_from x.param (held_by r.turns.said).perm)
-    (held_by r.turns.said) else None
-for_request _ x r = None
+for_request l H5 x r =
+    if is_acquire x.opcode then unless_held (grows_from_under l x.param r.held.perm) r.held else None
+for_request l _ x r = None
 
 abbrev pub for_probe : {w : ℕ} → Rule → BeatB w → Recorder → Option Reason
 for_probe H9 x r =
@@ -165,52 +155,52 @@ for_probe H9 x r =
     else None
 for_probe _ x r = None
 
-abbrev pub for_release : {w : ℕ} → Rule → BeatC w → Recorder → Option Reason
-for_release H1 x r = where_pending (ReleaseSource x.source) r.turns.release_with_source
-for_release H13 x r =
+abbrev pub for_release : {w : ℕ} → Liberties → Rule → BeatC w → Recorder → Option Reason
+for_release l H1 x r = where_pending (ReleaseSource x.source) r.turns.release_with_source
+for_release l H13 x r =
     first_reason (first_reason (where_pending (AcquireOf (block_at x.address)) r.turns.acquire)
     (where_pending (ReleaseOf (block_at x.address)) r.turns.release))
-    (unless_held (prunes_from (prune_of x.param) (held_by r.turns.said).perm) (held_by r.turns.said))
-for_release _ x r = None
+    (unless_held (releases_from l x.param r.held.perm) r.held)
+for_release l _ x r = None
 
-abbrev pub for_probe_ack : {w : ℕ} → Rule → BeatC w → Recorder → Option Reason
-for_probe_ack H10 x r = probe_by x r.turns.probe (open_message r.turns.probe)
-for_probe_ack H11 x r = where_pending (ReleaseOf (block_at x.address)) r.turns.release
-for_probe_ack H12 x r = report_by x (open_message r.turns.probe) (held_by r.turns.said)
-for_probe_ack _ x r = None
+abbrev pub for_probe_ack : {w : ℕ} → Liberties → Rule → BeatC w → Recorder → Option Reason
+for_probe_ack l H10 x r = probe_by l x r.turns.probe (open_message r.turns.probe)
+for_probe_ack l H11 x r = where_pending (ReleaseOf (block_at x.address)) r.turns.release
+for_probe_ack l H12 x r = report_by l x (open_message r.turns.probe) r.held
+for_probe_ack l _ x r = None
 
-abbrev pub for_message_c : {w : ℕ} → Rule → BeatC w → Recorder → Option Reason
-for_message_c rule x r = if is_release x.opcode then for_release rule x r else if is_probe_ack x.opcode then
-    for_probe_ack rule x r else None
+abbrev pub for_message_c : {w : ℕ} → Liberties → Rule → BeatC w → Recorder → Option Reason
+for_message_c l rule x r = if is_release x.opcode then for_release l rule x r else if is_probe_ack x.opcode then
+    for_probe_ack l rule x r else None
 
-abbrev pub where_unasked : {w : ℕ} → BeatD w → Recorder → Option Reason
-where_unasked x r =
+abbrev pub where_unasked : {w : ℕ} → Liberties → BeatD w → Recorder → Option Reason
+where_unasked l x r =
     if is_release_ack x.opcode
-    then where_missing (ReleaseSource x.source) r.turns.release_with_source (begun_on r channel.C)
-    else first_reason (where_missing (RequestSource x.source) r.turns.request (begun_on r channel.A))
+    then where_missing (ReleaseSource x.source) r.turns.release_with_source (awaited l (begun_on r channel.C))
+    else first_reason (where_missing (RequestSource x.source) r.turns.request (awaited l (begun_on r channel.A)))
     (kind_by x (open_message r.turns.request))
 
 abbrev pub asked_by : {w : ℕ} → BeatD w → Recorder → Option Told
 asked_by x r = if is_release_ack x.opcode then open_message r.turns.release_with_source else open_message
     r.turns.request
 
-abbrev pub for_answer : {w : ℕ} → Profile → Rule → BeatD w → Recorder → Option Reason
-for_answer p H2 x r = where_unasked x r
-for_answer p H3 x r = size_by x (asked_by x r)
-for_answer p H6 x r = if is_grant x.opcode then grant_by p x (open_message r.turns.request) r else None
-for_answer p H7 x r = if is_grant x.opcode then where_pending (GrantSink x.sink) r.turns.sink else None
-for_answer p _ x r = None
+abbrev pub for_answer : {w : ℕ} → Liberties → Rule → BeatD w → Recorder → Option Reason
+for_answer l H2 x r = where_unasked l x r
+for_answer l H3 x r = size_by x (asked_by x r)
+for_answer l H6 x r = if is_grant x.opcode then grant_by l x (open_message r.turns.request) r else None
+for_answer l H7 x r = if is_grant x.opcode then where_pending (GrantSink x.sink) r.turns.sink else None
+for_answer l _ x r = None
 
-abbrev pub for_acknowledgement : Rule → BeatE → Recorder → Option Reason
-for_acknowledgement H8 x r = where_missing (GrantSink x.sink) r.turns.sink (begun_on r channel.D)
-for_acknowledgement _ x r = None
+abbrev pub for_acknowledgement : Liberties → Rule → BeatE → Recorder → Option Reason
+for_acknowledgement l H8 x r = where_missing (GrantSink x.sink) r.turns.sink (awaited l (begun_on r channel.D))
+for_acknowledgement l _ x r = None
 
-abbrev pub for_message : {w : ℕ} → Profile → Rule → Beat w → Recorder → Option Reason
-for_message p rule (beat.A x) r = for_request rule x r
-for_message p rule (beat.B x) r = for_probe rule x r
-for_message p rule (beat.C x) r = for_message_c rule x r
-for_message p rule (beat.D x) r = for_answer p rule x r
-for_message p rule (beat.E x) r = for_acknowledgement rule x r
+abbrev pub for_message : {w : ℕ} → Liberties → Rule → Beat w → Recorder → Option Reason
+for_message l rule (beat.A x) r = for_request l rule x r
+for_message l rule (beat.B x) r = for_probe rule x r
+for_message l rule (beat.C x) r = for_message_c l rule x r
+for_message l rule (beat.D x) r = for_answer l rule x r
+for_message l rule (beat.E x) r = for_acknowledgement l rule x r
 
 -- where a beat doesn't continue the burst on its channel
 abbrev pub differs_by : {w : ℕ} → Beat w → Option Begun → Option Reason
@@ -221,7 +211,7 @@ abbrev pub is_of_bursts : Rule → Bool
 is_of_bursts S1 = true
 is_of_bursts _ = false
 
-abbrev pub reason_by : {w : ℕ} → Profile → Rule → Beat w → Recorder → Option Reason
-reason_by p rule x r =
+abbrev pub reason_by : {w : ℕ} → Liberties → Rule → Beat w → Recorder → Option Reason
+reason_by l rule x r =
     if is_of_bursts rule then differs_by x (begun_on r (channel_of x)) else
-    if is_none (begun_on r (channel_of x)) then for_message p rule x r else None
+    if is_none (begun_on r (channel_of x)) then for_message l rule x r else None

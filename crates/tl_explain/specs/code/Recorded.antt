@@ -16,6 +16,9 @@ use Rattle.tl_params.specs.declared.key.Key.TheVariants.{ReleaseOf, GrantSink, G
 use Rattle.tl_rules.specs.statement.Conformance.{Trace, on_link}
 use Rattle.tl_rules.specs.statement.History.{begins, ends, block_at, is_grant}
 use Rattle.tl_rules.specs.statement.History.{is_release, is_release_ack, request_of, release_of}
+use Rattle.tl_rules.specs.statement.Liberties.{held_under}
+use Rattle.tl_params.specs.declared.liberties.Liberties.{Liberties}
+use Rattle.tl_params.specs.statement.Liberties.{no_liberties}
 use Rattle.tl_monitor.specs.code.Count.{at}
 use Rattle.tl_explain.specs.declared.told.Told.{Told}
 use Rattle.tl_beat.specs.statement.Control.{control_of}
@@ -26,12 +29,13 @@ use Rattle.tl_explain.specs.declared.bursts.Begun.{Begun}
 use Rattle.tl_monitor.specs.declared.bursts.Unfinished.{Unfinished}
 use Rattle.tl_monitor.specs.code.Bursts.{burst_on, continues_burst, IsOf}
 use Rattle.tl_explain.specs.declared.blocks.Blocks.{Blocks}
+use Rattle.tl_explain.specs.declared.held.Held.{Held}
 use Rattle.tl_explain.specs.declared.turns.Moment.{Moment}
 use Rattle.tl_explain.specs.declared.turns.Subject.{Subject}
 use Rattle.tl_explain.specs.declared.turns.Turns.{Turns}
 use Rattle.tl_explain.specs.declared.recorder.Recorder.{Recorder}
 use Rattle.tl_explain.specs.statement.Evidence.{told, is_open, last_opening, last_closing}
-use Rattle.tl_explain.specs.statement.Evidence.{last_saying, burst_opening, mention_of}
+use Rattle.tl_explain.specs.statement.Evidence.{last_saying_under, burst_opening, mention_of}
 
 -- ---- bursts
 
@@ -125,7 +129,7 @@ pub record IsMoment {w : ℕ} (m : Moment) (n : ℕ) (x : Link × Beat w) (t : T
   pub last_is : m.last ≡ ends x.1 (on_link n t)
   pub block_is : m.block ≡ block_of x.1 (on_link n t)
 
--- the messages that opened and closed the keys of the subject, and the last that left what is held of its block
+-- the messages that opened and closed the keys of the subject
 pub record AreTurns {w : ℕ} (r : Turns) (subject : Subject) (t : Trace w) : Type 0 where
   pub request_is : IsTurn r.request subject.link.0 (RequestSource subject.source) t
   pub release_with_source_is : IsTurn r.release_with_source subject.link.0 (ReleaseSource subject.source) t
@@ -134,19 +138,29 @@ pub record AreTurns {w : ℕ} (r : Turns) (subject : Subject) (t : Trace w) : Ty
   pub sink_is : IsTurn r.sink subject.link.0 (GrantSink subject.sink) t
   pub grant_ack_is : IsTurn r.grant_ack subject.link.0 (GrantAckOf subject.block) t
   pub probe_is : IsTurn r.probe subject.link.0 (ProbeOf subject.block) t
-  pub said_is : mention_of r.said ≡ last_saying subject.link.0 subject.block t
+
+-- what link n, which has these liberties, holds of block k, and the last message that says so
+pub record IsHeld {w : ℕ} (h : Held) (l : Liberties) (n k : ℕ) (t : Trace w) : Type 0 where
+  pub perm_is : h.perm ≡ held_under l k (on_link n t)
+  pub since_is : mention_of h.since ≡ last_saying_under l n k t
 
 -- the blocks of the last request and of the last Release with each source
 pub record AreBlocks {w : ℕ} (b : Blocks) (t : History w) : Type 0 where
   pub asked_are : (s : ℕ) → at b.asked s ≡ block_asked (request_of s t)
   pub released_are : (s : ℕ) → at b.released s ≡ block_released (release_of s t)
 
--- all that is recorded is what the trace has
-pub record IsRecord {w : ℕ} (r : Recorder) (t : Trace w) : Type 0 where
+-- all that is recorded is what the trace has, on a link with these liberties
+pub record IsRecordUnder {w : ℕ} (l : Liberties) (r : Recorder) (t : Trace w) : Type 0 where
+  pub liberties_are : r.liberties ≡ l
   pub bursts_are : (ch : Channel) → IsOf (burst_on r.bursts ch) (unfinished ch (on_link r.subject.link.0 t))
   pub begun_are : (ch : Channel) → IsBegun (begun_on r ch) r.subject.link.0 ch t
   pub blocks_are : AreBlocks r.blocks (on_link r.subject.link.0 t)
   pub turns_are : AreTurns r.turns r.subject t
+  pub held_is : IsHeld r.held l r.subject.link.0 r.subject.block t
+
+-- the same on a link without liberties
+abbrev pub IsRecord : {w : ℕ} → Recorder → Trace w → Type 0
+IsRecord r t = IsRecordUnder no_liberties r t
 
 -- a beat of the subject's link that no message has there: of no message's size, or not of the burst on its channel
 abbrev pub is_stray : {w : ℕ} → Recorder → Link → Beat w → Bool

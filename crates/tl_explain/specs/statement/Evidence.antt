@@ -7,10 +7,12 @@ use Rattle.tl_beat.specs.declared.channel.Channel.{Channel}
 use Rattle.tl_burst.specs.statement.Messages.{on, unfinished}
 use Rattle.tl_burst.specs.statement.Part.{is_empty}
 use Rattle.tl_params.specs.declared.key.Key.{Key}
+use Rattle.tl_params.specs.declared.liberties.Liberties.{Liberties}
 use Rattle.tl_params.specs.declared.perm.Perm.{Perm}
 use Rattle.tl_params.specs.declared.perm.Perm.TheVariants as perm
 use Rattle.tl_rules.specs.statement.Conformance.{Trace, on_link}
 use Rattle.tl_rules.specs.statement.History.{begins, ends, opens, closes, says_held, reported, capped}
+use Rattle.tl_rules.specs.statement.Liberties.{says_held_under}
 use Rattle.tl_beat.specs.statement.Control.{control_of}
 use Rattle.tl_beat.specs.declared.control.Control.{Control}
 use Rattle.tl_beat.specs.declared.control.Control.TheVariants as control
@@ -63,6 +65,17 @@ is_saying n k x t = (x.0.0 == n) && (ends x.1 (on_link n t) && is_some (says_hel
 
 abbrev pub last_saying : {w : ℕ} → ℕ → ℕ → Trace w → Option Mention
 last_saying n k t = last_where (is_saying n k) t
+
+-- the same of a link with these liberties: what a message that is complete with this beat says of the block
+abbrev pub said_under : {w : ℕ} → Liberties → ℕ → ℕ → Link × Beat w → Trace w → Option Perm
+said_under l n k x t =
+    if (x.0.0 == n) && ends x.1 (on_link n t) then says_held_under l k x.1 (on_link n t) else None
+
+abbrev pub is_saying_under : {w : ℕ} → Liberties → ℕ → ℕ → Link × Beat w → Trace w → Bool
+is_saying_under l n k x t = is_some (said_under l n k x t)
+
+abbrev pub last_saying_under : {w : ℕ} → Liberties → ℕ → ℕ → Trace w → Option Mention
+last_saying_under l n k t = last_where (is_saying_under l n k) t
 
 -- what a Grant, ProbeAck or Release leaves
 abbrev pub left_by : Control → Perm

@@ -1,80 +1,57 @@
 -- What a reason tells of a trace, and which rule a beat breaks by what is told.
-use Rattle.std.specs.Prelude.{ℕ, Bool, true, false, not, List, ◌∷◌, ◌≡◌, ◌==◌, ◌&&◌, ◌||◌, ⊤, length}
+use Rattle.std.specs.Prelude.{ℕ, Bool, true, false, not, List, ◌∷◌, ◌≡◌, ◌==◌, ◌&&◌, ⊤, if◌then◌else◌, length}
 use Rattle.std.specs.Prelude.{Option, Some, None, IfSome}
 use Rattle.tl_beat.specs.declared.beat.Beat.{Beat}
 use Rattle.tl_beat.specs.declared.beat.Beat.TheVariants as beat
+use Rattle.tl_beat.specs.declared.beat.BeatD.{BeatD}
 use Rattle.tl_beat.specs.declared.beat.Link.{Link}
 use Rattle.tl_beat.specs.declared.channel.Channel.{Channel}
 use Rattle.tl_beat.specs.declared.channel.Channel.TheVariants as channel
 use Rattle.tl_beat.specs.statement.First.{first_if}
 use Rattle.tl_beat.specs.statement.Opcode.{c_carries_data}
-use Rattle.tl_burst.specs.statement.Messages.{History, channel_of, unfinished}
+use Rattle.tl_burst.specs.statement.Messages.{History, channel_of}
 use Rattle.tl_params.specs.declared.key.Key.{Key}
 use Rattle.tl_params.specs.declared.key.Key.TheVariants.{RequestSource, ReleaseSource, AcquireOf, ReleaseOf, GrantSink}
 use Rattle.tl_params.specs.declared.key.Key.TheVariants.{GrantAckOf, ProbeOf}
+use Rattle.tl_params.specs.declared.liberties.Liberties.{Liberties}
 use Rattle.tl_params.specs.declared.perm.Perm.{Perm}
 use Rattle.tl_params.specs.declared.perm.Perm.TheVariants as perm
 use Rattle.tl_params.specs.declared.profile.Profile.{Profile}
 use Rattle.tl_params.specs.declared.rule.Rule.{Rule}
 use Rattle.tl_params.specs.declared.rule.Rule.TheVariants.{S1, H1, H2, H3, H4, H5, H6, H7, H8, H9, H10, H11, H12, H13}
-use Rattle.tl_params.specs.statement.Param.{cap_of, prune_of}
-use Rattle.tl_rules.specs.statement.Conformance.{Trace, on_link, answers, answers_wrong_probe, comes_in_grant}
-use Rattle.tl_rules.specs.statement.Conformance.{comes_in_release, comes_in_request, fits_grow, grows_from, has_request}
+use Rattle.tl_params.specs.statement.Liberties.{liberties_of, no_liberties}
+use Rattle.tl_params.specs.statement.Param.{cap_of}
+use Rattle.tl_rules.specs.statement.Conformance.{Trace, on_link, answers, comes_in_grant}
+use Rattle.tl_rules.specs.statement.Conformance.{comes_in_release, comes_in_request, fits_grow}
 use Rattle.tl_rules.specs.statement.Conformance.{is_acquire_block, is_grant_without_data, is_probe_block, is_report_at}
-use Rattle.tl_rules.specs.statement.Conformance.{misgrants, misreports}
-use Rattle.tl_rules.specs.statement.Conformance.{prunes_from, same_perm, size_asked}
-use Rattle.tl_rules.specs.statement.History.{begins, block_at, held, is_acquire, is_grant, is_probe, is_probe_ack}
-use Rattle.tl_rules.specs.statement.History.{is_release, is_release_ack}
-use Rattle.tl_rules.specs.statement.History.{pending, probe_of, request_of}
+use Rattle.tl_rules.specs.statement.Conformance.{same_perm}
+use Rattle.tl_rules.specs.statement.History.{begins, block_at, is_acquire, is_grant, is_probe, is_probe_ack}
+use Rattle.tl_rules.specs.statement.History.{is_release, is_release_ack, request_of}
+use Rattle.tl_rules.specs.statement.Liberties.{grows_from_under, profile_under, releases_from, reports_none}
 use Rattle.tl_beat.specs.statement.Control.{control_of, has_control}
 use Rattle.tl_beat.specs.declared.control.Control.{Control}
 use Rattle.tl_beat.specs.declared.control.Control.TheVariants as control
-use Rattle.tl_explain.specs.declared.reason.Held.{Held}
+use Rattle.tl_beat.specs.declared.control.ControlA.{ControlA}
+use Rattle.tl_explain.specs.declared.held.Held.{Held}
 use Rattle.tl_explain.specs.declared.reason.Reason.{Reason}
 use Rattle.tl_explain.specs.declared.reason.Reason.TheVariants.{Pending, Never, Closed, Unfinished, OtherKind}
 use Rattle.tl_explain.specs.declared.reason.Reason.TheVariants.{OtherSize, WrongCap, WithoutData, Probed, Holds}
-use Rattle.tl_explain.specs.declared.reason.Reason.TheVariants.{WrongProbe, Misreport, Differs}
+use Rattle.tl_explain.specs.declared.reason.Reason.TheVariants.{OtherSource, WrongProbe, Misreport, Differs}
 use Rattle.tl_explain.specs.declared.told.Mention.{Mention}
 use Rattle.tl_explain.specs.declared.turns.Subject.{Subject}
 use Rattle.tl_explain.specs.statement.Evidence.{mention_of}
-use Rattle.tl_explain.specs.statement.OrderRules.{BreaksBy, first_by}
-use Rattle.tl_explain.specs.statement.Since.{IsBurstSince, IsClosedBy, IsHeldSince, IsNeverOpened, IsPendingSince}
+use Rattle.tl_explain.specs.statement.OrderRules.{BreaksUnder, first_broken_under}
+use Rattle.tl_explain.specs.statement.Since.{IsBurstSince, IsClosedBy, IsHeldSinceUnder, IsNeverOpened, IsPendingSince}
 
--- ---- the rules of order, each by itself
-
--- a beat breaks the rule of order after the history t of its link; the H rules judge a message at its first beat
-abbrev pub breaks_at_first : {w : ℕ} → Profile → Rule → Beat w → History w → Bool
-breaks_at_first p H1 (beat.A x) t = pending (RequestSource x.source) t
-breaks_at_first p H1 (beat.C x) t = is_release x.opcode && pending (ReleaseSource x.source) t
-breaks_at_first p H2 (beat.D x) t = not (has_request x t)
-breaks_at_first p H3 (beat.D x) t = not (x.size == size_asked x t)
-breaks_at_first p H4 (beat.A x) t =
-    is_acquire x.opcode && (pending (AcquireOf (block_at x.address)) t || pending (ReleaseOf (block_at x.address)) t)
-breaks_at_first p H5 (beat.A x) t = is_acquire x.opcode && not (grows_from x.param (held (block_at x.address) t))
-breaks_at_first p H6 (beat.D x) t = is_grant x.opcode && misgrants p x (request_of x.source t) t
-breaks_at_first p H7 (beat.D x) t = is_grant x.opcode && pending (GrantSink x.sink) t
-breaks_at_first p H8 (beat.E x) t = not (pending (GrantSink x.sink) t) || comes_in_grant x.sink (unfinished channel.D t)
-breaks_at_first p H9 (beat.B x) t =
-    is_probe x.opcode && (pending (ProbeOf (block_at x.address)) t || pending (GrantAckOf (block_at x.address)) t)
-breaks_at_first p H10 (beat.C x) t =
-    is_probe_ack x.opcode && (not (pending (ProbeOf (block_at x.address)) t) || answers_wrong_probe x
-    (probe_of (block_at x.address) t))
-breaks_at_first p H11 (beat.C x) t = is_probe_ack x.opcode && pending (ReleaseOf (block_at x.address)) t
-breaks_at_first p H12 (beat.C x) t = is_probe_ack x.opcode && misreports x (probe_of (block_at x.address) t)
-    (held (block_at x.address) t)
-breaks_at_first p H13 (beat.C x) t =
-    is_release x.opcode && (pending (AcquireOf (block_at x.address)) t
-    || (pending (ReleaseOf (block_at x.address)) t || not
-    (prunes_from (prune_of x.param) (held (block_at x.address) t))))
-breaks_at_first _ _ _ _ = false
+-- ---- the rules of order, each by itself, on a link of a profile
 
 -- the first of these rules that the beat breaks
 abbrev pub first_broken : {w : ℕ} → Profile → List Rule → Beat w → History w → Option Rule
-first_broken p rules x t = first_by (λ rule. breaks_at_first p rule x t) rules
+first_broken p rules x t = first_broken_under (liberties_of p) rules x t
 
 -- the beat breaks the rule of order after the history t, an H rule where it begins a message and S1 where it doesn't
 abbrev pub Breaks : {w : ℕ} → Profile → Rule → Beat w → History w → Type 0
-Breaks p rule x t = BreaksBy (λ r. breaks_at_first p r x t) rule x t
+Breaks p rule x t = BreaksUnder (liberties_of p) rule x t
 
 -- ---- what is told of a trace
 
@@ -98,9 +75,10 @@ block_named (control.C x) = Some (block_at x.address)
 block_named (control.D x) = None
 block_named (control.E sink) = None
 
--- what is told as held of the block that this message names is held by link n, and since that message
-abbrev pub IsHeldOf : {w : ℕ} → ℕ → Control → Held → Trace w → Type 0
-IsHeldOf n c h t = (k : ℕ) × (block_named c ≡ Some k) × IsHeldSince n k h.perm (mention_of h.since) t
+-- what is told as held of the block that this message names is held by link n, which has these liberties, and since that
+-- message
+abbrev pub IsHeldOf : {w : ℕ} → Liberties → ℕ → Control → Held → Trace w → Type 0
+IsHeldOf l n c h t = (k : ℕ) × (block_named c ≡ Some k) × IsHeldSinceUnder l n k h.perm (mention_of h.since) t
 
 -- the channel whose messages open the key
 abbrev pub opening_channel : Key → Channel
@@ -133,21 +111,23 @@ IsGoingOn {w} n ch m c came t =
     (newest : Beat w) × (others : List (Beat w)) × IsBurstSince n ch (newest ∷ others) m t
     × (came ≡ length (newest ∷ others)) × (c ≡ control_of newest)
 
--- what a reason tells is so, of the beats t before the beat x of link n
-abbrev pub IsTold : {w : ℕ} → ℕ → Beat w → Reason → Trace w → Type 0
-IsTold n x (Pending k m) t = IsPendingSince n k m.mention t
-IsTold n x (Never k) t = IsNeverOpened n k t
-IsTold n x (Closed k opening closing) t = IsClosedBy n k opening.mention closing.mention t
-IsTold n x (Unfinished k m came) t = IsPendingSince n k m.mention t × IsUnfinished n k m.mention came t
-IsTold n x (OtherKind request) t = IsUnanswered n request.mention t
-IsTold n x (OtherSize request) t = IsUnanswered n request.mention t
-IsTold n x (WrongCap request) t = IsUnanswered n request.mention t
-IsTold n x (WithoutData request h) t = IsUnanswered n request.mention t × IsHeldOf n request.mention.control h t
-IsTold n x (Probed request probe) t = IsUnanswered n request.mention t × IsUnanswered n probe.mention t
-IsTold n x (Holds h) t = IsHeldOf n (control_of x) h t
-IsTold n x (WrongProbe probe) t = IsUnanswered n probe.mention t
-IsTold n x (Misreport probe h) t = IsUnanswered n probe.mention t × IsHeldOf n probe.mention.control h t
-IsTold n x (Differs b) t = IsGoingOn n (channel_of x) b.first.mention b.newest b.came t
+-- what a reason tells is so, of the beats t before the beat x of link n, which has these liberties
+abbrev pub IsToldUnder : {w : ℕ} → Liberties → ℕ → Beat w → Reason → Trace w → Type 0
+IsToldUnder l n x (Pending k m) t = IsPendingSince n k m.mention t
+IsToldUnder l n x (Never k) t = IsNeverOpened n k t
+IsToldUnder l n x (Closed k opening closing) t = IsClosedBy n k opening.mention closing.mention t
+IsToldUnder l n x (Unfinished k m came) t = IsPendingSince n k m.mention t × IsUnfinished n k m.mention came t
+IsToldUnder l n x (OtherKind request) t = IsUnanswered n request.mention t
+IsToldUnder l n x (OtherSize request) t = IsUnanswered n request.mention t
+IsToldUnder l n x (WrongCap request) t = IsUnanswered n request.mention t
+IsToldUnder l n x (WithoutData request h) t =
+    IsUnanswered n request.mention t × IsHeldOf l n request.mention.control h t
+IsToldUnder l n x (Probed request probe) t = IsUnanswered n request.mention t × IsUnanswered n probe.mention t
+IsToldUnder l n x (Holds h) t = IsHeldOf l n (control_of x) h t
+IsToldUnder l n x (OtherSource probe) t = IsUnanswered n probe.mention t
+IsToldUnder l n x (WrongProbe probe) t = IsUnanswered n probe.mention t
+IsToldUnder l n x (Misreport probe h) t = IsUnanswered n probe.mention t × IsHeldOf l n probe.mention.control h t
+IsToldUnder l n x (Differs b) t = IsGoingOn n (channel_of x) b.first.mention b.newest b.came t
 
 -- the beat begins a message, where the reason is one of the order of messages
 abbrev pub is_of_messages : Reason → Bool
@@ -155,8 +135,12 @@ is_of_messages (Differs b) = false
 is_of_messages _ = true
 
 -- the evidence: what the reason tells is so
+abbrev pub IsEvidenceUnder : {w : ℕ} → Liberties → ℕ → Beat w → Reason → Trace w → Type 0
+IsEvidenceUnder l n x reason t = (begins x (on_link n t) ≡ is_of_messages reason) × IsToldUnder l n x reason t
+
+-- the same on a link without liberties, and on one of either profile
 abbrev pub IsEvidence : {w : ℕ} → ℕ → Beat w → Reason → Trace w → Type 0
-IsEvidence n x reason t = (begins x (on_link n t) ≡ is_of_messages reason) × IsTold n x reason t
+IsEvidence n x reason t = IsEvidenceUnder no_liberties n x reason t
 
 -- ---- the rule that a beat breaks, by what is told and nothing else
 
@@ -183,11 +167,11 @@ rule_of_missing (beat.D x) (ReleaseSource s) = first_if (is_release_ack x.opcode
 rule_of_missing (beat.E x) (GrantSink s) = first_if (x.sink == s) H8 None
 rule_of_missing _ _ = None
 
--- the message that opened the key isn't complete
-abbrev pub rule_of_unfinished : {w : ℕ} → Beat w → Key → Option Rule
-rule_of_unfinished (beat.D x) k = rule_of_missing (beat.D x) k
-rule_of_unfinished {w} (beat.E x) k = rule_of_missing {w = w} (beat.E x) k
-rule_of_unfinished _ k = None
+-- the message that opened the key isn't complete, and may not be answered before it is
+abbrev pub rule_of_unfinished : {w : ℕ} → Liberties → Beat w → Key → Option Rule
+rule_of_unfinished l (beat.D x) k = if l.early then None else rule_of_missing (beat.D x) k
+rule_of_unfinished {w} l (beat.E x) k = if l.early then None else rule_of_missing {w = w} (beat.E x) k
+rule_of_unfinished l _ k = None
 
 -- the request is of a kind that isn't answered so
 abbrev pub rule_of_kind : {w : ℕ} → Beat w → Control → Option Rule
@@ -203,18 +187,27 @@ rule_of_size (beat.D x) (control.C r) =
     first_if (is_release_ack x.opcode && ((x.source == r.source) && not (x.size == r.size))) H3 None
 rule_of_size _ _ = None
 
+-- a Grant that may be denied, and is: it gives nothing, and neither its cap nor its data are judged
+abbrev pub gives_nothing : {w : ℕ} → Liberties → BeatD w → Bool
+gives_nothing l x = l.denied && x.denied
+
 -- the request may not be given this cap
-abbrev pub rule_of_cap : {w : ℕ} → Profile → Beat w → Control → Option Rule
-rule_of_cap p (beat.D x) (control.A r) =
-    first_if (is_grant x.opcode && ((x.source == r.source) && not (fits_grow p r.opcode r.param x.param))) H6 None
-rule_of_cap p _ _ = None
+abbrev pub has_wrong_cap : {w : ℕ} → Liberties → BeatD w → ControlA → Bool
+has_wrong_cap l x r = not (gives_nothing l x) && not (fits_grow (profile_under l) r.opcode r.param x.param)
+
+abbrev pub rule_of_cap : {w : ℕ} → Liberties → Beat w → Control → Option Rule
+rule_of_cap l (beat.D x) (control.A r) =
+    first_if (is_grant x.opcode && ((x.source == r.source) && has_wrong_cap l x r)) H6 None
+rule_of_cap l _ _ = None
 
 -- the request wants data, where this is held
-abbrev pub rule_of_data : {w : ℕ} → Beat w → Control → Perm → Option Rule
-rule_of_data (beat.D x) (control.A r) p =
-    first_if (is_grant_without_data
-    x.opcode && (is_acquire_block r.opcode && ((x.source == r.source) && not (same_perm p perm.Branch)))) H6 None
-rule_of_data _ _ p = None
+abbrev pub lacks_data : {w : ℕ} → Liberties → BeatD w → ControlA → Perm → Bool
+lacks_data l x r p = not (gives_nothing l x)
+    && (is_grant_without_data x.opcode && (is_acquire_block r.opcode && not (same_perm p perm.Branch)))
+
+abbrev pub rule_of_data : {w : ℕ} → Liberties → Beat w → Control → Perm → Option Rule
+rule_of_data l (beat.D x) (control.A r) p = first_if ((x.source == r.source) && lacks_data l x r p) H6 None
+rule_of_data l _ _ p = None
 
 -- a Probe of the request's block is pending
 abbrev pub rule_of_probed : {w : ℕ} → Beat w → Control → Control → Option Rule
@@ -223,10 +216,17 @@ rule_of_probed (beat.D x) (control.A r) (control.B y) =
 rule_of_probed _ _ _ = None
 
 -- what is held doesn't fit the param
-abbrev pub rule_of_held : {w : ℕ} → Beat w → Perm → Option Rule
-rule_of_held (beat.A x) p = first_if (is_acquire x.opcode && not (grows_from x.param p)) H5 None
-rule_of_held (beat.C x) p = first_if (is_release x.opcode && not (prunes_from (prune_of x.param) p)) H13 None
-rule_of_held _ p = None
+abbrev pub rule_of_held : {w : ℕ} → Liberties → Beat w → Perm → Option Rule
+rule_of_held l (beat.A x) p = first_if (is_acquire x.opcode && not (grows_from_under l x.param p)) H5 None
+rule_of_held l (beat.C x) p = first_if (is_release x.opcode && not (releases_from l x.param p)) H13 None
+rule_of_held l _ p = None
+
+-- the Probe that is answered has another source, where that is judged
+abbrev pub rule_of_source : {w : ℕ} → Liberties → Beat w → Control → Option Rule
+rule_of_source l (beat.C x) (control.B y) =
+    first_if (is_probe_ack x.opcode && ((block_at x.address == block_at y.address) && (l.ids && not
+    (x.source == y.source)))) H10 None
+rule_of_source l _ _ = None
 
 -- the Probe that is answered with data asks for none
 abbrev pub rule_of_probe : {w : ℕ} → Beat w → Control → Option Rule
@@ -235,29 +235,37 @@ rule_of_probe (beat.C x) (control.B y) =
     (is_probe_block y.opcode)))) H10 None
 rule_of_probe _ _ = None
 
--- the report to the Probe is another, where this is held
-abbrev pub rule_of_report : {w : ℕ} → Beat w → Control → Perm → Option Rule
-rule_of_report (beat.C x) (control.B y) p =
-    first_if (is_probe_ack x.opcode && ((block_at x.address == block_at y.address) && not
-    (is_report_at x.param (cap_of y.param) p))) H12 None
-rule_of_report _ _ p = None
+-- the report to a Probe of this cap is another, where this is held
+abbrev pub is_misreport : Liberties → ℕ → ℕ → Perm → Bool
+is_misreport l param cap p = not (l.drops && reports_none param) && not (is_report_at param (cap_of cap) p)
 
--- The rule that a beat breaks where what a reason tells is so: the beat and the reason alone say it.
--- None where it says nothing.
+abbrev pub rule_of_report : {w : ℕ} → Liberties → Beat w → Control → Perm → Option Rule
+rule_of_report l (beat.C x) (control.B y) p =
+    first_if (is_probe_ack x.opcode && ((block_at x.address == block_at y.address) && is_misreport l x.param y.param p))
+    H12 None
+rule_of_report l _ _ p = None
+
+-- The rule that a beat breaks where what a reason tells is so, on a link with these liberties: the beat and the reason
+-- alone say it. None where it says nothing.
+abbrev pub convicted_under : {w : ℕ} → Liberties → Beat w → Reason → Option Rule
+convicted_under l x (Pending k m) = rule_of_pending x k
+convicted_under l x (Never k) = rule_of_missing x k
+convicted_under l x (Closed k opening closing) = rule_of_missing x k
+convicted_under l x (Unfinished k m came) = rule_of_unfinished l x k
+convicted_under l x (OtherKind request) = rule_of_kind x request.mention.control
+convicted_under l x (OtherSize request) = rule_of_size x request.mention.control
+convicted_under l x (WrongCap request) = rule_of_cap l x request.mention.control
+convicted_under l x (WithoutData request h) = rule_of_data l x request.mention.control h.perm
+convicted_under l x (Probed request probe) = rule_of_probed x request.mention.control probe.mention.control
+convicted_under l x (Holds h) = rule_of_held l x h.perm
+convicted_under l x (OtherSource probe) = rule_of_source l x probe.mention.control
+convicted_under l x (WrongProbe probe) = rule_of_probe x probe.mention.control
+convicted_under l x (Misreport probe h) = rule_of_report l x probe.mention.control h.perm
+convicted_under l x (Differs b) = first_if (not (has_control x b.newest)) S1 None
+
+-- the same on a link of this profile
 abbrev pub convicted : {w : ℕ} → Profile → Beat w → Reason → Option Rule
-convicted p x (Pending k m) = rule_of_pending x k
-convicted p x (Never k) = rule_of_missing x k
-convicted p x (Closed k opening closing) = rule_of_missing x k
-convicted p x (Unfinished k m came) = rule_of_unfinished x k
-convicted p x (OtherKind request) = rule_of_kind x request.mention.control
-convicted p x (OtherSize request) = rule_of_size x request.mention.control
-convicted p x (WrongCap request) = rule_of_cap p x request.mention.control
-convicted p x (WithoutData request h) = rule_of_data x request.mention.control h.perm
-convicted p x (Probed request probe) = rule_of_probed x request.mention.control probe.mention.control
-convicted p x (Holds h) = rule_of_held x h.perm
-convicted p x (WrongProbe probe) = rule_of_probe x probe.mention.control
-convicted p x (Misreport probe h) = rule_of_report x probe.mention.control h.perm
-convicted p x (Differs b) = first_if (not (has_control x b.newest)) S1 None
+convicted p x reason = convicted_under (liberties_of p) x reason
 
 -- The rules of order but H2 and H8: of them a reason is told wherever they are the first that a beat breaks. Of H2 and
 -- H8

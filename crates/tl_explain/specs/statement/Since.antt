@@ -6,12 +6,15 @@ use Rattle.tl_beat.specs.declared.beat.Link.{Link}
 use Rattle.tl_beat.specs.declared.channel.Channel.{Channel}
 use Rattle.tl_burst.specs.statement.Messages.{carried_on, on, unfinished}
 use Rattle.tl_params.specs.declared.key.Key.{Key}
+use Rattle.tl_params.specs.declared.liberties.Liberties.{Liberties}
 use Rattle.tl_params.specs.declared.perm.Perm.{Perm}
 use Rattle.tl_params.specs.declared.perm.Perm.TheVariants as perm
 use Rattle.tl_rules.specs.statement.Conformance.{Trace, on_link}
 use Rattle.tl_rules.specs.statement.History.{begins, held}
+use Rattle.tl_rules.specs.statement.Liberties.{held_under}
 use Rattle.tl_explain.specs.declared.told.Mention.{Mention}
-use Rattle.tl_explain.specs.statement.Evidence.{told, is_opening, is_closing, is_saying, left_by}
+use Rattle.tl_explain.specs.statement.Evidence.{told, is_opening, is_closing, is_saying, is_saying_under, left_by}
+use Rattle.tl_explain.specs.statement.Evidence.{said_under}
 
 -- none of the beats `later`, which stand behind those of t, is such a one
 unfoldable pub HasNone : {w : ℕ} → (Link × Beat w → Trace w → Bool) → Trace w → Trace w → Type 0
@@ -51,6 +54,19 @@ IsClosedBy n k opening closing t = IsLast (is_opening n k) opening t × IsLast (
 abbrev pub IsHeldSince : {w : ℕ} → ℕ → ℕ → Perm → Option Mention → Trace w → Type 0
 IsHeldSince n k p None t = (p ≡ held k (on_link n t)) × (p ≡ perm.None) × HasNone (is_saying n k) t []
 IsHeldSince n k p (Some m) t = (p ≡ held k (on_link n t)) × (p ≡ left_by m.control) × IsLast (is_saying n k) m t
+
+-- link n, which has these liberties, holds block k so by the message that is told, and no later one says what is held of
+-- the block
+abbrev pub IsSaidBy : {w : ℕ} → Liberties → ℕ → ℕ → Perm → Mention → Trace w → Type 0
+IsSaidBy {w} l n k p m t =
+    (later : Trace w) × (x : Link × Beat w) × (earlier : Trace w) × (t ≡ later ++ x ∷ earlier) × (m ≡ told x earlier)
+    × (said_under l n k x earlier ≡ Some p) × HasNone (is_saying_under l n k) later (x ∷ earlier)
+
+-- the same on a link with these liberties
+abbrev pub IsHeldSinceUnder : {w : ℕ} → Liberties → ℕ → ℕ → Perm → Option Mention → Trace w → Type 0
+IsHeldSinceUnder l n k p None t =
+    (p ≡ held_under l k (on_link n t)) × (p ≡ perm.None) × HasNone (is_saying_under l n k) t []
+IsHeldSinceUnder l n k p (Some m) t = (p ≡ held_under l k (on_link n t)) × IsSaidBy l n k p m t
 
 -- the burst that is unfinished on a channel of link n began with the beat that is told of: these are the channel's
 -- beats from there on

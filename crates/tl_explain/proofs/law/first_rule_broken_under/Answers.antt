@@ -1,4 +1,4 @@
-use Rattle.tl_explain.proofs.Ordered.{breaks-under, first-of_profile, of_burst-under, of_message-under}
+use Rattle.tl_explain.proofs.Ordered.{breaks-under, of_burst-under, of_message-under}
 use Rattle.tl_explain.proofs.law.first_rule_broken_under.Goals as goal
 
 pub returns-clause-message : goal.returns-clause-message
@@ -9,6 +9,3 @@ returns-clause-burst c = λ w l x t e. of_burst-under l x t e
 
 pub returns-clause-itself : goal.returns-clause-itself
 returns-clause-itself c = λ w l rule x t e. breaks-under l x t rule e
-
-pub returns-clause-profile : goal.returns-clause-profile
-returns-clause-profile c = λ w p x t. first-of_profile p x t

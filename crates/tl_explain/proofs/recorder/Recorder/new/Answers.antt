@@ -1,13 +1,9 @@
-use Rattle.tl_explain.proofs.follows.Keys.{no_bursts, empty_blocks}
+use Rattle.std.proofs.Common.{[], subst}
+use Rattle.tl_params.specs.declared.liberties.Liberties.{Liberties}
+use Rattle.tl_explain.specs.code.Recorded.{IsRecordUnder}
 use Rattle.tl_explain.proofs.recorder.Recorder.new.Goals as goal
 
 pub returns-clause-record : goal.returns-clause-record
 returns-clause-record c = λ w.
-    let none = no_bursts w c.new.result _ c.new.ensures.a c.new.ensures.b c.new.ensures.c c.new.ensures.d
-    c.new.ensures.e in
-    record {
-      bursts_are = λ ch. (none ch).0;
-      begun_are = λ ch. (none ch).1;
-      blocks_are = empty_blocks w c.new-2.result _ (c.new-2.ensures w);
-      turns_are = c.new-3.ensures w c.args.subject;
-    }
+    subst (λ (l : Liberties). IsRecordUnder {w = w} l c.with_liberties.result []) c.none.ensures
+    (c.with_liberties.ensures.record w)

@@ -1,4 +1,4 @@
-use Rattle.tl_explain.proofs.follows.Keys.{no_turn, no_saying}
+use Rattle.tl_explain.proofs.follows.Keys.{no_turn}
 use Rattle.tl_explain.proofs.turns.Turns.new.Goals as goal
 
 pub returns : goal.returns
@@ -10,5 +10,4 @@ returns c = λ w subject. record {
   sink_is = no_turn c.new-5.result _ _ c.new-5.ensures.opening c.new-5.ensures.closing;
   grant_ack_is = no_turn c.new-6.result _ _ c.new-6.ensures.opening c.new-6.ensures.closing;
   probe_is = no_turn c.new-7.result _ _ c.new-7.ensures.opening c.new-7.ensures.closing;
-  said_is = no_saying w _ _;
 }

@@ -9,5 +9,4 @@ returns g c = λ link t is turns. record {
   sink_is = c.note-5.ensures _ link t is turns.sink_is;
   grant_ack_is = c.note-6.ensures _ link t is turns.grant_ack_is;
   probe_is = c.note-7.ensures _ link t is turns.probe_is;
-  said_is = c.note_said.ensures _ link t is turns.said_is;
 }

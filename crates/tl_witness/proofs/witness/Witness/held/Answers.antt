@@ -1,4 +1,4 @@
-use Rattle.std.proofs.Common.{sym}
+use Rattle.std.proofs.Common.{refl, sym}
 use Rattle.tl_memory.proofs.Kept.{item-there}
 use Rattle.tl_witness.proofs.Witnesses.{said-is, since-is}
 use Rattle.tl_witness.proofs.witness.Witness.held.Goals as goal
@@ -13,10 +13,10 @@ returns-in-None-clause-since c = λ w n block t k lt. absurd
 
 pub returns-in-Some-clause-said : goal.returns-in-Some-clause-said
 returns-in-Some-clause-said c = λ w n block t k lt.
-    said-is c.in-Some.recorder.now c.held_of.result c.args.link block t c.held_of.ensures
+    said-is c.in-Some.recorder.now c.in-Some.recorder.now.held c.args.link block t refl
     (k.each c.args.link c.in-Some.recorder.now (sym c.in-Some.ensures))
 
 pub returns-in-Some-clause-since : goal.returns-in-Some-clause-since
 returns-in-Some-clause-since c = λ w n block t k lt.
-    since-is c.in-Some.recorder.now c.held_of.result c.args.link block t c.held_of.ensures
+    since-is c.in-Some.recorder.now c.in-Some.recorder.now.held c.args.link block t refl
     (k.each c.args.link c.in-Some.recorder.now (sym c.in-Some.ensures))

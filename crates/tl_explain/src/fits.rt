@@ -1,0 +1,124 @@
+//! Whether the params of messages fit one another and what is held, on a link with liberties.
+
+ghost use Rattle.std.specs.Prelude.{◌≡◌};
+ghost use Rattle.tl_explain.specs.statement.Reasons;
+ghost use Rattle.tl_params.specs.statement.Param.{cap_of, prune_of, report_named};
+ghost use Rattle.tl_rules.specs.statement.Conformance;
+ghost use Rattle.tl_rules.specs.statement.Liberties as under;
+
+use tl_beat::beat::BeatD;
+use tl_beat::control::ControlA;
+use tl_beat::opcode::{OpA, OpD};
+use tl_params::liberties::Liberties;
+use tl_params::param::{Cap, Grow, Prune, Report};
+use tl_params::perm::Perm;
+use tl_params::report::report_of;
+
+/// The caps that answer an Acquire with this param: one, or two of them for `writer`.
+pub fn fits_grow(liberties: Liberties, opcode: OpA, param: u8, cap: u8) -> bool
+    ensures { result ≡ Conformance.fits_grow (under.profile_under liberties) opcode param cap }
+{
+    if param != Grow::NtoB.param() {
+        return cap == Cap::ToT.param();
+    }
+    if liberties.writer && opcode == OpA::AcquireBlock {
+        return cap == Cap::ToT.param() || cap == Cap::ToB.param();
+    }
+    cap == Cap::ToB.param()
+}
+
+/// Whether a Grant may be denied, and is: it gives nothing.
+fn gives_nothing<const W: usize>(liberties: Liberties, x: &BeatD<W>) -> bool
+    ensures { result ≡ Reasons.gives_nothing liberties x.now }
+{
+    liberties.denied && x.denied
+}
+
+/// Whether a request may not be given the cap of a Grant.
+pub fn has_wrong_cap<const W: usize>(liberties: Liberties, x: &BeatD<W>, request: ControlA) -> bool
+    ensures { result ≡ Reasons.has_wrong_cap liberties x.now request }
+{
+    !gives_nothing(liberties, x) && !fits_grow(liberties, request.opcode, request.param, x.param)
+}
+
+/// Whether a Grant lacks the data that a request wants, if this is held.
+pub fn lacks_data<const W: usize>(
+    liberties: Liberties,
+    x: &BeatD<W>,
+    request: ControlA,
+    held: Perm,
+) -> bool
+    ensures { result ≡ Reasons.lacks_data liberties x.now request held }
+{
+    !gives_nothing(liberties, x)
+        && x.opcode == OpD::Grant
+        && request.opcode == OpA::AcquireBlock
+        && held != Perm::Branch
+}
+
+/// Whether an Acquire with this param grows from what is held. BtoT grows from all but Trunk, NtoB and NtoT grow from
+/// nothing held, or with `drops` from anything.
+pub fn grows_from(liberties: Liberties, param: u8, perm: Perm) -> bool
+    ensures { result ≡ under.grows_from_under liberties param perm }
+{
+    if param == Grow::BtoT.param() {
+        perm != Perm::Trunk
+    } else {
+        liberties.drops || perm == Perm::None
+    }
+}
+
+/// Whether a Release with this param gives up what is held.
+fn prunes_from(param: u8, perm: Perm) -> bool
+    ensures { result ≡ Conformance.prunes_from (prune_of param) perm }
+{
+    match Prune::from_param(param) {
+        None => false,
+        Some(prune) => prune.left() == perm,
+    }
+}
+
+/// Whether a report starts from what is held.
+fn reports_from(param: u8, perm: Perm) -> bool
+    ensures { result ≡ under.reports_from (report_named param) perm }
+{
+    match Report::from_param(param) {
+        None => false,
+        Some(report) => report.left() == perm,
+    }
+}
+
+/// Whether a param says that nothing is held.
+fn reports_none(param: u8) -> bool
+    ensures { result ≡ under.reports_none param }
+{
+    param == Report::NtoN.param()
+}
+
+/// Whether a Release with this param starts from what is held.
+pub fn releases_from(liberties: Liberties, param: u8, perm: Perm) -> bool
+    ensures { result ≡ under.releases_from liberties param perm }
+{
+    if liberties.reports {
+        liberties.drops && reports_none(param) || reports_from(param, perm)
+    } else {
+        prunes_from(param, perm)
+    }
+}
+
+/// Whether a param is the report of a Probe's cap and of what is held.
+fn is_report(param: u8, cap: u8, perm: Perm) -> bool
+    ensures { result ≡ Conformance.is_report_at param (cap_of cap) perm }
+{
+    match Cap::from_param(cap) {
+        None => false,
+        Some(cap) => param == report_of(cap, perm).param(),
+    }
+}
+
+/// Whether a param isn't the report of a Probe's cap and of what is held.
+pub fn is_misreport(liberties: Liberties, param: u8, cap: u8, perm: Perm) -> bool
+    ensures { result ≡ Reasons.is_misreport liberties param cap perm }
+{
+    !(liberties.drops && reports_none(param)) && !is_report(param, cap, perm)
+}

@@ -1,0 +1,43 @@
+//! What is held of a block, and the message that left it so.
+
+ghost use Rattle.std.specs.Prelude.{ℕ, ◌≡◌, ◌&&◌, [], if◌then◌else◌, is_some, unwrap_or, Some};
+ghost use Rattle.tl_explain.specs.code.Recorded.{IsHeld};
+ghost use Rattle.tl_params.specs.declared.liberties.Liberties.{Liberties};
+
+use crate::told::Told;
+use tl_params::perm::Perm;
+
+/// What is held of a block, and the message that left it so, if there was one.
+#[derive(Clone, Copy)]
+pub struct Held {
+    pub perm: Perm,
+    pub since: Option<Told>,
+}
+
+impl Held {
+    /// Nothing is held before a message says something.
+    pub fn new() -> Self
+        ensures { (w n k : ℕ) (l : Liberties) → IsHeld {w = w} result l n k [] }
+    {
+        Held {
+            perm: Perm::None,
+            since: None,
+        }
+    }
+
+    /// Takes what a message says, if it is complete with this beat.
+    pub fn take(&mut self, last: bool, said: Option<Perm>, told: &Told)
+        ensures perm { self.new.perm ≡ (if last then unwrap_or said self.old.perm else self.old.perm) }
+        ensures since { self.new.since ≡ (if last && is_some said then Some told.now else self.old.since) }
+    {
+        let Some(perm) = said else {
+            return;
+        };
+        if last {
+            *self = Held {
+                perm,
+                since: Some(*told),
+            };
+        }
+    }
+}

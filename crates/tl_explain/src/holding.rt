@@ -1,0 +1,175 @@
+//! The words for what is held of a block, and for the params that fit it.
+
+ghost use Rattle.tl_beat.specs.statement.Width.{IsWidth};
+
+use crate::fits::{grows_from, is_misreport, releases_from};
+use crate::held::Held;
+use crate::names::Names;
+use crate::reason::cap_asked;
+use crate::recorder::Recorder;
+use crate::tell::tell_pending;
+use crate::told::Told;
+use crate::words::{address_of, append_told, perm_name};
+use std::io;
+use std::io::Write;
+use tl_beat::beat::Beat;
+use tl_params::key::Key;
+use tl_params::liberties::Liberties;
+use tl_params::param::{Grow, Report};
+use tl_params::perm::Perm;
+
+/// The reports, in the order of their numbers. The first three are the prunes of a Release.
+const REPORTS: [Report; 6] = [
+    Report::TtoB,
+    Report::TtoN,
+    Report::BtoN,
+    Report::TtoT,
+    Report::BtoB,
+    Report::NtoN,
+];
+
+/// The messages of which none stands before, if no message has said what is held.
+fn unsaid(liberties: Liberties) -> &'static str {
+    if liberties.denied {
+        "no Grant that isn't denied, no ProbeAck and no Release of it before"
+    } else {
+        "no Grant, ProbeAck or Release of it before"
+    }
+}
+
+/// What is held of a block, and the message that left it so.
+pub fn tell_held<const W: usize>(
+    liberties: Liberties,
+    block: u32,
+    held: &Held,
+    out: &mut Vec<u8>,
+) -> io::Result<()>
+    requires { IsWidth W }
+{
+    let address = address_of(block);
+    let name = perm_name(held.perm);
+    match &held.since {
+        None => {
+            let messages = unsaid(liberties);
+            write!(out, "  block {address:08x} is held as {name}: {messages}\n")
+        }
+        Some(told) => {
+            let line = told.mention.line;
+            write!(
+                out,
+                "  block {address:08x} is held as {name} since line {line}:\n"
+            )?;
+            append_told::<W>(told, out)
+        }
+    }
+}
+
+/// The grows that fit what is held.
+fn append_grows(liberties: Liberties, perm: Perm, out: &mut Vec<u8>) -> io::Result<()> {
+    let mut names = Names { any: false };
+    for grow in [Grow::NtoB, Grow::NtoT, Grow::BtoT] {
+        if grows_from(liberties, grow.param(), perm) {
+            names.append(grow.name(), out)?;
+        }
+    }
+    if !names.any {
+        out.write_all(b"no Acquire of this block")?;
+    }
+    Ok(())
+}
+
+/// The params of a Release that fit what is held.
+fn append_releases(liberties: Liberties, perm: Perm, out: &mut Vec<u8>) -> io::Result<()> {
+    let mut names = Names { any: false };
+    for report in REPORTS {
+        if releases_from(liberties, report.param(), perm) {
+            names.append(report.name(), out)?;
+        }
+    }
+    if !names.any {
+        out.write_all(b"no Release of this block")?;
+    }
+    Ok(())
+}
+
+/// A Probe of the block that is pending, if there is one.
+fn tell_probe_besides<const W: usize>(record: &Recorder, out: &mut Vec<u8>) -> io::Result<()>
+    requires { IsWidth W }
+{
+    match record.turns.probe.pending() {
+        None => Ok(()),
+        Some(probe) => tell_pending::<W>(Key::ProbeOf(record.subject.block), &probe, out),
+    }
+}
+
+/// What is held, if the param doesn't fit it.
+pub fn tell_holds<const W: usize>(
+    liberties: Liberties,
+    beat: &Beat<W>,
+    held: &Held,
+    record: &Recorder,
+    out: &mut Vec<u8>,
+) -> io::Result<()>
+    requires { IsWidth W }
+{
+    tell_held::<W>(liberties, record.subject.block, held, out)?;
+    tell_probe_besides::<W>(record, out)?;
+    out.write_all(b"  wanted: ")?;
+    match beat {
+        Beat::A(_) => append_grows(liberties, held.perm, out)?,
+        _ => append_releases(liberties, held.perm, out)?,
+    }
+    out.write_all(b"\n")
+}
+
+/// The request that needs data, by what is held.
+pub fn tell_without_data<const W: usize>(
+    liberties: Liberties,
+    request: &Told,
+    held: &Held,
+    block: u32,
+    out: &mut Vec<u8>,
+) -> io::Result<()>
+    requires { IsWidth W }
+{
+    let line = request.mention.line;
+    write!(out, "  the request, of line {line}, needs data:\n")?;
+    append_told::<W>(request, out)?;
+    tell_held::<W>(liberties, block, held, out)?;
+    out.write_all(b"  wanted: GrantData\n")
+}
+
+/// The reports to a Probe of this cap that fit what is held.
+fn append_reports(liberties: Liberties, cap: u8, perm: Perm, out: &mut Vec<u8>) -> io::Result<()> {
+    let mut names = Names { any: false };
+    for report in REPORTS {
+        if !is_misreport(liberties, report.param(), cap, perm) {
+            names.append(report.name(), out)?;
+        }
+    }
+    Ok(())
+}
+
+/// The Probe whose report is another, by what is held.
+pub fn tell_misreport<const W: usize>(
+    liberties: Liberties,
+    probe: &Told,
+    held: &Held,
+    block: u32,
+    out: &mut Vec<u8>,
+) -> io::Result<()>
+    requires { IsWidth W }
+{
+    let line = probe.mention.line;
+    write!(out, "  the Probe, of line {line}:\n")?;
+    append_told::<W>(probe, out)?;
+    tell_held::<W>(liberties, block, held, out)?;
+    match cap_asked(probe) {
+        None => Ok(()),
+        Some(cap) => {
+            out.write_all(b"  wanted: ")?;
+            append_reports(liberties, cap.param(), held.perm, out)?;
+            out.write_all(b"\n")
+        }
+    }
+}

@@ -1,7 +1,7 @@
 //! Reads the program's words: `tltool decode [--width 4|8|16] [FILE]`, `tltool monitor [--allow LIBERTIES] [--all N]
-//! [--report FILE] [--junit FILE] [FILE]`, `tltool coherent [--allow LIBERTIES] [--all N] [--report FILE] [--junit FILE] [FILE]`,
-//! `tltool explain [--coherent] FILE`, `tltool chart [--lines A-B] [--block BBB] [FILE]`, `tltool run [--trace] [FILE]`,
-//! `tltool random --seed N` with its options, and those that ask for help or the version.
+//! [--report FILE] [--junit FILE] [FILE]`, `tltool coherent` with the same options, `tltool explain [--coherent] FILE`,
+//! `tltool chart [--lines A-B] [--block BBB] [FILE]`, `tltool run [--trace] [FILE]`, `tltool random --seed N` with its
+//! options, and those that ask for help or the version.
 
 ghost use Rattle.std.specs.Prelude.{◌≡◌, IfOk, IfErr, MatchOption, true, false, List, Some, bytes_eq, codes, map, option_map};
 ghost use Rattle.std.specs.String.{string_bytes};

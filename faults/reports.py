@@ -34,6 +34,7 @@ TRACES = [
     ("two_caches.trace", "sed '1s/$/ \"\\\\é/'"),
     ("two_caches.trace", "sed '5s/$/\"/'"),
     ("two_caches.trace", "sed '1s/.*/tltrace 4 8 early,drops C C/'"),
+    ("two_caches.trace", "sed '1s/.*/tltrace 4 8 ids,drops C C/'"),
     ("wrong_report.trace", "sed '1s/.*/tltrace 4 8 standard C/'"),
 ]
 OPTIONS = [[], ["--all", "1"], ["--all", "2"], ["--all", "100"]]

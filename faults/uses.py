@@ -29,6 +29,8 @@ BLOCK = "the number of a block in three digits or in seven, of 0 to 9 and a to f
 LIBERTIES = "none, standard, or names of ids, sinks, writer, early, drops, reports, denied and uncorrupt, in this order, with a comma between them"
 NUMBER = "a number from 0 to 18446744073709551615"
 LIST = "1 to 16 clients with commas between them, each UL, UH or C with its number of sources from 1 to 8, as C:2,C:2,UH:1"
+LIBERTIES_TOGETHER = "none, or names of ids, sinks, writer, drops, reports, denied and uncorrupt, in this order, with a comma between them"
+
 # What each liberty allows: the last beat of a trace breaks the rule without it, and none with it.
 ACQUIRE, PERM, GET = "A 6 0 6 00 00000000 ff - 0", "A 7 1 6 00 00000000 ff - 0", "A 4 0 3 00 00000000 ff - 0"
 PUT, DATA, GRANT = "A 0 0 4 00 00000000 ff 0000000000000000 0", "D 5 1 6 00 00 0 0000000000000000 0", "D 4 0 6 00 00 0 - 0"
@@ -62,14 +64,21 @@ STILL = [
 ]
 
 
-def judged(liberties, beats):
+def judged(liberties, beats, command="monitor"):
     lines = " ".join(f"'00 {it}'" for it in beats)
-    return f"printf '%s\\n' 'tltrace 4 8 {liberties} C' {lines} | tltool monitor"
+    return f"printf '%s\\n' 'tltrace 4 8 {liberties} C' {lines} | tltool {command}"
 
 
-def allowed(header, liberties, beats, options=""):
+def allowed(header, liberties, beats, options="", command="monitor"):
     lines = " ".join(f"'00 {it}'" for it in beats)
-    return f"printf '%s\\n' '{header}' {lines} | tltool monitor --allow {liberties} {options}"
+    return f"printf '%s\\n' '{header}' {lines} | tltool {command} --allow {liberties} {options}"
+
+
+def together(liberties, lines):
+    """A trace of two caches, the first of which is granted Trunk, judged together."""
+    held = ["00 A 7 1 6 00 00000000 ff - 0", "00 D 4 0 6 00 00 0 - 0", "00 E 00", "01 A 7 1 6 00 00000000 ff - 0"]
+    words = " ".join(f"'{it}'" for it in (f"tltrace 4 8 {liberties} C C", *held, *lines))
+    return f"printf '%s\\n' {words} | tltool coherent"
 
 
 def explained(beats):
@@ -127,7 +136,11 @@ ROWS = [
     ("tltool monitor --allow late --report r.json two_caches.trace; ls r.json", 2, "", f"error: invalid value 'late' for '--allow <LIBERTIES>': {LIBERTIES}\n.."),
     ("tltool monitor --allow", 2, "", "error: .."),
     ("tltool monitor --allow early --allow drops two_caches.trace", 2, "", "error: .."),
-    *((f"tltool {it} --allow early two_caches.trace", 2, "", "error: unexpected argument '--allow' found..") for it in ("coherent", "explain", "chart", "decode", "run")),
+    *((f"tltool {it} --allow early two_caches.trace", 2, "", "error: unexpected argument '--allow' found..") for it in ("explain", "chart", "decode", "run")),
+    *(
+        (f"tltool coherent {options} --allow {word} two_caches.trace", 2, "", f"error: invalid value '{word}' for '--allow <LIBERTIES>': {LIBERTIES_TOGETHER}\n..")
+        for word in ("early", "standard", "early,drops", "drops,ids", "all") for options in ("", "--all 3", "--report r.json")
+    ),
     ("tltool monitor --all 1 --all 2", 2, "", "error: .."),
     ("tltool explain --all 2 two_caches.trace", 2, "", "error: unexpected argument '--all' found.."),
     # words of a chart
@@ -319,6 +332,17 @@ ROWS = [
     *((allowed("tltrace 1 C", it, beats, "--all 1"), 1, f"line {len(beats) + 1} {rule}\nfaults 1\n", "") for it, rule, beats in STILL),
     (allowed("tltrace 4 8 early,drops C", "denied", UNDER[4][2] + UNDER[0][2], "--all 9"), 1, "line 5 L2\nfaults 1\n", ""),
     (allowed("tltrace 2 8", "standard", UNDER[0][2]), 1, "line 1 F7\n", ""),
+    # all links together, under any liberties but `early`
+    *((judged(it, beats, "coherent"), 0, f"coherent {len(beats)}\n", "") for it, _, beats in UNDER if it != "early"),
+    *((judged("none", beats, "coherent"), 1, f"line {len(beats) + 1} {rule}\n", "") for it, rule, beats in UNDER if it != "early"),
+    *((allowed("tltrace 1 C", it, beats, command="coherent"), 0, f"coherent {len(beats)}\n", "") for it, _, beats in UNDER if it != "early"),
+    *((allowed("tltrace 1 C", it, beats, "--all 2", "coherent"), 0, f"coherent {len(beats)}\n", "") for it, _, beats in UNDER if it != "early"),
+    *((allowed("tltrace 1 C", "none", beats, "--all 2", "coherent"), 1, f"line {len(beats) + 1} {rule}\nfaults 1\n", "") for it, rule, beats in UNDER if it != "early"),
+    (allowed("tltrace 4 8 early C", "drops", [], command="coherent"), 1, F7.format(1), ""),
+    (together("drops", ["00 B 6 2 6 00 00000000 ff - 0", "00 C 4 5 6 00 00000000 - 0", "01 D 4 0 6 00 01 0 - 0"]), 0, "coherent 7\n", ""),
+    (together("drops", ["01 D 4 0 6 00 01 0 - 0"]), 1, "line 6 M1\n", ""),
+    (together("denied", ["01 D 4 0 6 00 01 1 - 0"]), 0, "coherent 5\n", ""),
+    (together("none", ["01 D 4 0 6 00 01 1 - 0"]), 1, "line 6 L6\n", ""),
     # an explanation ends with the liberties that would allow the beat
     *((explained(beats), 0, f"  (allowed under {it})\n", "") for it, _, beats in UNDER),
     (explained([PERM, GRANT, "E 00", PROBE, "C 4 2 6 00 00000000 - 0"]) + " | grep -c allowed", 1, "0\n", ""),

@@ -118,6 +118,11 @@ typedef struct tl_judge {
    4, 8 or 16 bytes, under profile 1 or 2, behind a handle that holds nothing. */
 tl_answer tl_judge_new(tl_judge *judge, const uint8_t *levels, size_t links, uint8_t width, uint8_t profile);
 
+/* The same of links that have these liberties (the sum of enum tl_liberty). TL_EARLY is TL_BAD_ARGUMENT: the
+   rules of memory do not say which bytes an answer may bring that begins before its request is complete. */
+tl_answer tl_judge_new_under(tl_judge *judge, const uint8_t *levels, size_t links, uint8_t width,
+                             uint8_t liberties);
+
 /* Judges a beat of a link, 0 to 15, after the earlier beats of all links: by the rules of its link, and
    then by those of memory. Beats are pushed in the order in which they were taken; those of one clock edge
    by channel, the A of each link, then B, C, D and E, so that a report stands before the Grant that it

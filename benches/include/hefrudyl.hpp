@@ -82,6 +82,16 @@ public:
     if (answer.code == TL_NO_MEMORY) throw std::bad_alloc();
     if (answer.code != TL_OK) throw std::invalid_argument("hefrudyl: levels, width or profile");
   }
+
+  /// A judge of links that have these liberties (the sum of enum tl_liberty), any but TL_EARLY.
+  static Judge under(const std::vector<std::uint8_t> &levels, std::uint8_t liberties, std::uint8_t width = 8) {
+    tl_judge made = {};
+    tl_answer answer = tl_judge_new_under(&made, levels.data(), levels.size(), width, liberties);
+    if (answer.code == TL_NO_MEMORY) throw std::bad_alloc();
+    if (answer.code != TL_OK) throw std::invalid_argument("hefrudyl: levels, width or liberties");
+    return Judge(made, Made());
+  }
+
   Judge(Judge &&other) noexcept : handle(other.handle) { other.handle = {}; }
   Judge &operator=(Judge &&other) noexcept {
     std::swap(handle, other.handle);
@@ -102,6 +112,8 @@ public:
   }
 
 private:
+  struct Made {};
+  Judge(tl_judge made, Made) : handle(made) {}
   tl_judge handle = {};
 };
 

@@ -251,8 +251,8 @@ def _load():
             call.restype, call.argtypes = _Answer, [handle, *arguments]
         free = getattr(library, f"tl_{name}_free")
         free.restype, free.argtypes = None, [handle]
-    library.tl_monitor_new_under.restype = _Answer
-    library.tl_monitor_new_under.argtypes = library.tl_monitor_new.argtypes
+        under = getattr(library, f"tl_{name}_new_under")
+        under.restype, under.argtypes = _Answer, getattr(library, f"tl_{name}_new").argtypes
     library.tl_monitor_entries.restype = _Answer
     library.tl_monitor_entries.argtypes = [ctypes.POINTER(_Monitor), ctypes.c_uint8, ctypes.POINTER(ctypes.c_uint64)]
     client, flag = ctypes.POINTER(_Client), ctypes.POINTER(ctypes.c_uint8)
@@ -373,9 +373,11 @@ class _Agent:
 class _Judging(_Agent):
     """What judges beats of 1 to 16 links of these levels, by the library's calls of a name."""
 
-    def __init__(self, name, handle, new, levels, width, kind, number):
+    def __init__(self, name, handle, levels, width, profile, liberties):
         super().__init__(handle, getattr(_library, f"tl_{name}_free"), width)
         self._push, self._push_line = (getattr(_library, f"tl_{name}_{it}") for it in ("push", "push_line"))
+        kind, number = ("profile", profile) if liberties is None else ("liberties", int(liberties))
+        new = getattr(_library, f"tl_{name}_new" if liberties is None else f"tl_{name}_new_under")
         codes = bytes(_field(level, "a level", 256) for level in levels)
         _taken(new(self._handle, codes, len(codes), _field(width, "width", 256), _field(number, kind, 256)),
                f"levels, width or {kind}")
@@ -392,11 +394,12 @@ class _Judging(_Agent):
 
 
 class Judge(_Judging):
-    """A judge of all links of one manager, of beats of `width` bytes, under profile 1 or 2: each beat after the earlier
-    beats of all links. Those of one clock edge come by channel, the A of each link, then B, C, D and E."""
+    """A judge of all links of one manager, of beats of `width` bytes, under profile 1 or 2 or, where they are given,
+    under these liberties, any but EARLY: each beat after the earlier beats of all links. Those of one clock edge come by
+    channel, the A of each link, then B, C, D and E."""
 
-    def __init__(self, levels, width=8, profile=1):
-        super().__init__("judge", _Judge(), _library.tl_judge_new, levels, width, "profile", profile)
+    def __init__(self, levels, width=8, profile=1, liberties=None):
+        super().__init__("judge", _Judge(), levels, width, profile, liberties)
 
 
 class Monitor(_Judging):
@@ -404,11 +407,7 @@ class Monitor(_Judging):
     given, under these liberties: each beat after the earlier beats of its own link."""
 
     def __init__(self, levels, width=8, profile=1, liberties=None):
-        if liberties is None:
-            super().__init__("monitor", _Monitor(), _library.tl_monitor_new, levels, width, "profile", profile)
-        else:
-            super().__init__("monitor", _Monitor(), _library.tl_monitor_new_under, levels, width, "liberties",
-                             int(liberties))
+        super().__init__("monitor", _Monitor(), levels, width, profile, liberties)
 
     def entries(self, link):
         """How many keys are pending on a link, and how many blocks are held there, together."""

@@ -21,20 +21,24 @@ template <typename Judging> struct CheckerBy : Checker {
 
 }  // namespace
 
-// `levels` has two bits for each link, the lowest for link 0; `liberties` is a sum of enum tl_liberty, which a judge
-// of all links doesn't take.
+// A judge or a monitor of these links, under a profile or, where there are liberties, under them.
+template <typename Judging>
+static Checker *checker_of(const std::vector<std::uint8_t> &levels, std::uint8_t width, int profile, int liberties) {
+  if (liberties == 0)
+    return new CheckerBy<Judging>(Judging(levels, width, static_cast<std::uint8_t>(profile)));
+  const auto set = static_cast<std::uint8_t>(liberties | (profile == 2 ? TL_WRITER : TL_NO_LIBERTIES));
+  return new CheckerBy<Judging>(Judging::under(levels, set, width));
+}
+
+// `levels` has two bits for each link, the lowest for link 0; `liberties` is a sum of enum tl_liberty.
 extern "C" void *tl_checker_open(int links, int levels, int width, int profile, int liberties, int together) {
   std::vector<std::uint8_t> codes;
   for (int i = 0; i < links; i++)
     codes.push_back(static_cast<std::uint8_t>((static_cast<unsigned>(levels) >> (2 * i)) & 3));
   try {
-    const auto bytes = static_cast<std::uint8_t>(width), of_profile = static_cast<std::uint8_t>(profile);
-    if (together)
-      return static_cast<Checker *>(new CheckerBy<hefrudyl::Judge>(hefrudyl::Judge(codes, bytes, of_profile)));
-    if (liberties == 0)
-      return static_cast<Checker *>(new CheckerBy<hefrudyl::Monitor>(hefrudyl::Monitor(codes, bytes, of_profile)));
-    const auto set = static_cast<std::uint8_t>(liberties | (profile == 2 ? TL_WRITER : TL_NO_LIBERTIES));
-    return static_cast<Checker *>(new CheckerBy<hefrudyl::Monitor>(hefrudyl::Monitor::under(codes, set, bytes)));
+    const auto bytes = static_cast<std::uint8_t>(width);
+    return together ? checker_of<hefrudyl::Judge>(codes, bytes, profile, liberties)
+                    : checker_of<hefrudyl::Monitor>(codes, bytes, profile, liberties);
   } catch (const std::exception &error) {
     std::fprintf(stderr, "tl_checker: %s\n", error.what());
     return nullptr;

@@ -64,6 +64,15 @@ def the_checker_of_a_link_takes_liberties():
     want("link 0 breaks H8: channel E" in told and "faults: 1 without liberties, 0 with them" in told, told)
 
 
+@test
+def the_checker_of_all_links_takes_liberties():
+    top = "test_judged_liberties"
+    sources = WATCH + CHECKERS + [f"tests/{top}.sv"]
+    told = run([verilator(top, top, sources, *DPI)])
+    want("link 1 breaks L6: channel D" in told and "link 1 breaks M1: channel D" in told, told)
+    want("faults: 1 without liberties, 0 with them, 1 undenied" in told, told)
+
+
 # What doesn't fit, by module: a parameter, and the name that says what is wanted.
 RECORDER_LIMITS = [
     ("LINK(16)", "tl_links_are_0_to_15"), ("W(32)", "tl_W_is_4_8_or_16"), ("SOURCE_BITS(9)", "tl_SOURCE_BITS_is_1_to_8"),
@@ -82,7 +91,7 @@ SHARED_LIMITS = [
         ".FIRST_SOURCES(16'h0300), .LAST_SOURCES(16'h0703)")),
 ]
 CHECKER_LIMITS = [
-    ("LIBERTIES(8)", "tl_rules_between_links_take_no_LIBERTIES"), ("LIBERTIES(256), .TOGETHER(0)", "tl_LIBERTIES_is_0_to_255"),
+    ("LIBERTIES(8)", "tl_rules_between_links_take_no_LIBERTY_EARLY"), ("LIBERTIES(256), .TOGETHER(0)", "tl_LIBERTIES_is_0_to_255"),
     ("PROFILE(3)", "tl_PROFILE_is_1_or_2"), ("LEVELS(4'b1110)", "tl_LEVELS_are_0_1_or_2"), ("W(5)", "tl_W_is_4_8_or_16"),
 ]
 AGENT_LIMITS = [

@@ -94,6 +94,48 @@ def liberties_of_a_profile_are_the_profile():
             want(told == first_fault(module, liberties, lines), f"profile {profile}: {told}: {lines}")
 
 
+# Traces of two links of one manager that a judge of both takes under a liberty, and the rule that the last beat breaks.
+TAKEN_ALONE = ["00 A 7 1 6 00 00000000 ff - 0", "00 D 4 0 6 00 00 0 - 0", "00 E 00", "01 A 7 1 6 00 00000000 ff - 0"]
+PROBED_AWAY = ["00 B 6 2 6 00 00000000 ff - 0", "00 C 4 5 6 00 00000000 - 0"]
+TOGETHER = [
+    # what was dropped is another's when a Probe's answer says so, and not before
+    ("DROPS", [*TAKEN_ALONE, *PROBED_AWAY, "01 D 4 0 6 00 01 0 - 0"], ""),
+    ("DROPS", [*TAKEN_ALONE, "01 D 4 0 6 00 01 0 - 0"], "M1"),
+    # a denied Grant gives nothing, beside a writer too
+    ("DENIED", [*TAKEN_ALONE, "01 D 4 0 6 00 01 1 - 0"], ""),
+    ("DENIED", [*TAKEN_ALONE, "01 D 4 0 6 00 01 0 - 0"], "M1"),
+]
+
+
+def first_fault_of_all(module, liberties, levels, lines):
+    """The rule that the last beat of a trace of all links of a manager breaks, or none; the beats before it break none."""
+    with module.Judge(levels, liberties=liberties) as judge:
+        for line in lines[:-1]:
+            want(judge.push_line(f"{line}\n".encode()).code == module.Code.OK, f"{lines}: {line} is at fault")
+        return judge.push_line(f"{lines[-1]}\n".encode()).rule
+
+
+@test
+def a_judge_of_all_links_takes_each_liberty_but_early():
+    module = python_module()
+    caches = [module.Level.C, module.Level.C]
+    for name, lines, rule in ALLOWED:
+        if name != "EARLY":
+            want(first_fault_of_all(module, module.Liberty[name], caches, lines) == "", f"{name}: {lines}")
+            told = first_fault_of_all(module, 0, caches, lines)
+            want(told == rule, f"without {name}: {told}, wanted {rule}: {lines}")
+    for name, lines, rule in TOGETHER:
+        told = first_fault_of_all(module, module.Liberty[name], caches, lines)
+        want(told == rule, f"{name}: {told}, wanted {rule}: {lines}")
+    for liberties in (module.Liberty.EARLY, module.Liberty.STANDARD, 255):
+        try:
+            module.Judge(caches, liberties=liberties)
+        except ValueError as error:
+            want("liberties" in str(error), str(error))
+        else:
+            want(False, f"a judge was made under {liberties}")
+
+
 # ---- names
 
 # The numbers of docs/PROTOCOL.md's liberties, in its order; and what stands for several.

@@ -29,14 +29,16 @@ static tl_beat asked(uint8_t opcode, uint8_t size, uint8_t width) {
 
 static tl_answer push(tl_judge *judge, uint8_t link, tl_beat beat) { return tl_judge_push(judge, link, &beat); }
 
-/* A judge of two links, the first of which holds block 0 as Trunk. */
-static tl_judge beside_a_writer(uint8_t width) {
+/* A judge of two links that have these liberties, the first of which holds block 0 as Trunk. */
+static tl_judge beside_a_writer_under(uint8_t width, uint8_t liberties) {
   tl_judge judge = {0};
-  want(tl_judge_new(&judge, levels, 2, width, 1).code == TL_OK, "a judge is made");
+  want(tl_judge_new_under(&judge, levels, 2, width, liberties).code == TL_OK, "a judge is made");
   want(push(&judge, 0, asked(TL_A_AcquirePerm, 6, width)).code == TL_OK, "an Acquire");
   want(push(&judge, 0, grant).code == TL_OK, "its Grant");
   return judge;
 }
+
+static tl_judge beside_a_writer(uint8_t width) { return beside_a_writer_under(width, TL_NO_LIBERTIES); }
 
 static void two_writers(uint8_t width) {
   tl_judge judge = beside_a_writer(width);
@@ -48,6 +50,17 @@ static void two_writers(uint8_t width) {
   want(push(&judge, 1, second).code == TL_CLOSED, "a closed judge stays closed");
   tl_judge_free(&judge);
   want(judge.full == 0, "a handle that was freed holds nothing");
+}
+
+/* A denied Grant gives nothing, and may come beside a writer. */
+static void a_denied_grant(uint8_t width) {
+  tl_judge judge = beside_a_writer_under(width, TL_DENIED);
+  tl_beat denied = grant;
+  denied.sink = 1;
+  denied.denied = 1;
+  want(push(&judge, 1, asked(TL_A_AcquirePerm, 6, width)).code == TL_OK, "a second Acquire");
+  want(push(&judge, 1, denied).code == TL_OK, "a denied Grant");
+  tl_judge_free(&judge);
 }
 
 static void an_access_beside_a_writer(uint8_t width) {
@@ -99,6 +112,7 @@ static void what_is_refused(void) {
   want(tl_judge_new(&judge, many, 0, 8, 1).code == TL_BAD_ARGUMENT, "no links");
   want(tl_judge_new(&judge, many, 17, 8, 1).code == TL_BAD_ARGUMENT, "17 links");
   want(tl_judge_new(&judge, levels, 2, 9, 1).code == TL_BAD_ARGUMENT, "a width of 9");
+  want(tl_judge_new_under(&judge, levels, 2, 8, TL_STANDARD).code == TL_BAD_ARGUMENT, "early answers");
   want(judge.full == 0, "nothing was made");
   want(tl_judge_new(&judge, many, 16, 16, 2).code == TL_OK, "16 links");
   want(tl_judge_new(&judge, levels, 2, 8, 1).code == TL_BAD_ARGUMENT, "a handle that holds a judge");
@@ -117,6 +131,7 @@ int main(void) {
     two_writers(widths[i]);
     stale_bytes(widths[i]);
     an_access_beside_a_writer(widths[i]);
+    a_denied_grant(widths[i]);
   }
   a_rule_of_the_link_comes_first();
   what_is_refused();

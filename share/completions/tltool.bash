@@ -11,7 +11,11 @@ _tltool() {
         return
     fi
     if [[ $previous == --allow ]]; then
-        COMPREPLY=($(compgen -W 'none standard ids sinks writer early drops reports denied uncorrupt' -- "$current"))
+        if [[ ${COMP_WORDS[1]} == coherent ]]; then
+            COMPREPLY=($(compgen -W 'none ids sinks writer drops reports denied uncorrupt' -- "$current"))
+        else
+            COMPREPLY=($(compgen -W 'none standard ids sinks writer early drops reports denied uncorrupt' -- "$current"))
+        fi
         return
     fi
     if [[ $previous == --profile ]]; then
@@ -21,7 +25,7 @@ _tltool() {
     case ${COMP_WORDS[1]} in
     decode) options='--width --help -h' ;;
     monitor) options='--allow --all --report --junit --help -h' ;;
-    coherent) options='--all --report --junit --help -h' ;;
+    coherent) options='--allow --all --report --junit --help -h' ;;
     explain) options='--coherent --help -h' ;;
     chart) options='--lines --block --help -h' ;;
     run) options='--trace --help -h' ;;

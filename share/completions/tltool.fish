@@ -14,6 +14,7 @@ complete -c tltool -n '__fish_seen_subcommand_from monitor' -l allow -x -a 'none
 complete -c tltool -n '__fish_seen_subcommand_from monitor' -l all -x -d 'go on behind up to so many lines at fault'
 complete -c tltool -n '__fish_seen_subcommand_from monitor' -l report -r -F -d 'write a report in JSON'
 complete -c tltool -n '__fish_seen_subcommand_from monitor' -l junit -r -F -d 'write a report in XML'
+complete -c tltool -n '__fish_seen_subcommand_from coherent' -l allow -x -a 'none ids sinks writer drops reports denied uncorrupt' -d 'what links may do besides what the header names'
 complete -c tltool -n '__fish_seen_subcommand_from coherent' -l all -x -d 'go on behind up to so many lines at fault'
 complete -c tltool -n '__fish_seen_subcommand_from coherent' -l report -r -F -d 'write a report in JSON'
 complete -c tltool -n '__fish_seen_subcommand_from coherent' -l junit -r -F -d 'write a report in XML'

@@ -1,12 +1,12 @@
 //! What monitors, judges, clients and managers are made from, as C names it.
 
-ghost use Rattle.std.specs.Prelude.{◌≡◌, ◌≤◌, map, length, IfOk};
+ghost use Rattle.std.specs.Prelude.{◌≡◌, ◌≤◌, false, map, length, IfOk};
 ghost use Rattle.tl_beat.specs.statement.Width.{IsWidth};
 ghost use Rattle.hefrudyl.specs.statement.Opened.{may_open, may_open_under, new_answer, Makes, MakesUnder};
 ghost use Rattle.tl_pictures.specs.statement.Codes.{level_at};
 ghost use Rattle.hefrudyl.specs.statement.ClientOpened.{may_open_client, MakesClient};
 ghost use Rattle.hefrudyl.specs.statement.ManagerOpened.{may_open_manager, MakesManager};
-ghost use Rattle.hefrudyl.specs.statement.TogetherOpened.{MakesJudge};
+ghost use Rattle.hefrudyl.specs.statement.TogetherOpened.{MakesJudge, may_judge_under};
 
 use std::alloc::{AllocError, Global};
 use tl_monitor::monitor::Monitor;
@@ -17,6 +17,7 @@ use tl_ports::client::ClientPort;
 use tl_ports::manager::ManagerPort;
 use tl_rules::config::{ClientConfig, MOST_CLIENTS, NewFault};
 use tl_rules::level::Level;
+use tl_rules::liberties::Liberties;
 use tl_together::fault::JudgeFault;
 use tl_together::judge::Judge;
 
@@ -76,19 +77,27 @@ pub fn make_under<const W: usize>(
     }
 }
 
+/// 1 to 16 levels, 0 to 2 each, a width of 4, 8 or 16 and liberties without `early`.
+pub fn may_judge_under(codes: &[u8], width: u8, liberties: u8) -> bool
+    ensures { result ≡ may_judge_under codes.now width liberties }
+{
+    may_open_under(codes, width) && !liberties_of(liberties).early
+}
+
 /// A judge of all links that has seen no beat.
 pub fn make_judge<const W: usize>(
     alloc: Global,
     codes: &[u8],
-    profile: u8,
+    liberties: Liberties,
 ) -> Result<Judge<W>, Answer>
     requires width { IsWidth W }
-    ensures { MakesJudge codes.now profile result }
+    requires late { liberties.early ≡ false }
+    ensures { MakesJudge codes.now liberties result }
 {
     let Ok(levels) = levels_of(alloc, codes) else {
         return Err(Answer::NO_MEMORY);
     };
-    match Judge::new(alloc, levels.as_slice(), profile_of(profile)) {
+    match Judge::with_liberties(alloc, levels.as_slice(), liberties) {
         Ok(judge) => Ok(judge),
         Err(JudgeFault::Memory) => Err(Answer::NO_MEMORY),
         Err(_) => Err(Answer::BAD),

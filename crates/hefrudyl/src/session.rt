@@ -1,8 +1,9 @@
 //! What a handle holds.
 
-ghost use Rattle.hefrudyl.specs.statement.Opened.{OpensTo, OpensUnder, ok_of, answer_in};
+ghost use Rattle.std.specs.Prelude.{◌≡◌, false, true};
+ghost use Rattle.hefrudyl.specs.statement.Opened.{OpensTo, OpensUnder, may_open_under, ok_of, answer_in};
 ghost use Rattle.hefrudyl.specs.statement.Sessions.{PushSession, LineSession, EntriesSession};
-ghost use Rattle.hefrudyl.specs.statement.Sessions.{JudgeOpens, JudgesSession, JudgesLineSession};
+ghost use Rattle.hefrudyl.specs.statement.Sessions.{JudgeOpens, JudgeOpensUnder, JudgesSession, JudgesLineSession, OpensJudge};
 ghost use Rattle.hefrudyl.specs.statement.Sessions.{ClientOpens, AsksSession, OffersSession, StallsSession};
 ghost use Rattle.hefrudyl.specs.statement.Sessions.{NextSession, PopSession, HeldSession, CopySession, ClosedSession};
 ghost use Rattle.hefrudyl.specs.statement.Sessions.{ManagerOpens, AdmitsSession, StallsAtSession, NextAtSession};
@@ -13,16 +14,18 @@ use crate::judge::AnyJudge;
 use crate::manager::AnyManager;
 use crate::monitor::AnyMonitor;
 use crate::opening::{
-    make, make_client, make_judge, make_manager, make_under, may_open, may_open_client,
-    may_open_manager, may_open_under,
+    make, make_client, make_judge, make_manager, make_under, may_judge_under, may_open,
+    may_open_client, may_open_manager, may_open_under,
 };
 use crate::{client, judge, manager, monitor};
 use std::alloc::Global;
 use tl_pictures::answer::Answer;
+use tl_pictures::codes::{liberties_of, profile_of};
 use tl_pictures::config::LinkConfig;
 use tl_pictures::operation::Operation;
 use tl_pictures::outcome::{Outcome, Reception};
 use tl_pictures::picture::Picture;
+use tl_rules::liberties::Liberties;
 
 /// What a handle holds: a monitor, a judge of all links, or a client or manager with the beats that it has
 /// still to send.
@@ -105,6 +108,26 @@ impl Session {
         of_any!(Monitor, AnyMonitor, self, held => monitor::entries(held, link, entries))
     }
 
+    /// A new judge of all links of a manager, of the width, that have these liberties.
+    fn judge_of(
+        alloc: Global,
+        codes: &[u8],
+        width: u8,
+        liberties: Liberties,
+    ) -> Result<Session, Answer>
+        requires fits { may_open_under codes.now width ≡ true }
+        requires late { liberties.early ≡ false }
+        ensures told { OpensJudge codes.now width liberties true (ok_of result) (answer_in result) }
+    {
+        let judge = match width {
+            4 => AnyJudge::Four(make_judge(alloc, codes, liberties)?),
+            8 => AnyJudge::Eight(make_judge(alloc, codes, liberties)?),
+            16 => AnyJudge::Sixteen(make_judge(alloc, codes, liberties)?),
+            _ => return Err(Answer::BAD),
+        };
+        Ok(Session::Judge(judge))
+    }
+
     /// A new judge of all links of a manager, of the width.
     pub fn open_judge(
         alloc: Global,
@@ -117,13 +140,22 @@ impl Session {
         if !may_open(codes, width, profile) {
             return Err(Answer::BAD);
         }
-        let judge = match width {
-            4 => AnyJudge::Four(make_judge(alloc, codes, profile)?),
-            8 => AnyJudge::Eight(make_judge(alloc, codes, profile)?),
-            16 => AnyJudge::Sixteen(make_judge(alloc, codes, profile)?),
-            _ => return Err(Answer::BAD),
-        };
-        Ok(Session::Judge(judge))
+        Self::judge_of(alloc, codes, width, Liberties::of(profile_of(profile)))
+    }
+
+    /// A new judge of all links of a manager, of the width, that have these liberties: any but `early`.
+    pub fn open_judge_under(
+        alloc: Global,
+        codes: &[u8],
+        width: u8,
+        liberties: u8,
+    ) -> Result<Session, Answer>
+        ensures told { JudgeOpensUnder codes.now width liberties (ok_of result) (answer_in result) }
+    {
+        if !may_judge_under(codes, width, liberties) {
+            return Err(Answer::BAD);
+        }
+        Self::judge_of(alloc, codes, width, liberties_of(liberties))
     }
 
     /// Judges a beat of a link together with those of all links, where a judge is held.

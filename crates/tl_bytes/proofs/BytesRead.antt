@@ -5,7 +5,9 @@ use Rattle.std.proofs.Common.{◌≡◌, ℕ, refl, List, [], ◌∷◌}
 use Rattle.std.specs.Prelude.{replicate, Some, None}
 use Rattle.tl_rules.specs.statement.Admission.{bytes_carried}
 use Rattle.tl_rules.specs.statement.Effect.{effect, number_from}
-use Rattle.tl_rules.specs.statement.History.{grant_sink, held, pending, probe_of, release_of, request_of}
+use Rattle.tl_rules.specs.statement.History.{grant_sink, pending, probe_of, release_of, request_of}
+use Rattle.tl_rules.specs.statement.Liberties.{held_under}
+use Rattle.tl_bytes.specs.statement.Free.{all_but_early}
 use Rattle.tl_bytes.specs.statement.Bytes.{carried_mask, each_from, before_last}
 use Rattle.tl_bytes.proofs.WorkedBeats.{eight, put, part, done, get, add, found, untrue_from, untrue}
 
@@ -15,14 +17,14 @@ use Rattle.tl_bytes.proofs.WorkedBeats.{eight, put, part, done, get, add, found,
 unknown_bytes : untrue {w = 8} (get 1 0 3 255 ∷ found 1 0 3 (eight 9) ∷ []) ≡ None
 unfolding untrue_from may_be may_read pending_accesses carried_byte bytes_carried carried_mask windows_since
     window_began last_window last_told each_from before_last effect unfinished on_link request_of release_of probe_of
-    grant_sink pending held is_free
+    grant_sink pending held_under all_but_early is_free
 unknown_bytes = refl
 
 -- after a Put is answered, what it wrote
 new_bytes : untrue {w = 8} (put 0 0 3 (eight 7) 255 ∷ done 0 0 3 ∷ get 1 0 3 255 ∷ found 1 0 3 (eight 7) ∷ []) ≡ None
 unfolding untrue_from may_be may_read pending_accesses carried_byte bytes_carried carried_mask windows_since
     window_began last_window last_told each_from before_last effect unfinished on_link request_of release_of probe_of
-    grant_sink pending held is_free
+    grant_sink pending held_under all_but_early is_free
 new_bytes = refl
 
 -- and nothing else
@@ -30,7 +32,7 @@ stale_bytes : untrue {w = 8} (put 0 0 3 (eight 7) 255 ∷ done 0 0 3 ∷ get 1 0
     ≡ Some 3
 unfolding untrue_from may_be may_read pending_accesses carried_byte bytes_carried carried_mask windows_since
     window_began last_window last_told each_from before_last effect unfinished on_link request_of release_of probe_of
-    grant_sink pending held is_free
+    grant_sink pending held_under all_but_early is_free
 stale_bytes = refl
 
 -- a Put of some bytes writes those
@@ -38,7 +40,7 @@ a_put_of_one_byte : untrue {w = 8} (put 0 0 3 (eight 5) 255 ∷ done 0 0 3 ∷ p
     3 255 ∷ found 1 0 3 (7 ∷ replicate 7 5) ∷ []) ≡ None
 unfolding untrue_from may_be may_read pending_accesses carried_byte bytes_carried carried_mask windows_since
     window_began last_window last_told each_from before_last effect unfinished on_link request_of release_of probe_of
-    grant_sink pending held is_free
+    grant_sink pending held_under all_but_early is_free
 a_put_of_one_byte = refl
 
 -- and no others
@@ -46,7 +48,7 @@ bytes_beside_a_put : untrue {w = 8} (put 0 0 3 (eight 5) 255 ∷ done 0 0 3 ∷ 
     0 3 255 ∷ found 1 0 3 (eight 7) ∷ []) ≡ Some 5
 unfolding untrue_from may_be may_read pending_accesses carried_byte bytes_carried carried_mask windows_since
     window_began last_window last_told each_from before_last effect unfinished on_link request_of release_of probe_of
-    grant_sink pending held is_free
+    grant_sink pending held_under all_but_early is_free
 bytes_beside_a_put = refl
 
 -- beside a Put that is pending, what was before
@@ -54,7 +56,7 @@ read_before_a_put : untrue {w = 8} (put 0 0 3 (eight 5) 255 ∷ done 0 0 3 ∷ p
     255 ∷ found 1 0 3 (eight 5) ∷ []) ≡ None
 unfolding untrue_from may_be may_read pending_accesses carried_byte bytes_carried carried_mask windows_since
     window_began last_window last_told each_from before_last effect unfinished on_link request_of release_of probe_of
-    grant_sink pending held is_free
+    grant_sink pending held_under all_but_early is_free
 read_before_a_put = refl
 
 -- or what it writes
@@ -62,7 +64,7 @@ read_after_a_put : untrue {w = 8} (put 0 0 3 (eight 5) 255 ∷ done 0 0 3 ∷ pu
     255 ∷ found 1 0 3 (eight 7) ∷ []) ≡ None
 unfolding untrue_from may_be may_read pending_accesses carried_byte bytes_carried carried_mask windows_since
     window_began last_window last_told each_from before_last effect unfinished on_link request_of release_of probe_of
-    grant_sink pending held is_free
+    grant_sink pending held_under all_but_early is_free
 read_after_a_put = refl
 
 -- and nothing else
@@ -70,7 +72,7 @@ read_from_nowhere : untrue {w = 8} (put 0 0 3 (eight 5) 255 ∷ done 0 0 3 ∷ p
     255 ∷ found 1 0 3 (eight 6) ∷ []) ≡ Some 4
 unfolding untrue_from may_be may_read pending_accesses carried_byte bytes_carried carried_mask windows_since
     window_began last_window last_told each_from before_last effect unfinished on_link request_of release_of probe_of
-    grant_sink pending held is_free
+    grant_sink pending held_under all_but_early is_free
 read_from_nowhere = refl
 
 -- of two Puts that overlap either may have come last
@@ -78,7 +80,7 @@ either_came_last : untrue {w = 8} (put 0 0 3 (eight 5) 255 ∷ put 1 0 3 (eight 
     3 255 ∷ found 1 0 3 (eight 7) ∷ []) ≡ None
 unfolding untrue_from may_be may_read pending_accesses carried_byte bytes_carried carried_mask windows_since
     window_began last_window last_told each_from before_last effect unfinished on_link request_of release_of probe_of
-    grant_sink pending held is_free
+    grant_sink pending held_under all_but_early is_free
 either_came_last = refl
 
 -- of two Puts, one after the other, the second came last
@@ -86,7 +88,7 @@ second_came_last : untrue {w = 8} (put 0 0 3 (eight 5) 255 ∷ done 0 0 3 ∷ pu
     3 255 ∷ found 1 0 3 (eight 5) ∷ []) ≡ Some 5
 unfolding untrue_from may_be may_read pending_accesses carried_byte bytes_carried carried_mask windows_since
     window_began last_window last_told each_from before_last effect unfinished on_link request_of release_of probe_of
-    grant_sink pending held is_free
+    grant_sink pending held_under all_but_early is_free
 second_came_last = refl
 
 -- an atomic finds the old number
@@ -94,7 +96,7 @@ an_atomic_finds : untrue {w = 8} (put 0 0 3 (eight 255) 255 ∷ done 0 0 3 ∷ a
     3 (eight 255) ∷ []) ≡ None
 unfolding untrue_from may_be may_read pending_accesses carried_byte bytes_carried carried_mask windows_since
     window_began last_window last_told each_from before_last effect unfinished on_link request_of release_of probe_of
-    grant_sink pending held is_free
+    grant_sink pending held_under all_but_early is_free
 an_atomic_finds = refl
 
 -- and not the new one
@@ -102,7 +104,7 @@ an_atomic_answers_the_new : untrue {w = 8} (put 0 0 3 (eight 255) 255 ∷ done 0
     255 ∷ found 1 0 3 (eight 0) ∷ []) ≡ Some 3
 unfolding untrue_from may_be may_read pending_accesses carried_byte bytes_carried carried_mask windows_since
     window_began last_window last_told each_from before_last effect unfinished on_link request_of release_of probe_of
-    grant_sink pending held is_free
+    grant_sink pending held_under all_but_early is_free
 an_atomic_answers_the_new = refl
 
 -- an ADD wraps
@@ -110,7 +112,7 @@ an_add_wraps : untrue {w = 8} (add 0 0 3 (1 ∷ replicate 7 0) 255 ∷ found 0 0
     (eight 0) ∷ []) ≡ None
 unfolding untrue_from may_be may_read pending_accesses carried_byte bytes_carried carried_mask windows_since
     window_began last_window last_told each_from before_last effect unfinished on_link request_of release_of probe_of
-    grant_sink pending held is_free number_from
+    grant_sink pending held_under all_but_early is_free number_from
 an_add_wraps = refl
 
 -- and carries within its bytes
@@ -118,7 +120,7 @@ an_add_that_is_lost : untrue {w = 8} (add 0 0 3 (1 ∷ replicate 7 0) 255 ∷ fo
     255 ∷ found 1 0 3 (0 ∷ replicate 7 255) ∷ []) ≡ Some 3
 unfolding untrue_from may_be may_read pending_accesses carried_byte bytes_carried carried_mask windows_since
     window_began last_window last_told each_from before_last effect unfinished on_link request_of release_of probe_of
-    grant_sink pending held is_free number_from
+    grant_sink pending held_under all_but_early is_free number_from
 an_add_that_is_lost = refl
 
 -- ---- four bytes a beat
@@ -137,7 +139,7 @@ a_get_between_the_beats_of_an_answer : untrue
     (adding (found 0 0 3 fives ∷ get 1 0 2 15 ∷ found 1 0 2 (6 ∷ 5 ∷ 5 ∷ 5 ∷ []) ∷ found 0 0 3 fives ∷ [])) ≡ None
 unfolding untrue_from may_be may_read pending_accesses carried_byte bytes_carried carried_mask windows_since
     window_began last_window last_told each_from before_last effect unfinished on_link request_of release_of probe_of
-    grant_sink pending held is_free number_from
+    grant_sink pending held_under all_but_early is_free number_from
 a_get_between_the_beats_of_an_answer = refl
 
 -- after them it may bring nothing else
@@ -145,7 +147,7 @@ a_get_after_an_answer : untrue (adding (found 0 0 3 fives ∷ found 0 0 3 fives 
     ≡ Some 8
 unfolding untrue_from may_be may_read pending_accesses carried_byte bytes_carried carried_mask windows_since
     window_began last_window last_told each_from before_last effect unfinished on_link request_of release_of probe_of
-    grant_sink pending held is_free number_from
+    grant_sink pending held_under all_but_early is_free number_from
 a_get_after_an_answer = refl
 
 -- what is written after an answer has begun isn't in it
@@ -154,5 +156,5 @@ a_write_after_an_answer_began : untrue {w = 4} (put 0 0 3 fives 15 ∷ put 0 0 3
     (replicate 4 7) ∷ []) ≡ Some 8
 unfolding untrue_from may_be may_read pending_accesses carried_byte bytes_carried carried_mask windows_since
     window_began last_window last_told each_from before_last effect unfinished on_link request_of release_of probe_of
-    grant_sink pending held is_free
+    grant_sink pending held_under all_but_early is_free
 a_write_after_an_answer_began = refl

@@ -13,4 +13,4 @@ pub use Rattle.tl_bytes.specs.statement.Known.{KnowsBlock, tellings_of}
 unfoldable pub use Rattle.tl_bytes.specs.statement.Known.{tellings_at}
 pub use Rattle.tl_rules.specs.statement.Conformance.{Trace}
 unfoldable pub use Rattle.tl_rules.specs.statement.Conformance.{on_link}
-unfoldable pub use Rattle.tl_rules.specs.statement.Windows.{is_free}
+unfoldable pub use Rattle.tl_bytes.specs.statement.Free.{is_free}

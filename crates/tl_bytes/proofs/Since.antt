@@ -33,26 +33,26 @@ later own was free k e = rw e refl
 
 -- the first, at the moment at which the request is complete
 pub since_now : {w : ℕ} (n block asked : ℕ) (x : Link × Beat w) (t : Trace w) → asked ≡ suc (length t)
-    → windows_since n block asked (x ∷ t) ≡ (if is_free n None Perm.Trunk block (x ∷ t) then 1 else 0)
+    → windows_since n block asked (x ∷ t) ≡ (if is_free n Perm.Trunk block (x ∷ t) then 1 else 0)
 unfolding windows_since
 since_now n block asked x t now =
-    since (nat_lt (suc (length t)) asked) (suc (length t) == asked) (is_free n None Perm.Trunk block t)
-    (is_free n None Perm.Trunk block (x ∷ t)) (windows_since n block asked t)
+    since (nat_lt (suc (length t)) asked) (suc (length t) == asked) (is_free n Perm.Trunk block t)
+    (is_free n Perm.Trunk block (x ∷ t)) (windows_since n block asked t)
     (le-ltb (suc (length t)) asked (omega arith))
-    ∙ at_once (suc (length t) == asked) (is_free n None Perm.Trunk block t) (is_free n None Perm.Trunk block (x ∷ t))
+    ∙ at_once (suc (length t) == asked) (is_free n Perm.Trunk block t) (is_free n Perm.Trunk block (x ∷ t))
     (windows_since n block asked t) (eq-eqb (suc (length t)) asked (sym now))
     (none_before n block asked t (omega arith))
 
 -- one more where the block is free, and wasn't
 pub since_more : {w : ℕ} (n block asked : ℕ) (x : Link × Beat w) (t : Trace w) → asked ≤ length t
     → windows_since n block asked (x ∷ t) ≡ windows_since n block asked
-    t + (if is_free n None Perm.Trunk block (x ∷ t) && not (is_free n None Perm.Trunk block t) then 1 else 0)
+    t + (if is_free n Perm.Trunk block (x ∷ t) && not (is_free n Perm.Trunk block t) then 1 else 0)
 unfolding windows_since
 since_more n block asked x t le =
-    since (nat_lt (suc (length t)) asked) (suc (length t) == asked) (is_free n None Perm.Trunk block t)
-    (is_free n None Perm.Trunk block (x ∷ t)) (windows_since n block asked t)
+    since (nat_lt (suc (length t)) asked) (suc (length t) == asked) (is_free n Perm.Trunk block t)
+    (is_free n Perm.Trunk block (x ∷ t)) (windows_since n block asked t)
     (le-ltb (suc (length t)) asked (omega arith))
-    ∙ later (suc (length t) == asked) (is_free n None Perm.Trunk block t) (is_free n None Perm.Trunk block (x ∷ t))
+    ∙ later (suc (length t) == asked) (is_free n Perm.Trunk block t) (is_free n Perm.Trunk block (x ∷ t))
     (windows_since n block asked t) (ne_eqb (suc (length t)) asked (omega arith))
 
 began : (after was : Bool) (k m : ℕ) → after && was ≡ false → (if after && was then k else m) ≡ m
@@ -60,7 +60,7 @@ began after was k m e = rw e refl
 
 -- the windows of an access whose request is complete now
 pub asked_now : {w : ℕ} (free : Bool) (seen : WindowCount) (asked last n block : ℕ) (x : Link × Beat w) (t : Trace w)
-    → seen ≡ (if free then WindowCount.One else WindowCount.Zero) → free ≡ is_free n None Perm.Trunk block (x ∷ t)
+    → seen ≡ (if free then WindowCount.One else WindowCount.Zero) → free ≡ is_free n Perm.Trunk block (x ∷ t)
     → asked ≡ suc (length t) → (free ≡ false → last ≡ last_window n block (x ∷ t))
     → KnowsWindows (record { is_open = free; count = seen; began = asked; last = last }) n block asked (x ∷ t)
 unfolding window_began
@@ -68,9 +68,9 @@ asked_now free seen asked last n block x t counts is_now now last_is = record {
   open_is = is_now;
   count_is = counts ∙ one free ∙ ap (λ b. count_of (if b then 1 else 0)) is_now
       ∙ ap count_of (sym (since_now n block asked x t now));
-  began_is = λ e. now ∙ sym (began (nat_lt asked (suc (length t))) (is_free n None Perm.Trunk block t)
+  began_is = λ e. now ∙ sym (began (nat_lt asked (suc (length t))) (is_free n Perm.Trunk block t)
       (window_began n block asked t) (suc (length t))
-      (early (nat_lt asked (suc (length t))) (is_free n None Perm.Trunk block t)
+      (early (nat_lt asked (suc (length t))) (is_free n Perm.Trunk block t)
       (le-ltb asked (suc (length t)) (omega arith))));
   last_is = last_is;
 }
@@ -83,7 +83,7 @@ asked_now free seen asked last n block x t counts is_now now last_is = record {
     early a b e = rw e refl
 
 -- where the block is free, this is the last moment at which it was
-last_now : {w : ℕ} (n block : ℕ) (t : Trace w) → is_free n None Perm.Trunk block t ≡ true
+last_now : {w : ℕ} (n block : ℕ) (t : Trace w) → is_free n Perm.Trunk block t ≡ true
     → last_window n block t ≡ length t
 unfolding last_window
 last_now n block [] e = refl
@@ -94,13 +94,13 @@ nothing_more k = omega arith
 
 -- the block is as free as it was
 pub same_after : {w : ℕ} (windows : WritingWindows) (n block asked : ℕ) (x : Link × Beat w) (t : Trace w)
-    → KnowsWindows windows n block asked t → asked ≤ length t → is_free n None Perm.Trunk block (x ∷ t) ≡ is_free n None
+    → KnowsWindows windows n block asked t → asked ≤ length t → is_free n Perm.Trunk block (x ∷ t) ≡ is_free n
     Perm.Trunk block t → KnowsWindows windows n block asked (x ∷ t)
 unfolding last_window window_began
 same_after windows n block asked x t k le same = record {
   open_is = k.open_is ∙ sym same;
   count_is = k.count_is ∙ ap count_of
-      (sym (since_more n block asked x t le ∙ rw same (never (is_free n None Perm.Trunk block t) _)));
+      (sym (since_more n block asked x t le ∙ rw same (never (is_free n Perm.Trunk block t) _)));
   began_is = λ e. k.began_is e ∙ sym (rw (lt-ltb asked (suc (length t)) (omega arith), sym k.open_is ∙ e) refl);
   last_is = λ e. k.last_is e ∙ rw (same, sym k.open_is ∙ e) refl;
 }
@@ -112,7 +112,7 @@ same_after windows n block asked x t k le same = record {
 -- the block isn't free any more
 pub closed_after : {w : ℕ} (windows : WritingWindows) (last n block asked : ℕ) (x : Link × Beat w) (t : Trace w)
     → KnowsWindows windows n block asked t → asked ≤ length t → true ≡ windows.is_open
-    → false ≡ is_free n None Perm.Trunk block (x ∷ t) → last ≡ length t
+    → false ≡ is_free n Perm.Trunk block (x ∷ t) → last ≡ length t
     → KnowsWindows (record windows { is_open = false; last = last }) n block asked (x ∷ t)
 unfolding last_window
 closed_after windows last n block asked x t k le was closed now = record {
@@ -126,7 +126,7 @@ closed_after windows last n block asked x t k le was closed now = record {
 pub opened_after : {w : ℕ} (windows : WritingWindows) (seen : WindowCount) (moment n block asked : ℕ)
     (x : Link × Beat w) (t : Trace w) → KnowsWindows windows n block asked t → asked ≤ length t
     → false ≡ windows.is_open → ((k : ℕ) → windows.count ≡ count_of k → seen ≡ count_of (suc k))
-    → true ≡ is_free n None Perm.Trunk block (x ∷ t) → moment ≡ suc (length t)
+    → true ≡ is_free n Perm.Trunk block (x ∷ t) → moment ≡ suc (length t)
     → KnowsWindows (record windows { is_open = true; count = seen; began = moment }) n block asked (x ∷ t)
 unfolding last_window window_began
 opened_after windows seen moment n block asked x t k le was one free now = record {

@@ -193,7 +193,7 @@ by-standing : {w : ℕ} (n block : ℕ) (access : Access w) (denied : Bool) (now
     (before : List Telling)
     → after_write n block access denied now t before ≡ by_standing (standing_of n block access denied t) now before
 by-standing n block access denied now t before =
-    by (is_free n None Perm.Trunk block t) ((windows_since n block access.asked t == 1) && not denied)
+    by (is_free n Perm.Trunk block t) ((windows_since n block access.asked t == 1) && not denied)
     (nat_lt (last_window n block t) (last_told block t)) (window_began n block access.asked t)
   where
     by : (free one told : Bool) (began : ℕ)

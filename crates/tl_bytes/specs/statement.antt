@@ -1,4 +1,5 @@
 pub mod Bytes
+pub mod Free
 pub mod Known
 pub mod Lines
 pub mod Shown

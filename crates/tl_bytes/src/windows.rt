@@ -5,7 +5,7 @@ ghost use Rattle.tl_beat.specs.declared.beat.Beat.{Beat};
 ghost use Rattle.tl_beat.specs.declared.beat.Link.{Link};
 ghost use Rattle.tl_params.specs.declared.perm.Perm.TheVariants as perm;
 ghost use Rattle.tl_rules.specs.statement.Conformance.{Trace};
-ghost use Rattle.tl_rules.specs.statement.Windows.{is_free};
+ghost use Rattle.tl_bytes.specs.statement.Free.{is_free};
 ghost use Rattle.tl_bytes.specs.statement.Bytes.{last_window};
 ghost use Rattle.tl_bytes.specs.statement.Known.{count_of};
 
@@ -46,7 +46,7 @@ impl WritingWindows {
     /// is free then, and when it last was.
     pub fn new(free: bool, asked: u64, last: u64) -> Self
         ensures { (w n block : ℕ) (x : Link × Beat w) (t : Trace w) →
-            free ≡ is_free n None perm.Trunk block (x ∷ t) → asked ≡ suc (length t) →
+            free ≡ is_free n perm.Trunk block (x ∷ t) → asked ≡ suc (length t) →
             (free ≡ false → last ≡ last_window n block (x ∷ t)) →
             KnowsWindows result n block asked (x ∷ t) }
     {
@@ -66,7 +66,7 @@ impl WritingWindows {
     pub fn after(self, free: bool, moment: u64) -> Self
         ensures { (w n block asked : ℕ) (x : Link × Beat w) (t : Trace w) →
             KnowsWindows self n block asked t → asked ≤ length t →
-            free ≡ is_free n None perm.Trunk block (x ∷ t) → moment ≡ suc (length t) →
+            free ≡ is_free n perm.Trunk block (x ∷ t) → moment ≡ suc (length t) →
             KnowsWindows result n block asked (x ∷ t) }
     {
         if free == self.is_open {

@@ -182,9 +182,12 @@ module _ {w : ℕ} (config : Config) (log : Log w) (given : IsGiven config log) 
           burst : IsGrantBurst block
           burst = grant-burst block granted
 
+          taken : y.denied ≡ false
+          taken = ap (λ (z : BeatD w). z.denied) burst.beat_is
+
           quiet : tells_granted y.opcode (request_of y.source past) ≡ false
           quiet = false_from (tells_granted y.opcode (request_of y.source past))
-              (λ f. let no : true ≡ false = sym (rw (last, granted, f) refl) ∙ e in cc)
+              (λ f. let no : true ≡ false = sym (rw (last, granted, taken, f) refl) ∙ e in cc)
             where
               false_from : (d : Bool) → (d ≡ true → ⊥) → d ≡ false
               false_from false f = refl

@@ -1,4 +1,5 @@
 pub mod Accesses
+pub mod Alike
 pub mod Beats
 pub mod Carried
 pub mod GrantAsked

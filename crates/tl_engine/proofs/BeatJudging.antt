@@ -3,6 +3,7 @@ use Rattle.std.proofs.Common.{◌≡◌, ℕ, Bool, true, false, List, ◌∷◌
 use Rattle.std.specs.Prelude.{Option, Some, None, option_map}
 use Rattle.tl_beat.specs.declared.beat.Link.{Link}
 use Rattle.tl_beat.specs.declared.beat.Beat.{Beat}
+use Rattle.tl_params.specs.statement.Liberties.{liberties_of}
 use Rattle.tl_params.specs.declared.level.Level.{Level}
 use Rattle.tl_params.specs.declared.profile.Profile.{Profile}
 use Rattle.tl_params.specs.declared.rule.Rule.{Rule}
@@ -67,29 +68,29 @@ module _ {w : ℕ} (old : BeatJudge w) (x : Link × Beat w) where
 
   module _ (j : Judge w) (is : old ≡ OfAll j) where
     pub together_good : (new : Judge w)
-        → Wherever (λ levels p t. of_all.Knows j levels p t false)
-        (λ levels p t. of_all.fault_of levels p t false x ≡ None)
-        → Wherever (λ levels p t. of_all.Knows j levels p t false)
-        (λ levels p t. of_all.Knows new levels p (x ∷ t) false)
+        → Wherever (λ levels p t. of_all.Knows j levels (liberties_of p) t false)
+        (λ levels p t. of_all.fault_of levels (liberties_of p) t false x ≡ None)
+        → Wherever (λ levels p t. of_all.Knows j levels (liberties_of p) t false)
+        (λ levels p t. of_all.Knows new levels (liberties_of p) (x ∷ t) false)
         → (together : Bool) → Wherever (KnowsBeats together old)
         (λ levels p t. JudgesBeat together (OfAll new) levels p t x None)
     together_good new fine knows false levels p t known = absurd (rw is at known)
     together_good new fine knows true levels p t known =
         let had = rw is at known in (
-          ap (option_map fault_of_breach) (whole (broken_together levels p x t) (fine levels p t had)),
+          ap (option_map fault_of_breach) (whole (broken_together levels (liberties_of p) x t) (fine levels p t had)),
           knows levels p t had,
         )
 
     pub together_bad : (new : Judge w) (breach : Breach)
-        → Wherever (λ levels p t. of_all.Knows j levels p t false)
-        (λ levels p t. of_all.fault_of levels p t false x ≡ Some (judge.Broken breach))
-        → Wherever (λ levels p t. of_all.Knows j levels p t false) (λ levels p t. of_all.Knows new levels p t false)
+        → Wherever (λ levels p t. of_all.Knows j levels (liberties_of p) t false)
+        (λ levels p t. of_all.fault_of levels (liberties_of p) t false x ≡ Some (judge.Broken breach))
+        → Wherever (λ levels p t. of_all.Knows j levels (liberties_of p) t false) (λ levels p t. of_all.Knows new levels (liberties_of p) t false)
         → (together : Bool) → Wherever (KnowsBeats together old)
         (λ levels p t. JudgesBeat together (OfAll new) levels p t x (Some (fault_of_breach breach)))
     together_bad new breach broken knows false levels p t known = absurd (rw is at known)
     together_bad new breach broken knows true levels p t known =
         let had = rw is at known in (
-          ap (option_map fault_of_breach) (breached_by (broken_together levels p x t) breach (broken levels p t had)),
+          ap (option_map fault_of_breach) (breached_by (broken_together levels (liberties_of p) x t) breach (broken levels p t had)),
           knows levels p t had,
         )
 
@@ -106,7 +107,7 @@ alone_request old m is o link source says false levels p t known = says levels p
 -- and by a judge of all
 pub together_request : {w : ℕ} (old : BeatJudge w) (j : Judge w) (is : old ≡ OfAll j) (o : Option Request) (link : Link)
     (source : ℕ)
-    → ((levels : List Level) (p : Profile) (t : Trace w) → of_all.Knows j levels p t false
+    → ((levels : List Level) (p : Profile) (t : Trace w) → of_all.Knows j levels (liberties_of p) t false
     → o ≡ of_link.request_on levels link source t)
     → (together : Bool) (levels : List Level) (p : Profile) (t : Trace w) → KnowsBeats together old levels p t
     → o ≡ of_link.request_on levels link source t

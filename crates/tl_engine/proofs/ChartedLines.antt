@@ -50,7 +50,7 @@ use Rattle.tl_engine.specs.statement.Fault.{fault_name, fault_text}
 use Rattle.tl_engine.specs.statement.Judged.{Judged, JudgedAfter, JudgedBy, clean_text, faults_of_links}
 use Rattle.tl_engine.specs.statement.Trace.{SpellsHeader}
 use Rattle.tl_engine.specs.statement.Width.{bytes_of}
-use Rattle.tl_together.proofs.Noted.{in_levels}
+use Rattle.tl_engine.proofs.Within.{in_levels}
 use Rattle.tl_engine.proofs.Decoded.{open_fault}
 use Rattle.tl_engine.proofs.Judged.{beats_end, unread}
 use Rattle.tl_engine.proofs.JudgedTraces.{bad_line}

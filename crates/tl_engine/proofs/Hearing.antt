@@ -12,6 +12,7 @@ use Rattle.tl_beat.specs.statement.Line.{Spells}
 use Rattle.tl_beat.specs.statement.Width.{IsWidth}
 use Rattle.tl_memory.specs.code.Elsewhere.{block_asked}
 use Rattle.tl_monitor.specs.statement.Knows.{request_on}
+use Rattle.tl_params.specs.statement.Liberties.{liberties_of}
 use Rattle.tl_params.specs.declared.level.Level.{Level}
 use Rattle.tl_params.specs.declared.profile.Profile.{Profile}
 use Rattle.tl_params.specs.declared.width.Width.{Width}
@@ -22,7 +23,7 @@ use Rattle.tl_rules.specs.statement.History.{capped}
 use Rattle.tl_explain.specs.code.Spelled.{spelled}
 use Rattle.tl_explain.specs.declared.told.Spelling.{Spelling}
 use Rattle.tl_explain.specs.statement.Evidence.{next_line}
-use Rattle.tl_together.proofs.Noted.{in_levels}
+use Rattle.tl_engine.proofs.Within.{in_levels}
 use Rattle.tl_together.specs.declared.breach.Breach.TheVariants.{OfMemory}
 use Rattle.tl_together.specs.declared.breach.MemoryRule.{MemoryRule}
 use Rattle.tl_together.specs.declared.breach.MemoryRule.TheVariants.{M1, M2, M3, M4}
@@ -147,14 +148,14 @@ module _ {w : ℕ} (levels : List Level) (link : Link) (x : BeatD w) (t : Trace 
 pub recorded-told : {w : ℕ} (witness : Option Witness) (h : Witness) (judge : Judge w) (rule : MemoryRule) (link : Link)
     (x : BeatD w) (was is : List ℕ) → witness ≡ Some h
     → (rule ≡ M1 → (levels : List Level) (p : Profile) (block : ℕ) (t : Trace w)
-    → of_all.Knows judge levels p t false → KnowsWitness h (length levels) block t
+    → of_all.Knows judge levels (liberties_of p) t false → KnowsWitness h (length levels) block t
     → is ≡ was ++ conflicts_text (length levels) link.0 (capped x.param) block t)
     → (rule ≡ M4 → (levels : List Level) (p : Profile) (asked : Request) (block : ℕ) (t : Trace w)
-    → of_all.Knows judge levels p t false → KnowsWitness h (length levels) block t → link.0 < length levels
+    → of_all.Knows judge levels (liberties_of p) t false → KnowsWitness h (length levels) block t → link.0 < length levels
     → open_request x.source (on_link link.0 t) ≡ Some asked
     → is ≡ was ++ access_text (length levels) link.0 x.source asked block t)
     → (rule ≢ M1 → rule ≢ M4 → (levels : List Level) (p : Profile) (t : Trace w)
-    → of_all.Knows judge levels p t false → broken_on_link levels p (link, Beat.D x) t ≡ None
+    → of_all.Knows judge levels (liberties_of p) t false → broken_on_link levels p (link, Beat.D x) t ≡ None
     → is ≡ was ++ bytes_text x.opcode (length levels) link.0 x t)
     → TellsRecorded witness judge rule link x was is
 recorded-told witness h judge rule link x was is some grant access bytes = λ levels p block t k known of fine.
@@ -165,7 +166,7 @@ recorded-told witness h judge rule link x was is some grant access bytes = λ le
 
 pub response-told : {w : ℕ} (old new : Inquiry) (judge : Judge w) (number : ℕ) (line : List ℕ) (link : Link)
     (x : BeatD w) (asked : Option Request) (empty mid : List ℕ)
-    → ((levels : List Level) (p : Profile) (t : Trace w) → of_all.Knows judge levels p t false
+    → ((levels : List Level) (p : Profile) (t : Trace w) → of_all.Knows judge levels (liberties_of p) t false
     → asked ≡ request_on levels link x.source t)
     → block_asked asked ≡ Some old.block → empty ≡ []
     → ((l : Link) (b : Beat w) → Spells line l b → mid ≡ empty ++ memory_front_text old.rule number l b)

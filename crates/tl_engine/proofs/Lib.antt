@@ -24,6 +24,7 @@ mod PlayedOnce
 pub mod Playing
 pub mod SaidLines
 pub mod SoFar
+pub mod Within
 pub mod Writable
 pub mod Hearing
 pub mod Testifying

@@ -17,12 +17,15 @@ use Rattle.tl_params.specs.declared.profile.Profile.{Profile}
 use Rattle.tl_params.specs.declared.width.Width.{Width}
 use Rattle.tl_rules.specs.code.Open.{open_request}
 use Rattle.tl_rules.specs.declared.past.Request.{Request}
-use Rattle.tl_rules.specs.statement.Conformance.{Trace, broken_on_link, on_link}
+use Rattle.tl_params.specs.statement.Liberties.{liberties_of}
+use Rattle.tl_rules.proofs.Profiles.{on_link-of}
+use Rattle.tl_rules.specs.statement.Liberties.{broken_on_link_under}
+use Rattle.tl_rules.specs.statement.Conformance.{Trace, on_link}
 use Rattle.tl_rules.specs.statement.History.{capped}
 use Rattle.tl_explain.specs.code.Spelled.{spelled}
 use Rattle.tl_explain.specs.declared.told.Spelling.{Spelling}
 use Rattle.tl_explain.specs.statement.Evidence.{next_line}
-use Rattle.tl_together.proofs.Noted.{in_levels}
+use Rattle.tl_engine.proofs.Within.{in_levels}
 use Rattle.tl_together.specs.declared.breach.Breach.TheVariants.{OfMemory}
 use Rattle.tl_together.specs.declared.breach.MemoryRule.{MemoryRule}
 use Rattle.tl_together.specs.declared.breach.MemoryRule.TheVariants.{M1, M2, M3, M4}
@@ -193,7 +196,7 @@ told-at {w} old mid new i j k number line fault lines more h still heard counted
       link = link;
       response = y;
       spells = rw line_is at (rw of_d at spells);
-      breaks = rw kept.rule_is (broken-memory (broken_on_link s.levels s.profile (link, Beat.D y) s.trace)
+      breaks = rw kept.rule_is (broken-memory (broken_on_link_under (liberties_of s.profile) s.levels (link, Beat.D y) s.trace)
           (broken_memory (length s.levels) link.0 (Beat.D y) s.trace) i.rule (rw of_d at at)).1;
       says = rw (kept.rule_is, ← number_is) (ap (λ v. v.items) reasons ∙ rw of_d at text);
     }
@@ -203,7 +206,8 @@ told-at {w} old mid new i j k number line fault lines more h still heard counted
     go (inr (link, x, spells, at)) =
         let so : faults_together w s.levels s.profile (link, x) s.trace ≡ Some (BreaksTogether i.rule) =
         at ∙ ap Some is ∙ ap (λ (r : MemoryRule). Some (BreaksTogether r)) heard.same.rule_is in
-        let fine = (broken-memory (broken_on_link s.levels s.profile (link, x) s.trace)
+        let fine = sym (on_link-of s.profile s.levels (link, x) s.trace)
+        ∙ (broken-memory (broken_on_link_under (liberties_of s.profile) s.levels (link, x) s.trace)
         (broken_memory (length s.levels) link.0 x s.trace) i.rule so).0 in
         told link x spells so (tells.tells s.levels s.profile s.trace link x s.known h.recorded spells fine)
 

@@ -4,6 +4,7 @@ use Rattle.std.specs.Prelude.{Option, Some, None, option_map, reverse}
 use Rattle.std.proofs.lemmas.List.{append-nil, reverse-append, reverse-reverse}
 use Rattle.tl_beat.specs.declared.beat.Beat.{Beat}
 use Rattle.tl_beat.specs.declared.beat.Link.{Link}
+use Rattle.tl_params.specs.statement.Liberties.{liberties_of}
 use Rattle.tl_params.specs.declared.level.Level.{Level}
 use Rattle.tl_params.specs.declared.profile.Profile.{Profile}
 use Rattle.tl_rules.specs.statement.Conformance.{Trace}
@@ -26,32 +27,32 @@ unbroken (Some breach) i rest e = absurd cc
 
 module _ {w : ℕ} (levels : List Level) (p : Profile) where
   -- the last beat of a trace without a breach breaks no rule behind the others
-  last-unbroken : (before trace : Trace w) (x : Link × Beat w) → breach_from levels p before (trace ++ x ∷ []) ≡ None
-      → broken_together levels p x (reverse trace ++ before) ≡ None
+  last-unbroken : (before trace : Trace w) (x : Link × Beat w) → breach_from levels (liberties_of p) before (trace ++ x ∷ []) ≡ None
+      → broken_together levels (liberties_of p) x (reverse trace ++ before) ≡ None
   unfolding breach_from
-  last-unbroken before [] x e = (unbroken (broken_together levels p x before) (length before) None e).0
+  last-unbroken before [] x e = (unbroken (broken_together levels (liberties_of p) x before) (length before) None e).0
   last-unbroken before (y ∷ trace) x e =
       let turned : reverse (y ∷ trace) ++ before ≡ reverse trace ++ (y ∷ before) =
       ap (λ (t : Trace w). t ++ before) (reverse-append (y ∷ []) trace) ∙ append_assoc (reverse trace) (y ∷ []) before
       in
       rw turned (last-unbroken (y ∷ before) trace x
-      (unbroken (broken_together levels p y before) (length before)
-      (breach_from levels p (y ∷ before) (trace ++ x ∷ []))
+      (unbroken (broken_together levels (liberties_of p) y before) (length before)
+      (breach_from levels (liberties_of p) (y ∷ before) (trace ++ x ∷ []))
       e).1)
 
-  newest-unbroken : (x : Link × Beat w) (t : Trace w) → first_breach levels p (reverse (x ∷ t)) ≡ None
-      → broken_together levels p x t ≡ None
+  newest-unbroken : (x : Link × Beat w) (t : Trace w) → first_breach levels (liberties_of p) (reverse (x ∷ t)) ≡ None
+      → broken_together levels (liberties_of p) x t ≡ None
   newest-unbroken x t e =
       let others : reverse (reverse t) ++ [] ≡ t = append-nil (reverse (reverse t)) ∙ reverse-reverse t in
-      subst (λ (s : Trace w). broken_together levels p x s ≡ None) others
+      subst (λ (s : Trace w). broken_together levels (liberties_of p) x s ≡ None) others
       (last-unbroken [] (reverse t) x
-      (subst (λ (s : Trace w). breach_from levels p [] s ≡ None) (reverse-append (x ∷ []) t) e))
+      (subst (λ (s : Trace w). breach_from levels (liberties_of p) [] s ≡ None) (reverse-append (x ∷ []) t) e))
 
 all-quiet : AreQuiet faults_together
 all-quiet w config log link ch o x given moving flowing tracing =
     ap (option_map fault_of_breach) (newest-unbroken (levels_of config) config.profile (link, x) (trace_of log)
-    (subst (λ (t : Trace w). first_breach (levels_of config) config.profile (reverse t) ≡ None) tracing
-    (concord config ((Deliver link ch, o) ∷ log) given)))
+    (subst (λ (t : Trace w). first_breach (levels_of config) (liberties_of config.profile) (reverse t) ≡ None) tracing
+    (concord config (liberties_of config.profile) ((Deliver link ch, o) ∷ log) given (λ x e. e))))
 
 pub trace-coherent : (lines : List (List ℕ)) (text : List ℕ) (status : Status) → Played true lines text status
     → IsUpTo IsCoherent text status

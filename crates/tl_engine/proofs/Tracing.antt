@@ -20,9 +20,12 @@ use Rattle.tl_params.specs.declared.rule.Rule.TheVariants.{H6, L1}
 use Rattle.tl_params.specs.declared.width.Width.{Width}
 use Rattle.tl_rules.specs.code.Open.{open_request}
 use Rattle.tl_rules.specs.declared.past.Request.{Request}
+use Rattle.tl_params.specs.statement.Liberties.{liberties_of}
+use Rattle.tl_rules.proofs.Profiles.{on_link-of}
+use Rattle.tl_rules.specs.statement.Liberties.{broken_on_link_under}
 use Rattle.tl_rules.specs.statement.Conformance.{Trace, broken_at_level, broken_on_link, on_link}
 use Rattle.tl_monitor.specs.statement.Knows.{request_on}
-use Rattle.tl_together.proofs.Noted.{in_levels}
+use Rattle.tl_engine.proofs.Within.{in_levels}
 use Rattle.tl_together.specs.declared.breach.Breach.TheVariants.{OfMemory}
 use Rattle.tl_together.specs.declared.breach.MemoryRule.{MemoryRule}
 use Rattle.tl_together.specs.statement.Coherence.{broken_memory, first_broken}
@@ -165,13 +168,14 @@ pub within-levels : {w : ℕ} (together : Bool) (levels : List Level) (p : Profi
 within-levels false levels p link x t (Breaks H6) is needs =
     has-level levels p link x t (h6-of_link (broken_on_link levels p (link, x) t) is)
 within-levels true levels p link x t (Breaks H6) is needs =
-    has-level levels p link x t (h6-together (broken_on_link levels p (link, x) t)
-    (broken_memory (length levels) link.0 x t) is)
+    has-level levels p link x t (sym (on_link-of p levels (link, x) t)
+    ∙ h6-together (broken_on_link_under (liberties_of p) levels (link, x) t) (broken_memory (length levels) link.0 x t) is)
 within-levels false levels p link x t (BreaksTogether rule) is needs =
     absurd (no-memory (broken_on_link levels p (link, x) t) rule is)
 within-levels true levels p link x t (BreaksTogether rule) is needs =
-    in_levels levels p link x t (broken-memory (broken_on_link levels p (link, x) t)
-    (broken_memory (length levels) link.0 x t) rule is).0
+    in_levels levels p link x t (sym (on_link-of p levels (link, x) t)
+    ∙ (broken-memory (broken_on_link_under (liberties_of p) levels (link, x) t)
+    (broken_memory (length levels) link.0 x t) rule is).0)
 within-levels together levels p link x t fault is needs = absurd cc
 
 -- ---- the block of the request that a beat answers

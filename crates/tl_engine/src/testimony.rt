@@ -12,7 +12,7 @@ ghost use Rattle.tl_engine.specs.statement.Coherent.{JudgedTogether};
 ghost use Rattle.tl_engine.specs.statement.Explained.{memory_front_text};
 ghost use Rattle.tl_memory.specs.code.Elsewhere as elsewhere;
 ghost use Rattle.tl_params.specs.declared.level.Level.{Level};
-ghost use Rattle.tl_params.specs.declared.profile.Profile.{Profile};
+ghost use Rattle.tl_params.specs.declared.liberties.Liberties.{Liberties};
 ghost use Rattle.tl_rules.specs.statement.Conformance.{Trace};
 ghost use Rattle.tl_together.specs.statement.Knows.{Knows};
 
@@ -63,8 +63,8 @@ fn tell_recorded<const W: usize>(
     out: &mut Vec<u8>,
 ) -> Result<bool, AllocError>
     requires { IsWidth W }
-    ensures judge { (levels : List Level) (p : Profile) (t : Trace W) (closed : Bool) →
-        Knows judge.old levels p t closed → Knows judge.new levels p t closed }
+    ensures judge { (levels : List Level) (l : Liberties) (t : Trace W) (closed : Bool) →
+        Knows judge.old levels l t closed → Knows judge.new levels l t closed }
     ensures tells { IfOk result (λ told. told ≡ true →
         TellsRecorded witness.now judge.old rule link x.now out.old.items out.new.items) }
 {
@@ -190,8 +190,8 @@ impl Inquiry {
         requires { IsWidth W }
         ensures same { IsSameInquiry self.old self.new }
         ensures witness { self.new.witness ≡ self.old.witness }
-        ensures judge { (levels : List Level) (p : Profile) (t : Trace W) (closed : Bool) →
-            Knows judge.old levels p t closed → Knows judge.new levels p t closed }
+        ensures judge { (levels : List Level) (l : Liberties) (t : Trace W) (closed : Bool) →
+            Knows judge.old levels l t closed → Knows judge.new levels l t closed }
         ensures tells { IfOk result (λ told. told ≡ true →
             TellsResponse self.old self.new judge.old number line.now link x.now) }
     {

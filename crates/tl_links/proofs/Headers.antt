@@ -1,8 +1,8 @@
 -- Headers that name what links may do: what was spelled is read, and what was read was spelled so.
 use denote.Ref.{Bor}
-use Rattle.std.proofs.Common.{◌≡◌, ◌≢◌, ◌<◌, ◌≤◌, ◌+◌, true, append_assoc, length-append, ℕ, List, [], ◌∷◌, ◌++◌, length, refl, ap, sym, ◌∙◌, arith, codes, inl, inr}
+use Rattle.std.proofs.Common.{◌≡◌, ◌≢◌, Bool, true≢false, ◌<◌, ◌≤◌, ◌+◌, true, append_assoc, length-append, ℕ, List, [], ◌∷◌, ◌++◌, length, refl, ap, sym, ◌∙◌, arith, codes, inl, inr}
 use Rattle.std.specs.Io.BufRead.{ends_with_byte}
-use Rattle.std.specs.Prelude.{◌⊎◌, IfSome, MatchOption, Option, Some, None}
+use Rattle.std.specs.Prelude.{◌⊎◌, false, IfSome, MatchOption, Option, Some, None}
 use Rattle.arrayvec.specs.ArrayVec.{ArrayVec}
 use Rattle.tl_beat.proofs.SpelledLines.{ends_with_byte-line}
 use Rattle.tl_command.proofs.LibertyWords.{liberties_again, liberties_taken, word-short}
@@ -18,6 +18,7 @@ use Rattle.tl_engine.specs.statement.Trace.{IsHeader, SpellsHeader, SpellsLevels
 use Rattle.tl_links.specs.code.HeadReading.{front_at, with_eight, with_four, with_sixteen}
 use Rattle.tl_links.specs.declared.header.LinksHeader.{LinksHeader}
 use Rattle.tl_links.specs.statement.Header.{IsLinks, NamesAllowed, NamesLinks, SpellsFourth, fourth_front}
+use Rattle.tl_links.specs.statement.Judged.{heads_by}
 use Rattle.tl_params.proofs.Headers.{after_taken}
 use Rattle.tl_params.proofs.Options.{some_pair}
 use Rattle.tl_params.specs.code.HeaderReading.{Gives, after_word}
@@ -304,6 +305,61 @@ allowed_or_none allow line = go (links_or_none line)
     go (inl (width, own, levels, named)) = inl (width, united own allow, levels, (own, named, refl))
     go (inr none) = inr (λ width may levels named. none width named.0 levels named.1)
 
+-- ---- of links that are judged each by itself or all together
+
+-- a line names what the links may do once
+named_once : (line : List ℕ) (wide width : Width) (may own : Liberties) (levels others : List Level)
+    → NamesLinks line wide may levels → NamesLinks line width own others → may ≡ own
+named_once line wide width may own levels others (inl (p, s, is)) (inl (q, u, of)) =
+    let e = sym (header_again line wide p levels s) ∙ header_again line width q others u in
+    let (named, same) = some_pair ((wide, p), levels) ((width, q), others) e in
+    is ∙ ap (λ (x : Width × Profile). liberties_of x.1) named ∙ sym of
+named_once line wide width may own levels others (inl (p, s, is)) (inr h) =
+    absurd (versions_apart line wide width p own levels others s h)
+named_once line wide width may own levels others (inr h) (inl (q, u, of)) =
+    absurd (versions_apart line width wide q may others levels u h)
+named_once line wide width may own levels others (inr h) (inr g) =
+    let (w, t) = fourth_behind line width own others g (wide, h.word ++ tail levels)
+    (fourth_at line wide may levels h) in
+    let read = liberties_again h.word (tail levels) may h.spells (lacks_comma levels h.so_many) in
+    let again = liberties_again g.word (tail others) own g.spells (lacks_comma others g.so_many) in
+    (some_pair (may, tail levels) (own, tail others) (sym read ∙ ap liberties_at t ∙ again)).0
+
+-- links that are judged together name nothing where their answers may be early
+pub none_early : (allow : Liberties) (line : List ℕ) (wide : Width) (own : Liberties) (levels : List Level)
+    → NamesLinks line wide own levels → (united own allow).early ≡ true
+    → (width : Width) (may : Liberties) (others : List Level) → ¬ heads_by true allow line width may others
+none_early allow line wide own levels named early width may others ((again, also, same), late) =
+    let one = named_once line wide width own again levels others named also in
+    true≢false (sym early ∙ ap (λ (l : Liberties). (united l allow).early) one
+    ∙ ap (λ (l : Liberties). l.early) (sym same) ∙ late)
+
+pub heads_or_none : (together : Bool) (allow : Liberties) (line : List ℕ) → IsReadable (heads_by together allow) line
+heads_or_none false allow line = allowed_or_none allow line
+heads_or_none true allow line = go (links_or_none line)
+  where
+    go : IsReadable NamesLinks line → IsReadable (heads_by true allow) line
+    go (inr none) = inr (λ width may levels named. none width named.0.0 levels named.0.1)
+    go (inl (width, own, levels, named)) = late (united own allow).early refl
+      where
+        late : (early : Bool) → (united own allow).early ≡ early → IsReadable (heads_by true allow) line
+        late false is = inl (width, united own allow, levels, ((own, named, refl), is))
+        late true is = inr (none_early allow line width own levels named is)
+
 pub open_allowed : (allow : Liberties) (line : List ℕ) → IsOpen line → (width : Width) (may : Liberties)
     (levels : List Level) → ¬ NamesAllowed allow line width may levels
 open_allowed allow line is width may levels (own, named, same) = open_links line is width own levels named
+
+pub open_heads : (together : Bool) (allow : Liberties) (line : List ℕ) → IsOpen line → (width : Width) (may : Liberties)
+    (levels : List Level) → ¬ heads_by together allow line width may levels
+open_heads false allow line is width may levels named = open_allowed allow line is width may levels named
+open_heads true allow line is width may levels (named, late) = open_allowed allow line is width may levels named
+
+-- ---- the header of links that are judged so
+
+-- nothing is named by a line that names no links
+pub none_for : (together : Bool) (allow : Liberties) (line : List ℕ)
+    → ((width : Width) (may : Liberties) (levels : List Level) → ¬ NamesLinks line width may levels)
+    → (width : Width) (may : Liberties) (levels : List Level) → ¬ heads_by together allow line width may levels
+none_for false allow line none width may levels (own, named, same) = none width own levels named
+none_for true allow line none width may levels ((own, named, same), late) = none width own levels named

@@ -1,4 +1,5 @@
 mod AllowedLines
 pub mod Headers
+pub mod Judging
 pub mod JudgedLines
 pub mod ByProfile

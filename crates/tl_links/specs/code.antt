@@ -1,3 +1,4 @@
 pub mod Allowing
 pub mod HeadReading
+pub mod TraceJudging
 pub mod Watching

@@ -1,7 +1,8 @@
 //! What a header that names no liberties means, as a law.
 
-ghost use Rattle.std.specs.Prelude.{◌∷◌, ℕ, List};
+ghost use Rattle.std.specs.Prelude.{◌∷◌, ℕ, List, false, true};
 ghost use Rattle.tl_engine.specs.declared.status.Status.{Status};
+ghost use Rattle.tl_engine.specs.statement.Coherent.{JudgedTogether};
 ghost use Rattle.tl_engine.specs.statement.Judged.{Judged};
 ghost use Rattle.tl_engine.specs.statement.Trace.{SpellsHeader};
 ghost use Rattle.tl_links.specs.statement.Judged.{JudgedLinks};
@@ -11,10 +12,12 @@ ghost use Rattle.tl_params.specs.declared.width.Width.{Width};
 ghost use Rattle.tl_params.specs.statement.Liberties.{no_liberties};
 
 /// A trace whose header is of the first three versions, and whose links are allowed nothing besides, is judged as
-/// `monitor` judges it.
+/// `monitor` judges it, and all its links together as `coherent` does.
 pub fn judged_by_profile()
-    ensures { (line : List ℕ) (lines : List (List ℕ)) (text : List ℕ) (status : Status) (width : Width) (p : Profile)
-        (levels : List Level) → SpellsHeader line width p levels → JudgedLinks no_liberties
-        (line ∷ lines) text status →
-        Judged (line ∷ lines) text status }
+    ensures links { (line : List ℕ) (lines : List (List ℕ)) (text : List ℕ) (status : Status) (width : Width)
+        (p : Profile) (levels : List Level) → SpellsHeader line width p levels →
+        JudgedLinks false no_liberties (line ∷ lines) text status → Judged (line ∷ lines) text status }
+    ensures together { (line : List ℕ) (lines : List (List ℕ)) (text : List ℕ) (status : Status) (width : Width)
+        (p : Profile) (levels : List Level) → SpellsHeader line width p levels →
+        JudgedLinks true no_liberties (line ∷ lines) text status → JudgedTogether (line ∷ lines) text status }
 {}

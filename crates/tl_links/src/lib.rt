@@ -7,3 +7,4 @@ pub mod header;
 pub mod law;
 pub mod link_lines;
 pub mod run;
+pub mod trace_judge;

@@ -12,26 +12,33 @@ use tl_engine::engine::handle_input;
 use tl_engine::status::{Status, ToolFault};
 use tl_params::liberties::Liberties;
 
-/// Judges a recorded trace, each link by itself: reads the input to its end or to the first line at fault, and writes
-/// `clean N` or `line N X`.
+/// Judges a recorded trace, each link by itself or all together: reads the input to its end or to the first line at fault,
+/// and writes `clean N`, of all together `coherent N`, or `line N X`.
 ///
 /// The header may be of any version: the fourth names what the links may do beyond the first profile (liberties). They
-/// may do what `allow` has besides. If that is nothing, and the header is of the first three versions, the text is that
-/// of `run_tool` with `Command::Monitor`.
+/// may do what `allow` has besides. Links that are judged together may not have `early`: a header that names it, and
+/// whatever header where `allow` has it, is at fault. If `allow` is nothing, and the header is of the first three
+/// versions, the text is that of `run_tool` with `Command::Monitor`, or `Command::Coherent`.
 ///
 /// The status and the faults are those of `tl_engine::tool::run_tool`.
 pub fn run_links<R: Read, W: Write>(
     alloc: Global,
+    together: bool,
     allow: Liberties,
     reader: &mut R,
     writer: &mut W,
 ) -> Result<Status, ToolFault>
-    ensures ok { IfOk result (RunsTo (JudgedLinks allow) (R.remaining reader.old) (R.remaining reader.new)
+    ensures ok { IfOk result (RunsTo (JudgedLinks together allow) (R.remaining reader.old) (R.remaining reader.new)
         (W.contents writer.old) (W.contents writer.new)) }
-    ensures err { OnErr result (FailsAt (JudgedLinks allow) (R.remaining reader.old) (R.remaining reader.new)
+    ensures err { OnErr result (FailsAt (JudgedLinks together allow) (R.remaining reader.old) (R.remaining reader.new)
         (W.contents writer.old) (W.contents writer.new)) }
-    ensures fault { IfErr result (GivesUpFor (LinksSoFar allow) (JudgedLinks allow) (R.remaining reader.old)
-        (R.remaining reader.new) (W.contents writer.old) (W.contents writer.new)) }
+    ensures fault { IfErr result (GivesUpFor (LinksSoFar together allow) (JudgedLinks together allow)
+        (R.remaining reader.old) (R.remaining reader.new) (W.contents writer.old) (W.contents writer.new)) }
 {
-    handle_input(alloc, LinkLines::new(alloc, allow), reader, writer)
+    handle_input(
+        alloc,
+        LinkLines::new(alloc, together, allow),
+        reader,
+        writer,
+    )
 }

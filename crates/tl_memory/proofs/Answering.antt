@@ -1,7 +1,7 @@
 -- What responses answer on a link where no beat broke a rule, and what its complete requests ask for.
 use Rattle.tl_memory.proofs.Imports.{Beat, BeatA, BeatD, History, breaks_burst, burst_length, same_control, unfinished}
-use Rattle.tl_memory.proofs.Imports.{is_empty, control_a, Level, Profile, open_request, request_fields, Request}
-use Rattle.tl_memory.proofs.Imports.{broken_after, is_legal, block_at, ends, is_release_ack}
+use Rattle.tl_memory.proofs.Imports.{is_empty, control_a, Level, open_request, request_fields, Request}
+use Rattle.tl_memory.proofs.Imports.{all_but_early, broken_after_under, is_legal_under, block_at, ends, is_release_ack}
 use Rattle.std.proofs.Common.{◌≡◌, ℕ, Bool, true, false, not, ◌&&◌, List, [], ◌∷◌, length, Some, None, refl, sym, ap}
 use Rattle.std.proofs.Common.{◌∙◌, ◌⊎◌, inl, inr, subst}
 use Rattle.std.specs.Prelude.{if◌then◌else◌, ◌==◌, ◌+◌}
@@ -28,14 +28,14 @@ goes_on_d y (Beat.D z) burst e = (z, refl)
 goes_on_d y v burst e = absurd cc
 
 -- a beat of a response that isn't a ReleaseAck answers an open request
-answering-from : {w : ℕ} (l : Level) (p : Profile) (y : BeatD w) (t : History w) → broken_after l p (Beat.D y) t ≡ None
+answering-from : {w : ℕ} (l : Level) (y : BeatD w) (t : History w) → broken_after_under all_but_early l (Beat.D y) t ≡ None
     → ((z : BeatD w) (older : List (Beat w)) → unfinished Channel.D t ≡ Beat.D z ∷ older → IsAnswering z t)
     → (is_release_ack y.opcode ≡ false) ⊎ (is_empty (unfinished Channel.D t) ≡ false) → IsAnswering y t
-answering-from {w} l p y t fine before either = go (unfinished Channel.D t) refl (goes_on l p (Beat.D y) t fine) either
+answering-from {w} l y t fine before either = go (unfinished Channel.D t) refl (goes_on l (Beat.D y) t fine) either
   where
     go : (burst : List (Beat w)) → unfinished Channel.D t ≡ burst → breaks_burst (Beat.D y) burst ≡ false
         → (is_release_ack y.opcode ≡ false) ⊎ (is_empty burst ≡ false) → IsAnswering y t
-    go [] is e (inl other) = begun-answering l p y t fine (ap is_empty is) other
+    go [] is e (inl other) = begun-answering l y t fine (ap is_empty is) other
     go [] is e (inr some) = absurd cc
     go (z ∷ burst) is e either =
         let of_d = goes_on_d y z burst e in
@@ -56,34 +56,34 @@ later z t last true e [] f =
     absurd (let no : true ≡ false = sym whole ∙ last in cc)
 
 -- so does one that isn't complete, with one more beat
-answering-more : {w : ℕ} (l : Level) (p : Profile) (x : Beat w) (t : History w) → broken_after l p x t ≡ None
+answering-more : {w : ℕ} (l : Level) (x : Beat w) (t : History w) → broken_after_under all_but_early l x t ≡ None
     → ((z : BeatD w) (older : List (Beat w)) → unfinished Channel.D t ≡ Beat.D z ∷ older → IsAnswering z t)
     → (y : BeatD w) (older : List (Beat w)) → unfinished Channel.D (x ∷ t) ≡ Beat.D y ∷ older → IsAnswering y (x ∷ t)
 unfolding unfinished
-answering-more {w} l p x t fine before y older is = go x fine is
+answering-more {w} l x t fine before y older is = go x fine is
   where
-    still : (x : Beat w) (y : BeatD w) → broken_after l p x t ≡ None → completes_answer y.source x t ≡ false
+    still : (x : Beat w) (y : BeatD w) → broken_after_under all_but_early l x t ≡ None → completes_answer y.source x t ≡ false
         → IsAnswering y t → IsAnswering y (x ∷ t)
     still x y fine e k = record {
       asked = k.asked;
-      is_open = open-still l p y.source k.asked x t fine k.is_open e;
+      is_open = open-still l y.source k.asked x t fine k.is_open e;
       admitted = k.admitted;
       sized = k.sized;
     }
 
-    goes : (z : BeatD w) → broken_after l p (Beat.D z) t ≡ None → ends (Beat.D z) t ≡ false
+    goes : (z : BeatD w) → broken_after_under all_but_early l (Beat.D z) t ≡ None → ends (Beat.D z) t ≡ false
         → IsAnswering z (Beat.D z ∷ t)
-    goes z fine last = still (Beat.D z) z fine (unended z t last) (answering-from l p z t fine before
+    goes z fine last = still (Beat.D z) z fine (unended z t last) (answering-from l z t fine before
         (later z t last (is_release_ack z.opcode) refl (unfinished Channel.D t) refl))
 
-    more : (z : BeatD w) → broken_after l p (Beat.D z) t ≡ None → (last : Bool) → ends (Beat.D z) t ≡ last
+    more : (z : BeatD w) → broken_after_under all_but_early l (Beat.D z) t ≡ None → (last : Bool) → ends (Beat.D z) t ≡ last
         → (if last then [] else Beat.D z ∷ unfinished Channel.D t) ≡ Beat.D y ∷ older → IsAnswering y (Beat.D z ∷ t)
     more z fine true last is = absurd cc
     more z fine false last is =
         let same : z ≡ y = same_d y z (same_head (Beat.D z) (Beat.D y) (unfinished Channel.D t) older is) in
         subst (λ v. IsAnswering v (Beat.D z ∷ t)) same (goes z fine last)
 
-    go : (x : Beat w) → broken_after l p x t ≡ None → unfinished Channel.D (x ∷ t) ≡ Beat.D y ∷ older
+    go : (x : Beat w) → broken_after_under all_but_early l x t ≡ None → unfinished Channel.D (x ∷ t) ≡ Beat.D y ∷ older
         → IsAnswering y (x ∷ t)
     go (Beat.D z) fine is = more z fine (ends (Beat.D z) t) refl is
     go (Beat.A z) fine is = still (Beat.A z) y fine refl (before y older is)
@@ -91,37 +91,37 @@ answering-more {w} l p x t fine before y older is = go x fine is
     go (Beat.C z) fine is = still (Beat.C z) y fine refl (before y older is)
     go (Beat.E z) fine is = still (Beat.E z) y fine refl (before y older is)
 
-pub answering : {w : ℕ} (l : Level) (p : Profile) (t : History w) (y : BeatD w) (older : List (Beat w))
-    → is_legal l p t ≡ true → unfinished Channel.D t ≡ Beat.D y ∷ older → IsAnswering y t
+pub answering : {w : ℕ} (l : Level) (t : History w) (y : BeatD w) (older : List (Beat w))
+    → is_legal_under all_but_early l t ≡ true → unfinished Channel.D t ≡ Beat.D y ∷ older → IsAnswering y t
 unfolding unfinished
-answering l p [] y older legal is = absurd cc
-answering l p (x ∷ t) y older legal is =
-    let parts = legal-parts l p x t legal in
-    answering-more l p x t parts.0 (λ z earlier e. answering l p t z earlier parts.1 e) y older is
+answering l [] y older legal is = absurd cc
+answering l (x ∷ t) y older legal is =
+    let parts = legal-parts l x t legal in
+    answering-more l x t parts.0 (λ z earlier e. answering l t z earlier parts.1 e) y older is
 
 -- each beat of a response that isn't a ReleaseAck does
-pub is-answering : {w : ℕ} (l : Level) (p : Profile) (y : BeatD w) (t : History w) → is_legal l p t ≡ true
-    → broken_after l p (Beat.D y) t ≡ None → is_release_ack y.opcode ≡ false → IsAnswering y t
-is-answering l p y t legal fine other =
-    answering-from l p y t fine (λ z older e. answering l p t z older legal e) (inl other)
+pub is-answering : {w : ℕ} (l : Level) (y : BeatD w) (t : History w) → is_legal_under all_but_early l t ≡ true
+    → broken_after_under all_but_early l (Beat.D y) t ≡ None → is_release_ack y.opcode ≡ false → IsAnswering y t
+is-answering l y t legal fine other =
+    answering-from l y t fine (λ z older e. answering l t z older legal e) (inl other)
 
 -- and each that isn't the last
-pub answering-unended : {w : ℕ} (l : Level) (p : Profile) (y : BeatD w) (t : History w) → is_legal l p t ≡ true
-    → broken_after l p (Beat.D y) t ≡ None → ends (Beat.D y) t ≡ false → IsAnswering y t
-answering-unended l p y t legal fine last =
-    answering-from l p y t fine (λ z older e. answering l p t z older legal e)
+pub answering-unended : {w : ℕ} (l : Level) (y : BeatD w) (t : History w) → is_legal_under all_but_early l t ≡ true
+    → broken_after_under all_but_early l (Beat.D y) t ≡ None → ends (Beat.D y) t ≡ false → IsAnswering y t
+answering-unended l y t legal fine last =
+    answering-from l y t fine (λ z older e. answering l t z older legal e)
     (later y t last (is_release_ack y.opcode) refl (unfinished Channel.D t) refl)
 
 -- ---- requests
 
 -- no answer to the request that a burst of channel A brings is complete with a beat
-unanswered : {w : ℕ} (l : Level) (p : Profile) (y : BeatD w) (t : History w) (x : BeatA w) (older : List (Beat w))
-    → is_legal l p t ≡ true → broken_after l p (Beat.D y) t ≡ None → unfinished Channel.A t ≡ Beat.A x ∷ older
+unanswered : {w : ℕ} (l : Level) (y : BeatD w) (t : History w) (x : BeatA w) (older : List (Beat w))
+    → is_legal_under all_but_early l t ≡ true → broken_after_under all_but_early l (Beat.D y) t ≡ None → unfinished Channel.A t ≡ Beat.A x ∷ older
     → (not (is_release_ack y.opcode) && (y.source == x.source)) ≡ false
-unanswered l p y t x older legal fine is = elim (cases_Bool (is_release_ack y.opcode)) [
+unanswered l y t x older legal fine is = elim (cases_Bool (is_release_ack y.opcode)) [
   | inl ack ↦ rw ack refl
   | inr other ↦
-      let k = is-answering l p y t legal fine other in
+      let k = is-answering l y t legal fine other in
       let apart : (x.source == y.source) ≡ false = ap (comes_in_request y.source) (sym is) ∙ k.is_open.complete in
       rw other (turned x.source y.source apart)
 ]
@@ -137,13 +137,13 @@ same_fields : {w : ℕ} (x y : BeatA w) → same_control (Beat.A x) (Beat.A y) �
 same_fields x y e = let same = control_a x y e in rw (same.0, same.1, same.2, same.4) refl
 
 -- with a beat of channel A its request is kept
-with_request : {w : ℕ} (l : Level) (p : Profile) (x : BeatA w) (t : History w) → broken_after l p (Beat.A x) t ≡ None
+with_request : {w : ℕ} (l : Level) (x : BeatA w) (t : History w) → broken_after_under all_but_early l (Beat.A x) t ≡ None
     → ((y : BeatA w) (older : List (Beat w)) → unfinished Channel.A t ≡ Beat.A y ∷ older
     → kept_request y.source t ≡ request_fields (Some y))
     → kept_request x.source (Beat.A x ∷ t) ≡ request_fields (Some x)
-with_request {w} l p x t fine before =
+with_request {w} l x t fine before =
     request-next x.source (Beat.A x) t
-    ∙ go (unfinished Channel.A t) refl (goes_on l p (Beat.A x) t fine)
+    ∙ go (unfinished Channel.A t) refl (goes_on l (Beat.A x) t fine)
   where
     go : (burst : List (Beat w)) → unfinished Channel.A t ≡ burst → breaks_burst (Beat.A x) burst ≡ false
         → (if is_empty burst && (x.source == x.source) then request_fields (Some x) else kept_request x.source t)
@@ -156,20 +156,20 @@ with_request {w} l p x t fine before =
     go v is e = absurd cc
 
 -- a request that isn't complete is kept, with one more beat
-coming-more : {w : ℕ} (l : Level) (p : Profile) (x : Beat w) (t : History w) → is_legal l p t ≡ true
-    → broken_after l p x t ≡ None → ((z : BeatA w) (older : List (Beat w)) → unfinished Channel.A t ≡ Beat.A z ∷ older
+coming-more : {w : ℕ} (l : Level) (x : Beat w) (t : History w) → is_legal_under all_but_early l t ≡ true
+    → broken_after_under all_but_early l x t ≡ None → ((z : BeatA w) (older : List (Beat w)) → unfinished Channel.A t ≡ Beat.A z ∷ older
     → kept_request z.source t ≡ request_fields (Some z)) → (y : BeatA w) (older : List (Beat w))
     → unfinished Channel.A (x ∷ t) ≡ Beat.A y ∷ older → kept_request y.source (x ∷ t) ≡ request_fields (Some y)
 unfolding unfinished
-coming-more {w} l p x t legal fine before y older is = go x fine is
+coming-more {w} l x t legal fine before y older is = go x fine is
   where
-    more : (z : BeatA w) → broken_after l p (Beat.A z) t ≡ None → (last : Bool)
+    more : (z : BeatA w) → broken_after_under all_but_early l (Beat.A z) t ≡ None → (last : Bool)
         → (if last then [] else Beat.A z ∷ unfinished Channel.A t) ≡ Beat.A y ∷ older
         → kept_request y.source (Beat.A z ∷ t) ≡ request_fields (Some y)
     more z fine true is = absurd cc
     more z fine false is =
         let same : z ≡ y = same_a y z (same_head (Beat.A z) (Beat.A y) (unfinished Channel.A t) older is) in
-        subst (λ v. kept_request v.source (Beat.A z ∷ t) ≡ request_fields (Some v)) same (with_request l p z t fine
+        subst (λ v. kept_request v.source (Beat.A z ∷ t) ≡ request_fields (Some v)) same (with_request l z t fine
         before)
 
     kept : (own last : Bool) → own ≡ false
@@ -177,36 +177,36 @@ coming-more {w} l p x t legal fine before y older is = go x fine is
     kept own true e = rw e refl
     kept own false e = refl
 
-    go : (x : Beat w) → broken_after l p x t ≡ None → unfinished Channel.A (x ∷ t) ≡ Beat.A y ∷ older
+    go : (x : Beat w) → broken_after_under all_but_early l x t ≡ None → unfinished Channel.A (x ∷ t) ≡ Beat.A y ∷ older
         → kept_request y.source (x ∷ t) ≡ request_fields (Some y)
     go (Beat.A z) fine is = more z fine (ends (Beat.A z) t) is
     go (Beat.D z) fine is =
         request-next y.source (Beat.D z) t
-        ∙ kept _ (ends (Beat.D z) t) (unanswered l p z t y older legal fine is)
+        ∙ kept _ (ends (Beat.D z) t) (unanswered l z t y older legal fine is)
         ∙ before y older is
     go (Beat.B z) fine is = request-next y.source (Beat.B z) t ∙ before y older is
     go (Beat.C z) fine is = request-next y.source (Beat.C z) t ∙ before y older is
     go (Beat.E z) fine is = request-next y.source (Beat.E z) t ∙ before y older is
 
-pub coming : {w : ℕ} (l : Level) (p : Profile) (t : History w) (y : BeatA w) (older : List (Beat w))
-    → is_legal l p t ≡ true → unfinished Channel.A t ≡ Beat.A y ∷ older
+pub coming : {w : ℕ} (l : Level) (t : History w) (y : BeatA w) (older : List (Beat w))
+    → is_legal_under all_but_early l t ≡ true → unfinished Channel.A t ≡ Beat.A y ∷ older
     → kept_request y.source t ≡ request_fields (Some y)
 unfolding unfinished
-coming l p [] y older legal is = absurd cc
-coming l p (x ∷ t) y older legal is =
-    let parts = legal-parts l p x t legal in
-    coming-more l p x t parts.1 parts.0 (λ z earlier e. coming l p t z earlier parts.1 e) y older is
+coming l [] y older legal is = absurd cc
+coming l (x ∷ t) y older legal is =
+    let parts = legal-parts l x t legal in
+    coming-more l x t parts.1 parts.0 (λ z earlier e. coming l t z earlier parts.1 e) y older is
 
 -- the request that these fields stand for
 abbrev pub fields_of : {w : ℕ} → BeatA w → Request
 fields_of x = record { opcode = x.opcode; param = x.param; size = x.size; block = block_at x.address }
 
 -- one that is complete with a beat is open
-pub open-now : {w : ℕ} (l : Level) (p : Profile) (x : BeatA w) (t : History w) → is_legal l p t ≡ true
-    → broken_after l p (Beat.A x) t ≡ None → ends (Beat.A x) t ≡ true
+pub open-now : {w : ℕ} (l : Level) (x : BeatA w) (t : History w) → is_legal_under all_but_early l t ≡ true
+    → broken_after_under all_but_early l (Beat.A x) t ≡ None → ends (Beat.A x) t ≡ true
     → open_request x.source (Beat.A x ∷ t) ≡ Some (fields_of x)
 unfolding unfinished
-open-now l p x t legal fine last = open-whole x.source (fields_of x) (Beat.A x ∷ t) (record {
-  kept = with_request l p x t fine (λ y older e. coming l p t y older legal e);
+open-now l x t legal fine last = open-whole x.source (fields_of x) (Beat.A x ∷ t) (record {
+  kept = with_request l x t fine (λ y older e. coming l t y older legal e);
   complete = rw last refl;
 })

@@ -1,7 +1,7 @@
 -- No two accesses that are pending have the same source on a link, where no beat broke a rule: so all with the
 -- source of a response are the request that it answers.
-use Rattle.tl_memory.proofs.Imports.{Beat, BeatA, Link, IsWidth, Level, Profile, open_request, Request, Trace}
-use Rattle.tl_memory.proofs.Imports.{broken_after, on_link, Access, is_access, is_of, pending_accesses, AreLegal}
+use Rattle.tl_memory.proofs.Imports.{Beat, BeatA, Link, IsWidth, Level, open_request, Request, Trace}
+use Rattle.tl_memory.proofs.Imports.{all_but_early, broken_after_under, on_link, Access, is_access, is_of, pending_accesses, AreLegal}
 use Rattle.std.proofs.Common.{◌≡◌, ℕ, suc, Bool, true, false, not, ◌&&◌, List, [], ◌∷◌, length, Some, None, refl, sym}
 use Rattle.std.proofs.Common.{ap, ◌∙◌, inl, inr}
 use Rattle.std.specs.Prelude.{if◌then◌else◌, ◌==◌, filter, find, ⊤}
@@ -32,22 +32,22 @@ more-first new all (access ∷ accesses) apart first =
     (rw (apart access first.0) first.0, more-first new all accesses apart first.1)
 
 -- a request isn't complete with the source of one that is pending
-new-apart : {w : ℕ} (levels : List Level) (p : Profile) (x : Link × Beat w) (t : Trace w) (z : BeatA w)
+new-apart : {w : ℕ} (levels : List Level) (x : Link × Beat w) (t : Trace w) (z : BeatA w)
     (new access : Access w)
-    → IsWidth w → AreLegal levels p (x ∷ t) → x.1 ≡ Beat.A z → new.link ≡ x.0.0 → new.request.source ≡ z.source
+    → IsWidth w → AreLegal levels (x ∷ t) → x.1 ≡ Beat.A z → new.link ≡ x.0.0 → new.request.source ≡ z.source
     → IsPending access.link access.request.source access t → is_of access.link access.request.source new ≡ false
-new-apart levels p x t z new access width legal is link source pending =
+new-apart levels x t z new access width legal is link source pending =
     elim (cases_Bool (is_of access.link access.request.source new)) [
       | inr other ↦ other
       | inl same ↦
           let both = and_parts (new.link == access.link) (new.request.source == access.request.source) same in
           let here : x.0.0 ≡ access.link = sym link ∙ eqb-true new.link access.link both.0 in
-          let f = is-fine levels p x t legal.0 in
-          let fine : broken_after f.level p (Beat.A z) (on_link access.link t) ≡ None =
-          ap (λ b. broken_after f.level p b (on_link access.link t)) (sym is)
-          ∙ ap (λ n. broken_after f.level p x.1 (on_link n t)) (sym here) ∙ f.fine in
-          let k = pending-open levels p access.link access.request.source access t width legal.1 pending in
-          let other = fresh f.level p access.request.source k.asked z (on_link access.link t) fine k.is_open in
+          let f = is-fine _ levels x t legal.0 in
+          let fine : broken_after_under all_but_early f.level (Beat.A z) (on_link access.link t) ≡ None =
+          ap (λ b. broken_after_under all_but_early f.level b (on_link access.link t)) (sym is)
+          ∙ ap (λ n. broken_after_under all_but_early f.level x.1 (on_link n t)) (sym here) ∙ f.fine in
+          let k = pending-open levels access.link access.request.source access t width legal.1 pending in
+          let other = fresh f.level access.request.source k.asked z (on_link access.link t) fine k.is_open in
           true_false (sym both.1 ∙ ap (λ s. s == access.request.source) source ∙ other)
     ]
 
@@ -80,8 +80,8 @@ left-first link source all (access ∷ accesses) first =
 
 -- ---- all that are pending
 
-module _ {w : ℕ} (levels : List Level) (p : Profile) (width : IsWidth w) where
-  pub are-first : (t : Trace w) → AreLegal levels p t → AreFirst (pending_accesses t) (pending_accesses t)
+module _ {w : ℕ} (levels : List Level) (width : IsWidth w) where
+  pub are-first : (t : Trace w) → AreLegal levels t → AreFirst (pending_accesses t) (pending_accesses t)
   unfolding pending_accesses
   are-first [] legal = tt
   are-first (x ∷ t) legal = go x.1 refl (are-first t legal.1)
@@ -93,7 +93,7 @@ module _ {w : ℕ} (levels : List Level) (p : Profile) (width : IsWidth w) where
       asks z is true new link source first = (
         rw (own new) refl,
         more-first new (pending_accesses t) (pending_accesses t)
-            (λ access found. new-apart levels p x t z new access width legal is link source found) first,
+            (λ access found. new-apart levels x t z new access width legal is link source found) first,
       )
       asks z is false new link source first = first
 
@@ -112,7 +112,7 @@ module _ {w : ℕ} (levels : List Level) (p : Profile) (width : IsWidth w) where
       go v is first = first
 
   -- all with a source are its open request
-  asked-of : (c s : ℕ) (asked : Request) (t : Trace w) (all accesses : List (Access w)) → AreLegal levels p t
+  asked-of : (c s : ℕ) (asked : Request) (t : Trace w) (all accesses : List (Access w)) → AreLegal levels t
       → open_request s (on_link c t) ≡ Some asked → all ≡ pending_accesses t → AreFirst all accesses
       → AreAsked c s asked accesses
   asked-of c s asked t all [] legal opened is first = tt
@@ -123,7 +123,7 @@ module _ {w : ℕ} (levels : List Level) (p : Profile) (width : IsWidth w) where
         ap (λ n. find (is_of n s) (pending_accesses t)) (sym (eqb-true access.link c both.0))
         ∙ ap (λ m. find (is_of access.link m) (pending_accesses t)) (sym (eqb-true access.request.source s both.1))
         ∙ (rw is at first.0) in
-        let k = pending-open levels p c s access t width legal found in
+        let k = pending-open levels c s access t width legal found in
         let one : k.asked ≡ asked = same_asked s asked k.asked (on_link c t) opened k.is_open in (
           ap is_access (sym k.opcode_is) ∙ k.accesses,
           sym k.opcode_is ∙ ap (λ (r : Request). r.opcode) one,
@@ -132,7 +132,7 @@ module _ {w : ℕ} (levels : List Level) (p : Profile) (width : IsWidth w) where
     asked-of c s asked t all accesses legal opened is first.1,
   )
 
-  pub are-asked : (c s : ℕ) (asked : Request) (t : Trace w) → AreLegal levels p t
+  pub are-asked : (c s : ℕ) (asked : Request) (t : Trace w) → AreLegal levels t
       → open_request s (on_link c t) ≡ Some asked → AreAsked c s asked (pending_accesses t)
   are-asked c s asked t legal opened =
       asked-of c s asked t (pending_accesses t) (pending_accesses t) legal opened refl (are-first t legal)

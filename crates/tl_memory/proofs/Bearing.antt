@@ -2,14 +2,17 @@
 use Rattle.tl_memory.proofs.Imports.{Beat, BeatA, BeatC, BeatD, Link, c_carries_data, unfinished, Trace, on_link}
 use Rattle.tl_memory.proofs.Imports.{block_at, ends, Access, asked_by, ends_request, is_access, is_of, pending_accesses}
 use Rattle.tl_memory.proofs.Imports.{tells, IsElsewhere, LeavesHeld, PassesBy, WritesNot, BlockState, AllWriteInside}
-use Rattle.tl_memory.proofs.Imports.{is_to, KnowsState}
+use Rattle.tl_memory.proofs.Imports.{all_but_early, is_to, KnowsState, OpA, begins}
 use Rattle.std.proofs.Common.{◌≡◌, ℕ, suc, Bool, true, false, not, ◌&&◌, ◌||◌, ◌+◌, ◌*◌, ◌/◌, ◌<◌, List, [], ◌∷◌}
 use Rattle.std.proofs.Common.{length, refl, sym, ap, ◌∙◌, inl, inr}
-use Rattle.std.specs.Prelude.{if◌then◌else◌, filter, find, ◌==◌}
+use Rattle.std.specs.Prelude.{if◌then◌else◌, filter, find, ◌==◌, Option, Some, None}
 use Rattle.std.proofs.lemmas.Bool.{cases_Bool, eq-eqb}
 use Rattle.tl_beat.{specs.declared.beat.BeatB.BeatB, specs.declared.beat.BeatE.BeatE}
 use Rattle.tl_beat.{specs.declared.channel.Channel.Channel}
-use Rattle.tl_rules.specs.statement.History.{grants, is_probe_ack, is_release}
+use Rattle.tl_params.specs.declared.perm.Perm.{Perm}
+use Rattle.tl_rules.specs.statement.History.{grants, is_acquire, is_probe_ack, is_release}
+use Rattle.tl_rules.specs.statement.Liberties.{grows_from_none}
+use Rattle.tl_memory.specs.code.Passing.{acquires_from_none}
 use Rattle.tl_memory.{specs.code.Elsewhere.NoneIsTo, proofs.Keeping.inside-kept, proofs.Writing.apart}
 use Rattle.tl_memory.proofs.Elsewhere.{elsewhere-kept, free-kept, freedom-kept, held-kept}
 
@@ -21,9 +24,20 @@ stays s n block x t passes k = freedom-kept s n block x t (free-kept n block x t
 
 -- ---- requests
 
--- a beat of channel A leaves as much of each block with its link
-pub request-leaves : {w : ℕ} (block : ℕ) (link : Link) (y : BeatA w) (t : Trace w) → LeavesHeld block (link, Beat.A y) t
-request-leaves block link y t = held-kept block (Beat.A y) (on_link link.0 t) (λ over. refl)
+-- a beat of channel A leaves as much of each block with its link, unless it is an Acquire of it from nothing held
+pub request-leaves : {w : ℕ} (block : ℕ) (link : Link) (y : BeatA w) (t : Trace w)
+    → (acquires_from_none y ≡ true → (block_at y.address == block) ≡ false) → LeavesHeld block (link, Beat.A y) t
+unfolding all_but_early
+request-leaves block link y t other = held-kept block (Beat.A y) (on_link link.0 t)
+    (λ over. silent (begins (Beat.A y) (on_link link.0 t)) (is_acquire y.opcode) (grows_from_none y.param) other)
+  where
+    silent : (first acquire none : Bool) → (acquire && none ≡ true → (block_at y.address == block) ≡ false)
+        → (if first && (acquire && none) then (if block_at y.address == block then Some Perm.None else None) else None)
+        ≡ None
+    silent true true true other = rw (other refl) refl
+    silent true true false other = refl
+    silent true false none other = refl
+    silent false acquire none other = refl
 
 -- a request that is complete is among those that are pending
 asked-elsewhere : {w : ℕ} (c : Bool) (block : ℕ) (access : Access w) (before : List (Access w))
@@ -33,29 +47,45 @@ asked-elsewhere true block access before other = rw (other refl) refl
 asked-elsewhere false block access before other = refl
 
 -- a beat of channel A that completes no access to the block
-pub request-passes : {w : ℕ} (block : ℕ) (link : Link) (y : BeatA w) (t : Trace w)
+request-elsewhere : {w : ℕ} (block : ℕ) (link : Link) (y : BeatA w) (t : Trace w)
     → AllWriteInside (pending_accesses ((link, Beat.A y) ∷ t))
     → (is_access y.opcode && ends (Beat.A y) (on_link link.0 t) ≡ true → (block_at y.address == block) ≡ false)
-    → PassesBy block (link, Beat.A y) t
+    → IsElsewhere block (link, Beat.A y) t
 unfolding pending_accesses
+request-elsewhere block link y t inside other = record {
+  quiet = refl;
+  keeps = λ place lt. tt;
+  pending_stay = asked-elsewhere (is_access y.opcode && ends (Beat.A y) (on_link link.0 t)) block _
+      (pending_accesses t) other;
+  inside = inside;
+}
+
+-- one for another block
+pub request-passes : {w : ℕ} (block : ℕ) (link : Link) (y : BeatA w) (t : Trace w)
+    → AllWriteInside (pending_accesses ((link, Beat.A y) ∷ t)) → (block_at y.address == block) ≡ false
+    → PassesBy block (link, Beat.A y) t
 request-passes block link y t inside other = record {
-  elsewhere = record {
-    quiet = refl;
-    keeps = λ place lt. tt;
-    pending_stay = asked-elsewhere (is_access y.opcode && ends (Beat.A y) (on_link link.0 t)) block _
-        (pending_accesses t) other;
-    inside = inside;
-  };
-  held_is = request-leaves block link y t;
+  elsewhere = request-elsewhere block link y t inside (λ complete. other);
+  held_is = request-leaves block link y t (λ acquires. other);
 }
 
 -- one with which no access is complete
-pub unasked-passes : {w : ℕ} (block : ℕ) (link : Link) (y : BeatA w) (t : Trace w) → AllWriteInside (pending_accesses t)
-    → is_access y.opcode && ends (Beat.A y) (on_link link.0 t) ≡ false → PassesBy block (link, Beat.A y) t
+pub unasked-elsewhere : {w : ℕ} (block : ℕ) (link : Link) (y : BeatA w) (t : Trace w)
+    → AllWriteInside (pending_accesses t) → is_access y.opcode && ends (Beat.A y) (on_link link.0 t) ≡ false
+    → IsElsewhere block (link, Beat.A y) t
 unfolding pending_accesses
-unasked-passes block link y t inside none =
-    request-passes block link y t (rw none inside) (λ complete. absurd (let e : true ≡ false = sym complete ∙ none in
-    cc))
+unasked-elsewhere block link y t inside none =
+    request-elsewhere block link y t (rw none inside)
+    (λ complete. absurd (let e : true ≡ false = sym complete ∙ none in cc))
+
+-- an access is no Acquire
+pub access-bare : {w : ℕ} (y : BeatA w) → is_access y.opcode ≡ true → acquires_from_none y ≡ false
+access-bare {w} y e = go y.opcode e
+  where
+    go : (opcode : OpA) → is_access opcode ≡ true → is_acquire opcode && grows_from_none y.param ≡ false
+    go OpA.AcquireBlock e = absurd cc
+    go OpA.AcquirePerm e = absurd cc
+    go v e = refl
 
 pub pending-asked : {w : ℕ} (link : Link) (y : BeatA w) (t : Trace w)
     → is_access y.opcode && ends (Beat.A y) (on_link link.0 t) ≡ true
@@ -76,7 +106,7 @@ probe-passes block link y t inside = record {
 
 pub ack-passes : {w : ℕ} (block : ℕ) (link : Link) (y : BeatE) (t : Trace w)
     → AllWriteInside (pending_accesses t) → PassesBy block (link, Beat.E y) t
-unfolding pending_accesses
+unfolding pending_accesses all_but_early
 ack-passes block link y t inside = record {
   elsewhere = record { quiet = refl; keeps = λ place lt. tt; pending_stay = refl; inside = inside };
   held_is = held-kept block (Beat.E y) (on_link link.0 t) (λ over. refl);
@@ -99,6 +129,7 @@ none_of_three a b c e = none_of_both a (b && c) (none_of_both b c e)
 
 report-leaves : {w : ℕ} (block : ℕ) (link : Link) (y : BeatC w) (t : Trace w) → (block_at y.address == block) ≡ false
     → LeavesHeld block (link, Beat.C y) t
+unfolding all_but_early
 report-leaves block link y t other = held-kept block (Beat.C y) (on_link link.0 t)
     (λ over. rw (none_of_both (is_probe_ack y.opcode || is_release y.opcode) (block_at y.address == block) other) refl)
 
@@ -188,7 +219,13 @@ response-elsewhere block link y t inside quiet none = record {
 
 pub response-leaves : {w : ℕ} (block : ℕ) (link : Link) (y : BeatD w) (t : Trace w)
     → grants block y (on_link link.0 t) ≡ false → LeavesHeld block (link, Beat.D y) t
-response-leaves block link y t other = held-kept block (Beat.D y) (on_link link.0 t) (λ over. rw other refl)
+unfolding all_but_early
+response-leaves block link y t other =
+    held-kept block (Beat.D y) (on_link link.0 t) (λ over. rw other (silent y.denied))
+  where
+    silent : (denied : Bool) → ◌≡◌ {A = Option Perm} (if denied then None else None) None
+    silent true = refl
+    silent false = refl
 
 -- a beat of channel D that answers no request of the block
 pub response-passes : {w : ℕ} (block : ℕ) (link : Link) (y : BeatD w) (t : Trace w)

@@ -6,9 +6,10 @@ use Rattle.tl_memory.proofs.Imports.{PassesBy, IsResponse, AllWriteInside, AnyIs
 use Rattle.std.proofs.Common.{◌≡◌, ◌⊎◌, ℕ, Bool, true, false, not, ◌&&◌, ◌/◌, ◌∷◌, List, [], refl, sym, ap, ◌∙◌, inl}
 use Rattle.std.proofs.Common.{inr}
 use Rattle.std.specs.Prelude.{find, None, Option, Some, ◌==◌}
-use Rattle.std.proofs.lemmas.Bool.{cases_Bool, eq-eqb}
+use Rattle.std.proofs.lemmas.Bool.{and_parts, cases_Bool, eq-eqb}
 use Rattle.tl_rules.{specs.statement.History.asks_for, specs.statement.History.grants, proofs.Open.request-fields}
 use Rattle.tl_memory.{specs.code.Elsewhere.NoneIsTo, specs.code.Taking.AreAsked, specs.code.Taking.tells_block}
+use Rattle.tl_memory.{specs.code.Taking.tells_response}
 use Rattle.tl_memory.proofs.Responses.{grants_no_access, none-answered, response-tells}
 use Rattle.tl_memory.proofs.Bearing.{none_of_both, none_of_three, response-elsewhere, response-passes}
 
@@ -117,10 +118,10 @@ other-passes block link y asked t inside is other =
 
 tells-off : {w : ℕ} (block : ℕ) (y : BeatD w) (past : History w) (asked : Request)
     → open_request y.source past ≡ Some asked → (ends (Beat.D y) past ≡ false)
-    ⊎ (tells_block y.opcode asked.opcode ≡ false) → tells block (Beat.D y) past ≡ false
+    ⊎ (tells_response y asked.opcode ≡ false) → tells block (Beat.D y) past ≡ false
 tells-off block y past asked e off = response-tells block y asked past e ∙ elim off [
   | inl goes_on ↦ rw goes_on refl
-  | inr silent ↦ none_of_three (ends (Beat.D y) past) (asked.block == block) (tells_block y.opcode asked.opcode) silent
+  | inr silent ↦ none_of_three (ends (Beat.D y) past) (asked.block == block) (tells_response y asked.opcode) silent
 ]
 
 not_both : (a b : Bool) → b ≡ false → not a && b ≡ true → ⊥
@@ -138,7 +139,7 @@ begun-elsewhere block link y asked t inside is goes_on =
 
 -- a response that tells nothing, to what is no access
 pub told-elsewhere : {w : ℕ} (block : ℕ) (link : Link) (y : BeatD w) (asked : Request) (t : Trace w)
-    → AllWriteInside (pending_accesses t) → IsResponse link.0 y asked t → tells_block y.opcode asked.opcode ≡ false
+    → AllWriteInside (pending_accesses t) → IsResponse link.0 y asked t → tells_response y asked.opcode ≡ false
     → is_access asked.opcode ≡ false → IsElsewhere block (link, Beat.D y) t
 told-elsewhere block link y asked t inside is silent bare =
     response-elsewhere block link y t inside
@@ -150,16 +151,17 @@ told-elsewhere block link y asked t inside is silent bare =
 -- a Grant that tells what the block has
 pub grant-tells : {w : ℕ} (block : ℕ) (y : BeatD w) (past : History w) (asked : Request)
     → open_request y.source past ≡ Some asked → asked.block ≡ block → ends (Beat.D y) past ≡ true
-    → tells_block y.opcode asked.opcode ≡ true → tells block (Beat.D y) past ≡ true
+    → tells_response y asked.opcode ≡ true → tells block (Beat.D y) past ≡ true
 grant-tells block y past asked e here over told = response-tells block y asked past e
     ∙ rw (over, eq-eqb asked.block block here, told) refl
 
 -- with it the same accesses are pending
 pub grant-stays : {w : ℕ} (link : Link) (y : BeatD w) (asked : Request) (t : Trace w) → IsResponse link.0 y asked t
-    → tells_block y.opcode asked.opcode ≡ true → pending_accesses ((link, Beat.D y) ∷ t) ≡ pending_accesses t
+    → tells_response y asked.opcode ≡ true → pending_accesses ((link, Beat.D y) ∷ t) ≡ pending_accesses t
 grant-stays link y asked t is told =
     none-answered link y t (none-found link.0 y.source asked (pending_accesses t) is.are_asked
-    (tells-bare y.opcode asked.opcode is.answers_it told))
+    (tells-bare y.opcode asked.opcode is.answers_it
+    (and_parts (not y.denied) (tells_block y.opcode asked.opcode) told).1))
 
 pub answer-over : {w : ℕ} (link : Link) (y : BeatD w) (asked : Request) (t : Trace w) → IsResponse link.0 y asked t
     → ends (Beat.D y) (on_link link.0 t) ≡ true → ends_request y (on_link link.0 t) ≡ true

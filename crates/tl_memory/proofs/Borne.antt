@@ -55,8 +55,7 @@ answer-passes false block link y asked t inside release is other =
 pub passes : {w : ℕ} (block : ℕ) (link : Link) (y : Beat w) (t : Trace w) → AllWriteInside (pending_accesses t)
     → IsLegalBeat link.0 y t → (block_borne y (on_link link.0 t) ≡ Some block → ⊥) → PassesBy block (link, y) t
 passes block link (Beat.A y) t inside is other =
-    request-passes block link y t (request-inside link y t is inside)
-    (λ complete. other-than (block_at y.address) block other)
+    request-passes block link y t (request-inside link y t is inside) (other-than (block_at y.address) block other)
 passes block link (Beat.B y) t inside is other = probe-passes block link y t inside
 passes block link (Beat.C y) t inside is other =
     report-passes block link y t inside (other-than (block_at y.address) block other)

@@ -1,7 +1,7 @@
 -- What is known of an access whose request is complete, where no beat of its link broke a rule.
 use Rattle.tl_memory.proofs.Imports.{Beat, BeatA, OpA, first_if, a_carries_data, IsWidth, MessageA, bit, data_beats}
-use Rattle.tl_memory.proofs.Imports.{reaches, History, burst_length, unfinished, Level, Profile, L1, L2, L3, base_of}
-use Rattle.tl_memory.proofs.Imports.{AreTyped, broken_after, is_legal, block_at, ends, a_has_param, a_has_size}
+use Rattle.tl_memory.proofs.Imports.{reaches, History, burst_length, unfinished, Level, L1, L2, L3, base_of}
+use Rattle.tl_memory.proofs.Imports.{AreTyped, all_but_early, broken_after_under, is_legal_under, block_at, ends, a_has_param, a_has_size}
 use Rattle.tl_memory.proofs.Imports.{a_of_level, base_in_memory, asked_by, is_access, writes, AreWide, WritesInside}
 use Rattle.tl_memory.proofs.Imports.{is_put}
 use Rattle.std.proofs.Common.{◌≡◌, ℕ, zero, suc, Bool, true, false, not, ◌+◌, ◌*◌, ◌/◌, ◌%◌, ◌^◌, ◌<◌, ◌≤◌, List, ◌∷◌}
@@ -141,18 +141,18 @@ reached_inside address size x le aligned reached =
 
 -- ---- a request that is complete
 
-module _ {w : ℕ} (l : Level) (p : Profile) (link : ℕ) (x : BeatA w) (t : History w) (moment : ℕ) (is : IsWidth w)
-    (typed : AreTyped (Beat.A x ∷ unfinished Channel.A t)) (legal : is_legal l p t ≡ true)
-    (fine : broken_after l p (Beat.A x) t ≡ None) (last : ends (Beat.A x) t ≡ true) where
+module _ {w : ℕ} (l : Level) (link : ℕ) (x : BeatA w) (t : History w) (moment : ℕ) (is : IsWidth w)
+    (typed : AreTyped (Beat.A x ∷ unfinished Channel.A t)) (legal : is_legal_under all_but_early l t ≡ true)
+    (fine : broken_after_under all_but_early l (Beat.A x) t ≡ None) (last : ends (Beat.A x) t ≡ true) where
   abbrev burst : List (Beat w)
   burst = Beat.A x ∷ unfinished Channel.A t
 
   request : IsRequest w l x.opcode x.param x.size x.address x.mask
-  request = is-request l x is (by_itself l p (Beat.A x) t fine)
+  request = is-request l x is (by_itself l (Beat.A x) t fine)
 
   pub wide-burst : a_carries_data x.opcode ≡ true → AreWide burst
-  wide-burst carries = are-wide l x (unfinished Channel.A t) typed (goes_on l p (Beat.A x) t fine)
-      (are-begun l p Channel.A t is legal) carries
+  wide-burst carries = are-wide l x (unfinished Channel.A t) typed (goes_on l (Beat.A x) t fine)
+      (are-begun l Channel.A t is legal) carries
 
   long : a_carries_data x.opcode ≡ true → length (bytes_carried burst) ≡ w * data_beats w x.size
   long carries =

@@ -1,5 +1,5 @@
 -- What is kept of a block, with a beat that bears on another.
-use Rattle.tl_memory.proofs.Imports.{Beat, Link, History, unfinished, Trace, on_link, ends, is_free, Access}
+use Rattle.tl_memory.proofs.Imports.{Beat, Link, History, unfinished, Trace, on_link, ends, all_but_early, is_free, Access}
 use Rattle.tl_memory.proofs.Imports.{ends_request, is_of, may_be, may_read, pending_accesses, tells, written_as}
 use Rattle.tl_memory.proofs.Imports.{KnowsBlock, others, IsElsewhere, LeavesHeld, WritesNot, BlockState, PendingAccess}
 use Rattle.tl_memory.proofs.Imports.{AllWriteInside, AreKnown, is_to, KnowsAccess, KnowsState}
@@ -9,7 +9,8 @@ use Rattle.std.specs.Prelude.{filter, find, None, Option, Some}
 use Rattle.std.proofs.lemmas.Bool.{cases_Bool, cases_eq, eq-eqb, le-leb, ne_eqb}
 use Rattle.tl_beat.specs.declared.channel.Channel.{Channel}
 use Rattle.tl_params.specs.declared.perm.Perm.{Perm}
-use Rattle.tl_rules.specs.statement.History.{held, says_held}
+use Rattle.tl_rules.specs.statement.Liberties.{held_under, says_held_under}
+use Rattle.tl_bytes.specs.statement.Free.{may_hold}
 use Rattle.tl_bytes.{specs.declared.block_bytes.BlockBytes.BlockBytes, specs.declared.telling.Telling.Telling}
 use Rattle.tl_bytes.{proofs.Since.same_after}
 use Rattle.tl_bytes.specs.statement.Bytes.{after_answer, after_beat, last_told, last_window, told_as}
@@ -141,7 +142,7 @@ elsewhere-kept s n block x t elsewhere k = record {
 -- ---- what is seen of it where it is as free as it was
 
 pub windows-kept : {w : ℕ} (n block : ℕ) (pending : List (PendingAccess w)) (accesses : List (Access w))
-    (x : Link × Beat w) (t : Trace w) → is_free n None Perm.Trunk block (x ∷ t) ≡ is_free n None Perm.Trunk block t
+    (x : Link × Beat w) (t : Trace w) → is_free n Perm.Trunk block (x ∷ t) ≡ is_free n Perm.Trunk block t
     → AreKnown pending n block accesses t (x ∷ t) → AreKnown pending n block accesses (x ∷ t) (x ∷ t)
 windows-kept n block [] [] x t same are = tt
 windows-kept n block (one ∷ pending) (access ∷ accesses) x t same are = (
@@ -158,14 +159,14 @@ windows-kept n block (one ∷ pending) (access ∷ accesses) x t same are = (
 windows-kept n block v u x t same are = absurd are
 
 pub last-kept : {w : ℕ} (n block : ℕ) (x : Link × Beat w) (t : Trace w)
-    → is_free n None Perm.Trunk block (x ∷ t) ≡ is_free n None Perm.Trunk block t
-    → is_free n None Perm.Trunk block t ≡ false → last_window n block (x ∷ t) ≡ last_window n block t
+    → is_free n Perm.Trunk block (x ∷ t) ≡ is_free n Perm.Trunk block t
+    → is_free n Perm.Trunk block t ≡ false → last_window n block (x ∷ t) ≡ last_window n block t
 unfolding last_window
 last-kept n block x t same off = rw (same, off) refl
 
 -- where the block is as free as it was, that is seen
 pub freedom-kept : {w : ℕ} (s : BlockState w) (n block : ℕ) (x : Link × Beat w) (t : Trace w)
-    → is_free n None Perm.Trunk block (x ∷ t) ≡ is_free n None Perm.Trunk block t
+    → is_free n Perm.Trunk block (x ∷ t) ≡ is_free n Perm.Trunk block t
     → KnowsState s n block t (x ∷ t) → KnowsState s n block (x ∷ t) (x ∷ t)
 freedom-kept s n block x t same k = record {
   bytes_are = k.bytes_are;
@@ -180,17 +181,18 @@ freedom-kept s n block x t same k = record {
 
 -- ---- how free it is
 
--- where the beat says nothing of what is held of a block, that stays
+-- where the beat says nothing of what may be held of a block, that stays
 pub held-kept : {w : ℕ} (block : ℕ) (x : Beat w) (past : History w)
-    → (ends x past ≡ true → says_held block x past ≡ None) → held block (x ∷ past) ≡ held block past
-unfolding held
+    → (ends x past ≡ true → says_held_under all_but_early block x past ≡ None)
+    → may_hold block (x ∷ past) ≡ may_hold block past
+unfolding held_under
 held-kept block x past silent = elim (cases_Bool (ends x past)) [
   | inl over ↦ rw (over, silent over) refl
   | inr goes_on ↦ rw goes_on refl
 ]
 
 link-kept : {w : ℕ} (block m : ℕ) (x : Link × Beat w) (t : Trace w) → LeavesHeld block x t
-    → held block (on_link m (x ∷ t)) ≡ held block (on_link m t)
+    → may_hold block (on_link m (x ∷ t)) ≡ may_hold block (on_link m t)
 unfolding on_link
 link-kept block m x t same = elim (cases_eq x.0.0 m) [
   | inl own ↦ rw (eq-eqb x.0.0 m own) (rw own at same)
@@ -199,14 +201,14 @@ link-kept block m x t same = elim (cases_eq x.0.0 m) [
 
 -- a beat that leaves as much of a block with its link leaves it as free as it was
 pub free-kept : {w : ℕ} (n block : ℕ) (x : Link × Beat w) (t : Trace w) → LeavesHeld block x t
-    → is_free n None Perm.Trunk block (x ∷ t) ≡ is_free n None Perm.Trunk block t
+    → is_free n Perm.Trunk block (x ∷ t) ≡ is_free n Perm.Trunk block t
 unfolding is_free
 free-kept zero block x t same = refl
 free-kept (suc n) block x t same =
     rw (free-kept n block x t same, link-kept block n x t same) refl
 
 -- where nothing was carried it is free
-pub free-first : (w n block : ℕ) → true ≡ is_free {w = w} n None Perm.Trunk block []
-unfolding is_free on_link held
+pub free-first : (w n block : ℕ) → true ≡ is_free {w = w} n Perm.Trunk block []
+unfolding is_free on_link held_under
 free-first w zero block = refl
 free-first w (suc n) block = rw (← free-first w n block) refl

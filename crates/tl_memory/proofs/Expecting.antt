@@ -1,8 +1,8 @@
 -- What the response that has begun on a link may bring, beat by beat.
 use Rattle.tl_memory.proofs.Imports.{Beat, BeatD, Link, OpD, History, breaks_burst, on, same_control, unfinished}
-use Rattle.tl_memory.proofs.Imports.{is_empty, control_d, Level, Profile, open_request, Request, Trace, broken_on_link}
+use Rattle.tl_memory.proofs.Imports.{is_empty, control_d, Level, open_request, Request, Trace, IsLegal}
 use Rattle.tl_memory.proofs.Imports.{on_link, begins, ends, Expected, ExpectsGrant, ExpectsRead, ExpectsResponse}
-use Rattle.tl_memory.proofs.Imports.{AreLegal}
+use Rattle.tl_memory.proofs.Imports.{all_but_early, AreLegal}
 use Rattle.std.proofs.Common.{◌≡◌, ℕ, suc, Bool, true, false, ◌&&◌, List, [], ◌∷◌, length, Option, None, refl, sym, ap}
 use Rattle.std.proofs.Common.{◌∙◌, inl, inr, subst, arith}
 use Rattle.std.specs.Prelude.{◌==◌}
@@ -18,18 +18,18 @@ use Rattle.tl_memory.proofs.OpenAccesses.{own-link}
 -- ---- one more beat
 
 -- what a response may bring stays so while its request is open
-expects-still : {w : ℕ} (levels : List Level) (p : Profile) (c : ℕ) (expected : Option Expected) (n : ℕ) (opcode : OpD)
-    (s : ℕ) (asked : Request) (x : Link × Beat w) (t begun : Trace w) → broken_on_link levels p x t ≡ None
+expects-still : {w : ℕ} (levels : List Level) (c : ℕ) (expected : Option Expected) (n : ℕ) (opcode : OpD)
+    (s : ℕ) (asked : Request) (x : Link × Beat w) (t begun : Trace w) → IsLegal levels x t
     → IsOpen s asked (on_link c t) → (x.0.0 ≡ c → completes_answer s x.1 (on_link c t) ≡ false)
     → ExpectsResponse expected n c opcode s t begun → ExpectsResponse expected n c opcode s (x ∷ t) begun
-expects-still levels p c expected n OpD.GrantData s asked x t begun fine o unended k =
+expects-still levels c expected n OpD.GrantData s asked x t begun fine o unended k =
     let same : open_request s (on_link c (x ∷ t)) ≡ open_request s (on_link c t) =
-    open-whole s asked (on_link c (x ∷ t)) (open-after levels p c s asked x t fine o unended)
+    open-whole s asked (on_link c (x ∷ t)) (open-after levels c s asked x t fine o unended)
     ∙ sym (open-whole s asked (on_link c t) o) in
     subst (λ q. ExpectsGrant expected n q begun) (sym same) k
-expects-still levels p c expected n OpD.AccessAckData s asked x t begun fine o unended k =
-    subst (λ q. ExpectsRead expected n q begun) (sym (found-still levels p c s asked x t fine o unended)) k
-expects-still levels p c expected n v s asked x t begun fine o unended k = tt
+expects-still levels c expected n OpD.AccessAckData s asked x t begun fine o unended k =
+    subst (λ q. ExpectsRead expected n q begun) (sym (found-still levels c s asked x t fine o unended)) k
+expects-still levels c expected n v s asked x t begun fine o unended k = tt
 
 -- the beats of other channels and links leave the trace before a response
 before-off : {w : ℕ} (c k : ℕ) (x : Link × Beat w) (t : Trace w) → (x.0.0 == c) && on Channel.D x.1 ≡ false
@@ -57,11 +57,11 @@ not_answer : {w : ℕ} (s : ℕ) (x : Beat w) (t : History w) → on Channel.D x
 not_answer s (Beat.D y) t off = absurd cc
 not_answer s v t off = refl
 
-module _ {w : ℕ} (levels : List Level) (p : Profile) (c n : ℕ) (x : Link × Beat w) (t : Trace w)
-    (legal : AreLegal levels p t) (fine : broken_on_link levels p x t ≡ None) where
+module _ {w : ℕ} (levels : List Level) (c n : ℕ) (x : Link × Beat w) (t : Trace w)
+    (legal : AreLegal levels t) (fine : IsLegal levels x t) where
   answering-at : (y : BeatD w) (older : List (Beat w)) → unfinished Channel.D (on_link c t) ≡ Beat.D y ∷ older
       → IsAnswering y (on_link c t)
-  answering-at y older is = let l = legal-link levels p c t legal in answering l.0 p (on_link c t) y older l.1 is
+  answering-at y older is = let l = legal-link levels c t legal in answering l.0 (on_link c t) y older l.1 is
 
   -- with a beat of another link, or another channel
   pub expected-off : (expected : Option Expected) → KnowsExpected expected n c t
@@ -71,7 +71,7 @@ module _ {w : ℕ} (levels : List Level) (p : Profile) (c n : ℕ) (x : Link × 
       let answer = answering-at y older before in
       subst (λ u. ExpectsResponse expected n c y.opcode y.source (x ∷ t) u)
       (sym (before-off c (length older) x t apart))
-      (expects-still levels p c expected n y.opcode y.source answer.asked x t (before_last c (suc (length older)) t)
+      (expects-still levels c expected n y.opcode y.source answer.asked x t (before_last c (suc (length older)) t)
       fine answer.is_open (λ own. not_answer y.source x.1 (on_link c t) (off own)) (k y older before))
     where
       same : unfinished Channel.D (on_link c (x ∷ t)) ≡ unfinished Channel.D (on_link c t)
@@ -91,8 +91,8 @@ module _ {w : ℕ} (levels : List Level) (p : Profile) (c n : ℕ) (x : Link × 
 same_tail : {X : Type 0} (x y : X) (xs ys : List X) → x ∷ xs ≡ y ∷ ys → xs ≡ ys
 same_tail x y xs ys e = cc
 
-module _ {w : ℕ} (levels : List Level) (p : Profile) (link : Link) (n : ℕ) (z : BeatD w) (t : Trace w)
-    (legal : AreLegal levels p t) (fine : broken_on_link levels p (link, Beat.D z) t ≡ None) where
+module _ {w : ℕ} (levels : List Level) (link : Link) (n : ℕ) (z : BeatD w) (t : Trace w)
+    (legal : AreLegal levels t) (fine : IsLegal levels (link, Beat.D z) t) where
   abbrev c : ℕ
   c = link.0
 
@@ -117,10 +117,10 @@ module _ {w : ℕ} (levels : List Level) (p : Profile) (link : Link) (n : ℕ) (
   -- and that has begun
   pub expects-later : (expected : Option Expected) → KnowsExpected expected n c t → (length burst ≡ 0 → ⊥)
       → ExpectsResponse expected n c z.opcode z.source t (before_last c (length burst) t)
-  expects-later expected k some = go burst refl (goes_on f.level p (Beat.D z) (on_link c t) f.fine) some
+  expects-later expected k some = go burst refl (goes_on f.level (Beat.D z) (on_link c t) f.fine) some
     where
-      f : IsFine levels p (link, Beat.D z) t
-      f = is-fine levels p (link, Beat.D z) t fine
+      f : IsFine all_but_early levels (link, Beat.D z) t
+      f = is-fine _ levels (link, Beat.D z) t fine
 
       go : (beats : List (Beat w)) → burst ≡ beats → breaks_burst (Beat.D z) beats ≡ false → (length beats ≡ 0 → ⊥)
           → ExpectsResponse expected n c z.opcode z.source t (before_last c (length beats) t)
@@ -146,13 +146,13 @@ module _ {w : ℕ} (levels : List Level) (p : Profile) (link : Link) (n : ℕ) (
       still : ends (Beat.D z) (on_link c t) ≡ false
           → ExpectsResponse expected n c z.opcode z.source ((link, Beat.D z) ∷ t) (before_last c (length burst) t)
       still last =
-          expects-still levels p c expected n z.opcode z.source answer.asked (link, Beat.D z) t
+          expects-still levels c expected n z.opcode z.source answer.asked (link, Beat.D z) t
           (before_last c (length burst) t) fine answer.is_open (λ own. unended z (on_link c t) last) k
         where
           answer : IsAnswering z (on_link c t)
           answer =
-              let f = is-fine levels p (link, Beat.D z) t fine in
-              answering-unended f.level p z (on_link c t) (legal-on levels p c f.level t f.has_level legal) f.fine last
+              let f = is-fine _ levels (link, Beat.D z) t fine in
+              answering-unended f.level z (on_link c t) (legal-on _ levels c f.level t f.has_level legal) f.fine last
 
       go : (last : Bool) → ends (Beat.D z) (on_link c t) ≡ last → unfinished Channel.D (Beat.D z ∷ on_link c t) ≡ Beat.D
           y ∷ older → ExpectsResponse expected n c y.opcode y.source ((link, Beat.D z) ∷ t)

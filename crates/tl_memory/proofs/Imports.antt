@@ -31,18 +31,18 @@ pub use Rattle.tl_memory.specs.declared.writer.Writer.{Writer}
 pub use Rattle.tl_memory.specs.statement.Expecting.{ExpectsGrant, ExpectsRead, ExpectsResponse}
 pub use Rattle.tl_memory.specs.statement.Known.{AllWriteInside, AnyIsTo, AreKnown, AreWide, Expects, IsAsked}
 pub use Rattle.tl_memory.specs.statement.Known.{KnowsAccess, KnowsAccesses, KnowsState, WritesInside, is_put, is_to}
-pub use Rattle.tl_memory.specs.statement.Links.{AreLegal, KnowsLink}
+pub use Rattle.tl_memory.specs.statement.Links.{AreLegal, IsLegal, KnowsLink}
 pub use Rattle.tl_params.specs.declared.level.Level.{Level}
-pub use Rattle.tl_params.specs.declared.profile.Profile.{Profile}
 pub use Rattle.tl_params.specs.declared.rule.Rule.TheVariants.{L1, L2, L3}
 pub use Rattle.tl_rules.proofs.Rooms.{base_in_memory}
 pub use Rattle.tl_rules.specs.code.Open.{open_request, request_fields}
 pub use Rattle.tl_rules.specs.code.Place.{base_of}
 pub use Rattle.tl_rules.specs.declared.past.Request.{Request}
 pub use Rattle.tl_rules.specs.laws.Typed.{AreTyped, IsTyped}
-pub use Rattle.tl_rules.specs.statement.Conformance.{Trace, answers, broken_on_link}
-unfoldable pub use Rattle.tl_rules.specs.statement.Conformance.{broken_after, is_legal, on_link}
+pub use Rattle.tl_rules.specs.statement.Conformance.{Trace, answers}
+unfoldable pub use Rattle.tl_rules.specs.statement.Conformance.{on_link}
+unfoldable pub use Rattle.tl_rules.specs.statement.Liberties.{broken_after_under, is_legal_under}
 pub use Rattle.tl_rules.specs.statement.History.{begins, block_at, ends, is_grant, is_release_ack}
 unfoldable pub use Rattle.tl_rules.specs.statement.History.{request_of}
 pub use Rattle.tl_rules.specs.statement.Legality.{a_has_param, a_has_size, a_of_level}
-unfoldable pub use Rattle.tl_rules.specs.statement.Windows.{is_free}
+unfoldable pub use Rattle.tl_bytes.specs.statement.Free.{all_but_early, is_free}

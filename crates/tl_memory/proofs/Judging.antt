@@ -1,8 +1,8 @@
 -- Whether the bytes of a response are true, by what it may bring.
-use Rattle.tl_memory.proofs.Imports.{BeatD, Link, OpD, IsWidth, data_beats, burst_length, unfinished, Level, Profile}
-use Rattle.tl_memory.proofs.Imports.{open_request, base_of, Request, Trace, broken_on_link, on_link, is_release_ack}
+use Rattle.tl_memory.proofs.Imports.{BeatD, Link, OpD, IsWidth, data_beats, burst_length, unfinished, Level}
+use Rattle.tl_memory.proofs.Imports.{open_request, base_of, Request, Trace, IsLegal, on_link, is_release_ack}
 use Rattle.tl_memory.proofs.Imports.{Access, is_of, pending_accesses, Expected, Expects, ExpectsGrant, ExpectsRead}
-use Rattle.tl_memory.proofs.Imports.{ExpectsResponse, AreLegal, Beat}
+use Rattle.tl_memory.proofs.Imports.{all_but_early, ExpectsResponse, AreLegal, Beat}
 use Rattle.std.proofs.Common.{◌≡◌, ℕ, Bool, true, false, ◌||◌, ◌+◌, ◌*◌, ◌<◌, ◌≤◌, List, length, Option, Some, None}
 use Rattle.std.proofs.Common.{refl, sym, ap, ◌∙◌, arith}
 use Rattle.std.specs.Prelude.{find}
@@ -18,28 +18,28 @@ unspoiled : (spoiled b : Bool) → spoiled ≡ false → b ≡ (spoiled || b)
 unspoiled true b e = absurd cc
 unspoiled false b e = refl
 
-module _ {w : ℕ} (levels : List Level) (p : Profile) (n : ℕ) (link : Link) (x : BeatD w) (t : Trace w) (is : IsWidth w)
-    (legal : AreLegal levels p t) (fine : broken_on_link levels p (link, Beat.D x) t ≡ None) where
+module _ {w : ℕ} (levels : List Level) (n : ℕ) (link : Link) (x : BeatD w) (t : Trace w) (is : IsWidth w)
+    (legal : AreLegal levels t) (fine : IsLegal levels (link, Beat.D x) t) where
   abbrev k : ℕ
   k = length (unfinished Channel.D (on_link link.0 t))
 
   abbrev begun : Trace w
   begun = before_last link.0 k t
 
-  f : IsFine levels p (link, Beat.D x) t
-  f = is-fine levels p (link, Beat.D x) t fine
+  f : IsFine all_but_early levels (link, Beat.D x) t
+  f = is-fine _ levels (link, Beat.D x) t fine
 
   pub in_block : w * k + w ≤ 64
   in_block =
-      room f.level p (Beat.D x) (on_link link.0 t) is (legal-on levels p link.0 f.level t f.has_level legal) f.fine
+      room f.level (Beat.D x) (on_link link.0 t) is (legal-on _ levels link.0 f.level t f.has_level legal) f.fine
 
   fewer : k < burst_length (Beat.D x)
-  fewer = fewer-before f.level p (Beat.D x) (on_link link.0 t) is
-      (legal-on levels p link.0 f.level t f.has_level legal) f.fine
+  fewer = fewer-before f.level (Beat.D x) (on_link link.0 t) is
+      (legal-on _ levels link.0 f.level t f.has_level legal) f.fine
 
   answering : is_release_ack x.opcode ≡ false → IsAnswering x (on_link link.0 t)
-  answering other = is-answering f.level p x (on_link link.0 t)
-      (legal-on levels p link.0 f.level t f.has_level legal) f.fine other
+  answering other = is-answering f.level x (on_link link.0 t)
+      (legal-on _ levels link.0 f.level t f.has_level legal) f.fine other
 
   true-grant : (expected : Option Expected) (b : Bool) → IsAllowed expected k x b → x.opcode ≡ OpD.GrantData
       → ExpectsGrant expected n (open_request x.source (on_link link.0 t)) begun → (x.corrupt || x.denied) ≡ false
@@ -57,7 +57,7 @@ module _ {w : ℕ} (levels : List Level) (p : Profile) (n : ℕ) (link : Link) (
   read_inside access op pending =
       let answer = answering (ap is_release_ack op) in
       let opened = open-whole x.source answer.asked (on_link link.0 t) answer.is_open in
-      let q = pending-open levels p link.0 x.source access t is legal pending in
+      let q = pending-open levels link.0 x.source access t is legal pending in
       let same = same_asked x.source answer.asked q.asked (on_link link.0 t) opened q.is_open in
       let size : x.size ≡ access.request.size = answer.sized ∙ ap (λ (r : Request). r.size) (sym same) ∙ q.size_is in
       let inside = carried_inside w access.request.size access.request.address is q.small q.aligned in

@@ -283,7 +283,7 @@ asked-more n block first more access x t pending to inside all k are = record {
 
 pub watched-each : {w : ℕ} (n block : ℕ) (free : Bool) (moment : ℕ) (x : Link × Beat w) (t : Trace w)
     (old new : List (PendingAccess w)) (accesses : List (Access w)) → AreKnown old n block accesses t (x ∷ t)
-    → AreWatched free moment old new → free ≡ is_free n None Perm.Trunk block (x ∷ t) → moment ≡ length (x ∷ t)
+    → AreWatched free moment old new → free ≡ is_free n Perm.Trunk block (x ∷ t) → moment ≡ length (x ∷ t)
     → AreKnown new n block accesses (x ∷ t) (x ∷ t)
 watched-each n block free moment x t [] [] [] are watched is now = tt
 watched-each n block free moment x t [] (z ∷ new) accesses are watched is now = absurd watched

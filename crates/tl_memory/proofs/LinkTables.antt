@@ -1,10 +1,11 @@
 -- What is known of all links, with one more beat.
-use Rattle.tl_memory.proofs.Imports.{Beat, Link, Level, Profile, Trace, broken_on_link, LinkState, AreLegal, KnowsLink}
+use Rattle.tl_memory.proofs.Imports.{Beat, Link, Level, Trace, IsLegal, LinkState, AreLegal, KnowsLink}
 use Rattle.std.proofs.Common.{◌≡◌, ℕ, suc, zero, pred, List, [], ◌∷◌, ◌++◌, ◌<◌, ◌⊎◌, length, inl, inr, refl, sym, ap}
 use Rattle.std.proofs.Common.{◌∙◌, Some, None, slice_get, slice_set, arith}
 use Rattle.std.proofs.lemmas.List.{length-set}
 use Rattle.std.proofs.lemmas.Option.{none-some, same_Some, slice_get_cases, slice_get_within}
-use Rattle.tl_memory.{specs.declared.links.Links.Links, specs.statement.Links.KnowsLinks}
+use Rattle.tl_params.specs.declared.liberties.Liberties.{Liberties}
+use Rattle.tl_memory.{specs.declared.links.Links.Links, specs.statement.Links.KeepsRules, specs.statement.Links.KnowsLinks}
 use Rattle.tl_memory.{proofs.LinkStates.link-elsewhere, proofs.OpenAccesses.is-fine}
 
 -- ---- elements of lists
@@ -54,29 +55,29 @@ links-first l w n count are = record {
 -- ---- one more beat
 
 -- a beat that breaks no rule is of a link that there is
-pub link-there : {w : ℕ} (levels : List Level) (p : Profile) (x : Link × Beat w) (t : Trace w)
-    → broken_on_link levels p x t ≡ None → x.0.0 < length levels
-link-there levels p x t fine =
-    let f = is-fine levels p x t fine in slice_get_within levels x.0.0 f.level f.has_level
+pub link-there : {w : ℕ} (l : Liberties) (levels : List Level) (x : Link × Beat w) (t : Trace w)
+    → KeepsRules l levels x t → x.0.0 < length levels
+link-there l levels x t fine =
+    let f = is-fine _ levels x t fine in slice_get_within levels x.0.0 f.level f.has_level
 
 -- of which a state is kept
-pub state-there : {w : ℕ} {X : Type 0} (levels : List Level) (p : Profile) (l : Links) (x : Link × Beat w) (t : Trace w)
-    → KnowsLinks l (length levels) t → broken_on_link levels p x t ≡ None → slice_get l.states.items x.0.0 ≡ None → X
-state-there levels p l x t k fine none = elim (slice_get_cases l.states.items x.0.0).1 [
+pub state-there : {w : ℕ} {X : Type 0} (levels : List Level) (l : Links) (x : Link × Beat w) (t : Trace w)
+    → KnowsLinks l (length levels) t → IsLegal levels x t → slice_get l.states.items x.0.0 ≡ None → X
+state-there levels l x t k fine none = elim (slice_get_cases l.states.items x.0.0).1 [
   | inl found ↦ absurd (none-some found.0 (sym none ∙ found.2))
-  | inr past ↦ absurd (omega (arith, link-there levels p x t fine, past.0, k.count_is))
+  | inr past ↦ absurd (omega (arith, link-there _ levels x t fine, past.0, k.count_is))
 ]
 
-pub links-taken : {w : ℕ} (levels : List Level) (p : Profile) (l new : Links) (old next : LinkState) (n : ℕ)
+pub links-taken : {w : ℕ} (levels : List Level) (l new : Links) (old next : LinkState) (n : ℕ)
     (link : Link) (x : Beat w) (t : Trace w)
     → new.states.items ≡ slice_set l.states.items link.0 next → slice_get l.states.items link.0 ≡ Some old
-    → AreLegal levels p t → broken_on_link levels p (link, x) t ≡ None → KnowsLinks l n t
+    → AreLegal levels t → IsLegal levels (link, x) t → KnowsLinks l n t
     → (KnowsLink old n link.0 t → KnowsLink next n link.0 ((link, x) ∷ t)) → KnowsLinks new n ((link, x) ∷ t)
-links-taken levels p l new old next n link x t set there legal fine k taken = record {
+links-taken levels l new old next n link x t set there legal fine k taken = record {
   count_is = ap length set ∙ length-set l.states.items link.0 next ∙ k.count_is;
   states_are = λ c s e. elim (found-set l.states.items link.0 c next s (rw set at e)) [
     | inl here ↦ rw (here.0, here.1) (taken (k.states_are link.0 old there))
-    | inr apart ↦ link-elsewhere levels p s n c (link, x) t legal fine (λ own. apart.0 (sym own))
+    | inr apart ↦ link-elsewhere levels s n c (link, x) t legal fine (λ own. apart.0 (sym own))
         (k.states_are c s apart.1)
   ];
 }

@@ -1,17 +1,17 @@
 -- What is known of the bytes of memory, with one more beat.
-use Rattle.tl_memory.proofs.Imports.{Beat, BeatA, BeatD, Link, IsWidth, History, on, Level, Profile, open_request}
-use Rattle.tl_memory.proofs.Imports.{request_fields, Request, IsTyped, Trace, broken_on_link, on_link, begins}
-use Rattle.tl_memory.proofs.Imports.{is_release_ack, request_of, is_free, pending_accesses, PassesBy, block_asked}
+use Rattle.tl_memory.proofs.Imports.{Beat, BeatA, BeatD, Link, IsWidth, History, Level, open_request}
+use Rattle.tl_memory.proofs.Imports.{request_fields, Request, IsTyped, Trace, IsLegal, on_link, begins}
+use Rattle.tl_memory.proofs.Imports.{is_access, is_release_ack, request_of, is_free, pending_accesses, PassesBy, block_asked}
 use Rattle.tl_memory.proofs.Imports.{block_borne, IsLegalBeat, Expected, LinkState, ExpectsResponse, AllWriteInside}
 use Rattle.tl_memory.proofs.Imports.{AreLegal, KnowsLink, OpD}
 use Rattle.std.proofs.Common.{◌≡◌, ℕ, Bool, true, false, ◌&&◌, ◌∷◌, ◌^◌, ◌<◌, ◌/◌, List, [], Option, Some, None, length}
 use Rattle.std.proofs.Common.{refl, sym, ap, ◌∙◌, arith, inl, inr}
 use Rattle.std.{specs.Prelude.if◌then◌else◌, specs.Prelude.◌==◌, specs.Prelude.option_map, proofs.lemmas.Bool.eqb-false}
 use Rattle.std.proofs.lemmas.Option.{none-some, same_Some, slice_get_cases}
-use Rattle.tl_beat.specs.declared.channel.Channel.{Channel}
 use Rattle.tl_params.specs.declared.perm.Perm.{Perm}
 use Rattle.tl_memory.specs.code.Changing.{ExpectsBegun, IsBorne, IsChange}
 use Rattle.tl_memory.{specs.code.Passing.changes_held, specs.code.Taking.IsSeen, specs.declared.links.Links.Links}
+use Rattle.tl_memory.{specs.code.Taking.is_asking, proofs.Bearing.access-bare}
 use Rattle.tl_memory.{specs.declared.memory.Change.Change, specs.declared.memory.Memory.Memory}
 use Rattle.tl_memory.{specs.statement.Links.KnowsLinks, specs.statement.Memory.AreAddressed}
 use Rattle.tl_memory.{specs.statement.Memory.IsAddressed, proofs.Beginning.none-begun, proofs.Borne.passes}
@@ -63,17 +63,17 @@ block-small {w} s link asked t all e =
 
 -- ---- beats that break no rule
 
-module _ {w : ℕ} (levels : List Level) (p : Profile) (link : Link) (x : Beat w) (t : Trace w) (is : IsWidth w)
-    (legal : AreLegal levels p t) (fine : broken_on_link levels p (link, x) t ≡ None) where
+module _ {w : ℕ} (levels : List Level) (link : Link) (x : Beat w) (t : Trace w) (is : IsWidth w)
+    (legal : AreLegal levels t) (fine : IsLegal levels (link, x) t) where
   pub beat-legal : (s : LinkState) (n : ℕ) → KnowsLink s n link.0 t
       → ((y : BeatA w) → x ≡ Beat.A y → IsTyped (Beat.A y)) → IsLegalBeat link.0 x t
-  beat-legal s n k typed = legal-beat levels p link t is legal x (λ y e. (typed y e, k.messages_are.typed)) fine
+  beat-legal s n k typed = legal-beat levels link t is legal x (λ y e. (typed y e, k.messages_are.typed)) fine
 
   pub links-legal : (l : Links) → KnowsLinks l (length levels) t
       → ((y : BeatA w) → x ≡ Beat.A y → IsTyped (Beat.A y)) → IsLegalBeat link.0 x t
   links-legal l k typed = elim (slice_get_cases l.states.items link.0).1 [
     | inl found ↦ beat-legal found.0 (length levels) (k.states_are link.0 found.0 found.2) typed
-    | inr past ↦ absurd (omega (arith, link-there levels p (link, x) t fine, past.0, k.count_is))
+    | inr past ↦ absurd (omega (arith, link-there _ levels (link, x) t fine, past.0, k.count_is))
   ]
 
 -- each block is left as it is but that on which the beat bears
@@ -135,21 +135,26 @@ nothing-changed change m n x t unborne unheld none passed unbegun = record {
 
 -- ---- how free a block is seen to be
 
-off-a : {w : ℕ} (x : Beat w) (past : History w) → changes_held x past ≡ true → on Channel.A x ≡ false
-off-a (Beat.A y) past e = absurd cc
-off-a v past e = refl
+-- the request of an access leaves what is held
+not-asking : {w : ℕ} (x : Beat w) (past : History w) → changes_held x past ≡ true → is_asking x ≡ false
+not-asking (Beat.A y) past e = go (is_access y.opcode) refl
+  where
+    go : (access : Bool) → is_access y.opcode ≡ access → access ≡ false
+    go false f = refl
+    go true f = absurd (let no : true ≡ false = sym e ∙ access-bare y f in cc)
+not-asking v past e = refl
 
 -- told of the block of which its link may hold more or less, it is told of the one that the beat bears on
 pub held-seen : {w : ℕ} (change : Change w) (m : Memory w) (n : ℕ) (x : Link × Beat w) (t : Trace w)
     (free : Option Bool) (block : ℕ)
-    → IsChange change m n x t → free ≡ option_map (λ b. is_free n None Perm.Trunk b (x ∷ t)) change.held
+    → IsChange change m n x t → free ≡ option_map (λ b. is_free n Perm.Trunk b (x ∷ t)) change.held
     → change.block ≡ Some block → IsSeen free n block x t
 held-seen {w} change m n x t free block is told own = go (changes_held x.1 (on_link x.0.0 t)) refl
   where
     go : (c : Bool) → changes_held x.1 (on_link x.0.0 t) ≡ c → IsSeen free n block x t
     go true e =
         let held : change.held ≡ Some block = is.held_is ∙ rw (e, own) refl in
-        rw (told, held) (off-a x.1 (on_link x.0.0 t) e, refl)
+        rw (told, held) (not-asking x.1 (on_link x.0.0 t) e, refl)
     go false e =
         let held : change.held ≡ None = is.held_is ∙ rw e refl in
         rw (told, held) (held-left block x.0 x.1 t e)

@@ -1,7 +1,7 @@
 -- Which requests are open on a link where no beat broke a rule: those that responses answer.
 use Rattle.tl_memory.proofs.Imports.{Beat, BeatA, BeatD, OpD, data_beats, History, breaks_burst, burst_length, grown}
-use Rattle.tl_memory.proofs.Imports.{same_control, unfinished, is_empty, control_a, control_d, Level, Profile}
-use Rattle.tl_memory.proofs.Imports.{open_request, request_fields, Request, answers, broken_after, begins, block_at}
+use Rattle.tl_memory.proofs.Imports.{same_control, unfinished, is_empty, control_a, control_d, Level}
+use Rattle.tl_memory.proofs.Imports.{open_request, request_fields, Request, answers, all_but_early, broken_after_under, begins, block_at}
 use Rattle.tl_memory.proofs.Imports.{ends, is_release_ack, request_of}
 use Rattle.std.proofs.Common.{◌≡◌, ℕ, Bool, true, false, not, ◌&&◌, List, [], ◌∷◌, length, Option, Some, None, refl}
 use Rattle.std.proofs.Common.{sym, ap, ◌∙◌, inl, inr}
@@ -12,8 +12,9 @@ use Rattle.tl_params.specs.declared.key.Key.TheVariants.{RequestSource}
 use Rattle.tl_params.specs.declared.rule.Rule.TheVariants.{H1, H2, H3}
 use Rattle.tl_rules.{specs.code.Tables.kept_request, specs.statement.History.pending, proofs.Bursts.next_rule}
 use Rattle.tl_rules.{proofs.Tables.pending-request, proofs.Tables.request-next}
-use Rattle.tl_rules.specs.statement.Conformance.{admits, broken_order, comes_in_request, has_request, size_asked}
+use Rattle.tl_rules.specs.statement.Conformance.{admits, comes_in_request, size_asked}
 use Rattle.tl_rules.specs.statement.Conformance.{size_of_request}
+use Rattle.tl_rules.specs.statement.Liberties.{broken_order_under, has_request_under}
 use Rattle.tl_memory.proofs.Lawful.{begun_in_order, goes_on}
 
 -- the request with this source is pending and complete
@@ -54,12 +55,12 @@ other_source s y (Beat.A z) burst e apart =
 other_source s y v burst e apart = absurd cc
 
 -- where a request is open no beat of channel A has its source
-pub fresh : {w : ℕ} (l : Level) (p : Profile) (s : ℕ) (asked : Request) (y : BeatA w) (t : History w)
-    → broken_after l p (Beat.A y) t ≡ None → IsOpen s asked t → (y.source == s) ≡ false
-unfolding broken_order
-fresh {w} l p s asked y t fine o =
-    go (unfinished Channel.A t) (goes_on l p (Beat.A y) t fine) o.complete
-    (λ first. (next_rule (pending (RequestSource y.source) t) H1 _ (begun_in_order l p (Beat.A y) t fine first)).0)
+pub fresh : {w : ℕ} (l : Level) (s : ℕ) (asked : Request) (y : BeatA w) (t : History w)
+    → broken_after_under all_but_early l (Beat.A y) t ≡ None → IsOpen s asked t → (y.source == s) ≡ false
+unfolding broken_order_under all_but_early
+fresh {w} l s asked y t fine o =
+    go (unfinished Channel.A t) (goes_on l (Beat.A y) t fine) o.complete
+    (λ first. (next_rule (pending (RequestSource y.source) t) H1 _ (begun_in_order l (Beat.A y) t fine first)).0)
   where
     no : true ≡ false → ⊥
     no e = cc
@@ -86,25 +87,25 @@ grown_other {w} s y burst e = go (length burst + 1 == burst_length (Beat.A y))
     go false = e
 
 -- a request stays open until its answer is complete
-pub open-still : {w : ℕ} (l : Level) (p : Profile) (s : ℕ) (asked : Request) (x : Beat w) (t : History w)
-    → broken_after l p x t ≡ None → IsOpen s asked t → completes_answer s x t ≡ false → IsOpen s asked (x ∷ t)
+pub open-still : {w : ℕ} (l : Level) (s : ℕ) (asked : Request) (x : Beat w) (t : History w)
+    → broken_after_under all_but_early l x t ≡ None → IsOpen s asked t → completes_answer s x t ≡ false → IsOpen s asked (x ∷ t)
 unfolding unfinished
-open-still l p s asked (Beat.A y) t fine o unended =
-    let other = fresh l p s asked y t fine o in
+open-still l s asked (Beat.A y) t fine o unended =
+    let other = fresh l s asked y t fine o in
     record {
       kept = request-next s (Beat.A y) t
           ∙ unopened (begins (Beat.A y) t) (y.source == s) (request_fields (Some y)) (kept_request s t) other ∙ o.kept;
       complete = grown_other s y (unfinished Channel.A t) other;
     }
-open-still l p s asked (Beat.D y) t fine o unended = record {
+open-still l s asked (Beat.D y) t fine o unended = record {
   kept = request-next s (Beat.D y) t ∙ rw unended o.kept;
   complete = o.complete;
 }
-open-still l p s asked (Beat.B y) t fine o unended =
+open-still l s asked (Beat.B y) t fine o unended =
     record { kept = request-next s (Beat.B y) t ∙ o.kept; complete = o.complete }
-open-still l p s asked (Beat.C y) t fine o unended =
+open-still l s asked (Beat.C y) t fine o unended =
     record { kept = request-next s (Beat.C y) t ∙ o.kept; complete = o.complete }
-open-still l p s asked (Beat.E y) t fine o unended =
+open-still l s asked (Beat.E y) t fine o unended =
     record { kept = request-next s (Beat.E y) t ∙ o.kept; complete = o.complete }
 
 -- ---- responses
@@ -131,14 +132,14 @@ not_so : (b : Bool) → not b ≡ true → b ≡ false
 not_so true e = absurd cc
 not_so false e = refl
 
-pub begun-answering : {w : ℕ} (l : Level) (p : Profile) (y : BeatD w) (t : History w)
-    → broken_after l p (Beat.D y) t ≡ None → begins (Beat.D y) t ≡ true → is_release_ack y.opcode ≡ false
+pub begun-answering : {w : ℕ} (l : Level) (y : BeatD w) (t : History w)
+    → broken_after_under all_but_early l (Beat.D y) t ≡ None → begins (Beat.D y) t ≡ true → is_release_ack y.opcode ≡ false
     → IsAnswering y t
-unfolding broken_order
-begun-answering {w} l p y t fine first other =
-    let two = next_rule (not (has_request y t)) H2 _ (begun_in_order l p (Beat.D y) t fine first) in
+unfolding broken_order_under all_but_early
+begun-answering {w} l y t fine first other =
+    let two = next_rule (not (has_request_under all_but_early y t)) H2 _ (begun_in_order l (Beat.D y) t fine first) in
     let three = next_rule (not (y.size == size_asked y t)) H3 _ two.1 in
-    let has = not-false (has_request y t) two.0 in
+    let has = not-false (has_request_under all_but_early y t) two.0 in
     let size : (y.size == size_of_request (request_of y.source t)) ≡ true =
     rw other at (not-false (y.size == size_asked y t) three.0) in
     let parts = of_request _ _ (is_release_ack y.opcode) other has in

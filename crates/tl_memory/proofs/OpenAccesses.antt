@@ -1,12 +1,14 @@
 -- Accesses that are pending on links where no beat broke a rule: each is the open request with its source.
-use Rattle.tl_memory.proofs.Imports.{Beat, BeatA, Link, IsWidth, History, Level, Profile, open_request, Request, Trace}
-use Rattle.tl_memory.proofs.Imports.{broken_after, broken_on_link, is_legal, on_link, block_at, ends, is_release_ack}
+use Rattle.tl_memory.proofs.Imports.{Beat, BeatA, Link, IsWidth, History, Level, open_request, Request, Trace}
+use Rattle.tl_memory.proofs.Imports.{all_but_early, broken_after_under, IsLegal, is_legal_under, on_link, block_at, ends, is_release_ack}
 use Rattle.tl_memory.proofs.Imports.{Access, ends_request, is_access, is_of, pending_accesses, AnyIsTo, AreLegal}
 use Rattle.std.proofs.Common.{◌≡◌, ℕ, suc, Bool, true, false, not, ◌%◌, ◌^◌, ◌≤◌, List, [], ◌∷◌, length, Option, Some}
 use Rattle.std.proofs.Common.{None, refl, sym, ap, ◌∙◌, inl, inr, arith}
 use Rattle.std.specs.Prelude.{◌==◌, find, min, slice_get}
 use Rattle.std.proofs.lemmas.Bool.{and_parts, cases_eq, eq-eqb, eqb-true, ne_eqb}
-use Rattle.tl_rules.specs.statement.Conformance.{broken_at_level}
+use Rattle.tl_params.specs.declared.liberties.Liberties.{Liberties}
+use Rattle.tl_rules.specs.statement.Liberties.{broken_at_level_under}
+use Rattle.tl_memory.specs.statement.Links.{KeepRules, KeepsRules}
 use Rattle.tl_bytes.{specs.statement.Bytes.pending_with, proofs.Finding.find-left_out, proofs.Finding.same-some}
 use Rattle.tl_bytes.proofs.Pending.{IsAnsweredNow, IsAskedNow, IsPending, pending-after, pending-before}
 use Rattle.tl_memory.proofs.Answering.{fields_of, open-now}
@@ -24,55 +26,56 @@ unfolding on_link
 other-link c x t ne = rw (ne_eqb x.0.0 c ne) refl
 
 -- the beat breaks no rule of its link, which has a level
-pub record IsFine {w : ℕ} (levels : List Level) (p : Profile) (x : Link × Beat w) (t : Trace w) : Type 0 where
+pub record IsFine {w : ℕ} (l : Liberties) (levels : List Level) (x : Link × Beat w) (t : Trace w) : Type 0 where
   pub level : Level
   pub has_level : slice_get levels x.0.0 ≡ Some level
-  pub fine : broken_after level p x.1 (on_link x.0.0 t) ≡ None
+  pub fine : broken_after_under l level x.1 (on_link x.0.0 t) ≡ None
 
-pub is-fine : {w : ℕ} (levels : List Level) (p : Profile) (x : Link × Beat w) (t : Trace w)
-    → broken_on_link levels p x t ≡ None → IsFine levels p x t
-is-fine levels p x t e = go (slice_get levels x.0.0) refl e
+pub is-fine : {w : ℕ} (l : Liberties) (levels : List Level) (x : Link × Beat w) (t : Trace w)
+    → KeepsRules l levels x t → IsFine l levels x t
+is-fine l levels x t e = go (slice_get levels x.0.0) refl e
   where
-    go : (o : Option Level) → slice_get levels x.0.0 ≡ o → broken_at_level o p x.1 (on_link x.0.0 t) ≡ None
-        → IsFine levels p x t
+    go : (o : Option Level) → slice_get levels x.0.0 ≡ o → broken_at_level_under l o x.1 (on_link x.0.0 t) ≡ None
+        → IsFine l levels x t
     go None is e = absurd cc
-    go (Some l) is e = record { level = l; has_level = is; fine = e }
+    go (Some level) is e = record { level = level; has_level = is; fine = e }
 
-pub legal-on : {w : ℕ} (levels : List Level) (p : Profile) (c : ℕ) (l : Level) (t : Trace w)
-    → slice_get levels c ≡ Some l → AreLegal levels p t → is_legal l p (on_link c t) ≡ true
-unfolding on_link is_legal
-legal-on levels p c l [] has legal = refl
-legal-on levels p c l (x ∷ t) has legal = elim (cases_eq x.0.0 c) [
-  | inr other ↦ rw (ne_eqb x.0.0 c other) (legal-on levels p c l t has legal.1)
+pub legal-on : {w : ℕ} (l : Liberties) (levels : List Level) (c : ℕ) (level : Level) (t : Trace w)
+    → slice_get levels c ≡ Some level → KeepRules l levels t → is_legal_under l level (on_link c t) ≡ true
+unfolding on_link is_legal_under
+legal-on l levels c level [] has legal = refl
+legal-on l levels c level (x ∷ t) has legal = elim (cases_eq x.0.0 c) [
+  | inr other ↦ rw (ne_eqb x.0.0 c other) (legal-on _ levels c level t has legal.1)
   | inl own ↦
-      let f = is-fine levels p x t legal.0 in
-      let level_is : f.level ≡ l = same-some l f.level (sym has ∙ ap (slice_get levels) (sym own) ∙ f.has_level) in
-      let fine : broken_after l p x.1 (on_link c t) ≡ None =
-      ap (λ k. broken_after k p x.1 (on_link c t)) (sym level_is)
-      ∙ ap (λ n. broken_after f.level p x.1 (on_link n t)) (sym own) ∙ f.fine in
-      rw (eq-eqb x.0.0 c own, fine) (legal-on levels p c l t has legal.1)
+      let f = is-fine _ levels x t legal.0 in
+      let level_is : f.level ≡ level = same-some level f.level (sym has ∙ ap (slice_get levels) (sym own) ∙ f.has_level)
+      in
+      let fine : broken_after_under l level x.1 (on_link c t) ≡ None =
+      ap (λ k. broken_after_under l k x.1 (on_link c t)) (sym level_is)
+      ∙ ap (λ n. broken_after_under l f.level x.1 (on_link n t)) (sym own) ∙ f.fine in
+      rw (eq-eqb x.0.0 c own, fine) (legal-on _ levels c level t has legal.1)
 ]
 
 -- a link without a level has no beats
-pub legal-link : {w : ℕ} (levels : List Level) (p : Profile) (c : ℕ) (t : Trace w) → AreLegal levels p t
-    → (l : Level) × (is_legal l p (on_link c t) ≡ true)
-unfolding on_link is_legal
-legal-link {w} levels p c t legal = go (slice_get levels c) refl
+pub legal-link : {w : ℕ} (levels : List Level) (c : ℕ) (t : Trace w) → AreLegal levels t
+    → (l : Level) × (is_legal_under all_but_early l (on_link c t) ≡ true)
+unfolding on_link is_legal_under
+legal-link {w} levels c t legal = go (slice_get levels c) refl
   where
-    no_beats : (t : Trace w) → slice_get levels c ≡ None → AreLegal levels p t → on_link c t ≡ []
+    no_beats : (t : Trace w) → slice_get levels c ≡ None → AreLegal levels t → on_link c t ≡ []
     no_beats [] none legal = refl
     no_beats (x ∷ t) none legal = elim (cases_eq x.0.0 c) [
       | inr other ↦ rw (ne_eqb x.0.0 c other) (no_beats t none legal.1)
       | inl own ↦
-          let f = is-fine levels p x t legal.0 in
+          let f = is-fine _ levels x t legal.0 in
           absurd (let no : None ≡ Some f.level = sym none ∙ ap (slice_get levels) (sym own) ∙ f.has_level in cc)
     ]
 
-    nothing : (h : History w) → h ≡ [] → is_legal Level.UL p h ≡ true
+    nothing : (h : History w) → h ≡ [] → is_legal_under all_but_early Level.UL h ≡ true
     nothing h none = rw none refl
 
-    go : (o : Option Level) → slice_get levels c ≡ o → (l : Level) × (is_legal l p (on_link c t) ≡ true)
-    go (Some l) has = (l, legal-on levels p c l t has legal)
+    go : (o : Option Level) → slice_get levels c ≡ o → (l : Level) × (is_legal_under all_but_early l (on_link c t) ≡ true)
+    go (Some l) has = (l, legal-on _ levels c l t has legal)
     go None none = (Level.UL, nothing (on_link c t) (no_beats t none legal))
 
 -- ---- the access is the open request
@@ -112,28 +115,28 @@ answered-gone {w} c s access x t own completes is = go x.1 completes is
     go (Beat.E y) e is = absurd cc
 
 -- a request stays open until its answer is complete
-pub open-after : {w : ℕ} (levels : List Level) (p : Profile) (c s : ℕ) (asked : Request) (x : Link × Beat w)
-    (t : Trace w) → broken_on_link levels p x t ≡ None → IsOpen s asked (on_link c t)
+pub open-after : {w : ℕ} (levels : List Level) (c s : ℕ) (asked : Request) (x : Link × Beat w)
+    (t : Trace w) → IsLegal levels x t → IsOpen s asked (on_link c t)
     → (x.0.0 ≡ c → completes_answer s x.1 (on_link c t) ≡ false) → IsOpen s asked (on_link c (x ∷ t))
-open-after levels p c s asked x t fine o unended = elim (cases_eq x.0.0 c) [
+open-after levels c s asked x t fine o unended = elim (cases_eq x.0.0 c) [
   | inr other ↦ rw (other-link c x t other) o
   | inl own ↦
-      let f = is-fine levels p x t fine in
-      rw (own-link c x t own) (open-still f.level p s asked x.1 (on_link c t)
-      (ap (λ n. broken_after f.level p x.1 (on_link n t)) (sym own) ∙ f.fine) o (unended own))
+      let f = is-fine _ levels x t fine in
+      rw (own-link c x t own) (open-still f.level s asked x.1 (on_link c t)
+      (ap (λ n. broken_after_under all_but_early f.level x.1 (on_link n t)) (sym own) ∙ f.fine) o (unended own))
 ]
 
-pub pending-open : {w : ℕ} (levels : List Level) (p : Profile) (c s : ℕ) (access : Access w) (t : Trace w) → IsWidth w
-    → AreLegal levels p t → IsPending c s access t → IsRequestOf c s access t
+pub pending-open : {w : ℕ} (levels : List Level) (c s : ℕ) (access : Access w) (t : Trace w) → IsWidth w
+    → AreLegal levels t → IsPending c s access t → IsRequestOf c s access t
 unfolding pending_accesses
-pending-open levels p c s access [] is legal pending = absurd cc
-pending-open {w} levels p c s access (x ∷ t) is legal pending = elim (pending-before c s access x t pending) [
-  | inl old ↦ still (pending-open levels p c s access t is legal.1 old)
+pending-open levels c s access [] is legal pending = absurd cc
+pending-open {w} levels c s access (x ∷ t) is legal pending = elim (pending-before c s access x t pending) [
+  | inl old ↦ still (pending-open levels c s access t is legal.1 old)
   | inr now ↦ new now
 ]
   where
-    f : IsFine levels p x t
-    f = is-fine levels p x t legal.0
+    f : IsFine all_but_early levels x t
+    f = is-fine _ levels x t legal.0
 
     unended : x.0.0 ≡ c → completes_answer s x.1 (on_link c t) ≡ false
     unended own = go (completes_answer s x.1 (on_link c t)) refl
@@ -146,7 +149,7 @@ pending-open {w} levels p c s access (x ∷ t) is legal pending = elim (pending-
     still : IsRequestOf c s access t → IsRequestOf c s access (x ∷ t)
     still k = record {
       asked = k.asked;
-      is_open = open-after levels p c s k.asked x t legal.0 k.is_open unended;
+      is_open = open-after levels c s k.asked x t legal.0 k.is_open unended;
       opcode_is = k.opcode_is;
       block_is = k.block_is;
       size_is = k.size_is;
@@ -160,12 +163,12 @@ pending-open {w} levels p c s access (x ∷ t) is legal pending = elim (pending-
         let z = now.first in
         let past = on_link x.0.0 t in
         let both = and_parts (is_access z.opcode) (ends (Beat.A z) past) now.completes in
-        let fine : broken_after f.level p (Beat.A z) past ≡ None =
-        ap (λ b. broken_after f.level p b past) (sym now.beat_is) ∙ f.fine in
-        let opened = open-now f.level p z past (legal-on levels p x.0.0 f.level t f.has_level legal.1) fine both.1 in
+        let fine : broken_after_under all_but_early f.level (Beat.A z) past ≡ None =
+        ap (λ b. broken_after_under all_but_early f.level b past) (sym now.beat_is) ∙ f.fine in
+        let opened = open-now f.level z past (legal-on _ levels x.0.0 f.level t f.has_level legal.1) fine both.1 in
         let history : on_link c (x ∷ t) ≡ Beat.A z ∷ past =
         ap (λ n. on_link n (x ∷ t)) now.link_is ∙ own-link x.0.0 x t refl ∙ ap (λ b. b ∷ past) now.beat_is in
-        let r = is-request f.level z is (by_itself f.level p (Beat.A z) past fine) in
+        let r = is-request f.level z is (by_itself f.level (Beat.A z) past fine) in
         let small = r.small in
         let same_size : min z.size 6 ≡ z.size = omega (arith, small) in
         let request_size : access.request.size ≡ z.size =
@@ -188,8 +191,8 @@ pub same_asked : {w : ℕ} (s : ℕ) (one other : Request) (t : History w) → o
     → other ≡ one
 same_asked s one other t e o = same-some one other (sym e ∙ open-whole s other t o)
 
-module _ {w : ℕ} (levels : List Level) (p : Profile) (c s : ℕ) (asked : Request) (t : Trace w) (width : IsWidth w)
-    (legal : AreLegal levels p t) (opened : open_request s (on_link c t) ≡ Some asked) where
+module _ {w : ℕ} (levels : List Level) (c s : ℕ) (asked : Request) (t : Trace w) (width : IsWidth w)
+    (legal : AreLegal levels t) (opened : open_request s (on_link c t) ≡ Some asked) where
   -- the access that is pending with its source, where one is, is to its block
   pub any-to : AnyIsTo asked.block (find (is_of c s) (pending_accesses t))
   any-to = go (find (is_of c s) (pending_accesses t)) refl
@@ -197,7 +200,7 @@ module _ {w : ℕ} (levels : List Level) (p : Profile) (c s : ℕ) (asked : Requ
       go : (o : Option (Access w)) → find (is_of c s) (pending_accesses t) ≡ o → AnyIsTo asked.block o
       go None is = tt
       go (Some access) is =
-          let k = pending-open levels p c s access t width legal is in
+          let k = pending-open levels c s access t width legal is in
           let same = same_asked s asked k.asked (on_link c t) opened k.is_open in
           eq-eqb (block_at access.request.address) asked.block
           (sym k.block_is ∙ ap (λ (r : Request). r.block) same)
@@ -209,29 +212,29 @@ module _ {w : ℕ} (levels : List Level) (p : Profile) (c s : ℕ) (asked : Requ
       go : (o : Option (Access w)) → find (is_of c s) (pending_accesses t) ≡ o → o ≡ None
       go None is = refl
       go (Some access) is =
-          let k = pending-open levels p c s access t width legal is in
+          let k = pending-open levels c s access t width legal is in
           let same = same_asked s asked k.asked (on_link c t) opened k.is_open in
           absurd (let no : true ≡ false =
           sym k.accesses ∙ ap (λ (r : Request). is_access r.opcode) same ∙ other in cc)
 
 -- ---- the access that a request asks for stays until its answer is complete
 
-pub found-still : {w : ℕ} (levels : List Level) (p : Profile) (c s : ℕ) (asked : Request) (x : Link × Beat w)
-    (t : Trace w) → broken_on_link levels p x t ≡ None → IsOpen s asked (on_link c t)
+pub found-still : {w : ℕ} (levels : List Level) (c s : ℕ) (asked : Request) (x : Link × Beat w)
+    (t : Trace w) → IsLegal levels x t → IsOpen s asked (on_link c t)
     → (x.0.0 ≡ c → completes_answer s x.1 (on_link c t) ≡ false) → find (is_of c s) (pending_accesses (x ∷ t)) ≡ find
     (is_of c s) (pending_accesses t)
-found-still {w} levels p c s asked x t legal o unended =
+found-still {w} levels c s asked x t legal o unended =
     go (find (is_of c s) (pending_accesses (x ∷ t))) (find (is_of c s) (pending_accesses t)) refl refl
   where
-    f : IsFine levels p x t
-    f = is-fine levels p x t legal
+    f : IsFine all_but_early levels x t
+    f = is-fine _ levels x t legal
 
     -- no beat of channel A has its source
     apart : (z : BeatA w) → x.1 ≡ Beat.A z → c ≡ x.0.0 → s ≡ z.source → ⊥
     apart z is link source =
-        let fine : broken_after f.level p (Beat.A z) (on_link x.0.0 t) ≡ None =
-        ap (λ b. broken_after f.level p b (on_link x.0.0 t)) (sym is) ∙ f.fine in
-        let other = fresh f.level p s asked z (on_link x.0.0 t) fine (rw (← link) o) in
+        let fine : broken_after_under all_but_early f.level (Beat.A z) (on_link x.0.0 t) ≡ None =
+        ap (λ b. broken_after_under all_but_early f.level b (on_link x.0.0 t)) (sym is) ∙ f.fine in
+        let other = fresh f.level s asked z (on_link x.0.0 t) fine (rw (← link) o) in
         let no : true ≡ false = sym (eq-eqb z.source s (sym source)) ∙ other in
         absurd cc
 

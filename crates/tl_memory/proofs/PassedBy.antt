@@ -1,13 +1,14 @@
 -- Beats that pass each block by, and those that change what their link holds.
 use Rattle.tl_memory.proofs.Imports.{Beat, BeatA, BeatC, BeatD, Link, History, is_empty, Trace, on_link, begins, ends}
 use Rattle.tl_memory.proofs.Imports.{is_grant, is_release_ack, is_access, pending_accesses, LeavesHeld, PassesBy}
-use Rattle.tl_memory.proofs.Imports.{AllWriteInside}
+use Rattle.tl_memory.proofs.Imports.{all_but_early, AllWriteInside}
 use Rattle.std.proofs.Common.{◌≡◌, ℕ, Bool, true, false, not, ◌&&◌, ◌||◌, List, [], ◌∷◌, length, refl, sym, ◌∙◌, arith}
-use Rattle.std.{specs.Prelude.None, specs.Prelude.◌==◌, proofs.lemmas.Bool.ne_eqb}
+use Rattle.std.{specs.Prelude.None, specs.Prelude.◌==◌, proofs.lemmas.Bool.and_parts, proofs.lemmas.Bool.ne_eqb}
 use Rattle.tl_memory.{specs.code.Changing.ExpectsBegun, specs.code.Passing.changes_held, specs.code.Passing.passes_by}
+use Rattle.tl_memory.{specs.code.Passing.acquires_from_none}
 use Rattle.tl_memory.{proofs.Elsewhere.held-kept}
 use Rattle.tl_memory.proofs.Bearing.{ack-passes, none_of_both, probe-passes, report-elsewhere, request-leaves}
-use Rattle.tl_memory.proofs.Bearing.{response-elsewhere, response-leaves, unasked-passes}
+use Rattle.tl_memory.proofs.Bearing.{response-elsewhere, response-leaves, unasked-elsewhere}
 
 true_false : {X : Type 0} → true ≡ false → X
 true_false e = absurd cc
@@ -46,7 +47,13 @@ response-goes_on block link y t inside goes_on = record {
 pub passed-by : {w : ℕ} (block : ℕ) (link : Link) (x : Beat w) (t : Trace w) → AllWriteInside (pending_accesses t)
     → passes_by x (on_link link.0 t) ≡ true → PassesBy block (link, x) t
 passed-by block link (Beat.A y) t inside passing =
-    unasked-passes block link y t inside (not_both (is_access y.opcode) (ends (Beat.A y) (on_link link.0 t)) passing)
+    let both = and_parts (not (acquires_from_none y)) _ passing in
+    record {
+      elsewhere = unasked-elsewhere block link y t inside
+          (not_both (is_access y.opcode) (ends (Beat.A y) (on_link link.0 t)) both.1);
+      held_is = request-leaves block link y t
+          (λ acquires. true_false (sym acquires ∙ is_false (acquires_from_none y) both.0));
+    }
 passed-by block link (Beat.B y) t inside passing = probe-passes block link y t inside
 passed-by block link (Beat.C y) t inside passing =
     report-goes_on block link y t inside (is_false (ends (Beat.C y) (on_link link.0 t)) passing)
@@ -74,7 +81,8 @@ granted-leaves block link y t false is e = response-leaves block link y t (rw is
 -- the other beats leave it
 pub held-left : {w : ℕ} (block : ℕ) (link : Link) (x : Beat w) (t : Trace w)
     → changes_held x (on_link link.0 t) ≡ false → LeavesHeld block (link, x) t
-held-left block link (Beat.A y) t e = request-leaves block link y t
+unfolding all_but_early
+held-left block link (Beat.A y) t e = request-leaves block link y t (λ acquires. true_false (sym acquires ∙ e))
 held-left block link (Beat.B y) t e = held-kept block (Beat.B y) (on_link link.0 t) (λ over. refl)
 held-left block link (Beat.C y) t goes_on =
     held-kept block (Beat.C y) (on_link link.0 t) (λ over. true_false (sym over ∙ goes_on))
@@ -97,8 +105,9 @@ others-pass (Beat.D y) past a c d = absurd (d y refl)
 others-pass v past a c d = refl
 
 -- and leave what is held
-pub others-hold : {w : ℕ} (x : Beat w) (past : History w) → ((y : BeatC w) → x ≡ Beat.C y → ⊥)
-    → ((y : BeatD w) → x ≡ Beat.D y → ⊥) → false ≡ changes_held x past
-others-hold (Beat.C y) past c d = absurd (c y refl)
-others-hold (Beat.D y) past c d = absurd (d y refl)
-others-hold v past c d = refl
+pub others-hold : {w : ℕ} (x : Beat w) (past : History w) → ((y : BeatA w) → x ≡ Beat.A y → ⊥)
+    → ((y : BeatC w) → x ≡ Beat.C y → ⊥) → ((y : BeatD w) → x ≡ Beat.D y → ⊥) → false ≡ changes_held x past
+others-hold (Beat.A y) past a c d = absurd (a y refl)
+others-hold (Beat.C y) past a c d = absurd (c y refl)
+others-hold (Beat.D y) past a c d = absurd (d y refl)
+others-hold v past a c d = refl

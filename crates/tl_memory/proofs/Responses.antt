@@ -11,6 +11,7 @@ use Rattle.tl_beat.specs.declared.channel.Channel.{Channel}
 use Rattle.tl_rules.{specs.statement.History.asks_for, proofs.Open.request-fields}
 use Rattle.tl_bytes.specs.statement.Bytes.{tells_granted}
 use Rattle.tl_memory.{specs.code.Elsewhere.KeepsByte, specs.code.Taking.tells_block}
+use Rattle.tl_memory.{specs.code.Taking.tells_response}
 
 -- ---- what it tells of a block
 
@@ -37,11 +38,12 @@ access-untold block y asked t e access =
     never true = refl
     never false = refl
 
-told_if : {w : ℕ} (block : ℕ) (opcode : OpD) (asked : Request) (o : Option (BeatA w)) → request_fields o ≡ Some asked
-    → ((is_grant opcode && asks_for block o) && tells_granted opcode o)
-    ≡ ((asked.block == block) && tells_block opcode asked.opcode)
-told_if block opcode asked None e = absurd cc
-told_if block opcode asked (Some x) e = rw (← same) (go opcode)
+told_if : {w : ℕ} (block : ℕ) (denied : Bool) (opcode : OpD) (asked : Request) (o : Option (BeatA w))
+    → request_fields o ≡ Some asked
+    → ((is_grant opcode && asks_for block o) && (not denied && tells_granted opcode o))
+    ≡ ((asked.block == block) && (not denied && tells_block opcode asked.opcode))
+told_if block denied opcode asked None e = absurd cc
+told_if block denied opcode asked (Some x) e = rw (← same) (go denied opcode)
   where
     same : record { opcode = x.opcode; param = x.param; size = x.size; block = block_at x.address } ≡ asked
     same = cc
@@ -50,19 +52,25 @@ told_if block opcode asked (Some x) e = rw (← same) (go opcode)
     never true = refl
     never false = refl
 
-    go : (opcode : OpD) → ((is_grant opcode && (block_at x.address == block)) && tells_granted opcode (Some x))
-        ≡ ((block_at x.address == block) && tells_block opcode x.opcode)
-    go OpD.GrantData = refl
-    go OpD.Grant = refl
-    go v = never (block_at x.address == block)
+    neither : (a b : Bool) → (a && false) ≡ (b && false)
+    neither true b = never b
+    neither false b = never b
+
+    go : (denied : Bool) (opcode : OpD)
+        → ((is_grant opcode && (block_at x.address == block)) && (not denied && tells_granted opcode (Some x)))
+        ≡ ((block_at x.address == block) && (not denied && tells_block opcode x.opcode))
+    go true opcode = neither (is_grant opcode && (block_at x.address == block)) (block_at x.address == block)
+    go false OpD.GrantData = refl
+    go false OpD.Grant = refl
+    go false v = never (block_at x.address == block)
 
 -- its last beat tells of the block of its request, and of no other, where it is of this kind
 pub response-tells : {w : ℕ} (block : ℕ) (y : BeatD w) (asked : Request) (t : History w)
     → open_request y.source t ≡ Some asked
-    → tells block (Beat.D y) t ≡ (ends (Beat.D y) t && ((asked.block == block) && tells_block y.opcode asked.opcode))
+    → tells block (Beat.D y) t ≡ (ends (Beat.D y) t && ((asked.block == block) && tells_response y asked.opcode))
 response-tells block y asked t opened =
     ap (λ b. ends (Beat.D y) t && b)
-    (told_if block y.opcode asked (request_of y.source t) (request-fields y.source t asked (sym opened)))
+    (told_if block y.denied y.opcode asked (request_of y.source t) (request-fields y.source t asked (sym opened)))
 
 -- ---- the accesses that are pending
 

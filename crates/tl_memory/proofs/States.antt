@@ -119,7 +119,7 @@ pending-answered link y t over = rw over refl
 
 -- the last moment at which it was free, where it is so no longer
 pub last-closed : {w : ℕ} (n block last : ℕ) (x : Link × Beat w) (t : Trace w)
-    → is_free n None Perm.Trunk block t ≡ true → false ≡ is_free n None Perm.Trunk block (x ∷ t) → last ≡ length t
+    → is_free n Perm.Trunk block t ≡ true → false ≡ is_free n Perm.Trunk block (x ∷ t) → last ≡ length t
     → last ≡ last_window n block (x ∷ t)
 last-closed n block last x t was closed now =
     (closed_after (record {
@@ -135,7 +135,7 @@ last-closed n block last x t was closed now =
     }) (omega arith) refl closed now).last_is refl
 
 pub last-watched : {w : ℕ} (old : BlockState w) (n block moment : ℕ) (free : Bool) (x : Link × Beat w) (t : Trace w)
-    → KnowsState old n block t (x ∷ t) → free ≡ is_free n None Perm.Trunk block (x ∷ t) → moment ≡ length (x ∷ t)
+    → KnowsState old n block t (x ∷ t) → free ≡ is_free n Perm.Trunk block (x ∷ t) → moment ≡ length (x ∷ t)
     → free ≡ false → (if old.free && not free then moment - 1 else old.last_free) ≡ last_window n block (x ∷ t)
 unfolding last_window
 last-watched old n block moment free x t k is now off = elim (cases_Bool old.free) [
@@ -146,7 +146,7 @@ last-watched old n block moment free x t k is now off = elim (cases_Bool old.fre
 
 pub watched-state : {w : ℕ} (s old : BlockState w) (n block moment : ℕ) (x : Link × Beat w) (t : Trace w)
     → KnowsState old n block t (x ∷ t) → s.bytes ≡ old.bytes
-    → AreWatched s.free moment old.accesses.items s.accesses.items → s.free ≡ is_free n None Perm.Trunk block (x ∷ t)
+    → AreWatched s.free moment old.accesses.items s.accesses.items → s.free ≡ is_free n Perm.Trunk block (x ∷ t)
     → moment ≡ length (x ∷ t) → s.last_free ≡ (if old.free && not s.free then moment - 1 else old.last_free)
     → KnowsState s n block (x ∷ t) (x ∷ t)
 watched-state s old n block moment x t k bytes watched free now ended = record {
@@ -194,7 +194,7 @@ pub asked-state : {w : ℕ} (s old : BlockState w) (n block : ℕ) (writer : Wri
     (one copies more : List (PendingAccess w)) (access : Access w) (x : Link × Beat w) (t : Trace w)
     → KnowsState old n block t t → pending_accesses (x ∷ t) ≡ access ∷ pending_accesses t → is_to block access ≡ true
     → WritesInside access → IsAsked writer.asked access → IsPendingWrite writer.write block access
-    → is_free n None Perm.Trunk block (x ∷ t) ≡ is_free n None Perm.Trunk block t → KnowsBlock s.bytes n block t
+    → is_free n Perm.Trunk block (x ∷ t) ≡ is_free n Perm.Trunk block t → KnowsBlock s.bytes n block t
     → KnowsBlock s.bytes n block (x ∷ t) → KnowsAccess first n block access (x ∷ t) (x ∷ t) → first.writer ≡ writer
     → one ≡ old.accesses.items → AreRenewed nothing (staying None one) more → copies ≡ first ∷ more
     → AreRenewed (written_by writer) copies s.accesses.items → s.free ≡ old.free → s.last_free ≡ old.last_free

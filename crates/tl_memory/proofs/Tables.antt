@@ -17,7 +17,7 @@ use Rattle.tl_memory.specs.statement.Blocks.{KnowsBlocks, KnowsKept, place_in, s
 -- the next state, or the one that stays, whose freedom isn't seen yet
 pub next-seen : {w : ℕ} (old : BlockState w) (next : Option (NextState w)) (free : Bool) (n block : ℕ)
     (x : Link × Beat w) (t : Trace w) → KnowsState old n block t t → IsNext next (Some free) old n block x t
-    → KnowsState (put_next old next) n block t (x ∷ t) × (free ≡ is_free n None Perm.Trunk block (x ∷ t))
+    → KnowsState (put_next old next) n block t (x ∷ t) × (free ≡ is_free n Perm.Trunk block (x ∷ t))
 next-seen old None free n block x t k is = (elsewhere-kept old n block x t is.0 k, is.1)
 next-seen old (Some s) free n block x t k is = is
 

@@ -5,30 +5,32 @@ use Rattle.tl_memory.proofs.Imports.{BlockState}
 use Rattle.std.proofs.Common.{◌≡◌, ℕ, Bool, true, false, ◌∷◌, refl, sym, ap, ◌∙◌}
 use Rattle.std.specs.Prelude.{if◌then◌else◌, Option, Some, None}
 use Rattle.tl_params.specs.declared.perm.Perm.{Perm}
-use Rattle.tl_memory.specs.code.Taking.{IsNext, IsSeen, with_next}
+use Rattle.tl_memory.specs.code.Taking.{IsNext, IsNextAsked, IsSeen, with_next}
 use Rattle.tl_memory.specs.declared.block.NextState.{NextState}
 use Rattle.tl_memory.proofs.Elsewhere.{free-kept, freedom-kept}
 
 true_false : {X : Type 0} → true ≡ false → X
 true_false e = absurd cc
 
--- with a beat of channel A nothing is told of how free it is
+-- with the request of an access nothing is told of how free it is
 pub seen-request : {w : ℕ} (next : Option (NextState w)) (free : Option Bool) (s : BlockState w) (n block : ℕ)
     (link : Link) (y : BeatA w) (t : Trace w) → IsSeen free n block (link, Beat.A y) t
-    → IsNext next None s n block (link, Beat.A y) t → IsNext next free s n block (link, Beat.A y) t
-seen-request next None s n block link y t seen is = is
-seen-request next (Some f) s n block link y t seen is = true_false seen.0
+    → IsNextAsked next s n block (link, Beat.A y) t → IsNext next free s n block (link, Beat.A y) t
+seen-request None None s n block link y t seen is = record { elsewhere = is; held_is = seen }
+seen-request (Some next) None s n block link y t seen is = is.1
+seen-request None (Some f) s n block link y t seen is = (is, seen.1)
+seen-request (Some next) (Some f) s n block link y t seen is = true_false (sym is.0 ∙ seen.0)
 
 -- with one of another channel it is, or doesn't change
 pub seen-other : {w : ℕ} (next : Option (NextState w)) (free : Option Bool) (s : BlockState w) (n block : ℕ)
     (x : Link × Beat w) (t : Trace w) → IsSeen free n block x t
-    → ((f : Bool) → f ≡ is_free n None Perm.Trunk block (x ∷ t) → IsNext next (Some f) s n block x t)
+    → ((f : Bool) → f ≡ is_free n Perm.Trunk block (x ∷ t) → IsNext next (Some f) s n block x t)
     → IsNext next free s n block x t
 seen-other None None s n block x t same is =
-    record { elsewhere = (is (is_free n None Perm.Trunk block (x ∷ t)) refl).0; held_is = same }
+    record { elsewhere = (is (is_free n Perm.Trunk block (x ∷ t)) refl).0; held_is = same }
 seen-other (Some next) None s n block x t same is =
     freedom-kept (with_next s next) n block x t (free-kept n block x t same)
-    (is (is_free n None Perm.Trunk block (x ∷ t)) refl).0
+    (is (is_free n Perm.Trunk block (x ∷ t)) refl).0
 seen-other next (Some f) s n block x t seen is = is f seen.1
 
 pub same-block : (k block : ℕ) → Some k ≡ Some block → k ≡ block

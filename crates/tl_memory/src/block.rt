@@ -13,8 +13,8 @@ ghost use Rattle.tl_burst.specs.statement.Messages.{unfinished};
 ghost use Rattle.tl_params.specs.declared.perm.Perm.TheVariants as perm;
 ghost use Rattle.tl_rules.specs.statement.Conformance.{Trace, on_link};
 ghost use Rattle.tl_rules.specs.statement.History.{block_at};
-ghost use Rattle.tl_rules.specs.statement.Windows.{is_free};
-ghost use Rattle.tl_bytes.specs.statement.Bytes.{Access, ends_request, is_of, pending_accesses, tells};
+ghost use Rattle.tl_bytes.specs.statement.Free.{is_free};
+ghost use Rattle.tl_bytes.specs.statement.Bytes.{Access, ends_request, is_access, is_of, pending_accesses, tells};
 ghost use Rattle.tl_bytes.specs.statement.Known.{AreCarried, KnowsBlock, KnowsGrant};
 ghost use Rattle.tl_memory.specs.code.Writers.{AreRenewed, keeps, nothing, staying};
 ghost use Rattle.tl_bytes.specs.statement.Known.{tellings_of};
@@ -230,7 +230,7 @@ impl<const W: usize> BlockState<W> {
     /// Sees whether it is free for writing with a beat, at this moment.
     pub fn watch(&mut self, free: bool, moment: u64)
         ensures { (n block : ℕ) (x : Link × Beat W) (t : Trace W) → KnowsState self.old n block t (x ∷ t) →
-            free ≡ is_free n None perm.Trunk block (x ∷ t) → moment ≡ suc (length t) →
+            free ≡ is_free n perm.Trunk block (x ∷ t) → moment ≡ suc (length t) →
             KnowsState self.new n block (x ∷ t) (x ∷ t) }
     {
         self.last_free = last_free(self.free, free, self.last_free, moment);
@@ -242,7 +242,7 @@ impl<const W: usize> BlockState<W> {
     pub fn asked(&self, alloc: Global, asked: Asked<W>) -> Result<NextState<W>, AllocError>
         requires { IsWidth W }
         ensures { IfOk result (λ next. (n block : ℕ) (link : Link) (y : BeatA W) (access : Access W) (t : Trace W) →
-            KnowsState self.now n block t t →
+            is_access y.opcode ≡ true → KnowsState self.now n block t t →
             pending_accesses ((link, beat.A y) ∷ t) ≡ access ∷ pending_accesses t →
             IsAsked asked.entry access → IsLawful access → WritesInside access →
             block_at access.request.address ≡ block → access.asked ≡ suc (length t) →

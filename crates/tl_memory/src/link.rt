@@ -9,8 +9,9 @@ ghost use Rattle.tl_beat.specs.declared.channel.Channel.TheVariants as channel;
 ghost use Rattle.tl_beat.specs.statement.Width.{IsWidth};
 ghost use Rattle.tl_burst.specs.statement.Messages.{History, unfinished};
 ghost use Rattle.tl_params.specs.declared.level.Level.{Level};
-ghost use Rattle.tl_params.specs.declared.profile.Profile.{Profile};
-ghost use Rattle.tl_rules.specs.statement.Conformance.{Trace, broken_after, broken_on_link, is_legal, on_link};
+ghost use Rattle.tl_rules.specs.statement.Conformance.{Trace, on_link};
+ghost use Rattle.tl_rules.specs.statement.Liberties.{broken_after_under, is_legal_under};
+ghost use Rattle.tl_bytes.specs.statement.Free.{all_but_early};
 ghost use Rattle.tl_rules.specs.statement.History.{begins};
 ghost use Rattle.tl_bytes.specs.statement.Bytes as bytes;
 ghost use Rattle.tl_bytes.specs.statement.Bytes.{before_last};
@@ -48,8 +49,8 @@ impl LinkMessages {
     /// Takes a beat. One that breaks no rule is of a size that a message may have.
     pub fn take<const W: usize>(&mut self, beat: &Beat<W>)
         requires { IsWidth W }
-        ensures { (l : Level) (p : Profile) (t : History W) → KnowsMessages self.old t → is_legal l p t ≡ true →
-            broken_after l p beat.now t ≡ None → KnowsMessages self.new (beat.now ∷ t) }
+        ensures { (l : Level) (t : History W) → KnowsMessages self.old t → is_legal_under all_but_early l t ≡ true →
+            broken_after_under all_but_early l beat.now t ≡ None → KnowsMessages self.new (beat.now ∷ t) }
     {
         if !is_small(beat) {
             return;
@@ -94,7 +95,7 @@ pub struct LinkState {
 
 impl LinkState {
     ghost use Rattle.tl_memory.specs.statement.Expecting.{ExpectsResponse};
-    ghost use Rattle.tl_memory.specs.statement.Links.{AreLegal, KnowsLink};
+    ghost use Rattle.tl_memory.specs.statement.Links.{AreLegal, IsLegal, KnowsLink};
 
     /// No message on any channel.
     pub fn new() -> Self
@@ -109,9 +110,8 @@ impl LinkState {
     /// Whether a response's beat has true bytes, where this is what the response may bring if it begins with it.
     pub fn is_true<const W: usize>(&self, begun: &Option<Expected>, x: &BeatD<W>) -> bool
         requires { IsWidth W }
-        ensures { (levels : List Level) (p : Profile) (n : ℕ) (link : Link) (t : Trace W) →
-            KnowsLink self.now n link.0 t → AreLegal levels p t → broken_on_link levels p (link, beat.D x.now) t
-            ≡ None →
+        ensures { (levels : List Level) (n : ℕ) (link : Link) (t : Trace W) →
+            KnowsLink self.now n link.0 t → AreLegal levels t → IsLegal levels (link, beat.D x.now) t →
             (begins (beat.D x.now) (on_link link.0 t) ≡ true →
             ExpectsResponse begun.now n link.0 x.now.opcode x.now.source t t) →
             result ≡ bytes.is_true x.now.opcode n link.0 x.now t }
@@ -132,8 +132,8 @@ impl LinkState {
     /// Takes a beat, where this is what the response may bring that begins with it.
     pub fn take<const W: usize>(&mut self, begun: Option<Expected>, x: &Beat<W>)
         requires { IsWidth W }
-        ensures { (levels : List Level) (p : Profile) (n : ℕ) (link : Link) (t : Trace W) →
-            KnowsLink self.old n link.0 t → AreLegal levels p t → broken_on_link levels p (link, x.now) t ≡ None →
+        ensures { (levels : List Level) (n : ℕ) (link : Link) (t : Trace W) →
+            KnowsLink self.old n link.0 t → AreLegal levels t → IsLegal levels (link, x.now) t →
             ((y : BeatD W) → x.now ≡ beat.D y → begins (beat.D y) (on_link link.0 t) ≡ true →
             ExpectsResponse begun n link.0 y.opcode y.source t t) →
             KnowsLink self.new n link.0 ((link, x.now) ∷ t) }
@@ -152,8 +152,8 @@ impl LinkState {
 
     /// What the response may bring whose beat is next, where this is what it may if it begins with that.
     pub fn expected<'a>(&'a self, begun: &'a Option<Expected>) -> Option<&'a Expected>
-        ensures { (w n : ℕ) (levels : List Level) (p : Profile) (link : Link) (x : BeatD w) (t : Trace w) →
-            KnowsLink self.now n link.0 t → AreLegal levels p t → broken_on_link levels p (link, beat.D x) t ≡ None →
+        ensures { (w n : ℕ) (levels : List Level) (link : Link) (x : BeatD w) (t : Trace w) →
+            KnowsLink self.now n link.0 t → AreLegal levels t → IsLegal levels (link, beat.D x) t →
             (begins (beat.D x) (on_link link.0 t) ≡ true →
             ExpectsResponse begun.now n link.0 x.opcode x.source t t) →
             ExpectsResponse (option_copied result) n link.0 x.opcode x.source t

@@ -5,11 +5,10 @@ ghost use Rattle.tl_beat.specs.declared.beat.Link.{Link};
 ghost use Rattle.tl_beat.specs.statement.Width.{IsWidth};
 ghost use Rattle.tl_burst.specs.statement.Part;
 ghost use Rattle.tl_params.specs.declared.level.Level.{Level};
-ghost use Rattle.tl_params.specs.declared.profile.Profile.{Profile};
-ghost use Rattle.tl_rules.specs.statement.Conformance.{Trace, broken_on_link, on_link};
+ghost use Rattle.tl_rules.specs.statement.Conformance.{Trace, on_link};
 ghost use Rattle.tl_memory.specs.code.Changing.{ExpectsBegun};
 ghost use Rattle.tl_memory.specs.code.Passing as passing;
-ghost use Rattle.tl_memory.specs.statement.Links.{AreLegal};
+ghost use Rattle.tl_memory.specs.statement.Links.{AreLegal, IsLegal};
 
 use crate::expected::Expected;
 use crate::link::LinkState;
@@ -48,8 +47,8 @@ impl Links {
     pub fn passes_by<const W: usize>(&self, link: Link, x: &Beat<W>) -> bool
         requires width { IsWidth W }
         requires small { IsTrue (Part.is_small x.now) }
-        ensures { (levels : List Level) (p : Profile) (t : Trace W) → KnowsLinks self.now (length levels) t →
-            AreLegal levels p t → broken_on_link levels p (link, x.now) t ≡ None →
+        ensures { (levels : List Level) (t : Trace W) → KnowsLinks self.now (length levels) t →
+            AreLegal levels t → IsLegal levels (link, x.now) t →
             result ≡ passing.passes_by x.now (on_link link.0 t) }
     {
         match self.get(link) {
@@ -61,8 +60,8 @@ impl Links {
     /// Takes a beat, where this is what the response may bring that begins with it.
     pub fn take<const W: usize>(&mut self, begun: Option<Expected>, link: Link, x: &Beat<W>)
         requires { IsWidth W }
-        ensures { (levels : List Level) (p : Profile) (t : Trace W) → KnowsLinks self.old (length levels) t →
-            AreLegal levels p t → broken_on_link levels p (link, x.now) t ≡ None →
+        ensures { (levels : List Level) (t : Trace W) → KnowsLinks self.old (length levels) t →
+            AreLegal levels t → IsLegal levels (link, x.now) t →
             ExpectsBegun begun (length levels) (link, x.now) t →
             KnowsLinks self.new (length levels) ((link, x.now) ∷ t) }
     {

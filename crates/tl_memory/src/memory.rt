@@ -11,9 +11,8 @@ ghost use Rattle.tl_burst.specs.statement.Messages.{History, unfinished};
 ghost use Rattle.tl_burst.specs.statement.Part;
 ghost use Rattle.tl_params.specs.declared.level.Level.{Level};
 ghost use Rattle.tl_params.specs.declared.perm.Perm.TheVariants as perm;
-ghost use Rattle.tl_params.specs.declared.profile.Profile.{Profile};
-ghost use Rattle.tl_rules.specs.statement.Conformance.{Trace, broken_on_link, on_link};
-ghost use Rattle.tl_rules.specs.statement.Windows.{is_free};
+ghost use Rattle.tl_rules.specs.statement.Conformance.{Trace, on_link};
+ghost use Rattle.tl_bytes.specs.statement.Free.{is_free};
 ghost use Rattle.tl_bytes.specs.statement.Bytes as bytes;
 ghost use Rattle.tl_bytes.specs.statement.Bytes.{before_last};
 ghost use Rattle.tl_bytes.specs.statement.Lines.{told_moment};
@@ -117,7 +116,7 @@ impl<const W: usize> Memory<W> {
     ghost use Rattle.tl_memory.specs.code.Changing.{IsChange};
     ghost use Rattle.tl_memory.specs.statement.Blocks.{place_in, state_in};
     ghost use Rattle.tl_memory.specs.statement.Expecting.{ExpectsResponse};
-    ghost use Rattle.tl_memory.specs.statement.Links.{AreLegal};
+    ghost use Rattle.tl_memory.specs.statement.Links.{AreLegal, IsLegal};
     ghost use Rattle.tl_memory.specs.statement.Memory.{KnowsMemory};
 
     /// That of so many links, which have carried nothing.
@@ -143,9 +142,9 @@ impl<const W: usize> Memory<W> {
     ) -> Result<Change<W>, AllocError>
         requires width { IsWidth W }
         requires small { IsTrue (Part.is_small x.now) }
-        ensures { IfOk result (λ change. (levels : List Level) (p : Profile) (t : Trace W) →
-            KnowsMemory self.now (length levels) t → AreLegal levels p t →
-            broken_on_link levels p (link, x.now) t ≡ None → asked ≡ request_answered x.now (on_link link.0 t) →
+        ensures { IfOk result (λ change. (levels : List Level) (t : Trace W) →
+            KnowsMemory self.now (length levels) t → AreLegal levels t →
+            IsLegal levels (link, x.now) t → asked ≡ request_answered x.now (on_link link.0 t) →
             moment ≡ suc (length t) → elsewhere.block_borne x.now (on_link link.0 t) ≡ Some block →
             place_in self.now.blocks block ≡ Some place →
             IsChange change self.now (length levels) (link, x.now) t) }
@@ -179,9 +178,9 @@ impl<const W: usize> Memory<W> {
     ) -> Result<Change<W>, AllocError>
         requires { IsWidth W }
         ensures known { (n : ℕ) (t : Trace W) → KnowsMemory self.old n t → KnowsMemory self.new n t }
-        ensures change { IfOk result (λ change. (levels : List Level) (p : Profile) (t : Trace W) →
-            KnowsMemory self.old (length levels) t → AreLegal levels p t →
-            broken_on_link levels p (link, x.now) t ≡ None → asked ≡ request_answered x.now (on_link link.0 t) →
+        ensures change { IfOk result (λ change. (levels : List Level) (t : Trace W) →
+            KnowsMemory self.old (length levels) t → AreLegal levels t →
+            IsLegal levels (link, x.now) t → asked ≡ request_answered x.now (on_link link.0 t) →
             moment ≡ suc (length t) → IsChange change self.new (length levels) (link, x.now) t) }
     {
         prove_typed(x);
@@ -201,8 +200,8 @@ impl<const W: usize> Memory<W> {
     /// Whether the bytes of a response's beat are true, where this is what the beat changes.
     pub fn is_true(&self, change: &Change<W>, link: Link, x: &BeatD<W>) -> bool
         requires { IsWidth W }
-        ensures { (levels : List Level) (p : Profile) (t : Trace W) → KnowsMemory self.now (length levels) t →
-            AreLegal levels p t → broken_on_link levels p (link, beat.D x.now) t ≡ None →
+        ensures { (levels : List Level) (t : Trace W) → KnowsMemory self.now (length levels) t →
+            AreLegal levels t → IsLegal levels (link, beat.D x.now) t →
             IsChange change.now self.now (length levels) (link, beat.D x.now) t →
             result ≡ bytes.is_true x.now.opcode (length levels) link.0 x.now t }
     {
@@ -223,10 +222,10 @@ impl<const W: usize> Memory<W> {
         moment: u64,
     )
         requires { IsWidth W }
-        ensures { (levels : List Level) (p : Profile) (t : Trace W) → KnowsMemory self.old (length levels) t →
-            AreLegal levels p t → broken_on_link levels p (link, x.now) t ≡ None → moment ≡ suc (length t) →
+        ensures { (levels : List Level) (t : Trace W) → KnowsMemory self.old (length levels) t →
+            AreLegal levels t → IsLegal levels (link, x.now) t → moment ≡ suc (length t) →
             IsChange change.entry self.old (length levels) (link, x.now) t →
-            free ≡ option_map (λ block. is_free (length levels) None perm.Trunk block ((link, x.now) ∷ t))
+            free ≡ option_map (λ block. is_free (length levels) perm.Trunk block ((link, x.now) ∷ t))
             change.entry.held →
             KnowsMemory self.new (length levels) ((link, x.now) ∷ t) }
     {
@@ -239,9 +238,9 @@ impl<const W: usize> Memory<W> {
 
     /// What the response may bring whose beat is next on a link, where this is what the beat changes.
     pub fn expected<'a>(&'a self, change: &'a Change<W>, link: Link) -> Option<&'a Expected>
-        ensures { (levels : List Level) (p : Profile) (x : BeatD W) (t : Trace W) →
-            KnowsMemory self.now (length levels) t → AreLegal levels p t →
-            broken_on_link levels p (link, beat.D x) t ≡ None →
+        ensures { (levels : List Level) (x : BeatD W) (t : Trace W) →
+            KnowsMemory self.now (length levels) t → AreLegal levels t →
+            IsLegal levels (link, beat.D x) t →
             IsChange change.now self.now (length levels) (link, beat.D x) t →
             ExpectsResponse (option_copied result) (length levels) link.0 x.opcode x.source t
             (before_last link.0 (length (unfinished channel.D (on_link link.0 t))) t) }

@@ -12,11 +12,12 @@ ghost use Rattle.tl_burst.specs.statement.Part;
 ghost use Rattle.tl_params.specs.declared.perm.Perm.TheVariants as perm;
 ghost use Rattle.tl_rules.specs.statement.Conformance.{Trace, on_link};
 ghost use Rattle.tl_rules.specs.statement.History.{block_at, ends};
-ghost use Rattle.tl_rules.specs.statement.Windows.{is_free};
+ghost use Rattle.tl_bytes.specs.statement.Free.{is_free};
 ghost use Rattle.tl_bytes.specs.statement.Bytes as bytes;
 ghost use Rattle.tl_memory.specs.code.Elsewhere.{block_borne};
-ghost use Rattle.tl_memory.specs.code.Taking.{IsLegalBeat, IsNext, IsRequested, IsResponse, IsSeen, request_answered};
-ghost use Rattle.tl_memory.specs.code.Taking.{tells_block};
+ghost use Rattle.tl_memory.specs.code.Taking.{IsLegalBeat, IsNext, IsNextAsked, IsRequested, IsResponse, IsSeen};
+ghost use Rattle.tl_memory.specs.code.Taking.{request_answered};
+ghost use Rattle.tl_memory.specs.code.Taking as taking;
 ghost use Rattle.tl_memory.specs.statement.Known.{HasRoom, KnowsMessage, KnowsState};
 ghost use Rattle.tl_memory.specs.statement.Links.{KnowsMessages};
 
@@ -63,7 +64,7 @@ pub fn after_request<const W: usize>(
     ensures { IfOk result (λ next. (n block : ℕ) (t : Trace W) → KnowsState state.now n block t t →
         KnowsMessage brought.now (unfinished channel.A (on_link link.0 t)) → IsRequested link.0 y.now t →
         block_at y.now.address ≡ block → moment ≡ suc (length t) →
-        IsNext next None state.now n block (link, beat.A y.now) t) }
+        IsNextAsked next state.now n block (link, beat.A y.now) t) }
 {
     if !completes_access(y, brought) {
         return Ok(None);
@@ -98,7 +99,7 @@ pub fn after_report<const W: usize>(
         KnowsMessage brought.now (unfinished channel.C (on_link link.0 t)) →
         HasRoom (beat.C y.now) (unfinished channel.C (on_link link.0 t)) →
         block_at y.now.address ≡ block → moment ≡ length t →
-        free ≡ is_free n None perm.Trunk block ((link, beat.C y.now) ∷ t) →
+        free ≡ is_free n perm.Trunk block ((link, beat.C y.now) ∷ t) →
         IsNext next (Some free) state.now n block (link, beat.C y.now) t) }
 {
     if !completes_data(y, brought) {
@@ -108,15 +109,22 @@ pub fn after_report<const W: usize>(
     Ok(Some(state.told(alloc, all.bytes.bytes(), moment)?))
 }
 
-/// Whether a response tells of the block of such a request what it has.
-fn tells(opcode: OpD, asked: OpA) -> bool
-    ensures { result ≡ tells_block opcode asked }
+/// Whether a response that isn't denied tells what the block of such a request has.
+fn tells_block(opcode: OpD, asked: OpA) -> bool
+    ensures { result ≡ taking.tells_block opcode asked }
 {
     match opcode {
         OpD::GrantData => true,
         OpD::Grant => asked == OpA::AcquirePerm,
         _ => false,
     }
+}
+
+/// Whether a response tells what the block of such a request has: a denied one tells nothing.
+fn tells<const W: usize>(y: &BeatD<W>, asked: OpA) -> bool
+    ensures { result ≡ taking.tells_response y.now asked }
+{
+    both(!y.denied, tells_block(y.opcode, asked))
 }
 
 /// What a beat of channel D makes of the state, before which so many were taken, where an answer to an access is
@@ -136,14 +144,14 @@ pub fn after_response<const W: usize>(
         KnowsState state.now n block t t →
         KnowsMessage brought.now (unfinished channel.D (on_link link.0 t)) → IsResponse link.0 y.now asked t →
         asked.block ≡ block → moment ≡ length t →
-        free ≡ is_free n None perm.Trunk block ((link, beat.D y.now) ∷ t) →
+        free ≡ is_free n perm.Trunk block ((link, beat.D y.now) ∷ t) →
         IsNext next (Some free) state.now n block (link, beat.D y.now) t) }
 {
     let beat = Beat::D(*y);
     if !brought.completes(&beat) {
         return Ok(None);
     }
-    if tells(y.opcode, asked.opcode) {
+    if tells(y, asked.opcode) {
         let all = brought.with(&beat);
         return Ok(Some(state.told(alloc, all.bytes.bytes(), moment)?));
     }

@@ -10,8 +10,15 @@ ghost use Rattle.tl_memory.specs.statement.Links.{KnowsMessages};
 use crate::access::is_access;
 use crate::link::LinkMessages;
 use crate::message::either;
-use tl_beat::beat::Beat;
-use tl_rules::kind::is_grant;
+use tl_beat::beat::{Beat, BeatA};
+use tl_rules::kind::{grows_from_none, is_acquire, is_grant};
+
+/// Whether a beat is an Acquire from nothing held.
+fn acquires_from_none<const W: usize>(y: &BeatA<W>) -> bool
+    ensures { result ≡ passing.acquires_from_none y.now }
+{
+    is_acquire(y.opcode) && grows_from_none(y.param)
+}
 
 /// Whether a beat passes each block by, and no response begins with it: these are the messages that aren't complete
 /// on its link.
@@ -22,7 +29,12 @@ pub fn passes_by<const W: usize>(x: &Beat<W>, messages: &LinkMessages) -> bool
         result ≡ passing.passes_by x.now t }
 {
     match x {
-        Beat::A(y) => either(!is_access(y.opcode), !messages.a.completes(x)),
+        Beat::A(y) => {
+            if acquires_from_none(y) {
+                return false;
+            }
+            either(!is_access(y.opcode), !messages.a.completes(x))
+        }
         Beat::C(_) => !messages.c.completes(x),
         Beat::D(_) => !either(messages.d.bytes.count() == 0, messages.d.completes(x)),
         _ => true,
@@ -38,6 +50,7 @@ pub fn changes_held<const W: usize>(x: &Beat<W>, messages: &LinkMessages) -> boo
         result ≡ passing.changes_held x.now t }
 {
     match x {
+        Beat::A(y) => acquires_from_none(y),
         Beat::C(_) => messages.c.completes(x),
         Beat::D(y) => {
             if !is_grant(y.opcode) {

@@ -11,7 +11,8 @@ use Rattle.tl_burst.specs.statement.Messages.{History, unfinished}
 use Rattle.tl_params.specs.declared.key.Key.TheVariants.{RequestSource}
 use Rattle.tl_params.specs.declared.perm.Perm.{Perm}
 use Rattle.tl_rules.specs.code.Open.{request_fields}
-use Rattle.tl_rules.specs.statement.History.{asks_for, capped, is_grant, pending, request_of, held}
+use Rattle.tl_rules.specs.statement.History.{asks_for, capped, is_grant, pending, request_of}
+use Rattle.tl_rules.specs.statement.Liberties.{held_under}
 use Rattle.tl_monitor.specs.code.Bursts.{IsOf}
 use Rattle.tl_monitor.specs.code.Coming.{coming_by, coming_in, given_by_control, is_for}
 use Rattle.tl_monitor.specs.code.Count.{at}
@@ -20,8 +21,8 @@ use Rattle.tl_monitor.specs.declared.bursts.Unfinished.{Unfinished}
 use Rattle.tl_monitor.specs.declared.link_state.LinkState.{LinkState}
 use Rattle.tl_monitor.specs.declared.monitor.Monitor.{Monitor}
 use Rattle.tl_monitor.specs.declared.monitor.MonitoredLink.{MonitoredLink}
-use Rattle.tl_monitor.specs.statement.Granting.{coming, coming_on, given_by, granted, granted_on}
-use Rattle.tl_monitor.specs.statement.Knows.{KnowsUnder, held_on}
+use Rattle.tl_monitor.specs.statement.Granting.{coming, coming_on, given_by, granted_on_under, granted_under}
+use Rattle.tl_monitor.specs.statement.Knows.{KnowsUnder, held_on_under}
 use Rattle.tl_monitor.proofs.Knowing.{count-is, link_state-of}
 use Rattle.tl_beat.specs.declared.beat.Link.{Link}
 use Rattle.tl_params.specs.declared.level.Level.{Level}
@@ -77,14 +78,15 @@ coming-on-link m levels lib t closed i link monitored block given k i_is lt is g
     (given_is ∙ coming-is lib block monitored.state (on_link i t) (link_state-of m levels lib t closed i monitored k lt is)
     ∙ ap (λ (n : ℕ). coming block (on_link n t)) i_is)
 
-pub granted-on-link : {w : ℕ} (levels : List Level) (link : Link) (block : ℕ) (t : Trace w) (given : Option Perm)
-    (now : Perm) → given ≡ coming_on levels link block t → now ≡ held_on levels link block t
-    → unwrap_or given now ≡ granted_on levels link block t
-granted-on-link levels link block t given now given_is now_is =
+pub granted-on-link : {w : ℕ} (lib : Liberties) (levels : List Level) (link : Link) (block : ℕ) (t : Trace w)
+    (given : Option Perm) (now : Perm) → given ≡ coming_on levels link block t
+    → now ≡ held_on_under lib levels link block t
+    → unwrap_or given now ≡ granted_on_under lib levels link block t
+granted-on-link lib levels link block t given now given_is now_is =
     ap (λ (o : Option Perm). unwrap_or o now) given_is ∙ go (nat_lt link.0 (length levels)) now_is
   where
-    go : (b : Bool) → now ≡ (if b then held block (on_link link.0 t) else perm.None)
+    go : (b : Bool) → now ≡ (if b then held_under lib block (on_link link.0 t) else perm.None)
         → unwrap_or (if b then coming block (on_link link.0 t) else None) now
-        ≡ (if b then granted block (on_link link.0 t) else perm.None)
+        ≡ (if b then granted_under lib block (on_link link.0 t) else perm.None)
     go true e = ap (unwrap_or (coming block (on_link link.0 t))) e
     go false e = e

@@ -40,7 +40,7 @@ pub struct MonitoredLink {
 }
 
 impl<const W: usize> Monitor<W> {
-    ghost use Rattle.tl_monitor.specs.statement.Granting.{coming_on, granted_on};
+    ghost use Rattle.tl_monitor.specs.statement.Granting.{coming_on, granted_on_under};
     ghost use Rattle.tl_monitor.specs.statement.Numbers.{IsMoreUnder, IsMoreWhereRefused, entry_count, entry_count_under};
     ghost use Rattle.tl_monitor.specs.statement.Knows.{Knows, KnowsUnder, IsNew, IsNewUnder, Answers};
     ghost use Rattle.tl_monitor.specs.statement.Knows.{fault_of, fault_under, recorded_after, closed_after, held_on_under};
@@ -276,14 +276,14 @@ impl<const W: usize> Monitor<W> {
     }
 
     /// What is held of a block on a link, a Grant counted from its first beat on; nothing on a link without a
-    /// level. It is told of a monitor of a profile.
-    pub fn granted(&self, link: Link, block: u32) -> Perm
-        ensures { (levels : List Level) (p : Profile) (t : Trace W) (closed : Bool) →
-            Knows self.now levels p t closed →
-            result ≡ granted_on levels link block t }
+    /// level.
+    pub fn granted_under(&self, link: Link, block: u32) -> Perm
+        ensures { (levels : List Level) (l : Liberties) (t : Trace W) (closed : Bool) →
+            KnowsUnder self.now levels l t closed →
+            result ≡ granted_on_under l levels link block t }
     {
         match self.coming(link, block) {
-            None => self.held(link, block),
+            None => self.held_under(link, block),
             Some(given) => given,
         }
     }
@@ -304,8 +304,8 @@ impl<const W: usize> Monitor<W> {
         self.links[n].state.bursts.begins(beat)
     }
 
-    /// The block of which a beat may change what is held on its link, where it breaks no rule there; none
-    /// where it changes what is held of no block. It is told of a monitor of a profile.
+    /// The block of which a beat may change what is held on its link, if it breaks no rule there; none if it changes
+    /// what is held of no block. The clause holds for a monitor of a profile.
     pub fn block_of(&self, link: Link, beat: &Beat<W>) -> Option<u32>
         ensures { (levels : List Level) (p : Profile) (t : Trace W) (closed : Bool) →
             Knows self.now levels p t closed →

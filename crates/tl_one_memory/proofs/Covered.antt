@@ -18,7 +18,7 @@ use Rattle.tl_bytes.proofs.Pending.{IsAnsweredNow, pending-after, pending-before
 use Rattle.tl_one_memory.proofs.Spans.{began_by_now, one-still, windowed-more}
 
 abbrev pub is_writable : {w : ℕ} → ℕ → ℕ → Trace w → Bool
-is_writable n address t = is_free n None Perm.Trunk (block_at address) t
+is_writable n address t = is_free n Perm.Trunk (block_at address) t
 
 -- `done` are the accesses that were performed and aren't answered whole, and `Answers` says what answers them
 

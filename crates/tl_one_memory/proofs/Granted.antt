@@ -132,7 +132,7 @@ granted {w} n first link z run taken is granting =
         (λ address from to. granted-known n first address old
         (known n first address old (is_run-before n first link.0 k run is))
         (clean-free n first address old (is_run-before n first link.0 k run is)
-        (ap (λ (b : ℕ). is_free n None Perm.Branch b (trace_in old))
+        (ap (λ (b : ℕ). is_free n Perm.Branch b (trace_in old))
         (in-block asked.block k w address grant.within from to) ∙ grant.free))))
       where
         grant : IsGranted n first link.0 z asked.block k run

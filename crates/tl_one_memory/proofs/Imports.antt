@@ -16,4 +16,4 @@ unfoldable pub use Rattle.tl_rules.specs.statement.Conformance.{on_link}
 pub use Rattle.tl_rules.specs.statement.Effect.{Memory}
 unfoldable pub use Rattle.tl_rules.specs.statement.Effect.{effect}
 pub use Rattle.tl_rules.specs.statement.History.{block_at, is_release_ack}
-unfoldable pub use Rattle.tl_rules.specs.statement.Windows.{is_free}
+unfoldable pub use Rattle.tl_bytes.specs.statement.Free.{is_free}

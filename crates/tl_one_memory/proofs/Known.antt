@@ -90,7 +90,7 @@ module _ {w : ℕ} (n : ℕ) (first : Memory) (address : ℕ) where
 
   -- where no link holds Trunk of the block, nothing is stored
   pub clean-free : (run : Run w) → IsRun n first run
-      → is_free n None Perm.Branch (block_at address) (trace_in run) ≡ true → IsClean n first address run
+      → is_free n Perm.Branch (block_at address) (trace_in run) ≡ true → IsClean n first address run
   unfolding IsRun IsClean trace_in
   clean-free [] is free = tt
   clean-free (Takes link x ∷ run) is free = inl free
@@ -100,7 +100,7 @@ module _ {w : ℕ} (n : ℕ) (first : Memory) (address : ℕ) where
       apart : (b : Bool) → (block_at address == block) ≡ b → b ≡ false
       apart false e = refl
       apart true e = absurd (let no : false ≡ true =
-          sym is.0 ∙ ap (λ (k : ℕ). is_free n None Perm.Branch k (trace_in run))
+          sym is.0 ∙ ap (λ (k : ℕ). is_free n Perm.Branch k (trace_in run))
           (sym (eqb-true (block_at address) block e))
           ∙ free in cc)
 
@@ -126,11 +126,11 @@ module _ {w : ℕ} (n : ℕ) (first : Memory) (address : ℕ) where
           → IsCovered n address (memory_in first run address) (IsDone first run) (Answers first run) (trace_in run)
       old clean e = known.covered (elim clean [
         | inr by ↦ rw e at by
-        | inl free ↦ was (is_free n None Perm.Branch (block_at address) (trace_in run)) refl free
+        | inl free ↦ was (is_free n Perm.Branch (block_at address) (trace_in run)) refl free
       ])
         where
-          was : (b : Bool) → is_free n None Perm.Branch (block_at address) (trace_in run) ≡ b
-              → is_free n None Perm.Branch (block_at address) ((link, x) ∷ trace_in run) ≡ true
+          was : (b : Bool) → is_free n Perm.Branch (block_at address) (trace_in run) ≡ b
+              → is_free n Perm.Branch (block_at address) ((link, x) ∷ trace_in run) ≡ true
               → IsClean n first address run
           was true f free = clean-free run runs f
           was false f free = elim (taken.given_up_rightly address f free) [

@@ -11,7 +11,7 @@ use Rattle.tl_bytes.{specs.statement.Bytes.window_began, proofs.Since.since_more
 pub began_by_now : {w : ℕ} (n block asked : ℕ) (t : Trace w) → window_began n block asked t ≤ length t
 unfolding window_began
 began_by_now n block asked [] = omega arith
-began_by_now n block asked (x ∷ t) = go (nat_lt asked (suc (length t)) && is_free n None Perm.Trunk block t)
+began_by_now n block asked (x ∷ t) = go (nat_lt asked (suc (length t)) && is_free n Perm.Trunk block t)
     (began_by_now n block asked t)
   where
     go : (b : Bool) → window_began n block asked t ≤ length t
@@ -21,7 +21,7 @@ began_by_now n block asked (x ∷ t) = go (nat_lt asked (suc (length t)) && is_f
 
 -- where the block is free the access has had a window
 pub windowed-free : {w : ℕ} (n block asked : ℕ) (t : Trace w) → 0 < asked → asked ≤ length t
-    → is_free n None Perm.Trunk block t ≡ true → 0 < windows_since n block asked t
+    → is_free n Perm.Trunk block t ≡ true → 0 < windows_since n block asked t
 windowed-free n block asked [] pos le free = absurd (omega (arith, pos, le))
 windowed-free {w} n block asked (x ∷ t) pos le free = elim (cases_order asked (suc (length t))) [
   | inl now ↦ let one : windows_since n block asked (x ∷ t) ≡ 1 = since_now n block asked x t now ∙ rw free refl in
@@ -30,12 +30,12 @@ windowed-free {w} n block asked (x ∷ t) pos le free = elim (cases_order asked 
     | inr late ↦ absurd (omega (arith, late, le))
     | inl early ↦
         let at : asked ≤ length t = omega (arith, early) in
-        go (is_free n None Perm.Trunk block t) refl at (windowed-free n block asked t pos at)
+        go (is_free n Perm.Trunk block t) refl at (windowed-free n block asked t pos at)
   ]
 ]
   where
-    go : (b : Bool) → is_free n None Perm.Trunk block t ≡ b → asked ≤ length t
-        → (is_free n None Perm.Trunk block t ≡ true → 0 < windows_since n block asked t)
+    go : (b : Bool) → is_free n Perm.Trunk block t ≡ b → asked ≤ length t
+        → (is_free n Perm.Trunk block t ≡ true → 0 < windows_since n block asked t)
         → 0 < windows_since n block asked (x ∷ t)
     go true was at before =
         let more : windows_since n block asked (x ∷ t) ≡ windows_since n block asked t + 0 =
@@ -56,17 +56,17 @@ windowed-more n block asked x t le some =
 
 -- the first window of an access that has had one, if it is open now, was open before
 pub record IsOneStill {w : ℕ} (n block asked : ℕ) (x : Link × Beat w) (t : Trace w) : Type 0 where
-  pub was_free : is_free n None Perm.Trunk block t ≡ true
+  pub was_free : is_free n Perm.Trunk block t ≡ true
   pub was_one : windows_since n block asked t ≡ 1
   pub began_is : window_began n block asked (x ∷ t) ≡ window_began n block asked t
 
 pub one-still : {w : ℕ} (n block asked : ℕ) (x : Link × Beat w) (t : Trace w) → asked ≤ length t
-    → 0 < windows_since n block asked t → is_free n None Perm.Trunk block (x ∷ t) ≡ true
+    → 0 < windows_since n block asked t → is_free n Perm.Trunk block (x ∷ t) ≡ true
     → windows_since n block asked (x ∷ t) ≡ 1 → IsOneStill n block asked x t
 unfolding window_began
-one-still n block asked x t le some free one = go (is_free n None Perm.Trunk block t) refl
+one-still n block asked x t le some free one = go (is_free n Perm.Trunk block t) refl
   where
-    go : (b : Bool) → is_free n None Perm.Trunk block t ≡ b → IsOneStill n block asked x t
+    go : (b : Bool) → is_free n Perm.Trunk block t ≡ b → IsOneStill n block asked x t
     go true was = record {
       was_free = was;
       was_one =

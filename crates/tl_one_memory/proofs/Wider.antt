@@ -13,7 +13,9 @@ use Rattle.tl_params.specs.declared.perm.Perm.{Perm}
 use Rattle.tl_rules.specs.statement.Admission.{bytes_carried}
 use Rattle.tl_rules.specs.statement.Effect.{bytes_from, number_from}
 use Rattle.tl_rules.specs.statement.Conformance.{Trace}
-use Rattle.tl_rules.specs.statement.History.{held, pending, probe_of, request_of}
+use Rattle.tl_rules.specs.statement.History.{pending, probe_of, request_of}
+use Rattle.tl_rules.specs.statement.Liberties.{held_under}
+use Rattle.tl_bytes.specs.statement.Free.{all_but_early, may_hold}
 use Rattle.tl_rules.specs.statement.Windows.{leaves}
 use Rattle.tl_bytes.specs.statement.Bytes.{carried_mask, could_be, tells}
 use Rattle.tl_bytes.proofs.WorkedBeats.{acquire_unread, eight, found, get, grant_unread}
@@ -82,9 +84,18 @@ at-link n = record { 0 = n }
 abbrev trunk_if : Bool → Perm → Perm
 trunk_if b before = unwrap_or (if b then Some Perm.Trunk else None) before
 
+-- nothing, which an Acquire from nothing held says where a test is passed, and which was held before
+abbrev none_if : Bool → Perm
+none_if b = unwrap_or (if b then Some Perm.None else None) Perm.None
+
+-- with it a block that no link holds stays free
+free_if : (b : Bool) → ((leaves Perm.Branch (none_if b) && true) ≡ true) × ((leaves Perm.Trunk (none_if b) && true) ≡ true)
+free_if true = (refl, refl)
+free_if false = (refl, refl)
+
 -- where as much is held of a block it is as free
-free-as : (given : Perm) (block : ℕ) (s t : Trace 8) → held block (on_link 0 s) ≡ held block (on_link 0 t)
-    → held block (on_link 1 s) ≡ held block (on_link 1 t) → is_free 2 None given block s ≡ is_free 2 None given block t
+free-as : (given : Perm) (block : ℕ) (s t : Trace 8) → may_hold block (on_link 0 s) ≡ may_hold block (on_link 0 t)
+    → may_hold block (on_link 1 s) ≡ may_hold block (on_link 1 t) → is_free 2 given block s ≡ is_free 2 given block t
 unfolding is_free
 free-as given block s t e f = rw (e, f) refl
 
@@ -95,7 +106,7 @@ still : (link : Link) (x : Beat 8) (run : Run 8) → unfinished Channel.D (on_li
     ≡ Some access → IsAnswer zeros link.0 z access run) → ((z : BeatD 8) → x ≡ Beat.D z → z.opcode ≡ OpD.GrantData → ⊥)
     → ((block : ℕ) → tells block x (on_link link.0 (trace_in run)) ≡ false)
     → ((given : Perm) (block : ℕ)
-    → is_free 2 None given block ((link, x) ∷ trace_in run) ≡ is_free 2 None given block (trace_in run))
+    → is_free 2 given block ((link, x) ∷ trace_in run) ≡ is_free 2 given block (trace_in run))
     → IsTaken 2 zeros link x run
 still link x run fresh asks answers no_grant untold same =
     single link x run fresh asks answers no_grant
@@ -104,59 +115,60 @@ still link x run fresh asks answers no_grant untold same =
     (λ address held_so free. absurd (unequal (sym free ∙ same Perm.Branch (block_at address) ∙ held_so)))
 
 asked-taken : IsTaken {w = 8} 2 zeros (at-link 0) (acquire_unread 0 0 255).1 []
-unfolding trace_in found_in memory_in on_link unfinished pending_accesses held request_of is_free carried_byte
+unfolding trace_in found_in memory_in on_link unfinished pending_accesses held_under all_but_early request_of is_free carried_byte
     carried_mask bytes_carried effect bytes_from number_from
 asked-taken = plain (at-link 0) (acquire_unread 0 0 255).1 [] refl (λ z e. refl) (λ z access e. absurd cc)
-    (λ z e. absurd cc) (λ block. refl) (λ block. refl) (λ block. refl)
+    (λ z e. absurd cc) (λ block. refl) (λ block. refl) (λ block. (free_if (0 == block)).1)
 
 granted-taken : IsTaken 2 zeros (at-link 0) (grant_unread 0 0 0).1 asked
-unfolding trace_in found_in memory_in on_link unfinished pending_accesses held request_of is_free carried_byte
+unfolding trace_in found_in memory_in on_link unfinished pending_accesses held_under all_but_early request_of is_free carried_byte
     carried_mask bytes_carried effect bytes_from number_from
 granted-taken = single (at-link 0) (grant_unread 0 0 0).1 asked refl (λ z e. absurd cc)
     (λ z access e pending. absurd cc) (λ z e grant. cc)
-    (λ address free told. absurd (neither (block_at address) free told)) closes (λ address held_so free. absurd cc)
+    (λ address free told. absurd (neither (block_at address) free told)) closes
+    (λ address held_so free. absurd (unequal (sym (free_if (0 == block_at address)).0 ∙ held_so)))
   where
-    neither : (block : ℕ) → is_free 2 None Perm.Branch block ((at-link 0, (grant_unread 0 0 0).1) ∷ trace_in asked) ≡ true
+    neither : (block : ℕ) → is_free 2 Perm.Branch block ((at-link 0, (grant_unread 0 0 0).1) ∷ trace_in asked) ≡ true
         → tells block (grant_unread 0 0 0).1 (on_link 0 (trace_in asked)) ≡ true → ⊥
     neither block free told = go (0 == block) free told
       where
-        go : (b : Bool) → (leaves Perm.Branch (trunk_if b Perm.None) && true) ≡ true → (b && true) ≡ true → ⊥
+        go : (b : Bool) → (leaves Perm.Branch (trunk_if b (none_if b)) && true) ≡ true → (b && true) ≡ true → ⊥
         go true f t = cc
         go false f t = cc
 
-    closes : (block : ℕ) → is_free 2 None Perm.Trunk block (trace_in asked) ≡ true
-        → is_free 2 None Perm.Trunk block ((at-link 0, (grant_unread 0 0 0).1) ∷ trace_in asked) ≡ false
+    closes : (block : ℕ) → is_free 2 Perm.Trunk block (trace_in asked) ≡ true
+        → is_free 2 Perm.Trunk block ((at-link 0, (grant_unread 0 0 0).1) ∷ trace_in asked) ≡ false
         → tells block (grant_unread 0 0 0).1 (on_link 0 (trace_in asked)) ≡ true
     closes block free closed = go (0 == block) closed
       where
-        go : (b : Bool) → (leaves Perm.Trunk (trunk_if b Perm.None) && true) ≡ false → (b && true) ≡ true
+        go : (b : Bool) → (leaves Perm.Trunk (trunk_if b (none_if b)) && true) ≡ false → (b && true) ≡ true
         go true f = refl
         go false f = absurd cc
 
 get-taken : IsTaken 2 zeros (at-link 1) (get 1 0 3 255).1 owned
-unfolding trace_in found_in memory_in on_link unfinished pending_accesses held request_of is_free carried_byte
+unfolding trace_in found_in memory_in on_link unfinished pending_accesses held_under all_but_early request_of is_free carried_byte
     carried_mask bytes_carried effect bytes_from number_from
 get-taken = still (at-link 1) (get 1 0 3 255).1 owned refl (λ z e. refl) (λ z access e. absurd cc) (λ z e. absurd cc)
     (λ block. refl) (λ given block. refl)
 
 probed-taken : IsTaken 2 zeros (at-link 0) (probed 0).1 (takes (get 1 0 3 255) ∷ owned)
-unfolding trace_in found_in memory_in on_link unfinished pending_accesses held request_of is_free carried_byte
+unfolding trace_in found_in memory_in on_link unfinished pending_accesses held_under all_but_early request_of is_free carried_byte
     carried_mask bytes_carried effect bytes_from number_from
 probed-taken = still (at-link 0) (probed 0).1 (takes (get 1 0 3 255) ∷ owned) refl (λ z e. absurd cc)
     (λ z access e. absurd cc) (λ z e. absurd cc) (λ block. refl) (λ given block. refl)
 
 shown-taken : IsTaken 2 zeros (at-link 0) (reported 3).1 wanted
-unfolding trace_in found_in memory_in on_link unfinished pending_accesses held request_of is_free carried_byte
+unfolding trace_in found_in memory_in on_link unfinished pending_accesses held_under all_but_early request_of is_free carried_byte
     carried_mask bytes_carried effect bytes_from number_from
 shown-taken = still (at-link 0) (reported 3).1 wanted refl (λ z e. absurd cc) (λ z access e. absurd cc)
     (λ z e. absurd cc) (λ block. refl) same
   where
-    same : (given : Perm) (block : ℕ) → is_free 2 None given block ((at-link 0, (reported 3).1) ∷ trace_in wanted)
-        ≡ is_free 2 None given block (trace_in wanted)
+    same : (given : Perm) (block : ℕ) → is_free 2 given block ((at-link 0, (reported 3).1) ∷ trace_in wanted)
+        ≡ is_free 2 given block (trace_in wanted)
     same given block = free-as given block ((at-link 0, (reported 3).1) ∷ trace_in wanted) (trace_in wanted)
         (go (0 == block)) refl
       where
-        go : (b : Bool) → trunk_if b (trunk_if b Perm.None) ≡ trunk_if b Perm.None
+        go : (b : Bool) → trunk_if b (trunk_if b (none_if b)) ≡ trunk_if b (none_if b)
         go true = refl
         go false = refl
 
@@ -177,9 +189,9 @@ tells-anything address = go (address % 64 / 8 == 0) (address % 64 % 8)
     go false n = refl
 
 clean-owned : (address : ℕ) → IsClean 2 zeros address owned
-unfolding IsClean trace_in on_link held is_free unfinished
+unfolding IsClean trace_in on_link held_under all_but_early is_free unfinished
 clean-owned address = inr (either (tells (block_at address) (grant_unread 0 0 0).1 (on_link 0 (trace_in asked)))
-    (tells-anything address) (inl refl))
+    (tells-anything address) (inl (free_if (0 == block_at address)).0))
 
 clean-shown : (address : ℕ) → IsClean 2 zeros address shown
 unfolding IsClean trace_in on_link unfinished
@@ -201,7 +213,7 @@ may-be-read address reached =
     inr (rw here refl, clean-shown address)
 
 get-performed : IsPerformed 2 zeros 1 0 shown
-unfolding trace_in found_in memory_in on_link unfinished pending_accesses held request_of is_free carried_byte
+unfolding trace_in found_in memory_in on_link unfinished pending_accesses held_under all_but_early request_of is_free carried_byte
     carried_mask bytes_carried effect bytes_from number_from
 get-performed = record {
   access = _;
@@ -230,7 +242,7 @@ zeros-found (suc (suc (suc (suc (suc (suc (suc (suc n)))))))) reached =
 
 get-answered : (z : BeatD 8) (access : Access 8)
     → IsAnswer zeros 1 (response (found 1 0 3 (eight 0)).1 z) (pending_of 1 0 looked access) looked
-unfolding trace_in found_in memory_in on_link unfinished pending_accesses held request_of is_free
+unfolding trace_in found_in memory_in on_link unfinished pending_accesses held_under all_but_early request_of is_free
     carried_mask bytes_carried effect bytes_from number_from
 get-answered z access = record {
   found = zeros;
@@ -241,7 +253,7 @@ get-answered z access = record {
 }
 
 found-taken : IsTaken 2 zeros (at-link 1) (found 1 0 3 (eight 0)).1 looked
-unfolding trace_in found_in memory_in on_link unfinished pending_accesses held request_of is_free carried_byte
+unfolding trace_in found_in memory_in on_link unfinished pending_accesses held_under all_but_early request_of is_free carried_byte
     carried_mask bytes_carried effect bytes_from number_from
 found-taken = still (at-link 1) (found 1 0 3 (eight 0)).1 looked refl (λ z e. absurd cc)
     (λ z access e pending. answers-one zeros 1 (response (found 1 0 3 (eight 0)).1 z) (pending_of 1 0 looked access)
@@ -251,25 +263,25 @@ found-taken = still (at-link 1) (found 1 0 3 (eight 0)).1 looked refl (λ z e. a
 -- ---- Trunk is given up
 
 probed-again : IsTaken 2 zeros (at-link 0) (probed 2).1 read
-unfolding trace_in found_in memory_in on_link unfinished pending_accesses held request_of is_free carried_byte
+unfolding trace_in found_in memory_in on_link unfinished pending_accesses held_under all_but_early request_of is_free carried_byte
     carried_mask bytes_carried effect bytes_from number_from
 probed-again = still (at-link 0) (probed 2).1 read refl (λ z e. absurd cc) (λ z access e. absurd cc)
     (λ z e. absurd cc) (λ block. refl) (λ given block. refl)
 
 given_up-taken : IsTaken 2 zeros (at-link 0) (reported 1).1 (takes (probed 2) ∷ read)
-unfolding trace_in found_in memory_in on_link unfinished pending_accesses held request_of is_free carried_byte
+unfolding trace_in found_in memory_in on_link unfinished pending_accesses held_under all_but_early request_of is_free carried_byte
     carried_mask bytes_carried effect bytes_from number_from
 given_up-taken = single (at-link 0) (reported 1).1 (takes (probed 2) ∷ read) refl (λ z e. absurd cc)
     (λ z access e. absurd cc) (λ z e. absurd cc) (λ address free told. absurd cc) closes
     (λ address held_so free. inr (clean-read address))
   where
-    closes : (block : ℕ) → is_free 2 None Perm.Trunk block (trace_in (takes (probed 2) ∷ read)) ≡ true
-        → is_free 2 None Perm.Trunk block ((at-link 0, (reported 1).1) ∷ trace_in (takes (probed 2) ∷ read)) ≡ false
+    closes : (block : ℕ) → is_free 2 Perm.Trunk block (trace_in (takes (probed 2) ∷ read)) ≡ true
+        → is_free 2 Perm.Trunk block ((at-link 0, (reported 1).1) ∷ trace_in (takes (probed 2) ∷ read)) ≡ false
         → tells block (reported 1).1 (on_link 0 (trace_in (takes (probed 2) ∷ read))) ≡ true
     closes block free closed = absurd (go (0 == block) free closed)
       where
-        go : (b : Bool) → (leaves Perm.Trunk (trunk_if b (trunk_if b Perm.None)) && true) ≡ true
-            → (leaves Perm.Trunk (unwrap_or (if b then Some Perm.None else None) (trunk_if b (trunk_if b Perm.None))) && true)
+        go : (b : Bool) → (leaves Perm.Trunk (trunk_if b (trunk_if b (none_if b))) && true) ≡ true
+            → (leaves Perm.Trunk (unwrap_or (if b then Some Perm.None else None) (trunk_if b (trunk_if b (none_if b)))) && true)
             ≡ false → ⊥
         go true f g = cc
         go false f g = cc

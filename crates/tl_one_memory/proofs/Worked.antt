@@ -11,7 +11,9 @@ use Rattle.tl_beat.{specs.declared.opcode.OpD.OpD}
 use Rattle.tl_params.specs.declared.perm.Perm.{Perm}
 use Rattle.tl_rules.specs.statement.Admission.{bytes_carried}
 use Rattle.tl_rules.specs.statement.Effect.{bytes_from, number_from}
-use Rattle.tl_rules.specs.statement.History.{held, request_of}
+use Rattle.tl_rules.specs.statement.History.{request_of}
+use Rattle.tl_rules.specs.statement.Liberties.{held_under}
+use Rattle.tl_bytes.specs.statement.Free.{all_but_early}
 use Rattle.tl_bytes.specs.statement.Bytes.{carried_mask, tells}
 use Rattle.tl_bytes.proofs.WorkedBeats.{done, eight, found, get, put}
 use Rattle.tl_one_memory.specs.statement.Run.{Happening, IsClean, TellsTrue}
@@ -59,13 +61,13 @@ pub single : (link : Link) (x : Beat 8) (run : Run 8) → unfinished Channel.D (
     → ((z : BeatA 8) → x ≡ Beat.A z → found_in zeros link.0 z.source run ≡ None)
     → ((z : BeatD 8) (access : Access 8) → x ≡ Beat.D z → find (is_of link.0 z.source) (pending_accesses (trace_in run))
     ≡ Some access → IsAnswer zeros link.0 z access run) → ((z : BeatD 8) → x ≡ Beat.D z → z.opcode ≡ OpD.GrantData → ⊥)
-    → ((address : ℕ) → is_free 2 None Perm.Branch (block_at address) ((link, x) ∷ trace_in run) ≡ true
+    → ((address : ℕ) → is_free 2 Perm.Branch (block_at address) ((link, x) ∷ trace_in run) ≡ true
     → tells (block_at address) x (on_link link.0 (trace_in run)) ≡ true → TellsTrue zeros address link x run)
-    → ((block : ℕ) → is_free 2 None Perm.Trunk block (trace_in run) ≡ true
-    → is_free 2 None Perm.Trunk block ((link, x) ∷ trace_in run) ≡ false
+    → ((block : ℕ) → is_free 2 Perm.Trunk block (trace_in run) ≡ true
+    → is_free 2 Perm.Trunk block ((link, x) ∷ trace_in run) ≡ false
     → tells block x (on_link link.0 (trace_in run)) ≡ true)
-    → ((address : ℕ) → is_free 2 None Perm.Branch (block_at address) (trace_in run) ≡ false
-    → is_free 2 None Perm.Branch (block_at address) ((link, x) ∷ trace_in run) ≡ true
+    → ((address : ℕ) → is_free 2 Perm.Branch (block_at address) (trace_in run) ≡ false
+    → is_free 2 Perm.Branch (block_at address) ((link, x) ∷ trace_in run) ≡ true
     → (tells (block_at address) x (on_link link.0 (trace_in run)) ≡ true) ⊎ IsClean 2 zeros address run)
     → IsTaken 2 zeros link x run
 single link x run fresh asks answers no_grant tells_so closes gives = record {
@@ -85,8 +87,8 @@ pub plain : (link : Link) (x : Beat 8) (run : Run 8) → unfinished Channel.D (o
     → ((z : BeatD 8) (access : Access 8) → x ≡ Beat.D z → find (is_of link.0 z.source) (pending_accesses (trace_in run))
     ≡ Some access → IsAnswer zeros link.0 z access run) → ((z : BeatD 8) → x ≡ Beat.D z → z.opcode ≡ OpD.GrantData → ⊥)
     → ((block : ℕ) → tells block x (on_link link.0 (trace_in run)) ≡ false)
-    → ((block : ℕ) → is_free 2 None Perm.Branch block (trace_in run) ≡ true)
-    → ((block : ℕ) → is_free 2 None Perm.Trunk block ((link, x) ∷ trace_in run) ≡ true) → IsTaken 2 zeros link x run
+    → ((block : ℕ) → is_free 2 Perm.Branch block (trace_in run) ≡ true)
+    → ((block : ℕ) → is_free 2 Perm.Trunk block ((link, x) ∷ trace_in run) ≡ true) → IsTaken 2 zeros link x run
 plain link x run fresh asks answers no_grant untold before after =
     single link x run fresh asks answers no_grant
     (λ address free told. absurd (unequal (sym told ∙ untold (block_at address))))
@@ -102,7 +104,7 @@ abbrev pub pending_of : ℕ → ℕ → Run 8 → Access 8 → Access 8
 pending_of link source run other = unwrap_or (find (is_of link source) (pending_accesses (trace_in run))) other
 
 put-taken : IsTaken {w = 8} 2 zeros (record { 0 = 0 }) (put 0 0 3 (eight 7) 255).1 []
-unfolding trace_in found_in memory_in on_link unfinished pending_accesses held request_of is_free carried_byte
+unfolding trace_in found_in memory_in on_link unfinished pending_accesses held_under all_but_early request_of is_free carried_byte
     carried_mask bytes_carried effect bytes_from number_from
 put-taken = plain (record { 0 = 0 }) (put 0 0 3 (eight 7) 255).1 [] refl (λ z e. refl) (λ z access e. absurd cc)
     (λ z e. absurd cc) (λ block. refl) (λ block. refl) (λ block. refl)
@@ -111,7 +113,7 @@ abbrev asked : Run 8
 asked = takes (put 0 0 3 (eight 7) 255) ∷ []
 
 put-performed : IsPerformed 2 zeros 0 0 asked
-unfolding trace_in found_in memory_in on_link unfinished pending_accesses held request_of is_free carried_byte
+unfolding trace_in found_in memory_in on_link unfinished pending_accesses held_under all_but_early request_of is_free carried_byte
     carried_mask bytes_carried effect bytes_from number_from
 put-performed = record {
   access = _;
@@ -126,7 +128,7 @@ performed = Performs 0 0 ∷ asked
 
 put-answered : (z : BeatD 8) (access : Access 8)
     → IsAnswer zeros 0 (response (done 0 0 3).1 z) (pending_of 0 0 performed access) performed
-unfolding trace_in found_in memory_in on_link unfinished pending_accesses held request_of is_free carried_byte
+unfolding trace_in found_in memory_in on_link unfinished pending_accesses held_under all_but_early request_of is_free carried_byte
     carried_mask bytes_carried effect bytes_from number_from
 put-answered z access = record {
   found = zeros;
@@ -137,14 +139,14 @@ put-answered z access = record {
 }
 
 done-taken : IsTaken 2 zeros (record { 0 = 0 }) (done 0 0 3).1 performed
-unfolding trace_in found_in memory_in on_link unfinished pending_accesses held request_of is_free carried_byte
+unfolding trace_in found_in memory_in on_link unfinished pending_accesses held_under all_but_early request_of is_free carried_byte
     carried_mask bytes_carried effect bytes_from number_from
 done-taken = plain (record { 0 = 0 }) (done 0 0 3).1 performed refl (λ z e. absurd cc)
     (λ z access e pending. answers-one zeros 0 (response (done 0 0 3).1 z) (pending_of 0 0 performed access) performed
     refl (put-answered z access) z access e pending) (λ z e grant. cc) (λ block. refl) (λ block. refl) (λ block. refl)
 
 get-taken : IsTaken 2 zeros (record { 0 = 1 }) (get 1 0 3 255).1 written
-unfolding trace_in found_in memory_in on_link unfinished pending_accesses held request_of is_free carried_byte
+unfolding trace_in found_in memory_in on_link unfinished pending_accesses held_under all_but_early request_of is_free carried_byte
     carried_mask bytes_carried effect bytes_from number_from
 get-taken = plain (record { 0 = 1 }) (get 1 0 3 255).1 written refl (λ z e. refl) (λ z access e. absurd cc)
     (λ z e. absurd cc) (λ block. refl) (λ block. refl) (λ block. refl)
@@ -153,7 +155,7 @@ abbrev wanted : Run 8
 wanted = takes (get 1 0 3 255) ∷ written
 
 get-performed : IsPerformed 2 zeros 1 0 wanted
-unfolding trace_in found_in memory_in on_link unfinished pending_accesses held request_of is_free carried_byte
+unfolding trace_in found_in memory_in on_link unfinished pending_accesses held_under all_but_early request_of is_free carried_byte
     carried_mask bytes_carried effect bytes_from number_from
 get-performed = record {
   access = _;
@@ -169,7 +171,7 @@ looked = Performs 1 0 ∷ wanted
 -- memory has the bytes that were written
 sevens : (address : ℕ) → reaches 0 3 address ≡ true → carried_byte {w = 8} ((found 1 0 3 (eight 7)).1 ∷ [])
     (address - 8 * (0 / 8)) ≡ Some (memory_in zeros wanted address)
-unfolding trace_in found_in memory_in on_link unfinished pending_accesses held request_of is_free carried_byte
+unfolding trace_in found_in memory_in on_link unfinished pending_accesses held_under all_but_early request_of is_free carried_byte
     carried_mask bytes_carried effect bytes_from number_from
 sevens zero reached = refl
 sevens (suc zero) reached = refl
@@ -186,7 +188,7 @@ sevens (suc (suc (suc (suc (suc (suc (suc (suc n)))))))) reached =
 
 get-answered : (z : BeatD 8) (access : Access 8)
     → IsAnswer zeros 1 (response (found 1 0 3 (eight 7)).1 z) (pending_of 1 0 looked access) looked
-unfolding trace_in found_in memory_in on_link unfinished pending_accesses held request_of is_free carried_byte
+unfolding trace_in found_in memory_in on_link unfinished pending_accesses held_under all_but_early request_of is_free carried_byte
     carried_mask bytes_carried effect bytes_from number_from
 get-answered z access = record {
   found = memory_in zeros wanted;
@@ -197,7 +199,7 @@ get-answered z access = record {
 }
 
 found-taken : IsTaken 2 zeros (record { 0 = 1 }) (found 1 0 3 (eight 7)).1 looked
-unfolding trace_in found_in memory_in on_link unfinished pending_accesses held request_of is_free carried_byte
+unfolding trace_in found_in memory_in on_link unfinished pending_accesses held_under all_but_early request_of is_free carried_byte
     carried_mask bytes_carried effect bytes_from number_from
 found-taken = plain (record { 0 = 1 }) (found 1 0 3 (eight 7)).1 looked refl (λ z e. absurd cc)
     (λ z access e pending. answers-one zeros 1 (response (found 1 0 3 (eight 7)).1 z) (pending_of 1 0 looked access)

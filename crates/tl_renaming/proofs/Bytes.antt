@@ -16,8 +16,7 @@ use Rattle.tl_beat.{specs.declared.opcode.OpD.OpD, specs.statement.Width.IsWidth
 use Rattle.tl_burst.{specs.statement.Burst.reaches, specs.statement.Messages.on}
 use Rattle.tl_bytes.specs.statement.Bytes.{Access, before_last, each_from, grants_truly, is_of, is_true, is_true_grant}
 use Rattle.tl_bytes.specs.statement.Bytes.{is_true_read, may_grant, may_read, pending_accesses, reads_truly}
-use Rattle.tl_params.specs.declared.profile.Profile.{Profile}
-use Rattle.tl_params.specs.statement.Liberties.{liberties_of}
+use Rattle.tl_params.specs.declared.liberties.Liberties.{Liberties}
 use Rattle.tl_rules.specs.code.Open.{open_request}
 use Rattle.tl_rules.specs.code.Place.{base_of}
 use Rattle.tl_rules.specs.declared.past.Request.{Request}
@@ -68,7 +67,7 @@ before-kept {w} r link (suc k) (x ∷ t) =
     go true = refl
     go false = refl
 
-module _ {w : ℕ} (p : Profile) (r : Renamings) (faithful : AreFaithful (liberties_of p) r) (width : IsWidth w) (n : ℕ) where
+module _ {w : ℕ} (l : Liberties) (r : Renamings) (faithful : AreFaithful l r) (width : IsWidth w) (n : ℕ) where
   abbrev moved_by : ℕ → ℕ
   moved_by address = renamed_address (of_link r 0) address
 
@@ -77,7 +76,7 @@ module _ {w : ℕ} (p : Profile) (r : Renamings) (faithful : AreFaithful (libert
 
   count-kept : (link : ℕ) (t : Trace w) → length (unfinished Channel.D (on_link link (renamed_trace r t)))
       ≡ length (unfinished Channel.D (on_link link t))
-  count-kept link t = ap length (burst-kept p r faithful width n Channel.D link t)
+  count-kept link t = ap length (burst-kept l r faithful width n Channel.D link t)
       ∙ length-kept (of_link r link) (unfinished Channel.D (on_link link t))
 
   -- ---- M2
@@ -101,7 +100,7 @@ module _ {w : ℕ} (p : Profile) (r : Renamings) (faithful : AreFaithful (libert
       (let split : 64 * r.block block + w * k + i ≡ 64 * r.block block + (w * k + i) = omega arith in split)
       ∙ in-block block (w * k + i) inside in
       ap (λ a. may_grant n (renamed_trace r t) a v) to
-      ∙ may-grant-kept p r faithful width n (64 * block + (w * k + i)) v t fits
+      ∙ may-grant-kept l r faithful width n (64 * block + (w * k + i)) v t fits
       ∙ ap (λ a. may_grant n t a v) (sym from))
 
   grant-kept : (link : ℕ) (x : BeatD w) (o : Option Request) (t : Trace w) → AreFitting t
@@ -140,7 +139,7 @@ module _ {w : ℕ} (p : Profile) (r : Renamings) (faithful : AreFaithful (libert
         || may_read n (renamed_access r access) (renamed_trace r t) a v) (at-place access.request.address d lt)
         ∙ ap₂ (λ a b. not a || b)
         (reaches-kept r.block apart access.request.address access.request.size (w * (access.request.address / w) + d) fits.in_block)
-        (may-read-kept p r faithful width n access (w * (access.request.address / w) + d) v t all)
+        (may-read-kept l r faithful width n access (w * (access.request.address / w) + d) v t all)
     | inr past ↦
         let old = base_in_memory w access.request.address width in
         let new = start-moved r.block apart w width access.request.address in
@@ -178,7 +177,7 @@ module _ {w : ℕ} (p : Profile) (r : Renamings) (faithful : AreFaithful (libert
       → is_true_read n link (renamed_d (of_link r link) x) (renamed_trace r t) ≡ is_true_read n link x t
   read-kept link x t fits =
       ap₂ (λ o k. reads_truly n o k (renamed_d (of_link r link) x) (before_last link k (renamed_trace r t)))
-      (answered-kept p r faithful width n link x.source t) (count-kept link t)
+      (answered-kept l r faithful width n link x.source t) (count-kept link t)
       ∙ ap (reads_truly n (option_map (renamed_access r) (find (is_of link x.source) (pending_accesses t)))
       (length (unfinished Channel.D (on_link link t))) (renamed_d (of_link r link) x))
       (before-kept r link (length (unfinished Channel.D (on_link link t))) t)
@@ -196,7 +195,7 @@ module _ {w : ℕ} (p : Profile) (r : Renamings) (faithful : AreFaithful (libert
   true-kept OpD.GrantData link x t fits room =
       ap (λ b. is_spoiled (D x) || b)
       (ap (λ o. is_true_grant n link (renamed_d (of_link r link) x) o (renamed_trace r t))
-      (open-kept p r faithful link x.source t)
+      (open-kept l r faithful link x.source t)
       ∙ grant-kept link x (open_request x.source (on_link link t)) t fits room)
   true-kept OpD.AccessAckData link x t fits room = ap (λ b. is_spoiled (D x) || b) (read-kept link x t fits)
   true-kept OpD.AccessAck link x t fits room = refl

@@ -16,12 +16,12 @@ use Rattle.tl_bytes.specs.statement.Bytes.{pending_with}
 use Rattle.tl_memory.{proofs.Lawful.by_itself, proofs.Lawful.is-request, proofs.OpenAccesses.is-fine}
 use Rattle.tl_memory.specs.statement.Links.{AreLegal}
 use Rattle.tl_params.specs.declared.level.Level.{Level}
-use Rattle.tl_params.specs.declared.profile.Profile.{Profile}
 use Rattle.tl_rules.{proofs.Rooms.room_in_block, proofs.Rooms.room_of_base}
 use Rattle.tl_rules.{specs.code.Place.base_of, specs.laws.Typed.AreTyped, specs.laws.Typed.IsTyped}
 use Rattle.tl_rules.specs.statement.Admission.{bytes_carried, lanes_of}
 use Rattle.tl_rules.specs.statement.Conformance.{Trace, on_link}
-use Rattle.tl_rules.specs.statement.Legality.{illegal}
+use Rattle.tl_bytes.specs.statement.Free.{all_but_early}
+use Rattle.tl_rules.specs.statement.Liberties.{illegal_under}
 
 -- the beats of a link have lanes of their width, where those of a trace have
 typed-link : {w : ℕ} (n : ℕ) (t : Trace w) → AreTypedOn t → AreTyped (on_link n t)
@@ -97,9 +97,9 @@ module _ (w : ℕ) (width : IsWidth w) where
   burst-room true size address room = data-room size address room
   burst-room false size address room = let one : w * 1 ≡ w = omega arith in rw one (room_of_base w address width)
 
-module _ {w : ℕ} (p : Profile) (width : IsWidth w) where
+module _ {w : ℕ} (width : IsWidth w) where
   asked-fits : (level : Level) (link : ℕ) (x : BeatA w) (burst : List (Beat w)) (moment : ℕ)
-      → illegal level Channel.A (A x) ≡ None → AreTyped (A x ∷ burst) → length (A x ∷ burst) ≡ burst_length (A x)
+      → illegal_under all_but_early level Channel.A (A x) ≡ None → AreTyped (A x ∷ burst) → length (A x ∷ burst) ≡ burst_length (A x)
       → Fits (asked_by link x (A x ∷ burst) moment)
   asked-fits level link x burst moment legal typed whole =
       let asked = is-request level x width legal in
@@ -114,7 +114,7 @@ module _ {w : ℕ} (p : Profile) (width : IsWidth w) where
       }
 
   step-fits : (level : Level) (link : ℕ) (x : Beat w) (t : History w) (moment : ℕ) (before : List (Access w))
-      → illegal level (channel_of x) x ≡ None → IsTyped x → AreTyped t → All Fits before
+      → illegal_under all_but_early level (channel_of x) x ≡ None → IsTyped x → AreTyped t → All Fits before
       → All Fits (pending_with link x t moment before)
   step-fits level link (A x) t moment before legal typed rest fits =
       go (is_access x.opcode) (ends (A x) t) refl
@@ -141,11 +141,11 @@ module _ {w : ℕ} (p : Profile) (width : IsWidth w) where
 
   -- ---- a trace
 
-  pub all-fit : (levels : List Level) (t : Trace w) → AreLegal levels p t → AreTypedOn t → All Fits (pending_accesses t)
+  pub all-fit : (levels : List Level) (t : Trace w) → AreLegal levels t → AreTypedOn t → All Fits (pending_accesses t)
   unfolding pending_accesses
   all-fit levels [] legal typed = All-nil Fits
   all-fit levels (x ∷ t) legal typed =
-      let fine = is-fine levels p x t legal.0 in
+      let fine = is-fine _ levels x t legal.0 in
       step-fits fine.level x.0.0 x.1 (on_link x.0.0 t) (suc (length t)) (pending_accesses t)
-      (by_itself fine.level p x.1 (on_link x.0.0 t) fine.fine) typed.0 (typed-link x.0.0 t typed.1)
+      (by_itself fine.level x.1 (on_link x.0.0 t) fine.fine) typed.0 (typed-link x.0.0 t typed.1)
       (all-fit levels t legal.1 typed.1)

@@ -11,17 +11,14 @@ use Rattle.std.proofs.Common.{◌≡◌, ℕ, zero, suc, Bool, true, false, not,
 use Rattle.std.specs.Prelude.{if◌then◌else◌, is_some, Option, Some, None, option_map}
 use Rattle.tl_beat.specs.declared.beat.Link.{Link}
 use Rattle.tl_bytes.specs.statement.Shown.{had_window, is_window, shows, shows_bytes}
-use Rattle.tl_monitor.specs.statement.Granting.{given_by, granted}
+use Rattle.tl_monitor.specs.statement.Granting.{given_by, granted_under}
+use Rattle.tl_params.specs.declared.liberties.Liberties.{Liberties}
 use Rattle.tl_params.specs.declared.key.Key.TheVariants.{ProbeOf, RequestSource}
 use Rattle.tl_params.specs.declared.perm.Perm.{Perm}
-use Rattle.tl_params.specs.declared.profile.Profile.{Profile}
-use Rattle.tl_params.specs.statement.Liberties.{liberties_of}
-use Rattle.tl_rules.proofs.Profiles.{held-of}
 use Rattle.tl_rules.specs.code.Open.{open_probe, open_request, probe_fields, request_fields}
 use Rattle.tl_rules.specs.declared.past.Request.{Request}
 use Rattle.tl_rules.specs.statement.Conformance.{Trace, comes_in_request, on_link}
-use Rattle.tl_rules.specs.statement.History.{held}
-use Rattle.tl_rules.specs.statement.Windows.{is_free}
+use Rattle.tl_bytes.specs.statement.Free.{all_but_early, is_free, may_hold}
 use Rattle.tl_together.specs.statement.Coherence.{is_grantable}
 
 -- what is kept of a request, of a renamed one
@@ -40,23 +37,34 @@ where-wanted f false o = refl
 
 -- ---- one link
 
-module _ {w : ℕ} (p : Profile) (r : Renaming) (faithful : IsFaithful (liberties_of p) r) where
-  pub held-plain-kept : (k : ℕ) (t : History w) → held (r.block k) (renamed_history r t) ≡ held k t
-  held-plain-kept k t =
-      sym (held-of p (r.block k) (renamed_history r t)) ∙ held-kept (liberties_of p) r faithful k t ∙ held-of p k t
+-- what is faithful under some liberties is so where no name is asked to be 0
+faithful-most : (l : Liberties) (r : Renaming) → IsFaithful l r → IsFaithful all_but_early r
+unfolding all_but_early
+faithful-most l r is = record {
+  blocks_apart = is.blocks_apart;
+  sources_apart = is.sources_apart;
+  sinks_apart = is.sinks_apart;
+  zero_source = λ e. absurd cc;
+  zero_sink = λ e. absurd cc;
+}
+
+module _ {w : ℕ} (l : Liberties) (r : Renaming) (faithful : IsFaithful l r) where
+  pub may-hold-kept : (k : ℕ) (t : History w) → may_hold (r.block k) (renamed_history r t) ≡ may_hold k t
+  may-hold-kept k t = held-kept all_but_early r (faithful-most l r faithful) k t
 
   given-by-kept : (k : ℕ) (burst : List (Beat w)) (t : History w)
       → given_by (r.block k) (map (renamed r) burst) (renamed_history r t) ≡ given_by k burst t
   given-by-kept k [] t = refl
-  given-by-kept k (D x ∷ burst) t = rw (grants-kept (liberties_of p) r faithful k x t) refl
+  given-by-kept k (D x ∷ burst) t = rw (grants-kept l r faithful k x t) refl
   given-by-kept k (A x ∷ burst) t = refl
   given-by-kept k (B x ∷ burst) t = refl
   given-by-kept k (C x ∷ burst) t = refl
   given-by-kept k (E x ∷ burst) t = refl
 
-  pub granted-kept : (k : ℕ) (t : History w) → granted (r.block k) (renamed_history r t) ≡ granted k t
+  pub granted-kept : (k : ℕ) (t : History w)
+      → granted_under all_but_early (r.block k) (renamed_history r t) ≡ granted_under all_but_early k t
   granted-kept k t =
-      rw (unfinished-kept r Channel.D t, given-by-kept k (unfinished Channel.D t) t, held-plain-kept k t) refl
+      rw (unfinished-kept r Channel.D t, given-by-kept k (unfinished Channel.D t) t, may-hold-kept k t) refl
 
   fields-kept : (o : Option (BeatA w)) → request_fields (option_map (renamed_a r) o)
       ≡ option_map (renamed_request r) (request_fields o)
@@ -67,10 +75,10 @@ module _ {w : ℕ} (p : Profile) (r : Renaming) (faithful : IsFaithful (libertie
       ≡ option_map (renamed_request r) (open_request s t)
   open-request-kept s t =
       rw (
-        pending-kept (liberties_of p) r faithful (RequestSource s) t,
+        pending-kept l r faithful (RequestSource s) t,
         unfinished-kept r Channel.A t,
-        in-request-kept (liberties_of p) r faithful s (unfinished Channel.A t),
-        request-kept (liberties_of p) r faithful s t,
+        in-request-kept l r faithful s (unfinished Channel.A t),
+        request-kept l r faithful s t,
         fields-kept (request_of s t),
       )
       (where-wanted (renamed_request r) (pending (RequestSource s) t && not
@@ -83,8 +91,8 @@ module _ {w : ℕ} (p : Profile) (r : Renaming) (faithful : IsFaithful (libertie
   open-probe-kept : (k : ℕ) (t : History w) → open_probe (r.block k) (renamed_history r t) ≡ open_probe k t
   open-probe-kept k t =
       rw (
-        pending-kept (liberties_of p) r faithful (ProbeOf k) t,
-        probe-kept (liberties_of p) r faithful k t,
+        pending-kept l r faithful (ProbeOf k) t,
+        probe-kept l r faithful k t,
         probe-fields-kept (probe_of k t),
       ) refl
 
@@ -95,7 +103,7 @@ module _ {w : ℕ} (p : Profile) (r : Renaming) (faithful : IsFaithful (libertie
   pub shows-kept : (k : ℕ) (x : Beat w) (t : History w) → shows (r.block k) (renamed r x) (renamed_history r t)
       ≡ shows k x t
   shows-kept k (C x) t =
-      rw (ends-kept r (C x) t, block-test (liberties_of p) r faithful x.address k, shows-bytes-kept x t) refl
+      rw (ends-kept r (C x) t, block-test l r faithful x.address k, shows-bytes-kept x t) refl
   shows-kept k (A x) t = refl
   shows-kept k (B x) t = refl
   shows-kept k (D x) t = refl
@@ -103,16 +111,16 @@ module _ {w : ℕ} (p : Profile) (r : Renaming) (faithful : IsFaithful (libertie
 
 -- ---- all links
 
-module _ {w : ℕ} (p : Profile) (r : Renamings) (faithful : AreFaithful (liberties_of p) r) where
-  pub free-kept : (n : ℕ) (spared : Option ℕ) (given : Perm) (block : ℕ) (t : Trace w)
-      → is_free n spared given (r.block block) (renamed_trace r t) ≡ is_free n spared given block t
+module _ {w : ℕ} (l : Liberties) (r : Renamings) (faithful : AreFaithful l r) where
+  pub free-kept : (n : ℕ) (given : Perm) (block : ℕ) (t : Trace w)
+      → is_free n given (r.block block) (renamed_trace r t) ≡ is_free n given block t
   unfolding is_free
-  free-kept zero spared given block t = refl
-  free-kept (suc n) spared given block t =
+  free-kept zero given block t = refl
+  free-kept (suc n) given block t =
       rw (
-        free-kept n spared given block t,
+        free-kept n given block t,
         link-kept r n t,
-        held-plain-kept p (of_link r n) (faithful n) block (on_link n t),
+        may-hold-kept l (of_link r n) (faithful n) block (on_link n t),
       ) refl
 
   pub grantable-kept : (n link : ℕ) (given : Perm) (block : ℕ) (t : Trace w)
@@ -123,7 +131,7 @@ module _ {w : ℕ} (p : Profile) (r : Renamings) (faithful : AreFaithful (libert
       rw (
         grantable-kept n link given block t,
         link-kept r n t,
-        granted-kept p (of_link r n) (faithful n) block (on_link n t),
+        granted-kept l (of_link r n) (faithful n) block (on_link n t),
       ) refl
 
   -- the open request of a link
@@ -131,15 +139,15 @@ module _ {w : ℕ} (p : Profile) (r : Renamings) (faithful : AreFaithful (libert
       → open_request (r.sources link source) (on_link link (renamed_trace r t))
       ≡ option_map (renamed_request (of_link r link)) (open_request source (on_link link t))
   open-kept link source t =
-      rw (link-kept r link t) (open-request-kept p (of_link r link) (faithful link) source (on_link link t))
+      rw (link-kept r link t) (open-request-kept l (of_link r link) (faithful link) source (on_link link t))
 
   window-kept : (n : ℕ) (given : Perm) (block : ℕ) (x : Link × Beat w) (t : Trace w)
       → is_window n given (r.block block) (renamed_on_link r x) (renamed_trace r t) ≡ is_window n given block x t
   window-kept n given block x t =
       rw (
-        free-kept n None given block (x ∷ t),
+        free-kept n given block (x ∷ t),
         link-kept r x.0.0 t,
-        shows-kept p (of_link r x.0.0) (faithful x.0.0) block x.1 (on_link x.0.0 t),
+        shows-kept l (of_link r x.0.0) (faithful x.0.0) block x.1 (on_link x.0.0 t),
       ) refl
 
   pub had-window-kept : (n link source : ℕ) (given : Perm) (block : ℕ) (t : Trace w)

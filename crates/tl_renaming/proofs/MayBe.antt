@@ -24,8 +24,7 @@ use Rattle.tl_bytes.specs.statement.Bytes.{could_be, ends_request, is_denied, is
 use Rattle.tl_bytes.specs.statement.Bytes.{pending_accesses, pending_value, tells, told_as, value_left, windows_since}
 use Rattle.tl_bytes.specs.statement.Bytes.{written_as}
 use Rattle.tl_params.specs.declared.perm.Perm.TheVariants as perm
-use Rattle.tl_params.specs.declared.profile.Profile.{Profile}
-use Rattle.tl_params.specs.statement.Liberties.{liberties_of}
+use Rattle.tl_params.specs.declared.liberties.Liberties.{Liberties}
 use Rattle.tl_rules.specs.statement.Conformance.{Trace, on_link}
 
 -- the accesses that are pending lie in one block each, after each beginning of the trace
@@ -50,7 +49,7 @@ found-fits {w} p (x ∷ xs) fits = go (p x) (All-head Fits x xs fits) (found-fit
     go true one rest = one
     go false one rest = rest
 
-module _ {w : ℕ} (p : Profile) (r : Renamings) (faithful : AreFaithful (liberties_of p) r) (width : IsWidth w) (n : ℕ) where
+module _ {w : ℕ} (l : Liberties) (r : Renamings) (faithful : AreFaithful l r) (width : IsWidth w) (n : ℕ) where
   abbrev moved_by : ℕ → ℕ
   moved_by address = renamed_address (of_link r 0) address
 
@@ -61,11 +60,11 @@ module _ {w : ℕ} (p : Profile) (r : Renamings) (faithful : AreFaithful (libert
       ≡ after_write n block access denied now t before
   write-kept block access denied now t before =
       rw (
-        free-kept p r faithful n None perm.Trunk block t,
-        windows-kept p r faithful n block access.asked t,
-        began-kept p r faithful n block access.asked t,
-        last-window-kept p r faithful n block t,
-        last-told-kept p r faithful n block t,
+        free-kept l r faithful n perm.Trunk block t,
+        windows-kept l r faithful n block access.asked t,
+        began-kept l r faithful n block access.asked t,
+        last-window-kept l r faithful n block t,
+        last-told-kept l r faithful n block t,
       ) refl
 
   answer-kept : (link address : ℕ) (o : Option (Access w)) (answer : List (Beat w)) (t : Trace w)
@@ -74,12 +73,12 @@ module _ {w : ℕ} (p : Profile) (r : Renamings) (faithful : AreFaithful (libert
       (renamed_trace r t) before ≡ after_answer n address o answer t before
   answer-kept link address None answer t before fits = refl
   answer-kept link address (Some access) answer t before fits =
-      rw (writes-kept (liberties_of p) r faithful width access address fits) (go (access_writes address access) refl)
+      rw (writes-kept l r faithful width access address fits) (go (access_writes address access) refl)
     where
       value : access_writes address access ≡ true
           → value_left access.request.opcode (renamed_access r access) (map (renamed (of_link r link)) answer)
           (moved_by address) ≡ value_left access.request.opcode access answer address
-      value written = left-kept (liberties_of p) r faithful width link access answer address fits written
+      value written = left-kept l r faithful width link access answer address fits written
 
       telling : access_writes address access ≡ true
           → after_write n (block_at (moved_by address)) (renamed_access r access)
@@ -127,9 +126,9 @@ module _ {w : ℕ} (p : Profile) (r : Renamings) (faithful : AreFaithful (libert
       → find (is_of link (r.sources link source)) (pending_accesses (renamed_trace r t))
       ≡ option_map (renamed_access r) (find (is_of link source) (pending_accesses t))
   answered-kept link source t =
-      ap (find (is_of link (r.sources link source))) (accesses-kept (liberties_of p) r faithful t)
+      ap (find (is_of link (r.sources link source))) (accesses-kept l r faithful t)
       ∙ find-kept (renamed_access r) (is_of link source) (is_of link (r.sources link source))
-      (is-of-kept (liberties_of p) r faithful link source) (pending_accesses t)
+      (is-of-kept l r faithful link source) (pending_accesses t)
 
   pub burst-kept : (ch : Channel) (link : ℕ) (t : Trace w) → unfinished ch (on_link link (renamed_trace r t))
       ≡ map (renamed (of_link r link)) (unfinished ch (on_link link t))
@@ -140,7 +139,7 @@ module _ {w : ℕ} (p : Profile) (r : Renamings) (faithful : AreFaithful (libert
       ≡ after_beat n address link x t before
   beat-kept link address (D x) t before fits =
       both-chosen (ap (ends_request (renamed_d (of_link r link) x)) (link-kept r link t)
-      ∙ ends-request-kept (liberties_of p) r faithful link x (on_link link t))
+      ∙ ends-request-kept l r faithful link x (on_link link t))
       (ap₂ (λ o burst. after_answer n (moved_by address) o (D (renamed_d (of_link r link) x) ∷ burst)
       (renamed_trace r t) before) (answered-kept link x.source t) (burst-kept Channel.D link t)
       ∙ answer-kept link address (find (is_of link x.source) (pending_accesses t))
@@ -158,7 +157,7 @@ module _ {w : ℕ} (p : Profile) (r : Renamings) (faithful : AreFaithful (libert
       ≡ tells (block_at address) x.1 (on_link x.0.0 t)
   tells-now address x t =
       ap₂ (λ b h. tells b (renamed (of_link r x.0.0) x.1) h) (block-of r.block address) (link-kept r x.0.0 t)
-      ∙ tells-kept (liberties_of p) (of_link r x.0.0) (faithful x.0.0) (block_at address) x.1 (on_link x.0.0 t)
+      ∙ tells-kept l (of_link r x.0.0) (faithful x.0.0) (block_at address) x.1 (on_link x.0.0 t)
 
   value-now : (address : ℕ) (x : Link × Beat w) (t : Trace w)
       → carried_byte (renamed (of_link r x.0.0) x.1
@@ -193,8 +192,8 @@ module _ {w : ℕ} (p : Profile) (r : Renamings) (faithful : AreFaithful (libert
       both-hold (access_writes (moved_by address) (renamed_access r x)) (access_writes address x)
       (could_be v (pending_value x.request.opcode (renamed_access r x) (moved_by address)))
       (could_be v (pending_value x.request.opcode x address))
-      (writes-kept (liberties_of p) r faithful width x address fits)
-      (λ written. ap (could_be v) (pending-value-kept (liberties_of p) r faithful width x address fits written))
+      (writes-kept l r faithful width x address fits)
+      (λ written. ap (could_be v) (pending-value-kept l r faithful width x address fits written))
 
   written-as-kept : (address v : ℕ) (xs : List (Access w)) → All Fits xs
       → written_as (moved_by address) v (map (renamed_access r) xs) ≡ written_as address v xs
@@ -219,7 +218,7 @@ module _ {w : ℕ} (p : Profile) (r : Renamings) (faithful : AreFaithful (libert
       → written_as (moved_by address) v (filter others (pending_accesses (renamed_trace r t)))
       ≡ written_as address v (filter test (pending_accesses t))
   passing-kept address v t test others same fits =
-      ap (λ xs. written_as (moved_by address) v (filter others xs)) (accesses-kept (liberties_of p) r faithful t)
+      ap (λ xs. written_as (moved_by address) v (filter others xs)) (accesses-kept l r faithful t)
       ∙ ap (written_as (moved_by address) v) (filter-kept (renamed_access r) test others same (pending_accesses t))
       ∙ written-as-kept address v (filter test (pending_accesses t))
       (All-filter test Fits (pending_accesses t) (fit-now t fits))
@@ -231,7 +230,7 @@ module _ {w : ℕ} (p : Profile) (r : Renamings) (faithful : AreFaithful (libert
       (passing-kept address v t (λ x. nat_lt 0 (windows_since n (block_at address) x.asked t))
       (λ x. nat_lt 0 (windows_since n (block_at (moved_by address)) x.asked (renamed_trace r t)))
       (λ x. ap (nat_lt 0) (ap (λ b. windows_since n b x.asked (renamed_trace r t)) (block-of r.block address)
-      ∙ windows-kept p r faithful n (block_at address) x.asked t)) fits)
+      ∙ windows-kept l r faithful n (block_at address) x.asked t)) fits)
 
   pub may-read-kept : (access : Access w) (address v : ℕ) (t : Trace w) → AreFitting t
       → may_read n (renamed_access r access) (renamed_trace r t) (moved_by address) v ≡ may_read n access t address v
@@ -243,5 +242,5 @@ module _ {w : ℕ} (p : Profile) (r : Renamings) (faithful : AreFaithful (libert
       (ap₂ (λ a b. a || b) (passing-kept address v (x ∷ t)
       (λ other. not (is_of access.link access.request.source other))
       (λ other. not (is_of access.link (r.sources access.link access.request.source) other))
-      (not-of-kept (liberties_of p) r faithful access.link access.request.source) fits)
+      (not-of-kept l r faithful access.link access.request.source) fits)
       (may-read-kept access address v t fits.1)))

@@ -12,8 +12,6 @@ use Rattle.tl_bytes.specs.statement.Bytes.{asks_unread, last_told, last_window, 
 use Rattle.tl_bytes.specs.statement.Bytes.{windows_since}
 use Rattle.tl_params.specs.declared.liberties.Liberties.{Liberties}
 use Rattle.tl_params.specs.declared.perm.Perm.TheVariants as perm
-use Rattle.tl_params.specs.declared.profile.Profile.{Profile}
-use Rattle.tl_params.specs.statement.Liberties.{liberties_of}
 use Rattle.tl_rules.specs.statement.Conformance.{Trace, on_link}
 
 -- ---- a message that tells the bytes of a block
@@ -48,14 +46,14 @@ module _ {w : ℕ} (l : Liberties) (r : Renaming) (faithful : IsFaithful l r) wh
 
 -- ---- moments
 
-module _ {w : ℕ} (p : Profile) (r : Renamings) (faithful : AreFaithful (liberties_of p) r) (n block : ℕ) where
+module _ {w : ℕ} (l : Liberties) (r : Renamings) (faithful : AreFaithful l r) (n block : ℕ) where
   pub last-told-kept : (t : Trace w) → last_told (r.block block) (renamed_trace r t) ≡ last_told block t
   unfolding last_told
   last-told-kept [] = refl
   last-told-kept (x ∷ t) =
       rw (
         link-kept r x.0.0 t,
-        tells-kept (liberties_of p) (of_link r x.0.0) (faithful x.0.0) block x.1
+        tells-kept l (of_link r x.0.0) (faithful x.0.0) block x.1
             (on_link x.0.0 t),
         beats-kept r t,
         last-told-kept t,
@@ -65,7 +63,7 @@ module _ {w : ℕ} (p : Profile) (r : Renamings) (faithful : AreFaithful (libert
   unfolding last_window
   last-window-kept [] = refl
   last-window-kept (x ∷ t) =
-      rw (free-kept p r faithful n None perm.Trunk block (x ∷ t), beats-kept r t, last-window-kept t) refl
+      rw (free-kept l r faithful n perm.Trunk block (x ∷ t), beats-kept r t, last-window-kept t) refl
 
   pub windows-kept : (asked : ℕ) (t : Trace w)
       → windows_since n (r.block block) asked (renamed_trace r t) ≡ windows_since n block asked t
@@ -75,8 +73,8 @@ module _ {w : ℕ} (p : Profile) (r : Renamings) (faithful : AreFaithful (libert
       rw (
         beats-kept r t,
         windows-kept asked t,
-        free-kept p r faithful n None perm.Trunk block (x ∷ t),
-        free-kept p r faithful n None perm.Trunk block t,
+        free-kept l r faithful n perm.Trunk block (x ∷ t),
+        free-kept l r faithful n perm.Trunk block t,
       ) refl
 
   pub began-kept : (asked : ℕ) (t : Trace w)
@@ -84,4 +82,4 @@ module _ {w : ℕ} (p : Profile) (r : Renamings) (faithful : AreFaithful (libert
   unfolding window_began
   began-kept asked [] = refl
   began-kept asked (x ∷ t) =
-      rw (beats-kept r t, began-kept asked t, free-kept p r faithful n None perm.Trunk block t) refl
+      rw (beats-kept r t, began-kept asked t, free-kept l r faithful n perm.Trunk block t) refl

@@ -1,4 +1,3 @@
 pub mod Counted
-pub mod Judging
 pub mod Searched
 pub mod Verdict

@@ -26,16 +26,15 @@ use Rattle.tl_engine.specs.declared.status.Status.{Status}
 use Rattle.tl_engine.specs.declared.status.Status.TheVariants.{Clean, Broken}
 use Rattle.tl_engine.specs.statement.Width.{bytes_of}
 use Rattle.tl_engine.proofs.Decoded.{open_fault}
-use Rattle.tl_engine.proofs.Judged.{open_line}
-use Rattle.tl_links.proofs.Headers.{open_allowed}
+use Rattle.tl_links.proofs.Headers.{open_heads}
 use Rattle.tl_report.specs.declared.findings.Findings.{Findings}
 use Rattle.tl_command.specs.declared.search.Aim.{Aim}
 use Rattle.tl_report.specs.declared.search.Search.{Search}
 use Rattle.tl_report.specs.declared.search_lines.SearchLines.{SearchLines}
 use Rattle.tl_report.specs.declared.search_lines.SearchLines.TheVariants.{Waiting, Four, Eight, Sixteen}
-use Rattle.tl_report.specs.code.TraceJudging.{JudgesBeat, KnowsBeats}
+use Rattle.tl_links.specs.code.TraceJudging.{JudgesBeat, KnowsBeats}
 use Rattle.tl_report.specs.statement.Found.{Finds, FindsAfter, FindsFor, is_open, left_behind, no_header}
-use Rattle.tl_report.specs.statement.Judging.{heads_by}
+use Rattle.tl_links.specs.statement.Judged.{heads_by}
 use Rattle.tl_report.specs.statement.Said.{Searches}
 use Rattle.tl_report.specs.statement.Taken.{AreCounted, cell_of, cells_of}
 use Rattle.tl_report.specs.code.Searching.{EndsLines, EndsSearch, EndsWith, HasFound, IsBegun, IsElsewhereSame, JudgesLine}
@@ -243,14 +242,9 @@ module _ (alloc : Global) (aim : Aim) (line : List ℕ)
   no_header_ends = λ lines text known more beats cells counted. rw known (inr (none, refl, counted))
 
 -- a line that has no LF or more than 256 bytes is no header
-no_head : (together : Bool) (allow : Liberties) (line : List ℕ) → IsOpen line → (width : Width) (may : Liberties)
-    (levels : List Level) → ¬ heads_by together allow line width may levels
-no_head true allow line is width may levels named = open_line line is width named.0 levels named.1
-no_head false allow line is width may levels named = open_allowed allow line is width may levels named
-
 pub open_header : (alloc : Global) (aim : Aim) (line : List ℕ) → IsOpen line
     → Ends KnowsLines EndsLines (Waiting alloc aim) (Waiting alloc aim) line
-open_header alloc aim line is = no_header_ends alloc aim line (no_head aim.together aim.allow line is)
+open_header alloc aim line is = no_header_ends alloc aim line (open_heads aim.together aim.allow line is)
 
 pub stops : (h : SearchLines) (line was is : List ℕ) (fault : Fault) → Stops KnowsLines TellsLines h line was is fault
 stops h line was is fault = λ lines before known more broken. unclean broken

@@ -1,4 +1,3 @@
 pub mod Found
-pub mod Judging
 pub mod Said
 pub mod Taken

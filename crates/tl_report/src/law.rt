@@ -1,22 +1,18 @@
 //! What is found in a trace, beside the verdict of one that stops at its first fault: laws.
 
-ghost use Rattle.std.specs.Prelude.{◌≡◌, ◌≤◌, ℕ, false, true, List, length};
+ghost use Rattle.std.specs.Prelude.{◌≤◌, ℕ, List, length};
 ghost use Rattle.tl_command.specs.declared.search.Aim.{Aim};
-ghost use Rattle.tl_engine.specs.statement.Coherent.{JudgedTogether};
 ghost use Rattle.tl_links.specs.statement.Judged.{JudgedLinks};
 ghost use Rattle.tl_report.specs.declared.findings.Finding.{Finding};
 ghost use Rattle.tl_report.specs.statement.Found.{FindsFor, most_of};
 ghost use Rattle.tl_report.specs.statement.Said.{first_text, status_of};
 
-/// The first line that is found, and the status, are those of `monitor`, and of `coherent`, and where none is found so
-/// is the text.
+/// The first line that is found, and the status, are those of `monitor`, or of `coherent`, and where none is found so is
+/// the text.
 pub fn begins_with_the_verdict()
-    ensures links { (aim : Aim) (lines : List (List ℕ)) (found : List Finding) (beats : ℕ) (cells : List ℕ) →
-        aim.together ≡ false → FindsFor aim lines found beats cells →
-        JudgedLinks aim.allow lines (first_text aim.together found beats) (status_of found) }
-    ensures together { (aim : Aim) (lines : List (List ℕ)) (found : List Finding) (beats : ℕ) (cells : List ℕ) →
-        aim.together ≡ true → FindsFor aim lines found beats cells →
-        JudgedTogether lines (first_text aim.together found beats) (status_of found) }
+    ensures { (aim : Aim) (lines : List (List ℕ)) (found : List Finding) (beats : ℕ) (cells : List ℕ) →
+        FindsFor aim lines found beats cells →
+        JudgedLinks aim.together aim.allow lines (first_text aim.together found beats) (status_of found) }
 {}
 
 /// No more lines are found than are looked for.

@@ -8,4 +8,3 @@ pub mod say;
 pub mod search;
 pub mod search_lines;
 pub mod taken;
-pub mod trace_judge;

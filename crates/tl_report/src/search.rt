@@ -1,6 +1,6 @@
 //! Judges the lines of a trace, and notes those at fault, whose beats aren't taken.
 
-ghost use Rattle.std.specs.Prelude.{◌≡◌, ℕ, List, IfOk};
+ghost use Rattle.std.specs.Prelude.{◌≡◌, ℕ, List, IfOk, false, true};
 ghost use Rattle.tl_beat.specs.declared.beat.Beat.{Beat};
 ghost use Rattle.tl_beat.specs.statement.Line.{Spells};
 ghost use Rattle.tl_beat.specs.statement.Width.{IsWidth};
@@ -10,7 +10,6 @@ ghost use Rattle.tl_report.specs.statement.Found.{is_open};
 
 use crate::findings::{Finding, Findings};
 use crate::taken::cell_of;
-use crate::trace_judge::TraceJudge;
 use std::alloc::{AllocError, Global};
 use tl_beat::beat::{Beat, Link};
 use tl_beat::fault::LineFault;
@@ -19,6 +18,7 @@ use tl_command::search::Aim;
 use tl_engine::fault::Fault;
 use tl_engine::status::Status;
 use tl_links::header::LinksHeader;
+use tl_links::trace_judge::TraceJudge;
 
 /// A judge of the links of a trace, and what is found in it.
 #[derive(Drop)]
@@ -42,7 +42,8 @@ fn is_open(line: &[u8]) -> bool
 impl<const W: usize> Search<W> {
     /// Begins behind a header.
     pub fn new(alloc: Global, aim: Aim, header: &LinksHeader) -> Result<Self, AllocError>
-        requires { IsWidth W }
+        requires width { IsWidth W }
+        requires late { aim.together ≡ true → header.now.may.early ≡ false }
         ensures { IfOk result (λ search. IsBegun search aim header.now.levels.items header.now.may) }
     {
         Ok(Search {

@@ -8,13 +8,13 @@ ghost use Rattle.tl_report.specs.statement.Taken.{AreCounted};
 
 use crate::findings::{Finding, Findings};
 use crate::search::Search;
-use crate::trace_judge::read_for;
 use std::alloc::{AllocError, Global};
 use tl_beat::fault::LineFault;
 use tl_command::search::Aim;
 use tl_engine::fault::Fault;
 use tl_engine::line_handler::LineHandler;
 use tl_engine::status::Status;
+use tl_links::trace_judge::read_for;
 use tl_params::width::Width;
 
 /// Judges the lines of a trace, and notes those at fault.

@@ -23,7 +23,7 @@ access-small w size level.UL width e = elim (cases_lt 4 size) [
 access-small w size level.UH width e = leb-true size 6 e
 access-small w size level.C width e = leb-true size 6 e
 
-response_small : (w size : ℕ) (l : Level) (opcode : OpD) → IsWidth w → d_has_size w l opcode size ≡ true → size ≤ 6
+pub response_small : (w size : ℕ) (l : Level) (opcode : OpD) → IsWidth w → d_has_size w l opcode size ≡ true → size ≤ 6
 response_small w size l d.AccessAck width e = access-small w size l width e
 response_small w size l d.AccessAckData width e = access-small w size l width e
 response_small w size l d.HintAck width e = access-small w size l width e

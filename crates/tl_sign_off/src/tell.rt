@@ -41,9 +41,9 @@ fn append_verdict(all: bool, account: &Account, out: &mut Vec<u8>) -> Result<(),
     }
 }
 
-/// Judges an input to its end, and writes the verdict, as `run_tool` does for `monitor` and `coherent`: a header that names
-/// liberties is `line 1 F7`. Nothing is written before the input has come to its end: `Write` alone comes behind that, where
-/// some of the text is left.
+/// Judges an input to its end, and writes the verdict, as `tl_links::run::run_links` does, or as `tl_report::find::find_all`
+/// does where all lines at fault are asked for. Nothing is written before the input has come to its end: `Write` alone comes
+/// behind that, where some of the text is left.
 pub fn tell_verdict<R: Read, W: Write>(
     alloc: Global,
     inquiry: Inquiry,

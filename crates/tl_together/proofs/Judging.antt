@@ -6,10 +6,12 @@ use Rattle.std.proofs.Math.Numerals.{add-one}
 use Rattle.tl_beat.specs.declared.beat.Beat.{Beat}
 use Rattle.tl_beat.specs.declared.beat.Link.{Link}
 use Rattle.tl_params.specs.declared.level.Level.{Level}
-use Rattle.tl_params.specs.declared.profile.Profile.{Profile}
+use Rattle.tl_params.specs.declared.liberties.Liberties.{Liberties}
 use Rattle.tl_params.specs.declared.rule.Rule.{Rule}
 use Rattle.tl_params.specs.declared.perm.Perm.TheVariants as perm
-use Rattle.tl_rules.specs.statement.Conformance.{Trace, on_link, broken_on_link}
+use Rattle.tl_rules.specs.statement.Conformance.{Trace, on_link}
+use Rattle.tl_rules.specs.statement.Liberties.{broken_on_link_under}
+use Rattle.tl_memory.specs.statement.Links.{KeepsRules}
 use Rattle.tl_rules.specs.statement.History.{pending}
 use Rattle.tl_together.specs.declared.windows.Window.{Window}
 use Rattle.tl_monitor.specs.statement.Knows as of_link
@@ -25,55 +27,55 @@ use Rattle.tl_memory.specs.statement.Memory.{KnowsMemory}
 use Rattle.tl_together.specs.statement.Coherence.{broken_memory, first_broken}
 use Rattle.tl_together.specs.statement.Knows.{Knows, KnowsTrace, Answers, fault_of, broken, closed_after}
 use Rattle.tl_together.specs.code.Windows.{NotesRequest, NotesWindow, KnowsAsked, KnowsWindows}
-use Rattle.tl_together.specs.code.Windows.{fault_of_monitor, window_at, IsShown}
+use Rattle.tl_together.specs.code.Windows.{fault_of_monitor, window_at, IsShown, LeavesOthers}
+use Rattle.tl_together.specs.code.Following.{Follows}
 
-pub open_still : {w : ℕ} (j : Judge w) (levels : List Level) (p : Profile) (t : Trace w) (closed : Bool)
-    → Knows j levels p t closed → j.closed ≡ false → KnowsTrace j levels p t
-open_still j levels p t closed k e = k.open_knows (sym k.closed_is ∙ e)
+pub open_still : {w : ℕ} (j : Judge w) (levels : List Level) (may : Liberties) (t : Trace w) (closed : Bool)
+    → Knows j levels may t closed → j.closed ≡ false → KnowsTrace j levels may t
+open_still j levels may t closed k e = k.open_knows (sym k.closed_is ∙ e)
 
 pub next_moment : {w : ℕ} (next moment : ℕ) (t : Trace w) → next ≡ moment + 1 → moment ≡ length t
     → next ≡ suc (length t)
 next_moment next moment t next_is moment_is = next_is ∙ add-one moment ∙ ap suc moment_is
 
 -- the same is known where what is kept of memory alone changes, and what is known of that stays
-pub remembered : {w : ℕ} (j j' : Judge w) (levels : List Level) (p : Profile) (t : Trace w) → KnowsTrace j levels p t
+pub remembered : {w : ℕ} (j j' : Judge w) (levels : List Level) (may : Liberties) (t : Trace w) → KnowsTrace j levels may t
     → j'.links ≡ j.links → j'.moment ≡ j.moment → j'.monitor ≡ j.monitor → j'.asked.items ≡ j.asked.items
     → j'.windows ≡ j.windows
-    → ((n : ℕ) (t : Trace w) → KnowsMemory j.memory n t → KnowsMemory j'.memory n t) → KnowsTrace j' levels p t
-remembered j j' levels p t k links moment m asked windows memory = record {
+    → ((n : ℕ) (t : Trace w) → KnowsMemory j.memory n t → KnowsMemory j'.memory n t) → KnowsTrace j' levels may t
+remembered j j' levels may t k links moment m asked windows memory = record {
   links_are = links ∙ k.links_are;
   moment_is = moment ∙ k.moment_is;
-  monitor_is = subst (λ m. of_link.Knows m levels p t false) (sym m) k.monitor_is;
+  monitor_is = subst (λ m. Follows m levels may t) (sym m) k.monitor_is;
   tables_are = ap length asked ∙ k.tables_are;
   asked_are = subst (λ a. KnowsAsked a (length levels) t) (sym asked) k.asked_are;
   windows_are = subst (λ v. KnowsWindows v (length levels) t) (sym windows) k.windows_are;
   memory_is = memory (length levels) t k.memory_is;
-  legal = k.legal;
 }
 
 -- a beat was refused for want of memory before it was noted
-pub unnoted : {w : ℕ} (j j' : Judge w) (levels : List Level) (p : Profile) (t : Trace w) (closed : Bool)
-    → Knows j levels p t closed → j'.closed ≡ j.closed → j'.links ≡ j.links → j'.moment ≡ j.moment
+pub unnoted : {w : ℕ} (j j' : Judge w) (levels : List Level) (may : Liberties) (t : Trace w) (closed : Bool)
+    → Knows j levels may t closed → j'.closed ≡ j.closed → j'.links ≡ j.links → j'.moment ≡ j.moment
     → j'.monitor ≡ j.monitor → j'.asked.items ≡ j.asked.items → j'.windows ≡ j.windows
-    → ((n : ℕ) (t : Trace w) → KnowsMemory j.memory n t → KnowsMemory j'.memory n t) → Knows j' levels p t closed
-unnoted j j' levels p t closed k e links moment m asked windows memory = record {
+    → ((n : ℕ) (t : Trace w) → KnowsMemory j.memory n t → KnowsMemory j'.memory n t) → Knows j' levels may t closed
+unnoted j j' levels may t closed k e links moment m asked windows memory = record {
   closed_is = e ∙ k.closed_is;
-  open_knows = λ o. remembered j j' levels p t (k.open_knows o) links moment m asked windows memory;
+  open_knows = λ o. remembered j j' levels may t (k.open_knows o) links moment m asked windows memory;
 }
 
 -- a beat was noted, and refused
-pub still : {w : ℕ} (j j' : Judge w) (levels : List Level) (p : Profile) (t : Trace w) (closed : Bool) (link : Link)
-    (x : Beat w) (next : ℕ) (held : Option ℕ) → Knows j levels p t closed
+pub still : {w : ℕ} (j j' : Judge w) (levels : List Level) (may : Liberties) (t : Trace w) (closed : Bool) (link : Link)
+    (x : Beat w) (next : ℕ) (held : Option ℕ) → Knows j levels may t closed
     → j.closed ≡ false → j'.closed ≡ false → j'.links ≡ j.links → j'.moment ≡ j.moment
-    → of_link.Knows j'.monitor levels p t false
+    → Follows j'.monitor levels may t
     → NotesRequest j.monitor j.asked.items j'.asked.items link x next
     → NotesWindow j.monitor j.links j.moment held j.windows j'.windows
     → ((n : ℕ) (t : Trace w) → KnowsMemory j.memory n t → KnowsMemory j'.memory n t)
-    → Knows j' levels p t closed
-still j j' levels p t closed link x next held k e e' links moment m asked windows memory =
-    let o = open_still j levels p t closed k e in
-    let known = asked.1 levels p t o.monitor_is o.tables_are o.asked_are in
-    let seen = windows levels p t o.monitor_is o.links_are o.moment_is o.windows_are in
+    → Knows j' levels may t closed
+still j j' levels may t closed link x next held k e e' links moment m asked windows memory =
+    let o = open_still j levels may t closed k e in
+    let known = asked.1 levels may t o.monitor_is o.tables_are o.asked_are in
+    let seen = windows levels may t o.monitor_is o.links_are o.moment_is o.windows_are in
     record {
       closed_is = e' ∙ sym e ∙ k.closed_is;
       open_knows = λ _. record {
@@ -84,26 +86,24 @@ still j j' levels p t closed link x next held k e e' links moment m asked window
         asked_are = known.0;
         windows_are = seen.0;
         memory_is = memory (length levels) t o.memory_is;
-        legal = o.legal;
       };
     }
 
 -- a beat was taken
-pub taken : {w : ℕ} (j j' : Judge w) (levels : List Level) (p : Profile) (t : Trace w) (closed : Bool) (link : Link)
-    (x : Beat w) (next : ℕ) (held : Option ℕ) (noted : List (ℕ × Window)) → Knows j levels p t closed
+pub taken : {w : ℕ} (j j' : Judge w) (levels : List Level) (may : Liberties) (t : Trace w) (closed : Bool) (link : Link)
+    (x : Beat w) (next : ℕ) (held : Option ℕ) (noted : List (ℕ × Window)) → Knows j levels may t closed
     → j.closed ≡ false → j'.closed ≡ false → j'.links ≡ j.links → next ≡ j.moment + 1 → j'.moment ≡ next
-    → broken_on_link levels p (link, x) t ≡ None
-    → of_link.Knows j'.monitor levels p ((link, x) ∷ t) false
+    → Follows j'.monitor levels may ((link, x) ∷ t)
     → NotesRequest j.monitor j.asked.items j'.asked.items link x next
     → NotesWindow j.monitor j.links j.moment held j.windows noted
-    → of_link.LeavesOthers held x (on_link link.0 t)
+    → LeavesOthers held x (on_link link.0 t)
     → IsShown next x (on_link link.0 t) noted j'.windows
     → KnowsMemory j'.memory (length levels) ((link, x) ∷ t)
-    → Knows j' levels p ((link, x) ∷ t) closed
-taken j j' levels p t closed link x next held noted k e e' links next_is moment fine m asked windows others shown memory =
-    let o = open_still j levels p t closed k e in
-    let known = asked.1 levels p t o.monitor_is o.tables_are o.asked_are in
-    let seen = windows levels p t o.monitor_is o.links_are o.moment_is o.windows_are in
+    → Knows j' levels may ((link, x) ∷ t) closed
+taken j j' levels may t closed link x next held noted k e e' links next_is moment m asked windows others shown memory =
+    let o = open_still j levels may t closed k e in
+    let known = asked.1 levels may t o.monitor_is o.tables_are o.asked_are in
+    let seen = windows levels may t o.monitor_is o.links_are o.moment_is o.windows_are in
     let more = next_moment next j.moment t next_is o.moment_is in
     record {
       closed_is = e' ∙ sym e ∙ k.closed_is;
@@ -112,16 +112,15 @@ taken j j' levels p t closed link x next held noted k e e' links next_is moment 
         moment_is = moment ∙ more;
         monitor_is = m;
         tables_are = asked.0 ∙ o.tables_are;
-        asked_are = known.1 more fine;
+        asked_are = known.1 more m.kept.0;
         windows_are = seen.1 link x j'.windows others (rw more at shown);
         memory_is = memory;
-        legal = (fine, o.legal);
       };
     }
 
-pub shut : {w : ℕ} (j : Judge w) (levels : List Level) (p : Profile) (t : Trace w) → j.closed ≡ true
-    → Knows j levels p t true
-shut j levels p t e = record { closed_is = e; open_knows = λ f. absurd (no f) }
+pub shut : {w : ℕ} (j : Judge w) (levels : List Level) (may : Liberties) (t : Trace w) → j.closed ≡ true
+    → Knows j levels may t true
+shut j levels may t e = record { closed_is = e; open_knows = λ f. absurd (no f) }
   where
     no : true ≡ false → ⊥
     no f = cc
@@ -132,15 +131,15 @@ link_fine : (o : Option Rule) → of_link.broken o ≡ None → o ≡ None
 link_fine None e = refl
 link_fine (Some r) e = absurd cc
 
-pub fine_on_link : {w : ℕ} (levels : List Level) (p : Profile) (t : Trace w) (x : Link × Beat w)
-    → of_link.fault_of levels p t false x ≡ None → broken_on_link levels p x t ≡ None
-fine_on_link levels p t x e = link_fine (broken_on_link levels p x t) e
+pub fine_on_link : {w : ℕ} (levels : List Level) (may : Liberties) (t : Trace w) (x : Link × Beat w)
+    → of_link.fault_under levels may t false x ≡ None → KeepsRules may levels x t
+fine_on_link levels may t x e = link_fine (broken_on_link_under may levels x t) e
 
-pub judged_fault : {w : ℕ} (j : Judge w) (levels : List Level) (p : Profile) (t : Trace w) (closed : Bool) (link : Link)
-    (x : Beat w) (o : Option MemoryRule) → Knows j levels p t closed
-    → j.closed ≡ false → broken_on_link levels p (link, x) t ≡ None → o ≡ broken_memory (length levels) link.0 x t
-    → fault_of levels p t closed (link, x) ≡ broken (first_broken None o)
-judged_fault j levels p t closed link x o k e fine here = rw (sym k.closed_is ∙ e, fine, here) refl
+pub judged_fault : {w : ℕ} (j : Judge w) (levels : List Level) (may : Liberties) (t : Trace w) (closed : Bool) (link : Link)
+    (x : Beat w) (o : Option MemoryRule) → Knows j levels may t closed
+    → j.closed ≡ false → KeepsRules may levels (link, x) t → o ≡ broken_memory (length levels) link.0 x t
+    → fault_of levels may t closed (link, x) ≡ broken (first_broken None o)
+judged_fault j levels may t closed link x o k e fine here = rw (sym k.closed_is ∙ e, fine, here) refl
 
 of_link_rule : (o : Option Rule) (m : Option MemoryRule) (fault : MonitorFault)
     → of_link.Answers (of_link.broken o) (Err fault)
@@ -156,15 +155,15 @@ of_link_rule (Some s) m (monitor.Broken r) a = ap (λ v. Some (judge.Broken (OfL
     own : Some (monitor.Broken s) ≡ Some (monitor.Broken r) → s ≡ r
     own e = cc
 
-pub refused : {w : ℕ} (j : Judge w) (levels : List Level) (p : Profile) (t : Trace w) (closed : Bool) (link : Link)
-    (x : Beat w) (fault : MonitorFault) (f : JudgeFault) → Knows j levels p t closed
-    → j.closed ≡ false → of_link.Answers (of_link.fault_of levels p t false (link, x)) (Err fault)
+pub refused : {w : ℕ} (j : Judge w) (levels : List Level) (may : Liberties) (t : Trace w) (closed : Bool) (link : Link)
+    (x : Beat w) (fault : MonitorFault) (f : JudgeFault) → Knows j levels may t closed
+    → j.closed ≡ false → of_link.Answers (of_link.fault_under levels may t false (link, x)) (Err fault)
     → f ≡ fault_of_monitor fault
-    → Answers (fault_of levels p t closed (link, x)) (Err f)
-refused j levels p t closed link x fault f k e a f_is =
-    subst (λ g. Answers (fault_of levels p t closed (link, x)) (Err g)) (sym f_is)
-    (subst (λ c. Answers (fault_of levels p t c (link, x)) (Err (fault_of_monitor fault))) (sym (sym k.closed_is ∙ e))
-    (of_link_rule (broken_on_link levels p (link, x) t) (broken_memory (length levels) link.0 x t) fault a))
+    → Answers (fault_of levels may t closed (link, x)) (Err f)
+refused j levels may t closed link x fault f k e a f_is =
+    subst (λ g. Answers (fault_of levels may t closed (link, x)) (Err g)) (sym f_is)
+    (subst (λ c. Answers (fault_of levels may t c (link, x)) (Err (fault_of_monitor fault))) (sym (sym k.closed_is ∙ e))
+    (of_link_rule (broken_on_link_under may levels (link, x) t) (broken_memory (length levels) link.0 x t) fault a))
 
 -- what breaks this rule of memory breaks it, where it breaks no rule of its link
 breach_is : (o : Option Rule) (m : Option MemoryRule) (rule : MemoryRule) (breach : Breach)
@@ -172,36 +171,36 @@ breach_is : (o : Option Rule) (m : Option MemoryRule) (rule : MemoryRule) (breac
 breach_is None m rule breach is here = rw (here refl) (sym is)
 breach_is (Some r) m rule breach is here = sym is
 
-pub broken_so : {w : ℕ} (j : Judge w) (levels : List Level) (p : Profile) (t : Trace w) (closed : Bool) (link : Link)
-    (x : Beat w) (rule : MemoryRule) (breach : Breach) → Knows j levels p t closed → j.closed ≡ false
-    → Some breach ≡ first_broken (broken_on_link levels p (link, x) t) (Some rule)
-    → (broken_on_link levels p (link, x) t ≡ None → broken_memory (length levels) link.0 x t ≡ Some rule)
-    → fault_of levels p t closed (link, x) ≡ Some (judge.Broken breach)
-broken_so j levels p t closed link x rule breach k e is here =
+pub broken_so : {w : ℕ} (j : Judge w) (levels : List Level) (may : Liberties) (t : Trace w) (closed : Bool) (link : Link)
+    (x : Beat w) (rule : MemoryRule) (breach : Breach) → Knows j levels may t closed → j.closed ≡ false
+    → Some breach ≡ first_broken (broken_on_link_under may levels (link, x) t) (Some rule)
+    → (KeepsRules may levels (link, x) t → broken_memory (length levels) link.0 x t ≡ Some rule)
+    → fault_of levels may t closed (link, x) ≡ Some (judge.Broken breach)
+broken_so j levels may t closed link x rule breach k e is here =
     rw (
       sym k.closed_is ∙ e,
-      breach_is (broken_on_link levels p (link, x) t) (broken_memory (length levels) link.0 x t) rule breach is here,
+      breach_is (broken_on_link_under may levels (link, x) t) (broken_memory (length levels) link.0 x t) rule breach is here,
     ) refl
 
 -- ---- whether the judge is closed
 
 -- a judge that takes a beat isn't closed
-pub unclosed : {w : ℕ} (j : Judge w) (levels : List Level) (p : Profile) (t s : Trace w) (closed : Bool)
-    (x : Link × Beat w) → fault_of levels p t closed x ≡ None → Knows j levels p s closed → Knows j levels p s false
-unclosed j levels p t s true x e k = absurd cc
-unclosed j levels p t s false x e k = k
+pub unclosed : {w : ℕ} (j : Judge w) (levels : List Level) (may : Liberties) (t s : Trace w) (closed : Bool)
+    (x : Link × Beat w) → fault_of levels may t closed x ≡ None → Knows j levels may s closed → Knows j levels may s false
+unclosed j levels may t s true x e k = absurd cc
+unclosed j levels may t s false x e k = k
 
 -- it is closed after a refusal, but for want of memory
-pub refused_knows : {w : ℕ} (j j' : Judge w) (levels : List Level) (p : Profile) (t : Trace w) (closed : Bool)
-    (fault : JudgeFault) → Knows j levels p t closed → j'.closed ≡ closed_after j.closed (Err fault)
+pub refused_knows : {w : ℕ} (j j' : Judge w) (levels : List Level) (may : Liberties) (t : Trace w) (closed : Bool)
+    (fault : JudgeFault) → Knows j levels may t closed → j'.closed ≡ closed_after j.closed (Err fault)
     → j'.links ≡ j.links → j'.moment ≡ j.moment → j'.monitor ≡ j.monitor → j'.asked.items ≡ j.asked.items
     → j'.windows ≡ j.windows → ((n : ℕ) (t : Trace w) → KnowsMemory j.memory n t → KnowsMemory j'.memory n t)
-    → Knows j' levels p t (closed_after closed (Err fault))
-refused_knows j j' levels p t closed judge.Memory k e links moment m asked windows memory =
-    unnoted j j' levels p t closed k e links moment m asked windows memory
-refused_knows j j' levels p t closed judge.Levels k e links moment m asked windows memory = shut j' levels p t e
-refused_knows j j' levels p t closed judge.Closed k e links moment m asked windows memory = shut j' levels p t e
-refused_knows j j' levels p t closed (judge.Broken b) k e links moment m asked windows memory = shut j' levels p t e
+    → Knows j' levels may t (closed_after closed (Err fault))
+refused_knows j j' levels may t closed judge.Memory k e links moment m asked windows memory =
+    unnoted j j' levels may t closed k e links moment m asked windows memory
+refused_knows j j' levels may t closed judge.Levels k e links moment m asked windows memory = shut j' levels may t e
+refused_knows j j' levels may t closed judge.Closed k e links moment m asked windows memory = shut j' levels may t e
+refused_knows j j' levels may t closed (judge.Broken b) k e links moment m asked windows memory = shut j' levels may t e
 
 none_yet : (w : ℕ) (entries : List (ℕ × Window)) (n : ℕ) → entries ≡ [] → KnowsWindows {w = w} entries n []
 unfolding window_at
@@ -213,11 +212,11 @@ none_asked : (w : ℕ) (tables : List (List (Option ℕ))) (n : ℕ) → KnowsAs
 unfolding pending on_link
 none_asked w tables n link source lt some = absurd cc
 
-pub new_knows : {w : ℕ} (j : Judge w) (levels : List Level) (p : Profile) → j.closed ≡ false → j.links ≡ length levels
-    → j.moment ≡ 0 → of_link.Knows j.monitor levels p [] false
+pub new_knows : {w : ℕ} (j : Judge w) (levels : List Level) (may : Liberties) → j.closed ≡ false → j.links ≡ length levels
+    → j.moment ≡ 0 → Follows j.monitor levels may []
     → length j.asked.items ≡ length levels → j.windows ≡ [] → KnowsMemory {w = w} j.memory (length levels) []
-    → Knows j levels p [] false
-new_knows {w} j levels p e links moment m tables entries memory = record {
+    → Knows j levels may [] false
+new_knows {w} j levels may e links moment m tables entries memory = record {
   closed_is = e;
   open_knows = λ _. record {
     links_are = links;
@@ -227,6 +226,5 @@ new_knows {w} j levels p e links moment m tables entries memory = record {
     asked_are = none_asked w j.asked.items (length levels);
     windows_are = none_yet w j.windows (length levels) entries;
     memory_is = memory;
-    legal = tt;
   };
 }

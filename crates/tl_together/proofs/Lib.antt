@@ -5,5 +5,6 @@ pub mod Noted
 pub mod NotedWindows
 pub mod Stale
 pub mod Tracing
+pub mod Following
 pub mod Windowed
 pub mod Showing

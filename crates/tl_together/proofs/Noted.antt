@@ -12,15 +12,20 @@ use Rattle.tl_burst.specs.statement.Messages.{History, unfinished, breaks_burst,
 use Rattle.tl_burst.proofs.ControlFields.{control_a}
 use Rattle.tl_params.specs.declared.key.Key.TheVariants.{RequestSource}
 use Rattle.tl_params.specs.declared.level.Level.{Level}
-use Rattle.tl_params.specs.declared.profile.Profile.{Profile}
+use Rattle.tl_params.specs.declared.liberties.Liberties.{Liberties}
 use Rattle.tl_rules.specs.code.Open.{open_request, request_fields}
 use Rattle.tl_rules.specs.code.Tables.{kept_request}
 use Rattle.tl_rules.specs.declared.past.Request.{Request}
-use Rattle.tl_rules.specs.statement.Conformance.{Trace, on_link, broken_after, broken_on_link, broken_at_level}
+use Rattle.tl_rules.specs.statement.Conformance.{Trace, on_link}
+use Rattle.tl_rules.specs.statement.Liberties.{broken_after_under}
 use Rattle.tl_rules.specs.statement.Conformance.{comes_in_request}
 use Rattle.tl_rules.specs.statement.History.{begins, ends, pending, request_of, is_release_ack}
 use Rattle.tl_rules.proofs.Tables.{request-next}
-use Rattle.tl_monitor.proofs.AtProfile.{continues}
+use Rattle.tl_bytes.specs.statement.Free.{all_but_early}
+use Rattle.tl_memory.proofs.Lawful.{goes_on}
+use Rattle.tl_memory.proofs.LinkTables.{link-there}
+use Rattle.tl_memory.proofs.OpenAccesses.{is-fine}
+use Rattle.tl_memory.specs.statement.Links.{IsLegal}
 use Rattle.tl_memory.specs.code.Changing.{IsChange}
 use Rattle.tl_memory.specs.code.Elsewhere.{LeavesHeld}
 use Rattle.tl_memory.specs.code.Passing.{changes_held}
@@ -28,11 +33,12 @@ use Rattle.tl_memory.specs.declared.memory.Change.{Change}
 use Rattle.tl_memory.specs.declared.memory.Memory.{Memory}
 use Rattle.tl_memory.proofs.PassedBy.{held-left}
 use Rattle.tl_monitor.specs.code.LinkState.{is_block}
-use Rattle.tl_monitor.specs.statement.Knows.{Knows, LeavesOthers, request_on}
+use Rattle.tl_monitor.specs.statement.Knows.{request_on}
 use Rattle.tl_monitor.specs.declared.monitor.Monitor.{Monitor}
-use Rattle.tl_monitor.proofs.Touching.{no_level}
 use Rattle.tl_together.specs.code.Windows.{asked_in}
-use Rattle.tl_together.specs.code.Windows.{KnowsAsked, NotesRequest}
+use Rattle.tl_together.specs.code.Windows.{KnowsAsked, LeavesOthers, NotesRequest}
+use Rattle.tl_together.specs.code.Following.{Follows}
+use Rattle.tl_together.proofs.Following.{one_more}
 use Rattle.tl_together.proofs.Windowed.{own_link, other_link}
 use Rattle.tl_together.proofs.Windowed.{asked_now, asked_still}
 
@@ -100,11 +106,11 @@ some_inside true o e = absurd cc
 some_inside false o e = e
 
 -- a request that is complete with a beat is one of its source
-pub opened_by : {w : ℕ} (l : Level) (p : Profile) (s : ℕ) (x : Beat w) (t : History w) → broken_after l p x t ≡ None
-    → is_some (open_request s t) ≡ false
+pub opened_by : {w : ℕ} (l : Level) (s : ℕ) (x : Beat w) (t : History w)
+    → broken_after_under all_but_early l x t ≡ None → is_some (open_request s t) ≡ false
     → is_some (open_request s (x ∷ t)) ≡ true → (y : BeatA w) × (x ≡ A y) × (y.source ≡ s)
 unfolding unfinished
-opened_by l p s (A y) t legal before now = (
+opened_by l s (A y) t legal before now = (
   y,
   refl,
   elim (cases_eq y.source s) [
@@ -119,16 +125,16 @@ opened_by l p s (A y) t legal before now = (
         let comes : comes_in_request s (unfinished channel.A t) ≡ true =
         some_then (comes_in_request s (unfinished channel.A t)) (kept_request s t)
         (ap is_some (sym (open_kept s t)) ∙ before) some in
-        comes_same s y (unfinished channel.A t) comes (continues l p (A y) t legal)
+        comes_same s y (unfinished channel.A t) comes (goes_on l (A y) t legal)
   ],
 )
-opened_by l p s (B y) t legal before now = moved_not s (B y) t (unmoved s (B y) t (request-next s (B y) t) refl) before
+opened_by l s (B y) t legal before now = moved_not s (B y) t (unmoved s (B y) t (request-next s (B y) t) refl) before
     now
-opened_by l p s (C y) t legal before now = moved_not s (C y) t (unmoved s (C y) t (request-next s (C y) t) refl) before
+opened_by l s (C y) t legal before now = moved_not s (C y) t (unmoved s (C y) t (request-next s (C y) t) refl) before
     now
-opened_by l p s (E y) t legal before now = moved_not s (E y) t (unmoved s (E y) t (request-next s (E y) t) refl) before
+opened_by l s (E y) t legal before now = moved_not s (E y) t (unmoved s (E y) t (request-next s (E y) t) refl) before
     now
-opened_by l p s (D y) t legal before now =
+opened_by l s (D y) t legal before now =
     let gone : is_some (open_request s (D y ∷ t)) ≡ false =
     ap is_some (open_kept s (D y ∷ t)) ∙ rw (request-next s (D y) t)
     (closed_less (comes_in_request s (unfinished channel.A t))
@@ -136,19 +142,14 @@ opened_by l p s (D y) t legal before now =
     (ap is_some (sym (open_kept s t)) ∙ before)) in
     true_false (sym now ∙ gone)
 
-level_at : {w : ℕ} (o : Option Level) (p : Profile) (x : Beat w) (t : History w) → broken_at_level o p x t ≡ None
-    → (l : Level) × (broken_after l p x t ≡ None)
-level_at (Some l) p x t e = (l, e)
-level_at None p x t e = absurd cc
-
 -- the table of requests with one more beat
-pub asked_more : {w : ℕ} (n : ℕ) (levels : List Level) (p : Profile) (tables : List (List (Option ℕ))) (link : Link)
+pub asked_more : {w : ℕ} (n : ℕ) (levels : List Level) (tables : List (List (Option ℕ))) (link : Link)
     (x : Beat w) (t : Trace w) → KnowsAsked tables n t
-    → broken_on_link levels p (link, x) t ≡ None
+    → IsLegal levels (link, x) t
     → ((y : BeatA w) → x ≡ A y → is_some (open_request y.source (on_link link.0 t)) ≡ false
     → asked_in tables link.0 y.source ≡ Some (suc (length t)))
     → KnowsAsked tables n ((link, x) ∷ t)
-asked_more n levels p tables link x t still fine noted l s lt now = elim (cases_eq link.0 l) [
+asked_more n levels tables link x t still fine noted l s lt now = elim (cases_eq link.0 l) [
   | inr other ↦
       let before : is_some (open_request s (on_link l t)) ≡ true =
       ap (λ h. is_some (open_request s h)) (sym (other_link l link x t other)) ∙ now in
@@ -156,12 +157,12 @@ asked_more n levels p tables link x t still fine noted l s lt now = elim (cases_
   | inl own ↦ elim (cases_Bool (is_some (open_request s (on_link l t)))) [
     | inl before ↦ still l s lt before ∙ ap Some (sym (asked_still l s (link, x) t before))
     | inr none ↦
-        let level = level_at (slice_get levels link.0) p x (on_link link.0 t) fine in
+        let f = is-fine _ levels (link, x) t fine in
         let none_here : is_some (open_request s (on_link link.0 t)) ≡ false = rw own none in
         let now_here : is_some (open_request s (x ∷ on_link link.0 t)) ≡ true =
         ap (λ h. is_some (open_request s h)) (sym (own_link link.0 link x t refl)) ∙ ap
         (λ m. is_some (open_request s (on_link m ((link, x) ∷ t)))) own ∙ now in
-        let by = opened_by level.0 p s x (on_link link.0 t) level.1 none_here now_here in
+        let by = opened_by f.level s x (on_link link.0 t) f.fine none_here now_here in
         let table : asked_in tables link.0 by.0.source ≡ Some (suc (length t)) =
         noted by.0 by.1 (ap (λ m. is_some (open_request m (on_link link.0 t))) by.2 ∙ none_here) in
         ap (λ m. asked_in tables m s) (sym own) ∙ ap (asked_in tables link.0) (sym by.2) ∙ table ∙ ap Some
@@ -197,30 +198,23 @@ drop_last true true a b = refl
 drop_last true false a b = refl
 drop_last false q a b = refl
 
-pub in_levels : {w : ℕ} (levels : List Level) (p : Profile) (link : Link) (x : Beat w) (t : Trace w)
-    → broken_on_link levels p (link, x) t ≡ None → link.0 < length levels
-in_levels levels p link x t fine = elim (cases_lt link.0 (length levels)) [
-  | inl lt ↦ lt
-  | inr le ↦ absurd (no_level levels p link x t le fine)
-]
-
 on_levels : {w : ℕ} (levels : List Level) (link : Link) (s : ℕ) (t : Trace w) → link.0 < length levels
     → request_on levels link s t ≡ open_request s (on_link link.0 t)
 on_levels levels link s t lt = rw (lt-ltb link.0 (length levels) lt) refl
 
 pub notes_kept : {w : ℕ} (m : Monitor w) (old : List (List (Option ℕ))) (link : Link) (x : Beat w) (next : ℕ)
-    → ((y : BeatA w) (levels : List Level) (p : Profile) (t : Trace w) → x ≡ A y → Knows m levels p t false
+    → ((y : BeatA w) (levels : List Level) (may : Liberties) (t : Trace w) → x ≡ A y → Follows m levels may t
     → is_some (request_on levels link y.source t) ≡ true)
     → NotesRequest m old old link x next
 notes_kept m old link x next asked = (
   refl,
-  λ levels p t k long still. (
+  λ levels may t k long still. (
     still,
     λ next_is fine.
-        asked_more (length levels) levels p old link x t still fine
+        asked_more (length levels) levels old link x t still (one_more m levels may (link, x) t k fine)
         (λ y is none. true_false
-        (sym (asked y levels p t is k) ∙ ap is_some
-        (on_levels levels link y.source t (in_levels levels p link x t fine)) ∙ none)),
+        (sym (asked y levels may t is k) ∙ ap is_some
+        (on_levels levels link y.source t (link-there _ levels (link, x) t fine)) ∙ none)),
   ),
 )
 
@@ -229,16 +223,17 @@ pub notes_set : {w : ℕ} (m : Monitor w) (old new : List (List (Option ℕ))) (
     → x ≡ A y → i ≡ link.0 → length new ≡ length old
     → ((n s : ℕ) → asked_in new n s ≡ (if nat_lt i (length old) && ((n == i) && (s == y.source)) then Some next else
     asked_in old n s))
-    → ((levels : List Level) (p : Profile) (t : Trace w) → Knows m levels p t false
+    → ((levels : List Level) (may : Liberties) (t : Trace w) → Follows m levels may t
     → is_some (request_on levels link y.source t) ≡ false)
     → NotesRequest m old new link x next
 notes_set {w} m old new link y x i next x_is i_is long_too noted none = (
   long_too,
-  λ levels p t k long still.
-      let also = kept levels p t k long still in (
+  λ levels may t k long still.
+      let also = kept levels may t k long still in (
         also,
-        λ next_is fine. asked_more (length levels) levels p new link x t also fine (λ z is free.
-            let lt = in_levels levels p link x t fine in
+        λ next_is fine. asked_more (length levels) levels new link x t also
+            (one_more m levels may (link, x) t k fine) (λ z is free.
+            let lt = link-there _ levels (link, x) t fine in
             let same : z ≡ y = of_a (sym is ∙ x_is) in
             ap (λ (v : BeatA w). asked_in new link.0 v.source) same
             ∙ ap (λ j. asked_in new j y.source) (sym i_is) ∙ noted i y.source
@@ -259,13 +254,13 @@ notes_set {w} m old new link y x i next x_is i_is long_too noted none = (
       | inr a ↦ rw (ne_eqb n i a) (drop_all (nat_lt i (length old)) (Some next) (asked_in old n s))
     ]
 
-    kept : (levels : List Level) (p : Profile) (t : Trace w) → Knows m levels p t false → length old ≡ length levels
+    kept : (levels : List Level) (may : Liberties) (t : Trace w) → Follows m levels may t → length old ≡ length levels
         → KnowsAsked old (length levels) t → KnowsAsked new (length levels) t
-    kept levels p t k long still n s lt now =
+    kept levels may t k long still n s lt now =
         apart n s (λ a b.
         let here : link.0 < length levels = rw (← i_is, ← a) lt in
         let some : is_some (open_request y.source (on_link link.0 t)) ≡ true = rw (← i_is, ← a, ← b) now in
-        true_false (sym some ∙ ap is_some (sym (on_levels levels link y.source t here)) ∙ none levels p t k))
+        true_false (sym some ∙ ap is_some (sym (on_levels levels link y.source t here)) ∙ none levels may t k))
         ∙ still n s lt now
 
 pub its_source : {w : ℕ} (x : Beat w) (y z : BeatA w) (levels : List Level) (link : Link) (t : Trace w) → x ≡ A y

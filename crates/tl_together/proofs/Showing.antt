@@ -11,13 +11,14 @@ use Rattle.tl_beat.specs.declared.beat.BeatC.{BeatC}
 use Rattle.tl_beat.specs.declared.beat.Link.{Link}
 use Rattle.tl_burst.specs.statement.Messages.{History, burst_length, channel_of, on, unfinished}
 use Rattle.tl_burst.specs.statement.Part.{is_empty}
+use Rattle.tl_bytes.specs.statement.Free.{all_but_early}
 use Rattle.tl_memory.proofs.Bearing.{none_of_both}
 use Rattle.tl_memory.proofs.Elsewhere.{held-kept}
-use Rattle.tl_monitor.specs.statement.Knows.{begins_on, LeavesOthers}
+use Rattle.tl_monitor.specs.statement.Knows.{begins_on}
 use Rattle.tl_params.specs.declared.level.Level.{Level}
 use Rattle.tl_rules.specs.statement.Conformance.{Trace, on_link}
 use Rattle.tl_rules.specs.statement.History.{begins, block_at, ends, is_probe_ack, is_release}
-use Rattle.tl_together.specs.code.Windows.{is_noted, shown_window, window_in, HasNoted, IsShown, MayShow}
+use Rattle.tl_together.specs.code.Windows.{is_noted, shown_window, window_in, HasNoted, IsShown, LeavesOthers, MayShow}
 use Rattle.tl_together.specs.declared.windows.Window.{Window}
 use Rattle.tl_together.proofs.Windowed.{own_link}
 
@@ -32,6 +33,7 @@ flipped a b = elim (cases_eq a b) [
 -- a report changes what is held of its own block alone
 pub report_leaves : {w : ℕ} (x : BeatC w) (past : History w) (k : ℕ) → k ≡ block_at x.address
     → LeavesOthers (Some k) (C x) past
+unfolding all_but_early
 report_leaves x past k k_is b apart = held-kept b (C x) past
     (λ over. rw (none_of_both (is_probe_ack x.opcode || is_release x.opcode) (block_at x.address == b)
     (rw (← k_is) (flipped k b ∙ apart))) refl)

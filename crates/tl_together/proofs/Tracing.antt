@@ -6,7 +6,7 @@ use Rattle.std.proofs.lemmas.List.{drop_more, take_more, drop_all, reverse-appen
 use Rattle.tl_beat.specs.declared.beat.Beat.{Beat}
 use Rattle.tl_beat.specs.declared.beat.Link.{Link}
 use Rattle.tl_params.specs.declared.level.Level.{Level}
-use Rattle.tl_params.specs.declared.profile.Profile.{Profile}
+use Rattle.tl_params.specs.declared.liberties.Liberties.{Liberties}
 use Rattle.tl_params.specs.statement.Config.{IsCount}
 use Rattle.tl_rules.specs.statement.Conformance.{Trace}
 use Rattle.tl_together.specs.declared.breach.Breach.{Breach}
@@ -34,49 +34,49 @@ judged {w} i trace x lt is =
     drop_more trace i x lt ∙ ap (λ (y : Link × Beat w). y ∷ drop (i + 1) trace) (sym is) in
     (first, ap reverse more ∙ reverse-append (take i trace) (x ∷ []))
 
-pub known-goes_on : {w : ℕ} (m : Judge w) (levels : List Level) (p : Profile) (trace : Trace w) (i : ℕ)
+pub known-goes_on : {w : ℕ} (m : Judge w) (levels : List Level) (may : Liberties) (trace : Trace w) (i : ℕ)
     (x : Link × Beat w) → i < length trace → x ≡ slice_index_or trace i x
-    → Knows m levels p (x ∷ reverse (take i trace)) false → Knows m levels p (reverse (take (i + 1) trace)) false
-known-goes_on m levels p trace i x lt is k = rw ((judged i trace x lt is).1) k
+    → Knows m levels may (x ∷ reverse (take i trace)) false → Knows m levels may (reverse (take (i + 1) trace)) false
+known-goes_on m levels may trace i x lt is k = rw ((judged i trace x lt is).1) k
 
-pub fault-goes_on : {w : ℕ} (levels : List Level) (p : Profile) (trace : Trace w) (i : ℕ) (x : Link × Beat w)
+pub fault-goes_on : {w : ℕ} (levels : List Level) (may : Liberties) (trace : Trace w) (i : ℕ) (x : Link × Beat w)
     → i < length trace → x ≡ slice_index_or trace i x
-    → fault_of levels p (reverse (take i trace)) false x ≡ None
-    → breach_from levels p (reverse (take i trace)) (drop i trace) ≡ breach_from levels p (reverse (take (i + 1) trace))
+    → fault_of levels may (reverse (take i trace)) false x ≡ None
+    → breach_from levels may (reverse (take i trace)) (drop i trace) ≡ breach_from levels may (reverse (take (i + 1) trace))
     (drop (i + 1) trace)
 unfolding breach_from
-fault-goes_on levels p trace i x lt is none =
+fault-goes_on levels may trace i x lt is none =
     let e = judged i trace x lt is in
-    let fine : broken_together levels p x (reverse (take i trace)) ≡ None =
-    unbroken (broken_together levels p x (reverse (take i trace))) none in
+    let fine : broken_together levels may x (reverse (take i trace)) ≡ None =
+    unbroken (broken_together levels may x (reverse (take i trace))) none in
     rw (e.0, e.1, fine) refl
 
-fault-found : {w : ℕ} (levels : List Level) (p : Profile) (trace : Trace w) (i : ℕ) (x : Link × Beat w) (r : Breach)
+fault-found : {w : ℕ} (levels : List Level) (may : Liberties) (trace : Trace w) (i : ℕ) (x : Link × Beat w) (r : Breach)
     → i < length trace → x ≡ slice_index_or trace i x
-    → fault_of levels p (reverse (take i trace)) false x ≡ Some (judge.Broken r)
-    → breach_from levels p (reverse (take i trace)) (drop i trace) ≡ Some (i, r)
+    → fault_of levels may (reverse (take i trace)) false x ≡ Some (judge.Broken r)
+    → breach_from levels may (reverse (take i trace)) (drop i trace) ≡ Some (i, r)
 unfolding breach_from
-fault-found levels p trace i x r lt is found =
+fault-found levels may trace i x r lt is found =
     let e = judged i trace x lt is in
-    let here : broken_together levels p x (reverse (take i trace)) ≡ Some r =
-    broken_by (broken_together levels p x (reverse (take i trace))) r found in
+    let here : broken_together levels may x (reverse (take i trace)) ≡ Some r =
+    broken_by (broken_together levels may x (reverse (take i trace))) r found in
     let count : length (reverse (take i trace)) ≡ i = length-reverse (take i trace) ∙ length-take-le i trace
     (omega arith) in
     rw (e.0, here, count) refl
 
-pub fault-none : {w : ℕ} (levels : List Level) (p : Profile) (trace before : Trace w) (i : ℕ) → length trace ≤ i
-    → breach_from levels p before (drop i trace) ≡ None
+pub fault-none : {w : ℕ} (levels : List Level) (may : Liberties) (trace before : Trace w) (i : ℕ) → length trace ≤ i
+    → breach_from levels may before (drop i trace) ≡ None
 unfolding breach_from
-fault-none levels p trace before i le = rw (drop_all i trace le) refl
+fault-none levels may trace before i le = rw (drop_all i trace le) refl
 
-pub fault-answered : {w : ℕ} (levels : List Level) (p : Profile) (beats : Trace w) (i : ℕ) (x : Link × Beat w)
+pub fault-answered : {w : ℕ} (levels : List Level) (may : Liberties) (beats : Trace w) (i : ℕ) (x : Link × Beat w)
     (e : JudgeFault) → IsCount (length levels) → i < length beats
     → x ≡ slice_index_or beats i x
-    → breach_from levels p [] beats ≡ breach_from levels p (reverse (take i beats)) (drop i beats)
-    → Answers (fault_of levels p (reverse (take i beats)) false x) (Err e)
-    → AnswersTrace levels p beats (Err (trace_fault_of i e))
-fault-answered levels p beats i x (judge.Broken breach) counted lt is same answer =
-    (counted, same ∙ fault-found levels p beats i x breach lt is answer)
-fault-answered levels p beats i x judge.Levels counted lt is same answer = counted
-fault-answered levels p beats i x judge.Memory counted lt is same answer = counted
-fault-answered levels p beats i x judge.Closed counted lt is same answer = counted
+    → breach_from levels may [] beats ≡ breach_from levels may (reverse (take i beats)) (drop i beats)
+    → Answers (fault_of levels may (reverse (take i beats)) false x) (Err e)
+    → AnswersTrace levels may beats (Err (trace_fault_of i e))
+fault-answered levels may beats i x (judge.Broken breach) counted lt is same answer =
+    (counted, same ∙ fault-found levels may beats i x breach lt is answer)
+fault-answered levels may beats i x judge.Levels counted lt is same answer = counted
+fault-answered levels may beats i x judge.Memory counted lt is same answer = counted
+fault-answered levels may beats i x judge.Closed counted lt is same answer = counted

@@ -9,15 +9,15 @@ use Rattle.tl_params.specs.declared.perm.Perm.{Perm}
 use Rattle.tl_params.specs.declared.perm.Perm.TheVariants as perm
 use Rattle.tl_rules.specs.code.Open.{open_request}
 use Rattle.tl_rules.specs.statement.Conformance.{Trace, on_link, same_perm}
-use Rattle.tl_rules.specs.statement.History.{held, pending}
-use Rattle.tl_rules.specs.statement.Windows.{is_free}
+use Rattle.tl_rules.specs.statement.History.{pending}
+use Rattle.tl_bytes.specs.statement.Free.{is_free, may_hold}
 use Rattle.tl_bytes.specs.statement.Shown.{had_window, is_window, shows}
 use Rattle.tl_together.specs.code.Windows.{asked_at, last_in, shown_window, window_at}
 use Rattle.tl_together.specs.declared.windows.Window.{Window}
 
 -- ---- windows
 
-pub free_last : {w : ℕ} (n : ℕ) (given : Perm) (block : ℕ) (t : Trace w) → is_free n None given block t ≡ true
+pub free_last : {w : ℕ} (n : ℕ) (given : Perm) (block : ℕ) (t : Trace w) → is_free n given block t ≡ true
     → window_at n given block t ≡ length t
 unfolding window_at
 free_last n given block [] e = refl
@@ -89,7 +89,7 @@ window-is n link source given block (x ∷ t) =
 
 pub free_window : {w : ℕ} (n link source : ℕ) (given : Perm) (block : ℕ) (t : Trace w)
     → is_some (open_request source (on_link link t)) ≡ true
-    → is_free n None given block t ≡ true → had_window n link source given block t ≡ true
+    → is_free n given block t ≡ true → had_window n link source given block t ≡ true
 free_window n link source given block t asked free =
     window-is n link source given block t ∙ rw (asked, free_last n given block t free)
     (le_true (asked_at link source t) (length t) (asked_le link source t))
@@ -108,21 +108,21 @@ other_link n link x t apart = rw (ne_eqb link.0 n apart) refl
 
 -- where as much is held of a block, it is as free
 pub as_free : {w : ℕ} (n : ℕ) (given : Perm) (block : ℕ) (s t : Trace w)
-    → ((link : ℕ) → held block (on_link link s) ≡ held block (on_link link t))
-    → is_free n None given block s ≡ is_free n None given block t
+    → ((link : ℕ) → may_hold block (on_link link s) ≡ may_hold block (on_link link t))
+    → is_free n given block s ≡ is_free n given block t
 unfolding is_free
 as_free zero given block s t same = refl
 as_free (suc n) given block s t same = rw (as_free n given block s t same, same n) refl
 
 -- what is none always leaves
-pub none_free : {w : ℕ} (n block : ℕ) (t : Trace w) → is_free n None perm.None block t ≡ true
+pub none_free : {w : ℕ} (n block : ℕ) (t : Trace w) → is_free n perm.None block t ≡ true
 unfolding is_free
 none_free zero block t = refl
 none_free (suc n) block t = rw (none_free n block t) refl
 
 -- a block that isn't free is one that nobody may access, where its bytes aren't shown to who reads it
 pub last_still : {w : ℕ} (n : ℕ) (given : Perm) (block : ℕ) (y : Link × Beat w) (t : Trace w)
-    → is_free n None given block (y ∷ t) ≡ false
+    → is_free n given block (y ∷ t) ≡ false
     → (same_perm given perm.Branch && shows block y.1 (on_link y.0.0 t)) ≡ false
     → window_at n given block (y ∷ t) ≡ window_at n given block t
 unfolding window_at
@@ -130,7 +130,7 @@ last_still n given block y t closed hidden = rw (closed, hidden) refl
 
 -- where they are, it may be read; for who writes it nothing is new
 pub last_shown : {w : ℕ} (given : Perm) (n block moment : ℕ) (window : Window) (y : Link × Beat w) (t : Trace w)
-    → is_free n None given block (y ∷ t) ≡ false → shows block y.1 (on_link y.0.0 t) ≡ true → moment ≡ suc (length t)
+    → is_free n given block (y ∷ t) ≡ false → shows block y.1 (on_link y.0.0 t) ≡ true → moment ≡ suc (length t)
     → ((same_perm given perm.Branch && shows block y.1 (on_link y.0.0 t)) ≡ false
     → last_in given window ≡ window_at n given block (y ∷ t))
     → last_in given (shown_window moment window) ≡ window_at n given block (y ∷ t)
@@ -138,7 +138,7 @@ unfolding window_at
 last_shown perm.Branch n block moment window y t closed shown now still = rw (closed, shown) now
 last_shown perm.Trunk n block moment window y t closed shown now still = still refl
 last_shown perm.None n block moment window y t closed shown now still =
-    absurd (both_ways (is_free n None perm.None block (y ∷ t)) closed (none_free n block (y ∷ t)))
+    absurd (both_ways (is_free n perm.None block (y ∷ t)) closed (none_free n block (y ∷ t)))
 
 pub asked_now : {w : ℕ} (link source : ℕ) (y : Link × Beat w) (t : Trace w)
     → is_some (open_request source (on_link link (y ∷ t))) ≡ true

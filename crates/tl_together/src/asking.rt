@@ -13,10 +13,11 @@ ghost use Rattle.tl_memory.specs.code.Changing.{IsChange};
 ghost use Rattle.tl_memory.specs.code.Lines.{told_by};
 ghost use Rattle.tl_memory.specs.statement.Blocks.{state_in};
 ghost use Rattle.tl_memory.specs.statement.Expecting.{ExpectsResponse};
+ghost use Rattle.tl_memory.specs.statement.Links.{KeepsRules};
 ghost use Rattle.tl_params.specs.declared.level.Level.{Level};
-ghost use Rattle.tl_params.specs.declared.profile.Profile.{Profile};
+ghost use Rattle.tl_params.specs.declared.liberties.Liberties.{Liberties};
 ghost use Rattle.tl_rules.specs.code.Open.{open_request};
-ghost use Rattle.tl_rules.specs.statement.Conformance.{Trace, broken_on_link, on_link};
+ghost use Rattle.tl_rules.specs.statement.Conformance.{Trace, on_link};
 ghost use Rattle.tl_monitor.specs.statement.Granting.{coming_on};
 ghost use Rattle.tl_monitor.specs.statement.Knows.{request_on};
 ghost use Rattle.tl_together.specs.code.Windows.{asked_at};
@@ -34,7 +35,7 @@ impl<const W: usize> Judge<W> {
 
     /// The request with this source that is pending and complete on a link; none on a link without a level.
     pub fn request(&self, link: Link, source: u8) -> Option<Request>
-        ensures { (levels : List Level) (p : Profile) (t : Trace W) → Knows self.now levels p t false →
+        ensures { (levels : List Level) (l : Liberties) (t : Trace W) → Knows self.now levels l t false →
             result ≡ request_on levels link source t }
     {
         self.monitor.request(link, source)
@@ -43,7 +44,7 @@ impl<const W: usize> Judge<W> {
     /// The permission that the unfinished Grant of a block gives on a link, where one has begun that isn't denied;
     /// nothing on a link without a level.
     pub fn coming(&self, link: Link, block: u32) -> Option<Perm>
-        ensures { (levels : List Level) (p : Profile) (t : Trace W) → Knows self.now levels p t false →
+        ensures { (levels : List Level) (l : Liberties) (t : Trace W) → Knows self.now levels l t false →
             result ≡ coming_on levels link block t }
     {
         self.monitor.coming(link, block)
@@ -51,7 +52,7 @@ impl<const W: usize> Judge<W> {
 
     /// How many beats had been taken with the last beat of the request with this source that is pending on a link.
     pub fn asked(&self, link: Link, source: u8) -> Option<u64>
-        ensures { (levels : List Level) (p : Profile) (t : Trace W) → Knows self.now levels p t false →
+        ensures { (levels : List Level) (l : Liberties) (t : Trace W) → Knows self.now levels l t false →
             link.0 < length levels → is_some (open_request source (on_link link.0 t)) ≡ true →
             result ≡ Some (asked_at link.0 source t) }
     {
@@ -61,10 +62,10 @@ impl<const W: usize> Judge<W> {
     /// What a beat would change of what is kept of memory. What is known stays so.
     pub fn change(&mut self, link: Link, beat: &Beat<W>) -> Result<Change<W>, JudgeFault>
         requires { IsWidth W }
-        ensures knows { (levels : List Level) (p : Profile) (t : Trace W) (closed : Bool) →
-            Knows self.old levels p t closed → Knows self.new levels p t closed }
-        ensures change { IfOk result (λ change. (levels : List Level) (p : Profile) (t : Trace W) →
-            Knows self.old levels p t false → broken_on_link levels p (link, beat.now) t ≡ None →
+        ensures knows { (levels : List Level) (l : Liberties) (t : Trace W) (closed : Bool) →
+            Knows self.old levels l t closed → Knows self.new levels l t closed }
+        ensures change { IfOk result (λ change. (levels : List Level) (l : Liberties) (t : Trace W) →
+            Knows self.old levels l t false → KeepsRules l levels (link, beat.now) t →
             IsChange change self.new.memory (length levels) (link, beat.now) t) }
     {
         let Some(next) = self.moment.checked_add(1) else {
@@ -79,8 +80,8 @@ impl<const W: usize> Judge<W> {
 
     /// What the response may bring whose beat is next on a link, where this is what the beat changes.
     pub fn expected<'a>(&'a self, change: &'a Change<W>, link: Link) -> Option<&'a Expected>
-        ensures { (levels : List Level) (p : Profile) (x : BeatD W) (t : Trace W) → Knows self.now levels p t false →
-            broken_on_link levels p (link, beat.D x) t ≡ None →
+        ensures { (levels : List Level) (l : Liberties) (x : BeatD W) (t : Trace W) → Knows self.now levels l t false →
+            KeepsRules l levels (link, beat.D x) t →
             IsChange change.now self.now.memory (length levels) (link, beat.D x) t →
             ExpectsResponse (option_copied result) (length levels) link.0 x.opcode x.source t
             (before_last link.0 (length (unfinished channel.D (on_link link.0 t))) t) }
@@ -90,7 +91,7 @@ impl<const W: usize> Judge<W> {
 
     /// How many beats of the message have come that isn't complete on channel D of a link.
     pub fn beats_come(&self, link: Link) -> usize
-        ensures { (levels : List Level) (p : Profile) (t : Trace W) → Knows self.now levels p t false →
+        ensures { (levels : List Level) (l : Liberties) (t : Trace W) → Knows self.now levels l t false →
             link.0 < length levels → result ≡ length (unfinished channel.D (on_link link.0 t)) }
     {
         self.memory.beats_come(link)
@@ -100,7 +101,7 @@ impl<const W: usize> Judge<W> {
     /// still.
     pub fn told_at(&self, block: u32, place: u8, byte: u8) -> Option<u64>
         ensures kept { result ≡ told_by (state_in self.now.memory.blocks block) place byte }
-        ensures told { (levels : List Level) (p : Profile) (t : Trace W) → Knows self.now levels p t false →
+        ensures told { (levels : List Level) (l : Liberties) (t : Trace W) → Knows self.now levels l t false →
             place < 64 → result ≡ told_moment byte (may_be (length levels) (64 * block + place) t) }
     {
         self.memory.told_at(block, place, byte)

@@ -1,12 +1,13 @@
 //! For whom a block is free: what the links of a manager leave of it.
 
-ghost use Rattle.std.specs.Prelude.{ℕ, Bool, false, List, None, length, option_map, ◌==◌, ◌&&◌, ◌||◌, ◌≡◌};
+ghost use Rattle.std.specs.Prelude.{ℕ, Bool, List, length, option_map, ◌==◌, ◌&&◌, ◌||◌, ◌≡◌};
 ghost use Rattle.tl_params.specs.declared.level.Level.{Level};
 ghost use Rattle.tl_params.specs.declared.perm.Perm.TheVariants as perm;
-ghost use Rattle.tl_params.specs.declared.profile.Profile.{Profile};
+ghost use Rattle.tl_params.specs.declared.liberties.Liberties.{Liberties};
 ghost use Rattle.tl_rules.specs.statement.Conformance.{Trace};
 ghost use Rattle.tl_rules.specs.statement.Windows as window;
-ghost use Rattle.tl_monitor.specs.statement.Knows as of_link;
+ghost use Rattle.tl_bytes.specs.statement.Free.{is_free};
+ghost use Rattle.tl_together.specs.code.Following.{Follows};
 ghost use Rattle.tl_together.specs.statement.Coherence;
 
 use tl_beat::beat::Link;
@@ -40,13 +41,13 @@ fn is_own_or_leaves(link: u8, other: u8, given: Perm, held: Perm) -> bool
 
 /// Whether each of so many links leaves a block to one who has so much of it.
 pub fn is_free<const W: usize>(monitor: &Monitor<W>, links: u8, given: Perm, block: u32) -> bool
-    ensures { (levels : List Level) (p : Profile) (t : Trace W) →
-        of_link.Knows monitor.now levels p t false → links ≡ length levels →
-        result ≡ window.is_free links None given block t }
+    ensures { (levels : List Level) (l : Liberties) (t : Trace W) →
+        Follows monitor.now levels l t → links ≡ length levels →
+        result ≡ is_free links given block t }
 {
     let mut free = true;
     for n in 0..links {
-        let held = monitor.held(Link(n), block);
+        let held = monitor.held_under(Link(n), block);
         free = both(free, leaves(given, held));
     }
     free
@@ -61,13 +62,13 @@ pub fn is_grantable<const W: usize>(
     given: Perm,
     block: u32,
 ) -> bool
-    ensures { (levels : List Level) (p : Profile) (t : Trace W) →
-        of_link.Knows monitor.now levels p t false → links ≡ length levels →
+    ensures { (levels : List Level) (l : Liberties) (t : Trace W) →
+        Follows monitor.now levels l t → links ≡ length levels →
         result ≡ Coherence.is_grantable links link given block t }
 {
     let mut free = true;
     for n in 0..links {
-        let granted = monitor.granted(Link(n), block);
+        let granted = monitor.granted_under(Link(n), block);
         free = both(free, is_own_or_leaves(n, link, given, granted));
     }
     free
@@ -75,9 +76,9 @@ pub fn is_grantable<const W: usize>(
 
 /// Whether this block, where there is one, is free for one who writes it.
 pub fn freed<const W: usize>(monitor: &Monitor<W>, links: u8, held: Option<u32>) -> Option<bool>
-    ensures { (levels : List Level) (p : Profile) (t : Trace W) →
-        of_link.Knows monitor.now levels p t false → links ≡ length levels →
-        result ≡ option_map (λ block. window.is_free (length levels) None perm.Trunk block t) held }
+    ensures { (levels : List Level) (l : Liberties) (t : Trace W) →
+        Follows monitor.now levels l t → links ≡ length levels →
+        result ≡ option_map (λ block. is_free (length levels) perm.Trunk block t) held }
 {
     let block = held?;
     Some(is_free(monitor, links, Perm::Trunk, block))
@@ -92,17 +93,17 @@ pub struct Freedom {
 
 /// Whether each of so many links leaves a block to one who reads it, and to one who writes it.
 pub fn freedom_of<const W: usize>(monitor: &Monitor<W>, links: u8, block: u32) -> Freedom
-    ensures { (levels : List Level) (p : Profile) (t : Trace W) →
-        of_link.Knows monitor.now levels p t false → links ≡ length levels →
-        (result.reading ≡ window.is_free links None perm.Branch block t)
-        × (result.writing ≡ window.is_free links None perm.Trunk block t) }
+    ensures { (levels : List Level) (l : Liberties) (t : Trace W) →
+        Follows monitor.now levels l t → links ≡ length levels →
+        (result.reading ≡ is_free links perm.Branch block t)
+        × (result.writing ≡ is_free links perm.Trunk block t) }
 {
     let mut free = Freedom {
         reading: true,
         writing: true,
     };
     for n in 0..links {
-        let held = monitor.held(Link(n), block);
+        let held = monitor.held_under(Link(n), block);
         free = Freedom {
             reading: both(free.reading, leaves(Perm::Branch, held)),
             writing: both(free.writing, leaves(Perm::Trunk, held)),

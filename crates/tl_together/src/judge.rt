@@ -6,16 +6,19 @@ ghost use Rattle.tl_beat.specs.declared.beat.Beat.{Beat};
 ghost use Rattle.tl_beat.specs.declared.beat.Beat.TheVariants as beat;
 ghost use Rattle.tl_beat.specs.statement.Width.{IsWidth};
 ghost use Rattle.tl_params.specs.declared.level.Level.{Level};
-ghost use Rattle.tl_params.specs.declared.profile.Profile.{Profile};
+ghost use Rattle.tl_params.specs.declared.liberties.Liberties.{Liberties};
 ghost use Rattle.tl_rules.specs.code.Open.{open_request};
-ghost use Rattle.tl_rules.specs.statement.Conformance.{Trace, broken_on_link, on_link};
+ghost use Rattle.tl_rules.specs.statement.Conformance.{Trace, on_link};
+ghost use Rattle.tl_rules.specs.statement.Liberties.{broken_on_link_under};
 ghost use Rattle.tl_rules.specs.statement.Windows as window;
 ghost use Rattle.tl_bytes.specs.statement.Shown;
 ghost use Rattle.tl_memory.specs.code.Changing.{IsChange};
 ghost use Rattle.tl_memory.specs.code.Taking.{request_answered};
-ghost use Rattle.tl_monitor.specs.statement.Knows as of_link;
+ghost use Rattle.tl_memory.specs.statement.Links.{KeepsRules};
+ghost use Rattle.tl_params.specs.statement.Liberties.{liberties_of};
 ghost use Rattle.tl_together.specs.statement.Coherence;
 ghost use Rattle.tl_together.specs.statement.Knows.{closed_after};
+ghost use Rattle.tl_together.specs.code.Following.{Follows};
 ghost use Rattle.tl_together.specs.code.Windows.{asked_in, last_in, fault_of_monitor};
 
 use crate::breach::{Breach, MemoryRule};
@@ -33,6 +36,7 @@ use tl_monitor::fault::MonitorFault;
 use tl_monitor::monitor::Monitor;
 use tl_rules::kind::{capped, is_grant};
 use tl_rules::level::Level;
+use tl_rules::liberties::Liberties;
 use tl_rules::past::Request;
 use tl_rules::perm::Perm;
 use tl_rules::profile::Profile;
@@ -55,13 +59,6 @@ fn is_access_ack(opcode: OpD) -> bool
     matches!(opcode, OpD::AccessAck | OpD::AccessAckData)
 }
 
-/// Whether a response answers an access that was performed: one that is denied wasn't.
-fn is_performed<const W: usize>(x: &BeatD<W>) -> bool
-    ensures { result ≡ Coherence.is_performed x.now }
-{
-    is_access_ack(x.opcode) && !x.denied
-}
-
 /// The rule of what a response with this opcode brings.
 fn rule_of_bytes(opcode: OpD) -> MemoryRule
     ensures { result ≡ Coherence.rule_of_bytes opcode }
@@ -78,7 +75,7 @@ pub(crate) fn answered<const W: usize>(
     link: Link,
     beat: &Beat<W>,
 ) -> Option<Request>
-    ensures { (levels : List Level) (p : Profile) (t : Trace W) → of_link.Knows monitor.now levels p t false →
+    ensures { (levels : List Level) (l : Liberties) (t : Trace W) → Follows monitor.now levels l t →
         link.0 < length levels → result ≡ request_answered beat.now (on_link link.0 t) }
 {
     match beat {
@@ -162,9 +159,23 @@ impl<const W: usize> Judge<W> {
     /// A judge of links of these levels, which has seen no beat. There are to be 1 to 16 levels.
     pub fn new(alloc: Global, levels: &[Level], profile: Profile) -> Result<Self, JudgeFault>
         requires { IsWidth W }
-        ensures { IsNew levels.now profile result }
+        ensures { IsNew levels.now (liberties_of profile) result }
     {
-        let monitor = match Monitor::new(alloc, levels, profile) {
+        Self::with_liberties(alloc, levels, Liberties::of(profile))
+    }
+
+    /// The same of links with these liberties. `early` may not be among them: the rules of memory do not say yet which
+    /// bytes an access may bring whose answer begins before its request is complete.
+    pub fn with_liberties(
+        alloc: Global,
+        levels: &[Level],
+        liberties: Liberties,
+    ) -> Result<Self, JudgeFault>
+        requires width { IsWidth W }
+        requires late { liberties.early ≡ false }
+        ensures { IsNew levels.now liberties result }
+    {
+        let monitor = match Monitor::with_liberties(alloc, levels, liberties) {
             Ok(monitor) => monitor,
             Err(MonitorFault::Levels) => return Err(JudgeFault::Levels),
             Err(_) => return Err(JudgeFault::Memory),
@@ -189,8 +200,8 @@ impl<const W: usize> Judge<W> {
 
     /// Whether the request with this source, which is pending on a link, has had a window.
     fn had_window(&self, link: Link, source: u8, given: Perm, block: u32) -> bool
-        ensures { (levels : List Level) (p : Profile) (t : Trace W) →
-            KnowsTrace self.now levels p t →
+        ensures { (levels : List Level) (l : Liberties) (t : Trace W) →
+            KnowsTrace self.now levels l t →
             link.0 < length levels →
             is_some (open_request source (on_link link.0 t)) ≡ true →
             result ≡ Shown.had_window (length levels) link.0 source given block t }
@@ -206,8 +217,8 @@ impl<const W: usize> Judge<W> {
 
     /// M1, where a Grant breaks it that answers this request.
     fn broken_grant(&self, link: Link, x: &BeatD<W>, asked: Request) -> Option<MemoryRule>
-        ensures { (levels : List Level) (p : Profile) (t : Trace W) →
-            KnowsTrace self.now levels p t →
+        ensures { (levels : List Level) (l : Liberties) (t : Trace W) →
+            KnowsTrace self.now levels l t →
             result ≡ Coherence.broken_grant (length levels) link.0 x.now (Some asked) t }
     {
         let given = capped(x.param);
@@ -220,8 +231,8 @@ impl<const W: usize> Judge<W> {
 
     /// M4, where an answer to this access breaks it.
     fn broken_access(&self, link: Link, x: &BeatD<W>, asked: Request) -> Option<MemoryRule>
-        ensures { (levels : List Level) (p : Profile) (t : Trace W) →
-            KnowsTrace self.now levels p t →
+        ensures { (levels : List Level) (l : Liberties) (t : Trace W) →
+            KnowsTrace self.now levels l t →
             link.0 < length levels →
             is_some (open_request x.now.source (on_link link.0 t)) ≡ true →
             result ≡ Coherence.broken_access (length levels) link.0 x.now (Some asked) t }
@@ -235,16 +246,19 @@ impl<const W: usize> Judge<W> {
 
     /// The rule of memory that a response breaks which begins a message.
     fn broken_response(&self, link: Link, x: &BeatD<W>) -> Option<MemoryRule>
-        ensures { (levels : List Level) (p : Profile) (t : Trace W) →
-            KnowsTrace self.now levels p t →
+        ensures { (levels : List Level) (l : Liberties) (t : Trace W) →
+            KnowsTrace self.now levels l t →
             link.0 < length levels →
             result ≡ Coherence.broken_response (length levels) link.0 x.now t }
     {
         let asked = self.monitor.request(link, x.source)?;
+        if x.denied {
+            return None;
+        }
         if is_grant(x.opcode) {
             return self.broken_grant(link, x, asked);
         }
-        if !is_performed(x) {
+        if !is_access_ack(x.opcode) {
             return None;
         }
         self.broken_access(link, x, asked)
@@ -253,8 +267,8 @@ impl<const W: usize> Judge<W> {
     /// M1 or M4, where a beat of a response breaks it: none where it begins none.
     fn broken_beginning(&self, link: Link, x: &BeatD<W>) -> Option<MemoryRule>
         requires { IsWidth W }
-        ensures { (levels : List Level) (p : Profile) (t : Trace W) →
-            KnowsTrace self.now levels p t →
+        ensures { (levels : List Level) (l : Liberties) (t : Trace W) →
+            KnowsTrace self.now levels l t →
             link.0 < length levels →
             result ≡ Coherence.broken_beginning (length levels) link.0 x.now t }
     {
@@ -268,9 +282,9 @@ impl<const W: usize> Judge<W> {
     /// M2 or M3, where a beat of a response breaks it, which changes this of what is kept of memory.
     fn broken_bytes(&self, change: &Change<W>, link: Link, x: &BeatD<W>) -> Option<MemoryRule>
         requires { IsWidth W }
-        ensures { (levels : List Level) (p : Profile) (t : Trace W) →
-            KnowsTrace self.now levels p t →
-            broken_on_link levels p (link, beat.D x.now) t ≡ None →
+        ensures { (levels : List Level) (l : Liberties) (t : Trace W) →
+            KnowsTrace self.now levels l t →
+            KeepsRules l levels (link, beat.D x.now) t →
             IsChange change.now self.now.memory (length levels) (link, beat.D x.now) t →
             result ≡ Coherence.broken_bytes (length levels) link.0 x.now t }
     {
@@ -285,9 +299,9 @@ impl<const W: usize> Judge<W> {
     /// of memory.
     fn broken_memory(&self, change: &Change<W>, link: Link, beat: &Beat<W>) -> Option<MemoryRule>
         requires { IsWidth W }
-        ensures { (levels : List Level) (p : Profile) (t : Trace W) →
-            KnowsTrace self.now levels p t →
-            broken_on_link levels p (link, beat.now) t ≡ None →
+        ensures { (levels : List Level) (l : Liberties) (t : Trace W) →
+            KnowsTrace self.now levels l t →
+            KeepsRules l levels (link, beat.now) t →
             IsChange change.now self.now.memory (length levels) (link, beat.now) t →
             result ≡ Coherence.broken_memory (length levels) link.0 beat.now t }
     {
@@ -303,11 +317,11 @@ impl<const W: usize> Judge<W> {
     /// What a beat breaks that breaks this rule of memory, where it breaks none of its link: those come first.
     fn breach(&self, rule: MemoryRule, link: Link, beat: &Beat<W>) -> Breach
         requires { IsWidth W }
-        ensures { (levels : List Level) (p : Profile) (t : Trace W) →
-            KnowsTrace self.now levels p t →
-            Some result ≡ Coherence.first_broken (broken_on_link levels p (link, beat.now) t) (Some rule) }
+        ensures { (levels : List Level) (l : Liberties) (t : Trace W) →
+            KnowsTrace self.now levels l t →
+            Some result ≡ Coherence.first_broken (broken_on_link_under l levels (link, beat.now) t) (Some rule) }
     {
-        match self.monitor.broken(link, beat) {
+        match self.monitor.broken_under(link, beat) {
             Some(of_link) => Breach::OfLink(of_link),
             None => Breach::OfMemory(rule),
         }
@@ -318,12 +332,12 @@ impl<const W: usize> Judge<W> {
     #[inline(never)]
     pub fn try_push(&mut self, link: Link, beat: &Beat<W>) -> Result<(), JudgeFault>
         requires { IsWidth W }
-        ensures answer { (levels : List Level) (p : Profile) (t : Trace W) (closed : Bool) →
-            Knows self.old levels p t closed →
-            Answers (fault_of levels p t closed (link, beat.now)) result }
-        ensures knows { (levels : List Level) (p : Profile) (t : Trace W) (closed : Bool) →
-            Knows self.old levels p t closed →
-            Knows self.new levels p (recorded_after result (link, beat.now) t) closed }
+        ensures answer { (levels : List Level) (l : Liberties) (t : Trace W) (closed : Bool) →
+            Knows self.old levels l t closed →
+            Answers (fault_of levels l t closed (link, beat.now)) result }
+        ensures knows { (levels : List Level) (l : Liberties) (t : Trace W) (closed : Bool) →
+            Knows self.old levels l t closed →
+            Knows self.new levels l (recorded_after result (link, beat.now) t) closed }
     {
         if self.closed {
             return Err(JudgeFault::Closed);
@@ -365,12 +379,12 @@ impl<const W: usize> Judge<W> {
     /// answered `Closed`. At `Memory` the judge knows what it knew before.
     pub fn push(&mut self, link: Link, beat: &Beat<W>) -> Result<(), JudgeFault>
         requires { IsWidth W }
-        ensures answer { (levels : List Level) (p : Profile) (t : Trace W) (closed : Bool) →
-            Knows self.old levels p t closed →
-            Answers (fault_of levels p t closed (link, beat.now)) result }
-        ensures knows { (levels : List Level) (p : Profile) (t : Trace W) (closed : Bool) →
-            Knows self.old levels p t closed →
-            Knows self.new levels p (recorded_after result (link, beat.now) t) (closed_after closed result) }
+        ensures answer { (levels : List Level) (l : Liberties) (t : Trace W) (closed : Bool) →
+            Knows self.old levels l t closed →
+            Answers (fault_of levels l t closed (link, beat.now)) result }
+        ensures knows { (levels : List Level) (l : Liberties) (t : Trace W) (closed : Bool) →
+            Knows self.old levels l t closed →
+            Knows self.new levels l (recorded_after result (link, beat.now) t) (closed_after closed result) }
     {
         match self.try_push(link, beat) {
             Ok(()) => Ok(()),

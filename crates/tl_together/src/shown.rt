@@ -1,13 +1,13 @@
 //! Reports that tell what the bytes of a block are, and leave their sender Trunk.
 
-ghost use Rattle.std.specs.Prelude.{ℕ, false, List, Some, length, ◌≡◌, ◌<◌};
+ghost use Rattle.std.specs.Prelude.{ℕ, List, Some, length, ◌≡◌, ◌<◌};
 ghost use Rattle.tl_bytes.specs.statement.Shown;
 ghost use Rattle.tl_burst.specs.statement.Messages.{History};
-ghost use Rattle.tl_monitor.specs.statement.Knows as of_link;
 ghost use Rattle.tl_params.specs.declared.level.Level.{Level};
-ghost use Rattle.tl_params.specs.declared.profile.Profile.{Profile};
+ghost use Rattle.tl_params.specs.declared.liberties.Liberties.{Liberties};
 ghost use Rattle.tl_rules.specs.statement.Conformance.{Trace, on_link};
-ghost use Rattle.tl_together.specs.code.Windows.{MayShow};
+ghost use Rattle.tl_together.specs.code.Windows.{LeavesOthers, MayShow};
+ghost use Rattle.tl_together.specs.code.Following.{Follows};
 
 use tl_beat::beat::{Beat, BeatC, Link};
 use tl_beat::opcode::{OpB, OpC};
@@ -40,8 +40,8 @@ fn tells_bytes(opcode: OpC, asked: Option<Probe>) -> bool
 
 /// Whether a report leaves its sender Trunk of its block, and tells what the bytes are.
 fn shows_bytes<const W: usize>(monitor: &Monitor<W>, link: Link, x: &BeatC<W>) -> bool
-    ensures { (levels : List Level) (p : Profile) (t : Trace W) →
-        of_link.Knows monitor.now levels p t false → link.0 < length levels →
+    ensures { (levels : List Level) (l : Liberties) (t : Trace W) →
+        Follows monitor.now levels l t → link.0 < length levels →
         result ≡ Shown.shows_bytes x.now (on_link link.0 t) }
 {
     if reported(x.param) != Perm::Trunk {
@@ -52,10 +52,10 @@ fn shows_bytes<const W: usize>(monitor: &Monitor<W>, link: Link, x: &BeatC<W>) -
 
 /// The block whose bytes a beat shows, if it completes its message.
 pub fn shown_by<const W: usize>(monitor: &Monitor<W>, link: Link, beat: &Beat<W>) -> Option<u32>
-    ensures shown { (levels : List Level) (p : Profile) (t : Trace W) →
-        of_link.Knows monitor.now levels p t false → link.0 < length levels →
+    ensures shown { (levels : List Level) (l : Liberties) (t : Trace W) →
+        Follows monitor.now levels l t → link.0 < length levels →
         MayShow result beat.now (on_link link.0 t) }
-    ensures own { (block : ℕ) (t : History W) → result ≡ Some block → of_link.LeavesOthers result beat.now t }
+    ensures own { (block : ℕ) (t : History W) → result ≡ Some block → LeavesOthers result beat.now t }
 {
     match beat {
         Beat::C(x) if shows_bytes(monitor, link, x) => Some(block_at(x.address)),

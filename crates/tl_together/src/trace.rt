@@ -2,6 +2,7 @@
 
 ghost use Rattle.tl_beat.specs.statement.Width.{IsWidth};
 ghost use Rattle.std.specs.Prelude.{◌≡◌};
+ghost use Rattle.tl_params.specs.statement.Liberties.{liberties_of};
 ghost use Rattle.tl_together.specs.statement.Knows.{AnswersTrace, trace_fault_of};
 
 use crate::fault::{JudgeFault, TraceFault};
@@ -29,7 +30,7 @@ pub fn check_together<const W: usize>(
     trace: &[(Link, Beat<W>)],
 ) -> Result<(), TraceFault>
     requires { IsWidth W }
-    ensures { AnswersTrace levels.now profile trace.now result }
+    ensures { AnswersTrace levels.now (liberties_of profile) trace.now result }
 {
     let mut judge = match Judge::new(alloc, levels, profile) {
         Ok(judge) => judge,

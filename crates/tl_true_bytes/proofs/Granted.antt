@@ -4,7 +4,10 @@ use Rattle.tl_true_bytes.proofs.Imports.{block_at, grants, is_free, Op, Event, A
 use Rattle.tl_true_bytes.proofs.Imports.{trace_of, IsGiven, Log, system_after, Machine, pool_of, accesses_answered}
 use Rattle.tl_true_bytes.proofs.Imports.{one_memory_after, stepped, given-before, responses, IsResponse, IsRightBeat}
 use Rattle.tl_true_bytes.proofs.Imports.{Run, Takes, memory_in, run_before, trace_in, IsBeside, happened, run_of}
-use Rattle.std.proofs.Common.{◌≡◌, ℕ, suc, Bool, true, false, ◌&&◌, List, [], ◌∷◌, length, None, refl, sym, ◌∙◌, ap}
+use Rattle.tl_bytes.specs.statement.Free as bytes
+use Rattle.tl_coherence.specs.statement.Delivery.{levels_of}
+use Rattle.tl_concord.proofs.Alike.{free-world}
+use Rattle.std.proofs.Common.{◌≡◌, ◌≤◌, ℕ, suc, Bool, true, false, ◌&&◌, List, [], ◌∷◌, length, None, refl, sym, ◌∙◌, ap}
 use Rattle.std.proofs.Common.{subst}
 use Rattle.std.{specs.Prelude.◌==◌, proofs.lemmas.Bool.eqb-true}
 use Rattle.tl_burst.specs.statement.Messages.{on}
@@ -18,17 +21,17 @@ use Rattle.tl_true_bytes.proofs.Continued.{before-reply, beside, elsewhere, goes
 
 -- what was so before the beats of a Grant that have come
 pub record IsBefore {w : ℕ} (config : Config) (c block n : ℕ) (u : List (Beat w)) (log : Log w) : Type 0 where
-  pub free : is_free n None Perm.Branch block (trace_in (run_before c (length u) (run_of config log))) ≡ true
+  pub free : bytes.is_free n Perm.Branch block (trace_in (run_before c (length u) (run_of config log))) ≡ true
   pub memory : (x : ℕ) → block_at x ≡ block → memory_in (λ address. 0) (run_before c (length u) (run_of config log)) x
       ≡ (one_memory_after config log).memory x
 
-module _ {w : ℕ} (config : Config) (c block n : ℕ) where
+module _ {w : ℕ} (config : Config) (c block n : ℕ) (le : n ≤ length (levels_of config)) where
   -- no beat has come
   none-before : (log : Log w) → IsGiven config log → is_free n None Perm.Branch block (trace_of log) ≡ true
       → IsBefore config c block n [] log
   unfolding run_before
   none-before log given free = record {
-    free = ap (is_free n None Perm.Branch block) beside.trace_is ∙ free;
+    free = ap (bytes.is_free n Perm.Branch block) beside.trace_is ∙ free-world log given n Perm.Branch block le ∙ free;
     memory = λ x at. ap (λ (f : Memory). f x) beside.memory_is;
   }
     where
@@ -44,7 +47,7 @@ module _ {w : ℕ} (config : Config) (c block n : ℕ) where
       → (before : List (Beat w)) → length before ≡ j → IsBefore config c block n before log
       → IsBefore config c block n u ((e, o) ∷ log)
   same-before u j log e o given v rest u_is begun_so granting runs before long is = record {
-    free = ap (λ (r : Run w). is_free n None Perm.Branch block (trace_in r)) (runs ∙ same) ∙ is.free;
+    free = ap (λ (r : Run w). bytes.is_free n Perm.Branch block (trace_in r)) (runs ∙ same) ∙ is.free;
     memory = λ x at. ap (λ (r : Run w). memory_in (λ address. 0) r x) (runs ∙ same) ∙ is.memory x at
         ∙ sym (quiet config log block x at e o given c v rest (begun_so ∙ u_is) (granting v rest u_is));
   }

@@ -7,13 +7,16 @@ use Rattle.tl_true_bytes.proofs.Imports.{IsGiven, Log, system_after, Requests, m
 use Rattle.tl_true_bytes.proofs.Imports.{one_memory_after, stepped, given-before, Run, found_in, trace_in, IsBeside}
 use Rattle.tl_true_bytes.proofs.Imports.{IsOpenAs, result_in, Op}
 use Rattle.std.proofs.Common.{◌≡◌, ℕ, zero, suc, ◌+◌, ◌%◌, ◌^◌, ◌≤◌, true, [], ◌∷◌, inl, inr, Some, None, refl, sym}
-use Rattle.std.proofs.Common.{◌∙◌, ap, subst, arith}
+use Rattle.std.proofs.Common.{◌∙◌, ap, subst, arith, length}
 use Rattle.std.specs.Prelude.{find, is_some, nat_le, nat_lt, Option, unwrap_or}
 use Rattle.std.proofs.lemmas.Bool.{and_from, and_parts, cases_eq, leb-true, ltb-true}
 use Rattle.tl_burst.{specs.declared.message.Message.Message, specs.statement.Burst.byte_at}
 use Rattle.tl_params.specs.declared.perm.Perm.{Perm}
 use Rattle.tl_rules.specs.statement.Windows.{needs}
 use Rattle.tl_bytes.specs.statement.Bytes.{access_writes}
+use Rattle.tl_bytes.specs.statement.Free as bytes
+use Rattle.tl_coherence.specs.statement.Delivery.{levels_of}
+use Rattle.tl_concord.proofs.Alike.{free-world}
 use Rattle.tl_coherence.proofs.{manager.Memories.access-room, theorem.Performed.performed_free}
 use Rattle.tl_one_memory.specs.statement.Run.{IsPerformed}
 use Rattle.tl_true_bytes.{proofs.Asked.IsSomePending, proofs.Beside.same_asked, proofs.Quiet.other-memory}
@@ -88,7 +91,8 @@ written-here {w} m o x width lawful blank = go m.opcode refl
 -- ---- the access that a delivery answers
 
 pub performs-well : {w : ℕ} (config : Config) (log : Log w) (link : Link) (ch : Channel) (o : Outcome w)
-    → IsGiven config ((Deliver link ch, o) ∷ log) → (n q source : ℕ) (a : MessageA w)
+    → IsGiven config ((Deliver link ch, o) ∷ log) → (n : ℕ) → n ≤ length (levels_of config) → (q source : ℕ)
+    (a : MessageA w)
     → accesses_answered (stepped config (Deliver link ch) (system_after config log)).handed ≡ (q, source) ∷ []
     → moved (Deliver link ch) (stepped config (Deliver link ch) (system_after config log)).outcome
     (one_memory_after config log) ≡ one_memory_after config log
@@ -99,7 +103,7 @@ pub performs-well : {w : ℕ} (config : Config) (log : Log w) (link : Link) (ch 
     }) → is_access a.opcode ≡ true → (run : Run w)
     → IsBeside run (one_memory_after config log) (trace_of ((Deliver link ch, o) ∷ log))
     → IsPerformed n (λ address. 0) q source run
-performs-well {w} config log link ch o given n q source a one still opened accesses run is = record {
+performs-well {w} config log link ch o given n le q source a one still opened accesses run is = record {
   access = p.0;
   pending = subst (λ (u : Trace w). find (is_of q source) (pending_accesses u) ≡ Some p.0) (sym is.trace_is) p.1;
   once = none-found (found_in (λ address. 0) q source run)
@@ -141,9 +145,9 @@ performs-well {w} config log link ch o given n q source a one still opened acces
         (request-asked config ((Deliver link ch, o) ∷ log) given q source a result after_it)).1
 
     now : (k : Perm) (x : ℕ) → block_at x ≡ block_at a.address → is_free n None k (block_at a.address) t ≡ true
-        → is_free n None k (block_at x) (trace_in run) ≡ true
-    now k x here e = subst (λ (u : Trace w). is_free n None k (block_at x) u ≡ true) (sym is.trace_is)
-        (subst (λ (b : ℕ). is_free n None k b t ≡ true) (sym here) e)
+        → bytes.is_free n k (block_at x) (trace_in run) ≡ true
+    now k x here e = subst (λ (u : Trace w). bytes.is_free n k (block_at x) u ≡ true) (sym is.trace_is)
+        (free-world ((Deliver link ch, o) ∷ log) given n k (block_at x) le ∙ subst (λ (b : ℕ). is_free n None k b t ≡ true) (sym here) e)
 
     reaching : (x : ℕ) → reaches p.0.request.address p.0.request.size x ≡ reaches a.address a.size x
     reaching x = ap (λ (k : ℕ). reaches k p.0.request.size x)

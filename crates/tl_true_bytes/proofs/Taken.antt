@@ -11,6 +11,9 @@ use Rattle.tl_burst.specs.declared.message.Message.{Message}
 use Rattle.tl_rules.{specs.code.Open.open_request, specs.statement.Conformance.answers}
 use Rattle.tl_rules.{specs.statement.Effect.answer_of}
 use Rattle.tl_bytes.specs.statement.Bytes.{could_be}
+use Rattle.tl_bytes.specs.statement.Free as bytes
+use Rattle.tl_params.specs.declared.perm.Perm.{Perm}
+use Rattle.tl_rules.specs.statement.Windows.{is_free}
 use Rattle.tl_rules.specs.statement.History.{block_at}
 use Rattle.tl_manager.{specs.statement.Handing.access_answer, specs.statement.Service.is_access_answer}
 use Rattle.tl_concord.specs.statement.Accesses.{HasCome, IsAnswered, IsAsked}
@@ -45,6 +48,10 @@ pub record IsTakenWell {w : ℕ} (n : ℕ) (m : Machine w) (link : Link) (x : Be
       → open_request z.source (on_link link.0 (trace_in run)) ≡ Some asked
       → IsGranted n (λ address. 0) link.0 z asked.block (length (unfinished Channel.D (on_link link.0 (trace_in run))))
       run
+  -- with and without the beat each block is as free by what may be held as by what is held
+  pub alike : (given : Perm) (block : ℕ)
+      → (bytes.is_free n given block (trace_in run) ≡ is_free n None given block (trace_in run))
+      × (bytes.is_free n given block ((link, x) ∷ trace_in run) ≡ is_free n None given block ((link, x) ∷ trace_in run))
   -- an access is aligned
   pub aligned : (s : ℕ) (a : MessageA w) (r : Option AccessResult)
       → m.opened link.0 Requests s ≡ Some (record { asked = Op.Access (Message.A a); answer = r })
@@ -162,6 +169,10 @@ module _ {w : ℕ} (n : ℕ) (run : Run w) (m : Machine w) (width : IsWidth w) (
         subst (λ (f : Memory). could_be (f address)
         (carried_byte (x ∷ unfinished (channel_of x) (on_link link.0 (trace_in run))) (address % 64)) ≡ true)
         (sym is.memory_is) (well.told.told address tells_so);
-    closes_told = λ block free closed. well.told.got_told n block free closed;
-    given_up_rightly = λ address held free. inl (well.told.given_up_told n (block_at address) held free);
+    closes_told = λ block free closed.
+        let alike = well.alike Perm.Trunk block in
+        well.told.got_told n block (sym alike.0 ∙ free) (sym alike.1 ∙ closed);
+    given_up_rightly = λ address held free.
+        let alike = well.alike Perm.Branch (block_at address) in
+        inl (well.told.given_up_told n (block_at address) (sym alike.0 ∙ held) (sym alike.1 ∙ free));
   }

@@ -3,8 +3,12 @@ use Rattle.tl_true_bytes.proofs.Imports.{Beat, Level, Trace, Ask, Deliver, EachT
 use Rattle.std.proofs.Common.{◌≡◌, ℕ, List, [], ◌∷◌, ◌++◌, length, refl, sym, ◌∙◌, ap, append_assoc, subst}
 use Rattle.std.specs.Prelude.{Option, Some, None, reverse, ⊤}
 use Rattle.std.proofs.lemmas.List.{append-nil, length-map, reverse-append, reverse-reverse}
-use Rattle.tl_params.{specs.declared.profile.Profile.Profile, specs.declared.rule.Rule.Rule}
-use Rattle.tl_rules.specs.statement.Conformance.{broken_on_link, fault_from, fault_or}
+use Rattle.tl_params.{specs.declared.liberties.Liberties.Liberties, specs.declared.rule.Rule.Rule}
+use Rattle.tl_params.specs.statement.Liberties.{liberties_of}
+use Rattle.tl_forgiving.proofs.Forgiving.{traces}
+use Rattle.tl_rules.proofs.Profiles.{fault-of}
+use Rattle.tl_rules.specs.statement.Conformance.{fault_or}
+use Rattle.tl_rules.specs.statement.Liberties.{broken_on_link_under, fault_from_under}
 use Rattle.tl_coherence.specs.statement.Delivery.{levels_of}
 use Rattle.tl_coherence.proofs.flow.FlowTraces.{faultless}
 use Rattle.tl_together.specs.statement.Coherence.{breach_from, broken_memory}
@@ -47,20 +51,20 @@ log-quiet n ((Deliver link ch, Outcome.Stalled) ∷ log) begun brought = log-qui
 log-quiet n ((Deliver link ch, Outcome.NoSuchClient) ∷ log) begun brought = log-quiet n log begun.1 brought
 
 -- what has no fault of a link and breaks no rule of memory has no breach
-no-breach : {w : ℕ} (levels : List Level) (p : Profile) (before trace : Trace w)
-    → fault_from levels p before trace ≡ None → AreQuiet (length levels) (reverse trace ++ before)
-    → breach_from levels p before trace ≡ None
-unfolding AreQuiet fault_from breach_from
-no-breach levels p before [] clean quiet = refl
-no-breach {w} levels p before (x ∷ trace) clean quiet =
+no-breach : {w : ℕ} (levels : List Level) (l : Liberties) (before trace : Trace w)
+    → fault_from_under l levels before trace ≡ None → AreQuiet (length levels) (reverse trace ++ before)
+    → breach_from levels l before trace ≡ None
+unfolding AreQuiet fault_from_under breach_from
+no-breach levels l before [] clean quiet = refl
+no-breach {w} levels l before (x ∷ trace) clean quiet =
     let turned : reverse (x ∷ trace) ++ before ≡ reverse trace ++ (x ∷ before) =
     ap (λ (t : Trace w). t ++ before) (reverse-append (x ∷ []) trace) ∙ append_assoc (reverse trace) (x ∷ []) before in
     let all : AreQuiet (length levels) (reverse trace ++ (x ∷ before)) =
     subst (AreQuiet (length levels)) turned quiet in
-    let first = unbroken (broken_on_link levels p x before) (length before) (fault_from levels p (x ∷ before) trace)
-    clean in
+    let first = unbroken (broken_on_link_under l levels x before) (length before)
+    (fault_from_under l levels (x ∷ before) trace) clean in
     rw (first.0, (older-quiet (length levels) (reverse trace) (x ∷ before) all).0)
-    (no-breach levels p (x ∷ before) trace first.1 all)
+    (no-breach levels l (x ∷ before) trace first.1 all)
   where
     unbroken : (o : Option Rule) (i : ℕ) (rest : Option (ℕ × Rule)) → fault_or o i rest ≡ None
         → (o ≡ None) × (rest ≡ None)
@@ -68,8 +72,10 @@ no-breach {w} levels p before (x ∷ trace) clean quiet =
     unbroken (Some r) i rest e = absurd cc
 
 pub concord : {w : ℕ} → Concord w
-concord {w} config log given =
-    no-breach (levels_of config) config.profile [] (reverse (trace_of log)) (faultless config log given)
+concord {w} config l log given within =
+    no-breach (levels_of config) l [] (reverse (trace_of log))
+    (traces (liberties_of config.profile) l (levels_of config) (reverse (trace_of log)) within
+    (fault-of config.profile (levels_of config) [] (reverse (trace_of log)) ∙ faultless config log given))
     (subst (AreQuiet (length (levels_of config)))
     (sym (append-nil (reverse (reverse (trace_of log))) ∙ reverse-reverse (trace_of log)))
     (subst (λ (n : ℕ). AreQuiet n (trace_of log)) (sym (length-map config.clients.items (λ client. client.level)))

@@ -1,6 +1,6 @@
 -- What happens to a world is a run of one memory, so the bytes that its links carry are true.
-use Rattle.tl_true_bytes.proofs.Imports.{Beat, Link, Channel, MessageA, Config, Trace, on_link, Memory, block_at, held}
-use Rattle.tl_true_bytes.proofs.Imports.{is_free, leaves, is_access, Op, Reply, Finish, EndConfig, Event, Ask, Deliver}
+use Rattle.tl_true_bytes.proofs.Imports.{Beat, Link, Channel, MessageA, Config, Trace, on_link, Memory, block_at}
+use Rattle.tl_true_bytes.proofs.Imports.{leaves, is_access, Op, Reply, Finish, EndConfig, Event, Ask, Deliver}
 use Rattle.tl_true_bytes.proofs.Imports.{Outcome, EachTaken, trace_of, IsGiven, IsLog, Log, system_after, Machine, Open}
 use Rattle.tl_true_bytes.proofs.Imports.{Requests, moved, pool_of, accesses_answered, one_memory_after, stepped}
 use Rattle.tl_true_bytes.proofs.Imports.{given-before, shadow, matched-given, answering-delivered, responses, Performs}
@@ -8,6 +8,8 @@ use Rattle.tl_true_bytes.proofs.Imports.{Run, Takes, trace_in, IsBeside, after_a
 use Rattle.tl_true_bytes.proofs.Imports.{with_end, with_reply, with_whole}
 use Rattle.std.proofs.Common.{◌≡◌, ℕ, zero, suc, ◌<◌, Bool, true, false, ◌&&◌, List, [], ◌∷◌, length, inl, inr, Some}
 use Rattle.std.proofs.Common.{None, refl, sym, ◌∙◌, ap, subst, arith}
+use Rattle.tl_bytes.specs.statement.Free.{is_free, may_hold}
+use Rattle.tl_concord.proofs.Alike.{free-world, held-world, links-few}
 use Rattle.std.specs.Prelude.{if◌then◌else◌, is_some, Option, option_map, slice_get}
 use Rattle.std.{proofs.lemmas.Bool.cases_eq, proofs.lemmas.Option.slice_get_within}
 use Rattle.tl_burst.specs.declared.message.Message.{Message}
@@ -34,14 +36,14 @@ client-below config c is = go (slice_get config.clients.items c) refl is
     go None e some = absurd cc
     go (Some x) e some = slice_get_within config.clients.items c x e
 
-held-trunk : {w : ℕ} (n c block : ℕ) (t : Trace w) → c < n → held block (on_link c t) ≡ Perm.Trunk
-    → is_free n None Perm.Branch block t ≡ false
+held-trunk : {w : ℕ} (n c block : ℕ) (t : Trace w) → c < n → may_hold block (on_link c t) ≡ Perm.Trunk
+    → is_free n Perm.Branch block t ≡ false
 unfolding is_free
 held-trunk zero c block t below trunk = absurd (omega (arith, below))
 held-trunk {w} (suc n) c block t below trunk = elim (cases_eq c n) [
-  | inl same ↦ last (is_free n None Perm.Branch block t) (leaves Perm.Branch (held block (on_link n t)))
-      (ap (leaves Perm.Branch) (subst (λ (k : ℕ). held block (on_link k t) ≡ Perm.Trunk) same trunk))
-  | inr other ↦ first (is_free n None Perm.Branch block t) (leaves Perm.Branch (held block (on_link n t)))
+  | inl same ↦ last (is_free n Perm.Branch block t) (leaves Perm.Branch (may_hold block (on_link n t)))
+      (ap (leaves Perm.Branch) (subst (λ (k : ℕ). may_hold block (on_link k t) ≡ Perm.Trunk) same trunk))
+  | inr other ↦ first (is_free n Perm.Branch block t) (leaves Perm.Branch (may_hold block (on_link n t)))
       (held-trunk n c block t (omega (arith, below, other)) trunk)
 ]
   where
@@ -57,7 +59,7 @@ held-trunk {w} (suc n) c block t below trunk = elim (cases_eq c n) [
 module _ {w : ℕ} (n : ℕ) (first : Memory) where
   -- the block that is stored to is one of which Trunk is held
   abbrev IsHeld : ℕ → Run w → Type 0
-  IsHeld block run = is_free n None Perm.Branch block (trace_in run) ≡ false
+  IsHeld block run = is_free n Perm.Branch block (trace_in run) ≡ false
 
   reply-run : (o : Op w) (r : Reply) (f : Memory) (run : Run w) → IsRun n first run
       → ((address size value : ℕ) → o ≡ Op.Store address size value → r ≡ Reply.Stored → IsHeld (block_at address) run)
@@ -110,10 +112,11 @@ module _ {w : ℕ} (config : Config) (log : Log w) where
 
   moved-well : (link : Link) (ch : Channel) (y : Beat w) → IsGiven config ((Deliver link ch, Outcome.Moved y) ∷ log)
       → IsTakenWell (links config) (one_memory_after config log) link y (run_of config log)
-  unfolding EachTaken
+  unfolding EachTaken trace_of
   moved-well link ch y given =
       let all : Log w = (Deliver link ch, Outcome.Moved y) ∷ log in
       taken-well config log (given-before config (Deliver link ch, Outcome.Moved y) log given) (links config) link y
+      (links-few config) (λ k b. free-world all given (links config) k b (links-few config))
       (tells_of_memory config all given).0 (responses config all given).each.0 (carries_accesses config all given).0
       (each-taken config (λ earlier c x. GrantsOther (one_memory_after config earlier) c x) (grants-other config) all
       given).0
@@ -123,11 +126,11 @@ module _ {w : ℕ} (config : Config) (log : Log w) where
   done-well : (link : Link) (ch : Channel) (y : Beat w) (source : ℕ) (f : Finish)
       → IsGiven config ((Deliver link ch, Outcome.Done y source f) ∷ log)
       → IsTakenWell (links config) (one_memory_after config log) link y (run_of config log)
-  unfolding EachTaken
+  unfolding EachTaken trace_of
   done-well link ch y source f given =
       let all : Log w = (Deliver link ch, Outcome.Done y source f) ∷ log in
       taken-well config log (given-before config (Deliver link ch, Outcome.Done y source f) log given) (links config)
-      link y
+      link y (links-few config) (λ k b. free-world all given (links config) k b (links-few config))
       (tells_of_memory config all given).0 (responses config all given).each.0 (carries_accesses config all given).0
       (each-taken config (λ earlier c x. GrantsOther (one_memory_after config earlier) c x) (grants-other config) all
       given).0
@@ -149,12 +152,13 @@ module _ {w : ℕ} (config : Config) (log : Log w) where
       continues = (one_memory config log before).1 (Ask c o, Outcome.Replied r) given.typed.0 given.is_log
 
       stored : (address size value : ℕ) → o ≡ Op.Store address size value → r ≡ Reply.Stored
-          → is_free (links config) None Perm.Branch (block_at address) (trace_in (run_of config log)) ≡ false
+          → is_free (links config) Perm.Branch (block_at address) (trace_in (run_of config log)) ≡ false
       stored address size value is_store stores =
-          subst (λ (t : Trace w). is_free (links config) None Perm.Branch (block_at address) t ≡ false)
+          subst (λ (t : Trace w). is_free (links config) Perm.Branch (block_at address) t ≡ false)
           (sym (beside-log config log before).trace_is)
           (held-trunk (links config) c (block_at address) (trace_of log) (client-below config c continues.2.0)
-          (hidden_stores config log before c address size value
+          (held-world log before c (block_at address) (client-below config c continues.2.0)
+          ∙ hidden_stores config log before c address size value
           (subst (λ (j : Op w). (stepped config (Ask c j) (system_after config log)).outcome ≡ Outcome.Replied
           Reply.Stored) is_store (sym given.is_log.0 ∙ ap (λ (q : Reply). Outcome.Replied q) stores))))
 
@@ -178,12 +182,14 @@ module _ {w : ℕ} (config : Config) (log : Log w) where
 
       stored : (i : Open w) (block : ℕ) (bytes : List ℕ) → (one_memory_after config log).opened link.0 (pool_of f)
           source ≡ Some i → i.asked ≡ Op.AcquireWhole block bytes
-          → is_free (links config) None Perm.Branch block ((link, y) ∷ trace_in (run_of config log)) ≡ false
+          → is_free (links config) Perm.Branch block ((link, y) ∷ trace_in (run_of config log)) ≡ false
       stored i block bytes opened asked =
-          subst (λ (t : Trace w). is_free (links config) None Perm.Branch block ((link, y) ∷ t) ≡ false)
+          subst (λ (t : Trace w). is_free (links config) Perm.Branch block ((link, y) ∷ t) ≡ false)
           (sym (beside-log config log before).trace_is)
           (held-trunk (links config) link.0 block ((link, y) ∷ trace_of log) (client-below config link.0 continues.2.0)
-          (whole_stores config log link ch y source f given i block bytes opened asked))
+          (held-world ((Deliver link ch, Outcome.Done y source f) ∷ log) given link.0 block
+          (client-below config link.0 continues.2.0)
+          ∙ whole_stores config log link ch y source f given i block bytes opened asked))
 
   happened-run : (e : Event w) (o : Outcome w) → IsGiven config ((e, o) ∷ log)
       → IsRun (links config) (λ address. 0) (run_of config log)
@@ -242,7 +248,8 @@ module _ {w : ℕ} (config : Config) (log : Log w) where
           go : (b : Bool) → is_access a.opcode ≡ b
               → IsRun (links config) (λ address. 0) (if b then Performs q source ∷ run else run)
           go true accesses = (
-            performs-well config log link ch o given (links config) q source a one still opened accesses run here,
+            performs-well config log link ch o given (links config) (links-few config) q source a one still opened accesses run
+                here,
             is,
           )
           go false none = is

@@ -23,6 +23,11 @@ use Rattle.tl_concord.specs.statement.Told.{IsToldOf}
 use Rattle.tl_one_memory.specs.statement.Run.{IsGranted}
 use Rattle.tl_true_bytes.{proofs.Continued.grants-same, proofs.Granted.IsBefore, proofs.Granted.granted-before}
 use Rattle.tl_true_bytes.{proofs.Requests.request-known, proofs.Runs.beside-log, proofs.Sources.not_acquire}
+use Rattle.tl_bytes.specs.statement.Free as bytes
+use Rattle.tl_coherence.specs.statement.Delivery.{levels_of}
+use Rattle.tl_concord.proofs.Alike.{free-world}
+use Rattle.tl_params.specs.declared.perm.Perm.{Perm}
+use Rattle.tl_rules.specs.statement.Windows.{is_free}
 use Rattle.tl_true_bytes.{proofs.Taken.IsTakenWell}
 
 -- ---- a beat that is next on channel D
@@ -161,12 +166,12 @@ lanes-from w k block bytes f pos long wide is = (room, sym lanes)
         ap f place ∙ is (w * k + i) (omega (arith, room, lt, wide))
         ∙ sym (get_or-take w left i 0 (omega (arith, lt, wide)) ∙ get_or-drop (w * k) bytes i 0))
 
-granted-truly : {w : ℕ} (config : Config) (log : Log w) → IsGiven config log → (n c : ℕ) (z : BeatD w)
-    → IsResponse c z (trace_of log) → GrantsBlock (one_memory_after config log).memory c (Beat.D z) (trace_of log)
+granted-truly : {w : ℕ} (config : Config) (log : Log w) → IsGiven config log → (n : ℕ)
+    → n ≤ length (levels_of config) → (c : ℕ) (z : BeatD w) → IsResponse c z (trace_of log) → GrantsBlock (one_memory_after config log).memory c (Beat.D z) (trace_of log)
     → z.opcode ≡ OpD.GrantData → (asked : Request) → open_request z.source (on_link c (trace_of log)) ≡ Some asked
     → IsGranted n (λ address. 0) c z asked.block (length (unfinished Channel.D (on_link c (trace_of log))))
     (run_of config log)
-granted-truly {w} config log given n c z right has with_data asked open_so = record {
+granted-truly {w} config log given n le c z right has with_data asked open_so = record {
   within = both.0;
   free = before.free;
   lanes_are = ap (λ (o : Option (List ℕ)). unwrap_or o []) lanes_is ∙ both.1;
@@ -186,7 +191,7 @@ granted-truly {w} config log given n c z right has with_data asked open_so = rec
     block_so = has z refl asked.block granted with_data
 
     before : IsBefore config c asked.block n (unfinished Channel.D past) log
-    before = granted-before config c asked.block n log given (unfinished Channel.D past) refl
+    before = granted-before config c asked.block n le log given (unfinished Channel.D past) refl
         (λ v rest u_is. let on = right.continues v rest u_is in grants-same asked.block z v past on.0 on.1 granted)
         (λ e. right.free n asked.block granted)
 
@@ -205,20 +210,28 @@ granted-truly {w} config log given n c z right has with_data asked open_so = rec
 
 -- ---- all of it
 
+-- after this each block is as free by what may be held as by what is held
+abbrev pub IsAsFree : {w : ℕ} → ℕ → Trace w → Type 0
+IsAsFree n t = (given : Perm) (block : ℕ) → bytes.is_free n given block t ≡ is_free n None given block t
+
 pub taken-well : {w : ℕ} (config : Config) (log : Log w) → IsGiven config log → (n : ℕ) (link : Link) (y : Beat w)
+    → n ≤ length (levels_of config) → IsAsFree n ((link, y) ∷ trace_of log)
     → IsToldOf (one_memory_after config log).memory link.0 y (trace_of log) → IsRightBeat link.0 y (trace_of log)
     → IsOfAccess (one_memory_after config log) link.0 y (trace_of log)
     → GrantsOther (one_memory_after config log) link.0 y → GrantsBlock (one_memory_after config log).memory link.0 y
     (trace_of log) → IsTakenWell n (one_memory_after config log) link y (run_of config log)
-taken-well {w} config log given n link y told right of_access other block = record {
+taken-well {w} config log given n link y le alike told right of_access other block = record {
   told = subst (λ (t : Trace w). IsToldOf m.memory link.0 y t) (sym same) told;
   right = subst (λ (t : Trace w). IsRightBeat link.0 y t) (sym same) right;
   of_access = subst (λ (t : Trace w). IsOfAccess m link.0 y t) (sym same) of_access;
   grants_other = other;
+  alike = subst (λ (t : Trace w). (k : Perm) (b : ℕ) → (bytes.is_free n k b t ≡ is_free n None k b t)
+      × (bytes.is_free n k b ((link, y) ∷ t) ≡ is_free n None k b ((link, y) ∷ t))) (sym same)
+      (λ k b. (free-world log given n k b le, alike k b));
   granted = λ z asked y_is with_data. subst (λ (t : Trace w). open_request z.source (on_link link.0 t) ≡ Some asked
       → IsGranted n (λ address. 0) link.0 z asked.block (length (unfinished Channel.D (on_link link.0 t)))
       (run_of config log)) (sym same)
-      (granted-truly config log given n link.0 z (subst (λ (b : Beat w). IsRightBeat link.0 b (trace_of log)) y_is
+      (granted-truly config log given n le link.0 z (subst (λ (b : Beat w). IsRightBeat link.0 b (trace_of log)) y_is
       right) (subst (λ (b : Beat w). GrantsBlock m.memory link.0 b (trace_of log)) y_is block) with_data asked);
   aligned = λ s a r opened. aligned-open config log given link.0 s a r opened;
 }

@@ -19,7 +19,8 @@ pub fn carries_true_bytes<const W: usize>()
 {}
 
 /// Whatever happens to a manager and its clients, no beat of what their links carry, in the order of
-/// delivery, breaks a rule of its link or of memory: a judge of all links finds nothing.
+/// delivery, breaks a rule of its link or of memory: a judge of all links finds nothing, whatever liberties the links
+/// have besides those of their profile.
 pub fn breaks_no_rule_together<const W: usize>()
     requires { IsWidth W }
     ensures { Concord W }

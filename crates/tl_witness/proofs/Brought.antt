@@ -22,14 +22,16 @@ use Rattle.tl_memory.specs.statement.Expecting.{ExpectsGrant, ExpectsRead, Expec
 use Rattle.tl_memory.specs.statement.Known.{Expects}
 use Rattle.tl_memory.specs.statement.Memory.{KnowsMemory}
 use Rattle.tl_params.specs.declared.level.Level.{Level}
-use Rattle.tl_params.specs.declared.profile.Profile.{Profile}
+use Rattle.tl_params.specs.declared.liberties.Liberties.{Liberties}
 use Rattle.tl_rules.proofs.Rooms.{base_in_memory}
 use Rattle.tl_rules.specs.code.Open.{open_request}
 use Rattle.tl_rules.specs.code.Place.{base_of}
 use Rattle.tl_rules.specs.declared.past.Request.{Request}
-use Rattle.tl_rules.specs.statement.Conformance.{Trace, broken_on_link, on_link}
+use Rattle.tl_rules.specs.statement.Conformance.{Trace, on_link}
 use Rattle.tl_rules.specs.statement.History.{block_at}
 use Rattle.tl_together.specs.declared.judge.Judge.{Judge}
+use Rattle.tl_memory.specs.statement.Links.{KeepsRules}
+use Rattle.tl_together.proofs.Following.{followed, one_more}
 use Rattle.tl_together.specs.statement.Knows.{KnowsTrace}
 use Rattle.tl_witness.specs.code.Strays.{told_of}
 use Rattle.tl_witness.specs.statement.Strays.{answered_text, beats_come, bytes_text, granted_text, stray_line}
@@ -93,9 +95,9 @@ pub record Brings {w : ℕ} (e : Expected) (judge : Judge w) (k : ℕ) (lanes te
   pub text_is : strays_text (allows e) (told_of judge) 0 (64 * block_at e.address + (base_of w e.address + w * k)) lanes
       ≡ text
 
-module _ {w : ℕ} (levels : List Level) (p : Profile) (link : Link) (x : BeatD w) (t : Trace w) (is : IsWidth w)
-    (judge : Judge w) (knows : KnowsTrace judge levels p t)
-    (fine : broken_on_link levels p (link, Beat.D x) t ≡ None) (lanes : List ℕ) (has : x.lanes ≡ Some lanes)
+module _ {w : ℕ} (levels : List Level) (l : Liberties) (link : Link) (x : BeatD w) (t : Trace w) (is : IsWidth w)
+    (judge : Judge w) (knows : KnowsTrace judge levels l t)
+    (fine : KeepsRules l levels (link, Beat.D x) t) (lanes : List ℕ) (has : x.lanes ≡ Some lanes)
     (wide : length lanes ≡ w) where
   abbrev n : ℕ
   n = length levels
@@ -111,7 +113,8 @@ module _ {w : ℕ} (levels : List Level) (p : Profile) (link : Link) (x : BeatD 
   brings-granted e None never = absurd never
   brings-granted e (Some asked) (at, sized, known) =
       let base = base-of_block w e.address asked.block at in
-      let inside = in_block levels p n link x t is knows.legal fine in
+      let inside = in_block levels n link x t is (followed _ levels l t knows.monitor_is)
+      (one_more _ levels l (link, Beat.D x) t knows.monitor_is fine) in
       let start : 64 * (e.address / 64) + (base_of w e.address + w * k) ≡ 64 * asked.block + w * k =
       omega (arith, base, at) in
       record {
@@ -136,7 +139,8 @@ module _ {w : ℕ} (levels : List Level) (p : Profile) (link : Link) (x : BeatD 
       → Brings e judge k lanes (answered_text n link.0 x o t)
   brings-answered e None op pending never = absurd never
   brings-answered e (Some access) op pending known =
-      let inside = read_inside levels p n link x t is knows.legal fine access op pending in
+      let inside = read_inside levels n link x t is (followed _ levels l t knows.monitor_is)
+      (one_more _ levels l (link, Beat.D x) t knows.monitor_is fine) access op pending in
       let base : base_of w e.address ≡ base_of w access.request.address = ap (base_of w) known.0 in
       let block : e.address / 64 ≡ access.request.address / 64 = ap (λ a. a / 64) known.0 in
       let whole = base_in_memory w access.request.address is in

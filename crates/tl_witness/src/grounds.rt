@@ -5,11 +5,12 @@ ghost use Rattle.tl_beat.specs.declared.beat.Beat.TheVariants as beat;
 ghost use Rattle.tl_beat.specs.declared.beat.BeatD.{BeatD};
 ghost use Rattle.tl_beat.specs.statement.Width.{IsWidth};
 ghost use Rattle.tl_memory.specs.code.Changing.{IsChange};
+ghost use Rattle.tl_memory.specs.statement.Links.{KeepsRules};
 ghost use Rattle.tl_params.specs.declared.level.Level.{Level};
-ghost use Rattle.tl_params.specs.declared.profile.Profile.{Profile};
+ghost use Rattle.tl_params.specs.declared.liberties.Liberties.{Liberties};
 ghost use Rattle.tl_rules.specs.code.Open.{open_request};
 ghost use Rattle.tl_rules.specs.declared.past.Request.{Request};
-ghost use Rattle.tl_rules.specs.statement.Conformance.{Trace, broken_on_link, on_link};
+ghost use Rattle.tl_rules.specs.statement.Conformance.{Trace, on_link};
 ghost use Rattle.tl_rules.specs.statement.History as history;
 ghost use Rattle.tl_together.specs.statement.Knows.{Knows};
 ghost use Rattle.tl_witness.specs.code.Witness.{KnowsWitness};
@@ -35,8 +36,8 @@ fn tell_access<const W: usize>(
     source: u8,
     out: &mut Vec<u8>,
 ) -> Result<(), AllocError>
-    ensures { OnOk result ((levels : List Level) (p : Profile) (asked : Request) (block : ℕ) (t : Trace W) →
-        Knows judge.now levels p t false → KnowsWitness witness.now (length levels) block t → link.0 < length levels →
+    ensures { OnOk result ((levels : List Level) (l : Liberties) (asked : Request) (block : ℕ) (t : Trace W) →
+        Knows judge.now levels l t false → KnowsWitness witness.now (length levels) block t → link.0 < length levels →
         open_request source (on_link link.0 t) ≡ Some asked →
         out.new.items ≡ out.old.items ++ access_text (length levels) link.0 source asked block t) }
 {
@@ -60,8 +61,8 @@ fn tell_lanes_of<const W: usize>(
     out: &mut Vec<u8>,
 ) -> Result<(), AllocError>
     requires { IsWidth W }
-    ensures { OnOk result ((levels : List Level) (p : Profile) (x : BeatD W) (t : Trace W) → x.lanes ≡ Some lanes.now →
-        Knows judge.now levels p t false → broken_on_link levels p (link, beat.D x) t ≡ None →
+    ensures { OnOk result ((levels : List Level) (l : Liberties) (x : BeatD W) (t : Trace W) → x.lanes ≡ Some lanes.now →
+        Knows judge.now levels l t false → KeepsRules l levels (link, beat.D x) t →
         IsChange change.now judge.now.memory (length levels) (link, beat.D x) t →
         out.new.items ≡ out.old.items ++ bytes_text x.opcode (length levels) link.0 x t) }
 {
@@ -80,10 +81,10 @@ fn tell_bytes<const W: usize>(
     out: &mut Vec<u8>,
 ) -> Result<(), AllocError>
     requires { IsWidth W }
-    ensures knows { (levels : List Level) (p : Profile) (t : Trace W) (closed : Bool) →
-        Knows judge.old levels p t closed → Knows judge.new levels p t closed }
-    ensures bytes { OnOk result ((levels : List Level) (p : Profile) (t : Trace W) → Knows judge.old levels p t false →
-        broken_on_link levels p (link, beat.D x.now) t ≡ None →
+    ensures knows { (levels : List Level) (l : Liberties) (t : Trace W) (closed : Bool) →
+        Knows judge.old levels l t closed → Knows judge.new levels l t closed }
+    ensures bytes { OnOk result ((levels : List Level) (l : Liberties) (t : Trace W) → Knows judge.old levels l t false →
+        KeepsRules l levels (link, beat.D x.now) t →
         out.new.items ≡ out.old.items ++ bytes_text x.now.opcode (length levels) link.0 x.now t) }
 {
     let Some(lanes) = &x.lanes else {
@@ -105,19 +106,19 @@ pub fn tell<const W: usize>(
     out: &mut Vec<u8>,
 ) -> Result<(), AllocError>
     requires { IsWidth W }
-    ensures knows { (levels : List Level) (p : Profile) (t : Trace W) (closed : Bool) →
-        Knows judge.old levels p t closed → Knows judge.new levels p t closed }
-    ensures grant { rule ≡ MemoryRule.M1 → OnOk result ((levels : List Level) (p : Profile) (block : ℕ) (t : Trace W) →
-        Knows judge.old levels p t false → KnowsWitness witness.now (length levels) block t →
+    ensures knows { (levels : List Level) (l : Liberties) (t : Trace W) (closed : Bool) →
+        Knows judge.old levels l t closed → Knows judge.new levels l t closed }
+    ensures grant { rule ≡ MemoryRule.M1 → OnOk result ((levels : List Level) (l : Liberties) (block : ℕ) (t : Trace W) →
+        Knows judge.old levels l t false → KnowsWitness witness.now (length levels) block t →
         out.new.items ≡ out.old.items
         ++ conflicts_text (length levels) link.0 (history.capped x.now.param) block t) }
-    ensures access { rule ≡ MemoryRule.M4 → OnOk result ((levels : List Level) (p : Profile) (asked : Request)
-        (block : ℕ) (t : Trace W) → Knows judge.old levels p t false →
+    ensures access { rule ≡ MemoryRule.M4 → OnOk result ((levels : List Level) (l : Liberties) (asked : Request)
+        (block : ℕ) (t : Trace W) → Knows judge.old levels l t false →
         KnowsWitness witness.now (length levels) block t → link.0 < length levels →
         open_request x.now.source (on_link link.0 t) ≡ Some asked →
         out.new.items ≡ out.old.items ++ access_text (length levels) link.0 x.now.source asked block t) }
-    ensures bytes { rule ≢ MemoryRule.M1 → rule ≢ MemoryRule.M4 → OnOk result ((levels : List Level) (p : Profile)
-        (t : Trace W) → Knows judge.old levels p t false → broken_on_link levels p (link, beat.D x.now) t ≡ None →
+    ensures bytes { rule ≢ MemoryRule.M1 → rule ≢ MemoryRule.M4 → OnOk result ((levels : List Level) (l : Liberties)
+        (t : Trace W) → Knows judge.old levels l t false → KeepsRules l levels (link, beat.D x.now) t →
         out.new.items ≡ out.old.items ++ bytes_text x.now.opcode (length levels) link.0 x.now t) }
 {
     match rule {

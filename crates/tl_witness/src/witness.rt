@@ -9,7 +9,7 @@ ghost use Rattle.tl_explain.specs.statement.Since.{IsHeldSince};
 ghost use Rattle.tl_monitor.specs.statement.Granting;
 ghost use Rattle.tl_monitor.specs.statement.Granting.{coming};
 ghost use Rattle.tl_params.specs.declared.level.Level.{Level};
-ghost use Rattle.tl_params.specs.declared.profile.Profile.{Profile};
+ghost use Rattle.tl_params.specs.declared.liberties.Liberties.{Liberties};
 ghost use Rattle.tl_rules.specs.statement.Conformance.{Trace, on_link};
 ghost use Rattle.tl_together.specs.statement.Knows.{Knows};
 ghost use Rattle.tl_witness.specs.statement.Grounds.{conflict_by, conflicts_text, holder_text, holders_text};
@@ -174,8 +174,8 @@ impl Witness {
         given: Perm,
         out: &mut Vec<u8>,
     ) -> Result<(), AllocError>
-        ensures { OnOk result ((levels : List Level) (p : Profile) (block : ℕ) (t : Trace W) →
-            Knows judge.now levels p t false → KnowsWitness self.now (length levels) block t →
+        ensures { OnOk result ((levels : List Level) (l : Liberties) (block : ℕ) (t : Trace W) →
+            Knows judge.now levels l t false → KnowsWitness self.now (length levels) block t →
             out.new.items ≡ out.old.items ++ conflicts_text (length levels) own given block t) }
     {
         for link in 0..self.links {

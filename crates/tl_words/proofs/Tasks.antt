@@ -1,7 +1,7 @@
 -- What the words of a subcommand ask for.
 use denote.Ref.{Bor}
-use Rattle.std.proofs.Common.{◌≡◌, ◌||◌, ◌∙◌, ℕ, ap, Bool, true, false, List, refl, sym, subst, codes, inr, Result, Ok, Err}
-use Rattle.std.specs.Prelude.{IfErr, IfOk, Option, Some, None, is_some, option_map}
+use Rattle.std.proofs.Common.{◌≡◌, ◌||◌, ◌∙◌, ℕ, ap, Bool, true, false, true≢false, List, [], refl, sym, subst, codes, inr, Result, Ok, Err}
+use Rattle.std.specs.Prelude.{◌&&◌, IfErr, IfOk, Option, Some, None, is_some, option_map}
 use Rattle.std.specs.Str.{bytes_eq}
 use Rattle.std.proofs.lemmas.Slice.Eq.{bytes_eq-Decides}
 use Rattle.clap.specs.Words.{Row, Text, first_of, subcommand_of}
@@ -12,14 +12,16 @@ use Rattle.tl_command.specs.declared.chart.Range.{Range}
 use Rattle.tl_command.specs.declared.search.Aim.{Aim}
 use Rattle.tl_command.specs.declared.search.Inquiry.{Inquiry}
 use Rattle.tl_command.specs.statement.ChartWords.{IsRange}
-use Rattle.tl_command.specs.statement.LibertyWords.{AreAllowed}
+use Rattle.tl_command.specs.statement.LibertyWords.{AreAllowed, LacksComma}
 use Rattle.tl_command.specs.statement.RandomWords.{IsWrong, Words}
 use Rattle.tl_command.specs.statement.SearchWords.{IsInquiry}
+use Rattle.tl_command.proofs.LibertyWords.{liberties_again}
 use Rattle.tl_command.proofs.RandomOptions.{wrong_for_all}
+use Rattle.tl_params.proofs.Options.{some_pair}
 use Rattle.tl_words.specs.declared.words.WordsFault.{WordsFault}
 use Rattle.tl_words.specs.declared.words.WordsFault.TheVariants as fault
 use Rattle.tl_words.specs.Refused.{AsksNothing, IsFaultOf, IsRefusal}
-use Rattle.tl_words.specs.Tool.{AreAllowedIn, IsAim, IsInquiryOf, IsTaskOf, command_in, command_named, is_reported, together_named}
+use Rattle.tl_words.specs.Tool.{AreAllowedIn, AreTaken, IsAim, IsInquiryOf, IsTaskOf, command_in, command_named, is_reported, together_named}
 use Rattle.tl_words.specs.Tool.{tool_of, words_in}
 use Rattle.tl_params.specs.declared.liberties.Liberties.{Liberties}
 
@@ -118,7 +120,7 @@ no_report name word rows none said other another reported (Chart range file) is 
 no_report name word rows none said other another reported (Draw options) is = let same = is.0 in absurd cc
 
 -- a word of `--allow` that names no liberties asks for nothing
-pub no_liberties_named : (name : Text) (rows : List Row) → ((allow : Liberties) → ¬ AreAllowedIn rows allow)
+pub no_liberties_named : (name : Text) (rows : List Row) → ((allow : Liberties) → ¬ AreAllowedIn name rows allow)
     → bytes_eq name (codes "random") ≡ false → bytes_eq name (codes "chart") ≡ false → (task : Task)
     → ¬ IsTaskOf name rows task
 no_liberties_named name rows none other another (Read command allow file) is = none allow is.4
@@ -128,13 +130,29 @@ no_liberties_named name rows none other another (Chart range file) is = let same
 no_liberties_named name rows none other another (Draw options) is = let same = is.0 in absurd cc
 
 -- the entries have this word of `--allow`
-pub allowed_in : (rows : List Row) {a : Option Text} → a ≡ first_of (codes "allow") rows → (allow : Liberties)
-    → AreAllowed a allow → AreAllowedIn rows allow
-allowed_in rows is allow are = subst (λ (o : Option Text). AreAllowed o allow) is are
+pub allowed_in : (name : Text) (rows : List Row) {a : Option Text} → a ≡ first_of (codes "allow") rows
+    → (allow : Liberties) → AreTaken name a allow → AreAllowedIn name rows allow
+allowed_in name rows is allow are = subst (λ (o : Option Text). AreTaken name o allow) is are
 
-pub none_allowed_in : (rows : List Row) {a : Option Text} → a ≡ first_of (codes "allow") rows
-    → ((allow : Liberties) → ¬ AreAllowed a allow) → (allow : Liberties) → ¬ AreAllowedIn rows allow
-none_allowed_in rows is none allow are = none allow (subst (λ (o : Option Text). AreAllowed o allow) (sym is) are)
+pub none_allowed_in : (name : Text) (rows : List Row) {a : Option Text} → a ≡ first_of (codes "allow") rows
+    → ((allow : Liberties) → ¬ AreTaken name a allow) → (allow : Liberties) → ¬ AreAllowedIn name rows allow
+none_allowed_in name rows is none allow are =
+    none allow (subst (λ (o : Option Text). AreTaken name o allow) (sym is) are)
+
+-- a word of `--allow` names one set of liberties
+allowed_once : (word : Option Text) (l m : Liberties) → AreAllowed word l → AreAllowed word m → l ≡ m
+allowed_once None l m are also = are ∙ sym also
+allowed_once (Some word) l m are also =
+    let lacks : LacksComma [] = λ rest e. absurd cc in
+    (some_pair (l, []) (m, []) (sym (liberties_again word [] l are lacks) ∙ liberties_again word [] m also lacks)).0
+
+-- none where links are judged together, whose answers would be early
+pub none_early : (name : Text) (word : Option Text) (allow : Liberties) → AreAllowed word allow
+    → bytes_eq name (codes "coherent") ≡ true → allow.early ≡ true → (other : Liberties) → ¬ AreTaken name word other
+none_early name word allow are together early other (also, late) =
+    let same = allowed_once word allow other are also in
+    let soon : other.early ≡ true = ap (λ (l : Liberties). l.early) (sym same) ∙ early in
+    true≢false (rw (together, soon) at late)
 
 module _ (texts : List Text) (name : Text) (rows : List Row) (is : subcommand_of tool_of texts ≡ Some (name, rows))
   where

@@ -1,5 +1,5 @@
 -- The command line as `clap` sees it, and what its matches mean.
-use Rattle.std.specs.Prelude.{◌≡◌, ◌||◌, Bool, List, Option, Some, None, codes, true, false, if◌then◌else◌, is_some}
+use Rattle.std.specs.Prelude.{◌≡◌, ◌&&◌, ◌||◌, Bool, List, Option, Some, None, codes, true, false, if◌then◌else◌, is_some}
 use Rattle.std.specs.Prelude.{option_map}
 use Rattle.std.specs.Str.{bytes_eq}
 use Rattle.std.specs.String.{string_bytes}
@@ -34,17 +34,16 @@ decode_of = with_rule (with_rule (new_app (codes "decode")) width_rule) (new_rul
 abbrev pub all_rule : Rule
 all_rule = valued_rule (codes "all")
 
--- `[--all N] [--report FILE] [--junit FILE]`
+-- `[--allow LIBERTIES] [--all N] [--report FILE] [--junit FILE]`
 abbrev pub with_reports : App → App
-with_reports a =
-    with_rule (with_rule (with_rule a all_rule) (valued_rule (codes "report"))) (valued_rule (codes "junit"))
+with_reports a = with_rule (with_rule (with_rule (with_rule a (valued_rule (codes "allow"))) all_rule)
+    (valued_rule (codes "report"))) (valued_rule (codes "junit"))
 
 -- `monitor [--allow LIBERTIES] [--all N] [--report FILE] [--junit FILE] [FILE]`
 abbrev pub monitor_of : App
-monitor_of = with_rule (with_reports (with_rule (new_app (codes "monitor")) (valued_rule (codes "allow"))))
-    (new_rule (codes "FILE"))
+monitor_of = with_rule (with_reports (new_app (codes "monitor"))) (new_rule (codes "FILE"))
 
--- `coherent [--all N] [--report FILE] [--junit FILE] [FILE]`
+-- `coherent [--allow LIBERTIES] [--all N] [--report FILE] [--junit FILE] [FILE]`
 abbrev pub coherent_of : App
 coherent_of = with_rule (with_reports (new_app (codes "coherent"))) (new_rule (codes "FILE"))
 
@@ -167,24 +166,29 @@ IsInquiryOf name word q = (together : Bool) × (together_named name ≡ Some tog
 abbrev pub is_reported : List Row → Bool
 is_reported rows = is_some (first_of (codes "report") rows) || is_some (first_of (codes "junit") rows)
 
+-- the word of `--allow` names these for the command of this name: early answers are none of them where links are judged
+-- together
+abbrev pub AreTaken : Text → Option Text → Liberties → Type 0
+AreTaken name word allow = AreAllowed word allow × (bytes_eq name (codes "coherent") && allow.early ≡ false)
+
 -- what links may do besides what the header names
-abbrev pub AreAllowedIn : List Row → Liberties → Type 0
-AreAllowedIn rows = AreAllowed (first_of (codes "allow") rows)
+abbrev pub AreAllowedIn : Text → List Row → Liberties → Type 0
+AreAllowedIn name rows = AreTaken name (first_of (codes "allow") rows)
 
 -- What a subcommand's name and entries ask for: a command over FILE, a search of it, a judgement of it that is reported, a
 -- chart of it, or a random schedule.
 abbrev pub IsTaskOf : Text → List Row → Task → Type 0
 IsTaskOf name rows (Read command allow file) =
     (command_in name rows ≡ Some command) × (first_of (codes "all") rows ≡ None)
-    × (option_map string_bytes file ≡ file_in rows) × (is_reported rows ≡ false) × AreAllowedIn rows allow
+    × (option_map string_bytes file ≡ file_in rows) × (is_reported rows ≡ false) × AreAllowedIn name rows allow
 IsTaskOf name rows (Search aim file) =
     IsAim name (first_of (codes "all") rows) aim × (option_map string_bytes file ≡ file_in rows)
-    × (is_reported rows ≡ false) × AreAllowedIn rows aim.allow
+    × (is_reported rows ≡ false) × AreAllowedIn name rows aim.allow
 IsTaskOf name rows (Report inquiry file report junit) =
     IsInquiryOf name (first_of (codes "all") rows) inquiry × (is_reported rows ≡ true)
     × (option_map string_bytes file ≡ file_in rows)
     × (option_map string_bytes report ≡ first_of (codes "report") rows)
-    × (option_map string_bytes junit ≡ first_of (codes "junit") rows) × AreAllowedIn rows inquiry.aim.allow
+    × (option_map string_bytes junit ≡ first_of (codes "junit") rows) × AreAllowedIn name rows inquiry.aim.allow
 IsTaskOf name rows (Chart range file) =
     (bytes_eq name (codes "chart") ≡ true)
     × IsRange (first_of (codes "lines") rows) (first_of (codes "block") rows) range

@@ -36,19 +36,21 @@ pub fn decode<'a>(alloc: Global) -> Result<clap::Command<'a>, AllocError>
         .arg(file)
 }
 
-/// A command that judges, with what it may be asked to report.
+/// A command that judges, with what it may allow links, of which this is said, and what it may be asked to report.
 fn with_reports<'a>(
     alloc: Global,
     command: clap::Command<'a>,
+    allow: &'static str,
 ) -> Result<clap::Command<'a>, AllocError>
     requires { (out-Command command).has_globals ≡ false }
     ensures app { IfOk result (λ c. app_of c ≡ with_reports (app_of command.entry)) }
     ensures local { IfOk result (λ c. (out-Command c).has_globals ≡ false) }
 {
+    let allow = valued(alloc, "allow", "LIBERTIES", allow);
     let all = valued(alloc, "all", "N", help::ALL);
     let report = valued(alloc, "report", "FILE", help::REPORT);
     let junit = valued(alloc, "junit", "FILE", help::JUNIT);
-    command.arg(all)?.arg(report)?.arg(junit)
+    command.arg(allow)?.arg(all)?.arg(report)?.arg(junit)
 }
 
 /// `tltool monitor`.
@@ -59,9 +61,8 @@ pub fn monitor<'a>(alloc: Global) -> Result<clap::Command<'a>, AllocError>
     let monitor = clap::Command::new(alloc, "monitor")
         .about("Judges a recorded trace: writes `clean N`, N its beats, or the first line at fault")
         .after_help(help::TRACE);
-    let allow = valued(alloc, "allow", "LIBERTIES", help::ALLOW);
     let file = Arg::new(alloc, "FILE").help(FILE_HELP);
-    with_reports(alloc, monitor.arg(allow)?)?.arg(file)
+    with_reports(alloc, monitor, help::ALLOW)?.arg(file)
 }
 
 /// `tltool coherent`.
@@ -75,7 +76,7 @@ pub fn coherent<'a>(alloc: Global) -> Result<clap::Command<'a>, AllocError>
         )
         .after_help(help::TOGETHER);
     let file = Arg::new(alloc, "FILE").help(FILE_HELP);
-    with_reports(alloc, coherent)?.arg(file)
+    with_reports(alloc, coherent, help::ALLOW_TOGETHER)?.arg(file)
 }
 
 /// `tltool explain`.

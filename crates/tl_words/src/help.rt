@@ -190,6 +190,14 @@ pub const TOGETHER: &str = outcomes_of_all_links!(
 pub const ALLOW: &str =
     "Allow links this besides what the header names: none, standard, or names of ids, sinks, writer, early, drops, reports, denied and uncorrupt, in this order, with a comma between them";
 
+/// What the word of `--allow` has to be where links are judged together, whose answers aren't early.
+pub const WANTED_TOGETHER: &str =
+    "none, or names of ids, sinks, writer, drops, reports, denied and uncorrupt, in this order, with a comma between them";
+
+/// What help says of `--allow` there.
+pub const ALLOW_TOGETHER: &str =
+    "Allow links this besides what the header names: none, or names of ids, sinks, writer, drops, reports, denied and uncorrupt, in this order, with a comma between them";
+
 /// What help says of `--all`.
 pub const ALL: &str =
     "Go on behind a line at fault, whose beat isn't taken, up to N such lines; `faults N` says how many were found";

@@ -37,7 +37,7 @@ fn reported(
     words: &ReportWords,
 ) -> Result<Task, WordsFault>
     ensures read { IfOk result (λ task. (rows : List Row) → AreGiven rows words.now → is_reported rows ≡ true →
-        AreAllowedIn rows allow → IsTaskOf name.now rows task) }
+        AreAllowedIn name.now rows allow → IsTaskOf name.now rows task) }
     ensures wrong { IfErr result (λ fault. (rows : List Row) → AreGiven rows words.now → is_reported rows ≡ true →
         bytes_eq name.now (codes "random") ≡ false → bytes_eq name.now (codes "chart") ≡ false →
         IsFaultOf name.now rows fault) }
@@ -70,7 +70,7 @@ pub(crate) fn report(
     requires random { bytes_eq name.now (codes "random") ≡ false }
     requires chart { bytes_eq name.now (codes "chart") ≡ false }
     requires reported { is_reported (rows_of (found_of found.now)) ≡ true }
-    requires allowed { AreAllowedIn (rows_of (found_of found.now)) allow }
+    requires allowed { AreAllowedIn name.now (rows_of (found_of found.now)) allow }
     ensures read { IfOk result (IsTaskOf name.now (rows_of (found_of found.now))) }
     ensures wrong { IfErr result (IsFaultOf name.now (rows_of (found_of found.now))) }
 {

@@ -1,18 +1,19 @@
 //! Reads the program's words: `tltool decode [--width 4|8|16] [FILE]`, `tltool monitor [--allow LIBERTIES] [--all N]
-//! [--report FILE] [--junit FILE] [FILE]`, `tltool coherent [--all N] [--report FILE] [--junit FILE] [FILE]`,
-//! `tltool explain [--coherent] FILE`, `tltool chart [--lines A-B] [--block BBB] [FILE]`, `tltool run [--trace] [FILE]`,
-//! `tltool random --seed N` with its options, and those that ask for help or the version.
+//! [--report FILE] [--junit FILE] [FILE]`, `tltool coherent` with the same options, `tltool explain [--coherent] FILE`,
+//! `tltool chart [--lines A-B] [--block BBB] [FILE]`, `tltool run [--trace] [FILE]`, `tltool random --seed N` with its
+//! options, and those that ask for help or the version.
 
-ghost use Rattle.std.specs.Prelude.{◌≡◌, IfOk, IfErr, true, false, List, Some, bytes_eq, codes, map, option_map};
+ghost use Rattle.std.specs.Prelude.{◌≡◌, IfOk, IfErr, MatchOption, true, false, List, Some, bytes_eq, codes, map, option_map};
 ghost use Rattle.std.specs.String.{string_bytes};
 ghost use Rattle.clap.specs.Words.{Row, Text, first_of, found_of, is_simple_and_free};
 ghost use Rattle.clap.specs.Words.{kind_of, rows_of, subcommand_of};
 ghost use Rattle.tl_words.specs.Refused.{IsFaultOf, IsRefusal, status_of_usage, usage_status, words_fault};
 ghost use Rattle.tl_command.specs.statement.RandomWords.{words_of};
-ghost use Rattle.tl_words.specs.Tool.{AreAllowedIn, IsTaskOf, command_named, flag_named, is_reported, together_named, tool_of};
+ghost use Rattle.tl_words.specs.Tool.{AreAllowedIn, AreTaken, IsTaskOf, command_named, flag_named, is_reported, together_named, tool_of};
 ghost use Rattle.tl_words.specs.Tool.{words_in};
 
 use crate::commands::{chart, coherent, decode, explain, monitor, random, tool};
+use crate::help;
 use crate::report::{is_reported, report};
 use clap::ArgMatches;
 use clap::error::ErrorKind;
@@ -274,15 +275,22 @@ pub(crate) fn wrong_number(
 }
 
 /// The error of a word of `--allow` that names no liberties.
-fn wrong_liberties(alloc: Global, word: Option<&str>) -> Result<clap::Error, AllocError>
+fn wrong_liberties(
+    alloc: Global,
+    together: bool,
+    word: Option<&str>,
+) -> Result<clap::Error, AllocError>
     ensures { IfOk result (λ error. status_of_usage error ≡ 2) }
 {
     let word = word.unwrap_or("");
-    let message = format!(in alloc;
-        "invalid value '{word}' for '--allow <LIBERTIES>': {LIBERTIES_WANTED}"
-    )?;
-    let mut monitor = monitor(alloc)?.bin_name("tltool monitor")?;
-    monitor.error(ErrorKind::InvalidValue, message.as_str())
+    let wanted = if together {
+        help::WANTED_TOGETHER
+    } else {
+        LIBERTIES_WANTED
+    };
+    let message = format!(in alloc; "invalid value '{word}' for '--allow <LIBERTIES>': {wanted}")?;
+    let mut command = searching(alloc, together)?;
+    command.error(ErrorKind::InvalidValue, message.as_str())
 }
 
 /// Whether the command of this name judges all links together, or each by itself; others don't search.
@@ -306,7 +314,7 @@ fn search(
 ) -> Result<Task, WordsFault>
     ensures read { IfOk result (λ task. (rows : List Row) → first_of (codes "all") rows ≡ Some word.now →
         first_of (codes "FILE") rows ≡ option_map (λ s. s.now) name_of_file.entry → is_reported rows ≡ false →
-        AreAllowedIn rows allow → IsTaskOf name.now rows task) }
+        AreAllowedIn name.now rows allow → IsTaskOf name.now rows task) }
     ensures wrong { IfErr result (λ fault. (rows : List Row) → first_of (codes "all") rows ≡ Some word.now →
         bytes_eq name.now (codes "random") ≡ false → bytes_eq name.now (codes "chart") ≡ false →
         is_reported rows ≡ false → IsFaultOf name.now rows fault) }
@@ -333,7 +341,7 @@ fn read(alloc: Global, name: &str, allow: Liberties, found: &ArgMatches) -> Resu
     requires random { bytes_eq name.now (codes "random") ≡ false }
     requires chart { bytes_eq name.now (codes "chart") ≡ false }
     requires unreported { is_reported (rows_of (found_of found.now)) ≡ false }
-    requires allowed { AreAllowedIn (rows_of (found_of found.now)) allow }
+    requires allowed { AreAllowedIn name.now (rows_of (found_of found.now)) allow }
     ensures read { IfOk result (IsTaskOf name.now (rows_of (found_of found.now))) }
     ensures wrong { IfErr result (IsFaultOf name.now (rows_of (found_of found.now))) }
 {
@@ -355,6 +363,19 @@ fn read(alloc: Global, name: &str, allow: Liberties, found: &ArgMatches) -> Resu
     })
 }
 
+/// The liberties that the word of `--allow` names for the command of this name. `coherent` takes no `early`.
+fn allowed_for(name: &str, word: Option<&str>) -> Option<Liberties>
+    ensures { MatchOption result
+        ((allow : Liberties) → ¬ AreTaken name.now (option_map (λ s. s.now) word.entry) allow)
+        (AreTaken name.now (option_map (λ s. s.now) word.entry)) }
+{
+    let allow = allowed_named(word)?;
+    if name == "coherent" && allow.early {
+        return None;
+    }
+    Some(allow)
+}
+
 /// What the entries of a command ask for that reads.
 fn asked(alloc: Global, name: &str, found: &ArgMatches) -> Result<Task, WordsFault>
     requires random { bytes_eq name.now (codes "random") ≡ false }
@@ -363,8 +384,8 @@ fn asked(alloc: Global, name: &str, found: &ArgMatches) -> Result<Task, WordsFau
     ensures wrong { IfErr result (IsFaultOf name.now (rows_of (found_of found.now))) }
 {
     let word = found.get_str("allow");
-    let Some(allow) = allowed_named(word) else {
-        return Err(WordsFault::Usage(wrong_liberties(alloc, word)?));
+    let Some(allow) = allowed_for(name, word) else {
+        return Err(WordsFault::Usage(wrong_liberties(alloc, name == "coherent", word)?));
     };
     if is_reported(found) {
         report(alloc, name, allow, found)

@@ -1,5 +1,5 @@
 -- How the program ends, by its exit status.
-use Rattle.std.specs.Prelude.{◌≡◌, ◌⊎◌, ◌++◌, ℕ, Bool, List, Option, Result, Ok, Err, IfErr, IfOk, OnErr, OnOk}
+use Rattle.std.specs.Prelude.{◌≡◌, ◌⊎◌, ◌++◌, ℕ, Bool, false, true, List, Option, Result, Ok, Err, IfErr, IfOk, OnErr, OnOk}
 use Rattle.std.specs.Io.KnownBytes.{Appends}
 use Rattle.tl_chart.specs.declared.window.Window.{Window}
 use Rattle.tl_command.specs.declared.command.Command.{Command}
@@ -31,20 +31,20 @@ use Rattle.tl_random.specs.statement.Random.{WritesPart, WritesSchedule}
 use Rattle.tl_report.specs.declared.findings.Finding.{Finding}
 use Rattle.tl_report.specs.statement.Said.{GivesUpSearching, Searches, all_text, status_of}
 
--- A command's text of these lines, with the status at their end. `monitor` reads headers that name liberties too, and
--- allows links this besides.
+-- A command's text of these lines, with the status at their end. `monitor` and `coherent` read headers that name liberties
+-- too, and allow links this besides.
 abbrev pub program_told : Command → Liberties → List (List ℕ) → List ℕ → Status → Type 0
-program_told Monitor allow = JudgedLinks allow
+program_told Monitor allow = JudgedLinks false allow
 program_told (Decode width) allow = text_told (Decode width)
-program_told Coherent allow = text_told Coherent
+program_told Coherent allow = JudgedLinks true allow
 program_told (Explain together) allow = text_told (Explain together)
 program_told (Run trace) allow = text_told (Run trace)
 
 -- the text of these lines, of which none is at fault, before the end of the input
 abbrev pub program_so_far : Command → Liberties → List (List ℕ) → List ℕ → Type 0
-program_so_far Monitor allow = LinksSoFar allow
+program_so_far Monitor allow = LinksSoFar false allow
 program_so_far (Decode width) allow = text_so_far (Decode width)
-program_so_far Coherent allow = text_so_far Coherent
+program_so_far Coherent allow = LinksSoFar true allow
 program_so_far (Explain together) allow = text_so_far (Explain together)
 program_so_far (Run trace) allow = text_so_far (Run trace)
 

@@ -63,7 +63,7 @@ fn refused(rt: &HostRuntime, fault: WordsFault) -> u8
     }
 }
 
-/// Runs a command over an input. `monitor` allows links this besides what the header names.
+/// Runs a command over an input. `monitor` and `coherent` allow links this besides what the header names.
 fn run_over<R: Read, W: Write>(
     rt: &HostRuntime,
     command: Command,
@@ -75,7 +75,8 @@ fn run_over<R: Read, W: Write>(
         (W.contents output.new) result }
 {
     match command {
-        Command::Monitor => told(rt, run_links(rt.alloc(), allow, input, output)),
+        Command::Monitor => told(rt, run_links(rt.alloc(), false, allow, input, output)),
+        Command::Coherent => told(rt, run_links(rt.alloc(), true, allow, input, output)),
         _ => told(rt, run_tool(rt.alloc(), command, input, output)),
     }
 }

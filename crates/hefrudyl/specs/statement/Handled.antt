@@ -27,6 +27,10 @@ abbrev pub JudgeOpenTold : Option Session → Option Session → List ℕ → �
 JudgeOpenTold old new levels width profile answer =
     OpensHandle (Sessions.JudgeOpens levels width profile) old new answer
 
+abbrev pub JudgeOpenUnderTold : Option Session → Option Session → List ℕ → ℕ → ℕ → Answer → Type 0
+JudgeOpenUnderTold old new levels width liberties answer =
+    OpensHandle (Sessions.JudgeOpensUnder levels width liberties) old new answer
+
 abbrev pub ClientOpenTold : Option Session → Option Session → ℕ → ℕ → ℕ → ℕ → ℕ → Answer → Type 0
 ClientOpenTold old new level blocks sources width profile answer =
     OpensHandle (Sessions.ClientOpens level blocks sources width profile) old new answer

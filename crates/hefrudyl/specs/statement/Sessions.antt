@@ -1,5 +1,5 @@
 -- What C is told of a monitor, a judge, a client or a manager that a session holds.
-use Rattle.std.specs.Prelude.{ℕ, List, ◌≡◌, true, Option, Some, None}
+use Rattle.std.specs.Prelude.{ℕ, Bool, List, ◌≡◌, true, Option, Some, None}
 use Rattle.tl_monitor.specs.declared.monitor.Monitor.{Monitor}
 use Rattle.tl_together.specs.declared.judge.Judge.{Judge}
 use Rattle.tl_ports.specs.declared.client.ClientPort.{ClientPort}
@@ -24,7 +24,10 @@ use Rattle.hefrudyl.specs.statement.Manager.{Admitted, StallsAt, ShowsAt, PopsAt
 use Rattle.hefrudyl.specs.statement.ManagerOpened.{may_open_manager, IsFreshManager}
 use Rattle.hefrudyl.specs.statement.Opened.{may_open, refusal}
 use Rattle.hefrudyl.specs.statement.Together.{ToldTogether, ToldOfLineTogether}
-use Rattle.hefrudyl.specs.statement.TogetherOpened.{IsFreshJudge}
+use Rattle.hefrudyl.specs.statement.TogetherOpened.{IsFreshJudge, may_judge_under}
+use Rattle.tl_params.specs.declared.liberties.Liberties.{Liberties}
+use Rattle.tl_params.specs.statement.Liberties.{liberties_of}
+use Rattle.tl_pictures.specs.statement.Codes.{liberties_at, profile_at}
 
 -- ---- monitors
 
@@ -52,17 +55,25 @@ EntriesSession link was entries answer s =
 -- ---- judges of all links
 
 -- the judge is new, and of the width
-abbrev pub IsOpenedJudge : List ℕ → ℕ → ℕ → Session → Type 0
-IsOpenedJudge codes width profile (session.Judge (judge.Four j)) = (width ≡ 4) × IsFreshJudge codes profile j
-IsOpenedJudge codes width profile (session.Judge (judge.Eight j)) = (width ≡ 8) × IsFreshJudge codes profile j
-IsOpenedJudge codes width profile (session.Judge (judge.Sixteen j)) = (width ≡ 16) × IsFreshJudge codes profile j
-IsOpenedJudge codes width profile _ = ⊥
+abbrev pub IsOpenedJudge : List ℕ → ℕ → Liberties → Session → Type 0
+IsOpenedJudge codes width l (session.Judge (judge.Four j)) = (width ≡ 4) × IsFreshJudge codes l j
+IsOpenedJudge codes width l (session.Judge (judge.Eight j)) = (width ≡ 8) × IsFreshJudge codes l j
+IsOpenedJudge codes width l (session.Judge (judge.Sixteen j)) = (width ≡ 16) × IsFreshJudge codes l j
+IsOpenedJudge codes width l _ = ⊥
 
--- what is told of a handle that held nothing
+-- a judge of links with these liberties is opened where it may be
+abbrev pub OpensJudge : List ℕ → ℕ → Liberties → Bool → Option Session → Answer → Type 0
+OpensJudge codes width l may (Some s) answer = (answer ≡ ok) × (may ≡ true) × IsOpenedJudge codes width l s
+OpensJudge codes width l may None answer = answer ≡ refusal may
+
+-- what a handle that held nothing opens, of links of a profile and of links with liberties
 abbrev pub JudgeOpens : List ℕ → ℕ → ℕ → Option Session → Answer → Type 0
-JudgeOpens codes width profile (Some s) answer =
-    (answer ≡ ok) × (may_open codes width profile ≡ true) × IsOpenedJudge codes width profile s
-JudgeOpens codes width profile None answer = answer ≡ refusal (may_open codes width profile)
+JudgeOpens codes width profile =
+    OpensJudge codes width (liberties_of (profile_at profile)) (may_open codes width profile)
+
+abbrev pub JudgeOpensUnder : List ℕ → ℕ → ℕ → Option Session → Answer → Type 0
+JudgeOpensUnder codes width liberties =
+    OpensJudge codes width (liberties_at liberties) (may_judge_under codes width liberties)
 
 -- this holds of the judge before and after, likewise
 abbrev pub OnJudge : ((w : ℕ) → Judge w → Judge w → Type 0) → Type 0 → Session → Session → Type 0

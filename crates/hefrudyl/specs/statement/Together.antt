@@ -5,7 +5,7 @@ use Rattle.tl_beat.specs.declared.beat.Link.{Link}
 use Rattle.tl_beat.specs.declared.fault.LineFault.{LineFault}
 use Rattle.tl_beat.specs.statement.Line.{Spells, line_fault}
 use Rattle.tl_params.specs.declared.level.Level.{Level}
-use Rattle.tl_params.specs.declared.profile.Profile.{Profile}
+use Rattle.tl_params.specs.declared.liberties.Liberties.{Liberties}
 use Rattle.tl_rules.specs.statement.Conformance.{Trace}
 use Rattle.tl_together.specs.declared.fault.JudgeFault.{JudgeFault}
 use Rattle.tl_together.specs.declared.judge.Judge.{Judge}
@@ -21,10 +21,10 @@ use Rattle.tl_pictures.specs.statement.Picture.{shown}
 pub record JudgedTogether {w : ℕ} (old new : Judge w) (x : Link × Beat w) (answer : Answer) : Type 0 where
   pub judged : Result ⊤ JudgeFault
   pub told : answer ≡ judge_answer judged
-  pub lawful : (levels : List Level) (p : Profile) (t : Trace w) (closed : Bool) → Knows old levels p t closed
-      → Answers (fault_of levels p t closed x) judged
-  pub knows : (levels : List Level) (p : Profile) (t : Trace w) (closed : Bool) → Knows old levels p t closed
-      → Knows new levels p (recorded_after judged x t) (closed_after closed judged)
+  pub lawful : (levels : List Level) (l : Liberties) (t : Trace w) (closed : Bool) → Knows old levels l t closed
+      → Answers (fault_of levels l t closed x) judged
+  pub knows : (levels : List Level) (l : Liberties) (t : Trace w) (closed : Bool) → Knows old levels l t closed
+      → Knows new levels l (recorded_after judged x t) (closed_after closed judged)
 
 abbrev pub ToldOfBeatTogether : {w : ℕ} → Judge w → Judge w → Option Link → Option (Beat w) → Answer → Type 0
 ToldOfBeatTogether old new (Some link) (Some beat) answer = JudgedTogether old new (link, beat) answer

@@ -1,16 +1,21 @@
 -- What a judge of all links is made from, and what a new one knows.
-use Rattle.std.specs.Prelude.{ℕ, false, List, [], length, map, Result, Ok, Err}
+use Rattle.std.specs.Prelude.{ℕ, Bool, false, ◌&&◌, not, List, [], length, map, Result, Ok, Err}
+use Rattle.tl_params.specs.declared.liberties.Liberties.{Liberties}
 use Rattle.tl_params.specs.statement.Config.{IsCount}
 use Rattle.tl_together.specs.declared.judge.Judge.{Judge}
 use Rattle.tl_together.specs.statement.Knows.{Knows}
 use Rattle.tl_pictures.specs.declared.answer.Answer.{Answer}
-use Rattle.hefrudyl.specs.statement.Opened.{IsRefusal}
-use Rattle.tl_pictures.specs.statement.Codes.{level_at, profile_at}
+use Rattle.hefrudyl.specs.statement.Opened.{IsRefusal, may_open_under}
+use Rattle.tl_pictures.specs.statement.Codes.{level_at, liberties_at}
 
--- a new judge has the levels and the profile, and has seen no beat
-abbrev pub IsFreshJudge : {w : ℕ} → List ℕ → ℕ → Judge w → Type 0
-IsFreshJudge codes profile j = Knows j (map level_at codes) (profile_at profile) [] false
+-- 1 to 16 levels, a width, and liberties that aren't early answers
+abbrev pub may_judge_under : List ℕ → ℕ → ℕ → Bool
+may_judge_under codes width liberties = may_open_under codes width && not (liberties_at liberties).early
 
-abbrev pub MakesJudge : {w : ℕ} → List ℕ → ℕ → Result (Judge w) Answer → Type 0
-MakesJudge codes profile (Ok j) = IsFreshJudge codes profile j
-MakesJudge codes profile (Err answer) = IsRefusal (IsCount (length codes)) answer
+-- a new judge has the levels and the liberties, and has seen no beat
+abbrev pub IsFreshJudge : {w : ℕ} → List ℕ → Liberties → Judge w → Type 0
+IsFreshJudge codes l j = Knows j (map level_at codes) l [] false
+
+abbrev pub MakesJudge : {w : ℕ} → List ℕ → Liberties → Result (Judge w) Answer → Type 0
+MakesJudge codes l (Ok j) = IsFreshJudge codes l j
+MakesJudge codes l (Err answer) = IsRefusal (IsCount (length codes)) answer

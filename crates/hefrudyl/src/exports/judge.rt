@@ -1,7 +1,7 @@
 //! What C may do with a judge of all links of a manager.
 
 ghost use Rattle.std.specs.Prelude.{◌≡◌, None};
-ghost use Rattle.hefrudyl.specs.statement.Handled.{JudgeOpenTold, JudgeTold, JudgeLineTold};
+ghost use Rattle.hefrudyl.specs.statement.Handled.{JudgeOpenTold, JudgeOpenUnderTold, JudgeTold, JudgeLineTold};
 
 use crate::handle::Handle;
 use crate::session::Session;
@@ -26,6 +26,25 @@ pub extern "C" fn tl_judge_new(
         alloc,
         judge,
         Session::open_judge(alloc, levels, width, profile)
+    )
+}
+
+/// Makes a judge of all links of a manager, of these levels, that have these liberties, bit 0 for `ids` to
+/// bit 7 for `uncorrupt`, behind a handle that holds nothing. `early`, bit 3, is a bad argument.
+#[unsafe(no_mangle)]
+pub extern "C" fn tl_judge_new_under(
+    alloc: Global,
+    judge: &mut Handle,
+    levels: &[u8],
+    width: u8,
+    liberties: u8,
+) -> Answer
+    ensures { JudgeOpenUnderTold judge.old.place.value judge.new.place.value levels.now width liberties result }
+{
+    opened!(
+        alloc,
+        judge,
+        Session::open_judge_under(alloc, levels, width, liberties)
     )
 }
 

@@ -26,7 +26,7 @@ use Rattle.tl_rules.specs.statement.Admission.{bytes_carried, is_spoiled, lanes_
 use Rattle.tl_rules.specs.statement.Conformance.{Trace, on_link}
 use Rattle.tl_rules.specs.statement.Effect.{Memory, effect}
 use Rattle.tl_rules.specs.statement.History.{block_at, ends, grants, is_release_ack, request_of}
-use Rattle.tl_rules.specs.statement.Windows.{is_free}
+use Rattle.tl_bytes.specs.statement.Free.{is_free}
 
 -- Moments are numbers of beats: moment n is after the first n beats of the trace.
 
@@ -153,21 +153,21 @@ windows_since n block asked [] = 0
 windows_since n block asked (x ∷ t) =
     if nat_lt (suc (length t)) asked then 0 else
     windows_since n block asked t
-    + (if is_free n None perm.Trunk block (x ∷ t)
-    && ((suc (length t) == asked) || not (is_free n None perm.Trunk block t)) then 1 else 0)
+    + (if is_free n perm.Trunk block (x ∷ t)
+    && ((suc (length t) == asked) || not (is_free n perm.Trunk block t)) then 1 else 0)
 
 -- the moment at which the window began that is open, since this one
 unfoldable pub window_began : {w : ℕ} → ℕ → ℕ → ℕ → Trace w → ℕ
 window_began n block asked [] = 0
 window_began n block asked (x ∷ t) =
-    if nat_lt asked (suc (length t)) && is_free n None perm.Trunk block t
+    if nat_lt asked (suc (length t)) && is_free n perm.Trunk block t
     then window_began n block asked t else suc (length t)
 
 -- the last moment at which the block was free
 unfoldable pub last_window : {w : ℕ} → ℕ → ℕ → Trace w → ℕ
 last_window n block [] = 0
 last_window n block (x ∷ t) =
-    if is_free n None perm.Trunk block (x ∷ t) then suc (length t) else last_window n block t
+    if is_free n perm.Trunk block (x ∷ t) then suc (length t) else last_window n block t
 
 -- ---- what is told of bytes
 
@@ -186,12 +186,13 @@ tells_granted d.GrantData asked = true
 tells_granted d.Grant asked = asks_unread asked
 tells_granted _ asked = false
 
--- a message that is complete with this beat tells what the bytes of the block are: data that are given
--- back or granted, and, as anything, a Grant to one who writes all of them
+-- A message that is complete with this beat tells what the bytes of the block are: data that are given
+-- back or granted, and, as anything, a Grant to one who writes all of them. A denied Grant tells nothing.
 abbrev pub tells : {w : ℕ} → ℕ → Beat w → History w → Bool
 tells block (beat.C x) past = ends (beat.C x) past && (c_carries_data x.opcode && (block_at x.address == block))
 tells block (beat.D x) past =
-    ends (beat.D x) past && (grants block x past && tells_granted x.opcode (request_of x.source past))
+    ends (beat.D x) past
+    && (grants block x past && (not x.denied && tells_granted x.opcode (request_of x.source past)))
 tells block _ past = false
 
 -- the moment at which the bytes of the block were last told so
@@ -214,7 +215,7 @@ told_too now before = now ∷ filter (λ e. not (same_value e.value now.value)) 
 -- been performed before what was told last, or after. One that is denied may not have been performed.
 abbrev pub after_write : {w : ℕ} → ℕ → ℕ → Access w → Bool → Telling → Trace w → List Telling → List Telling
 after_write n block access denied now t before =
-    if is_free n None perm.Trunk block t
+    if is_free n perm.Trunk block t
     then if (windows_since n block access.asked t == 1) && not denied
     then told_too now (filter (λ e. nat_le (window_began n block access.asked t) e.moment) before)
     else told_too now before

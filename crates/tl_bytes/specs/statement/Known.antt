@@ -7,7 +7,7 @@ use Rattle.tl_beat.specs.declared.beat.Link.{Link}
 use Rattle.tl_burst.specs.statement.Messages.{channel_of, unfinished}
 use Rattle.tl_params.specs.declared.perm.Perm.TheVariants as perm
 use Rattle.tl_rules.specs.statement.Conformance.{Trace, on_link}
-use Rattle.tl_rules.specs.statement.Windows.{is_free}
+use Rattle.tl_bytes.specs.statement.Free.{is_free}
 use Rattle.tl_bytes.specs.declared.block_bytes.BlockBytes.{BlockBytes}
 use Rattle.tl_bytes.specs.code.Tellings.{is_written, left_as, telling_at, value_at}
 use Rattle.tl_bytes.specs.declared.carried.CarriedBytes.{CarriedBytes}
@@ -103,7 +103,7 @@ KnowsGrant read n block t = (place byte : ℕ) → place < 64
 -- how an access to the block, which is answered, or denied, stands to its windows and to what was told of it
 abbrev pub standing_of : {w : ℕ} → ℕ → ℕ → Access w → Bool → Trace w → Standing
 standing_of n block access denied t =
-    if is_free n None perm.Trunk block t
+    if is_free n perm.Trunk block t
     then if (windows_since n block access.asked t == 1) && not denied
     then standing.Within (window_began n block access.asked t)
     else standing.Anywhere
@@ -118,7 +118,7 @@ count_of (suc (suc n)) = count.More
 -- the windows for writing that the block has had since a moment, the one that is open, and, where none is,
 -- the last moment at which it was free
 pub record KnowsWindows {w : ℕ} (windows : WritingWindows) (n block asked : ℕ) (t : Trace w) : Type 0 where
-  pub open_is : windows.is_open ≡ is_free n None perm.Trunk block t
+  pub open_is : windows.is_open ≡ is_free n perm.Trunk block t
   pub count_is : windows.count ≡ count_of (windows_since n block asked t)
   pub began_is : windows.is_open ≡ true → windows.began ≡ window_began n block asked t
   pub last_is : windows.is_open ≡ false → windows.last ≡ last_window n block t

@@ -14,7 +14,7 @@ use Rattle.tl_rules.specs.code.Open.{open_probe, open_request}
 use Rattle.tl_rules.specs.declared.past.Probe.{Probe}
 use Rattle.tl_rules.specs.statement.Conformance.{Trace, is_probe_block, on_link, same_perm}
 use Rattle.tl_rules.specs.statement.History.{block_at, ends, reported}
-use Rattle.tl_rules.specs.statement.Windows.{is_free}
+use Rattle.tl_bytes.specs.statement.Free.{is_free}
 
 -- the Probe, where there is one, asks for the block's bytes
 abbrev pub asks_bytes : Option Probe → Bool
@@ -44,7 +44,7 @@ shows block _ past = false
 -- shown
 abbrev pub is_window : {w : ℕ} → ℕ → Perm → ℕ → Link × Beat w → Trace w → Bool
 is_window n given block x t =
-    is_free n None given block (x ∷ t) || (same_perm given perm.Branch && shows block x.1 (on_link x.0.0 t))
+    is_free n given block (x ∷ t) || (same_perm given perm.Branch && shows block x.1 (on_link x.0.0 t))
 
 -- since the request with this source, which is pending on the link, is complete there has been such a moment
 unfoldable pub had_window : {w : ℕ} → ℕ → ℕ → ℕ → Perm → ℕ → Trace w → Bool

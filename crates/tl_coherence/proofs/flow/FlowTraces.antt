@@ -73,7 +73,7 @@ delivered-unbroken {w} config log link ch o x given moving flowing =
 -- ---- nor does any
 
 -- each beat of a trace, the newest first, breaks no rule after the older ones
-unfoldable AreGood : {w : ℕ} → List Level → Profile → Trace w → Type 0
+unfoldable pub AreGood : {w : ℕ} → List Level → Profile → Trace w → Type 0
 AreGood levels p [] = ⊤
 AreGood levels p (x ∷ t) = (broken_on_link levels p x t ≡ None) × AreGood levels p t
 
@@ -92,7 +92,7 @@ no-fault {w} levels p before (x ∷ trace) good =
     ++ before) (reverse-append (x ∷ []) trace) ∙ append_assoc (reverse trace) (x ∷ []) before) good in
     rw (older-good levels p (reverse trace) (x ∷ before) all).0 (no-fault levels p (x ∷ before) trace all)
 
-all-good : {w : ℕ} {config : Config} (log : Log w) → IsGiven config log
+pub all-good : {w : ℕ} {config : Config} (log : Log w) → IsGiven config log
     → AreGood (levels_of config) config.profile (trace_of log)
 unfolding AreGood trace_of flow
 all-good [] given = tt

@@ -5,6 +5,7 @@ use Rattle.tl_beat.specs.declared.beat.Beat.TheVariants as beat
 use Rattle.tl_beat.specs.declared.beat.BeatD.{BeatD}
 use Rattle.tl_beat.specs.declared.beat.Link.{Link}
 use Rattle.tl_beat.specs.statement.Line.{Spells}
+use Rattle.tl_params.specs.statement.Liberties.{liberties_of}
 use Rattle.tl_params.specs.declared.level.Level.{Level}
 use Rattle.tl_params.specs.declared.profile.Profile.{Profile}
 use Rattle.tl_params.specs.declared.width.Width.{Width}
@@ -80,7 +81,7 @@ RecordsBeat w old new number line =
 -- of the definition
 abbrev pub TellsRecorded : {w : ℕ} → Option Witness → Judge w → MemoryRule → Link → BeatD w → List ℕ → List ℕ → Type 0
 TellsRecorded {w} witness judge rule link y was is =
-    (levels : List Level) (p : Profile) (block : ℕ) (t : Trace w) → Knows judge levels p t false
+    (levels : List Level) (p : Profile) (block : ℕ) (t : Trace w) → Knows judge levels (liberties_of p) t false
     → IfSome witness (λ h. KnowsWitness h (length levels) block t)
     → block_asked (open_request y.source (on_link link.0 t)) ≡ Some block
     → broken_on_link levels p (link, beat.D y) t ≡ None
@@ -89,7 +90,7 @@ TellsRecorded {w} witness judge rule link y was is =
 -- of a response in the line of this number, after the trace that the judge knows, the text of the definition was told
 abbrev pub TellsResponse : {w : ℕ} → Inquiry → Inquiry → Judge w → ℕ → List ℕ → Link → BeatD w → Type 0
 TellsResponse {w} old new judge number line link y =
-    (levels : List Level) (p : Profile) (t : Trace w) → Knows judge levels p t false → KnowsRecord old (length levels) t
+    (levels : List Level) (p : Profile) (t : Trace w) → Knows judge levels (liberties_of p) t false → KnowsRecord old (length levels) t
     → Spells line link (beat.D y) → broken_on_link levels p (link, beat.D y) t ≡ None
     → new.reasons.items ≡ memory_front_text old.rule number link (beat.D y)
     ++ grounds_text old.rule (length levels) link.0 y t
@@ -177,7 +178,7 @@ pub record HasTold (i : Inquiry) (lines : List (List ℕ)) : Type 0 where
   pub link : Link
   pub response : BeatD bytes
   pub spells : Spells (spelled i.line) link (beat.D response)
-  pub breaks : broken_together levels profile (link, beat.D response) trace ≡ Some (OfMemory i.rule)
+  pub breaks : broken_together levels (liberties_of profile) (link, beat.D response) trace ≡ Some (OfMemory i.rule)
   pub says : i.reasons.items ≡ memory_front_text i.rule (i.good + 1) link (beat.D response)
       ++ grounds_text i.rule (length levels) link.0 response trace
 

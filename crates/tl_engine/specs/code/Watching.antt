@@ -5,6 +5,7 @@ use Rattle.std.specs.Fmt.{decimal}
 use Rattle.tl_beat.specs.declared.beat.Link.{Link}
 use Rattle.tl_beat.specs.declared.beat.Beat.{Beat}
 use Rattle.tl_beat.specs.statement.Line.{Spells}
+use Rattle.tl_params.specs.statement.Liberties.{liberties_of}
 use Rattle.tl_params.specs.declared.level.Level.{Level}
 use Rattle.tl_params.specs.declared.profile.Profile.{Profile}
 use Rattle.tl_rules.specs.statement.Conformance.{Trace}
@@ -52,7 +53,7 @@ JudgedSo together = JudgedBy SpellsHeader (faults_by together) (said_by together
 -- a judge of these links knows the beats of a trace, none of which was at fault
 abbrev pub KnowsBeats : {w : ℕ} → Bool → BeatJudge w → List Level → Profile → Trace w → Type 0
 KnowsBeats false (OfLinks monitor) levels p t = of_link.Knows monitor levels p t false
-KnowsBeats true (OfAll judge) levels p t = of_all.Knows judge levels p t false
+KnowsBeats true (OfAll judge) levels p t = of_all.Knows judge levels (liberties_of p) t false
 KnowsBeats _ _ levels p t = ⊥
 
 -- what the judge says of a beat behind a trace: it isn't at fault, and the judge knows the longer trace, or

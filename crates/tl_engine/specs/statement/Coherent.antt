@@ -1,6 +1,7 @@
 -- What a trace of all links of a manager is judged, the links together.
 use Rattle.std.specs.Prelude.{ℕ, List, ◌++◌, codes, option_map}
 use Rattle.std.specs.Fmt.{decimal}
+use Rattle.tl_params.specs.statement.Liberties.{liberties_of}
 use Rattle.tl_together.specs.declared.breach.Breach.{Breach}
 use Rattle.tl_together.specs.declared.breach.Breach.TheVariants.{OfLink, OfMemory}
 use Rattle.tl_together.specs.statement.Coherence.{broken_together}
@@ -22,7 +23,7 @@ fault_of_breach (OfMemory rule) = MemoryRule rule
 -- A beat is at fault for the first rule that it breaks after the earlier beats of all links: one of its own
 -- link, or, where it breaks none there, one of memory.
 abbrev pub faults_together : Faults
-faults_together w levels p x t = option_map fault_of_breach (broken_together levels p x t)
+faults_together w levels p x t = option_map fault_of_breach (broken_together levels (liberties_of p) x t)
 
 -- a trace is judged so, all its links together
 abbrev pub JudgedTogether : List (List ℕ) → List ℕ → Status → Type 0

@@ -7,6 +7,7 @@ use Rattle.tl_beat.specs.declared.beat.BeatD.{BeatD}
 use Rattle.tl_beat.specs.declared.beat.Link.{Link}
 use Rattle.tl_beat.specs.statement.Line.{Spells}
 use Rattle.tl_burst.specs.statement.Messages.{channel_of}
+use Rattle.tl_params.specs.statement.Liberties.{liberties_of}
 use Rattle.tl_params.specs.declared.level.Level.{Level}
 use Rattle.tl_params.specs.declared.profile.Profile.{Profile}
 use Rattle.tl_params.specs.declared.rule.Rule.{Rule}
@@ -134,7 +135,7 @@ pub record IsWitnessed (old new : Option (List ℕ)) (n : ℕ) (rule : MemoryRul
   pub link : Link
   pub response : BeatD bytes
   pub spells : Spells line link (beat.D response)
-  pub breaks : broken_together levels profile (link, beat.D response) trace ≡ Some (OfMemory rule)
+  pub breaks : broken_together levels (liberties_of profile) (link, beat.D response) trace ≡ Some (OfMemory rule)
   pub says : reasons ≡ memory_front_text rule n link (beat.D response)
       ++ grounds_text rule (length levels) link.0 response trace
 

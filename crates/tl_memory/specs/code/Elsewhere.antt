@@ -8,7 +8,8 @@ use Rattle.tl_burst.specs.statement.Messages.{History}
 use Rattle.tl_rules.specs.code.Open.{open_request}
 use Rattle.tl_rules.specs.declared.past.Request.{Request}
 use Rattle.tl_rules.specs.statement.Conformance.{Trace, on_link}
-use Rattle.tl_rules.specs.statement.History.{block_at, held, is_release_ack}
+use Rattle.tl_rules.specs.statement.History.{block_at, is_release_ack}
+use Rattle.tl_bytes.specs.statement.Free.{may_hold}
 use Rattle.tl_bytes.specs.statement.Bytes.{Access, access_writes, ends_request, is_of, pending_accesses, tells}
 use Rattle.tl_memory.specs.statement.Known.{AllWriteInside, is_to}
 
@@ -37,9 +38,9 @@ pub record IsElsewhere {w : ℕ} (block : ℕ) (x : Link × Beat w) (t : Trace w
   pub pending_stay : filter (is_to block) (pending_accesses (x ∷ t)) ≡ filter (is_to block) (pending_accesses t)
   pub inside : AllWriteInside (pending_accesses (x ∷ t))
 
--- its link holds as much of the block with the beat as before it
+-- its link may hold as much of the block with the beat as before it
 abbrev pub LeavesHeld : {w : ℕ} → ℕ → Link × Beat w → Trace w → Type 0
-LeavesHeld block x t = held block (x.1 ∷ on_link x.0.0 t) ≡ held block (on_link x.0.0 t)
+LeavesHeld block x t = may_hold block (x.1 ∷ on_link x.0.0 t) ≡ may_hold block (on_link x.0.0 t)
 
 -- the beat changes nothing of what is kept of the block
 pub record PassesBy {w : ℕ} (block : ℕ) (x : Link × Beat w) (t : Trace w) : Type 0 where

@@ -2,20 +2,28 @@
 use Rattle.std.specs.Prelude.{ℕ, Bool, true, false, not, ◌&&◌, ◌||◌}
 use Rattle.tl_beat.specs.declared.beat.Beat.{Beat}
 use Rattle.tl_beat.specs.declared.beat.Beat.TheVariants as beat
+use Rattle.tl_beat.specs.declared.beat.BeatA.{BeatA}
 use Rattle.tl_burst.specs.statement.Messages.{History}
-use Rattle.tl_rules.specs.statement.History.{begins, ends, is_grant}
+use Rattle.tl_rules.specs.statement.History.{begins, ends, is_acquire, is_grant}
+use Rattle.tl_rules.specs.statement.Liberties.{grows_from_none}
 use Rattle.tl_bytes.specs.statement.Bytes.{is_access}
 
--- With the beat no access is asked for, no report complete, and no response begun or complete: so it is with those
--- in the middle of a message.
+-- an Acquire from nothing held: with it all that its link held of the block may have been given up before
+abbrev pub acquires_from_none : {w : ℕ} → BeatA w → Bool
+acquires_from_none y = is_acquire y.opcode && grows_from_none y.param
+
+-- With the beat no access is asked for, nothing acquired from nothing held, no report complete, and no response begun
+-- or complete: so it is with those in the middle of a message.
 abbrev pub passes_by : {w : ℕ} → Beat w → History w → Bool
-passes_by (beat.A y) past = not (is_access y.opcode) || not (ends (beat.A y) past)
+passes_by (beat.A y) past = not (acquires_from_none y) && (not (is_access y.opcode) || not (ends (beat.A y) past))
 passes_by (beat.C y) past = not (ends (beat.C y) past)
 passes_by (beat.D y) past = not (begins (beat.D y) past || ends (beat.D y) past)
 passes_by _ past = true
 
--- with the beat its link may hold more or less of the block that it bears on: a report is complete, or a Grant
+-- with the beat its link may hold more or less of the block that it bears on: it acquires from nothing held, or a report
+-- is complete, or a Grant
 abbrev pub changes_held : {w : ℕ} → Beat w → History w → Bool
+changes_held (beat.A y) past = acquires_from_none y
 changes_held (beat.C y) past = ends (beat.C y) past
 changes_held (beat.D y) past = is_grant y.opcode && ends (beat.D y) past
 changes_held _ past = false

@@ -1,5 +1,5 @@
 -- What beats make of the states of blocks.
-use Rattle.std.specs.Prelude.{ℕ, suc, Bool, true, false, [], ◌∷◌, ◌&&◌, ◌≡◌, length, List, Option, Some, None}
+use Rattle.std.specs.Prelude.{ℕ, suc, Bool, true, false, not, [], ◌∷◌, ◌&&◌, ◌≡◌, length, List, Option, Some, None}
 use Rattle.std.specs.Prelude.{unwrap_or, ⊤}
 use Rattle.tl_beat.specs.declared.beat.Beat.{Beat}
 use Rattle.tl_beat.specs.declared.beat.Beat.TheVariants as beat
@@ -11,13 +11,13 @@ use Rattle.tl_beat.specs.declared.opcode.OpA.{OpA}
 use Rattle.tl_beat.specs.declared.opcode.OpD.{OpD}
 use Rattle.tl_beat.specs.declared.opcode.OpD.TheVariants as d
 use Rattle.tl_beat.specs.statement.Opcode.{a_carries_data}
-use Rattle.tl_burst.specs.statement.Messages.{History, on, unfinished}
+use Rattle.tl_burst.specs.statement.Messages.{History, unfinished}
 use Rattle.tl_params.specs.declared.perm.Perm.TheVariants as perm
 use Rattle.tl_rules.specs.code.Open.{open_request}
 use Rattle.tl_rules.specs.declared.past.Request.{Request}
 use Rattle.tl_rules.specs.statement.Conformance.{Trace, answers, on_link}
 use Rattle.tl_rules.specs.statement.History.{block_at, ends, is_release_ack}
-use Rattle.tl_rules.specs.statement.Windows.{is_free}
+use Rattle.tl_bytes.specs.statement.Free.{is_free}
 use Rattle.tl_bytes.specs.statement.Bytes.{Access, asked_by, is_access, is_of, is_perm_only, pending_accesses}
 use Rattle.tl_memory.specs.code.Elsewhere.{IsElsewhere, LeavesHeld, PassesBy}
 use Rattle.tl_memory.specs.declared.block.BlockState.{BlockState}
@@ -43,16 +43,28 @@ put_next s (Some next) = with_next s next
 abbrev pub IsNext : {w : ℕ} → Option (NextState w) → Option Bool → BlockState w → ℕ → ℕ → Link × Beat w → Trace w
     → Type 0
 IsNext None None s n block x t = PassesBy block x t
-IsNext None (Some free) s n block x t = IsElsewhere block x t × (free ≡ is_free n None perm.Trunk block (x ∷ t))
+IsNext None (Some free) s n block x t = IsElsewhere block x t × (free ≡ is_free n perm.Trunk block (x ∷ t))
 IsNext (Some next) None s n block x t = KnowsState (with_next s next) n block (x ∷ t) (x ∷ t)
 IsNext (Some next) (Some free) s n block x t =
-    KnowsState (with_next s next) n block t (x ∷ t) × (free ≡ is_free n None perm.Trunk block (x ∷ t))
+    KnowsState (with_next s next) n block t (x ∷ t) × (free ≡ is_free n perm.Trunk block (x ∷ t))
+
+-- the beat is of the request of an access
+abbrev pub is_asking : {w : ℕ} → Beat w → Bool
+is_asking (beat.A y) = is_access y.opcode
+is_asking _ = false
 
 -- How free the block is for writing with a beat is told beside its state, where its link may hold more or less of
--- the block than before: with a beat of channel A it never does.
+-- the block than before: with the request of an access it never does.
 abbrev pub IsSeen : {w : ℕ} → Option Bool → ℕ → ℕ → Link × Beat w → Trace w → Type 0
 IsSeen None n block x t = LeavesHeld block x t
-IsSeen (Some free) n block x t = (on channel.A x.1 ≡ false) × (free ≡ is_free n None perm.Trunk block (x ∷ t))
+IsSeen (Some free) n block x t = (is_asking x.1 ≡ false) × (free ≡ is_free n perm.Trunk block (x ∷ t))
+
+-- This is what a beat of channel A makes of the state of its block: something only where it completes the request of
+-- an access.
+abbrev pub IsNextAsked : {w : ℕ} → Option (NextState w) → BlockState w → ℕ → ℕ → Link × Beat w → Trace w → Type 0
+IsNextAsked None s n block x t = IsElsewhere block x t
+IsNextAsked (Some next) s n block x t =
+    (is_asking x.1 ≡ true) × KnowsState (with_next s next) n block (x ∷ t) (x ∷ t)
 
 -- the request that is open with the source of a response
 abbrev pub request_answered : {w : ℕ} → Beat w → History w → Option Request
@@ -80,11 +92,15 @@ AreAsked link source asked (access ∷ accesses) =
     × (block_at access.request.address ≡ asked.block))
     × AreAsked link source asked accesses
 
--- the response to a request of this opcode tells what its block has
+-- the response to a request of this opcode tells what its block has, where it isn't denied
 abbrev pub tells_block : OpD → OpA → Bool
 tells_block d.GrantData asked = true
 tells_block d.Grant asked = is_perm_only asked
 tells_block _ asked = false
+
+-- so does the beat of a response
+abbrev pub tells_response : {w : ℕ} → BeatD w → OpA → Bool
+tells_response y asked = not y.denied && tells_block y.opcode asked
 
 -- what is known of a beat of channel D that answers this request
 pub record IsResponse {w : ℕ} (link : ℕ) (y : BeatD w) (asked : Request) (t : Trace w) : Type 0 where

@@ -6,7 +6,7 @@ use Rattle.tl_beat.specs.declared.beat.Beat.{Beat}
 use Rattle.tl_beat.specs.declared.beat.Link.{Link}
 use Rattle.tl_params.specs.declared.perm.Perm.TheVariants as perm
 use Rattle.tl_rules.specs.statement.Conformance.{Trace}
-use Rattle.tl_rules.specs.statement.Windows.{is_free}
+use Rattle.tl_bytes.specs.statement.Free.{is_free}
 use Rattle.tl_bytes.specs.code.Tellings.{leaves}
 use Rattle.tl_bytes.specs.declared.block_bytes.BlockBytes.{BlockBytes}
 use Rattle.tl_bytes.specs.declared.windows.WindowCount.{WindowCount}
@@ -91,7 +91,7 @@ pub record IsWatched {w : ℕ} (free : Bool) (moment : ℕ) (old new : PendingAc
   pub read_is : new.read ≡ old.read
   pub windows_are : (n block asked : ℕ) (x : Link × Beat w) (t : Trace w)
       → KnowsWindows old.windows n block asked t → asked ≤ length t
-      → free ≡ is_free n None perm.Trunk block (x ∷ t) → moment ≡ length (x ∷ t)
+      → free ≡ is_free n perm.Trunk block (x ∷ t) → moment ≡ length (x ∷ t)
       → KnowsWindows new.windows n block asked (x ∷ t)
 
 -- of each of them

@@ -15,7 +15,7 @@ use Rattle.tl_bytes.specs.statement.Bytes.{Access, access_writes, carried_mask, 
 use Rattle.tl_bytes.specs.statement.Bytes.{pending_value}
 use Rattle.tl_rules.specs.statement.Conformance.{Trace}
 use Rattle.tl_rules.specs.statement.History.{block_at}
-use Rattle.tl_rules.specs.statement.Windows.{is_free}
+use Rattle.tl_bytes.specs.statement.Free.{is_free}
 use Rattle.tl_bytes.specs.code.Tellings.{is_written, value_at}
 use Rattle.tl_bytes.specs.declared.write.Write.{Write}
 use Rattle.tl_bytes.specs.statement.Known.{KnowsBlock, KnowsCarried, KnowsRead, KnowsWindows}
@@ -150,7 +150,7 @@ pub record KnowsAccesses {w : ℕ} (pending : List (PendingAccess w)) (n block :
 pub record KnowsState {w : ℕ} (s : BlockState w) (n block : ℕ) (seen t : Trace w) : Type 0 where
   pub bytes_are : KnowsBlock s.bytes n block t
   pub accesses_are : KnowsAccesses s.accesses.items n block seen t
-  pub free_is : s.free ≡ is_free n None perm.Trunk block seen
+  pub free_is : s.free ≡ is_free n perm.Trunk block seen
   pub last_is : s.free ≡ false → s.last_free ≡ last_window n block seen
 
 -- the access, where there is one, is to the block

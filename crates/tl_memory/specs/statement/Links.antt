@@ -1,21 +1,36 @@
 -- What is known of links, where no beat broke a rule of its link.
 use Rattle.std.specs.Prelude.{ℕ, [], ◌∷◌, ◌≡◌, List, length, slice_get, Some, None, ⊤}
+use Rattle.tl_beat.specs.declared.beat.Beat.{Beat}
+use Rattle.tl_beat.specs.declared.beat.Link.{Link}
 use Rattle.tl_beat.specs.declared.channel.Channel.TheVariants as channel
 use Rattle.tl_burst.specs.statement.Messages.{History, unfinished}
 use Rattle.tl_params.specs.declared.level.Level.{Level}
-use Rattle.tl_params.specs.declared.profile.Profile.{Profile}
+use Rattle.tl_params.specs.declared.liberties.Liberties.{Liberties}
 use Rattle.tl_rules.specs.laws.Typed.{AreTyped}
-use Rattle.tl_rules.specs.statement.Conformance.{Trace, broken_on_link, on_link}
+use Rattle.tl_rules.specs.statement.Conformance.{Trace, on_link}
+use Rattle.tl_rules.specs.statement.Liberties.{broken_on_link_under}
+use Rattle.tl_bytes.specs.statement.Free.{all_but_early}
 use Rattle.tl_memory.specs.declared.link.LinkMessages.{LinkMessages}
 use Rattle.tl_memory.specs.declared.link.LinkState.{LinkState}
 use Rattle.tl_memory.specs.declared.links.Links.{Links}
 use Rattle.tl_memory.specs.statement.Expecting.{KnowsExpected}
 use Rattle.tl_memory.specs.statement.Known.{KnowsMessage}
 
--- each beat of the trace broke no rule of its link after those before it
-abbrev pub AreLegal : {w : ℕ} → List Level → Profile → Trace w → Type 0
-AreLegal levels p [] = ⊤
-AreLegal levels p (x ∷ t) = (broken_on_link levels p x t ≡ None) × AreLegal levels p t
+-- the beat breaks no rule of its link after t, where the links have these liberties
+abbrev pub KeepsRules : {w : ℕ} → Liberties → List Level → Link × Beat w → Trace w → Type 0
+KeepsRules l levels x t = broken_on_link_under l levels x t ≡ None
+
+-- nor does any beat of the trace after those before it
+abbrev pub KeepRules : {w : ℕ} → Liberties → List Level → Trace w → Type 0
+KeepRules l levels [] = ⊤
+KeepRules l levels (x ∷ t) = KeepsRules l levels x t × KeepRules l levels t
+
+-- so it is where the links have all liberties but `early`
+abbrev pub IsLegal : {w : ℕ} → List Level → Link × Beat w → Trace w → Type 0
+IsLegal levels x t = KeepsRules all_but_early levels x t
+
+abbrev pub AreLegal : {w : ℕ} → List Level → Trace w → Type 0
+AreLegal levels t = KeepRules all_but_early levels t
 
 -- This is what the messages have brought that aren't complete on the channels of a link that carry bytes to
 -- memory and back. Those of requests have as many bytes as their types say.

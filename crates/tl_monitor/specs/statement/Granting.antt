@@ -6,10 +6,12 @@ use Rattle.tl_beat.specs.declared.beat.Link.{Link}
 use Rattle.tl_beat.specs.declared.channel.Channel.TheVariants as channel
 use Rattle.tl_burst.specs.statement.Messages.{History, unfinished}
 use Rattle.tl_params.specs.declared.level.Level.{Level}
+use Rattle.tl_params.specs.declared.liberties.Liberties.{Liberties}
 use Rattle.tl_params.specs.declared.perm.Perm.{Perm}
 use Rattle.tl_params.specs.declared.perm.Perm.TheVariants as perm
 use Rattle.tl_rules.specs.statement.Conformance.{Trace, on_link}
-use Rattle.tl_rules.specs.statement.History.{grants, capped, held}
+use Rattle.tl_rules.specs.statement.History.{grants, capped}
+use Rattle.tl_rules.specs.statement.Liberties.{held_under}
 
 -- what the Grant gives of the block whose beats these are, the newest first; a denied one gives nothing
 abbrev pub given_by : {w : ℕ} → ℕ → List (Beat w) → History w → Option Perm
@@ -20,13 +22,14 @@ given_by k _ t = None
 abbrev pub coming : {w : ℕ} → ℕ → History w → Option Perm
 coming k t = given_by k (unfinished channel.D t) t
 
--- what is held of the block, a Grant counted from its first beat on
-abbrev pub granted : {w : ℕ} → ℕ → History w → Perm
-granted k t = unwrap_or (coming k t) (held k t)
+-- what is held of the block under liberties, a Grant counted from its first beat on
+abbrev pub granted_under : {w : ℕ} → Liberties → ℕ → History w → Perm
+granted_under l k t = unwrap_or (coming k t) (held_under l k t)
 
 -- the same on one of the links; nothing on a link without a level
 abbrev pub coming_on : {w : ℕ} → List Level → Link → ℕ → Trace w → Option Perm
 coming_on levels link block t = if nat_lt link.0 (length levels) then coming block (on_link link.0 t) else None
 
-abbrev pub granted_on : {w : ℕ} → List Level → Link → ℕ → Trace w → Perm
-granted_on levels link block t = if nat_lt link.0 (length levels) then granted block (on_link link.0 t) else perm.None
+abbrev pub granted_on_under : {w : ℕ} → Liberties → List Level → Link → ℕ → Trace w → Perm
+granted_on_under l levels link block t =
+    if nat_lt link.0 (length levels) then granted_under l block (on_link link.0 t) else perm.None

@@ -21,7 +21,7 @@ use Rattle.tl_rules.specs.statement.Admission.{lanes_of}
 use Rattle.tl_rules.specs.statement.Conformance.{Trace, answers, on_link}
 use Rattle.tl_rules.specs.statement.Effect.{Memory, bytes_from, effect}
 use Rattle.tl_rules.specs.statement.History.{block_at, ends, is_release_ack}
-use Rattle.tl_rules.specs.statement.Windows.{is_free}
+use Rattle.tl_bytes.specs.statement.Free.{is_free}
 use Rattle.tl_bytes.specs.statement.Bytes.{Access, access_writes, carried_byte, could_be, ends_request, is_access}
 use Rattle.tl_bytes.specs.statement.Bytes.{is_of, pending_accesses, tells}
 use Rattle.tl_bytes.specs.statement.Shown.{shows}
@@ -105,7 +105,7 @@ OneOf false a b = b
 unfoldable pub IsClean : {w : ℕ} → ℕ → Memory → ℕ → Run w → Type 0
 IsClean n first address [] = ⊤
 IsClean n first address (Takes link x ∷ run) =
-    (is_free n None perm.Branch (block_at address) ((link, x) ∷ trace_in run) ≡ true)
+    (is_free n perm.Branch (block_at address) ((link, x) ∷ trace_in run) ≡ true)
     ⊎ OneOf (tells (block_at address) x (on_link link.0 (trace_in run))) (TellsTrue first address link x run)
     (IsClean n first address run)
 IsClean n first address (Performs link source ∷ run) = IsClean n first address run
@@ -119,7 +119,7 @@ shown_last block (x ∷ t) = shows block x.1 (on_link x.0.0 t)
 -- the byte may be read: no link holds Trunk of its block, or a report shows a copy to which nothing was stored
 abbrev pub MayBeRead : {w : ℕ} → ℕ → Memory → ℕ → Run w → Type 0
 MayBeRead n first address run =
-    (is_free n None perm.Branch (block_at address) (trace_in run) ≡ true)
+    (is_free n perm.Branch (block_at address) (trace_in run) ≡ true)
     ⊎ ((shown_last (block_at address) (trace_in run) ≡ true) × IsClean n first address run)
 
 -- ---- what may happen
@@ -143,7 +143,7 @@ pub record IsPerformed {w : ℕ} (n : ℕ) (first : Memory) (link source : ℕ) 
   pub reads_free : (address : ℕ) → reaches access.request.address access.request.size address ≡ true
       → MayBeRead n first address run
   pub writes_free : (address : ℕ) → access_writes address access ≡ true
-      → is_free n None perm.Trunk (block_at address) (trace_in run) ≡ true
+      → is_free n perm.Trunk (block_at address) (trace_in run) ≡ true
 
 -- A beat of the answer to a pending access comes after that was performed, and is of an answer to such a request. Of an
 -- access that reads, the bytes that have come are those that it found.
@@ -163,7 +163,7 @@ pub record IsAnswer {w : ℕ} (first : Memory) (link : ℕ) (z : BeatD w) (acces
 pub record IsGranted {w : ℕ} (n : ℕ) (first : Memory) (link : ℕ) (z : BeatD w) (block k : ℕ) (run : Run w) : Type 0
   where
     pub within : w * k + w ≤ 64
-    pub free : is_free n None perm.Branch block (trace_in (run_before link k run)) ≡ true
+    pub free : is_free n perm.Branch block (trace_in (run_before link k run)) ≡ true
     pub lanes_are : lanes_of (beat.D z) ≡ bytes_from (memory_in first (run_before link k run)) (64 * block + w * k) w
 
 -- What is taken after a run.
@@ -186,22 +186,22 @@ pub record IsTaken {w : ℕ} (n : ℕ) (first : Memory) (link : Link) (x : Beat 
       → open_request z.source (on_link link.0 (trace_in run)) ≡ Some asked
       → IsGranted n first link.0 z asked.block (length (unfinished channel.D (on_link link.0 (trace_in run)))) run
   -- What is told of a block, with which no link holds Trunk, is what memory has.
-  pub tells_rightly : (address : ℕ) → is_free n None perm.Branch (block_at address) ((link, x) ∷ trace_in run) ≡ true
+  pub tells_rightly : (address : ℕ) → is_free n perm.Branch (block_at address) ((link, x) ∷ trace_in run) ≡ true
       → tells (block_at address) x (on_link link.0 (trace_in run)) ≡ true → TellsTrue first address link x run
   -- who gets a block that no link holds is told what it has
-  pub closes_told : (block : ℕ) → is_free n None perm.Trunk block (trace_in run) ≡ true
-      → is_free n None perm.Trunk block ((link, x) ∷ trace_in run) ≡ false
+  pub closes_told : (block : ℕ) → is_free n perm.Trunk block (trace_in run) ≡ true
+      → is_free n perm.Trunk block ((link, x) ∷ trace_in run) ≡ false
       → tells block x (on_link link.0 (trace_in run)) ≡ true
   -- where Trunk is given up it is told what the block has, or nothing was stored to the copy
-  pub given_up_rightly : (address : ℕ) → is_free n None perm.Branch (block_at address) (trace_in run) ≡ false
-      → is_free n None perm.Branch (block_at address) ((link, x) ∷ trace_in run) ≡ true
+  pub given_up_rightly : (address : ℕ) → is_free n perm.Branch (block_at address) (trace_in run) ≡ false
+      → is_free n perm.Branch (block_at address) ((link, x) ∷ trace_in run) ≡ true
       → (tells (block_at address) x (on_link link.0 (trace_in run)) ≡ true) ⊎ IsClean n first address run
 
 -- It may happen after a run. A client stores to its copy only where a link holds Trunk of it.
 abbrev pub Happens : {w : ℕ} → ℕ → Memory → Happening w → Run w → Type 0
 Happens n first (Takes link x) run = IsTaken n first link x run
 Happens n first (Performs link source) run = IsPerformed n first link source run
-Happens n first (Stores block bytes) run = is_free n None perm.Branch block (trace_in run) ≡ false
+Happens n first (Stores block bytes) run = is_free n perm.Branch block (trace_in run) ≡ false
 
 -- The run is one of a memory that was this at first, beside what n links carry.
 unfoldable pub IsRun : {w : ℕ} → ℕ → Memory → Run w → Type 0

@@ -1,11 +1,10 @@
 -- That renaming changes no verdict on all links of a manager together.
-use Rattle.std.specs.Prelude.{ℕ, ◌≡◌, [], ◌∷◌, List, ⊤}
+use Rattle.std.specs.Prelude.{ℕ, false, ◌≡◌, [], ◌∷◌, List, ⊤}
 use Rattle.tl_beat.specs.declared.beat.Beat.{Beat}
 use Rattle.tl_beat.specs.declared.beat.Link.{Link}
-use Rattle.tl_memory.specs.statement.Links.{AreLegal}
+use Rattle.tl_memory.specs.statement.Links.{KeepRules}
 use Rattle.tl_params.specs.declared.level.Level.{Level}
-use Rattle.tl_params.specs.declared.profile.Profile.{Profile}
-use Rattle.tl_params.specs.statement.Liberties.{liberties_of}
+use Rattle.tl_params.specs.declared.liberties.Liberties.{Liberties}
 use Rattle.tl_renaming.specs.statement.Renamed.{AreFaithful, Renamings, renamed_on_link, renamed_trace}
 use Rattle.tl_rules.specs.laws.Typed.{IsTyped}
 use Rattle.tl_rules.specs.statement.Conformance.{Trace}
@@ -19,12 +18,12 @@ AreTypedOn (x ∷ t) = IsTyped x.1 × AreTypedOn t
 -- after a renamed trace, of which no beat breaks a rule of its link, a renamed beat breaks the same rule, of its link
 -- or of memory
 abbrev pub KeepsTogether : ℕ → Type 0
-KeepsTogether w = (p : Profile) (r : Renamings) (levels : List Level) (x : Link × Beat w) (t : Trace w)
-    → AreFaithful (liberties_of p) r → AreLegal levels p t → AreTypedOn (x ∷ t)
-    → broken_together levels p (renamed_on_link r x) (renamed_trace r t) ≡ broken_together levels p x t
+KeepsTogether w = (l : Liberties) (r : Renamings) (levels : List Level) (x : Link × Beat w) (t : Trace w)
+    → l.early ≡ false → AreFaithful l r → KeepRules l levels t → AreTypedOn (x ∷ t)
+    → broken_together levels l (renamed_on_link r x) (renamed_trace r t) ≡ broken_together levels l x t
 
 -- so a renamed trace has the same first breach, rule and place
 abbrev pub KeepsBreaches : ℕ → Type 0
-KeepsBreaches w = (p : Profile) (r : Renamings) (levels : List Level) (trace : Trace w)
-    → AreFaithful (liberties_of p) r → AreTypedOn trace
-    → first_breach levels p (renamed_trace r trace) ≡ first_breach levels p trace
+KeepsBreaches w = (l : Liberties) (r : Renamings) (levels : List Level) (trace : Trace w)
+    → l.early ≡ false → AreFaithful l r → AreTypedOn trace
+    → first_breach levels l (renamed_trace r trace) ≡ first_breach levels l trace

@@ -7,13 +7,14 @@ use Rattle.std.specs.Ordering.{nat_cmp}
 use Rattle.tl_params.specs.declared.perm.Perm.{Perm}
 use Rattle.tl_params.specs.declared.perm.Perm.TheVariants as perm
 use Rattle.tl_rules.specs.code.Open.{open_request}
-use Rattle.tl_rules.specs.statement.Conformance.{Trace, on_link, broken_on_link}
+use Rattle.tl_rules.specs.statement.Conformance.{Trace, on_link}
 use Rattle.tl_beat.specs.declared.beat.Beat.{Beat}
 use Rattle.tl_beat.specs.declared.beat.Link.{Link}
 use Rattle.tl_params.specs.declared.level.Level.{Level}
-use Rattle.tl_params.specs.declared.profile.Profile.{Profile}
+use Rattle.tl_params.specs.declared.liberties.Liberties.{Liberties}
 use Rattle.tl_monitor.specs.declared.monitor.Monitor.{Monitor}
-use Rattle.tl_monitor.specs.statement.Knows.{Knows, LeavesOthers}
+use Rattle.tl_memory.specs.statement.Links.{KeepsRules}
+use Rattle.tl_together.specs.code.Following.{Follows}
 use Rattle.tl_monitor.specs.code.LinkState.{is_block}
 use Rattle.tl_burst.specs.statement.Messages.{History}
 use Rattle.tl_rules.specs.statement.History.{ends}
@@ -25,7 +26,7 @@ use Rattle.tl_together.specs.declared.fault.JudgeFault.{JudgeFault}
 use Rattle.tl_together.specs.declared.fault.JudgeFault.TheVariants as judge
 use Rattle.tl_together.specs.declared.free.Freedom.{Freedom}
 use Rattle.tl_together.specs.declared.windows.Window.{Window}
-use Rattle.tl_rules.specs.statement.Windows.{is_free}
+use Rattle.tl_bytes.specs.statement.Free.{is_free, may_hold}
 use Rattle.tl_bytes.specs.statement.Shown.{is_window, shows}
 
 -- how many beats had been taken when the request with this source was last complete and before wasn't
@@ -80,7 +81,7 @@ KnowsAsked tables n t = (link source : ℕ) → link < n → is_some (open_reque
 
 -- of each block that isn't free the table has the last moment at which one could access it
 abbrev pub KnowsWindows : {w : ℕ} → List (ℕ × Window) → ℕ → Trace w → Type 0
-KnowsWindows entries n t = (given : Perm) (block : ℕ) → is_free n None given block t ≡ false
+KnowsWindows entries n t = (given : Perm) (block : ℕ) → is_free n given block t ≡ false
     → last_in given (window_in entries block) ≡ window_at n given block t
 
 -- what a monitor's refusal is
@@ -95,10 +96,10 @@ fault_of_monitor monitor.Closed = judge.Closed
 abbrev pub NotesRequest : {w : ℕ} → Monitor w → List (List (Option ℕ)) → List (List (Option ℕ)) → Link → Beat w → ℕ
     → Type 0
 NotesRequest {w} m old new link x next = (length new ≡ length old)
-    × ((levels : List Level) (p : Profile) (t : Trace w) → Knows m levels p t false → length old ≡ length levels
+    × ((levels : List Level) (l : Liberties) (t : Trace w) → Follows m levels l t → length old ≡ length levels
     → KnowsAsked old (length levels) t
     → KnowsAsked new (length levels) t
-    × (next ≡ suc (length t) → broken_on_link levels p (link, x) t ≡ None
+    × (next ≡ suc (length t) → KeepsRules l levels (link, x) t
     → KnowsAsked new (length levels) ((link, x) ∷ t)))
 
 -- the table with the moment of a beat, where that shows the bytes of a block
@@ -106,10 +107,14 @@ abbrev pub IsShown : {w : ℕ} → ℕ → Beat w → History w → List (ℕ ×
 IsShown moment x past old new = (block : ℕ) → window_in new block
     ≡ (if shows block x past then shown_window moment (window_in old block) else window_in old block)
 
+-- of each block but this one its link may hold as much with the beat as before it
+abbrev pub LeavesOthers : {w : ℕ} → Option ℕ → Beat w → History w → Type 0
+LeavesOthers block x t = (b : ℕ) → is_block b block ≡ false → may_hold b (x ∷ t) ≡ may_hold b t
+
 -- The same of the table of windows, with a beat that changes what is held of no other block.
 abbrev pub NotesWindow : {w : ℕ} → Monitor w → ℕ → ℕ → Option ℕ → List (ℕ × Window) → List (ℕ × Window) → Type 0
 NotesWindow {w} m links moment held old new =
-    (levels : List Level) (p : Profile) (t : Trace w) → Knows m levels p t false → links ≡ length levels
+    (levels : List Level) (l : Liberties) (t : Trace w) → Follows m levels l t → links ≡ length levels
     → moment ≡ length t → KnowsWindows old (length levels) t
     → KnowsWindows new (length levels) t
     × ((link : Link) (x : Beat w) (shown : List (ℕ × Window)) → LeavesOthers held x (on_link link.0 t)
@@ -127,6 +132,6 @@ MayShow shown x past = (block : ℕ) → shows block x past ≡ (ends x past && 
 abbrev pub NotesShown : {w : ℕ} → Monitor w → Option ℕ → Link → Beat w → ℕ → List (ℕ × Window) → List (ℕ × Window)
     → Type 0
 NotesShown {w} m shown link x moment old new =
-    (levels : List Level) (p : Profile) (t : Trace w) → Knows m levels p ((link, x) ∷ t) false
+    (levels : List Level) (l : Liberties) (t : Trace w) → Follows m levels l ((link, x) ∷ t)
     → link.0 < length levels → MayShow shown x (on_link link.0 t)
     → HasNoted shown old → IsShown moment x (on_link link.0 t) old new

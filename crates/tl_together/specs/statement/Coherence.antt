@@ -9,15 +9,17 @@ use Rattle.tl_beat.specs.declared.opcode.OpD.{OpD}
 use Rattle.tl_beat.specs.declared.opcode.OpD.TheVariants as d
 use Rattle.tl_params.specs.declared.level.Level.{Level}
 use Rattle.tl_params.specs.declared.perm.Perm.{Perm}
-use Rattle.tl_params.specs.declared.profile.Profile.{Profile}
+use Rattle.tl_params.specs.declared.liberties.Liberties.{Liberties}
 use Rattle.tl_params.specs.declared.rule.Rule.{Rule}
 use Rattle.tl_rules.specs.code.Open.{open_request}
 use Rattle.tl_rules.specs.declared.past.Request.{Request}
-use Rattle.tl_rules.specs.statement.Conformance.{Trace, on_link, broken_on_link}
+use Rattle.tl_rules.specs.statement.Conformance.{Trace, on_link}
 use Rattle.tl_rules.specs.statement.History.{begins, is_grant, capped}
+use Rattle.tl_rules.specs.statement.Liberties.{broken_on_link_under}
 use Rattle.tl_rules.specs.statement.Windows.{leaves, needs}
-use Rattle.tl_monitor.specs.statement.Granting.{granted}
+use Rattle.tl_monitor.specs.statement.Granting.{granted_under}
 use Rattle.tl_bytes.specs.statement.Bytes.{is_true}
+use Rattle.tl_bytes.specs.statement.Free.{all_but_early}
 use Rattle.tl_bytes.specs.statement.Shown.{had_window}
 use Rattle.tl_together.specs.declared.breach.MemoryRule.{MemoryRule}
 use Rattle.tl_together.specs.declared.breach.MemoryRule.TheVariants.{M1, M2, M3, M4}
@@ -30,18 +32,14 @@ is_access_ack d.AccessAck = true
 is_access_ack d.AccessAckData = true
 is_access_ack _ = false
 
--- the answer to an access that was performed; one that is denied wasn't
-abbrev pub is_performed : {w : ℕ} → BeatD w → Bool
-is_performed x = is_access_ack x.opcode && not x.denied
-
 -- ---- the rules of memory
 
--- None of the first n links but this one holds a permission of the block which conflicts with the given one. A Grant
+-- None of the first n links but this one may hold a permission of the block which conflicts with the given one. A Grant
 -- counts as held from its first beat on.
 unfoldable pub is_grantable : {w : ℕ} → ℕ → ℕ → Perm → ℕ → Trace w → Bool
 is_grantable zero link given block t = true
 is_grantable (suc n) link given block t =
-    is_grantable n link given block t && ((link == n) || leaves given (granted block (on_link n t)))
+    is_grantable n link given block t && ((link == n) || leaves given (granted_under all_but_early block (on_link n t)))
 
 -- M1, at the first beat of a Grant that answers this request: another link holds, or is being granted, what conflicts
 -- with its cap
@@ -56,11 +54,12 @@ broken_access n link x None t = None
 broken_access n link x (Some asked) t = if had_window n link x.source (needs asked.opcode) asked.block t then None else
     Some M4
 
--- the rule of memory that a response breaks which begins after t
+-- the rule of memory that a response breaks which begins after t; a denied one grants nothing and performs nothing
 abbrev pub broken_response : {w : ℕ} → ℕ → ℕ → BeatD w → Trace w → Option MemoryRule
 broken_response n link x t =
+    if x.denied then None else
     if is_grant x.opcode then broken_grant n link x (open_request x.source (on_link link t)) t else
-    if is_performed x then broken_access n link x (open_request x.source (on_link link t)) t else None
+    if is_access_ack x.opcode then broken_access n link x (open_request x.source (on_link link t)) t else None
 
 -- the same of a beat of a response: none where it begins none
 abbrev pub broken_beginning : {w : ℕ} → ℕ → ℕ → BeatD w → Trace w → Option MemoryRule
@@ -94,10 +93,10 @@ first_broken (Some rule) memory = Some (OfLink rule)
 first_broken None (Some rule) = Some (OfMemory rule)
 first_broken None None = None
 
--- the first rule that a beat breaks after the beats that were taken before it on all links, the newest
--- of which is first: those of its link come first
-abbrev pub broken_together : {w : ℕ} → List Level → Profile → Link × Beat w → Trace w → Option Breach
-broken_together levels p x t = first_broken (broken_on_link levels p x t) (broken_memory (length levels) x.0.0 x.1 t)
+-- the first rule that a beat breaks after the beats that were taken before it on all links, which have these
+-- liberties: the newest of them is first, and rules of its link come first
+abbrev pub broken_together : {w : ℕ} → List Level → Liberties → Link × Beat w → Trace w → Option Breach
+broken_together levels l x t = first_broken (broken_on_link_under l levels x t) (broken_memory (length levels) x.0.0 x.1 t)
 
 -- this fault at place i, where there is one, or the first of the rest
 abbrev pub breach_or : Option Breach → ℕ → Option (ℕ × Breach) → Option (ℕ × Breach)
@@ -106,11 +105,11 @@ breach_or (Some breach) i rest = Some (i, breach)
 
 -- The least place, and the rule, of a beat of the trace that breaks one: `before` has the beats so far,
 -- the newest first, and the trace those to come, the next first.
-unfoldable pub breach_from : {w : ℕ} → List Level → Profile → Trace w → Trace w → Option (ℕ × Breach)
-breach_from levels p before [] = None
-breach_from levels p before (x ∷ trace) =
-    breach_or (broken_together levels p x before) (length before) (breach_from levels p (x ∷ before) trace)
+unfoldable pub breach_from : {w : ℕ} → List Level → Liberties → Trace w → Trace w → Option (ℕ × Breach)
+breach_from levels l before [] = None
+breach_from levels l before (x ∷ trace) =
+    breach_or (broken_together levels l x before) (length before) (breach_from levels l (x ∷ before) trace)
 
 -- the place of the first beat of a trace that breaks a rule, with the rule
-abbrev pub first_breach : {w : ℕ} → List Level → Profile → Trace w → Option (ℕ × Breach)
-first_breach levels p trace = breach_from levels p [] trace
+abbrev pub first_breach : {w : ℕ} → List Level → Liberties → Trace w → Option (ℕ × Breach)
+first_breach levels l trace = breach_from levels l [] trace

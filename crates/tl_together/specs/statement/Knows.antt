@@ -3,12 +3,11 @@ use Rattle.std.specs.Prelude.{ℕ, Bool, true, false, List, [], ◌∷◌, ◌�
 use Rattle.tl_beat.specs.declared.beat.Beat.{Beat}
 use Rattle.tl_beat.specs.declared.beat.Link.{Link}
 use Rattle.tl_params.specs.declared.level.Level.{Level}
-use Rattle.tl_params.specs.declared.profile.Profile.{Profile}
+use Rattle.tl_params.specs.declared.liberties.Liberties.{Liberties}
 use Rattle.tl_params.specs.statement.Config.{IsCount}
 use Rattle.tl_rules.specs.statement.Conformance.{Trace}
-use Rattle.tl_monitor.specs.statement.Knows as monitor
-use Rattle.tl_memory.specs.statement.Links.{AreLegal}
 use Rattle.tl_memory.specs.statement.Memory.{KnowsMemory}
+use Rattle.tl_together.specs.code.Following.{Follows}
 use Rattle.tl_together.specs.code.Windows.{KnowsAsked, KnowsWindows}
 use Rattle.tl_together.specs.declared.breach.Breach.{Breach}
 use Rattle.tl_together.specs.declared.fault.JudgeFault.{JudgeFault}
@@ -18,38 +17,37 @@ use Rattle.tl_together.specs.declared.fault.TraceFault.TheVariants as trace
 use Rattle.tl_together.specs.declared.judge.Judge.{Judge}
 use Rattle.tl_together.specs.statement.Coherence.{broken_together, first_breach}
 
--- the judge has these levels and this profile, and keeps of the trace, the newest beat first, what the
+-- the judge has these levels and liberties, and keeps of the trace, the newest beat first, what the
 -- rules ask for
-pub record KnowsTrace {w : ℕ} (j : Judge w) (levels : List Level) (p : Profile) (t : Trace w) : Type 0 where
+pub record KnowsTrace {w : ℕ} (j : Judge w) (levels : List Level) (l : Liberties) (t : Trace w) : Type 0 where
   pub links_are : j.links ≡ length levels
   pub moment_is : j.moment ≡ length t
-  pub monitor_is : monitor.Knows j.monitor levels p t false
+  pub monitor_is : Follows j.monitor levels l t
   pub tables_are : length j.asked.items ≡ length levels
   pub asked_are : KnowsAsked j.asked.items (length levels) t
   pub windows_are : KnowsWindows j.windows (length levels) t
   pub memory_is : KnowsMemory j.memory (length levels) t
-  pub legal : AreLegal levels p t
 
 -- the same, where no beat was refused by a rule; it is closed where one was
-pub record Knows {w : ℕ} (j : Judge w) (levels : List Level) (p : Profile) (t : Trace w) (closed : Bool) : Type 0 where
+pub record Knows {w : ℕ} (j : Judge w) (levels : List Level) (l : Liberties) (t : Trace w) (closed : Bool) : Type 0 where
   pub closed_is : j.closed ≡ closed
-  pub open_knows : closed ≡ false → KnowsTrace j levels p t
+  pub open_knows : closed ≡ false → KnowsTrace j levels l t
 
 -- what a new judge is, or why there is none
-abbrev pub IsNew : {w : ℕ} → List Level → Profile → Result (Judge w) JudgeFault → Type 0
-IsNew levels p (Ok j) = IsCount (length levels) × Knows j levels p [] false
-IsNew levels p (Err judge.Levels) = ¬ IsCount (length levels)
-IsNew levels p (Err judge.Memory) = IsCount (length levels)
-IsNew levels p (Err _) = ⊥
+abbrev pub IsNew : {w : ℕ} → List Level → Liberties → Result (Judge w) JudgeFault → Type 0
+IsNew levels l (Ok j) = IsCount (length levels) × Knows j levels l [] false
+IsNew levels l (Err judge.Levels) = ¬ IsCount (length levels)
+IsNew levels l (Err judge.Memory) = IsCount (length levels)
+IsNew levels l (Err _) = ⊥
 
 abbrev pub broken : Option Breach → Option JudgeFault
 broken None = None
 broken (Some breach) = Some (judge.Broken breach)
 
 -- the fault of a beat, want of memory aside: Closed after a refusal, else the first rule that it breaks
-abbrev pub fault_of : {w : ℕ} → List Level → Profile → Trace w → Bool → Link × Beat w → Option JudgeFault
-fault_of levels p t true x = Some judge.Closed
-fault_of levels p t false x = broken (broken_together levels p x t)
+abbrev pub fault_of : {w : ℕ} → List Level → Liberties → Trace w → Bool → Link × Beat w → Option JudgeFault
+fault_of levels l t true x = Some judge.Closed
+fault_of levels l t false x = broken (broken_together levels l x t)
 
 -- the answer to a beat that has this fault, or none; for want of memory it may be refused in any case
 abbrev pub Answers : Option JudgeFault → Result ⊤ JudgeFault → Type 0
@@ -69,12 +67,12 @@ closed_after closed (Err judge.Memory) = closed
 closed_after closed (Err e) = true
 
 -- the answer to a trace: the first beat that breaks a rule, want of memory aside
-abbrev pub AnswersTrace : {w : ℕ} → List Level → Profile → Trace w → Result ⊤ TraceFault → Type 0
-AnswersTrace levels p beats (Ok u) = IsCount (length levels) × (first_breach levels p beats ≡ None)
-AnswersTrace levels p beats (Err (trace.At i breach)) = IsCount (length levels)
-    × (first_breach levels p beats ≡ Some (i, breach))
-AnswersTrace levels p beats (Err trace.Levels) = ¬ IsCount (length levels)
-AnswersTrace levels p beats (Err trace.Memory) = IsCount (length levels)
+abbrev pub AnswersTrace : {w : ℕ} → List Level → Liberties → Trace w → Result ⊤ TraceFault → Type 0
+AnswersTrace levels l beats (Ok u) = IsCount (length levels) × (first_breach levels l beats ≡ None)
+AnswersTrace levels l beats (Err (trace.At i breach)) = IsCount (length levels)
+    × (first_breach levels l beats ≡ Some (i, breach))
+AnswersTrace levels l beats (Err trace.Levels) = ¬ IsCount (length levels)
+AnswersTrace levels l beats (Err trace.Memory) = IsCount (length levels)
 
 -- what the refusal of beat i is to a trace
 abbrev pub trace_fault_of : ℕ → JudgeFault → TraceFault

@@ -12,6 +12,17 @@ returns-in-Monitor g c = rw c.in-Monitor.is (
   ),
 )
 
+pub returns-in-Coherent : goal.returns-in-Coherent
+returns-in-Coherent g c = rw c.in-Coherent.is (
+  c.run_links-in-Coherent.result,
+  c.told-in-Coherent.ensures,
+  (
+    c.run_links-in-Coherent.ensures.ok,
+    c.run_links-in-Coherent.ensures.err,
+    c.run_links-in-Coherent.ensures.fault,
+  ),
+)
+
 pub returns-in_default : goal.returns-in_default
-returns-in_default g c = ends_other c.args.command c.args.allow c.run_tool.result _ _ _ _ _ c.in_default.not-Monitor c.told-in_default.ensures
+returns-in_default g c = ends_other c.args.command c.args.allow c.run_tool.result _ _ _ _ _ c.in_default.not-Monitor c.in_default.not-Coherent c.told-in_default.ensures
     (c.run_tool.ensures.ok, c.run_tool.ensures.err, c.run_tool.ensures.fault)

@@ -1,15 +1,9 @@
-use Rattle.std.specs.Prelude.{false}
-use Rattle.tl_links.proofs.JudgedLines.{beat_broken, beat_taken}
+use Rattle.std.proofs.Common.{refl, sym, inl}
+use Rattle.tl_links.proofs.JudgedLines.{watched_beat}
 use Rattle.tl_links.proofs.link_lines.watch.Goals as goal
 
-pub returns-in-Ok-try_push : goal.returns-in-Ok-try_push
-returns-in-Ok-try_push g c =
-    beat_taken c.args.monitor.now c.try_push.new.self c.args.line.now _ _ c.in-Ok.ensures.spelled
-    (λ levels may t known. c.in-Ok-try_push.ensures.answer_under levels may t false known)
-    (λ levels may t known. c.in-Ok-try_push.ensures.knows_under levels may t false known)
+pub returns-in-Err : goal.returns-in-Err
+returns-in-Err g c = λ together levels may t known. inl (c.in-Err.fault, sym c.in-Err.ensures.fault, refl)
 
-pub returns-in-Err-Broken : goal.returns-in-Err-Broken
-returns-in-Err-Broken g c =
-    beat_broken c.args.monitor.now c.try_push.new.self c.args.line.now _ _ c.in-Ok.ensures.spelled c.in-Err-Broken.rule
-    (λ levels may t known.
-    rw c.in-Err-Broken.field-0-is at (c.in-Err-Broken.ensures.answer_under levels may t false known))
+pub returns-in-Ok : goal.returns-in-Ok
+returns-in-Ok g c = watched_beat _ _ _ _ _ c.push.result c.in-Ok.ensures.spelled c.push.ensures

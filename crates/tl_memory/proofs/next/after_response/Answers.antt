@@ -4,7 +4,7 @@ use Rattle.tl_beat.{specs.declared.beat.Beat.Beat, specs.declared.channel.Channe
 use Rattle.tl_burst.specs.statement.Messages.{unfinished}
 use Rattle.tl_rules.{specs.statement.Conformance.on_link, specs.statement.History.ends}
 use Rattle.tl_bytes.specs.statement.Bytes.{is_access, pending_accesses}
-use Rattle.tl_memory.{specs.code.Taking.tells_block, proofs.Masks.few, proofs.Responses.access-untold}
+use Rattle.tl_memory.{specs.code.Taking.tells_response, proofs.Masks.few, proofs.Responses.access-untold}
 use Rattle.tl_memory.proofs.BlockAnswers.{answer-over, answered-there, begun-elsewhere, grant-stays, grant-tells}
 use Rattle.tl_memory.proofs.BlockAnswers.{told-elsewhere}
 use Rattle.tl_memory.proofs.next.after_response.Goals as goal
@@ -30,7 +30,7 @@ returns-then-tells g c = λ n block free t k message is here now seen.
     let over : ends (Beat.D y) (on_link link.0 t) ≡ true =
     sym (c.completes.ensures burst message (omega (arith, short))) ∙ yes in
     let on : c.tells.result ≡ true = search rules in
-    let told : tells_block y.opcode c.args.asked.opcode ≡ true = sym c.tells.ensures ∙ on in
+    let told : tells_response y c.args.asked.opcode ≡ true = sym c.tells.ensures ∙ on in
     let all = c.with-all.ensures burst message is.room in (
       c.in_ok-told.ensures n block (link, Beat.D y) t k (grant-tells block y (on_link link.0 t) c.args.asked is.asked_is
           here over told) (grant-stays link y c.args.asked t is told) now

@@ -5,6 +5,11 @@ use Rattle.tl_rules.specs.statement.History.{is_grant}
 use Rattle.tl_memory.proofs.PassedBy.{others-hold}
 use Rattle.tl_memory.proofs.passing.changes_held.Goals as goal
 
+pub returns-in-A : goal.returns-in-A
+returns-in-A g c = λ t k few.
+    let is = c.in-A.is in
+    rw is c.acquires_from_none.ensures
+
 pub returns-in-C : goal.returns-in-C
 returns-in-C g c = λ t k few.
     let is = c.in-C.is in
@@ -27,4 +32,4 @@ returns-else-not-is_grant g c = λ t k few.
     rw (is, grant) (rw is at last)
 
 pub returns-in_default : goal.returns-in_default
-returns-in_default g c = λ t k few. others-hold c.args.x.now t c.in_default.not-C c.in_default.not-D
+returns-in_default g c = λ t k few. others-hold c.args.x.now t c.in_default.not-A c.in_default.not-C c.in_default.not-D

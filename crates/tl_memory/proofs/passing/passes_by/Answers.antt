@@ -1,15 +1,23 @@
-use Rattle.std.proofs.Common.{ap, ap₂, ◌∙◌, ◌||◌}
+use Rattle.std.proofs.Common.{refl, sym, true, false, ◌≡◌, ap, ap₂, ◌∙◌, ◌||◌}
 use Rattle.std.specs.Prelude.{not}
 use Rattle.tl_beat.specs.declared.channel.Channel.{Channel}
 use Rattle.tl_burst.specs.statement.Messages.{unfinished}
+use Rattle.tl_memory.{specs.code.Passing.acquires_from_none}
 use Rattle.tl_memory.proofs.PassedBy.{none-before, others-pass}
 use Rattle.tl_memory.proofs.passing.passes_by.Goals as goal
 
-pub returns-in-A : goal.returns-in-A
-returns-in-A g c = λ t k few.
+pub returns-then-acquires_from_none : goal.returns-then-acquires_from_none
+returns-then-acquires_from_none g c = λ t k few.
     let is = c.in-A.is in
+    let yes : acquires_from_none c.in-A.y ≡ true = sym c.acquires_from_none.ensures ∙ c.if-acquires_from_none.true in
+    rw (is, yes) refl
+
+pub returns-else-acquires_from_none : goal.returns-else-acquires_from_none
+returns-else-acquires_from_none g c = λ t k few.
+    let is = c.in-A.is in
+    let no : acquires_from_none c.in-A.y ≡ false = sym c.acquires_from_none.ensures ∙ c.if-acquires_from_none.false in
     let last = c.completes.ensures (unfinished Channel.A t) k.a_is (rw is at few) in
-    rw is (c.either.ensures ∙ ap₂ (λ a b. not a || not b) c.is_access.ensures (rw is at last))
+    rw (is, no) (c.either.ensures ∙ ap₂ (λ a b. not a || not b) c.is_access.ensures (rw is at last))
 
 pub returns-in-C : goal.returns-in-C
 returns-in-C g c = λ t k few.

@@ -4,26 +4,26 @@ use Rattle.tl_together.proofs.Answered.{free_all, free_more, free_none}
 use Rattle.tl_together.proofs.free.freedom_of.Goals as goal
 
 pub loop-n-init : goal.loop-n-init
-loop-n-init g c = λ levels p t k e. (
+loop-n-init g c = λ levels may t k e. (
   free_none perm.Branch c.args.block t,
   free_none perm.Trunk c.args.block t,
 )
 
 pub loop-n-preserved : goal.loop-n-preserved
-loop-n-preserved g c = λ levels p t k e.
-    let before = c.loop-n.invariant levels p t k e in
-    let held = c.held-held.ensures levels p t _ k in (
-      free_more levels c.loop-n.n _ perm.Branch c.held-held.result c.args.block t c.loop-n.free.reading
-          c.leaves.result c.both.result refl (omega (arith, e, c.loop-n-test.true)) held before.0 c.leaves.ensures
+loop-n-preserved g c = λ levels may t k e.
+    let before = c.loop-n.invariant levels may t k e in
+    let held = c.held_under-held.ensures levels may t _ k.knows in (
+      free_more _ levels may c.loop-n.n _ perm.Branch c.held_under-held.result c.args.block t c.loop-n.free.reading
+          c.leaves.result c.both.result k refl (omega (arith, e, c.loop-n-test.true)) held before.0 c.leaves.ensures
           c.both.ensures,
-      free_more levels c.loop-n.n _ perm.Trunk c.held-held.result c.args.block t c.loop-n.free.writing
-          c.leaves-in-loop-n.result c.both-in-loop-n.result refl (omega (arith, e, c.loop-n-test.true)) held before.1
+      free_more _ levels may c.loop-n.n _ perm.Trunk c.held_under-held.result c.args.block t c.loop-n.free.writing
+          c.leaves-in-loop-n.result c.both-in-loop-n.result k refl (omega (arith, e, c.loop-n-test.true)) held before.1
           c.leaves-in-loop-n.ensures
           c.both-in-loop-n.ensures,
     )
 
 pub returns : goal.returns
-returns g c = λ levels p t k e.
+returns g c = λ levels may t k e.
     let done : c.loop-n.n ≡ c.args.links = omega (arith, c.loop-n-test.false) in
     free_all c.loop-n.n c.args.links c.args.block t c.loop-n.free.reading c.loop-n.free.writing done
-    (c.loop-n.invariant levels p t k e)
+    (c.loop-n.invariant levels may t k e)

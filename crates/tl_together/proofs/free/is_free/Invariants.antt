@@ -1,12 +1,12 @@
-use Rattle.std.proofs.Common.{◌≡◌, List, length, false, None}
+use Rattle.std.proofs.Common.{◌≡◌, List, length}
 use Rattle.tl_params.specs.declared.level.Level.{Level}
-use Rattle.tl_params.specs.declared.profile.Profile.{Profile}
+use Rattle.tl_params.specs.declared.liberties.Liberties.{Liberties}
 use Rattle.tl_rules.specs.statement.Conformance.{Trace}
-use Rattle.tl_monitor.specs.statement.Knows.{Knows}
-use Rattle.tl_rules.specs.statement.Windows as window
+use Rattle.tl_together.specs.code.Following.{Follows}
+use Rattle.tl_bytes.specs.statement.Free.{is_free}
 use Rattle.tl_together.proofs.free.is_free.Given as goal
 
 abbrev pub invariant-loop-n : goal.invariant-loop-n
-invariant-loop-n g l = (levels : List Level) (p : Profile) (t : Trace _) → Knows l.monitor levels p t false
+invariant-loop-n g l = (levels : List Level) (may : Liberties) (t : Trace _) → Follows l.monitor levels may t
     → l.links ≡ length levels
-    → l.free ≡ window.is_free l.n None l.given l.block t
+    → l.free ≡ is_free l.n l.given l.block t

@@ -19,8 +19,8 @@ returns-clause-noted g c =
     (λ h. rw c.in-Some.is (notes_window c.args.monitor.now c.args.links c.args.moment block
     (if free.reading then c.args.moment else (window_in old block).reading)
     (if free.writing then c.args.moment else (window_in old block).writing) old _ free.reading free.writing
-    (λ levels p t k links_is. (c.freedom_of.ensures levels p t k links_is).0)
-    (λ levels p t k links_is. (c.freedom_of.ensures levels p t k links_is).1) refl refl h))
+    (λ levels may t k links_is. (c.freedom_of.ensures levels may t k links_is).0)
+    (λ levels may t k links_is. (c.freedom_of.ensures levels may t k links_is).1) refl refl h))
     c.note.ensures.changed
 
 pub returns-in_default-clause-entered : goal.returns-in_default-clause-entered

@@ -5,6 +5,6 @@ use Rattle.tl_witness.proofs.grounds.tell_bytes.Goals as goal
 
 pub returns-in-Ok-clause-bytes : goal.returns-in-Ok-clause-bytes
 returns-in-Ok-clause-bytes g c = on_ok_weaker c.tell_lanes_of.result
-    (λ told. λ levels p t k fine. told levels p c.args.x.now t (search rules) (c.change.ensures.knows levels p t false k)
-    fine (c.in-Ok.ensures.change levels p t k fine))
+    (λ told. λ levels l t k fine. told levels l c.args.x.now t (search rules) (c.change.ensures.knows levels l t false k)
+    fine (c.in-Ok.ensures.change levels l t k fine))
     c.tell_lanes_of.ensures

@@ -1,4 +1,5 @@
 use Rattle.std.specs.Prelude.{false}
+use Rattle.tl_params.specs.statement.Liberties.{liberties_of}
 use Rattle.tl_engine.proofs.BeatJudging.{alone_bad, alone_good, together_bad, together_good}
 use Rattle.tl_engine.proofs.beat_judge.BeatJudge.push.Goals as goal
 
@@ -17,8 +18,8 @@ returns-in-Err-Broken g c =
 pub returns-in-Ok-try_push : goal.returns-in-Ok-try_push
 returns-in-Ok-try_push g c =
     together_good _ (c.args.link, c.args.beat.now) c.in-OfAll.judge c.in-OfAll.is c.try_push-in-OfAll.new.self
-    (λ levels p t. c.in-Ok-try_push.ensures.answer levels p t false)
-    (λ levels p t. c.in-Ok-try_push.ensures.knows levels p t false)
+    (λ levels p t. c.in-Ok-try_push.ensures.answer levels (liberties_of p) t false)
+    (λ levels p t. c.in-Ok-try_push.ensures.knows levels (liberties_of p) t false)
 
 pub returns-in-Err-Broken-try_push : goal.returns-in-Err-Broken-try_push
 returns-in-Err-Broken-try_push g c =
@@ -26,5 +27,5 @@ returns-in-Err-Broken-try_push g c =
     (together_bad _ (c.args.link, c.args.beat.now) c.in-OfAll.judge c.in-OfAll.is c.try_push-in-OfAll.new.self
     c.in-Err-Broken-try_push.breach
     (λ levels p t known.
-    rw c.in-Err-Broken-try_push.field-0-is at (c.in-Err-Broken-try_push.ensures.answer levels p t false known))
-    (λ levels p t. c.in-Err-Broken-try_push.ensures.knows levels p t false))
+    rw c.in-Err-Broken-try_push.field-0-is at (c.in-Err-Broken-try_push.ensures.answer levels (liberties_of p) t false known))
+    (λ levels p t. c.in-Err-Broken-try_push.ensures.knows levels (liberties_of p) t false))

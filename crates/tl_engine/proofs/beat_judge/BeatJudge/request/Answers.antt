@@ -1,3 +1,4 @@
+use Rattle.tl_params.specs.statement.Liberties.{liberties_of}
 use Rattle.tl_engine.proofs.BeatJudging.{alone_request, together_request}
 use Rattle.tl_engine.proofs.beat_judge.BeatJudge.request.Goals as goal
 
@@ -9,4 +10,4 @@ returns-in-OfLinks g c =
 pub returns-in-OfAll : goal.returns-in-OfAll
 returns-in-OfAll g c =
     together_request c.args.self.now c.in-OfAll.judge c.in-OfAll.is c.request-in-OfAll.result c.args.link
-    c.args.source c.request-in-OfAll.ensures
+    c.args.source (λ levels p t. c.request-in-OfAll.ensures levels (liberties_of p) t)

@@ -7,7 +7,7 @@ use Rattle.tl_memory.{proofs.Expecting.expects-later, proofs.Judging.judged-true
 use Rattle.tl_memory.proofs.link.LinkState.is_true.Goals as goal
 
 pub returns-then-beats-eq0 : goal.returns-then-beats-eq0
-returns-then-beats-eq0 g c = λ levels p n link t k legal fine first.
+returns-then-beats-eq0 g c = λ levels n link t k legal fine first.
     let x = c.args.x.now in
     let burst = unfinished Channel.D (on_link link.0 t) in
     let count : c.count-beats.result ≡ length burst =
@@ -15,12 +15,12 @@ returns-then-beats-eq0 g c = λ levels p n link t k legal fine first.
     let none : length burst ≡ 0 = omega (arith, count, c.if-beats-eq0.true) in
     let sound : (x.corrupt || x.denied) ≡ false = search rules in
     let judged : is_judged x.opcode ≡ true = search rules in
-    judged-true levels p n link x t c.requires legal fine c.args.begun.now x.opcode c.is_allowed.result refl
-    (expects-begun levels p link n x t legal fine c.args.begun.now first none)
+    judged-true levels n link x t c.requires legal fine c.args.begun.now x.opcode c.is_allowed.result refl
+    (expects-begun levels link n x t legal fine c.args.begun.now first none)
     (subst (λ m. IsAllowed c.args.begun.now m x c.is_allowed.result) count c.is_allowed.ensures) sound judged
 
 pub returns : goal.returns
-returns g c = λ levels p n link t k legal fine first.
+returns g c = λ levels n link t k legal fine first.
     let x = c.args.x.now in
     let burst = unfinished Channel.D (on_link link.0 t) in
     let expected = c.args.self.now.expected in
@@ -28,6 +28,6 @@ returns g c = λ levels p n link t k legal fine first.
     c.count-beats.ensures g.row.W burst k.messages_are.d_is.bytes_are in
     let sound : (x.corrupt || x.denied) ≡ false = search rules in
     let judged : is_judged x.opcode ≡ true = search rules in
-    judged-true levels p n link x t c.requires legal fine expected x.opcode c.is_allowed-2.result refl
-    (expects-later levels p link n x t legal fine expected k.expected_is (λ none. c.if-beats-eq0.false (count ∙ none)))
+    judged-true levels n link x t c.requires legal fine expected x.opcode c.is_allowed-2.result refl
+    (expects-later levels link n x t legal fine expected k.expected_is (λ none. c.if-beats-eq0.false (count ∙ none)))
     (subst (λ m. IsAllowed expected m x c.is_allowed-2.result) count c.is_allowed-2.ensures) sound judged

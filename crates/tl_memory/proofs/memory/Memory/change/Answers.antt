@@ -8,30 +8,30 @@ use Rattle.tl_memory.proofs.Memories.{is-borne, links-legal, none-expected, noth
 use Rattle.tl_memory.proofs.memory.Memory.change.Goals as goal
 
 pub returns-then-not-is_small-clause-change : goal.returns-then-not-is_small-clause-change
-returns-then-not-is_small-clause-change g c = λ levels p t k legal fine asked now.
+returns-then-not-is_small-clause-change g c = λ levels t k legal fine asked now.
     let link = c.args.link in
     let x = c.args.x.now in
-    let f = is-fine levels p (link, x) t fine in
+    let f = is-fine _ levels (link, x) t fine in
     let large : is_small x ≡ false = search rules in
-    large-breaks f.level p x (on_link link.0 t) c.requires (legal-on levels p link.0 f.level t f.has_level legal) f.fine
+    large-breaks f.level x (on_link link.0 t) c.requires (legal-on _ levels link.0 f.level t f.has_level legal) f.fine
     large
 
 pub returns-then-passes_by-clause-change : goal.returns-then-passes_by-clause-change
-returns-then-passes_by-clause-change g c = λ levels p t k legal fine asked now.
+returns-then-passes_by-clause-change g c = λ levels t k legal fine asked now.
     let link = c.args.link in
     let x = c.args.x.now in
     let yes : c.passes_by.result ≡ true = search rules in
-    let passing = sym (c.passes_by.ensures levels p t k.links_are legal fine) ∙ yes in
+    let passing = sym (c.passes_by.ensures levels t k.links_are legal fine) ∙ yes in
     nothing-changed c.none-then-passes_by.result c.args.self.now (length levels) (link, x) t
     c.none-then-passes_by.ensures.block c.none-then-passes_by.ensures.held c.none-then-passes_by.ensures.expected
     (λ block other. passed-by block link x t k.blocks_are.inside passing)
     (none-begins (length levels) link x t passing)
 
 pub returns-in_default-clause-change : goal.returns-in_default-clause-change
-returns-in_default-clause-change g c = λ levels p t k legal fine asked now.
+returns-in_default-clause-change g c = λ levels t k legal fine asked now.
     let link = c.args.link in
     let x = c.args.x.now in
-    let its = links-legal levels p link x t c.requires legal fine c.args.self.now.links k.links_are
+    let its = links-legal levels link x t c.requires legal fine c.args.self.now.links k.links_are
     c.prove_typed.ensures.typed in
     let unborne = sym (c.block_borne.ensures (on_link link.0 t) asked) ∙ c.in_default.is in
     nothing-changed c.none-in_default.result c.args.self.now (length levels) (link, x) t
@@ -53,7 +53,7 @@ returns-clause-known g c = λ n t k. record {
 }
 
 pub returns-clause-change : goal.returns-clause-change
-returns-clause-change g c = IfOk-weaker c.changed.result _ _ (λ change h levels p t k legal fine asked now. h levels p t
+returns-clause-change g c = IfOk-weaker c.changed.result _ _ (λ change h levels t k legal fine asked now. h levels t
     (record {
       links_are = k.links_are;
       blocks_are = c.meet.ensures.known (length levels) t k.blocks_are;

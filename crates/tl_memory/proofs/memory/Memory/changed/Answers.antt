@@ -6,19 +6,19 @@ use Rattle.tl_memory.{proofs.Memories.is-borne, proofs.Memories.links-legal, pro
 use Rattle.tl_memory.proofs.memory.Memory.changed.Goals as goal
 
 pub returns : goal.returns
-returns g c = λ levels p t k legal fine asked now borne there.
+returns g c = λ levels t k legal fine asked now borne there.
     let n = length levels in
     let link = c.args.link in
     let x = c.args.x.now in
     let block = c.args.block in
     let messages = (k.links_are.states_are link.0 c.in-Some-get.known.now (sym c.in-Some-get.ensures)).messages_are in
     let state = place-kept c.args.self.now c.in-Some.state.now n block c.args.place t k there c.in-Some.ensures in
-    let its = links-legal levels p link x t c.requires.width legal fine c.args.self.now.links k.links_are
+    let its = links-legal levels link x t c.requires.width legal fine c.args.self.now.links k.links_are
     c.prove_typed.ensures.typed in
     record {
       block_is = is-borne (Some block) link x t k.blocks_are.inside its borne;
       held_is = c.held_of.ensures ∙ ap (λ b. if b then Some block else None) (c.changes_held.ensures (on_link link.0 t)
-          messages (few-before levels p link t c.requires.width legal x fine));
+          messages (few-before levels link t c.requires.width legal x fine));
       kept = λ other e. rw (← same-block block other e) there;
       next_is = λ other free s e found seen.
           let same = same-block block other e in
@@ -28,5 +28,5 @@ returns g c = λ levels p t k legal fine asked now borne there.
     }
 
 pub returns-in_default : goal.returns-in_default
-returns-in_default g c = λ levels p t k legal fine asked now borne there. absurd
+returns-in_default g c = λ levels t k legal fine asked now borne there. absurd
     (place-there c.args.self.now (length levels) c.args.block c.args.place t k there (search rules))

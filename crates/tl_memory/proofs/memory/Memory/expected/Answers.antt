@@ -4,11 +4,11 @@ use Rattle.tl_memory.{proofs.Kept.item-there, proofs.LinkTables.link-there}
 use Rattle.tl_memory.proofs.memory.Memory.expected.Goals as goal
 
 pub returns-in-Some : goal.returns-in-Some
-returns-in-Some g c = λ levels p x t k legal fine change. c.expected.ensures g.row.W (length levels) levels p
+returns-in-Some g c = λ levels x t k legal fine change. c.expected.ensures g.row.W (length levels) levels
     c.args.link x t (k.links_are.states_are c.args.link.0 c.in-Some.state.now (sym c.in-Some.ensures)) legal fine
     (λ first. change.expected_is x refl first)
 
 pub returns-in-None : goal.returns-in-None
-returns-in-None g c = λ levels p x t k legal fine change. absurd
+returns-in-None g c = λ levels x t k legal fine change. absurd
     (item-there c.args.self.now.links.states.items c.args.link.0 (length levels) k.links_are.count_is
-    (link-there levels p (c.args.link, Beat.D x) t fine) c.in-None.ensures)
+    (link-there _ levels (c.args.link, Beat.D x) t fine) c.in-None.ensures)

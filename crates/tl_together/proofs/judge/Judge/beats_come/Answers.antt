@@ -2,4 +2,4 @@ use Rattle.std.proofs.Common.{length, refl}
 use Rattle.tl_together.proofs.judge.Judge.beats_come.Goals as goal
 
 pub returns : goal.returns
-returns g c = λ levels p t k lt. c.beats_come.ensures (length levels) t (k.open_knows refl).memory_is lt
+returns g c = λ levels may t k lt. c.beats_come.ensures (length levels) t (k.open_knows refl).memory_is lt

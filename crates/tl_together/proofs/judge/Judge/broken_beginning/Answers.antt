@@ -2,12 +2,12 @@ use Rattle.tl_together.proofs.Answered.{begun, not_begun}
 use Rattle.tl_together.proofs.judge.Judge.broken_beginning.Goals as goal
 
 pub returns-then-begins : goal.returns-then-begins
-returns-then-begins g c = λ levels p t k lt.
+returns-then-begins g c = λ levels may t k lt.
     begun levels c.args.link c.args.x.now t c.begins.result c.broken_response.result lt
-    (c.begins.ensures.known levels p t _ k.monitor_is) c.if-begins.true
-    (c.broken_response.ensures levels p t k lt)
+    (c.begins.ensures.under levels may t _ k.monitor_is.knows) c.if-begins.true
+    (c.broken_response.ensures levels may t k lt)
 
 pub returns-else-begins : goal.returns-else-begins
-returns-else-begins g c = λ levels p t k lt.
+returns-else-begins g c = λ levels may t k lt.
     not_begun levels c.args.link c.args.x.now t c.begins.result lt
-    (c.begins.ensures.known levels p t _ k.monitor_is) c.if-begins.false
+    (c.begins.ensures.under levels may t _ k.monitor_is.knows) c.if-begins.false

@@ -1,26 +1,26 @@
 use Rattle.std.proofs.Common.{◌≡◌, length, subst}
 use Rattle.std.specs.Prelude.{None}
 use Rattle.tl_memory.specs.code.Changing.{IsChange}
-use Rattle.tl_rules.specs.statement.Conformance.{broken_on_link}
+use Rattle.tl_memory.specs.statement.Links.{KeepsRules}
 use Rattle.tl_together.proofs.Answered.{broken_beginning_is, broken_bytes_are, no_d}
-use Rattle.tl_together.proofs.Noted.{in_levels}
+use Rattle.tl_memory.proofs.LinkTables.{link-there}
 use Rattle.tl_together.proofs.judge.Judge.broken_memory.Goals as goal
 
 pub returns-in_default : goal.returns-in_default
-returns-in_default g c = λ levels p t k fine change.
+returns-in_default g c = λ levels may t k fine change.
     no_d (length levels) c.args.link.0 c.args.beat.now t c.in_default.not-D
 
 pub returns-in-None : goal.returns-in-None
-returns-in-None g c = λ levels p t k fine change.
+returns-in-None g c = λ levels may t k fine change.
     let link = c.args.link in
-    let lt = in_levels levels p link c.args.beat.now t fine in
+    let lt = link-there _ levels (link, c.args.beat.now) t fine in
     broken_bytes_are (length levels) link.0 c.args.beat.now c.in-D.x t c.broken_beginning.result c.broken_bytes.result
-    c.in-D.is c.in-None.is (c.broken_beginning.ensures levels p t k lt)
-    (c.broken_bytes.ensures levels p t k (subst (λ y. broken_on_link levels p (link, y) t ≡ None) c.in-D.is fine)
+    c.in-D.is c.in-None.is (c.broken_beginning.ensures levels may t k lt)
+    (c.broken_bytes.ensures levels may t k (subst (λ y. KeepsRules may levels (link, y) t) c.in-D.is fine)
     (subst (λ y. IsChange c.args.change.now c.args.self.now.memory (length levels) (link, y) t) c.in-D.is change))
 
 pub returns-in-Some : goal.returns-in-Some
-returns-in-Some g c = λ levels p t k fine change.
-    let lt = in_levels levels p c.args.link c.args.beat.now t fine in
+returns-in-Some g c = λ levels may t k fine change.
+    let lt = link-there _ levels (c.args.link, c.args.beat.now) t fine in
     broken_beginning_is (length levels) c.args.link.0 c.args.beat.now c.in-D.x t c.broken_beginning.result
-    c.in-Some.rule c.in-D.is c.in-Some.is (c.broken_beginning.ensures levels p t k lt)
+    c.in-Some.rule c.in-D.is c.in-Some.is (c.broken_beginning.ensures levels may t k lt)

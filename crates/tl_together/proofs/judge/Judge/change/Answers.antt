@@ -1,20 +1,23 @@
 use Rattle.std.proofs.Common.{◌≡◌, ◌+◌, refl, rules}
 use Rattle.tl_together.proofs.Judging.{next_moment, unnoted}
-use Rattle.tl_together.proofs.Noted.{in_levels}
+use Rattle.tl_memory.proofs.LinkTables.{link-there}
+use Rattle.tl_together.proofs.Following.{followed, one_more}
 use Rattle.tl_together.proofs.judge.Judge.change.Goals as goal
 
 pub returns-in-Ok-clause-knows : goal.returns-in-Ok-clause-knows
-returns-in-Ok-clause-knows g c = λ levels p t closed k.
-    unnoted c.args.self.now _ levels p t closed k refl refl refl refl refl refl c.change.ensures.known
+returns-in-Ok-clause-knows g c = λ levels may t closed k.
+    unnoted c.args.self.now _ levels may t closed k refl refl refl refl refl refl c.change.ensures.known
 
 pub returns-in-Ok-clause-change : goal.returns-in-Ok-clause-change
-returns-in-Ok-clause-change g c = λ levels p t k fine.
+returns-in-Ok-clause-change g c = λ levels may t k fine.
     let o = k.open_knows refl in
-    let lt = in_levels levels p c.args.link c.args.beat.now t fine in
+    let lt = link-there _ levels (c.args.link, c.args.beat.now) t fine in
     let next_is : c.in-Some.next ≡ c.args.self.now.moment + 1 = search rules in
     let now = next_moment c.in-Some.next c.args.self.now.moment t next_is o.moment_is in
-    c.in-Ok.ensures.change levels p t o.memory_is o.legal fine (c.answered-asked.ensures levels p t o.monitor_is lt) now
+    c.in-Ok.ensures.change levels t o.memory_is (followed _ levels may t o.monitor_is)
+    (one_more _ levels may (c.args.link, c.args.beat.now) t o.monitor_is fine)
+    (c.answered-asked.ensures levels may t o.monitor_is lt) now
 
 pub returns-in-Err-clause-knows : goal.returns-in-Err-clause-knows
-returns-in-Err-clause-knows g c = λ levels p t closed k.
-    unnoted c.args.self.now _ levels p t closed k refl refl refl refl refl refl c.change.ensures.known
+returns-in-Err-clause-knows g c = λ levels may t closed k.
+    unnoted c.args.self.now _ levels may t closed k refl refl refl refl refl refl c.change.ensures.known

@@ -4,84 +4,92 @@ use Rattle.tl_together.specs.statement.Coherence.{first_broken}
 use Rattle.tl_together.specs.statement.Knows.{broken}
 use Rattle.tl_together.proofs.Judging.{broken_so, fine_on_link, judged_fault, next_moment, open_still, refused}
 use Rattle.tl_together.proofs.Judging.{remembered, still, taken, unnoted}
-use Rattle.tl_together.proofs.Noted.{held_others, in_levels}
+use Rattle.tl_memory.proofs.LinkTables.{link-there}
+use Rattle.tl_together.proofs.Following.{followed, grown, one_more, same}
+use Rattle.tl_together.proofs.Noted.{held_others}
 use Rattle.tl_together.proofs.Showing.{either_leaves, first_noted}
 use Rattle.tl_rules.specs.statement.Conformance.{on_link}
 use Rattle.tl_together.proofs.judge.Judge.try_push.Goals as goal
 
 pub returns-in_default-change-clause-knows : goal.returns-in_default-change-clause-knows
-returns-in_default-change-clause-knows g c = λ levels p t closed k.
-    unnoted c.args.self.now _ levels p t closed k refl refl refl refl refl refl c.change.ensures.known
+returns-in_default-change-clause-knows g c = λ levels may t closed k.
+    unnoted c.args.self.now _ levels may t closed k refl refl refl refl refl refl c.change.ensures.known
 
 pub returns-in_default-noted-clause-knows : goal.returns-in_default-noted-clause-knows
-returns-in_default-noted-clause-knows g c = λ levels p t closed k.
+returns-in_default-noted-clause-knows g c = λ levels may t closed k.
     let same : c.note_window-noted.new.windows ≡ c.args.self.now.windows = search rules in
-    unnoted c.args.self.now _ levels p t closed k refl refl refl refl refl same c.change.ensures.known
+    unnoted c.args.self.now _ levels may t closed k refl refl refl refl refl same c.change.ensures.known
 
 pub returns-in-Some-broken_memory-clause-answer : goal.returns-in-Some-broken_memory-clause-answer
-returns-in-Some-broken_memory-clause-answer g c = λ levels p t closed k.
-    let o = open_still c.args.self.now levels p t closed k c.if-self.false in
+returns-in-Some-broken_memory-clause-answer g c = λ levels may t closed k.
+    let o = open_still c.args.self.now levels may t closed k c.if-self.false in
     let next_is : c.in-Some.next ≡ c.args.self.now.moment + 1 = search rules in
     let now = next_moment c.in-Some.next c.args.self.now.moment t next_is o.moment_is in
-    let known = remembered c.args.self.now _ levels p t o refl refl refl refl refl c.change.ensures.known in
-    broken_so c.args.self.now levels p t closed c.args.link c.args.beat.now c.in-Some-broken_memory.rule c.breach.result k
-    c.if-self.false (c.breach.ensures levels p t known) (λ fine.
-    let lt = in_levels levels p c.args.link c.args.beat.now t fine in
-    let change = c.in-Ok.ensures.change levels p t o.memory_is o.legal fine
-    (c.answered-asked.ensures levels p t o.monitor_is lt) now in
-    sym (c.broken_memory.ensures levels p t known fine change) ∙ c.in-Some-broken_memory.is)
+    let known = remembered c.args.self.now _ levels may t o refl refl refl refl refl c.change.ensures.known in
+    broken_so c.args.self.now levels may t closed c.args.link c.args.beat.now c.in-Some-broken_memory.rule c.breach.result k
+    c.if-self.false (c.breach.ensures levels may t known) (λ fine.
+    let lt = link-there _ levels (c.args.link, c.args.beat.now) t fine in
+    let change = c.in-Ok.ensures.change levels t o.memory_is (followed _ levels may t o.monitor_is)
+    (one_more _ levels may (c.args.link, c.args.beat.now) t o.monitor_is fine)
+    (c.answered-asked.ensures levels may t o.monitor_is lt) now in
+    sym (c.broken_memory.ensures levels may t known fine change) ∙ c.in-Some-broken_memory.is)
 
 pub returns-in-Some-broken_memory-clause-knows : goal.returns-in-Some-broken_memory-clause-knows
-returns-in-Some-broken_memory-clause-knows g c = λ levels p t closed k.
-    unnoted c.args.self.now _ levels p t closed k refl refl refl refl refl refl c.change.ensures.known
+returns-in-Some-broken_memory-clause-knows g c = λ levels may t closed k.
+    unnoted c.args.self.now _ levels may t closed k refl refl refl refl refl refl c.change.ensures.known
 
 pub returns-in-Err-clause-answer : goal.returns-in-Err-clause-answer
-returns-in-Err-clause-answer g c = λ levels p t closed k.
-    let o = open_still c.args.self.now levels p t closed k c.if-self.false in
-    refused c.args.self.now levels p t closed c.args.link c.args.beat.now c.in-Err.fault c.of_monitor.result k
+returns-in-Err-clause-answer g c = λ levels may t closed k.
+    let o = open_still c.args.self.now levels may t closed k c.if-self.false in
+    refused c.args.self.now levels may t closed c.args.link c.args.beat.now c.in-Err.fault c.of_monitor.result k
     c.if-self.false
-    (c.in-Err.ensures.answer levels p t _ o.monitor_is) c.of_monitor.ensures
+    (c.in-Err.ensures.answer_under levels may t _ o.monitor_is.knows) c.of_monitor.ensures
 
 pub returns-in-Err-clause-knows : goal.returns-in-Err-clause-knows
-returns-in-Err-clause-knows g c = λ levels p t closed k.
-    let o = open_still c.args.self.now levels p t closed k c.if-self.false in
-    still c.args.self.now _ levels p t closed c.args.link c.args.beat.now c.in-Some.next c.or.result k
-    c.if-self.false c.if-self.false refl refl (c.in-Err.ensures.knows levels p t _ o.monitor_is)
+returns-in-Err-clause-knows g c = λ levels may t closed k.
+    let o = open_still c.args.self.now levels may t closed k c.if-self.false in
+    still c.args.self.now _ levels may t closed c.args.link c.args.beat.now c.in-Some.next c.or.result k
+    c.if-self.false c.if-self.false refl refl (same _ levels may t o.monitor_is (c.in-Err.ensures.knows_under levels may t _ o.monitor_is.knows))
     c.note_request.ensures c.in-Ok-noted.ensures.noted c.change.ensures.known
 
 pub returns-clause-answer : goal.returns-clause-answer
-returns-clause-answer g c = λ levels p t closed k.
-    let o = open_still c.args.self.now levels p t closed k c.if-self.false in
-    let fine = fine_on_link levels p t (c.args.link, c.args.beat.now)
-    (c.in-Ok-try_push.ensures.answer levels p t _ o.monitor_is) in
-    let lt = in_levels levels p c.args.link c.args.beat.now t fine in
+returns-clause-answer g c = λ levels may t closed k.
+    let o = open_still c.args.self.now levels may t closed k c.if-self.false in
+    let fine = fine_on_link levels may t (c.args.link, c.args.beat.now)
+    (c.in-Ok-try_push.ensures.answer_under levels may t _ o.monitor_is.knows) in
+    let lt = link-there _ levels (c.args.link, c.args.beat.now) t fine in
     let next_is : c.in-Some.next ≡ c.args.self.now.moment + 1 = search rules in
     let now = next_moment c.in-Some.next c.args.self.now.moment t next_is o.moment_is in
-    let change = c.in-Ok.ensures.change levels p t o.memory_is o.legal fine
-    (c.answered-asked.ensures levels p t o.monitor_is lt) now in
-    let known = remembered c.args.self.now _ levels p t o refl refl refl refl refl c.change.ensures.known in
-    judged_fault c.args.self.now levels p t closed c.args.link c.args.beat.now c.broken_memory.result k
-    c.if-self.false fine (c.broken_memory.ensures levels p t known fine change)
+    let change = c.in-Ok.ensures.change levels t o.memory_is (followed _ levels may t o.monitor_is)
+    (one_more _ levels may (c.args.link, c.args.beat.now) t o.monitor_is fine)
+    (c.answered-asked.ensures levels may t o.monitor_is lt) now in
+    let known = remembered c.args.self.now _ levels may t o refl refl refl refl refl c.change.ensures.known in
+    judged_fault c.args.self.now levels may t closed c.args.link c.args.beat.now c.broken_memory.result k
+    c.if-self.false fine (c.broken_memory.ensures levels may t known fine change)
     ∙ ap (λ r. broken (first_broken None r)) c.in_default-broken_memory.is
 
 pub returns-clause-knows : goal.returns-clause-knows
-returns-clause-knows g c = λ levels p t closed k.
-    let o = open_still c.args.self.now levels p t closed k c.if-self.false in
-    let fine = fine_on_link levels p t (c.args.link, c.args.beat.now)
-    (c.in-Ok-try_push.ensures.answer levels p t _ o.monitor_is) in
-    let lt = in_levels levels p c.args.link c.args.beat.now t fine in
+returns-clause-knows g c = λ levels may t closed k.
+    let o = open_still c.args.self.now levels may t closed k c.if-self.false in
+    let fine = fine_on_link levels may t (c.args.link, c.args.beat.now)
+    (c.in-Ok-try_push.ensures.answer_under levels may t _ o.monitor_is.knows) in
+    let lt = link-there _ levels (c.args.link, c.args.beat.now) t fine in
     let next_is : c.in-Some.next ≡ c.args.self.now.moment + 1 = search rules in
     let now = next_moment c.in-Some.next c.args.self.now.moment t next_is o.moment_is in
-    let change = c.in-Ok.ensures.change levels p t o.memory_is o.legal fine
-    (c.answered-asked.ensures levels p t o.monitor_is lt) now in
-    let pushed = c.in-Ok-try_push.ensures.knows levels p t _ o.monitor_is in
-    let may = c.shown_by-shown.ensures.shown levels p t o.monitor_is lt in
-    taken c.args.self.now _ levels p t closed c.args.link c.args.beat.now c.in-Some.next c.or.result _ k
-    c.if-self.false c.if-self.false refl next_is refl fine pushed c.note_request.ensures c.in-Ok-noted.ensures.noted
+    let change = c.in-Ok.ensures.change levels t o.memory_is (followed _ levels may t o.monitor_is)
+    (one_more _ levels may (c.args.link, c.args.beat.now) t o.monitor_is fine)
+    (c.answered-asked.ensures levels may t o.monitor_is lt) now in
+    let pushed = grown _ _ levels may (c.args.link, c.args.beat.now) t o.monitor_is fine
+    (c.in-Ok-try_push.ensures.knows_under levels may t _ o.monitor_is.knows) in
+    let shows = c.shown_by-shown.ensures.shown levels may t o.monitor_is lt in
+    taken c.args.self.now _ levels may t closed c.args.link c.args.beat.now c.in-Some.next c.or.result _ k
+    c.if-self.false c.if-self.false refl next_is refl pushed c.note_request.ensures c.in-Ok-noted.ensures.noted
     (rw c.or.ensures (either_leaves c.shown_by-shown.result c.in-Ok.change.held c.args.beat.now (on_link c.args.link.0 t)
     (λ b is. c.shown_by-shown.ensures.own b (on_link c.args.link.0 t) is)
     (held_others c.in-Ok.change _ (length levels) c.args.link c.args.beat.now t change)))
-    (c.note_shown.ensures levels p t pushed lt may
+    (c.note_shown.ensures levels may t pushed lt shows
     (first_noted c.shown_by-shown.result c.in-Ok.change.held _ (rw c.or.ensures at c.in-Ok-noted.ensures.entered)))
-    (c.take.ensures levels p t (c.change.ensures.known (length levels) t o.memory_is) o.legal fine now change
-    (c.freed-free.ensures levels p _ pushed o.links_are))
+    (c.take.ensures levels t (c.change.ensures.known (length levels) t o.memory_is)
+    (followed _ levels may t o.monitor_is)
+    (one_more _ levels may (c.args.link, c.args.beat.now) t o.monitor_is fine) now change
+    (c.freed-free.ensures levels may _ pushed o.links_are))

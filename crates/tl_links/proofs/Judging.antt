@@ -13,13 +13,12 @@ use Rattle.tl_monitor.specs.declared.monitor.Monitor.{Monitor}
 use Rattle.tl_monitor.specs.statement.Knows.{KnowsUnder, fault_under}
 use Rattle.tl_params.specs.declared.level.Level.{Level}
 use Rattle.tl_params.specs.declared.liberties.Liberties.{Liberties}
-use Rattle.tl_params.specs.declared.profile.Profile.{Profile}
 use Rattle.tl_params.specs.declared.rule.Rule.{Rule}
-use Rattle.tl_report.specs.code.TraceJudging.{JudgesBeat, KnowsBeats}
-use Rattle.tl_report.specs.declared.trace_judge.TraceJudge.{TraceJudge}
-use Rattle.tl_report.specs.declared.trace_judge.TraceJudge.TheVariants.{OfAll, OfLinks}
+use Rattle.tl_links.specs.code.TraceJudging.{JudgesBeat, KnowsBeats}
+use Rattle.tl_links.specs.declared.trace_judge.TraceJudge.{TraceJudge}
+use Rattle.tl_links.specs.declared.trace_judge.TraceJudge.TheVariants.{OfAll, OfLinks}
 use Rattle.tl_rules.specs.statement.Conformance.{Trace}
-use Rattle.tl_rules.specs.statement.Liberties.{broken_on_link_under, profile_under}
+use Rattle.tl_rules.specs.statement.Liberties.{broken_on_link_under}
 use Rattle.tl_together.specs.declared.breach.Breach.{Breach}
 use Rattle.tl_together.specs.declared.fault.JudgeFault.TheVariants as judge
 use Rattle.tl_together.specs.declared.judge.Judge.{Judge}
@@ -31,8 +30,8 @@ module _ {w : ℕ} (x : Link × Beat w) where
   abbrev Beside : Monitor w → (List Level → Liberties → Trace w → Type 0) → Type 0
   Beside m So = (levels : List Level) (may : Liberties) (t : Trace w) → KnowsUnder m levels may t false → So levels may t
 
-  abbrev Above : Judge w → (List Level → Profile → Trace w → Type 0) → Type 0
-  Above j So = (levels : List Level) (p : Profile) (t : Trace w) → Knows j levels p t false → So levels p t
+  abbrev Above : Judge w → (List Level → Liberties → Trace w → Type 0) → Type 0
+  Above j So = (levels : List Level) (l : Liberties) (t : Trace w) → Knows j levels l t false → So levels l t
 
   -- what is said of the beat wherever the judge has these beats
   abbrev Says : TraceJudge w → TraceJudge w → Option Fault → Type 0
@@ -57,21 +56,21 @@ module _ {w : ℕ} (x : Link × Beat w) where
     knows levels may t known,
   )
 
-  pub together_good : (old new : Judge w) → Above old (λ levels p t. fault_of levels p t false x ≡ None)
-      → Above old (λ levels p t. Knows new levels p (x ∷ t) false) → Says (OfAll old) (OfAll new) None
+  pub together_good : (old new : Judge w) → Above old (λ levels l t. fault_of levels l t false x ≡ None)
+      → Above old (λ levels l t. Knows new levels l (x ∷ t) false) → Says (OfAll old) (OfAll new) None
   together_good old new fine knows false levels may t known = absurd known
   together_good old new fine knows true levels may t known = (
     ap (option_map fault_of_breach)
-        (whole (broken_together levels (profile_under may) x t) (fine levels (profile_under may) t known)),
-    knows levels (profile_under may) t known,
+        (whole (broken_together levels may x t) (fine levels may t known)),
+    knows levels may t known,
   )
 
   pub together_bad : (old new : Judge w) (breach : Breach)
-      → Above old (λ levels p t. fault_of levels p t false x ≡ Some (judge.Broken breach))
-      → Above old (λ levels p t. Knows new levels p t false) → Says (OfAll old) (OfAll new) (Some (fault_of_breach breach))
+      → Above old (λ levels l t. fault_of levels l t false x ≡ Some (judge.Broken breach))
+      → Above old (λ levels l t. Knows new levels l t false) → Says (OfAll old) (OfAll new) (Some (fault_of_breach breach))
   together_bad old new breach broken knows false levels may t known = absurd known
   together_bad old new breach broken knows true levels may t known = (
-    ap (option_map fault_of_breach) (breached_by (broken_together levels (profile_under may) x t) breach
-        (broken levels (profile_under may) t known)),
-    knows levels (profile_under may) t known,
+    ap (option_map fault_of_breach) (breached_by (broken_together levels may x t) breach
+        (broken levels may t known)),
+    knows levels may t known,
   )

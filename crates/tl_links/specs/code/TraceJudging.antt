@@ -8,17 +8,16 @@ use Rattle.tl_monitor.specs.statement.Knows.{KnowsUnder}
 use Rattle.tl_params.specs.declared.level.Level.{Level}
 use Rattle.tl_params.specs.declared.liberties.Liberties.{Liberties}
 use Rattle.tl_params.specs.declared.width.Width.{Width}
-use Rattle.tl_report.specs.declared.trace_judge.TraceJudge.{TraceJudge}
-use Rattle.tl_report.specs.declared.trace_judge.TraceJudge.TheVariants.{OfAll, OfLinks}
-use Rattle.tl_report.specs.statement.Judging.{faults_by, heads_by}
+use Rattle.tl_links.specs.declared.trace_judge.TraceJudge.{TraceJudge}
+use Rattle.tl_links.specs.declared.trace_judge.TraceJudge.TheVariants.{OfAll, OfLinks}
+use Rattle.tl_links.specs.statement.Judged.{faults_by, heads_by}
 use Rattle.tl_rules.specs.statement.Conformance.{Trace}
-use Rattle.tl_rules.specs.statement.Liberties.{profile_under}
 use Rattle.tl_together.specs.statement.Knows.{Knows}
 
 -- the judge knows the beats of a trace, none of which was at fault
 abbrev pub KnowsBeats : {w : ℕ} → Bool → TraceJudge w → List Level → Liberties → Trace w → Type 0
 KnowsBeats false (OfLinks monitor) levels may t = KnowsUnder monitor levels may t false
-KnowsBeats true (OfAll judge) levels may t = Knows judge levels (profile_under may) t false
+KnowsBeats true (OfAll judge) levels may t = Knows judge levels may t false
 KnowsBeats _ _ levels may t = ⊥
 
 -- what the judge says of a beat behind a trace: it isn't at fault, and the judge knows the longer trace, or it is at fault
@@ -30,7 +29,7 @@ JudgesBeat {w} together new levels may t x None =
 JudgesBeat {w} together new levels may t x (Some fault) =
     (faults_by together w levels may x t ≡ Some fault) × KnowsBeats together new levels may t
 
--- the header of a search, or there is none
+-- the header of a trace that is judged so, or there is none
 abbrev pub ReadsHeader : Bool → Liberties → List ℕ → Option LinksHeader → Type 0
 ReadsHeader together allow line None = (width : Width) (may : Liberties) (levels : List Level)
     → ¬ heads_by together allow line width may levels

@@ -1,6 +1,6 @@
 use Rattle.std.specs.Prelude.{false}
-use Rattle.tl_report.proofs.Judging.{alone_bad, alone_good, together_bad, together_good}
-use Rattle.tl_report.proofs.trace_judge.TraceJudge.push.Goals as goal
+use Rattle.tl_links.proofs.Judging.{alone_bad, alone_good, together_bad, together_good}
+use Rattle.tl_links.proofs.trace_judge.TraceJudge.push.Goals as goal
 
 pub returns-in-Ok : goal.returns-in-Ok
 returns-in-Ok g c =

@@ -1,22 +1,19 @@
 //! Judges the beats of a trace in turn, under the liberties of its links.
 
-ghost use Rattle.std.specs.Prelude.{◌≡◌, Bool, [], List, IfOk};
+ghost use Rattle.std.specs.Prelude.{◌≡◌, Bool, false, true, [], List, IfOk, IfSome};
 ghost use Rattle.tl_beat.specs.statement.Width.{IsWidth};
 ghost use Rattle.tl_params.specs.declared.level.Level.{Level};
 ghost use Rattle.tl_params.specs.declared.liberties.Liberties.{Liberties};
 ghost use Rattle.tl_rules.specs.statement.Conformance.{Trace};
-ghost use Rattle.tl_rules.specs.statement.Liberties.{profile_under};
-ghost use Rattle.tl_report.specs.code.TraceJudging.{JudgesBeat, KnowsBeats, ReadsHeader};
+ghost use Rattle.tl_links.specs.code.TraceJudging.{JudgesBeat, KnowsBeats, ReadsHeader};
 
+use crate::header::{LinksHeader, read_links};
 use std::alloc::{AllocError, Global};
 use tl_beat::beat::{Beat, Link};
 use tl_engine::fault::Fault;
-use tl_engine::header::read_header;
-use tl_links::header::{LinksHeader, read_links};
 use tl_monitor::fault::MonitorFault;
 use tl_monitor::monitor::Monitor;
 use tl_params::liberties::Liberties;
-use tl_params::profile::Profile;
 use tl_together::fault::JudgeFault;
 use tl_together::judge::Judge;
 
@@ -27,51 +24,32 @@ pub enum TraceJudge<const W: usize> {
     OfAll(Judge<W>),
 }
 
-/// The profile of these liberties: the second where a reader may be granted toT.
-fn profile_of(may: Liberties) -> Profile
-    ensures { result ≡ profile_under may }
-{
-    if may.writer {
-        Profile::Two
-    } else {
-        Profile::One
-    }
-}
-
-/// Reads the header of a trace whose links are judged, each by itself or all together. All together need a profile; each by
-/// itself may do what is allowed besides.
+/// Reads the header of a trace whose links are judged, each by itself or all together, and may do this besides. Those that
+/// are judged together may not have `early`.
 pub fn read_for(together: bool, allow: Liberties, line: &[u8]) -> Option<LinksHeader>
-    ensures { ReadsHeader together allow line.now result }
+    ensures reads { ReadsHeader together allow line.now result }
+    ensures late { IfSome result (λ header. together ≡ true → header.may.early ≡ false) }
 {
-    if together {
-        let Some(header) = read_header(line) else {
-            return None;
-        };
-        Some(LinksHeader {
-            width: header.width,
-            may: Liberties::of(header.profile),
-            levels: header.levels,
-        })
-    } else {
-        let Some(header) = read_links(line) else {
-            return None;
-        };
-        Some(LinksHeader {
-            may: header.may.union(allow),
-            ..header
-        })
+    let Some(header) = read_links(line) else {
+        return None;
+    };
+    let may = header.may.union(allow);
+    if together && may.early {
+        return None;
     }
+    Some(LinksHeader { may, ..header })
 }
 
 impl<const W: usize> TraceJudge<W> {
     /// A judge of the links that a header names, 1 to 16, which has seen no beat.
     pub fn new(alloc: Global, together: bool, header: &LinksHeader) -> Result<Self, AllocError>
-        requires { IsWidth W }
+        requires width { IsWidth W }
+        requires late { together ≡ true → header.now.may.early ≡ false }
         ensures { IfOk result (λ judge. KnowsBeats together judge header.now.levels.items header.now.may []) }
     {
         let levels = header.levels.as_slice();
         if together {
-            let judge = Judge::new(alloc, levels, profile_of(header.may)).map_err(|_| AllocError)?;
+            let judge = Judge::with_liberties(alloc, levels, header.may).map_err(|_| AllocError)?;
             Ok(TraceJudge::OfAll(judge))
         } else {
             let monitor = Monitor::with_liberties(alloc, levels, header.may).map_err(

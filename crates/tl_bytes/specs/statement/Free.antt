@@ -1,0 +1,32 @@
+-- When a block is free for one who reads or writes it, by what all links of a manager have carried, whatever liberties
+-- they have.
+use Rattle.std.specs.Prelude.{ℕ, zero, suc, Bool, true, false, ◌&&◌}
+use Rattle.tl_burst.specs.statement.Messages.{History}
+use Rattle.tl_params.specs.declared.liberties.Liberties.{Liberties}
+use Rattle.tl_params.specs.declared.perm.Perm.{Perm}
+use Rattle.tl_rules.specs.statement.Conformance.{Trace, on_link}
+use Rattle.tl_rules.specs.statement.Liberties.{held_under}
+use Rattle.tl_rules.specs.statement.Windows.{leaves}
+
+-- all liberties but `early`
+unfoldable pub all_but_early : Liberties
+all_but_early = record {
+  ids = true;
+  sinks = true;
+  writer = true;
+  early = false;
+  drops = true;
+  reports = true;
+  denied = true;
+  uncorrupt = true;
+}
+
+-- What a link may hold of a block at most. After beats that break no rule of their link under fewer liberties it is what
+-- is held under those.
+abbrev pub may_hold : {w : ℕ} → ℕ → History w → Perm
+may_hold block t = held_under all_but_early block t
+
+-- after t each of the first n links holds no more of the block than may be held beside one who has so much of it
+unfoldable pub is_free : {w : ℕ} → ℕ → Perm → ℕ → Trace w → Bool
+is_free zero given block t = true
+is_free (suc n) given block t = is_free n given block t && leaves given (may_hold block (on_link n t))

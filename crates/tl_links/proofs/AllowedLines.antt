@@ -1,5 +1,5 @@
 -- What is found that would allow the first beat at fault, line by line.
-use Rattle.std.proofs.Common.{◌≡◌, ℕ, List, [], ◌∷◌, ◌++◌, false, refl, ap, sym, ◌∙◌, append_assoc, inl, inr}
+use Rattle.std.proofs.Common.{◌≡◌, ℕ, List, [], ◌∷◌, ◌++◌, refl, append_assoc, inl, inr}
 use Rattle.std.proofs.lemmas.List.{append-nil}
 use Rattle.std.specs.Prelude.{IfOk, Option, Some, None, Result, Ok, Err, ⊤}
 use Rattle.std.specs.declared.alloc.Global.{Global}
@@ -27,7 +27,6 @@ use Rattle.tl_links.specs.declared.allow_lines.Watch.{Watch}
 use Rattle.tl_links.specs.statement.Allowed.{Allowed, AllowedAfter, IsSettled, NamesProfile}
 use Rattle.tl_params.specs.declared.level.Level.{Level}
 use Rattle.tl_params.specs.declared.liberties.Liberties.{Liberties}
-use Rattle.tl_params.specs.declared.liberties.Liberty.{Liberty}
 use Rattle.tl_params.specs.declared.profile.Profile.{Profile}
 use Rattle.tl_params.specs.declared.width.Width.{Width}
 use Rattle.tl_params.specs.statement.Liberties.{liberties_of}

@@ -1,6 +1,6 @@
 -- A trace whose header names a profile, or stands for one, is judged by it.
 use Rattle.std.proofs.Common.{◌≡◌, ℕ, List, [], ◌∷◌, false, true, refl, sym, ap, subst, ◌∙◌, inl, inr}
-use Rattle.std.specs.Prelude.{◌⊎◌, option_map}
+use Rattle.std.specs.Prelude.{option_map}
 use Rattle.tl_beat.specs.declared.beat.Beat.{Beat}
 use Rattle.tl_beat.specs.declared.beat.Link.{Link}
 use Rattle.tl_engine.specs.declared.fault.Fault.TheVariants.{Rule as Breaks}

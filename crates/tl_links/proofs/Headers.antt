@@ -1,9 +1,8 @@
 -- Headers that name what links may do: what was spelled is read, and what was read was spelled so.
 use denote.Ref.{Bor}
-use Rattle.std.proofs.Common.{◌≡◌, ◌≢◌, Bool, true≢false, ◌<◌, ◌≤◌, ◌+◌, true, append_assoc, length-append, ℕ, List, [], ◌∷◌, ◌++◌, length, refl, ap, sym, ◌∙◌, arith, codes, inl, inr}
+use Rattle.std.proofs.Common.{◌≡◌, ◌≢◌, Bool, true≢false, ◌≤◌, true, append_assoc, length-append, ℕ, List, [], ◌∷◌, ◌++◌, length, refl, ap, sym, ◌∙◌, arith, codes, inl, inr}
 use Rattle.std.specs.Io.BufRead.{ends_with_byte}
 use Rattle.std.specs.Prelude.{◌⊎◌, false, IfSome, MatchOption, Option, Some, None}
-use Rattle.arrayvec.specs.ArrayVec.{ArrayVec}
 use Rattle.tl_beat.proofs.SpelledLines.{ends_with_byte-line}
 use Rattle.tl_command.proofs.LibertyWords.{liberties_again, liberties_taken, word-short}
 use Rattle.tl_command.specs.code.LibertyReading.{liberties_at}
@@ -21,7 +20,7 @@ use Rattle.tl_links.specs.statement.Header.{IsLinks, NamesAllowed, NamesLinks, S
 use Rattle.tl_links.specs.statement.Judged.{heads_by}
 use Rattle.tl_params.proofs.Headers.{after_taken}
 use Rattle.tl_params.proofs.Options.{some_pair}
-use Rattle.tl_params.specs.code.HeaderReading.{Gives, after_word}
+use Rattle.tl_params.specs.code.HeaderReading.{after_word}
 use Rattle.tl_params.specs.declared.level.Level.{Level}
 use Rattle.tl_params.specs.declared.level.Level.TheVariants as level
 use Rattle.tl_params.specs.declared.liberties.Liberties.{Liberties}

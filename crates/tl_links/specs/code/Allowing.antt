@@ -1,10 +1,9 @@
 -- What is known while it is looked for which liberties would allow the first beat at fault.
-use Rattle.std.specs.Prelude.{◌≡◌, ℕ, false, List, [], ◌∷◌, ◌++◌, Option, Some, None, ⊤}
+use Rattle.std.specs.Prelude.{◌≡◌, ℕ, false, List, [], ◌∷◌, ◌++◌, Option, Some, None}
 use Rattle.tl_allowed.specs.code.Known as wider
 use Rattle.tl_beat.specs.declared.beat.Beat.{Beat}
 use Rattle.tl_beat.specs.declared.beat.Link.{Link}
-use Rattle.tl_beat.specs.declared.fault.LineFault.{LineFault}
-use Rattle.tl_beat.specs.statement.Line.{Spells, line_fault}
+use Rattle.tl_beat.specs.statement.Line.{Spells}
 use Rattle.tl_allowed.specs.statement.Allowed.{allowed_under}
 use Rattle.tl_engine.specs.declared.fault.Fault.{Fault}
 use Rattle.tl_links.specs.declared.allow_lines.AllowLines.{AllowLines}

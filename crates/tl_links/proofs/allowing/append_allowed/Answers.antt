@@ -1,6 +1,4 @@
-use Rattle.std.proofs.Common.{ap, ◌∙◌, ◌++◌, List, ℕ}
 use Rattle.tl_engine.specs.code.Lines.{lines_of}
-use Rattle.tl_links.specs.code.Allowing.{found_in}
 use Rattle.tl_links.proofs.AllowedLines.{all_found, settled}
 use Rattle.tl_links.proofs.allowing.append_allowed.Goals as goal
 

@@ -1,5 +1,4 @@
-use Rattle.std.proofs.Common.{◌≡◌, ◌≢◌, [], true, length, ap, sym, ◌∙◌, arith, rules}
-use Rattle.std.specs.Prelude.{Some, None}
+use Rattle.std.proofs.Common.{◌≡◌, ◌≢◌, length, ap, arith, rules}
 use Rattle.tl_links.proofs.Headers.{fourth_behind, fourth_spelled, lacks_comma, tail}
 use Rattle.tl_links.proofs.header.fourth.Goals as goal
 

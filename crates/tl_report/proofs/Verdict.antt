@@ -1,17 +1,15 @@
 -- The first line that is found is that of the verdict.
 use Rattle.std.proofs.Common.{◌≡◌, ◌≤◌, ℕ, suc, ◌+◌, Bool, true, false, List, [], ◌∷◌, length, refl, arith, inl, inr, ◌∙◌}
-use Rattle.std.proofs.Common.{ap, sym}
 use Rattle.std.proofs.lemmas.List.{length-map}
-use Rattle.std.specs.Prelude.{zero, if◌then◌else◌, Some, None}
+use Rattle.std.specs.Prelude.{zero, if◌then◌else◌}
 use Rattle.tl_command.specs.declared.search.Aim.{Aim}
 use Rattle.tl_params.specs.declared.level.Level.{Level}
 use Rattle.tl_params.specs.declared.liberties.Liberties.{Liberties}
 use Rattle.tl_rules.specs.statement.Conformance.{Trace}
 use Rattle.tl_engine.specs.code.Watching.{said_by}
-use Rattle.tl_engine.specs.declared.status.Status.{Status}
 use Rattle.tl_engine.specs.statement.Judged.{FaultsOf, Headers, JudgedAfter, JudgedBy}
 use Rattle.tl_report.specs.declared.findings.Finding.{Finding}
-use Rattle.tl_report.specs.statement.Found.{Finds, FindsAfter, FindsFor, is_open, left_behind, most_of}
+use Rattle.tl_report.specs.statement.Found.{Finds, FindsAfter, FindsFor, is_open, left_behind}
 use Rattle.tl_links.specs.statement.Judged.{JudgedLinks, faults_by, heads_by}
 use Rattle.tl_report.specs.statement.Taken.{cell_of}
 use Rattle.tl_report.specs.statement.Said.{first_by, first_text, status_of}

@@ -26,22 +26,26 @@ inline std::string error_text(std::uint8_t code) {
   return std::string(reinterpret_cast<char *>(text), count);
 }
 
+/// Throws where a call made nothing: for want of memory, or since an argument is out of its range.
+inline void require_made(tl_answer answer, const char *arguments) {
+  if (answer.code == TL_NO_MEMORY) throw std::bad_alloc();
+  if (answer.code != TL_OK) throw std::invalid_argument(arguments);
+}
+
 /// A monitor of links. It may be moved, and not copied.
 class Monitor {
 public:
   explicit Monitor(const std::vector<std::uint8_t> &levels, std::uint8_t width = 8,
                    std::uint8_t profile = 1) {
     tl_answer answer = tl_monitor_new(&handle, levels.data(), levels.size(), width, profile);
-    if (answer.code == TL_NO_MEMORY) throw std::bad_alloc();
-    if (answer.code != TL_OK) throw std::invalid_argument("hefrudyl: levels, width or profile");
+    require_made(answer, "hefrudyl: levels, width or profile");
   }
 
   /// A monitor of links that have these liberties (the sum of enum tl_liberty).
   static Monitor under(const std::vector<std::uint8_t> &levels, std::uint8_t liberties, std::uint8_t width = 8) {
     tl_monitor made = {};
     tl_answer answer = tl_monitor_new_under(&made, levels.data(), levels.size(), width, liberties);
-    if (answer.code == TL_NO_MEMORY) throw std::bad_alloc();
-    if (answer.code != TL_OK) throw std::invalid_argument("hefrudyl: levels or width");
+    require_made(answer, "hefrudyl: levels or width");
     return Monitor(made, Made());
   }
 
@@ -79,16 +83,14 @@ public:
   explicit Judge(const std::vector<std::uint8_t> &levels, std::uint8_t width = 8,
                    std::uint8_t profile = 1) {
     tl_answer answer = tl_judge_new(&handle, levels.data(), levels.size(), width, profile);
-    if (answer.code == TL_NO_MEMORY) throw std::bad_alloc();
-    if (answer.code != TL_OK) throw std::invalid_argument("hefrudyl: levels, width or profile");
+    require_made(answer, "hefrudyl: levels, width or profile");
   }
 
   /// A judge of links that have these liberties (the sum of enum tl_liberty), any but TL_EARLY.
   static Judge under(const std::vector<std::uint8_t> &levels, std::uint8_t liberties, std::uint8_t width = 8) {
     tl_judge made = {};
     tl_answer answer = tl_judge_new_under(&made, levels.data(), levels.size(), width, liberties);
-    if (answer.code == TL_NO_MEMORY) throw std::bad_alloc();
-    if (answer.code != TL_OK) throw std::invalid_argument("hefrudyl: levels, width or liberties");
+    require_made(answer, "hefrudyl: levels, width or liberties");
     return Judge(made, Made());
   }
 
@@ -123,8 +125,7 @@ public:
   explicit Client(std::uint8_t level, std::uint16_t blocks, std::uint8_t sources = 1, std::uint8_t width = 8,
                   std::uint8_t profile = 1) {
     tl_answer answer = tl_client_new(&handle, level, blocks, sources, width, profile);
-    if (answer.code == TL_NO_MEMORY) throw std::bad_alloc();
-    if (answer.code != TL_OK) throw std::invalid_argument("hefrudyl: level, blocks, sources, width or profile");
+    require_made(answer, "hefrudyl: level, blocks, sources, width or profile");
   }
   Client(Client &&other) noexcept : handle(other.handle) { other.handle = {}; }
   Client &operator=(Client &&other) noexcept {
@@ -169,8 +170,7 @@ public:
   explicit Manager(const std::vector<tl_link_config> &links, std::uint16_t blocks, std::uint8_t trackers = 8,
                    std::uint8_t width = 8, std::uint8_t profile = 1) {
     tl_answer answer = tl_manager_new(&handle, links.data(), links.size(), blocks, trackers, width, profile);
-    if (answer.code == TL_NO_MEMORY) throw std::bad_alloc();
-    if (answer.code != TL_OK) throw std::invalid_argument("hefrudyl: links, blocks, trackers, width or profile");
+    require_made(answer, "hefrudyl: links, blocks, trackers, width or profile");
   }
   Manager(Manager &&other) noexcept : handle(other.handle) { other.handle = {}; }
   Manager &operator=(Manager &&other) noexcept {

@@ -52,12 +52,17 @@ AT_FAULT = [
 ]
 
 
-def first_fault(module, liberties, lines):
+def last_fault(judging, lines):
     """The rule that the last beat of a trace breaks, or none; the beats before it break none."""
-    with module.Monitor([module.Level.C], liberties=liberties) as monitor:
-        for line in lines[:-1]:
-            want(monitor.push_line(f"{line}\n".encode()).code == module.Code.OK, f"{lines}: {line} is at fault")
-        return monitor.push_line(f"{lines[-1]}\n".encode()).rule
+    with judging:
+        *before, last = (judging.push_line(f"{line}\n".encode()) for line in lines)
+    want(all(it.code.name == "OK" for it in before) and last.code.name in ("OK", "BROKEN"), f"{lines}: {before}, {last}")
+    return last.rule
+
+
+def first_fault(module, liberties, lines):
+    """The same of a monitor of a cache's link that has these liberties."""
+    return last_fault(module.Monitor([module.Level.C], liberties=liberties), lines)
 
 
 @test
@@ -107,25 +112,17 @@ TOGETHER = [
 ]
 
 
-def first_fault_of_all(module, liberties, levels, lines):
-    """The rule that the last beat of a trace of all links of a manager breaks, or none; the beats before it break none."""
-    with module.Judge(levels, liberties=liberties) as judge:
-        for line in lines[:-1]:
-            want(judge.push_line(f"{line}\n".encode()).code == module.Code.OK, f"{lines}: {line} is at fault")
-        return judge.push_line(f"{lines[-1]}\n".encode()).rule
-
-
 @test
 def a_judge_of_all_links_takes_each_liberty_but_early():
     module = python_module()
     caches = [module.Level.C, module.Level.C]
     for name, lines, rule in ALLOWED:
         if name != "EARLY":
-            want(first_fault_of_all(module, module.Liberty[name], caches, lines) == "", f"{name}: {lines}")
-            told = first_fault_of_all(module, 0, caches, lines)
+            want(last_fault(module.Judge(caches, liberties=module.Liberty[name]), lines) == "", f"{name}: {lines}")
+            told = last_fault(module.Judge(caches, liberties=0), lines)
             want(told == rule, f"without {name}: {told}, wanted {rule}: {lines}")
     for name, lines, rule in TOGETHER:
-        told = first_fault_of_all(module, module.Liberty[name], caches, lines)
+        told = last_fault(module.Judge(caches, liberties=module.Liberty[name]), lines)
         want(told == rule, f"{name}: {told}, wanted {rule}: {lines}")
     for liberties in (module.Liberty.EARLY, module.Liberty.STANDARD, 255):
         try:

@@ -9,7 +9,8 @@ use Rattle.tl_rules.specs.statement.History.{grant_sink, pending, probe_of, rele
 use Rattle.tl_rules.specs.statement.Liberties.{held_under}
 use Rattle.tl_bytes.specs.statement.Free.{all_but_early}
 use Rattle.tl_bytes.specs.statement.Bytes.{carried_mask, each_from, before_last}
-use Rattle.tl_bytes.proofs.WorkedBeats.{eight, put, part, done, get, add, found, untrue_from, untrue}
+use Rattle.tl_bytes.proofs.WorkedBeats.{eight, put, part, done, get, add, found, given_to_get, shown_to_get, wide}
+use Rattle.tl_bytes.proofs.WorkedBeats.{untrue_from, untrue}
 
 -- ---- what a Get may bring
 
@@ -150,11 +151,58 @@ unfolding untrue_from may_be may_read pending_accesses carried_byte bytes_carrie
     grant_sink pending held_under all_but_early is_free number_from
 a_get_after_an_answer = refl
 
--- what is written after an answer has begun isn't in it
-a_write_after_an_answer_began : untrue {w = 4} (put 0 0 3 fives 15 ∷ put 0 0 3 fives 15 ∷ done 0 0 3 ∷ get 1 0 3
-    15 ∷ found 1 0 3 fives ∷ put 0 0 3 (replicate 4 7) 15 ∷ put 0 0 3 (replicate 4 7) 15 ∷ done 0 0 3 ∷ found 1 0 3
-    (replicate 4 7) ∷ []) ≡ Some 8
+abbrev sevens : List ℕ
+sevens = replicate 4 7
+
+-- a Get is served beat by beat: its second beat may bring what was written after the first
+a_get_served_beat_by_beat : untrue {w = 4} (put 0 0 3 fives 15 ∷ put 0 0 3 fives 15 ∷ done 0 0 3 ∷ get 1 0 3 15 ∷ found
+    1 0 3 fives ∷ put 0 0 3 sevens 15 ∷ put 0 0 3 sevens 15 ∷ done 0 0 3 ∷ found 1 0 3 sevens ∷ []) ≡ None
 unfolding untrue_from may_be may_read pending_accesses carried_byte bytes_carried carried_mask windows_since
     window_began last_window last_told each_from before_last effect unfinished on_link request_of release_of probe_of
     grant_sink pending held_under all_but_early is_free
+a_get_served_beat_by_beat = refl
+
+-- but not what nobody wrote
+a_beat_from_nowhere : untrue {w = 4} (put 0 0 3 fives 15 ∷ put 0 0 3 fives 15 ∷ done 0 0 3 ∷ get 1 0 3 15 ∷ found 1 0 3
+    fives ∷ put 0 0 3 sevens 15 ∷ put 0 0 3 sevens 15 ∷ done 0 0 3 ∷ found 1 0 3 (replicate 4 6) ∷ []) ≡ Some 8
+unfolding untrue_from may_be may_read pending_accesses carried_byte bytes_carried carried_mask windows_since
+    window_began last_window last_told each_from before_last effect unfinished on_link request_of release_of probe_of
+    grant_sink pending held_under all_but_early is_free
+a_beat_from_nowhere = refl
+
+-- an atomic is performed before its answer begins
+a_write_after_an_answer_began : untrue (adding (found 0 0 3 fives ∷ put 1 0 3 sevens 15 ∷ put 1 0 3 sevens 15 ∷ done 1 0
+    3 ∷ found 0 0 3 sevens ∷ [])) ≡ Some 9
+unfolding untrue_from may_be may_read pending_accesses carried_byte bytes_carried carried_mask windows_since
+    window_began last_window last_told each_from before_last effect unfinished on_link request_of release_of probe_of
+    grant_sink pending held_under all_but_early is_free number_from
 a_write_after_an_answer_began = refl
+
+-- ---- windows
+
+-- a Get that waits for a Probe's report brings what that shows
+the_bytes_that_are_shown : untrue (shown_to_get (found 1 0 4 (wide 9) ∷ [])) ≡ None
+unfolding untrue_from may_be may_read pending_accesses carried_byte bytes_carried carried_mask windows_since
+    window_began last_window last_told each_from before_last effect unfinished on_link request_of release_of probe_of
+    grant_sink pending held_under all_but_early is_free
+the_bytes_that_are_shown = refl
+
+-- and not what was before, while the Get had no window
+the_bytes_before_the_report : untrue (shown_to_get (found 1 0 4 (wide 5) ∷ [])) ≡ Some 12
+unfolding untrue_from may_be may_read pending_accesses carried_byte bytes_carried carried_mask windows_since
+    window_began last_window last_told each_from before_last effect unfinished on_link request_of release_of probe_of
+    grant_sink pending held_under all_but_early is_free
+the_bytes_before_the_report = refl
+
+-- so it is of one that waits for a Release
+the_bytes_of_the_release : untrue (given_to_get (found 1 0 4 (wide 9) ∷ [])) ≡ None
+unfolding untrue_from may_be may_read pending_accesses carried_byte bytes_carried carried_mask windows_since
+    window_began last_window last_told each_from before_last effect unfinished on_link request_of release_of probe_of
+    grant_sink pending held_under all_but_early is_free
+the_bytes_of_the_release = refl
+
+the_bytes_before_the_release : untrue (given_to_get (found 1 0 4 (wide 5) ∷ [])) ≡ Some 11
+unfolding untrue_from may_be may_read pending_accesses carried_byte bytes_carried carried_mask windows_since
+    window_began last_window last_told each_from before_last effect unfinished on_link request_of release_of probe_of
+    grant_sink pending held_under all_but_early is_free
+the_bytes_before_the_release = refl

@@ -6,9 +6,11 @@ use Rattle.std.specs.Prelude.{if◌then◌else◌, Option, Some, None, is_some, 
 use Rattle.std.proofs.lemmas.Bool.{and_parts, cases_Bool, cases_eq, cases_lt, eq-eqb, eqb-true, le-ltb, lt-ltb, ne_eqb}
 use Rattle.std.proofs.lemmas.Bool.{or_cases, or_left, or_right}
 use Rattle.std.proofs.lemmas.List.{at_drop_more, at_drop_all}
-use Rattle.tl_bytes.{specs.code.Possible.has, specs.code.Possible.is_covered}
+use Rattle.std.specs.Global.{Vec}
+use Rattle.tl_bytes.specs.code.Possible.{covers_first, has, is_covered}
 use Rattle.tl_bytes.{specs.declared.read_bytes.ReadBytes.ReadBytes, specs.declared.telling.Possible.Possible}
-use Rattle.tl_bytes.{specs.statement.Bytes.could_be, specs.statement.Known.is_listed, specs.statement.Known.may_bring}
+use Rattle.tl_bytes.specs.statement.Bytes.{could_be}
+use Rattle.tl_bytes.specs.statement.Known.{is_among, is_listed, may_bring}
 use Rattle.tl_bytes.specs.code.Tellings.{covers_value, is_written, leaves, left_as, value_at}
 
 -- ---- truths
@@ -36,15 +38,14 @@ found-last test (y ∷ xs) x = elim (cases_Bool (test y)) [
 ]
 
 -- one that is kept beside the others
-pub offered-more : (old new : ReadBytes) (place : ℕ) (value : Option ℕ) (at v : ℕ) → new.first.items ≡ old.first.items
+pub offered-more : (old new : ReadBytes) (place : ℕ) (value : Option ℕ) (at v : ℕ) → new.first ≡ old.first
     → new.more.items ≡ old.more.items ++ record { place = place; value = value } ∷ []
     → may_bring new at v ≡ (may_bring old at v || ((place == at) && could_be v value))
 offered-more old new place value at v first more =
-    ap₂ (λ f m. could_be v (slice_index_or f at None) || is_listed at v m) first more
-    ∙ ap (λ b. could_be v (slice_index_or old.first.items at None) || b)
+    ap₂ (λ f m. is_among f at v || is_listed at v m) first more
+    ∙ ap (λ b. is_among old.first at v || b)
     (found-last (λ x. (x.place == at) && could_be v x.value) old.more.items (record { place = place; value = value }))
-    ∙ sym (or_assoc (could_be v (slice_index_or old.first.items at None)) (is_listed at v old.more.items)
-    ((place == at) && could_be v value))
+    ∙ sym (or_assoc (is_among old.first at v) (is_listed at v old.more.items) ((place == at) && could_be v value))
 
 covers-could : (v : ℕ) (a b : Option ℕ) → covers_value a b ≡ true → could_be v b ≡ true → could_be v a ≡ true
 covers-could v None b e f = refl
@@ -64,16 +65,19 @@ covered-listed place v value (x ∷ more) e could = elim (cases_Bool ((x.place =
 ]
 
 -- what it has may be brought
+covers-among : (first : Option (Vec (Option ℕ))) (place v : ℕ) (value : Option ℕ) → covers_first first place value ≡ true
+    → could_be v value ≡ true → is_among first place v ≡ true
+covers-among None place v value e could = absurd cc
+covers-among (Some values) place v value e could = covers-could v (slice_index_or values.items place None) value e could
+
 has-brought : (read : ReadBytes) (place v : ℕ) (value : Option ℕ) → has read place value ≡ true
     → could_be v value ≡ true → may_bring read place v ≡ true
 has-brought read place v value e could =
-    elim (or_cases (covers_value (slice_index_or read.first.items place None) value)
-    (is_covered place value read.more.items) e) [
-      | inl first ↦
-          or_left (could_be v (slice_index_or read.first.items place None)) (is_listed place v read.more.items)
-          (covers-could v (slice_index_or read.first.items place None) value first could)
-      | inr other ↦ or_right (could_be v (slice_index_or read.first.items place None))
-          (is_listed place v read.more.items) (covered-listed place v value read.more.items other could)
+    elim (or_cases (covers_first read.first place value) (is_covered place value read.more.items) e) [
+      | inl first ↦ or_left (is_among read.first place v) (is_listed place v read.more.items)
+          (covers-among read.first place v value first could)
+      | inr other ↦ or_right (is_among read.first place v) (is_listed place v read.more.items)
+          (covered-listed place v value read.more.items other could)
     ]
 
 -- so one that it has is left out
@@ -180,20 +184,28 @@ left-none at v writes i le = at_drop_all (left_as at v) writes i le
 pub told-either : (v : ℕ) (e : Telling) (l : List Telling) → (could_be v e.value || told_as v l) ≡ told_as v (e ∷ l)
 told-either v e l = sym (either-some (could_be v e.value) e (find (λ x. could_be v x.value) l))
 
--- at first what was told last
-pub first-is : (read : ReadBytes) (at v : ℕ) (value : Option ℕ) → slice_index_or read.first.items at None ≡ value
-    → read.more.items ≡ [] → may_bring read at v ≡ could_be v value
-first-is read at v value first none =
-    ap₂ (λ o l. could_be v o || is_listed at v l) first none ∙ sym (or_false (could_be v value))
+-- in the first window what was told last
+pub first-found : (old new : ReadBytes) (values : Vec (Option ℕ)) (at v : ℕ) (value : Option ℕ)
+    → is_some old.first ≡ false → new.first ≡ Some values → new.more ≡ old.more → slice_index_or values.items at None ≡ value
+    → may_bring new at v ≡ (may_bring old at v || could_be v value)
+first-found old new values at v value none first same last =
+    ap₂ (λ f m. is_among f at v || is_listed at v m) first (ap (λ (m : Vec Possible). m.items) same)
+    ∙ ap (λ o. could_be v o || is_listed at v old.more.items) last
+    ∙ swapped (could_be v value) (is_listed at v old.more.items)
+    ∙ ap (λ b. (b || is_listed at v old.more.items) || could_be v value) (sym (unmet old.first none))
+  where
+    unmet : (o : Option (Vec (Option ℕ))) → is_some o ≡ false → is_among o at v ≡ false
+    unmet None e = refl
+    unmet (Some values) e = absurd cc
+
+    swapped : (a b : Bool) → (a || b) ≡ ((false || b) || a)
+    swapped true true = refl
+    swapped true false = refl
+    swapped false b = or_false b
 
 -- the others, and what is written
-pub gathered-is : (first latest others written one all two : Bool) → first ≡ latest → one ≡ (first || others)
-    → all ≡ (one || written) → (latest || others) ≡ two → all ≡ (two || written)
-gathered-is first latest others written one all two start second third same =
-    third ∙ ap (λ b. b || written) (second ∙ ap (λ b. b || others) start ∙ same)
-
--- the same beside what there was
-pub told-more : (before latest others one two told : Bool) → one ≡ (before || latest) → two ≡ (one || others)
-    → (latest || others) ≡ told → two ≡ (before || told)
-told-more before latest others one two told first second same =
-    second ∙ ap (λ b. b || others) first ∙ or_assoc before latest others ∙ ap (λ b. before || b) same
+pub found-all : (before latest others written one two all told : Bool) → one ≡ (before || latest)
+    → two ≡ (one || others) → all ≡ (two || written) → (latest || others) ≡ told → all ≡ (before || (told || written))
+found-all before latest others written one two all told first second third same =
+    third ∙ ap (λ b. b || written) (second ∙ ap (λ b. b || others) first ∙ or_assoc before latest others
+    ∙ ap (λ b. before || b) same) ∙ or_assoc before told written

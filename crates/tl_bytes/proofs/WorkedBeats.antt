@@ -2,7 +2,8 @@
 use Rattle.tl_bytes.{proofs.Imports.Beat, proofs.Imports.Link, proofs.Imports.Trace, specs.statement.Bytes.is_true}
 use Rattle.std.proofs.Common.{ℕ, Bool, refl, true, false, List, [], ◌∷◌, ◌++◌}
 use Rattle.std.specs.Prelude.{if◌then◌else◌, length, replicate, Option, Some, None}
-use Rattle.tl_beat.{specs.declared.opcode.OpA.OpA, specs.declared.opcode.OpC.OpC, specs.declared.opcode.OpD.OpD}
+use Rattle.tl_beat.{specs.declared.opcode.OpA.OpA, specs.declared.opcode.OpB.OpB, specs.declared.opcode.OpC.OpC}
+use Rattle.tl_beat.specs.declared.opcode.OpD.{OpD}
 
 -- ---- beats of block 0
 
@@ -172,6 +173,38 @@ release_beat link source bytes = (
   }),
 )
 
+-- a Probe that leaves Trunk, and data that answer it
+abbrev pub probe_to_trunk : {w : ℕ} → ℕ → Link × Beat w
+probe_to_trunk link = (
+  record { 0 = link },
+  Beat.B (record {
+    opcode = OpB.ProbeBlock;
+    param = 0;
+    size = 6;
+    source = 0;
+    address = 0;
+    mask = 65535;
+    lanes = None;
+    corrupt = false;
+    carries = refl;
+  }),
+)
+
+abbrev pub shown_beat : {w : ℕ} → ℕ → List ℕ → Link × Beat w
+shown_beat link bytes = (
+  record { 0 = link },
+  Beat.C (record {
+    opcode = OpC.ProbeAckData;
+    param = 3;
+    size = 6;
+    source = 0;
+    address = 0;
+    lanes = Some bytes;
+    corrupt = false;
+    carries = refl;
+  }),
+)
+
 abbrev pub part : {w : ℕ} → ℕ → ℕ → ℕ → List ℕ → ℕ → Link × Beat w
 part link source size bytes mask = (
   record { 0 = link },
@@ -205,6 +238,17 @@ wide v = replicate 16 v
 abbrev pub given_back : Trace 16 → Trace 16
 given_back rest =
     acquire 0 1 0 65535 ∷ four (grant_beat 0 0 0 0 (wide 5)) ++ grant_ack 0 0 ∷ four (release_beat 0 1 (wide 9)) ++ rest
+
+-- a link is granted Trunk of bytes 5, another asks for bytes of the block, and the first shows bytes 9, or gives them back
+abbrev pub asked_beside_trunk : Trace 16 → Trace 16
+asked_beside_trunk rest =
+    acquire 0 1 0 65535 ∷ four (grant_beat 0 0 0 0 (wide 5)) ++ grant_ack 0 0 ∷ get 1 0 4 65535 ∷ rest
+
+abbrev pub shown_to_get : Trace 16 → Trace 16
+shown_to_get rest = asked_beside_trunk (probe_to_trunk 0 ∷ four (shown_beat 0 (wide 9)) ++ rest)
+
+abbrev pub given_to_get : Trace 16 → Trace 16
+given_to_get rest = asked_beside_trunk (four (release_beat 0 1 (wide 9)) ++ rest)
 
 -- ---- the first response whose bytes aren't true
 

@@ -1,9 +1,7 @@
 //! What a read may bring.
 
-ghost use Rattle.std.specs.Prelude.{ℕ, suc, true, ◌∷◌, ◌+◌, ◌*◌, ◌<◌, ◌≡◌, ◌==◌, ◌&&◌, ◌||◌, None, length};
+ghost use Rattle.std.specs.Prelude.{ℕ, true, false, ◌+◌, ◌*◌, ◌<◌, ◌≡◌, ◌==◌, ◌&&◌, ◌||◌, None};
 ghost use Rattle.std.specs.Prelude.{IfOk, OnOk, slice_index_or};
-ghost use Rattle.tl_beat.specs.declared.beat.Beat.{Beat};
-ghost use Rattle.tl_beat.specs.declared.beat.Link.{Link};
 ghost use Rattle.tl_rules.specs.statement.Conformance.{Trace};
 ghost use Rattle.tl_bytes.specs.code.Tellings.{leaves, left_as, telling_at};
 ghost use Rattle.tl_bytes.specs.code.Possible as code;
@@ -19,6 +17,16 @@ use std::alloc::{AllocError, Global};
 
 /// The bytes of a block.
 const BLOCK_BYTES: u8 = 64;
+
+/// The value at a place: anything where there is none.
+fn value_at(values: &[Option<u8>], place: u8) -> Option<u8>
+    ensures { result ≡ slice_index_or values.now place None }
+{
+    match values.get(usize::from(place)) {
+        Some(value) => *value,
+        None => None,
+    }
+}
 
 /// Whether one of these lets the byte at a place be all that this value may.
 fn is_covered(possible: &[Possible], place: u8, value: Option<u8>) -> bool
@@ -44,27 +52,35 @@ fn is_listed(possible: &[Possible], place: u8, byte: u8) -> bool
     false
 }
 
-/// What an access that reads may bring of its block: all that each byte may have been since its request
-/// was complete.
+/// What an access that reads may bring of its block: all that each byte may have been in the windows that it had.
 #[derive(Drop)]
 pub struct ReadBytes {
-    /// What each byte might be at first.
-    first: Vec<Option<u8>>,
+    /// What each byte might be in the first window; none where there was none.
+    first: Option<Vec<Option<u8>>>,
     /// What else.
     more: Vec<Possible>,
 }
 
 impl ReadBytes {
-    ghost use Rattle.tl_bytes.specs.statement.Known.{KnowsBlock, KnowsGrant, KnowsRead, MayWrite, may_bring};
-    ghost use Rattle.tl_bytes.specs.statement.Known.{others, windowed};
+    ghost use Rattle.tl_bytes.specs.statement.Known.{KnowsBlock, KnowsGrant, KnowsRead, MayWrite, may_bring, windowed};
 
-    /// What the byte at a place might be at first.
-    fn first_at(&self, place: u8) -> Option<u8>
-        ensures { result ≡ slice_index_or self.now.first.items place None }
+    /// That of an access that has had no window.
+    pub fn none(alloc: Global) -> Self
+        ensures { (place byte : ℕ) → may_bring result place byte ≡ false }
     {
-        match self.first.as_slice().get(usize::from(place)) {
-            Some(value) => *value,
-            None => None,
+        ReadBytes {
+            first: None,
+            more: Vec::new(alloc),
+        }
+    }
+
+    /// Whether in the first window the byte at a place might be all that this value may.
+    fn covers_first(&self, place: u8, value: Option<u8>) -> bool
+        ensures { result ≡ code.covers_first self.now.first place value }
+    {
+        match &self.first {
+            None => false,
+            Some(values) => covers(value_at(values.as_slice(), place), value),
         }
     }
 
@@ -72,7 +88,7 @@ impl ReadBytes {
     fn has(&self, place: u8, value: Option<u8>) -> bool
         ensures { result ≡ code.has self.now place value }
     {
-        covers(self.first_at(place), value) || is_covered(self.more.as_slice(), place, value)
+        self.covers_first(place, value) || is_covered(self.more.as_slice(), place, value)
     }
 
     /// Adds what the byte at a place may be.
@@ -120,28 +136,34 @@ impl ReadBytes {
         Ok(())
     }
 
-    /// What the block's bytes may be, and what these write.
-    fn gathered(alloc: Global, block: &BlockBytes, writes: &[Write]) -> Result<Self, AllocError>
-        ensures { IfOk result (λ read. (at byte : ℕ) → at < 64 → may_bring read at byte
-            ≡ (told_as byte (tellings_of block.now at) || left_as at byte writes.now)) }
+    /// Adds what was told last, in the first window or a later one.
+    fn find_latest(&mut self, alloc: Global, latest: &[Telling]) -> Result<(), AllocError>
+        ensures { OnOk result ((at byte : ℕ) → at < 64 → may_bring self.new at byte
+            ≡ (may_bring self.old at byte || could_be byte (telling_at latest.now at).value)) }
     {
-        let mut read = ReadBytes {
-            first: values_of(alloc, block.latest.as_slice())?,
-            more: Vec::new(alloc),
-        };
-        read.offer_earlier(block.earlier.as_slice())?;
-        read.offer_writes(writes)?;
-        Ok(read)
+        if self.first.is_some() {
+            return self.offer_latest(latest);
+        }
+        self.first = Some(values_of(alloc, latest)?);
+        Ok(())
     }
 
-    /// What it may bring at the moment at which its request is complete: what the block's bytes may be,
-    /// and what the other accesses that are pending may write.
-    pub fn new(alloc: Global, block: &BlockBytes, writes: &[Write]) -> Result<Self, AllocError>
-        ensures { IfOk result (λ read. (w n number : ℕ) (access : Access w) (x : Link × Beat w) (t : Trace w) →
-            KnowsBlock block.now n number (x ∷ t) → MayWrite writes.now number (others access (x ∷ t)) →
-            access.asked ≡ suc (length t) → KnowsRead read n number access (x ∷ t)) }
+    /// Adds what it may find in a window: what the block's bytes may be, and what these write. Without memory it may have
+    /// some of that.
+    pub fn find(
+        &mut self,
+        alloc: Global,
+        block: &BlockBytes,
+        writes: &[Write],
+    ) -> Result<(), AllocError>
+        ensures { OnOk result ((at byte : ℕ) → at < 64 → may_bring self.new at byte
+            ≡ (may_bring self.old at byte
+            || (told_as byte (tellings_of block.now at) || left_as at byte writes.now))) }
     {
-        ReadBytes::gathered(alloc, block, writes)
+        self.find_latest(alloc, block.latest.as_slice())?;
+        self.offer_earlier(block.earlier.as_slice())?;
+        self.offer_writes(writes)?;
+        Ok(())
     }
 
     /// What may be granted.
@@ -149,7 +171,9 @@ impl ReadBytes {
         ensures { IfOk result (λ read. (w n number : ℕ) (t : Trace w) → KnowsBlock block.now n number t →
             MayWrite writes.now number (windowed n number t) → KnowsGrant read n number t) }
     {
-        ReadBytes::gathered(alloc, block, writes)
+        let mut read = ReadBytes::none(alloc);
+        read.find(alloc, block, writes)?;
+        Ok(read)
     }
 
     /// The same.
@@ -157,23 +181,16 @@ impl ReadBytes {
         ensures { IfOk result (λ read. (place byte : ℕ) →
             may_bring read place byte ≡ may_bring self.now place byte) }
     {
-        let first = Vec::from_slice(alloc, self.first.as_slice())?;
+        let first = match &self.first {
+            None => None,
+            Some(values) => Some(Vec::from_slice(alloc, values.as_slice())?),
+        };
         let more = Vec::from_slice(alloc, self.more.as_slice())?;
         Ok(ReadBytes { first, more })
     }
 
-    /// Adds what is told of the block. Without memory it may have some of that.
-    pub fn tell(&mut self, block: &BlockBytes) -> Result<(), AllocError>
-        ensures { OnOk result ((at byte : ℕ) → at < 64 → may_bring self.new at byte
-            ≡ (may_bring self.old at byte || told_as byte (tellings_of block.now at))) }
-    {
-        self.offer_latest(block.latest.as_slice())?;
-        self.offer_earlier(block.earlier.as_slice())?;
-        Ok(())
-    }
-
-    /// Adds what is written. Without memory it may have some of that.
-    pub fn write(&mut self, write: &Write) -> Result<(), AllocError>
+    /// Adds what is written.
+    fn write(&mut self, write: &Write) -> Result<(), AllocError>
         ensures { OnOk result ((at byte : ℕ) → at < 64 → may_bring self.new at byte
             ≡ (may_bring self.old at byte || leaves at byte write.now)) }
     {
@@ -189,7 +206,20 @@ impl ReadBytes {
     pub fn is_open(&self) -> bool
         ensures { result ≡ true → (place byte : ℕ) → may_bring self.now place byte ≡ true }
     {
-        self.first.is_empty()
+        match &self.first {
+            None => false,
+            Some(values) => values.is_empty(),
+        }
+    }
+
+    /// Whether in the first window the byte at a place might be this one.
+    fn is_among(&self, place: u8, byte: u8) -> bool
+        ensures { result ≡ known.is_among self.now.first place byte }
+    {
+        match &self.first {
+            None => false,
+            Some(values) => could_be(byte, value_at(values.as_slice(), place)),
+        }
     }
 
     /// Whether it may bring this byte of a place.
@@ -198,6 +228,6 @@ impl ReadBytes {
         ensures read { (w n number : ℕ) (access : Access w) (t : Trace w) → KnowsRead self.now n number access t →
             place < 64 → result ≡ may_read n access t (64 * number + place) byte }
     {
-        could_be(byte, self.first_at(place)) || is_listed(self.more.as_slice(), place, byte)
+        self.is_among(place, byte) || is_listed(self.more.as_slice(), place, byte)
     }
 }

@@ -1,8 +1,8 @@
 -- Beats that bear on another block leave what is kept of this one.
 use Rattle.tl_memory.proofs.Imports.{Beat, BeatA, BeatC, BeatD, Link, c_carries_data, unfinished, Trace, on_link}
 use Rattle.tl_memory.proofs.Imports.{block_at, ends, Access, asked_by, ends_request, is_access, is_of, pending_accesses}
-use Rattle.tl_memory.proofs.Imports.{tells, IsElsewhere, LeavesHeld, PassesBy, WritesNot, BlockState, AllWriteInside}
-use Rattle.tl_memory.proofs.Imports.{all_but_early, is_to, KnowsState, OpA, begins}
+use Rattle.tl_memory.proofs.Imports.{tells, IsElsewhere, LeavesHeld, PassesBy, WritesNot, AllWriteInside}
+use Rattle.tl_memory.proofs.Imports.{all_but_early, is_to, OpA, begins}
 use Rattle.std.proofs.Common.{◌≡◌, ℕ, suc, Bool, true, false, not, ◌&&◌, ◌||◌, ◌+◌, ◌*◌, ◌/◌, ◌<◌, List, [], ◌∷◌}
 use Rattle.std.proofs.Common.{length, refl, sym, ap, ◌∙◌, inl, inr}
 use Rattle.std.specs.Prelude.{if◌then◌else◌, filter, find, ◌==◌, Option, Some, None}
@@ -14,13 +14,7 @@ use Rattle.tl_rules.specs.statement.History.{grants, is_acquire, is_probe_ack, i
 use Rattle.tl_rules.specs.statement.Liberties.{grows_from_none}
 use Rattle.tl_memory.specs.code.Passing.{acquires_from_none}
 use Rattle.tl_memory.{specs.code.Elsewhere.NoneIsTo, proofs.Keeping.inside-kept, proofs.Writing.apart}
-use Rattle.tl_memory.proofs.Elsewhere.{elsewhere-kept, free-kept, freedom-kept, held-kept}
-
--- what is kept of a block that a beat passes by
-pub stays : {w : ℕ} (s : BlockState w) (n block : ℕ) (x : Link × Beat w) (t : Trace w) → PassesBy block x t
-    → KnowsState s n block t t → KnowsState s n block (x ∷ t) (x ∷ t)
-stays s n block x t passes k = freedom-kept s n block x t (free-kept n block x t passes.held_is)
-    (elsewhere-kept s n block x t passes.elsewhere k)
+use Rattle.tl_memory.proofs.Elsewhere.{held-kept}
 
 -- ---- requests
 
@@ -67,6 +61,7 @@ pub request-passes : {w : ℕ} (block : ℕ) (link : Link) (y : BeatA w) (t : Tr
 request-passes block link y t inside other = record {
   elsewhere = request-elsewhere block link y t inside (λ complete. other);
   held_is = request-leaves block link y t (λ acquires. other);
+  unshown = refl;
 }
 
 -- one with which no access is complete
@@ -87,6 +82,16 @@ access-bare {w} y e = go y.opcode e
     go OpA.AcquirePerm e = absurd cc
     go v e = refl
 
+-- so one with an Acquire from nothing held completes none
+pub acquire-elsewhere : {w : ℕ} (block : ℕ) (link : Link) (y : BeatA w) (t : Trace w)
+    → AllWriteInside (pending_accesses t) → acquires_from_none y ≡ true → IsElsewhere block (link, Beat.A y) t
+acquire-elsewhere block link y t inside acquires =
+    unasked-elsewhere block link y t inside (go (is_access y.opcode) refl)
+  where
+    go : (access : Bool) → is_access y.opcode ≡ access → access && ends (Beat.A y) (on_link link.0 t) ≡ false
+    go true e = absurd (let no : true ≡ false = sym acquires ∙ access-bare y e in cc)
+    go false e = refl
+
 pub pending-asked : {w : ℕ} (link : Link) (y : BeatA w) (t : Trace w)
     → is_access y.opcode && ends (Beat.A y) (on_link link.0 t) ≡ true
     → pending_accesses ((link, Beat.A y) ∷ t)
@@ -102,6 +107,7 @@ unfolding pending_accesses
 probe-passes block link y t inside = record {
   elsewhere = record { quiet = refl; keeps = λ place lt. tt; pending_stay = refl; inside = inside };
   held_is = held-kept block (Beat.B y) (on_link link.0 t) (λ over. refl);
+  unshown = refl;
 }
 
 pub ack-passes : {w : ℕ} (block : ℕ) (link : Link) (y : BeatE) (t : Trace w)
@@ -110,6 +116,7 @@ unfolding pending_accesses all_but_early
 ack-passes block link y t inside = record {
   elsewhere = record { quiet = refl; keeps = λ place lt. tt; pending_stay = refl; inside = inside };
   held_is = held-kept block (Beat.E y) (on_link link.0 t) (λ over. refl);
+  unshown = refl;
 }
 
 -- a beat of channel C that tells nothing of the block
@@ -165,6 +172,7 @@ report-passes block link y t inside other = record {
   elsewhere = report-elsewhere block link y t inside (none_of_three (ends (Beat.C y) (on_link link.0 t))
       (c_carries_data y.opcode) (block_at y.address == block) other);
   held_is = report-leaves block link y t other;
+  unshown = none_of_both (ends (Beat.C y) (on_link link.0 t)) _ (rw other refl);
 }
 
 -- ---- responses
@@ -236,6 +244,7 @@ response-passes block link y t inside other none = record {
   elsewhere = response-elsewhere block link y t inside
       (quiet (ends (Beat.D y) (on_link link.0 t)) (grants block y (on_link link.0 t)) _ other) none;
   held_is = response-leaves block link y t other;
+  unshown = refl;
 }
   where
     quiet : (a b c : Bool) → b ≡ false → a && (b && c) ≡ false

@@ -1,7 +1,9 @@
 -- What a response may bring that begins, by the state of its block.
 use Rattle.tl_memory.proofs.Imports.{OpD, Request, Trace, Access, KnowsGrant, Expected, ExpectsGrant, ExpectsRead}
-use Rattle.tl_memory.proofs.Imports.{ExpectsResponse, AnyIsTo, Expects}
+use Rattle.tl_memory.proofs.Imports.{ExpectsAgain, ExpectsLater, ExpectsResponse, AnyIsTo, Expects, is_of}
+use Rattle.tl_memory.proofs.Imports.{pending_accesses}
 use Rattle.std.proofs.Common.{◌≡◌, ℕ, ◌*◌, ◌/◌, refl}
+use Rattle.std.specs.Prelude.{find}
 use Rattle.std.{specs.Prelude.Option, specs.Prelude.Some, specs.Prelude.None, proofs.lemmas.Bool.eqb-true}
 
 pub grant-begun : {w : ℕ} (expected : Expected) (n block : ℕ) (o : Option Request) (asked : Request) (t : Trace w)
@@ -20,3 +22,14 @@ pub none-begun : {w : ℕ} (opcode : OpD) (n link source : ℕ) (t : Trace w) �
 none-begun OpD.GrantData n link source t grant read = absurd (grant refl)
 none-begun OpD.AccessAckData n link source t grant read = absurd (read refl)
 none-begun v n link source t grant read = tt
+
+-- and what one may bring whose beat it is
+pub read-again : {w : ℕ} (expected : Option Expected) (opcode : OpD) (n link source : ℕ) (t : Trace w)
+    → opcode ≡ OpD.AccessAckData → ExpectsAgain expected n (find (is_of link source) (pending_accesses t)) t
+    → ExpectsLater expected n link opcode source t
+read-again expected opcode n link source t is known = rw is known
+
+pub none-again : {w : ℕ} (opcode : OpD) (n link source : ℕ) (t : Trace w) → (opcode ≡ OpD.AccessAckData → ⊥)
+    → ExpectsLater None n link opcode source t
+none-again OpD.AccessAckData n link source t read = absurd (read refl)
+none-again v n link source t read = refl

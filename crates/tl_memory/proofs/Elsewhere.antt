@@ -1,20 +1,23 @@
 -- What is kept of a block, with a beat that bears on another.
 use Rattle.tl_memory.proofs.Imports.{Beat, Link, History, unfinished, Trace, on_link, ends, all_but_early, is_free, Access}
-use Rattle.tl_memory.proofs.Imports.{ends_request, is_of, may_be, may_read, pending_accesses, tells, written_as}
-use Rattle.tl_memory.proofs.Imports.{KnowsBlock, others, IsElsewhere, LeavesHeld, WritesNot, BlockState, PendingAccess}
-use Rattle.tl_memory.proofs.Imports.{AllWriteInside, AreKnown, is_to, KnowsAccess, KnowsState}
-use Rattle.std.proofs.Common.{◌≡◌, ℕ, zero, suc, Bool, true, false, not, ◌||◌, ◌+◌, ◌*◌, ◌/◌, ◌<◌, ◌≤◌, List, [], ◌∷◌}
-use Rattle.std.proofs.Common.{length, refl, sym, ap, ◌∙◌, arith, inl, inr}
+use Rattle.tl_memory.proofs.Imports.{ends_request, is_of, may_be, may_find, others, pending_accesses, tells, written_as}
+use Rattle.tl_memory.proofs.Imports.{KnowsBlock, IsElsewhere, LeavesHeld, PassesBy, WritesNot, BlockState, PendingAccess}
+use Rattle.tl_memory.proofs.Imports.{AllWriteInside, AreKnown, is_to, KnowsState, KnowsUnseen, free_for, open_for}
+use Rattle.std.proofs.Common.{◌≡◌, ℕ, zero, suc, true, false, not, ◌&&◌, ◌||◌, ◌+◌, ◌*◌, ◌<◌, List, [], ◌∷◌}
+use Rattle.std.proofs.Common.{refl, sym, ap, ap₂, ◌∙◌, arith, inl, inr}
 use Rattle.std.specs.Prelude.{filter, find, None, Option, Some}
-use Rattle.std.proofs.lemmas.Bool.{cases_Bool, cases_eq, eq-eqb, le-leb, ne_eqb}
+use Rattle.std.proofs.lemmas.Bool.{cases_Bool, cases_eq, eq-eqb, ne_eqb, or_left}
 use Rattle.tl_beat.specs.declared.channel.Channel.{Channel}
 use Rattle.tl_params.specs.declared.perm.Perm.{Perm}
+use Rattle.tl_rules.specs.statement.{Conformance.same_perm, Windows.needs}
 use Rattle.tl_rules.specs.statement.Liberties.{held_under, says_held_under}
-use Rattle.tl_bytes.specs.statement.Free.{may_hold}
+use Rattle.tl_bytes.specs.statement.{Free.may_hold, Shown.is_window, Shown.shows}
 use Rattle.tl_bytes.{specs.declared.block_bytes.BlockBytes.BlockBytes, specs.declared.telling.Telling.Telling}
 use Rattle.tl_bytes.{proofs.Since.same_after}
 use Rattle.tl_bytes.specs.statement.Bytes.{after_answer, after_beat, last_told, last_window, told_as}
 use Rattle.tl_memory.{specs.code.Elsewhere.KeepsByte, proofs.Writing.written-here}
+use Rattle.tl_memory.{proofs.Keeping.settled-each}
+use Rattle.tl_memory.proofs.Found.{found-passed, hidden-open, in_block, unshown-window}
 
 -- ---- what a byte may be
 
@@ -32,9 +35,6 @@ beat-keeps n address link (Beat.D y) t before keeps = elim (cases_Bool (ends_req
 ]
 beat-keeps n address link v t before keeps = refl
 
-in_block : (block p : ℕ) → p < 64 → (64 * block + p) / 64 ≡ block
-in_block block p lt = omega arith
-
 pub byte-kept : {w : ℕ} (n block p : ℕ) (x : Link × Beat w) (t : Trace w) → p < 64
     → tells block x.1 (on_link x.0.0 t) ≡ false → KeepsByte (64 * block + p) x.0.0 x.1 t
     → may_be n (64 * block + p) (x ∷ t) ≡ may_be n (64 * block + p) t
@@ -51,29 +51,7 @@ bytes-kept n block b x t k quiet keeps = record {
   last_is = rw quiet k.last_is;
 }
 
--- ---- what a read may bring
-
-again : (a b r : Bool) → (a || (b || (a || (b || r)))) ≡ (a || (b || r))
-again true b r = refl
-again false true r = refl
-again false false r = refl
-
--- an access that had all that it may bring now
-same-read : {w : ℕ} (n : ℕ) (access : Access w) (x : Link × Beat w) (t : Trace w) (address v : ℕ)
-    → access.asked ≤ length t → 0 < length t → may_be n address (x ∷ t) ≡ may_be n address t
-    → written_as address v (others access (x ∷ t)) ≡ written_as address v (others access t)
-    → may_read n access (x ∷ t) address v ≡ may_read n access t address v
-unfolding may_read
-same-read n access x [] address v le some same written = absurd (omega (arith, some))
-same-read n access x (y ∷ t) address v le some same written =
-    rw (
-      le-leb access.asked (suc (suc (length t))) (omega (arith, le)),
-      le-leb access.asked (suc (length t)) le,
-      same,
-      written,
-    )
-    (again (told_as v (may_be n address (y ∷ t))) (written_as address v (others access (y ∷ t)))
-    (may_read n access t address v))
+-- ---- what an access may find
 
 others-same : {w : ℕ} (block p v : ℕ) (access : Access w) (x : Link × Beat w) (t : Trace w) → p < 64
     → AllWriteInside (pending_accesses t) → AllWriteInside (pending_accesses (x ∷ t))
@@ -87,97 +65,13 @@ others-same block p v access x t lt before now same =
     ∙ written-here block p v (λ other. not (is_of access.link access.request.source other)) (pending_accesses t) lt
     before
 
--- ---- the accesses to the block
-
-access-kept : {w : ℕ} (n block : ℕ) (pending : PendingAccess w) (access : Access w) (x : Link × Beat w) (t : Trace w)
-    → 0 < length t → IsElsewhere block x t → AllWriteInside (pending_accesses t)
-    → KnowsAccess pending n block access t t → KnowsAccess pending n block access t (x ∷ t)
-access-kept n block pending access x t some elsewhere inside k = record {
-  asked_is = k.asked_is;
-  lawful = k.lawful;
-  write_is = k.write_is;
-  before = k.before;
-  windows_are = k.windows_are;
-  read_is = λ p v lt. k.read_is p v lt ∙ sym (same-read n access x t (64 * block + p) v k.before some
-      (byte-kept n block p x t lt elsewhere.quiet (elsewhere.keeps p lt))
-      (others-same block p v access x t lt inside elsewhere.inside elsewhere.pending_stay));
-}
-
-each-kept : {w : ℕ} (n block : ℕ) (pending : List (PendingAccess w)) (accesses : List (Access w)) (x : Link × Beat w)
-    (t : Trace w) → 0 < length t → IsElsewhere block x t → AllWriteInside (pending_accesses t)
-    → AreKnown pending n block accesses t t → AreKnown pending n block accesses t (x ∷ t)
-each-kept n block [] [] x t some elsewhere inside are = tt
-each-kept n block [] (access ∷ accesses) x t some elsewhere inside are = absurd are
-each-kept n block (one ∷ pending) [] x t some elsewhere inside are = absurd are
-each-kept n block (one ∷ pending) (access ∷ accesses) x t some elsewhere inside are = (
-  access-kept n block one access x t some elsewhere inside are.0,
-  each-kept n block pending accesses x t some elsewhere inside are.1,
-)
-
-all-kept : {w : ℕ} (n block : ℕ) (pending : List (PendingAccess w)) (x : Link × Beat w) (t : Trace w)
-    → IsElsewhere block x t → AllWriteInside (pending_accesses t)
-    → AreKnown pending n block (filter (is_to block) (pending_accesses t)) t t
-    → AreKnown pending n block (filter (is_to block) (pending_accesses t)) t (x ∷ t)
-unfolding pending_accesses
-all-kept n block [] x [] elsewhere inside are = tt
-all-kept n block (one ∷ pending) x [] elsewhere inside are = absurd are
-all-kept n block pending x (y ∷ t) elsewhere inside are =
-    each-kept n block pending (filter (is_to block) (pending_accesses (y ∷ t))) x (y ∷ t) (omega arith) elsewhere inside
-    are
-
--- a beat that bears on another block leaves what is kept of this one
-pub elsewhere-kept : {w : ℕ} (s : BlockState w) (n block : ℕ) (x : Link × Beat w) (t : Trace w) → IsElsewhere block x t
-    → KnowsState s n block t t → KnowsState s n block t (x ∷ t)
-elsewhere-kept s n block x t elsewhere k = record {
-  bytes_are = bytes-kept n block s.bytes x t k.bytes_are elsewhere.quiet elsewhere.keeps;
-  accesses_are = record {
-    accesses_are = rw elsewhere.pending_stay (all-kept n block s.accesses.items x t elsewhere k.accesses_are.inside
-        k.accesses_are.accesses_are);
-    inside = elsewhere.inside;
-  };
-  free_is = k.free_is;
-  last_is = k.last_is;
-}
-
--- ---- what is seen of it where it is as free as it was
-
-pub windows-kept : {w : ℕ} (n block : ℕ) (pending : List (PendingAccess w)) (accesses : List (Access w))
-    (x : Link × Beat w) (t : Trace w) → is_free n Perm.Trunk block (x ∷ t) ≡ is_free n Perm.Trunk block t
-    → AreKnown pending n block accesses t (x ∷ t) → AreKnown pending n block accesses (x ∷ t) (x ∷ t)
-windows-kept n block [] [] x t same are = tt
-windows-kept n block (one ∷ pending) (access ∷ accesses) x t same are = (
-  record {
-    asked_is = are.0.asked_is;
-    lawful = are.0.lawful;
-    write_is = are.0.write_is;
-    before = omega (arith, are.0.before);
-    windows_are = same_after one.windows n block access.asked x t are.0.windows_are are.0.before same;
-    read_is = are.0.read_is;
-  },
-  windows-kept n block pending accesses x t same are.1,
-)
-windows-kept n block v u x t same are = absurd are
-
-pub last-kept : {w : ℕ} (n block : ℕ) (x : Link × Beat w) (t : Trace w)
-    → is_free n Perm.Trunk block (x ∷ t) ≡ is_free n Perm.Trunk block t
-    → is_free n Perm.Trunk block t ≡ false → last_window n block (x ∷ t) ≡ last_window n block t
-unfolding last_window
-last-kept n block x t same off = rw (same, off) refl
-
--- where the block is as free as it was, that is seen
-pub freedom-kept : {w : ℕ} (s : BlockState w) (n block : ℕ) (x : Link × Beat w) (t : Trace w)
-    → is_free n Perm.Trunk block (x ∷ t) ≡ is_free n Perm.Trunk block t
-    → KnowsState s n block t (x ∷ t) → KnowsState s n block (x ∷ t) (x ∷ t)
-freedom-kept s n block x t same k = record {
-  bytes_are = k.bytes_are;
-  accesses_are = record {
-    accesses_are = windows-kept n block s.accesses.items (filter (is_to block) (pending_accesses (x ∷ t))) x t same
-        k.accesses_are.accesses_are;
-    inside = k.accesses_are.inside;
-  };
-  free_is = k.free_is ∙ sym same;
-  last_is = λ off. k.last_is off ∙ sym (last-kept n block x t same (sym k.free_is ∙ off));
-}
+-- with a beat that bears on another block it may find what it might
+pub find-kept : {w : ℕ} (n block : ℕ) (access : Access w) (x : Link × Beat w) (t : Trace w) → IsElsewhere block x t
+    → AllWriteInside (pending_accesses t) → (p v : ℕ) → p < 64
+    → may_find n access (x ∷ t) (64 * block + p) v ≡ may_find n access t (64 * block + p) v
+find-kept n block access x t elsewhere inside p v lt =
+    ap₂ (λ l b. told_as v l || b) (byte-kept n block p x t lt elsewhere.quiet (elsewhere.keeps p lt))
+    (others-same block p v access x t lt inside elsewhere.inside elsewhere.pending_stay)
 
 -- ---- how free it is
 
@@ -200,15 +94,87 @@ link-kept block m x t same = elim (cases_eq x.0.0 m) [
 ]
 
 -- a beat that leaves as much of a block with its link leaves it as free as it was
-pub free-kept : {w : ℕ} (n block : ℕ) (x : Link × Beat w) (t : Trace w) → LeavesHeld block x t
-    → is_free n Perm.Trunk block (x ∷ t) ≡ is_free n Perm.Trunk block t
+pub free-kept : {w : ℕ} (n : ℕ) (given : Perm) (block : ℕ) (x : Link × Beat w) (t : Trace w) → LeavesHeld block x t
+    → is_free n given block (x ∷ t) ≡ is_free n given block t
 unfolding is_free
-free-kept zero block x t same = refl
-free-kept (suc n) block x t same =
-    rw (free-kept n block x t same, link-kept block n x t same) refl
+free-kept zero given block x t same = refl
+free-kept (suc n) given block x t same =
+    rw (free-kept n given block x t same, link-kept block n x t same) refl
+
+pub last-kept : {w : ℕ} (n block : ℕ) (x : Link × Beat w) (t : Trace w)
+    → is_free n Perm.Trunk block (x ∷ t) ≡ is_free n Perm.Trunk block t
+    → is_free n Perm.Trunk block t ≡ false → last_window n block (x ∷ t) ≡ last_window n block t
+unfolding last_window
+last-kept n block x t same off = rw (same, off) refl
 
 -- where nothing was carried it is free
-pub free-first : (w n block : ℕ) → true ≡ is_free {w = w} n Perm.Trunk block []
+pub free-first : (w n : ℕ) (given : Perm) (block : ℕ) → is_free {w = w} n given block [] ≡ true
 unfolding is_free on_link held_under
-free-first w zero block = refl
-free-first w (suc n) block = rw (← free-first w n block) refl
+free-first w zero given block = refl
+free-first w (suc n) Perm.Trunk block = rw (free-first w n Perm.Trunk block) refl
+free-first w (suc n) Perm.Branch block = rw (free-first w n Perm.Branch block) refl
+free-first w (suc n) Perm.None block = rw (free-first w n Perm.None block) refl
+
+-- ---- what is kept of it
+
+module _ {w : ℕ} (s : BlockState w) (n block : ℕ) (x : Link × Beat w) (t : Trace w) where
+  stays-each : (pending : List (PendingAccess w)) (accesses : List (Access w)) → PassesBy block x t
+      → AllWriteInside (pending_accesses t) → ((given : Perm) → free_for s.free given ≡ is_free n given block t)
+      → AreKnown pending (open_for s.free) n block accesses t
+      → AreKnown pending (open_for s.free) n block accesses (x ∷ t)
+  stays-each [] [] passes inside free are = tt
+  stays-each (one ∷ pending) (access ∷ accesses) passes inside free are = (
+    record {
+      asked_is = are.0.asked_is;
+      lawful = are.0.lawful;
+      write_is = are.0.write_is;
+      before = omega (arith, are.0.before);
+      windows_are = same_after one.windows n block access.asked x t are.0.windows_are are.0.before
+          (free-kept n Perm.Trunk block x t passes.held_is);
+      found_is = found-passed n block one.read (open_for s.free (needs access.request.opcode)) access x t
+          (within (needs access.request.opcode)) are.0.before
+          (find-kept n block access x t passes.elsewhere inside) are.0.found_is;
+    },
+    stays-each pending accesses passes inside free are.1,
+  )
+    where
+      within : (given : Perm) → is_window n given block x t ≡ true → open_for s.free given ≡ true
+      within given e = or_left (free_for s.free given) (same_perm given Perm.Branch && s.free.shown)
+          (free given ∙ sym (free-kept n given block x t passes.held_is)
+          ∙ sym (unshown-window n block given x t passes.unshown) ∙ e)
+  stays-each v u passes inside free are = absurd are
+
+  -- of a block that a beat passes by
+  pub stays : PassesBy block x t → KnowsState s n block t → KnowsState s n block (x ∷ t)
+  stays passes k = record {
+    bytes_are = bytes-kept n block s.bytes x t k.bytes_are passes.elsewhere.quiet passes.elsewhere.keeps;
+    accesses_are = record {
+      accesses_are = rw passes.elsewhere.pending_stay (stays-each s.accesses.items
+          (filter (is_to block) (pending_accesses t)) passes k.accesses_are.inside k.free_is
+          k.accesses_are.accesses_are);
+      inside = passes.elsewhere.inside;
+    };
+    free_is = λ given. k.free_is given ∙ sym (free-kept n given block x t passes.held_is);
+    last_is = λ off. k.last_is off ∙ sym (last-kept n block x t (free-kept n Perm.Trunk block x t passes.held_is)
+        (sym (k.free_is Perm.Trunk) ∙ off));
+  }
+
+  -- where it is as free as it was, and its bytes aren't shown, that is seen
+  pub settled : LeavesHeld block x t → shows block x.1 (on_link x.0.0 t) ≡ false → s.free.shown ≡ false
+      → KnowsUnseen s n block x t → KnowsState s n block (x ∷ t)
+  settled same unshown hidden k = record {
+    bytes_are = k.bytes_are;
+    accesses_are = record {
+      accesses_are = settled-each n block x t (open_for s.free) s.accesses.items
+          (filter (is_to block) (pending_accesses (x ∷ t))) window (free-kept n Perm.Trunk block x t same)
+          k.accesses_are.accesses_are;
+      inside = k.accesses_are.inside;
+    };
+    free_is = λ given. k.free_is given ∙ sym (free-kept n given block x t same);
+    last_is = λ off. k.last_is off ∙ sym (last-kept n block x t (free-kept n Perm.Trunk block x t same)
+        (sym (k.free_is Perm.Trunk) ∙ off));
+  }
+    where
+      window : (given : Perm) → is_window n given block x t ≡ open_for s.free given
+      window given = unshown-window n block given x t unshown ∙ free-kept n given block x t same ∙ sym (k.free_is given)
+          ∙ sym (hidden-open s.free given hidden)

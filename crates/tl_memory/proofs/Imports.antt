@@ -17,20 +17,23 @@ pub use Rattle.tl_burst.specs.statement.Messages.{same_control}
 unfoldable pub use Rattle.tl_burst.specs.statement.Messages.{unfinished}
 pub use Rattle.tl_burst.specs.statement.Part.{is_empty, is_small}
 pub use Rattle.tl_bytes.specs.statement.Bytes.{Access, access_writes, asked_by, ends_request, is_access, is_of, tells}
-pub use Rattle.tl_bytes.specs.statement.Bytes.{writes, written_as}
+pub use Rattle.tl_bytes.specs.statement.Bytes.{may_find, others, writes, written_as}
 unfoldable pub use Rattle.tl_bytes.specs.statement.Bytes.{may_be, may_read, pending_accesses}
-pub use Rattle.tl_bytes.specs.statement.Known.{KnowsBlock, KnowsGrant, may_bring, others}
+pub use Rattle.tl_bytes.specs.statement.Known.{KnowsBlock, KnowsGrant, may_bring}
 pub use Rattle.tl_memory.specs.code.Elsewhere.{IsElsewhere, LeavesHeld, PassesBy, WritesNot, block_asked, block_borne}
 pub use Rattle.tl_memory.specs.code.Taking.{IsLegalBeat, IsResponse}
-pub use Rattle.tl_memory.specs.code.Writers.{AreRenewed, keeps, nothing, staying}
+pub use Rattle.tl_memory.specs.code.Writers.{AreRenewed, IsRenewed, found_by, keeps, staying}
 pub use Rattle.tl_memory.specs.declared.block.BlockState.{BlockState}
 pub use Rattle.tl_memory.specs.declared.expected.Expected.{Expected}
+pub use Rattle.tl_memory.specs.declared.free.Freedom.{Freedom}
 pub use Rattle.tl_memory.specs.declared.link.LinkState.{LinkState}
 pub use Rattle.tl_memory.specs.declared.pending.PendingAccess.{PendingAccess}
 pub use Rattle.tl_memory.specs.declared.writer.Writer.{Writer}
-pub use Rattle.tl_memory.specs.statement.Expecting.{ExpectsGrant, ExpectsRead, ExpectsResponse}
+pub use Rattle.tl_memory.specs.statement.Expecting.{ExpectsAgain, ExpectsBeat, ExpectsGrant, ExpectsLater, ExpectsRead}
+pub use Rattle.tl_memory.specs.statement.Expecting.{ExpectsResponse}
 pub use Rattle.tl_memory.specs.statement.Known.{AllWriteInside, AnyIsTo, AreKnown, AreWide, Expects, IsAsked}
-pub use Rattle.tl_memory.specs.statement.Known.{KnowsAccess, KnowsAccesses, KnowsState, WritesInside, is_put, is_to}
+pub use Rattle.tl_memory.specs.statement.Known.{KeepsFound, KnowsAccess, KnowsAccesses, KnowsState, KnowsUnseen, WritesInside}
+pub use Rattle.tl_memory.specs.statement.Known.{closed, free_for, freedom, is_put, is_to, open_for}
 pub use Rattle.tl_memory.specs.statement.Links.{AreLegal, IsLegal, KnowsLink}
 pub use Rattle.tl_params.specs.declared.level.Level.{Level}
 pub use Rattle.tl_params.specs.declared.rule.Rule.TheVariants.{L1, L2, L3}

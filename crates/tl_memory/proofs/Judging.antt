@@ -2,13 +2,13 @@
 use Rattle.tl_memory.proofs.Imports.{BeatD, Link, OpD, IsWidth, data_beats, burst_length, unfinished, Level}
 use Rattle.tl_memory.proofs.Imports.{open_request, base_of, Request, Trace, IsLegal, on_link, is_release_ack}
 use Rattle.tl_memory.proofs.Imports.{Access, is_of, pending_accesses, Expected, Expects, ExpectsGrant, ExpectsRead}
-use Rattle.tl_memory.proofs.Imports.{all_but_early, ExpectsResponse, AreLegal, Beat}
+use Rattle.tl_memory.proofs.Imports.{all_but_early, ExpectsBeat, AreLegal, Beat}
 use Rattle.std.proofs.Common.{◌≡◌, ℕ, Bool, true, false, ◌||◌, ◌+◌, ◌*◌, ◌<◌, ◌≤◌, List, length, Option, Some, None}
 use Rattle.std.proofs.Common.{refl, sym, ap, ◌∙◌, arith}
 use Rattle.std.specs.Prelude.{find}
 use Rattle.tl_beat.specs.declared.channel.Channel.{Channel}
 use Rattle.tl_burst.proofs.Bits.{earlier_place}
-use Rattle.tl_bytes.specs.statement.Bytes.{before_last, grants_truly, is_true, reads_truly}
+use Rattle.tl_bytes.specs.statement.Bytes.{before_last, found_after, grants_truly, is_true, reads_truly}
 use Rattle.tl_memory.{specs.code.Allowed.IsAllowed, specs.code.Allowed.is_judged, proofs.Answering.is-answering}
 use Rattle.tl_memory.{proofs.Complete.carried_inside, proofs.Open.IsAnswering, proofs.Open.open-whole}
 use Rattle.tl_memory.{proofs.Unfinished.fewer-before, proofs.Unfinished.room}
@@ -67,24 +67,26 @@ module _ {w : ℕ} (levels : List Level) (n : ℕ) (link : Link) (x : BeatD w) (
       omega (arith, inside, here, bytes)
 
   true-read : (expected : Option Expected) (b : Bool) → IsAllowed expected k x b → x.opcode ≡ OpD.AccessAckData
-      → ExpectsRead expected n (find (is_of link.0 x.source) (pending_accesses t)) begun → (x.corrupt || x.denied) ≡ false
+      → ExpectsBeat expected n link.0 OpD.AccessAckData x.source k t → (x.corrupt || x.denied) ≡ false
       → b ≡ is_true OpD.AccessAckData n link.0 x t
   true-read expected b allowed op e sound =
       go (find (is_of link.0 x.source) (pending_accesses t)) refl e
-      ∙ unspoiled (x.corrupt || x.denied) (reads_truly n (find (is_of link.0 x.source) (pending_accesses t)) k x begun) sound
+      ∙ unspoiled (x.corrupt || x.denied) (reads_truly n (find (is_of link.0 x.source) (pending_accesses t)) k x
+      (found_after (find (is_of link.0 x.source) (pending_accesses t)) link.0 k t)) sound
     where
       go : (o : Option (Access w)) → find (is_of link.0 x.source) (pending_accesses t) ≡ o
-          → ExpectsRead expected n o begun → b ≡ reads_truly n o k x begun
+          → ExpectsRead expected n o (found_after o link.0 k t) → b ≡ reads_truly n o k x (found_after o link.0 k t)
       go None pending e = allowed.anything (none expected e)
         where
-          none : (q : Option Expected) → Expects {w = w} q n 0 None begun → q ≡ None
+          none : (q : Option Expected) → Expects {w = w} q n 0 None t → q ≡ None
           none None e = refl
           none (Some v) e = absurd e
-      go (Some access) pending e = allowed.read n access begun e (read_inside access op pending)
+      go (Some access) pending e =
+          allowed.read n access (found_after (Some access) link.0 k t) e (read_inside access op pending)
 
   -- a response is true where its bytes are allowed, or it is corrupt, or carries none that are judged
   pub judged-true : (expected : Option Expected) (opcode : OpD) (b : Bool) → opcode ≡ x.opcode
-      → ExpectsResponse expected n link.0 opcode x.source t begun → IsAllowed expected k x b → (x.corrupt || x.denied) ≡ false
+      → ExpectsBeat expected n link.0 opcode x.source k t → IsAllowed expected k x b → (x.corrupt || x.denied) ≡ false
       → is_judged opcode ≡ true → b ≡ is_true opcode n link.0 x t
   judged-true expected OpD.GrantData b op e allowed sound judged = true-grant expected b allowed (sym op) e sound
   judged-true expected OpD.AccessAckData b op e allowed sound judged = true-read expected b allowed (sym op) e sound

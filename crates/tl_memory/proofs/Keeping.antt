@@ -1,15 +1,19 @@
 -- What is kept of a block, with one more beat.
-use Rattle.tl_memory.proofs.Imports.{Beat, Link, Trace, is_free, Access, is_of, may_read, pending_accesses, may_bring}
-use Rattle.tl_memory.proofs.Imports.{AreRenewed, keeps, nothing, staying, PendingAccess, AllWriteInside, AreKnown}
-use Rattle.tl_memory.proofs.Imports.{IsAsked, is_to, AnyIsTo, KnowsAccess, KnowsAccesses, WritesInside}
-use Rattle.std.proofs.Common.{◌≡◌, ℕ, zero, suc, Bool, true, false, not, ◌||◌, ◌+◌, ◌*◌, ◌<◌, ◌≤◌, List, [], ◌∷◌, ◌++◌}
+use Rattle.tl_memory.proofs.Imports.{Beat, Link, Trace, is_free, Access, is_of, pending_accesses, KnowsBlock}
+use Rattle.tl_memory.proofs.Imports.{AreRenewed, IsRenewed, found_by, keeps, staying, Freedom, PendingAccess}
+use Rattle.tl_memory.proofs.Imports.{AllWriteInside, AreKnown, IsAsked, is_to, AnyIsTo, KnowsAccess, KnowsAccesses}
+use Rattle.tl_memory.proofs.Imports.{WritesInside, closed, open_for}
+use Rattle.std.proofs.Common.{◌≡◌, ℕ, zero, suc, Bool, true, false, not, ◌+◌, ◌<◌, ◌≤◌, List, [], ◌∷◌, ◌++◌}
 use Rattle.std.proofs.Common.{length, refl, sym, ap, ◌∙◌, arith, inl, inr, drop, get_or, set, take}
 use Rattle.std.specs.Prelude.{if◌then◌else◌, filter, find, None, Option, Some, ⊤}
 use Rattle.std.{specs.List.AllZip, proofs.lemmas.Bool.cases_Bool, proofs.lemmas.List.at_drop_more}
 use Rattle.std.{proofs.lemmas.Slice.Zip.all_zipped_more, proofs.Math.ListN.drop_of_length-le}
 use Rattle.tl_params.specs.declared.perm.Perm.{Perm}
-use Rattle.tl_memory.specs.code.Writers.{AreWatched, IsRenewed, is_named, picked, stays}
-use Rattle.tl_memory.proofs.Writing.{named, one_kept, one_left}
+use Rattle.tl_rules.specs.statement.Windows.{needs}
+use Rattle.tl_bytes.{specs.declared.block_bytes.BlockBytes.BlockBytes, specs.statement.Shown.is_window}
+use Rattle.tl_bytes.proofs.Since.{same_after}
+use Rattle.tl_memory.specs.code.Writers.{AreWatched, is_named, picked, stays}
+use Rattle.tl_memory.proofs.{Found.found-kept, Found.found-settled, Writing.named, Writing.one_kept, Writing.one_left}
 
 -- ---- lists
 
@@ -126,61 +130,58 @@ inside-kept keep (x ∷ accesses) inside = elim (cases_Bool (keep x)) [
   | inr left ↦ rw left (inside-kept keep accesses inside.1)
 ]
 
--- none is copied yet
-pub copied-none : {w : ℕ} (gone : Option (Link × ℕ)) (xs : List (PendingAccess w))
-    → AreRenewed nothing (staying gone (take 0 xs)) []
-unfolding picked
-copied-none gone xs = tt
+module _ {w : ℕ} (gone : Option (Link × ℕ)) (more : PendingAccess w → ℕ → ℕ → Bool) where
+  -- none is copied yet
+  pub copied-none : (xs : List (PendingAccess w)) → AreRenewed more (staying gone (take 0 xs)) []
+  unfolding picked
+  copied-none xs = tt
 
--- one is copied
-pub copied-more : {w : ℕ} (gone : Option (Link × ℕ)) (i : ℕ) (xs more : List (PendingAccess w))
-    (x new : PendingAccess w) → AreRenewed nothing (staying gone (take i xs)) more → x ≡ get_or xs i x → i < length xs
-    → stays gone x ≡ true → IsRenewed nothing x new → AreRenewed nothing (staying gone (take (i + 1) xs))
-    (more ++ new ∷ [])
-copied-more gone i xs more x new are is lt on one =
-    rw (← one_kept (stays gone) (λ x. x) i xs x x is lt on)
-    (all_zipped_more (IsRenewed nothing) (staying gone (take i xs)) more x new are one)
+  -- one is copied
+  pub copied-more : (i : ℕ) (xs copies : List (PendingAccess w)) (x new : PendingAccess w)
+      → AreRenewed more (staying gone (take i xs)) copies → x ≡ get_or xs i x → i < length xs → stays gone x ≡ true
+      → IsRenewed more x new → AreRenewed more (staying gone (take (i + 1) xs)) (copies ++ new ∷ [])
+  copied-more i xs copies x new are is lt on one =
+      rw (← one_kept (stays gone) (λ x. x) i xs x x is lt on)
+      (all_zipped_more (IsRenewed more) (staying gone (take i xs)) copies x new are one)
 
--- one that is gone isn't
-pub copied-left : {w : ℕ} (gone : Option (Link × ℕ)) (i : ℕ) (xs more : List (PendingAccess w)) (x : PendingAccess w)
-    → AreRenewed nothing (staying gone (take i xs)) more → x ≡ get_or xs i x → i < length xs
-    → stays gone x ≡ false → AreRenewed nothing (staying gone (take (i + 1) xs)) more
-copied-left gone i xs more x are is lt off =
-    rw (← one_left (stays gone) (λ x. x) i xs x x is lt off) are
+  -- one that is gone isn't
+  pub copied-left : (i : ℕ) (xs copies : List (PendingAccess w)) (x : PendingAccess w)
+      → AreRenewed more (staying gone (take i xs)) copies → x ≡ get_or xs i x → i < length xs → stays gone x ≡ false
+      → AreRenewed more (staying gone (take (i + 1) xs)) copies
+  copied-left i xs copies x are is lt off =
+      rw (← one_left (stays gone) (λ x. x) i xs x x is lt off) are
 
--- an access that may bring nothing more
-pub nothing-more : {w : ℕ} (n block : ℕ) (seen t : Trace w) (more : PendingAccess w → ℕ → ℕ → Bool)
-    (old new : PendingAccess w) (access : Access w) → IsRenewed more old new → ((p v : ℕ) → more old p v ≡ false)
-    → KnowsAccess old n block access seen t → KnowsAccess new n block access seen t
-nothing-more n block seen t more old new access r none k = record {
-  asked_is = rw r.writer_is k.asked_is;
-  lawful = k.lawful;
-  write_is = rw r.writer_is k.write_is;
-  before = k.before;
-  windows_are = rw r.windows_are k.windows_are;
-  read_is = λ p v lt. r.read_is p v lt ∙ ap (λ b. may_bring old.read p v || b) (none p v)
-      ∙ no_more (may_bring old.read p v) ∙ k.read_is p v lt;
-}
-  where
-    no_more : (b : Bool) → (b || false) ≡ b
-    no_more true = refl
-    no_more false = refl
+module _ {w : ℕ} (n block : ℕ) (free : Freedom) (bytes : BlockBytes) (all : List (PendingAccess w)) (t : Trace w)
+    (known : KnowsBlock bytes n block t) (k : KnowsAccesses all (open_for free) n block t t) where
+  -- a copy has what the access may have found
+  pub kept-one : (old new : PendingAccess w) (access : Access w) → IsRenewed (found_by free bytes all) old new
+      → KnowsAccess old (open_for free) n block access t → KnowsAccess new closed n block access t
+  kept-one old new access r one = record {
+    asked_is = rw r.writer_is one.asked_is;
+    lawful = one.lawful;
+    write_is = rw r.writer_is one.write_is;
+    before = one.before;
+    windows_are = rw r.windows_are one.windows_are;
+    found_is = found-kept n block free bytes all old new access t r known k one.asked_is one.found_is;
+  }
 
-module _ {w : ℕ} (n block : ℕ) (seen t : Trace w) where
-  copied-step : (b c : Bool) (z : PendingAccess w) (rest new : List (PendingAccess w)) (y : Access w)
-      (accesses : List (Access w)) → b ≡ c → AreRenewed nothing (if b then z ∷ rest else rest) new
-      → KnowsAccess z n block y seen t → ((more : List (PendingAccess w)) → AreRenewed nothing rest more
-      → AreKnown more n block accesses seen t) → AreKnown new n block (if c then y ∷ accesses else accesses) seen t
-  copied-step true true z rest [] y accesses e copied k more = absurd copied
-  copied-step true true z rest (first ∷ new) y accesses e copied k more =
-      (nothing-more n block seen t nothing z first y copied.0 (λ p v. refl) k, more new copied.1)
-  copied-step false false z rest new y accesses e copied k more = more new copied
-  copied-step v u z rest new y accesses e copied k more = absurd cc
+  copied-step : (b c : Bool) (z : PendingAccess w) (rest new : List (PendingAccess w))
+      (y : Access w) (accesses : List (Access w)) → b ≡ c
+      → AreRenewed (found_by free bytes all) (if b then z ∷ rest else rest) new
+      → KnowsAccess z (open_for free) n block y t → ((more : List (PendingAccess w))
+      → AreRenewed (found_by free bytes all) rest more → AreKnown more closed n block accesses t)
+      → AreKnown new closed n block (if c then y ∷ accesses else accesses) t
+  copied-step true true z rest [] y accesses e copied one more = absurd copied
+  copied-step true true z rest (first ∷ new) y accesses e copied one more =
+      (kept-one z first y copied.0 one, more new copied.1)
+  copied-step false false z rest new y accesses e copied one more = more new copied
+  copied-step v u z rest new y accesses e copied one more = absurd cc
 
   -- the copies of those that stay
   pub copied-each : (gone : Option (Link × ℕ)) (old new : List (PendingAccess w)) (accesses : List (Access w))
-      → AreKnown old n block accesses seen t → AreRenewed nothing (staying gone old) new
-      → AreKnown new n block (filter (keeps gone) accesses) seen t
+      → AreKnown old (open_for free) n block accesses t
+      → AreRenewed (found_by free bytes all) (staying gone old) new
+      → AreKnown new closed n block (filter (keeps gone) accesses) t
   unfolding picked
   copied-each gone [] [] [] are copied = tt
   copied-each gone [] (z ∷ new) [] are copied = absurd copied
@@ -190,113 +191,94 @@ module _ {w : ℕ} (n block : ℕ) (seen t : Trace w) where
       (λ more each. copied-each gone old more accesses are.1 each)
   copied-each gone v new u are copied = absurd are
 
--- so each access that is pending may bring this with one more beat
-abbrev pub Grows : {w : ℕ} → ℕ → ℕ → (PendingAccess w → ℕ → ℕ → Bool) → Link × Beat w → Trace w → Type 0
-Grows {w} n block more x t = (old : PendingAccess w) (access : Access w) → IsAsked old.writer.asked access
-    → access.asked ≤ length t → (p v : ℕ) → p < 64
-    → may_read n access (x ∷ t) (64 * block + p) v ≡ (may_read n access t (64 * block + p) v || more old p v)
-
-module _ {w : ℕ} (n block : ℕ) (more : PendingAccess w → ℕ → ℕ → Bool) (x : Link × Beat w) (t : Trace w)
-    (grows : Grows n block more x t) where
-  renewed-one : (old new : PendingAccess w) (access : Access w) → IsRenewed more old new
-      → KnowsAccess old n block access t t → KnowsAccess new n block access t (x ∷ t)
-  renewed-one old new access r k = record {
-    asked_is = rw r.writer_is k.asked_is;
-    lawful = k.lawful;
-    write_is = rw r.writer_is k.write_is;
-    before = k.before;
-    windows_are = rw r.windows_are k.windows_are;
-    read_is = λ p v lt. r.read_is p v lt ∙ ap (λ b. b || more old p v) (k.read_is p v lt)
-        ∙ sym (grows old access k.asked_is k.before p v lt);
-  }
-
-  pub renewed-each : (old new : List (PendingAccess w)) (accesses : List (Access w))
-      → AreKnown old n block accesses t t → AreRenewed more old new → AreKnown new n block accesses t (x ∷ t)
-  renewed-each [] [] [] are renewed = tt
-  renewed-each [] (z ∷ new) accesses are renewed = absurd renewed
-  renewed-each (z ∷ old) [] accesses are renewed = absurd renewed
-  renewed-each (z ∷ old) (v ∷ new) (y ∷ accesses) are renewed =
-      (renewed-one z v y renewed.0 are.0, renewed-each old new accesses are.1 renewed.1)
-  renewed-each v u z are renewed = absurd are
-
--- where some are gone, or none, and the others may bring more, this is kept of them
-pub renewed-all : {w : ℕ} (n block : ℕ) (gone : Option (Link × ℕ)) (more : PendingAccess w → ℕ → ℕ → Bool)
-    (x : Link × Beat w) (t : Trace w) (old copies new : List (PendingAccess w)) → KnowsAccesses old n block t t
-    → pending_accesses (x ∷ t) ≡ filter (keeps gone) (pending_accesses t) → Grows n block more x t
-    → AreRenewed nothing (staying gone old) copies → AreRenewed more copies new → KnowsAccesses new n block t (x ∷ t)
-renewed-all n block gone more x t old copies new k stay grows copied renewed = record {
-  accesses_are = rw (stay, filters-swap (is_to block) (keeps gone) (pending_accesses t))
-      (renewed-each n block more x t grows copies new (filter (keeps gone) (filter (is_to block) (pending_accesses t)))
-      (copied-each n block t t gone old copies (filter (is_to block) (pending_accesses t)) k.accesses_are copied)
-      renewed);
-  inside = rw stay (inside-kept (keeps gone) (pending_accesses t) k.inside);
-}
-
 -- ---- the one that is pending with a source on a link
 
 -- both are known, or there is none
-abbrev pub IsFound : {w : ℕ} → Option (PendingAccess w) → ℕ → ℕ → Option (Access w) → Trace w → Trace w → Type 0
-IsFound None n block None seen t = ⊤
-IsFound (Some pending) n block (Some access) seen t = KnowsAccess pending n block access seen t
-IsFound _ n block _ seen t = ⊥
+abbrev pub IsFound : {w : ℕ} → Option (PendingAccess w) → (Perm → Bool) → ℕ → ℕ → Option (Access w) → Trace w → Type 0
+IsFound None admits n block None t = ⊤
+IsFound (Some pending) admits n block (Some access) t = KnowsAccess pending admits n block access t
+IsFound _ admits n block _ t = ⊥
 
-finds-known : {w : ℕ} (link source n block : ℕ) (seen t : Trace w) (pending : List (PendingAccess w))
-    (accesses : List (Access w)) → AreKnown pending n block accesses seen t
-    → IsFound (find (is_named link source) pending) n block (find (is_of link source) accesses) seen t
-finds-known link source n block seen t [] [] are = tt
-finds-known link source n block seen t (x ∷ pending) (y ∷ accesses) are =
-    let same = named link source x.writer y are.0.asked_is in
-    elim (cases_Bool (is_of link source y)) [
-      | inl own ↦ rw (same ∙ own, own) (are.0)
-      | inr other ↦ rw (same ∙ other, other) (finds-known link source n block seen t pending accesses are.1)
-    ]
-finds-known link source n block seen t v u are = absurd are
+module _ {w : ℕ} (link source : ℕ) (admits : Perm → Bool) (n block : ℕ) (t : Trace w) where
+  finds-known : (pending : List (PendingAccess w)) (accesses : List (Access w))
+      → AreKnown pending admits n block accesses t
+      → IsFound (find (is_named link source) pending) admits n block (find (is_of link source) accesses) t
+  finds-known [] [] are = tt
+  finds-known (x ∷ pending) (y ∷ accesses) are =
+      let same = named link source x.writer y are.0.asked_is in
+      elim (cases_Bool (is_of link source y)) [
+        | inl own ↦ rw (same ∙ own, own) (are.0)
+        | inr other ↦ rw (same ∙ other, other) (finds-known pending accesses are.1)
+      ]
+  finds-known v u are = absurd are
 
--- so is the one among all that are pending, where it is to the block
-pub finds : {w : ℕ} (link source n block : ℕ) (seen t : Trace w) (pending : List (PendingAccess w))
-    → KnowsAccesses pending n block seen t → AnyIsTo block (find (is_of link source) (pending_accesses t))
-    → IsFound (find (is_named link source) pending) n block (find (is_of link source) (pending_accesses t)) seen t
-finds link source n block seen t pending k to =
-    go (find (is_of link source) (pending_accesses t)) refl to
-  where
-    go : (o : Option (Access _)) → find (is_of link source) (pending_accesses t) ≡ o → AnyIsTo block o
-        → IsFound (find (is_named link source) pending) n block o seen t
-    go None e to = rw (← finds-none (is_of link source) (is_to block) (pending_accesses t) e)
-        (finds-known link source n block seen t pending (filter (is_to block) (pending_accesses t)) k.accesses_are)
-    go (Some access) e to = rw (← find-keeps (is_of link source) (is_to block) (pending_accesses t) access e to)
-        (finds-known link source n block seen t pending (filter (is_to block) (pending_accesses t)) k.accesses_are)
+  -- so is the one among all that are pending, where it is to the block
+  pub finds : (pending : List (PendingAccess w)) → KnowsAccesses pending admits n block t t
+      → AnyIsTo block (find (is_of link source) (pending_accesses t))
+      → IsFound (find (is_named link source) pending) admits n block (find (is_of link source) (pending_accesses t)) t
+  finds pending k to = go (find (is_of link source) (pending_accesses t)) refl to
+    where
+      go : (o : Option (Access w)) → find (is_of link source) (pending_accesses t) ≡ o → AnyIsTo block o
+          → IsFound (find (is_named link source) pending) admits n block o t
+      go None e to = rw (← finds-none (is_of link source) (is_to block) (pending_accesses t) e)
+          (finds-known pending (filter (is_to block) (pending_accesses t)) k.accesses_are)
+      go (Some access) e to = rw (← find-keeps (is_of link source) (is_to block) (pending_accesses t) access e to)
+          (finds-known pending (filter (is_to block) (pending_accesses t)) k.accesses_are)
 
 -- ---- one access more
 
-pub asked-more : {w : ℕ} (n block : ℕ) (first : PendingAccess w) (more : List (PendingAccess w)) (access : Access w)
-    (x : Link × Beat w) (t : Trace w)
+pub asked-more : {w : ℕ} (admits : Perm → Bool) (n block : ℕ) (first : PendingAccess w) (more : List (PendingAccess w))
+    (access : Access w) (x : Link × Beat w) (t : Trace w)
     → pending_accesses (x ∷ t) ≡ access ∷ pending_accesses t → is_to block access ≡ true
-    → WritesInside access → AllWriteInside (pending_accesses t) → KnowsAccess first n block access (x ∷ t) (x ∷ t)
-    → AreKnown more n block (filter (is_to block) (pending_accesses t)) (x ∷ t) (x ∷ t)
-    → KnowsAccesses (first ∷ more) n block (x ∷ t) (x ∷ t)
-asked-more n block first more access x t pending to inside all k are = record {
+    → WritesInside access → AllWriteInside (pending_accesses t) → KnowsAccess first admits n block access (x ∷ t)
+    → AreKnown more admits n block (filter (is_to block) (pending_accesses t)) (x ∷ t)
+    → KnowsAccesses (first ∷ more) admits n block (x ∷ t) (x ∷ t)
+asked-more admits n block first more access x t pending to inside all k are = record {
   accesses_are = rw (pending, to) (k, are);
   inside = rw pending (inside, all);
 }
 
--- ---- seen whether the block is free
+-- ---- seen for whom the block is free
 
-pub watched-each : {w : ℕ} (n block : ℕ) (free : Bool) (moment : ℕ) (x : Link × Beat w) (t : Trace w)
-    (old new : List (PendingAccess w)) (accesses : List (Access w)) → AreKnown old n block accesses t (x ∷ t)
-    → AreWatched free moment old new → free ≡ is_free n Perm.Trunk block (x ∷ t) → moment ≡ length (x ∷ t)
-    → AreKnown new n block accesses (x ∷ t) (x ∷ t)
-watched-each n block free moment x t [] [] [] are watched is now = tt
-watched-each n block free moment x t [] (z ∷ new) accesses are watched is now = absurd watched
-watched-each n block free moment x t (z ∷ old) [] accesses are watched is now = absurd watched
-watched-each n block free moment x t (z ∷ old) (v ∷ new) (y ∷ accesses) are watched is now = (
-  record {
-    asked_is = rw watched.0.writer_is are.0.asked_is;
-    lawful = are.0.lawful;
-    write_is = rw watched.0.writer_is are.0.write_is;
-    before = omega (arith, are.0.before);
-    windows_are = watched.0.windows_are n block y.asked x t are.0.windows_are are.0.before is now;
-    read_is = rw watched.0.read_is are.0.read_is;
-  },
-  watched-each n block free moment x t old new accesses are.1 watched.1 is now,
-)
-watched-each n block free moment x t v u z are watched is now = absurd are
+module _ {w : ℕ} (n block : ℕ) (x : Link × Beat w) (t : Trace w) where
+  pub watched-each : (admits : Perm → Bool) (free : Bool) (moment : ℕ) (old new : List (PendingAccess w))
+      (accesses : List (Access w)) → ((given : Perm) → is_window n given block x t ≡ admits given)
+      → AreKnown old closed n block accesses t → AreWatched free moment old new
+      → free ≡ is_free n Perm.Trunk block (x ∷ t) → moment ≡ length (x ∷ t)
+      → AreKnown new admits n block accesses (x ∷ t)
+  watched-each admits free moment [] [] [] window are watched is now = tt
+  watched-each admits free moment [] (z ∷ new) accesses window are watched is now = absurd watched
+  watched-each admits free moment (z ∷ old) [] accesses window are watched is now = absurd watched
+  watched-each admits free moment (z ∷ old) (v ∷ new) (y ∷ accesses) window are watched is now = (
+    record {
+      asked_is = rw watched.0.writer_is are.0.asked_is;
+      lawful = are.0.lawful;
+      write_is = rw watched.0.writer_is are.0.write_is;
+      before = omega (arith, are.0.before);
+      windows_are = watched.0.windows_are n block y.asked x t are.0.windows_are are.0.before is now;
+      found_is = rw watched.0.read_is (found-settled n block z.read (admits (needs y.request.opcode)) y x t
+          (window (needs y.request.opcode)) are.0.before are.0.found_is);
+    },
+    watched-each admits free moment old new accesses window are.1 watched.1 is now,
+  )
+  watched-each admits free moment v u z window are watched is now = absurd are
+
+  -- where it is as free for writing as it was
+  pub settled-each : (admits : Perm → Bool) (pending : List (PendingAccess w)) (accesses : List (Access w))
+      → ((given : Perm) → is_window n given block x t ≡ admits given)
+      → is_free n Perm.Trunk block (x ∷ t) ≡ is_free n Perm.Trunk block t
+      → AreKnown pending closed n block accesses t → AreKnown pending admits n block accesses (x ∷ t)
+  settled-each admits [] [] window same are = tt
+  settled-each admits (z ∷ pending) (y ∷ accesses) window same are = (
+    record {
+      asked_is = are.0.asked_is;
+      lawful = are.0.lawful;
+      write_is = are.0.write_is;
+      before = omega (arith, are.0.before);
+      windows_are = same_after z.windows n block y.asked x t are.0.windows_are are.0.before same;
+      found_is = found-settled n block z.read (admits (needs y.request.opcode)) y x t (window (needs y.request.opcode))
+          are.0.before are.0.found_is;
+    },
+    settled-each admits pending accesses window same are.1,
+  )
+  settled-each admits v u window same are = absurd are

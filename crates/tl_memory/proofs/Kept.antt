@@ -21,7 +21,7 @@ place-there m n block place t k at none =
     (k.blocks_are.table_is.stand block place at) none
 
 pub place-kept : {w : ℕ} (m : Memory w) (s : BlockState w) (n block place : ℕ) (t : Trace w) → KnowsMemory m n t
-    → place_in m.blocks block ≡ Some place → Some s ≡ slice_get m.blocks.states.items place → KnowsState s n block t t
+    → place_in m.blocks block ≡ Some place → Some s ≡ slice_get m.blocks.states.items place → KnowsState s n block t
 place-kept m s n block place t k at there =
     subst (λ o. KnowsKept o n block t) (ap (state_at m.blocks) at ∙ sym there) (k.blocks_are.states_are block)
 
@@ -39,6 +39,6 @@ told-exact {w} m None block place v moment there is n t knows small =
     subst (λ o. KnowsKept o n block t) (sym there) (knows.blocks_are.states_are block) in
     is ∙ told-first w n (64 * block + place) v ∙ ap (told_moment v) (sym (kept.0 place small))
 told-exact m (Some s) block place v moment there is n t knows small =
-    let kept : KnowsState s n block t t =
+    let kept : KnowsState s n block t =
     subst (λ o. KnowsKept o n block t) (sym there) (knows.blocks_are.states_are block) in
     told-known s.bytes n block place v t moment is kept.bytes_are small

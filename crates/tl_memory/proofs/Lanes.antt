@@ -1,7 +1,7 @@
 -- The lanes of a response's beat, and what the response may bring there.
 use Rattle.tl_memory.proofs.Imports.{BeatD, IsWidth, reaches, base_of, Trace, block_at, base_in_memory, Access}
 use Rattle.tl_memory.proofs.Imports.{KnowsGrant, may_bring, Expected, Expects, is_to, Beat}
-use Rattle.std.proofs.Common.{◌≡◌, ℕ, zero, suc, Bool, true, false, not, ◌||◌, ◌+◌, ◌*◌, ◌/◌, ◌%◌, ◌^◌, ◌<◌, ◌≤◌, List}
+use Rattle.std.proofs.Common.{◌≡◌, ℕ, zero, suc, Bool, true, false, not, ◌+◌, ◌*◌, ◌/◌, ◌%◌, ◌^◌, ◌<◌, ◌≤◌, List}
 use Rattle.std.proofs.Common.{[], ◌∷◌, length, None, Some, refl, sym, ap, ap₂, ◌∙◌, arith, get_or, drop}
 use Rattle.std.{specs.Prelude.◌&&◌, specs.Prelude.nat_le, specs.Prelude.nat_lt, proofs.lemmas.List.at_drop_more}
 use Rattle.std.{proofs.Math.Nat.div-mul-le_self, proofs.Math.Nat.pow-le-pow_right}

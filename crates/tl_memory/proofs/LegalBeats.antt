@@ -2,7 +2,7 @@
 use Rattle.tl_memory.proofs.Imports.{Beat, BeatA, BeatD, Link, IsWidth, channel_of, unfinished, Level, Request}
 use Rattle.tl_memory.proofs.Imports.{AreTyped, Trace, IsLegal, on_link, ends, is_release_ack, is_access}
 use Rattle.tl_memory.proofs.Imports.{IsLegalBeat, IsResponse, AreLegal}
-use Rattle.std.proofs.Common.{◌≡◌, ◌<◌, ℕ, suc, false, List, ◌∷◌, length, refl, None, arith}
+use Rattle.std.proofs.Common.{◌≡◌, ◌<◌, ℕ, suc, false, List, ◌∷◌, length, refl, arith}
 use Rattle.std.proofs.lemmas.Bool.{and_parts}
 use Rattle.tl_beat.specs.declared.channel.Channel.{Channel}
 use Rattle.tl_memory.{specs.code.Taking.IsRequested, proofs.Answering.is-answering, proofs.Apart.are-asked}

@@ -8,7 +8,7 @@ pub mod Borne
 pub mod Complete
 pub mod Elsewhere
 pub mod Expecting
-pub mod Growing
+pub mod Found
 pub mod Judging
 pub mod Keeping
 pub mod Kept

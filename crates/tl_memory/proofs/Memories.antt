@@ -1,21 +1,20 @@
 -- What is known of the bytes of memory, with one more beat.
 use Rattle.tl_memory.proofs.Imports.{Beat, BeatA, BeatD, Link, IsWidth, History, Level, open_request}
 use Rattle.tl_memory.proofs.Imports.{request_fields, Request, IsTyped, Trace, IsLegal, on_link, begins}
-use Rattle.tl_memory.proofs.Imports.{is_access, is_release_ack, request_of, is_free, pending_accesses, PassesBy, block_asked}
+use Rattle.tl_memory.proofs.Imports.{is_release_ack, request_of, pending_accesses, PassesBy, block_asked}
 use Rattle.tl_memory.proofs.Imports.{block_borne, IsLegalBeat, Expected, LinkState, ExpectsResponse, AllWriteInside}
-use Rattle.tl_memory.proofs.Imports.{AreLegal, KnowsLink, OpD}
+use Rattle.tl_memory.proofs.Imports.{AreLegal, ExpectsLater, Freedom, KnowsLink, OpD, freedom}
 use Rattle.std.proofs.Common.{◌≡◌, ℕ, Bool, true, false, ◌&&◌, ◌∷◌, ◌^◌, ◌<◌, ◌/◌, List, [], Option, Some, None, length}
 use Rattle.std.proofs.Common.{refl, sym, ap, ◌∙◌, arith, inl, inr}
 use Rattle.std.{specs.Prelude.if◌then◌else◌, specs.Prelude.◌==◌, specs.Prelude.option_map, proofs.lemmas.Bool.eqb-false}
 use Rattle.std.proofs.lemmas.Option.{none-some, same_Some, slice_get_cases}
-use Rattle.tl_params.specs.declared.perm.Perm.{Perm}
-use Rattle.tl_memory.specs.code.Changing.{ExpectsBegun, IsBorne, IsChange}
-use Rattle.tl_memory.{specs.code.Passing.changes_held, specs.code.Taking.IsSeen, specs.declared.links.Links.Links}
-use Rattle.tl_memory.{specs.code.Taking.is_asking, proofs.Bearing.access-bare}
+use Rattle.tl_memory.specs.code.Changing.{ExpectsAlong, ExpectsBegun, IsBorne, IsChange}
+use Rattle.tl_memory.specs.code.{Passing.changes_held, Passing.is_answer_data, Taking.IsSeen}
+use Rattle.tl_memory.specs.declared.links.Links.{Links}
 use Rattle.tl_memory.{specs.declared.memory.Change.Change, specs.declared.memory.Memory.Memory}
 use Rattle.tl_memory.{specs.statement.Links.KnowsLinks, specs.statement.Memory.AreAddressed}
 use Rattle.tl_memory.{specs.statement.Memory.IsAddressed, proofs.Beginning.none-begun, proofs.Borne.passes}
-use Rattle.tl_memory.{proofs.LegalBeats.legal-beat, proofs.LinkTables.link-there, proofs.PassedBy.held-left}
+use Rattle.tl_memory.{proofs.LegalBeats.legal-beat, proofs.LinkTables.link-there, proofs.PassedBy.none-later}
 
 -- ---- the blocks of requests
 
@@ -93,29 +92,62 @@ all-passed own block x t borne none = borne block (λ e. none-some block (sym no
 
 -- and nothing is expected
 pub none-expected : {w : ℕ} (link : Link) (x : Beat w) (n : ℕ) (t : Trace w) → IsLegalBeat link.0 x t
-    → block_borne x (on_link link.0 t) ≡ None → ExpectsBegun None n (link, x) t
-none-expected {w} link x n t legal borne y is first =
-    go (is_release_ack y.opcode) refl (rw is at legal) (rw is at borne)
+    → block_borne x (on_link link.0 t) ≡ None → ExpectsBegun None n (link, x) t × ExpectsAlong None n (link, x) t
+none-expected {w} link x n t legal borne = (
+  λ y is first. (go y (is_release_ack y.opcode) refl (rw is at legal) (rw is at borne)).0,
+  λ y is later. (go y (is_release_ack y.opcode) refl (rw is at legal) (rw is at borne)).1,
+)
   where
-    go : (release : Bool) → is_release_ack y.opcode ≡ release → IsLegalBeat link.0 (Beat.D y) t
+    release-alone : (opcode : OpD) → is_release_ack opcode ≡ true → is_answer_data opcode ≡ false
+    release-alone OpD.AccessAckData e = absurd cc
+    release-alone v e = refl
+
+    go : (y : BeatD w) (release : Bool) → is_release_ack y.opcode ≡ release → IsLegalBeat link.0 (Beat.D y) t
         → (if release then None else block_asked (open_request y.source (on_link link.0 t))) ≡ None
-        → ExpectsResponse None n link.0 y.opcode y.source t t
-    go true e legal borne = none-begun y.opcode n link.0 y.source t
-        (λ grant. absurd (let no : is_release_ack OpD.GrantData ≡ true = ap is_release_ack (sym grant) ∙ e in cc))
-        (λ read. absurd (let no : is_release_ack OpD.AccessAckData ≡ true = ap is_release_ack (sym read) ∙ e in cc))
-    go false e legal borne =
+        → ExpectsResponse None n link.0 y.opcode y.source t t × ExpectsLater None n link.0 y.opcode y.source t
+    go y true e legal borne = (
+      none-begun y.opcode n link.0 y.source t
+          (λ grant. absurd (let no : is_release_ack OpD.GrantData ≡ true = ap is_release_ack (sym grant) ∙ e in cc))
+          (λ read. absurd (let no : is_release_ack OpD.AccessAckData ≡ true = ap is_release_ack (sym read) ∙ e in cc)),
+      none-later y.opcode n link.0 y.source t (release-alone y.opcode e),
+    )
+    go y false e legal borne =
         let one = legal e in
         absurd (none-some one.0.block (sym borne ∙ ap block_asked one.1.asked_is))
 
 -- ---- what a beat changes
 
+same-d : {w : ℕ} (a b : BeatD w) → Beat.D a ≡ Beat.D b → a ≡ b
+same-d a b e = cc
+
+true_false : {X : Type 0} → true ≡ false → X
+true_false e = absurd cc
+
+-- a response begins with the beat
 pub begun-by : {w : ℕ} (expected : Option Expected) (n : ℕ) (link : Link) (x : Beat w) (z : BeatD w) (t : Trace w)
-    → x ≡ Beat.D z → ExpectsResponse expected n link.0 z.opcode z.source t t → ExpectsBegun expected n (link, x) t
-begun-by {w} expected n link x z t is known y e first =
-    rw (← same z y (sym is ∙ e)) known
-  where
-    same : (a b : BeatD w) → Beat.D a ≡ Beat.D b → a ≡ b
-    same a b e = cc
+    → x ≡ Beat.D z → begins (Beat.D z) (on_link link.0 t) ≡ true
+    → ExpectsResponse expected n link.0 z.opcode z.source t t
+    → ExpectsBegun expected n (link, x) t × ExpectsAlong expected n (link, x) t
+begun-by {w} expected n link x z t is first known = (
+  λ y e begun. rw (← same-d z y (sym is ∙ e)) known,
+  λ y e later. true_false (sym first ∙ ap (λ d. begins (Beat.D d) (on_link link.0 t)) (same-d z y (sym is ∙ e)) ∙ later),
+)
+
+-- or goes on
+pub along-by : {w : ℕ} (expected : Option Expected) (n : ℕ) (link : Link) (x : Beat w) (z : BeatD w) (t : Trace w)
+    → x ≡ Beat.D z → begins (Beat.D z) (on_link link.0 t) ≡ false
+    → ExpectsLater expected n link.0 z.opcode z.source t
+    → ExpectsBegun expected n (link, x) t × ExpectsAlong expected n (link, x) t
+along-by {w} expected n link x z t is later known = (
+  λ y e first. true_false (sym first ∙ ap (λ d. begins (Beat.D d) (on_link link.0 t)) (sym (same-d z y (sym is ∙ e)))
+      ∙ later),
+  λ y e off. rw (← same-d z y (sym is ∙ e)) known,
+)
+
+-- none does with one of another channel
+pub no-response : {w : ℕ} (n : ℕ) (link : Link) (x : Beat w) (t : Trace w) → ((y : BeatD w) → x ≡ Beat.D y → ⊥)
+    → ExpectsBegun None n (link, x) t × ExpectsAlong None n (link, x) t
+no-response n link x t other = (λ y e first. absurd (other y e), λ y e later. absurd (other y e))
 
 either_none : (c : Bool) → ◌≡◌ {A = Option ℕ} None (if c then None else None)
 either_none true = refl
@@ -124,37 +156,29 @@ either_none false = refl
 -- a beat that leaves each block as it is changes nothing, where no response begins with it
 pub nothing-changed : {w : ℕ} (change : Change w) (m : Memory w) (n : ℕ) (x : Link × Beat w) (t : Trace w)
     → change.block ≡ None → change.held ≡ None → change.expected ≡ None → IsBorne None x t → ExpectsBegun None n x t
-    → IsChange change m n x t
-nothing-changed change m n x t unborne unheld none passed unbegun = record {
+    → ExpectsAlong None n x t → IsChange change m n x t
+nothing-changed change m n x t unborne unheld none passed unbegun unsaid = record {
   block_is = rw unborne passed;
   held_is = unheld ∙ rw unborne (either_none (changes_held x.1 (on_link x.0.0 t)));
   kept = λ block e. absurd (none-some block (sym unborne ∙ e));
   next_is = λ block free s e there seen. absurd (none-some block (sym unborne ∙ e));
   expected_is = rw none unbegun;
+  along_is = rw none unsaid;
 }
 
 -- ---- how free a block is seen to be
 
--- the request of an access leaves what is held
-not-asking : {w : ℕ} (x : Beat w) (past : History w) → changes_held x past ≡ true → is_asking x ≡ false
-not-asking (Beat.A y) past e = go (is_access y.opcode) refl
-  where
-    go : (access : Bool) → is_access y.opcode ≡ access → access ≡ false
-    go false f = refl
-    go true f = absurd (let no : true ≡ false = sym e ∙ access-bare y f in cc)
-not-asking v past e = refl
-
 -- told of the block of which its link may hold more or less, it is told of the one that the beat bears on
 pub held-seen : {w : ℕ} (change : Change w) (m : Memory w) (n : ℕ) (x : Link × Beat w) (t : Trace w)
-    (free : Option Bool) (block : ℕ)
-    → IsChange change m n x t → free ≡ option_map (λ b. is_free n Perm.Trunk b (x ∷ t)) change.held
+    (free : Option Freedom) (block : ℕ)
+    → IsChange change m n x t → free ≡ option_map (λ b. freedom n b x t) change.held
     → change.block ≡ Some block → IsSeen free n block x t
 held-seen {w} change m n x t free block is told own = go (changes_held x.1 (on_link x.0.0 t)) refl
   where
     go : (c : Bool) → changes_held x.1 (on_link x.0.0 t) ≡ c → IsSeen free n block x t
     go true e =
         let held : change.held ≡ Some block = is.held_is ∙ rw (e, own) refl in
-        rw (told, held) (not-asking x.1 (on_link x.0.0 t) e, refl)
+        rw (told, held) (e, refl)
     go false e =
         let held : change.held ≡ None = is.held_is ∙ rw e refl in
-        rw (told, held) (held-left block x.0 x.1 t e)
+        rw (told, held) e

@@ -1,16 +1,15 @@
 -- What a response is to the blocks and to the accesses that are pending, by the open request that it answers.
-use Rattle.tl_memory.proofs.Imports.{Beat, BeatA, BeatC, BeatD, Link, OpA, OpD, c_carries_data, History, on}
+use Rattle.tl_memory.proofs.Imports.{Beat, BeatA, BeatD, Link, OpA, OpD, History}
 use Rattle.tl_memory.proofs.Imports.{open_request, request_fields, Request, Trace, answers, on_link, block_at, ends}
-use Rattle.tl_memory.proofs.Imports.{is_grant, request_of, Access, access_writes, ends_request, is_access, is_of}
-use Rattle.tl_memory.proofs.Imports.{pending_accesses, tells, WritesNot, AllWriteInside, AnyIsTo, WritesInside}
+use Rattle.tl_memory.proofs.Imports.{is_grant, request_of, Access, ends_request, is_access, is_of}
+use Rattle.tl_memory.proofs.Imports.{pending_accesses, tells, AllWriteInside, WritesInside}
 use Rattle.std.proofs.Common.{◌≡◌, ℕ, Bool, true, false, not, ◌&&◌, List, [], ◌∷◌, Option, Some, None, refl, sym, ap}
-use Rattle.std.proofs.Common.{◌∙◌, inl, inr}
+use Rattle.std.proofs.Common.{inl, inr}
 use Rattle.std.specs.Prelude.{if◌then◌else◌, ◌==◌, filter, find, ⊤}
-use Rattle.std.proofs.lemmas.Bool.{cases_Bool, eq-eqb, eqb-true}
-use Rattle.tl_beat.specs.declared.channel.Channel.{Channel}
+use Rattle.std.proofs.lemmas.Bool.{cases_Bool}
 use Rattle.tl_rules.{specs.statement.History.asks_for, proofs.Open.request-fields}
 use Rattle.tl_bytes.specs.statement.Bytes.{tells_granted}
-use Rattle.tl_memory.{specs.code.Elsewhere.KeepsByte, specs.code.Taking.tells_block}
+use Rattle.tl_memory.{specs.code.Taking.tells_block}
 use Rattle.tl_memory.{specs.code.Taking.tells_response}
 
 -- ---- what it tells of a block

@@ -1,37 +1,36 @@
 -- What is known of the table of blocks, with one more state or one more beat.
-use Rattle.tl_memory.proofs.Imports.{Beat, Link, Trace, is_free, pending_accesses, PassesBy, BlockState, KnowsState}
-use Rattle.std.proofs.Common.{◌≡◌, ◌<◌, ℕ, zero, suc, Bool, true, false, [], ◌∷◌, ◌++◌, List, length, refl, sym, ap}
+use Rattle.tl_memory.proofs.Imports.{Beat, Link, Trace, pending_accesses, PassesBy, BlockState, KnowsState, KnowsUnseen}
+use Rattle.tl_memory.proofs.Imports.{Freedom, freedom}
+use Rattle.std.proofs.Common.{◌≡◌, ◌<◌, ℕ, zero, suc, true, false, [], ◌∷◌, ◌++◌, List, length, refl, sym, ap}
 use Rattle.std.proofs.Common.{◌∙◌, ◌⊎◌, arith, inl, inr, length-append}
 use Rattle.std.specs.Prelude.{if◌then◌else◌, None, Option, slice_get, slice_set, Some, ◌==◌}
 use Rattle.std.{specs.BTreeMap.get, specs.BTreeMap.is_at, specs.Map.lookup, specs.Ordering.nat_cmp}
 use Rattle.std.{proofs.lemmas.List.length-set, proofs.lemmas.Option.none-some, proofs.lemmas.Option.same_Some}
 use Rattle.std.proofs.lemmas.Bool.{cases_Bool, eq-eqb, eqb-true}
-use Rattle.tl_params.specs.declared.perm.Perm.{Perm}
 use Rattle.tl_memory.{specs.code.Taking.IsNext, specs.code.Taking.put_next, specs.declared.block.NextState.NextState}
-use Rattle.tl_memory.{specs.declared.blocks.Blocks.Blocks, proofs.Bearing.stays, proofs.Elsewhere.elsewhere-kept}
-use Rattle.tl_memory.{proofs.Elsewhere.byte-kept}
+use Rattle.tl_memory.{specs.declared.blocks.Blocks.Blocks, proofs.Elsewhere.byte-kept, proofs.Elsewhere.stays}
 use Rattle.tl_memory.specs.statement.Blocks.{KnowsBlocks, KnowsKept, place_in, state_at, state_in}
 
 -- ---- one state
 
--- the next state, or the one that stays, whose freedom isn't seen yet
-pub next-seen : {w : ℕ} (old : BlockState w) (next : Option (NextState w)) (free : Bool) (n block : ℕ)
-    (x : Link × Beat w) (t : Trace w) → KnowsState old n block t t → IsNext next (Some free) old n block x t
-    → KnowsState (put_next old next) n block t (x ∷ t) × (free ≡ is_free n Perm.Trunk block (x ∷ t))
-next-seen old None free n block x t k is = (elsewhere-kept old n block x t is.0 k, is.1)
-next-seen old (Some s) free n block x t k is = is
+-- the next state, for whom the block is free with which isn't seen yet
+pub next-seen : {w : ℕ} (old : BlockState w) (next : Option (NextState w)) (free : Freedom) (n block : ℕ)
+    (x : Link × Beat w) (t : Trace w) → IsNext next (Some free) old n block x t
+    → KnowsUnseen (put_next old next) n block x t × (free ≡ freedom n block x t)
+next-seen old None free n block x t is = absurd is
+next-seen old (Some s) free n block x t is = is
 
--- or is seen
+-- or the one that stays, or is seen
 pub next-whole : {w : ℕ} (old : BlockState w) (next : Option (NextState w)) (n block : ℕ) (x : Link × Beat w)
-    (t : Trace w) → KnowsState old n block t t → IsNext next None old n block x t
-    → KnowsState (put_next old next) n block (x ∷ t) (x ∷ t)
+    (t : Trace w) → KnowsState old n block t → IsNext next None old n block x t
+    → KnowsState (put_next old next) n block (x ∷ t)
 next-whole old None n block x t k is = stays old n block x t is k
 next-whole old (Some s) n block x t k is = is
 
--- where it isn't told how free the block is
-pub next-unseen : {w : ℕ} (old : BlockState w) (next : Option (NextState w)) (free : Option Bool) (n block : ℕ)
+-- where it isn't told for whom the block is free
+pub next-unseen : {w : ℕ} (old : BlockState w) (next : Option (NextState w)) (free : Option Freedom) (n block : ℕ)
     (x : Link × Beat w) (t : Trace w)
-    → ((v : Bool) → free ≡ Some v → ⊥) → IsNext next free old n block x t → IsNext next None old n block x t
+    → ((v : Freedom) → free ≡ Some v → ⊥) → IsNext next free old n block x t → IsNext next None old n block x t
 next-unseen old next None n block x t none is = is
 next-unseen old next (Some v) n block x t none is = absurd (none v refl)
 
@@ -63,13 +62,13 @@ kept-stays None n block x t passes known = (
 kept-stays (Some s) n block x t passes known = stays s n block x t passes known
 
 some-kept : {w : ℕ} (o : Option (BlockState w)) (s : BlockState w) (n block : ℕ) (t : Trace w) → o ≡ Some s
-    → KnowsKept o n block t → KnowsState s n block t t
+    → KnowsKept o n block t → KnowsState s n block t
 some-kept o s n block t is known = rw is at known
 
 -- with a beat that bears on one block
 kept-taken : {w : ℕ} (s next : BlockState w) (old new : Option (BlockState w)) (n block k : ℕ) (x : Link × Beat w)
     (t : Trace w) → (k ≡ block → old ≡ Some s) → new ≡ (if k == block then Some next else old)
-    → (KnowsState s n block t t → KnowsState next n block (x ∷ t) (x ∷ t)) → ((k == block) ≡ false → PassesBy k x t)
+    → (KnowsState s n block t → KnowsState next n block (x ∷ t)) → ((k == block) ≡ false → PassesBy k x t)
     → KnowsKept old n k t → KnowsKept new n k (x ∷ t)
 kept-taken s next old new n block k x t there is taken passes known = elim (cases_Bool (k == block)) [
   | inl here ↦
@@ -110,7 +109,7 @@ state-same b new (Some place) same = same place refl
 pub blocks-more : {w : ℕ} (b new : Blocks w) (s : BlockState w) (n block : ℕ) (t : Trace w)
     → new.states.items ≡ b.states.items ++ s ∷ []
     → ((other : ℕ) → place_in new other ≡ (if other == block then Some (length b.states.items) else place_in b other))
-    → new.last ≡ b.last → place_in b block ≡ None → KnowsState s n block [] [] → KnowsBlocks b n t → KnowsBlocks new n t
+    → new.last ≡ b.last → place_in b block ≡ None → KnowsState s n block [] → KnowsBlocks b n t → KnowsBlocks new n t
 blocks-more {w} b new s n block t items places last unmet first k = record {
   table_is = record {
     stand = λ other place e. elim (placed other place e) [
@@ -196,7 +195,7 @@ blocks-met b n block place t met k = record {
 pub blocks-taken : {w : ℕ} (b new : Blocks w) (s next : BlockState w) (n block place : ℕ) (x : Link × Beat w)
     (t : Trace w) → new.states.items ≡ slice_set b.states.items place next → new.places ≡ b.places → new.last ≡ b.last
     → slice_get b.states.items place ≡ Some s → place_in b block ≡ Some place
-    → (KnowsState s n block t t → KnowsState next n block (x ∷ t) (x ∷ t))
+    → (KnowsState s n block t → KnowsState next n block (x ∷ t))
     → ((other : ℕ) → (other == block) ≡ false → PassesBy other x t) → KnowsBlocks b n t → KnowsBlocks new n (x ∷ t)
 blocks-taken b new s next n block place x t items places last found at taken passes k = record {
   table_is = record {

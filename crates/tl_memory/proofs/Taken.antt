@@ -1,37 +1,42 @@
 -- What is known of the state of a block with a beat that bears on it.
 use Rattle.tl_memory.proofs.Imports.{Beat, BeatA, BeatC, BeatD, Link, History, open_request, Request, Trace, on_link}
-use Rattle.tl_memory.proofs.Imports.{is_release_ack, is_free, block_asked, block_borne, IsLegalBeat, IsResponse}
-use Rattle.tl_memory.proofs.Imports.{BlockState}
-use Rattle.std.proofs.Common.{◌≡◌, ℕ, Bool, true, false, ◌∷◌, refl, sym, ap, ◌∙◌}
+use Rattle.tl_memory.proofs.Imports.{is_release_ack, block_asked, block_borne, IsLegalBeat, IsResponse}
+use Rattle.tl_memory.proofs.Imports.{BlockState, Freedom}
+use Rattle.std.proofs.Common.{◌≡◌, ℕ, Bool, true, false, refl, sym, ap, ◌∙◌}
 use Rattle.std.specs.Prelude.{if◌then◌else◌, Option, Some, None}
-use Rattle.tl_params.specs.declared.perm.Perm.{Perm}
-use Rattle.tl_memory.specs.code.Taking.{IsNext, IsNextAsked, IsSeen, with_next}
+use Rattle.tl_memory.specs.code.{Passing.acquires_from_none, Taking.IsNext, Taking.IsNextAsked, Taking.IsNextUnseen}
+use Rattle.tl_memory.specs.code.Taking.{IsSeen, with_next}
 use Rattle.tl_memory.specs.declared.block.NextState.{NextState}
-use Rattle.tl_memory.proofs.Elsewhere.{free-kept, freedom-kept}
+use Rattle.tl_memory.proofs.{Elsewhere.settled, PassedBy.held-left, PassedBy.held-unshown}
 
 true_false : {X : Type 0} → true ≡ false → X
 true_false e = absurd cc
 
--- with the request of an access nothing is told of how free it is
-pub seen-request : {w : ℕ} (next : Option (NextState w)) (free : Option Bool) (s : BlockState w) (n block : ℕ)
-    (link : Link) (y : BeatA w) (t : Trace w) → IsSeen free n block (link, Beat.A y) t
+-- the request of an access changes nothing of what is held
+pub seen-request : {w : ℕ} (next : Option (NextState w)) (free : Option Freedom) (s : BlockState w) (n block : ℕ)
+    (link : Link) (y : BeatA w) (t : Trace w) → acquires_from_none y ≡ false → IsSeen free n block (link, Beat.A y) t
     → IsNextAsked next s n block (link, Beat.A y) t → IsNext next free s n block (link, Beat.A y) t
-seen-request None None s n block link y t seen is = record { elsewhere = is; held_is = seen }
-seen-request (Some next) None s n block link y t seen is = is.1
-seen-request None (Some f) s n block link y t seen is = (is, seen.1)
-seen-request (Some next) (Some f) s n block link y t seen is = true_false (sym is.0 ∙ seen.0)
+seen-request None None s n block link y t none seen is = record {
+  elsewhere = is;
+  held_is = held-left block link (Beat.A y) t seen;
+  unshown = refl;
+}
+seen-request (Some next) None s n block link y t none seen is = is
+seen-request next (Some free) s n block link y t none seen is = true_false (sym seen.0 ∙ none)
 
--- with one of another channel it is, or doesn't change
-pub seen-other : {w : ℕ} (next : Option (NextState w)) (free : Option Bool) (s : BlockState w) (n block : ℕ)
-    (x : Link × Beat w) (t : Trace w) → IsSeen free n block x t
-    → ((f : Bool) → f ≡ is_free n Perm.Trunk block (x ∷ t) → IsNext next (Some f) s n block x t)
+-- what another beat makes of the state, for whom the block is free with it being told where that changes
+pub seen-other : {w : ℕ} (next : Option (NextState w)) (free : Option Freedom) (s : BlockState w) (n block : ℕ)
+    (x : Link × Beat w) (t : Trace w) → IsSeen free n block x t → IsNextUnseen next s n block x t
     → IsNext next free s n block x t
-seen-other None None s n block x t same is =
-    record { elsewhere = (is (is_free n Perm.Trunk block (x ∷ t)) refl).0; held_is = same }
+seen-other None None s n block x t same is = record {
+  elsewhere = is.0;
+  held_is = held-left block x.0 x.1 t same;
+  unshown = held-unshown block x.0 x.1 t same;
+}
 seen-other (Some next) None s n block x t same is =
-    freedom-kept (with_next s next) n block x t (free-kept n block x t same)
-    (is (is_free n Perm.Trunk block (x ∷ t)) refl).0
-seen-other next (Some f) s n block x t seen is = is f seen.1
+    settled (with_next s next) n block x t (held-left block x.0 x.1 t same) (held-unshown block x.0 x.1 t same) refl is
+seen-other None (Some free) s n block x t seen is = true_false (sym seen.0 ∙ is.1)
+seen-other (Some next) (Some free) s n block x t seen is = (is, seen.1)
 
 pub same-block : (k block : ℕ) → Some k ≡ Some block → k ≡ block
 same-block k block e = cc

@@ -1,5 +1,5 @@
 -- What accesses write, and what those may write that are pending.
-use Rattle.tl_memory.proofs.Imports.{Beat, Link, OpA, a_carries_data, MessageA, Access, access_writes, is_of, writes}
+use Rattle.tl_memory.proofs.Imports.{Beat, OpA, a_carries_data, MessageA, Access, access_writes, is_of, writes}
 use Rattle.tl_memory.proofs.Imports.{others, PendingAccess, Writer, Trace, pending_accesses, written_as, AllWriteInside}
 use Rattle.tl_memory.proofs.Imports.{IsAsked, is_put, is_to, WritesInside, AreKnown, KnowsAccesses}
 use Rattle.std.proofs.Common.{◌≡◌, ℕ, zero, suc, Bool, true, false, not, ◌&&◌, ◌||◌, ◌+◌, ◌*◌, ◌/◌, ◌<◌, List, [], ◌∷◌}
@@ -7,6 +7,7 @@ use Rattle.std.proofs.Common.{◌++◌, length, refl, sym, ap, ◌∙◌, arith,
 use Rattle.std.proofs.lemmas.List.{take_more}
 use Rattle.std.specs.Prelude.{if◌then◌else◌, filter, is_some, nat_lt, None, Option, Some, ◌==◌}
 use Rattle.std.proofs.lemmas.Bool.{cases_Bool, eq-eqb, lt-ltb}
+use Rattle.tl_params.specs.declared.perm.Perm.{Perm}
 use Rattle.tl_bytes.specs.code.Tellings.{is_written, leaves, value_at, left_as}
 use Rattle.tl_bytes.specs.statement.Bytes.{could_be, pending_value, value_left, value_written, windows_since}
 use Rattle.tl_bytes.specs.statement.Known.{count_of, MayWrite, windowed}
@@ -122,20 +123,20 @@ first_of false false x y o p e f = f
 first_of v u x y o p e f = absurd cc
 
 -- what others write is what the accesses may write that are others
-others-write : {w : ℕ} (n link source block : ℕ) (seen t : Trace w) (pending : List (PendingAccess w))
-    (accesses : List (Access w)) → AreKnown pending n block accesses seen t
+others-write : {w : ℕ} (n link source block : ℕ) (admits : Perm → Bool) (seen : Trace w) (pending : List (PendingAccess w))
+    (accesses : List (Access w)) → AreKnown pending admits n block accesses seen
     → MayWrite (writes_but link source pending) block (filter (λ other. not (is_of link source other)) accesses)
 unfolding picked
-others-write n link source block seen t [] [] are place byte lt = refl
-others-write n link source block seen t (x ∷ pending) (y ∷ accesses) are place byte lt =
-    let more = others-write n link source block seen t pending accesses are.1 place byte lt in
+others-write n link source block admits seen [] [] are place byte lt = refl
+others-write n link source block admits seen (x ∷ pending) (y ∷ accesses) are place byte lt =
+    let more = others-write n link source block admits seen pending accesses are.1 place byte lt in
     let same = named link source x.writer y are.0.asked_is in
     elim (cases_Bool (is_of link source y)) [
       | inl own ↦ rw (same ∙ own, own) more
       | inr other ↦ rw (same ∙ other, other) (first_of (leaves place byte x.writer.write) _ x.writer.write y _ _
           (leaves-is block place byte x.writer y lt (are.0.write_is place lt)) more)
     ]
-others-write n link source block seen t v u are place byte lt = absurd are
+others-write n link source block admits seen v u are place byte lt = absurd are
 
 -- what is elsewhere writes nothing here
 pub apart : {w : ℕ} (block place : ℕ) (access : Access w) → place < 64 → WritesInside access
@@ -173,27 +174,18 @@ written-here block place byte keep (x ∷ accesses) lt inside =
       ]
     ]
 
-own-left : {w : ℕ} (access : Access w) (accesses : List (Access w))
-    → filter (λ other. not (is_of access.link access.request.source other)) (access ∷ accesses)
-    ≡ filter (λ other. not (is_of access.link access.request.source other)) accesses
-own-left access accesses =
-    rw (eq-eqb access.link access.link refl, eq-eqb access.request.source access.request.source refl) refl
-
--- what others may write than an access whose request is complete
-pub others-may-write : {w : ℕ} (n block : ℕ) (asked : Asked w) (access : Access w) (x : Link × Beat w) (t : Trace w)
-    (pending : List (PendingAccess w)) → IsAsked asked access → KnowsAccesses pending n block t t
-    → pending_accesses (x ∷ t) ≡ access ∷ pending_accesses t
-    → MayWrite (writes_but asked.link.0 asked.request.source pending) block (others access (x ∷ t))
-others-may-write n block asked access x t pending k known more place byte lt =
+-- what others may write than an access
+pub others-may-write : {w : ℕ} (n block : ℕ) (asked : Asked w) (access : Access w) (t : Trace w)
+    (pending : List (PendingAccess w)) {admits : Perm → Bool} → IsAsked asked access
+    → KnowsAccesses pending admits n block t t
+    → MayWrite (writes_but asked.link.0 asked.request.source pending) block (others access t)
+others-may-write n block asked access t pending {admits} k known place byte lt =
     ap (λ l. left_as place byte (writes_but l asked.request.source pending)) k.link_is
     ∙ ap (λ s. left_as place byte (writes_but access.link s pending)) k.source_is
-    ∙ others-write n access.link access.request.source block t t pending (filter (is_to block) (pending_accesses t))
+    ∙ others-write n access.link access.request.source block admits t pending (filter (is_to block) (pending_accesses t))
     known.accesses_are place byte lt
     ∙ written-here block place byte (λ other. not (is_of access.link access.request.source other)) (pending_accesses t)
     lt known.inside
-    ∙ ap (written_as (64 * block + place) byte) (sym (own-left access (pending_accesses t)))
-    ∙ ap (λ l. written_as (64 * block + place) byte
-    (filter (λ other. not (is_of access.link access.request.source other)) l)) (sym more)
 
 -- ---- what those may write that have had a window
 
@@ -202,24 +194,24 @@ some-is zero = refl
 some-is (suc zero) = refl
 some-is (suc (suc k)) = sym (lt-ltb 0 (suc (suc k)) (omega arith))
 
-windowed-write : {w : ℕ} (n block : ℕ) (t : Trace w) (pending : List (PendingAccess w)) (accesses : List (Access w))
-    → AreKnown pending n block accesses t t
+windowed-write : {w : ℕ} (n block : ℕ) (admits : Perm → Bool) (t : Trace w) (pending : List (PendingAccess w))
+    (accesses : List (Access w)) → AreKnown pending admits n block accesses t
     → MayWrite (writes_windowed pending) block (filter (λ x. nat_lt 0 (windows_since n block x.asked t)) accesses)
 unfolding picked
-windowed-write n block t [] [] are place byte lt = refl
-windowed-write n block t (x ∷ pending) (y ∷ accesses) are place byte lt =
-    let more = windowed-write n block t pending accesses are.1 place byte lt in
+windowed-write n block admits t [] [] are place byte lt = refl
+windowed-write n block admits t (x ∷ pending) (y ∷ accesses) are place byte lt =
+    let more = windowed-write n block admits t pending accesses are.1 place byte lt in
     let same = ap some_window are.0.windows_are.count_is ∙ some-is (windows_since n block y.asked t) in
     elim (cases_Bool (nat_lt 0 (windows_since n block y.asked t))) [
       | inl had ↦ rw (same ∙ had, had) (first_of (leaves place byte x.writer.write) _ x.writer.write y _ _
           (leaves-is block place byte x.writer y lt (are.0.write_is place lt)) more)
       | inr none ↦ rw (same ∙ none, none) more
     ]
-windowed-write n block t v u are place byte lt = absurd are
+windowed-write n block admits t v u are place byte lt = absurd are
 
 -- so that a Grant may bring it
-pub windowed-may-write : {w : ℕ} (n block : ℕ) (t : Trace w) (pending : List (PendingAccess w))
-    → KnowsAccesses pending n block t t → MayWrite (writes_windowed pending) block (windowed n block t)
-windowed-may-write n block t pending k place byte lt =
-    windowed-write n block t pending (filter (is_to block) (pending_accesses t)) k.accesses_are place byte lt
+pub windowed-may-write : {w : ℕ} (n block : ℕ) (admits : Perm → Bool) (t : Trace w) (pending : List (PendingAccess w))
+    → KnowsAccesses pending admits n block t t → MayWrite (writes_windowed pending) block (windowed n block t)
+windowed-may-write n block admits t pending k place byte lt =
+    windowed-write n block admits t pending (filter (is_to block) (pending_accesses t)) k.accesses_are place byte lt
     ∙ written-here block place byte (λ x. nat_lt 0 (windows_since n block x.asked t)) (pending_accesses t) lt k.inside

@@ -1,13 +1,12 @@
 //! The accesses to a block that are pending.
 
 ghost use Rattle.std.specs.Prelude.{◌++◌, ◌≡◌, List, find, OnOk, option_copied};
-ghost use Rattle.tl_memory.specs.code.Writers.{AreRenewed, AreWatched, is_named, nothing, staying};
-ghost use Rattle.tl_memory.specs.code.Writers.{told_by, written_by};
+ghost use Rattle.tl_memory.specs.code.Writers.{AreRenewed, AreWatched, found_by, is_named, staying};
 ghost use Rattle.tl_memory.specs.code.Writers as writers;
 ghost use Rattle.tl_memory.specs.declared.pending.PendingAccess.{PendingAccess};
 
+use crate::free::Freedom;
 use crate::pending::PendingAccess;
-use crate::writer::Writer;
 use std::alloc::{AllocError, Global};
 use tl_beat::beat::Link;
 use tl_bytes::block_bytes::BlockBytes;
@@ -38,46 +37,22 @@ fn stays<const W: usize>(access: &PendingAccess<W>, gone: Option<(Link, u8)>) ->
     }
 }
 
-/// Appends copies of those that stay.
-pub fn append_staying<const W: usize>(
+/// Appends copies of those that stay, which have what they may find now: their block is free for these, and has these bytes.
+pub fn append_renewed<const W: usize>(
     alloc: Global,
     copies: &mut Vec<PendingAccess<W>>,
     accesses: &[PendingAccess<W>],
     gone: Option<(Link, u8)>,
+    free: Freedom,
+    bytes: &BlockBytes,
 ) -> Result<(), AllocError>
     ensures { OnOk result ((more : List (PendingAccess W)) × (copies.new.items ≡ copies.old.items ++ more)
-        × AreRenewed nothing (staying gone accesses.now) more) }
+        × AreRenewed (found_by free bytes.now accesses.now) (staying gone accesses.now) more) }
 {
     for access in accesses {
         if stays(access, gone) {
-            copies.push(access.copy(alloc)?)?;
+            copies.push(access.renewed(alloc, free, bytes, accesses)?)?;
         }
-    }
-    Ok(())
-}
-
-/// Adds to what each may bring what is told of the block.
-pub fn tell<const W: usize>(
-    accesses: &mut Vec<PendingAccess<W>>,
-    bytes: &BlockBytes,
-) -> Result<(), AllocError>
-    ensures { OnOk result (AreRenewed (told_by bytes.now) accesses.old.items accesses.new.items) }
-{
-    for n in 0..accesses.len() {
-        accesses[n].tell(bytes)?;
-    }
-    Ok(())
-}
-
-/// Adds to what each may bring what another writes.
-pub fn write<const W: usize>(
-    accesses: &mut Vec<PendingAccess<W>>,
-    writer: &Writer<W>,
-) -> Result<(), AllocError>
-    ensures { OnOk result (AreRenewed (written_by writer.now) accesses.old.items accesses.new.items) }
-{
-    for n in 0..accesses.len() {
-        accesses[n].write(writer)?;
     }
     Ok(())
 }

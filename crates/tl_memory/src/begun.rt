@@ -1,14 +1,14 @@
 //! What a response may bring that begins.
 
-ghost use Rattle.std.specs.Prelude.{ℕ, ◌≡◌, ◌<◌, ◌^◌, IfOk, Some};
+ghost use Rattle.std.specs.Prelude.{ℕ, ◌≡◌, ◌<◌, ◌^◌, IfOk, Some, None};
 ghost use Rattle.tl_beat.specs.declared.channel.Channel.TheVariants as channel;
 ghost use Rattle.tl_burst.specs.statement.Messages.{unfinished};
 ghost use Rattle.tl_rules.specs.declared.past.Request.{Request};
 ghost use Rattle.tl_rules.specs.statement.Conformance.{Trace, on_link};
-ghost use Rattle.tl_memory.specs.code.Changing.{ExpectsBegun};
+ghost use Rattle.tl_memory.specs.code.Changing.{ExpectsAlong, ExpectsBegun};
 ghost use Rattle.tl_memory.specs.code.Elsewhere.{block_borne};
 ghost use Rattle.tl_memory.specs.code.Taking.{IsLegalBeat, IsResponse};
-ghost use Rattle.tl_memory.specs.statement.Expecting.{ExpectsResponse};
+ghost use Rattle.tl_memory.specs.statement.Expecting.{ExpectsLater, ExpectsResponse};
 ghost use Rattle.tl_memory.specs.statement.Known.{KnowsMessage, KnowsState};
 ghost use Rattle.tl_memory.specs.statement.Memory.{AreAddressed};
 
@@ -28,7 +28,7 @@ pub fn begun<const W: usize>(
     y: &BeatD<W>,
     block: u32,
 ) -> Result<Option<Expected>, AllocError>
-    ensures { IfOk result (λ expected. (n : ℕ) (asked : Request) (t : Trace W) → KnowsState state.now n block t t →
+    ensures { IfOk result (λ expected. (n : ℕ) (asked : Request) (t : Trace W) → KnowsState state.now n block t →
         IsResponse link.0 y.now asked t → asked.block ≡ block → block < 2 ^ 26 →
         ExpectsResponse expected n link.0 y.now.opcode y.now.source t t) }
 {
@@ -46,8 +46,29 @@ pub fn begun<const W: usize>(
     }
 }
 
-/// What the response may bring that begins with a beat which bears on this block, whose state this is, where one
-/// does: this is what the beats before it of its message brought.
+/// What the response may bring whose beat bears on this block, whose state this is, and doesn't begin it, where that is
+/// said anew: of the answer to a Get.
+pub fn along<const W: usize>(
+    alloc: Global,
+    state: &BlockState<W>,
+    link: Link,
+    y: &BeatD<W>,
+) -> Result<Option<Expected>, AllocError>
+    ensures { IfOk result (λ expected. (n block : ℕ) (asked : Request) (t : Trace W) → KnowsState state.now n block t →
+        IsResponse link.0 y.now asked t → asked.block ≡ block →
+        ExpectsLater expected n link.0 y.now.opcode y.now.source t) }
+{
+    match y.opcode {
+        OpD::AccessAckData => {
+            let read = state.read_again(alloc, link, y.source)?;
+            Ok(read)
+        }
+        _ => Ok(None),
+    }
+}
+
+/// What the response may bring whose beat bears on this block, whose state this is, where it begins with the beat, or that
+/// is said anew: this is what the beats before it of its message brought.
 pub fn begun_with<const W: usize>(
     alloc: Global,
     state: &BlockState<W>,
@@ -56,17 +77,17 @@ pub fn begun_with<const W: usize>(
     brought: &CarriedMessage,
     block: u32,
 ) -> Result<Option<Expected>, AllocError>
-    ensures { IfOk result (λ expected. (n : ℕ) (t : Trace W) → KnowsState state.now n block t t →
+    ensures { IfOk result (λ expected. (n : ℕ) (t : Trace W) → KnowsState state.now n block t →
         KnowsMessage brought.now (unfinished channel.D (on_link link.0 t)) → IsLegalBeat link.0 x.now t →
         block_borne x.now (on_link link.0 t) ≡ Some block → AreAddressed t →
-        ExpectsBegun expected n (link, x.now) t) }
+        ExpectsBegun expected n (link, x.now) t × ExpectsAlong expected n (link, x.now) t) }
 {
     match x {
         Beat::D(y) => {
             if brought.bytes.count() == 0 {
                 begun(alloc, state, link, y, block)
             } else {
-                Ok(None)
+                along(alloc, state, link, y)
             }
         }
         _ => Ok(None),

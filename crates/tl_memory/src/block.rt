@@ -10,37 +10,38 @@ ghost use Rattle.tl_beat.specs.declared.beat.Link.{Link};
 ghost use Rattle.tl_beat.specs.declared.channel.Channel.TheVariants as channel;
 ghost use Rattle.tl_beat.specs.statement.Width.{IsWidth};
 ghost use Rattle.tl_burst.specs.statement.Messages.{unfinished};
-ghost use Rattle.tl_params.specs.declared.perm.Perm.TheVariants as perm;
 ghost use Rattle.tl_rules.specs.statement.Conformance.{Trace, on_link};
 ghost use Rattle.tl_rules.specs.statement.History.{block_at};
-ghost use Rattle.tl_bytes.specs.statement.Free.{is_free};
 ghost use Rattle.tl_bytes.specs.statement.Bytes.{Access, ends_request, is_access, is_of, pending_accesses, tells};
 ghost use Rattle.tl_bytes.specs.statement.Known.{AreCarried, KnowsBlock, KnowsGrant};
-ghost use Rattle.tl_memory.specs.code.Writers.{AreRenewed, keeps, nothing, staying};
+ghost use Rattle.tl_memory.specs.code.Elsewhere.{IsElsewhere};
+ghost use Rattle.tl_memory.specs.code.Writers.{AreRenewed, found_by, keeps, staying};
 ghost use Rattle.tl_bytes.specs.statement.Known.{tellings_of};
 ghost use Rattle.tl_bytes.specs.statement.Lines.{told_moment};
 
 use crate::access::Asked;
-use crate::accesses::{append_staying, find, tell, watch, write};
+use crate::accesses::{append_renewed, find, watch};
 use crate::expected::Expected;
+use crate::free::Freedom;
 use crate::granted::granted;
 use crate::message::CarriedMessage;
 use crate::pending::PendingAccess;
 use crate::writer::{Writer, pending_write, written};
 use std::alloc::{AllocError, Global};
 use tl_beat::beat::{Beat, BeatD, Link};
+use tl_beat::opcode::OpA;
 use tl_bytes::block_bytes::BlockBytes;
 use tl_bytes::read_bytes::ReadBytes;
 use tl_bytes::windows::WritingWindows;
 
-/// What is kept of a block: what its bytes may be, the accesses to it that are pending, the last first,
-/// and whether it is free for writing.
+/// What is kept of a block: what its bytes may be, the accesses to it that are pending, the last first, and for whom it is
+/// free. What an access may find is kept before that changes.
 #[derive(Drop)]
 pub struct BlockState<const W: usize> {
     bytes: BlockBytes,
     accesses: Vec<PendingAccess<W>>,
-    free: bool,
-    /// The last moment at which it was free, where it isn't.
+    free: Freedom,
+    /// The last moment at which it was free for writing, where it isn't.
     last_free: u64,
 }
 
@@ -65,16 +66,22 @@ fn last_free(was: bool, free: bool, last: u64, moment: u64) -> u64
 impl<const W: usize> BlockState<W> {
     ghost use Rattle.tl_memory.specs.code.Taking.{IsNext, put_next, with_next};
     ghost use Rattle.tl_memory.specs.statement.Known.{AnyIsTo, Expects, HasRoom, IsAsked, IsLawful, KnowsMessage};
-    ghost use Rattle.tl_memory.specs.statement.Known.{KnowsState, WritesInside};
+    ghost use Rattle.tl_memory.specs.statement.Expecting.{ExpectsAgain};
+    ghost use Rattle.tl_memory.specs.statement.Known.{AllWriteInside, KnowsState, KnowsUnseen, WritesInside, freedom};
+    ghost use Rattle.tl_memory.specs.statement.Known.{is_to};
 
     /// A block of which nothing was told, and to which no access is pending: it is free.
     pub fn new(alloc: Global) -> Self
-        ensures { (n block : ℕ) → KnowsState result n block [] [] }
+        ensures { (n block : ℕ) → KnowsState result n block [] }
     {
         BlockState {
             bytes: BlockBytes::new(alloc),
             accesses: Vec::new(alloc),
-            free: true,
+            free: Freedom {
+                reading: true,
+                writing: true,
+                shown: false,
+            },
             last_free: 0,
         }
     }
@@ -88,43 +95,74 @@ impl<const W: usize> BlockState<W> {
 
     /// What may be granted of it.
     pub fn granted(&self, alloc: Global) -> Result<ReadBytes, AllocError>
-        ensures { IfOk result (λ read. (n block : ℕ) (t : Trace W) → KnowsState self.now n block t t →
+        ensures { IfOk result (λ read. (n block : ℕ) (t : Trace W) → KnowsState self.now n block t →
             KnowsGrant read n block t) }
     {
         granted(alloc, &self.bytes, self.accesses.as_slice())
     }
 
-    /// What the answer may bring to the access that is pending with this source on a link.
+    /// What the answer may bring now to the access that is pending with this source on a link.
     pub fn read(
         &self,
         alloc: Global,
         link: Link,
         source: u8,
     ) -> Result<Option<Expected>, AllocError>
-        ensures { IfOk result (λ expected. (n block : ℕ) (t : Trace W) → KnowsState self.now n block t t →
+        ensures { IfOk result (λ expected. (n block : ℕ) (t : Trace W) → KnowsState self.now n block t →
             AnyIsTo block (find (is_of link.0 source) (pending_accesses t)) →
             Expects expected n block (find (is_of link.0 source) (pending_accesses t)) t) }
+    {
+        let accesses = self.accesses.as_slice();
+        let Some(access) = find(accesses, link, source) else {
+            return Ok(None);
+        };
+        let renewed = access.renewed(alloc, self.free, &self.bytes, accesses)?;
+        Ok(Some(Expected {
+            address: renewed.writer.asked.request.address,
+            size: renewed.writer.asked.request.size,
+            bytes: renewed.read,
+        }))
+    }
+
+    /// The same where the access is a Get.
+    pub fn read_again(
+        &self,
+        alloc: Global,
+        link: Link,
+        source: u8,
+    ) -> Result<Option<Expected>, AllocError>
+        ensures { IfOk result (λ expected. (n block : ℕ) (t : Trace W) → KnowsState self.now n block t →
+            AnyIsTo block (find (is_of link.0 source) (pending_accesses t)) →
+            ExpectsAgain expected n (find (is_of link.0 source) (pending_accesses t)) t) }
     {
         let Some(access) = find(self.accesses.as_slice(), link, source) else {
             return Ok(None);
         };
-        Ok(Some(Expected {
-            address: access.writer.asked.request.address,
-            size: access.writer.asked.request.size,
-            bytes: access.read.copy(alloc)?,
-        }))
+        if access.writer.asked.request.opcode != OpA::Get {
+            return Ok(None);
+        }
+        self.read(alloc, link, source)
     }
 
-    /// Copies of the accesses to it that stay, where the one with this source on a link is gone, if one is.
-    fn accesses_staying(
+    /// Copies of the accesses to it that stay, which have what they may find now, where the one with this source on a link
+    /// is gone, if one is.
+    fn renewed(
         &self,
         alloc: Global,
         gone: Option<(Link, u8)>,
     ) -> Result<Vec<PendingAccess<W>>, AllocError>
-        ensures { IfOk result (λ copies. AreRenewed nothing (staying gone self.now.accesses.items) copies.items) }
+        ensures { IfOk result (λ copies. AreRenewed (found_by self.now.free self.now.bytes self.now.accesses.items)
+            (staying gone self.now.accesses.items) copies.items) }
     {
         let mut copies = Vec::new(alloc);
-        append_staying(alloc, &mut copies, self.accesses.as_slice(), gone)?;
+        append_renewed(
+            alloc,
+            &mut copies,
+            self.accesses.as_slice(),
+            gone,
+            self.free,
+            &self.bytes,
+        )?;
         Ok(copies)
     }
 
@@ -137,24 +175,23 @@ impl<const W: usize> BlockState<W> {
         gone: Option<(Link, u8)>,
     ) -> Result<NextState<W>, AllocError>
         ensures { IfOk result (λ next. (n block : ℕ) (x : Link × Beat W) (t : Trace W) →
-            KnowsState self.now n block t t → KnowsBlock (unwrap_or bytes self.now.bytes) n block (x ∷ t) →
-            pending_accesses (x ∷ t) ≡ filter (keeps gone) (pending_accesses t) →
-            KnowsState (with_next self.now next) n block t (x ∷ t)) }
+            KnowsState self.now n block t → KnowsBlock (unwrap_or bytes self.now.bytes) n block (x ∷ t) →
+            filter (is_to block) (pending_accesses (x ∷ t))
+            ≡ filter (keeps gone) (filter (is_to block) (pending_accesses t)) →
+            AllWriteInside (pending_accesses (x ∷ t)) →
+            KnowsUnseen (with_next self.now next) n block x t) }
     {
-        let mut accesses = self.accesses_staying(alloc, gone)?;
-        match bytes {
-            None => Ok(NextState {
-                bytes: None,
-                accesses,
-            }),
-            Some(bytes) => {
-                tell(&mut accesses, &bytes)?;
-                Ok(NextState {
-                    bytes: Some(bytes),
-                    accesses,
-                })
-            }
-        }
+        let accesses = self.renewed(alloc, gone)?;
+        Ok(NextState { bytes, accesses })
+    }
+
+    /// What a beat makes of it that changes at most for whom it is free.
+    pub fn passed(&self, alloc: Global) -> Result<NextState<W>, AllocError>
+        ensures { IfOk result (λ next. (n block : ℕ) (x : Link × Beat W) (t : Trace W) →
+            KnowsState self.now n block t → IsElsewhere block x t →
+            KnowsUnseen (with_next self.now next) n block x t) }
+    {
+        self.with_bytes(alloc, None, None)
     }
 
     /// What a beat makes of it, after so many, that tells what its bytes are.
@@ -165,9 +202,9 @@ impl<const W: usize> BlockState<W> {
         moment: u64,
     ) -> Result<NextState<W>, AllocError>
         ensures { IfOk result (λ next. (n block : ℕ) (x : Link × Beat W) (t : Trace W) →
-            KnowsState self.now n block t t → tells block x.1 (on_link x.0.0 t) ≡ true →
+            KnowsState self.now n block t → tells block x.1 (on_link x.0.0 t) ≡ true →
             pending_accesses (x ∷ t) ≡ pending_accesses t → moment ≡ length t → AreCarried values.now x t →
-            KnowsState (with_next self.now next) n block t (x ∷ t)) }
+            KnowsUnseen (with_next self.now next) n block x t) }
     {
         let bytes = BlockBytes::told(alloc, values, moment)?;
         self.with_bytes(alloc, Some(bytes), None)
@@ -185,7 +222,7 @@ impl<const W: usize> BlockState<W> {
     ) -> Result<Option<BlockBytes>, AllocError>
         requires { IsWidth W }
         ensures { IfOk result (λ bytes. (n block : ℕ) (t : Trace W) →
-            KnowsState self.now n block t t → tells block (beat.D y.now) (on_link link.0 t) ≡ false →
+            KnowsState self.now n block t → tells block (beat.D y.now) (on_link link.0 t) ≡ false →
             ends_request y.now (on_link link.0 t) ≡ true →
             AnyIsTo block (find (is_of link.0 y.now.source) (pending_accesses t)) →
             KnowsMessage brought.now (unfinished channel.D (on_link link.0 t)) →
@@ -216,48 +253,47 @@ impl<const W: usize> BlockState<W> {
     ) -> Result<NextState<W>, AllocError>
         requires { IsWidth W }
         ensures { IfOk result (λ next. (n block : ℕ) (t : Trace W) →
-            KnowsState self.now n block t t → tells block (beat.D y.now) (on_link link.0 t) ≡ false →
+            KnowsState self.now n block t → tells block (beat.D y.now) (on_link link.0 t) ≡ false →
             ends_request y.now (on_link link.0 t) ≡ true →
             AnyIsTo block (find (is_of link.0 y.now.source) (pending_accesses t)) →
             KnowsMessage brought.now (unfinished channel.D (on_link link.0 t)) →
             HasRoom (beat.D y.now) (unfinished channel.D (on_link link.0 t)) → moment ≡ length t →
-            KnowsState (with_next self.now next) n block t ((link, beat.D y.now) ∷ t)) }
+            KnowsUnseen (with_next self.now next) n block (link, beat.D y.now) t) }
     {
         let bytes = self.bytes_answered(alloc, link, y, brought, moment)?;
         self.with_bytes(alloc, bytes, Some((link, y.source)))
     }
 
-    /// Sees whether it is free for writing with a beat, at this moment.
-    pub fn watch(&mut self, free: bool, moment: u64)
-        ensures { (n block : ℕ) (x : Link × Beat W) (t : Trace W) → KnowsState self.old n block t (x ∷ t) →
-            free ≡ is_free n perm.Trunk block (x ∷ t) → moment ≡ suc (length t) →
-            KnowsState self.new n block (x ∷ t) (x ∷ t) }
+    /// Sees for whom it is free with a beat, at this moment.
+    pub fn watch(&mut self, free: Freedom, moment: u64)
+        ensures { (n block : ℕ) (x : Link × Beat W) (t : Trace W) → KnowsUnseen self.old n block x t →
+            free ≡ freedom n block x t → moment ≡ suc (length t) →
+            KnowsState self.new n block (x ∷ t) }
     {
-        self.last_free = last_free(self.free, free, self.last_free, moment);
+        self.last_free = last_free(self.free.writing, free.writing, self.last_free, moment);
         self.free = free;
-        watch(&mut self.accesses, free, moment);
+        watch(&mut self.accesses, free.writing, moment);
     }
 
     /// What a beat makes of it that completes the request of an access to it.
     pub fn asked(&self, alloc: Global, asked: Asked<W>) -> Result<NextState<W>, AllocError>
         requires { IsWidth W }
         ensures { IfOk result (λ next. (n block : ℕ) (link : Link) (y : BeatA W) (access : Access W) (t : Trace W) →
-            is_access y.opcode ≡ true → KnowsState self.now n block t t →
+            is_access y.opcode ≡ true → KnowsState self.now n block t →
             pending_accesses ((link, beat.A y) ∷ t) ≡ access ∷ pending_accesses t →
             IsAsked asked.entry access → IsLawful access → WritesInside access →
             block_at access.request.address ≡ block → access.asked ≡ suc (length t) →
-            KnowsState (with_next self.now next) n block ((link, beat.A y) ∷ t) ((link, beat.A y) ∷ t)) }
+            KnowsState (with_next self.now next) n block ((link, beat.A y) ∷ t)) }
     {
         let writer = Writer {
             asked,
             write: pending_write(&asked),
         };
-        let windows = WritingWindows::new(self.free, asked.moment, self.last_free);
+        let windows = WritingWindows::new(self.free.writing, asked.moment, self.last_free);
         let before = self.accesses.as_slice();
         let mut accesses = Vec::with_capacity(alloc, before.len().saturating_add(1))?;
-        accesses.push(PendingAccess::new(alloc, &writer, windows, &self.bytes, before)?)?;
-        append_staying(alloc, &mut accesses, before, None)?;
-        write(&mut accesses, &writer)?;
+        accesses.push(PendingAccess::new(alloc, &writer, windows))?;
+        append_renewed(alloc, &mut accesses, before, None, self.free, &self.bytes)?;
         Ok(NextState {
             bytes: None,
             accesses,
@@ -283,15 +319,16 @@ impl<const W: usize> BlockState<W> {
         if let Some(NextState { bytes, accesses }) = next {
             self.put_bytes(bytes);
             self.accesses = accesses;
+            self.free.shown = false;
         }
     }
 
-    /// Takes a beat, at this moment, that makes this of it, or leaves it as it was. Whether the block is free for
-    /// writing with the beat is told beside it, where that isn't in the state.
-    pub fn take(&mut self, next: Option<NextState<W>>, free: Option<bool>, moment: u64)
-        ensures { (n block : ℕ) (x : Link × Beat W) (t : Trace W) → KnowsState self.old n block t t →
+    /// Takes a beat, at this moment, that makes this of it, or leaves it as it was. For whom the block is free with the
+    /// beat is told beside it, where the beat may change that.
+    pub fn take(&mut self, next: Option<NextState<W>>, free: Option<Freedom>, moment: u64)
+        ensures { (n block : ℕ) (x : Link × Beat W) (t : Trace W) → KnowsState self.old n block t →
             moment ≡ suc (length t) → IsNext next.entry free self.old n block x t →
-            KnowsState self.new n block (x ∷ t) (x ∷ t) }
+            KnowsState self.new n block (x ∷ t) }
     {
         self.put(next);
         if let Some(free) = free {

@@ -8,6 +8,7 @@ ghost use Rattle.tl_rules.specs.statement.Conformance.{Trace};
 ghost use Rattle.tl_memory.specs.declared.block.BlockState.{BlockState};
 
 use crate::block::{BlockState, NextState};
+use crate::free::Freedom;
 use std::alloc::{AllocError, Global};
 use std::collections::BTreeMap;
 
@@ -92,12 +93,12 @@ impl<const W: usize> Blocks<W> {
     }
 
     /// Takes a beat, at this moment, that bears on the block at this place alone: it makes this of the state, or leaves
-    /// it, and the block is free for writing or isn't, where that isn't in the state.
+    /// it, and for whom the block is free is told beside it, where the beat may change that.
     pub fn take(
         &mut self,
         place: usize,
         next: Option<NextState<W>>,
-        free: Option<bool>,
+        free: Option<Freedom>,
         moment: u64,
     )
         ensures { (n block : ℕ) (x : Link × Beat W) (t : Trace W) → KnowsBlocks self.old n t →

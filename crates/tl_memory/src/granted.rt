@@ -1,6 +1,7 @@
 //! What may be granted of a block.
 
-ghost use Rattle.std.specs.Prelude.{ℕ, ◌≡◌, IfOk};
+ghost use Rattle.std.specs.Prelude.{ℕ, Bool, ◌≡◌, IfOk};
+ghost use Rattle.tl_params.specs.declared.perm.Perm.{Perm};
 ghost use Rattle.tl_rules.specs.statement.Conformance.{Trace};
 ghost use Rattle.tl_bytes.specs.statement.Known.{KnowsBlock, KnowsGrant};
 ghost use Rattle.tl_memory.specs.code.Writers.{some_window, writes_windowed};
@@ -46,8 +47,8 @@ pub fn granted<const W: usize>(
     bytes: &BlockBytes,
     accesses: &[PendingAccess<W>],
 ) -> Result<ReadBytes, AllocError>
-    ensures { IfOk result (λ read. (n block : ℕ) (t : Trace W) → KnowsBlock bytes.now n block t →
-        KnowsAccesses accesses.now n block t t → KnowsGrant read n block t) }
+    ensures { IfOk result (λ read. (n block : ℕ) (admits : Perm → Bool) (t : Trace W) → KnowsBlock bytes.now n block t →
+        KnowsAccesses accesses.now admits n block t t → KnowsGrant read n block t) }
 {
     let writes = writes_in_windows(alloc, accesses)?;
     let read = ReadBytes::granted(alloc, bytes, writes.as_slice())?;

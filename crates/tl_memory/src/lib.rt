@@ -7,6 +7,7 @@ pub mod begun;
 pub mod block;
 pub mod blocks;
 pub mod expected;
+pub mod free;
 pub mod granted;
 pub mod link;
 pub mod links;

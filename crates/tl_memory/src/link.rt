@@ -1,6 +1,6 @@
 //! What is kept of a link.
 
-ghost use Rattle.std.specs.Prelude.{ℕ, true, [], ◌∷◌, ◌≡◌, List, None, length, option_copied};
+ghost use Rattle.std.specs.Prelude.{ℕ, true, false, [], ◌∷◌, ◌≡◌, List, None, length, option_copied};
 ghost use Rattle.tl_beat.specs.declared.beat.Beat.{Beat};
 ghost use Rattle.tl_beat.specs.declared.beat.Beat.TheVariants as beat;
 ghost use Rattle.tl_beat.specs.declared.beat.BeatD.{BeatD};
@@ -14,7 +14,6 @@ ghost use Rattle.tl_rules.specs.statement.Liberties.{broken_after_under, is_lega
 ghost use Rattle.tl_bytes.specs.statement.Free.{all_but_early};
 ghost use Rattle.tl_rules.specs.statement.History.{begins};
 ghost use Rattle.tl_bytes.specs.statement.Bytes as bytes;
-ghost use Rattle.tl_bytes.specs.statement.Bytes.{before_last};
 ghost use Rattle.tl_memory.specs.code.Allowed as allowed;
 
 use crate::expected::Expected;
@@ -75,9 +74,9 @@ fn is_judged(opcode: OpD) -> bool
 }
 
 /// Whether a beat of a response, before which so many came, has bytes that it may bring.
-fn is_allowed<const W: usize>(expected: &Option<Expected>, beats: usize, x: &BeatD<W>) -> bool
+fn is_allowed<const W: usize>(expected: Option<&Expected>, beats: usize, x: &BeatD<W>) -> bool
     requires { IsWidth W }
-    ensures { allowed.IsAllowed expected.now beats x.now result }
+    ensures { allowed.IsAllowed (option_copied expected.entry) beats x.now result }
 {
     match expected {
         None => true,
@@ -94,7 +93,7 @@ pub struct LinkState {
 }
 
 impl LinkState {
-    ghost use Rattle.tl_memory.specs.statement.Expecting.{ExpectsResponse};
+    ghost use Rattle.tl_memory.specs.statement.Expecting.{ExpectsBeat, ExpectsLater, ExpectsResponse};
     ghost use Rattle.tl_memory.specs.statement.Links.{AreLegal, IsLegal, KnowsLink};
 
     /// No message on any channel.
@@ -107,13 +106,37 @@ impl LinkState {
         }
     }
 
-    /// Whether a response's beat has true bytes, where this is what the response may bring if it begins with it.
-    pub fn is_true<const W: usize>(&self, begun: &Option<Expected>, x: &BeatD<W>) -> bool
+    /// What the response may bring with its next beat, where this is what it may if it begins with that, or what is said
+    /// anew.
+    pub fn expected<'a>(&'a self, now: &'a Option<Expected>) -> Option<&'a Expected>
+        ensures { (w n : ℕ) (levels : List Level) (link : Link) (x : BeatD w) (t : Trace w) →
+            KnowsLink self.now n link.0 t → AreLegal levels t → IsLegal levels (link, beat.D x) t →
+            (begins (beat.D x) (on_link link.0 t) ≡ true →
+            ExpectsResponse now.now n link.0 x.opcode x.source t t) →
+            (begins (beat.D x) (on_link link.0 t) ≡ false → ExpectsLater now.now n link.0 x.opcode x.source t) →
+            ExpectsBeat (option_copied result) n link.0 x.opcode x.source
+            (length (unfinished channel.D (on_link link.0 t))) t }
+    {
+        let beats = self.messages.d.bytes.count();
+        if beats == 0 {
+            return now.as_ref();
+        }
+        match now {
+            Some(known) => Some(known),
+            None => self.expected.as_ref(),
+        }
+    }
+
+    /// Whether a response's beat has true bytes, where this is what the response may bring if it begins with it, or what is
+    /// said anew.
+    pub fn is_true<const W: usize>(&self, now: &Option<Expected>, x: &BeatD<W>) -> bool
         requires { IsWidth W }
         ensures { (levels : List Level) (n : ℕ) (link : Link) (t : Trace W) →
             KnowsLink self.now n link.0 t → AreLegal levels t → IsLegal levels (link, beat.D x.now) t →
             (begins (beat.D x.now) (on_link link.0 t) ≡ true →
-            ExpectsResponse begun.now n link.0 x.now.opcode x.now.source t t) →
+            ExpectsResponse now.now n link.0 x.now.opcode x.now.source t t) →
+            (begins (beat.D x.now) (on_link link.0 t) ≡ false →
+            ExpectsLater now.now n link.0 x.now.opcode x.now.source t) →
             result ≡ bytes.is_true x.now.opcode n link.0 x.now t }
     {
         if x.corrupt || x.denied {
@@ -122,11 +145,7 @@ impl LinkState {
         if !is_judged(x.opcode) {
             return true;
         }
-        let beats = self.messages.d.bytes.count();
-        if beats == 0 {
-            return is_allowed(begun, beats, x);
-        }
-        is_allowed(&self.expected, beats, x)
+        is_allowed(self.expected(now), self.messages.d.bytes.count(), x)
     }
 
     /// Takes a beat, where this is what the response may bring that begins with it.
@@ -147,23 +166,6 @@ impl LinkState {
                 }
             }
             _ => {}
-        }
-    }
-
-    /// What the response may bring whose beat is next, where this is what it may if it begins with that.
-    pub fn expected<'a>(&'a self, begun: &'a Option<Expected>) -> Option<&'a Expected>
-        ensures { (w n : ℕ) (levels : List Level) (link : Link) (x : BeatD w) (t : Trace w) →
-            KnowsLink self.now n link.0 t → AreLegal levels t → IsLegal levels (link, beat.D x) t →
-            (begins (beat.D x) (on_link link.0 t) ≡ true →
-            ExpectsResponse begun.now n link.0 x.opcode x.source t t) →
-            ExpectsResponse (option_copied result) n link.0 x.opcode x.source t
-            (before_last link.0 (length (unfinished channel.D (on_link link.0 t))) t) }
-    {
-        let beats = self.messages.d.bytes.count();
-        if beats == 0 {
-            begun.as_ref()
-        } else {
-            self.expected.as_ref()
         }
     }
 }

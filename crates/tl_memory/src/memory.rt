@@ -10,11 +10,8 @@ ghost use Rattle.tl_beat.specs.statement.Width.{IsWidth};
 ghost use Rattle.tl_burst.specs.statement.Messages.{History, unfinished};
 ghost use Rattle.tl_burst.specs.statement.Part;
 ghost use Rattle.tl_params.specs.declared.level.Level.{Level};
-ghost use Rattle.tl_params.specs.declared.perm.Perm.TheVariants as perm;
 ghost use Rattle.tl_rules.specs.statement.Conformance.{Trace, on_link};
-ghost use Rattle.tl_bytes.specs.statement.Free.{is_free};
 ghost use Rattle.tl_bytes.specs.statement.Bytes as bytes;
-ghost use Rattle.tl_bytes.specs.statement.Bytes.{before_last};
 ghost use Rattle.tl_bytes.specs.statement.Lines.{told_moment};
 ghost use Rattle.tl_memory.specs.code.Elsewhere as elsewhere;
 ghost use Rattle.tl_memory.specs.code.Lines.{told_by};
@@ -24,6 +21,7 @@ use crate::begun::begun_with;
 use crate::block::NextState;
 use crate::blocks::Blocks;
 use crate::expected::Expected;
+use crate::free::Freedom;
 use crate::links::Links;
 use crate::message::is_small;
 use crate::next::after_beat;
@@ -83,7 +81,7 @@ pub struct Change<const W: usize> {
     place: usize,
     /// What it makes of the state of that block, where more of that changes than how free it is.
     next: Option<NextState<W>>,
-    /// What the response may bring that begins with it.
+    /// What the response may bring that begins with it, or what is said anew of the one whose beat it is.
     expected: Option<Expected>,
 }
 
@@ -115,7 +113,8 @@ pub struct Memory<const W: usize> {
 impl<const W: usize> Memory<W> {
     ghost use Rattle.tl_memory.specs.code.Changing.{IsChange};
     ghost use Rattle.tl_memory.specs.statement.Blocks.{place_in, state_in};
-    ghost use Rattle.tl_memory.specs.statement.Expecting.{ExpectsResponse};
+    ghost use Rattle.tl_memory.specs.statement.Expecting.{ExpectsBeat};
+    ghost use Rattle.tl_memory.specs.statement.Known.{freedom};
     ghost use Rattle.tl_memory.specs.statement.Links.{AreLegal, IsLegal};
     ghost use Rattle.tl_memory.specs.statement.Memory.{KnowsMemory};
 
@@ -211,22 +210,21 @@ impl<const W: usize> Memory<W> {
         }
     }
 
-    /// Takes a beat, at this moment, where this is what the beat changes. Whether the block of which its link may hold
-    /// more or less is free for writing with it is told beside that.
+    /// Takes a beat, at this moment, where this is what the beat changes. For whom the block is free with it of which its
+    /// link may hold more or less is told beside that.
     pub fn take(
         &mut self,
         change: Change<W>,
         link: Link,
         x: &Beat<W>,
-        free: Option<bool>,
+        free: Option<Freedom>,
         moment: u64,
     )
         requires { IsWidth W }
         ensures { (levels : List Level) (t : Trace W) → KnowsMemory self.old (length levels) t →
             AreLegal levels t → IsLegal levels (link, x.now) t → moment ≡ suc (length t) →
             IsChange change.entry self.old (length levels) (link, x.now) t →
-            free ≡ option_map (λ block. is_free (length levels) perm.Trunk block ((link, x.now) ∷ t))
-            change.entry.held →
+            free ≡ option_map (λ block. freedom (length levels) block (link, x.now) t) change.entry.held →
             KnowsMemory self.new (length levels) ((link, x.now) ∷ t) }
     {
         prove_typed(x);
@@ -242,8 +240,8 @@ impl<const W: usize> Memory<W> {
             KnowsMemory self.now (length levels) t → AreLegal levels t →
             IsLegal levels (link, beat.D x) t →
             IsChange change.now self.now (length levels) (link, beat.D x) t →
-            ExpectsResponse (option_copied result) (length levels) link.0 x.opcode x.source t
-            (before_last link.0 (length (unfinished channel.D (on_link link.0 t))) t) }
+            ExpectsBeat (option_copied result) (length levels) link.0 x.opcode x.source
+            (length (unfinished channel.D (on_link link.0 t))) t }
     {
         match self.links.get(link) {
             None => None,

@@ -5,17 +5,16 @@ ghost use Rattle.tl_beat.specs.declared.beat.Beat.{Beat};
 ghost use Rattle.tl_beat.specs.declared.beat.Beat.TheVariants as beat;
 ghost use Rattle.tl_beat.specs.declared.beat.Link.{Link};
 ghost use Rattle.tl_beat.specs.declared.channel.Channel.TheVariants as channel;
-ghost use Rattle.tl_beat.specs.statement.Opcode.{c_carries_data};
 ghost use Rattle.tl_beat.specs.statement.Width.{IsWidth};
 ghost use Rattle.tl_burst.specs.statement.Messages.{History, unfinished};
 ghost use Rattle.tl_burst.specs.statement.Part;
-ghost use Rattle.tl_params.specs.declared.perm.Perm.TheVariants as perm;
 ghost use Rattle.tl_rules.specs.statement.Conformance.{Trace, on_link};
 ghost use Rattle.tl_rules.specs.statement.History.{block_at, ends};
-ghost use Rattle.tl_bytes.specs.statement.Free.{is_free};
+ghost use Rattle.tl_memory.specs.declared.free.Freedom.{Freedom};
 ghost use Rattle.tl_bytes.specs.statement.Bytes as bytes;
 ghost use Rattle.tl_memory.specs.code.Elsewhere.{block_borne};
-ghost use Rattle.tl_memory.specs.code.Taking.{IsLegalBeat, IsNext, IsNextAsked, IsRequested, IsResponse, IsSeen};
+ghost use Rattle.tl_memory.specs.code.Taking.{IsLegalBeat, IsNext, IsNextAsked, IsNextUnseen, IsRequested, IsResponse};
+ghost use Rattle.tl_memory.specs.code.Taking.{IsSeen};
 ghost use Rattle.tl_memory.specs.code.Taking.{request_answered};
 ghost use Rattle.tl_memory.specs.code.Taking as taking;
 ghost use Rattle.tl_memory.specs.statement.Known.{HasRoom, KnowsMessage, KnowsState};
@@ -25,6 +24,7 @@ use crate::access::{Asked, is_access};
 use crate::block::{BlockState, NextState};
 use crate::link::LinkMessages;
 use crate::message::CarriedMessage;
+use crate::passing::acquires_from_none;
 use std::alloc::{AllocError, Global};
 use tl_beat::beat::{Beat, BeatA, BeatC, BeatD, Link};
 use tl_beat::opcode::{OpA, OpD};
@@ -61,7 +61,7 @@ pub fn after_request<const W: usize>(
 ) -> Result<Option<NextState<W>>, AllocError>
     requires width { IsWidth W }
     requires small { y.now.size ≤ 6 }
-    ensures { IfOk result (λ next. (n block : ℕ) (t : Trace W) → KnowsState state.now n block t t →
+    ensures { IfOk result (λ next. (n block : ℕ) (t : Trace W) → KnowsState state.now n block t →
         KnowsMessage brought.now (unfinished channel.A (on_link link.0 t)) → IsRequested link.0 y.now t →
         block_at y.now.address ≡ block → moment ≡ suc (length t) →
         IsNextAsked next state.now n block (link, beat.A y.now) t) }
@@ -73,18 +73,7 @@ pub fn after_request<const W: usize>(
     Ok(Some(state.asked(alloc, asked)?))
 }
 
-/// Whether data are complete with a beat of channel C.
-fn completes_data<const W: usize>(y: &BeatC<W>, brought: &CarriedMessage) -> bool
-    requires width { IsWidth W }
-    requires small { y.now.size ≤ 6 }
-    ensures { (t : History W) → KnowsMessage brought.now (unfinished channel.C t) →
-        HasRoom (beat.C y.now) (unfinished channel.C t) →
-        result ≡ (c_carries_data y.now.opcode && ends (beat.C y.now) t) }
-{
-    both(y.opcode.carries_data(), brought.completes(&Beat::C(*y)))
-}
-
-/// What a beat of channel C makes of the state, before which so many were taken, where data are complete with it.
+/// What a beat of channel C makes of the state, before which so many were taken, where a report is complete with it.
 pub fn after_report<const W: usize>(
     alloc: Global,
     state: &BlockState<W>,
@@ -94,18 +83,21 @@ pub fn after_report<const W: usize>(
 ) -> Result<Option<NextState<W>>, AllocError>
     requires width { IsWidth W }
     requires small { y.now.size ≤ 6 }
-    ensures { IfOk result (λ next. (n block : ℕ) (link : Link) (free : Bool) (t : Trace W) →
-        KnowsState state.now n block t t →
+    ensures { IfOk result (λ next. (n block : ℕ) (link : Link) (t : Trace W) →
+        KnowsState state.now n block t →
         KnowsMessage brought.now (unfinished channel.C (on_link link.0 t)) →
         HasRoom (beat.C y.now) (unfinished channel.C (on_link link.0 t)) →
         block_at y.now.address ≡ block → moment ≡ length t →
-        free ≡ is_free n perm.Trunk block ((link, beat.C y.now) ∷ t) →
-        IsNext next (Some free) state.now n block (link, beat.C y.now) t) }
+        IsNextUnseen next state.now n block (link, beat.C y.now) t) }
 {
-    if !completes_data(y, brought) {
+    let beat = Beat::C(*y);
+    if !brought.completes(&beat) {
         return Ok(None);
     }
-    let all = brought.with(&Beat::C(*y));
+    if !y.opcode.carries_data() {
+        return Ok(Some(state.passed(alloc)?));
+    }
+    let all = brought.with(&beat);
     Ok(Some(state.told(alloc, all.bytes.bytes(), moment)?))
 }
 
@@ -127,8 +119,7 @@ fn tells<const W: usize>(y: &BeatD<W>, asked: OpA) -> bool
     both(!y.denied, tells_block(y.opcode, asked))
 }
 
-/// What a beat of channel D makes of the state, before which so many were taken, where an answer to an access is
-/// complete with it, or a Grant that tells what the block has.
+/// What a beat of channel D makes of the state, before which so many were taken, where a response is complete with it.
 pub fn after_response<const W: usize>(
     alloc: Global,
     state: &BlockState<W>,
@@ -140,12 +131,11 @@ pub fn after_response<const W: usize>(
 ) -> Result<Option<NextState<W>>, AllocError>
     requires width { IsWidth W }
     requires small { y.now.size ≤ 6 }
-    ensures { IfOk result (λ next. (n block : ℕ) (free : Bool) (t : Trace W) →
-        KnowsState state.now n block t t →
+    ensures { IfOk result (λ next. (n block : ℕ) (t : Trace W) →
+        KnowsState state.now n block t →
         KnowsMessage brought.now (unfinished channel.D (on_link link.0 t)) → IsResponse link.0 y.now asked t →
         asked.block ≡ block → moment ≡ length t →
-        free ≡ is_free n perm.Trunk block ((link, beat.D y.now) ∷ t) →
-        IsNext next (Some free) state.now n block (link, beat.D y.now) t) }
+        IsNextUnseen next state.now n block (link, beat.D y.now) t) }
 {
     let beat = Beat::D(*y);
     if !brought.completes(&beat) {
@@ -158,11 +148,34 @@ pub fn after_response<const W: usize>(
     if is_access(asked.opcode) {
         return Ok(Some(state.answered(alloc, link, y, brought, moment)?));
     }
-    Ok(None)
+    Ok(Some(state.passed(alloc)?))
 }
 
-/// What a beat makes of the state that bears on its block, at this moment, where that changes more of it than how free
-/// it is: this is the request that the beat answers, and these are the messages that aren't complete on its link.
+/// What a beat of channel A makes of the state, at this moment: an Acquire from nothing held may change for whom the block
+/// is free. This is what the beats before it of its message brought.
+fn after_asking<const W: usize>(
+    alloc: Global,
+    state: &BlockState<W>,
+    link: Link,
+    y: &BeatA<W>,
+    brought: &CarriedMessage,
+    moment: u64,
+) -> Result<Option<NextState<W>>, AllocError>
+    requires width { IsWidth W }
+    requires small { y.now.size ≤ 6 }
+    ensures { IfOk result (λ next. (n block : ℕ) (free : Option Freedom) (t : Trace W) →
+        KnowsState state.now n block t →
+        KnowsMessage brought.now (unfinished channel.A (on_link link.0 t)) → IsRequested link.0 y.now t →
+        block_at y.now.address ≡ block → moment ≡ suc (length t) →
+        IsSeen free n block (link, beat.A y.now) t → IsNext next free state.now n block (link, beat.A y.now) t) }
+{
+    if acquires_from_none(y) {
+        return Ok(Some(state.passed(alloc)?));
+    }
+    after_request(alloc, state, link, y, brought, moment)
+}
+
+/// What a beat makes of the state that bears on its block, at this moment, or that stays as it was: this is the request that the beat answers, and these are the messages that aren't complete on its link.
 pub fn after_beat<const W: usize>(
     alloc: Global,
     state: &BlockState<W>,
@@ -174,15 +187,15 @@ pub fn after_beat<const W: usize>(
 ) -> Result<Option<NextState<W>>, AllocError>
     requires width { IsWidth W }
     requires small { IsTrue (Part.is_small beat.now) }
-    ensures { IfOk result (λ next. (n block : ℕ) (free : Option Bool) (t : Trace W) →
-        KnowsState state.now n block t t → KnowsMessages messages.now (on_link link.0 t) →
+    ensures { IfOk result (λ next. (n block : ℕ) (free : Option Freedom) (t : Trace W) →
+        KnowsState state.now n block t → KnowsMessages messages.now (on_link link.0 t) →
         IsLegalBeat link.0 beat.now t → asked ≡ request_answered beat.now (on_link link.0 t) →
         block_borne beat.now (on_link link.0 t) ≡ Some block → moment ≡ suc (length t) →
         IsSeen free n block (link, beat.now) t → IsNext next free state.now n block (link, beat.now) t) }
 {
     let before = moment.saturating_sub(1);
     match beat {
-        Beat::A(y) => after_request(alloc, state, link, y, &messages.a, moment),
+        Beat::A(y) => after_asking(alloc, state, link, y, &messages.a, moment),
         Beat::C(y) => after_report(alloc, state, y, &messages.c, before),
         Beat::D(y) => match asked {
             Some(asked) => after_response(alloc, state, link, y, asked, &messages.d, before),

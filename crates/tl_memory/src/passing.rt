@@ -11,17 +11,25 @@ use crate::access::is_access;
 use crate::link::LinkMessages;
 use crate::message::either;
 use tl_beat::beat::{Beat, BeatA};
+use tl_beat::opcode::OpD;
 use tl_rules::kind::{grows_from_none, is_acquire, is_grant};
 
 /// Whether a beat is an Acquire from nothing held.
-fn acquires_from_none<const W: usize>(y: &BeatA<W>) -> bool
+pub fn acquires_from_none<const W: usize>(y: &BeatA<W>) -> bool
     ensures { result ≡ passing.acquires_from_none y.now }
 {
     is_acquire(y.opcode) && grows_from_none(y.param)
 }
 
-/// Whether a beat passes each block by, and no response begins with it: these are the messages that aren't complete
-/// on its link.
+/// Whether a response brings what an access finds.
+fn is_answer_data(opcode: OpD) -> bool
+    ensures { result ≡ passing.is_answer_data opcode }
+{
+    matches!(opcode, OpD::AccessAckData)
+}
+
+/// Whether a beat passes each block by, and no response begins with it, nor does it bring what an access finds: these are
+/// the messages that aren't complete on its link.
 pub fn passes_by<const W: usize>(x: &Beat<W>, messages: &LinkMessages) -> bool
     requires width { IsWidth W }
     requires small { IsTrue (Part.is_small x.now) }
@@ -36,7 +44,10 @@ pub fn passes_by<const W: usize>(x: &Beat<W>, messages: &LinkMessages) -> bool
             either(!is_access(y.opcode), !messages.a.completes(x))
         }
         Beat::C(_) => !messages.c.completes(x),
-        Beat::D(_) => !either(messages.d.bytes.count() == 0, messages.d.completes(x)),
+        Beat::D(y) => {
+            let bounds = either(messages.d.bytes.count() == 0, messages.d.completes(x));
+            !either(bounds, is_answer_data(y.opcode))
+        }
         _ => true,
     }
 }

@@ -1,13 +1,10 @@
 //! Accesses that are pending.
 
-ghost use Rattle.std.specs.Prelude.{ℕ, suc, ◌∷◌, ◌≡◌, length, IfOk, OnOk};
-ghost use Rattle.tl_beat.specs.declared.beat.Beat.{Beat};
-ghost use Rattle.tl_beat.specs.declared.beat.Link.{Link};
-ghost use Rattle.tl_rules.specs.statement.Conformance.{Trace};
-ghost use Rattle.tl_bytes.specs.statement.Bytes.{Access};
-ghost use Rattle.tl_bytes.specs.statement.Known.{KnowsBlock, KnowsRead, MayWrite, others};
+ghost use Rattle.std.specs.Prelude.{ℕ, false, ◌≡◌, IfOk};
+ghost use Rattle.tl_bytes.specs.statement.Known.{may_bring};
 ghost use Rattle.tl_memory.specs.code.Writers.{writes_but};
 
+use crate::free::{Freedom, needs};
 use crate::writer::Writer;
 use std::alloc::{AllocError, Global};
 use tl_beat::beat::Link;
@@ -43,64 +40,43 @@ fn writes_of_others<const W: usize>(
 }
 
 impl<const W: usize> PendingAccess<W> {
-    ghost use Rattle.tl_memory.specs.code.Writers.{IsRenewed, IsWatched, nothing, told_by, written_by};
+    ghost use Rattle.tl_memory.specs.code.Writers.{IsRenewed, IsWatched, found_by};
 
-    /// One whose request is complete with this beat, which had these windows; these are its block's bytes,
-    /// and the accesses that were pending there before.
-    pub fn new(
-        alloc: Global,
-        writer: &Writer<W>,
-        windows: WritingWindows,
-        bytes: &BlockBytes,
-        before: &[PendingAccess<W>],
-    ) -> Result<Self, AllocError>
-        ensures writer { IfOk result (λ pending. pending.writer ≡ writer.now) }
-        ensures windows { IfOk result (λ pending. pending.windows ≡ windows) }
-        ensures read { IfOk result (λ pending. (n number : ℕ) (access : Access W) (x : Link × Beat W) (t : Trace W) →
-            access.asked ≡ suc (length t) → KnowsBlock bytes.now n number (x ∷ t) →
-            MayWrite (writes_but writer.now.asked.link.0 writer.now.asked.request.source before.now) number
-            (others access (x ∷ t)) → KnowsRead pending.read n number access (x ∷ t)) }
+    /// One whose request is complete with this beat, which had these windows.
+    pub fn new(alloc: Global, writer: &Writer<W>, windows: WritingWindows) -> Self
+        ensures writer { result.writer ≡ writer.now }
+        ensures windows { result.windows ≡ windows }
+        ensures read { (place byte : ℕ) → may_bring result.read place byte ≡ false }
     {
-        let asked = &writer.asked;
-        let writes = writes_of_others(alloc, before, asked.link, asked.request.source)?;
-        let read = ReadBytes::new(alloc, bytes, writes.as_slice())?;
-        Ok(PendingAccess {
+        PendingAccess {
             writer: *writer,
             windows,
-            read,
-        })
+            read: ReadBytes::none(alloc),
+        }
     }
 
-    /// The same.
-    pub fn copy(&self, alloc: Global) -> Result<Self, AllocError>
-        ensures { IfOk result (λ pending. IsRenewed nothing self.now pending) }
+    /// A copy that has what it may find now, where it may be performed now: its block is free for these, and has these
+    /// bytes, and these are the accesses to it that are pending.
+    pub fn renewed(
+        &self,
+        alloc: Global,
+        free: Freedom,
+        bytes: &BlockBytes,
+        accesses: &[PendingAccess<W>],
+    ) -> Result<Self, AllocError>
+        ensures { IfOk result (λ pending. IsRenewed (found_by free bytes.now accesses.now) self.now pending) }
     {
-        let read = self.read.copy(alloc)?;
+        let asked = &self.writer.asked;
+        let mut read = self.read.copy(alloc)?;
+        if free.is_open_for(needs(asked.request.opcode)) {
+            let writes = writes_of_others(alloc, accesses, asked.link, asked.request.source)?;
+            read.find(alloc, bytes, writes.as_slice())?;
+        }
         Ok(PendingAccess {
             writer: self.writer,
             windows: self.windows,
             read,
         })
-    }
-
-    /// Adds to what it may bring what is told of its block.
-    pub fn tell(&mut self, bytes: &BlockBytes) -> Result<(), AllocError>
-        ensures { OnOk result (IsRenewed (told_by bytes.now) self.old self.new) }
-    {
-        self.read.tell(bytes)?;
-        Ok(())
-    }
-
-    /// Adds to what it may bring what another writes.
-    pub fn write(&mut self, writer: &Writer<W>) -> Result<(), AllocError>
-        ensures { OnOk result (IsRenewed (written_by writer.now) self.old self.new) }
-    {
-        let asked = &self.writer.asked;
-        if writer.asked.is_of(asked.link, asked.request.source) {
-            return Ok(());
-        }
-        self.read.write(&writer.write)?;
-        Ok(())
     }
 
     /// Sees whether its block is free for writing with one more beat, at this moment.

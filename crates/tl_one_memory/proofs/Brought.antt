@@ -3,17 +3,19 @@ use Rattle.tl_one_memory.proofs.Imports.{Beat, BeatD, Link, reaches, unfinished,
 use Rattle.tl_one_memory.proofs.Imports.{Access, before_last, carried_byte, is_of, pending_accesses, same-some}
 use Rattle.tl_one_memory.proofs.Imports.{IsAnswer, IsRun, IsTaken, Performs, Run, Stores, Takes, found_in, trace_in}
 use Rattle.std.proofs.Common.{◌≡◌, ℕ, suc, Bool, true, false, not, ◌||◌, ◌+◌, ◌-◌, ◌*◌, ◌/◌, ◌%◌, ◌<◌, List, [], ◌∷◌}
-use Rattle.std.proofs.Common.{inl, refl, sym, ap, ◌∙◌, arith, length}
+use Rattle.std.proofs.Common.{inl, inr, refl, sym, ap, ◌∙◌, arith, length}
 use Rattle.std.specs.Prelude.{if◌then◌else◌, find, Option, Some, None, slice_get}
-use Rattle.std.proofs.lemmas.Bool.{and_from, eq-eqb, or_right}
+use Rattle.std.proofs.lemmas.Bool.{and_from, cases_Bool, eq-eqb, or_right}
 use Rattle.std.{proofs.lemmas.Nat.div-mul-add, proofs.lemmas.Nat.mod-mul-add, proofs.lemmas.Option.slice_get_within}
 use Rattle.std.{proofs.Math.Nat.mul_comm}
 use Rattle.tl_beat.{specs.declared.channel.Channel.Channel, specs.declared.opcode.OpA.OpA}
 use Rattle.tl_beat.{specs.declared.opcode.OpD.OpD}
 use Rattle.tl_rules.specs.statement.Admission.{is_spoiled, lanes_of}
 use Rattle.tl_rules.specs.statement.Conformance.{answers}
-use Rattle.tl_bytes.specs.statement.Bytes.{each_from, is_true, is_true_read, may_read, reads_truly}
-use Rattle.tl_one_memory.{proofs.Granted.granted, proofs.Read.are-begun_read, proofs.Read.read-next}
+use Rattle.tl_bytes.specs.statement.Bytes.{each_from, found_after, is_get, is_true, is_true_read, may_read}
+use Rattle.tl_bytes.specs.statement.Bytes.{reads_truly}
+use Rattle.tl_one_memory.{proofs.Granted.granted, proofs.Read.are-begun_read, proofs.Read.are-read, proofs.Read.read-next}
+use Rattle.tl_rules.specs.statement.Conformance.{Trace}
 use Rattle.tl_one_memory.{specs.statement.Run.place_in, specs.statement.Run.returns}
 use Rattle.tl_one_memory.specs.statement.TrueBytes.{AreTrue, IsTrueBeat, TrueBytes}
 
@@ -65,33 +67,44 @@ module _ {w : ℕ} (n : ℕ) (first : Memory) (link : Link) (z : BeatD w) (run :
   abbrev older : List (Beat w)
   older = unfinished Channel.D (on_link link.0 (trace_in run))
 
+  -- what had been taken when the bytes of this beat were found
+  abbrev before : Option (Access w) → Trace w
+  before o = found_after o link.0 (length older) (trace_in run)
+
   read-byte : (p : Access w) → IsAnswer first link.0 z p run → is_release_ack z.opcode ≡ false
       → answers OpD.AccessAckData p.request.opcode ≡ true
       → find (is_of link.0 z.source) (pending_accesses (trace_in run)) ≡ Some p → (address v : ℕ)
       → reaches p.request.address p.request.size address ≡ true → place_in p address / w ≡ length older → (j : ℕ)
       → place_in p address % w ≡ j → slice_get (lanes_of (Beat.D z)) j ≡ Some v
-      → may_read n p (before_last link.0 (length older) (trace_in run)) address v ≡ true
+      → may_read n p (before (Some p)) address v ≡ true
   read-byte p answer no_ack admitted pending address v reached at j in_lane lane =
-      ap (may_read n p (before_last link.0 (length older) (trace_in run)) address) (sym (same ∙ value))
-      ∙ read.2 address reached
+      elim (cases_Bool (is_get p.request.opcode)) [
+        | inl get ↦ rw get (ap (may_read n p (trace_in run) address) (sym value)
+            ∙ are-read n first run is link.0 z.source p answer.found answer.performed pending back address reached)
+        | inr other ↦ rw other (ap (may_read n p (before_last link.0 (length older) (trace_in run)) address)
+            (sym (same ∙ value)) ∙ began.2 back address reached)
+      ]
     where
-      read : (found : Memory) × (found_in first link.0 z.source run ≡ Some found)
-          × ((address : ℕ) → reaches p.request.address p.request.size address ≡ true
-          → may_read n p (before_last link.0 (length older) (trace_in run)) address (found address) ≡ true)
-      read = read-next n first link z p run taken is (are-begun_read n first run is) no_ack pending
+      back : returns p.request.opcode ≡ true
+      back = answered-reads p.request.opcode admitted
 
-      same : read.0 address ≡ answer.found address
-      same = ap (λ (f : Memory). f address) (same-some answer.found read.0 (sym answer.performed ∙ read.1))
+      began : (found : Memory) × (found_in first link.0 z.source run ≡ Some found)
+          × (returns p.request.opcode ≡ true → (address : ℕ) → reaches p.request.address p.request.size address ≡ true
+          → may_read n p (before_last link.0 (length older) (trace_in run)) address (found address) ≡ true)
+      began = read-next n first link z p run taken is (are-begun_read n first run is) no_ack pending
+
+      same : began.0 address ≡ answer.found address
+      same = ap (λ (f : Memory). f address) (same-some answer.found began.0 (sym answer.performed ∙ began.1))
 
       value : answer.found address ≡ v
       value = lane-carried z older (place_in p address) j v (answer.found address) at in_lane
-          (answer.brings (answered-reads p.request.opcode admitted) address reached (inl (omega (arith, at)))) lane
+          (answer.brings back address reached (inl (omega (arith, at)))) lane
 
   read : z.opcode ≡ OpD.AccessAckData → ((z.corrupt || z.denied) || is_true_read n link.0 z (trace_in run)) ≡ true
   read e = or_right (z.corrupt || z.denied) _ (go (find (is_of link.0 z.source) (pending_accesses (trace_in run))) refl)
     where
       go : (o : Option (Access w)) → find (is_of link.0 z.source) (pending_accesses (trace_in run)) ≡ o
-          → reads_truly n o (length older) z (before_last link.0 (length older) (trace_in run)) ≡ true
+          → reads_truly n o (length older) z (before o) ≡ true
       go None f = refl
       go (Some p) f = each-lane _ (w * (p.request.address / w) + w * length older) (lanes_of (Beat.D z)) each
         where
@@ -103,8 +116,7 @@ module _ {w : ℕ} (n : ℕ) (first : Memory) (link : Link) (z : BeatD w) (run :
 
           each : (j v : ℕ) → slice_get (lanes_of (Beat.D z)) j ≡ Some v
               → (not (reaches p.request.address p.request.size (w * (p.request.address / w) + w * length older + j))
-              || may_read n p (before_last link.0 (length older) (trace_in run))
-              (w * (p.request.address / w) + w * length older + j) v) ≡ true
+              || may_read n p (before (Some p)) (w * (p.request.address / w) + w * length older + j) v) ≡ true
           each j v lane = byte (reaches p.request.address p.request.size address) refl
             where
               address : ℕ
@@ -117,7 +129,7 @@ module _ {w : ℕ} (n : ℕ) (first : Memory) (link : Link) (z : BeatD w) (run :
               place = place-of (w * (p.request.address / w)) (w * length older) j
 
               byte : (b : Bool) → reaches p.request.address p.request.size address ≡ b
-                  → (not b || may_read n p (before_last link.0 (length older) (trace_in run)) address v) ≡ true
+                  → (not b || may_read n p (before (Some p)) address v) ≡ true
               byte false g = refl
               byte true g = read-byte p answer no_ack
                   (ap (λ (o : OpD). answers o p.request.opcode) (sym e) ∙ answer.admitted) f address v g

@@ -10,29 +10,38 @@ use Rattle.std.specs.Prelude.{if◌then◌else◌, filter, Some, ◌==◌}
 use Rattle.std.proofs.lemmas.Bool.{and_from, and_parts, eqb-true, le-leb, or_left, or_right}
 use Rattle.tl_beat.specs.declared.channel.Channel.{Channel}
 use Rattle.tl_burst.specs.statement.Messages.{History, burst_length, grown, on}
-use Rattle.tl_bytes.specs.statement.Bytes.{may_read, told_as, written_as}
+use Rattle.tl_beat.specs.declared.opcode.OpA.{OpA}
+use Rattle.tl_params.specs.declared.perm.Perm.{Perm}
+use Rattle.tl_rules.specs.statement.{History.block_at, Windows.needs}
+use Rattle.tl_bytes.specs.statement.{Free.is_free, Shown.is_window}
+use Rattle.tl_bytes.specs.statement.Bytes.{may_read, others, told_as, written_as}
 use Rattle.tl_one_memory.{proofs.Covered.IsWrittenNow, proofs.Granted.told-as, specs.statement.Run.is_answered_by}
 use Rattle.tl_bytes.proofs.Finding.{among-found, found-among, found-passes, none-some}
 use Rattle.tl_one_memory.proofs.Known.{Answers, IsDone, answered-gone, clean-free, found-still, found-taken}
 use Rattle.tl_one_memory.proofs.Known.{known}
-use Rattle.tl_one_memory.specs.statement.Run.{IsClean, MayBeRead}
+use Rattle.tl_one_memory.specs.statement.Run.{IsClean, MayBeRead, returns}
 use Rattle.tl_bytes.proofs.Pending.{pending-before}
 
 -- ---- what a pending access may bring
 
+-- with the last beat that was taken the access has a window
+in-window : {w : ℕ} → ℕ → Access w → ℕ → Trace w → Bool
+in-window n p address [] = false
+in-window n p address (x ∷ t) = is_window n (needs p.request.opcode) (block_at address) x t
+
 -- all that may be so now, or that another writes now
 read-now : {w : ℕ} (n c s : ℕ) (p : Access w) (t : Trace w) (address v : ℕ) → IsPending c s p t
-    → (told_as v (may_be n address t) ≡ true)
-    ⊎ (written_as address v (filter (λ other. not (is_of p.link p.request.source other)) (pending_accesses t)) ≡ true)
+    → in-window n p address t ≡ true
+    → (told_as v (may_be n address t) ≡ true) ⊎ (written_as address v (others p t) ≡ true)
     → may_read n p t address v ≡ true
-unfolding may_read pending_accesses
-read-now n c s p [] address v pending is = absurd (none-some p pending)
-read-now {w} n c s p (x ∷ t) address v pending is =
+unfolding may_read pending_accesses in-window
+read-now n c s p [] address v pending window is = absurd (none-some p pending)
+read-now {w} n c s p (x ∷ t) address v pending window is =
     and_from _ _ (le-leb p.asked (suc (length t)) (asked-by_now c s p (x ∷ t) pending).by_now)
-    (elim is [
+    (or_left _ _ (and_from _ _ window (elim is [
       | inl told ↦ or_left _ _ told
-      | inr written ↦ or_right _ _ (or_left _ _ written)
-    ])
+      | inr written ↦ or_right _ _ written
+    ])))
 
 -- and all that it could before
 read-more : {w : ℕ} (n c s : ℕ) (p : Access w) (x : Link × Beat w) (t : Trace w) (address v : ℕ) → IsPending c s p t
@@ -40,7 +49,27 @@ read-more : {w : ℕ} (n c s : ℕ) (p : Access w) (x : Link × Beat w) (t : Tra
 unfolding may_read
 read-more n c s p x t address v pending is =
     and_from _ _ (le-leb p.asked (suc (length t)) (omega (arith, (asked-by_now c s p t pending).by_now)))
-    (or_right _ _ (or_right _ _ is))
+    (or_right _ _ is)
+
+-- where an access that reads may be performed, it has a window
+performed-window : {w : ℕ} (n : ℕ) (first : Memory) (c s : ℕ) (p : Access w) (run : Run w) (address : ℕ)
+    → IsPending c s p (trace_in run) → returns p.request.opcode ≡ true
+    → reaches p.request.address p.request.size address ≡ true → MayBeRead n first address run
+    → (access_writes address p ≡ true → is_free n Perm.Trunk (block_at address) (trace_in run) ≡ true)
+    → in-window n p address (trace_in run) ≡ true
+unfolding pending_accesses in-window is_free
+performed-window {w} n first c s p run address pending back reached reads writes =
+    go (trace_in run) refl p.request.opcode refl
+  where
+    go : (t : Trace w) → trace_in run ≡ t → (o : OpA) → p.request.opcode ≡ o → in-window n p address t ≡ true
+    go [] e o f = absurd (none-some p (rw e at pending))
+    go (x ∷ t) e OpA.Get f = rw f (elim reads [
+      | inl free ↦ or_left _ _ (rw e at free)
+      | inr shown ↦ or_right _ _ (rw e at shown.0)
+    ])
+    go (x ∷ t) e OpA.ArithmeticData f = rw f (or_left _ _ (rw e at (writes (rw f reached))))
+    go (x ∷ t) e OpA.LogicalData f = rw f (or_left _ _ (rw e at (writes (rw f reached))))
+    go (x ∷ t) e v f = absurd (let no : returns v ≡ true = rw f at back in cc)
 
 -- another access that writes the byte is another one
 written-by : {w : ℕ} (n address v : ℕ) (done : ℕ → ℕ → Type 0) (Answering : ℕ → ℕ → Access w → List (Beat w) → Type 0)
@@ -65,20 +94,21 @@ written-by {w} n address v done Answering t link source now other =
 
 -- ---- what was found
 
--- each access that was performed may bring what it found
+-- each access that was performed and reads may bring what it found
 abbrev AreRead : {w : ℕ} → ℕ → Memory → Run w → Type 0
 AreRead {w} n first run = (c s : ℕ) (p : Access w) (found : Memory) → found_in first c s run ≡ Some found
-    → IsPending c s p (trace_in run) → (address : ℕ) → reaches p.request.address p.request.size address ≡ true
+    → IsPending c s p (trace_in run) → returns p.request.opcode ≡ true → (address : ℕ)
+    → reaches p.request.address p.request.size address ≡ true
     → may_read n p (trace_in run) address (found address) ≡ true
 
 module _ {w : ℕ} (n : ℕ) (first : Memory) where
   read-taken : (link : Link) (x : Beat w) (run : Run w) → IsTaken n first link x run → AreRead n first run
       → AreRead n first (Takes link x ∷ run)
   unfolding trace_in
-  read-taken link x run taken before c s p found performed pending address reached =
+  read-taken link x run taken before c s p found performed pending back address reached =
       elim (pending-before c s p (link, x) (trace_in run) pending) [
         | inl old ↦ read-more n c s p (link, x) (trace_in run) address (found address) old
-            (before c s p found (found-taken first c s link x run found performed).1 old address reached)
+            (before c s p found (found-taken first c s link x run found performed).1 old back address reached)
         | inr new ↦ absurd (none-some found (sym (taken.asks new.first new.beat_is new.completes)
             ∙ rw (← new.link_is, ← new.source_is) (found-taken first c s link x run found performed).1))
       ]
@@ -86,26 +116,31 @@ module _ {w : ℕ} (n : ℕ) (first : Memory) where
   read-performed : (d i : ℕ) (run : Run w) → IsPerformed n first d i run → IsRun n first run → AreRead n first run
       → AreRead n first (Performs d i ∷ run)
   unfolding trace_in found_in
-  read-performed d i run is runs before c s p found performed pending address reached =
+  read-performed d i run is runs before c s p found performed pending back address reached =
       go ((d == c) && (i == s)) refl performed
     where
       now : (c ≡ d) × (s ≡ i) → found ≡ memory_in first run → may_read n p (trace_in run) address (found address) ≡ true
       now same e = rw e (read-now n c s p (trace_in run) address (memory_in first run address) pending
-          (elim ((known n first address run runs).covered (clean (is.reads_free address
-          (ap (λ (q : Access w). reaches q.request.address q.request.size address) this ∙ reached)))) [
+          (performed-window n first c s p run address pending back reached may
+          (λ writes. is.writes_free address (ap (λ (q : Access w). access_writes address q) this ∙ writes)))
+          (elim ((known n first address run runs).covered (clean may)) [
             | inl told ↦ inl (told-as n address (memory_in first run address) (IsDone first run) (trace_in run) told)
             | inr written ↦ inr (written-by n address (memory_in first run address) (IsDone first run)
                 (Answers first run) (trace_in run) p.link p.request.source written (other written))
           ]))
         where
+          this : is.access ≡ p
+          this = same-some p is.access (sym pending ∙ rw (same.0, same.1) is.pending)
+
+          may : MayBeRead n first address run
+          may = is.reads_free address
+              (ap (λ (q : Access w). reaches q.request.address q.request.size address) this ∙ reached)
+
           clean : MayBeRead n first address run → IsClean n first address run
           clean may = elim may [
             | inl free ↦ clean-free n first address run runs free
             | inr shown ↦ shown.1
           ]
-
-          this : is.access ≡ p
-          this = same-some p is.access (sym pending ∙ rw (same.0, same.1) is.pending)
 
           other : (written : IsWrittenNow n address (memory_in first run address) (IsDone first run) (Answers first run)
               (trace_in run)) → is_of p.link p.request.source written.access ≡ true → ⊥
@@ -130,9 +165,9 @@ module _ {w : ℕ} (n : ℕ) (first : Memory) where
       go true e f =
           let both = and_parts (d == c) (i == s) e in
           now (sym (eqb-true d c both.0), sym (eqb-true i s both.1)) (same-some (memory_in first run) found f)
-      go false e f = before c s p found f pending address reached
+      go false e f = before c s p found f pending back address reached
 
-  are-read : (run : Run w) → IsRun n first run → AreRead n first run
+  pub are-read : (run : Run w) → IsRun n first run → AreRead n first run
   unfolding IsRun trace_in found_in
   are-read [] is = λ c s p found performed pending. absurd (none-some found performed)
   are-read (Takes link x ∷ run) is = read-taken link x run is.0 (are-read run is.1)
@@ -164,7 +199,7 @@ module _ {w : ℕ} (n : ℕ) (first : Memory) where
   -- the access whose answer has begun was performed, and may bring what it found by what was so before
   abbrev IsReadBefore : ℕ → ℕ → Access w → ℕ → Run w → Type 0
   IsReadBefore c s p k run = (found : Memory) × (found_in first c s run ≡ Some found)
-      × ((address : ℕ) → reaches p.request.address p.request.size address ≡ true
+      × (returns p.request.opcode ≡ true → (address : ℕ) → reaches p.request.address p.request.size address ≡ true
       → may_read n p (before_last c k (trace_in run)) address (found address) ≡ true)
 
   abbrev AreBegunRead : Run w → Type 0
@@ -189,7 +224,8 @@ module _ {w : ℕ} (n : ℕ) (first : Memory) where
       go [] e = (
         answer.found,
         answer.performed,
-        λ address reached. are-read run is link.0 z.source p answer.found answer.performed pending address reached,
+        λ back address reached.
+            are-read run is link.0 z.source p answer.found answer.performed pending back address reached,
       )
       go (Beat.D y ∷ older) e =
           let same = taken.continues z y older refl e in
@@ -235,7 +271,7 @@ module _ {w : ℕ} (n : ℕ) (first : Memory) where
       still k same is = (
         is.0,
         found-still first c z.source link x run is.0 unanswered is.1,
-        λ address reached. rw same (is.2 address reached),
+        λ back address reached. rw same (is.2 back address reached),
       )
 
       -- the beat is another one

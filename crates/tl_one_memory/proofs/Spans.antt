@@ -2,7 +2,7 @@
 use Rattle.tl_one_memory.proofs.Imports.{Beat, Link, Trace, is_free, windows_since}
 use Rattle.std.proofs.Common.{◌≡◌, ℕ, suc, Bool, true, false, ◌&&◌, ◌+◌, ◌<◌, ◌≤◌, [], ◌∷◌, length, refl, ◌∙◌, arith}
 use Rattle.std.proofs.Common.{inl, inr}
-use Rattle.std.specs.Prelude.{if◌then◌else◌, None, nat_lt}
+use Rattle.std.specs.Prelude.{if◌then◌else◌, nat_lt}
 use Rattle.std.proofs.lemmas.Bool.{cases_order, lt-ltb}
 use Rattle.tl_params.specs.declared.perm.Perm.{Perm}
 use Rattle.tl_bytes.{specs.statement.Bytes.window_began, proofs.Since.since_more, proofs.Since.since_now}

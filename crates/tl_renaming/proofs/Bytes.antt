@@ -11,10 +11,11 @@ use Rattle.std.proofs.Common.{◌≡◌, ℕ, zero, suc, Bool, true, false, not,
 use Rattle.std.proofs.Common.{List, [], ◌∷◌, length, refl, sym, ap, ◌∙◌, arith, inl, inr, add-zero}
 use Rattle.std.proofs.Math.Path.{ap₂}
 use Rattle.std.specs.Prelude.{find, if◌then◌else◌, Option, Some, None, option_map, ◌==◌}
-use Rattle.std.proofs.lemmas.Bool.{cases_lt}
+use Rattle.std.proofs.lemmas.Bool.{cases_Bool, cases_lt}
 use Rattle.tl_beat.{specs.declared.opcode.OpD.OpD, specs.statement.Width.IsWidth}
 use Rattle.tl_burst.{specs.statement.Burst.reaches, specs.statement.Messages.on}
-use Rattle.tl_bytes.specs.statement.Bytes.{Access, before_last, each_from, grants_truly, is_of, is_true, is_true_grant}
+use Rattle.tl_bytes.specs.statement.Bytes.{Access, before_last, each_from, found_after, grants_truly, is_get, is_of, is_true}
+use Rattle.tl_bytes.specs.statement.Bytes.{is_true_grant}
 use Rattle.tl_bytes.specs.statement.Bytes.{is_true_read, may_grant, may_read, pending_accesses, reads_truly}
 use Rattle.tl_params.specs.declared.liberties.Liberties.{Liberties}
 use Rattle.tl_rules.specs.code.Open.{open_request}
@@ -176,16 +177,25 @@ module _ {w : ℕ} (l : Liberties) (r : Renamings) (faithful : AreFaithful l r) 
   read-kept : (link : ℕ) (x : BeatD w) (t : Trace w) → AreFitting t
       → is_true_read n link (renamed_d (of_link r link) x) (renamed_trace r t) ≡ is_true_read n link x t
   read-kept link x t fits =
-      ap₂ (λ o k. reads_truly n o k (renamed_d (of_link r link) x) (before_last link k (renamed_trace r t)))
+      ap₂ (λ o k. reads_truly n o k (renamed_d (of_link r link) x) (found_after o link k (renamed_trace r t)))
       (answered-kept l r faithful width n link x.source t) (count-kept link t)
-      ∙ ap (reads_truly n (option_map (renamed_access r) (find (is_of link x.source) (pending_accesses t)))
-      (length (unfinished Channel.D (on_link link t))) (renamed_d (of_link r link) x))
-      (before-kept r link (length (unfinished Channel.D (on_link link t))) t)
-      ∙ read-so-kept link (length (unfinished Channel.D (on_link link t)))
-      (find (is_of link x.source) (pending_accesses t)) x
-      (before_last link (length (unfinished Channel.D (on_link link t))) t)
+      ∙ go (find (is_of link x.source) (pending_accesses t))
       (found-fits (is_of link x.source) (pending_accesses t) (fit-now t fits))
-      (suffix-fits link (length (unfinished Channel.D (on_link link t))) t fits)
+    where
+      k : ℕ
+      k = length (unfinished Channel.D (on_link link t))
+
+      go : (o : Option (Access w)) → FitsIfAny o
+          → reads_truly n (option_map (renamed_access r) o) k (renamed_d (of_link r link) x)
+          (found_after (option_map (renamed_access r) o) link k (renamed_trace r t))
+          ≡ reads_truly n o k x (found_after o link k t)
+      go None fit = refl
+      go (Some access) fit = elim (cases_Bool (is_get access.request.opcode)) [
+        | inl get ↦ rw get (read-so-kept link k (Some access) x t fit fits)
+        | inr other ↦ rw other (ap (reads_truly n (Some (renamed_access r access)) k (renamed_d (of_link r link) x))
+            (before-kept r link k t)
+            ∙ read-so-kept link k (Some access) x (before_last link k t) fit (suffix-fits link k t fits))
+      ]
 
   -- ---- both
 

@@ -7,7 +7,7 @@ use Rattle.tl_renaming.{proofs.Bursts.ends-kept, proofs.Bursts.unfinished-kept, 
 use Rattle.tl_renaming.{proofs.Traces.link-kept}
 use Rattle.tl_renaming.proofs.Messages.{block-test, grants-kept, probe-kept, request-kept}
 use Rattle.tl_renaming.specs.statement.Renamed.{AreFaithful, Renamings, of_link, renamed_on_link, renamed_trace}
-use Rattle.std.proofs.Common.{◌≡◌, ℕ, zero, suc, Bool, true, false, not, ◌&&◌, List, [], ◌∷◌, map, refl, sym, ◌∙◌}
+use Rattle.std.proofs.Common.{◌≡◌, ℕ, zero, suc, Bool, true, false, not, ◌&&◌, List, [], ◌∷◌, map, refl}
 use Rattle.std.specs.Prelude.{if◌then◌else◌, is_some, Option, Some, None, option_map}
 use Rattle.tl_beat.specs.declared.beat.Link.{Link}
 use Rattle.tl_bytes.specs.statement.Shown.{had_window, is_window, shows, shows_bytes}
@@ -141,7 +141,7 @@ module _ {w : ℕ} (l : Liberties) (r : Renamings) (faithful : AreFaithful l r) 
   open-kept link source t =
       rw (link-kept r link t) (open-request-kept l (of_link r link) (faithful link) source (on_link link t))
 
-  window-kept : (n : ℕ) (given : Perm) (block : ℕ) (x : Link × Beat w) (t : Trace w)
+  pub window-kept : (n : ℕ) (given : Perm) (block : ℕ) (x : Link × Beat w) (t : Trace w)
       → is_window n given (r.block block) (renamed_on_link r x) (renamed_trace r t) ≡ is_window n given block x t
   window-kept n given block x t =
       rw (

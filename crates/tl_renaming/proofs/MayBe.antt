@@ -7,11 +7,11 @@ use Rattle.tl_renaming.proofs.Addresses.{block-of, low-bits}
 use Rattle.tl_renaming.proofs.Bursts.{channel-kept, unfinished-kept}
 use Rattle.tl_renaming.proofs.Carried.{carried-byte-kept, denied-kept}
 use Rattle.tl_renaming.proofs.Choices.{both-chosen, both-hold, one-found}
-use Rattle.tl_renaming.proofs.Free.{free-kept}
+use Rattle.tl_renaming.proofs.Free.{free-kept, window-kept}
 use Rattle.tl_renaming.proofs.Tellings.{began-kept, last-told-kept, last-window-kept, tells-kept, windows-kept}
 use Rattle.tl_renaming.proofs.Traces.{beats-kept, link-kept}
 use Rattle.tl_renaming.proofs.Values.{Fits, left-kept, pending-value-kept, writes-kept}
-use Rattle.tl_renaming.specs.statement.Renamed.{AreFaithful, Renamings, of_link, renamed_trace}
+use Rattle.tl_renaming.specs.statement.Renamed.{AreFaithful, Renamings, of_link, renamed_on_link, renamed_trace}
 use Rattle.std.proofs.Common.{◌≡◌, ℕ, suc, Bool, true, false, not, ◌&&◌, ◌||◌, ◌%◌, List, [], ◌∷◌, length, map, refl}
 use Rattle.std.proofs.Common.{ap, ◌∙◌}
 use Rattle.std.proofs.Math.Path.{ap₂}
@@ -25,7 +25,8 @@ use Rattle.tl_bytes.specs.statement.Bytes.{pending_accesses, pending_value, tell
 use Rattle.tl_bytes.specs.statement.Bytes.{written_as}
 use Rattle.tl_params.specs.declared.perm.Perm.TheVariants as perm
 use Rattle.tl_params.specs.declared.liberties.Liberties.{Liberties}
-use Rattle.tl_rules.specs.statement.Conformance.{Trace, on_link}
+use Rattle.tl_rules.specs.statement.{Conformance.Trace, Conformance.on_link, Windows.needs}
+use Rattle.tl_bytes.specs.statement.Shown.{is_window}
 
 -- the accesses that are pending lie in one block each, after each beginning of the trace
 abbrev pub AreFitting : {w : ℕ} → Trace w → Type 0
@@ -238,9 +239,12 @@ module _ {w : ℕ} (l : Liberties) (r : Renamings) (faithful : AreFaithful l r) 
   may-read-kept access address v [] fits = refl
   may-read-kept access address v (x ∷ t) fits =
       ap₂ (λ a b. a && b) (ap (λ m. nat_le access.asked (suc m)) (beats-kept r t))
+      (ap₂ (λ a b. a || b) (ap₂ (λ a b. a && b)
+      (ap (λ b. is_window n (needs access.request.opcode) b (renamed_on_link r x) (renamed_trace r t))
+      (block-of r.block address)
+      ∙ window-kept l r faithful n (needs access.request.opcode) (block_at address) x t)
       (ap₂ (λ a b. a || b) (told-kept address v (x ∷ t) fits)
-      (ap₂ (λ a b. a || b) (passing-kept address v (x ∷ t)
-      (λ other. not (is_of access.link access.request.source other))
+      (passing-kept address v (x ∷ t) (λ other. not (is_of access.link access.request.source other))
       (λ other. not (is_of access.link (r.sources access.link access.request.source) other))
-      (not-of-kept l r faithful access.link access.request.source) fits)
-      (may-read-kept access address v t fits.1)))
+      (not-of-kept l r faithful access.link access.request.source) fits)))
+      (may-read-kept access address v t fits.1))

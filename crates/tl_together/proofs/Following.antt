@@ -1,6 +1,5 @@
 -- What a monitor that has followed all links says of them where links have all liberties but `early`.
-use Rattle.std.proofs.Common.{◌≡◌, ◌<◌, ℕ, true, false, List, [], ◌∷◌, length, refl, sym, ap, ◌∙◌, subst, inl, inr, arith}
-use Rattle.std.specs.Prelude.{Option, Some, None, slice_get}
+use Rattle.std.proofs.Common.{◌≡◌, ◌<◌, ℕ, true, false, List, [], ◌∷◌, length, refl, sym, ap, ◌∙◌, inl, inr, arith}
 use Rattle.std.proofs.lemmas.Option.{slice_get_cases}
 use Rattle.tl_beat.specs.declared.beat.Beat.{Beat}
 use Rattle.tl_beat.specs.declared.beat.Link.{Link}
@@ -14,12 +13,10 @@ use Rattle.tl_monitor.specs.declared.monitor.Monitor.{Monitor}
 use Rattle.tl_monitor.specs.statement.Knows.{KnowsUnder}
 use Rattle.tl_params.specs.declared.level.Level.{Level}
 use Rattle.tl_params.specs.declared.liberties.Liberties.{Liberties}
-use Rattle.tl_params.specs.declared.liberties.Liberty.{Liberty}
 use Rattle.tl_params.specs.declared.liberties.Liberty.TheVariants.{Ids, Sinks, Writer, Early, Drops, Reports, Denied}
 use Rattle.tl_params.specs.declared.liberties.Liberty.TheVariants.{Uncorrupt}
-use Rattle.tl_params.specs.statement.Liberties.{allows}
 use Rattle.tl_rules.specs.statement.Conformance.{Trace, on_link}
-use Rattle.tl_rules.specs.statement.Liberties.{broken_after_under, broken_at_level_under, held_under, is_legal_under}
+use Rattle.tl_rules.specs.statement.Liberties.{broken_at_level_under, held_under, is_legal_under}
 use Rattle.tl_together.specs.code.Following.{Follows}
 
 -- all that these liberties allow is allowed

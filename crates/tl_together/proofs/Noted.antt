@@ -1,8 +1,8 @@
 -- What is noted of a beat is what there is to know of the longer trace.
 use Rattle.std.proofs.Common.{◌≡◌, ℕ, suc, Bool, true, false, ◌&&◌, ◌<◌, ◌≢◌, List, [], ◌∷◌, length}
 use Rattle.std.proofs.Common.{refl, sym, ap, ◌∙◌, inl, inr}
-use Rattle.std.specs.Prelude.{if◌then◌else◌, not, ◌==◌, Option, Some, None, is_some, nat_lt, slice_get, IsTrue}
-use Rattle.std.proofs.lemmas.Bool.{cases_Bool, cases_eq, cases_lt, lt-ltb, eq-eqb, ne_eqb, eqb-true}
+use Rattle.std.specs.Prelude.{if◌then◌else◌, not, ◌==◌, Option, Some, None, is_some, nat_lt, IsTrue}
+use Rattle.std.proofs.lemmas.Bool.{cases_Bool, cases_eq, lt-ltb, eq-eqb, ne_eqb, eqb-true}
 use Rattle.tl_beat.specs.declared.beat.Beat.{Beat}
 use Rattle.tl_beat.specs.declared.beat.Beat.TheVariants.{A, B, C, D, E}
 use Rattle.tl_beat.specs.declared.beat.BeatA.{BeatA}

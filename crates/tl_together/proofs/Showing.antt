@@ -1,6 +1,6 @@
 -- Beats that show the bytes of a block, and what is noted of them.
 use Rattle.std.proofs.Common.{◌≡◌, ℕ, Bool, true, false, ◌&&◌, ◌||◌, ◌<◌, List, [], ◌∷◌, length, refl, sym, ◌∙◌}
-use Rattle.std.proofs.Common.{inl, inr, ◌+◌}
+use Rattle.std.proofs.Common.{inl, inr, ap, ◌+◌}
 use Rattle.std.specs.Prelude.{if◌then◌else◌, ◌==◌, Option, Some, None}
 use Rattle.std.specs.Option.{option_or}
 use Rattle.std.proofs.Math.Bool.{and-false}
@@ -11,7 +11,11 @@ use Rattle.tl_beat.specs.declared.beat.BeatC.{BeatC}
 use Rattle.tl_beat.specs.declared.beat.Link.{Link}
 use Rattle.tl_burst.specs.statement.Messages.{History, burst_length, channel_of, on, unfinished}
 use Rattle.tl_burst.specs.statement.Part.{is_empty}
-use Rattle.tl_bytes.specs.statement.Free.{all_but_early}
+use Rattle.tl_bytes.specs.statement.Free.{all_but_early, is_free}
+use Rattle.tl_bytes.specs.statement.Shown.{shows}
+use Rattle.tl_memory.specs.{declared.free.Freedom.Freedom, statement.Known.freedom}
+use Rattle.tl_monitor.specs.code.LinkState.{is_block}
+use Rattle.tl_params.specs.declared.perm.Perm.{Perm}
 use Rattle.tl_memory.proofs.Bearing.{none_of_both}
 use Rattle.tl_memory.proofs.Elsewhere.{held-kept}
 use Rattle.tl_monitor.specs.statement.Knows.{begins_on}
@@ -98,3 +102,30 @@ shown_now moment k x past old new may over noted set block =
         ≡ (if b then shown_window moment (window_in old block) else window_in old block)
     go true here = rw (noted block here) refl
     go false apart = refl
+
+-- ---- whether a block is shown
+
+pub unshown : {w : ℕ} (shown : Option ℕ) (x : Beat w) (past : History w) (block : ℕ) → MayShow shown x past
+    → is_block block shown ≡ false → false ≡ shows block x past
+unshown shown x past block may apart = sym (may block ∙ rw apart (and-false (ends x past)))
+
+pub own_shown : {w : ℕ} (shown : Option ℕ) (x : Beat w) (past : History w) (block : ℕ) → MayShow shown x past
+    → is_block block shown ≡ true → shows block x past ≡ ends x past
+own_shown shown x past block may own = may block ∙ rw own (and_true (ends x past))
+  where
+    and_true : (b : Bool) → (b && true) ≡ b
+    and_true true = refl
+    and_true false = refl
+
+-- for whom it is free
+pub freedom_is : {w : ℕ} (n block : ℕ) (x : Link × Beat w) (t : Trace w) (free : Freedom) (links : ℕ) → links ≡ n
+    → free.reading ≡ is_free links Perm.Branch block (x ∷ t) → free.writing ≡ is_free links Perm.Trunk block (x ∷ t)
+    → free.shown ≡ shows block x.1 (on_link x.0.0 t) → Some free ≡ Some (freedom n block x t)
+freedom_is n block x t free links same reading writing shown =
+    rw same at (ap Some (freedom_same free (freedom links block x t) reading writing shown))
+  where
+    freedom_same : (a b : Freedom) → a.reading ≡ b.reading → a.writing ≡ b.writing → a.shown ≡ b.shown → a ≡ b
+    freedom_same a b e f g =
+        ap (λ v. record { reading = v; writing = a.writing; shown = a.shown }) e
+        ∙ ap (λ v. record { reading = b.reading; writing = v; shown = a.shown }) f
+        ∙ ap (λ v. record { reading = b.reading; writing = b.writing; shown = v }) g

@@ -7,12 +7,12 @@ ghost use Rattle.tl_beat.specs.declared.beat.BeatD.{BeatD};
 ghost use Rattle.tl_beat.specs.declared.channel.Channel.TheVariants as channel;
 ghost use Rattle.tl_beat.specs.statement.Width.{IsWidth};
 ghost use Rattle.tl_burst.specs.statement.Messages.{unfinished};
-ghost use Rattle.tl_bytes.specs.statement.Bytes.{before_last, may_be};
+ghost use Rattle.tl_bytes.specs.statement.Bytes.{may_be};
 ghost use Rattle.tl_bytes.specs.statement.Lines.{told_moment};
 ghost use Rattle.tl_memory.specs.code.Changing.{IsChange};
 ghost use Rattle.tl_memory.specs.code.Lines.{told_by};
 ghost use Rattle.tl_memory.specs.statement.Blocks.{state_in};
-ghost use Rattle.tl_memory.specs.statement.Expecting.{ExpectsResponse};
+ghost use Rattle.tl_memory.specs.statement.Expecting.{ExpectsBeat};
 ghost use Rattle.tl_memory.specs.statement.Links.{KeepsRules};
 ghost use Rattle.tl_params.specs.declared.level.Level.{Level};
 ghost use Rattle.tl_params.specs.declared.liberties.Liberties.{Liberties};
@@ -83,8 +83,8 @@ impl<const W: usize> Judge<W> {
         ensures { (levels : List Level) (l : Liberties) (x : BeatD W) (t : Trace W) → Knows self.now levels l t false →
             KeepsRules l levels (link, beat.D x) t →
             IsChange change.now self.now.memory (length levels) (link, beat.D x) t →
-            ExpectsResponse (option_copied result) (length levels) link.0 x.opcode x.source t
-            (before_last link.0 (length (unfinished channel.D (on_link link.0 t))) t) }
+            ExpectsBeat (option_copied result) (length levels) link.0 x.opcode x.source
+            (length (unfinished channel.D (on_link link.0 t))) t }
     {
         self.memory.expected(change, link)
     }

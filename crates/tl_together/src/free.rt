@@ -1,6 +1,6 @@
 //! For whom a block is free: what the links of a manager leave of it.
 
-ghost use Rattle.std.specs.Prelude.{ℕ, Bool, List, length, option_map, ◌==◌, ◌&&◌, ◌||◌, ◌≡◌};
+ghost use Rattle.std.specs.Prelude.{Bool, List, length, ◌==◌, ◌&&◌, ◌||◌, ◌≡◌};
 ghost use Rattle.tl_params.specs.declared.level.Level.{Level};
 ghost use Rattle.tl_params.specs.declared.perm.Perm.TheVariants as perm;
 ghost use Rattle.tl_params.specs.declared.liberties.Liberties.{Liberties};
@@ -11,6 +11,7 @@ ghost use Rattle.tl_together.specs.code.Following.{Follows};
 ghost use Rattle.tl_together.specs.statement.Coherence;
 
 use tl_beat::beat::Link;
+use tl_memory::free::Freedom;
 use tl_monitor::monitor::Monitor;
 use tl_rules::perm::Perm;
 
@@ -74,39 +75,30 @@ pub fn is_grantable<const W: usize>(
     free
 }
 
-/// Whether this block, where there is one, is free for one who writes it.
-pub fn freed<const W: usize>(monitor: &Monitor<W>, links: u8, held: Option<u32>) -> Option<bool>
-    ensures { (levels : List Level) (l : Liberties) (t : Trace W) →
-        Follows monitor.now levels l t → links ≡ length levels →
-        result ≡ option_map (λ block. is_free (length levels) perm.Trunk block t) held }
-{
-    let block = held?;
-    Some(is_free(monitor, links, Perm::Trunk, block))
-}
-
-/// For whom a block is free.
-#[derive(Clone, Copy)]
-pub struct Freedom {
-    pub reading: bool,
-    pub writing: bool,
-}
-
-/// Whether each of so many links leaves a block to one who reads it, and to one who writes it.
-pub fn freedom_of<const W: usize>(monitor: &Monitor<W>, links: u8, block: u32) -> Freedom
+/// For whom a block is free whose bytes are shown, or aren't, with the last beat: what each of so many links leaves of it.
+pub fn freedom_of<const W: usize>(
+    monitor: &Monitor<W>,
+    links: u8,
+    block: u32,
+    shown: bool,
+) -> Freedom
     ensures { (levels : List Level) (l : Liberties) (t : Trace W) →
         Follows monitor.now levels l t → links ≡ length levels →
         (result.reading ≡ is_free links perm.Branch block t)
-        × (result.writing ≡ is_free links perm.Trunk block t) }
+        × (result.writing ≡ is_free links perm.Trunk block t)
+        × (result.shown ≡ shown) }
 {
     let mut free = Freedom {
         reading: true,
         writing: true,
+        shown,
     };
     for n in 0..links {
         let held = monitor.held_under(Link(n), block);
         free = Freedom {
             reading: both(free.reading, leaves(Perm::Branch, held)),
             writing: both(free.writing, leaves(Perm::Trunk, held)),
+            shown,
         };
     }
     free

@@ -23,13 +23,14 @@ ghost use Rattle.tl_together.specs.code.Windows.{asked_in, last_in, fault_of_mon
 
 use crate::breach::{Breach, MemoryRule};
 use crate::fault::JudgeFault;
-use crate::free::{freed, is_free, is_grantable};
+use crate::free::{is_free, is_grantable};
 use crate::notes::{note_request, note_shown, note_window};
-use crate::shown::shown_by;
+use crate::shown::{freed, shown_by};
 use crate::windows::{Window, Windows};
 use std::alloc::{AllocError, Global};
 use tl_beat::beat::{Beat, BeatD, Link};
-use tl_beat::opcode::{OpA, OpD};
+use tl_beat::opcode::OpD;
+use tl_memory::free::needs;
 use tl_memory::memory::{Change, Memory};
 use tl_monitor::byte_table::ByteTable;
 use tl_monitor::fault::MonitorFault;
@@ -40,17 +41,6 @@ use tl_rules::liberties::Liberties;
 use tl_rules::past::Request;
 use tl_rules::perm::Perm;
 use tl_rules::profile::Profile;
-
-/// What an access needs of its block, as one who holds it would.
-pub fn needs(opcode: OpA) -> Perm
-    ensures { result ≡ window.needs opcode }
-{
-    match opcode {
-        OpA::Get => Perm::Branch,
-        OpA::Intent => Perm::None,
-        _ => Perm::Trunk,
-    }
-}
 
 /// Whether a response answers an access that reads or writes.
 fn is_access_ack(opcode: OpD) -> bool
@@ -369,7 +359,7 @@ impl<const W: usize> Judge<W> {
             Err(fault) => return Err(of_monitor(fault)),
         }
         note_shown(&mut self.windows, &self.monitor, shown, link, beat, next);
-        let free = freed(&self.monitor, self.links, change.held);
+        let free = freed(&self.monitor, self.links, link, beat, change.held, shown);
         self.memory.take(change, link, beat, free, next);
         self.moment = next;
         Ok(())

@@ -56,7 +56,7 @@ pub fn note_window<const W: usize>(
     let Some(block) = held else {
         return Ok(());
     };
-    windows.note(block, freedom_of(monitor, links, block), moment)
+    windows.note(block, freedom_of(monitor, links, block, false), moment)
 }
 
 /// Notes that a beat that was taken shows the bytes of this block, where there is one, if the beat completes its message.

@@ -1,6 +1,7 @@
 //! Reports that tell what the bytes of a block are, and leave their sender Trunk.
 
-ghost use Rattle.std.specs.Prelude.{ℕ, List, Some, length, ◌≡◌, ◌<◌};
+ghost use Rattle.std.specs.Prelude.{ℕ, List, Some, length, option_map, ◌∷◌, ◌≡◌, ◌<◌};
+ghost use Rattle.tl_memory.specs.statement.Known.{freedom};
 ghost use Rattle.tl_bytes.specs.statement.Shown;
 ghost use Rattle.tl_burst.specs.statement.Messages.{History};
 ghost use Rattle.tl_params.specs.declared.level.Level.{Level};
@@ -9,8 +10,10 @@ ghost use Rattle.tl_rules.specs.statement.Conformance.{Trace, on_link};
 ghost use Rattle.tl_together.specs.code.Windows.{LeavesOthers, MayShow};
 ghost use Rattle.tl_together.specs.code.Following.{Follows};
 
+use crate::free::freedom_of;
 use tl_beat::beat::{Beat, BeatC, Link};
 use tl_beat::opcode::{OpB, OpC};
+use tl_memory::free::Freedom;
 use tl_monitor::monitor::Monitor;
 use tl_rules::key::block_at;
 use tl_rules::kind::reported;
@@ -60,5 +63,51 @@ pub fn shown_by<const W: usize>(monitor: &Monitor<W>, link: Link, beat: &Beat<W>
     match beat {
         Beat::C(x) if shows_bytes(monitor, link, x) => Some(block_at(x.address)),
         _ => None,
+    }
+}
+
+/// Whether the beat that was taken last shows the bytes of this block: these are those that it shows if its message is
+/// complete.
+fn is_shown<const W: usize>(
+    monitor: &Monitor<W>,
+    link: Link,
+    beat: &Beat<W>,
+    shown: Option<u32>,
+    block: u32,
+) -> bool
+    ensures { (levels : List Level) (l : Liberties) (t : Trace W) →
+        Follows monitor.now levels l ((link, beat.now) ∷ t) → link.0 < length levels →
+        MayShow shown beat.now (on_link link.0 t) → result ≡ Shown.shows block beat.now (on_link link.0 t) }
+{
+    let Some(own) = shown else {
+        return false;
+    };
+    if block != own {
+        return false;
+    }
+    monitor.begins(link, beat)
+}
+
+/// For whom the block is free of which a link may hold more or less with the beat that was taken last, where there is one:
+/// beside it the block whose bytes the beat shows if its message is complete.
+pub fn freed<const W: usize>(
+    monitor: &Monitor<W>,
+    links: u8,
+    link: Link,
+    beat: &Beat<W>,
+    held: Option<u32>,
+    shown: Option<u32>,
+) -> Option<Freedom>
+    ensures { (levels : List Level) (l : Liberties) (t : Trace W) →
+        Follows monitor.now levels l ((link, beat.now) ∷ t) → links ≡ length levels → link.0 < length levels →
+        MayShow shown beat.now (on_link link.0 t) →
+        result ≡ option_map (λ block. freedom (length levels) block (link, beat.now) t) held }
+{
+    match held {
+        None => None,
+        Some(block) => {
+            let shows = is_shown(monitor, link, beat, shown, block);
+            Some(freedom_of(monitor, links, block, shows))
+        }
     }
 }

@@ -3,10 +3,10 @@
 ghost use Rattle.std.specs.Prelude.{ℕ, [], true, OnOk, OnErr, if◌then◌else◌, ◌==◌, ◌&&◌, ◌≡◌};
 ghost use Rattle.tl_together.specs.code.Windows.{latest_window};
 
-use crate::free::Freedom;
 use std::alloc::{AllocError, Global};
 use std::collections::BTreeMap;
 use std::marker::Model;
+use tl_memory::free::Freedom;
 
 /// The last moments at which a block could be read, and written: how many beats had been taken then.
 #[derive(Clone, Copy)]

@@ -26,7 +26,9 @@ use Rattle.tl_rules.specs.statement.Admission.{bytes_carried, is_spoiled, lanes_
 use Rattle.tl_rules.specs.statement.Conformance.{Trace, on_link}
 use Rattle.tl_rules.specs.statement.Effect.{Memory, effect}
 use Rattle.tl_rules.specs.statement.History.{block_at, ends, grants, is_release_ack, request_of}
+use Rattle.tl_rules.specs.statement.Windows.{needs}
 use Rattle.tl_bytes.specs.statement.Free.{is_free}
+use Rattle.tl_bytes.specs.statement.Shown.{is_window}
 
 -- Moments are numbers of beats: moment n is after the first n beats of the trace.
 
@@ -283,21 +285,38 @@ may_grant n t address v =
     told_as v (may_be n address t)
     || written_as address v (filter (λ x. nat_lt 0 (windows_since n (block_at address) x.asked t)) (pending_accesses t))
 
--- At some moment since an access is complete the byte may have been v, or was being written so by another.
+-- the accesses that are pending beside this one
+abbrev pub others : {w : ℕ} → Access w → Trace w → List (Access w)
+others access t = filter (λ other. not (is_of access.link access.request.source other)) (pending_accesses t)
+
+-- an access may find the byte v: it may be so, or is being written so by another
+abbrev pub may_find : {w : ℕ} → ℕ → Access w → Trace w → ℕ → ℕ → Bool
+may_find n access t address v = told_as v (may_be n address t) || written_as address v (others access t)
+
+-- in one of its windows since its request is complete an access may have found the byte v
 unfoldable pub may_read : {w : ℕ} → ℕ → Access w → Trace w → ℕ → ℕ → Bool
 may_read n access [] address v = false
 may_read n access (x ∷ t) address v =
     nat_le access.asked (suc (length t))
-    && (told_as v (may_be n address (x ∷ t))
-    || (written_as address v
-    (filter (λ other. not (is_of access.link access.request.source other)) (pending_accesses (x ∷ t)))
-    || may_read n access t address v))
+    && ((is_window n (needs access.request.opcode) (block_at address) x t && may_find n access (x ∷ t) address v)
+    || may_read n access t address v)
 
 -- the bytes of beat k of a Grant of the block, which began after t, are such that may be granted
 abbrev pub grants_truly : {w : ℕ} → ℕ → ℕ → ℕ → BeatD w → Trace w → Bool
 grants_truly {w} n block k x t = each_from (may_grant n t) (64 * block + w * k) (lanes_of (beat.D x))
 
--- the bytes of beat k of the answer to an access, which began after t, are such that it may bring
+-- a request that only reads: it may be served beat by beat
+abbrev pub is_get : OpA → Bool
+is_get a.Get = true
+is_get _ = false
+
+-- What had been taken when the bytes were found that an answer brings with a beat after t, before which it had k: with
+-- a Get's beat all that was taken before it; an atomic is performed before its answer begins.
+abbrev pub found_after : {w : ℕ} → Option (Access w) → ℕ → ℕ → Trace w → Trace w
+found_after None link k t = t
+found_after (Some access) link k t = if is_get access.request.opcode then t else before_last link k t
+
+-- the bytes of beat k of the answer to an access are such that it may have found by then
 abbrev pub reads_truly : {w : ℕ} → ℕ → Option (Access w) → ℕ → BeatD w → Trace w → Bool
 reads_truly n None k x t = true
 reads_truly {w} n (Some access) k x t =
@@ -315,7 +334,7 @@ is_true_grant n link x (Some asked) t =
 abbrev pub is_true_read : {w : ℕ} → ℕ → ℕ → BeatD w → Trace w → Bool
 is_true_read n link x t =
     reads_truly n (find (is_of link x.source) (pending_accesses t)) (length (unfinished channel.D (on_link link t))) x
-    (before_last link (length (unfinished channel.D (on_link link t))) t)
+    (found_after (find (is_of link x.source) (pending_accesses t)) link (length (unfinished channel.D (on_link link t))) t)
 
 -- the bytes of a response are true after t: those that are corrupt, or denied, aren't judged
 abbrev pub is_true : {w : ℕ} → OpD → ℕ → ℕ → BeatD w → Trace w → Bool

@@ -2,6 +2,7 @@
 use Rattle.std.specs.Prelude.{ℕ, zero, suc, Bool, true, false, not, [], ◌∷◌, ◌==◌, ◌&&◌, ◌||◌, ◌+◌, ◌*◌, ◌<◌, ◌≡◌}
 use Rattle.std.specs.Prelude.{if◌then◌else◌, List, filter, find, is_some, length, nat_lt, Option, Some, None}
 use Rattle.std.specs.Prelude.{slice_index_or}
+use Rattle.std.specs.Global.{Vec}
 use Rattle.tl_beat.specs.declared.beat.Beat.{Beat}
 use Rattle.tl_beat.specs.declared.beat.Link.{Link}
 use Rattle.tl_burst.specs.statement.Messages.{channel_of, unfinished}
@@ -21,7 +22,7 @@ use Rattle.tl_bytes.specs.declared.telling.Told.{Told}
 use Rattle.tl_bytes.specs.declared.windows.WindowCount.{WindowCount}
 use Rattle.tl_bytes.specs.declared.windows.WindowCount.TheVariants as count
 use Rattle.tl_bytes.specs.declared.windows.WritingWindows.{WritingWindows}
-use Rattle.tl_bytes.specs.statement.Bytes.{could_be, is_of, may_grant, may_read, pending_accesses, written_as}
+use Rattle.tl_bytes.specs.statement.Bytes.{could_be, may_grant, may_read, pending_accesses, written_as}
 use Rattle.tl_bytes.specs.statement.Bytes.{Access, access_writes, carried_byte, may_be, value_left}
 use Rattle.tl_bytes.specs.statement.Bytes.{windows_since, window_began, last_window, last_told}
 
@@ -77,18 +78,18 @@ MayWrite writes block accesses = (place byte : ℕ) → place < 64
 abbrev pub windowed : {w : ℕ} → ℕ → ℕ → Trace w → List (Access w)
 windowed n block t = filter (λ x. nat_lt 0 (windows_since n block x.asked t)) (pending_accesses t)
 
--- the accesses that are pending beside this one
-abbrev pub others : {w : ℕ} → Access w → Trace w → List (Access w)
-others access t = filter (λ other. not (is_of access.link access.request.source other)) (pending_accesses t)
-
 -- one of these lets the byte at a place be this one
 abbrev pub is_listed : ℕ → ℕ → List Possible → Bool
 is_listed place byte possible = is_some (find (λ x. (x.place == place) && could_be byte x.value) possible)
 
+-- so does what the bytes might be in a first window, where there was one
+abbrev pub is_among : Option (Vec (Option ℕ)) → ℕ → ℕ → Bool
+is_among None place byte = false
+is_among (Some values) place byte = could_be byte (slice_index_or values.items place None)
+
 -- so does what is kept of what a read may bring
 abbrev pub may_bring : ReadBytes → ℕ → ℕ → Bool
-may_bring read place byte =
-    could_be byte (slice_index_or read.first.items place None) || is_listed place byte read.more.items
+may_bring read place byte = is_among read.first place byte || is_listed place byte read.more.items
 
 -- what a read may bring of each byte of the block is kept
 abbrev pub KnowsRead : {w : ℕ} → ReadBytes → ℕ → ℕ → Access w → Trace w → Type 0

@@ -1,5 +1,5 @@
 -- What a beat changes of what is known of the bytes of memory.
-use Rattle.std.specs.Prelude.{ℕ, Bool, true, ◌≡◌, ◌≢◌, if◌then◌else◌, Option, Some, None, slice_get}
+use Rattle.std.specs.Prelude.{ℕ, true, false, ◌≡◌, ◌≢◌, if◌then◌else◌, Option, Some, None, slice_get}
 use Rattle.tl_beat.specs.declared.beat.Beat.{Beat}
 use Rattle.tl_beat.specs.declared.beat.Beat.TheVariants as beat
 use Rattle.tl_beat.specs.declared.beat.BeatD.{BeatD}
@@ -11,10 +11,11 @@ use Rattle.tl_memory.specs.code.Passing.{changes_held}
 use Rattle.tl_memory.specs.code.Taking.{IsNext, IsSeen}
 use Rattle.tl_memory.specs.declared.block.BlockState.{BlockState}
 use Rattle.tl_memory.specs.declared.expected.Expected.{Expected}
+use Rattle.tl_memory.specs.declared.free.Freedom.{Freedom}
 use Rattle.tl_memory.specs.declared.memory.Change.{Change}
 use Rattle.tl_memory.specs.declared.memory.Memory.{Memory}
 use Rattle.tl_memory.specs.statement.Blocks.{place_in}
-use Rattle.tl_memory.specs.statement.Expecting.{ExpectsResponse}
+use Rattle.tl_memory.specs.statement.Expecting.{ExpectsLater, ExpectsResponse}
 
 -- the beat leaves each block as it is but this one, where there is one
 abbrev pub IsBorne : {w : ℕ} → Option ℕ → Link × Beat w → Trace w → Type 0
@@ -25,13 +26,19 @@ abbrev pub ExpectsBegun : {w : ℕ} → Option Expected → ℕ → Link × Beat
 ExpectsBegun {w} expected n x t = (y : BeatD w) → x.1 ≡ beat.D y → begins (beat.D y) (on_link x.0.0 t) ≡ true
     → ExpectsResponse expected n x.0.0 y.opcode y.source t t
 
+-- and this is what it may bring with the beat that doesn't begin it, where that is said anew
+abbrev pub ExpectsAlong : {w : ℕ} → Option Expected → ℕ → Link × Beat w → Trace w → Type 0
+ExpectsAlong {w} expected n x t = (y : BeatD w) → x.1 ≡ beat.D y → begins (beat.D y) (on_link x.0.0 t) ≡ false
+    → ExpectsLater expected n x.0.0 y.opcode y.source t
+
 -- This is what the beat changes: the state of one block, of which one is kept at this place, or of none, what its link
--- holds of that block, and what the response may bring that begins with it.
+-- holds of that block, and what the response may bring that begins with it, or whose beat it is.
 pub record IsChange {w : ℕ} (change : Change w) (m : Memory w) (n : ℕ) (x : Link × Beat w) (t : Trace w) : Type 0 where
   pub block_is : IsBorne change.block x t
   pub held_is : change.held ≡ (if changes_held x.1 (on_link x.0.0 t) then change.block else None)
   pub kept : (block : ℕ) → change.block ≡ Some block → place_in m.blocks block ≡ Some change.place
-  pub next_is : (block : ℕ) (free : Option Bool) (s : BlockState w) → change.block ≡ Some block
+  pub next_is : (block : ℕ) (free : Option Freedom) (s : BlockState w) → change.block ≡ Some block
       → slice_get m.blocks.states.items change.place ≡ Some s → IsSeen free n block x t
       → IsNext change.next free s n block x t
   pub expected_is : ExpectsBegun change.expected n x t
+  pub along_is : ExpectsAlong change.expected n x t

@@ -10,6 +10,7 @@ use Rattle.tl_rules.specs.declared.past.Request.{Request}
 use Rattle.tl_rules.specs.statement.Conformance.{Trace, on_link}
 use Rattle.tl_rules.specs.statement.History.{block_at, is_release_ack}
 use Rattle.tl_bytes.specs.statement.Free.{may_hold}
+use Rattle.tl_bytes.specs.statement.Shown.{shows}
 use Rattle.tl_bytes.specs.statement.Bytes.{Access, access_writes, ends_request, is_of, pending_accesses, tells}
 use Rattle.tl_memory.specs.statement.Known.{AllWriteInside, is_to}
 
@@ -42,10 +43,11 @@ pub record IsElsewhere {w : ℕ} (block : ℕ) (x : Link × Beat w) (t : Trace w
 abbrev pub LeavesHeld : {w : ℕ} → ℕ → Link × Beat w → Trace w → Type 0
 LeavesHeld block x t = may_hold block (x.1 ∷ on_link x.0.0 t) ≡ may_hold block (on_link x.0.0 t)
 
--- the beat changes nothing of what is kept of the block
+-- the beat changes nothing of what is kept of the block, and doesn't show its bytes
 pub record PassesBy {w : ℕ} (block : ℕ) (x : Link × Beat w) (t : Trace w) : Type 0 where
   pub elsewhere : IsElsewhere block x t
   pub held_is : LeavesHeld block x t
+  pub unshown : shows block x.1 (on_link x.0.0 t) ≡ false
 
 -- the block of the request, where there is one
 abbrev pub block_asked : Option Request → Option ℕ

@@ -3,6 +3,8 @@ use Rattle.std.specs.Prelude.{ℕ, Bool, true, false, not, ◌&&◌, ◌||◌}
 use Rattle.tl_beat.specs.declared.beat.Beat.{Beat}
 use Rattle.tl_beat.specs.declared.beat.Beat.TheVariants as beat
 use Rattle.tl_beat.specs.declared.beat.BeatA.{BeatA}
+use Rattle.tl_beat.specs.declared.opcode.OpD.{OpD}
+use Rattle.tl_beat.specs.declared.opcode.OpD.TheVariants as d
 use Rattle.tl_burst.specs.statement.Messages.{History}
 use Rattle.tl_rules.specs.statement.History.{begins, ends, is_acquire, is_grant}
 use Rattle.tl_rules.specs.statement.Liberties.{grows_from_none}
@@ -12,12 +14,17 @@ use Rattle.tl_bytes.specs.statement.Bytes.{is_access}
 abbrev pub acquires_from_none : {w : ℕ} → BeatA w → Bool
 acquires_from_none y = is_acquire y.opcode && grows_from_none y.param
 
+-- the response brings what an access finds
+abbrev pub is_answer_data : OpD → Bool
+is_answer_data d.AccessAckData = true
+is_answer_data _ = false
+
 -- With the beat no access is asked for, nothing acquired from nothing held, no report complete, and no response begun
--- or complete: so it is with those in the middle of a message.
+-- or complete, nor does it bring what an access finds: so it is with those in the middle of a message.
 abbrev pub passes_by : {w : ℕ} → Beat w → History w → Bool
 passes_by (beat.A y) past = not (acquires_from_none y) && (not (is_access y.opcode) || not (ends (beat.A y) past))
 passes_by (beat.C y) past = not (ends (beat.C y) past)
-passes_by (beat.D y) past = not (begins (beat.D y) past || ends (beat.D y) past)
+passes_by (beat.D y) past = not ((begins (beat.D y) past || ends (beat.D y) past) || is_answer_data y.opcode)
 passes_by _ past = true
 
 -- with the beat its link may hold more or less of the block that it bears on: it acquires from nothing held, or a report

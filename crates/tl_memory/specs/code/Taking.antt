@@ -12,24 +12,29 @@ use Rattle.tl_beat.specs.declared.opcode.OpD.{OpD}
 use Rattle.tl_beat.specs.declared.opcode.OpD.TheVariants as d
 use Rattle.tl_beat.specs.statement.Opcode.{a_carries_data}
 use Rattle.tl_burst.specs.statement.Messages.{History, unfinished}
-use Rattle.tl_params.specs.declared.perm.Perm.TheVariants as perm
 use Rattle.tl_rules.specs.code.Open.{open_request}
 use Rattle.tl_rules.specs.declared.past.Request.{Request}
 use Rattle.tl_rules.specs.statement.Conformance.{Trace, answers, on_link}
 use Rattle.tl_rules.specs.statement.History.{block_at, ends, is_release_ack}
-use Rattle.tl_bytes.specs.statement.Free.{is_free}
 use Rattle.tl_bytes.specs.statement.Bytes.{Access, asked_by, is_access, is_of, is_perm_only, pending_accesses}
-use Rattle.tl_memory.specs.code.Elsewhere.{IsElsewhere, LeavesHeld, PassesBy}
+use Rattle.tl_memory.specs.code.Elsewhere.{IsElsewhere, PassesBy}
+use Rattle.tl_memory.specs.code.Passing.{changes_held}
 use Rattle.tl_memory.specs.declared.block.BlockState.{BlockState}
 use Rattle.tl_memory.specs.declared.block.NextState.{NextState}
-use Rattle.tl_memory.specs.statement.Known.{AreWide, HasRoom, IsLawful, KnowsState, WritesInside}
+use Rattle.tl_memory.specs.declared.free.Freedom.{Freedom}
+use Rattle.tl_memory.specs.statement.Known.{AreWide, HasRoom, IsLawful, KnowsState, KnowsUnseen, WritesInside}
+use Rattle.tl_memory.specs.statement.Known.{freedom}
+
+-- the same, where no bytes are shown
+abbrev pub none_shown : Freedom → Freedom
+none_shown free = record { reading = free.reading; writing = free.writing; shown = false }
 
 -- the state of a block with what a beat makes of it
 abbrev pub with_next : {w : ℕ} → BlockState w → NextState w → BlockState w
 with_next s next = record {
   bytes = unwrap_or next.bytes s.bytes;
   accesses = next.accesses;
-  free = s.free;
+  free = none_shown s.free;
   last_free = s.last_free;
 }
 
@@ -38,33 +43,35 @@ abbrev pub put_next : {w : ℕ} → BlockState w → Option (NextState w) → Bl
 put_next s None = s
 put_next s (Some next) = with_next s next
 
--- This is what a beat makes of the state of the block, or that stays as it was. Whether the block is free for writing
--- with the beat is told beside it, where that isn't in the state.
-abbrev pub IsNext : {w : ℕ} → Option (NextState w) → Option Bool → BlockState w → ℕ → ℕ → Link × Beat w → Trace w
+-- For whom the block is free with a beat is told beside its state, where the beat may change that.
+abbrev pub IsSeen : {w : ℕ} → Option Freedom → ℕ → ℕ → Link × Beat w → Trace w → Type 0
+IsSeen None n block x t = changes_held x.1 (on_link x.0.0 t) ≡ false
+IsSeen (Some free) n block x t = (changes_held x.1 (on_link x.0.0 t) ≡ true) × (free ≡ freedom n block x t)
+
+-- This is what a beat makes of the state of the block, or that stays as it was, where this is told beside it.
+abbrev pub IsNext : {w : ℕ} → Option (NextState w) → Option Freedom → BlockState w → ℕ → ℕ → Link × Beat w → Trace w
     → Type 0
 IsNext None None s n block x t = PassesBy block x t
-IsNext None (Some free) s n block x t = IsElsewhere block x t × (free ≡ is_free n perm.Trunk block (x ∷ t))
-IsNext (Some next) None s n block x t = KnowsState (with_next s next) n block (x ∷ t) (x ∷ t)
+IsNext None (Some free) s n block x t = ⊥
+IsNext (Some next) None s n block x t = KnowsState (with_next s next) n block (x ∷ t)
 IsNext (Some next) (Some free) s n block x t =
-    KnowsState (with_next s next) n block t (x ∷ t) × (free ≡ is_free n perm.Trunk block (x ∷ t))
+    KnowsUnseen (with_next s next) n block x t × (free ≡ freedom n block x t)
 
 -- the beat is of the request of an access
 abbrev pub is_asking : {w : ℕ} → Beat w → Bool
 is_asking (beat.A y) = is_access y.opcode
 is_asking _ = false
 
--- How free the block is for writing with a beat is told beside its state, where its link may hold more or less of
--- the block than before: with the request of an access it never does.
-abbrev pub IsSeen : {w : ℕ} → Option Bool → ℕ → ℕ → Link × Beat w → Trace w → Type 0
-IsSeen None n block x t = LeavesHeld block x t
-IsSeen (Some free) n block x t = (is_asking x.1 ≡ false) × (free ≡ is_free n perm.Trunk block (x ∷ t))
+-- This is what a beat makes of the state of its block that asks for no access, or that stays as it was: then it doesn't
+-- change for whom the block is free either.
+abbrev pub IsNextUnseen : {w : ℕ} → Option (NextState w) → BlockState w → ℕ → ℕ → Link × Beat w → Trace w → Type 0
+IsNextUnseen None s n block x t = IsElsewhere block x t × (changes_held x.1 (on_link x.0.0 t) ≡ false)
+IsNextUnseen (Some next) s n block x t = KnowsUnseen (with_next s next) n block x t
 
--- This is what a beat of channel A makes of the state of its block: something only where it completes the request of
--- an access.
+-- This is what a beat of the request of an access makes of the state of its block: something only where it completes it.
 abbrev pub IsNextAsked : {w : ℕ} → Option (NextState w) → BlockState w → ℕ → ℕ → Link × Beat w → Trace w → Type 0
 IsNextAsked None s n block x t = IsElsewhere block x t
-IsNextAsked (Some next) s n block x t =
-    (is_asking x.1 ≡ true) × KnowsState (with_next s next) n block (x ∷ t) (x ∷ t)
+IsNextAsked (Some next) s n block x t = KnowsState (with_next s next) n block (x ∷ t)
 
 -- the request that is open with the source of a response
 abbrev pub request_answered : {w : ℕ} → Beat w → History w → Option Request

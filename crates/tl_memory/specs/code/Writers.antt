@@ -6,8 +6,9 @@ use Rattle.tl_beat.specs.declared.beat.Beat.{Beat}
 use Rattle.tl_beat.specs.declared.beat.Link.{Link}
 use Rattle.tl_params.specs.declared.perm.Perm.TheVariants as perm
 use Rattle.tl_rules.specs.statement.Conformance.{Trace}
+use Rattle.tl_rules.specs.statement.Windows.{needs}
 use Rattle.tl_bytes.specs.statement.Free.{is_free}
-use Rattle.tl_bytes.specs.code.Tellings.{leaves}
+use Rattle.tl_bytes.specs.code.Tellings.{left_as}
 use Rattle.tl_bytes.specs.declared.block_bytes.BlockBytes.{BlockBytes}
 use Rattle.tl_bytes.specs.declared.windows.WindowCount.{WindowCount}
 use Rattle.tl_bytes.specs.declared.windows.WindowCount.TheVariants as count
@@ -15,8 +16,9 @@ use Rattle.tl_bytes.specs.declared.write.Write.{Write}
 use Rattle.tl_bytes.specs.statement.Bytes.{Access, is_of, told_as}
 use Rattle.tl_bytes.specs.statement.Known.{KnowsWindows, may_bring, tellings_of}
 use Rattle.tl_memory.specs.declared.access.Asked.{Asked}
+use Rattle.tl_memory.specs.declared.free.Freedom.{Freedom}
 use Rattle.tl_memory.specs.declared.pending.PendingAccess.{PendingAccess}
-use Rattle.tl_memory.specs.declared.writer.Writer.{Writer}
+use Rattle.tl_memory.specs.statement.Known.{open_for}
 
 -- what is picked of those of a list that are kept
 unfoldable pub picked : {X Y : Type 0} → (X → Bool) → (X → Y) → List X → List Y
@@ -72,18 +74,12 @@ abbrev pub AreRenewed : {w : ℕ} → (PendingAccess w → ℕ → ℕ → Bool)
     → Type 0
 AreRenewed more old new = AllZip (IsRenewed more) old new
 
--- nothing more
-abbrev pub nothing : {w : ℕ} → PendingAccess w → ℕ → ℕ → Bool
-nothing x place byte = false
-
--- what is told of the block
-abbrev pub told_by : {w : ℕ} → BlockBytes → PendingAccess w → ℕ → ℕ → Bool
-told_by bytes x place byte = told_as byte (tellings_of bytes place)
-
--- what an access writes, of each other
-abbrev pub written_by : {w : ℕ} → Writer w → PendingAccess w → ℕ → ℕ → Bool
-written_by writer x place byte =
-    not (names x.writer.asked.link.0 x.writer.asked.request.source writer.asked) && leaves place byte writer.write
+-- what an access may find now, by what is kept of its block and of the accesses that are pending beside it
+abbrev pub found_by : {w : ℕ} → Freedom → BlockBytes → List (PendingAccess w) → PendingAccess w → ℕ → ℕ → Bool
+found_by free bytes accesses x place byte =
+    open_for free (needs x.writer.asked.request.opcode)
+    && (told_as byte (tellings_of bytes place)
+    || left_as place byte (writes_but x.writer.asked.link.0 x.writer.asked.request.source accesses))
 
 -- what is kept of an access whose block is free with one more beat, at this moment, or isn't
 pub record IsWatched {w : ℕ} (free : Bool) (moment : ℕ) (old new : PendingAccess w) : Type 0 where

@@ -17,8 +17,8 @@ IsUntold {w} n block t = (place : ℕ) → place < 64
 -- carried
 abbrev pub KnowsKept : {w : ℕ} → Option (BlockState w) → ℕ → ℕ → Trace w → Type 0
 KnowsKept {w} None n block t =
-    IsUntold n block t × ((s : BlockState w) → KnowsState s n block [] [] → KnowsState s n block t t)
-KnowsKept (Some s) n block t = KnowsState s n block t t
+    IsUntold n block t × ((s : BlockState w) → KnowsState s n block [] → KnowsState s n block t)
+KnowsKept (Some s) n block t = KnowsState s n block t
 
 -- the place of a block among the states, where one is kept
 abbrev pub place_in : {w : ℕ} → Blocks w → ℕ → Option ℕ

@@ -1,5 +1,6 @@
 -- What a response may bring, and a link's that has begun.
-use Rattle.std.specs.Prelude.{ℕ, suc, Bool, not, ◌||◌, ◌∷◌, ◌*◌, ◌≡◌, List, length, find, Option, Some, None, ⊤}
+use Rattle.std.specs.Prelude.{ℕ, suc, Bool, true, false, not, ◌||◌, ◌∷◌, ◌*◌, ◌≡◌, List, length, find, Option, Some, None}
+use Rattle.std.specs.Prelude.{⊤}
 use Rattle.tl_beat.specs.declared.beat.Beat.{Beat}
 use Rattle.tl_beat.specs.declared.beat.Beat.TheVariants as beat
 use Rattle.tl_beat.specs.declared.beat.BeatD.{BeatD}
@@ -12,7 +13,8 @@ use Rattle.tl_rules.specs.code.Open.{open_request}
 use Rattle.tl_rules.specs.declared.past.Request.{Request}
 use Rattle.tl_rules.specs.statement.Conformance.{Trace, on_link}
 use Rattle.tl_rules.specs.statement.History.{block_at}
-use Rattle.tl_bytes.specs.statement.Bytes.{Access, before_last, is_of, may_read, pending_accesses}
+use Rattle.tl_bytes.specs.statement.Bytes.{Access, before_last, found_after, is_get, is_of, may_read}
+use Rattle.tl_bytes.specs.statement.Bytes.{pending_accesses}
 use Rattle.tl_bytes.specs.statement.Known.{KnowsGrant}
 use Rattle.tl_memory.specs.declared.expected.Expected.{Expected}
 use Rattle.tl_memory.specs.statement.Known.{Expects}
@@ -43,6 +45,27 @@ ExpectsResponse expected n link d.GrantData source t begun =
 ExpectsResponse expected n link d.AccessAckData source t begun =
     ExpectsRead expected n (find (is_of link source) (pending_accesses t)) begun
 ExpectsResponse expected n link _ source t begun = ⊤
+
+-- This is what an answer may bring to this access with a beat after t that doesn't begin it, where the access is a Get:
+-- that may be served beat by beat. Of other answers nothing is said anew.
+abbrev pub ExpectsAgain : {w : ℕ} → Option Expected → ℕ → Option (Access w) → Trace w → Type 0
+ExpectsAgain expected n None t = expected ≡ None
+ExpectsAgain expected n (Some access) t =
+    (is_get access.request.opcode ≡ true → ExpectsRead expected n (Some access) t)
+    × (is_get access.request.opcode ≡ false → expected ≡ None)
+
+-- the same of a response with this opcode and source
+abbrev pub ExpectsLater : {w : ℕ} → Option Expected → ℕ → ℕ → OpD → ℕ → Trace w → Type 0
+ExpectsLater expected n link d.AccessAckData source t =
+    ExpectsAgain expected n (find (is_of link source) (pending_accesses t)) t
+ExpectsLater expected n link _ source t = expected ≡ None
+
+-- this is what a response with this opcode and source may bring with a beat after t, before which it had k
+abbrev pub ExpectsBeat : {w : ℕ} → Option Expected → ℕ → ℕ → OpD → ℕ → ℕ → Trace w → Type 0
+ExpectsBeat expected n link d.AccessAckData source k t =
+    ExpectsRead expected n (find (is_of link source) (pending_accesses t))
+    (found_after (find (is_of link source) (pending_accesses t)) link k t)
+ExpectsBeat expected n link opcode source k t = ExpectsResponse expected n link opcode source t (before_last link k t)
 
 -- this is what the response may bring that has begun on channel D of a link and isn't complete
 abbrev pub KnowsExpected : {w : ℕ} → Option Expected → ℕ → ℕ → Trace w → Type 0

@@ -1,25 +1,31 @@
 -- What is known of the bytes of memory, after what all links of a manager have carried.
 use Rattle.std.specs.Prelude.{ℕ, Bool, true, false, None, [], ◌∷◌, ◌+◌, ◌*◌, ◌%◌, ◌^◌, ◌==◌, ◌<◌, ◌≤◌}
-use Rattle.std.specs.Prelude.{◌≡◌, List, length, filter, find, is_some, Option, Some, slice_index, ⊤}
+use Rattle.std.specs.Prelude.{◌≡◌, ◌&&◌, ◌||◌, List, length, filter, find, is_some, Option, Some, slice_index, ⊤}
 use Rattle.tl_beat.specs.declared.beat.Beat.{Beat}
 use Rattle.tl_beat.specs.declared.beat.Beat.TheVariants as beat
+use Rattle.tl_beat.specs.declared.beat.Link.{Link}
 use Rattle.tl_beat.specs.declared.opcode.OpA.{OpA}
 use Rattle.tl_beat.specs.declared.opcode.OpA.TheVariants as a
 use Rattle.tl_beat.specs.statement.Opcode.{a_carries_data}
 use Rattle.tl_burst.specs.statement.Burst.{bit}
 use Rattle.tl_params.specs.declared.level.Level.TheVariants as level
+use Rattle.tl_params.specs.declared.perm.Perm.{Perm}
 use Rattle.tl_params.specs.declared.perm.Perm.TheVariants as perm
 use Rattle.tl_rules.specs.code.Control.{a_control}
 use Rattle.tl_rules.specs.statement.Admission.{is_spoiled, lanes_of}
 use Rattle.tl_bytes.specs.statement.Bytes.{Access, access_writes, carried_mask, last_window, pending_accesses}
-use Rattle.tl_bytes.specs.statement.Bytes.{pending_value}
-use Rattle.tl_rules.specs.statement.Conformance.{Trace}
+use Rattle.tl_bytes.specs.statement.Bytes.{may_find, may_read, pending_value}
+use Rattle.tl_rules.specs.statement.Conformance.{Trace, on_link, same_perm}
 use Rattle.tl_rules.specs.statement.History.{block_at}
+use Rattle.tl_rules.specs.statement.Windows.{needs}
 use Rattle.tl_bytes.specs.statement.Free.{is_free}
+use Rattle.tl_bytes.specs.statement.Shown.{shows}
 use Rattle.tl_bytes.specs.code.Tellings.{is_written, value_at}
+use Rattle.tl_bytes.specs.declared.read_bytes.ReadBytes.{ReadBytes}
 use Rattle.tl_bytes.specs.declared.write.Write.{Write}
-use Rattle.tl_bytes.specs.statement.Known.{KnowsBlock, KnowsCarried, KnowsRead, KnowsWindows}
+use Rattle.tl_bytes.specs.statement.Known.{KnowsBlock, KnowsCarried, KnowsRead, KnowsWindows, may_bring}
 use Rattle.tl_memory.specs.declared.block.BlockState.{BlockState}
+use Rattle.tl_memory.specs.declared.free.Freedom.{Freedom}
 use Rattle.tl_memory.specs.declared.expected.Expected.{Expected}
 use Rattle.tl_memory.specs.declared.pending.PendingAccess.{PendingAccess}
 use Rattle.tl_memory.specs.declared.access.Asked.{Asked}
@@ -118,40 +124,77 @@ abbrev pub AllWriteInside : {w : ℕ} → List (Access w) → Type 0
 AllWriteInside [] = ⊤
 AllWriteInside (access ∷ accesses) = WritesInside access × AllWriteInside accesses
 
--- This is kept of an access to the block that is pending after t. Its windows are those that it had before a
--- beat of which it isn't seen yet whether the block is free with it: those after the trace that was seen.
-pub record KnowsAccess {w : ℕ} (pending : PendingAccess w) (n block : ℕ) (access : Access w) (seen t : Trace w) : Type 0
-  where
-    pub asked_is : IsAsked pending.writer.asked access
-    pub lawful : IsLawful access
-    pub write_is : IsPendingWrite pending.writer.write block access
-    pub before : access.asked ≤ length seen
-    pub windows_are : KnowsWindows pending.windows n block access.asked seen
-    pub read_is : KnowsRead pending.read n block access t
+-- What an access may have found after t is kept, but for what it may find now, where one who needs so much may access its
+-- block now: that is kept before the block changes.
+abbrev pub KeepsFound : {w : ℕ} → ReadBytes → Bool → ℕ → ℕ → Access w → Trace w → Type 0
+KeepsFound read admitted n block access t = (place byte : ℕ) → place < 64
+    → may_read n access t (64 * block + place) byte
+    ≡ ((admitted && may_find n access t (64 * block + place) byte) || may_bring read place byte)
+
+-- This is kept of an access to the block that is pending, as it was seen to be after a trace, when these could access the
+-- block.
+pub record KnowsAccess {w : ℕ} (pending : PendingAccess w) (admits : Perm → Bool) (n block : ℕ) (access : Access w)
+    (seen : Trace w) : Type 0 where
+  pub asked_is : IsAsked pending.writer.asked access
+  pub lawful : IsLawful access
+  pub write_is : IsPendingWrite pending.writer.write block access
+  pub before : access.asked ≤ length seen
+  pub windows_are : KnowsWindows pending.windows n block access.asked seen
+  pub found_is : KeepsFound pending.read (admits (needs access.request.opcode)) n block access seen
 
 -- of these accesses, one by one
-abbrev pub AreKnown : {w : ℕ} → List (PendingAccess w) → ℕ → ℕ → List (Access w) → Trace w → Trace w → Type 0
-AreKnown [] n block [] seen t = ⊤
-AreKnown (pending ∷ more) n block (access ∷ accesses) seen t =
-    KnowsAccess pending n block access seen t × AreKnown more n block accesses seen t
-AreKnown _ n block _ seen t = ⊥
+abbrev pub AreKnown : {w : ℕ} → List (PendingAccess w) → (Perm → Bool) → ℕ → ℕ → List (Access w) → Trace w → Type 0
+AreKnown [] admits n block [] seen = ⊤
+AreKnown (pending ∷ more) admits n block (access ∷ accesses) seen =
+    KnowsAccess pending admits n block access seen × AreKnown more admits n block accesses seen
+AreKnown _ admits n block _ seen = ⊥
 
 -- this is kept of the accesses to the block that are pending after t, the last first; each that is pending
 -- writes in its own block alone
-pub record KnowsAccesses {w : ℕ} (pending : List (PendingAccess w)) (n block : ℕ) (seen t : Trace w) : Type 0 where
-  pub accesses_are : AreKnown pending n block (filter (is_to block) (pending_accesses t)) seen t
+pub record KnowsAccesses {w : ℕ} (pending : List (PendingAccess w)) (admits : Perm → Bool) (n block : ℕ)
+    (seen t : Trace w) : Type 0 where
+  pub accesses_are : AreKnown pending admits n block (filter (is_to block) (pending_accesses t)) seen
   pub inside : AllWriteInside (pending_accesses t)
 
 -- ---- blocks
 
--- This is kept of a block after t: what its bytes may be, the accesses to it that are pending, and whether it is
--- free for writing, or when it last was. The freedom, and with it the windows, is that after the trace that was
--- seen, which is t itself, or t before its last beat.
-pub record KnowsState {w : ℕ} (s : BlockState w) (n block : ℕ) (seen t : Trace w) : Type 0 where
+-- with a beat the block is free for those who read it, and for those who write it, or its bytes are shown
+abbrev pub freedom : {w : ℕ} → ℕ → ℕ → Link × Beat w → Trace w → Freedom
+freedom n block x t = record {
+  reading = is_free n perm.Branch block (x ∷ t);
+  writing = is_free n perm.Trunk block (x ∷ t);
+  shown = shows block x.1 (on_link x.0.0 t);
+}
+
+-- it is free for one who needs so much of it
+abbrev pub free_for : Freedom → Perm → Bool
+free_for free perm.Trunk = free.writing
+free_for free perm.Branch = free.reading
+free_for free perm.None = true
+
+-- one may access it who needs so much
+abbrev pub open_for : Freedom → Perm → Bool
+open_for free given = free_for free given || (same_perm given perm.Branch && free.shown)
+
+-- none may
+abbrev pub closed : Perm → Bool
+closed given = false
+
+-- This is kept of a block after t, as it was seen to be after a trace, when these could access it: what its bytes may be,
+-- the accesses to it that are pending, for whom it is free, and when it last was so for writing, where it isn't.
+pub record KnowsParts {w : ℕ} (s : BlockState w) (admits : Perm → Bool) (n block : ℕ) (seen t : Trace w) : Type 0 where
   pub bytes_are : KnowsBlock s.bytes n block t
-  pub accesses_are : KnowsAccesses s.accesses.items n block seen t
-  pub free_is : s.free ≡ is_free n perm.Trunk block seen
-  pub last_is : s.free ≡ false → s.last_free ≡ last_window n block seen
+  pub accesses_are : KnowsAccesses s.accesses.items admits n block seen t
+  pub free_is : (given : Perm) → free_for s.free given ≡ is_free n given block seen
+  pub last_is : s.free.writing ≡ false → s.last_free ≡ last_window n block seen
+
+-- this is kept of a block after t
+abbrev pub KnowsState : {w : ℕ} → BlockState w → ℕ → ℕ → Trace w → Type 0
+KnowsState s n block t = KnowsParts s (open_for s.free) n block t t
+
+-- And this with a beat, for whom the block is free with which isn't seen yet: what accesses may have found before is kept.
+abbrev pub KnowsUnseen : {w : ℕ} → BlockState w → ℕ → ℕ → Link × Beat w → Trace w → Type 0
+KnowsUnseen s n block x t = KnowsParts s closed n block t (x ∷ t)
 
 -- the access, where there is one, is to the block
 abbrev pub AnyIsTo : {w : ℕ} → ℕ → Option (Access w) → Type 0

@@ -24,7 +24,7 @@ use Rattle.tl_monitor.specs.declared.fault.MonitorFault.TheVariants as monitor
 use Rattle.tl_together.specs.declared.breach.Breach.TheVariants.{OfLink}
 use Rattle.tl_together.specs.declared.fault.JudgeFault.{JudgeFault}
 use Rattle.tl_together.specs.declared.fault.JudgeFault.TheVariants as judge
-use Rattle.tl_together.specs.declared.free.Freedom.{Freedom}
+use Rattle.tl_memory.specs.declared.free.Freedom.{Freedom}
 use Rattle.tl_together.specs.declared.windows.Window.{Window}
 use Rattle.tl_bytes.specs.statement.Free.{is_free, may_hold}
 use Rattle.tl_bytes.specs.statement.Shown.{is_window, shows}

@@ -4,6 +4,6 @@ use Rattle.tl_memory.proofs.Writing.{windowed-may-write}
 use Rattle.tl_memory.proofs.granted.granted.Goals as goal
 
 pub returns : goal.returns
-returns g c = λ n block t bytes k. c.in_ok-read.ensures g.row.W n block t bytes
+returns g c = λ n block admits t bytes k. c.in_ok-read.ensures g.row.W n block t bytes
     (λ place byte lt. ap (left_as place byte) (c.as_slice.ensures.value ∙ c.in_ok-writes.ensures)
-    ∙ windowed-may-write n block t c.args.accesses.now k place byte lt)
+    ∙ windowed-may-write n block admits t c.args.accesses.now k place byte lt)

@@ -2,16 +2,15 @@ use Rattle.std.{proofs.Common.arith, proofs.Common.◌≡◌, proofs.Common.◌/
 use Rattle.std.{proofs.lemmas.Result.IfOk-weaker}
 use Rattle.tl_beat.specs.declared.beat.Beat.{Beat}
 use Rattle.tl_memory.proofs.Taken.{none-borne, none-open, response-borne, response-is, same-block, seen-other}
-use Rattle.tl_memory.proofs.Taken.{seen-request}
 use Rattle.tl_memory.proofs.next.after_beat.Goals as goal
 
 pub returns-in-A : goal.returns-in-A
-returns-in-A g c = IfOk-weaker c.after_request.result _ _ (λ next h n block free t k m legal asked borne now seen.
+returns-in-A g c = IfOk-weaker c.after_asking.result _ _ (λ next h n block free t k m legal asked borne now seen.
     let y = c.in-A.y in
     let is = c.in-A.is in
-    rw is (seen-request next free c.args.state.now n block c.args.link y t (rw is at seen)
-    (h n block t k m.a_is (rw is at legal) (same-block (y.address / 64) block (rw is at borne)) now)))
-    c.after_request.ensures
+    rw is (h n block free t k m.a_is (rw is at legal) (same-block (y.address / 64) block (rw is at borne)) now
+    (rw is at seen)))
+    c.after_asking.ensures
 
 pub returns-in-C : goal.returns-in-C
 returns-in-C g c = IfOk-weaker c.after_report.result _ _ (λ next h n block free t k m legal asked borne now seen.
@@ -19,8 +18,7 @@ returns-in-C g c = IfOk-weaker c.after_report.result _ _ (λ next h n block free
     let is = c.in-C.is in
     let before : c.saturating_sub-before.result ≡ length t = omega (arith, c.saturating_sub-before.ensures, now) in
     rw is (seen-other next free c.args.state.now n block (c.args.link, Beat.C y) t (rw is at seen)
-    (λ f e. h n block c.args.link f t k m.c_is (rw is at legal) (same-block (y.address / 64) block (rw is at borne))
-    before e)))
+    (h n block c.args.link t k m.c_is (rw is at legal) (same-block (y.address / 64) block (rw is at borne)) before)))
     c.after_report.ensures
 
 pub returns-in-Some : goal.returns-in-Some
@@ -32,7 +30,7 @@ returns-in-Some g c = IfOk-weaker c.after_response.result _ _ (λ next h n block
     let its = response-is c.args.link.0 y c.args.asked c.in-Some.asked one.0 block t c.in-Some.is one.1 (one.2, one.3)
     in
     rw is (seen-other next free c.args.state.now n block (c.args.link, Beat.D y) t (rw is at seen)
-    (λ f e. h n block f t k m.d_is its.0 its.1 before e)))
+    (h n block t k m.d_is its.0 its.1 before)))
     c.after_response.ensures
 
 pub returns-in-None : goal.returns-in-None

@@ -25,10 +25,8 @@ returns g c = λ n block t k message is here now.
     let both = and_parts (is_access y.opcode) (ends (Beat.A y) (on_link link.0 t)) complete in
     let over = both.1 in
     let brought = c.with.ensures burst message is.room in
-    let asked = c.new-asked.ensures burst brought (is.wide over) (whole_room g.row.W (length burst) is.room.0) in (
-      both.0,
-      c.in_ok-asked.ensures n block link y (asked_by link.0 y (Beat.A y ∷ burst) (suc (length t))) t both.0 k
-          (pending-asked link y t complete)
-          (at-moment c.new-asked.result link.0 y (Beat.A y ∷ burst) c.args.moment (suc (length t)) now asked)
-          (is.lawful complete) (is.inside complete) here refl,
-    )
+    let asked = c.new-asked.ensures burst brought (is.wide over) (whole_room g.row.W (length burst) is.room.0) in
+    c.in_ok-asked.ensures n block link y (asked_by link.0 y (Beat.A y ∷ burst) (suc (length t))) t both.0 k
+    (pending-asked link y t complete)
+    (at-moment c.new-asked.result link.0 y (Beat.A y ∷ burst) c.args.moment (suc (length t)) now asked)
+    (is.lawful complete) (is.inside complete) here refl

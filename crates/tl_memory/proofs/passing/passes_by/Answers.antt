@@ -31,7 +31,8 @@ returns-in-D g c = λ t k few.
     let burst = unfinished Channel.D t in
     let last = c.completes-in-D.ensures burst k.d_is (rw is at few) in
     let first = none-before c.count.result burst (c.count.ensures g.row.W burst k.d_is.bytes_are) in
-    rw is (ap not (c.either-in-D.ensures ∙ ap₂ (λ a b. a || b) first (rw is at last)))
+    rw is (ap not (c.either-in-D.ensures ∙ ap₂ (λ a b. a || b)
+    (c.either-bounds.ensures ∙ ap₂ (λ a b. a || b) first (rw is at last)) c.is_answer_data.ensures))
 
 pub returns-in_default : goal.returns-in_default
 returns-in_default g c = λ t k few. others-pass c.args.x.now t c.in_default.not-A c.in_default.not-C c.in_default.not-D

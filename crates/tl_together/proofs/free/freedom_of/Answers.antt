@@ -7,6 +7,7 @@ pub loop-n-init : goal.loop-n-init
 loop-n-init g c = λ levels may t k e. (
   free_none perm.Branch c.args.block t,
   free_none perm.Trunk c.args.block t,
+  refl,
 )
 
 pub loop-n-preserved : goal.loop-n-preserved
@@ -20,10 +21,13 @@ loop-n-preserved g c = λ levels may t k e.
           c.leaves-in-loop-n.result c.both-in-loop-n.result k refl (omega (arith, e, c.loop-n-test.true)) held before.1
           c.leaves-in-loop-n.ensures
           c.both-in-loop-n.ensures,
+      refl,
     )
 
 pub returns : goal.returns
 returns g c = λ levels may t k e.
     let done : c.loop-n.n ≡ c.args.links = omega (arith, c.loop-n-test.false) in
-    free_all c.loop-n.n c.args.links c.args.block t c.loop-n.free.reading c.loop-n.free.writing done
-    (c.loop-n.invariant levels may t k e)
+    let all = c.loop-n.invariant levels may t k e in
+    let both = free_all c.loop-n.n c.args.links c.args.block t c.loop-n.free.reading c.loop-n.free.writing done
+    (all.0, all.1) in
+    (both.0, both.1, all.2)

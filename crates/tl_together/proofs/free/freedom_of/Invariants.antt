@@ -12,3 +12,4 @@ invariant-loop-n g l = (levels : List Level) (may : Liberties) (t : Trace _) →
     → l.links ≡ length levels
     → (l.free.reading ≡ is_free l.n perm.Branch l.block t)
     × (l.free.writing ≡ is_free l.n perm.Trunk l.block t)
+    × (l.free.shown ≡ l.shown)

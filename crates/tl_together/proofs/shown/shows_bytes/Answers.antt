@@ -4,7 +4,7 @@ use Rattle.tl_bytes.specs.statement.Shown.{tells_bytes}
 use Rattle.tl_params.specs.declared.perm.Perm.{Perm}
 use Rattle.tl_rules.specs.code.Open.{open_probe}
 use Rattle.tl_rules.specs.statement.Conformance.{on_link, same_perm}
-use Rattle.tl_rules.specs.statement.History.{block_at, reported}
+use Rattle.tl_rules.specs.statement.History.{reported}
 use Rattle.tl_together.proofs.shown.shows_bytes.Goals as goal
 
 pub returns : goal.returns

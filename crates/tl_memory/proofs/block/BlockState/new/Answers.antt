@@ -1,6 +1,5 @@
-use Rattle.std.proofs.Common.{refl}
-use Rattle.tl_memory.proofs.States.{state-first}
+use Rattle.tl_memory.proofs.States.{all-free, state-first}
 use Rattle.tl_memory.proofs.block.BlockState.new.Goals as goal
 
 pub returns : goal.returns
-returns g c = λ n block. state-first _ n block (c.new.ensures g.row.W n block) c.new-2.ensures.items refl
+returns g c = λ n block. state-first _ n block (c.new.ensures g.row.W n block) c.new-2.ensures.items all-free

@@ -1,23 +1,28 @@
 use Rattle.std.proofs.Common.{rules, refl, ◌≡◌, find}
 use Rattle.std.specs.Prelude.{None, Some}
-use Rattle.tl_memory.{specs.code.Writers.is_named, proofs.Keeping.finds}
+use Rattle.tl_memory.{specs.code.Writers.is_named, specs.statement.Known.open_for, proofs.Keeping.finds}
+use Rattle.tl_memory.{proofs.Keeping.kept-one}
 use Rattle.tl_memory.proofs.States.{expects-none, expects-some, is-found, none-found}
 use Rattle.tl_memory.proofs.block.BlockState.read.Goals as goal
 
 pub returns-in_default : goal.returns-in_default
 returns-in_default g c = λ n block t k to.
-    let found = finds c.args.link.0 c.args.source n block t t c.args.self.now.accesses.items k.accesses_are to in
-    let none : None ≡ find (is_named c.args.link.0 c.args.source) c.args.self.now.accesses.items = search rules in
-    expects-none n block _ t (none-found _ n block _ t t none found)
+    let s = c.args.self.now in
+    let found = finds c.args.link.0 c.args.source (open_for s.free) n block t s.accesses.items k.accesses_are to in
+    let none : None ≡ find (is_named c.args.link.0 c.args.source) s.accesses.items = search rules in
+    expects-none n block _ t (none-found _ (open_for s.free) n block _ t none found)
 
 pub returns : goal.returns
 returns g c = λ n block t k to.
-    let found = finds c.args.link.0 c.args.source n block t t c.args.self.now.accesses.items k.accesses_are to in
+    let s = c.args.self.now in
+    let found = finds c.args.link.0 c.args.source (open_for s.free) n block t s.accesses.items k.accesses_are to in
     let there : Some c.in-Some.access.now
-    ≡ find (is_named c.args.link.0 c.args.source) c.args.self.now.accesses.items = search rules in
-    let one = is-found c.in-Some.access.now _ n block _ t t there found to in
+    ≡ find (is_named c.args.link.0 c.args.source) s.accesses.items = search rules in
+    let one = is-found c.in-Some.access.now _ (open_for s.free) n block _ t there found to in
+    let kept = kept-one n block s.free s.bytes s.accesses.items t k.bytes_are k.accesses_are c.in-Some.access.now
+    c.in_ok-renewed.renewed one.0 (rw c.as_slice-accesses.ensures.value at c.in_ok-renewed.ensures) one.2 in
     expects-some (record {
-      address = c.in-Some.access.now.writer.asked.request.address;
-      size = c.in-Some.access.now.writer.asked.request.size;
-      bytes = c.in_ok-copy.field-0;
-    }) c.in-Some.access.now n block one.0 _ t one.1 one.2 refl refl c.in_ok-copy.ensures
+      address = c.in_ok-renewed.renewed.writer.asked.request.address;
+      size = c.in_ok-renewed.renewed.writer.asked.request.size;
+      bytes = c.in_ok-renewed.renewed.read;
+    }) c.in_ok-renewed.renewed n block one.0 _ t one.1 kept refl refl refl

@@ -3,7 +3,7 @@ use Rattle.tl_memory.proofs.block.BlockState.take.Goals as goal
 
 pub returns-in-Some : goal.returns-in-Some
 returns-in-Some g c = λ n block x t k now next.
-    let seen = next-seen c.args.self.now c.args.next c.in-Some.free n block x t k (rw c.in-Some.is at next) in
+    let seen = next-seen c.args.self.now c.args.next c.in-Some.free n block x t (rw c.in-Some.is at next) in
     c.watch.ensures n block x t (rw c.put.ensures seen.0) seen.1 now
 
 pub returns-in_default : goal.returns-in_default

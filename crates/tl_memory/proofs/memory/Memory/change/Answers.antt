@@ -3,7 +3,7 @@ use Rattle.std.{specs.Prelude.None, proofs.lemmas.Result.IfOk-weaker}
 use Rattle.tl_burst.specs.statement.Part.{is_small}
 use Rattle.tl_rules.specs.statement.Conformance.{on_link}
 use Rattle.tl_memory.{proofs.LinkBeats.large-breaks, proofs.OpenAccesses.is-fine, proofs.OpenAccesses.legal-on}
-use Rattle.tl_memory.{proofs.PassedBy.none-begins, proofs.PassedBy.passed-by}
+use Rattle.tl_memory.proofs.PassedBy.{none-along, none-begins, passed-by}
 use Rattle.tl_memory.proofs.Memories.{is-borne, links-legal, none-expected, nothing-changed}
 use Rattle.tl_memory.proofs.memory.Memory.change.Goals as goal
 
@@ -25,7 +25,7 @@ returns-then-passes_by-clause-change g c = λ levels t k legal fine asked now.
     nothing-changed c.none-then-passes_by.result c.args.self.now (length levels) (link, x) t
     c.none-then-passes_by.ensures.block c.none-then-passes_by.ensures.held c.none-then-passes_by.ensures.expected
     (λ block other. passed-by block link x t k.blocks_are.inside passing)
-    (none-begins (length levels) link x t passing)
+    (none-begins (length levels) link x t passing) (none-along (length levels) link x t passing)
 
 pub returns-in_default-clause-change : goal.returns-in_default-clause-change
 returns-in_default-clause-change g c = λ levels t k legal fine asked now.
@@ -36,7 +36,8 @@ returns-in_default-clause-change g c = λ levels t k legal fine asked now.
     let unborne = sym (c.block_borne.ensures (on_link link.0 t) asked) ∙ c.in_default.is in
     nothing-changed c.none-in_default.result c.args.self.now (length levels) (link, x) t
     c.none-in_default.ensures.block c.none-in_default.ensures.held c.none-in_default.ensures.expected
-    (is-borne None link x t k.blocks_are.inside its unborne) (none-expected link x (length levels) t its unborne)
+    (is-borne None link x t k.blocks_are.inside its unborne) (none-expected link x (length levels) t its unborne).0
+    (none-expected link x (length levels) t its unborne).1
 
 pub returns-in_err-place-clause-known : goal.returns-in_err-place-clause-known
 returns-in_err-place-clause-known g c = λ n t k. record {

@@ -24,7 +24,8 @@ returns g c = λ levels t k legal fine asked now borne there.
           let same = same-block block other e in
           let own = same_Some c.in-Some.state.now s (c.in-Some.ensures ∙ found) in
           rw (← same, ← own) (c.in_ok-next.ensures n block free t state messages its asked borne now (rw same seen));
-      expected_is = c.in_ok-expected.ensures n t state messages.d_is its borne k.addressed;
+      expected_is = (c.in_ok-expected.ensures n t state messages.d_is its borne k.addressed).0;
+      along_is = (c.in_ok-expected.ensures n t state messages.d_is its borne k.addressed).1;
     }
 
 pub returns-in_default : goal.returns-in_default

@@ -1,5 +1,4 @@
-use Rattle.std.proofs.Common.{◌≡◌, length, subst}
-use Rattle.std.specs.Prelude.{None}
+use Rattle.std.proofs.Common.{length, subst}
 use Rattle.tl_memory.specs.code.Changing.{IsChange}
 use Rattle.tl_memory.specs.statement.Links.{KeepsRules}
 use Rattle.tl_together.proofs.Answered.{broken_beginning_is, broken_bytes_are, no_d}

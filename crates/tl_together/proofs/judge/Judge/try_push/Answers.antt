@@ -92,4 +92,4 @@ returns-clause-knows g c = λ levels may t closed k.
     (c.take.ensures levels t (c.change.ensures.known (length levels) t o.memory_is)
     (followed _ levels may t o.monitor_is)
     (one_more _ levels may (c.args.link, c.args.beat.now) t o.monitor_is fine) now change
-    (c.freed-free.ensures levels may _ pushed o.links_are))
+    (c.freed-free.ensures levels may t pushed o.links_are lt shows))

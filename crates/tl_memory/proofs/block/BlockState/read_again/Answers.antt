@@ -1,0 +1,31 @@
+use Rattle.std.proofs.Common.{rules, refl, ◌≡◌, find}
+use Rattle.std.specs.Prelude.{None, Some}
+use Rattle.std.proofs.lemmas.Result.{IfOk-weaker}
+use Rattle.tl_memory.{specs.code.Writers.is_named, specs.statement.Known.open_for, proofs.Keeping.finds}
+use Rattle.tl_memory.proofs.States.{again-get, again-none, again-other, is-found, none-found}
+use Rattle.tl_memory.proofs.block.BlockState.read_again.Goals as goal
+
+pub returns-in_default : goal.returns-in_default
+returns-in_default g c = λ n block t k to.
+    let s = c.args.self.now in
+    let found = finds c.args.link.0 c.args.source (open_for s.free) n block t s.accesses.items k.accesses_are to in
+    let none : None ≡ find (is_named c.args.link.0 c.args.source) s.accesses.items = search rules in
+    again-none None n _ t (none-found _ (open_for s.free) n block _ t none found) refl
+
+pub returns-then-ne : goal.returns-then-ne
+returns-then-ne g c = λ n block t k to.
+    let s = c.args.self.now in
+    let found = finds c.args.link.0 c.args.source (open_for s.free) n block t s.accesses.items k.accesses_are to in
+    let there : Some c.in-Some.access.now
+    ≡ find (is_named c.args.link.0 c.args.source) s.accesses.items = search rules in
+    let one = is-found c.in-Some.access.now _ (open_for s.free) n block _ t there found to in
+    again-other n one.0 _ t one.1 (search rules)
+
+pub returns : goal.returns
+returns g c = IfOk-weaker c.read.result _ _ (λ expected h n block t k to.
+    let s = c.args.self.now in
+    let found = finds c.args.link.0 c.args.source (open_for s.free) n block t s.accesses.items k.accesses_are to in
+    let there : Some c.in-Some.access.now
+    ≡ find (is_named c.args.link.0 c.args.source) s.accesses.items = search rules in
+    let one = is-found c.in-Some.access.now _ (open_for s.free) n block _ t there found to in
+    again-get expected n block one.0 _ t one.1 one.3 (search rules) (h n block t k to)) c.read.ensures

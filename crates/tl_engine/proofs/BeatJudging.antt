@@ -7,7 +7,6 @@ use Rattle.tl_params.specs.statement.Liberties.{liberties_of}
 use Rattle.tl_params.specs.declared.level.Level.{Level}
 use Rattle.tl_params.specs.declared.profile.Profile.{Profile}
 use Rattle.tl_params.specs.declared.rule.Rule.{Rule}
-use Rattle.tl_rules.specs.declared.past.Request.{Request}
 use Rattle.tl_rules.specs.statement.Conformance.{Trace, broken_on_link}
 use Rattle.tl_monitor.specs.declared.fault.MonitorFault.TheVariants as monitor
 use Rattle.tl_monitor.specs.declared.monitor.Monitor.{Monitor}
@@ -93,23 +92,3 @@ module _ {w : ℕ} (old : BeatJudge w) (x : Link × Beat w) where
           ap (option_map fault_of_breach) (breached_by (broken_together levels (liberties_of p) x t) breach (broken levels p t had)),
           knows levels p t had,
         )
-
--- the request with a source, by a monitor of links
-pub alone_request : {w : ℕ} (old : BeatJudge w) (m : Monitor w) (is : old ≡ OfLinks m) (o : Option Request) (link : Link)
-    (source : ℕ)
-    → ((levels : List Level) (p : Profile) (t : Trace w) (closed : Bool) → of_link.Knows m levels p t closed
-    → o ≡ of_link.request_on levels link source t)
-    → (together : Bool) (levels : List Level) (p : Profile) (t : Trace w) → KnowsBeats together old levels p t
-    → o ≡ of_link.request_on levels link source t
-alone_request old m is o link source says true levels p t known = absurd (rw is at known)
-alone_request old m is o link source says false levels p t known = says levels p t false (rw is at known)
-
--- and by a judge of all
-pub together_request : {w : ℕ} (old : BeatJudge w) (j : Judge w) (is : old ≡ OfAll j) (o : Option Request) (link : Link)
-    (source : ℕ)
-    → ((levels : List Level) (p : Profile) (t : Trace w) → of_all.Knows j levels (liberties_of p) t false
-    → o ≡ of_link.request_on levels link source t)
-    → (together : Bool) (levels : List Level) (p : Profile) (t : Trace w) → KnowsBeats together old levels p t
-    → o ≡ of_link.request_on levels link source t
-together_request old j is o link source says false levels p t known = absurd (rw is at known)
-together_request old j is o link source says true levels p t known = says levels p t (rw is at known)

@@ -12,18 +12,18 @@ use Rattle.tl_beat.specs.statement.Line.{Spells}
 use Rattle.tl_beat.specs.statement.Width.{IsWidth}
 use Rattle.tl_memory.specs.code.Elsewhere.{block_asked}
 use Rattle.tl_monitor.specs.statement.Knows.{request_on}
-use Rattle.tl_params.specs.statement.Liberties.{liberties_of}
 use Rattle.tl_params.specs.declared.level.Level.{Level}
-use Rattle.tl_params.specs.declared.profile.Profile.{Profile}
+use Rattle.tl_params.specs.declared.liberties.Liberties.{Liberties}
 use Rattle.tl_params.specs.declared.width.Width.{Width}
 use Rattle.tl_rules.specs.code.Open.{open_request}
 use Rattle.tl_rules.specs.declared.past.Request.{Request}
-use Rattle.tl_rules.specs.statement.Conformance.{Trace, broken_on_link, on_link}
+use Rattle.tl_rules.specs.statement.Conformance.{Trace, on_link}
+use Rattle.tl_rules.specs.statement.Liberties.{broken_on_link_under}
 use Rattle.tl_rules.specs.statement.History.{capped}
 use Rattle.tl_explain.specs.code.Spelled.{spelled}
 use Rattle.tl_explain.specs.declared.told.Spelling.{Spelling}
 use Rattle.tl_explain.specs.statement.Evidence.{next_line}
-use Rattle.tl_engine.proofs.Within.{in_levels}
+use Rattle.tl_memory.proofs.LinkTables.{link-there}
 use Rattle.tl_together.specs.declared.breach.Breach.TheVariants.{OfMemory}
 use Rattle.tl_together.specs.declared.breach.MemoryRule.{MemoryRule}
 use Rattle.tl_together.specs.declared.breach.MemoryRule.TheVariants.{M1, M2, M3, M4}
@@ -40,23 +40,26 @@ use Rattle.tl_engine.specs.code.Progress.{HasAll}
 use Rattle.tl_engine.specs.code.Testifying.{Concludes, EndsTestimony, HasHeard, HasTold, Hears, HearsHeader, HearsLine}
 use Rattle.tl_engine.specs.code.Testifying.{IsSameInquiry, KnowsInquiry, KnowsRecord, KnowsTestimony, RecordsBeat}
 use Rattle.tl_engine.specs.code.Testifying.{StillKnows, TellsBeat, TellsFault, TellsRecorded, TellsResponse}
-use Rattle.tl_engine.specs.code.Tracing.{KnowsSpelled, KnowsTraced, WatchesLine}
-use Rattle.tl_engine.specs.code.Watching.{KnowsBeats, KnowsLines, KnowsTrace, Watches}
-use Rattle.tl_engine.specs.declared.beat_judge.BeatJudge.{BeatJudge}
-use Rattle.tl_engine.specs.declared.beat_judge.BeatJudge.TheVariants.{OfAll}
+use Rattle.tl_engine.specs.code.Tracing.{KnowsSpelled, TracedBy, WatchesBy, WatchesLine}
+use Rattle.tl_engine.specs.code.LinkWatching.{KnowsJudge, KnowsLines, KnowsTrace, Watches, judged_for}
+use Rattle.tl_engine.specs.code.TraceJudging.{KnowsBeats}
+use Rattle.tl_engine.specs.declared.trace_judge.TraceJudge.{TraceJudge}
+use Rattle.tl_engine.specs.declared.trace_judge.TraceJudge.TheVariants.{OfAll}
 use Rattle.tl_engine.specs.declared.fault.Fault.{Fault}
 use Rattle.tl_engine.specs.declared.fault.Fault.TheVariants.{Line, MemoryRule as BreaksTogether}
-use Rattle.tl_engine.specs.declared.monitor_lines.MonitorLines.{MonitorLines}
-use Rattle.tl_engine.specs.declared.monitor_lines.MonitorLines.TheVariants.{Waiting, Four, Eight, Sixteen}
+use Rattle.tl_engine.specs.declared.link_lines.LinkJudge.{LinkJudge}
+use Rattle.tl_engine.specs.declared.link_lines.LinkJudge.TheVariants.{Waiting, Four, Eight, Sixteen}
+use Rattle.tl_engine.specs.declared.link_lines.LinkLines.{LinkLines}
 use Rattle.tl_engine.specs.declared.status.Status.{Status}
 use Rattle.tl_engine.specs.declared.status.Status.TheVariants.{Clean, Broken}
 use Rattle.tl_engine.specs.declared.testimony.Inquiry.{Inquiry}
 use Rattle.tl_engine.specs.declared.testimony.Testimony.{Testimony}
-use Rattle.tl_engine.specs.statement.Coherent.{JudgedTogether, fault_of_breach, faults_together}
+use Rattle.tl_engine.specs.statement.Coherent.{fault_of_breach}
+use Rattle.tl_engine.specs.statement.JudgedLinks.{JudgedLinks, faults_by}
 use Rattle.tl_engine.specs.statement.Explained.{IsWitnessed, SpellsTrace, memory_front_text}
 use Rattle.tl_engine.specs.statement.Fault.{fault_text}
 use Rattle.tl_engine.specs.statement.Judged.{IsAtFault}
-use Rattle.tl_engine.specs.statement.Trace.{SpellsHeader}
+use Rattle.tl_engine.specs.statement.LinksHeader.{NamesLinks}
 use Rattle.tl_engine.proofs.OneText.{same_beat}
 use Rattle.tl_engine.proofs.Tracing.{broken-memory, spelled-alone, spelled-count, spells-more}
 
@@ -79,13 +82,13 @@ same-record old new n t witness block known = rw (witness, block) known
 pub header-recorded : (old new : Inquiry) (h : Witness) (line : List ℕ) (links : ℕ) (named : List Level)
     → IsSameInquiry old new → new.witness ≡ Some h
     → ((w : ℕ) → KnowsWitness {w = w} h links old.block []) → links ≡ length named
-    → ((width : Width) (p : Profile) (levels : List Level) → SpellsHeader line width p levels → named ≡ levels)
+    → ((width : Width) (own : Liberties) (levels : List Level) → NamesLinks line width own levels → named ≡ levels)
     → HearsHeader old new line
 header-recorded old new h line links named same is fresh many names = record {
   same = same;
-  recorded = λ none w width p levels spells.
+  recorded = λ none w width own levels spells.
       rw (is, same.block_is) (subst (λ (n : ℕ). KnowsWitness {w = w} h n old.block [])
-      (many ∙ ap length (names width p levels spells)) (fresh w));
+      (many ∙ ap length (names width own levels spells)) (fresh w));
 }
 
 -- no header
@@ -93,7 +96,7 @@ pub header-none : (old new : Inquiry) (line : List ℕ) → IsSameInquiry old ne
     → HearsHeader old new line
 header-none old new line same is = record {
   same = same;
-  recorded = λ none w width p levels spells. rw (is ∙ none) tt;
+  recorded = λ none w width own levels spells. rw (is ∙ none) tt;
 }
 
 -- a beat that the witness took
@@ -147,69 +150,69 @@ module _ {w : ℕ} (levels : List Level) (link : Link) (x : BeatD w) (t : Trace 
 
 pub recorded-told : {w : ℕ} (witness : Option Witness) (h : Witness) (judge : Judge w) (rule : MemoryRule) (link : Link)
     (x : BeatD w) (was is : List ℕ) → witness ≡ Some h
-    → (rule ≡ M1 → (levels : List Level) (p : Profile) (block : ℕ) (t : Trace w)
-    → of_all.Knows judge levels (liberties_of p) t false → KnowsWitness h (length levels) block t
+    → (rule ≡ M1 → (levels : List Level) (may : Liberties) (block : ℕ) (t : Trace w)
+    → of_all.Knows judge levels may t false → KnowsWitness h (length levels) block t
     → is ≡ was ++ conflicts_text (length levels) link.0 (capped x.param) block t)
-    → (rule ≡ M4 → (levels : List Level) (p : Profile) (asked : Request) (block : ℕ) (t : Trace w)
-    → of_all.Knows judge levels (liberties_of p) t false → KnowsWitness h (length levels) block t → link.0 < length levels
+    → (rule ≡ M4 → (levels : List Level) (may : Liberties) (asked : Request) (block : ℕ) (t : Trace w)
+    → of_all.Knows judge levels may t false → KnowsWitness h (length levels) block t → link.0 < length levels
     → open_request x.source (on_link link.0 t) ≡ Some asked
     → is ≡ was ++ access_text (length levels) link.0 x.source asked block t)
-    → (rule ≢ M1 → rule ≢ M4 → (levels : List Level) (p : Profile) (t : Trace w)
-    → of_all.Knows judge levels (liberties_of p) t false → broken_on_link levels p (link, Beat.D x) t ≡ None
+    → (rule ≢ M1 → rule ≢ M4 → (levels : List Level) (may : Liberties) (t : Trace w)
+    → of_all.Knows judge levels may t false → broken_on_link_under may levels (link, Beat.D x) t ≡ None
     → is ≡ was ++ bytes_text x.opcode (length levels) link.0 x t)
     → TellsRecorded witness judge rule link x was is
-recorded-told witness h judge rule link x was is some grant access bytes = λ levels p block t k known of fine.
-    let lt = in_levels levels p link (Beat.D x) t fine in
+recorded-told witness h judge rule link x was is some grant access bytes = λ levels may block t k known of fine.
+    let lt = link-there may levels (link, Beat.D x) t fine in
     let kept : KnowsWitness h (length levels) block t = rw some at known in
-    grounds-told levels link x t block was is rule of (λ e. grant e levels p block t k kept)
-    (λ e asked there. access e levels p asked block t k kept lt there) (λ one four. bytes one four levels p t k fine)
+    grounds-told levels link x t block was is rule of (λ e. grant e levels may block t k kept)
+    (λ e asked there. access e levels may asked block t k kept lt there) (λ one four. bytes one four levels may t k fine)
 
 pub response-told : {w : ℕ} (old new : Inquiry) (judge : Judge w) (number : ℕ) (line : List ℕ) (link : Link)
     (x : BeatD w) (asked : Option Request) (empty mid : List ℕ)
-    → ((levels : List Level) (p : Profile) (t : Trace w) → of_all.Knows judge levels (liberties_of p) t false
+    → ((levels : List Level) (may : Liberties) (t : Trace w) → of_all.Knows judge levels may t false
     → asked ≡ request_on levels link x.source t)
     → block_asked asked ≡ Some old.block → empty ≡ []
     → ((l : Link) (b : Beat w) → Spells line l b → mid ≡ empty ++ memory_front_text old.rule number l b)
     → TellsRecorded old.witness judge old.rule link x mid new.reasons.items
     → TellsResponse old new judge number line link x
-response-told old new judge number line link x asked empty mid says of none front told = λ levels p t k known spells fine.
-    let lt = in_levels levels p link (Beat.D x) t fine in
+response-told old new judge number line link x asked empty mid says of none front told = λ levels may t k known spells fine.
+    let lt = link-there may levels (link, Beat.D x) t fine in
     let opened : asked ≡ open_request x.source (on_link link.0 t) =
-    says levels p t k ∙ rw (lt-ltb link.0 (length levels) lt) refl in
+    says levels may t k ∙ rw (lt-ltb link.0 (length levels) lt) refl in
     let first : mid ≡ memory_front_text old.rule number link (Beat.D x) =
     front link (Beat.D x) spells ∙ ap (λ (e : List ℕ). e ++ memory_front_text old.rule number link (Beat.D x)) none in
-    told levels p old.block t k known (ap block_asked (sym opened) ∙ of) fine
+    told levels may old.block t k known (ap block_asked (sym opened) ∙ of) fine
     ∙ ap (λ (text : List ℕ). text ++ grounds_text old.rule (length levels) link.0 x t) first
 
 -- the beat is that response
-pub beat-told : {w : ℕ} (old new : Inquiry) (judge : BeatJudge w) (inner : Judge w) (number : ℕ) (line : List ℕ)
+pub beat-told : {w : ℕ} (old new : Inquiry) (judge : TraceJudge w) (inner : Judge w) (number : ℕ) (line : List ℕ)
     (link : Link) (x : Beat w) (y : BeatD w) → judge ≡ OfAll inner → x ≡ Beat.D y
     → TellsResponse old new inner number line link y → TellsBeat old new judge number line link x
-beat-told {w} old new judge inner number line link x y is of_d told = λ levels p t known kept spells fine. (
+beat-told {w} old new judge inner number line link x y is of_d told = λ levels may t known kept spells fine. (
   y,
   of_d,
   subst (λ (z : Beat w). new.reasons.items ≡ memory_front_text old.rule number link z
       ++ grounds_text old.rule (length levels) link.0 y t) (sym of_d)
-      (told levels p t (rw is at known) kept (rw of_d at spells) (rw of_d at fine)),
+      (told levels may t (rw is at known) kept (rw of_d at spells) (rw of_d at fine)),
 )
 
 -- the line at fault spells it
-pub fault-told : {w : ℕ} (old new : Inquiry) (judge : BeatJudge w) (number : ℕ) (line : List ℕ) (link : Link)
+pub fault-told : {w : ℕ} (old new : Inquiry) (judge : TraceJudge w) (number : ℕ) (line : List ℕ) (link : Link)
     (x : Beat w) → IsWidth w → line ≡ spelled old.line → number ≡ old.good + 1 → Spells line link x
     → TellsBeat old new judge number line link x → TellsFault old new judge number line
 fault-told {w} old new judge number line link x width same_line next here told = record {
   is_line = same_line;
   is_next = next;
-  tells = λ levels p t k y known kept spells fine.
+  tells = λ levels may t k y known kept spells fine.
       let same = same_beat line link k x y width here spells in
-      subst (λ (z : Link × Beat w). Spells line z.0 z.1 → broken_on_link levels p z t ≡ None
+      subst (λ (z : Link × Beat w). Spells line z.0 z.1 → broken_on_link_under may levels z t ≡ None
       → (d : BeatD w) × (z.1 ≡ Beat.D d) × (new.reasons.items ≡ memory_front_text old.rule number z.0 z.1
       ++ grounds_text old.rule (length levels) z.0.0 d t)) same
-      (λ own good. told levels p t known kept own good) spells fine;
+      (λ own good. told levels may t known kept own good) spells fine;
 }
 
 -- it is told of, and recorded
-pub beat-heard : {w : ℕ} (old mid new : Inquiry) (judge : BeatJudge w) (number : ℕ) (line : List ℕ) (told : Bool)
+pub beat-heard : {w : ℕ} (old mid new : Inquiry) (judge : TraceJudge w) (number : ℕ) (line : List ℕ) (told : Bool)
     → IsSameInquiry old mid → mid.witness ≡ old.witness → IsSameInquiry mid new → RecordsBeat w mid new number line
     → new.reasons ≡ mid.reasons → (told ≡ true → TellsFault old mid judge number line)
     → HearsLine old new judge number line told
@@ -222,8 +225,8 @@ beat-heard {w} old mid new judge number line told first witness second records r
       record {
         is_line = so.is_line;
         is_next = so.is_next;
-        tells = λ levels p t link x known kept spells fine.
-            let (y, is, text) = so.tells levels p t link x known kept spells fine in
+        tells = λ levels may t link x known kept spells fine.
+            let (y, is, text) = so.tells levels may t link x known kept spells fine in
             (y, is, ap (λ v. v.items) reasons ∙ text);
       };
 }

@@ -35,3 +35,6 @@ pub mod TraceQuiet
 pub mod Tracing
 mod Unended
 pub mod Unexplained
+pub mod LinksHeaders
+pub mod TraceJudging
+pub mod JudgedLines

@@ -1,16 +1,18 @@
 -- Lines that are read again bring the record on, up to the line at fault.
 use Rattle.std.proofs.Common.{◌≡◌, ℕ, suc, List, [], ◌∷◌, ◌++◌, length, true, false, refl, sym, ap, ◌∙◌}
 use Rattle.std.proofs.Common.{arith, append_assoc, length-append, inl, inr, eqb-true, subst}
-use Rattle.std.specs.Prelude.{◌==◌, Option, Result, Ok, Err, IfOk, ⊤}
+use Rattle.std.specs.Prelude.{◌==◌, ◌&&◌, Bool, not, Option, Result, Ok, Err, IfOk, ⊤}
+use mathlib.Core.Bool.{beq}
 use Rattle.std.proofs.lemmas.List.{append-nil}
 use Rattle.std.specs.Io.KnownBytes.{Consumes}
 use Rattle.std.proofs.KnownBytes.{Consumes-trans}
 use Rattle.tl_beat.specs.statement.Line.{Spells}
-use Rattle.tl_params.specs.declared.profile.Profile.{Profile}
+use Rattle.tl_params.specs.declared.liberties.Liberties.{Liberties}
+use Rattle.tl_params.specs.declared.level.Level.{Level}
+use Rattle.tl_params.specs.declared.width.Width.{Width}
 use Rattle.tl_rules.specs.statement.Conformance.{Trace}
-use Rattle.tl_explain.specs.code.Recorded.{IsRecord}
+use Rattle.tl_explain.specs.code.Recorded.{IsRecordUnder}
 use Rattle.tl_explain.specs.code.Spelled.{spelled}
-use Rattle.tl_explain.specs.declared.recorder.Recorder.{Recorder}
 use Rattle.tl_explain.specs.declared.told.Spelling.{Spelling}
 use Rattle.tl_explain.specs.declared.turns.Subject.{Subject}
 use Rattle.tl_explain.specs.statement.Reasons.{IsSubject}
@@ -24,8 +26,65 @@ use Rattle.tl_engine.specs.declared.status.Status.{Status}
 use Rattle.tl_engine.specs.declared.status.Status.TheVariants.{Broken, Clean}
 use Rattle.tl_engine.specs.declared.status.ToolFault.{ToolFault}
 use Rattle.tl_engine.specs.statement.Explained.{AreLinesOf}
-use Rattle.tl_engine.specs.statement.Trace.{SpellsHeader}
+use Rattle.tl_engine.specs.statement.LinksHeader.{NamesAllowed}
 use Rattle.tl_engine.proofs.Progress.{feeds_then}
+
+-- ---- the same liberties
+
+are_equal : (x y : Bool) → beq x y ≡ true → x ≡ y
+are_equal true true e = refl
+are_equal false false e = refl
+are_equal true false e = absurd cc
+are_equal false true e = absurd cc
+
+both_true : (x y : Bool) → (x && y) ≡ true → (x ≡ true) × (y ≡ true)
+both_true true y e = (refl, e)
+both_true false y e = absurd cc
+
+not_false : (x : Bool) → not x ≡ false → x ≡ true
+not_false true e = refl
+not_false false e = absurd cc
+
+abbrev these : Bool → Bool → Bool → Bool → Bool → Bool → Bool → Bool → Liberties
+these i s w e d r n u = record {
+  ids = i;
+  sinks = s;
+  writer = w;
+  early = e;
+  drops = d;
+  reports = r;
+  denied = n;
+  uncorrupt = u;
+}
+
+-- liberties that don't differ, one by one, are the same
+pub same_liberties : (a b : Liberties) (differ : Bool)
+    → differ ≡ not (beq a.ids b.ids && (beq a.sinks b.sinks && (beq a.writer b.writer && (beq a.early b.early
+    && (beq a.drops b.drops && (beq a.reports b.reports && (beq a.denied b.denied && beq a.uncorrupt b.uncorrupt)))))))
+    → differ ≡ false → a ≡ b
+same_liberties a b differ is never =
+    let (ids, more) = both_true _ _ (not_false _ (sym is ∙ never)) in
+    let (sinks, more) = both_true _ _ more in
+    let (writer, more) = both_true _ _ more in
+    let (early, more) = both_true _ _ more in
+    let (drops, more) = both_true _ _ more in
+    let (reports, more) = both_true _ _ more in
+    let (denied, uncorrupt) = both_true _ _ more in
+    let same : these a.ids a.sinks a.writer a.early a.drops a.reports a.denied a.uncorrupt
+    ≡ these b.ids b.sinks b.writer b.early b.drops b.reports b.denied b.uncorrupt =
+    rw (
+      are_equal a.ids b.ids ids,
+      are_equal a.sinks b.sinks sinks,
+      are_equal a.writer b.writer writer,
+      are_equal a.early b.early early,
+      are_equal a.drops b.drops drops,
+      are_equal a.reports b.reports reports,
+      are_equal a.denied b.denied denied,
+      are_equal a.uncorrupt b.uncorrupt uncorrupt,
+    ) refl in
+    same
+
+-- ---- what is read
 
 -- there are as many lines as beats
 pub count_lines : {w : ℕ} (t : Trace w) (lines : List (List ℕ)) → AreLinesOf t lines → length lines ≡ length t
@@ -34,6 +93,12 @@ count_lines [] lines are = rw are refl
 count_lines (x ∷ t) lines (front, line, is, spells, are) =
     let before = count_lines t front are in
     rw is (omega (arith, before, length-append front (line ∷ [])))
+
+-- a header's links may do the same where this is kept
+still_named : {w : ℕ} (old new : Replay w) (kept : IsKept old new) (line : List ℕ) (width : Width)
+    (levels : List Level) → NamesAllowed old.allow line width old.may levels
+    → NamesAllowed new.allow line width new.may levels
+still_named old new kept line width levels names = rw (kept.allow_is, kept.may_is) names
 
 still_for_line : {w : ℕ} (old new : Replay w) → IsKept old new → IsForLine old → IsForLine new
 still_for_line old new kept is = λ link beat spells.
@@ -56,12 +121,11 @@ header_read {w} old new line before none takes = λ lines known.
         levels = takes.levels;
         beats = [];
         lines_are = rw is refl;
-        names = subst (λ (p : Profile). SpellsHeader line takes.width p takes.levels) (sym takes.kept.profile_is)
-            takes.names;
+        names = still_named old new takes.kept line takes.width takes.levels takes.names;
         of_width = takes.of_width;
         beats_are = refl;
         counted = rw is takes.count_is;
-        recorded = subst (λ (r : Recorder). IsRecord {w = w} r []) (sym takes.recorder_is) rec;
+        recorded = rw (takes.kept.may_is, takes.recorder_is) rec;
       },
     ))
     go lines (inr (inl (f, t, rec))) =
@@ -87,17 +151,17 @@ beat_read {w} old new line before some takes = λ lines known.
         levels = rec.levels;
         beats = rec.beats ++ line ∷ [];
         lines_are = rw rec.lines_are refl;
-        names = subst (λ (p : Profile). SpellsHeader rec.header rec.width p rec.levels) (sym takes.kept.profile_is)
-            rec.names;
+        names = still_named old new takes.kept rec.header rec.width rec.levels rec.names;
         of_width = rec.of_width;
         beats_are = (rec.beats, line, refl, takes.spells, rec.beats_are);
         counted = omega (arith, takes.count_is, rec.counted, length-append lines (line ∷ []));
-        recorded = takes.records t (omega (
-          arith,
-          rec.counted,
-          ap length rec.lines_are,
-          count_lines t rec.beats rec.beats_are,
-        )) rec.recorded;
+        recorded = subst (λ (l : Liberties). IsRecordUnder l new.recorder ((takes.link, takes.beat) ∷ t))
+            (sym takes.kept.may_is) (takes.records t (omega (
+              arith,
+              rec.counted,
+              ap length rec.lines_are,
+              count_lines t rec.beats rec.beats_are,
+            )) rec.recorded);
       },
     ))
     go lines (inr (inr reached)) = let no : true ≡ false = sym reached.reached_is ∙ before in absurd cc

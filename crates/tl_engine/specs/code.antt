@@ -14,3 +14,6 @@ pub mod PlayableWorld
 pub mod TraceReading
 pub mod Tracing
 pub mod Watching
+pub mod HeadReading
+pub mod LinkWatching
+pub mod TraceJudging

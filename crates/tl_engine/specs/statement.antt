@@ -10,3 +10,5 @@ pub mod Told
 pub mod Trace
 pub mod Unexplained
 pub mod Width
+pub mod JudgedLinks
+pub mod LinksHeader

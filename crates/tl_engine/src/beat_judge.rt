@@ -2,7 +2,6 @@
 
 ghost use Rattle.std.specs.Prelude.{◌≡◌, Bool, false, [], List, IfOk};
 ghost use Rattle.tl_beat.specs.statement.Width.{IsWidth};
-ghost use Rattle.tl_monitor.specs.statement.Knows.{request_on};
 ghost use Rattle.tl_params.specs.declared.level.Level.{Level};
 ghost use Rattle.tl_params.specs.declared.profile.Profile.{Profile};
 ghost use Rattle.tl_rules.specs.statement.Conformance.{Trace};
@@ -14,7 +13,6 @@ use std::alloc::{AllocError, Global};
 use tl_beat::beat::{Beat, Link};
 use tl_monitor::fault::MonitorFault;
 use tl_monitor::monitor::Monitor;
-use tl_rules::past::Request;
 use tl_together::fault::JudgeFault;
 use tl_together::judge::Judge;
 
@@ -60,17 +58,6 @@ impl<const W: usize> BeatJudge<W> {
                 Err(JudgeFault::Broken(breach)) => Ok(Some(Fault::of_breach(breach))),
                 Err(_) => Err(AllocError),
             },
-        }
-    }
-
-    /// The request with this source that is pending and complete on a link; none on a link without a level.
-    pub fn request(&self, link: Link, source: u8) -> Option<Request>
-        ensures { (together : Bool) (levels : List Level) (p : Profile) (t : Trace W) →
-            KnowsBeats together self.now levels p t → result ≡ request_on levels link source t }
-    {
-        match self {
-            BeatJudge::OfLinks(monitor) => monitor.request(link, source),
-            BeatJudge::OfAll(judge) => judge.request(link, source),
         }
     }
 }

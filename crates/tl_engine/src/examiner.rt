@@ -3,32 +3,35 @@
 ghost use Rattle.std.specs.Prelude.{◌≡◌, ◌<◌, [], Bool, IfErr, IfOk, List, None, Some, length, option_map, true};
 ghost use Rattle.tl_beat.specs.statement.Width.{IsWidth};
 ghost use Rattle.tl_engine.specs.code.Explaining.{IsVerdict, fault_of};
-ghost use Rattle.tl_engine.specs.code.Examining.{KnowsExaminer};
+ghost use Rattle.tl_engine.specs.code.Examining.{EndsExaminer, KnowsExaminer};
 ghost use Rattle.tl_engine.specs.code.Tracing as tracing;
-ghost use Rattle.tl_engine.specs.code.Tracing.{AnswersBlock, AnswersIn, FindsBlock, NotesLine, has_letter_d};
-ghost use Rattle.tl_engine.specs.code.Watching.{JudgedSo, KnowsBeats, is_together};
+ghost use Rattle.tl_engine.specs.code.Tracing.{AnswersBy, AnswersIn, NotesLine, has_letter_d};
+ghost use Rattle.tl_engine.specs.code.LinkWatching.{judged_for};
+ghost use Rattle.tl_engine.specs.code.TraceJudging.{KnowsBeats};
+ghost use Rattle.tl_engine.specs.statement.JudgedLinks.{JudgedLinks};
 ghost use Rattle.tl_memory.specs.code.Taking as taking;
 ghost use Rattle.tl_params.specs.declared.level.Level.{Level};
-ghost use Rattle.tl_params.specs.declared.profile.Profile.{Profile};
+ghost use Rattle.tl_params.specs.declared.liberties.Liberties.{Liberties};
 ghost use Rattle.tl_rules.specs.statement.Conformance.{Trace, on_link};
 ghost use Rattle.tl_engine.specs.statement.Unexplained.{IsUnjudged, Reaches};
 
-use crate::beat_judge::BeatJudge;
 use crate::engine::handle_input;
 use crate::explain::in_memory;
 use crate::explain_fault::ExplainFault;
 use crate::fault::{Fault, append_fault};
-use crate::header::{Header, read_header};
 use crate::line_handler::LineHandler;
-use crate::monitor_lines::MonitorLines;
+use crate::link_lines::{LinkJudge, LinkLines};
+use crate::links_header::LinksHeader;
 use crate::status::Status;
 use crate::testimony::block_asked;
+use crate::trace_judge::TraceJudge;
 use std::alloc::{AllocError, Global};
 use std::io::Read;
 use tl_beat::beat::{Beat, Link};
 use tl_beat::fault::LineFault;
 use tl_beat::read::read_line;
 use tl_explain::told::Spelling;
+use tl_params::liberties::Liberties;
 use tl_rules::past::Request;
 use tl_rules::rule::Rule;
 
@@ -37,7 +40,7 @@ use tl_rules::rule::Rule;
 pub struct Found {
     /// How many lines are without a fault, the header among them.
     pub good: u64,
-    pub header: Option<Header>,
+    pub header: Option<LinksHeader>,
     /// The line at fault, where it has an LF and at most 256 bytes, and what it is at fault for.
     pub fault: Option<(Fault, Spelling)>,
     /// The block of the request that is answered, of a Grant at fault or of a beat that breaks a rule of memory.
@@ -46,12 +49,12 @@ pub struct Found {
 
 /// The request that a beat answers, where it is a response to one.
 fn request_answered<const W: usize>(
-    judge: &BeatJudge<W>,
+    judge: &TraceJudge<W>,
     link: Link,
     beat: &Beat<W>,
 ) -> Option<Request>
-    ensures { (together : Bool) (levels : List Level) (p : Profile) (t : Trace W) →
-        KnowsBeats together judge.now levels p t → link.0 < length levels →
+    ensures { (together : Bool) (levels : List Level) (may : Liberties) (t : Trace W) →
+        KnowsBeats together judge.now levels may t → link.0 < length levels →
         result ≡ taking.request_answered beat.now (on_link link.0 t) }
 {
     match beat {
@@ -61,7 +64,7 @@ fn request_answered<const W: usize>(
 }
 
 /// The block of the request that a line's beat answers, where it is a response to one.
-fn block_answered_in<const W: usize>(judge: &BeatJudge<W>, line: &[u8]) -> Option<u32>
+fn block_answered_in<const W: usize>(judge: &TraceJudge<W>, line: &[u8]) -> Option<u32>
     requires { IsWidth W }
     ensures { (together : Bool) → AnswersIn together judge.now line.now result }
 {
@@ -79,20 +82,17 @@ fn is_response(line: &[u8]) -> bool
 }
 
 /// The block of the request that the next line's beat answers.
-fn block_answered<const TOGETHER: usize>(
-    monitor_lines: &MonitorLines<TOGETHER>,
-    line: &[u8],
-) -> Option<u32>
-    ensures { AnswersBlock monitor_lines.now line.now result }
+fn block_answered(judge: &LinkJudge, line: &[u8]) -> Option<u32>
+    ensures { (together : Bool) → AnswersBy together judge.now line.now result }
 {
     if !is_response(line) {
         return None;
     }
-    match monitor_lines {
-        MonitorLines::Waiting(_) => None,
-        MonitorLines::Four(judge) => block_answered_in(judge, line),
-        MonitorLines::Eight(judge) => block_answered_in(judge, line),
-        MonitorLines::Sixteen(judge) => block_answered_in(judge, line),
+    match judge {
+        LinkJudge::Waiting(_) => None,
+        LinkJudge::Four(judge) => block_answered_in(judge, line),
+        LinkJudge::Eight(judge) => block_answered_in(judge, line),
+        LinkJudge::Sixteen(judge) => block_answered_in(judge, line),
     }
 }
 
@@ -150,12 +150,12 @@ impl Found {
         Ok(text.as_slice() == verdict)
     }
 
-    /// Notes a line without a fault.
-    fn note_good(&mut self, line: &[u8])
+    /// Notes a line without a fault, of links that are judged so.
+    fn note_good(&mut self, link_lines: &LinkLines, line: &[u8])
         ensures { self.new.fault ≡ self.old.fault }
     {
         if self.good == 0 {
-            self.header = read_header(line);
+            self.header = link_lines.header(line);
         }
         self.good = self.good.saturating_add(1);
     }
@@ -171,68 +171,86 @@ impl Found {
         }
     }
 
-    /// Notes a line, which is at fault for this or isn't, and whose beat answers a request of this block.
-    fn note(&mut self, line: &[u8], fault: Option<Fault>, block: Option<u32>)
+    /// Notes a line of links that are judged so, which is at fault for this or isn't, and whose beat answers a request of
+    /// this block.
+    fn note(
+        &mut self,
+        link_lines: &LinkLines,
+        line: &[u8],
+        fault: Option<Fault>,
+        block: Option<u32>,
+    )
         ensures { NotesLine self.old self.new fault block }
     {
         match fault {
-            None => self.note_good(line),
+            None => self.note_good(link_lines, line),
             Some(fault) => self.note_fault(line, fault, block),
         }
     }
 }
 
-/// Judges the lines of a trace as a watcher does, and notes what it finds.
+/// Judges the lines of a trace, and notes what it finds.
 #[derive(Drop)]
-pub struct Examiner<'a, const TOGETHER: usize> {
-    pub monitor_lines: MonitorLines<TOGETHER>,
+pub struct Examiner<'a> {
+    pub link_lines: LinkLines,
     pub found: &'a mut Found,
 }
 
-impl<const TOGETHER: usize> LineHandler for Examiner<'_, TOGETHER> {
+impl LineHandler for Examiner<'_> {
+    ghost use Rattle.std.specs.Prelude.{Bool};
+    ghost use Rattle.tl_params.specs.declared.liberties.Liberties.{Liberties};
+
     ghost knows = { KnowsExaminer };
 
-    ghost purpose = { λ _. tt };
+    ghost Purpose = { Bool × Liberties };
 
-    ghost tells = { λ _. JudgedSo (is_together TOGETHER) };
+    ghost purpose = { λ e. judged_for e.link_lines };
 
-    ghost ends = { λ e lines. FindsBlock e.found.now lines };
+    ghost tells = { λ p. JudgedLinks p.0 p.1 };
+
+    ghost ends = { EndsExaminer };
 
     fn handle_line(
         &mut self,
         line: &[u8],
         _out: &mut Vec<u8>,
     ) -> Result<Option<Fault>, AllocError> {
-        let block = block_answered(&self.monitor_lines, line);
-        let fault = self.monitor_lines.judge_line(line)?;
-        self.found.note(line, fault, block);
+        let block = block_answered(&self.link_lines.judge, line);
+        let fault = self.link_lines.judge_line(line)?;
+        self.found.note(&self.link_lines, line, fault, block);
         Ok(fault)
     }
 
     fn open_fault(&self) -> Fault {
-        self.monitor_lines.open_fault()
+        self.link_lines.open_fault()
     }
 
     fn finish(&self, count: u64, out: &mut Vec<u8>) -> Result<Option<Fault>, AllocError> {
-        self.monitor_lines.finish(count, out)
+        self.link_lines.finish(count, out)
     }
 }
 
-/// Judges what a reader gives, each link by itself, or all together where `TOGETHER` is 1. Answers what is found,
-/// beside its verdict.
-fn examine_by<const TOGETHER: usize, R: Read>(
+/// Judges what a reader gives, each link by itself or all together, where links may do this besides what the header
+/// names. Answers what is found, beside its verdict.
+pub fn examine<R: Read>(
     alloc: Global,
+    together: bool,
+    allow: Liberties,
     reader: &mut R,
     verdict: &mut Vec<u8>,
 ) -> Result<(Found, Status), ExplainFault>
     requires { verdict.old.items ≡ [] }
-    ensures ok { IfOk result (λ both. Reaches (is_together TOGETHER) (R.remaining reader.old) (R.remaining reader.new)
+    ensures ok { IfOk result (λ both. Reaches together allow (R.remaining reader.old) (R.remaining reader.new)
         verdict.new.items both.1 × IsVerdict both.0 both.1 verdict.new.items) }
-    ensures fault { IfErr result (IsUnjudged (is_together TOGETHER) (R.remaining reader.old) (R.remaining reader.new)) }
+    ensures fault { IfErr result (IsUnjudged together allow (R.remaining reader.old) (R.remaining reader.new)) }
 {
     let mut found = Found::new();
     let examiner = Examiner {
-        monitor_lines: MonitorLines::<TOGETHER>::Waiting(alloc),
+        link_lines: LinkLines {
+            together,
+            allow,
+            judge: LinkJudge::Waiting(alloc),
+        },
         found: &mut found,
     };
     let status = in_memory(handle_input(alloc, examiner, reader, verdict))?;
@@ -240,24 +258,5 @@ fn examine_by<const TOGETHER: usize, R: Read>(
         Ok((found, status))
     } else {
         Err(ExplainFault::Changed)
-    }
-}
-
-/// Judges what a reader gives, as `monitor` does or as `coherent` does. Answers what is found, beside its verdict.
-pub fn examine<R: Read>(
-    alloc: Global,
-    coherent: bool,
-    reader: &mut R,
-    verdict: &mut Vec<u8>,
-) -> Result<(Found, Status), ExplainFault>
-    requires { verdict.old.items ≡ [] }
-    ensures ok { IfOk result (λ both. Reaches coherent (R.remaining reader.old) (R.remaining reader.new)
-        verdict.new.items both.1 × IsVerdict both.0 both.1 verdict.new.items) }
-    ensures fault { IfErr result (IsUnjudged coherent (R.remaining reader.old) (R.remaining reader.new)) }
-{
-    if coherent {
-        examine_by::<1, R>(alloc, reader, verdict)
-    } else {
-        examine_by::<0, R>(alloc, reader, verdict)
     }
 }

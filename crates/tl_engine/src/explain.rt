@@ -21,7 +21,7 @@ use crate::examiner::{Found, examine};
 use crate::explain_fault::{ExplainFault, number_behind};
 use crate::explain_memory::explain_memory;
 use crate::fault::Fault;
-use crate::header::Header;
+use crate::links_header::LinksHeader;
 use crate::malformed::{explain_header, explain_spelling};
 use crate::output::write_all;
 use crate::replay::{Listing, Replay};
@@ -35,7 +35,7 @@ use tl_beat::fault::LineFault;
 use tl_beat::read::read_line;
 use tl_explain::ledger::Ledger;
 use tl_explain::named::append_sentence;
-use tl_explain::reason::find_reason;
+use tl_explain::reason::find_reason_under;
 use tl_explain::recorder::Recorder;
 use tl_explain::told::Spelling;
 use tl_explain::turns::Subject;
@@ -44,7 +44,7 @@ use tl_explain::{legal, tell};
 use tl_params::key::block_at;
 use tl_params::liberties::Liberties;
 use tl_params::width::Width;
-use tl_rules::legality::beat::check_beat;
+use tl_rules::legality::beat::check_beat_under;
 use tl_rules::level::Level;
 use tl_rules::rule::Rule;
 
@@ -74,19 +74,24 @@ fn is_legality(rule: Rule) -> bool
 }
 
 /// The level of a link.
-fn level_of(header: &Header, link: Link) -> Option<Level> {
+fn level_of(header: &LinksHeader, link: Link) -> Option<Level> {
     header.levels.as_slice().get(usize::from(link.0)).copied()
 }
 
 #[tactic(auto, using(crate::proofs::Explaining::broken_by))]
-/// Whether a beat breaks the rule by itself.
-fn is_illegal<const W: usize>(level: Option<Level>, rule: Rule, beat: &Beat<W>) -> bool
+/// Whether a beat breaks the rule by itself, where its link may do this.
+fn is_illegal<const W: usize>(
+    may: Liberties,
+    level: Option<Level>,
+    rule: Rule,
+    beat: &Beat<W>,
+) -> bool
     requires { IsWidth W }
-    ensures { result ≡ true → broken_alone level beat.now ≡ Some rule }
+    ensures { result ≡ true → broken_alone may level beat.now ≡ Some rule }
 {
     match level {
         None => rule == Rule::L1,
-        Some(level) => match check_beat(level, beat.channel(), beat) {
+        Some(level) => match check_beat_under(may, level, beat.channel(), beat) {
             Ok(()) => false,
             Err(broken) => broken == rule,
         },
@@ -129,16 +134,23 @@ pub fn subject_of<const W: usize>(link: Link, beat: &Beat<W>, block: Option<u32>
 }
 
 /// Begins to record for a line at fault, where it spells a beat.
-fn start_of<const W: usize>(header: &Header, found: &Found, line: &Spelling) -> Option<Replay<W>>
+fn start_of<const W: usize>(
+    allow: Liberties,
+    header: &LinksHeader,
+    found: &Found,
+    line: &Spelling,
+) -> Option<Replay<W>>
     requires { IsWidth W }
-    ensures { IfSome result (λ start. KnowsReplay start []) }
+    ensures knows { IfSome result (λ start. KnowsReplay start []) }
+    ensures allowed { IfSome result (λ start. start.allow ≡ allow) }
 {
     let Ok((link, beat)) = read_line::<W>(line.line()) else {
         return None;
     };
     Some(Replay {
-        recorder: Recorder::new(subject_of(link, &beat, found.block)),
-        profile: header.profile,
+        recorder: Recorder::with_liberties(header.may, subject_of(link, &beat, found.block)),
+        allow,
+        may: header.may,
         good: found.good,
         line: *line,
         count: 0,
@@ -149,8 +161,9 @@ fn start_of<const W: usize>(header: &Header, found: &Found, line: &Spelling) -> 
 /// Reads the lines up to the one at fault again, which spells a beat, and records what stands before it.
 fn replayed<const W: usize, R: Read>(
     alloc: Global,
+    allow: Liberties,
     reader: &mut R,
-    header: &Header,
+    header: &LinksHeader,
     found: &Found,
     line: &Spelling,
 ) -> Result<Replay<W>, ExplainFault>
@@ -158,11 +171,15 @@ fn replayed<const W: usize, R: Read>(
     ensures ok { IfOk result (λ replay. (read : List ℕ)
         × Consumes (R.remaining reader.old) (R.remaining reader.new) read × HasReachedIn replay read) }
     ensures good { IfOk result (λ replay. replay.good ≡ found.now.good) }
+    ensures allowed { IfOk result (λ replay. replay.allow ≡ allow) }
     ensures fault { IfErr result (λ fault. fault ≢ ExplainFault.Tool ToolFault.Write) }
 {
-    let start = start_of::<W>(header, found, line).ok_or(ExplainFault::Changed)?;
+    let start = start_of::<W>(allow, header, found, line).ok_or(ExplainFault::Changed)?;
     let replay = read_again(alloc, reader, start)?.ok_or(ExplainFault::Changed)?;
     if replay.good != found.good {
+        return Err(ExplainFault::Changed);
+    }
+    if replay.allow != allow {
         return Err(ExplainFault::Changed);
     }
     Ok(replay)
@@ -171,8 +188,9 @@ fn replayed<const W: usize, R: Read>(
 /// Explains a beat that breaks a rule by itself.
 fn explain_legality<const W: usize, R: Read>(
     alloc: Global,
+    allow: Liberties,
     reader: &mut R,
-    header: &Header,
+    header: &LinksHeader,
     found: &Found,
     rule: Rule,
     line: &Spelling,
@@ -180,23 +198,22 @@ fn explain_legality<const W: usize, R: Read>(
 ) -> Result<(), ExplainFault>
     requires width { IsWidth W }
     requires empty { out.old.items ≡ [] }
-    ensures ok { OnOk result (IsNamed (R.remaining reader.old) (R.remaining reader.new) (found.now.good + 1) rule
+    ensures ok { OnOk result (IsNamed allow (R.remaining reader.old) (R.remaining reader.new) (found.now.good + 1) rule
         out.new.items) }
     ensures fault { IfErr result (λ fault. fault ≢ ExplainFault.Tool ToolFault.Write) }
 {
-    let replay = replayed::<W, R>(alloc, reader, header, found, line)?;
+    let replay = replayed::<W, R>(alloc, allow, reader, header, found, line)?;
     let number = number_behind(found.good)?;
     let line = replay.line.line();
     let Ok((link, beat)) = read_line::<W>(line) else {
         return Err(ExplainFault::Changed);
     };
     let level = level_of(header, link);
-    if !is_illegal(level, rule, &beat) {
+    if !is_illegal(replay.may, level, rule, &beat) {
         return Err(ExplainFault::Changed);
     }
     let mut grounds = Vec::new(alloc);
-    let liberties = Liberties::of(header.profile);
-    legal::tell(liberties, level, rule, &beat, &mut grounds)?;
+    legal::tell(replay.may, level, rule, &beat, &mut grounds)?;
     append_front::<W>(rule, number, line, out)?;
     out.extend_from_slice(&grounds)?;
     Ok(())
@@ -205,8 +222,9 @@ fn explain_legality<const W: usize, R: Read>(
 /// Explains a beat that breaks a rule of bursts or of the order of messages.
 fn explain_order<const W: usize, R: Read>(
     alloc: Global,
+    allow: Liberties,
     reader: &mut R,
-    header: &Header,
+    header: &LinksHeader,
     found: &Found,
     rule: Rule,
     line: &Spelling,
@@ -214,27 +232,21 @@ fn explain_order<const W: usize, R: Read>(
 ) -> Result<(), ExplainFault>
     requires width { IsWidth W }
     requires empty { out.old.items ≡ [] }
-    ensures ok { OnOk result (IsExplained (R.remaining reader.old) (R.remaining reader.new) (found.now.good + 1) rule
+    ensures ok { OnOk result (IsExplained allow (R.remaining reader.old) (R.remaining reader.new) (found.now.good + 1) rule
         out.new.items) }
     ensures fault { IfErr result (λ fault. fault ≢ ExplainFault.Tool ToolFault.Write) }
 {
-    let replay = replayed::<W, R>(alloc, reader, header, found, line)?;
+    let replay = replayed::<W, R>(alloc, allow, reader, header, found, line)?;
     let number = number_behind(found.good)?;
     let line = replay.line.line();
     let Ok((_, beat)) = read_line::<W>(line) else {
         return Err(ExplainFault::Changed);
     };
-    let Some(reason) = find_reason(replay.profile, rule, &beat, &replay.recorder) else {
+    let Some(reason) = find_reason_under(rule, &beat, &replay.recorder) else {
         return Err(ExplainFault::Changed);
     };
     let mut grounds = Vec::new(alloc);
-    tell::tell(
-        Liberties::of(replay.profile),
-        &beat,
-        &reason,
-        &replay.recorder,
-        &mut grounds,
-    )?;
+    tell::tell(replay.may, &beat, &reason, &replay.recorder, &mut grounds)?;
     append_front::<W>(rule, number, line, out)?;
     out.extend_from_slice(&grounds)?;
     Ok(())
@@ -282,15 +294,16 @@ pub fn explain_clean<const W: usize, R: Read>(
 fn explain_found<const W: usize, R: Read>(
     alloc: Global,
     coherent: bool,
+    allow: Liberties,
     reader: &mut R,
-    header: &Header,
+    header: &LinksHeader,
     found: &Found,
     status: Status,
     out: &mut Vec<u8>,
 ) -> Result<(), ExplainFault>
     requires width { IsWidth W }
     requires empty { out.old.items ≡ [] }
-    ensures ok { OnOk result (ExplainsFound (R.remaining reader.old) (R.remaining reader.new) found.now.good
+    ensures ok { OnOk result (ExplainsFound allow (R.remaining reader.old) (R.remaining reader.new) found.now.good
         found.now.fault out.new.items status) }
     ensures fault { IfErr result (λ fault. fault ≢ ExplainFault.Tool ToolFault.Write) }
 {
@@ -308,13 +321,13 @@ fn explain_found<const W: usize, R: Read>(
         }
         (Status::Broken, Some((Fault::Rule(rule), line))) => {
             if is_legality(*rule) {
-                explain_legality::<W, R>(alloc, reader, header, found, *rule, line, out)
+                explain_legality::<W, R>(alloc, allow, reader, header, found, *rule, line, out)
             } else {
-                explain_order::<W, R>(alloc, reader, header, found, *rule, line, out)
+                explain_order::<W, R>(alloc, allow, reader, header, found, *rule, line, out)
             }
         }
         (Status::Broken, Some((Fault::MemoryRule(rule), line))) => {
-            explain_memory(alloc, reader, found, *rule, line, out)
+            explain_memory(alloc, allow, reader, found, *rule, line, out)
         }
         (Status::Broken, Some(_)) => Err(ExplainFault::Changed),
     }
@@ -324,27 +337,28 @@ fn explain_found<const W: usize, R: Read>(
 fn reasons<R: Read>(
     alloc: Global,
     coherent: bool,
+    allow: Liberties,
     reader: &mut R,
     found: &Found,
     status: Status,
     out: &mut Vec<u8>,
 ) -> Result<(), ExplainFault>
     requires { out.old.items ≡ [] }
-    ensures ok { OnOk result (ExplainsStatus (R.remaining reader.old) (R.remaining reader.new) found.now
+    ensures ok { OnOk result (ExplainsStatus allow (R.remaining reader.old) (R.remaining reader.new) found.now
         out.new.items status) }
     ensures fault { IfErr result (λ fault. fault ≢ ExplainFault.Tool ToolFault.Write) }
 {
     match &found.header {
-        None => explain_header(alloc, reader, out),
+        None => explain_header(alloc, coherent, allow, reader, out),
         Some(header) => match header.width {
             Width::Four => {
-                explain_found::<4, R>(alloc, coherent, reader, header, found, status, out)
+                explain_found::<4, R>(alloc, coherent, allow, reader, header, found, status, out)
             }
             Width::Eight => {
-                explain_found::<8, R>(alloc, coherent, reader, header, found, status, out)
+                explain_found::<8, R>(alloc, coherent, allow, reader, header, found, status, out)
             }
             Width::Sixteen => {
-                explain_found::<16, R>(alloc, coherent, reader, header, found, status, out)
+                explain_found::<16, R>(alloc, coherent, allow, reader, header, found, status, out)
             }
         },
     }
@@ -362,7 +376,8 @@ pub fn write_both<W: Write>(verdict: &[u8], reasons: &[u8], writer: &mut W) -> R
 }
 
 #[tactic(auto, using(crate::proofs::Explaining::explains))]
-/// Writes what `monitor` says of a trace, or what `coherent` says, and behind it why. The two readers are of the same
+/// Writes what `monitor` says of a trace, or what `coherent` says, and behind it why. Links may do this besides what the
+/// header names, of any form. The two readers are of the same
 /// file, each at its front; the second is read up to the line at fault. Where they differ nothing is written. Where
 /// a rule of order is broken, what the second reader gave has a reason in it for that line and that rule; where a rule
 /// of memory is, what it gave is judged so too.
@@ -373,21 +388,22 @@ pub fn write_both<W: Write>(verdict: &[u8], reasons: &[u8], writer: &mut W) -> R
 pub fn explain_input<R: Read, S: Read, W: Write>(
     alloc: Global,
     coherent: bool,
+    allow: Liberties,
     first: &mut R,
     second: &mut S,
     writer: &mut W,
 ) -> Result<Status, ExplainFault>
     ensures ok { IfOk result (λ status. (verdict reasons : List ℕ)
-        × Reaches coherent (R.remaining first.old) (R.remaining first.new) verdict status
-        × Explains (S.remaining second.old) (S.remaining second.new) verdict reasons status
+        × Reaches coherent allow (R.remaining first.old) (R.remaining first.new) verdict status
+        × Explains allow (S.remaining second.old) (S.remaining second.new) verdict reasons status
         × Appends (W.contents writer.old) (W.contents writer.new) (verdict ++ reasons)) }
-    ensures fault { IfErr result (GivesUpExplaining coherent (R.remaining first.old) (R.remaining first.new)
+    ensures fault { IfErr result (GivesUpExplaining coherent allow (R.remaining first.old) (R.remaining first.new)
         (S.remaining second.old) (S.remaining second.new) (W.contents writer.old) (W.contents writer.new)) }
 {
     let mut verdict = Vec::new(alloc);
-    let (found, status) = examine(alloc, coherent, first, &mut verdict)?;
+    let (found, status) = examine(alloc, coherent, allow, first, &mut verdict)?;
     let mut why = Vec::new(alloc);
-    reasons(alloc, coherent, second, &found, status, &mut why)?;
+    reasons(alloc, coherent, allow, second, &found, status, &mut why)?;
     write_both(&verdict, &why, writer)?;
     Ok(status)
 }

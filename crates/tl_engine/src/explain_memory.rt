@@ -4,7 +4,7 @@ ghost use Rattle.std.specs.Prelude.{◌≡◌, ◌≢◌, ◌+◌, [], List, ℕ
 ghost use Rattle.std.specs.Io.KnownBytes.{Consumes};
 ghost use Rattle.tl_engine.specs.code.Lines.{lines_of};
 ghost use Rattle.tl_engine.specs.code.Testifying.{AsksAbout, HasTold, IsUnheard};
-ghost use Rattle.tl_engine.specs.statement.Coherent.{JudgedTogether};
+ghost use Rattle.tl_engine.specs.statement.JudgedLinks.{JudgedLinks};
 ghost use Rattle.tl_engine.specs.statement.Explained.{IsWitnessed};
 ghost use Rattle.tl_engine.specs.statement.Fault.{fault_text};
 
@@ -13,12 +13,13 @@ use crate::examiner::Found;
 use crate::explain_fault::{ExplainFault, number_behind};
 use crate::fault::{Fault, append_fault};
 use crate::lines::Lines;
-use crate::monitor_lines::MonitorLines;
+use crate::link_lines::{LinkJudge, LinkLines};
 use crate::status::{Status, ToolFault};
 use crate::testimony::{Inquiry, Testimony, is_same_rule};
 use std::alloc::{AllocError, Global};
 use std::io::Read;
 use tl_explain::told::Spelling;
+use tl_params::liberties::Liberties;
 use tl_together::breach::MemoryRule;
 
 /// Begins to inquire of the lines up to the one at fault, where the block is known that it speaks of.
@@ -37,9 +38,10 @@ fn inquiry_of(alloc: Global, found: &Found, rule: MemoryRule, line: &Spelling) -
     })
 }
 
-/// Judges what a reader gives again, and inquires of it. Answers what was gathered, with the status.
+/// Judges what a reader gives again, all links together, and inquires of it. Answers what was gathered, with the status.
 fn inquire<R: Read>(
     alloc: Global,
+    allow: Liberties,
     inquiry: Inquiry,
     reader: &mut R,
     verdict: &mut Vec<u8>,
@@ -47,12 +49,16 @@ fn inquire<R: Read>(
     requires fresh { IsUnheard inquiry }
     requires empty { verdict.old.items ≡ [] }
     ensures ok { IfOk result (λ both. (read : List ℕ) × Consumes (R.remaining reader.old) (R.remaining reader.new) read
-        × JudgedTogether (lines_of read) verdict.new.items both.1
-        × (both.0.reached ≡ true → HasTold both.0 (lines_of read))) }
+        × JudgedLinks true allow (lines_of read) verdict.new.items both.1
+        × (both.0.reached ≡ true → HasTold allow both.0 (lines_of read))) }
     ensures fault { IfErr result (λ fault. fault ≢ ToolFault.Write) }
 {
     let mut lines = Lines::new(Testimony {
-        monitor_lines: MonitorLines::Waiting(alloc),
+        link_lines: LinkLines {
+            together: true,
+            allow,
+            judge: LinkJudge::Waiting(alloc),
+        },
         inquiry,
     });
     let status = judge_input(alloc, &mut lines, reader, verdict)?;
@@ -78,6 +84,7 @@ fn is_broken_there(
 /// Explains a beat that breaks a rule of memory.
 pub(crate) fn explain_memory<R: Read>(
     alloc: Global,
+    allow: Liberties,
     reader: &mut R,
     found: &Found,
     rule: MemoryRule,
@@ -85,14 +92,14 @@ pub(crate) fn explain_memory<R: Read>(
     out: &mut Vec<u8>,
 ) -> Result<(), ExplainFault>
     requires { out.old.items ≡ [] }
-    ensures ok { OnOk result (IsWitnessed (R.remaining reader.old) (R.remaining reader.new) (found.now.good + 1) rule
+    ensures ok { OnOk result (IsWitnessed allow (R.remaining reader.old) (R.remaining reader.new) (found.now.good + 1) rule
         out.new.items) }
     ensures fault { IfErr result (λ fault. fault ≢ ExplainFault.Tool ToolFault.Write) }
 {
     let number = number_behind(found.good)?;
     let start = inquiry_of(alloc, found, rule, line).ok_or(ExplainFault::Changed)?;
     let mut verdict = Vec::new(alloc);
-    let (inquiry, status) = inquire(alloc, start, reader, &mut verdict)?;
+    let (inquiry, status) = inquire(alloc, allow, start, reader, &mut verdict)?;
     if !is_broken_there(alloc, number, rule, status, &verdict)? {
         return Err(ExplainFault::Changed);
     }

@@ -5,13 +5,15 @@ ghost use Rattle.tl_beat.specs.statement.Width.{IsWidth};
 
 use crate::engine::{new_chunk, next_piece};
 use crate::explain_fault::ExplainFault;
-use crate::header::read_header;
+use crate::heading;
 use crate::status::ToolFault;
+use crate::trace_judge::{names_early, read_for};
 use std::alloc::Global;
 use std::io::Read;
 use tl_beat::fault::LineFault;
 use tl_beat::read::read_line;
-use tl_explain::{heading, spelling};
+use tl_explain::spelling;
+use tl_params::liberties::Liberties;
 
 /// How many bytes of a line are looked at.
 const LOOKED_AT: usize = 257;
@@ -43,19 +45,25 @@ pub fn fetch<R: Read>(alloc: Global, reader: &mut R, number: u64) -> Result<Vec<
     Ok(line)
 }
 
-/// Explains a first line that is no header.
+/// Explains a first line that is no header of links which are judged so.
 pub(crate) fn explain_header<R: Read>(
     alloc: Global,
+    together: bool,
+    allow: Liberties,
     reader: &mut R,
     out: &mut Vec<u8>,
 ) -> Result<(), ExplainFault>
     ensures fault { IfErr result (λ fault. fault ≢ ExplainFault.Tool ToolFault.Write) }
 {
     let line = fetch(alloc, reader, 1)?;
-    if line.len() <= 256 && read_header(&line).is_some() {
+    if line.len() <= 256 && read_for(together, allow, &line).is_some() {
         return Err(ExplainFault::Changed);
     }
-    heading::tell(&line, out)?;
+    if line.len() <= 256 && names_early(allow, &line) {
+        heading::tell_early(&line, out)?;
+    } else {
+        heading::tell(&line, out)?;
+    }
     Ok(())
 }
 

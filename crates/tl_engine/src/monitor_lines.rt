@@ -1,10 +1,9 @@
 //! Judges a recorded trace.
 
-ghost use Rattle.std.specs.Prelude.{Bool, ◌≡◌, ◌++◌, ◌∷◌, [], ℕ, List, IfOk, IfSome, OnOk, ⊤};
+ghost use Rattle.std.specs.Prelude.{Bool, ◌≡◌, ◌++◌, [], ℕ, List, IfOk, OnOk, ⊤};
 ghost use Rattle.tl_beat.specs.statement.Width.{IsWidth};
 ghost use Rattle.tl_engine.specs.code.Judging.{Judges};
 ghost use Rattle.tl_engine.specs.declared.monitor_lines.MonitorLines.{MonitorLines};
-ghost use Rattle.tl_engine.specs.code.Tracing.{KnowsTraced, WatchesLine};
 ghost use Rattle.tl_engine.specs.code.Watching.{Begins, JudgedSo, KnowsLines, Watches};
 ghost use Rattle.tl_engine.specs.code.Watching.{end_by, is_together, word_by};
 
@@ -67,8 +66,7 @@ fn begin<const TOGETHER: usize>(
     alloc: Global,
     line: &[u8],
 ) -> Result<Option<MonitorLines<TOGETHER>>, AllocError>
-    ensures begins { IfOk result (Begins line.now) }
-    ensures traced { IfOk result (λ begun. IfSome begun (λ new. KnowsTraced new (line.now ∷ []))) }
+    ensures { IfOk result (Begins line.now) }
 {
     let Some(header) = read_header(line) else {
         return Ok(None);
@@ -91,36 +89,14 @@ fn start<const TOGETHER: usize>(
     line: &[u8],
 ) -> Result<Option<Fault>, AllocError>
     requires { monitor_lines.old ≡ MonitorLines.Waiting alloc }
-    ensures judges { (said : List ℕ) → IfOk result (Judges KnowsLines (JudgedSo (is_together TOGETHER))
-        monitor_lines.old monitor_lines.new line.now said said) }
-    ensures watches { IfOk result (WatchesLine monitor_lines.old monitor_lines.new line.now) }
+    ensures { (said : List ℕ) → IfOk result (Judges KnowsLines (JudgedSo (is_together TOGETHER)) monitor_lines.old
+        monitor_lines.new line.now said said) }
 {
     match begin(alloc, line)? {
         None => Ok(Some(Fault::Header)),
         Some(begun) => {
             *monitor_lines = begun;
             Ok(None)
-        }
-    }
-}
-
-impl<const TOGETHER: usize> MonitorLines<TOGETHER> {
-    /// Judges the next line, as `handle_line` does, and appends nothing. Where it is at fault, it is so behind the trace
-    /// that the lines before it spell.
-    #[inline(always)]
-    pub fn judge_line(&mut self, line: &[u8]) -> Result<Option<Fault>, AllocError>
-        ensures judges { (said : List ℕ) → IfOk result (Judges KnowsLines (JudgedSo (is_together TOGETHER)) self.old
-            self.new line.now said said) }
-        ensures watches { IfOk result (WatchesLine self.old self.new line.now) }
-    {
-        match self {
-            MonitorLines::Waiting(alloc) => {
-                let alloc = *alloc;
-                start(self, alloc, line)
-            }
-            MonitorLines::Four(judge) => watch(judge, line),
-            MonitorLines::Eight(judge) => watch(judge, line),
-            MonitorLines::Sixteen(judge) => watch(judge, line),
         }
     }
 }
@@ -140,7 +116,15 @@ impl<const TOGETHER: usize> LineHandler for MonitorLines<TOGETHER> {
         line: &[u8],
         _out: &mut Vec<u8>,
     ) -> Result<Option<Fault>, AllocError> {
-        self.judge_line(line)
+        match self {
+            MonitorLines::Waiting(alloc) => {
+                let alloc = *alloc;
+                start(self, alloc, line)
+            }
+            MonitorLines::Four(judge) => watch(judge, line),
+            MonitorLines::Eight(judge) => watch(judge, line),
+            MonitorLines::Sixteen(judge) => watch(judge, line),
+        }
     }
 
     fn open_fault(&self) -> Fault {

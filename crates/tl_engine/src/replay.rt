@@ -10,14 +10,17 @@ use tl_beat::read::read_line;
 use tl_explain::ledger::{Ledger, LedgerFault};
 use tl_explain::recorder::Recorder;
 use tl_explain::told::Spelling;
-use tl_params::profile::Profile;
+use tl_params::liberties::Liberties;
 
 /// Records the beats before the line at fault. What it answers `Header` for is where the lines aren't
 /// those that were read first.
 #[derive(Drop)]
 pub struct Replay<const W: usize> {
     pub recorder: Recorder,
-    pub profile: Profile,
+    /// What the links may do besides what the header names.
+    pub allow: Liberties,
+    /// What they may do in all.
+    pub may: Liberties,
     /// How many lines come before the one at fault, the header among them.
     pub good: u64,
     /// The line at fault.

@@ -9,11 +9,11 @@ ghost use Rattle.tl_engine.specs.statement.Width.{bytes_of};
 
 use crate::engine::{new_chunk, next_piece};
 use crate::fault::Fault;
-use crate::header::read_header;
 use crate::line_handler::LineHandler;
 use crate::lines::{Lines, first_line};
 use crate::replay::Replay;
 use crate::status::{Status, ToolFault};
+use crate::trace_judge::read_for;
 use std::alloc::{AllocError, Global};
 use std::io::Read;
 use tl_beat::read::read_line;
@@ -31,14 +31,14 @@ fn bytes(width: Width) -> usize
 }
 
 impl<const W: usize> Replay<W> {
-    /// Takes the header. Answers whether it is one of this width and profile.
+    /// Takes the header. Answers whether it is one of this width, whose links may do this.
     fn take_header(&mut self, line: &[u8]) -> bool
         ensures { result ≡ true → TakesHeader self.old self.new line.now }
     {
-        let Some(header) = read_header(line) else {
+        let Some(header) = read_for(false, self.allow, line) else {
             return false;
         };
-        if header.profile != self.profile || bytes(header.width) != W {
+        if header.may != self.may || bytes(header.width) != W {
             return false;
         }
         self.count = 1;

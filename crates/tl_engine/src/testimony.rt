@@ -8,7 +8,7 @@ ghost use Rattle.tl_beat.specs.statement.Width.{IsWidth};
 ghost use Rattle.tl_engine.specs.code.Testifying.{Concludes, EndsTestimony, Hears, HearsHeader, HearsLine};
 ghost use Rattle.tl_engine.specs.code.Testifying.{IsSameInquiry, KnowsTestimony, RecordsBeat, StillKnows, TellsFault};
 ghost use Rattle.tl_engine.specs.code.Testifying.{TellsBeat, TellsRecorded, TellsResponse};
-ghost use Rattle.tl_engine.specs.statement.Coherent.{JudgedTogether};
+ghost use Rattle.tl_engine.specs.statement.JudgedLinks.{JudgedLinks};
 ghost use Rattle.tl_engine.specs.statement.Explained.{memory_front_text};
 ghost use Rattle.tl_memory.specs.code.Elsewhere as elsewhere;
 ghost use Rattle.tl_params.specs.declared.level.Level.{Level};
@@ -16,11 +16,11 @@ ghost use Rattle.tl_params.specs.declared.liberties.Liberties.{Liberties};
 ghost use Rattle.tl_rules.specs.statement.Conformance.{Trace};
 ghost use Rattle.tl_together.specs.statement.Knows.{Knows};
 
-use crate::beat_judge::BeatJudge;
 use crate::fault::Fault;
-use crate::header::read_header;
 use crate::line_handler::LineHandler;
-use crate::monitor_lines::MonitorLines;
+use crate::link_lines::{LinkJudge, LinkLines};
+use crate::links_header::read_links;
+use crate::trace_judge::TraceJudge;
 use std::alloc::{AllocError, Global};
 use tl_beat::beat::{Beat, BeatD, Link};
 use tl_beat::read::read_line;
@@ -127,7 +127,7 @@ impl Inquiry {
     fn hear_header(&mut self, alloc: Global, line: &[u8]) -> Result<(), AllocError>
         ensures { OnOk result (HearsHeader self.old self.new line.now) }
     {
-        let Some(header) = read_header(line) else {
+        let Some(header) = read_links(line) else {
             return Ok(());
         };
         if self.block >= BLOCKS {
@@ -207,7 +207,7 @@ impl Inquiry {
     /// that could be told.
     fn tell_beat<const W: usize>(
         &mut self,
-        judge: &mut BeatJudge<W>,
+        judge: &mut TraceJudge<W>,
         line: &[u8],
         number: u64,
         link: Link,
@@ -224,15 +224,15 @@ impl Inquiry {
             return Ok(false);
         };
         match judge {
-            BeatJudge::OfLinks(_) => Ok(false),
-            BeatJudge::OfAll(judge) => self.tell_response(judge, line, number, link, x),
+            TraceJudge::OfLinks(_) => Ok(false),
+            TraceJudge::OfAll(judge) => self.tell_response(judge, line, number, link, x),
         }
     }
 
     /// Hears a line of this number, where it is the one at fault. Answers whether it is, and was told of.
     fn hear_fault<const W: usize>(
         &mut self,
-        judge: &mut BeatJudge<W>,
+        judge: &mut TraceJudge<W>,
         line: &[u8],
         number: u64,
     ) -> Result<bool, AllocError>
@@ -256,7 +256,7 @@ impl Inquiry {
     /// was told of.
     fn hear_beat<const W: usize>(
         &mut self,
-        judge: &mut BeatJudge<W>,
+        judge: &mut TraceJudge<W>,
         line: &[u8],
         number: u64,
     ) -> Result<bool, AllocError>
@@ -272,23 +272,18 @@ impl Inquiry {
 
     /// Hears a line of this number, before it is judged. Answers whether it is the line at fault, and was told of. What
     /// the judge knows stays so.
-    fn hear(
-        &mut self,
-        monitor_lines: &mut MonitorLines<1>,
-        line: &[u8],
-        number: u64,
-    ) -> Result<bool, AllocError>
+    fn hear(&mut self, judge: &mut LinkJudge, line: &[u8], number: u64) -> Result<bool, AllocError>
         requires { number ≡ self.old.count + 1 }
-        ensures { IfOk result (Hears monitor_lines.old monitor_lines.new self.old self.new number line.now) }
+        ensures { IfOk result (Hears judge.old judge.new self.old self.new number line.now) }
     {
-        match monitor_lines {
-            MonitorLines::Waiting(alloc) => {
+        match judge {
+            LinkJudge::Waiting(alloc) => {
                 self.hear_header(*alloc, line)?;
                 Ok(false)
             }
-            MonitorLines::Four(judge) => self.hear_beat(judge, line, number),
-            MonitorLines::Eight(judge) => self.hear_beat(judge, line, number),
-            MonitorLines::Sixteen(judge) => self.hear_beat(judge, line, number),
+            LinkJudge::Four(judge) => self.hear_beat(judge, line, number),
+            LinkJudge::Eight(judge) => self.hear_beat(judge, line, number),
+            LinkJudge::Sixteen(judge) => self.hear_beat(judge, line, number),
         }
     }
 
@@ -302,19 +297,24 @@ impl Inquiry {
     }
 }
 
-/// Judges the lines of a trace again, and inquires of them.
+/// Judges the lines of a trace again, all links together, and inquires of them.
 #[derive(Drop)]
 pub struct Testimony {
-    pub monitor_lines: MonitorLines<1>,
+    pub link_lines: LinkLines,
     pub inquiry: Inquiry,
 }
 
 impl LineHandler for Testimony {
+    ghost use Rattle.std.specs.Prelude.{true};
+    ghost use Rattle.tl_params.specs.declared.liberties.Liberties.{Liberties};
+
     ghost knows = { KnowsTestimony };
 
-    ghost purpose = { λ _. tt };
+    ghost Purpose = { Liberties };
 
-    ghost tells = { λ _. JudgedTogether };
+    ghost purpose = { λ h. h.link_lines.allow };
+
+    ghost tells = { λ allow. JudgedLinks true allow };
 
     ghost ends = { EndsTestimony };
 
@@ -324,17 +324,17 @@ impl LineHandler for Testimony {
         _out: &mut Vec<u8>,
     ) -> Result<Option<Fault>, AllocError> {
         let number = self.inquiry.count.checked_add(1).ok_or(AllocError)?;
-        let told = self.inquiry.hear(&mut self.monitor_lines, line, number)?;
-        let fault = self.monitor_lines.judge_line(line)?;
+        let told = self.inquiry.hear(&mut self.link_lines.judge, line, number)?;
+        let fault = self.link_lines.judge_line(line)?;
         self.inquiry.conclude(number, told, fault);
         Ok(fault)
     }
 
     fn open_fault(&self) -> Fault {
-        self.monitor_lines.open_fault()
+        self.link_lines.open_fault()
     }
 
     fn finish(&self, count: u64, out: &mut Vec<u8>) -> Result<Option<Fault>, AllocError> {
-        self.monitor_lines.finish(count, out)
+        self.link_lines.finish(count, out)
     }
 }

@@ -2,7 +2,7 @@
 
 ghost use Rattle.std.specs.Prelude.{◌≡◌};
 ghost use Rattle.tl_explain.specs.statement.Reasons;
-ghost use Rattle.tl_params.specs.statement.Param.{cap_of, prune_of, report_named};
+ghost use Rattle.tl_params.specs.statement.Param.{cap_of};
 ghost use Rattle.tl_rules.specs.statement.Conformance;
 ghost use Rattle.tl_rules.specs.statement.Liberties as under;
 
@@ -10,9 +10,10 @@ use tl_beat::beat::BeatD;
 use tl_beat::control::ControlA;
 use tl_beat::opcode::{OpA, OpD};
 use tl_params::liberties::Liberties;
-use tl_params::param::{Cap, Grow, Prune, Report};
+use tl_params::param::{Cap, Grow};
 use tl_params::perm::Perm;
 use tl_params::report::report_of;
+use tl_rules::order::reports_none;
 
 /// The caps that answer an Acquire with this param: one, or two of them for `writer`.
 pub fn fits_grow(liberties: Liberties, opcode: OpA, param: u8, cap: u8) -> bool
@@ -65,44 +66,6 @@ pub fn grows_from(liberties: Liberties, param: u8, perm: Perm) -> bool
         perm != Perm::Trunk
     } else {
         liberties.drops || perm == Perm::None
-    }
-}
-
-/// Whether a Release with this param gives up what is held.
-fn prunes_from(param: u8, perm: Perm) -> bool
-    ensures { result ≡ Conformance.prunes_from (prune_of param) perm }
-{
-    match Prune::from_param(param) {
-        None => false,
-        Some(prune) => prune.left() == perm,
-    }
-}
-
-/// Whether a report starts from what is held.
-fn reports_from(param: u8, perm: Perm) -> bool
-    ensures { result ≡ under.reports_from (report_named param) perm }
-{
-    match Report::from_param(param) {
-        None => false,
-        Some(report) => report.left() == perm,
-    }
-}
-
-/// Whether a param says that nothing is held.
-fn reports_none(param: u8) -> bool
-    ensures { result ≡ under.reports_none param }
-{
-    param == Report::NtoN.param()
-}
-
-/// Whether a Release with this param starts from what is held.
-pub fn releases_from(liberties: Liberties, param: u8, perm: Perm) -> bool
-    ensures { result ≡ under.releases_from liberties param perm }
-{
-    if liberties.reports {
-        liberties.drops && reports_none(param) || reports_from(param, perm)
-    } else {
-        prunes_from(param, perm)
     }
 }
 

@@ -2,7 +2,7 @@
 
 ghost use Rattle.tl_beat.specs.statement.Width.{IsWidth};
 
-use crate::fits::{grows_from, is_misreport, releases_from};
+use crate::fits::{grows_from, is_misreport};
 use crate::held::Held;
 use crate::names::Names;
 use crate::reason::cap_asked;
@@ -17,6 +17,7 @@ use tl_params::key::Key;
 use tl_params::liberties::Liberties;
 use tl_params::param::{Grow, Report};
 use tl_params::perm::Perm;
+use tl_rules::order::releases_from;
 
 /// The reports, in the order of their numbers. The first three are the prunes of a Release.
 const REPORTS: [Report; 6] = [

@@ -102,7 +102,7 @@ fn stale_answer() -> Explanation
 {
     Explanation {
         messages: "AccessAckData",
-        sentence: "a byte that was asked for isn't one that it may have been from the request's last beat to the answer's first, by what was told of it and by the Puts and atomics that were pending",
+        sentence: "a byte that was asked for isn't one that it may have been in a window of the access, by what was told of it and by the Puts and atomics that were pending",
         basis: "the data that were given back or granted, the answers to Puts and atomics, and those that were pending",
         example: Example {
             wrong: "tltrace 1 UL UL\n\

@@ -14,7 +14,7 @@ ghost use Rattle.tl_rules.specs.statement.Liberties.{broken_in_order_under, is_l
 
 use crate::answer::for_answer;
 use crate::bursts::{Begun, begun_of};
-use crate::fits::{grows_from, is_misreport, releases_from};
+use crate::fits::{grows_from, is_misreport};
 use crate::held::Held;
 use crate::missing::{awaited, first_of, unless_held, where_not_pending, where_pending};
 use crate::recorder::Recorder;
@@ -28,6 +28,7 @@ use tl_params::param::Cap;
 use tl_params::profile::Profile;
 use tl_params::rule::Rule;
 use tl_rules::kind::{is_acquire, is_probe, is_probe_ack, is_release};
+use tl_rules::order::releases_from;
 
 /// Why a beat breaks a rule of bursts or of the order of messages.
 #[derive(Clone, Copy)]

@@ -10,9 +10,9 @@ use Rattle.tl_engine.specs.statement.Judged.{Faults, FaultsOf, Headers, Judged, 
 use Rattle.tl_engine.specs.statement.Judged.{faults_of_links}
 use Rattle.tl_engine.specs.statement.Trace.{SpellsHeader}
 use Rattle.tl_engine.specs.statement.Width.{bytes_of}
-use Rattle.tl_links.proofs.Headers.{versions_apart}
-use Rattle.tl_links.specs.statement.Header.{NamesAllowed}
-use Rattle.tl_links.specs.statement.Judged.{JudgedLinks, faults_by, heads_by}
+use Rattle.tl_engine.proofs.LinksHeaders.{versions_apart}
+use Rattle.tl_engine.specs.statement.LinksHeader.{NamesAllowed}
+use Rattle.tl_engine.specs.statement.JudgedLinks.{JudgedLinks, faults_by, heads_by}
 use Rattle.tl_params.specs.declared.level.Level.{Level}
 use Rattle.tl_params.specs.declared.liberties.Liberties.{Liberties}
 use Rattle.tl_params.specs.declared.profile.Profile.{Profile}

@@ -1,4 +1,1 @@
 pub mod Allowing
-pub mod HeadReading
-pub mod TraceJudging
-pub mod Watching

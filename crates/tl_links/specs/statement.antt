@@ -1,3 +1,1 @@
 pub mod Allowed
-pub mod Header
-pub mod Judged

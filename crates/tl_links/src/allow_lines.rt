@@ -1,10 +1,9 @@
 //! Looks for the liberties that would allow the first beat at fault of a trace.
 
-ghost use Rattle.std.specs.Prelude.{◌≡◌, [], false, IfOk, ⊤};
+ghost use Rattle.std.specs.Prelude.{◌≡◌, [], IfOk, ⊤};
 ghost use Rattle.tl_beat.specs.statement.Width.{IsWidth};
 ghost use Rattle.tl_links.specs.code.Allowing.{Begins, EndsLines, KnowsBeats, KnowsLines, TakesBeat, Watches, found_in};
-ghost use Rattle.tl_links.specs.declared.allow_lines.AllowLines.{AllowLines};
-ghost use Rattle.tl_params.specs.statement.Liberties.{liberties_of};
+ghost use Rattle.tl_links.specs.declared.allow_lines.Watching.{Watching};
 
 use std::alloc::{AllocError, Global};
 use tl_allowed::allowances::Allowances;
@@ -12,8 +11,9 @@ use tl_beat::beat::{Beat, Link};
 use tl_beat::fault::LineFault;
 use tl_beat::read::read_line;
 use tl_engine::fault::Fault;
-use tl_engine::header::{Header, read_header};
 use tl_engine::line_handler::LineHandler;
+use tl_engine::links_header::LinksHeader;
+use tl_engine::trace_judge::read_for;
 use tl_monitor::fault::MonitorFault;
 use tl_monitor::monitor::Monitor;
 use tl_params::liberties::{Liberties, Liberty};
@@ -28,9 +28,9 @@ pub struct Watch<const W: usize> {
     allowing: Vec<Liberty>,
 }
 
-/// Judges the lines of a trace up to its first fault.
+/// What watches the links of a trace, by the bytes of a beat.
 #[derive(Drop)]
-pub enum AllowLines {
+pub enum Watching {
     /// The header hasn't been read.
     Waiting(Global),
     Four(Watch<4>),
@@ -38,16 +38,23 @@ pub enum AllowLines {
     Sixteen(Watch<16>),
 }
 
+/// Judges the lines of a trace up to its first fault.
+#[derive(Drop)]
+pub struct AllowLines {
+    /// What the links may do besides what the header names.
+    pub allow: Liberties,
+    pub watching: Watching,
+}
+
 impl<const W: usize> Watch<W> {
     /// Watches the links that a header names.
-    fn new(alloc: Global, header: &Header) -> Result<Self, AllocError>
+    fn new(alloc: Global, header: &LinksHeader) -> Result<Self, AllocError>
         requires { IsWidth W }
-        ensures { IfOk result (λ v. KnowsBeats v header.now.levels.items (liberties_of header.now.profile) []) }
+        ensures { IfOk result (λ v. KnowsBeats v header.now.levels.items header.now.may []) }
     {
         let levels = header.levels.as_slice();
-        let may = Liberties::of(header.profile);
-        let monitor = Monitor::with_liberties(alloc, levels, may).map_err(|_| AllocError)?;
-        let allowances = Allowances::new(alloc, levels, may).map_err(|_| AllocError)?;
+        let monitor = Monitor::with_liberties(alloc, levels, header.may).map_err(|_| AllocError)?;
+        let allowances = Allowances::new(alloc, levels, header.may).map_err(|_| AllocError)?;
         Ok(Watch {
             alloc,
             monitor,
@@ -86,39 +93,54 @@ impl<const W: usize> Watch<W> {
     }
 }
 
-/// Watches the links that a header names. A line of another form names none.
-fn begin(alloc: Global, line: &[u8]) -> Result<Option<AllowLines>, AllocError>
-    ensures { IfOk result (Begins line.now) }
+/// Watches the links that a header names, which may do this besides. A line of another form names none.
+fn begin(alloc: Global, allow: Liberties, line: &[u8]) -> Result<Option<Watching>, AllocError>
+    ensures { IfOk result (Begins allow line.now) }
 {
-    let Some(header) = read_header(line) else {
+    let Some(header) = read_for(false, allow, line) else {
         return Ok(None);
     };
-    let lines = match header.width {
-        Width::Four => AllowLines::Four(Watch::new(alloc, &header)?),
-        Width::Eight => AllowLines::Eight(Watch::new(alloc, &header)?),
-        Width::Sixteen => AllowLines::Sixteen(Watch::new(alloc, &header)?),
+    let watching = match header.width {
+        Width::Four => Watching::Four(Watch::new(alloc, &header)?),
+        Width::Eight => Watching::Eight(Watch::new(alloc, &header)?),
+        Width::Sixteen => Watching::Sixteen(Watch::new(alloc, &header)?),
     };
-    Ok(Some(lines))
+    Ok(Some(watching))
 }
 
 impl AllowLines {
+    /// No line has been read. The links may do this besides what the header names.
+    pub fn new(alloc: Global, allow: Liberties) -> AllowLines
+        ensures knows { KnowsLines result [] [] }
+        ensures allowed { result.allow ≡ allow }
+    {
+        AllowLines {
+            allow,
+            watching: Watching::Waiting(alloc),
+        }
+    }
+
     /// What was found.
     pub fn allowing(&self) -> &[Liberty]
         ensures { result.now ≡ found_in self.now }
     {
-        match self {
-            AllowLines::Waiting(_) => &[],
-            AllowLines::Four(watch) => watch.allowing.as_slice(),
-            AllowLines::Eight(watch) => watch.allowing.as_slice(),
-            AllowLines::Sixteen(watch) => watch.allowing.as_slice(),
+        match &self.watching {
+            Watching::Waiting(_) => &[],
+            Watching::Four(watch) => watch.allowing.as_slice(),
+            Watching::Eight(watch) => watch.allowing.as_slice(),
+            Watching::Sixteen(watch) => watch.allowing.as_slice(),
         }
     }
 }
 
 impl LineHandler for AllowLines {
+    ghost use Rattle.tl_params.specs.declared.liberties.Liberties.{Liberties};
+
     ghost knows = { KnowsLines };
 
-    ghost purpose = { λ _. tt };
+    ghost Purpose = { Liberties };
+
+    ghost purpose = { λ h. h.allow };
 
     ghost tells = { λ _ _ _ _. ⊤ };
 
@@ -129,30 +151,30 @@ impl LineHandler for AllowLines {
         line: &[u8],
         _out: &mut Vec<u8>,
     ) -> Result<Option<Fault>, AllocError> {
-        match self {
-            AllowLines::Waiting(alloc) => match begin(*alloc, line)? {
+        match &mut self.watching {
+            Watching::Waiting(alloc) => match begin(*alloc, self.allow, line)? {
                 None => Ok(Some(Fault::Header)),
-                Some(lines) => {
-                    *self = lines;
+                Some(watching) => {
+                    self.watching = watching;
                     Ok(None)
                 }
             },
-            AllowLines::Four(watch) => watch.read(line),
-            AllowLines::Eight(watch) => watch.read(line),
-            AllowLines::Sixteen(watch) => watch.read(line),
+            Watching::Four(watch) => watch.read(line),
+            Watching::Eight(watch) => watch.read(line),
+            Watching::Sixteen(watch) => watch.read(line),
         }
     }
 
     fn open_fault(&self) -> Fault {
-        match self {
-            AllowLines::Waiting(_) => Fault::Header,
+        match self.watching {
+            Watching::Waiting(_) => Fault::Header,
             _ => Fault::Line(LineFault::F1),
         }
     }
 
     fn finish(&self, _count: u64, _out: &mut Vec<u8>) -> Result<Option<Fault>, AllocError> {
-        match self {
-            AllowLines::Waiting(_) => Ok(Some(Fault::Header)),
+        match self.watching {
+            Watching::Waiting(_) => Ok(Some(Fault::Header)),
             _ => Ok(None),
         }
     }

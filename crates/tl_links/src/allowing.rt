@@ -12,7 +12,7 @@ use tl_allowed::text::append_allowance;
 use tl_engine::engine::judge_input;
 use tl_engine::lines::Lines;
 use tl_engine::status::ToolFault;
-use tl_params::liberties::Liberty;
+use tl_params::liberties::{Liberties, Liberty};
 
 /// Appends the line that names these liberties; nothing where there are none. Without memory a part of it is appended.
 fn append_line(liberties: &[Liberty], out: &mut Vec<u8>) -> Result<(), AllocError>
@@ -27,22 +27,23 @@ fn append_line(liberties: &[Liberty], out: &mut Vec<u8>) -> Result<(), AllocErro
     Ok(())
 }
 
-/// Reads a trace to its first line at fault, or to its end. Appends the line that names each liberty which alone would
-/// allow the beat at fault.
+/// Reads a trace to its first line at fault, or to its end. Links may do this besides what the header names. Appends the
+/// line that names each further liberty which alone would allow the beat at fault.
 ///
-/// Nothing is appended if no liberty would, if no line is at fault, or if that line spells no beat. A header of the
-/// fourth form is at fault, as for `explain`. At an error a part of the line may be appended.
+/// Nothing is appended if no liberty would, if no line is at fault, or if that line spells no beat. At an error a part of
+/// the line may be appended.
 pub fn append_allowed<R: Read>(
     alloc: Global,
+    allow: Liberties,
     reader: &mut R,
     out: &mut Vec<u8>,
 ) -> Result<(), ToolFault>
     ensures ok { OnOk result ((allowing : List Liberty)
-        × FindsAllowed (R.remaining reader.old) (R.remaining reader.new) allowing
+        × FindsAllowed allow (R.remaining reader.old) (R.remaining reader.new) allowing
         × (out.new.items ≡ out.old.items ++ allowed_line allowing)) }
     ensures fault { IfErr result (λ fault. fault ≢ ToolFault.Write) }
 {
-    let mut lines = Lines::new(AllowLines::Waiting(alloc));
+    let mut lines = Lines::new(AllowLines::new(alloc, allow));
     let mut said = Vec::new(alloc);
     judge_input(alloc, &mut lines, reader, &mut said)?;
     append_line(lines.handler().allowing(), out)?;

@@ -5,7 +5,7 @@ ghost use Rattle.tl_engine.specs.declared.status.Status.{Status};
 ghost use Rattle.tl_engine.specs.statement.Coherent.{JudgedTogether};
 ghost use Rattle.tl_engine.specs.statement.Judged.{Judged};
 ghost use Rattle.tl_engine.specs.statement.Trace.{SpellsHeader};
-ghost use Rattle.tl_links.specs.statement.Judged.{JudgedLinks};
+ghost use Rattle.tl_engine.specs.statement.JudgedLinks.{JudgedLinks};
 ghost use Rattle.tl_params.specs.declared.level.Level.{Level};
 ghost use Rattle.tl_params.specs.declared.profile.Profile.{Profile};
 ghost use Rattle.tl_params.specs.declared.width.Width.{Width};

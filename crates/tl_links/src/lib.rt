@@ -3,8 +3,5 @@
 
 mod allow_lines;
 pub mod allowing;
-pub mod header;
 pub mod law;
-pub mod link_lines;
 pub mod run;
-pub mod trace_judge;

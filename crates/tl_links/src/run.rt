@@ -3,12 +3,12 @@
 ghost use Rattle.std.specs.Prelude.{IfErr, IfOk, OnErr};
 ghost use Rattle.tl_engine.specs.code.GivenUp.{GivesUpFor};
 ghost use Rattle.tl_engine.specs.code.Run.{FailsAt, RunsTo};
-ghost use Rattle.tl_links.specs.statement.Judged.{JudgedLinks, LinksSoFar};
+ghost use Rattle.tl_engine.specs.statement.JudgedLinks.{JudgedLinks, LinksSoFar};
 
-use crate::link_lines::LinkLines;
 use std::alloc::Global;
 use std::io::{Read, Write};
 use tl_engine::engine::handle_input;
+use tl_engine::link_lines::LinkLines;
 use tl_engine::status::{Status, ToolFault};
 use tl_params::liberties::Liberties;
 

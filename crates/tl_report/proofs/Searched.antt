@@ -26,15 +26,15 @@ use Rattle.tl_engine.specs.declared.status.Status.{Status}
 use Rattle.tl_engine.specs.declared.status.Status.TheVariants.{Clean, Broken}
 use Rattle.tl_engine.specs.statement.Width.{bytes_of}
 use Rattle.tl_engine.proofs.Decoded.{open_fault}
-use Rattle.tl_links.proofs.Headers.{open_heads}
+use Rattle.tl_engine.proofs.LinksHeaders.{open_heads}
 use Rattle.tl_report.specs.declared.findings.Findings.{Findings}
 use Rattle.tl_command.specs.declared.search.Aim.{Aim}
 use Rattle.tl_report.specs.declared.search.Search.{Search}
 use Rattle.tl_report.specs.declared.search_lines.SearchLines.{SearchLines}
 use Rattle.tl_report.specs.declared.search_lines.SearchLines.TheVariants.{Waiting, Four, Eight, Sixteen}
-use Rattle.tl_links.specs.code.TraceJudging.{JudgesBeat, KnowsBeats}
+use Rattle.tl_engine.specs.code.TraceJudging.{JudgesBeat, KnowsBeats}
 use Rattle.tl_report.specs.statement.Found.{Finds, FindsAfter, FindsFor, is_open, left_behind, no_header}
-use Rattle.tl_links.specs.statement.Judged.{heads_by}
+use Rattle.tl_engine.specs.statement.JudgedLinks.{heads_by}
 use Rattle.tl_report.specs.statement.Said.{Searches}
 use Rattle.tl_report.specs.statement.Taken.{AreCounted, cell_of, cells_of}
 use Rattle.tl_report.specs.code.Searching.{EndsLines, EndsSearch, EndsWith, HasFound, IsBegun, IsElsewhereSame, JudgesLine}

@@ -10,7 +10,7 @@ use Rattle.tl_engine.specs.code.Watching.{said_by}
 use Rattle.tl_engine.specs.statement.Judged.{FaultsOf, Headers, JudgedAfter, JudgedBy}
 use Rattle.tl_report.specs.declared.findings.Finding.{Finding}
 use Rattle.tl_report.specs.statement.Found.{Finds, FindsAfter, FindsFor, is_open, left_behind}
-use Rattle.tl_links.specs.statement.Judged.{JudgedLinks, faults_by, heads_by}
+use Rattle.tl_engine.specs.statement.JudgedLinks.{JudgedLinks, faults_by, heads_by}
 use Rattle.tl_report.specs.statement.Taken.{cell_of}
 use Rattle.tl_report.specs.statement.Said.{first_by, first_text, status_of}
 

@@ -2,7 +2,7 @@
 
 ghost use Rattle.std.specs.Prelude.{◌≤◌, ℕ, List, length};
 ghost use Rattle.tl_command.specs.declared.search.Aim.{Aim};
-ghost use Rattle.tl_links.specs.statement.Judged.{JudgedLinks};
+ghost use Rattle.tl_engine.specs.statement.JudgedLinks.{JudgedLinks};
 ghost use Rattle.tl_report.specs.declared.findings.Finding.{Finding};
 ghost use Rattle.tl_report.specs.statement.Found.{FindsFor, most_of};
 ghost use Rattle.tl_report.specs.statement.Said.{first_text, status_of};

@@ -16,9 +16,9 @@ use tl_beat::fault::LineFault;
 use tl_beat::read::read_line;
 use tl_command::search::Aim;
 use tl_engine::fault::Fault;
+use tl_engine::links_header::LinksHeader;
 use tl_engine::status::Status;
-use tl_links::header::LinksHeader;
-use tl_links::trace_judge::TraceJudge;
+use tl_engine::trace_judge::TraceJudge;
 
 /// A judge of the links of a trace, and what is found in it.
 #[derive(Drop)]

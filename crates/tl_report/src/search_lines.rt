@@ -14,7 +14,7 @@ use tl_command::search::Aim;
 use tl_engine::fault::Fault;
 use tl_engine::line_handler::LineHandler;
 use tl_engine::status::Status;
-use tl_links::trace_judge::read_for;
+use tl_engine::trace_judge::read_for;
 use tl_params::width::Width;
 
 /// Judges the lines of a trace, and notes those at fault.

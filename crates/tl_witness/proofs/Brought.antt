@@ -10,7 +10,8 @@ use Rattle.tl_beat.specs.declared.opcode.OpD.{OpD}
 use Rattle.tl_beat.specs.statement.Opcode.{d_carries_data}
 use Rattle.tl_beat.specs.statement.Width.{IsWidth}
 use Rattle.tl_burst.specs.statement.Messages.{unfinished}
-use Rattle.tl_bytes.specs.statement.Bytes.{Access, before_last, is_of, may_grant, pending_accesses}
+use Rattle.tl_bytes.specs.statement.Bytes.{Access, before_last, found_after, is_of, may_grant}
+use Rattle.tl_bytes.specs.statement.Bytes.{pending_accesses}
 use Rattle.tl_memory.proofs.Judging.{in_block, read_inside}
 use Rattle.tl_memory.proofs.Kept.{told-exact}
 use Rattle.tl_memory.proofs.Lanes.{base-of_block, granted-byte, read-byte}
@@ -18,7 +19,7 @@ use Rattle.tl_memory.specs.code.Expected.{allows}
 use Rattle.tl_memory.specs.code.Lines.{told_by}
 use Rattle.tl_memory.specs.declared.expected.Expected.{Expected}
 use Rattle.tl_memory.specs.statement.Blocks.{state_in}
-use Rattle.tl_memory.specs.statement.Expecting.{ExpectsGrant, ExpectsRead, ExpectsResponse, may_answer}
+use Rattle.tl_memory.specs.statement.Expecting.{ExpectsBeat, ExpectsGrant, ExpectsRead, may_answer}
 use Rattle.tl_memory.specs.statement.Known.{Expects}
 use Rattle.tl_memory.specs.statement.Memory.{KnowsMemory}
 use Rattle.tl_params.specs.declared.level.Level.{Level}
@@ -135,7 +136,7 @@ module _ {w : ℕ} (levels : List Level) (l : Liberties) (link : Link) (x : Beat
       )
 
   brings-answered : (e : Expected) (o : Option (Access w)) → x.opcode ≡ OpD.AccessAckData
-      → find (is_of link.0 x.source) (pending_accesses t) ≡ o → ExpectsRead (Some e) n o begun
+      → find (is_of link.0 x.source) (pending_accesses t) ≡ o → ExpectsRead (Some e) n o (found_after o link.0 k t)
       → Brings e judge k lanes (answered_text n link.0 x o t)
   brings-answered e None op pending never = absurd never
   brings-answered e (Some access) op pending known =
@@ -149,7 +150,7 @@ module _ {w : ℕ} (levels : List Level) (l : Liberties) (link : Link) (x : Beat
       record {
         room = omega (arith, base, inside);
         text_is = rw (start, has)
-            (strays-same (allows e) (may_answer n access begun) (told_of judge) (told_after n t) 0
+            (strays-same (allows e) (may_answer n access (found_after (Some access) link.0 k t)) (told_of judge) (told_after n t) 0
             (w * (access.request.address / w) + w * k) lanes
             (λ i low high. agree i low high whole inside));
       }
@@ -158,19 +159,19 @@ module _ {w : ℕ} (levels : List Level) (l : Liberties) (link : Link) (x : Beat
           → i < w * (access.request.address / w) + w * k + length lanes
           → w * (access.request.address / w) ≡ 64 * (access.request.address / 64) + base_of w access.request.address
           → base_of w access.request.address + w * k + w ≤ 64
-          → Agree (allows e) (may_answer n access begun) (told_of judge) (told_after n t) i
+          → Agree (allows e) (may_answer n access (found_after (Some access) link.0 k t)) (told_of judge) (told_after n t) i
       agree i low high whole inside = (
         λ v.
             let block = access.request.address / 64 in
             let place : i - 64 * block < 64 = omega (arith, low, high, inside, wide, whole) in
             let same : 64 * block + (i - 64 * block) ≡ i = omega (arith, low, whole) in
-            rw same at (read-byte e n block (i - 64 * block) v access begun known place),
+            rw same at (read-byte e n block (i - 64 * block) v access (found_after (Some access) link.0 k t) known place),
         λ v. told-same judge n i v t knows.memory_is,
       )
 
   -- a response with this opcode
   pub brings : (e : Expected) (opcode : OpD) → opcode ≡ x.opcode
-      → ExpectsResponse (Some e) n link.0 opcode x.source t begun
+      → ExpectsBeat (Some e) n link.0 opcode x.source k t
       → Brings e judge k lanes (bytes_text opcode n link.0 x t)
   brings e OpD.GrantData op known = brings-granted e (open_request x.source (on_link link.0 t)) known
   brings e OpD.AccessAckData op known =
@@ -179,20 +180,22 @@ module _ {w : ℕ} (levels : List Level) (l : Liberties) (link : Link) (x : Beat
       let never : true ≡ d_carries_data v = ap is_some (sym has) ∙ x.carries ∙ ap d_carries_data (sym op) in absurd cc
 
 -- where a response may bring nothing that is judged, none of its bytes is told of
-pub brings-nothing : {w : ℕ} (n link : ℕ) (x : BeatD w) (t begun : Trace w) (opcode : OpD)
-    → ExpectsResponse None n link opcode x.source t begun → bytes_text opcode n link x t ≡ []
-brings-nothing {w} n link x t begun OpD.GrantData known = go (open_request x.source (on_link link t)) known
+pub brings-nothing : {w : ℕ} (n link : ℕ) (x : BeatD w) (t : Trace w) (opcode : OpD)
+    → ExpectsBeat None n link opcode x.source (beats_come link t) t → bytes_text opcode n link x t ≡ []
+brings-nothing {w} n link x t OpD.GrantData known = go (open_request x.source (on_link link t)) known
   where
-    go : (o : Option Request) → ExpectsGrant None n o begun → granted_text n link x o t ≡ []
+    go : (o : Option Request) → ExpectsGrant None n o (before_last link (beats_come link t) t)
+        → granted_text n link x o t ≡ []
     go None known = refl
     go (Some asked) never = absurd never
-brings-nothing {w} n link x t begun OpD.AccessAckData known =
+brings-nothing {w} n link x t OpD.AccessAckData known =
     go (find (is_of link x.source) (pending_accesses t)) known
   where
-    go : (o : Option (Access w)) → ExpectsRead None n o begun → answered_text n link x o t ≡ []
+    go : (o : Option (Access w)) → ExpectsRead None n o (found_after o link (beats_come link t) t)
+        → answered_text n link x o t ≡ []
     go None known = refl
     go (Some access) never = absurd never
-brings-nothing n link x t begun v known = refl
+brings-nothing n link x t v known = refl
 
 -- nor where a beat has none
 pub no-bytes : {w : ℕ} (n link : ℕ) (x : BeatD w) (t : Trace w) (opcode : OpD) → opcode ≡ x.opcode → x.lanes ≡ None

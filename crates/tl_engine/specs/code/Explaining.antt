@@ -5,7 +5,8 @@ use Rattle.tl_explain.specs.declared.told.Spelling.{Spelling}
 use Rattle.tl_engine.specs.declared.examiner.Found.{Found}
 use Rattle.tl_engine.specs.declared.fault.Fault.{Fault}
 use Rattle.tl_engine.specs.declared.fault.Fault.TheVariants.{Header as NoHeader, Line}
-use Rattle.tl_engine.specs.declared.header.Header.{Header}
+use Rattle.tl_engine.specs.declared.links_header.LinksHeader.{LinksHeader}
+use Rattle.tl_params.specs.declared.liberties.Liberties.{Liberties}
 use Rattle.tl_engine.specs.declared.status.Status.{Status}
 use Rattle.tl_engine.specs.declared.status.Status.TheVariants.{Clean, Broken}
 use Rattle.tl_engine.specs.statement.Explained.{ExplainsFault}
@@ -17,7 +18,7 @@ fault_behind None = Line F1
 fault_behind (Some fault) = fault.0
 
 -- what was found at fault
-abbrev pub fault_in : Option Header → Option (Fault × Spelling) → Fault
+abbrev pub fault_in : Option LinksHeader → Option (Fault × Spelling) → Fault
 fault_in None fault = NoHeader
 fault_in (Some header) fault = fault_behind fault
 
@@ -30,12 +31,14 @@ IsVerdict found Clean verdict = ⊤
 IsVerdict found Broken verdict = verdict ≡ fault_text (found.good + 1) (fault_of found)
 
 -- what was read, and the text behind the verdict, explain what was found behind a header
-abbrev pub ExplainsFound : Option (List ℕ) → Option (List ℕ) → ℕ → Option (Fault × Spelling) → List ℕ → Status
-    → Type 0
-ExplainsFound old new good fault reasons Clean = ⊤
-ExplainsFound old new good fault reasons Broken = ExplainsFault old new (good + 1) reasons (fault_behind fault)
+abbrev pub ExplainsFound : Liberties → Option (List ℕ) → Option (List ℕ) → ℕ → Option (Fault × Spelling) → List ℕ
+    → Status → Type 0
+ExplainsFound allow old new good fault reasons Clean = ⊤
+ExplainsFound allow old new good fault reasons Broken =
+    ExplainsFault allow old new (good + 1) reasons (fault_behind fault)
 
 -- what was read, and the text behind the verdict, explain what was found
-abbrev pub ExplainsStatus : Option (List ℕ) → Option (List ℕ) → Found → List ℕ → Status → Type 0
-ExplainsStatus old new found reasons Clean = ⊤
-ExplainsStatus old new found reasons Broken = ExplainsFault old new (found.good + 1) reasons (fault_of found)
+abbrev pub ExplainsStatus : Liberties → Option (List ℕ) → Option (List ℕ) → Found → List ℕ → Status → Type 0
+ExplainsStatus allow old new found reasons Clean = ⊤
+ExplainsStatus allow old new found reasons Broken =
+    ExplainsFault allow old new (found.good + 1) reasons (fault_of found)

@@ -6,7 +6,7 @@ use Rattle.tl_beat.specs.statement.Line.{Spells}
 use Rattle.tl_params.specs.declared.level.Level.{Level}
 use Rattle.tl_params.specs.declared.width.Width.{Width}
 use Rattle.tl_rules.specs.statement.Conformance.{Trace}
-use Rattle.tl_explain.specs.code.Recorded.{IsRecord}
+use Rattle.tl_explain.specs.code.Recorded.{IsRecordUnder}
 use Rattle.tl_explain.specs.code.Spelled.{spelled}
 use Rattle.tl_explain.specs.statement.Evidence.{next_line}
 use Rattle.tl_explain.specs.statement.Reasons.{IsSubject}
@@ -16,22 +16,23 @@ use Rattle.tl_engine.specs.declared.lines.Lines.{Lines}
 use Rattle.tl_engine.specs.declared.replay.Replay.{Replay}
 use Rattle.tl_engine.specs.declared.status.Status.TheVariants.{Clean}
 use Rattle.tl_engine.specs.statement.Explained.{AreLinesOf}
-use Rattle.tl_engine.specs.statement.Trace.{SpellsHeader}
+use Rattle.tl_engine.specs.statement.LinksHeader.{NamesAllowed}
 use Rattle.tl_engine.specs.statement.Width.{bytes_of}
 
 -- the fields that no line changes
 pub record IsKept {w : ℕ} (old new : Replay w) : Type 0 where
-  pub profile_is : new.profile ≡ old.profile
+  pub allow_is : new.allow ≡ old.allow
+  pub may_is : new.may ≡ old.may
   pub good_is : new.good ≡ old.good
   pub line_is : new.line ≡ old.line
   pub subject_is : new.recorder.subject ≡ old.recorder.subject
 
--- the line is a header of the profile and of beats of this width, and counted
+-- the line is a header of these liberties, where this is allowed besides, and of beats of this width, and counted
 pub record TakesHeader {w : ℕ} (old new : Replay w) (line : List ℕ) : Type 0 where
   pub kept : IsKept old new
   pub width : Width
   pub levels : List Level
-  pub names : SpellsHeader line width old.profile levels
+  pub names : NamesAllowed old.allow line width old.may levels
   pub of_width : bytes_of width ≡ w
   pub count_is : new.count ≡ 1
   pub reached_is : new.reached ≡ old.reached
@@ -45,8 +46,8 @@ pub record TakesBeat {w : ℕ} (old new : Replay w) (line : List ℕ) : Type 0 w
   pub spells : Spells line link beat
   pub count_is : new.count ≡ old.count + 1
   pub reached_is : new.reached ≡ old.reached
-  pub records : (t : Trace w) → old.count + 1 ≡ next_line t → IsRecord old.recorder t
-      → IsRecord new.recorder ((link, beat) ∷ t)
+  pub records : (t : Trace w) → old.count + 1 ≡ next_line t → IsRecordUnder old.may old.recorder t
+      → IsRecordUnder old.may new.recorder ((link, beat) ∷ t)
 
 -- the line is that at fault
 pub record TakesFault {w : ℕ} (old new : Replay w) (line : List ℕ) : Type 0 where
@@ -63,11 +64,11 @@ pub record AreRecorded {w : ℕ} (r : Replay w) (lines : List (List ℕ)) (t : T
   pub levels : List Level
   pub beats : List (List ℕ)
   pub lines_are : lines ≡ header ∷ beats
-  pub names : SpellsHeader header width r.profile levels
+  pub names : NamesAllowed r.allow header width r.may levels
   pub of_width : bytes_of width ≡ w
   pub beats_are : AreLinesOf t beats
   pub counted : r.count ≡ length lines
-  pub recorded : IsRecord r.recorder t
+  pub recorded : IsRecordUnder r.may r.recorder t
 
 -- the record is of what the line at fault speaks of
 abbrev pub IsForLine : {w : ℕ} → Replay w → Type 0
@@ -87,7 +88,7 @@ pub record HasReached {w : ℕ} (r : Replay w) (lines : List (List ℕ)) : Type 
 -- no line has been read, or those before the line at fault, or that line too
 abbrev pub IsWithin : {w : ℕ} → Replay w → List (List ℕ) → Type 0
 IsWithin {w} r lines =
-    ((r.reached ≡ false) × (r.count ≡ 0) × (lines ≡ []) × IsRecord {w = w} r.recorder [])
+    ((r.reached ≡ false) × (r.count ≡ 0) × (lines ≡ []) × IsRecordUnder {w = w} r.may r.recorder [])
     ⊎ (((r.reached ≡ false) × (t : Trace w) × AreRecorded r lines t) ⊎ HasReached r lines)
 
 -- these lines have been read

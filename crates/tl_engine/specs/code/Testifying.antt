@@ -5,13 +5,13 @@ use Rattle.tl_beat.specs.declared.beat.Beat.TheVariants as beat
 use Rattle.tl_beat.specs.declared.beat.BeatD.{BeatD}
 use Rattle.tl_beat.specs.declared.beat.Link.{Link}
 use Rattle.tl_beat.specs.statement.Line.{Spells}
-use Rattle.tl_params.specs.statement.Liberties.{liberties_of}
 use Rattle.tl_params.specs.declared.level.Level.{Level}
-use Rattle.tl_params.specs.declared.profile.Profile.{Profile}
+use Rattle.tl_params.specs.declared.liberties.Liberties.{Liberties}
 use Rattle.tl_params.specs.declared.width.Width.{Width}
 use Rattle.tl_memory.specs.code.Elsewhere.{block_asked}
 use Rattle.tl_rules.specs.code.Open.{open_request}
-use Rattle.tl_rules.specs.statement.Conformance.{Trace, broken_on_link, on_link}
+use Rattle.tl_rules.specs.statement.Conformance.{Trace, on_link}
+use Rattle.tl_rules.specs.statement.Liberties.{broken_on_link_under}
 use Rattle.tl_explain.specs.code.Spelled.{spelled}
 use Rattle.tl_explain.specs.declared.told.Spelling.{Spelling}
 use Rattle.tl_explain.specs.statement.Evidence.{next_line}
@@ -24,17 +24,18 @@ use Rattle.tl_witness.specs.code.Witness.{KnowsWitness}
 use Rattle.tl_witness.specs.declared.witness.Witness.{Witness}
 use Rattle.tl_witness.specs.statement.Grounds.{grounds_text}
 use Rattle.tl_engine.specs.code.Tracing.{KnowsSpelled}
-use Rattle.tl_engine.specs.code.Watching.{KnowsBeats, KnowsLines}
-use Rattle.tl_engine.specs.declared.beat_judge.BeatJudge.{BeatJudge}
+use Rattle.tl_engine.specs.code.LinkWatching.{KnowsLines}
+use Rattle.tl_engine.specs.code.TraceJudging.{KnowsBeats}
 use Rattle.tl_engine.specs.declared.examiner.Found.{Found}
 use Rattle.tl_engine.specs.declared.fault.Fault.{Fault}
 use Rattle.tl_engine.specs.declared.fault.Fault.TheVariants.{MemoryRule as BreaksTogether}
-use Rattle.tl_engine.specs.declared.monitor_lines.MonitorLines.{MonitorLines}
-use Rattle.tl_engine.specs.declared.monitor_lines.MonitorLines.TheVariants.{Waiting, Four, Eight, Sixteen}
+use Rattle.tl_engine.specs.declared.link_lines.LinkJudge.{LinkJudge}
+use Rattle.tl_engine.specs.declared.link_lines.LinkJudge.TheVariants.{Waiting, Four, Eight, Sixteen}
 use Rattle.tl_engine.specs.declared.testimony.Inquiry.{Inquiry}
 use Rattle.tl_engine.specs.declared.testimony.Testimony.{Testimony}
+use Rattle.tl_engine.specs.declared.trace_judge.TraceJudge.{TraceJudge}
 use Rattle.tl_engine.specs.statement.Explained.{SpellsTrace, memory_front_text}
-use Rattle.tl_engine.specs.statement.Trace.{SpellsHeader}
+use Rattle.tl_engine.specs.statement.LinksHeader.{NamesLinks}
 
 -- ---- what is asked
 
@@ -68,8 +69,8 @@ KnowsRecord i n t = IfSome i.witness (λ h. KnowsWitness h n i.block t)
 -- a header was heard, behind which nothing is recorded yet
 pub record HearsHeader (old new : Inquiry) (line : List ℕ) : Type 0 where
   pub same : IsSameInquiry old new
-  pub recorded : old.witness ≡ None → (w : ℕ) (width : Width) (p : Profile) (levels : List Level)
-      → SpellsHeader line width p levels → KnowsRecord {w = w} new (length levels) []
+  pub recorded : old.witness ≡ None → (w : ℕ) (width : Width) (own : Liberties) (levels : List Level)
+      → NamesLinks line width own levels → KnowsRecord {w = w} new (length levels) []
 
 -- a line of this number was heard: where it spells a beat, that is recorded
 abbrev pub RecordsBeat : (w : ℕ) → Inquiry → Inquiry → ℕ → List ℕ → Type 0
@@ -81,53 +82,53 @@ RecordsBeat w old new number line =
 -- of the definition
 abbrev pub TellsRecorded : {w : ℕ} → Option Witness → Judge w → MemoryRule → Link → BeatD w → List ℕ → List ℕ → Type 0
 TellsRecorded {w} witness judge rule link y was is =
-    (levels : List Level) (p : Profile) (block : ℕ) (t : Trace w) → Knows judge levels (liberties_of p) t false
+    (levels : List Level) (may : Liberties) (block : ℕ) (t : Trace w) → Knows judge levels may t false
     → IfSome witness (λ h. KnowsWitness h (length levels) block t)
     → block_asked (open_request y.source (on_link link.0 t)) ≡ Some block
-    → broken_on_link levels p (link, beat.D y) t ≡ None
+    → broken_on_link_under may levels (link, beat.D y) t ≡ None
     → is ≡ was ++ grounds_text rule (length levels) link.0 y t
 
 -- of a response in the line of this number, after the trace that the judge knows, the text of the definition was told
 abbrev pub TellsResponse : {w : ℕ} → Inquiry → Inquiry → Judge w → ℕ → List ℕ → Link → BeatD w → Type 0
 TellsResponse {w} old new judge number line link y =
-    (levels : List Level) (p : Profile) (t : Trace w) → Knows judge levels (liberties_of p) t false → KnowsRecord old (length levels) t
-    → Spells line link (beat.D y) → broken_on_link levels p (link, beat.D y) t ≡ None
+    (levels : List Level) (may : Liberties) (t : Trace w) → Knows judge levels may t false → KnowsRecord old (length levels) t
+    → Spells line link (beat.D y) → broken_on_link_under may levels (link, beat.D y) t ≡ None
     → new.reasons.items ≡ memory_front_text old.rule number link (beat.D y)
     ++ grounds_text old.rule (length levels) link.0 y t
 
 -- the same of a beat, which is a response then
-abbrev pub TellsBeat : {w : ℕ} → Inquiry → Inquiry → BeatJudge w → ℕ → List ℕ → Link → Beat w → Type 0
+abbrev pub TellsBeat : {w : ℕ} → Inquiry → Inquiry → TraceJudge w → ℕ → List ℕ → Link → Beat w → Type 0
 TellsBeat {w} old new judge number line link x =
-    (levels : List Level) (p : Profile) (t : Trace w) → KnowsBeats true judge levels p t
-    → KnowsRecord old (length levels) t → Spells line link x → broken_on_link levels p (link, x) t ≡ None
+    (levels : List Level) (may : Liberties) (t : Trace w) → KnowsBeats true judge levels may t
+    → KnowsRecord old (length levels) t → Spells line link x → broken_on_link_under may levels (link, x) t ≡ None
     → (y : BeatD w) × (x ≡ beat.D y)
     × (new.reasons.items ≡ memory_front_text old.rule number link x ++ grounds_text old.rule (length levels) link.0 y t)
 
 -- the line of this number is the one at fault, and of the response that it spells the text of the definition was told
-pub record TellsFault {w : ℕ} (old new : Inquiry) (judge : BeatJudge w) (number : ℕ) (line : List ℕ) : Type 0 where
+pub record TellsFault {w : ℕ} (old new : Inquiry) (judge : TraceJudge w) (number : ℕ) (line : List ℕ) : Type 0 where
   pub is_line : line ≡ spelled old.line
   pub is_next : number ≡ old.good + 1
-  pub tells : (levels : List Level) (p : Profile) (t : Trace w) (link : Link) (x : Beat w)
-      → KnowsBeats true judge levels p t → KnowsRecord old (length levels) t → Spells line link x
-      → broken_on_link levels p (link, x) t ≡ None
+  pub tells : (levels : List Level) (may : Liberties) (t : Trace w) (link : Link) (x : Beat w)
+      → KnowsBeats true judge levels may t → KnowsRecord old (length levels) t → Spells line link x
+      → broken_on_link_under may levels (link, x) t ≡ None
       → (y : BeatD w) × (x ≡ beat.D y)
       × (new.reasons.items ≡ memory_front_text old.rule number link x
       ++ grounds_text old.rule (length levels) link.0 y t)
 
 -- a line behind the header was heard
-pub record HearsLine {w : ℕ} (old new : Inquiry) (judge : BeatJudge w) (number : ℕ) (line : List ℕ) (told : Bool)
+pub record HearsLine {w : ℕ} (old new : Inquiry) (judge : TraceJudge w) (number : ℕ) (line : List ℕ) (told : Bool)
     : Type 0 where
   pub same : IsSameInquiry old new
   pub recorded : RecordsBeat w old new number line
   pub tells : told ≡ true → TellsFault old new judge number line
 
 -- what a judge knew it knows still
-abbrev pub StillKnows : {w : ℕ} → BeatJudge w → BeatJudge w → Type 0
-StillKnows {w} old new = (levels : List Level) (p : Profile) (t : Trace w) → KnowsBeats true old levels p t
-    → KnowsBeats true new levels p t
+abbrev pub StillKnows : {w : ℕ} → TraceJudge w → TraceJudge w → Type 0
+StillKnows {w} old new = (levels : List Level) (may : Liberties) (t : Trace w) → KnowsBeats true old levels may t
+    → KnowsBeats true new levels may t
 
 -- a line of this number was heard, before it was judged
-abbrev pub Hears : MonitorLines 1 → MonitorLines 1 → Inquiry → Inquiry → ℕ → List ℕ → Bool → Type 0
+abbrev pub Hears : LinkJudge → LinkJudge → Inquiry → Inquiry → ℕ → List ℕ → Bool → Type 0
 Hears (Waiting alloc) new i j number line told = (new ≡ Waiting alloc) × (told ≡ false) × HearsHeader i j line
 Hears (Four old) (Four new) i j number line told = StillKnows old new × HearsLine i j old number line told
 Hears (Eight old) (Eight new) i j number line told = StillKnows old new × HearsLine i j old number line told
@@ -145,43 +146,44 @@ pub record Concludes (old new : Inquiry) (number : ℕ) (told : Bool) (fault : O
 -- ---- all lines
 
 -- the judge knows the trace that these lines spell, and that is recorded
-pub record HasHeard {w : ℕ} (judge : BeatJudge w) (i : Inquiry) (lines : List (List ℕ)) : Type 0 where
-  pub traced : KnowsSpelled true judge lines
+pub record HasHeard {w : ℕ} (allow : Liberties) (judge : TraceJudge w) (i : Inquiry) (lines : List (List ℕ)) : Type 0 where
+  pub traced : KnowsSpelled true allow judge lines
   pub recorded : KnowsRecord i (length traced.levels) traced.trace
 
 -- these lines have been judged and heard: what each link holds is recorded, of the block that is asked about
-abbrev pub KnowsInquiry : MonitorLines 1 → Inquiry → List (List ℕ) → Type 0
-KnowsInquiry (Waiting alloc) i lines = (lines ≡ []) × (i.witness ≡ None)
-KnowsInquiry (Four judge) i lines = HasHeard judge i lines
-KnowsInquiry (Eight judge) i lines = HasHeard judge i lines
-KnowsInquiry (Sixteen judge) i lines = HasHeard judge i lines
+abbrev pub KnowsInquiry : Liberties → LinkJudge → Inquiry → List (List ℕ) → Type 0
+KnowsInquiry allow (Waiting alloc) i lines = (lines ≡ []) × (i.witness ≡ None)
+KnowsInquiry allow (Four judge) i lines = HasHeard allow judge i lines
+KnowsInquiry allow (Eight judge) i lines = HasHeard allow judge i lines
+KnowsInquiry allow (Sixteen judge) i lines = HasHeard allow judge i lines
 
 -- these lines have been judged and heard, and the line at fault wasn't reached
 pub record KnowsTestimony (h : Testimony) (lines : List (List ℕ)) (text : List ℕ) : Type 0 where
-  pub judged : KnowsLines h.monitor_lines lines text
-  pub heard : KnowsInquiry h.monitor_lines h.inquiry lines
+  pub together : h.link_lines.together ≡ true
+  pub judged : KnowsLines h.link_lines lines text
+  pub heard : KnowsInquiry h.link_lines.allow h.link_lines.judge h.inquiry lines
   pub counted : h.inquiry.count ≡ length lines
   pub unreached : h.inquiry.reached ≡ false
 
 -- The line at fault stands among these, behind those of a trace. The response that it spells breaks the rule after that
 -- trace, and what it rests on was told by the definition.
-pub record HasTold (i : Inquiry) (lines : List (List ℕ)) : Type 0 where
+pub record HasTold (allow : Liberties) (i : Inquiry) (lines : List (List ℕ)) : Type 0 where
   pub before : List (List ℕ)
   pub behind : List (List ℕ)
   pub stands : lines ≡ before ++ spelled i.line ∷ behind
   pub good_is : i.good ≡ length before
   pub bytes : ℕ
   pub levels : List Level
-  pub profile : Profile
+  pub may : Liberties
   pub trace : Trace bytes
-  pub spells_trace : SpellsTrace before levels profile trace
+  pub spells_trace : SpellsTrace allow before levels may trace
   pub link : Link
   pub response : BeatD bytes
   pub spells : Spells (spelled i.line) link (beat.D response)
-  pub breaks : broken_together levels (liberties_of profile) (link, beat.D response) trace ≡ Some (OfMemory i.rule)
+  pub breaks : broken_together levels may (link, beat.D response) trace ≡ Some (OfMemory i.rule)
   pub says : i.reasons.items ≡ memory_front_text i.rule (i.good + 1) link (beat.D response)
       ++ grounds_text i.rule (length levels) link.0 response trace
 
 -- where the line at fault was reached, it was told of
 abbrev pub EndsTestimony : Testimony → List (List ℕ) → Type 0
-EndsTestimony h lines = h.inquiry.reached ≡ true → HasTold h.inquiry lines
+EndsTestimony h lines = h.inquiry.reached ≡ true → HasTold h.link_lines.allow h.inquiry lines

@@ -32,3 +32,7 @@ changed_text name = codes "tltool: " ++ name ++ codes " changed while it was rea
 -- the line for standard error where a file can be read once alone, as a pipe
 abbrev pub once_text : List ℕ → List ℕ
 once_text name = codes "tltool: " ++ name ++ codes " can't be read twice, as explain does: write it to a file\n"
+
+-- the line for standard error where all links are judged together, and the header names early answers
+abbrev pub early_text : List ℕ
+early_text = codes "tltool: the header names early answers, which coherent doesn't take\n"

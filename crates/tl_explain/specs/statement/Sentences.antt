@@ -77,7 +77,7 @@ memory_sentence M1 = codes
 memory_sentence M2 = codes
     "a byte isn't one that it may be at the first beat, by what was told of it and by the Puts and atomics that are pending"
 memory_sentence M3 = codes
-    "a byte that was asked for isn't one that it may have been from the request's last beat to the answer's first, by what was told of it and by the Puts and atomics that were pending"
+    "a byte that was asked for isn't one that it may have been in a window of the access, by what was told of it and by the Puts and atomics that were pending"
 memory_sentence M4 = codes
     "all the while since the request was complete a link has held what excludes it: Trunk of the block for a Get, while no report has shown its bytes; anything of it for a Put or an atomic"
 

@@ -7,9 +7,11 @@ use Rattle.tl_beat.specs.statement.Line.{Spells}
 use Rattle.tl_allowed.specs.statement.Allowed.{allowed_under}
 use Rattle.tl_engine.specs.declared.fault.Fault.{Fault}
 use Rattle.tl_links.specs.declared.allow_lines.AllowLines.{AllowLines}
-use Rattle.tl_links.specs.declared.allow_lines.AllowLines.TheVariants.{Waiting, Four, Eight, Sixteen}
+use Rattle.tl_links.specs.declared.allow_lines.Watching.{Watching}
+use Rattle.tl_links.specs.declared.allow_lines.Watching.TheVariants.{Waiting, Four, Eight, Sixteen}
 use Rattle.tl_links.specs.declared.allow_lines.Watch.{Watch}
-use Rattle.tl_links.specs.statement.Allowed.{Allowed, AllowedAfter, NamesProfile}
+use Rattle.tl_engine.specs.statement.LinksHeader.{NamesAllowed}
+use Rattle.tl_links.specs.statement.Allowed.{Allowed, AllowedAfter}
 use Rattle.tl_monitor.specs.statement.Knows.{KnowsUnder}
 use Rattle.tl_params.specs.declared.level.Level.{Level}
 use Rattle.tl_params.specs.declared.liberties.Liberties.{Liberties}
@@ -47,32 +49,39 @@ Watches {w} old new line (Some fault) =
     → (more : List (List ℕ)) → AllowedAfter levels may t (line ∷ more) new.allowing.items
 
 -- these lines, a header and beats that aren't at fault, were read: what is found behind them is found of all
-pub record KnowsTrace {w : ℕ} (v : Watch w) (lines : List (List ℕ)) : Type 0 where
+pub record KnowsTrace {w : ℕ} (allow : Liberties) (v : Watch w) (lines : List (List ℕ)) : Type 0 where
   pub levels : List Level
   pub may : Liberties
   pub trace : Trace w
   pub known : KnowsBeats v levels may trace
   pub before : (more : List (List ℕ)) (allowing : List Liberty) → AllowedAfter levels may trace more allowing
-      → Allowed (lines ++ more) allowing
+      → Allowed allow (lines ++ more) allowing
+
+abbrev pub KnowsWatching : Liberties → Watching → List (List ℕ) → Type 0
+KnowsWatching allow (Waiting alloc) lines = lines ≡ []
+KnowsWatching allow (Four v) lines = KnowsTrace allow v lines
+KnowsWatching allow (Eight v) lines = KnowsTrace allow v lines
+KnowsWatching allow (Sixteen v) lines = KnowsTrace allow v lines
 
 abbrev pub KnowsLines : AllowLines → List (List ℕ) → List ℕ → Type 0
-KnowsLines (Waiting alloc) lines text = lines ≡ []
-KnowsLines (Four v) lines text = KnowsTrace v lines
-KnowsLines (Eight v) lines text = KnowsTrace v lines
-KnowsLines (Sixteen v) lines text = KnowsTrace v lines
+KnowsLines h lines text = KnowsWatching h.allow h.watching lines
 
 -- what was found
+abbrev pub found_by : Watching → List Liberty
+found_by (Waiting alloc) = []
+found_by (Four v) = v.allowing.items
+found_by (Eight v) = v.allowing.items
+found_by (Sixteen v) = v.allowing.items
+
 abbrev pub found_in : AllowLines → List Liberty
-found_in (Waiting alloc) = []
-found_in (Four v) = v.allowing.items
-found_in (Eight v) = v.allowing.items
-found_in (Sixteen v) = v.allowing.items
+found_in h = found_by h.watching
 
 -- it is what is found of these lines
 abbrev pub EndsLines : AllowLines → List (List ℕ) → Type 0
-EndsLines h lines = Allowed lines (found_in h)
+EndsLines h lines = Allowed h.allow lines (found_in h)
 
 -- what the first line begins: a watch behind a header, or none where it is no header
-abbrev pub Begins : List ℕ → Option AllowLines → Type 0
-Begins line None = (width : Width) (may : Liberties) (levels : List Level) → ¬ NamesProfile line width may levels
-Begins line (Some h) = KnowsLines h (line ∷ []) []
+abbrev pub Begins : Liberties → List ℕ → Option Watching → Type 0
+Begins allow line None = (width : Width) (may : Liberties) (levels : List Level)
+    → ¬ NamesAllowed allow line width may levels
+Begins allow line (Some watching) = KnowsWatching allow watching (line ∷ [])

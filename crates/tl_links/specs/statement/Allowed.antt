@@ -7,23 +7,15 @@ use Rattle.tl_beat.specs.declared.beat.Link.{Link}
 use Rattle.tl_beat.specs.declared.fault.LineFault.{LineFault}
 use Rattle.tl_beat.specs.statement.Line.{Spells, line_fault}
 use Rattle.tl_engine.specs.code.Lines.{lines_of}
-use Rattle.tl_engine.specs.statement.Judged.{Headers}
-use Rattle.tl_engine.specs.statement.Trace.{SpellsHeader}
+use Rattle.tl_engine.specs.statement.LinksHeader.{NamesAllowed}
 use Rattle.tl_engine.specs.statement.Width.{bytes_of}
 use Rattle.tl_params.specs.declared.level.Level.{Level}
 use Rattle.tl_params.specs.declared.liberties.Liberties.{Liberties}
 use Rattle.tl_params.specs.declared.liberties.Liberty.{Liberty}
-use Rattle.tl_params.specs.declared.profile.Profile.{Profile}
 use Rattle.tl_params.specs.declared.rule.Rule.{Rule}
 use Rattle.tl_params.specs.declared.width.Width.{Width}
-use Rattle.tl_params.specs.statement.Liberties.{liberties_of}
 use Rattle.tl_rules.specs.statement.Conformance.{Trace}
 use Rattle.tl_rules.specs.statement.Liberties.{broken_on_link_under}
-
--- the line is a header that names a profile, or stands for the first; these are the liberties of that profile
-abbrev pub NamesProfile : Headers Liberties
-NamesProfile line width may levels =
-    (p : Profile) × SpellsHeader line width p levels × (may ≡ liberties_of p)
 
 -- The first of these lines that is at fault, behind the beats of t, spells a beat that each of these liberties would
 -- allow. They are none where no line is at fault, or the first spells no beat.
@@ -37,23 +29,26 @@ AllowedAfter {w} levels may t (line ∷ lines) allowing =
     × (allowing ≡ allowed_under may levels (link, beat) t))
     ⊎ ((fault : LineFault) × (line_fault w line ≡ Some fault) × (allowing ≡ []))
 
--- the same of a whole trace; none where its first line isn't there or is no header
-unfoldable pub Allowed : List (List ℕ) → List Liberty → Type 0
-Allowed [] allowing = allowing ≡ []
-Allowed (line ∷ lines) allowing =
-    ((width : Width) × (may : Liberties) × (levels : List Level) × NamesProfile line width may levels
+-- the same of a whole trace, where this is allowed besides what its header names; none where its first line isn't there or
+-- is no header
+unfoldable pub Allowed : Liberties → List (List ℕ) → List Liberty → Type 0
+Allowed allow [] allowing = allowing ≡ []
+Allowed allow (line ∷ lines) allowing =
+    ((width : Width) × (may : Liberties) × (levels : List Level) × NamesAllowed allow line width may levels
     × AllowedAfter {w = bytes_of width} levels may [] lines allowing)
-    ⊎ (((width : Width) (may : Liberties) (levels : List Level) → ¬ NamesProfile line width may levels)
+    ⊎ (((width : Width) (may : Liberties) (levels : List Level) → ¬ NamesAllowed allow line width may levels)
     × (allowing ≡ []))
 
 -- nothing that follows what was read changes what is found of it, or it was read to its end
-abbrev pub IsSettled : Option (List ℕ) → List ℕ → List Liberty → Type 0
-IsSettled left read allowing = ((more : List ℕ) → Allowed (lines_of (read ++ more)) allowing) ⊎ IsAtEnd left
+abbrev pub IsSettled : Liberties → Option (List ℕ) → List ℕ → List Liberty → Type 0
+IsSettled allow left read allowing =
+    ((more : List ℕ) → Allowed allow (lines_of (read ++ more)) allowing) ⊎ IsAtEnd left
 
 -- what was read of an input, to its first line at fault or to its end, is found to be allowed by these
-abbrev pub FindsAllowed : Option (List ℕ) → Option (List ℕ) → List Liberty → Type 0
-FindsAllowed had left allowing =
-    (read : List ℕ) × Consumes had left read × Allowed (lines_of read) allowing × IsSettled left read allowing
+abbrev pub FindsAllowed : Liberties → Option (List ℕ) → Option (List ℕ) → List Liberty → Type 0
+FindsAllowed allow had left allowing =
+    (read : List ℕ) × Consumes had left read × Allowed allow (lines_of read) allowing
+    × IsSettled allow left read allowing
 
 -- the line that names them, indented; nothing where there are none
 abbrev pub allowed_line : List Liberty → List ℕ

@@ -21,9 +21,9 @@ use Rattle.tl_command.specs.declared.search.Aim.{Aim}
 use Rattle.tl_report.specs.declared.search.Search.{Search}
 use Rattle.tl_report.specs.declared.search_lines.SearchLines.{SearchLines}
 use Rattle.tl_report.specs.declared.search_lines.SearchLines.TheVariants.{Waiting, Four, Eight, Sixteen}
-use Rattle.tl_links.specs.code.TraceJudging.{KnowsBeats}
+use Rattle.tl_engine.specs.code.TraceJudging.{KnowsBeats}
 use Rattle.tl_report.specs.statement.Found.{FindsAfter, FindsFor, is_open, no_header}
-use Rattle.tl_links.specs.statement.Judged.{faults_by, heads_by}
+use Rattle.tl_engine.specs.statement.JudgedLinks.{faults_by, heads_by}
 use Rattle.tl_report.specs.statement.Taken.{AreCounted, cells_of}
 
 -- nothing was read behind the header

@@ -15,7 +15,7 @@ use Rattle.tl_engine.specs.declared.fault.Fault.TheVariants.{Header}
 use Rattle.tl_engine.specs.statement.Judged.{FaultsOf, Headers, IsAtFault}
 use Rattle.tl_engine.specs.statement.Width.{bytes_of}
 use Rattle.tl_report.specs.declared.findings.Finding.{Finding}
-use Rattle.tl_links.specs.statement.Judged.{faults_by, heads_by}
+use Rattle.tl_engine.specs.statement.JudgedLinks.{faults_by, heads_by}
 use Rattle.tl_report.specs.statement.Taken.{AreCounted, cells_of}
 
 -- how many lines at fault are looked for

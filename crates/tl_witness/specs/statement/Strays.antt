@@ -9,7 +9,8 @@ use Rattle.tl_beat.specs.declared.opcode.OpD.{OpD}
 use Rattle.tl_beat.specs.declared.opcode.OpD.TheVariants as d
 use Rattle.tl_beat.specs.statement.Digits.{digits}
 use Rattle.tl_burst.specs.statement.Messages.{unfinished}
-use Rattle.tl_bytes.specs.statement.Bytes.{Access, before_last, is_of, may_be, may_grant, pending_accesses}
+use Rattle.tl_bytes.specs.statement.Bytes.{Access, before_last, found_after, is_of, may_be, may_grant}
+use Rattle.tl_bytes.specs.statement.Bytes.{pending_accesses}
 use Rattle.tl_bytes.specs.statement.Lines.{told_moment}
 use Rattle.tl_memory.specs.statement.Expecting.{may_answer}
 use Rattle.tl_rules.specs.code.Open.{open_request}
@@ -75,11 +76,11 @@ granted_text {w} n link x (Some asked) t =
     strays_text (may_grant n (before_last link (beats_come link t) t)) (told_after n t) 0
     (64 * asked.block + w * beats_come link t) (lanes_of (beat.D x))
 
--- M3: those of a beat of the answer to this access, which it may not bring
+-- M3: those of a beat of the answer to this access, which it may not bring: by what may have been found by then
 abbrev pub answered_text : {w : ℕ} → ℕ → ℕ → BeatD w → Option (Access w) → Trace w → List ℕ
 answered_text n link x None t = []
 answered_text {w} n link x (Some access) t =
-    strays_text (may_answer n access (before_last link (beats_come link t) t)) (told_after n t) 0
+    strays_text (may_answer n access (found_after (Some access) link (beats_come link t) t)) (told_after n t) 0
     (w * (access.request.address / w) + w * beats_come link t) (lanes_of (beat.D x))
 
 -- the bytes of a beat of a response with this opcode, which it may not bring after t

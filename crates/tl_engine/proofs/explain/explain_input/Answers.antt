@@ -11,7 +11,7 @@ returns-in_err-write_both-clause-fault g c =
       c.reasons.new.out.items,
       c.in_ok-found.status,
       reached.0,
-      explains _ _ c.in_ok-found.found c.in_ok-found.status c.examine.new.verdict.items c.reasons.new.out.items
+      explains c.args.allow _ _ c.in_ok-found.found c.in_ok-found.status c.examine.new.verdict.items c.reasons.new.out.items
           reached.1
           c.in_ok-reasons.ensures.ok,
       rw (c.deref.ensures.value, c.deref-2.ensures.value) at c.in_err-write_both.ensures.err,

@@ -4,7 +4,7 @@ use Rattle.tl_engine.proofs.explain_memory.explain_memory.Goals as goal
 
 pub returns-clause-ok : goal.returns-clause-ok
 returns-clause-ok g c =
-    witnessed _ _ c.in_ok-inquiry.inquiry c.args.found.now.good c.in_ok-number.number c.args.rule
+    witnessed c.args.allow _ _ c.in_ok-inquiry.inquiry c.args.found.now.good c.in_ok-number.number c.args.rule
     c.inquire.new.verdict.items c.in_ok-inquiry.status c.args.out.now.items c.extend_from_slice.new.self.items
     c.in_ok-inquiry.ensures.ok (search rules) (search rules) (search rules) (search rules)
     c.in_ok-number.ensures.number c.requires (search rules)

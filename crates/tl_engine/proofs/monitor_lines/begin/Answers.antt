@@ -1,16 +1,14 @@
-use Rattle.std.proofs.Common.{refl}
 use Rattle.tl_params.specs.declared.width.Width.TheVariants.{Four, Eight, Sixteen}
 use Rattle.tl_engine.proofs.JudgedTraces.{header_known}
 use Rattle.tl_engine.specs.code.Watching.{KnowsBeats, faults_by, is_together, said_by}
 use Rattle.tl_engine.specs.statement.Trace.{SpellsHeader}
-use Rattle.tl_engine.proofs.Tracing.{traced-first}
 use Rattle.tl_engine.proofs.monitor_lines.begin.Goals as goal
 use Rattle.tl_engine.proofs.monitor_lines.begin.Goals.{in-Four+in_ok-new-in-Four}
 use Rattle.tl_engine.proofs.monitor_lines.begin.Goals.{in-Eight+in_ok-new-in-Eight}
 use Rattle.tl_engine.proofs.monitor_lines.begin.Goals.{in-Sixteen+in_ok-new-in-Sixteen}
 
-pub returns-clause-begins : goal.returns-clause-begins
-returns-clause-begins g c = elim c.match-header.branch [
+pub returns : goal.returns
+returns g c = elim c.match-header.branch [
   | in-Four+in_ok-new-in-Four w ↦
       rw w.monitor_lines-is (header_known SpellsHeader (faults_by (is_together g.row.TOGETHER))
       (said_by (is_together g.row.TOGETHER)) Four (KnowsBeats (is_together g.row.TOGETHER) _) c.args.line.now _ _
@@ -22,18 +20,5 @@ returns-clause-begins g c = elim c.match-header.branch [
   | in-Sixteen+in_ok-new-in-Sixteen w ↦
       rw w.monitor_lines-is (header_known SpellsHeader (faults_by (is_together g.row.TOGETHER))
       (said_by (is_together g.row.TOGETHER)) Sixteen (KnowsBeats (is_together g.row.TOGETHER) _) c.args.line.now _ _
-      (rw w.in-Sixteen.is at c.in-Some.ensures.spelled) w.in_ok-new-in-Sixteen.ensures)
-]
-
-pub returns-clause-traced : goal.returns-clause-traced
-returns-clause-traced g c = elim c.match-header.branch [
-  | in-Four+in_ok-new-in-Four w ↦
-      rw w.monitor_lines-is (traced-first (is_together g.row.TOGETHER) _ c.args.line.now Four _ _ refl
-      (rw w.in-Four.is at c.in-Some.ensures.spelled) w.in_ok-new-in-Four.ensures)
-  | in-Eight+in_ok-new-in-Eight w ↦
-      rw w.monitor_lines-is (traced-first (is_together g.row.TOGETHER) _ c.args.line.now Eight _ _ refl
-      (rw w.in-Eight.is at c.in-Some.ensures.spelled) w.in_ok-new-in-Eight.ensures)
-  | in-Sixteen+in_ok-new-in-Sixteen w ↦
-      rw w.monitor_lines-is (traced-first (is_together g.row.TOGETHER) _ c.args.line.now Sixteen _ _ refl
       (rw w.in-Sixteen.is at c.in-Some.ensures.spelled) w.in_ok-new-in-Sixteen.ensures)
 ]

@@ -1,17 +1,21 @@
+use Rattle.std.proofs.Common.{ap, ◌∙◌}
 use Rattle.tl_engine.specs.code.Lines.{lines_of}
-use Rattle.tl_links.proofs.AllowedLines.{all_found, settled}
+use Rattle.tl_links.specs.declared.allow_lines.AllowLines.{AllowLines}
+use Rattle.tl_links.proofs.AllowedLines.{all_found, finds, settled}
 use Rattle.tl_links.proofs.allowing.append_allowed.Goals as goal
 
 pub returns-clause-ok : goal.returns-clause-ok
 returns-clause-ok g c =
     let (read, consumed, told, ended, has, stands) = c.in_ok-judge_input.ensures.ok in (
       c.allowing.result.now,
-      (
-        read,
-        consumed,
-        rw (c.allowing.ensures, c.handler.ensures) (all_found c.judge_input.new.lines.handler (lines_of read)
-            c.in_ok-judge_input.field-0 has),
-        rw (c.allowing.ensures, c.handler.ensures) (settled c.judge_input.new.lines.handler _ read stands),
-      ),
+      finds c.judge_input.new.lines.handler c.args.allow _ _ _
+          (c.in_ok-judge_input.ensures.purpose ∙ ap (λ (h : AllowLines). h.allow) c.new-lines.ensures.handler
+          ∙ c.new.ensures.allowed) (
+            read,
+            consumed,
+            rw (c.allowing.ensures, c.handler.ensures) (all_found c.judge_input.new.lines.handler (lines_of read)
+                c.in_ok-judge_input.field-0 has),
+            rw (c.allowing.ensures, c.handler.ensures) (settled c.judge_input.new.lines.handler _ read stands),
+          ),
       c.in_ok-append_line.ensures,
     )

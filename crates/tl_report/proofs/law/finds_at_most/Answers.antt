@@ -1,5 +1,5 @@
 use Rattle.tl_report.proofs.Verdict.{at_most}
-use Rattle.tl_links.specs.statement.Judged.{faults_by, heads_by}
+use Rattle.tl_engine.specs.statement.JudgedLinks.{faults_by, heads_by}
 use Rattle.tl_report.proofs.law.finds_at_most.Goals as goal
 
 pub returns : goal.returns

@@ -1,7 +1,6 @@
 use Rattle.std.proofs.Common.{◌≡◌, ap, append-nil, length, refl, sym, ◌∙◌, ◌++◌}
 use Rattle.std.proofs.lemmas.Result.{on_ok_weaker}
 use Rattle.tl_beat.specs.declared.beat.Beat.{Beat}
-use Rattle.tl_bytes.specs.statement.Bytes.{before_last}
 use Rattle.tl_memory.proofs.LinkTables.{link-there}
 use Rattle.tl_witness.proofs.Brought.{brings, brings-nothing}
 use Rattle.tl_witness.specs.statement.Strays.{beats_come}
@@ -9,8 +8,7 @@ use Rattle.tl_witness.proofs.grounds.tell_lanes_of.Goals as goal
 
 pub returns-in-None : goal.returns-in-None
 returns-in-None g c = λ levels l x t has k fine is.
-    let begun = before_last c.args.link.0 (beats_come c.args.link.0 t) t in
-    let none = brings-nothing (length levels) c.args.link.0 x t begun x.opcode
+    let none = brings-nothing (length levels) c.args.link.0 x t x.opcode
     (rw c.in-None.is at (c.expected.ensures levels l x t k fine is)) in
     sym (append-nil c.args.out.now.items) ∙ ap (λ text. c.args.out.now.items ++ text) (sym none)
 

@@ -8,4 +8,4 @@ returns c =
     header-recorded c.args.self.now (record c.args.self.now { witness = Some c.in_ok-new.field-0 }) c.in_ok-new.field-0
     c.args.line.now _ c.in-Some.header.levels.items
     (record { rule_is = refl; block_is = refl; good_is = refl; line_is = refl }) refl (λ w. c.in_ok-new.ensures w small)
-    (search rules) (λ width p levels spells. ((rw c.in-Some.is at c.read_header.ensures.every_spelling) width p levels spells).2)
+    (search rules) (λ width own levels names. ((rw c.in-Some.is at c.read_links.ensures.every_spelling) width own levels names).2)

@@ -1,11 +1,10 @@
 use Rattle.std.proofs.lemmas.Result.{IfOk-weaker}
 use Rattle.std.specs.Prelude.{false}
-use Rattle.tl_params.specs.statement.Liberties.{liberties_of}
 use Rattle.tl_engine.proofs.Hearing.{beat-told}
 use Rattle.tl_engine.proofs.testimony.Inquiry.tell_beat.Goals as goal
 
 pub returns-in-OfAll-clause-judge : goal.returns-in-OfAll-clause-judge
-returns-in-OfAll-clause-judge g c = λ levels p t k. c.tell_response.ensures.judge levels (liberties_of p) t false (rw c.in-OfAll.is at k)
+returns-in-OfAll-clause-judge g c = λ levels may t k. c.tell_response.ensures.judge levels may t false (rw c.in-OfAll.is at k)
 
 pub returns-in-OfAll-clause-tells : goal.returns-in-OfAll-clause-tells
 returns-in-OfAll-clause-tells g c = IfOk-weaker c.tell_response.result _ _

@@ -1,0 +1,74 @@
+//! Reads the header of a trace that names what its links may do.
+
+ghost use Rattle.std.specs.Prelude.{List, IfSome};
+ghost use Rattle.tl_engine.specs.code.HeadReading.{front_at};
+ghost use Rattle.tl_engine.specs.statement.LinksHeader.{IsLinks, NamesLinks, SpellsFourth};
+ghost use Rattle.tl_params.specs.code.HeaderReading.{Gives};
+ghost use Rattle.tl_params.specs.declared.level.Level.{Level};
+ghost use Rattle.tl_params.specs.declared.liberties.Liberties.{Liberties};
+ghost use Rattle.tl_params.specs.declared.width.Width.{Width};
+
+use crate::header::{read_header, read_levels};
+use arrayvec::ArrayVec;
+use tl_command::liberties::front_liberties;
+use tl_params::config::MOST_CLIENTS;
+use tl_params::level::Level;
+use tl_params::liberties::Liberties;
+use tl_params::width::Width;
+
+/// What the header of a trace names: the bytes of a beat, what the links may do beyond the first profile, and their
+/// levels from link 0 on.
+#[derive(Drop)]
+pub struct LinksHeader {
+    pub width: Width,
+    pub may: Liberties,
+    pub levels: ArrayVec<Level, MOST_CLIENTS>,
+}
+
+/// The bytes of a beat at the front of a header of the fourth version, and what follows them.
+fn front(line: &[u8]) -> Option<(Width, &[u8])>
+    ensures { Gives result (front_at line.now) }
+{
+    if let Some(rest) = line.strip_prefix(b"tltrace 4 4 ") {
+        return Some((Width::Four, rest));
+    }
+    if let Some(rest) = line.strip_prefix(b"tltrace 4 8 ") {
+        return Some((Width::Eight, rest));
+    }
+    match line.strip_prefix(b"tltrace 4 16 ") {
+        None => None,
+        Some(rest) => Some((Width::Sixteen, rest)),
+    }
+}
+
+/// A header of the fourth version: `tltrace 4 W LIBERTIES LEVELS..`.
+fn fourth(line: &[u8]) -> Option<LinksHeader>
+    ensures spelled { IfSome result (λ header. SpellsFourth line.now header.width header.may header.levels.items) }
+    ensures every_spelling { (width : Width) (may : Liberties) (levels : List Level) →
+        SpellsFourth line.now width may levels → IsLinks result width may levels }
+{
+    let (width, rest) = front(line)?;
+    let (may, rest) = front_liberties(rest)?;
+    let levels = read_levels(rest)?;
+    if levels.is_empty() {
+        return None;
+    }
+    Some(LinksHeader { width, may, levels })
+}
+
+/// Reads the first line of a trace, its LF included. A line of another form is no header.
+pub fn read_links(line: &[u8]) -> Option<LinksHeader>
+    // What is read is spelled by the line, and whatever the line spells is read.
+    ensures spelled { IfSome result (λ header. NamesLinks line.now header.width header.may header.levels.items) }
+    ensures every_spelling { (width : Width) (may : Liberties) (levels : List Level) →
+        NamesLinks line.now width may levels → IsLinks result width may levels }
+{
+    match read_header(line) {
+        None => fourth(line),
+        Some(header) => Some(LinksHeader {
+            width: header.width,
+            may: Liberties::of(header.profile),
+            levels: header.levels,
+        }),
+    }
+}

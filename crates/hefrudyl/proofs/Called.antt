@@ -1,5 +1,6 @@
 -- Calls of a client and of a manager by the fields that C shows.
-use Rattle.std.proofs.Common.{◌≡◌, ℕ, subst}
+use mir.Val.{bool_byte}
+use Rattle.std.proofs.Common.{◌≡◌, ℕ, Bool, true, false, refl, subst}
 use Rattle.std.specs.Prelude.{Some}
 use Rattle.tl_beat.specs.declared.beat.Beat.{Beat}
 use Rattle.tl_beat.specs.declared.beat.Link.{Link}
@@ -14,6 +15,7 @@ use Rattle.tl_pictures.specs.declared.picture.Picture.{Picture}
 use Rattle.hefrudyl.specs.statement.Client.{Asked, AskedFor, OfferedOf, OfferedBeat}
 use Rattle.hefrudyl.specs.statement.Manager.{Admitted, AdmittedBeat}
 use Rattle.tl_pictures.specs.statement.Codes.{link_at}
+use Rattle.tl_pictures.specs.statement.Depicted.{flag}
 use Rattle.tl_pictures.specs.statement.Operation.{asked_for}
 use Rattle.tl_pictures.specs.statement.Picture.{shown}
 
@@ -36,3 +38,7 @@ pub admitted_as : {w : ℕ} (old new : ManagerPort w) (code : ℕ) (x : Picture)
 admitted_as old new code x link beat was taken answer e f h =
     subst (λ o. AdmittedBeat old new (link_at code) o was taken answer) f
     (subst (λ l. AdmittedBeat old new l (Some beat) was taken answer) e h)
+
+pub byte_flag : (b : Bool) → bool_byte b ≡ flag b
+byte_flag true = refl
+byte_flag false = refl

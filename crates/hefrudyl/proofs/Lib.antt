@@ -1,3 +1,4 @@
 pub mod Boxed
 pub mod Called
+pub mod Openings
 pub mod Refused

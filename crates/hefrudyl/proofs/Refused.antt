@@ -1,23 +1,23 @@
 -- Why no manager was opened.
-use Rattle.std.proofs.Common.{◌≡◌, ℕ, Bool, true, false, List, [], ◌∷◌, length, inl, inr, refl, ap, ◌∙◌}
+use Rattle.std.proofs.Common.{◌≡◌, ℕ, Bool, true, List, [], ◌∷◌, length, inl, inr, refl, ap, ◌∙◌}
 use Rattle.std.specs.Prelude.{◌&&◌, map, nat_le, nat_lt, None, Err}
 use Rattle.std.proofs.lemmas.Bool.{and_parts}
 use Rattle.std.proofs.lemmas.List.{length-map}
 use Rattle.tl_params.specs.declared.config.Config.{Config}
 use Rattle.tl_params.specs.statement.Config.{all_sources_fit, config_fault}
+use Rattle.tl_partner.specs.declared.terms.Terms.{Terms}
 use Rattle.tl_pictures.specs.declared.answer.Answer.{Answer}
 use Rattle.tl_pictures.specs.declared.config.LinkConfig.{LinkConfig}
+use Rattle.tl_pictures.specs.statement.Answer.{no_memory}
 use Rattle.tl_pictures.specs.statement.Codes.{is_profile, is_width}
 use Rattle.tl_pictures.specs.statement.Configured.{IsConfigOf, client_at, link_fits, links_fit}
 use Rattle.hefrudyl.specs.statement.ManagerOpened.{MakesManager, may_open_manager}
-use Rattle.hefrudyl.specs.statement.Opened.{IsRefusal, refusal}
+use Rattle.hefrudyl.specs.statement.Opened.{IsRefusal}
 
 -- what fits is refused for want of memory alone
-refused-fitting : (Fits : Type 0) (may : Bool) (answer : Answer) → IsRefusal Fits answer → (may ≡ true → Fits)
-    → may ≡ true → answer ≡ refusal may
-refused-fitting Fits true answer (inl memory) fits e = memory
-refused-fitting Fits true answer (inr bad) fits e = absurd (bad.1 (fits refl))
-refused-fitting Fits false answer refused fits e = absurd cc
+refused-fitting : (Fits : Type 0) (answer : Answer) → IsRefusal Fits answer → Fits → answer ≡ no_memory
+refused-fitting Fits answer (inl memory) fits = memory
+refused-fitting Fits answer (inr bad) fits = absurd (bad.1 fits)
 
 -- what may be opened breaks no limit
 sources-fit : (links : List LinkConfig) → links_fit links ≡ true → all_sources_fit (map client_at links) ≡ true
@@ -49,10 +49,10 @@ manager-fits links blocks trackers width profile config is e =
     let sources : all_sources_fit config.clients.items ≡ true = rw is.3 (sources-fit links three.1) in
     rw (count, is.0, is.1, two.0, two.1, four.1, five.1, six.1, seven.1, sources) refl
 
-pub manager-refused : (w : ℕ) (links : List LinkConfig) (blocks trackers width profile : ℕ) (answer : Answer)
-    → MakesManager {w = w} links blocks trackers profile (Err answer)
-    → may_open_manager links blocks trackers width profile ≡ true
-    → answer ≡ refusal (may_open_manager links blocks trackers width profile)
-manager-refused w links blocks trackers width profile answer (config, is, refused) e =
-    refused-fitting (config_fault config ≡ None) (may_open_manager links blocks trackers width profile) answer refused
-    (λ may. manager-fits links blocks trackers width profile config is may) e
+pub manager-refused : (w : ℕ) (links : List LinkConfig) (blocks trackers width profile : ℕ) (terms : Terms)
+    (answer : Answer)
+    → MakesManager {w = w} links blocks trackers profile terms (Err answer)
+    → may_open_manager links blocks trackers width profile ≡ true → answer ≡ no_memory
+manager-refused w links blocks trackers width profile terms answer (config, is, refused) e =
+    refused-fitting (config_fault config ≡ None) answer refused
+    (manager-fits links blocks trackers width profile config is e)

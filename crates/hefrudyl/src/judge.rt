@@ -1,7 +1,7 @@
 //! A judge of all links of a manager, of any width.
 
 ghost use Rattle.tl_beat.specs.statement.Width.{IsWidth};
-ghost use Rattle.hefrudyl.specs.statement.Together.{ToldTogether, ToldOfLineTogether};
+ghost use Rattle.hefrudyl.specs.statement.Together.{ToldTogether, ToldOfLineTogether, stops, goes_on};
 
 use tl_beat::read::read_line;
 use tl_pictures::answer::Answer;
@@ -20,7 +20,7 @@ pub enum AnyJudge {
 /// Judges a beat of a link.
 pub fn push<const W: usize>(judge: &mut Judge<W>, link: u8, picture: &Picture) -> Answer
     requires { IsWidth W }
-    ensures { ToldTogether judge.old judge.new link picture.now result }
+    ensures { ToldTogether stops judge.old judge.new link picture.now result }
 {
     let Some(link) = link_at(link) else {
         return Answer::BAD;
@@ -29,6 +29,20 @@ pub fn push<const W: usize>(judge: &mut Judge<W>, link: u8, picture: &Picture) -
         return Answer::BAD;
     };
     Answer::of_judge(judge.push(link, &beat))
+}
+
+/// Judges a beat of a link, and goes on where it breaks a rule.
+pub fn try_push<const W: usize>(judge: &mut Judge<W>, link: u8, picture: &Picture) -> Answer
+    requires { IsWidth W }
+    ensures { ToldTogether goes_on judge.old judge.new link picture.now result }
+{
+    let Some(link) = link_at(link) else {
+        return Answer::BAD;
+    };
+    let Some(beat) = picture.beat::<W>() else {
+        return Answer::BAD;
+    };
+    Answer::of_judge(judge.try_push(link, &beat))
 }
 
 /// Judges the beat of a line.

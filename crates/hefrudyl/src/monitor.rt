@@ -1,7 +1,7 @@
 //! A monitor of links of any width.
 
 ghost use Rattle.tl_beat.specs.statement.Width.{IsWidth};
-ghost use Rattle.hefrudyl.specs.statement.Judged.{ToldOf, ToldOfLine, EntriesOf};
+ghost use Rattle.hefrudyl.specs.statement.Judged.{ToldOf, ToldOfLine, EntriesOf, stops, goes_on};
 
 use tl_beat::read::read_line;
 use tl_monitor::monitor::Monitor;
@@ -20,7 +20,7 @@ pub enum AnyMonitor {
 /// Judges a beat of a link.
 pub fn push<const W: usize>(monitor: &mut Monitor<W>, link: u8, picture: &Picture) -> Answer
     requires { IsWidth W }
-    ensures { ToldOf monitor.old monitor.new link picture.now result }
+    ensures { ToldOf stops monitor.old monitor.new link picture.now result }
 {
     let Some(link) = link_at(link) else {
         return Answer::BAD;
@@ -29,6 +29,20 @@ pub fn push<const W: usize>(monitor: &mut Monitor<W>, link: u8, picture: &Pictur
         return Answer::BAD;
     };
     Answer::of(monitor.push(link, &beat))
+}
+
+/// Judges a beat of a link, and goes on where it breaks a rule.
+pub fn try_push<const W: usize>(monitor: &mut Monitor<W>, link: u8, picture: &Picture) -> Answer
+    requires { IsWidth W }
+    ensures { ToldOf goes_on monitor.old monitor.new link picture.now result }
+{
+    let Some(link) = link_at(link) else {
+        return Answer::BAD;
+    };
+    let Some(beat) = picture.beat::<W>() else {
+        return Answer::BAD;
+    };
+    Answer::of(monitor.try_push(link, &beat))
 }
 
 /// Judges the beat of a line.

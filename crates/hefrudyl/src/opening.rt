@@ -1,15 +1,16 @@
 //! What monitors, judges, clients and managers are made from, as C names it.
 
-ghost use Rattle.std.specs.Prelude.{◌≡◌, ◌≤◌, false, map, length, IfOk};
+ghost use Rattle.std.specs.Prelude.{◌≡◌, ◌≤◌, ◌++◌, false, drop, map, length, replicate, IfOk};
 ghost use Rattle.tl_beat.specs.statement.Width.{IsWidth};
 ghost use Rattle.hefrudyl.specs.statement.Opened.{may_open, may_open_under, new_answer, Makes, MakesUnder};
 ghost use Rattle.tl_pictures.specs.statement.Codes.{level_at};
 ghost use Rattle.hefrudyl.specs.statement.ClientOpened.{may_open_client, MakesClient};
-ghost use Rattle.hefrudyl.specs.statement.ManagerOpened.{may_open_manager, MakesManager};
+ghost use Rattle.hefrudyl.specs.statement.ManagerOpened.{may_open_manager, profile_code, MakesManager};
 ghost use Rattle.hefrudyl.specs.statement.TogetherOpened.{MakesJudge, may_judge_under};
 
 use std::alloc::{AllocError, Global};
 use tl_monitor::monitor::Monitor;
+use tl_partner::terms::Terms;
 use tl_pictures::answer::Answer;
 use tl_pictures::codes::{are_levels, is_profile, is_width, level_of, liberties_of, profile_of};
 use tl_pictures::config::{LinkConfig, config_of, links_fit};
@@ -170,20 +171,38 @@ pub fn may_open_manager(
         && is_profile(profile)
 }
 
-/// A manager that has taken and handed out nothing, of at most 16 links.
+/// The profile by which a manager grants a lone reader toT, where that is among these liberties.
+pub fn profile_code(liberties: Liberties) -> u8
+    ensures { result ≡ profile_code liberties }
+{
+    if liberties.writer { 2 } else { 1 }
+}
+
+/// The sources of the Probes of 16 links, of which the first are these, and the others 0.
+pub fn probe_sources(sources: &[u8]) -> [u8; 16]
+    requires { length sources.now ≤ 16 }
+    ensures { result ≡ sources.now ++ drop (length sources.now) (replicate 16 0) }
+{
+    let mut of_links = [0; 16];
+    of_links[..sources.len()].copy_from_slice(sources);
+    of_links
+}
+
+/// A manager that has taken and handed out nothing, of at most 16 links, which grants its clients these terms.
 pub fn make_manager<const W: usize>(
     alloc: Global,
     links: &[LinkConfig],
     blocks: u16,
     trackers: u8,
     profile: u8,
+    terms: Terms,
 ) -> Result<ManagerPort<W>, Answer>
     requires width { IsWidth W }
     requires few { length links.now ≤ 16 }
-    ensures { MakesManager links.now blocks trackers profile result }
+    ensures { MakesManager links.now blocks trackers profile terms result }
 {
     let config = config_of(links, blocks, trackers, profile);
-    match ManagerPort::new(alloc, &config) {
+    match ManagerPort::new(alloc, &config, terms) {
         Ok(port) => Ok(port),
         Err(fault) => Err(answer_of(fault)),
     }

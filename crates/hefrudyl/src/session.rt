@@ -2,11 +2,14 @@
 
 ghost use Rattle.std.specs.Prelude.{◌≡◌, false, true};
 ghost use Rattle.hefrudyl.specs.statement.Opened.{OpensTo, OpensUnder, may_open_under, ok_of, answer_in};
-ghost use Rattle.hefrudyl.specs.statement.Sessions.{PushSession, LineSession, EntriesSession};
-ghost use Rattle.hefrudyl.specs.statement.Sessions.{JudgeOpens, JudgeOpensUnder, JudgesSession, JudgesLineSession, OpensJudge};
+ghost use Rattle.hefrudyl.specs.statement.Sessions.{PushSession, TrySession, LineSession, EntriesSession};
+ghost use Rattle.hefrudyl.specs.statement.Sessions.{JudgeOpens, JudgeOpensUnder, OpensJudge};
+ghost use Rattle.hefrudyl.specs.statement.Sessions.{JudgesSession, TriesSession, JudgesLineSession};
 ghost use Rattle.hefrudyl.specs.statement.Sessions.{ClientOpens, AsksSession, OffersSession, StallsSession};
 ghost use Rattle.hefrudyl.specs.statement.Sessions.{NextSession, PopSession, HeldSession, CopySession, ClosedSession};
-ghost use Rattle.hefrudyl.specs.statement.Sessions.{ManagerOpens, AdmitsSession, StallsAtSession, NextAtSession};
+ghost use Rattle.hefrudyl.specs.statement.ManagerOpened.{may_open_manager};
+ghost use Rattle.hefrudyl.specs.statement.Sessions.{ManagerOpens, ManagerOpensUnder, OpensManager};
+ghost use Rattle.hefrudyl.specs.statement.Sessions.{AdmitsSession, StallsAtSession, NextAtSession};
 ghost use Rattle.hefrudyl.specs.statement.Sessions.{PopAtSession, ClosedAtSession};
 
 use crate::client::AnyPort;
@@ -15,10 +18,11 @@ use crate::manager::AnyManager;
 use crate::monitor::AnyMonitor;
 use crate::opening::{
     make, make_client, make_judge, make_manager, make_under, may_judge_under, may_open,
-    may_open_client, may_open_manager, may_open_under,
+    may_open_client, may_open_manager, may_open_under, probe_sources, profile_code,
 };
 use crate::{client, judge, manager, monitor};
 use std::alloc::Global;
+use tl_partner::terms::Terms;
 use tl_pictures::answer::Answer;
 use tl_pictures::codes::{liberties_of, profile_of};
 use tl_pictures::config::LinkConfig;
@@ -94,6 +98,13 @@ impl Session {
         of_any!(Monitor, AnyMonitor, self, held => monitor::push(held, link, beat))
     }
 
+    /// Judges a beat of a link and goes on where it breaks a rule, where a monitor is held.
+    pub fn try_push(&mut self, link: u8, beat: &Picture) -> Answer
+        ensures { TrySession link beat.now result self.old self.new }
+    {
+        of_any!(Monitor, AnyMonitor, self, held => monitor::try_push(held, link, beat))
+    }
+
     /// Judges the beat of a line of a trace, where a monitor is held.
     pub fn push_line(&mut self, line: &[u8]) -> Answer
         ensures { LineSession line.now result self.old self.new }
@@ -163,6 +174,13 @@ impl Session {
         ensures { JudgesSession link beat.now result self.old self.new }
     {
         of_any!(Judge, AnyJudge, self, held => judge::push(held, link, beat))
+    }
+
+    /// Judges a beat so and goes on where it breaks a rule, where a judge is held.
+    pub fn try_judge(&mut self, link: u8, beat: &Picture) -> Answer
+        ensures { TriesSession link beat.now result self.old self.new }
+    {
+        of_any!(Judge, AnyJudge, self, held => judge::try_push(held, link, beat))
     }
 
     /// Judges the beat of a line of a trace so, where a judge is held.
@@ -251,6 +269,30 @@ impl Session {
         of_any!(Client, AnyPort, self, port => client::closed(port, is_closed))
     }
 
+    /// A new manager of these links, of the width, that grants its clients these terms.
+    fn manager_of(
+        alloc: Global,
+        links: &[LinkConfig],
+        blocks: u16,
+        trackers: u8,
+        width: u8,
+        profile: u8,
+        terms: Terms,
+    ) -> Result<Session, Answer>
+        requires fits { may_open_manager links.now blocks trackers width profile ≡ true }
+        ensures told { OpensManager links.now blocks trackers width profile terms true (ok_of result) (answer_in result) }
+    {
+        let manager = match width {
+            4 => AnyManager::Four(make_manager(alloc, links, blocks, trackers, profile, terms)?),
+            8 => AnyManager::Eight(make_manager(alloc, links, blocks, trackers, profile, terms)?),
+            16 => AnyManager::Sixteen(make_manager(
+                alloc, links, blocks, trackers, profile, terms,
+            )?),
+            _ => return Err(Answer::BAD),
+        };
+        Ok(Session::Manager(manager))
+    }
+
     /// A new manager of these links, with this many blocks and trackers, whose beats have the width.
     pub fn open_manager(
         alloc: Global,
@@ -265,13 +307,41 @@ impl Session {
         if !may_open_manager(links, blocks, trackers, width, profile) {
             return Err(Answer::BAD);
         }
-        let manager = match width {
-            4 => AnyManager::Four(make_manager(alloc, links, blocks, trackers, profile)?),
-            8 => AnyManager::Eight(make_manager(alloc, links, blocks, trackers, profile)?),
-            16 => AnyManager::Sixteen(make_manager(alloc, links, blocks, trackers, profile)?),
-            _ => return Err(Answer::BAD),
+        Self::manager_of(
+            alloc,
+            links,
+            blocks,
+            trackers,
+            width,
+            profile,
+            Terms::none(),
+        )
+    }
+
+    /// The same of a manager whose clients have these liberties, and whose Probes of each link have its source.
+    pub fn open_manager_under(
+        alloc: Global,
+        links: &[LinkConfig],
+        blocks: u16,
+        trackers: u8,
+        width: u8,
+        liberties: u8,
+        sources: &[u8],
+    ) -> Result<Session, Answer>
+        ensures told { ManagerOpensUnder links.now blocks trackers width liberties sources.now (ok_of result)
+            (answer_in result) }
+    {
+        let liberties = liberties_of(liberties);
+        let profile = profile_code(liberties);
+        if !may_open_manager(links, blocks, trackers, width, profile)
+            || sources.len() != links.len()
+        {
+            return Err(Answer::BAD);
+        }
+        let Some(terms) = Terms::of(liberties, probe_sources(sources)) else {
+            return Err(Answer::BAD);
         };
-        Ok(Session::Manager(manager))
+        Self::manager_of(alloc, links, blocks, trackers, width, profile, terms)
     }
 
     /// Offers a manager a beat of a link.

@@ -19,7 +19,7 @@ unfoldable use Rattle.tl_rules.specs.statement.History.{held, request_of}
 use Rattle.tl_rules.specs.statement.Liberties.{grows_from_none}
 unfoldable use Rattle.tl_rules.specs.statement.Liberties.{held_under}
 use Rattle.tl_partner.specs.declared.terms.Terms.{Terms}
-use Rattle.tl_partner.specs.laws.Carried.{AreAlike, GrantsNoOther}
+use Rattle.tl_partner.specs.laws.Carried.{AreAlike}
 use Rattle.tl_partner.specs.statement.Naming.{from_zero, plain}
 
 -- ---- channels B and E
@@ -39,15 +39,15 @@ alike-b terms x y t e a = record {
   held = λ k. keeps (ends (Beat.B x) t) _ ∙ a.held k ∙ sym (keeps (ends (Beat.B y) e) _);
 }
 
-pub alike-e : {w : ℕ} (terms : Terms) (x : BeatE) (t e : History w) → GrantsNoOther terms → AreAlike terms t e
+pub alike-e : {w : ℕ} (terms : Terms) (x : BeatE) (t e : History w) → AreAlike terms t e
     → AreAlike terms (Beat.E x ∷ t) (Beat.E x ∷ e)
 unfolding unfinished request_of held held_under
-alike-e {w} terms x t e others a = record {
+alike-e {w} terms x t e a = record {
   requests = a.requests;
   named = λ s. a.named s;
   reports = a.reports;
   answers = a.answers;
-  held = λ k. rw others.early (keeps (ends {w = w} (Beat.E x) t) _ ∙ a.held k ∙ sym (keeps (ends {w = w} (Beat.E x) e) _));
+  held = λ k. keeps (ends {w = w} (Beat.E x) t) _ ∙ a.held k ∙ sym (keeps (ends {w = w} (Beat.E x) e) _);
 }
 
 -- ---- channel A
@@ -71,9 +71,9 @@ alike-a {w} terms x t e a none = record {
   reports = a.reports;
   answers = a.answers;
   held = λ k. rw a.requests (says_a
-      (terms.liberties.drops && (begins (Beat.A x) e && (is_acquire x.opcode && grows_from_none x.param)))
+      (terms.drops && (begins (Beat.A x) e && (is_acquire x.opcode && grows_from_none x.param)))
       (block_at x.address == k) (ends (Beat.A x) e) _ _ (a.held k) (λ c here. ap (λ n. held n e)
-      (sym (eqb-true (block_at x.address) k here)) ∙ none (second terms.liberties.drops _ c)))
+      (sym (eqb-true (block_at x.address) k here)) ∙ none (second terms.drops _ c)))
       ∙ sym (keeps (ends (Beat.A x) e) _);
 }
   where
@@ -94,11 +94,11 @@ grown-map terms x y burst is long = rw (length-map burst (plain terms), ← long
     go false = ap (λ z. z ∷ map (plain terms) burst) is
 
 -- the beat in the manager's history has the fields that count
-pub alike_as : {w : ℕ} (terms : Terms) (x y : BeatC w) (t e : History w) → GrantsNoOther terms → AreAlike terms t e
+pub alike_as : {w : ℕ} (terms : Terms) (x y : BeatC w) (t e : History w) → AreAlike terms t e
     → plain terms (Beat.C x) ≡ Beat.C y → y.opcode ≡ x.opcode → y.param ≡ x.param → y.address ≡ x.address
     → y.size ≡ x.size → AreAlike terms (Beat.C x ∷ t) (Beat.C y ∷ e)
 unfolding unfinished request_of held held_under
-alike_as {w} terms x y t e others a is opcode param address size =
+alike_as {w} terms x y t e a is opcode param address size =
     let long : burst_length (Beat.C x) ≡ burst_length (Beat.C y) = rw (opcode, size) refl in
     let last : ends (Beat.C x) t ≡ ends (Beat.C y) e =
     rw (← a.reports, length-map (unfinished Channel.C t) (plain terms), long) refl in
@@ -108,27 +108,27 @@ alike_as {w} terms x y t e others a is opcode param address size =
       reports = grown-map terms (Beat.C x) (Beat.C y) (unfinished Channel.C t) is long
           ∙ ap (grown (Beat.C y)) a.reports;
       answers = a.answers;
-      held = λ k. rw (others.early, last, a.held k, opcode, param, address) refl;
+      held = λ k. rw (last, a.held k, opcode, param, address) refl;
     }
 
-pub alike-c : {w : ℕ} (terms : Terms) (x : BeatC w) (t e : History w) → GrantsNoOther terms → AreAlike terms t e
+pub alike-c : {w : ℕ} (terms : Terms) (x : BeatC w) (t e : History w) → AreAlike terms t e
     → AreAlike terms (Beat.C x ∷ t) (plain terms (Beat.C x) ∷ e)
-alike-c {w} terms x t e others a = go (terms.liberties.ids && is_probe_ack x.opcode) refl
+alike-c {w} terms x t e a = go (terms.ids && is_probe_ack x.opcode) refl
   where
-    go : (b : Bool) → (terms.liberties.ids && is_probe_ack x.opcode) ≡ b
+    go : (b : Bool) → (terms.ids && is_probe_ack x.opcode) ≡ b
         → AreAlike terms (Beat.C x ∷ t) (plain terms (Beat.C x) ∷ e)
-    go true is = rw is (alike_as terms x (from_zero x) t e others a (rw is refl) refl refl refl refl)
-    go false is = rw is (alike_as terms x x t e others a (rw is refl) refl refl refl refl)
+    go true is = rw is (alike_as terms x (from_zero x) t e a (rw is refl) refl refl refl refl)
+    go false is = rw is (alike_as terms x x t e a (rw is refl) refl refl refl refl)
 
 -- ---- channel D
 
-pub alike-d : {w : ℕ} (terms : Terms) (x : BeatD w) (t e : History w) → GrantsNoOther terms → AreAlike terms t e
+pub alike-d : {w : ℕ} (terms : Terms) (x : BeatD w) (t e : History w) → AreAlike terms t e
     → AreAlike terms (Beat.D x ∷ t) (Beat.D x ∷ e)
 unfolding unfinished request_of held held_under
-alike-d {w} terms x t e others a = record {
+alike-d {w} terms x t e a = record {
   requests = a.requests;
   named = λ s. a.named s;
   reports = a.reports;
   answers = rw a.answers refl;
-  held = λ k. rw (others.early, others.denied, a.answers, a.named x.source, a.held k) refl;
+  held = λ k. rw (a.answers, a.named x.source, a.held k) refl;
 }

@@ -33,6 +33,7 @@ use Rattle.tl_manager.specs.statement.Holders.{recorded}
 use Rattle.tl_partner.specs.declared.terms.Terms.{Terms}
 use Rattle.tl_partner.specs.laws.Carried.{AreAlike}
 use Rattle.tl_partner.specs.statement.Dropping.{after_drop, is_reporting, release_beat, release_of}
+use Rattle.tl_partner.specs.statement.Granting.{granted}
 use Rattle.tl_partner.specs.statement.Naming.{plain}
 use Rattle.tl_partner.proofs.Afterward.{heard, history-drop, reports-drop, requests-drop, said, trace-drop}
 use Rattle.tl_partner.proofs.Drops.{IsDropped}
@@ -47,7 +48,7 @@ pub record AreAlikeBut {w : ℕ} (terms : Terms) (k : ℕ) (t e : History w) : T
   pub named : (s : ℕ) → request_of s t ≡ request_of s e
   pub reports : map (plain terms) (unfinished Channel.C t) ≡ unfinished Channel.C e
   pub answers : unfinished Channel.D t ≡ unfinished Channel.D e
-  pub rest : (j : ℕ) → (k == j) ≡ false → held_under terms.liberties j t ≡ held j e
+  pub rest : (j : ℕ) → (k == j) ≡ false → held_under (granted terms) j t ≡ held j e
   pub none : held k e ≡ Perm.None
 
 named-drop : {w : ℕ} (config : Config) (link : Link) (k : ℕ) (e : End w) (s : ℕ) → IsKept config e
@@ -87,7 +88,7 @@ others-drop config link k e client kept is free other =
 
 -- ---- the beat that says so
 
-pub but-a : {w : ℕ} (terms : Terms) (x : BeatA w) (t e : History w) → terms.liberties.drops ≡ true
+pub but-a : {w : ℕ} (terms : Terms) (x : BeatA w) (t e : History w) → terms.drops ≡ true
     → (is_acquire x.opcode && grows_from_none x.param) ≡ true → begins (Beat.A x) e ≡ true
     → AreAlikeBut terms (block_at x.address) t e → AreAlike terms (Beat.A x ∷ t) (Beat.A x ∷ e)
 unfolding unfinished request_of held held_under
@@ -104,6 +105,6 @@ but-a {w} terms x t e drops says begun a =
     }
   where
     go : (j : ℕ) (b : Bool) → (block_at x.address == j) ≡ b
-        → unwrap_or (if b then Some Perm.None else None) (held_under terms.liberties j t) ≡ held j e
+        → unwrap_or (if b then Some Perm.None else None) (held_under (granted terms) j t) ≡ held j e
     go j true at = sym (ap (λ n. held n e) (sym (eqb-true (block_at x.address) j at)) ∙ a.none)
     go j false at = a.rest j at

@@ -39,7 +39,7 @@ use Rattle.tl_manager.specs.statement.Offer.{Passes, is_from_client, judged}
 unfoldable use Rattle.tl_manager.specs.statement.Offer.{offered}
 use Rattle.tl_manager.specs.statement.Reaction.{reaction}
 use Rattle.tl_partner.specs.declared.terms.Terms.{Terms}
-use Rattle.tl_partner.specs.laws.Carried.{AreAlike, GrantsNoOther, IsCarried}
+use Rattle.tl_partner.specs.laws.Carried.{AreAlike, IsCarried}
 use Rattle.tl_partner.specs.statement.Naming.{all_named, named, plain, probe_source, with_source}
 use Rattle.tl_partner.proofs.Alike.{alike-a, alike-b, alike-c, alike-d, alike-e}
 
@@ -51,57 +51,57 @@ begun_b terms m n zero t e a = a
 begun_b terms m n (suc i) t e a = alike-b terms (b_beat_of m i) (b_beat_of n i) (begun (Message.B m) i ++ t)
     (begun (Message.B n) i ++ e) (begun_b terms m n i t e a)
 
-begun_d : {w : ℕ} (terms : Terms) (m : MessageD w) (i : ℕ) (t e : History w) → GrantsNoOther terms → AreAlike terms t e
+begun_d : {w : ℕ} (terms : Terms) (m : MessageD w) (i : ℕ) (t e : History w) → AreAlike terms t e
     → AreAlike terms (begun (Message.D m) i ++ t) (begun (Message.D m) i ++ e)
-begun_d terms m zero t e others a = a
-begun_d terms m (suc i) t e others a = alike-d terms (d_beat_of m i) (begun (Message.D m) i ++ t)
-    (begun (Message.D m) i ++ e) others (begun_d terms m i t e others a)
+begun_d terms m zero t e a = a
+begun_d terms m (suc i) t e a = alike-d terms (d_beat_of m i) (begun (Message.D m) i ++ t)
+    (begun (Message.D m) i ++ e) (begun_d terms m i t e a)
 
-sent-alike : {w : ℕ} (terms : Terms) (link : Link) (m : Message w) (t e : History w) → GrantsNoOther terms
+sent-alike : {w : ℕ} (terms : Terms) (link : Link) (m : Message w) (t e : History w)
     → is_from_client (beat_of m 0) ≡ false → AreAlike terms t e
     → AreAlike terms (sent (named terms link m) t) (sent m e)
-sent-alike {w} terms link (Message.B m) t e others ours a = go terms.liberties.ids
+sent-alike {w} terms link (Message.B m) t e ours a = go terms.ids
   where
     go : (b : Bool) → AreAlike terms (sent (if b then Message.B (with_source (probe_source terms link.0) m) else
         Message.B m) t) (sent (Message.B m) e)
     go true = begun_b terms (with_source (probe_source terms link.0) m) m (beats_of (Message.B m)) t e a
     go false = begun_b terms m m (beats_of (Message.B m)) t e a
-sent-alike terms link (Message.D m) t e others ours a = begun_d terms m (beats_of (Message.D m)) t e others a
-sent-alike terms link v t e others ours a = absurd cc
+sent-alike terms link (Message.D m) t e ours a = begun_d terms m (beats_of (Message.D m)) t e a
+sent-alike terms link v t e ours a = absurd cc
 
-one-sent : {w : ℕ} (terms : Terms) (link : Link) (m : Message w) (t e : Trace w) → GrantsNoOther terms
+one-sent : {w : ℕ} (terms : Terms) (link : Link) (m : Message w) (t e : Trace w)
     → is_from_client (beat_of m 0) ≡ false → IsCarried terms t e
     → IsCarried terms (after_sent link (named terms link m) t) (after_sent link m e)
-one-sent {w} terms link m t e others ours carried = λ client. go client (link.0 == client) refl
+one-sent {w} terms link m t e ours carried = λ client. go client (link.0 == client) refl
   where
     go : (client : ℕ) (b : Bool) → (link.0 == client) ≡ b
         → AreAlike terms (on_link client (after_sent link (named terms link m) t))
         (on_link client (after_sent link m e))
     go client true at = rw (own_link client link (named terms link m) t at, own_link client link m e at)
-        (sent-alike terms link m (on_link client t) (on_link client e) others ours (carried client))
+        (sent-alike terms link m (on_link client t) (on_link client e) ours (carried client))
     go client false at = rw (other_link client link (named terms link m) t at, other_link client link m e at)
         (carried client)
 
-handed-alike : {w : ℕ} (terms : Terms) (config : Config) (handed : Handed w) (t e : Trace w) → GrantsNoOther terms
+handed-alike : {w : ℕ} (terms : Terms) (config : Config) (handed : Handed w) (t e : Trace w)
     → Each (IsHandable config) handed → IsCarried terms t e
     → IsCarried terms (with_handed (all_named terms handed) t) (with_handed handed e)
 unfolding with_handed
-handed-alike terms config [] t e others each carried = carried
-handed-alike terms config (x ∷ handed) t e others each carried =
-    handed-alike terms config handed (after_sent x.0 (named terms x.0 x.1) t) (after_sent x.0 x.1 e) others each.1
-    (one-sent terms x.0 x.1 t e others each.0.ours carried)
+handed-alike terms config [] t e each carried = carried
+handed-alike terms config (x ∷ handed) t e each carried =
+    handed-alike terms config handed (after_sent x.0 (named terms x.0 x.1) t) (after_sent x.0 x.1 e) each.1
+    (one-sent terms x.0 x.1 t e each.0.ours carried)
 
 -- ---- a beat that is taken
 
 -- one that passes is one more beat of its link, and what is handed out for it
 pub passed-alike : {w : ℕ} (terms : Terms) (config : Config) (link : Link) (ch : Channel) (x y : Beat w) (t : Trace w)
-    (e : End w) → IsWidth w → GrantsNoOther terms → IsTyped y → IsKept config e → judged config link ch y e ≡ Passes
+    (e : End w) → IsWidth w → IsTyped y → IsKept config e → judged config link ch y e ≡ Passes
     → IsCarried terms ((link, x) ∷ t) ((link, y) ∷ e.trace)
     → IsCarried terms (with_handed (all_named terms (reaction config link y e).handed) ((link, x) ∷ t))
     (offered config link ch y e).1.trace
 unfolding offered
-passed-alike terms config link ch x y t e width others typed kept passes carried =
-    rw passes (handed-alike terms config (reaction config link y e).handed ((link, x) ∷ t) ((link, y) ∷ e.trace) others
+passed-alike terms config link ch x y t e width typed kept passes carried =
+    rw passes (handed-alike terms config (reaction config link y e).handed ((link, x) ∷ t) ((link, y) ∷ e.trace)
     (reaction_handable config link y e width (passed config link ch y e typed passes).sound kept.sound) carried)
 
 -- what an Acquire from nothing held that passes grows from
@@ -126,14 +126,14 @@ grown-none p x h order says =
     none_held (x.param == grow_code grow.BtoT) (held (block_at x.address) h) none.1
     (not-false (grows_from x.param (held (block_at x.address) h)) three.0)
 
-own-alike : {w : ℕ} (terms : Terms) (p : Profile) (x : Beat w) (t e : History w) → GrantsNoOther terms
+own-alike : {w : ℕ} (terms : Terms) (p : Profile) (x : Beat w) (t e : History w)
     → is_from_client (plain terms x) ≡ true → broken_in_order p (plain terms x) e ≡ None → AreAlike terms t e
     → AreAlike terms (x ∷ t) (plain terms x ∷ e)
-own-alike terms p (Beat.A x) t e others theirs order a = alike-a terms x t e a (grown-none p x e order)
-own-alike terms p (Beat.B x) t e others theirs order a = absurd cc
-own-alike terms p (Beat.C x) t e others theirs order a = alike-c terms x t e others a
-own-alike terms p (Beat.D x) t e others theirs order a = absurd cc
-own-alike terms p (Beat.E x) t e others theirs order a = alike-e terms x t e others a
+own-alike terms p (Beat.A x) t e theirs order a = alike-a terms x t e a (grown-none p x e order)
+own-alike terms p (Beat.B x) t e theirs order a = absurd cc
+own-alike terms p (Beat.C x) t e theirs order a = alike-c terms x t e a
+own-alike terms p (Beat.D x) t e theirs order a = absurd cc
+own-alike terms p (Beat.E x) t e theirs order a = alike-e terms x t e a
 
 pub beat-alike : {w : ℕ} (terms : Terms) (link : Link) (x y : Beat w) (t e : Trace w) → IsCarried terms t e
     → AreAlike terms (x ∷ on_link link.0 t) (y ∷ on_link link.0 e)
@@ -147,10 +147,10 @@ beat-alike {w} terms link x y t e carried own = λ client. go client (link.0 == 
     go client false at = rw (other_beat client link x t at, other_beat client link y e at) (carried client)
 
 pub taken-alike : {w : ℕ} (terms : Terms) (config : Config) (link : Link) (ch : Channel) (x : Beat w) (t : Trace w)
-    (e : End w) → GrantsNoOther terms → IsTyped (plain terms x) → judged config link ch (plain terms x) e ≡ Passes
+    (e : End w) → IsTyped (plain terms x) → judged config link ch (plain terms x) e ≡ Passes
     → IsCarried terms t e.trace → IsCarried terms ((link, x) ∷ t) ((link, plain terms x) ∷ e.trace)
-taken-alike terms config link ch x t e others typed passes carried =
+taken-alike terms config link ch x t e typed passes carried =
     let ok = passed config link ch (plain terms x) e typed passes in
     beat-alike terms link x (plain terms x) t e.trace carried
-    (own-alike terms config.profile x (on_link link.0 t) (on_link link.0 e.trace) others ok.theirs ok.order
+    (own-alike terms config.profile x (on_link link.0 t) (on_link link.0 e.trace) ok.theirs ok.order
     (carried link.0))

@@ -21,6 +21,7 @@ use Rattle.tl_manager.specs.statement.Offer.{Breaks, Judgement, Passes, Waits, b
 use Rattle.tl_partner.specs.declared.terms.Terms.{Terms}
 use Rattle.tl_partner.specs.statement.Cleaning.{PartnerEnd, cleaning_on, cleaning_order, is_of_cleaning}
 use Rattle.tl_partner.specs.statement.Cleaning.{judged_cleaning, offered_cleaning}
+use Rattle.tl_partner.specs.statement.Granting.{granted}
 use Rattle.tl_partner.specs.statement.Lenient.{offered_lenient, stalls_lenient}
 use Rattle.tl_partner.specs.statement.Partner.{asks_for_cleaned, beside, held_back, held_back_as, offered_under}
 use Rattle.tl_partner.specs.statement.Partner.{stalls_under}
@@ -77,40 +78,40 @@ held-waits Passes e = absurd cc
 -- ---- which beat it is
 
 pub under-cleaning : {w : ℕ} (terms : Terms) (config : Config) (link : Link) (ch : Channel) (x : Beat w)
-    (e : PartnerEnd w) → is_of_cleaning terms.liberties x (cleaning_on link e) ≡ true
-    → offered_under terms config link ch x e ≡ offered_cleaning terms.liberties config link ch x e
+    (e : PartnerEnd w) → is_of_cleaning (granted terms) x (cleaning_on link e) ≡ true
+    → offered_under terms config link ch x e ≡ offered_cleaning (granted terms) config link ch x e
 unfolding offered_under
 under-cleaning terms config link ch x e is = rw is refl
 
 pub under-held : {w : ℕ} (terms : Terms) (config : Config) (link : Link) (ch : Channel) (x : Beat w)
-    (e : PartnerEnd w) → is_of_cleaning terms.liberties x (cleaning_on link e) ≡ false
+    (e : PartnerEnd w) → is_of_cleaning (granted terms) x (cleaning_on link e) ≡ false
     → asks_for_cleaned x (cleaning_on link e) ≡ true
     → offered_under terms config link ch x e ≡ held_back_as (held_back (judged config link ch x e.manager)) link e
 unfolding offered_under
 under-held terms config link ch x e other asks = rw (other, asks) refl
 
 pub under-lenient : {w : ℕ} (terms : Terms) (config : Config) (link : Link) (ch : Channel) (x : Beat w)
-    (e : PartnerEnd w) → is_of_cleaning terms.liberties x (cleaning_on link e) ≡ false
+    (e : PartnerEnd w) → is_of_cleaning (granted terms) x (cleaning_on link e) ≡ false
     → asks_for_cleaned x (cleaning_on link e) ≡ false
     → offered_under terms config link ch x e ≡ beside (offered_lenient terms config link ch x e.manager) e
 unfolding offered_under
 under-lenient terms config link ch x e other free = rw (other, free) refl
 
 pub stalls-cleaning : {w : ℕ} (terms : Terms) (config : Config) (link : Link) (ch : Channel) (x : Beat w)
-    (e : PartnerEnd w) → is_of_cleaning terms.liberties x (cleaning_on link e) ≡ true
+    (e : PartnerEnd w) → is_of_cleaning (granted terms) x (cleaning_on link e) ≡ true
     → false ≡ stalls_under terms config link ch x e
 unfolding stalls_under
 stalls-cleaning terms config link ch x e is = rw is refl
 
 pub stalls-held : {w : ℕ} (terms : Terms) (config : Config) (link : Link) (ch : Channel) (x : Beat w)
-    (e : PartnerEnd w) → is_of_cleaning terms.liberties x (cleaning_on link e) ≡ false
+    (e : PartnerEnd w) → is_of_cleaning (granted terms) x (cleaning_on link e) ≡ false
     → asks_for_cleaned x (cleaning_on link e) ≡ true
     → is_waiting (judged config link ch x e.manager) ≡ stalls_under terms config link ch x e
 unfolding stalls_under
 stalls-held terms config link ch x e other asks = rw (other, asks) refl
 
 pub stalls-lenient : {w : ℕ} (terms : Terms) (config : Config) (link : Link) (ch : Channel) (x : Beat w)
-    (e : PartnerEnd w) → is_of_cleaning terms.liberties x (cleaning_on link e) ≡ false
+    (e : PartnerEnd w) → is_of_cleaning (granted terms) x (cleaning_on link e) ≡ false
     → asks_for_cleaned x (cleaning_on link e) ≡ false
     → stalls_lenient terms config link ch x e.manager ≡ stalls_under terms config link ch x e
 unfolding stalls_under

@@ -197,7 +197,7 @@ pub drop-parts : {w : ℕ} (terms : Terms) (config : Config) (link : Link) (ch :
     → (says_none x ≡ true) × (is_by_record (judged config link ch x e) ≡ true)
 drop-parts terms config link ch x e is =
     and_parts (says_none x) (is_by_record (judged config link ch x e))
-    (and_parts terms.liberties.drops (says_none x && is_by_record (judged config link ch x e)) is).1
+    (and_parts terms.drops (says_none x && is_by_record (judged config link ch x e)) is).1
 
 pub is_dropped : {w : ℕ} (terms : Terms) (config : Config) (link : Link) (ch : Channel) (x : Beat w) (e : End w)
     → IsKept config e → is_drop terms config link ch x e ≡ true → IsDropped config link (block_of x) e

@@ -10,7 +10,7 @@ use Rattle.tl_rules.specs.statement.History.{is_probe_ack}
 use Rattle.tl_partner.specs.declared.terms.Terms.{Terms}
 use Rattle.tl_partner.specs.statement.Naming.{from_zero, plain, with_source}
 
-pub plain-zero : {w : ℕ} (terms : Terms) (x y : BeatC w) → terms.liberties.ids ≡ true → is_probe_ack x.opcode ≡ true
+pub plain-zero : {w : ℕ} (terms : Terms) (x y : BeatC w) → terms.ids ≡ true → is_probe_ack x.opcode ≡ true
     → y.opcode ≡ x.opcode → y.param ≡ x.param → y.size ≡ x.size → y.source ≡ 0 → y.address ≡ x.address
     → y.lanes ≡ x.lanes → y.corrupt ≡ x.corrupt → C y ≡ plain terms (C x)
 plain-zero terms x y ids ack e0 e1 e2 e3 e4 e5 e6 =

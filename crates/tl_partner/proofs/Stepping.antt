@@ -31,8 +31,9 @@ use Rattle.tl_manager.specs.statement.Holders.{recorded}
 use Rattle.tl_manager.specs.statement.Offer.{Breaks, Judgement, Passes, Waits, judged, offered_as}
 unfoldable use Rattle.tl_manager.specs.statement.Offer.{offered}
 use Rattle.tl_partner.specs.declared.terms.Terms.{Terms}
-use Rattle.tl_partner.specs.laws.Carried.{AreAlike, GrantsNoOther, IsCarried, carried_after}
+use Rattle.tl_partner.specs.laws.Carried.{AreAlike, IsCarried, carried_after}
 use Rattle.tl_partner.specs.statement.Dropping.{after_drop, block_of, is_drop, is_reporting, release_beat}
+use Rattle.tl_partner.specs.statement.Granting.{granted}
 use Rattle.tl_partner.specs.statement.Lenient.{offered_lenient, offered_plain, received}
 use Rattle.tl_partner.specs.statement.Naming.{from_zero, is_misnamed, plain}
 use Rattle.tl_partner.proofs.Afterward.{reports-drop, requests-drop}
@@ -45,13 +46,13 @@ use Rattle.tl_partner.proofs.Passing.{bare_c, drop-parts, is_dropped, legal-part
 
 -- ---- a ProbeAck that says so
 
-but_as : {w : ℕ} (terms : Terms) (x y : BeatC w) (t e : History w) → GrantsNoOther terms
+but_as : {w : ℕ} (terms : Terms) (x y : BeatC w) (t e : History w)
     → is_probe_ack x.opcode ≡ true → reports_none x.param ≡ true → c_carries_data x.opcode ≡ false
     → unfinished Channel.C e ≡ [] → AreAlikeBut terms (block_at y.address) t e
     → plain terms (Beat.C x) ≡ Beat.C y → y.opcode ≡ x.opcode → y.param ≡ x.param → y.address ≡ x.address
     → y.size ≡ x.size → AreAlike terms (Beat.C x ∷ t) (Beat.C y ∷ e)
 unfolding unfinished request_of held held_under
-but_as {w} terms x y t e others ack none no-data idle-e a is opcode param address size =
+but_as {w} terms x y t e ack none no-data idle-e a is opcode param address size =
     let long : burst_length (Beat.C x) ≡ burst_length (Beat.C y) = rw (opcode, size) refl in
     let five : x.param ≡ 5 = eqb-true x.param 5 none in
     let count : length (unfinished Channel.C t) ≡ 0 =
@@ -62,12 +63,12 @@ but_as {w} terms x y t e others ack none no-data idle-e a is opcode param addres
       reports = grown-map terms (Beat.C x) (Beat.C y) (unfinished Channel.C t) is long
           ∙ ap (grown (Beat.C y)) a.reports;
       answers = a.answers;
-      held = λ j. rw (others.early, count, idle-e, opcode, param, address, no-data, ack, five)
+      held = λ j. rw (count, idle-e, opcode, param, address, no-data, ack, five)
           (go j (block_at x.address == j) refl);
     }
   where
     go : (j : ℕ) (b : Bool) → (block_at x.address == j) ≡ b
-        → unwrap_or (if b then Some Perm.None else None) (held_under terms.liberties j t)
+        → unwrap_or (if b then Some Perm.None else None) (held_under (granted terms) j t)
         ≡ unwrap_or (if b then Some Perm.None else None) (held j e)
     go j true at = refl
     go j false at = a.rest j (ap (λ n. block_at n == j) address ∙ at)
@@ -84,18 +85,18 @@ own_a {w} terms config link ch x t e width kept is free a =
     let facts = by_record config link ch (Beat.A x) e parts.1 in
     let begun = (in_order config.profile (Beat.A x) (on_link link.0 e.trace) facts.order).0 in
     but-a terms x t (on_link link.0 (after_drop config link (block_at x.address) e).trace)
-    (and_parts terms.liberties.drops _ is).0 parts.0
+    (and_parts terms.drops _ is).0 parts.0
     (rw (requests-drop config link (block_at x.address) e kept dropped free) begun)
     (own-but terms config link (block_at x.address) t e width kept dropped free a)
 
 own_c : {w : ℕ} (terms : Terms) (config : Config) (link : Link) (ch : Channel) (x y : BeatC w) (t : History w)
-    (e : End w) → IsWidth w → GrantsNoOther terms → IsKept config e
+    (e : End w) → IsWidth w → IsKept config e
     → is_drop terms config link ch (Beat.C y) e ≡ true → is_reporting link e.trace ≡ false
     → AreAlike terms t (on_link link.0 e.trace)
     → plain terms (Beat.C x) ≡ Beat.C y → y.opcode ≡ x.opcode → y.param ≡ x.param → y.address ≡ x.address
     → y.size ≡ x.size
     → AreAlike terms (Beat.C x ∷ t) (Beat.C y ∷ on_link link.0 (after_drop config link (block_at y.address) e).trace)
-own_c {w} terms config link ch x y t e width others kept is free a same opcode param address size =
+own_c {w} terms config link ch x y t e width kept is free a same opcode param address size =
     let parts = drop-parts terms config link ch (Beat.C y) e is in
     let dropped = is_dropped terms config link ch (Beat.C y) e kept is in
     let facts = by_record config link ch (Beat.C y) e parts.1 in
@@ -103,43 +104,43 @@ own_c {w} terms config link ch x y t e width others kept is free a same opcode p
     let legal = legal-parts facts.level ch (Beat.C y) facts.lawful in
     let fields = and_parts (c_has_param y.opcode y.param) (c_has_source y.opcode y.source)
     (not-false (c_has_param y.opcode y.param && c_has_source y.opcode y.source) legal.0) in
-    but_as terms x y t (on_link link.0 (after_drop config link (block_at y.address) e).trace) others
+    but_as terms x y t (on_link link.0 (after_drop config link (block_at y.address) e).trace)
     (rw opcode at says.0) (rw param at says.1)
     (rw opcode at (bare_c y.opcode y.param says.0 says.1 fields.0))
     (reports-drop config link (block_at y.address) e kept dropped free)
     (own-but terms config link (block_at y.address) t e width kept dropped free a) same opcode param address size
 
 own : {w : ℕ} (terms : Terms) (config : Config) (link : Link) (ch : Channel) (x : Beat w) (t : History w) (e : End w)
-    → IsWidth w → GrantsNoOther terms → IsKept config e → is_drop terms config link ch (plain terms x) e ≡ true
+    → IsWidth w → IsKept config e → is_drop terms config link ch (plain terms x) e ≡ true
     → is_reporting link e.trace ≡ false → AreAlike terms t (on_link link.0 e.trace)
     → AreAlike terms (x ∷ t)
     (plain terms x ∷ on_link link.0 (after_drop config link (block_of (plain terms x)) e).trace)
-own terms config link ch (Beat.A x) t e width others kept is free a = own_a terms config link ch x t e width kept is free
+own terms config link ch (Beat.A x) t e width kept is free a = own_a terms config link ch x t e width kept is free
     a
-own terms config link ch (Beat.B x) t e width others kept is free a =
+own terms config link ch (Beat.B x) t e width kept is free a =
     absurd (let no-such = (drop-parts terms config link ch (Beat.B x) e is).0 in cc)
-own {w} terms config link ch (Beat.C x) t e width others kept is free a =
-    go (terms.liberties.ids && is_probe_ack x.opcode) refl is
+own {w} terms config link ch (Beat.C x) t e width kept is free a =
+    go (terms.ids && is_probe_ack x.opcode) refl is
   where
-    go : (b : Bool) → (terms.liberties.ids && is_probe_ack x.opcode) ≡ b
+    go : (b : Bool) → (terms.ids && is_probe_ack x.opcode) ≡ b
         → is_drop terms config link ch (if b then Beat.C (from_zero x) else Beat.C x) e ≡ true
         → AreAlike terms (Beat.C x ∷ t) ((if b then Beat.C (from_zero x) else Beat.C x) ∷ on_link link.0
         (after_drop config link (block_of (if b then Beat.C (from_zero x) else Beat.C x)) e).trace)
-    go true b-is f = own_c terms config link ch x (from_zero x) t e width others kept f free a (rw b-is refl) refl refl
+    go true b-is f = own_c terms config link ch x (from_zero x) t e width kept f free a (rw b-is refl) refl refl
         refl refl
-    go false b-is f = own_c terms config link ch x x t e width others kept f free a (rw b-is refl) refl refl refl refl
-own terms config link ch (Beat.D x) t e width others kept is free a =
+    go false b-is f = own_c terms config link ch x x t e width kept f free a (rw b-is refl) refl refl refl refl
+own terms config link ch (Beat.D x) t e width kept is free a =
     absurd (let no-such = (drop-parts terms config link ch (Beat.D x) e is).0 in cc)
-own terms config link ch (Beat.E x) t e width others kept is free a =
+own terms config link ch (Beat.E x) t e width kept is free a =
     absurd (let no-such = (drop-parts terms config link ch (Beat.E x) e is).0 in cc)
 
 dropped-alike : {w : ℕ} (terms : Terms) (config : Config) (link : Link) (ch : Channel) (x : Beat w) (t : Trace w)
-    (e : End w) → IsWidth w → GrantsNoOther terms → IsKept config e
+    (e : End w) → IsWidth w → IsKept config e
     → is_drop terms config link ch (plain terms x) e ≡ true → is_reporting link e.trace ≡ false
     → IsCarried terms t e.trace
     → IsCarried terms ((link, x) ∷ t)
     ((link, plain terms x) ∷ (after_drop config link (block_of (plain terms x)) e).trace)
-dropped-alike {w} terms config link ch x t e width others kept is free carried =
+dropped-alike {w} terms config link ch x t e width kept is free carried =
     λ client. go client (link.0 == client) refl
   where
     k : ℕ
@@ -152,7 +153,7 @@ dropped-alike {w} terms config link ch x t e width others kept is free carried =
         rw (own_beat client link x t at, own_beat client link (plain terms x) (after_drop config link k e).trace at)
         (subst (λ (n : ℕ). AreAlike terms (x ∷ on_link n t) (plain terms x ∷ on_link n
         (after_drop config link k e).trace)) (eqb-true link.0 client at)
-        (own terms config link ch x (on_link link.0 t) e width others kept is free (carried link.0)))
+        (own terms config link ch x (on_link link.0 t) e width kept is free (carried link.0)))
     go client false at =
         rw (
           other_beat client link x t at,
@@ -165,7 +166,7 @@ dropped-alike {w} terms config link ch x t e width others kept is free carried =
 typed_plain : {w : ℕ} (terms : Terms) (x : Beat w) → IsTyped x → IsTyped (plain terms x)
 typed_plain terms (Beat.A x) typed = typed
 typed_plain terms (Beat.B x) typed = tt
-typed_plain {w} terms (Beat.C x) typed = go (terms.liberties.ids && is_probe_ack x.opcode)
+typed_plain {w} terms (Beat.C x) typed = go (terms.ids && is_probe_ack x.opcode)
   where
     go : (b : Bool) → IsTyped {w = w} (if b then Beat.C (from_zero x) else Beat.C x)
     go true = tt
@@ -175,12 +176,12 @@ typed_plain terms (Beat.E x) typed = tt
 
 -- one that the manager is offered as it came
 offered-alike : {w : ℕ} (terms : Terms) (config : Config) (link : Link) (ch : Channel) (x : Beat w) (t : Trace w)
-    (e : End w) → IsWidth w → GrantsNoOther terms → IsTyped (plain terms x) → IsKept config e
+    (e : End w) → IsWidth w → IsTyped (plain terms x) → IsKept config e
     → IsCarried terms t e.trace
     → IsCarried terms (carried_after link x (received terms (offered config link ch (plain terms x) e)).0 t)
     (offered config link ch (plain terms x) e).1.trace
 unfolding offered
-offered-alike {w} terms config link ch x t e width others typed kept carried =
+offered-alike {w} terms config link ch x t e width typed kept carried =
     go (judged config link ch (plain terms x) e) refl
   where
     go : (j : Judgement) → judged config link ch (plain terms x) e ≡ j
@@ -188,30 +189,30 @@ offered-alike {w} terms config link ch x t e width others typed kept carried =
         (offered_as j config link (plain terms x) e).1.trace
     go (Breaks r) is = carried
     go Waits is = carried
-    go Passes is = rw is at (passed-alike terms config link ch x (plain terms x) t e width others typed kept is
-        (taken-alike terms config link ch x t e others typed is carried))
+    go Passes is = rw is at (passed-alike terms config link ch x (plain terms x) t e width typed kept is
+        (taken-alike terms config link ch x t e typed is carried))
 
 after-drop-alike : {w : ℕ} (terms : Terms) (config : Config) (link : Link) (ch : Channel) (x : Beat w) (t : Trace w)
-    (e : End w) → IsWidth w → GrantsNoOther terms → IsTyped (plain terms x) → IsKept config e
+    (e : End w) → IsWidth w → IsTyped (plain terms x) → IsKept config e
     → is_drop terms config link ch (plain terms x) e ≡ true → is_reporting link e.trace ≡ false
     → IsCarried terms t e.trace
     → IsCarried terms (carried_after link x (received terms
     (offered config link ch (plain terms x) (after_drop config link (block_of (plain terms x)) e))).0 t)
     (offered config link ch (plain terms x) (after_drop config link (block_of (plain terms x)) e)).1.trace
 unfolding offered
-after-drop-alike {w} terms config link ch x t e width others typed kept is free carried =
+after-drop-alike {w} terms config link ch x t e width typed kept is free carried =
     let k = block_of (plain terms x) in
     let parts = drop-parts terms config link ch (plain terms x) e is in
     let passes = passes-drop config link ch (plain terms x) e width kept parts.0 parts.1 free in
     let after = kept-offered config link Channel.C (release_beat k (recorded link.0 k e.trace)) e width tt kept in
     rw passes (rw passes at (passed-alike terms config link ch x (plain terms x) t (after_drop config link k e) width
-    others typed after passes (dropped-alike terms config link ch x t e width others kept is free carried)))
+    typed after passes (dropped-alike terms config link ch x t e width kept is free carried)))
 
 pub carried-lenient : {w : ℕ} (terms : Terms) (config : Config) (link : Link) (ch : Channel) (x : Beat w) (t : Trace w)
-    (e : End w) → IsWidth w → GrantsNoOther terms → IsTyped x → IsKept config e → IsCarried terms t e.trace
+    (e : End w) → IsWidth w → IsTyped x → IsKept config e → IsCarried terms t e.trace
     → IsCarried terms (carried_after link x (offered_lenient terms config link ch x e).0 t)
     (offered_lenient terms config link ch x e).1.trace
-carried-lenient {w} terms config link ch x t e width others typed kept carried = go (is_misnamed terms link x) refl
+carried-lenient {w} terms config link ch x t e width typed kept carried = go (is_misnamed terms link x) refl
   where
     Goal : Type 0
     Goal = IsCarried terms (carried_after link x (offered_plain terms config link ch (plain terms x) e).0 t)
@@ -220,12 +221,12 @@ carried-lenient {w} terms config link ch x t e width others typed kept carried =
     busy_or : (b : Bool) → is_reporting link e.trace ≡ b → is_drop terms config link ch (plain terms x) e ≡ true → Goal
     busy_or true busy is = rw (plain-waits terms config link ch (plain terms x) e is busy) carried
     busy_or false free is = rw (plain-dropped terms config link ch (plain terms x) e is free)
-        (after-drop-alike terms config link ch x t e width others (typed_plain terms x typed) kept is free carried)
+        (after-drop-alike terms config link ch x t e width (typed_plain terms x typed) kept is free carried)
 
     drop_or : (b : Bool) → is_drop terms config link ch (plain terms x) e ≡ b → Goal
     drop_or true is = busy_or (is_reporting link e.trace) refl is
     drop_or false is = rw (plain-kept terms config link ch (plain terms x) e is)
-        (offered-alike terms config link ch x t e width others (typed_plain terms x typed) kept carried)
+        (offered-alike terms config link ch x t e width (typed_plain terms x typed) kept carried)
 
     go : (b : Bool) → is_misnamed terms link x ≡ b
         → IsCarried terms (carried_after link x (offered_lenient terms config link ch x e).0 t)

@@ -14,6 +14,7 @@ use Rattle.tl_manager.specs.statement.Offer.{Reception, Refused, Sent, Stalled, 
 use Rattle.tl_partner.specs.declared.terms.Terms.{Terms}
 use Rattle.tl_partner.specs.laws.Without.{GrantsNone}
 use Rattle.tl_partner.specs.statement.Cleaning.{PartnerEnd, cleaning_on, is_of_cleaning}
+use Rattle.tl_partner.specs.statement.Granting.{granted}
 use Rattle.tl_partner.specs.statement.Lenient.{answer_named, offered_lenient, stalls_lenient}
 use Rattle.tl_partner.specs.statement.Naming.{all_named, is_misnamed, named, plain}
 use Rattle.tl_partner.specs.statement.Partner.{asks_for_cleaned, beside, offered_under, stalls_under}
@@ -32,7 +33,7 @@ no_asking (Beat.C x) = refl
 no_asking (Beat.D x) = refl
 no_asking (Beat.E x) = refl
 
-right_name : {w : ℕ} (terms : Terms) (link : Link) (x : Beat w) → terms.liberties.ids ≡ false
+right_name : {w : ℕ} (terms : Terms) (link : Link) (x : Beat w) → terms.ids ≡ false
     → is_misnamed terms link x ≡ false
 right_name terms link (Beat.A x) none = refl
 right_name terms link (Beat.B x) none = refl
@@ -40,14 +41,14 @@ right_name terms link (Beat.C x) none = rw none refl
 right_name terms link (Beat.D x) none = refl
 right_name terms link (Beat.E x) none = refl
 
-plain_same : {w : ℕ} (terms : Terms) (x : Beat w) → terms.liberties.ids ≡ false → plain terms x ≡ x
+plain_same : {w : ℕ} (terms : Terms) (x : Beat w) → terms.ids ≡ false → plain terms x ≡ x
 plain_same terms (Beat.A x) none = refl
 plain_same terms (Beat.B x) none = refl
 plain_same terms (Beat.C x) none = rw none refl
 plain_same terms (Beat.D x) none = refl
 plain_same terms (Beat.E x) none = refl
 
-named_same : {w : ℕ} (terms : Terms) (link : Link) (m : Message w) → terms.liberties.ids ≡ false
+named_same : {w : ℕ} (terms : Terms) (link : Link) (m : Message w) → terms.ids ≡ false
     → named terms link m ≡ m
 named_same terms link (Message.A m) none = refl
 named_same terms link (Message.B m) none = rw none refl
@@ -55,12 +56,12 @@ named_same terms link (Message.C m) none = refl
 named_same terms link (Message.D m) none = refl
 named_same terms link (Message.E m) none = refl
 
-all_same : {w : ℕ} (terms : Terms) (handed : Handed w) → terms.liberties.ids ≡ false → all_named terms handed ≡ handed
+all_same : {w : ℕ} (terms : Terms) (handed : Handed w) → terms.ids ≡ false → all_named terms handed ≡ handed
 all_same terms [] none = refl
 all_same terms (x ∷ handed) none =
     ap₂ (λ y ys. y ∷ ys) (ap (λ m. (x.0, m)) (named_same terms x.0 x.1 none)) (all_same terms handed none)
 
-answer_same : {w : ℕ} (terms : Terms) (r : Reception w) → terms.liberties.ids ≡ false → answer_named terms r ≡ r
+answer_same : {w : ℕ} (terms : Terms) (r : Reception w) → terms.ids ≡ false → answer_named terms r ≡ r
 answer_same terms (Refused rule) none = refl
 answer_same terms Stalled none = refl
 answer_same terms (Sent handed) none = ap (λ sent. Sent sent) (all_same terms handed none)
@@ -77,7 +78,7 @@ pub offered-none : {w : ℕ} (terms : Terms) (config : Config) (link : Link) (ch
     → offered_under terms config link ch x e ≡ beside (offered config link ch x e.manager) e
 unfolding offered_under
 offered-none terms config link ch x e none idle =
-    rw (idle, no_cleaning terms.liberties x none.reports, no_asking x)
+    rw (idle, no_cleaning (granted terms) x none.reports, no_asking x)
     (ap (λ r. beside r e) (lenient-none terms config link ch x e.manager none))
 
 pub stalls-none : {w : ℕ} (terms : Terms) (config : Config) (link : Link) (ch : Channel) (x : Beat w)
@@ -87,7 +88,7 @@ unfolding stalls_under stalls_lenient
 stalls-none terms config link ch x e none idle =
     rw (
       idle,
-      no_cleaning terms.liberties x none.reports,
+      no_cleaning (granted terms) x none.reports,
       no_asking x,
       right_name terms link x none.ids,
       plain_same

@@ -53,7 +53,7 @@ abbrev caches : Config
 caches = with_links Profile.One 1 1 (Level.C ∷ Level.C ∷ [])
 
 abbrev terms_of : Liberties → Terms
-terms_of l = record { liberties = l; sources = 3 ∷ 4 ∷ replicate 14 0 }
+terms_of l = record { ids = l.ids; drops = l.drops; reports = l.reports; sources = 3 ∷ 4 ∷ replicate 14 0 }
 
 abbrev played : {w : ℕ} → Liberties → List (Offer w) → List (Reception w) × PartnerEnd w
 played l offers = offer_all (terms_of l) caches offers (fresh_partner caches)

@@ -1,5 +1,6 @@
 pub mod Cleaning
 pub mod Dropping
+pub mod Granting
 pub mod Lenient
 pub mod Naming
 pub mod Partner

@@ -16,8 +16,9 @@ ghost use Rattle.tl_manager.specs.statement.Holders.{recorded};
 ghost use Rattle.tl_manager.specs.statement.Offer.{Passes, Sent, judged, offered, stalls};
 ghost use Rattle.tl_manager.specs.statement.Service.{services};
 ghost use Rattle.tl_partner.specs.declared.terms.Terms.{Terms};
-ghost use Rattle.tl_partner.specs.laws.Carried.{GrantsNoOther, IsCarried, carried_after};
+ghost use Rattle.tl_partner.specs.laws.Carried.{IsCarried, carried_after};
 ghost use Rattle.tl_partner.specs.laws.Without.{GrantsNone};
+ghost use Rattle.tl_partner.specs.statement.Granting.{granted};
 ghost use Rattle.tl_partner.specs.statement.Lenient.{offered_lenient};
 ghost use Rattle.tl_partner.specs.statement.Cleaning.{PartnerEnd, cleaning_on};
 ghost use Rattle.tl_partner.specs.statement.Partner.{beside, offered_under, stalls_under};
@@ -39,11 +40,11 @@ pub fn records_what_links_carried<const W: usize>()
     requires { IsWidth W }
     ensures fresh { (terms : Terms) → IsCarried {w = W} terms [] [] }
     ensures step { (terms : Terms) (config : Config) (link : Link) (ch : Channel) (x : Beat W) (t : Trace W) (e : End W) →
-        GrantsNoOther terms → IsTyped x → IsKept config e → IsCarried terms t e.trace →
+        IsTyped x → IsKept config e → IsCarried terms t e.trace →
         IsCarried terms (carried_after link x (offered_lenient terms config link ch x e).0 t)
         (offered_lenient terms config link ch x e).1.trace }
     ensures held { (terms : Terms) (t : Trace W) (e : End W) (client block : ℕ) → IsCarried terms t e.trace →
-        held_under terms.liberties block (on_link client t) ≡ recorded client block e.trace }
+        held_under (granted terms) block (on_link client t) ≡ recorded client block e.trace }
 {}
 
 /// Where a beat says that its client dropped a copy, and no message of channel C is unfinished on the link, the

@@ -72,9 +72,7 @@ impl<const W: usize, D: Directory> Lenient<W, D> {
         ensures { (config : Config) (e : End W) → Knows D.perm_of self.now.manager config e →
             result ≡ is_drop self.now.terms config link channel beat.now e }
     {
-        self.terms.liberties.drops
-            && says_none(beat)
-            && is_by_record(self.manager.judge(link, channel, beat))
+        self.terms.drops && says_none(beat) && is_by_record(self.manager.judge(link, channel, beat))
     }
 
     /// Offers the Release that a client didn't send.

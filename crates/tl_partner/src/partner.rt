@@ -21,6 +21,7 @@ ghost use Rattle.tl_partner.specs.code.Cleanings.{IsCleaningOf, KnowsPartner, cl
 ghost use Rattle.tl_partner.specs.statement.Cleaning;
 ghost use Rattle.tl_partner.specs.statement.Cleaning.{PartnerEnd, cleaned_by, cleaning_as, forgotten};
 ghost use Rattle.tl_partner.specs.statement.Cleaning.{is_of_cleaning, judged_cleaning, offered_cleaning};
+ghost use Rattle.tl_partner.specs.statement.Granting.{granted};
 ghost use Rattle.tl_partner.specs.statement.Partner.{asks_for_cleaned, held_back, held_back_as, offered_under};
 ghost use Rattle.tl_partner.specs.statement.Partner.{stalls_under};
 
@@ -43,7 +44,6 @@ use tl_rules::admission::{is_outside, is_spoiled};
 use tl_rules::config::{Config, NewFault};
 use tl_rules::key::block_at;
 use tl_rules::kind::is_acquire;
-use tl_rules::legality::beat::check_beat_under;
 use tl_rules::order::{releases_from, reports_none};
 use tl_rules::rule::Rule;
 
@@ -116,11 +116,11 @@ impl<const W: usize, D: Directory> Partner<W, D> {
 
     /// Whether a beat is of a cleaning of its link.
     fn is_of_cleaning(&self, link: Link, beat: &Beat<W>) -> bool
-        ensures { result ≡ is_of_cleaning self.now.lenient.terms.liberties beat.now
+        ensures { result ≡ is_of_cleaning (granted self.now.lenient.terms) beat.now
             (cleaning_at self.now.cleanings.items link.0) }
     {
         match beat {
-            Beat::C(_) => self.has_begun(link) || is_cleaning(self.lenient.terms.liberties, beat),
+            Beat::C(_) => self.has_begun(link) || is_cleaning(self.lenient.terms.granted(), beat),
             Beat::A(_) | Beat::B(_) | Beat::D(_) | Beat::E(_) => false,
         }
     }
@@ -148,7 +148,7 @@ impl<const W: usize, D: Directory> Partner<W, D> {
     /// The rule of order that a cleaning breaks as it begins.
     fn cleaning_rule(&self, link: Link, beat: &Beat<W>) -> Option<Rule>
         ensures { (config : Config) (e : End W) → Knows D.perm_of self.now.lenient.manager config e →
-            result ≡ Cleaning.cleaning_rule self.now.lenient.terms.liberties link beat.now e.trace }
+            result ≡ Cleaning.cleaning_rule (granted self.now.lenient.terms) link beat.now e.trace }
     {
         let Beat::C(x) = beat else {
             return None;
@@ -162,7 +162,7 @@ impl<const W: usize, D: Directory> Partner<W, D> {
             return Some(Rule::H13);
         }
         let held = manager.recorded(link, block);
-        if releases_from(self.lenient.terms.liberties, x.param, held) {
+        if releases_from(self.lenient.terms.granted(), x.param, held) {
             None
         } else {
             Some(Rule::H13)
@@ -173,7 +173,7 @@ impl<const W: usize, D: Directory> Partner<W, D> {
     fn cleaning_order(&self, link: Link, cleaning: &Assembler<W>, beat: &Beat<W>) -> Option<Rule>
         requires { IsTakeable beat.now }
         ensures { (config : Config) (e : End W) → Knows D.perm_of self.now.lenient.manager config e →
-            result ≡ Cleaning.cleaning_order self.now.lenient.terms.liberties link beat.now cleaning.now e.trace }
+            result ≡ Cleaning.cleaning_order (granted self.now.lenient.terms) link beat.now cleaning.now e.trace }
     {
         if !cleaning.has_begun() {
             return self.cleaning_rule(link, beat);
@@ -193,7 +193,7 @@ impl<const W: usize, D: Directory> Partner<W, D> {
     ) -> Result<Admission, Rule>
         ensures judged { (config : Config) (e : PartnerEnd W) →
             KnowsPartner D.perm_of self.now.lenient.manager self.now.cleanings.items config e →
-            result ≡ admission_of (judged_cleaning self.now.lenient.terms.liberties config
+            result ≡ admission_of (judged_cleaning (granted self.now.lenient.terms) config
             (open_level config link e.manager) link channel beat.now
             (cleaning_at self.now.cleanings.items link.0) e.manager.trace) }
         ensures link { OnOk result (link.0 < length self.now.cleanings.items) }
@@ -205,7 +205,7 @@ impl<const W: usize, D: Directory> Partner<W, D> {
         let Some(level) = self.lenient.manager.open_level(link) else {
             return Err(Rule::A3);
         };
-        check_beat_under(self.lenient.terms.liberties, level, channel, beat)?;
+        self.lenient.terms.check(level, channel, beat)?;
         let broken = self.cleaning_order(link, cleaning, beat);
         let outside = is_outside(self.lenient.manager.blocks(), beat);
         admit(broken, false, outside, is_spoiled(beat))
@@ -292,11 +292,11 @@ impl<const W: usize, D: Directory> Partner<W, D> {
     ) -> Result<Taken<W>, Rule>
         ensures answer { (config : Config) (e : PartnerEnd W) →
             KnowsPartner D.perm_of self.old.lenient.manager self.old.cleanings.items config e →
-            IsAnswer result (offered_cleaning self.old.lenient.terms.liberties config link channel beat.now e).0 }
+            IsAnswer result (offered_cleaning (granted self.old.lenient.terms) config link channel beat.now e).0 }
         ensures after { (config : Config) (e : PartnerEnd W) →
             KnowsPartner D.perm_of self.old.lenient.manager self.old.cleanings.items config e →
             KnowsPartner D.perm_of self.new.lenient.manager self.new.cleanings.items config
-            (offered_cleaning self.old.lenient.terms.liberties config link channel beat.now e).1 }
+            (offered_cleaning (granted self.old.lenient.terms) config link channel beat.now e).1 }
         ensures terms { self.new.lenient.terms ≡ self.old.lenient.terms }
     {
         match self.judge_cleaning(link, channel, beat) {

@@ -84,7 +84,7 @@ impl Terms {
     {
         match beat {
             Beat::C(x) => {
-                self.liberties.ids && is_probe_ack(x.opcode) && x.source != self.probe_source(link)
+                self.ids && is_probe_ack(x.opcode) && x.source != self.probe_source(link)
             }
             _ => false,
         }
@@ -95,7 +95,7 @@ impl Terms {
         ensures { result ≡ Naming.plain self.now beat.now }
     {
         match beat {
-            Beat::C(x) if self.liberties.ids && is_probe_ack(x.opcode) => Beat::C(BeatC {
+            Beat::C(x) if self.ids && is_probe_ack(x.opcode) => Beat::C(BeatC {
                 opcode: x.opcode,
                 param: x.param,
                 size: x.size,
@@ -113,7 +113,7 @@ impl Terms {
         ensures { result ≡ Naming.named self.now link message.now }
     {
         match message {
-            Message::B(m) if self.liberties.ids => Message::B(MessageB {
+            Message::B(m) if self.ids => Message::B(MessageB {
                 opcode: m.opcode,
                 param: m.param,
                 size: m.size,

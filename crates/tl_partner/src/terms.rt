@@ -1,20 +1,88 @@
 //! What a manager grants its clients beyond the first profile.
 
-ghost use Rattle.std.specs.Prelude.{◌≡◌};
+ghost use Rattle.std.specs.Prelude.{◌≡◌, OnOk};
+ghost use Rattle.tl_beat.specs.statement.Width.{IsWidth};
+ghost use Rattle.tl_burst.specs.statement.Part.{IsTakeable};
+ghost use Rattle.tl_params.specs.statement.Refusal.{ok_unless};
+ghost use Rattle.tl_rules.specs.statement.Liberties.{illegal_under};
+ghost use Rattle.tl_partner.specs.statement.Granting.{granted, no_terms, terms_of};
 ghost use Rattle.tl_partner.specs.statement.Naming.{probe_source};
 
-use tl_beat::beat::Link;
+use tl_beat::beat::{Beat, Link};
+use tl_beat::channel::Channel;
+use tl_rules::legality::beat::check_beat_under;
+use tl_rules::level::Level;
 use tl_rules::liberties::Liberties;
+use tl_rules::rule::Rule;
 
-/// The liberties of a manager's clients, of which `drops` and `ids` are granted here, and the sources of the
-/// Probes that it sends with `ids`, one for each link.
+/// The liberties that a manager grants its clients, and the sources of the Probes that it sends with `ids`, one for
+/// each link.
 #[derive(Clone, Copy)]
 pub struct Terms {
-    pub liberties: Liberties,
+    /// A Probe has the source of its link, and its ProbeAck has it too.
+    pub ids: bool,
+    /// A client may give up a block without a message.
+    pub drops: bool,
+    /// A Release may have any of the six reports.
+    pub reports: bool,
     pub sources: [u8; 16],
 }
 
 impl Terms {
+    /// No liberties: those of the manager by itself.
+    pub fn none() -> Self
+        ensures { result ≡ no_terms }
+    {
+        Terms {
+            ids: false,
+            drops: false,
+            reports: false,
+            sources: [0; 16],
+        }
+    }
+
+    /// The terms by which clients have these liberties, or `None` where a manager can't grant one of them. `writer` is
+    /// the profile of the manager's configuration, and isn't asked here.
+    pub fn of(liberties: Liberties, sources: [u8; 16]) -> Option<Self>
+        ensures { result ≡ terms_of liberties sources }
+    {
+        if liberties.sinks || liberties.early || liberties.denied || liberties.uncorrupt {
+            return None;
+        }
+        Some(Terms {
+            ids: liberties.ids,
+            drops: liberties.drops,
+            reports: liberties.reports,
+            sources,
+        })
+    }
+
+    /// The liberties that are granted.
+    pub fn granted(&self) -> Liberties
+        ensures { result ≡ granted self.now }
+    {
+        Liberties {
+            ids: self.ids,
+            drops: self.drops,
+            reports: self.reports,
+            ..Liberties::none()
+        }
+    }
+
+    /// The first L rule that a beat breaks on a link of this level, whose client has these liberties.
+    pub fn check<const W: usize>(
+        &self,
+        level: Level,
+        channel: Channel,
+        beat: &Beat<W>,
+    ) -> Result<(), Rule>
+        requires { IsWidth W }
+        ensures value { result ≡ ok_unless (illegal_under (granted self.now) level channel beat.now) }
+        ensures takeable { OnOk result (IsTakeable beat.now) }
+    {
+        check_beat_under(self.granted(), level, channel, beat)
+    }
+
     /// The source that was chosen for the Probes of a link.
     pub fn probe_source(&self, link: Link) -> u8
         ensures { result ≡ probe_source self.now link.0 }

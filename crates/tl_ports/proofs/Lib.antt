@@ -1,3 +1,4 @@
+pub mod Alone
 pub mod Firsts
 pub mod Places
 pub mod Rows

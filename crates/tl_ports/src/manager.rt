@@ -8,15 +8,18 @@ use std::alloc::{AllocError, Global};
 use tl_beat::beat::{Beat, Link};
 use tl_beat::channel::Channel;
 use tl_manager::bits::BitDirectory;
+use tl_manager::manager::Taken;
 use tl_manager::manager::admission::Admission;
-use tl_manager::manager::{Manager, Taken};
+use tl_partner::partner::Partner;
+use tl_partner::terms::Terms;
 use tl_rules::config::{Config, MOST_CLIENTS, NewFault};
 use tl_rules::rule::Rule;
 
-/// A manager of up to sixteen links, with the beats that it handed out and that wait to be sent.
+/// A manager of up to sixteen links, whose clients may have liberties, with the beats that it handed out and that wait
+/// to be sent.
 #[derive(Drop)]
 pub struct ManagerPort<const W: usize> {
-    pub manager: Manager<W, BitDirectory>,
+    pub partner: Partner<W, BitDirectory>,
     pub outgoing: Outgoing<W>,
     pub ghost width: { IsWidth W } by { IsWidth-prop W },
 }
@@ -29,19 +32,23 @@ impl<const W: usize> ManagerPort<W> {
     ghost use Rattle.tl_params.specs.declared.config.Config.{Config};
     ghost use Rattle.tl_manager.specs.statement.End.{End};
     ghost use Rattle.tl_manager.specs.statement.Offer;
-    ghost use Rattle.tl_ports.specs.statement.Manager.{KnowsEnd, AdmitTold, IsNewManager, PoppedOn, next_beat_on};
+    ghost use Rattle.tl_partner.specs.declared.terms.Terms.{Terms};
+    ghost use Rattle.tl_partner.specs.statement.Cleaning.{PartnerEnd};
+    ghost use Rattle.tl_partner.specs.statement.Partner.{stalls_under};
+    ghost use Rattle.tl_ports.specs.statement.Manager.{KnowsEnd, KnowsEndUnder, AdmitTold, IsNewManager};
+    ghost use Rattle.tl_ports.specs.statement.Manager.{PoppedOn, next_beat_on};
 
-    /// A manager of a configuration that has taken and handed out nothing: the first limit that is
-    /// broken, in the order N1 to N4, or want of memory.
-    pub fn new(alloc: Global, config: &Config) -> Result<Self, NewFault>
+    /// A manager of a configuration that has taken and handed out nothing, whose clients have the liberties of these
+    /// terms: the first limit that is broken, in the order N1 to N4, or want of memory.
+    pub fn new(alloc: Global, config: &Config, terms: Terms) -> Result<Self, NewFault>
         requires { IsWidth W }
-        ensures { IsNewManager config.now result }
+        ensures { IsNewManager config.now terms result }
     {
         config.check()?;
         let directory = BitDirectory::new(alloc, config.blocks, config.clients.len() as u8)?;
-        let manager = Manager::new(alloc, config, directory)?;
+        let partner = Partner::new(alloc, config, directory, terms)?;
         let outgoing = Outgoing::new(alloc);
-        Ok(ManagerPort { manager, outgoing })
+        Ok(ManagerPort { partner, outgoing })
     }
 
     /// Takes a beat of the channel named, stalls it or refuses it as the manager does; what it hands
@@ -50,7 +57,7 @@ impl<const W: usize> ManagerPort<W> {
         ensures { AdmitTold self.old self.new link channel beat.now result }
     {
         self.outgoing.make_room(MOST_CLIENTS)?;
-        match self.manager.offer(link, channel, beat) {
+        match self.partner.offer(link, channel, beat) {
             Err(rule) => Ok(Err(rule)),
             Ok(Taken::Stalled) => Ok(Ok(Admission::Waits)),
             Ok(Taken::Sent(handed)) => {
@@ -62,10 +69,12 @@ impl<const W: usize> ManagerPort<W> {
 
     /// Whether `offer` of the same would stall it.
     pub fn stalls(&self, link: Link, channel: Channel, beat: &Beat<W>) -> bool
-        ensures { (config : Config) (e : End W) → KnowsEnd self.now config e →
+        ensures alone { (config : Config) (e : End W) → KnowsEnd self.now config e →
             result ≡ Offer.stalls config link channel beat.now e }
+        ensures under { (terms : Terms) (config : Config) (e : PartnerEnd W) → KnowsEndUnder self.now terms config e →
+            result ≡ stalls_under terms config link channel beat.now e }
     {
-        self.manager.stalls(link, channel, beat)
+        self.partner.stalls(link, channel, beat)
     }
 
     /// The next beat to send on a channel of a link.
@@ -85,9 +94,11 @@ impl<const W: usize> ManagerPort<W> {
 
     /// Whether a link takes no beats: it was closed by a refusal, or there is no such link.
     pub fn closed(&self, link: Link) -> bool
-        ensures { (config : Config) (e : End W) → KnowsEnd self.now config e →
+        ensures alone { (config : Config) (e : End W) → KnowsEnd self.now config e →
             result ≡ is_none (Offer.open_level config link e) }
+        ensures under { (terms : Terms) (config : Config) (e : PartnerEnd W) → KnowsEndUnder self.now terms config e →
+            result ≡ is_none (Offer.open_level config link e.manager) }
     {
-        self.manager.closed(link)
+        self.partner.closed(link)
     }
 }

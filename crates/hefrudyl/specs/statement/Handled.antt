@@ -39,6 +39,11 @@ abbrev pub ManagerOpenTold : Option Session → Option Session → List LinkConf
 ManagerOpenTold old new links blocks trackers width profile answer =
     OpensHandle (Sessions.ManagerOpens links blocks trackers width profile) old new answer
 
+abbrev pub ManagerOpenUnderTold : Option Session → Option Session → List LinkConfig → ℕ → ℕ → ℕ → ℕ → List ℕ → Answer
+    → Type 0
+ManagerOpenUnderTold old new links blocks trackers width liberties sources answer =
+    OpensHandle (Sessions.ManagerOpensUnder links blocks trackers width liberties sources) old new answer
+
 -- this holds of what the handle held and holds; a handle that holds nothing is bad input, and holds nothing then
 abbrev pub OnHandle : (Session → Session → Type 0) → Type 0 → Option Session → Option Session → Type 0
 OnHandle P refused (Some old) (Some new) = P old new
@@ -49,6 +54,9 @@ OnHandle _ _ _ _ = ⊥
 
 abbrev pub PushTold : ℕ → Picture → Answer → Option Session → Option Session → Type 0
 PushTold link x answer old new = OnHandle (Sessions.PushSession link x answer) (answer ≡ bad) old new
+
+abbrev pub TryTold : ℕ → Picture → Answer → Option Session → Option Session → Type 0
+TryTold link x answer old new = OnHandle (Sessions.TrySession link x answer) (answer ≡ bad) old new
 
 abbrev pub LineTold : List ℕ → Answer → Option Session → Option Session → Type 0
 LineTold line answer old new = OnHandle (Sessions.LineSession line answer) (answer ≡ bad) old new
@@ -61,6 +69,9 @@ EntriesTold link was now answer old new = OnHandle (λ s u. Sessions.EntriesSess
 
 abbrev pub JudgeTold : ℕ → Picture → Answer → Option Session → Option Session → Type 0
 JudgeTold link x answer old new = OnHandle (Sessions.JudgesSession link x answer) (answer ≡ bad) old new
+
+abbrev pub JudgeTryTold : ℕ → Picture → Answer → Option Session → Option Session → Type 0
+JudgeTryTold link x answer old new = OnHandle (Sessions.TriesSession link x answer) (answer ≡ bad) old new
 
 abbrev pub JudgeLineTold : List ℕ → Answer → Option Session → Option Session → Type 0
 JudgeLineTold line answer old new = OnHandle (Sessions.JudgesLineSession line answer) (answer ≡ bad) old new

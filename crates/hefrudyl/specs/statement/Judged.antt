@@ -18,39 +18,49 @@ use Rattle.tl_pictures.specs.statement.Answer.{answer_of, ok, IsBad}
 use Rattle.tl_pictures.specs.statement.Codes.{link_at}
 use Rattle.tl_pictures.specs.statement.Picture.{shown}
 
+-- Whether a monitor is closed behind a beat, that was or wasn't before: closed by a broken rule, or as it was.
+abbrev pub Closing : Type 0
+Closing = Bool → Result ⊤ MonitorFault → Bool
+
+abbrev pub stops : Closing
+stops closed judged = closed_after judged
+
+abbrev pub goes_on : Closing
+goes_on closed judged = closed
+
 -- A beat was judged as the rules have it, after the trace that the monitor knew, and the monitor knows
 -- the longer trace where the beat was taken. Memory was wanting only where more keys of one kind are pending
 -- with the beat than before, or more blocks held.
-pub record Judged {w : ℕ} (old new : Monitor w) (x : Link × Beat w) (answer : Answer) : Type 0 where
+pub record Judged {w : ℕ} (after : Closing) (old new : Monitor w) (x : Link × Beat w) (answer : Answer) : Type 0 where
   pub judged : Result ⊤ MonitorFault
   pub told : answer ≡ answer_of judged
   pub lawful : (levels : List Level) (p : Profile) (t : Trace w) (closed : Bool) → Knows old levels p t closed
       → Answers (fault_of levels p t closed x) judged
   pub knows : (levels : List Level) (p : Profile) (t : Trace w) (closed : Bool) → Knows old levels p t closed
-      → Knows new levels p (recorded_after judged x t) (closed_after judged)
+      → Knows new levels p (recorded_after judged x t) (after closed judged)
   pub memory : (levels : List Level) (p : Profile) (t : Trace w) (closed : Bool) → Knows old levels p t closed
       → IsMoreWhereRefused (on_link x.0.0 t) x.1 judged
   pub lawful_under : (levels : List Level) (l : Liberties) (t : Trace w) (closed : Bool)
       → KnowsUnder old levels l t closed → Answers (fault_under levels l t closed x) judged
   pub knows_under : (levels : List Level) (l : Liberties) (t : Trace w) (closed : Bool)
       → KnowsUnder old levels l t closed
-      → KnowsUnder new levels l (recorded_after judged x t) (closed_after judged)
+      → KnowsUnder new levels l (recorded_after judged x t) (after closed judged)
   pub memory_under : (levels : List Level) (l : Liberties) (t : Trace w) (closed : Bool)
       → KnowsUnder old levels l t closed → IsMoreUnder l (on_link x.0.0 t) x.1 judged
 
-abbrev pub ToldOfBeat : {w : ℕ} → Monitor w → Monitor w → Option Link → Option (Beat w) → Answer → Type 0
-ToldOfBeat old new (Some link) (Some beat) answer = Judged old new (link, beat) answer
-ToldOfBeat old new _ _ answer = IsBad answer old new
+abbrev pub ToldOfBeat : {w : ℕ} → Closing → Monitor w → Monitor w → Option Link → Option (Beat w) → Answer → Type 0
+ToldOfBeat after old new (Some link) (Some beat) answer = Judged after old new (link, beat) answer
+ToldOfBeat after old new _ _ answer = IsBad answer old new
 
 -- what is told of a picture on a link, 0 to 15
-abbrev pub ToldOf : {w : ℕ} → Monitor w → Monitor w → ℕ → Picture → Answer → Type 0
-ToldOf {w} old new link x answer = ToldOfBeat old new (link_at link) (shown w x) answer
+abbrev pub ToldOf : {w : ℕ} → Closing → Monitor w → Monitor w → ℕ → Picture → Answer → Type 0
+ToldOf {w} after old new link x answer = ToldOfBeat after old new (link_at link) (shown w x) answer
 
 -- What is told of a line of a trace: of the link and beat that it spells, whatever the link; one that spells no beat
 -- is bad input.
 abbrev pub ToldOfLine : {w : ℕ} → Monitor w → Monitor w → List ℕ → Answer → Type 0
 ToldOfLine {w} old new line answer =
-    ((link : Link) × (x : Beat w) × Spells line link x × Judged old new (link, x) answer)
+    ((link : Link) × (x : Beat w) × Spells line link x × Judged stops old new (link, x) answer)
     ⊎ ((fault : LineFault) × (line_fault w line ≡ Some fault) × IsBad answer old new)
 
 abbrev pub EntriesOnLink : {w : ℕ} → Monitor w → Option Link → ℕ → ℕ → Answer → Type 0

@@ -11,8 +11,11 @@ use Rattle.tl_manager.specs.declared.manager.admission.Admission.{Admission}
 use Rattle.tl_manager.specs.declared.manager.admission.Admission.TheVariants as admission
 use Rattle.tl_manager.specs.statement.End.{End}
 use Rattle.tl_manager.specs.statement.Offer as offer
+use Rattle.tl_partner.specs.declared.terms.Terms.{Terms}
+use Rattle.tl_partner.specs.statement.Cleaning.{PartnerEnd}
+use Rattle.tl_partner.specs.statement.Partner.{stalls_under}
 use Rattle.tl_ports.specs.declared.manager.ManagerPort.{ManagerPort}
-use Rattle.tl_ports.specs.statement.Manager.{AdmitTold, KnowsEnd, PoppedOn, next_beat_on}
+use Rattle.tl_ports.specs.statement.Manager.{AdmitTold, KnowsEnd, KnowsEndUnder, PoppedOn, next_beat_on}
 use Rattle.tl_pictures.specs.declared.answer.Answer.{Answer}
 use Rattle.tl_pictures.specs.declared.picture.Picture.{Picture}
 use Rattle.tl_pictures.specs.statement.Answer.{ok, broken, no_memory, IsBad}
@@ -59,6 +62,8 @@ abbrev pub StallsBeatAt : {w : ℕ} → ManagerPort w → Option Link → Option
 StallsBeatAt {w} port (Some link) (Some x) was stalled answer = (answer ≡ ok)
     × ((config : Config) (e : End w) → KnowsEnd port config e
     → stalled ≡ flag (offer.stalls config link (channel_of x) x e))
+    × ((terms : Terms) (config : Config) (e : PartnerEnd w) → KnowsEndUnder port terms config e
+    → stalled ≡ flag (stalls_under terms config link (channel_of x) x e))
 StallsBeatAt port _ _ was stalled answer = IsBad answer was stalled
 
 abbrev pub StallsAt : (w : ℕ) → ManagerPort w → ℕ → Picture → ℕ → ℕ → Answer → Type 0
@@ -90,6 +95,8 @@ ClosedOnLink port None was closed answer = IsBad answer was closed
 ClosedOnLink {w} port (Some link) was closed answer = (answer ≡ ok)
     × ((config : Config) (e : End w) → KnowsEnd port config e
     → closed ≡ flag (is_none (offer.open_level config link e)))
+    × ((terms : Terms) (config : Config) (e : PartnerEnd w) → KnowsEndUnder port terms config e
+    → closed ≡ flag (is_none (offer.open_level config link e.manager)))
 
 -- whether the link was closed, or isn't there
 abbrev pub ClosedAt : (w : ℕ) → ManagerPort w → ℕ → ℕ → ℕ → Answer → Type 0

@@ -1,15 +1,20 @@
 -- What a manager is made from, and what a new one knows.
-use Rattle.std.specs.Prelude.{ℕ, Bool, ◌&&◌, ◌≡◌, List, [], length, nat_le, None, Result, Ok, Err}
+use Rattle.std.specs.Prelude.{ℕ, Bool, ◌&&◌, ◌==◌, ◌≡◌, ◌++◌, List, [], drop, length, nat_le, replicate, None, Result}
+use Rattle.std.specs.Prelude.{Ok, Err, if◌then◌else◌}
 use Rattle.tl_beat.specs.declared.channel.Channel.{Channel}
 use Rattle.tl_params.specs.declared.config.Config.{Config}
+use Rattle.tl_params.specs.declared.liberties.Liberties.{Liberties}
 use Rattle.tl_manager.specs.statement.End.{fresh}
+use Rattle.tl_partner.specs.declared.terms.Terms.{Terms}
+use Rattle.tl_partner.specs.statement.Cleaning.{fresh_partner}
+use Rattle.tl_partner.specs.statement.Granting.{may_grant}
 use Rattle.tl_ports.specs.declared.manager.ManagerPort.{ManagerPort}
-use Rattle.tl_ports.specs.statement.Manager.{KnowsEnd, to_send_on}
+use Rattle.tl_ports.specs.statement.Manager.{KnowsEnd, KnowsEndUnder, to_send_on}
 use Rattle.tl_pictures.specs.declared.answer.Answer.{Answer}
 use Rattle.tl_pictures.specs.declared.config.LinkConfig.{LinkConfig}
 use Rattle.tl_params.specs.statement.Config.{config_fault}
 use Rattle.hefrudyl.specs.statement.Opened.{IsRefusal}
-use Rattle.tl_pictures.specs.statement.Codes.{is_width, is_profile}
+use Rattle.tl_pictures.specs.statement.Codes.{is_width, is_profile, liberties_at}
 use Rattle.tl_pictures.specs.statement.Configured.{links_fit, IsConfigOf}
 
 -- 1 to 16 links, 1 to 1,024 blocks, 1 to 8 trackers, a width and a profile
@@ -24,7 +29,35 @@ IsFreshManager links blocks trackers profile port =
     ((config : Config) × IsConfigOf links blocks trackers profile config × KnowsEnd port config fresh)
     × ((link : ℕ) (ch : Channel) → to_send_on link ch port ≡ [])
 
-abbrev pub MakesManager : {w : ℕ} → List LinkConfig → ℕ → ℕ → ℕ → Result (ManagerPort w) Answer → Type 0
-MakesManager links blocks trackers profile (Ok port) = IsFreshManager links blocks trackers profile port
-MakesManager links blocks trackers profile (Err answer) =
+-- ---- under liberties
+
+-- the profile by which a manager grants a lone reader toT, or by which it doesn't
+abbrev pub profile_code : Liberties → ℕ
+profile_code l = if l.writer then 2 else 1
+
+-- liberties that a manager can grant, and a source for the Probes of each link
+abbrev pub may_open_manager_under : List LinkConfig → ℕ → ℕ → ℕ → ℕ → List ℕ → Bool
+may_open_manager_under links blocks trackers width liberties sources =
+    may_open_manager links blocks trackers width (profile_code (liberties_at liberties))
+    && (length sources == length links && may_grant (liberties_at liberties))
+
+-- the terms of clients with these liberties, the Probes of whose links have these sources
+abbrev pub terms_at : ℕ → List ℕ → Terms
+terms_at liberties sources = record {
+  ids = (liberties_at liberties).ids;
+  drops = (liberties_at liberties).drops;
+  reports = (liberties_at liberties).reports;
+  sources = sources ++ drop (length sources) (replicate 16 0);
+}
+
+-- a new manager, likewise, that grants its clients these terms
+abbrev pub IsFreshManagerUnder : {w : ℕ} → List LinkConfig → ℕ → ℕ → ℕ → Terms → ManagerPort w → Type 0
+IsFreshManagerUnder links blocks trackers profile terms port =
+    ((config : Config) × IsConfigOf links blocks trackers profile config
+    × KnowsEndUnder port terms config (fresh_partner config))
+    × ((link : ℕ) (ch : Channel) → to_send_on link ch port ≡ [])
+
+abbrev pub MakesManager : {w : ℕ} → List LinkConfig → ℕ → ℕ → ℕ → Terms → Result (ManagerPort w) Answer → Type 0
+MakesManager links blocks trackers profile terms (Ok port) = IsFreshManagerUnder links blocks trackers profile terms port
+MakesManager links blocks trackers profile terms (Err answer) =
     (config : Config) × IsConfigOf links blocks trackers profile config × IsRefusal (config_fault config ≡ None) answer

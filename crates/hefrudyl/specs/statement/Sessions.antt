@@ -19,14 +19,18 @@ use Rattle.hefrudyl.specs.declared.session.Session.TheVariants as session
 use Rattle.tl_pictures.specs.statement.Answer.{ok, bad, IsBad}
 use Rattle.hefrudyl.specs.statement.Client.{Asked, OfferedOf, Stalls, Shows, Pops, Holds, Copies, Closed}
 use Rattle.hefrudyl.specs.statement.ClientOpened.{may_open_client, IsFreshClient}
+use Rattle.hefrudyl.specs.statement.Judged as told
 use Rattle.hefrudyl.specs.statement.Judged.{ToldOf, ToldOfLine, EntriesOf}
 use Rattle.hefrudyl.specs.statement.Manager.{Admitted, StallsAt, ShowsAt, PopsAt, ClosedAt}
-use Rattle.hefrudyl.specs.statement.ManagerOpened.{may_open_manager, IsFreshManager}
+use Rattle.hefrudyl.specs.statement.ManagerOpened.{may_open_manager, may_open_manager_under, profile_code, terms_at}
+use Rattle.hefrudyl.specs.statement.ManagerOpened.{IsFreshManager, IsFreshManagerUnder}
 use Rattle.hefrudyl.specs.statement.Opened.{may_open, refusal}
+use Rattle.hefrudyl.specs.statement.Together as together
 use Rattle.hefrudyl.specs.statement.Together.{ToldTogether, ToldOfLineTogether}
 use Rattle.hefrudyl.specs.statement.TogetherOpened.{IsFreshJudge, may_judge_under}
 use Rattle.tl_params.specs.declared.liberties.Liberties.{Liberties}
 use Rattle.tl_params.specs.statement.Liberties.{liberties_of}
+use Rattle.tl_partner.specs.declared.terms.Terms.{Terms}
 use Rattle.tl_pictures.specs.statement.Codes.{liberties_at, profile_at}
 
 -- ---- monitors
@@ -43,7 +47,10 @@ OnMonitor P refused (session.Judge old) new = refused × (new ≡ session.Judge 
 OnMonitor _ _ _ _ = ⊥
 
 abbrev pub PushSession : ℕ → Picture → Answer → Session → Session → Type 0
-PushSession link x answer old new = OnMonitor (λ w m n. ToldOf m n link x answer) (answer ≡ bad) old new
+PushSession link x answer old new = OnMonitor (λ w m n. ToldOf told.stops m n link x answer) (answer ≡ bad) old new
+
+abbrev pub TrySession : ℕ → Picture → Answer → Session → Session → Type 0
+TrySession link x answer old new = OnMonitor (λ w m n. ToldOf told.goes_on m n link x answer) (answer ≡ bad) old new
 
 abbrev pub LineSession : List ℕ → Answer → Session → Session → Type 0
 LineSession line answer old new = OnMonitor (λ w m n. ToldOfLine m n line answer) (answer ≡ bad) old new
@@ -86,7 +93,12 @@ OnJudge P refused (session.Manager old) new = refused × (new ≡ session.Manage
 OnJudge _ _ _ _ = ⊥
 
 abbrev pub JudgesSession : ℕ → Picture → Answer → Session → Session → Type 0
-JudgesSession link x answer old new = OnJudge (λ w j k. ToldTogether j k link x answer) (answer ≡ bad) old new
+JudgesSession link x answer old new =
+    OnJudge (λ w j k. ToldTogether together.stops j k link x answer) (answer ≡ bad) old new
+
+abbrev pub TriesSession : ℕ → Picture → Answer → Session → Session → Type 0
+TriesSession link x answer old new =
+    OnJudge (λ w j k. ToldTogether together.goes_on j k link x answer) (answer ≡ bad) old new
 
 abbrev pub JudgesLineSession : List ℕ → Answer → Session → Session → Type 0
 JudgesLineSession line answer old new = OnJudge (λ w j k. ToldOfLineTogether j k line answer) (answer ≡ bad) old new
@@ -170,6 +182,28 @@ ManagerOpens links blocks trackers width profile (Some s) answer =
     trackers width profile s
 ManagerOpens links blocks trackers width profile None answer =
     answer ≡ refusal (may_open_manager links blocks trackers width profile)
+
+-- the manager is new, of the width, and grants its clients these terms
+abbrev pub IsOpenedManagerUnder : List LinkConfig → ℕ → ℕ → ℕ → ℕ → Terms → Session → Type 0
+IsOpenedManagerUnder links blocks trackers width profile terms (session.Manager (manager.Four p)) =
+    (width ≡ 4) × IsFreshManagerUnder links blocks trackers profile terms p
+IsOpenedManagerUnder links blocks trackers width profile terms (session.Manager (manager.Eight p)) =
+    (width ≡ 8) × IsFreshManagerUnder links blocks trackers profile terms p
+IsOpenedManagerUnder links blocks trackers width profile terms (session.Manager (manager.Sixteen p)) =
+    (width ≡ 16) × IsFreshManagerUnder links blocks trackers profile terms p
+IsOpenedManagerUnder links blocks trackers width profile terms _ = ⊥
+
+-- a manager that grants these terms is opened where it may be
+abbrev pub OpensManager : List LinkConfig → ℕ → ℕ → ℕ → ℕ → Terms → Bool → Option Session → Answer → Type 0
+OpensManager links blocks trackers width profile terms may (Some s) answer =
+    (answer ≡ ok) × (may ≡ true) × IsOpenedManagerUnder links blocks trackers width profile terms s
+OpensManager links blocks trackers width profile terms may None answer = answer ≡ refusal may
+
+-- what is told of a handle that held nothing, of clients with liberties
+abbrev pub ManagerOpensUnder : List LinkConfig → ℕ → ℕ → ℕ → ℕ → List ℕ → Option Session → Answer → Type 0
+ManagerOpensUnder links blocks trackers width liberties sources =
+    OpensManager links blocks trackers width (profile_code (liberties_at liberties)) (terms_at liberties sources)
+    (may_open_manager_under links blocks trackers width liberties sources)
 
 -- this holds of the manager before and after, likewise
 abbrev pub OnManager : ((w : ℕ) → ManagerPort w → ManagerPort w → Type 0) → Type 0 → Session → Session → Type 0

@@ -16,26 +16,37 @@ use Rattle.tl_pictures.specs.statement.Answer.{judge_answer, IsBad}
 use Rattle.tl_pictures.specs.statement.Codes.{link_at}
 use Rattle.tl_pictures.specs.statement.Picture.{shown}
 
+-- whether a judge is closed behind a beat, as of a monitor
+abbrev pub Closing : Type 0
+Closing = Bool → Result ⊤ JudgeFault → Bool
+
+abbrev pub stops : Closing
+stops closed judged = closed_after closed judged
+
+abbrev pub goes_on : Closing
+goes_on closed judged = closed
+
 -- A beat was judged as the rules have it, those of its link and those of memory, after the trace of all links that the
 -- judge knew, and the judge knows the longer trace where the beat was taken.
-pub record JudgedTogether {w : ℕ} (old new : Judge w) (x : Link × Beat w) (answer : Answer) : Type 0 where
-  pub judged : Result ⊤ JudgeFault
-  pub told : answer ≡ judge_answer judged
-  pub lawful : (levels : List Level) (l : Liberties) (t : Trace w) (closed : Bool) → Knows old levels l t closed
-      → Answers (fault_of levels l t closed x) judged
-  pub knows : (levels : List Level) (l : Liberties) (t : Trace w) (closed : Bool) → Knows old levels l t closed
-      → Knows new levels l (recorded_after judged x t) (closed_after closed judged)
+pub record JudgedTogether {w : ℕ} (after : Closing) (old new : Judge w) (x : Link × Beat w) (answer : Answer) : Type 0
+  where
+    pub judged : Result ⊤ JudgeFault
+    pub told : answer ≡ judge_answer judged
+    pub lawful : (levels : List Level) (l : Liberties) (t : Trace w) (closed : Bool) → Knows old levels l t closed
+        → Answers (fault_of levels l t closed x) judged
+    pub knows : (levels : List Level) (l : Liberties) (t : Trace w) (closed : Bool) → Knows old levels l t closed
+        → Knows new levels l (recorded_after judged x t) (after closed judged)
 
-abbrev pub ToldOfBeatTogether : {w : ℕ} → Judge w → Judge w → Option Link → Option (Beat w) → Answer → Type 0
-ToldOfBeatTogether old new (Some link) (Some beat) answer = JudgedTogether old new (link, beat) answer
-ToldOfBeatTogether old new _ _ answer = IsBad answer old new
+abbrev pub ToldOfBeatTogether : {w : ℕ} → Closing → Judge w → Judge w → Option Link → Option (Beat w) → Answer → Type 0
+ToldOfBeatTogether after old new (Some link) (Some beat) answer = JudgedTogether after old new (link, beat) answer
+ToldOfBeatTogether after old new _ _ answer = IsBad answer old new
 
 -- what is told of a picture on a link, 0 to 15
-abbrev pub ToldTogether : {w : ℕ} → Judge w → Judge w → ℕ → Picture → Answer → Type 0
-ToldTogether {w} old new link x answer = ToldOfBeatTogether old new (link_at link) (shown w x) answer
+abbrev pub ToldTogether : {w : ℕ} → Closing → Judge w → Judge w → ℕ → Picture → Answer → Type 0
+ToldTogether {w} after old new link x answer = ToldOfBeatTogether after old new (link_at link) (shown w x) answer
 
 -- what is told of a line of a trace: of the link and beat that it spells; one that spells no beat is bad input
 abbrev pub ToldOfLineTogether : {w : ℕ} → Judge w → Judge w → List ℕ → Answer → Type 0
 ToldOfLineTogether {w} old new line answer =
-    ((link : Link) × (x : Beat w) × Spells line link x × JudgedTogether old new (link, x) answer)
+    ((link : Link) × (x : Beat w) × Spells line link x × JudgedTogether stops old new (link, x) answer)
     ⊎ ((fault : LineFault) × (line_fault w line ≡ Some fault) × IsBad answer old new)

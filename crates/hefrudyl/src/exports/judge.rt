@@ -1,7 +1,7 @@
 //! What C may do with a judge of all links of a manager.
 
 ghost use Rattle.std.specs.Prelude.{◌≡◌, None};
-ghost use Rattle.hefrudyl.specs.statement.Handled.{JudgeOpenTold, JudgeOpenUnderTold, JudgeTold, JudgeLineTold};
+ghost use Rattle.hefrudyl.specs.statement.Handled.{JudgeOpenTold, JudgeOpenUnderTold, JudgeTold, JudgeTryTold, JudgeLineTold};
 
 use crate::handle::Handle;
 use crate::session::Session;
@@ -59,6 +59,19 @@ pub extern "C" fn tl_judge_push(
     ensures { JudgeTold link beat.now result judge.old.place.value judge.new.place.value }
 {
     answered!(alloc, judge, session => session.judge(link, beat))
+}
+
+/// Judges a beat of a link so. A beat that breaks a rule isn't taken, and the judge goes on behind it.
+#[unsafe(no_mangle)]
+pub extern "C" fn tl_judge_try_push(
+    alloc: Global,
+    judge: &mut Handle,
+    link: u8,
+    beat: &Picture,
+) -> Answer
+    ensures { JudgeTryTold link beat.now result judge.old.place.value judge.new.place.value }
+{
+    answered!(alloc, judge, session => session.try_judge(link, beat))
 }
 
 /// Judges the beat of a line of a trace so, its line feed included.

@@ -1,8 +1,8 @@
 //! What C may do with a manager.
 
 ghost use Rattle.std.specs.Prelude.{◌≡◌, None};
-ghost use Rattle.hefrudyl.specs.statement.Handled.{ManagerOpenTold, AdmitTold, StallsAtTold, NextAtTold, PopAtTold};
-ghost use Rattle.hefrudyl.specs.statement.Handled.{ClosedAtTold};
+ghost use Rattle.hefrudyl.specs.statement.Handled.{ManagerOpenTold, ManagerOpenUnderTold, AdmitTold, StallsAtTold};
+ghost use Rattle.hefrudyl.specs.statement.Handled.{NextAtTold, PopAtTold, ClosedAtTold};
 
 use crate::handle::Handle;
 use crate::session::Session;
@@ -31,6 +31,38 @@ pub extern "C" fn tl_manager_new(
         alloc,
         manager,
         Session::open_manager(alloc, links, blocks, trackers, width, profile)
+    )
+}
+
+/// Makes a manager whose clients have these liberties, bit 0 for `ids`, bit 4 for `drops`, bit 5 for `reports`, behind a
+/// handle that holds nothing. With bit 2, `writer`, it grants a lone reader toT; any other bit is a bad argument. There
+/// are as many sources as links: with `ids` the Probes of each link have its source.
+#[unsafe(no_mangle)]
+pub extern "C" fn tl_manager_new_under(
+    alloc: Global,
+    manager: &mut Handle,
+    links: &[LinkConfig],
+    blocks: u16,
+    trackers: u8,
+    width: u8,
+    liberties: u8,
+    probe_sources: &[u8],
+) -> Answer
+    ensures { ManagerOpenUnderTold manager.old.place.value manager.new.place.value links.now blocks trackers
+        width liberties probe_sources.now result }
+{
+    opened!(
+        alloc,
+        manager,
+        Session::open_manager_under(
+            alloc,
+            links,
+            blocks,
+            trackers,
+            width,
+            liberties,
+            probe_sources
+        )
     )
 }
 

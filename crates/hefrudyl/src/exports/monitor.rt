@@ -1,7 +1,8 @@
 //! What C may do with a monitor.
 
 ghost use Rattle.std.specs.Prelude.{◌≡◌, None};
-ghost use Rattle.hefrudyl.specs.statement.Handled.{MonitorOpenTold, MonitorOpenUnderTold, PushTold, LineTold, EntriesTold};
+ghost use Rattle.hefrudyl.specs.statement.Handled.{MonitorOpenTold, MonitorOpenUnderTold};
+ghost use Rattle.hefrudyl.specs.statement.Handled.{PushTold, TryTold, LineTold, EntriesTold};
 
 use crate::handle::Handle;
 use crate::session::Session;
@@ -55,6 +56,19 @@ pub extern "C" fn tl_monitor_push(
     ensures { PushTold link beat.now result monitor.old.place.value monitor.new.place.value }
 {
     answered!(alloc, monitor, session => session.push(link, beat))
+}
+
+/// Judges a beat of a link. A beat that breaks a rule isn't taken, and the monitor goes on behind it.
+#[unsafe(no_mangle)]
+pub extern "C" fn tl_monitor_try_push(
+    alloc: Global,
+    monitor: &mut Handle,
+    link: u8,
+    beat: &Picture,
+) -> Answer
+    ensures { TryTold link beat.now result monitor.old.place.value monitor.new.place.value }
+{
+    answered!(alloc, monitor, session => session.try_push(link, beat))
 }
 
 /// Judges the beat of a line of a trace, its line feed included.

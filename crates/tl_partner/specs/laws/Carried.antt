@@ -1,5 +1,5 @@
 -- What the links of a manager carried whose clients have `drops` and `ids`, beside its end.
-use Rattle.std.specs.Prelude.{ℕ, false, ◌≡◌, ◌∷◌, map}
+use Rattle.std.specs.Prelude.{ℕ, ◌≡◌, ◌∷◌, map}
 use Rattle.tl_beat.specs.declared.beat.Beat.{Beat}
 use Rattle.tl_beat.specs.declared.beat.Link.{Link}
 use Rattle.tl_beat.specs.declared.channel.Channel.TheVariants as channel
@@ -10,12 +10,8 @@ use Rattle.tl_rules.specs.statement.Liberties.{held_under}
 use Rattle.tl_manager.specs.statement.Handing.{with_handed}
 use Rattle.tl_manager.specs.statement.Offer.{Reception, Refused, Stalled, Sent}
 use Rattle.tl_partner.specs.declared.terms.Terms.{Terms}
+use Rattle.tl_partner.specs.statement.Granting.{granted}
 use Rattle.tl_partner.specs.statement.Naming.{plain}
-
--- the liberties that a partner doesn't grant and that change what is held
-pub record GrantsNoOther (terms : Terms) : Type 0 where
-  pub early : terms.liberties.early ≡ false
-  pub denied : terms.liberties.denied ≡ false
 
 -- what the links carried after a beat was answered so: the beat that is taken, and what is handed out
 abbrev pub carried_after : {w : ℕ} → Link → Beat w → Reception w → Trace w → Trace w
@@ -30,7 +26,7 @@ pub record AreAlike {w : ℕ} (terms : Terms) (t e : History w) : Type 0 where
   pub named : (s : ℕ) → request_of s t ≡ request_of s e
   pub reports : map (plain terms) (unfinished channel.C t) ≡ unfinished channel.C e
   pub answers : unfinished channel.D t ≡ unfinished channel.D e
-  pub held : (k : ℕ) → held_under terms.liberties k t ≡ held k e
+  pub held : (k : ℕ) → held_under (granted terms) k t ≡ held k e
 
 -- so it is on each link
 abbrev pub IsCarried : {w : ℕ} → Terms → Trace w → Trace w → Type 0

@@ -4,6 +4,6 @@ use Rattle.tl_partner.specs.declared.terms.Terms.{Terms}
 
 -- no liberty is granted of those that a partner grants
 pub record GrantsNone (terms : Terms) : Type 0 where
-  pub ids : terms.liberties.ids ≡ false
-  pub drops : terms.liberties.drops ≡ false
-  pub reports : terms.liberties.reports ≡ false
+  pub ids : terms.ids ≡ false
+  pub drops : terms.drops ≡ false
+  pub reports : terms.reports ≡ false

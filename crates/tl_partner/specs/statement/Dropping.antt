@@ -47,7 +47,7 @@ is_by_record j = false
 -- with `drops` the beat says that nothing is held of a block of which its client is recorded with a copy
 abbrev pub is_drop : {w : ℕ} → Terms → Config → Link → Channel → Beat w → End w → Bool
 is_drop terms config link ch x e =
-    terms.liberties.drops && (says_none x && is_by_record (judged config link ch x e))
+    terms.drops && (says_none x && is_by_record (judged config link ch x e))
 
 -- what a Release does that leaves nothing of this
 abbrev pub prune_from : Perm → Prune

@@ -32,7 +32,7 @@ with_source source m = record {
 -- a message that is handed out on a link: with `ids` a Probe has the source of the link's Probes
 abbrev pub named : {w : ℕ} → Terms → Link → Message w → Message w
 named terms link (message.B m) =
-    if terms.liberties.ids then message.B (with_source (probe_source terms link.0) m) else message.B m
+    if terms.ids then message.B (with_source (probe_source terms link.0) m) else message.B m
 named terms link m = m
 
 -- the same of messages that are handed out
@@ -42,7 +42,7 @@ all_named terms handed = map (λ x. (x.0, named terms x.0 x.1)) handed
 -- with `ids` the beat is a ProbeAck with another source than the Probes of its link
 abbrev pub is_misnamed : {w : ℕ} → Terms → Link → Beat w → Bool
 is_misnamed terms link (beat.C x) =
-    terms.liberties.ids && (is_probe_ack x.opcode && not (x.source == probe_source terms link.0))
+    terms.ids && (is_probe_ack x.opcode && not (x.source == probe_source terms link.0))
 is_misnamed terms link x = false
 
 -- the beat with source 0
@@ -60,5 +60,5 @@ from_zero x = record {
 
 -- the beat as the first profile has it: with `ids` a ProbeAck has source 0 there
 abbrev pub plain : {w : ℕ} → Terms → Beat w → Beat w
-plain terms (beat.C x) = if terms.liberties.ids && is_probe_ack x.opcode then beat.C (from_zero x) else beat.C x
+plain terms (beat.C x) = if terms.ids && is_probe_ack x.opcode then beat.C (from_zero x) else beat.C x
 plain terms x = x

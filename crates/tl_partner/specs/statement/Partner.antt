@@ -11,6 +11,7 @@ use Rattle.tl_manager.specs.statement.End.{End}
 use Rattle.tl_manager.specs.statement.Offer.{Judgement, Breaks, Waits, Passes, Reception, Refused, Stalled, is_waiting, judged}
 use Rattle.tl_partner.specs.declared.terms.Terms.{Terms}
 use Rattle.tl_partner.specs.statement.Cleaning.{PartnerEnd, cleaning_on, is_of_cleaning, offered_cleaning, refused_on}
+use Rattle.tl_partner.specs.statement.Granting.{granted}
 use Rattle.tl_partner.specs.statement.Lenient.{offered_lenient, stalls_lenient}
 
 -- the unfinished message is of this block
@@ -45,8 +46,8 @@ beside r e = (r.0, record { manager = r.1; cleanings = e.cleanings })
 unfoldable pub offered_under : {w : ℕ} → Terms → Config → Link → Channel → Beat w → PartnerEnd w
     → Reception w × PartnerEnd w
 offered_under terms config link ch x e =
-    if is_of_cleaning terms.liberties x (cleaning_on link e)
-    then offered_cleaning terms.liberties config link ch x e
+    if is_of_cleaning (granted terms) x (cleaning_on link e)
+    then offered_cleaning (granted terms) config link ch x e
     else if asks_for_cleaned x (cleaning_on link e)
     then held_back_as (held_back (judged config link ch x e.manager)) link e
     else beside (offered_lenient terms config link ch x e.manager) e
@@ -54,7 +55,7 @@ offered_under terms config link ch x e =
 -- the manager would answer the beat that it is stalled
 unfoldable pub stalls_under : {w : ℕ} → Terms → Config → Link → Channel → Beat w → PartnerEnd w → Bool
 stalls_under terms config link ch x e =
-    if is_of_cleaning terms.liberties x (cleaning_on link e)
+    if is_of_cleaning (granted terms) x (cleaning_on link e)
     then false
     else if asks_for_cleaned x (cleaning_on link e)
     then is_waiting (judged config link ch x e.manager)

@@ -1,5 +1,6 @@
 -- A manager and the beats that it has still to send, by the definition of a manager's end of its links.
-use Rattle.std.specs.Prelude.{ℕ, List, [], ◌≡◌, ◌++◌, drop, slice_get, Option, Result, Ok, Err, if◌then◌else◌}
+use Rattle.std.specs.Prelude.{ℕ, List, [], ◌≡◌, ◌++◌, drop, length, replicate, slice_get, Option, Result, Ok, Err}
+use Rattle.std.specs.Prelude.{if◌then◌else◌}
 use Rattle.tl_beat.specs.declared.beat.Beat.{Beat}
 use Rattle.tl_beat.specs.declared.beat.Link.{Link}
 use Rattle.tl_beat.specs.declared.channel.Channel.{Channel}
@@ -8,18 +9,35 @@ use Rattle.tl_params.specs.declared.config.NewFault.{NewFault}
 use Rattle.tl_params.specs.declared.rule.Rule.{Rule}
 use Rattle.tl_manager.specs.code.Directories.{perm_of_bits}
 use Rattle.tl_manager.specs.code.Fresh.{IsNew}
-use Rattle.tl_manager.specs.code.Knows.{Knows}
 use Rattle.tl_manager.specs.declared.manager.admission.Admission.{Admission}
 use Rattle.tl_manager.specs.declared.manager.admission.Admission.TheVariants.{Waits, Passes}
-use Rattle.tl_manager.specs.statement.End.{End, fresh}
+use Rattle.tl_manager.specs.statement.End.{End}
 use Rattle.tl_manager.specs.statement.Handing.{Handed}
 use Rattle.tl_manager.specs.statement.Offer.{Reception, Refused, Stalled, Sent, offered}
+use Rattle.tl_partner.specs.code.Cleanings.{KnowsPartner}
+use Rattle.tl_partner.specs.declared.terms.Terms.{Terms}
+use Rattle.tl_partner.specs.laws.Without.{GrantsNone}
+use Rattle.tl_partner.specs.statement.Cleaning.{PartnerEnd, fresh_partner}
+use Rattle.tl_partner.specs.statement.Partner.{offered_under}
 use Rattle.tl_ports.specs.declared.manager.ManagerPort.{ManagerPort}
 use Rattle.tl_ports.specs.statement.Waiting.{waiting, handed_all, is_place}
 
--- the manager has this configuration and has come to this end of its links
+-- the manager has this configuration and has come to this end of its links, by whatever it grants
+abbrev pub KnowsPort : {w : ℕ} → ManagerPort w → Config → PartnerEnd w → Type 0
+KnowsPort port config e =
+    KnowsPartner perm_of_bits port.partner.lenient.manager port.partner.cleanings.items config e
+
+-- the manager grants its clients these terms, has this configuration, and has come to this end of its links
+abbrev pub KnowsEndUnder : {w : ℕ} → ManagerPort w → Terms → Config → PartnerEnd w → Type 0
+KnowsEndUnder port terms config e = (port.partner.lenient.terms ≡ terms) × KnowsPort port config e
+
+-- the end of a manager by itself: no client is in the middle of a Release that it keeps its copy by
+abbrev pub alone : {w : ℕ} → Config → End w → PartnerEnd w
+alone config e = record { manager = e; cleanings = replicate (length config.clients.items) [] }
+
+-- the manager grants its clients no liberty, has this configuration, and has come to this end of its links
 abbrev pub KnowsEnd : {w : ℕ} → ManagerPort w → Config → End w → Type 0
-KnowsEnd port config e = Knows perm_of_bits port.manager config e
+KnowsEnd port config e = GrantsNone port.partner.lenient.terms × KnowsPort port config (alone config e)
 
 -- the beats that wait on a channel of a link, the oldest first
 abbrev pub to_send_on : {w : ℕ} → ℕ → Channel → ManagerPort w → List (Beat w)
@@ -37,7 +55,7 @@ HandedOutAll handed old new =
 -- manager and what waits are as they were
 abbrev pub UnchangedManager : {w : ℕ} → ManagerPort w → ManagerPort w → Type 0
 UnchangedManager old new =
-    (new.manager ≡ old.manager) × ((link : ℕ) (ch : Channel) → to_send_on link ch new ≡ to_send_on link ch old)
+    (new.partner ≡ old.partner) × ((link : ℕ) (ch : Channel) → to_send_on link ch new ≡ to_send_on link ch old)
 
 -- what is told of a beat, and the messages that are handed out for it
 abbrev pub admission_in : {w : ℕ} → Reception w → Result Admission Rule
@@ -50,26 +68,41 @@ handed_in (Refused rule) = []
 handed_in Stalled = []
 handed_in (Sent handed) = handed
 
+-- what a manager that grants no liberty tells of a beat, by the definition, and its messages are handed out
+abbrev pub IsAnswered : {w : ℕ} → ManagerPort w → ManagerPort w → Link → Channel → Beat w → Result Admission Rule
+    → Type 0
+IsAnswered {w} old new link ch x told = (config : Config) (e : End w) → KnowsEnd old config e →
+    (told ≡ admission_in (offered config link ch x e).0)
+    × HandedOutAll (handed_in (offered config link ch x e).0) old new
+    × KnowsEnd new config (offered config link ch x e).1
+
+-- the same of a manager whose clients have liberties
+abbrev pub IsAnsweredUnder : {w : ℕ} → ManagerPort w → ManagerPort w → Link → Channel → Beat w → Result Admission Rule
+    → Type 0
+IsAnsweredUnder {w} old new link ch x told = (terms : Terms) (config : Config) (e : PartnerEnd w)
+    → KnowsEndUnder old terms config e →
+    (told ≡ admission_in (offered_under terms config link ch x e).0)
+    × HandedOutAll (handed_in (offered_under terms config link ch x e).0) old new
+    × KnowsEndUnder new terms config (offered_under terms config link ch x e).1
+
 -- What is told of a beat that is offered: what the definition says of it, and its messages are handed out. Without
 -- memory nothing is offered.
 abbrev pub AdmitTold : {w : ℕ} {E : Type 0} → ManagerPort w → ManagerPort w → Link → Channel → Beat w
     → Result (Result Admission Rule) E
     → Type 0
 AdmitTold old new link ch x (Err error) = UnchangedManager old new
-AdmitTold {w} old new link ch x (Ok told) = (config : Config) (e : End w) → KnowsEnd old config e →
-    (told ≡ admission_in (offered config link ch x e).0)
-    × HandedOutAll (handed_in (offered config link ch x e).0) old new
-    × KnowsEnd new config (offered config link ch x e).1
+AdmitTold old new link ch x (Ok told) = IsAnswered old new link ch x told × IsAnsweredUnder old new link ch x told
 
 -- the first beat of the channel of the link is gone, and nothing else changed
 abbrev pub PoppedOn : {w : ℕ} → ℕ → Channel → ManagerPort w → ManagerPort w → Type 0
 PoppedOn at channel old new =
-    (new.manager ≡ old.manager)
+    (new.partner ≡ old.partner)
     × ((link : ℕ) (ch : Channel) → to_send_on link ch new
     ≡ (if is_place link ch at channel then drop 1 (to_send_on link ch old) else to_send_on link ch old))
 
--- a new manager has taken and handed out nothing, and nothing waits; or why there is none
-abbrev pub IsNewManager : {w : ℕ} → Config → Result (ManagerPort w) NewFault → Type 0
-IsNewManager config (Ok port) =
-    KnowsEnd port config fresh × ((link : ℕ) (ch : Channel) → to_send_on link ch port ≡ [])
-IsNewManager {w} config (Err fault) = IsNew {w = w} perm_of_bits config (Err fault)
+-- a new manager grants its clients these terms, has taken and handed out nothing, and nothing waits; or why there is none
+abbrev pub IsNewManager : {w : ℕ} → Config → Terms → Result (ManagerPort w) NewFault → Type 0
+IsNewManager config terms (Ok port) =
+    KnowsEndUnder port terms config (fresh_partner config)
+    × ((link : ℕ) (ch : Channel) → to_send_on link ch port ≡ [])
+IsNewManager {w} config terms (Err fault) = IsNew {w = w} perm_of_bits config (Err fault)

@@ -1,31 +1,11 @@
 use Rattle.std.proofs.Common.{sym, ◌∙◌}
-use Rattle.std.proofs.lemmas.Result.{err_from_is_err_and}
-use Rattle.hefrudyl.proofs.Refused.{manager-refused}
+use Rattle.hefrudyl.proofs.Openings.{opened-alone}
+use Rattle.hefrudyl.specs.statement.Opened.{answer_in, ok_of}
 use Rattle.hefrudyl.proofs.session.Session.open_manager.Goals as goal
 
-pub returns-in_err-make_manager-in-4 : goal.returns-in_err-make_manager-in-4
-returns-in_err-make_manager-in-4 c =
-    let p = err_from_is_err_and c.from_residual.result c.from_residual.ensures.1 in
-    rw (p.1, p.2) (record {
-      told = manager-refused 4 c.args.links.now c.args.blocks c.args.trackers c.args.width c.args.profile
-          c.in_err-make_manager-in-4.field-0.0 c.in_err-make_manager-in-4.ensures
-          (sym c.may_open_manager.ensures ∙ c.if-not-may_open_manager.false);
-    })
-
-pub returns-in_err-make_manager-in-8 : goal.returns-in_err-make_manager-in-8
-returns-in_err-make_manager-in-8 c =
-    let p = err_from_is_err_and c.from_residual-in_err-make_manager-in-8.result c.from_residual-in_err-make_manager-in-8.ensures.1 in
-    rw (p.1, p.2) (record {
-      told = manager-refused 8 c.args.links.now c.args.blocks c.args.trackers c.args.width c.args.profile
-          c.in_err-make_manager-in-8.field-0.0 c.in_err-make_manager-in-8.ensures
-          (sym c.may_open_manager.ensures ∙ c.if-not-may_open_manager.false);
-    })
-
-pub returns-in_err-make_manager-in-16 : goal.returns-in_err-make_manager-in-16
-returns-in_err-make_manager-in-16 c =
-    let p = err_from_is_err_and c.from_residual-in_err-make_manager-in-16.result c.from_residual-in_err-make_manager-in-16.ensures.1 in
-    rw (p.1, p.2) (record {
-      told = manager-refused 16 c.args.links.now c.args.blocks c.args.trackers c.args.width c.args.profile
-          c.in_err-make_manager-in-16.field-0.0 c.in_err-make_manager-in-16.ensures
-          (sym c.may_open_manager.ensures ∙ c.if-not-may_open_manager.false);
-    })
+pub returns : goal.returns
+returns c = record {
+  told = opened-alone c.args.links.now c.args.blocks c.args.trackers c.args.width c.args.profile (ok_of c.manager_of.result)
+      (answer_in c.manager_of.result) (sym c.may_open_manager.ensures ∙ c.if-not-may_open_manager.false)
+      (rw c.none.ensures at c.manager_of.ensures.told);
+}

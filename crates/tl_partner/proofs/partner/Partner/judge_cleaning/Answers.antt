@@ -5,6 +5,7 @@ use Rattle.tl_manager.proofs.judging.Judging.{on-ok}
 use Rattle.tl_manager.specs.statement.Offer.{open_level}
 use Rattle.tl_partner.specs.code.Cleanings.{cleaning_at}
 use Rattle.tl_partner.proofs.Taking.{judged-clean, lawful-none}
+use Rattle.tl_partner.specs.statement.Granting.{granted}
 use Rattle.tl_partner.proofs.partner.Partner.judge_cleaning.Goals as goal
 
 pub returns-clause-judged : goal.returns-clause-judged
@@ -24,9 +25,9 @@ returns-clause-judged g c = λ config e k.
       c.is_spoiled.ensures,
       level,
       burst,
-    ) (judged-clean c.args.self.now.lenient.terms.liberties config c.in-Some-open_level.level c.args.link
+    ) (judged-clean (granted c.args.self.now.lenient.terms) config c.in-Some-open_level.level c.args.link
     c.args.channel c.args.beat.now c.in-Some.cleaning.now e.manager.trace
-    (lawful-none _ c.in_ok-check_beat_under.ensures.value))
+    (lawful-none _ c.in_ok-check.ensures.value))
 
 pub returns-clause-link : goal.returns-clause-link
 returns-clause-link g c =
@@ -37,4 +38,4 @@ returns-clause-link g c =
     on-ok c.admit.result _ (slice_get_within c.args.self.now.cleanings.items c.args.link.0 c.in-Some.cleaning.now found)
 
 pub returns-clause-takeable : goal.returns-clause-takeable
-returns-clause-takeable g c = on-ok c.admit.result _ c.in_ok-check_beat_under.ensures.takeable
+returns-clause-takeable g c = on-ok c.admit.result _ c.in_ok-check.ensures.takeable

@@ -2,6 +2,7 @@ use Rattle.std.proofs.Common.{◌≡◌, ◌∙◌, refl, ap, false}
 use Rattle.tl_manager.specs.statement.Offer.{open_level}
 use Rattle.tl_partner.proofs.Offering.{breaks-by, passes-by, passes-unbroken, waits-by}
 use Rattle.tl_partner.specs.statement.Cleaning.{cleaning_on}
+use Rattle.tl_partner.specs.statement.Granting.{granted}
 use Rattle.tl_burst.specs.statement.Messages.{breaks_burst}
 use Rattle.tl_partner.specs.code.Cleanings.{cleaning_at}
 use Rattle.tl_partner.proofs.partner.Partner.offer_cleaning.Goals as goal
@@ -31,7 +32,7 @@ returns-in-Ok-Passes-clause-answer g c = λ config e k.
     let passes = passes-by _ judged in
     let goes : breaks_burst c.args.beat.now (cleaning_at c.args.self.now.cleanings.items c.args.link.0) ≡ false =
     ap (λ all. breaks_burst c.args.beat.now (cleaning_at all c.args.link.0)) k.same
-    ∙ passes-unbroken c.args.self.now.lenient.terms.liberties config (open_level config c.args.link e.manager)
+    ∙ passes-unbroken (granted c.args.self.now.lenient.terms) config (open_level config c.args.link e.manager)
     c.args.link c.args.channel c.args.beat.now (cleaning_on c.args.link e) e.manager.trace passes in
     rw passes (c.take_cleaning.ensures.answer config e k goes)
 
@@ -41,6 +42,6 @@ returns-in-Ok-Passes-clause-after g c = λ config e k.
     let passes = passes-by _ judged in
     let goes : breaks_burst c.args.beat.now (cleaning_at c.args.self.now.cleanings.items c.args.link.0) ≡ false =
     ap (λ all. breaks_burst c.args.beat.now (cleaning_at all c.args.link.0)) k.same
-    ∙ passes-unbroken c.args.self.now.lenient.terms.liberties config (open_level config c.args.link e.manager)
+    ∙ passes-unbroken (granted c.args.self.now.lenient.terms) config (open_level config c.args.link e.manager)
     c.args.link c.args.channel c.args.beat.now (cleaning_on c.args.link e) e.manager.trace passes in
     rw passes (c.take_cleaning.ensures.after config e k goes)

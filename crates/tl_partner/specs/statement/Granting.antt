@@ -1,0 +1,32 @@
+-- The liberties that a manager grants its clients.
+use Rattle.std.specs.Prelude.{ℕ, Bool, false, not, ◌||◌, if◌then◌else◌, List, Option, Some, None, replicate}
+use Rattle.tl_params.specs.declared.liberties.Liberties.{Liberties}
+use Rattle.tl_partner.specs.declared.terms.Terms.{Terms}
+
+-- the liberties of a link whose client has these terms
+abbrev pub granted : Terms → Liberties
+granted terms = record {
+  ids = terms.ids;
+  sinks = false;
+  writer = false;
+  early = false;
+  drops = terms.drops;
+  reports = terms.reports;
+  denied = false;
+  uncorrupt = false;
+}
+
+-- no liberties
+abbrev pub no_terms : Terms
+no_terms = record { ids = false; drops = false; reports = false; sources = replicate 16 0 }
+
+-- A manager can grant these: all are what its clients do, or `writer`, which is its profile.
+abbrev pub may_grant : Liberties → Bool
+may_grant l = not (l.sinks || (l.early || (l.denied || l.uncorrupt)))
+
+-- the terms by which clients have these liberties, whose Probes have these sources, where a manager can grant them
+abbrev pub terms_of : Liberties → List ℕ → Option Terms
+terms_of l sources =
+    if may_grant l
+    then Some (record { ids = l.ids; drops = l.drops; reports = l.reports; sources = sources })
+    else None

@@ -10,7 +10,7 @@ use tl_params::liberties::Liberties;
 #[derive(Drop)]
 pub enum Task {
     /// A command over the file of this name, or over standard input. What links may do besides what the header names
-    /// is asked by `monitor` alone.
+    /// is asked by `monitor`, `coherent` and `explain`.
     Read {
         command: Command,
         allow: Liberties,

@@ -16,6 +16,7 @@ use tl_engine::named::tell_named;
 use tl_engine::output::write_all;
 use tl_engine::status::{Status, ToolFault};
 use tl_engine::tool::run_tool;
+use tl_params::liberties::Liberties;
 
 /// The traces, by their names in data/.
 const TRACES: [&str; 45] = [
@@ -67,7 +68,7 @@ const TRACES: [&str; 45] = [
 ];
 
 /// The traces whose links are judged together.
-const TOGETHER: [&str; 20] = [
+const TOGETHER: [&str; 25] = [
     "two_caches.trace",
     "wrong_report.trace",
     "rules/M1.trace",
@@ -83,11 +84,16 @@ const TOGETHER: [&str; 20] = [
     "rules/M3_later_beat.trace",
     "rules/M3_denied.trace",
     "rules/M3_denied_right.trace",
+    "rules/M3_window.trace",
+    "rules/M3_window_right.trace",
+    "rules/M3_served.trace",
+    "rules/M3_served_right.trace",
     "rules/M4.trace",
     "rules/M4_right.trace",
     "rules/M4_shown.trace",
     "rules/M4_shown_early.trace",
     "rules/M4_shown_right.trace",
+    "rules/H8_early_right.trace",
 ];
 
 /// The schedules that are played.
@@ -123,7 +129,7 @@ const TRACED: [&str; 4] = [
 ];
 
 /// The files that are no traces, or have a line that spells no beat, by their names in data/.
-const FAULTS: [&str; 27] = [
+const FAULTS: [&str; 28] = [
     "faults/F1_comment.trace",
     "faults/F1_end.trace",
     "faults/F1_fields.trace",
@@ -144,6 +150,7 @@ const FAULTS: [&str; 27] = [
     "faults/F7_gzip.trace",
     "faults/F7_level.trace",
     "faults/F7_levels.trace",
+    "faults/F7_liberties.trace",
     "faults/F7_mark.trace",
     "faults/F7_profile.trace",
     "faults/F7_schedule.trace",
@@ -155,6 +162,35 @@ const FAULTS: [&str; 27] = [
 
 /// The traces at whose end something is pending.
 const PENDING: [&str; 2] = ["pending/each_kind.trace", "pending/more_than_twenty.trace"];
+
+/// The traces of links with liberties: for each liberty and rule that it touches one that it allows, and the nearest
+/// that stays at fault.
+const LIBERTIES: [&str; 24] = [
+    "rules/L2_ids_right.trace",
+    "rules/H10_ids.trace",
+    "rules/L2_sinks_right.trace",
+    "rules/L2_sinks.trace",
+    "rules/H6_writer_right.trace",
+    "rules/H6_writer.trace",
+    "rules/H2_early_right.trace",
+    "rules/H2_early.trace",
+    "rules/H8_early_right.trace",
+    "rules/H8_early.trace",
+    "rules/H8_early_first.trace",
+    "rules/H5_drops_right.trace",
+    "rules/H5_drops.trace",
+    "rules/H12_drops_right.trace",
+    "rules/H12_drops.trace",
+    "rules/H12_drops_kept.trace",
+    "rules/H13_drops_right.trace",
+    "rules/H13_drops.trace",
+    "rules/L2_reports_right.trace",
+    "rules/H13_reports.trace",
+    "rules/L6_denied_right.trace",
+    "rules/L6_denied.trace",
+    "rules/L6_uncorrupt_right.trace",
+    "rules/L6_uncorrupt.trace",
+];
 
 /// The names of the rules and faults that are explained.
 const NAMES: [&str; 33] = [
@@ -215,7 +251,7 @@ fn explain<R: Read, S: Read, W: Write>(
     write_all(output, name.as_bytes())?;
     let separator: &[u8] = if coherent { b" coherent: " } else { b": " };
     write_all(output, separator)?;
-    explain_input(alloc, coherent, first, second, output)
+    explain_input(alloc, coherent, Liberties::none(), first, second, output)
 }
 
 /// Explains each of the traces with these names. Answers whether all could be read and explained.
@@ -267,6 +303,7 @@ fn main(rt: HostRuntime) -> ExitCode {
         && explain_all(&rt, false, &TRACES)
         && explain_all(&rt, false, &FAULTS)
         && explain_all(&rt, false, &PENDING)
+        && explain_all(&rt, false, &LIBERTIES)
         && explain_all(&rt, true, &TOGETHER)
         && tell_names(&rt, &NAMES)
     {

@@ -21,8 +21,8 @@ use Rattle.tl_params.proofs.Options.{some_pair}
 use Rattle.tl_words.specs.declared.words.WordsFault.{WordsFault}
 use Rattle.tl_words.specs.declared.words.WordsFault.TheVariants as fault
 use Rattle.tl_words.specs.Refused.{AsksNothing, IsFaultOf, IsRefusal}
-use Rattle.tl_words.specs.Tool.{AreAllowedIn, AreTaken, IsAim, IsInquiryOf, IsTaskOf, command_in, command_named, is_reported, together_named}
-use Rattle.tl_words.specs.Tool.{tool_of, words_in}
+use Rattle.tl_words.specs.Tool.{AreAllowedIn, AreTaken, IsAim, IsInquiryOf, IsTaskOf, command_in, command_named, is_reported}
+use Rattle.tl_words.specs.Tool.{judges_together, together_named, tool_of, words_in}
 use Rattle.tl_params.specs.declared.liberties.Liberties.{Liberties}
 
 -- the same words name the same command
@@ -130,14 +130,22 @@ no_liberties_named name rows none other another (Chart range file) is = let same
 no_liberties_named name rows none other another (Draw options) is = let same = is.0 in absurd cc
 
 -- the entries have this word of `--allow`
-pub allowed_in : (name : Text) (rows : List Row) {a : Option Text} → a ≡ first_of (codes "allow") rows
-    → (allow : Liberties) → AreTaken name a allow → AreAllowedIn name rows allow
-allowed_in name rows is allow are = subst (λ (o : Option Text). AreTaken name o allow) is are
+pub allowed_in : (name : Text) (rows : List Row) (together : Bool) (coherent word : Option Text)
+    → together ≡ judges_together name coherent → coherent ≡ first_of (codes "coherent") rows
+    → word ≡ first_of (codes "allow") rows → (allow : Liberties) → AreTaken together word allow
+    → AreAllowedIn name rows allow
+allowed_in name rows together coherent word so flag is allow are =
+    subst (λ (o : Option Text). AreTaken (judges_together name (first_of (codes "coherent") rows)) o allow) is
+    (subst (λ (b : Bool). AreTaken b word allow) (so ∙ ap (judges_together name) flag) are)
 
-pub none_allowed_in : (name : Text) (rows : List Row) {a : Option Text} → a ≡ first_of (codes "allow") rows
-    → ((allow : Liberties) → ¬ AreTaken name a allow) → (allow : Liberties) → ¬ AreAllowedIn name rows allow
-none_allowed_in name rows is none allow are =
-    none allow (subst (λ (o : Option Text). AreTaken name o allow) (sym is) are)
+pub none_allowed_in : (name : Text) (rows : List Row) (together : Bool) (coherent word : Option Text)
+    → together ≡ judges_together name coherent → coherent ≡ first_of (codes "coherent") rows
+    → word ≡ first_of (codes "allow") rows → ((allow : Liberties) → ¬ AreTaken together word allow)
+    → (allow : Liberties) → ¬ AreAllowedIn name rows allow
+none_allowed_in name rows together coherent word so flag is none allow are =
+    none allow (subst (λ (b : Bool). AreTaken b word allow) (sym (so ∙ ap (judges_together name) flag))
+    (subst (λ (o : Option Text). AreTaken (judges_together name (first_of (codes "coherent") rows)) o allow) (sym is)
+    are))
 
 -- a word of `--allow` names one set of liberties
 allowed_once : (word : Option Text) (l m : Liberties) → AreAllowed word l → AreAllowed word m → l ≡ m
@@ -147,12 +155,12 @@ allowed_once (Some word) l m are also =
     (some_pair (l, []) (m, []) (sym (liberties_again word [] l are lacks) ∙ liberties_again word [] m also lacks)).0
 
 -- none where links are judged together, whose answers would be early
-pub none_early : (name : Text) (word : Option Text) (allow : Liberties) → AreAllowed word allow
-    → bytes_eq name (codes "coherent") ≡ true → allow.early ≡ true → (other : Liberties) → ¬ AreTaken name word other
-none_early name word allow are together early other (also, late) =
+pub none_early : (together : Bool) (word : Option Text) (allow : Liberties) → AreAllowed word allow
+    → together ≡ true → allow.early ≡ true → (other : Liberties) → ¬ AreTaken together word other
+none_early together word allow are all early other (also, late) =
     let same = allowed_once word allow other are also in
     let soon : other.early ≡ true = ap (λ (l : Liberties). l.early) (sym same) ∙ early in
-    true≢false (rw (together, soon) at late)
+    true≢false (rw (all, soon) at late)
 
 module _ (texts : List Text) (name : Text) (rows : List Row) (is : subcommand_of tool_of texts ≡ Some (name, rows))
   where

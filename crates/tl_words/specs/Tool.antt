@@ -51,9 +51,10 @@ coherent_of = with_rule (with_reports (new_app (codes "coherent"))) (new_rule (c
 abbrev pub flag_rule : Text → Rule
 flag_rule name = record (new_rule name) { long = Some name; action = Some SetTrue }
 
--- `explain [--coherent] [FILE]`
+-- `explain [--coherent] [--allow LIBERTIES] [FILE]`
 abbrev pub explain_of : App
-explain_of = with_rule (with_rule (new_app (codes "explain")) (flag_rule (codes "coherent"))) (new_rule (codes "FILE"))
+explain_of = with_rule (with_rule (with_rule (new_app (codes "explain")) (flag_rule (codes "coherent")))
+    (valued_rule (codes "allow"))) (new_rule (codes "FILE"))
 
 -- `chart [--lines A-B] [--block BBB] [FILE]`
 abbrev pub chart_of : App
@@ -166,14 +167,18 @@ IsInquiryOf name word q = (together : Bool) × (together_named name ≡ Some tog
 abbrev pub is_reported : List Row → Bool
 is_reported rows = is_some (first_of (codes "report") rows) || is_some (first_of (codes "junit") rows)
 
--- the word of `--allow` names these for the command of this name: early answers are none of them where links are judged
--- together
-abbrev pub AreTaken : Text → Option Text → Liberties → Type 0
-AreTaken name word allow = AreAllowed word allow × (bytes_eq name (codes "coherent") && allow.early ≡ false)
+-- the command of this name judges all links together: `coherent`, and `explain` where its flag is given
+abbrev pub judges_together : Text → Option Text → Bool
+judges_together name coherent = bytes_eq name (codes "coherent") || flag_named coherent
+
+-- the word of `--allow` names these: early answers are none of them where links are judged together
+abbrev pub AreTaken : Bool → Option Text → Liberties → Type 0
+AreTaken together word allow = AreAllowed word allow × (together && allow.early ≡ false)
 
 -- what links may do besides what the header names
 abbrev pub AreAllowedIn : Text → List Row → Liberties → Type 0
-AreAllowedIn name rows = AreTaken name (first_of (codes "allow") rows)
+AreAllowedIn name rows =
+    AreTaken (judges_together name (first_of (codes "coherent") rows)) (first_of (codes "allow") rows)
 
 -- What a subcommand's name and entries ask for: a command over FILE, a search of it, a judgement of it that is reported, a
 -- chart of it, or a random schedule.

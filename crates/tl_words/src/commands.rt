@@ -85,11 +85,13 @@ pub fn explain<'a>(alloc: Global) -> Result<clap::Command<'a>, AllocError>
     ensures local { IfOk result (λ c. (out-Command c).has_globals ≡ false) }
 {
     let coherent = flag(alloc, "coherent", help::COHERENT);
+    let allow = valued(alloc, "allow", "LIBERTIES", help::ALLOW_EXPLAINED);
     let file = Arg::new(alloc, "FILE").help(EXPLAINED_HELP);
     clap::Command::new(alloc, "explain")
         .about("Writes what `monitor` does of FILE, and why; or what a rule says")
         .after_help(help::EXPLAIN)
         .arg(coherent)?
+        .arg(allow)?
         .arg(file)
 }
 

@@ -153,8 +153,8 @@ macro_rules! outcomes_of_all_links {
             "       and another link holds or is being granted Trunk of it\n",
             "  M2   a byte isn't one that it may be at the first beat, by what was told of it and by the Puts\n",
             "       and atomics that are pending\n",
-            "  M3   a byte that was asked for isn't one that it may have been from the request's last beat to\n",
-            "       the answer's first, by what was told of it and by the Puts and atomics that were pending\n",
+            "  M3   a byte that was asked for isn't one that it may have been in a window of the access, by what\n",
+            "       was told of it and by the Puts and atomics that were pending\n",
             "  M4   all the while since the request was complete a link has held what excludes it: Trunk of\n",
             "       the block for a Get, while no report has shown its bytes; anything of it for a Put or an\n",
             "       atomic\n",
@@ -197,6 +197,10 @@ pub const WANTED_TOGETHER: &str =
 /// What help says of `--allow` there.
 pub const ALLOW_TOGETHER: &str =
     "Allow links this besides what the header names: none, or names of ids, sinks, writer, drops, reports, denied and uncorrupt, in this order, with a comma between them";
+
+/// What help says of `--allow` where a verdict is explained.
+pub const ALLOW_EXPLAINED: &str =
+    "Allow links this besides what the header names: none, standard, or names of ids, sinks, writer, early, drops, reports, denied and uncorrupt, in this order, with a comma between them; with --coherent neither early nor standard";
 
 /// What help says of `--all`.
 pub const ALL: &str =

@@ -1,6 +1,6 @@
 //! Reads the program's words: `tltool decode [--width 4|8|16] [FILE]`, `tltool monitor [--allow LIBERTIES] [--all N]
-//! [--report FILE] [--junit FILE] [FILE]`, `tltool coherent` with the same options, `tltool explain [--coherent] FILE`,
-//! `tltool chart [--lines A-B] [--block BBB] [FILE]`, `tltool run [--trace] [FILE]`, `tltool random --seed N` with its
+//! [--report FILE] [--junit FILE] [FILE]`, `tltool coherent` with the same options, `tltool explain [--coherent]
+//! [--allow LIBERTIES] FILE`, `tltool chart [--lines A-B] [--block BBB] [FILE]`, `tltool run [--trace] [FILE]`, `tltool random --seed N` with its
 //! options, and those that ask for help or the version.
 
 ghost use Rattle.std.specs.Prelude.{◌≡◌, IfOk, IfErr, MatchOption, true, false, List, Some, bytes_eq, codes, map, option_map};
@@ -9,7 +9,8 @@ ghost use Rattle.clap.specs.Words.{Row, Text, first_of, found_of, is_simple_and_
 ghost use Rattle.clap.specs.Words.{kind_of, rows_of, subcommand_of};
 ghost use Rattle.tl_words.specs.Refused.{IsFaultOf, IsRefusal, status_of_usage, usage_status, words_fault};
 ghost use Rattle.tl_command.specs.statement.RandomWords.{words_of};
-ghost use Rattle.tl_words.specs.Tool.{AreAllowedIn, AreTaken, IsTaskOf, command_named, flag_named, is_reported, together_named, tool_of};
+ghost use Rattle.tl_words.specs.Tool.{AreAllowedIn, AreTaken, IsTaskOf, command_named, flag_named, is_reported};
+ghost use Rattle.tl_words.specs.Tool.{judges_together, together_named, tool_of};
 ghost use Rattle.tl_words.specs.Tool.{words_in};
 
 use crate::commands::{chart, coherent, decode, explain, monitor, random, tool};
@@ -274,9 +275,19 @@ pub(crate) fn wrong_number(
     command.error(ErrorKind::InvalidValue, message.as_str())
 }
 
+/// The command of this name, which may allow links something.
+fn allowing<'a>(alloc: Global, name: &str) -> Result<clap::Command<'a>, AllocError> {
+    match name {
+        "explain" => explain(alloc)?.bin_name("tltool explain"),
+        "coherent" => searching(alloc, true),
+        _ => searching(alloc, false),
+    }
+}
+
 /// The error of a word of `--allow` that names no liberties.
 fn wrong_liberties(
     alloc: Global,
+    name: &str,
     together: bool,
     word: Option<&str>,
 ) -> Result<clap::Error, AllocError>
@@ -289,7 +300,7 @@ fn wrong_liberties(
         LIBERTIES_WANTED
     };
     let message = format!(in alloc; "invalid value '{word}' for '--allow <LIBERTIES>': {wanted}")?;
-    let mut command = searching(alloc, together)?;
+    let mut command = allowing(alloc, name)?;
     command.error(ErrorKind::InvalidValue, message.as_str())
 }
 
@@ -363,14 +374,21 @@ fn read(alloc: Global, name: &str, allow: Liberties, found: &ArgMatches) -> Resu
     })
 }
 
-/// The liberties that the word of `--allow` names for the command of this name. `coherent` takes no `early`.
-fn allowed_for(name: &str, word: Option<&str>) -> Option<Liberties>
+/// Whether the command of this name judges all links together: `coherent` does, and `explain` where its flag is given.
+fn judges_together(name: &str, coherent: Option<&str>) -> bool
+    ensures { result ≡ judges_together name.now (option_map (λ s. s.now) coherent.entry) }
+{
+    name == "coherent" || flag_named(coherent)
+}
+
+/// The liberties that the word of `--allow` names. Links that are judged together have no `early`.
+fn allowed_for(together: bool, word: Option<&str>) -> Option<Liberties>
     ensures { MatchOption result
-        ((allow : Liberties) → ¬ AreTaken name.now (option_map (λ s. s.now) word.entry) allow)
-        (AreTaken name.now (option_map (λ s. s.now) word.entry)) }
+        ((allow : Liberties) → ¬ AreTaken together (option_map (λ s. s.now) word.entry) allow)
+        (AreTaken together (option_map (λ s. s.now) word.entry)) }
 {
     let allow = allowed_named(word)?;
-    if name == "coherent" && allow.early {
+    if together && allow.early {
         return None;
     }
     Some(allow)
@@ -384,8 +402,10 @@ fn asked(alloc: Global, name: &str, found: &ArgMatches) -> Result<Task, WordsFau
     ensures wrong { IfErr result (IsFaultOf name.now (rows_of (found_of found.now))) }
 {
     let word = found.get_str("allow");
-    let Some(allow) = allowed_for(name, word) else {
-        return Err(WordsFault::Usage(wrong_liberties(alloc, name == "coherent", word)?));
+    let coherent = found.get_str("coherent");
+    let together = judges_together(name, coherent);
+    let Some(allow) = allowed_for(together, word) else {
+        return Err(WordsFault::Usage(wrong_liberties(alloc, name, together, word)?));
     };
     if is_reported(found) {
         report(alloc, name, allow, found)

@@ -26,18 +26,18 @@ use Rattle.tl_engine.specs.statement.Told.{text_so_far, text_told}
 use Rattle.tl_engine.specs.statement.Unexplained.{GivesUpExplaining, Reaches}
 use Rattle.tl_engine.specs.statement.Width.{bytes_of}
 use Rattle.tl_links.specs.statement.Allowed.{FindsAllowed, allowed_line}
-use Rattle.tl_links.specs.statement.Judged.{JudgedLinks, LinksSoFar}
+use Rattle.tl_engine.specs.statement.JudgedLinks.{JudgedLinks, LinksSoFar}
 use Rattle.tl_random.specs.statement.Random.{WritesPart, WritesSchedule}
 use Rattle.tl_report.specs.declared.findings.Finding.{Finding}
 use Rattle.tl_report.specs.statement.Said.{GivesUpSearching, Searches, all_text, status_of}
 
--- A command's text of these lines, with the status at their end. `monitor` and `coherent` read headers that name liberties
--- too, and allow links this besides.
+-- A command's text of these lines, with the status at their end; of `explain` what it begins with. `monitor`, `coherent`
+-- and `explain` read headers that name liberties too, and allow links this besides.
 abbrev pub program_told : Command → Liberties → List (List ℕ) → List ℕ → Status → Type 0
 program_told Monitor allow = JudgedLinks false allow
 program_told (Decode width) allow = text_told (Decode width)
 program_told Coherent allow = JudgedLinks true allow
-program_told (Explain together) allow = text_told (Explain together)
+program_told (Explain together) allow = JudgedLinks together allow
 program_told (Run trace) allow = text_told (Run trace)
 
 -- the text of these lines, of which none is at fault, before the end of the input
@@ -45,7 +45,7 @@ abbrev pub program_so_far : Command → Liberties → List (List ℕ) → List �
 program_so_far Monitor allow = LinksSoFar false allow
 program_so_far (Decode width) allow = text_so_far (Decode width)
 program_so_far Coherent allow = LinksSoFar true allow
-program_so_far (Explain together) allow = text_so_far (Explain together)
+program_so_far (Explain together) allow = LinksSoFar together allow
 program_so_far (Run trace) allow = text_so_far (Run trace)
 
 -- the outcome is one that these texts have over what was read and written
@@ -79,29 +79,30 @@ abbrev pub explain_status : Result Status ExplainFault → ℕ
 explain_status (Ok status) = exit_status (Ok status)
 explain_status (Err fault) = 3
 
--- The status is that of an outcome which an explanation, of each link by itself or of all together, has over what was
--- read, by each of two readers, and written.
-abbrev pub EndsExplained : Bool → Option (List ℕ) → Option (List ℕ) → Option (List ℕ) → Option (List ℕ)
+-- The status is that of an outcome which an explanation, of each link by itself or of all together, which may do this
+-- besides what the header names, has over what was read, by each of two readers, and written.
+abbrev pub EndsExplained : Bool → Liberties → Option (List ℕ) → Option (List ℕ) → Option (List ℕ) → Option (List ℕ)
     → Option (List ℕ) → Option (List ℕ) → ℕ → Type 0
-EndsExplained together had left had_again left_again held holds status =
+EndsExplained together allow had left had_again left_again held holds status =
     (outcome : Result Status ExplainFault) × (status ≡ explain_status outcome)
-    × IfOk outcome (λ judged. (verdict reasons : List ℕ) × Reaches together had left verdict judged
-    × Explains had_again left_again verdict reasons judged × Appends held holds (verdict ++ reasons))
-    × IfErr outcome (GivesUpExplaining together had left had_again left_again held holds)
+    × IfOk outcome (λ judged. (verdict reasons : List ℕ) × Reaches together allow had left verdict judged
+    × Explains allow had_again left_again verdict reasons judged × Appends held holds (verdict ++ reasons))
+    × IfErr outcome (GivesUpExplaining together allow had left had_again left_again held holds)
 
 -- It was given up for this to say which liberties would allow what was found. But for `Write` nothing was written.
-abbrev pub GivesUpAllowing : Option (List ℕ) → Option (List ℕ) → Option (List ℕ) → Option (List ℕ) → ToolFault → Type 0
-GivesUpAllowing had left held holds Write =
-    (allowing : List Liberty) × FindsAllowed had left allowing × AppendsShort held holds (allowed_line allowing)
-GivesUpAllowing had left held holds fault = holds ≡ held
+abbrev pub GivesUpAllowing : Liberties → Option (List ℕ) → Option (List ℕ) → Option (List ℕ) → Option (List ℕ) → ToolFault → Type 0
+GivesUpAllowing allow had left held holds Write =
+    (allowing : List Liberty) × FindsAllowed allow had left allowing × AppendsShort held holds (allowed_line allowing)
+GivesUpAllowing allow had left held holds fault = holds ≡ held
 
--- The status is that of the explanation, behind which stands the line that names the liberties which would allow what was
--- found; or that of what it was given up for.
-abbrev pub EndsAllowed : ℕ → Option (List ℕ) → Option (List ℕ) → Option (List ℕ) → Option (List ℕ) → ℕ → Type 0
-EndsAllowed explained had left held holds status =
-    ((allowing : List Liberty) × FindsAllowed had left allowing × Appends held holds (allowed_line allowing)
+-- The status is that of the explanation, behind which stands the line that names the liberties beside these which would
+-- allow what was found; or that of what it was given up for.
+abbrev pub EndsAllowed : ℕ → Liberties → Option (List ℕ) → Option (List ℕ) → Option (List ℕ) → Option (List ℕ) → ℕ
+    → Type 0
+EndsAllowed explained allow had left held holds status =
+    ((allowing : List Liberty) × FindsAllowed allow had left allowing × Appends held holds (allowed_line allowing)
     × (status ≡ explained))
-    ⊎ ((fault : ToolFault) × GivesUpAllowing had left held holds fault × (status ≡ exit_status (Err fault)))
+    ⊎ ((fault : ToolFault) × GivesUpAllowing allow had left held holds fault × (status ≡ exit_status (Err fault)))
 
 -- The status is that of an outcome which a chart of a window has over what was read and written.
 abbrev pub EndsCharted : Window → Option (List ℕ) → Option (List ℕ) → Option (List ℕ) → Option (List ℕ) → ℕ → Type 0

@@ -6,8 +6,10 @@ ghost use Rattle.tl_engine.specs.statement.Exit.{exit_status};
 ghost use Rattle.tltool.specs.Ended.{EndsAllowed, EndsAs, EndsCharted, EndsDrawn, EndsExplained, EndsFound, EndsOver, IsRefused};
 ghost use Rattle.tltool.specs.Ended.{explain_status};
 
+mod early;
 mod report;
 
+use early::{front_of, tell_early, tell_early_in};
 use report::report;
 use std::fs::File;
 use std::io::{Read, Write};
@@ -63,7 +65,8 @@ fn refused(rt: &HostRuntime, fault: WordsFault) -> u8
     }
 }
 
-/// Runs a command over an input. `monitor` and `coherent` allow links this besides what the header names.
+/// Runs a command over an input. `monitor`, `coherent` and `explain` allow links this besides what the header names; of
+/// `explain` it is the first line that is written.
 fn run_over<R: Read, W: Write>(
     rt: &HostRuntime,
     command: Command,
@@ -77,6 +80,9 @@ fn run_over<R: Read, W: Write>(
     match command {
         Command::Monitor => told(rt, run_links(rt.alloc(), false, allow, input, output)),
         Command::Coherent => told(rt, run_links(rt.alloc(), true, allow, input, output)),
+        Command::Explain { coherent } => {
+            told(rt, run_links(rt.alloc(), coherent, allow, input, output))
+        }
         _ => told(rt, run_tool(rt.alloc(), command, input, output)),
     }
 }
@@ -144,34 +150,36 @@ fn told_explained(rt: &HostRuntime, name: &str, outcome: Result<Status, ExplainF
     }
 }
 
-/// Explains a file of this name, of which these are two readers.
+/// Explains a file of this name, of which these are two readers, where links may do this besides what its header names.
 fn explain_over<R: Read, S: Read, W: Write>(
     rt: &HostRuntime,
     coherent: bool,
+    allow: Liberties,
     name: &str,
     first: &mut R,
     second: &mut S,
     output: &mut W,
 ) -> u8
-    ensures { EndsExplained coherent (R.remaining first.old) (R.remaining first.new) (S.remaining second.old)
+    ensures { EndsExplained coherent allow (R.remaining first.old) (R.remaining first.new) (S.remaining second.old)
         (S.remaining second.new) (W.contents output.old) (W.contents output.new) result }
 {
-    let outcome = explain_input(rt.alloc(), coherent, first, second, output);
+    let outcome = explain_input(rt.alloc(), coherent, allow, first, second, output);
     told_explained(rt, name, outcome)
 }
 
-/// Writes behind an explanation, whose exit status this is, which liberties would allow what it found.
+/// Writes behind an explanation, whose exit status this is, which liberties beside these would allow what it found.
 fn allow_over<R: Read, W: Write>(
     rt: &HostRuntime,
     explained: u8,
+    allow: Liberties,
     input: &mut R,
     output: &mut W,
 ) -> u8
-    ensures { EndsAllowed explained (R.remaining input.old) (R.remaining input.new) (W.contents output.old)
+    ensures { EndsAllowed explained allow (R.remaining input.old) (R.remaining input.new) (W.contents output.old)
         (W.contents output.new) result }
 {
     let mut text = Vec::new(rt.alloc());
-    if let Err(fault) = append_allowed(rt.alloc(), input, &mut text) {
+    if let Err(fault) = append_allowed(rt.alloc(), allow, input, &mut text) {
         return told(rt, Err(fault));
     }
     match write_all(output, &text) {
@@ -180,8 +188,9 @@ fn allow_over<R: Read, W: Write>(
     }
 }
 
-/// Explains the file of this name, or the rule or fault where there is no such file.
-fn explain(rt: &HostRuntime, coherent: bool, name: &str) -> u8 {
+/// Explains the file of this name, or the rule or fault where there is no such file. Links may do this besides what its
+/// header names.
+fn explain(rt: &HostRuntime, coherent: bool, allow: Liberties, name: &str) -> u8 {
     let Ok(mut first) = fs::open(rt, name) else {
         return explain_name(rt, name);
     };
@@ -193,12 +202,20 @@ fn explain(rt: &HostRuntime, coherent: bool, name: &str) -> u8 {
         return unopened(rt, name);
     };
     let mut output = io::writer(rt);
-    let explained = explain_over(rt, coherent, name, &mut first, &mut second, &mut output);
+    let explained = explain_over(
+        rt,
+        coherent,
+        allow,
+        name,
+        &mut first,
+        &mut second,
+        &mut output,
+    );
     if coherent || explained != 1 {
         return explained;
     }
     match fs::open(rt, name) {
-        Ok(mut third) => allow_over(rt, explained, &mut third, &mut output),
+        Ok(mut third) => allow_over(rt, explained, allow, &mut third, &mut output),
         Err(_) => unopened(rt, name),
     }
 }
@@ -207,11 +224,25 @@ fn explain(rt: &HostRuntime, coherent: bool, name: &str) -> u8 {
 fn read(rt: &HostRuntime, command: Command, allow: Liberties, name: Option<String>) -> u8 {
     let mut output = io::writer(rt);
     match (command, name) {
+        (Command::Coherent, None) => {
+            let mut input = rt.reader();
+            let front = front_of(&mut input);
+            let mut whole = front.as_slice().chain(input);
+            let status = run_over(rt, command, allow, &mut whole, &mut output);
+            tell_early(rt, allow, front.as_slice(), status)
+        }
         (_, None) => run_over(rt, command, allow, &mut rt.reader(), &mut output),
-        (Command::Explain { coherent }, Some(name)) => explain(rt, coherent, name.as_str()),
+        (Command::Explain { coherent }, Some(name)) => explain(rt, coherent, allow, name.as_str()),
         (_, Some(name)) => {
             let opened = fs::open(rt, name.as_str());
-            run_file(rt, command, allow, name.as_str(), opened, &mut output)
+            let status = run_file(rt, command, allow, name.as_str(), opened, &mut output);
+            tell_early_in(
+                rt,
+                command == Command::Coherent,
+                allow,
+                name.as_str(),
+                status,
+            )
         }
     }
 }
@@ -262,9 +293,19 @@ fn find_over<R: Read, W: Write>(rt: &HostRuntime, aim: Aim, input: &mut R, outpu
 fn find(rt: &HostRuntime, aim: Aim, name: Option<String>) -> u8 {
     let mut output = io::writer(rt);
     match name {
+        None if aim.together => {
+            let mut input = rt.reader();
+            let front = front_of(&mut input);
+            let mut whole = front.as_slice().chain(input);
+            let status = find_over(rt, aim, &mut whole, &mut output);
+            tell_early(rt, aim.allow, front.as_slice(), status)
+        }
         None => find_over(rt, aim, &mut rt.reader(), &mut output),
         Some(name) => match fs::open(rt, name.as_str()) {
-            Ok(mut file) => find_over(rt, aim, &mut file, &mut output),
+            Ok(mut file) => {
+                let status = find_over(rt, aim, &mut file, &mut output);
+                tell_early_in(rt, aim.together, aim.allow, name.as_str(), status)
+            }
             Err(_) => unopened(rt, name.as_str()),
         },
     }

@@ -3,6 +3,7 @@
 ghost use Rattle.std.specs.Prelude.{◌≡◌, ℕ, IfOk, List, OnErr, Option, false};
 ghost use Rattle.tltool.specs.Reported.{EndsJudged, EndsReported, status_reported};
 
+use crate::early::{front_of, tell_early, tell_early_in};
 use crate::{told, unopened};
 use std::io::{Read, Write};
 use std::{fs, io};
@@ -83,19 +84,49 @@ fn status_reported(findings: &Findings, written: bool) -> u8
     }
 }
 
+/// Judges the trace in the file of this name.
+fn judge_file(rt: &HostRuntime, inquiry: Inquiry, name: &str) -> Result<Account, u8> {
+    let Ok(mut input) = fs::open(rt, name) else {
+        return Err(unopened(rt, name));
+    };
+    match judge_over(rt, inquiry, &mut input, &mut io::writer(rt)) {
+        Ok(account) => {
+            let aim = inquiry.aim;
+            tell_early_in(
+                rt,
+                aim.together,
+                aim.allow,
+                name,
+                status_reported(&account.findings, true),
+            );
+            Ok(account)
+        }
+        Err(fault) => Err(told(rt, Err(fault))),
+    }
+}
+
+/// Judges the trace on standard input.
+fn judge_input(rt: &HostRuntime, inquiry: Inquiry) -> Result<Account, u8> {
+    let mut input = rt.reader();
+    let front = front_of(&mut input);
+    let mut whole = front.as_slice().chain(input);
+    match judge_over(rt, inquiry, &mut whole, &mut io::writer(rt)) {
+        Ok(account) => {
+            if inquiry.aim.together {
+                let status = status_reported(&account.findings, true);
+                tell_early(rt, inquiry.aim.allow, front.as_slice(), status);
+            }
+            Ok(account)
+        }
+        Err(fault) => Err(told(rt, Err(fault))),
+    }
+}
+
 /// Judges the trace on standard input, or in the file of this name.
 fn judge(rt: &HostRuntime, inquiry: Inquiry, file: Option<String>) -> Result<Account, u8> {
-    let mut output = io::writer(rt);
-    let judged = match file {
-        None => judge_over(rt, inquiry, &mut rt.reader(), &mut output),
-        Some(name) => match fs::open(rt, name.as_str()) {
-            Ok(mut input) => judge_over(rt, inquiry, &mut input, &mut output),
-            Err(_) => return Err(unopened(rt, name.as_str())),
-        },
-    };
-    match judged {
-        Ok(account) => Ok(account),
-        Err(fault) => Err(told(rt, Err(fault))),
+    match file {
+        None => judge_input(rt, inquiry),
+        Some(name) => judge_file(rt, inquiry, name.as_str()),
     }
 }
 

@@ -122,18 +122,20 @@ fn may_bring(rt: &impl Abort, read: &ReadBytes, place: u8, possible: [bool; 3]) 
 #[test]
 fn a_read_beside_a_put(rt: HostRuntime) -> Result<(), Fail> {
     let mut block = BlockBytes::told(rt.alloc(), &[Some(5); 64], 1)?;
-    let mut read = ReadBytes::new(rt.alloc(), &block, &[])?;
+    let mut read = ReadBytes::none(rt.alloc());
+    may_bring(&rt, &read, 0, [false, false, false]);
+    read.find(rt.alloc(), &block, &[])?;
     may_bring(&rt, &read, 0, [true, false, false]);
-    read.write(&eight(7))?;
+    read.find(rt.alloc(), &block, &[eight(7)])?;
     may_bring(&rt, &read, 0, [true, true, false]);
     may_bring(&rt, &read, 8, [true, false, false]);
-    let mut late = ReadBytes::new(rt.alloc(), &block, &[eight(7)])?;
     put(rt.alloc(), &mut block, 7, opened(2), 5)?;
     block = BlockBytes::told(rt.alloc(), &[Some(9); 64], 9)?;
-    late.tell(&block)?;
-    may_bring(&rt, &late, 0, [true, true, true]);
-    may_bring(&rt, &late, 8, [true, false, true]);
-    let after = ReadBytes::new(rt.alloc(), &block, &[])?;
+    read.find(rt.alloc(), &block, &[])?;
+    may_bring(&rt, &read, 0, [true, true, true]);
+    may_bring(&rt, &read, 8, [true, false, true]);
+    let mut after = ReadBytes::none(rt.alloc());
+    after.find(rt.alloc(), &block, &[])?;
     may_bring(&rt, &after, 0, [false, false, true]);
     Ok(())
 }

@@ -23,6 +23,18 @@ returns-in-Coherent g c = rw c.in-Coherent.is (
   ),
 )
 
+pub returns-in-Explain : goal.returns-in-Explain
+returns-in-Explain g c = rw c.in-Explain.is (
+  c.run_links-in-Explain.result,
+  c.told-in-Explain.ensures,
+  (
+    c.run_links-in-Explain.ensures.ok,
+    c.run_links-in-Explain.ensures.err,
+    c.run_links-in-Explain.ensures.fault,
+  ),
+)
+
 pub returns-in_default : goal.returns-in_default
-returns-in_default g c = ends_other c.args.command c.args.allow c.run_tool.result _ _ _ _ _ c.in_default.not-Monitor c.in_default.not-Coherent c.told-in_default.ensures
+returns-in_default g c = ends_other c.args.command c.args.allow c.run_tool.result _ _ _ _ _ c.in_default.not-Monitor c.in_default.not-Coherent
+    c.in_default.not-Explain c.told-in_default.ensures
     (c.run_tool.ensures.ok, c.run_tool.ensures.err, c.run_tool.ensures.fault)

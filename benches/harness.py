@@ -16,7 +16,8 @@ WATCH = ["sv/tl_pkg.sv", "sv/tl_unknown.sv", "sv/tl_pending.sv", "sv/tl_port_wat
 SV = WATCH + ["sv/tl_manager_recorder.sv", "sv/tl_link_recorder.sv"]
 CHECKERS = ["sv/tl_manager_checker.sv", "sv/tl_link_checker.sv"]
 INCLUDES = "-I" + os.path.join(HERE, "sv")
-EXAMPLE = [f"example/{name}.sv" for name in ("tl_cache", "tl_liberal_cache", "tl_home", "tl_device", "bench_recorded")]
+EXAMPLE = [f"example/{name}.sv" for name in (
+    "tl_cache", "tl_liberal_cache", "tl_home", "tl_crossbar", "tl_shared_home", "tl_device", "bench_recorded")]
 
 # Each bug of example/tl_home.sv, and the rule of memory that finds it.
 HOME_BUGS = {1: "M1", 2: "M4", 3: "M2"}
@@ -118,9 +119,9 @@ def checked(count=0):
     return with_library(f"checked{count}", [], ["sv/tl_checker_dpi.cpp"], "-DCHECKED", f"-DCOUNT={count}")
 
 
-def together():
+def together(count=0):
     """The example with one checker of all links."""
-    return with_library("together", [], ["sv/tl_checker_dpi.cpp"], "-DTOGETHER", "-DCOUNT=0")
+    return with_library(f"together{count}", [], ["sv/tl_checker_dpi.cpp"], "-DTOGETHER", f"-DCOUNT={count}")
 
 
 def proved(width=8, checkers="CHECKED", base=0):
@@ -135,6 +136,16 @@ def recorded():
     return verilator("recorded", "bench_recorded", SV + EXAMPLE)
 
 
+def shared(*flags):
+    """The example whose caches share a port of the manager."""
+    return verilator("shared", "bench_recorded", SV + EXAMPLE, "-DSHARED", *flags)
+
+
+def shared_checked():
+    """The same with a checker of all links on the caches' side, and one of the ports on the manager's."""
+    return with_library("shared_checked", [], ["sv/tl_checker_dpi.cpp"], "-DSHARED", "-DTOGETHER", "-DCOUNT=0")
+
+
 def liberal():
     """The example with the caches that take liberties."""
     return verilator("liberal", "bench_recorded", SV + EXAMPLE, "-DLIBERAL")
@@ -145,9 +156,36 @@ def liberal_checked():
     return with_library("liberal_checked", [], ["sv/tl_checker_dpi.cpp"], "-DLIBERAL", "-DCHECKED", "-DTOGETHER", "-DCOUNT=0")
 
 
-def judged(trace, command="monitor"):
-    """What `tltool monitor`, or another command, writes of a trace."""
-    done = subprocess.run([TLTOOL, command, trace], stdout=subprocess.PIPE, text=True, timeout=600)
+def liberal_proved(client=False):
+    """The same under the proved manager; `client` makes the second cache a proved client."""
+    return with_library(f"liberal_proved{client:d}", ["sv/tl_proved_manager.sv", "sv/tl_proved_client.sv"],
+                        ["sv/tl_checker_dpi.cpp", "sv/tl_agents_dpi.cpp"], "-DLIBERAL", "-DPROVED", "-DCHECKED",
+                        "-DTOGETHER", "-DCOUNT=0", *(["-DPROVED_CLIENT"] if client else []))
+
+
+def liberal_together(proved):
+    """The same with late GrantAcks and one checker of all links, which judges them together."""
+    manager = ["sv/tl_proved_manager.sv"] if proved else []
+    cpp = ["sv/tl_checker_dpi.cpp"] + (["sv/tl_agents_dpi.cpp"] if proved else [])
+    return with_library(f"liberal_together{proved:d}", manager, cpp, "-DLIBERAL", "-DLATE", "-DTOGETHER", "-DCOUNT=0",
+                        *(["-DPROVED"] if proved else []))
+
+
+def liberal_in_icarus(proved=False):
+    """The example with the caches that take liberties in Icarus, as a command; under the proved manager it is called over
+    VPI."""
+    flags, manager, loaded = [], [], []
+    if proved:
+        flags, manager, loaded = ["-DPROVED"], ["sv/tl_proved_manager.sv"], ["-M", OUT, "-m", "tl_manager"]
+        wanted = [word for word in run(["iverilog-vpi", "--cflags"]).split() if word.startswith("-I")]
+        run(["g++", "-O2", "-Wall", "-Wextra", "-Werror", "-shared", "-fPIC", INCLUDES, "-I" + os.path.join(HERE, "include"),
+             *wanted, "-o", path("tl_manager.vpi"), *files(["sv/tl_manager_vpi.cpp"]), LIBRARY])
+    return ["vvp", "-n", *loaded, icarus(f"liberal{proved:d}.vvp", "bench_recorded", SV + manager + EXAMPLE, "-DLIBERAL", *flags)]
+
+
+def judged(trace, *words):
+    """What `tltool monitor`, or the command with these words, writes of a trace."""
+    done = subprocess.run([TLTOOL, *(words or ["monitor"]), trace], stdout=subprocess.PIPE, text=True, timeout=600)
     return done.stdout.strip()
 
 

@@ -98,6 +98,10 @@ tl_answer tl_monitor_new_under(tl_monitor *monitor, const uint8_t *levels, size_
 /* Judges a beat of a link, 0 to 15, after the earlier beats of that link. */
 tl_answer tl_monitor_push(tl_monitor *monitor, uint8_t link, const tl_beat *beat);
 
+/* The same, but the monitor goes on where a beat breaks a rule: the beat isn't taken, and the next is judged
+   as if it weren't there. */
+tl_answer tl_monitor_try_push(tl_monitor *monitor, uint8_t link, const tl_beat *beat);
+
 /* Judges the beat of a line of a trace, which ends in a line feed (docs/FORMATS.md). A line that spells
    no beat is TL_BAD_ARGUMENT. */
 tl_answer tl_monitor_push_line(tl_monitor *monitor, const uint8_t *line, size_t length);
@@ -128,6 +132,9 @@ tl_answer tl_judge_new_under(tl_judge *judge, const uint8_t *levels, size_t link
    by channel, the A of each link, then B, C, D and E, so that a report stands before the Grant that it
    allows. */
 tl_answer tl_judge_push(tl_judge *judge, uint8_t link, const tl_beat *beat);
+
+/* The same, but the judge goes on where a beat breaks a rule, as tl_monitor_try_push does. */
+tl_answer tl_judge_try_push(tl_judge *judge, uint8_t link, const tl_beat *beat);
 
 /* Judges the beat of a line of a trace so, which ends in a line feed. A line that spells no beat is
    TL_BAD_ARGUMENT. */
@@ -244,6 +251,14 @@ typedef struct tl_manager {
    bytes, under profile 1 or 2, behind a handle that holds nothing. Its memory is zero. */
 tl_answer tl_manager_new(tl_manager *manager, const tl_link_config *links, size_t count, uint16_t blocks,
                          uint8_t trackers, uint8_t width, uint8_t profile);
+
+/* The same of a manager whose clients have these liberties, the sum of some of TL_IDS, TL_DROPS, TL_REPORTS and
+   TL_WRITER (enum tl_liberty); with TL_WRITER it grants a lone reader toT, as under profile 2. Any other is
+   TL_BAD_ARGUMENT. There are as many sources of Probes as links: with TL_IDS each Probe has that of its link, and
+   its ProbeAck has to have it too. */
+tl_answer tl_manager_new_under(tl_manager *manager, const tl_link_config *links, size_t count, uint16_t blocks,
+                               uint8_t trackers, uint8_t width, uint8_t liberties,
+                               const uint8_t *probe_sources, size_t probe_source_count);
 
 /* Offers a beat of channel A, C or E of a link, 0 to 15, and tells by 1 that it was taken, by 0 that it
    has to wait. Where it breaks a rule the answer is TL_BROKEN with that rule, and the link is closed. */

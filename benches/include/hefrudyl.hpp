@@ -63,6 +63,11 @@ public:
     return tl_monitor_push(&handle, link, &beat);
   }
 
+  /// The same, but a beat that breaks a rule isn't taken, and the monitor goes on.
+  tl_answer try_push(std::uint8_t link, const tl_beat &beat) {
+    return tl_monitor_try_push(&handle, link, &beat);
+  }
+
   /// Judges the beat of a line of a trace, its line feed included.
   tl_answer push_line(const std::string &line) {
     return tl_monitor_push_line(&handle, reinterpret_cast<const std::uint8_t *>(line.data()), line.size());
@@ -106,6 +111,11 @@ public:
   /// Judges a beat of a link, after the earlier beats of all links (hefrudyl.h has the order).
   tl_answer push(std::uint8_t link, const tl_beat &beat) {
     return tl_judge_push(&handle, link, &beat);
+  }
+
+  /// The same, but a beat that breaks a rule isn't taken, and the judge goes on.
+  tl_answer try_push(std::uint8_t link, const tl_beat &beat) {
+    return tl_judge_try_push(&handle, link, &beat);
   }
 
   /// Judges the beat of a line of a trace, its line feed included.
@@ -172,6 +182,19 @@ public:
     tl_answer answer = tl_manager_new(&handle, links.data(), links.size(), blocks, trackers, width, profile);
     require_made(answer, "hefrudyl: links, blocks, trackers, width or profile");
   }
+
+  /// A manager whose clients have these liberties, of TL_IDS, TL_DROPS, TL_REPORTS and TL_WRITER (hefrudyl.h). With
+  /// TL_IDS the Probes of each link have its source; where none are given they are 0.
+  static Manager under(const std::vector<tl_link_config> &links, std::uint16_t blocks, std::uint8_t liberties,
+                       std::vector<std::uint8_t> probe_sources = {}, std::uint8_t trackers = 8, std::uint8_t width = 8) {
+    if (probe_sources.empty()) probe_sources.resize(links.size());
+    tl_manager made = {};
+    tl_answer answer = tl_manager_new_under(&made, links.data(), links.size(), blocks, trackers, width, liberties,
+                                            probe_sources.data(), probe_sources.size());
+    require_made(answer, "hefrudyl: links, blocks, trackers, width, liberties or sources of Probes");
+    return Manager(made, Made());
+  }
+
   Manager(Manager &&other) noexcept : handle(other.handle) { other.handle = {}; }
   Manager &operator=(Manager &&other) noexcept {
     std::swap(handle, other.handle);
@@ -203,6 +226,8 @@ public:
   tl_answer closed(std::uint8_t link, std::uint8_t &is_closed) { return tl_manager_closed(&handle, link, &is_closed); }
 
 private:
+  struct Made {};
+  Manager(tl_manager made, Made) : handle(made) {}
   tl_manager handle = {};
 };
 

@@ -245,6 +245,7 @@ def _load():
         for ending, arguments in (
             ("new", [ctypes.c_char_p, ctypes.c_size_t, ctypes.c_uint8, ctypes.c_uint8]),
             ("push", [ctypes.c_uint8, ctypes.POINTER(_Beat)]),
+            ("try_push", [ctypes.c_uint8, ctypes.POINTER(_Beat)]),
             ("push_line", [ctypes.c_char_p, ctypes.c_size_t]),
         ):
             call = getattr(library, f"tl_{name}_{ending}")
@@ -284,6 +285,9 @@ def _load():
     ):
         call = getattr(library, "tl_manager_" + name)
         call.restype, call.argtypes = _Answer, [manager, *arguments]
+    under = library.tl_manager_new_under
+    under.restype = _Answer
+    under.argtypes = [*library.tl_manager_new.argtypes, ctypes.c_char_p, ctypes.c_size_t]
     library.tl_manager_free.restype = None
     library.tl_manager_free.argtypes = [manager]
     for call in (library.tl_rule_name, library.tl_error_text):
@@ -375,7 +379,8 @@ class _Judging(_Agent):
 
     def __init__(self, name, handle, levels, width, profile, liberties):
         super().__init__(handle, getattr(_library, f"tl_{name}_free"), width)
-        self._push, self._push_line = (getattr(_library, f"tl_{name}_{it}") for it in ("push", "push_line"))
+        self._push, self._try_push, self._push_line = (
+            getattr(_library, f"tl_{name}_{it}") for it in ("push", "try_push", "push_line"))
         kind, number = ("profile", profile) if liberties is None else ("liberties", int(liberties))
         new = getattr(_library, f"tl_{name}_new" if liberties is None else f"tl_{name}_new_under")
         codes = bytes(_field(level, "a level", 256) for level in levels)
@@ -385,6 +390,11 @@ class _Judging(_Agent):
     def push(self, link, beat):
         """Judges a beat of a link."""
         answer = self._push(self._handle, _field(link, "link", 256), _struct(beat))
+        return Verdict(Code(answer.code), rule_name(answer.rule))
+
+    def try_push(self, link, beat):
+        """The same, but a beat that breaks a rule isn't taken, and the next is judged as if it weren't there."""
+        answer = self._try_push(self._handle, _field(link, "link", 256), _struct(beat))
         return Verdict(Code(answer.code), rule_name(answer.rule))
 
     def push_line(self, line):
@@ -470,16 +480,25 @@ class Client(_Agent):
 
 
 class Manager(_Agent):
-    """A manager of links, each with its level and how many sources its client has, on so many blocks."""
+    """A manager of links, each with its level and how many sources its client has, on so many blocks, under profile 1
+    or 2 or, where they are given, under these liberties: any of IDS, WRITER, DROPS and REPORTS. With IDS the Probes of
+    each link have its source of `probe_sources`, where these are given, and else 0."""
 
-    def __init__(self, links, blocks, trackers=8, width=8, profile=1):
+    def __init__(self, links, blocks, trackers=8, width=8, profile=1, liberties=None, probe_sources=None):
         super().__init__(_Manager(), _library.tl_manager_free, width)
         configs = (_LinkConfig * max(len(links), 1))()
         for config, (level, sources) in zip(configs, links):
             config.level, config.sources = _field(level, "a level", 256), _field(sources, "sources", 256)
-        _taken(_library.tl_manager_new(self._handle, configs, len(links), _field(blocks, "blocks", 1 << 16),
-                                       _field(trackers, "trackers", 256), _field(width, "width", 256),
-                                       _field(profile, "profile", 256)), "links, blocks, trackers, width or profile")
+        given = (self._handle, configs, len(links), _field(blocks, "blocks", 1 << 16), _field(trackers, "trackers", 256),
+                 _field(width, "width", 256))
+        if liberties is None:
+            answer = _library.tl_manager_new(*given, _field(profile, "profile", 256))
+            _taken(answer, "links, blocks, trackers, width or profile")
+        else:
+            sources = [0] * len(links) if probe_sources is None else probe_sources
+            codes = bytes(_field(source, "the source of a Probe", 256) for source in sources)
+            answer = _library.tl_manager_new_under(*given, _field(liberties, "liberties", 256), codes, len(codes))
+            _taken(answer, "links, blocks, trackers, width, liberties or sources of Probes")
 
     def offer(self, link, beat):
         """Offers a beat of channel A, C or E of a link."""

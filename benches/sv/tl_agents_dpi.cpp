@@ -24,17 +24,21 @@ template <typename Make> void *opened(const char *what, Make make) {
 
 }  // namespace
 
-// ---- the manager. `levels` has two bits for each link, the lowest for link 0.
+// ---- the manager. `levels` has two bits for each link, and `probe_sources` eight, the lowest for link 0.
 
 extern "C" void *tl_dpi_manager_open(int links, int levels, int sources, int blocks, int trackers, int width,
-                                     int profile) {
+                                     int profile, int liberties, const svBitVecVal *probe_sources) {
   return opened("tl_proved_manager", [=] {
     std::vector<tl_link_config> configs;
-    for (int i = 0; i < links; i++)
+    std::vector<std::uint8_t> of_probes;
+    for (int i = 0; i < links; i++) {
       configs.push_back({static_cast<std::uint8_t>((static_cast<unsigned>(levels) >> (2 * i)) & 3),
                          static_cast<std::uint8_t>(sources)});
-    return new Manager(configs, static_cast<std::uint16_t>(blocks), static_cast<std::uint8_t>(trackers),
-                       static_cast<std::uint8_t>(width), static_cast<std::uint8_t>(profile));
+      of_probes.push_back(static_cast<std::uint8_t>(probe_sources[i / 4] >> (8 * (i % 4))));
+    }
+    const auto set = static_cast<std::uint8_t>(liberties | (profile == 2 ? TL_WRITER : TL_NO_LIBERTIES));
+    return new Manager(Manager::under(configs, static_cast<std::uint16_t>(blocks), set, of_probes,
+                                      static_cast<std::uint8_t>(trackers), static_cast<std::uint8_t>(width)));
   });
 }
 

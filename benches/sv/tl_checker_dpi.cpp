@@ -16,7 +16,7 @@ struct Checker {
 template <typename Judging> struct CheckerBy : Checker {
   Judging judging;
   explicit CheckerBy(Judging &&made) : judging(std::move(made)) {}
-  tl_answer push(std::uint8_t link, const tl_beat &beat) override { return judging.push(link, beat); }
+  tl_answer push(std::uint8_t link, const tl_beat &beat) override { return judging.try_push(link, beat); }
 };
 
 }  // namespace
@@ -45,16 +45,18 @@ extern "C" void *tl_checker_open(int links, int levels, int width, int profile, 
   }
 }
 
-// The answer is the code, and 256 times the number of the rule.
+// The answer is the code, and 256 times the number of the rule. A beat that breaks one isn't taken, and the next is judged
+// as if it weren't there.
 extern "C" int tl_checker_push(void *checker, int link, long long fields, int address, int mask,
                                const svBitVecVal *lanes) {
   return tl_dpi::number_of(static_cast<Checker *>(checker)->push(static_cast<std::uint8_t>(link),
                                                                  tl_dpi::beat_of(fields, address, mask, lanes)));
 }
 
+// The name of a rule. A beat whose opcode isn't in use is none, and 0 stands for that: F4 in a trace.
 extern "C" const char *tl_checker_rule(int rule) {
   static std::string name;
-  name = hefrudyl::rule_name(static_cast<std::uint8_t>(rule));
+  name = rule == 0 ? "F4" : hefrudyl::rule_name(static_cast<std::uint8_t>(rule));
   return name.c_str();
 }
 

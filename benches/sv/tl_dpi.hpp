@@ -5,7 +5,9 @@
 
 #include <hefrudyl.hpp>
 
+#ifndef TL_DPI_WITHOUT_SVDPI
 #include <svdpi.h>
+#endif
 
 namespace tl_dpi {
 

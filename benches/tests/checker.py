@@ -1,11 +1,19 @@
 """The checkers of one link and of all links of a manager."""
 
+import collections
+import re
 import subprocess
 
 from harness import (
-    CHECKERS, DPI, INCLUDES, SV, WATCH, HOME_BUGS, BUGS, test, want, run, path, files, verilator, icarus, checked, recorded,
+    TLTOOL, CHECKERS, DPI, INCLUDES, SV, WATCH, HOME_BUGS, BUGS, test, want, run, path, files, verilator, icarus, checked, recorded,
     together, judged, beat_lines,
 )
+
+
+def decoded(beat):
+    """The text of `tltool decode` for the fields of a beat line."""
+    done = subprocess.run([TLTOOL, "decode"], input=" ".join(beat) + "\n", stdout=subprocess.PIPE, text=True)
+    return done.stdout.strip()
 
 
 @test
@@ -24,7 +32,7 @@ def the_checker_stops_at_the_beat_that_the_monitor_names():
         line = int(judged(path("bug")).split()[1])
         beat = beat_lines("bug")[line - 1].split()
         told = run([checked(), "+seed=1", "+cycles=20000", f"+bug={bug}"], status=None)
-        want(f"link {int(beat[0], 16)} breaks {rule}: channel {beat[1]} " in told, f"bug {bug}: {told}")
+        want(f"link {int(beat[0], 16)} breaks {rule}: " in told and f": {decoded(beat)}\n" in told, f"bug {bug}: {told}")
         want("$fatal" in told or "Fatal" in told or "Error" in told, f"bug {bug}: not stopped: {told}")
         want("agree" not in told, f"bug {bug}: not stopped: {told}")
 
@@ -33,9 +41,10 @@ def the_checker_stops_at_the_beat_that_the_monitor_names():
 def the_checker_of_all_links_stops_at_the_beat_that_breaks_a_rule_of_memory():
     for bug, rule in HOME_BUGS.items():
         run([recorded(), "+seed=1", "+cycles=20000", f"+home_bug={bug}", f"+trace={path('home')}"])
-        beat = beat_lines("home")[int(judged(path("home"), "coherent").split()[1]) - 1].split()
+        line = int(judged(path("home"), "coherent").split()[1])
+        beat = beat_lines("home")[line - 1].split()
         told = run([together(), "+seed=1", "+cycles=20000", f"+home_bug={bug}"], status=None)
-        want(f"tl_manager_checker: link {int(beat[0], 16)} breaks {rule}: channel {beat[1]} " in told, f"bug {bug}: {told}")
+        want(f"tl_manager_checker: link {int(beat[0], 16)} breaks {rule}: {line}: {decoded(beat)}\n" in told, f"bug {bug}: {told}")
         want("agree" not in told, f"bug {bug}: not stopped: {told}")
 
 
@@ -50,10 +59,41 @@ def the_trace_beside_a_checker_that_stops_is_whole():
         want(verdict == judged(path("whole")) and verdict.endswith(f" {rule}"), f"bug {bug}: {verdict}")
 
 
+def lines_at_fault(trace, command):
+    """The lines at fault of a trace, each with its rule."""
+    return re.findall(r"^line (\d+) (\w+)$", judged(trace, command, "--all", "1000000"), re.M)
+
+
+def wants_counted(told, checker, faults):
+    """A checker tells of the first hundred faults, and counts all of them by rule."""
+    lines = [(line, rule) for rule, line in re.findall(rf"{checker}: link \d+ breaks (\w+): (\d+): ", told)]
+    want(lines == faults[:100], f"{lines}, wanted {faults[:100]}")
+    want(("what follows is counted alone" in told) == (len(faults) >= 100), told)
+    found = re.findall(rf"{checker}: faults: (\d+): (.*)", told)
+    counts = collections.Counter(rule for _, rule in faults)
+    if not faults:
+        want(found == [], told)
+    else:
+        want(len(found) == 1 and int(found[0][0]) == len(faults), told)
+        words = found[0][1].split()
+        want(dict(zip(words[::2], map(int, words[1::2]))) == counts, f"{found}, wanted {counts}")
+
+
 @test
-def a_checker_may_count_in_place_of_stopping():
-    told = run([checked(1), "+seed=1", "+cycles=20000", "+bug=4"])
-    want("breaks S1" in told and "faults: 1" in told and "agree" in told, told)
+def a_checker_that_counts_goes_on_as_all_does():
+    for bug, (_, own) in BUGS.items():
+        told = run([checked(1), "+seed=1", "+cycles=20000", f"+bug={bug}", f"+traces={path('count')}"])
+        want(own in told, f"bug {bug}: {told}")
+        wants_counted(told, "tl_link_checker", lines_at_fault(path("count0"), "monitor"))
+
+
+@test
+def a_checker_of_all_links_that_counts_goes_on_as_all_does():
+    for bug in HOME_BUGS:
+        told = run([together(1), "+seed=1", "+cycles=20000", f"+home_bug={bug}", f"+trace={path('count')}"])
+        faults = lines_at_fault(path("count"), "coherent")
+        want(faults, f"bug {bug}: {told}")
+        wants_counted(told, "tl_manager_checker", faults)
 
 
 @test
@@ -61,7 +101,8 @@ def the_checker_of_a_link_takes_liberties():
     top = "test_liberties"
     sources = WATCH + CHECKERS + ["tests/test_liberties.sv"]
     told = run([verilator(top, top, sources, *DPI)])
-    want("link 0 breaks H8: channel E" in told and "faults: 1 without liberties, 0 with them" in told, told)
+    want("link 0 breaks H8: " in told and ": 00 E GrantAck " in told and "faults: 2 without liberties, 0 with them" in told, told)
+    want("tl_link_checker: faults: 2: H5 1 H8 1\n" in told, told)
 
 
 @test
@@ -69,7 +110,7 @@ def the_checker_of_all_links_takes_liberties():
     top = "test_judged_liberties"
     sources = WATCH + CHECKERS + [f"tests/{top}.sv"]
     told = run([verilator(top, top, sources, *DPI)])
-    want("link 1 breaks L6: channel D" in told and "link 1 breaks M1: channel D" in told, told)
+    want("link 1 breaks L6: " in told and "link 1 breaks M1: " in told, told)
     want("faults: 1 without liberties, 0 with them, 1 undenied" in told, told)
 
 
@@ -103,7 +144,10 @@ LIMITS = {
     "tl_link_recorder": RECORDER_LIMITS, "tl_manager_recorder": SHARED_LIMITS, "tl_manager_checker": CHECKER_LIMITS,
     "tl_link_checker": RECORDER_LIMITS[1:],
     "tl_proved_manager": [*AGENT_LIMITS, ("N(17)", "tl_N_is_1_to_16"), ("TRACKERS(9)", "tl_TRACKERS_is_1_to_8"),
-                          ("LEVELS(3)", "tl_LEVELS_are_0_1_or_2")],
+                          ("LEVELS(3)", "tl_LEVELS_are_0_1_or_2"),
+                          ("LIBERTIES(8)", "tl_LIBERTIES_of_a_manager_are_of_IDS_WRITER_DROPS_and_REPORTS"),
+                          ("LIBERTIES(256)", "tl_LIBERTIES_of_a_manager_are_of_IDS_WRITER_DROPS_and_REPORTS"),
+                          ("SOURCE_BITS(2), .PROBE_SOURCES(8'd4)", "tl_PROBE_SOURCES_fit_SOURCE_BITS")],
     "tl_proved_client": [*AGENT_LIMITS, ("SOURCES(5)", "tl_SOURCES_is_1_to_8_and_fits_SOURCE_BITS")],
 }
 LINT = ["verilator", "--lint-only", "--timing", "-Wno-PINMISSING", "-Wno-WIDTH", INCLUDES, "--top-module", "refused"]
@@ -123,8 +167,8 @@ def elaborated(command, module, parameter):
 @test
 def what_does_not_fit_is_refused_at_elaboration():
     for module, limits in LIMITS.items():
-        # Icarus knows no DPI
-        for command in (LINT, ELABORATE) if "recorder" in module else (LINT,):
+        # Icarus knows no DPI, by which the checkers and the proved client are called
+        for command in (LINT, ELABORATE) if "recorder" in module or module == "tl_proved_manager" else (LINT,):
             taken = elaborated(command, module, "W(8)")
             want(taken.returncode == 0, f"{command[0]} refuses {module}: {taken.stdout}")
             for parameter, name in limits:

@@ -33,7 +33,7 @@ def fault(told):
 @test
 def the_rules_for_formal_tools_agree_with_the_monitor():
     told = run(["python3", os.path.join(FORMAL, "agreement/agree.py"), "--tool", TLTOOL], timeout=PATIENCE)
-    want("46 of 46 wrong modules told apart" in told, told)
+    want("49 of 49 wrong modules told apart" in told, told)
 
 
 @test

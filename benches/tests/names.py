@@ -2,7 +2,7 @@
 
 import subprocess
 
-from harness import TLTOOL, test, want, enumerators
+from harness import TLTOOL, test, want, enumerators, icarus, run, verilator
 
 
 def decoded(channel, opcode, param):
@@ -49,3 +49,29 @@ def the_packages_params_are_the_products():
         channel, opcode = places[kind]
         told = decoded(channel, opcode, code)[1]
         want(told == name, f"{kind} {code} is {told}, not {name}")
+
+
+def line_of(width, channel, opcode, param, has_data):
+    """The line of the beat of tests/test_names.sv."""
+    mask = "8421"[-width // 4 :]
+    data = "0123456789abcdeffedcba9876543210"[-2 * width :] if has_data else "-"
+    return {
+        "A": f"00 A {opcode} {param} 3 5a 89abcde0 {mask} {data} 1", "B": f"00 B {opcode} {param} 3 5a 89abcde0 {mask} {data} 1",
+        "C": f"00 C {opcode} {param} 3 5a 89abcde0 {data} 1", "D": f"00 D {opcode} {param} 3 5a c3 1 {data} 1", "E": "00 E c3",
+    }[channel]
+
+
+@test
+def beats_are_told_in_the_words_of_decode():
+    top = "test_names"
+    sources = ["sv/tl_pkg.sv", f"tests/{top}.sv"]
+    for command in ([verilator(top, top, sources)], ["vvp", "-n", icarus(top + ".vvp", top, sources)]):
+        told = [line.split(" ", 4) for line in run(command).splitlines() if line[:1].isdigit()]
+        for width in (4, 8, 16):
+            # without opcodes that aren't in use, which are told as numbers, and params that channel D has no bits for
+            beats = [(channel, opcode, param, text) for w, channel, opcode, param, text in told
+                     if int(w) == width and not text.split()[1].isdigit() and (channel != "D" or int(param) < 4)]
+            want(len(beats) == (8 + 8 + 7) * 8 + 6 * 4 + 64, f"{len(beats)} beats")
+            lines = [line_of(width, channel, opcode, param, "data=-" not in text) for channel, opcode, param, text in beats]
+            done = subprocess.run([TLTOOL, "decode", "--width", str(width)], input="\n".join(lines) + "\n", stdout=subprocess.PIPE, text=True)
+            want(done.stdout.splitlines() == [f"00 {text}" for _, _, _, text in beats], f"width {width}: {done.stdout[-300:]}")

@@ -2,6 +2,7 @@
 clients that share a port, and times."""
 
 import os
+import re
 
 from harness import DPI, SV, test, want, run, path, verilator, icarus, judged, beat_lines
 
@@ -63,42 +64,75 @@ def each_line_has_its_time():
         want(beat_lines("times") == ["25", "55", "55"], f"{name}: {beat_lines('times')}")
 
 
-# Each with what opens it, what answers it in its last line, and the channel of the beat that opened it.
+# Each with what opens it, what answers it in its last line, what is waited for, and the beat that opened it.
 OWED = [
-    (["A 0 4 0 3 5 40 edge 1"], ["D 0 1 0 3 5 0 edge 1"], "A opcode 4 param 0 size 3 source 05 sink 00 address 00000040"),
-    (["A 0 0 0 4 5 40 edge 1", "A 0 0 0 4 5 40 edge 1"], ["D 0 0 0 4 5 0 edge 1"],
-     "A opcode 0 param 0 size 4 source 05 sink 00 address 00000040"),
-    (filled([ACQUIRE]), filled([GRANT, GRANT_ACK]), "A opcode 7 param 1 size 6 source 00 sink 00 address 00000000"),
-    (filled([ACQUIRE, GRANT], sink=3), ["E 0 3 edge 1"], "D opcode 4 param 0 size 6 source 00 sink 03 address 00000000"),
-    (["C 0 6 5 6 2 80 edge 1"], ["D 0 6 0 6 2 0 edge 1"], "C opcode 6 param 5 size 6 source 02 sink 00 address 00000080"),
-    (["B 0 6 2 6 0 c0 edge 1"], ["C 0 4 5 6 0 c0 edge 1"], "B opcode 6 param 2 size 6 source 00 sink 00 address 000000c0"),
+    (["A 0 4 0 3 5 40 edge 1"], ["D 0 1 0 3 5 0 edge 1"], "a request without an answer",
+     "A Get 0 size=3 source=05 address=00000040 mask=ff data=- corrupt=0"),
+    (["A 0 0 0 4 5 40 edge 1", "A 0 0 0 4 5 40 edge 1"], ["D 0 0 0 4 5 0 edge 1"], "a request without an answer",
+     "A PutFullData 0 size=4 source=05 address=00000040 mask=ff data=ffffffffffffffff corrupt=0"),
+    (filled([ACQUIRE]), filled([GRANT, GRANT_ACK]), "a request without an answer",
+     "A AcquirePerm NtoT size=6 source=00 address=00000000 mask=ff data=- corrupt=0"),
+    (filled([ACQUIRE, GRANT], sink=3), ["E 0 3 edge 1"], "a Grant without GrantAck",
+     "D Grant toT size=6 source=00 sink=03 denied=0 data=- corrupt=0"),
+    (["C 0 6 5 6 2 80 edge 1"], ["D 0 6 0 6 2 0 edge 1"], "a Release without ReleaseAck",
+     "C Release 5 size=6 source=02 address=00000080 data=- corrupt=0"),
+    (["B 0 6 2 6 0 c0 edge 1"], ["C 0 4 5 6 0 c0 edge 1"], "a Probe without ProbeAck",
+     "B ProbeBlock toN size=6 source=00 address=000000c0 mask=ff data=- corrupt=0"),
     # a response that stops in its middle
-    (["A 0 4 0 6 5 40 edge 1", *["D 0 1 0 6 5 0 edge 1"] * 7], ["D 0 1 0 6 5 0 edge 1"],
-     "A opcode 4 param 0 size 6 source 05 sink 00 address 00000040"),
+    (["A 0 4 0 6 5 40 edge 1", *["D 0 1 0 6 5 0 edge 1"] * 7], ["D 0 1 0 6 5 0 edge 1"], "a request without an answer",
+     "A Get 0 size=6 source=05 address=00000040 mask=ff data=- corrupt=0"),
 ]
+PATIENT = ["-DPARAMETERS=.SOURCE_BITS(SOURCE_BITS),.TIMEOUT(20),.PENDING(1)"]
+
+
+def overdue(module, begun, waited, beat):
+    """What a module tells of a message that began at this edge, from 1 on, in this line of the trace but one, and has no answer."""
+    time = 15 + 10 * begun
+    return (f"{time + 210}: {module}: after 21 cycles there is {waited}, opened in cycle {begun + 1}, at {time}:\n"
+            f"  {begun + 1}: 00 {beat}\n")
 
 
 @test
 def what_is_never_answered_is_told_with_the_beat_that_opened_it():
-    flags = ["-DPARAMETERS=.SOURCE_BITS(SOURCE_BITS),.TIMEOUT(20)"]
-    for name, command, aborted in simulations("patient", *flags):
-        for opening, answer, beat in OWED:
-            begun = len(opening) if "D 0 4" in opening[-1] else 1  # the edge of the beat that opened it, from 1 on
+    for name, command, aborted in simulations("patient", *PATIENT):
+        for opening, answer, waited, beat in OWED:
+            begun = len(opening) if "D 0 4" in opening[-1] else 1  # the edge of the beat that opened it
             told = played(command, [*opening, "edge 100"], status=aborted)
-            time = 15 + 10 * begun
-            want(f"{time + 210}: tl_manager_recorder: link 0 has no answer after 21 cycles:\n"
-                 f"    opened at {time}, in cycle {begun + 1}, by channel {beat}\n" in told, f"{name}: {told}")
+            want(overdue("tl_manager_recorder", begun, waited, beat) in told, f"{name}: {told}")
+            want(told.count("after 21 cycles") == 1, f"{name}: {told}")
             # what is answered in time is told by nobody
             told = played(command, [*opening, f"edge {20 - len(opening) - len(answer):x}", *answer, "edge 100"])
-            want("no answer" not in told, f"{name}: {told}")
+            want("cycles there is" not in told and "at the end" not in told, f"{name}: {told}")
+
+
+def listed(text, head):
+    """The lines below a head that tells how many messages are pending, each without the moment at which it was opened."""
+    lines = text.split("\n")
+    found = [number for number, line in enumerate(lines) if head in line]
+    if not found:
+        return []
+    below = [re.sub(r", opened in cycle \d+, at \d+:", ":", line) for line in lines[found[0] + 1 :]]
+    of_list = [re.match(r"  (a |\d+: |and )", line) is not None for line in below]
+    return below[: of_list.index(False)]
+
+
+# Several of each kind on two links, bursts that stop in their middle, and one that is answered.
+LEFT = ["A 0 0 0 5 5 40 edge 1", "A 0 0 0 5 5 40 B 0 6 2 6 0 c0 edge 1", "C 1 7 1 6 2 80 edge 1", *filled(HELD, 1, 2, 100),
+        "A 1 4 0 6 5 140 edge 1", "D 1 1 0 6 5 0 edge 1", "C 0 5 1 6 0 c0 edge 1", "edge 3"]
+CROWD = [f"A {port} 4 0 3 {source:x} {64 * source:x} edge 1" for port in (0, 1) for source in range(13)]
+
+
+LISTED = ["-DN=2", "-DLEVELS=4'b10_10", "-DPARAMETERS=.SOURCE_BITS(SOURCE_BITS),.PENDING(1)"]
 
 
 @test
-def what_is_pending_at_the_end_is_listed():
-    flags = ["-DPARAMETERS=.SOURCE_BITS(SOURCE_BITS),.TIMEOUT(20)"]
-    for name, command, _ in simulations("patient", *flags):
-        told = played(command, [*OWED[4][0], "edge 2"])
-        want("link 0 has no answer at the end:\n    opened at 25, in cycle 2, by channel " + OWED[4][2] in told, f"{name}: {told}")
+def what_is_pending_at_the_end_is_listed_as_explain_does():
+    for name, command, _ in simulations("listed", *LISTED):
+        for script in (LEFT, LEFT[:2], [*CROWD, "edge 2"], *(opening for opening, _, _, _ in OWED)):
+            mine = listed(played(command, script), "pending at the end")
+            explained = listed(judged(path("ports"), "explain") + "\n", "pending at the end")
+            if judged(path("ports")).startswith("clean"):
+                want(mine and mine == explained, f"{name}: {mine} {explained}")
 
 
 # Two clients on port 0, with sources 0 to 3 and 8 to b, and one on port 1 with sources 0 to f.
@@ -131,19 +165,19 @@ def each_client_of_a_shared_port_owes_its_own_answers():
     # both are probed for one block, and the second answers
     script = ["B 0 6 2 6 0 c0 edge 1", "B 0 6 2 6 8 c0 edge 1", "C 0 4 5 6 8 c0 edge 1", "edge 100"]
     flags = [f"{flag},.TIMEOUT(20)" if "PARAMETERS" in flag else flag for flag in SHARED_FLAGS]
+    probe = "B ProbeBlock toN size=6 source=00 address=000000c0 mask=ff data=- corrupt=0"
     for name, command, aborted in simulations("shared_patient", *flags):
         told = played(command, script, status=aborted)
-        want("235: tl_manager_recorder: link 0 has no answer after 21 cycles:\n"
-             "    opened at 25, in cycle 2, by channel B opcode 6 param 2 size 6 source 00 " in told, f"{name}: {told}")
+        want(overdue("tl_manager_recorder", 1, "a Probe without ProbeAck", probe) in told, f"{name}: {told}")
 
 
 # A beat of no client: a source between those of two clients, and a GrantAck of a sink that wasn't granted.
 STRAYS = [
-    ("A 0 4 0 3 4 40", "A opcode 4 param 0 size 3 source 04 sink 00 address 00000040", "ff A 4 0 3 04 00000040 ff - 0"),
-    ("B 0 6 2 6 7 40", "B opcode 6 param 2 size 6 source 07 sink 00 address 00000040", "ff B 6 2 6 07 00000040 ff - 0"),
-    ("C 0 4 5 6 c 40", "C opcode 4 param 5 size 6 source 0c sink 00 address 00000040", "ff C 4 5 6 0c 00000040 - 0"),
-    ("D 0 6 0 6 c 0", "D opcode 6 param 0 size 6 source 0c sink 00 address 00000000", "ff D 6 0 6 0c 00 0 - 0"),
-    ("E 0 5", "E opcode 0 param 0 size 0 source 00 sink 05 address 00000000", "ff E 05"),
+    ("A 0 4 0 3 4 40", "A Get 0 size=3 source=04 address=00000040 mask=ff data=- corrupt=0", "ff A 4 0 3 04 00000040 ff - 0"),
+    ("B 0 6 2 6 7 40", "B ProbeBlock toN size=6 source=07 address=00000040 mask=ff data=- corrupt=0", "ff B 6 2 6 07 00000040 ff - 0"),
+    ("C 0 4 5 6 c 40", "C ProbeAck NtoN size=6 source=0c address=00000040 data=- corrupt=0", "ff C 4 5 6 0c 00000040 - 0"),
+    ("D 0 6 0 6 c 0", "D ReleaseAck 0 size=6 source=0c sink=00 denied=0 data=- corrupt=0", "ff D 6 0 6 0c 00 0 - 0"),
+    ("E 0 5", "E GrantAck sink=05", "ff E 05"),
 ]
 
 
@@ -152,7 +186,7 @@ def a_beat_of_no_client_is_told_and_written():
     for name, command, aborted in simulations("shared", *SHARED_FLAGS):
         for beat, shown, line in STRAYS:
             told = played(command, [beat, "edge 2"], status=aborted)
-            want(f"25: tl_manager_recorder: port 0: a beat of no client in cycle 2: channel {shown}\n" in told, f"{name}: {told}")
+            want(f"25: tl_manager_recorder: port 0: a beat of no client in cycle 2: {shown}\n" in told, f"{name}: {told}")
             want(beat_lines("ports")[1:] == [line], f"{name}: {beat_lines('ports')}")
             want(judged(path("ports")).startswith("line 2 "), f"{name}: {judged(path('ports'))}")
 
@@ -174,17 +208,19 @@ def a_checker_judges_anew_behind_a_reset():
     told = played(checked_ports("two", *TWO_LINKS), script, "+anew")
     want("breaks" not in told, told)
     told = played(checked_ports("two", *TWO_LINKS), [line for line in script if line != "reset"], status=-6)
-    want("tl_manager_checker: link 1 breaks M1: channel D " in told, told)
+    want("tl_manager_checker: link 1 breaks M1: 6: 01 D Grant toT " in told, told)
     # the trace has the beat at fault, in the last line
     want(judged(path("ports"), "coherent") == f"line {len(beat_lines('ports'))} M1", judged(path("ports"), "coherent"))
 
 
 # Fields that are fixed on a link without liberties, each in the last beat of a script with another value.
 FIXED = [
-    (["B 0 6 2 6 5 40 edge 2"], "L2: channel B opcode 6"),
-    (["B 0 6 2 6 0 40 edge 1", "C 0 4 5 6 5 40 edge 2"], "L2: channel C opcode 4"),
-    (["A 0 4 0 3 5 40 edge 1", "D 0 1 0 3 5 3 edge 2"], "L2: channel D opcode 1"),
-    (["A 0 4 0 3 5 40 edge 1", "denied D 0 1 0 3 5 0 edge 2"], "L6: channel D opcode 1"),
+    (["B 0 6 2 6 5 40 edge 2"], "L2: 2: 00 B ProbeBlock"),
+    (["B 0 6 2 6 0 40 edge 1", "C 0 4 5 6 5 40 edge 2"], "L2: 3: 00 C ProbeAck"),
+    (["A 0 4 0 3 5 40 edge 1", "D 0 1 0 3 5 3 edge 2"], "L2: 3: 00 D AccessAckData"),
+    (["A 0 4 0 3 5 40 edge 1", "denied D 0 1 0 3 5 0 edge 2"], "L6: 3: 00 D AccessAckData"),
+    # an opcode that isn't in use
+    (["A 0 4 0 3 5 40 edge 1", "D 0 7 0 3 5 0 edge 2"], "F4: 3: 00 D 7"),
 ]
 
 
@@ -197,11 +233,17 @@ def a_checker_judges_fields_as_they_are_on_the_link():
 
 @test
 def a_checker_tells_what_is_never_answered():
-    flags = ["-DPARAMETERS=.SOURCE_BITS(SOURCE_BITS),.TIMEOUT(20)"]
-    opening, _, beat = OWED[2]
-    told = played(checked_ports("patient", *flags), [*opening, "edge 100"], status=-6)
-    want("235: tl_manager_checker: link 0 has no answer after 21 cycles:\n"
-         f"    opened at 25, in cycle 2, by channel {beat}\n" in told, told)
+    opening, _, waited, beat = OWED[2]
+    told = played(checked_ports("patient", *PATIENT), [*opening, "edge 100"], status=-6)
+    want(overdue("tl_manager_checker", 1, waited, beat) in told, told)
+
+
+@test
+def a_checker_lists_what_is_pending_at_the_end():
+    opening, _, waited, beat = OWED[2]
+    told = played(checked_ports("listed", *LISTED), [*opening, "edge 5"])
+    want("tl_manager_checker: pending at the end: 1, the oldest first\n"
+         f"  {waited}, opened in cycle 2, at 25:\n  2: 00 {beat}\n" in told, told)
 
 
 @test
@@ -210,7 +252,7 @@ def the_checker_of_a_shared_port_judges_a_link_for_each_client():
     want("breaks" not in played(command, SHARED_RUN), "the clients of a port are taken for one")
     # the second client is granted what the first one of its port has
     told = played(command, [*SHARED_RUN[:2], "A 0 7 1 6 b 0 edge 1", "D 0 4 0 6 b 2 edge 1"], status=-6)
-    want("tl_manager_checker: link 1 breaks M1: channel D opcode 4 param 0 size 6 source 0b" in told, told)
+    want("tl_manager_checker: link 1 breaks M1: 6: 01 D Grant toT size=6 source=0b" in told, told)
     for beat, shown, _ in STRAYS:
         told = played(command, [beat, "edge 2"], status=-6)
-        want(f"tl_manager_checker: port 0: a beat of no client in cycle 2: channel {shown}\n" in told, told)
+        want(f"tl_manager_checker: port 0: a beat of no client in cycle 2: {shown}\n" in told, told)

@@ -2,6 +2,8 @@
 
 import ctypes
 import dataclasses
+import functools
+import operator
 import os
 import re
 import sys
@@ -98,19 +100,28 @@ def beat_of(module, line):
     return int(words[0], 16), module.Beat(channel, **fields)
 
 
+def read_liberties(module, words):
+    named = [module.Liberty[word.upper()] for word in words.split(",") if word != "none"]
+    return functools.reduce(operator.or_, named, module.Liberty(0))
+
+
 def read_trace(module, name):
-    """The levels, width and profile that a trace's header names, and the lines of its beats."""
+    """What a trace's header names, as a judge or monitor is made, and the lines of its beats."""
     with open(name) as trace:
         lines = trace.read().splitlines()
     header = lines[0].split()
-    width = int(header[2]) if header[1] != "1" else 8
-    profile = int(header[3]) if header[1] == "3" else 1
-    return ([module.Level[level] for level in header[1 + int(header[1]):]], width, profile), lines[1:]
+    version = int(header[1])
+    width = int(header[2]) if version > 1 else 8
+    profile = int(header[3]) if version == 3 else 1
+    liberties = read_liberties(module, header[3]) if version == 4 else None
+    return ([module.Level[level] for level in header[min(version, 3) + 1:]], width, profile, liberties), lines[1:]
 
 
 def told_of(module, kind, name):
-    """What the library says of a trace, each beat as a struct and as a line: `line N X`, or nothing."""
+    """What the library says of a trace, each beat as a struct and as a line: `line N X`, or nothing. A judge takes no early links."""
     made, lines = read_trace(module, name)
+    if kind is module.Judge and module.Liberty.EARLY in (made[-1] or module.Liberty(0)):
+        return "line 1 F7"
     with kind(*made) as judge, kind(*made) as reader:
         for number, line in enumerate(lines, 2):
             verdict = judge.push(*beat_of(module, line))
@@ -149,9 +160,32 @@ def python_refuses_what_does_not_fit():
             want(False, f"{links} {blocks} {trackers} made a manager")
         except ValueError:
             pass
+    for liberties, sources in ((module.Liberty.EARLY, None), (module.Liberty.IDS, [1, 2])):
+        try:
+            module.Manager(one, 4, liberties=liberties, probe_sources=sources)
+            want(False, f"{liberties} {sources} made a manager")
+        except ValueError:
+            pass
     with module.Monitor([module.Level.C]) as monitor:
         want(monitor.push(0, module.Beat(module.Channel.A, opcode=9)).code is module.Code.BAD_ARGUMENT, "opcode 9")
     want(monitor.push(0, module.Beat(module.Channel.E)).code is module.Code.BAD_ARGUMENT, "a closed monitor")
+
+
+@test
+def a_manager_from_python_has_clients_with_liberties():
+    module = python_module()
+    beat, liberty = module.Beat, module.Liberty
+    links = [(module.Level.C, 1)] * 2
+    with module.Manager(links, 4, liberties=liberty.IDS | liberty.DROPS, probe_sources=[7, 0]) as manager:
+        acquire = beat(module.Channel.A, opcode=6, param=1, size=6, mask=0xFF)
+        for link in (0, 1):
+            want(manager.offer(link, acquire).taken, f"an Acquire on link {link}")
+            if link == 0:
+                want(manager.offer(0, beat(module.Channel.E)).taken, "a GrantAck")
+        want(manager.pop(0, module.Channel.B).source == 7, "the source of a Probe")
+        dropped = beat(module.Channel.C, opcode=4, param=5, size=6, source=7)
+        want(manager.offer(0, dropped).taken, "a ProbeAck NtoN")
+        want(manager.next(1, module.Channel.D).opcode == 5, "a GrantData for the other client")
 
 
 @test
@@ -159,3 +193,14 @@ def coroutines_drive_the_agents_a_clock_at_a_time():
     beside = {"HEFRUDYL_LIBRARY": path("libhefrudyl.so"), "PYTHONPATH": os.path.join(HERE, "python")}
     told = run([sys.executable, os.path.join(HERE, "tests/test_clocked.py")], env={**os.environ, **beside})
     want(told.strip().endswith("0 failures"), told)
+
+
+@test
+def judging_goes_on_behind_a_fault_in_python():
+    module = python_module()
+    acquire = module.Beat(module.Channel.A, opcode=6, param=1, size=6, source=2, address=0x80, mask=0xFF)
+    grant = module.Beat(module.Channel.D, opcode=5, size=6, source=2)
+    for kind in (module.Monitor, module.Judge):
+        with kind([module.Level.C]) as judging:
+            rules = [judging.try_push(0, beat).rule for beat in (grant, acquire, acquire, grant)]
+            want(rules == ["H2", "", "H1", ""], f"{kind.__name__}: {rules}")

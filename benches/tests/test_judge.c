@@ -104,6 +104,20 @@ static void a_rule_of_the_link_comes_first(void) {
   tl_judge_free(&judge);
 }
 
+static void a_fault_that_is_not_the_end(void) {
+  tl_judge judge = beside_a_writer(8);
+  tl_beat get = asked(TL_A_Get, 2, 8);
+  want(tl_judge_try_push(&judge, 1, &get).code == TL_OK, "a Get");
+  for (int i = 0; i < 2; i++) {
+    tl_answer told = tl_judge_try_push(&judge, 1, &answer);
+    want(told.code == TL_BROKEN && told.rule == TL_M4, "an answer beside a writer is M4, twice");
+  }
+  want(tl_judge_try_push(&judge, 1, &get).rule == TL_H1, "the Get is pending still");
+  want(push(&judge, 1, answer).rule == TL_M4, "the same");
+  want(tl_judge_try_push(&judge, 1, &get).code == TL_CLOSED, "a closed judge stays closed");
+  tl_judge_free(&judge);
+}
+
 static void what_is_refused(void) {
   uint8_t many[17] = {0};
   tl_judge judge = {0};
@@ -134,6 +148,7 @@ int main(void) {
     a_denied_grant(widths[i]);
   }
   a_rule_of_the_link_comes_first();
+  a_fault_that_is_not_the_end();
   what_is_refused();
   printf("%d failures\n", failures);
   return failures != 0;

@@ -174,6 +174,104 @@ static void what_is_refused(void) {
   tl_manager_free(&manager);
 }
 
+static const uint8_t probe_sources[2] = {3, 4};
+
+static tl_manager manager_under(uint8_t liberties) {
+  tl_manager made = {0};
+  want(tl_manager_new_under(&made, links, 2, 4, 2, 8, liberties, probe_sources, 2).code == TL_OK, "clients with liberties");
+  return made;
+}
+
+static tl_beat message(uint8_t channel, uint8_t opcode, uint8_t param, uint8_t source) {
+  return (tl_beat){.channel = channel, .opcode = opcode, .param = param, .size = 6, .source = source,
+                   .mask = channel == TL_CHANNEL_A ? 0xff : 0};
+}
+
+/* What a manager says of a beat: 1 where it is taken, 0 where it waits, and else minus the rule. */
+static int given(tl_manager *manager, uint8_t link, tl_beat beat) {
+  uint8_t taken = 9;
+  tl_answer answer = tl_manager_offer(manager, link, &beat, &taken);
+  return answer.code == TL_OK ? taken : -answer.rule;
+}
+
+/* Takes the message that waits on a channel of a link, and gives its first beat. */
+static tl_beat sent(tl_manager *manager, uint8_t link, uint8_t channel) {
+  tl_beat first = {0}, next;
+  want(tl_manager_pop(manager, link, channel, &first).code == TL_OK, "a message waits");
+  while (tl_manager_pop(manager, link, channel, &next).code == TL_OK) continue;
+  return first;
+}
+
+/* Grants block 0 to link 0 to write. */
+static void granted_to_write(tl_manager *manager) {
+  want(given(manager, 0, message(TL_CHANNEL_A, TL_A_AcquireBlock, TL_NtoT, 1)) == 1, "an Acquire");
+  want(sent(manager, 0, TL_CHANNEL_D).opcode == TL_D_GrantData, "is granted");
+  want(given(manager, 0, (tl_beat){.channel = TL_CHANNEL_E}) == 1, "and acknowledged");
+}
+
+static void probes_have_the_source_of_their_link(void) {
+  for (uint8_t right = 0; right <= 1; right++) {
+    tl_manager manager = manager_under(TL_IDS);
+    granted_to_write(&manager);
+    want(given(&manager, 1, message(TL_CHANNEL_A, TL_A_AcquireBlock, TL_NtoT, 0)) == 1, "another one");
+    want(sent(&manager, 0, TL_CHANNEL_B).source == 3, "the Probe has the source of link 0");
+    tl_beat report = message(TL_CHANNEL_C, TL_C_ProbeAck, TL_TtoN, right ? 3 : 0);
+    want(given(&manager, 0, report) == (right ? 1 : -TL_H10), "which its answer has to have");
+    tl_manager_free(&manager);
+  }
+}
+
+static void a_copy_may_be_dropped(void) {
+  tl_manager manager = manager_under(TL_DROPS);
+  granted_to_write(&manager);
+  want(given(&manager, 0, message(TL_CHANNEL_A, TL_A_AcquireBlock, TL_NtoB, 1)) == 1, "it is asked for again");
+  want(sent(&manager, 0, TL_CHANNEL_D).param == 1, "and granted to read");
+  want(given(&manager, 0, (tl_beat){.channel = TL_CHANNEL_E}) == 1, "and acknowledged");
+  want(given(&manager, 1, message(TL_CHANNEL_A, TL_A_AcquireBlock, TL_NtoT, 0)) == 1, "another one asks");
+  want(sent(&manager, 0, TL_CHANNEL_B).source == 0, "a Probe without TL_IDS");
+  want(given(&manager, 0, message(TL_CHANNEL_C, TL_C_ProbeAck, 5, 0)) == 1, "nothing is held any more");
+  want(sent(&manager, 1, TL_CHANNEL_D).opcode == TL_D_GrantData, "so it is granted");
+  tl_manager_free(&manager);
+  manager = manager_under(TL_NO_LIBERTIES);
+  granted_to_write(&manager);
+  want(given(&manager, 0, message(TL_CHANNEL_A, TL_A_AcquireBlock, TL_NtoB, 1)) == -TL_H5, "none without TL_DROPS");
+  tl_manager_free(&manager);
+}
+
+static void a_copy_may_be_written_back_and_kept(void) {
+  tl_manager manager = manager_under(TL_REPORTS);
+  tl_beat clean = message(TL_CHANNEL_C, TL_C_ReleaseData, 3, 0), get = message(TL_CHANNEL_A, TL_A_Get, 0, 0);
+  granted_to_write(&manager);
+  for (int i = 0; i < 8; i++) {
+    clean.lanes[0] = (uint8_t)(i + 1);
+    want(given(&manager, 0, clean) == 1, "a ReleaseData TtoT");
+  }
+  want(sent(&manager, 0, TL_CHANNEL_D).opcode == TL_D_ReleaseAck, "is answered");
+  want(given(&manager, 1, get) == 1 && sent(&manager, 0, TL_CHANNEL_B).param == 1, "its client is recorded to hold it");
+  want(given(&manager, 0, message(TL_CHANNEL_C, TL_C_ProbeAck, TL_TtoB, 0)) == 1, "reports it clean");
+  want(sent(&manager, 1, TL_CHANNEL_D).lanes[0] == 1, "and the other one reads what was written back");
+  tl_manager_free(&manager);
+}
+
+static void a_lone_reader_may_be_granted_to_write(void) {
+  tl_manager manager = manager_under(TL_WRITER);
+  want(given(&manager, 0, message(TL_CHANNEL_A, TL_A_AcquireBlock, TL_NtoB, 0)) == 1, "an Acquire to read");
+  want(sent(&manager, 0, TL_CHANNEL_D).param == 0, "is granted to write");
+  tl_manager_free(&manager);
+}
+
+static void liberties_that_a_manager_does_not_grant(void) {
+  static const uint8_t others[4] = {TL_SINKS, TL_EARLY, TL_DENIED, TL_UNCORRUPT};
+  tl_manager manager = {0};
+  for (int i = 0; i < 4; i++)
+    want(tl_manager_new_under(&manager, links, 2, 4, 2, 8, TL_IDS | others[i], probe_sources, 2).code == TL_BAD_ARGUMENT,
+         "another liberty");
+  want(tl_manager_new_under(&manager, links, 2, 4, 2, 8, TL_IDS, probe_sources, 1).code == TL_BAD_ARGUMENT, "1 source");
+  want(tl_manager_new_under(&manager, links, 1, 4, 2, 8, TL_IDS, probe_sources, 2).code == TL_BAD_ARGUMENT, "2 sources");
+  want(tl_manager_new_under(&manager, links, 2, 4, 9, 8, TL_IDS, probe_sources, 2).code == TL_BAD_ARGUMENT, "9 trackers");
+  want(manager.full == 0, "nothing was made");
+}
+
 static void handles_of_another_kind(void) {
   tl_manager manager = {0};
   want(tl_manager_new(&manager, links, 2, 4, 1, 8, 1).code == TL_OK, "a manager");
@@ -226,6 +324,11 @@ int main(void) {
   for (int i = 0; i < 3; i++)
     for (uint8_t profile = 1; profile <= 2; profile++) a_block_goes_from_one_to_the_other(widths[i], profile);
   what_is_refused();
+  probes_have_the_source_of_their_link();
+  a_copy_may_be_dropped();
+  a_copy_may_be_written_back_and_kept();
+  a_lone_reader_may_be_granted_to_write();
+  liberties_that_a_manager_does_not_grant();
   handles_of_another_kind();
   lines();
   texts();

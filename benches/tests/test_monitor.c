@@ -115,6 +115,23 @@ static void under_the_second_profile(void) {
   }
 }
 
+static void a_fault_that_is_not_the_end(void) {
+  static const uint8_t levels[1] = {TL_C};
+  tl_monitor monitor = {0};
+  want(tl_monitor_try_push(&monitor, 0, &acquire).code == TL_BAD_ARGUMENT, "an empty handle judges nothing");
+  tl_monitor_new(&monitor, levels, 1, 8, 1);
+  for (int i = 0; i < 2; i++) {
+    tl_answer answer = tl_monitor_try_push(&monitor, 0, &grant);
+    want(answer.code == TL_BROKEN && answer.rule == TL_H2, "a Grant that answers nothing, twice");
+  }
+  want(tl_monitor_try_push(&monitor, 0, &acquire).code == TL_OK, "an Acquire behind it");
+  want(tl_monitor_try_push(&monitor, 16, &acquire).code == TL_BAD_ARGUMENT, "link 16");
+  want(tl_monitor_try_push(&monitor, 0, &grant).code == TL_OK, "its Grant");
+  want(push(&monitor, 0, acquire).rule == TL_H1, "the source is pending");
+  want(tl_monitor_try_push(&monitor, 0, &grant).code == TL_CLOSED, "a closed monitor stays closed");
+  tl_monitor_free(&monitor);
+}
+
 static void names(void) {
   uint8_t name[4] = "???";
   want(tl_rule_name(TL_H12, name, 3) == 3 && memcmp(name, "H12", 3) == 0, "H12");
@@ -131,6 +148,7 @@ int main(void) {
   a_refused_beat_changes_nothing();
   handles();
   under_the_second_profile();
+  a_fault_that_is_not_the_end();
   names();
   printf("%d failures\n", failures);
   return failures != 0;

@@ -53,6 +53,15 @@ int main() {
     right = false;
   } catch (const std::invalid_argument &) {
   }
+  hefrudyl::Manager partner = hefrudyl::Manager::under({{TL_C, 1}, {TL_C, 1}}, 4, TL_IDS | TL_DROPS, {5, 6});
+  right = right && partner.offer(0, sent, told).code == TL_BROKEN && partner.closed(0, told).code == TL_OK && told == 1;
+  for (std::uint8_t liberties : {TL_EARLY, TL_SINKS}) {
+    try {
+      hefrudyl::Manager::under({{TL_C, 1}}, 4, liberties);
+      right = false;
+    } catch (const std::invalid_argument &) {
+    }
+  }
   hefrudyl::Monitor reader({TL_C});
   std::uint64_t entries = 9;
   right = right && reader.push_line("00 A 4 0 3 00 00000000 ff - 0\n").code == TL_OK;

@@ -18,11 +18,14 @@ def signals():
     return names
 
 
+def bench(*flags, status):
+    """What a run tells, its trace in `unknown`."""
+    return run(["vvp", "-n", icarus(f"{TOP}.vvp", TOP, SOURCES, *flags), f"+trace={path('unknown')}"], status=status)
+
+
 def simulated(channel, signal, value, *flags, status):
     """What a run tells where a signal has a value, while its channel shows a beat with data."""
-    built = icarus(f"{TOP}.vvp", TOP, SOURCES, f"-DCHANNEL={CHANNELS.index(channel)}", f"-DSIGNAL={channel}_{signal}",
-                   f"-DVALUE={value}", *flags)
-    return run(["vvp", "-n", built, f"+trace={path('unknown')}"], status=status)
+    return bench(f"-DCHANNEL={CHANNELS.index(channel)}", f"-DSIGNAL={channel}_{signal}", f"-DVALUE={value}", *flags, status=status)
 
 
 @test
@@ -64,3 +67,12 @@ def unknown_values_are_written_where_they_are_not_watched():
     told = simulated("a", "opcode", "'bx", "-DUNKNOWN=0", status=0)
     want("unknown" not in told and beat_lines("unknown")[1].startswith("00 A x "), f"{told}: {beat_lines('unknown')}")
     want(judged(path("unknown")) == "line 2 F3", judged(path("unknown")))
+
+
+@test
+def a_reset_that_is_not_driven_is_told():
+    told = bench("-DSIGNAL=rst_n", "-DVALUE='bx", status=1)
+    want("55: tl_link_recorder: rst_n is unknown in cycle 5\n" in told and beat_lines("unknown")[1:] == [], told)
+    for value in ("0", "'bx"):
+        told = bench(f"-DRELEASED={value}", status=1 if value == "'bx" else 0)
+        want("tl_link_recorder: rst_n was 1 at no rising edge of clk: nothing was watched\n" in told, told)

@@ -76,6 +76,7 @@ DIRECTED_BETWEEN = [
 ]
 
 STEPS = "tl_memory_steps.sv"
+MEMORY = "tl_memory_properties.sv"
 
 # The same of the bytes of memory.
 WRONG_MEMORY = [
@@ -83,8 +84,11 @@ WRONG_MEMORY = [
     ("a GrantData says nothing", STEPS, "grant && it.last && (it.opcode == D_GrantData || unread)", "1'b0"),
     ("a Put writes all lanes", STEPS, "has_byte && mask[lane]", "has_byte"),
     ("what is pending can't be granted", STEPS, "was.may || |(was.pending & was.writes & was.could & was.window)", "was.may"),
-    ("what is pending can't be read", STEPS, "it.read || it.may || |(it.pending & it.writes & it.could & ~reader)", "it.read || it.may"),
-    ("a read looks at the last moment alone", STEPS, "wire read = it.read || it.may", "wire read = it.may"),
+    ("what is pending can't be read", STEPS, "(it.may || |(it.pending & it.writes & it.could & ~reader))", "it.may"),
+    ("a read looks at the last window alone", STEPS, "wire read = it.read || (window", "wire read = (window"),
+    ("a read may bring what was so while it had no window", STEPS, "(window && (it.may", "(1'b1 && (it.may"),
+    ("no report shows bytes to a read", MEMORY, "|| shows_here[g] : is_free", ": is_free"),
+    ("a later beat of a Get's answer brings what was so before the first", STEPS, "it.first || gets ? was.read", "it.first ? was.read"),
     ("a write leaves what was before", STEPS, "wire stays = !(was.free && once) || |(slot & was.since);", "wire stays = 1'b1;"),
     ("a write leaves nothing of what was said since its window began", STEPS, "|| |(slot & was.since);", "|| 1'b0;"),
     ("a denied Put may leave anything", STEPS, "wire wrote = |", "wire wrote = it.denied || |"),
@@ -103,6 +107,19 @@ DIRECTED_MEMORY = [
 01 A 4 0 0 00 00000000 01 - 0
 01 D 1 0 0 00 00 0 000000000000000{value} 0
 """) for value in (5, 6, 7)),
+    *((f"a Get that waits for a report of 7 brings {value}", "\n".join([
+        "tltrace 2 8 C UL UL", "00 A 6 1 6 00 00000000 ff - 0", *["00 D 5 0 6 00 00 0 0000000000000005 0"] * 8, "00 E 00",
+        "01 A 4 0 0 00 00000000 01 - 0", PROBE_BLOCK, *["00 C 5 3 6 00 00000000 0000000000000007 0"] * 8,
+        f"01 D 1 0 0 00 00 0 000000000000000{value} 0", ""])) for value in (5, 7)),
+    ("a Get is served beat by beat beside a Put of 7", """tltrace 2 8 UL UH UL
+00 A 0 0 0 00 00000008 01 0000000000000005 0
+00 D 0 0 0 00 00 0 - 0
+01 A 4 0 4 00 00000000 ff - 0
+01 D 1 0 4 00 00 0 0000000000000000 0
+00 A 0 0 0 00 00000008 01 0000000000000007 0
+00 D 0 0 0 00 00 0 - 0
+01 D 1 0 4 00 00 0 0000000000000007 0
+"""),
     ("a Get brings what a Put writes that is pending", """tltrace 2 8 UL UL UL
 00 A 0 0 0 00 00000000 01 0000000000000005 0
 00 D 0 0 0 00 00 0 - 0

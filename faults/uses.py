@@ -27,41 +27,31 @@ LINES_LOOKED_FOR = "a number from 1 to 18446744073709551615, without leading zer
 LINES = "the numbers of the first line and of the last, without leading zeros, as 2-80"
 BLOCK = "the number of a block in three digits or in seven, of 0 to 9 and a to f, as 00f"
 LIBERTIES = "none, standard, or names of ids, sinks, writer, early, drops, reports, denied and uncorrupt, in this order, with a comma between them"
+EARLY = "tltool: the header names early answers, which coherent doesn't take\n"
 NUMBER = "a number from 0 to 18446744073709551615"
 LIST = "1 to 16 clients with commas between them, each UL, UH or C with its number of sources from 1 to 8, as C:2,C:2,UH:1"
 LIBERTIES_TOGETHER = "none, or names of ids, sinks, writer, drops, reports, denied and uncorrupt, in this order, with a comma between them"
 
+# The beats of what follows.
+PERM, GRANT, PROBE = "A 7 1 6 00 00000000 ff - 0", "D 4 0 6 00 00 0 - 0", "B 6 2 6 00 00000000 ff - 0"
+NAMES = ("ids", "sinks", "writer", "early", "drops", "reports", "denied", "uncorrupt")
+
+
+def of_liberties(right):
+    """The traces in rules/ of one link with one liberty, by its place: the liberty, the rule of the name, and the beats."""
+    rows = []
+    for path in pathlib.Path(sys.argv[2], "rules").glob("*.trace"):
+        header, *lines = path.read_text().splitlines()
+        version, liberty = header.split()[1], header.split()[3:4]
+        if version == "4" and liberty[0] in NAMES and path.stem.endswith("_right") == right:
+            rows.append((liberty[0], path.stem.split("_")[0], [it[3:] for it in lines]))
+    return sorted(rows, key=lambda row: (NAMES.index(row[0]), row))
+
+
 # What each liberty allows: the last beat of a trace breaks the rule without it, and none with it.
-ACQUIRE, PERM, GET = "A 6 0 6 00 00000000 ff - 0", "A 7 1 6 00 00000000 ff - 0", "A 4 0 3 00 00000000 ff - 0"
-PUT, DATA, GRANT = "A 0 0 4 00 00000000 ff 0000000000000000 0", "D 5 1 6 00 00 0 0000000000000000 0", "D 4 0 6 00 00 0 - 0"
-PROBE = "B 6 2 6 00 00000000 ff - 0"
-UNDER = [
-    ("ids", "L2", ["B 6 2 6 05 00000000 ff - 0"]),
-    ("sinks", "L2", [GET, "D 1 0 3 00 07 0 0000000000000000 0"]),
-    ("writer", "H6", [ACQUIRE, "D 5 0 6 00 00 0 0000000000000000 0"]),
-    ("early", "H2", [PUT, "D 0 0 4 00 00 0 - 0"]),
-    ("early", "H8", [ACQUIRE, DATA, "E 00"]),
-    ("drops", "H5", [PERM, GRANT, ACQUIRE]),
-    ("drops", "H12", [PERM, GRANT, "E 00", PROBE, "C 4 5 6 00 00000000 - 0"]),
-    ("reports", "L2", ["C 6 5 6 00 00000000 - 0"]),
-    ("denied", "L6", [ACQUIRE, "D 4 1 6 00 00 1 - 0"]),
-    ("uncorrupt", "L6", [GET, "D 1 0 3 00 00 1 0000000000000000 0"]),
-]
+UNDER = of_liberties(True)
 # The nearest trace whose last beat breaks this rule with it too.
-STILL = [
-    ("ids", "H10", ["B 6 2 6 05 00000000 ff - 0", "C 4 5 6 00 00000000 - 0"]),
-    ("sinks", "L2", [GET, "D 1 1 3 00 07 0 0000000000000000 0"]),
-    ("writer", "H6", ["A 7 0 6 00 00000000 ff - 0", GRANT]),
-    ("early", "H2", [PUT, "D 0 0 4 00 00 0 - 0", "D 0 0 4 00 00 0 - 0"]),
-    ("early", "H8", [ACQUIRE, DATA, "E 01"]),
-    ("early", "H8", [ACQUIRE, "E 00"]),
-    ("drops", "H5", [PERM, GRANT, "A 6 2 6 00 00000000 ff - 0"]),
-    ("drops", "H12", [PERM, GRANT, "E 00", PROBE, "C 4 2 6 00 00000000 - 0"]),
-    ("drops", "H12", [PERM, GRANT, "E 00", PROBE, "C 4 4 6 00 00000000 - 0"]),
-    ("reports", "H13", ["C 6 4 6 00 00000000 - 0"]),
-    ("denied", "L6", [ACQUIRE, "D 5 1 6 00 00 1 0000000000000000 0"]),
-    ("uncorrupt", "L6", ["A 0 0 3 00 00000000 ff 0000000000000000 0", "D 0 0 3 00 00 1 - 1"]),
-]
+STILL = of_liberties(False)
 
 
 def judged(liberties, beats, command="monitor"):
@@ -81,9 +71,9 @@ def together(liberties, lines):
     return f"printf '%s\\n' {words} | tltool coherent"
 
 
-def explained(beats):
+def explained(beats, header="tltrace 1 C", options="", line="tail -n 1"):
     lines = " ".join(f"'00 {it}'" for it in beats)
-    return f"printf '%s\\n' 'tltrace 1 C' {lines} >fault.trace; tltool explain fault.trace | tail -n 1"
+    return f"printf '%s\\n' '{header}' {lines} >fault.trace; tltool explain {options} fault.trace | {line}"
 
 
 ROWS = [
@@ -136,7 +126,10 @@ ROWS = [
     ("tltool monitor --allow late --report r.json two_caches.trace; ls r.json", 2, "", f"error: invalid value 'late' for '--allow <LIBERTIES>': {LIBERTIES}\n.."),
     ("tltool monitor --allow", 2, "", "error: .."),
     ("tltool monitor --allow early --allow drops two_caches.trace", 2, "", "error: .."),
-    *((f"tltool {it} --allow early two_caches.trace", 2, "", "error: unexpected argument '--allow' found..") for it in ("explain", "chart", "decode", "run")),
+    *((f"tltool {it} --allow early two_caches.trace", 2, "", "error: unexpected argument '--allow' found..") for it in ("chart", "decode", "run")),
+    *((f"tltool explain --allow {it} two_caches.trace", 2, "", f"error: invalid value '{it}' for '--allow <LIBERTIES>': {LIBERTIES}\n..") for it in ("all", "drops,early")),
+    *((f"tltool explain --coherent --allow {it} two_caches.trace", 2, "", f"error: invalid value '{it}' for '--allow <LIBERTIES>': {LIBERTIES_TOGETHER}\n..") for it in ("early", "standard", "all")),
+    ("tltool explain --allow early H12", 0, "H12 (ProbeAck, ProbeAckData): ..", ""),
     *(
         (f"tltool coherent {options} --allow {word} two_caches.trace", 2, "", f"error: invalid value '{word}' for '--allow <LIBERTIES>': {LIBERTIES_TOGETHER}\n..")
         for word in ("early", "standard", "early,drops", "drops,ids", "all") for options in ("", "--all 3", "--report r.json")
@@ -316,8 +309,10 @@ ROWS = [
         "8 standard,drops C", "8 uncorrupt,standard C", "8 drops, C", "8 ,drops C", "8 early,,drops C", "8 early drops C", "8  none C",
         "2 none C", "32 none C", "8 none" + 17 * " C",
     )),
-    *((f"printf 'tltrace 4 8 early C\\n' | tltool {it}", 1, f"{F7.format(1)}{count}", "") for it, count in (
-        ("coherent", ""), ("coherent --all 3", "faults 1\n"), ("coherent --report r.json", ""), ("coherent --junit r.xml", ""),
+    *((f"printf 'tltrace 4 8 early C\\n' {it}", 1, f"{F7.format(1)}{count}", EARLY) for it, count in (
+        ("| tltool coherent", ""), ("| tltool coherent --all 3", "faults 1\n"), ("| tltool coherent --report r.json", ""),
+        ("| tltool coherent --junit r.xml", ""), (">early.trace; tltool coherent early.trace", ""),
+        (">early.trace; tltool coherent --all 3 early.trace", "faults 1\n"), (">early.trace; tltool coherent --report r.json early.trace", ""),
     )),
     *((judged(it, beats), 0, f"clean {len(beats)}\n", "") for it, _, beats in UNDER),
     *((judged("none", beats), 1, f"line {len(beats) + 1} {rule}\n", "") for _, rule, beats in UNDER),
@@ -332,13 +327,24 @@ ROWS = [
     *((allowed("tltrace 1 C", it, beats, "--all 1"), 1, f"line {len(beats) + 1} {rule}\nfaults 1\n", "") for it, rule, beats in STILL),
     (allowed("tltrace 4 8 early,drops C", "denied", UNDER[4][2] + UNDER[0][2], "--all 9"), 1, "line 5 L2\nfaults 1\n", ""),
     (allowed("tltrace 2 8", "standard", UNDER[0][2]), 1, "line 1 F7\n", ""),
+    # no other liberty allows it, nor all others together
+    *((judged(",".join(name for name in NAMES if name != it), beats), 1, f"line {len(beats) + 1} {rule}\n", "") for it, rule, beats in UNDER),
+    # a block that is dropped may be given up by a report that nothing is held
+    ("tltool monitor rules/H13_drops_right.trace", 0, "clean 4\n", ""),
+    ("sed 's/drops,//' rules/H13_drops_right.trace | tltool monitor", 1, "line 5 H13\n", ""),
+    ("sed 's/,reports//' rules/H13_drops_right.trace | tltool monitor", 1, "line 5 L2\n", ""),
+    ("tltool monitor rules/H13_drops.trace", 1, "line 5 H13\n", ""),
     # all links together, under any liberties but `early`
     *((judged(it, beats, "coherent"), 0, f"coherent {len(beats)}\n", "") for it, _, beats in UNDER if it != "early"),
     *((judged("none", beats, "coherent"), 1, f"line {len(beats) + 1} {rule}\n", "") for it, rule, beats in UNDER if it != "early"),
     *((allowed("tltrace 1 C", it, beats, command="coherent"), 0, f"coherent {len(beats)}\n", "") for it, _, beats in UNDER if it != "early"),
     *((allowed("tltrace 1 C", it, beats, "--all 2", "coherent"), 0, f"coherent {len(beats)}\n", "") for it, _, beats in UNDER if it != "early"),
     *((allowed("tltrace 1 C", "none", beats, "--all 2", "coherent"), 1, f"line {len(beats) + 1} {rule}\nfaults 1\n", "") for it, rule, beats in UNDER if it != "early"),
-    (allowed("tltrace 4 8 early C", "drops", [], command="coherent"), 1, F7.format(1), ""),
+    (allowed("tltrace 4 8 early C", "drops", [], command="coherent"), 1, F7.format(1), EARLY),
+    (judged("standard", [], "coherent"), 1, F7.format(1), EARLY),
+    (judged("early", [], "monitor"), 0, "clean 0\n", ""),
+    ("printf 'tltrace 4 8 early c\\n' | tltool coherent", 1, F7.format(1), ""),
+    ("printf 'tltrace 4 8 early C' | tltool coherent", 1, F7.format(1), ""),
     (together("drops", ["00 B 6 2 6 00 00000000 ff - 0", "00 C 4 5 6 00 00000000 - 0", "01 D 4 0 6 00 01 0 - 0"]), 0, "coherent 7\n", ""),
     (together("drops", ["01 D 4 0 6 00 01 0 - 0"]), 1, "line 6 M1\n", ""),
     (together("denied", ["01 D 4 0 6 00 01 1 - 0"]), 0, "coherent 5\n", ""),
@@ -347,6 +353,15 @@ ROWS = [
     *((explained(beats), 0, f"  (allowed under {it})\n", "") for it, _, beats in UNDER),
     (explained([PERM, GRANT, "E 00", PROBE, "C 4 2 6 00 00000000 - 0"]) + " | grep -c allowed", 1, "0\n", ""),
     ("tltool explain --coherent rules/M1.trace | grep -c allowed", 1, "0\n", ""),
+    # a verdict under liberties, of the header or besides, is explained, and which further ones would allow the beat
+    *((explained(beats, f"tltrace 4 8 {it} C", line="sed -n 1p"), 0, f"clean {len(beats)}\n", "") for it, _, beats in UNDER),
+    *((explained(beats, options=f"--allow {it}", line="sed -n 1p"), 0, f"clean {len(beats)}\n", "") for it, _, beats in UNDER),
+    *((explained(beats, f"tltrace 4 8 {it} C", line="sed -n 1p"), 0, f"line {len(beats) + 1} {rule}\n", "") for it, rule, beats in STILL),
+    *((explained(beats, options=f"--allow {it}", line="sed -n 1p"), 0, f"line {len(beats) + 1} {rule}\n", "") for it, rule, beats in STILL),
+    *((explained(beats, "tltrace 4 8 none C"), 0, f"  (allowed under {it})\n", "") for it, _, beats in UNDER),
+    *((explained(beats, "tltrace 4 8 sinks C", "--allow writer"), 0, f"  (allowed under {it})\n", "") for it, _, beats in UNDER if it not in ("sinks", "writer")),
+    ("tltool explain --coherent --allow drops,denied rules/M1.trace | sed -n 1p", 0, "line 5 M1\n", ""),
+    ("sed '1s/.*/tltrace 4 8 drops C C/' rules/M1.trace >under.trace; tltool explain --coherent under.trace >told; sed 1s/drops/none/ under.trace >of.trace; tltool explain --coherent of.trace | cmp - told; grep -c '00 holds Trunk' told", 0, "1\n", ""),
     *((f"printf 'tltrace {it}\\n' | tltool monitor", 1, F7.format(1), "") for it in (
         "1 c", "1 TL-C", "1 C,C", "1", "1 C ", "1  C", "01 C", "4 8 C", "2 C", "2 32 C", "2 08 C", "3 8 3 C", "1" + 17 * " C",
     )),

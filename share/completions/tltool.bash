@@ -26,7 +26,7 @@ _tltool() {
     decode) options='--width --help -h' ;;
     monitor) options='--allow --all --report --junit --help -h' ;;
     coherent) options='--allow --all --report --junit --help -h' ;;
-    explain) options='--coherent --help -h' ;;
+    explain) options='--coherent --allow --help -h' ;;
     chart) options='--lines --block --help -h' ;;
     run) options='--trace --help -h' ;;
     random) options='--seed --events --contend --clients --blocks --trackers --width --profile --help -h' ;;

@@ -13,7 +13,7 @@ import sys
 import tempfile
 
 ROOT = pathlib.Path(__file__).resolve().parent.parent
-PAGES = ["README.md", "docs/TUTORIAL.md", "docs/FORMATS.md", "docs/PROTOCOL.md"]
+PAGES = ["README.md", "docs/COMMANDS.md", "docs/CI.md", "docs/TUTORIAL.md", "docs/FORMATS.md", "docs/PROTOCOL.md"]
 # What sets up the reader's shell, which the walk has done.
 LEFT_OUT = re.compile(r"export PATH=|cd crates/|cp -r ")
 

@@ -2,7 +2,7 @@
 """uses.py TOOL DATA: tries wrong uses of TOOL in a copy of the folder DATA, each by its exit status and what it writes.
 
 A row is a line of the shell, its status, and what is written to standard output and standard error, whole or, where it ends
-in '..', its beginning. What is wanted is from docs/FORMATS.md, its table of slips, and README's table of statuses; what
+in '..', its beginning. What is wanted is from docs/FORMATS.md, its table of slips, and the table of statuses in docs/COMMANDS.md; what
 stands behind `error:` is clap's. Ends with 'uses: N passed, M failed'."""
 import os
 import pathlib

@@ -1,0 +1,77 @@
+#!/usr/bin/env python3
+"""words.py: that the pages keep to plain words. Run at the top of the repository.
+
+Each pattern below is one that a reader stumbles over. docs/words.txt has the exceptions: for a page how many hits it may have
+until it is written anew, and phrases that may stand anywhere. More hits are a fault, and so are fewer, so that the number only falls.
+Code, sessions and what stands in backquotes isn't looked at. --show PAGE prints a page's hits."""
+import pathlib
+import re
+import sys
+
+ROOT = pathlib.Path(__file__).resolve().parent.parent
+PATTERNS = [
+    r"\b(?:told|tells?|telling)\b",
+    r"\b(?:stands?|stood|standing)\b(?! for\b)",
+    r"\bbehind\b",
+    r"\b(?:of|by|from|to|in|with|beyond|than|but|as) what\b",
+    r"\bwhat (?:is|was|are|were) (?:kept|said|noted|carried|taken|given|brought)\b",
+    r"\b(?:of|by|to|from|in|on|with) (?:which|whom) (?:no|nothing|none)\b",
+    r"\bso (?:is|are|does|do) (?:of|for|in|by)\b",
+    r"\bwhere (?:it|that|there|nothing|none|no) (?:is|are|isn't|was|were|has|does)\b",
+    r"\b(?:anew|all the while|besides)\b",
+]
+
+
+def prose(text):
+    """A page's sentences: without sessions, code and links' targets."""
+    text = re.sub(r"^(?:    |\t).*$", "", text, flags=re.M)
+    text = re.sub(r"^```.*?^```", "", text, flags=re.M | re.S)
+    text = re.sub(r"`[^`\n]*`", "`", text)
+    return re.sub(r"\]\([^)\n]*\)", "]", text)
+
+
+def hits(page, phrases):
+    """The lines of a page with a hit in them, one for each hit."""
+    text = prose((ROOT / page).read_text())
+    for phrase in phrases:
+        text = re.sub(re.escape(phrase), lambda it: "-" * len(it[0]), text, flags=re.I)
+    found = []
+    for number, line in enumerate(text.splitlines(), 1):
+        for pattern in PATTERNS:
+            found += [f"{page}:{number}: {line[max(it.start() - 30, 0) : it.end() + 30]}" for it in re.finditer(pattern, line, re.I)]
+    return found
+
+
+def exceptions():
+    """The number of hits that each page may have, and the phrases that any may."""
+    lines = [line for line in (ROOT / "docs/words.txt").read_text().splitlines() if line and not line.startswith("#")]
+    numbers = dict(line.rsplit(" ", 1) for line in lines if line[-1].isdigit())
+    return {page: int(number) for page, number in numbers.items()}, [line for line in lines if not line[-1].isdigit()]
+
+
+def pages():
+    return sorted(str(it.relative_to(ROOT)) for it in [ROOT / "README.md", *ROOT.glob("docs/*.md"), ROOT / "benches/README.md"])
+
+
+def main():
+    allowed, phrases = exceptions()
+    if sys.argv[1:2] == ["--show"]:
+        print(*hits(sys.argv[2], phrases), sep="\n")
+        return 0
+    if sys.argv[1:] == ["--count"]:
+        print(*(f"{page} {len(hits(page, phrases))}" for page in pages()), sep="\n")
+        return 0
+    faults = [f"docs/words.txt: no page {page}" for page in allowed if page not in pages()]
+    for page in pages():
+        found = hits(page, phrases)
+        if len(found) > allowed.get(page, 0):
+            faults += [f"{page}: {len(found)} hits, where docs/words.txt allows {allowed.get(page, 0)}:", *found]
+        elif len(found) < allowed.get(page, 0):
+            faults.append(f"{page}: only {len(found)} hits are left: lower its number in docs/words.txt")
+    print(*faults, sep="\n", end="\n" if faults else "")
+    print(f"words: {len(faults)} faults")
+    return 1 if faults else 0
+
+
+if __name__ == "__main__":
+    sys.exit(main())

@@ -1,8 +1,6 @@
 pub mod BeatsInFlight
 pub mod Bounded
-pub mod CarriedAsks
 pub mod CarriedEvents
-pub mod CarriedLastReports
 pub mod CarriedProbes
 pub mod CarriedResponses
 pub mod FollowCases
@@ -10,9 +8,5 @@ pub mod Fresh
 pub mod InvariantAtClients
 pub mod Moved
 pub mod Owned
-pub mod Popped
-pub mod Sized
 pub mod SizedAfter
-pub mod SoundAfter
 pub mod SourcedAfter
-pub mod Strangers

@@ -1,23 +1,27 @@
 -- What is owed falls as a beat is taken that isn't the last of its message.
-use Rattle.std.proofs.Common.{◌≡◌, ℕ, ◌+◌, ◌<◌, ◌≤◌, Bool, true, false, List, ◌∷◌, refl, sym, ◌∙◌, arith, ◌⊎◌}
-use Rattle.std.proofs.Common.{Option, length, if◌then◌else◌}
+-- What is owed in a world: its bound, and how it falls with a beat that isn't the last of its message.
+use Rattle.std.proofs.Common.{◌≡◌, ℕ, ◌+◌, ◌*◌, ◌<◌, ◌≤◌, Bool, true, false, ◌==◌, if◌then◌else◌, List, ◌∷◌, Option}
+use Rattle.std.proofs.Common.{refl, sym, ◌∙◌, arith, ◌⊎◌, ◌/◌, length}
 use Rattle.tl_coherence.proofs
-use proofs.Imports.{cases_eq, Beat, Channel, beats_of, Config, Left, probing_weight, pair_weight, probes_weight}
-use proofs.Imports.{acquire_weight, letting_weight, rank, let_weight, IsInvariant, is_asked, is_replied, Kind, Request}
-use proofs.Imports.{Acquire, ProbeAck, Release, Answer, Grant, ClientBlock, Own, Granting}
-use proofs.Imports.{ReleaseSent, View, ReleasePhase, Waits, State, SourceFree, Asked, InService, Replied, Acquires}
-use proofs.Imports.{packet, view, packets_on, is_unserved, is_wanting, is_granting, is_releasing, shown}
-use proofs.Imports.{channel_for, AccessMessages, message_of_kind, System}
-use proofs.protocol.{TokenNames.shown_there, TokenNames.shows_it, Room.is_light, Room.light-one, BothParts.not-answered}
-use proofs.protocol.Capacities.{request_named, answer_named, acquire_named, grant_named, release_named}
+use proofs.Imports.{cases_eq, Beat, Channel, IsWidth, MessageA, beats_of, completes, Config, Left, acquire_weight}
+use proofs.Imports.{let_weight, letting_weight, open_releases, open_requests, pair_weight, probes_weight}
+use proofs.Imports.{probing_weight, rank, IsInvariant, is_asked, is_replied, Acquire, Answer, Grant, Kind, ProbeAck}
+use proofs.Imports.{Release, Request, ClientBlock, Granting, Own, ReleasePhase, ReleaseSent, View, Acquires, Asked}
+use proofs.Imports.{InService, Replied, SourceFree, State, Waits, packet, packets_on, view, is_granting, is_releasing}
+use proofs.Imports.{is_unserved, is_wanting, shown, channel_for, AccessMessages, message_of_kind, SimulationRelation}
+use proofs.Imports.{is_caching, Log, system_after, System}
+use proofs.queues.{FirstToken.first-token, FirstToken.IsFirst, Tokens.same_number, Distinct.first-there}
+use proofs.queues.{Phases.and_right, Channels.same_kind_again, Moves.kind_channel}
+use proofs.protocol.{Room.is_light, Room.light-one, BothParts.not-answered}
 use proofs.protocol.BeatsRemaining.{beats_left, taken_of, is_front, same_channels}
-use proofs.queues.{Distinct.first-there, FirstToken.IsFirst, Phases.and_right, Rendered.same_kind_again}
-use proofs.queues.{Tokens.same_number, KindMoves.kind_channel}
-use proofs.rank.Frames.{unserved-weight, AreClients}
+use proofs.protocol.Capacities.{shown_there, shows_it, request_named, answer_named, acquire_named, grant_named}
+use proofs.protocol.Capacities.{release_named}
+use proofs.simulation.Owned.{unfinished_at, are-clients, first-left}
+use proofs.rank.{Weights.IsLeft, Weights.potential-few, Frames.unserved-weight, Frames.AreClients}
+use proofs.rank.BeatsRemainingSums.{answer_to, is-left, wide-block}
 use proofs.rank.RankParts.{IsAsking, asking, IsWaited, waited-probing, open_use}
 use proofs.rank.RankDecreases.{IsNoMore, owed_use, owed_use', use-falls, let-falls, use-no-more, probes-no-more}
 use proofs.rank.RankDecreases.{acquire-no-more, total-falls}
-use proofs.simulation.Popped.{unfinished_at, first-left}
 
 -- The receiver of channel ch of client c's link has one beat more, and the others have what they had.
 pub record IsBegun {w : ℕ} (c : ℕ) (ch : Channel) (x : Beat w) (rest rest' : ℕ → Channel → List (Beat w)) : Type 0 where
@@ -207,3 +211,44 @@ beat-falls {w} {config} {caching} {ch} {c} {mail} {s} {sys} sys' {x} {queue} siz
     one_less =
         let t = taken (is_front first.kind first.number (packets_on (channel_for first.kind) (s.link c))) front in
         omega (arith, first-left first, t, more)
+
+abbrev pub owed : {w : ℕ} → Config → AccessMessages w → State (List ℕ) → System w → ℕ
+owed {w} config mail s sys = rank config (64 / w) (beats_left mail s (unfinished_at sys)) (answer_to mail) s
+
+pub narrow-block : (w : ℕ) → IsWidth w → 64 / w ≤ 16
+narrow-block w e = grind arith
+
+left-matched : {w : ℕ} {config : Config} {log : Log w} {mail : AccessMessages w} {request : ℕ → MessageA w}
+    {s : State (List ℕ)} {sys : System w} → IsWidth w → SimulationRelation config log mail request s sys
+    → IsLeft (64 / w) (beats_left mail s (unfinished_at sys)) (answer_to mail) s
+left-matched {config} {mail} {s} {sys} width matched = is-left config mail (unfinished_at sys)
+    width matched.invariant matched.sourced
+
+-- what is owed is at most a block's beats and 33 for each open request, a block's beats and one for each open Release
+pub owed-few : {w : ℕ} {config : Config} {log : Log w} {mail : AccessMessages w} {request : ℕ → MessageA w}
+    {s : State (List ℕ)} {sys : System w} → IsWidth w
+    → SimulationRelation config log mail request s sys → length config.clients.items ≤ 16
+    → owed config mail s sys ≤ (64 / w + 33) * open_requests config s + (64 / w + 1) * open_releases config s
+owed-few {w} {config} {log} {mail} {request} {s} {sys} width matched sixteen = potential-few matched.invariant (64 / w)
+    (beats_left mail s (unfinished_at sys)) (answer_to mail) (left-matched width matched) (let wide =
+    wide-block w width in omega (arith, wide)) (narrow-block w width) (length config.clients.items) sixteen config refl
+
+not_last : (b : Bool) (k n : ℕ) → b ≡ (k + 1 == n) → b ≡ false → k < n → k + 1 < n
+not_last b k n e f lt = grind (arith, same_number)
+
+-- a beat that isn't the last of its message is taken
+pub owed-begun : {w : ℕ} {config : Config} {log : Log w} {mail : AccessMessages w} {request : ℕ → MessageA w}
+    {s : State (List ℕ)} (sys' : System w) {ch : Channel} {c : ℕ} {x : Beat w} (queue : List (Beat w)) → IsWidth w
+    → SimulationRelation config log mail request s (system_after config log) → c < length config.clients.items
+    → (system_after config log).channels c ch ≡ x ∷ queue → completes x (unfinished_at (system_after config log) c ch)
+    ≡ false → IsBegun c ch x (unfinished_at (system_after config log)) (unfinished_at sys')
+    → owed config mail s sys' + 1 ≤ owed config mail s (system_after config log)
+owed-begun {w} {config} {log} {mail} {request} {s} sys' {ch} {c} {x} queue width matched lt beats part begun =
+    let first = first-token (is_caching config) ch c mail s (system_after config log) x queue width matched.invariant
+    matched.carried beats in
+    beat-falls sys' (64 / w) (answer_to mail)
+    first
+    (not_last (completes x (unfinished_at (system_after config log) c ch)) first.next.k
+    (beats_of (message_of_kind first.kind mail s c first.number)) first.next.completes_is part first.next.within) begun
+    matched.invariant
+    (are-clients matched width) lt

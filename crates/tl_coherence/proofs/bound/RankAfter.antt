@@ -1,40 +1,104 @@
+-- What an event at which the last beat of a message is taken finds, and what it leaves as it was.
 -- What is owed in a world falls as the last beat of a message is taken.
-use Rattle.std.proofs.Common.{◌≡◌, ℕ, ◌+◌, ◌/◌, ◌<◌, ◌≤◌, Bool, true, false, List, ◌∷◌, refl, arith, ◌⊎◌, ap}
-use Rattle.std.proofs.Common.{[], None, length, Option, length-append}
+use Rattle.std.proofs.Common.{◌≡◌, ℕ, ◌+◌, ◌<◌, ◌≤◌, Bool, true, false, List, [], ◌∷◌, Option, None, refl, ap, arith}
+use Rattle.std.proofs.Common.{◌⊎◌, inl, inr, ◌/◌, length, length-append, map}
 use Rattle.tl_coherence.proofs
-use proofs.Imports.{cases_eq, Channel, IsWidth, Message, MessageA, Config, Cap, Prune, Report, IsInvariant, is_replied}
-use proofs.Imports.{Kind, Request, Acquire, Probe, ProbeAck, Release, Answer, Grant, ReleaseAck, GrantAck, Packet, set}
-use proofs.Imports.{set_at, ProbeSent, ProbeAnswered, probe_taken, report_answers, report_grants, access_answered}
-use proofs.Imports.{access_served, release_taken, answer_taken, release_ack_taken, grant_ack_taken, answered_link}
-use proofs.Imports.{freed_block, is_on, let_go_block, let_link, performed_block, probed_link, reported_block}
-use proofs.Imports.{served_block, taken_link, Free, Waits, GrantSent, GrantTaken, Block, State, Asked, Replied, packet}
-use proofs.Imports.{probed_block, report_taken, ended_block, granted_block, granted_at_once, acquire_granted}
-use proofs.Imports.{acquire_served, let_block, taken_block, grant_taken, Acquires, InService, SourceFree, packets_on}
-use proofs.Imports.{shown, AccessMessages, block_message, message_of, SimulationRelation, is_caching, IsSourced}
-use proofs.Imports.{IsAnswered, Log, system_after, System, channel_of_message}
-use Rattle.tl_coherence.{specs.protocol.Protocol.Link}
+use proofs.Imports.{cases_eq, Channel, IsWidth, length-begun, Message, MessageA, Config, Cap, Prune, Report}
+use proofs.Imports.{IsInvariant, is_replied, Acquire, Answer, Grant, GrantAck, Kind, Packet, Probe, ProbeAck, Release}
+use proofs.Imports.{ReleaseAck, Request, set, set_at, ProbeAnswered, ProbePhase, ProbeSent, ReleasePhase, ReleaseSent}
+use proofs.Imports.{Acquires, Asked, Block, Free, GrantSent, GrantTaken, InService, Replied, SourceFree, State, Waits}
+use proofs.Imports.{access_answered, access_served, acquire_granted, acquire_served, answer_taken, answered_link}
+use proofs.Imports.{ended_block, ended_link, freed_block, grant_ack_taken, grant_taken, granted_at_once, granted_block}
+use proofs.Imports.{granted_link, is_on, let_block, let_go_block, let_link, packet, packets_on, performed_block}
+use proofs.Imports.{probe_taken, probed_block, probed_link, release_ack_taken, release_taken, report_answers}
+use proofs.Imports.{report_grants, report_taken, reported_block, served_block, served_link, taken_block, taken_link}
+use proofs.Imports.{is_answered, is_releasing, shown, IsCarried, ChannelRelation, channel_for, AccessMessages}
+use proofs.Imports.{message_of, message_of_kind, block_message, IsAnswered, IsSourced, SimulationRelation, is_caching}
+use proofs.Imports.{Log, system_after, System, channel_of_message}
+use Rattle.tl_coherence.specs.protocol.Protocol.{Link}
+use proofs.client.AsideAll.{set_at-other, set_at-else}
+use proofs.protocol.{BeatsRemaining.beats_left, BeatsRemaining.taken_of, BeatsRemaining.is_front, BothParts.acked-is}
+use proofs.protocol.Capacities.{shown_there, shows_it, acquire_named, answer_named, grant_named, release_ack_named}
+use proofs.protocol.Capacities.{release_named, request_named}
+use proofs.outstanding.OpenKinds.{set_e, ended_e, granted_e, served_e}
+use proofs.queues.{Distinct.first-there, Channels.same_kind_again, Channels.IsShown, Tokens.same_number}
+use proofs.queues.{Tokens.set-other, Tokens.set-same, Tokens.set_at-same, Moves.kind_channel, Showing.carries}
+use proofs.simulation.CarriedProbes.{access_served-shown, acquire_served-shown}
+use proofs.simulation.CarriedEvents.{report_answers-shown, report_grants-shown, probe_taken-shown, report_taken-shown}
+use proofs.simulation.CarriedEvents.{access_answered-shown, acquire_granted-shown, release_taken-shown}
+use proofs.simulation.CarriedResponses.{answer_taken-shown, release_ack_taken-shown, grant_taken-shown}
+use proofs.simulation.CarriedResponses.{grant_ack_taken-shown}
+use proofs.simulation.Owned.{unfinished_at, are-clients, IsReceived, popped-received}
 use proofs.rank.{Frames.Taking, Weights.IsLeft, RankParts.IsAsking, RankParts.asking, RankParts.serving-use}
 use proofs.rank.BeatsRemainingSums.{answer_to, is-left, answer-left, wide-block}
-use proofs.queues.{Shown.IsShown, Tokens.set-other, Tokens.set-same, Tokens.set_at-same, Showing.carries}
-use proofs.protocol.{BothParts.acked-is, TokenNames.shows_it, BeatsRemaining.beats_left}
-use proofs.protocol.Capacities.{acquire_named, answer_named, grant_named, release_ack_named, release_named}
-use proofs.protocol.Capacities.{request_named}
-use proofs.bound.RankOfLog.{owed, narrow-block}
 use proofs.bound.ReportDecreases.{report-falls, answering-falls, granting-falls, probe-falls}
-use proofs.bound.EventDecreases.{left-first, set_at-unlike, acks_as, acks_set, acks_ended, acks_granted, acks_served}
-use proofs.bound.EventDecreases.{answered_with, releasing_with, shown-first}
 use proofs.bound.RequestDecreases.{answered-falls, acquire-granted-falls, acquire-served-falls, granted-letting}
 use proofs.bound.RequestDecreases.{served-letting, serving-falls}
 use proofs.bound.ResponseDecreases.{answer-falls, grant-taken-falls, release-taken-falls, release-ack-falls}
 use proofs.bound.ResponseDecreases.{grant-ack-falls}
-use proofs.simulation.Popped.{are-clients, unfinished_at, IsReceived, popped-received}
-use proofs.simulation.CarriedProbes.{access_served-shown, acquire_served-shown}
-use proofs.simulation.CarriedLastReports.{report_answers-shown, report_grants-shown}
-use proofs.simulation.CarriedEvents.{probe_taken-shown, report_taken-shown, access_answered-shown}
-use proofs.simulation.CarriedEvents.{acquire_granted-shown, release_taken-shown}
-use proofs.simulation.CarriedResponses.{answer_taken-shown, release_ack_taken-shown, grant_taken-shown}
-use proofs.simulation.CarriedResponses.{grant_ack_taken-shown}
-use proofs.deliveries.{ManagersAfter.ack_channel}
+use proofs.bound.Beginnings.{owed, narrow-block}
+use proofs.deliveries.ManagersAfter.{ack_channel}
+
+-- ---- the token that is taken
+
+-- of the message that comes first some beat is left
+pub left-first : {w : ℕ} (ch : Channel) (c : ℕ) (k : Kind) (n : ℕ) (tokens : List Packet) (mail : AccessMessages w)
+    (s : State (List ℕ)) (sys : System w) → ChannelRelation mail s sys → is_on ch k ≡ true
+    → packets_on ch (s.link c) ≡ packet k n ∷ tokens → 1 ≤ beats_left mail s (unfinished_at sys) c k n
+left-first {w} ch c k n tokens mail s sys carried own first = go (rw first at (carried c ch))
+  where
+    go : IsCarried (unfinished_at sys c ch) (map (message_of mail s c) (packet k n ∷ tokens)) (sys.channels c ch)
+        → 1 ≤ beats_left mail s (unfinished_at sys) c k n
+    go (i, within, rest, queue) =
+        let taken : taken_of (unfinished_at sys c (channel_for k)) (is_front k n (packets_on (channel_for k)
+        (s.link c))) ≡ i = rw (kind_channel ch k own, first, same_kind_again k, same_number n, rest)
+        (length-begun (message_of_kind k mail s c n) i) in
+        omega (arith, taken, within)
+
+-- it is shown
+pub shown-first : {X : Type 0} {caching : ℕ → Bool} (ch : Channel) (c : ℕ) (k : Kind) (n : ℕ) (tokens : List Packet)
+    {s : State X} → IsInvariant caching s
+    → is_on ch k ≡ true → packets_on ch (s.link c) ≡ packet k n ∷ tokens → shows_it s c k n ≡ true
+shown-first ch c k n tokens inv own first = shown_there c ch k n inv own (rw first (first-there (packet k n) tokens))
+
+-- ---- what stays
+
+pub set_at-unlike : {X : Type 0} (c source : ℕ) (x : X) (f : ℕ → ℕ → X) (d i : ℕ) → (d ≡ c → i ≡ source → ⊥)
+    → set_at c source x f d i ≡ f d i
+set_at-unlike c source x f d i ne = go (cases_eq d c) (cases_eq i source)
+  where
+    go : (d ≡ c) ⊎ (d ≡ c → ⊥) → (i ≡ source) ⊎ (i ≡ source → ⊥) → set_at c source x f d i ≡ f d i
+    go (inl e) (inl g) = absurd (ne e g)
+    go (inr other) at = set_at-other c d source i x f other
+    go (inl e) (inr other) = set_at-else c source i x f other d
+
+-- where a link has the GrantAcks that it had
+pub acks_as : (l k : Link) → l.e ≡ k.e → length l.e ≤ length k.e
+acks_as l k e = let same = ap length e in omega (arith, same)
+
+pub acks_set : (c : ℕ) (l : Link) (link : ℕ → Link) → l.e ≡ (link c).e → (d : ℕ)
+    → length (set c l link d).e ≤ length (link d).e
+acks_set c l link e d = acks_as (set c l link d) (link d) (set_e c l link e d)
+
+pub acks_ended : (c q : ℕ) (x : Packet) (rest : List Packet) (link : ℕ → Link) (d : ℕ)
+    → length (ended_link c q x rest link d).e ≤ length (link d).e
+acks_ended c q x rest link d = acks_as (ended_link c q x rest link d) (link d) (ended_e c q x rest link d)
+
+pub acks_granted : (c q n : ℕ) (rest : List Packet) (link : ℕ → Link) (d : ℕ)
+    → length (granted_link c q n rest link d).e ≤ length (link d).e
+acks_granted c q n rest link d = acks_as (granted_link c q n rest link d) (link d) (granted_e c q n rest link d)
+
+pub acks_served : (r : ℕ) (own : Bool) (n : ℕ) (k : Cap) (rest : List Packet) (b : Block (List ℕ)) (link : ℕ → Link)
+    (d : ℕ) → length (served_link r own n k rest b link d).e ≤ length (link d).e
+acks_served r own n k rest b link d = grind (arith, acks_as, served_e)
+
+-- ---- phases
+
+pub answered_with : (x : ProbePhase) → is_answered x ≡ true → (r : Report) × (x ≡ ProbeAnswered r)
+answered_with x e = grind arith
+
+pub releasing_with : (x : ReleasePhase) → is_releasing x ≡ true → (r : Prune) × (x ≡ ReleaseSent r)
+releasing_with x e = grind arith
 
 -- ---- the channels of what is handed out
 

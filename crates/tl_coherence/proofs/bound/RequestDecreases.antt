@@ -2,15 +2,15 @@
 use Rattle.std.proofs.Common.{◌≡◌, ℕ, ◌+◌, ◌≤◌, Bool, true, false, List, refl, sym, ◌∙◌, ap, arith, ◌⊎◌, inl, inr}
 use Rattle.std.proofs.Common.{length, ne_eqb}
 use Rattle.tl_coherence.proofs
-use proofs.Imports.{cases_eq, Config, Cap, Left, pair_weight, probes_weight, acquire_weight, IsInvariant, Request}
-use proofs.Imports.{Acquire, Grant, Answer, ClientBlock, Own, Granting, is_unprobed, Idle, after_grant_sent, Service}
-use proofs.Imports.{Free, Waits, GrantSent, Block, State, SourceFree, Asked, InService, Replied, Acquires, view}
-use proofs.Imports.{granted_at_once, performed_block, served_block, served_pair, is_unserved, AccessMessages}
+use proofs.Imports.{cases_eq, Config, Cap, Left, acquire_weight, pair_weight, probes_weight, IsInvariant, Acquire}
+use proofs.Imports.{Answer, Grant, Request, ClientBlock, Granting, Idle, Own, is_unprobed, after_grant_sent, Acquires}
+use proofs.Imports.{Asked, Block, Free, GrantSent, InService, Replied, Service, SourceFree, State, Waits}
+use proofs.Imports.{granted_at_once, performed_block, served_block, served_pair, view, is_unserved, AccessMessages}
 use proofs.rank.{RankParts.request-falls, Weights.IsLeft, Weights.probes-few, Weights.probes-fewer}
 use proofs.rank.Frames.{Taking, Falls, AreAsBefore, AreNoMore, AreElsewhere, IsBlockNoMore, acquire-stays, let-stays}
 use proofs.rank.Frames.{pair-stays, unserved-stays, wants-used}
 use proofs.protocol.{BeatsRemaining.beats_left, QuiescentProtocol.serves_another}
-use proofs.queues.{Sums.total-le, Tokens.same_number, Tokens.set-part}
+use proofs.queues.Tokens.{total-le, same_number, set-part}
 use proofs.bound.ReportDecreases.{is_for_access, nobody-serving}
 
 -- a client whose own Acquire is in service isn't probed for it

@@ -1,18 +1,18 @@
 -- What is owed falls as a response is taken, a Release, and a GrantAck.
-use Rattle.std.proofs.Common.{◌≡◌, ℕ, ◌+◌, ◌<◌, ◌≤◌, Bool, true, List, refl, sym, ◌∙◌, ap, arith, ◌⊎◌, inl, inr, Some}
-use Rattle.std.proofs.Common.{None, length, ne_eqb, eqb-true, ◌==◌}
+use Rattle.std.proofs.Common.{◌≡◌, ℕ, ◌+◌, ◌<◌, ◌≤◌, Bool, true, ◌==◌, List, Some, None, refl, sym, ◌∙◌, ap, arith, ◌⊎◌}
+use Rattle.std.proofs.Common.{inl, inr, length, ne_eqb, eqb-true}
 use Rattle.tl_coherence.proofs
-use proofs.Imports.{cases_eq, Config, Cap, Prune, Perm, prune_right, Left, probing_weight, pair_weight, probes_weight}
-use proofs.Imports.{acquire_weight, letting_weight, IsInvariant, Acquire, Grant, ProbeAck, Release, Answer, set}
-use proofs.Imports.{ClientBlock, Granting, ProbePhase, NoProbe, ProbeSent, ProbeAnswered, NoRelease, ReleaseSent}
-use proofs.Imports.{ReleaseAcked, after_release_taken, after_release_ack, after_grant, Service, Free, GrantSent}
-use proofs.Imports.{GrantTaken, Block, State, SourceFree, Replied, Acquires, view, taken_block, let_block, let_go_block}
-use proofs.Imports.{freed_block, is_unserved, is_wanting, is_answered, AccessMessages}
+use proofs.Imports.{cases_eq, Config, Cap, Prune, Perm, prune_right, Left, acquire_weight, letting_weight, pair_weight}
+use proofs.Imports.{probes_weight, probing_weight, IsInvariant, Acquire, Answer, Grant, ProbeAck, Release, set}
+use proofs.Imports.{ClientBlock, Granting, NoProbe, NoRelease, ProbeAnswered, ProbePhase, ProbeSent, ReleaseAcked}
+use proofs.Imports.{ReleaseSent, after_grant, after_release_ack, after_release_taken, Acquires, Block, Free, GrantSent}
+use proofs.Imports.{GrantTaken, Replied, Service, SourceFree, State, freed_block, let_block, let_go_block, taken_block}
+use proofs.Imports.{view, is_answered, is_unserved, is_wanting, AccessMessages}
 use proofs.bound.ReportDecreases.{kept_at, nobody-serving, is_for_access}
+use proofs.rank.RankParts.{request-falls, release-falls, acknowledged-falls, granted-falls, block-same}
 use proofs.rank.Frames.{Taking, Falls, AreAsBefore, AreNoMore, AreElsewhere, IsBlockNoMore, acquire-stays, let-stays}
 use proofs.rank.Frames.{pair-stays, unserved-stays, wants-used, report-here}
-use proofs.rank.RankParts.{request-falls, release-falls, acknowledged-falls, granted-falls, block-same}
-use proofs.queues.{Phases.and_right, Sums.total-le, Tokens.same_number, Tokens.set-same, Tokens.set-other}
+use proofs.queues.{Phases.and_right, Tokens.total-le, Tokens.same_number, Tokens.set-same, Tokens.set-other}
 use proofs.protocol.BeatsRemaining.{beats_left, left-same}
 
 pruned-weight : (size l l' : ℕ) (recorded : Perm) (r : Prune) (x : ProbePhase) → 1 ≤ size → ((a : ℕ) → l' ≤ l)

@@ -1,17 +1,17 @@
 -- Deliveries move no more beats than the load before them; and the next ones, one after another, end
 -- what is outstanding.
-use Rattle.std.proofs.Common.{◌≡◌, ℕ, zero, suc, ◌+◌, ◌≤◌, Bool, true, false, [], ◌∷◌, ◌++◌, Option, Some, None, length}
-use Rattle.std.proofs.Common.{refl, sym, ◌∙◌, ap, subst, arith, All}
-use Rattle.tl_coherence.proofs
-use proofs.Imports.{All-head, Link, Channel, Config, limits, one_if, Event, Deliver, Ask, Outcome, is_moving}
-use proofs.Imports.{is_delivery, IsDrained, IsGiven, load, Log, system_after, next_delivery, with_delivery, stepped}
+use Rattle.std.proofs.Common.{◌≡◌, ℕ, zero, suc, ◌+◌, ◌≤◌, Bool, true, false, [], ◌∷◌, ◌++◌, Option, Some, None, refl}
+use Rattle.std.proofs.Common.{sym, ◌∙◌, ap, subst, arith, length, All}
 use Rattle.std.proofs.lemmas.List.Elements.{All-tail}
-use Rattle.tl_coherence.specs.{statement.Draining.beats_moved, statement.Headline.AreTyped, statement.Log.IsLog}
-use Rattle.tl_coherence.specs.{statement.Movable.drained}
+use Rattle.tl_coherence.proofs
+use proofs.Imports.{All-head, Link, Channel, Config, limits, one_if, Event, Ask, Deliver, Outcome, IsDrained}
+use proofs.Imports.{is_delivery, is_moving, IsGiven, load, Log, system_after, with_delivery, next_delivery, stepped}
+use Rattle.tl_coherence.{specs.statement.Draining.beats_moved, specs.statement.Headline.AreTyped}
+use Rattle.tl_coherence.{specs.statement.Log.IsLog, specs.statement.Movable.drained}
 use proofs.outstanding.{Counted.load-open, Movement.none-outstanding, Progress.counted, Progress.moving}
 use proofs.links.{FromInvariant.matched-given, FromInvariant.stalls, Stalling.movable-moves}
 use proofs.deliveries.Matching.{shadow}
-use proofs.bound.{RankOfLog.owed, RankOfLog.owed-few, DeliveriesDecrease.moving-owed, DeliveriesDecrease.still-owed}
+use proofs.bound.{Beginnings.owed, Beginnings.owed-few, DeliveriesDecrease.moving-owed, DeliveriesDecrease.still-owed}
 use proofs.queues.QuiescentQueues.{next-movable}
 
 -- ---- what is owed after a log

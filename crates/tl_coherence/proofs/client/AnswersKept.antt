@@ -1,19 +1,19 @@
 -- Answers that are on their way answer their accesses: after every event.
-use Rattle.std.proofs.Common.{◌≡◌, ℕ, Bool, true, false, List, ◌∷◌, Some, None, length, refl, sym, ◌∙◌, ap, arith, inl}
-use Rattle.std.proofs.Common.{inr, ◌%◌}
+use Rattle.std.proofs.Common.{◌≡◌, ℕ, Bool, true, false, List, ◌∷◌, Some, None, refl, sym, ◌∙◌, ap, arith, inl, inr}
+use Rattle.std.proofs.Common.{◌%◌, length}
 use Rattle.tl_coherence.proofs
-use proofs.Imports.{cases_eq, OpA, OpD, Message, MessageA, MessageD, Config, Memory, effect, answer_of, as_payload}
-use proofs.Imports.{bytes_from, block_at, is_acquire, Op, Reply, access, access_answer, no_payload, is_access_answer}
-use proofs.Imports.{Kind, Answer, Packet, set_at, Waits, GrantSent, State, SourceState, SourceFree, Asked, InService}
-use proofs.Imports.{Replied, Acquires, packet, on, AbstractState, asked, access_taken, last_taken, taken_by_client}
-use proofs.Imports.{kind_taken, AccessMessages, report_told, SimulationRelation, IsAnswer, IsAnswered, IsFor, Log}
+use proofs.Imports.{cases_eq, OpA, OpD, Message, MessageA, MessageD, Config, Memory, answer_of, as_payload, bytes_from}
+use proofs.Imports.{effect, block_at, is_acquire, Op, Reply, access, access_answer, no_payload, is_access_answer}
+use proofs.Imports.{Answer, Kind, Packet, set_at, Acquires, Asked, GrantSent, InService, Replied, SourceFree}
+use proofs.Imports.{SourceState, State, Waits, on, packet, AbstractState, access_taken, asked, kind_taken, last_taken}
+use proofs.Imports.{taken_by_client, AccessMessages, report_told, IsAnswer, IsAnswered, SimulationRelation, IsFor, Log}
 use proofs.Imports.{System}
+use Rattle.tl_coherence.specs.refinement.AbstractStep as follow
 use Rattle.tl_rules.{specs.statement.Conformance.answers, specs.statement.Effect.byte_count}
 use Rattle.tl_rules.specs.statement.Effect as memory
-use Rattle.tl_coherence.specs.refinement.AbstractStep as follow
-use proofs.client.Aside.{set_at-else, set_at-other}
-use proofs.protocol.{Heads.asked-first, Events.true-taken}
-use proofs.queues.{Tokens.set_at-same}
+use proofs.client.AsideAll.{set_at-else, set_at-other}
+use proofs.protocol.{Heads.asked-first, HeadOfD.true-taken}
+use proofs.queues.Tokens.{set_at-same}
 
 abbrev pub AreAnswered : {w : ℕ} → AccessMessages w → State (List ℕ) → Type 0
 AreAnswered mail s = (c source : ℕ) → IsAnswered source (mail.request c source) (mail.answer c source) (s.uses c source)

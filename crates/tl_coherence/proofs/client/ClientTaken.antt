@@ -1,17 +1,17 @@
 -- A client's end after it has taken a beat of channel D, beside the event of the protocol.
-use Rattle.std.proofs.Common.{◌≡◌, subst, ℕ, Bool, true, false, not, ◌&&◌, cond, List, ◌∷◌, Option, Some, None, refl}
-use Rattle.std.proofs.Common.{arith, sym, ◌∙◌, ap, ◌⊎◌, inl, inr, ◌*◌, eqb-true, ne_eqb, ◌==◌}
+use Rattle.std.proofs.Common.{◌≡◌, ℕ, ◌*◌, Bool, true, false, not, ◌&&◌, ◌==◌, cond, List, ◌∷◌, Option, Some, None}
+use Rattle.std.proofs.Common.{refl, sym, ◌∙◌, ap, subst, arith, ◌⊎◌, inl, inr, eqb-true, ne_eqb}
 use Rattle.tl_coherence.proofs
 use proofs.Imports.{and-false, cases_eq, Beat, BeatA, BeatD, OpD, IsWidth, E, a_beat_of, History, Cap, Grow, Perm}
-use proofs.Imports.{cap_code, cap_right, sent, same_perm, block_at, ends, is_grant, is_release_ack, request_of, capped}
-use proofs.Imports.{same_block, swapped, Finish, Endpoint, with_past, sending, ended, responded, address_asked}
-use proofs.Imports.{finish_of, granted, open_beat, acquisition, grant_ack, cap-gives, grants_by_opcode, grant_opcode}
-use proofs.Imports.{acquires_of, AreNamed, Packet, ClientBlock, AcquireOpen, is_unreleased, is_whole, after_release_ack}
-use proofs.Imports.{after_grant, Block, State, SourceFree, Acquires, taken_block, grant_taken, let_go_block}
-use proofs.Imports.{answer_taken, granted_copy, release_ack_taken, is_wanting, acquire_opcode, AccessMessages, asked_by}
-use Rattle.tl_client.{proofs.endpoint.AfterOffered.granted_is}
+use proofs.Imports.{cap_code, cap_right, sent, same_perm, block_at, capped, ends, is_grant, is_release_ack, request_of}
+use proofs.Imports.{same_block, swapped, Finish, Endpoint, sending, with_past, address_asked, ended, finish_of, granted}
+use proofs.Imports.{responded, open_beat, acquisition, grant_ack, cap-gives, grants_by_opcode, grant_opcode, AreNamed}
+use proofs.Imports.{acquires_of, Packet, AcquireOpen, ClientBlock, is_unreleased, is_whole, after_grant}
+use proofs.Imports.{after_release_ack, Acquires, Block, SourceFree, State, answer_taken, grant_taken, granted_copy}
+use proofs.Imports.{let_go_block, release_ack_taken, taken_block, is_wanting, acquire_opcode, AccessMessages, asked_by}
 use Rattle.tl_client.specs.laws.After.{copy_granted, waiting_granted}
-use proofs.client.{Aside.set_at-else, ClientRequests.chosen, ClientRequests.passed}
+use Rattle.tl_client.proofs.endpoint.AfterOffered.{granted_is}
+use proofs.client.{AsideAll.set_at-else, ClientAsked.chosen, ClientAsked.passed}
 use proofs.client.ClientEnd.{IsWellKept, IsEnd, asks-same, asks-closed, asks-acquire, open-is, column}
 use proofs.client.ClientDeliverD.{IsHeard, IsEcho, echo-none, echo-e, known-heard, opened-heard, heard-part}
 use proofs.client.ClientDeliverD.{answer_closes, ack_closes, grant_closes}

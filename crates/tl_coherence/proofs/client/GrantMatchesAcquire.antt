@@ -2,11 +2,11 @@
 use Rattle.std.proofs.Common.{◌≡◌, ℕ, Bool, true, false, not, List, refl, sym, ◌∙◌, ap, arith}
 use Rattle.tl_coherence.proofs
 use proofs.Imports.{⊤, Message, Config, Cap, Grow, Profile, block_at, Op, Reply, copy_stored, whole_grow, IsInvariant}
-use proofs.Imports.{Kind, Packet, set, ClientBlock, AcquirePhase, NoAcquire, AcquireOpen, is_unacquired, after_acquire}
-use proofs.Imports.{after_release, after_probe, after_report, after_release_taken, after_release_ack, after_grant_sent}
-use proofs.Imports.{Service, GrantSent, Block, State, view, acquiring_block, releasing_block, stored_block}
-use proofs.Imports.{AbstractState, asked, gift, kind_taken, gives_asked, IsGivenAsked}
-use proofs.protocol.{HeadOfD.own_view, FollowKept.IsAskable, Events.true-taken}
+use proofs.Imports.{Kind, Packet, set, AcquireOpen, AcquirePhase, ClientBlock, NoAcquire, is_unacquired, after_acquire}
+use proofs.Imports.{after_grant_sent, after_probe, after_release, after_release_ack, after_release_taken, after_report}
+use proofs.Imports.{Block, GrantSent, Service, State, acquiring_block, releasing_block, stored_block, view}
+use proofs.Imports.{AbstractState, asked, gift, kind_taken, IsGivenAsked, gives_asked}
+use proofs.protocol.{HeadOfD.own_view, HeadOfD.true-taken, FollowKept.IsAskable}
 use proofs.queues.{Facts.granting_asks, Tokens.set-same, Tokens.set-other, Tokens.set-part, Tokens.set-each}
 
 abbrev pub AreGiven : Profile → State (List ℕ) → Type 0

@@ -1,19 +1,24 @@
 -- What a client knows after a Probe: the landed answer has exactly the effect of the abstract event.
-use Rattle.std.proofs.Common.{◌≡◌, ℕ, Bool, true, false, not, cond, List, [], ◌∷◌, Option, None, refl, sym, ◌∙◌, ap}
-use Rattle.std.proofs.Common.{arith, ◌⊎◌, inl, inr, ne_eqb, ◌==◌, if◌then◌else◌, nat_le, option_map}
+-- A client's end after it has taken a Probe, beside the event of the protocol.
+use Rattle.std.proofs.Common.{◌≡◌, ℕ, Bool, true, false, not, ◌&&◌, ◌==◌, if◌then◌else◌, cond, List, [], ◌∷◌, Option}
+use Rattle.std.proofs.Common.{Some, None, refl, sym, ◌∙◌, ap, arith, ◌⊎◌, inl, inr, eqb-true, ne_eqb, nat_le}
+use Rattle.std.proofs.Common.{option_map}
 use Rattle.tl_coherence.proofs
 use proofs.Imports.{cases_eq, Beat, BeatA, BeatB, Channel, OpB, OpC, IsWidth, beats-positive, Message, MessageC}
 use proofs.Imports.{beat_of, History, unfinished, Key, Cap, Report, Perm, Profile, Rule, report_at, report_code}
-use proofs.Imports.{report_right, pending-whole, release_of-whole, pending-quiet, held_unsaid, sent, broken_in_order}
-use proofs.Imports.{broken_order, block_at, held, pending, is_release, release_of, opens, closes, is_probe_ack, illegal}
-use proofs.Imports.{same_block, kept_past, open_beat-c, Verdict, EndConfig, Endpoint, copy_at, held_at, with_past}
-use proofs.Imports.{sending, zeros, silent, offered, waits, taken, broken_before, broken_later, judged_later}
-use proofs.Imports.{report_for, open_beat, about, probe_ack, Packet, ClientBlock, is_unreleased, after_probe, State}
-use proofs.Imports.{Block, probed_block, probe_taken, is_wanting, ClientRelation, probe_beat, OpenSourceRelation}
-use Rattle.tl_client.{proofs.pending.Opens.open_beat-b, specs.statement.Offer.probed, specs.statement.Offer.judged}
+use proofs.Imports.{report_right, pending-whole, release_of-whole, held_unsaid, pending-quiet, sent, broken_in_order}
+use proofs.Imports.{same_perm, broken_order, block_at, closes, is_probe_ack, is_release, opens, held, pending}
+use proofs.Imports.{release_of, illegal, kept_closed, kept_copies, kept_past, same_block, kept_waiting, open_beat-c}
+use proofs.Imports.{Verdict, EndConfig, Endpoint, copy_at, held_at, sending, with_past, zeros, holds, broken_before}
+use proofs.Imports.{broken_later, judged_later, report_for, silent, taken, waits, offered, open_beat, about, probe_ack}
+use proofs.Imports.{Packet, ClientBlock, is_unreleased, is_whole, after_probe, Block, State, probe_taken, probed_block}
+use proofs.Imports.{is_wanting, ClientRelation, AccessMessages, probe_beat, asked_by, OpenSourceRelation}
+use Rattle.tl_client.{proofs.pending.KeptOffered.reports_held, proofs.pending.Opens.open_beat-b}
+use Rattle.tl_client.specs.statement.Offer.{probed, judged}
 use Rattle.tl_client.proofs.endpoint.HeldAfter.{held-probe_ack, still_whole}
-use proofs.client.ClientEnd.{IsWellKept, known-kept}
-use proofs.queues.{Codes.cap-again, Tokens.same_number, Tokens.set-same, Tokens.set-other}
+use proofs.client.ClientEnd.{IsWellKept, IsEnd, IsSame, known-same, opened-same, asks-same, column, known-kept}
+use proofs.queues.{Phases.held-some, Codes.cap-again}
+use proofs.queues.Tokens.{set-same, set-part, same_number, set-other}
 
 -- ---- the Probe
 
@@ -180,3 +185,61 @@ opened-probed {w} n k rest e width none open_ =
           (same_release source x a.0 t width a.2.releases_none none) ∙ open_.released source i some;
       sizes = λ source i some. cc (same_release source x a.0 t width a.2.releases_none none, open_.sizes source i some);
     })
+
+pub end-probe_taken : {w : ℕ} {c : ℕ} (n : ℕ) (k : Cap) (rest : List Packet) (mail : AccessMessages w)
+    {s : State (List ℕ)} {e : Endpoint w} → IsWidth w → IsWellKept (probed (probe_beat n k) n (held_at e n) e).after
+    → IsEnd (asked_by mail s c) c s e → IsEnd (asked_by mail (probe_taken c n k rest s) c) c (probe_taken c n k rest s)
+    (probed (probe_beat n k) n (held_at e n) e).after
+end-probe_taken {w} {c} n k rest mail {s} {e} width well end =
+    let g : Endpoint w = sending (probe_ack OpB.ProbeBlock p (report_for (probe_beat {w = w} n k) p) n (copy_at e n))
+    (with_past (Beat.B (probe_beat n k) ∷ e.past) e) in
+    let s' : State (List ℕ) = probe_taken c n k rest s in
+    let same : IsSame c (asked_by mail s c) (asked_by mail s' c) s' s' = record {
+      held = λ i. refl;
+      acquiring = λ i. refl;
+      letting = λ i. refl;
+      lets = λ i. refl;
+      asks = λ i. asks-same c i mail mail s s' refl (inl refl) (λ j used. set-part (λ (b : Block (List ℕ)).
+          (b.pair c).acquiring) n new s.block (ap (λ (q : ClientBlock). q.acquiring) pair_is) j)
+          (λ j used. set-part (λ (b : Block (List ℕ)). b.source c) n new s.block refl j);
+    } in
+    record {
+      known = known-same same (known-probed n k rest e width well end.kept.c_whole end.known);
+      opened = opened-same same (opened-probed n k rest e width end.kept.c_whole end.opened);
+      kept = well.kept;
+      accounted = well.accounted;
+      copies = λ i some. kept_copies n left g i ∙ copy_of i (i == n) refl
+          (sym (column (λ (b : Block (List ℕ)). same_perm (b.pair c).held Perm.None) n new s.block i) ∙ some)
+          ∙ ap Some (sym (set-part (λ (b : Block (List ℕ)). b.copy c) n new s.block refl i));
+      waiting = λ i storing. let fact = end.waiting i (sym (set-part (λ (b : Block (List ℕ)). is_whole
+          (b.pair c).acquiring) n new s.block (ap (λ (q : ClientBlock). is_whole q.acquiring) pair_is) i) ∙ storing) in
+          cc (kept_waiting n left g i, set-part (λ (b : Block (List ℕ)). b.waiting c) n new s.block refl i);
+      live = kept_closed n left g ∙ end.live;
+    }
+  where
+    p : Perm
+    p = held_at e n
+
+    left : Perm
+    left = report_right (report_for (probe_beat {w = w} n k) p)
+
+    new : Block (List ℕ)
+    new = probed_block c k (s.block n)
+
+    pair_is : new.pair c ≡ after_probe k ((s.block n).pair c)
+    pair_is = set-same c (after_probe k ((s.block n).pair c)) (s.block n).pair
+
+    some_held : (q : Perm) → same_perm q Perm.None ≡ false → holds q ≡ true
+    some_held q e = grind arith
+
+    copy_of : (i : ℕ) (b : Bool) → (i == n) ≡ b
+        → cond b (same_perm (new.pair c).held Perm.None) (same_perm ((s.block i).pair c).held Perm.None) ≡ false
+        → cond (b && not (holds left)) None (e.copies i) ≡ Some ((s.block i).copy c)
+    copy_of i false is some = end.copies i some
+    copy_of i true is some =
+        let keeps : (z : Bool) → z ≡ true → cond (not z) None (e.copies i) ≡ e.copies i = λ z q. rw q refl in
+        let stays : holds left ≡ true =
+        ap holds (cc (report_is w n k p, end.known.held_is n, pair_is)) ∙ some_held (new.pair c).held some in
+        let before : holds p ≡ true = reports_held k p (cc (report_is w n k p)) in
+        keeps (holds left) stays ∙ end.copies i
+        (held-some ((s.block i).pair c).held (cc (eqb-true i n is, end.known.held_is n)))

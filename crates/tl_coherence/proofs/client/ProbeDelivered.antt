@@ -1,23 +1,22 @@
 -- A Probe that is delivered to a client waits for its Release, or is taken, and the client's end is
 -- then that of the protocol.
-use Rattle.std.proofs.Common.{◌≡◌, subst, ℕ, ◌<◌, Bool, true, false, not, ◌&&◌, List, [], ◌∷◌, Option, Some, None, refl}
-use Rattle.std.proofs.Common.{sym, ◌∙◌, ap, arith, eqb-true, ◌==◌, map}
+use Rattle.std.proofs.Common.{◌≡◌, ℕ, ◌<◌, Bool, true, false, not, ◌&&◌, ◌==◌, List, [], ◌∷◌, Option, Some, None, refl}
+use Rattle.std.proofs.Common.{sym, ◌∙◌, ap, subst, arith, eqb-true, map}
 use Rattle.tl_coherence.proofs
 use proofs.Imports.{and_right, Beat, BeatA, Channel, IsWidth, Message, MessageA, MessageD, begun, unfinished, completes}
-use proofs.Imports.{Config, ReleaseOf, is_grant, pending, asks_for, illegal, same_block, accounted-offered}
-use proofs.Imports.{kept-offered, Verdict, EndConfig, Endpoint, held_at, Offered, offered, taken, silent, waits}
-use proofs.Imports.{broken_before, grant_opcode, probe_of_block, IsInvariant, Kind, Probe, Answer, Grant, ReleaseAck}
-use proofs.Imports.{Packet, is_unprobed, is_unreleased, State, packet, is_on, view, is_sent, AbstractState}
-use proofs.Imports.{packet_taken, IsCarried, comes_granting, AccessMessages, cap_sent, block_message, probe_beat}
-use proofs.Imports.{message_of, message_of_kind, SimulationRelation, asked_by, is_caching, Log, System, terms_at}
+use proofs.Imports.{Config, ReleaseOf, asks_for, is_grant, pending, illegal, same_block, accounted-offered}
+use proofs.Imports.{kept-offered, Verdict, EndConfig, Endpoint, held_at, Offered, broken_before, silent, taken, waits}
+use proofs.Imports.{offered, grant_opcode, probe_of_block, IsInvariant, Answer, Grant, Kind, Packet, Probe, ReleaseAck}
+use proofs.Imports.{is_unprobed, is_unreleased, State, is_on, packet, view, is_sent, AbstractState, packet_taken}
+use proofs.Imports.{IsCarried, comes_granting, AccessMessages, cap_sent, message_of, message_of_kind, probe_beat}
+use proofs.Imports.{block_message, SimulationRelation, asked_by, is_caching, Log, System, terms_at}
 use Rattle.tl_client.{proofs.endpoint.Cases.passes_before, specs.statement.Offer.probed}
 use proofs.queues.{Carried.IsNext, Facts.granting_alone, Phases.and_left, Codes.access_kind}
 use proofs.queues.FirstToken.{IsFirst, first-token, own_kind}
-use proofs.client.{ClientAsked.IsEndOf, ClientDelivered.shadow_of, ClientProbed.end-probe_taken}
-use proofs.client.{KnownProbed.probe-taken, ClientTakes.terms-are, ClientTakes.sound-beat}
-use proofs.client.ClientEnd.{IsWellKept, end-matched, asks-acquire}
-use proofs.protocol.{BothParts.not-sent, FirstTokens.first-shown}
+use proofs.client.{ClientAsked.IsEndOf, ClientDelivered.shadow_of, KnownProbed.end-probe_taken, KnownProbed.probe-taken}
+use proofs.client.ClientEnd.{terms-are, sound-beat, IsWellKept, end-matched, asks-acquire}
 use proofs.protocol.HeadOfD.{answer-due, grant-due, grant_message, grant-rendered, ack_message, own_view}
+use proofs.protocol.BothParts.{not-sent, first-shown}
 
 -- ---- no Grant of a block that is probed has begun to come
 

@@ -1,13 +1,13 @@
 -- The Acquire that waits is the one that its client has open: after any event.
-use Rattle.std.proofs.Common.{◌≡◌, ℕ, Bool, true, false, List, refl, ap, inl, inr, arith}
+use Rattle.std.proofs.Common.{◌≡◌, ℕ, Bool, true, false, List, refl, ap, arith, inl, inr}
 use Rattle.tl_coherence.proofs
 use proofs.Imports.{cases_eq, ⊤, Message, MessageA, Config, Cap, Grow, block_at, Op, Reply, copy_stored, whole_grow}
-use proofs.Imports.{acquisition, IsInvariant, Kind, Acquire, Packet, set, ClientBlock, NoAcquire, AcquireOpen}
+use proofs.Imports.{acquisition, IsInvariant, Acquire, Kind, Packet, set, AcquireOpen, ClientBlock, NoAcquire}
 use proofs.Imports.{after_acquire, after_probe, after_release, after_release_ack, after_release_taken, after_report}
-use proofs.Imports.{Waits, Block, acquiring_block, releasing_block, served_block, stored_block}
-use proofs.Imports.{view, AbstractState, acquire_opcode, asked, kind_taken, block_message, IsAcquireOf}
+use proofs.Imports.{Block, Waits, acquiring_block, releasing_block, served_block, stored_block, view, AbstractState}
+use proofs.Imports.{acquire_opcode, asked, kind_taken, block_message, IsAcquireOf}
 use proofs.queues.{Facts.own_wants, Tokens.same_number, Tokens.set-same, Tokens.set-other}
-use proofs.protocol.{FollowKept.IsAskable, Events.true-taken}
+use proofs.protocol.{FollowKept.IsAskable, HeadOfD.true-taken}
 
 -- of all blocks
 abbrev pub AreAcquired : {w : ℕ} → (ℕ → MessageA w) → (ℕ → Block (List ℕ)) → Type 0

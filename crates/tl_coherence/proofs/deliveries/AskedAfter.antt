@@ -1,23 +1,24 @@
 -- An operation that a client is asked for: the channels and the one memory afterwards.
 use Rattle.std.proofs.Common.{◌≡◌, ℕ, Bool, true, false, ◌||◌, List, [], ◌∷◌, Option, Some, None, refl, sym, ◌∙◌, ap}
-use Rattle.std.proofs.Common.{arith, subst, inl, inr}
+use Rattle.std.proofs.Common.{subst, arith, inl, inr}
 use Rattle.tl_coherence.proofs
 use proofs.Imports.{cases_eq, or_right, OpA, IsWidth, Message, MessageA, Config, Grow, Prune, Perm, same_perm, block_at}
-use proofs.Imports.{unfinished-asked, Op, Reply, whole_grow, release, access, acquisition, Ask, Outcome, IsInvariant}
-use proofs.Imports.{Acquire, Release, Block, State, view, acquiring_block, releasing_block, AbstractState, asked}
-use proofs.Imports.{acquire_opcode, ChannelRelation, MemoryRelation, AccessMessages, block_message, SimulationRelation}
-use proofs.Imports.{is_caching, Continues, Log, system_after, after_reply, one_memory_after, performing}
-use proofs.Imports.{accesses_answered, Step, stepped, handed_by, System, terms_at, with_client, with_messages}
-use Rattle.tl_coherence.{specs.statement.Machine.Performs}
+use proofs.Imports.{unfinished-asked, Op, Reply, whole_grow, access, acquisition, release, Ask, Outcome, IsInvariant}
+use proofs.Imports.{Acquire, Release, Block, State, acquiring_block, releasing_block, view, AbstractState}
+use proofs.Imports.{acquire_opcode, asked, ChannelRelation, MemoryRelation, AccessMessages, block_message}
+use proofs.Imports.{SimulationRelation, is_caching, Continues, Log, system_after, after_reply, accesses_answered}
+use proofs.Imports.{one_memory_after, performing, Step, handed_by, stepped, System, terms_at, with_client}
+use proofs.Imports.{with_messages}
+use Rattle.tl_coherence.specs.statement.Machine.{Performs}
 use Rattle.tl_client.specs.statement.Ask as ask
 use Rattle.tl_client.specs.statement.Endpoint as client
-use proofs.deliveries.{AskedWell.asked-well, BusyWell.IsHandedOut, ManagersAfter.release_channel}
+use proofs.deliveries.{AskedWell.asked-well, AskedWell.IsHandedOut, ManagersAfter.release_channel}
 use proofs.memory.BesideAsked.{IsReply, beside-asked}
-use proofs.queues.{Channels.IsHanded, Channels.pushes_at, PhaseFacts.trunk_held, Phases.and_left, Landed.pushes_of}
-use proofs.queues.{Landed.handed-client, Showing.none-carried, Steps.stepped-asked, Tokens.set-same}
+use proofs.queues.{Channels.IsHanded, Channels.pushes_at, PhaseFacts.trunk_held, Phases.and_left, Steps.pushes_of}
+use proofs.queues.{Steps.handed-client, Steps.stepped-asked, Showing.none-carried, Tokens.set-same}
 use proofs.protocol.{FollowKept.IsAskable, FollowKept.asked-kept, Heads.rendered-acquire}
-use proofs.simulation.CarriedAsks.{access_asked-carried, acquire_asked-carried, release_asked-carried}
-use proofs.simulation.CarriedAsks.{nothing_asked-carried, block_stored-carried}
+use proofs.simulation.CarriedEvents.{access_asked-carried, acquire_asked-carried, release_asked-carried}
+use proofs.simulation.CarriedEvents.{nothing_asked-carried, block_stored-carried}
 
 -- ---- the operations that do something
 

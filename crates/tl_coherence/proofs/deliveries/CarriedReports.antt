@@ -1,32 +1,173 @@
+-- The channels after a beat of channel C or E was taken, and the bytes on their way.
 -- The channels carry the messages of the tokens after each delivery on channel C or E.
-use Rattle.std.proofs.Common.{◌≡◌, ℕ, Bool, true, false, List, [], ◌∷◌, length, refl, sym, ◌∙◌, ap, subst, ◌==◌, arith}
-use Rattle.std.proofs.Common.{if◌then◌else◌}
+use Rattle.std.proofs.Common.{◌≡◌, ℕ, Bool, true, false, ◌==◌, if◌then◌else◌, List, [], ◌∷◌, Option, Some, None, refl}
+use Rattle.std.proofs.Common.{sym, ◌∙◌, ap, subst, arith, ◌⊎◌, inl, inr, length}
 use Rattle.tl_coherence.proofs
-use proofs.Imports.{Beat, Channel, IsWidth, Message, MessageA, beat_of, unfinished, completes, Config, Report, Handed}
-use proofs.Imports.{reaction, Deliver, IsWell, IsInvariant, ProbeAck, Release, Grant, ReleaseAck, Packet, set}
-use proofs.Imports.{ProbeAnswered, AcquirePhase, NoAcquire, AcquireOpen, is_granted_data, Service, Waits, Block, view}
-use proofs.Imports.{Free, GrantSent, GrantTaken, let_block, release_taken, report_taken, packet, ended_block}
-use proofs.Imports.{granted_block, AbstractState, ack_taken, answers, abstract_step, last_taken, some_below}
-use proofs.Imports.{packet_taken, with_state, performs, granted_after, prune_told, block_message, report_told}
-use proofs.Imports.{SimulationRelation, is_caching, IsFor, receiver, Log, stepped, System}
+use proofs.Imports.{or-true, cases_eq, same_Some, Beat, Channel, IsWidth, Message, MessageA, beat_of, unfinished}
+use proofs.Imports.{completes, Config, Cap, Report, Perm, prune_left, same_perm, is_acquire, EndConfig, End, Handed}
+use proofs.Imports.{access_answer, cap_probed, reaction, Deliver, Outcome, IsInvariant, IsWell, Grant, Kind, Packet}
+use proofs.Imports.{ProbeAck, Release, ReleaseAck, set, AcquireOpen, AcquirePhase, ClientBlock, NoAcquire}
+use proofs.Imports.{ProbeAnswered, is_unprobed, after_report, is_granted_data, Block, Free, GrantSent, GrantTaken}
+use proofs.Imports.{Service, Waits, ended_block, granted_block, let_block, packet, release_taken, report_taken, view}
+use proofs.Imports.{shown, AbstractState, abstract_step, ack_taken, answers, granted_after, last_taken, packet_taken}
+use proofs.Imports.{performs, with_state, some_below, ChannelRelation, prune_told, report_told, block_message}
+use proofs.Imports.{SimulationRelation, is_caching, IsFor, receiver, Log, Step, handing, is_to_client, stepped, System}
+use proofs.Imports.{channel_of_message, terms_at, with_channel, with_manager, with_messages}
 use Rattle.tl_coherence.specs.protocol.Protocol as protocol
-use proofs.queues.{Shown.carried-shown, FirstToken.first-token, Landed.IsOn, Landed.on_own_channel}
-use proofs.queues.{Facts.answered_other, Facts.is_other, Facts.own_wants, Tokens.same_number, Tokens.set-same}
-use proofs.queues.{Tokens.set_at-same}
-use proofs.manager.{Choices.plain-past, ManagerSettles.gift_after, Reporting.report-about, Reporting.release-about}
-use proofs.manager.{ManagerAfter.others_probed, ManagerTakes.by-first_c, UnwaitedRequests.invariant-taken}
-use proofs.manager.{UnwaitedRequests.next_tracker}
-use proofs.protocol.{RequestsKept.settled_all, BothParts.taken-unseen, BothParts.granted-unseen}
-use proofs.protocol.{FirstTokens.first-report}
+use Rattle.tl_rules.specs.declared.answer.Answer.{Answer}
+use Rattle.tl_rules.specs.declared.answer.Answer as answers_of
+use Rattle.tl_manager.specs.code.Kept as manager
+use proofs.queues.{Showing.carries, Showing.none-carried, Phases.nothing_below, FirstToken.first-token}
+use proofs.queues.Channels.{behind, IsTaken, pushes_at, carried-shown}
+use proofs.queues.Tokens.{set-same, set-other, set-part, same_number, set_at-same}
+use proofs.queues.Steps.{IsLanded, IsOn, landed-manager, channels-handed, pushes_of, taken-landed, on_own_channel}
+use proofs.queues.Facts.{answered_other, is_other, own_wants}
+use proofs.manager.{Memories.left, Memories.others_probed, ManagerTakes.IsTakenUp, ManagerTakes.by-first_c}
+use proofs.manager.{Admitted.head_all, Choices.plain-past, ManagerSettles.gift_after, Reporting.report-about}
+use proofs.manager.{Reporting.release-about, RequestsTaken.invariant-taken, RequestsTaken.next_tracker}
+use proofs.deliveries.ManagerFollowed.{client-of, step-taken, followed-taken}
+use proofs.deliveries.ManagerDelivered.{pushed, Delivered, channel_c-delivered, pushed_by, releases-delivered}
+use proofs.deliveries.ManagerDelivered.{reports-delivered, pushed_last, seen_apart}
+use proofs.simulation.CarriedEvents.{release_taken-shown, report_taken-shown, report_answers-shown, report_grants-shown}
+use proofs.simulation.Moved.{carried-part, manager-heard}
+use proofs.protocol.{RequestsKept.leaves-bytes, RequestsKept.settled_all, Granted.recorded_within}
+use proofs.protocol.BothParts.{taken-unseen, granted-unseen, first-report}
 use proofs.rank.RankParts.{serving-use}
-use proofs.simulation.{CarriedEvents.release_taken-shown, CarriedEvents.report_taken-shown}
-use proofs.simulation.{CarriedLastReports.report_answers-shown, CarriedLastReports.report_grants-shown}
-use proofs.deliveries.ManagerDelivered.{Delivered, channel_c-delivered, pushed_by, releases-delivered}
-use proofs.deliveries.ManagerDelivered.{reports-delivered}
-use proofs.deliveries.{LastReportDelivered.pushed, LastReportDelivered.pushed_last, LastReportDelivered.seen_apart}
-use proofs.deliveries.{ManagerFollowed.client-of, ManagerFollowed.followed-taken}
-use proofs.deliveries.LandedReports.{ended-bytes, IsReceived, CarriesAfter, part-carried, last-quietly, last-handing}
-use proofs.deliveries.LandedReports.{answer_on_d, grant_on_d, ack_on_d}
+
+-- ---- an access that ends leaves the bytes on their way, or there are none
+
+-- a service that probes toN, with its last ProbeAck: nobody is recorded then
+unrecorded : {caching : ℕ → Bool} (c q source : ℕ) (r : Report) (f : List ℕ → List ℕ) {b : Block (List ℕ)}
+    → IsWell caching b → b.service ≡ Waits q false source Cap.ToN → (b.pair c).probing ≡ ProbeAnswered r
+    → ((d : ℕ) → (d ≡ c → ⊥) → is_unprobed (b.pair d).probing ≡ true) → (d : ℕ)
+    → same_perm ((ended_block c r f b).pair d).recorded Perm.None ≡ true
+unrecorded c q source r f {b} well waits answered settled d =
+    nothing_below (set c (after_report r (b.pair c)) b.pair d).recorded Perm.None
+    (recorded_within c r Cap.ToN well answered settled (rw waits refl) d (rw waits refl)) refl
+
+pub ended-bytes : {w : ℕ} {caching : ℕ → Bool} (c q source : ℕ) (r : Report) (k : Cap) (m : MessageA w)
+    {b : Block (List ℕ)} → IsWell caching b → IsWell caching (ended_block c r (performs m) b)
+    → b.service ≡ Waits q false source k → (b.pair c).probing ≡ ProbeAnswered r
+    → ((d : ℕ) → (d ≡ c → ⊥) → is_unprobed (b.pair d).probing ≡ true) → is_acquire m.opcode ≡ false
+    → cap_probed m.opcode m.param ≡ Some k → length b.truth ≡ 64 → (j : Kind) (i : ℕ) → shown j i b ≡ true
+    → shown j i (ended_block c r (performs m) b) ≡ true → (carries j i b ≡ false) ⊎ (performs m b.truth ≡ b.truth)
+ended-bytes {w} {caching} c q source r k m {b} before after waits answered settled access low long j i shown_now
+    shown_after = elim (leaves-bytes m b.truth access long) [
+      | inl same ↦ inr same
+      | inr all ↦ inl (kept j shown_after ∙ none-carried after
+          (λ d. rw (unrecorded c q source r (performs m) before (rw (same_Some k Cap.ToN (sym low ∙ all)) at waits)
+          answered settled d) (or-true (same_perm (new.pair d).held Perm.Trunk))) j i)
+    ]
+  where
+    new : Block (List ℕ)
+    new = ended_block c r (performs m) b
+
+    -- what is shown then was so before
+    kept : (x : Kind) → shown x i new ≡ true → carries x i b ≡ carries x i new
+    kept ProbeAck e = elim (cases_eq i c) [
+      | inl same ↦ absurd (let quiet : false ≡ true = rw (same, set-same c (after_report r (b.pair c)) b.pair) at e in
+          cc)
+      | inr other ↦ rw (set-other c i (after_report r (b.pair c)) b.pair other) refl
+    ]
+    kept Release e = sym (set-part (λ (p : ClientBlock). same_perm (prune_left (prune_told p.letting)) Perm.Trunk) c
+        (after_report r (b.pair c)) b.pair refl i)
+    kept Grant e = rw waits refl
+    kept x e = refl
+
+-- ---- the whole after a beat was taken
+
+-- nothing is handed out
+abbrev pub no_pushes : {w : ℕ} → ℕ → Channel → Option (Message w)
+no_pushes d at = None
+
+no-messages : {w : ℕ} (s : System w) (d : ℕ) (at : Channel)
+    → (with_messages [] s).channels d at ≡ behind (no_pushes d at) (s.channels d at)
+unfolding with_messages
+no-messages s d at = refl
+
+landed-taken : {w : ℕ} {config : Config} {c : ℕ} {ch : Channel} {x : Beat w} (queue : List (Beat w))
+    (sys : System w) (t : EndConfig) (handed : Handed w) (pushes : ℕ → Channel → Option (Message w)) → IsWidth w
+    → manager.IsKept config sys.manager → manager.IsTyped x → is_to_client ch ≡ false → IsOn ch x
+    → terms_at config c ≡ Some t → sys.channels c ch ≡ x ∷ queue → IsTakenUp config c ch x sys.manager
+    → (reaction config (record { 0 = c }) x sys.manager).handed ≡ handed
+    → ((s : System w) (d : ℕ) (at : Channel) → (with_messages handed s).channels d at ≡ behind (pushes d at)
+    (s.channels d at)) → IsLanded c ch x queue pushes sys (stepped config (Deliver (record { 0 = c }) ch) sys).after
+landed-taken {w} {config} {c} {ch} {x} queue sys t handed pushes width kept typed down on_ch terms beats up is pushed =
+    let e : End w = left c x (reaction config (record { 0 = c }) x sys.manager) sys.manager in
+    let base : System w = with_manager e (with_channel c ch queue sys) in
+    let step = step-taken config c ch x queue sys t terms beats down up in
+    subst (λ (i : Step w). IsLanded c ch x queue pushes sys i.after)
+    (sym (step ∙ ap (λ (i : Handed w). handing (Outcome.Moved x) i base) is))
+    (landed-manager c ch x queue pushes handed e sys down beats on_ch (manager-heard config
+    (record { 0 = c }) ch x queue sys (stepped config (Deliver (record { 0 = c }) ch) sys) width typed kept
+    (record { takes = up.answer; step_is = step })) (pushed base))
+
+-- a beat of channel C, or of channel E, is of that channel
+-- what holds before a delivery to the manager
+pub record IsReceived {w : ℕ} (config : Config) (log : Log w) (h : AbstractState w) (sys : System w) (c : ℕ)
+    (ch : Channel) (x : Beat w) (queue : List (Beat w)) : Type 0 where
+  pub width : IsWidth w
+  pub is : SimulationRelation config log h.mail h.request h.state sys
+  pub beats : sys.channels c ch ≡ x ∷ queue
+  pub down : is_to_client ch ≡ false
+  pub on_ch : IsOn ch x
+  pub up : IsTakenUp config c ch x sys.manager
+
+landed-received : {w : ℕ} {config : Config} {log : Log w} {h : AbstractState w} {sys : System w} {c : ℕ} {ch : Channel}
+    {x : Beat w} {queue : List (Beat w)} (handed : Handed w) (pushes : ℕ → Channel → Option (Message w))
+    → IsReceived config log h sys c ch x queue → (reaction config (record { 0 = c }) x sys.manager).handed ≡ handed
+    → ((s : System w) (d : ℕ) (at : Channel) → (with_messages handed s).channels d at ≡ behind (pushes d at)
+    (s.channels d at)) → IsLanded c ch x queue pushes sys (stepped config (Deliver (record { 0 = c }) ch) sys).after
+landed-received {w} {config} {sys} {c} {ch} {x} {queue} handed pushes at is pushed =
+    let t = client-of config c ch x queue sys at.beats (at.is.sound c ch) in
+    landed-taken queue sys t.0 handed pushes at.width at.is.manager_kept
+    (head_all (λ y. manager.IsSound config (record { 0 = c }, y)) x queue (sys.channels c ch) at.beats
+    (at.is.sound c ch)).typed at.down at.on_ch t.1
+    at.beats at.up is pushed
+
+-- the channels then
+abbrev pub CarriesAfter : {w : ℕ} → Config → ℕ → Channel → System w → AbstractState w → Type 0
+CarriesAfter config c ch sys h =
+    ChannelRelation h.mail h.state (stepped config (Deliver (record { 0 = c }) ch) sys).after
+
+-- a beat that isn't the last of its message
+pub part-carried : {w : ℕ} {config : Config} {log : Log w} {h : AbstractState w} {sys : System w} {c : ℕ} {ch : Channel}
+    {x : Beat w} {queue : List (Beat w)}
+    → IsReceived config log h sys c ch x queue → (reaction config (record { 0 = c }) x sys.manager).handed ≡ []
+    → completes x (unfinished ch (receiver ch c sys)) ≡ false → CarriesAfter config c ch sys h
+part-carried {config} {log} {h} {sys} {c} {ch} {x} {queue} at none part = carried-part h.mail h.state at.width
+    (landed-received [] no_pushes at none no-messages) (λ d i. refl) part at.is.carried
+
+-- its last beat, for which one message is handed out, or none
+pub last-quietly : {w : ℕ} {config : Config} {log : Log w} {h : AbstractState w} {sys : System w} {c : ℕ} {ch : Channel}
+    {x : Beat w} {queue : List (Beat w)} → IsReceived config log h sys c ch x queue
+    → (reaction config (record { 0 = c }) x sys.manager).handed ≡ [] → completes x (unfinished ch (receiver ch c sys))
+    ≡ true → IsTaken c ch x queue no_pushes sys (stepped config (Deliver (record { 0 = c }) ch) sys).after
+last-quietly at none last = taken-landed (landed-received [] no_pushes at none no-messages) last
+
+pub last-handing : {w : ℕ} {config : Config} {log : Log w} {h : AbstractState w} {sys : System w} {c : ℕ} (q : ℕ)
+    {ch : Channel} {x : Beat w} {queue : List (Beat w)} (m : Message w) → IsReceived config log h sys c ch x queue
+    → (reaction config (record { 0 = c }) x sys.manager).handed ≡ (record { 0 = q }, m) ∷ []
+    → completes x (unfinished ch (receiver ch c sys)) ≡ true → IsTaken c ch x queue (pushes_at q (pushes_of (Some m)))
+    sys (stepped config (Deliver (record { 0 = c }) ch) sys).after
+last-handing q m at one last = taken-landed (landed-received ((record { 0 = q }, m) ∷ [])
+    (pushes_at q (pushes_of (Some m))) at one (λ s d i. channels-handed q (Some m) s d i)) last
+
+-- ---- which messages are of channel D
+
+pub answer_on_d : {w : ℕ} (v : MessageA w) (kind : answers_of.Answer)
+    → channel_of_message (access_answer v kind) ≡ Channel.D
+answer_on_d v kind = grind arith
+
+pub grant_on_d : (w : ℕ) (q n : ℕ) (b : Block (List ℕ)) (d : Bool) (k : Cap) → b.service ≡ GrantSent q d k
+    → channel_of_message {w = w} (block_message Grant q n b) ≡ Channel.D
+unfolding block_message
+grant_on_d w q n b d k e = rw e refl
+
+pub ack_on_d : (w : ℕ) (c n : ℕ) (b : Block (List ℕ)) → channel_of_message {w = w} (block_message ReleaseAck c n b)
+    ≡ Channel.D
+unfolding block_message
+ack_on_d w c n b = refl
 
 -- ---- a ProbeAck
 

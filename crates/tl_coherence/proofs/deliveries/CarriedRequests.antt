@@ -1,33 +1,31 @@
 -- The channels after a beat of a request is taken carry the messages of the tokens.
-use Rattle.std.proofs.Common.{◌≡◌, ℕ, suc, ◌≤◌, Bool, true, false, not, ◌&&◌, ◌||◌, List, [], ◌∷◌, Option, Some, None}
-use Rattle.std.proofs.Common.{length, refl, sym, subst, ◌∙◌, ap, ◌⊎◌, inl, inr, arith, ◌==◌, if◌then◌else◌}
+use Rattle.std.proofs.Common.{◌≡◌, ℕ, suc, ◌≤◌, Bool, true, false, not, ◌&&◌, ◌||◌, ◌==◌, if◌then◌else◌, List, [], ◌∷◌}
+use Rattle.std.proofs.Common.{Option, Some, None, refl, sym, ◌∙◌, ap, subst, arith, ◌⊎◌, inl, inr, length}
 use Rattle.tl_coherence.proofs
 use proofs.Imports.{and_comm, cases_lt, Beat, Channel, Message, MessageA, a_beat_of, beats_of, unfinished, completes}
-use proofs.Imports.{Config, Cap, Perm, is_last, on_link, same_perm, effect, answer_of, block_at, is_acquire, same_block}
-use proofs.Imports.{swapped, reaction-part, Handed, Reaction, probes, recorded, probed, cap_probed, is_spared}
-use proofs.Imports.{must_wait, reaction, Outcome, IsInvariant, IsWell, cap_asked, Kind, Request, Acquire, Grant, Packet}
-use proofs.Imports.{AcquirePhase, AcquireOpen, is_granted_data, is_above, Block, State, packet, is_probed}
-use proofs.Imports.{granted_at_once, acquire_served, acquire_granted, AbstractState, some_below, answers, kind_taken}
-use proofs.Imports.{bytes_at, probes_some, access_taken, request_taken, performs, gift, is_unheld, acquire_taken}
-use proofs.Imports.{ChannelRelation, AccessMessages, block_message, SimulationRelation, is_caching, Log, Step, handing}
-use proofs.Imports.{System, with_manager, with_channel, with_messages}
+use proofs.Imports.{Config, Cap, Perm, is_last, same_perm, on_link, answer_of, effect, block_at, is_acquire, same_block}
+use proofs.Imports.{swapped, reaction-part, Handed, Reaction, probes, cap_probed, is_spared, probed, recorded}
+use proofs.Imports.{must_wait, reaction, Outcome, IsInvariant, IsWell, cap_asked, Acquire, Grant, Kind, Packet, Request}
+use proofs.Imports.{AcquireOpen, AcquirePhase, is_above, is_granted_data, Block, State, acquire_granted, acquire_served}
+use proofs.Imports.{granted_at_once, is_probed, packet, AbstractState, access_taken, acquire_taken, answers, bytes_at}
+use proofs.Imports.{gift, is_unheld, kind_taken, performs, probes_some, request_taken, some_below, ChannelRelation}
+use proofs.Imports.{AccessMessages, block_message, SimulationRelation, is_caching, Log, Step, handing, System}
+use proofs.Imports.{with_channel, with_manager, with_messages}
 use Rattle.tl_manager.specs.statement.Holders as holders
-use proofs.manager.{Admitted.offered-taken, AtRequests.end_after, AtRequests.reaction-probing, ManagedServed.same_above}
-use proofs.manager.{Requests.recorded-beat, Arrivals.link_of, Arrivals.with_beat, Arrivals.IsComing}
-use proofs.manager.{Arrivals.ends-coming, Arrivals.service_for, RequestsHanded.handed-answered}
-use proofs.manager.{RequestsHanded.handed-granted, RequestsTaken.caps_asked, RequestsTaken.acquire_wanted}
-use proofs.manager.{RequestsTaken.ready-request, RequestsTaken.ready-acquire}
-use proofs.queues.{Shown.carried-shown, Showing.carries, Showing.none-carried, Tokens.set-same, Codes.acquires-so}
-use proofs.queues.{Perms.none-above, Channels.behind, Channels.IsTaken, Channels.pushes_at}
-use proofs.protocol.{Events.IsReady, RequestsKept.some-none, RequestsKept.leaves-bytes, Heads.IsAsked, Heads.IsWanted}
-use proofs.simulation.{Moved.manager-heard, Moved.carried-part, CarriedEvents.access_answered-shown}
-use proofs.simulation.{CarriedEvents.acquire_granted-shown}
-use proofs.bound.RankAfter.{once_on_d}
+use proofs.manager.{Admitted.offered-taken, Performing.end_after, Performing.reaction-probing}
+use proofs.manager.Probing.{same_above, recorded-beat, link_of, with_beat, IsComing, ends-coming, service_for}
+use proofs.manager.RequestsHanded.{handed-answered, handed-granted}
+use proofs.manager.RequestsTaken.{caps_asked, acquire_wanted, ready-request, ready-acquire, next_tracker, free-last}
+use proofs.manager.RequestsTaken.{invariant-taken, probed-some, somebody-probed, beyond-none}
+use proofs.queues.{Showing.carries, Showing.none-carried, Tokens.set-same, Codes.acquires-so, Phases.none-above}
+use proofs.queues.Channels.{carried-shown, behind, IsTaken, pushes_at}
+use proofs.queues.Steps.{pushes_of, IsLanded, taken-landed, HasTaken, landed-manager, channels-handed, on_own_channel}
+use proofs.protocol.{HeadOfD.IsReady, RequestsKept.some-none, RequestsKept.leaves-bytes, Heads.IsAsked, Heads.IsWanted}
+use proofs.simulation.Moved.{manager-heard, carried-part}
+use proofs.simulation.CarriedEvents.{access_answered-shown, acquire_granted-shown}
 use proofs.simulation.CarriedProbes.{probe_pushes, channels-probes, access_served-shown, acquire_served-shown}
-use proofs.manager.UnwaitedRequests.{next_tracker, free-last, invariant-taken, probed-some, somebody-probed}
-use proofs.manager.UnwaitedRequests.{beyond-none}
-use proofs.queues.Landed.{pushes_of, IsLanded, taken-landed, HasTaken, landed-manager, channels-handed, on_own_channel}
-use proofs.deliveries.LandedReports.{answer_on_d}
+use proofs.bound.RankAfter.{once_on_d}
+use proofs.deliveries.CarriedReports.{answer_on_d}
 
 -- ---- the whole after a beat of a request
 

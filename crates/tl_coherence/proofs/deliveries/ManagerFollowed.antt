@@ -1,14 +1,14 @@
 -- The manager's end after a delivery on channel C or E, as a step of the whole and as the protocol follows it.
-use Rattle.std.proofs.Common.{false, ◌≡◌, ℕ, List, ◌∷◌, Option, Some, None, refl, sym, ◌∙◌, ap, subst, arith}
-use Rattle.std.proofs.Common.{if◌then◌else◌, option_map, slice_get, All}
+use Rattle.std.proofs.Common.{◌≡◌, ℕ, false, if◌then◌else◌, List, ◌∷◌, Option, Some, None, refl, sym, ◌∙◌, ap, subst}
+use Rattle.std.proofs.Common.{arith, All, slice_get, option_map}
 use Rattle.tl_coherence.proofs
 use proofs.Imports.{Beat, Channel, IsWidth, unfinished, completes, ClientConfig, Config, EndConfig, illegal_at, End}
-use proofs.Imports.{reaction, services, least_untaken, trackers_of, Deliver, Outcome, packets_on, AbstractState}
+use proofs.Imports.{reaction, trackers_of, least_untaken, services, Deliver, Outcome, packets_on, AbstractState}
 use proofs.Imports.{abstract_delivery, abstract_step, packet_taken, SimulationRelation, receiver, Log, Step, handing}
 use proofs.Imports.{is_to_client, stepped, System, terms_at, with_channel, with_manager}
 use Rattle.tl_coherence.specs.refinement.AbstractStep.{is_last}
 use Rattle.tl_manager.specs.code.Kept as manager
-use proofs.manager.{ManagerAfter.IsManagerOf, ManagerAfter.left, ManagerTakes.IsTakenUp}
+use proofs.manager.{Memories.IsManagerOf, Memories.left, ManagerTakes.IsTakenUp}
 use proofs.deliveries.ManagerDelivered.{channel_c-delivered, channel_e-delivered}
 use proofs.queues.Steps.{manager-with_messages, stepped-to-manager}
 

@@ -2,13 +2,13 @@
 use Rattle.std.proofs.Common.{◌≡◌, ℕ, List, [], ◌∷◌, Option, Some, None, refl}
 use Rattle.tl_coherence.proofs
 use proofs.Imports.{⊤, Beat, Channel, IsWidth, Config, EndConfig, Event, Ask, Deliver, AbstractState, abstract_step}
-use proofs.Imports.{SimulationRelation, is_caching, Log, stepped, client_of, System, terms_at}
+use proofs.Imports.{SimulationRelation, is_caching, Log, client_of, stepped, System, terms_at}
 use Rattle.tl_client.specs.statement.Ask as client_ask
 use proofs.protocol.FollowKept.{IsAskable}
-use proofs.manager.{ManagerAfter.IsManagerOf, ManagersEnd.at_manager-matched, UnseenSteps.at_manager-nobody}
-use proofs.manager.{UnseenSteps.at_manager-ask, UnseenSteps.at_manager-to_client}
-use proofs.deliveries.{RequestsDelivered.at_manager-delivered_a, ManagerFollowed.manager-followed_c}
-use proofs.deliveries.{ManagerFollowed.manager-followed_e}
+use proofs.manager.{Memories.IsManagerOf, Accounts.at_manager-matched}
+use proofs.manager.Unseen.{at_manager-nobody, at_manager-ask, at_manager-to_client}
+use proofs.deliveries.ManagerFollowed.{manager-followed_c, manager-followed_e}
+use proofs.deliveries.FirstRequest.{at_manager-delivered_a}
 use proofs.queues.Steps.{stepped-empty}
 
 -- what the invariant asks for at an event of a client with these terms: that the client may do what it is asked

@@ -1,27 +1,173 @@
+-- A GrantAck that is delivered to the manager: the channels and the one memory afterwards.
+-- The protocol keeps its invariant as it follows any event of the world.
 -- What is kept of the whole is kept by every event: so it holds after every log, beside the protocol as it follows.
-use Rattle.std.proofs.Common.{◌≡◌, ℕ, Bool, true, false, List, [], ◌∷◌, Option, Some, None, refl, sym, ap, subst, arith}
+use Rattle.std.proofs.Common.{◌≡◌, ℕ, suc, ◌+◌, Bool, true, false, List, [], ◌∷◌, Option, Some, None, refl, sym, ◌∙◌}
+use Rattle.std.proofs.Common.{ap, subst, arith, eqb-true}
 use Rattle.tl_coherence.proofs
-use proofs.Imports.{Beat, Link, Channel, IsWidth, Config, Op, EndConfig, Event, Ask, Deliver, Outcome, AbstractState}
-use proofs.Imports.{abstract_step, first_abstract_state, abstract_step_by, ChannelRelation, MemoryRelation}
-use proofs.Imports.{SimulationRelation, is_moving, IsTyped, Log, system_after, Machine, moved, one_memory_after}
-use proofs.Imports.{performing, accesses_answered, Step, stepped, only, client_of, System, terms_at}
+use proofs.Imports.{Beat, Link, Channel, IsWidth, Message, MessageA, beats_of, unfinished, completes, Config, on_link}
+use proofs.Imports.{Op, EndConfig, reaction-ack, must_wait, reaction, Event, Ask, Deliver, Outcome, IsInvariant}
+use proofs.Imports.{GrantAck, Kind, Packet, State, freed_block, grant_ack_taken, is_on, packet, AbstractState}
+use proofs.Imports.{abstract_step, abstract_step_by, first_abstract_state, ChannelRelation, MemoryRelation}
+use proofs.Imports.{AccessMessages, block_message, SimulationRelation, is_caching, is_moving, IsTyped, Log}
+use proofs.Imports.{system_after, Machine, moved, accesses_answered, one_memory_after, performing, Step, client_of}
+use proofs.Imports.{manager_took, only, stepped, System, terms_at, with_channel, with_messages}
 use Rattle.tl_coherence.{specs.statement.Headline.AreTyped, specs.statement.Log.IsLog}
+use Rattle.tl_client.specs.statement.Endpoint as client
+use Rattle.tl_manager.specs.statement.End as manager_end
+use Rattle.tl_manager.specs.statement.Offer as manager
 use Rattle.tl_client.specs.statement.Ask as ask
-use proofs.manager.{BlockAccounts.managed-traced, Accounts.are_served-traced, UnwaitedRequests.next_tracker}
-use proofs.deliveries.{AcksAfter.delivered-e, AskedAfter.carried-ask, AskedAfter.beside-ask, AskedWell.asked-well}
-use proofs.deliveries.{DeliverDWhole.delivered-d, InvariantKept.invariant-followed, ManagerFollowed.client-of}
-use proofs.deliveries.{ManagerKept.IsAllowed, ManagerKept.manager-kept, ProbesAfter.delivered-b}
-use proofs.deliveries.{ReportsAfter.delivered-c, DeliverDUnmoved.IsDelivered, DeliverDUnmoved.delivered-unmoved}
-use proofs.deliveries.RequestsDelivered.{delivery-a, carried-delivered_a, beside-delivered_a}
-use proofs.client.{Askable.askable, ClientAsked.IsEndOf, ClientStep.clients-kept}
-use proofs.client.Waiting.{AreAcquired, asked-acquired, kind_taken-acquired}
-use proofs.simulation.{Fresh.fresh-matched, SoundAfter.sound-after, SoundAfter.typed-after}
-use proofs.simulation.Sized.{AreStrange, strangers-asked, strangers-kind_taken}
+use proofs.memory.BesideKinds.{beside_block}
+use proofs.queues.{Channels.carried-shown, Steps.stepped-to-manager, Steps.stepped-asked, Steps.stepped-empty}
+use proofs.simulation.{CarriedResponses.grant_ack_taken-shown, Fresh.fresh-matched}
+use proofs.simulation.FollowCases.{IsDelivery, taken_of, followed-cases, on-first, asked-cases, delivered-cases}
+use proofs.simulation.FollowCases.{answered-followed, given-followed}
+use proofs.simulation.InvariantAtClients.{invariant-asked, ready-client, nobody_moves}
+use proofs.simulation.BeatsInFlight.{sound-after, typed-after}
+use proofs.simulation.SourcedAfter.{AreStrange, strangers-asked, strangers-kind_taken, AreSourced, sourced-asked}
+use proofs.simulation.SourcedAfter.{sourced-kind_taken}
 use proofs.simulation.SizedAfter.{AllSized, sized-asked, sized-kind_taken}
-use proofs.simulation.SourcedAfter.{AreSourced, sourced-asked, sourced-kind_taken}
-use proofs.simulation.FollowCases.{followed-cases, asked-cases, delivered-cases, answered-followed, given-followed}
-use proofs.simulation.FollowCases.{on-first}
-use proofs.queues.Steps.{stepped-asked, stepped-empty}
+use proofs.deliveries.{DeliverDUnmoved.IsDelivered, DeliverDUnmoved.delivered-unmoved, AskedAfter.carried-ask}
+use proofs.deliveries.{AskedAfter.beside-ask, AskedWell.asked-well, ReportsAfter.delivered-d, ReportsAfter.delivered-c}
+use proofs.deliveries.{ManagerFollowed.client-of, ManagerKept.IsAllowed, ManagerKept.manager-kept}
+use proofs.deliveries.ManagersAfter.{IsAtManager, at-manager, after_taken, delivered-last, delivered-part, delivered-b}
+use proofs.deliveries.FirstRequest.{IsArrival, arrival-first, coming-arrival, request-stalled, delivery-a}
+use proofs.deliveries.FirstRequest.{carried-delivered_a, beside-delivered_a}
+use proofs.manager.{BlockAccounts.managed-traced, Accounts.are_served-traced}
+use proofs.manager.RequestsTaken.{invariant-taken, next_tracker}
+use proofs.protocol.{BothParts.first-grant_ack, HeadOfD.IsReady}
+use proofs.client.{ClientDelivered.shadow_of, ClientDelivered.askable, ClientAsked.IsEndOf, ClientStep.clients-kept}
+use proofs.client.Waiting.{AreAcquired, asked-acquired, kind_taken-acquired}
+
+ack_kind : (k : Kind) → is_on Channel.E k ≡ true → k ≡ GrantAck
+ack_kind k e = grind arith
+
+pub delivered-e : {w : ℕ} {config : Config} {log : Log w} (link : Link) (h : AbstractState w) (terms : client.EndConfig)
+    (x : Beat w) (queue : List (Beat w)) → IsWidth w
+    → SimulationRelation config log h.mail h.request h.state (system_after config log)
+    → terms_at config link.0 ≡ Some terms → (system_after config log).channels link.0 Channel.E ≡ x ∷ queue
+    → is_moving (stepped config (Deliver link Channel.E) (system_after config log)).outcome ≡ true
+    → IsDelivered config log link Channel.E h
+unfolding block_message with_messages performing accesses_answered
+delivered-e {w} {config} {log} link h terms x queue width matched known beats moving =
+    go (completes x (unfinished Channel.E (on_link link.0 sys.manager.trace))) refl
+  where
+    sys : System w
+    sys = system_after config log
+
+    is : IsAtManager config log link Channel.E h x queue
+    is = at-manager link Channel.E h terms x queue width matched known refl beats moving
+
+    n : ℕ
+    n = is.first.number
+
+    kind : is.first.kind ≡ GrantAck
+    kind = ack_kind is.first.kind is.first.own
+
+    tokens : (h.state.link link.0).e ≡ packet GrantAck n ∷ is.first.rest
+    tokens = is.first.tokens ∙ ap (λ (k : Kind). packet k n ∷ is.first.rest) kind
+
+    go : (b : Bool) → completes x (unfinished Channel.E (on_link link.0 sys.manager.trace)) ≡ b
+        → IsDelivered config log link Channel.E h
+    go false part = delivered-part width matched refl is part
+    go true last =
+        let unpushed : (d : ℕ) (at : Channel) → (after_taken config link Channel.E x queue sys []).channels d at
+        ≡ (with_channel link.0 Channel.E queue sys).channels d at = λ d at. refl in
+        let quiet = beside_block n (freed_block (h.state.block n)) (grant_ack_taken link.0 n is.first.rest h.state)
+        (λ i. refl) (λ d i. refl) (λ d i. refl) refl (λ d. refl) (λ d. refl) matched.beside in
+        delivered-last [] (λ d at. None) refl is last (ap (λ (z : Beat w). (reaction config link z sys.manager).handed)
+        (cc (is.first.next.beat_is, kind)) ∙ ap (λ d. d.handed) (reaction-ack config link
+        (record { sink = (h.state.block n).tracker }) sys.manager)) (λ d at. unpushed d at)
+        (λ taken. rw kind (carried-shown width (grant_ack_taken-shown link.0 n is.first.rest h.mail matched.invariant
+        (invariant-taken h link.0 GrantAck n is.first.rest matched tokens tt) tokens
+        (first-grant_ack matched.invariant tokens)) taken matched.carried))
+        (rw kind quiet)
+
+-- ---- channel A
+
+-- a request that is moved needn't wait
+pub request-moves : {w : ℕ} {config : Config} {log : Log w} {mail : AccessMessages w} {request : ℕ → MessageA w}
+    {s : State (List ℕ)} {sys : System w} (link : Link) {x : Beat w} {queue : List (Beat w)}
+    → SimulationRelation config log mail request s sys → is_moving (stepped config (Deliver link Channel.A) sys).outcome
+    ≡ true → sys.channels link.0 Channel.A ≡ x ∷ queue → IsArrival config (shadow_of mail request s) sys link.0 x queue
+    → must_wait config (record { 0 = link.0 }) x sys.manager.trace ≡ false
+request-moves {w} {config} {log} {mail} {request} {s} {sys} link {x} {queue} h moving beats arrives =
+    go (must_wait config (record { 0 = link.0 }) x sys.manager.trace) refl
+  where
+    stands : (terms : EndConfig) → terms_at config link.0 ≡ Some terms
+        → must_wait config (record { 0 = link.0 }) x sys.manager.trace ≡ true
+        → is_moving (stepped config (Deliver link Channel.A) sys).outcome ≡ false
+    stands terms at waits = ap (λ (i : Step w). is_moving i.outcome) (stepped-to-manager config link Channel.A sys terms
+        x queue at beats refl) ∙ ap (λ (a : manager.Reception w × manager_end.End w). is_moving
+        (manager_took link.0 Channel.A x queue a sys).outcome) (request-stalled h beats arrives waits)
+
+    at_terms : (o : Option EndConfig) → terms_at config link.0 ≡ o
+        → must_wait config (record { 0 = link.0 }) x sys.manager.trace ≡ true
+        → is_moving (stepped config (Deliver link Channel.A) sys).outcome ≡ false
+    at_terms None at waits = nobody_moves config sys link Channel.A at
+    at_terms (Some terms) at waits = stands terms at waits
+
+    go : (b : Bool) → must_wait config (record { 0 = link.0 }) x sys.manager.trace ≡ b → b ≡ false
+    go false e = refl
+    go true e = absurd (let no : true ≡ false = sym moving ∙ at_terms (terms_at config link.0) refl e in cc)
+
+ready-a : {w : ℕ} {config : Config} {log : Log w} {mail : AccessMessages w} {request : ℕ → MessageA w}
+    {s : State (List ℕ)} {sys : System w} {link : Link} {x : Beat w} {queue : List (Beat w)} → IsWidth w
+    → SimulationRelation config log mail request s sys → (d : IsDelivery config mail s sys link Channel.A x queue)
+    → IsReady (next_tracker sys) link.0 d.first.kind d.first.number (shadow_of mail request s)
+ready-a {w} {config} {log} {mail} {request} {s} {sys} {link} {x} {queue} width h d =
+    let next_number : (k n : ℕ) → k + 1 ≡ n → n ≡ suc k = λ k n e. omega (arith, e) in
+    let arrives = arrival-first (shadow_of mail request s) link.0 x queue width h d.beats in
+    let moves = request-moves link h d.moves d.beats arrives in
+    subst (λ (y : Packet). IsReady (next_tracker sys) link.0 y.kind y.number (shadow_of mail request s))
+    (cc)
+    (arrives.is_it.ready arrives.next.k (coming-arrival width h d.beats arrives moves) (next_number arrives.next.k
+    (beats_of (Message.A arrives.request)) (eqb-true (arrives.next.k + 1) (beats_of (Message.A arrives.request))
+    (sym arrives.next.completes_is ∙ d.whole))) (cc (arrives.next.beat_is, moves)))
+
+-- ---- channels C and E
+
+-- what comes on them needs nothing more to be taken
+abbrev is_up : Channel → Bool
+is_up Channel.C = true
+is_up Channel.E = true
+is_up _ = false
+
+ready_up : {w : ℕ} (tracker c : ℕ) (ch : Channel) (k : Kind) (i : ℕ) (h : AbstractState w) → is_up ch ≡ true
+    → is_on ch k ≡ true → IsReady tracker c k i h
+ready_up tracker c ch k i h e f = grind arith
+
+-- ---- every event
+
+-- what is taken with the last beat of a message may be taken
+pub ready-delivered : {w : ℕ} {config : Config} {log : Log w} {mail : AccessMessages w} {request : ℕ → MessageA w}
+    {s : State (List ℕ)} {sys : System w} {link : Link} (ch : Channel) {x : Beat w} {queue : List (Beat w)} → IsWidth w
+    → SimulationRelation config log mail request s sys → (d : IsDelivery config mail s sys link ch x queue)
+    → IsReady (next_tracker sys) link.0 d.first.kind d.first.number (shadow_of mail request s)
+ready-delivered Channel.A width h d = ready-a width h d
+ready-delivered {mail} {request} {s} {sys} {link} Channel.C width h d =
+    ready_up (next_tracker sys) link.0 Channel.C d.first.kind d.first.number (shadow_of mail request s) refl d.first.own
+ready-delivered {mail} {request} {s} {sys} {link} Channel.E width h d =
+    ready_up (next_tracker sys) link.0 Channel.E d.first.kind d.first.number (shadow_of mail request s) refl d.first.own
+ready-delivered {link} ch width h d =
+    ready-client link ch d.first.kind d.first.number d.first.rest width h refl d.first.own d.moves d.beats
+    d.first.tokens d.first.next
+
+invariant-delivered : {w : ℕ} {config : Config} {log : Log w} {mail : AccessMessages w} {request : ℕ → MessageA w}
+    {s : State (List ℕ)} {sys : System w} {link : Link} {ch : Channel} {x : Beat w} {queue : List (Beat w)} → IsWidth w
+    → SimulationRelation config log mail request s sys → (d : IsDelivery config mail s sys link ch x queue)
+    → IsInvariant (is_caching config) (taken_of config mail request s sys link.0 d.first.kind d.first.number
+    d.first.rest).state
+invariant-delivered {config} {log} {mail} {request} {s} {sys} {link} {ch} {x} {queue} width h d =
+    invariant-taken (shadow_of mail request s) link.0 d.first.kind d.first.number d.first.rest h
+    (on-first d) (ready-delivered ch width h d)
+
+pub invariant-followed : {w : ℕ} {config : Config} {log : Log w} {mail : AccessMessages w} {request : ℕ → MessageA w}
+    {s : State (List ℕ)} {sys : System w}
+    (event : Event w) → IsWidth w → SimulationRelation config log mail request s sys
+    → IsInvariant (is_caching config) (abstract_step config event sys (shadow_of mail request s)).state
+invariant-followed {w} {config} {log} {mail} {request} {s} {sys} event width h =
+    followed-cases event (λ (i : AbstractState w). IsInvariant (is_caching config) i.state) width h h.invariant
+    (λ terms c o at. invariant-asked terms c o h at) (λ link ch x queue d. invariant-delivered width h d)
 
 -- ---- steps
 

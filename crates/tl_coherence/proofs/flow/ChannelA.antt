@@ -1,24 +1,24 @@
 -- What is delivered on a link, as a beat of channel A is: of an access, or of an Acquire.
-use Rattle.std.proofs.Common.{◌≡◌, subst, ℕ, Bool, true, false, ◌&&◌, List, ◌∷◌, Option, Some, None, refl, sym, ◌∙◌, ap}
-use Rattle.std.proofs.Common.{inl, inr, eqb-true, ◌==◌, if◌then◌else◌}
+use Rattle.std.proofs.Common.{◌≡◌, ℕ, Bool, true, false, ◌&&◌, ◌==◌, if◌then◌else◌, List, ◌∷◌, Option, Some, None, refl}
+use Rattle.std.proofs.Common.{sym, ◌∙◌, ap, subst, inl, inr, eqb-true}
 use Rattle.tl_coherence.proofs
-use proofs.Imports.{and-false, cases_eq, same_Some, Beat, BeatA, Channel, Message, a_beat_of, History, is_empty}
-use proofs.Imports.{completes, Config, Cap, comes_in_request, comes_in_grant, same_perm, same_block, Packet, set}
-use proofs.Imports.{ClientBlock, View, Own, Granting, is_unprobed, is_unreleased, after_grant_sent, Free, GrantSent}
-use proofs.Imports.{Block, State, Replied, view, served_block, acquire_served, granted_at_once, acquire_granted}
-use proofs.Imports.{is_granting, is_acknowledging, is_answered, is_unserved, AbstractState, MonitorRelation}
+use proofs.Imports.{and-false, cases_eq, same_Some, Beat, BeatA, Channel, Message, a_beat_of, History, completes}
+use proofs.Imports.{is_empty, Config, Cap, comes_in_grant, comes_in_request, same_perm, same_block, Packet, set}
+use proofs.Imports.{ClientBlock, Granting, Own, View, is_unprobed, is_unreleased, after_grant_sent, Block, Free}
+use proofs.Imports.{GrantSent, Replied, State, acquire_granted, acquire_served, granted_at_once, served_block, view}
+use proofs.Imports.{is_acknowledging, is_answered, is_granting, is_unserved, AbstractState, MonitorRelation}
 use proofs.Imports.{SimulationRelation, asked_by, Log, System}
 use proofs.manager.{Admitted.first_three, RequestsTaken.acquire_wanted}
-use proofs.queues.{Tokens.if-part, Tokens.same_number, Tokens.set-same, Tokens.set-other, Carried.IsNext}
-use proofs.queues.{PhaseFacts.asked_alone, Phases.and_left, Phases.and_right, Codes.acquires-so}
-use proofs.protocol.{HeadOfD.IsGrantDue, BothParts.quiet_unanswered, Heads.acquisition_beats, Heads.IsAsked}
-use proofs.protocol.{Heads.IsWanted}
-use proofs.flow.{FlowAccess.IsAccess, FlowAccess.flowed-access, FlowAcquired.flowed-acquire, FlowAlone.AreRests}
-use proofs.flow.{FlowApart.replied, FlowComing.coming-sink, FlowComing.coming-granting, FlowStep.held_by}
-use proofs.flow.{FlowSunk.sunk_in, FlowSunk.sunk-elsewhere, FlowSunk.tracked-new}
-use proofs.simulation.Popped.{unfinished_at}
-use proofs.client.ClientEnd.{is_access, asks-access, asks-acquire}
+use proofs.queues.{Carried.IsNext, PhaseFacts.asked_alone, Phases.and_left, Phases.and_right, Codes.acquires-so}
+use proofs.queues.Tokens.{if-part, same_number, set-same, set-other}
+use proofs.protocol.{HeadOfD.IsGrantDue, BothParts.quiet_unanswered}
+use proofs.protocol.Heads.{acquisition_beats, IsAsked, IsWanted}
+use proofs.flow.{FlowAlone.AreRests, FlowComing.coming-sink, FlowComing.coming-granting, FlowStep.held_by}
+use proofs.flow.FlowAcquired.{IsAccess, flowed-access, flowed-acquire}
+use proofs.flow.FlowApart.{replied, sunk_in, sunk-elsewhere, tracked-new}
 use proofs.flow.FlowBeats.{came-so, comes-so, first-zero, one-beat, set_at-if, same_perms, unused-else}
+use proofs.simulation.Owned.{unfinished_at}
+use proofs.client.ClientEnd.{is_access, asks-access, asks-acquire}
 
 module _ {w : ℕ} {config : Config} {log : Log w} (h : AbstractState w) {sys : System w} {c : ℕ}
     (is : SimulationRelation config log h.mail h.request h.state sys) {t : History w}

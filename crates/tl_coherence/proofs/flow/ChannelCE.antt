@@ -1,24 +1,24 @@
 -- What is delivered on a link, as a beat of channel C or E is: of a ProbeAck, a Release or a GrantAck.
-use Rattle.std.proofs.Common.{◌≡◌, subst, ℕ, Bool, true, false, not, ◌&&◌, List, ◌∷◌, Option, refl, sym, ◌∙◌, ap, arith}
-use Rattle.std.proofs.Common.{length, ◌==◌, if◌then◌else◌}
+use Rattle.std.proofs.Common.{◌≡◌, ℕ, Bool, true, false, not, ◌&&◌, ◌==◌, if◌then◌else◌, List, ◌∷◌, Option, refl, sym}
+use Rattle.std.proofs.Common.{◌∙◌, ap, subst, arith, length}
 use Rattle.tl_coherence.proofs
 use proofs.Imports.{and_right as with_false, Beat, BeatA, BeatE, Channel, IsWidth, Message, MessageC, c_beat_of}
-use proofs.Imports.{History, is_empty, completes, Config, Prune, Report, Perm, prune_code, prune_left, report_code}
-use proofs.Imports.{report_left, prune_right, comes_in_release, same_perm, is_release, reported, reported-report}
-use proofs.Imports.{release, is_busy, ProbeAck, Release, GrantAck, Packet, ClientBlock, View, Idle, Granting}
-use proofs.Imports.{Acknowledging, ReleaseSent, is_unprobed, is_unreleased, ok, after_release_taken, Service}
-use proofs.Imports.{Block, State, packet, view, let_block, release_taken, report_taken, grant_ack_taken, is_granting}
-use proofs.Imports.{is_acknowledging, AbstractState, MonitorRelation, block_message, prune_told, report_told}
+use proofs.Imports.{History, completes, is_empty, Config, Prune, Report, Perm, prune_code, prune_left, prune_right}
+use proofs.Imports.{report_code, report_left, comes_in_release, same_perm, is_release, reported, reported-report}
+use proofs.Imports.{release, is_busy, GrantAck, Packet, ProbeAck, Release, Acknowledging, ClientBlock, Granting, Idle}
+use proofs.Imports.{ReleaseSent, View, is_unprobed, is_unreleased, ok, after_release_taken, Block, Service, State}
+use proofs.Imports.{grant_ack_taken, let_block, packet, release_taken, report_taken, view, is_acknowledging}
+use proofs.Imports.{is_granting, AbstractState, MonitorRelation, prune_told, report_told, block_message}
 use proofs.Imports.{SimulationRelation, asked_by, Log, System}
-use proofs.queues.{Tokens.if-part, Tokens.set-same, Tokens.set-other, Carried.IsNext, Facts.answered_other}
-use proofs.queues.{Facts.granting_alone, Phases.and_left, Phases.and_right}
+use proofs.queues.{Carried.IsNext, Facts.answered_other, Facts.granting_alone, Phases.and_left, Phases.and_right}
+use proofs.queues.Tokens.{if-part, set-same, set-other}
 use proofs.flow.{FlowAlone.AreRests, FlowAlone.flowed-grant_ack, FlowComing.coming-granting, FlowLawful.other_ungranted}
-use proofs.flow.{FlowReleased.letting_after, FlowReleased.flowed-release, FlowReport.flowed-report_part}
-use proofs.flow.{FlowReported.flowed-report, FlowStep.held_by, FlowBeats.came-so, FlowBeats.comes-so}
-use proofs.flow.{FlowBeats.one-beat, FlowBeats.first_false}
-use proofs.simulation.Popped.{unfinished_at}
+use proofs.flow.{FlowStep.held_by, FlowReported.flowed-report_part, FlowReported.flowed-report}
+use proofs.flow.FlowReleased.{letting_after, flowed-release}
+use proofs.flow.FlowBeats.{came-so, comes-so, one-beat, first_false}
+use proofs.simulation.Owned.{unfinished_at}
 use proofs.manager.Reporting.{IsAbout, report-about, release-about, reported-prune}
-use proofs.protocol.FirstTokens.{first-release, first-report, first-shown}
+use proofs.protocol.BothParts.{first-release, first-report, first-shown}
 use proofs.client.ClientEnd.{comes-same}
 
 -- ---- what the messages say

@@ -1,24 +1,24 @@
 -- What is delivered on a link, as a beat of channel D is: of an answer, a Grant or a ReleaseAck.
-use Rattle.std.proofs.Common.{◌≡◌, subst, ℕ, Bool, true, false, not, ◌&&◌, List, ◌∷◌, Option, None, refl, sym, ◌∙◌, ap}
-use Rattle.std.proofs.Common.{inl, eqb-true, ◌==◌, if◌then◌else◌}
+use Rattle.std.proofs.Common.{◌≡◌, ℕ, Bool, true, false, not, ◌&&◌, ◌==◌, if◌then◌else◌, List, ◌∷◌, Option, None, refl}
+use Rattle.std.proofs.Common.{sym, ◌∙◌, ap, subst, inl, eqb-true}
 use Rattle.tl_coherence.proofs
-use proofs.Imports.{eqb-false, and_right as with_false, Beat, BeatA, Channel, Message, MessageD, d_beat_of, History}
-use proofs.Imports.{unfinished, is_empty, completes, Config, Cap, cap_right, comes_in_grant, is_grant, asks_for}
-use proofs.Imports.{same_block, cap-gives, no_ack_grant, acquires_of, is_busy, Answer, Grant, ReleaseAck, Packet}
-use proofs.Imports.{ClientBlock, Granting, is_unprobed, is_unreleased, after_release_ack, after_grant, Block, State}
-use proofs.Imports.{SourceFree, Acquires, packet, view, taken_block, let_go_block, release_ack_taken, answer_taken}
-use proofs.Imports.{grant_taken, is_granting, is_answered, is_wanting, AbstractState, comes_granting, MonitorRelation}
-use proofs.Imports.{block_message, SimulationRelation, is_caching, asked_by, Log, System}
+use proofs.Imports.{and_right as with_false, eqb-false, Beat, BeatA, Channel, Message, MessageD, d_beat_of, History}
+use proofs.Imports.{unfinished, completes, is_empty, Config, Cap, cap_right, comes_in_grant, asks_for, is_grant}
+use proofs.Imports.{same_block, cap-gives, no_ack_grant, acquires_of, is_busy, Answer, Grant, Packet, ReleaseAck}
+use proofs.Imports.{ClientBlock, Granting, is_unprobed, is_unreleased, after_grant, after_release_ack, Acquires, Block}
+use proofs.Imports.{SourceFree, State, answer_taken, grant_taken, let_go_block, packet, release_ack_taken, taken_block}
+use proofs.Imports.{view, is_answered, is_granting, is_wanting, AbstractState, comes_granting, MonitorRelation}
+use proofs.Imports.{block_message, SimulationRelation, asked_by, is_caching, Log, System}
 use Rattle.tl_manager.proofs.services.Serving.{not_swapped}
-use proofs.client.{Aside.set_at-else, ClientDelivered.ack_next, ClientEnd.asks-same, ClientEnd.asks-acquire}
-use proofs.queues.{Tokens.if-part, Tokens.same_number, Tokens.set-same, Tokens.set-other, Carried.IsNext}
-use proofs.queues.{Facts.granting_alone, Phases.and_right, Codes.access_kind, Codes.grants-so}
+use proofs.client.{AsideAll.set_at-else, ClientDelivered.ack_next, ClientEnd.asks-same, ClientEnd.asks-acquire}
+use proofs.queues.{Carried.IsNext, Facts.granting_alone, Phases.and_right, Codes.access_kind, Codes.grants-so}
+use proofs.queues.Tokens.{if-part, same_number, set-same, set-other}
 use proofs.flow.{FlowAlone.AreRests, FlowAnswered.flowed-answer, FlowAnswered.flowed-let_go, FlowGranted.seen_after}
 use proofs.flow.{FlowGranted.flowed-grant, FlowResponses.grant_quiet, FlowResponses.grant_tracked, FlowStep.held_by}
-use proofs.simulation.Popped.{unfinished_at}
-use proofs.protocol.HeadOfD.{answer-due, IsGrantDue, grant-rendered, grant_message, ack_message, own_view}
 use proofs.flow.FlowBeats.{came-so, comes-so, one-beat, set_at-if, same_perms, unused-else, first_false}
-use proofs.protocol.FirstTokens.{first-release_ack}
+use proofs.simulation.Owned.{unfinished_at}
+use proofs.protocol.BothParts.{first-release_ack}
+use proofs.protocol.HeadOfD.{answer-due, IsGrantDue, grant-rendered, grant_message, ack_message, own_view}
 
 module _ {w : ℕ} {config : Config} {log : Log w} (h : AbstractState w) {sys : System w} {c : ℕ}
     (is : SimulationRelation config log h.mail h.request h.state sys) {t : History w}

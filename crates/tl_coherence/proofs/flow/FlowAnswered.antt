@@ -1,18 +1,19 @@
 -- What is delivered on a link, as a beat of an access's answer or a ReleaseAck is.
-use Rattle.std.proofs.Common.{◌≡◌, ℕ, Bool, true, false, not, ◌&&◌, ◌||◌, ◌∷◌, Option, Some, None, refl, sym, ◌∙◌, ap}
-use Rattle.std.proofs.Common.{arith, List, ne_eqb, eqb-true, ◌==◌, if◌then◌else◌, option_map, unwrap_or}
+use Rattle.std.proofs.Common.{◌≡◌, ℕ, Bool, true, false, not, ◌&&◌, ◌||◌, ◌==◌, if◌then◌else◌, List, ◌∷◌, Option, Some}
+use Rattle.std.proofs.Common.{None, refl, sym, ◌∙◌, ap, arith, ne_eqb, eqb-true, option_map, unwrap_or}
 use Rattle.tl_coherence.proofs
-use proofs.Imports.{Beat, BeatA, BeatC, BeatD, Channel, History, ReleaseSource, Perm, comes_in_grant, begins, ends}
-use proofs.Imports.{block_at, pending, is_grant, is_release_ack, asks_for, request_of, release_of, probe_of, grant_sink}
-use proofs.Imports.{capped, release_of-d, request_of-d, is_of, releases_with, NoRelease, ReleaseAcked, Service, Block}
-use proofs.Imports.{State, SourceState, SourceFree, view, is_acknowledging, is_answered, is_unserved, comes_granting}
-use proofs.Imports.{MonitorRelation, is_requested, is_release_pending, is_let_by, is_sunk, probe_beat, cap_waited}
-use Rattle.tl_rules.{specs.statement.History.releases}
-use proofs.flow.{FlowAlone.AreRests, FlowAside.requested-blocks, FlowAside.let_by-same, FlowReport.unopened}
+use proofs.Imports.{Beat, BeatA, BeatC, BeatD, Channel, History, ReleaseSource, Perm, comes_in_grant, asks_for, begins}
+use proofs.Imports.{block_at, capped, ends, is_grant, is_release_ack, grant_sink, pending, probe_of, release_of}
+use proofs.Imports.{request_of, release_of-d, request_of-d, is_of, releases_with, NoRelease, ReleaseAcked, Block}
+use proofs.Imports.{Service, SourceFree, SourceState, State, view, is_acknowledging, is_answered, is_unserved}
+use proofs.Imports.{comes_granting, MonitorRelation, is_let_by, is_release_pending, is_requested, is_sunk, probe_beat}
+use proofs.Imports.{cap_waited}
+use Rattle.tl_rules.specs.statement.History.{releases}
+use proofs.flow.{FlowAlone.AreRests, FlowAlone.requested-blocks, FlowAlone.let_by-same, FlowReported.unopened}
 use proofs.flow.FlowReleased.{AreElsewhere, each-block, part-block}
 use proofs.flow.FlowStep.{flowed-next, held_by, acquired_by, let_of, granted_by, step, step_quiet}
-use proofs.queues.{Tokens.same_number}
-use proofs.protocol.{BothParts.is_of-is}
+use proofs.queues.Tokens.{same_number}
+use proofs.protocol.BothParts.{is_of-is}
 
 pub probed-of : {w : ℕ} (n : ℕ) (y : BeatD w) (t : History w) → probe_of n (Beat.D y ∷ t) ≡ probe_of n t
 unfolding probe_of

@@ -1,23 +1,71 @@
+-- Which sinks are those of Grants that were delivered, as an event changes one block and its tracker.
 -- What an event leaves of what is delivered on a link: each value is as before, where the event isn't of the link, or
 -- comes of a beat of it that is accounted for.
-use Rattle.std.proofs.Common.{◌≡◌, subst, ℕ, Bool, true, false, ◌&&◌, ◌||◌, Option, Some, None, refl, sym, ◌∙◌, ap}
-use Rattle.std.proofs.Common.{arith, List, ◌⊎◌, inl, inr, ◌==◌, if◌then◌else◌}
+use Rattle.std.proofs.Common.{◌≡◌, ℕ, Bool, true, false, ◌&&◌, ◌||◌, ◌==◌, if◌then◌else◌, List, Option, Some, None}
+use Rattle.std.proofs.Common.{refl, sym, ◌∙◌, ap, subst, arith, ◌⊎◌, inl, inr}
 use Rattle.tl_coherence.proofs
-use proofs.Imports.{cases_eq, Beat, BeatA, Channel, Cap, Grow, Prune, Report, comes_in_grant, Packet, set, set_at, Own}
-use proofs.Imports.{Other, is_unprobed, Service, Free, Waits, GrantSent, GrantTaken, Block, State, SourceState}
-use proofs.Imports.{InService, Replied, Acquires, view, acquiring_block, acquire_asked, access_asked, releasing_block}
-use proofs.Imports.{release_asked, granted_at_once, acquire_granted, served_block, probed_block, probe_taken}
-use proofs.Imports.{reported_block, report_taken, let_block, release_taken, taken_block, let_go_block}
-use proofs.Imports.{release_ack_taken, freed_block, grant_ack_taken, stored_block, block_stored, performed_block}
-use proofs.Imports.{access_answered, access_served, ended_block, report_answers, granted_block, report_grants}
-use proofs.Imports.{answer_taken, grant_taken, is_granting, is_acknowledging, is_answered, is_sunk}
-use proofs.client.Aside.{set_at-other, set_at-else}
-use proofs.flow.FlowAside.{IsSameBlock, same-block, is_heard, IsSameUse, IsComing, IsAside}
+use proofs.Imports.{cases_eq, Beat, BeatA, Channel, Cap, Grow, Prune, Report, comes_in_grant, Packet, set, set_at}
+use proofs.Imports.{Other, Own, View, is_unprobed, Acquires, Block, Free, GrantSent, GrantTaken, InService, Replied}
+use proofs.Imports.{Service, SourceState, State, Waits, access_answered, access_asked, access_served, acquire_asked}
+use proofs.Imports.{acquire_granted, acquiring_block, answer_taken, block_stored, ended_block, freed_block}
+use proofs.Imports.{grant_ack_taken, grant_taken, granted_at_once, granted_block, let_block, let_go_block}
+use proofs.Imports.{performed_block, probe_taken, probed_block, release_ack_taken, release_asked, release_taken}
+use proofs.Imports.{releasing_block, report_answers, report_grants, report_taken, reported_block, served_block}
+use proofs.Imports.{stored_block, taken_block, view, is_acknowledging, is_answered, is_granting, is_sunk}
 use proofs.flow.FlowOthers.{is_outside, outside-waits, outside-sent, outside-taken, same-performed, same-served}
 use proofs.flow.FlowOthers.{same-granted_at_once, same-probed, same-reported, same-settled, same-granted, same-given}
 use proofs.flow.FlowOthers.{same-let, same-let_go, same-taken, same-freed, same-acquiring, same-releasing, same-stored}
-use proofs.flow.FlowSunk.{sunk_in, sunk-as, IsWithin, sunk-elsewhere, tracked-new, tracked-free, outside-unsunk}
+use proofs.flow.FlowReleased.{AreElsewhere}
+use proofs.flow.FlowAlone.{IsSameBlock, same-block, is_heard, IsSameUse, IsComing, IsAside}
+use proofs.client.AsideAll.{set_at-other, set_at-else}
 use proofs.queues.Tokens.{set-same, set-other, set-each, set-part, set_at-same}
+
+-- the Grant of the block, if it has this sink, was delivered to client c, and its GrantAck wasn't
+abbrev pub sunk_in : {w : ℕ} {X : Type 0} → ℕ → ℕ → List (Beat w) → Block X → Bool
+sunk_in c sink rest b = is_acknowledging (view b.service c) || (is_granting (view b.service c) && comes_in_grant sink
+    rest)
+
+-- each block is as before
+pub sunk-as : {w : ℕ} {X : Type 0} (c i : ℕ) (rest : List (Beat w)) (o : Option ℕ) (s s' : State X)
+    → ((n : ℕ) → sunk_in c i rest (s'.block n) ≡ sunk_in c i rest (s.block n))
+    → is_sunk c i rest o s' ≡ is_sunk c i rest o s
+sunk-as c i rest None s s' same = refl
+sunk-as c i rest (Some n) s s' same = same n
+
+-- the number is of block n, or of none
+abbrev pub IsWithin : ℕ → Option ℕ → Type 0
+IsWithin n o = (o ≡ None) ⊎ (o ≡ Some n)
+
+unsunk : {w : ℕ} {X : Type 0} (c i : ℕ) {n : ℕ} (rest : List (Beat w)) {o : Option ℕ} (s : State X) → IsWithin n o
+    → (o ≡ Some n → sunk_in c i rest (s.block n) ≡ false) → is_sunk c i rest o s ≡ false
+unsunk c i rest s (inl e) none = ap (λ (p : Option ℕ). is_sunk c i rest p s) e
+unsunk c i rest s (inr e) none = ap (λ (p : Option ℕ). is_sunk c i rest p s) e ∙ none e
+
+-- block n isn't one of the client's Grants before, nor afterwards
+pub sunk-elsewhere : {w : ℕ} {X : Type 0} (c i n : ℕ) (rest : List (Beat w)) (o o' : Option ℕ) (s s' : State X)
+    → AreElsewhere n s s' → (o' ≡ o) ⊎ (IsWithin n o × IsWithin n o')
+    → (o ≡ Some n → sunk_in c i rest (s.block n) ≡ false) → (o' ≡ Some n → sunk_in c i rest (s'.block n) ≡ false)
+    → is_sunk c i rest o' s' ≡ is_sunk c i rest o s
+sunk-elsewhere c i n rest o o' s s' same (inr both) before now =
+    unsunk c i rest s' both.1 now ∙ sym (unsunk c i rest s both.0 before)
+sunk-elsewhere {w} {X} c i n rest o o' s s' same (inl e) before now = cc (e, go o before (λ f. now (e ∙ f)))
+  where
+    go : (p : Option ℕ) → (p ≡ Some n → sunk_in c i rest (s.block n) ≡ false)
+        → (p ≡ Some n → sunk_in c i rest (s'.block n) ≡ false) → is_sunk c i rest p s' ≡ is_sunk c i rest p s
+    go p e f = grind (arith, cases_eq)
+
+-- a tracker that gets block n, or loses it
+pub tracked-new : (n tracker : ℕ) (tracked : ℕ → Option ℕ) → tracked tracker ≡ None → (i : ℕ)
+    → (set tracker (Some n) tracked i ≡ tracked i)
+    ⊎ (IsWithin n (tracked i) × IsWithin n (set tracker (Some n) tracked i))
+tracked-new n tracker tracked free i = grind (arith, cases_eq)
+
+pub tracked-free : (n tracker : ℕ) (tracked : ℕ → Option ℕ) → tracked tracker ≡ Some n → (i : ℕ)
+    → (set tracker None tracked i ≡ tracked i) ⊎ (IsWithin n (tracked i) × IsWithin n (set tracker None tracked i))
+tracked-free n tracker tracked used i = grind (arith, cases_eq)
+
+pub outside-unsunk : (v : View) (b : Bool) → is_outside v ≡ true → (is_acknowledging v || (is_granting v && b)) ≡ false
+outside-unsunk v b e = grind arith
 
 -- the access with this source is answered, as far as its link is concerned
 abbrev pub replied : {X : Type 0} → ℕ → ℕ → State X → State X

@@ -1,19 +1,19 @@
 -- What was delivered in part on a link: of which Grant, and of which Release.
-use Rattle.std.proofs.Common.{◌≡◌, ℕ, zero, suc, ◌*◌, Bool, true, false, ◌&&◌, List, [], ◌∷◌, Option, Some, None, refl}
-use Rattle.std.proofs.Common.{sym, ◌∙◌, ap, subst, eqb-true, ◌==◌, map}
+use Rattle.std.proofs.Common.{◌≡◌, ℕ, zero, suc, ◌*◌, Bool, true, false, ◌&&◌, ◌==◌, List, [], ◌∷◌, Option, Some, None}
+use Rattle.std.proofs.Common.{refl, sym, ◌∙◌, ap, subst, eqb-true, map}
 use Rattle.tl_coherence.proofs
 use proofs.Imports.{Beat, BeatA, BeatC, BeatD, Channel, IsWidth, Message, MessageA, MessageC, MessageD, begun}
-use proofs.Imports.{unfinished, Config, on_link, comes_in_release, comes_in_grant, block_at, is_grant, is_release}
-use proofs.Imports.{asks_for, same_block, Kind, ProbeAck, Release, Answer, Grant, ReleaseAck, Packet, State, Acquires}
-use proofs.Imports.{packet, view, is_on, is_granting, is_releasing, IsCarried, comes_granting, AccessMessages}
-use proofs.Imports.{message_of, message_of_kind, report_told, prune_told, block_message, SimulationRelation, is_caching}
-use proofs.Imports.{asked_by, Log, System}
+use proofs.Imports.{unfinished, Config, comes_in_grant, comes_in_release, on_link, asks_for, block_at, is_grant}
+use proofs.Imports.{is_release, same_block, Answer, Grant, Kind, Packet, ProbeAck, Release, ReleaseAck, Acquires, State}
+use proofs.Imports.{is_on, packet, view, is_granting, is_releasing, IsCarried, comes_granting, AccessMessages}
+use proofs.Imports.{message_of, message_of_kind, prune_told, report_told, block_message, SimulationRelation, asked_by}
+use proofs.Imports.{is_caching, Log, System}
 use proofs.client.ClientEnd.{asks-acquire}
 use proofs.queues.{FirstToken.own_kind, Phases.and_left, Phases.and_right, Tokens.same_number, Codes.access_kind}
-use proofs.flow.FlowAside.{IsComing}
-use proofs.manager.{ManagedEndings.tracker-of, Reporting.report-about, Reporting.release-about}
-use proofs.protocol.{BothParts.is_of-is, BothParts.releasing-is, FirstTokens.first-shown}
+use proofs.flow.FlowAlone.{IsComing}
+use proofs.manager.{ManagedGrants.tracker-of, Reporting.report-about, Reporting.release-about}
 use proofs.protocol.HeadOfD.{IsGrantDue, answer-due, grant-due, grant-rendered, grant_message, ack_message, own_view}
+use proofs.protocol.BothParts.{is_of-is, releasing-is, first-shown}
 
 -- ---- a Grant
 

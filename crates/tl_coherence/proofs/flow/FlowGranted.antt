@@ -1,19 +1,20 @@
 -- What is delivered on a link, as a beat of a Grant is.
-use Rattle.std.proofs.Common.{◌≡◌, ℕ, Bool, true, false, not, ◌&&◌, ◌||◌, ◌∷◌, Option, Some, None, refl, sym, ◌∙◌, ap}
-use Rattle.std.proofs.Common.{arith, List, ne_eqb, ◌==◌, if◌then◌else◌, option_map, unwrap_or}
+use Rattle.std.proofs.Common.{◌≡◌, ℕ, Bool, true, false, not, ◌&&◌, ◌||◌, ◌==◌, if◌then◌else◌, List, ◌∷◌, Option, Some}
+use Rattle.std.proofs.Common.{None, refl, sym, ◌∙◌, ap, arith, ne_eqb, option_map, unwrap_or}
 use Rattle.tl_coherence.proofs
 use proofs.Imports.{and_right, Beat, BeatA, BeatD, Channel, History, RequestSource, Cap, Perm, cap_right}
-use proofs.Imports.{comes_in_request, comes_in_grant, begins, ends, block_at, pending, is_grant, is_release_ack}
-use proofs.Imports.{asks_for, request_of, release_of, probe_of, grant_sink, capped, release_of-d, request_of-d, is_of}
-use proofs.Imports.{acquires_of, View, Granting, Acknowledging, Block, State, SourceState, SourceFree, Asked, InService}
-use proofs.Imports.{Replied, Acquires, view, is_granting, is_acknowledging, is_answered, is_wanting, is_unserved}
-use proofs.Imports.{comes_granting, MonitorRelation, is_requested, is_let_by, is_sunk, probe_beat, cap_waited}
-use Rattle.tl_rules.{specs.statement.History.releases}
-use proofs.flow.{FlowAlone.AreRests, FlowAside.let_by-same, FlowReport.unclosed as not_last}
+use proofs.Imports.{comes_in_grant, comes_in_request, asks_for, begins, block_at, capped, ends, is_grant}
+use proofs.Imports.{is_release_ack, grant_sink, pending, probe_of, release_of, request_of, release_of-d, request_of-d}
+use proofs.Imports.{acquires_of, is_of, Acknowledging, Granting, View, Acquires, Asked, Block, InService, Replied}
+use proofs.Imports.{SourceFree, SourceState, State, view, is_acknowledging, is_answered, is_granting, is_unserved}
+use proofs.Imports.{is_wanting, comes_granting, MonitorRelation, is_let_by, is_requested, is_sunk, probe_beat}
+use proofs.Imports.{cap_waited}
+use Rattle.tl_rules.specs.statement.History.{releases}
+use proofs.flow.{FlowAlone.AreRests, FlowAlone.let_by-same, FlowReported.unclosed as not_last}
 use proofs.flow.FlowAnswered.{probed-of, unclosed, closes_last}
 use proofs.flow.FlowReleased.{AreElsewhere, each-block, part-block, opened, with_true}
 use proofs.flow.FlowStep.{flowed-next, held_by, acquired_by, let_of, granted_by, step, step_quiet}
-use proofs.queues.{Tokens.same_number}
+use proofs.queues.Tokens.{same_number}
 
 abbrev pub seen_after : Bool → Bool → Cap → View
 seen_after true d k = Acknowledging

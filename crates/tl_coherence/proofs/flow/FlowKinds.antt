@@ -1,29 +1,29 @@
 -- What is delivered on a link, as messages of another link are taken; and after the last beat of a request or ProbeAck,
 -- as what comes of it at the manager.
-use Rattle.std.proofs.Common.{◌≡◌, ℕ, Bool, true, false, List, ◌∷◌, Option, Some, None, length, refl, sym, ◌∙◌, ap, inl}
+use Rattle.std.proofs.Common.{◌≡◌, ℕ, Bool, true, false, List, ◌∷◌, Option, Some, None, refl, sym, ◌∙◌, ap, inl, length}
 use Rattle.std.proofs.Common.{ne_eqb}
 use Rattle.tl_coherence.proofs
 use proofs.Imports.{same_Some, Beat, BeatA, Channel, History, Config, Cap, Grow, comes_in_grant, block_at, cap_asked}
-use proofs.Imports.{Kind, Request, Probe, ProbeAck, Release, Answer, ReleaseAck, GrantAck, Packet, Own, AcquireOpen}
-use proofs.Imports.{is_unprobed, is_unreleased, is_granted_data, Free, Waits, GrantSent, State, packet, view}
-use proofs.Imports.{acquire_served, acquire_granted, report_taken, on, is_answered, AbstractState, kind_taken}
-use proofs.Imports.{with_state, performs, access_taken, is_unheld, gift, granted_after, last_taken, taken_by_client}
-use proofs.Imports.{MonitorRelation, report_told, SimulationRelation, is_caching, asked_by, Log, System}
+use proofs.Imports.{Answer, GrantAck, Kind, Packet, Probe, ProbeAck, Release, ReleaseAck, Request, AcquireOpen, Own}
+use proofs.Imports.{is_unprobed, is_unreleased, is_granted_data, Free, GrantSent, State, Waits, acquire_granted}
+use proofs.Imports.{acquire_served, on, packet, report_taken, view, is_answered, AbstractState, access_taken, gift}
+use proofs.Imports.{granted_after, is_unheld, kind_taken, last_taken, performs, taken_by_client, with_state}
+use proofs.Imports.{MonitorRelation, report_told, SimulationRelation, asked_by, is_caching, Log, System}
 use proofs.client.AsideAll.{Leaves, is_for_manager, leaves-at_manager, leaves-at_client}
-use proofs.manager.{Choices.plain-past, ManagedEndings.tracker-of}
-use proofs.protocol.{HeadOfD.grant-due, Events.IsReady, Events.ready-access, Events.told, Events.true-taken}
-use proofs.protocol.{Events.waits_for_others, RequestsKept.settled_all, BothParts.quiet_unanswered}
-use proofs.protocol.{FirstTokens.first-grant_ack, FirstTokens.first-report, NeverIdle.never-idle}
-use proofs.queues.{PhaseFacts.quiet_at_rest, PhaseFacts.own_alone, Phases.and_right, Tokens.same_number}
-use proofs.queues.{Facts.answered_other, Facts.is_other}
-use proofs.flow.{FlowAsking.asks-left, FlowBeats.same_perms, FlowComing.coming-granting, FlowComing.coming-sink}
-use proofs.flow.{FlowAside.is_heard, FlowAside.IsComing, FlowAside.flowed-aside, FlowAside.flowed-asks}
-use proofs.rank.RankParts.{serving-use}
-use proofs.simulation.Popped.{unfinished_at}
+use proofs.manager.{Choices.plain-past, ManagedGrants.tracker-of}
+use proofs.protocol.HeadOfD.{grant-due, IsReady, ready-access, told, true-taken, waits_for_others, never-idle}
+use proofs.protocol.RequestsKept.{settled_all}
+use proofs.protocol.BothParts.{quiet_unanswered, first-grant_ack, first-report}
+use proofs.queues.{Phases.and_right, Tokens.same_number, Facts.answered_other, Facts.is_other}
+use proofs.queues.PhaseFacts.{quiet_at_rest, own_alone}
+use proofs.flow.{FlowAsked.asks-left, FlowBeats.same_perms, FlowComing.coming-granting, FlowComing.coming-sink}
+use proofs.flow.FlowAlone.{is_heard, IsComing, flowed-aside, flowed-asks}
 use proofs.flow.FlowApart.{replied, left-replied, left-served, left-acquire_granted, left-probe_taken}
 use proofs.flow.FlowApart.{left-report_taken, left-release_taken, left-answer_taken, left-grant_taken}
 use proofs.flow.FlowApart.{left-release_ack_taken, left-grant_ack_taken, left-access_answered, left-access_served}
 use proofs.flow.FlowApart.{left-report_answers, left-report_grants}
+use proofs.rank.RankParts.{serving-use}
+use proofs.simulation.Owned.{unfinished_at}
 
 module _ {w : ℕ} {config : Config} {log : Log w} (h : AbstractState w) {sys : System w} (c : ℕ)
     (is : SimulationRelation config log h.mail h.request h.state sys) (tracker : ℕ) where

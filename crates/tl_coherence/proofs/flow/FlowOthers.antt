@@ -1,16 +1,16 @@
 -- What an event leaves of its block for what is delivered on the links that it isn't of.
-use Rattle.std.proofs.Common.{◌≡◌, ℕ, Bool, true, false, ◌&&◌, ◌||◌, refl, sym, ◌∙◌, ap, ◌⊎◌, inl, inr, ne_eqb, ◌==◌}
-use Rattle.std.proofs.Common.{arith, if◌then◌else◌}
+use Rattle.std.proofs.Common.{◌≡◌, ℕ, Bool, true, false, ◌&&◌, ◌||◌, ◌==◌, if◌then◌else◌, refl, sym, ◌∙◌, ap, arith}
+use Rattle.std.proofs.Common.{◌⊎◌, inl, inr, ne_eqb}
 use Rattle.tl_coherence.proofs
-use proofs.Imports.{Cap, Grow, Prune, Report, set, ClientBlock, View, Idle, Own, Other, Granting, GrantedOther}
-use proofs.Imports.{ProbeSent, is_unprobed, ProbePhase, after_release, after_probe, after_report, after_release_ack}
-use proofs.Imports.{after_acquire, is_above, after_served, after_grant_sent, after_release_taken, after_grant, Service}
-use proofs.Imports.{Free, Waits, GrantSent, GrantTaken, Block, view, acquiring_block, releasing_block, granted_at_once}
-use proofs.Imports.{served_block, probed_block, reported_block, let_block, taken_block, let_go_block, freed_block}
-use proofs.Imports.{stored_block, performed_block, served_pair, ended_block, granted_block, is_granting}
-use proofs.Imports.{is_acknowledging, is_answered, is_wanting, is_unserved, cap_waited}
-use proofs.flow.{FlowAside.IsSameBlock}
-use proofs.protocol.{BothParts.quiet_unanswered}
+use proofs.Imports.{Cap, Grow, Prune, Report, set, ClientBlock, GrantedOther, Granting, Idle, Other, Own, ProbePhase}
+use proofs.Imports.{ProbeSent, View, is_unprobed, after_acquire, after_grant, after_grant_sent, after_probe}
+use proofs.Imports.{after_release, after_release_ack, after_release_taken, after_report, after_served, is_above, Block}
+use proofs.Imports.{Free, GrantSent, GrantTaken, Service, Waits, acquiring_block, ended_block, freed_block}
+use proofs.Imports.{granted_at_once, granted_block, let_block, let_go_block, performed_block, probed_block}
+use proofs.Imports.{releasing_block, reported_block, served_block, served_pair, stored_block, taken_block, view}
+use proofs.Imports.{is_acknowledging, is_answered, is_granting, is_unserved, is_wanting, cap_waited}
+use proofs.flow.FlowAlone.{IsSameBlock}
+use proofs.protocol.BothParts.{quiet_unanswered}
 use proofs.queues.Tokens.{same_number, set-same, set-other}
 
 -- the service looks the same to the client's link

@@ -1,26 +1,26 @@
 -- What is delivered on a link, as a beat of it is: each value of it is that of the protocol afterwards.
-use Rattle.std.proofs.Common.{◌≡◌, subst, ℕ, Bool, true, false, List, ◌∷◌, length, refl, sym, ◌∙◌, ap, inl}
-use Rattle.std.proofs.Common.{if◌then◌else◌}
+use Rattle.std.proofs.Common.{◌≡◌, ℕ, Bool, true, false, if◌then◌else◌, List, ◌∷◌, refl, sym, ◌∙◌, ap, subst, inl}
+use Rattle.std.proofs.Common.{length}
 use Rattle.tl_coherence.proofs
 use proofs.Imports.{Beat, Channel, IsWidth, Message, MessageA, MessageC, MessageE, beat_of, History, completes, Config}
-use proofs.Imports.{Cap, cap_asked, Kind, Request, Acquire, Probe, ProbeAck, Release, Answer, Grant, ReleaseAck}
-use proofs.Imports.{GrantAck, Packet, is_whole, ClientBlock, AcquireOpen, is_granted_data, after_probe}
-use proofs.Imports.{after_release_ack, packets_on, is_probed, Block, State, packet, is_on, probed_block, probe_taken}
-use proofs.Imports.{let_go_block, release_ack_taken, release_taken, acquire_served, acquire_granted, AbstractState}
-use proofs.Imports.{kind_taken, with_state, some_below, is_unheld, gift, acquire_taken, MonitorRelation, cap_sent}
-use proofs.Imports.{prune_told, block_message, message_of_kind, SimulationRelation, is_caching, asked_by, Log, System}
+use proofs.Imports.{Cap, cap_asked, Acquire, Answer, Grant, GrantAck, Kind, Packet, Probe, ProbeAck, Release}
+use proofs.Imports.{ReleaseAck, Request, AcquireOpen, ClientBlock, is_whole, after_probe, after_release_ack}
+use proofs.Imports.{is_granted_data, Block, State, acquire_granted, acquire_served, is_on, is_probed, let_go_block}
+use proofs.Imports.{packet, packets_on, probe_taken, probed_block, release_ack_taken, release_taken, AbstractState}
+use proofs.Imports.{acquire_taken, gift, is_unheld, kind_taken, with_state, some_below, MonitorRelation, cap_sent}
+use proofs.Imports.{message_of_kind, prune_told, block_message, SimulationRelation, asked_by, is_caching, Log, System}
 use Rattle.tl_burst.specs.statement.Messages.{on}
-use proofs.client.{AsideAll.Leaves, AsideAll.leaves-at_manager, ClientDelivered.ack_next, ClientEnd.asks-same}
-use proofs.client.{ProbeDelivered.probe-beat}
+use proofs.client.{ClientDelivered.ack_next, ClientEnd.asks-same, ProbeDelivered.probe-beat}
+use proofs.client.AsideAll.{Leaves, leaves-at_manager}
 use proofs.queues.{Carried.IsNext, Tokens.set-same, Tokens.set-part}
-use proofs.flow.{FlowAlone.AreRests, FlowAside.flowed-asks, FlowAsking.asks-left, FlowBeats.one-beat, FlowKinds.settled}
-use proofs.flow.{ChannelB.own-probe, ChannelD.own-answer, ChannelD.own-release_ack, ChannelD.own-grant}
-use proofs.flow.{ChannelA.own-access, ChannelA.own-acquire_served, ChannelA.own-acquire_granted}
-use proofs.protocol.{Events.IsReady, HeadOfD.IsGrantDue, HeadOfD.grant-due, Heads.IsAsked, Heads.asked-first}
-use proofs.protocol.{Heads.IsWanted, Heads.wanted-first, Heads.acquisition_beats}
-use proofs.manager.RequestsTaken.{acquire_wanted}
-use proofs.simulation.Popped.{unfinished_at}
+use proofs.flow.{FlowAlone.AreRests, FlowAlone.flowed-asks, FlowAsked.asks-left, FlowBeats.one-beat, FlowKinds.settled}
+use proofs.flow.{FlowProbe.own-probe, ChannelA.own-access, ChannelA.own-acquire_served, ChannelA.own-acquire_granted}
+use proofs.flow.ChannelD.{own-answer, own-release_ack, own-grant}
 use proofs.flow.ChannelCE.{report_rendered, ack_rendered, own-report, own-release, own-grant_ack}
+use proofs.protocol.Heads.{IsAsked, asked-first, IsWanted, wanted-first, acquisition_beats}
+use proofs.protocol.HeadOfD.{IsReady, IsGrantDue, grant-due}
+use proofs.manager.RequestsTaken.{acquire_wanted}
+use proofs.simulation.Owned.{unfinished_at}
 
 module _ {w : ℕ} {config : Config} {log : Log w} (h : AbstractState w) {sys : System w} {c : ℕ} (width : IsWidth w)
     (is : SimulationRelation config log h.mail h.request h.state sys) (tracker : ℕ) {t : History w}

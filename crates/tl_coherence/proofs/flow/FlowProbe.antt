@@ -1,15 +1,23 @@
 -- What is delivered on a link, as a Probe is.
-use Rattle.std.proofs.Common.{◌≡◌, ℕ, ◌*◌, Bool, true, false, not, ◌&&◌, ◌∷◌, Option, Some, None, refl, sym, ◌∙◌, ap}
-use Rattle.std.proofs.Common.{List, ne_eqb, ◌==◌, if◌then◌else◌}
+-- What is delivered on a link, as the beat of a Probe is, for a whole that is that of the protocol.
+use Rattle.std.proofs.Common.{◌≡◌, ℕ, ◌*◌, Bool, true, false, not, ◌&&◌, ◌==◌, if◌then◌else◌, List, [], ◌∷◌, Option}
+use Rattle.std.proofs.Common.{Some, None, refl, sym, ◌∙◌, ap, subst, arith, ne_eqb}
 use Rattle.tl_coherence.proofs
-use proofs.Imports.{Beat, BeatA, BeatB, Channel, History, Cap, begins, ends, block_at, release_of, probe_of, grant_sink}
-use proofs.Imports.{is_probe, Packet, set, Other, ClientBlock, after_probe, Block, State, view, probe_taken}
-use proofs.Imports.{probed_block, is_answered, is_wanting, is_unserved, comes_granting, MonitorRelation}
-use proofs.Imports.{is_requested, is_release_pending, is_let_by, is_sunk, probe_beat, cap_waited}
+use proofs.Imports.{Beat, BeatA, BeatB, Channel, Message, History, completes, is_empty, Config, Cap, begins, block_at}
+use proofs.Imports.{ends, is_probe, grant_sink, probe_of, release_of, same_block, Packet, Probe, set, ClientBlock}
+use proofs.Imports.{Other, ProbeSent, View, same_cap, ok, after_probe, Block, State, packet, probe_taken, probed_block}
+use proofs.Imports.{view, is_answered, is_unserved, is_wanting, AbstractState, comes_granting, MonitorRelation}
+use proofs.Imports.{is_let_by, is_release_pending, is_requested, is_sunk, cap_sent, probe_beat, block_message}
+use proofs.Imports.{SimulationRelation, asked_by, cap_waited, Log, System}
+use Rattle.tl_coherence.specs.protocol.Phase.{fits_service}
 use Rattle.tl_client.proofs.pending.Opens.{request_of-b}
-use proofs.flow.{FlowAlone.AreRests, FlowAside.requested-blocks, FlowAside.let_by-same}
-use proofs.flow.FlowStep.{flowed-next, held_by, acquired_by, let_of, granted_by, step, whole_opened, whole_unopened}
+use proofs.protocol.BothParts.{cap-waited, first-probe}
+use proofs.queues.{Carried.IsNext, Phases.and_left}
 use proofs.queues.Tokens.{same_number, set-same, set-each, set-part}
+use proofs.flow.FlowStep.{flowed-next, held_by, acquired_by, let_of, granted_by, step, whole_opened, whole_unopened}
+use proofs.flow.FlowAlone.{AreRests, requested-blocks, let_by-same}
+use proofs.client.{ProbeDelivered.probe-beat, ClientEnd.comes-same}
+use proofs.simulation.Owned.{unfinished_at}
 
 released-of : {w : ℕ} (i : ℕ) (y : BeatB w) (t : History w) → release_of i (Beat.B y ∷ t) ≡ release_of i t
 unfolding release_of
@@ -111,3 +119,44 @@ flowed-probe {w} {X} {c} n k toks {asked} asked' {rest} rest' {s} {t} first last
         n) (Some y) (probe_of n t) (rw at (same_number n)) ∙ ap (λ (j : Cap). Some (probe_beat n j)) (sym waited))
         (λ m ne e. unchosen (block_at (64 * n) == m) (Some y) (probe_of m t) (rw at (ne_eqb n m (λ f. ne (sym f))))
         ∙ before.probed m e)
+
+-- ---- who is probed
+
+same_caps : (j k : Cap) → same_cap j k ≡ true → k ≡ j
+same_caps j k e = grind arith
+
+-- sees the service of another, which probes with this cap
+probed_sees : (k : Cap) (v : View) → fits_service (ProbeSent k) v ≡ true → v ≡ Other k
+probed_sees k v e = grind (arith, same_caps)
+
+sent_sees : (k : Cap) (p : ClientBlock) (v : View) → ok p v ≡ true → p.probing ≡ ProbeSent k → v ≡ Other k
+unfolding ok
+sent_sees k p v well sent = probed_sees k v (rw sent at (and_left (fits_service p.probing v) _ well))
+
+module _ {w : ℕ} {config : Config} {log : Log w} (h : AbstractState w) {sys : System w} {c : ℕ}
+    (is : SimulationRelation config log h.mail h.request h.state sys) {t : History w}
+    (flowed : MonitorRelation (asked_by h.mail h.state c) (unfinished_at sys c) c h.state t) (rest' : Channel
+    → List (Beat w)) (toks : List Packet) where
+  abbrev s : State (List ℕ)
+  s = h.state
+
+  abbrev before : ℕ → Option (BeatA w)
+  before = asked_by h.mail h.state c
+
+  -- ---- a Probe
+
+  pub own-probe : (n : ℕ) → (s.link c).b ≡ packet Probe n ∷ toks → (x : Beat w) (ms : List (Message w))
+      (queue : List (Beat w)) → IsNext x (unfinished_at sys c Channel.B) (block_message Probe c n (s.block n)) ms queue
+      → AreRests x (unfinished_at sys c) rest' → (asked' : ℕ → Option (BeatA w)) → ((i : ℕ) → asked' i ≡ before i)
+      → MonitorRelation asked' rest' c (probe_taken c n (cap_sent ((s.block n).pair c).probing) toks s) (x ∷ t)
+  own-probe n tokens x ms queue next rests asked' asks =
+      let k : Cap = cap_sent ((s.block n).pair c).probing in
+      let x_is : x ≡ Beat.B (probe_beat n k) = probe-beat c n s next in
+      let whole : unfinished_at sys c Channel.B ≡ [] = (is.kept c).b_whole in
+      let seen = sent_sees k ((s.block n).pair c) (view (s.block n).service c) ((is.invariant.blocks n).phases c)
+      (first-probe is.invariant tokens) in
+      subst (λ (z : Beat w). MonitorRelation asked' rest' c (probe_taken c n k toks s) (z ∷ t)) (sym x_is)
+      (flowed-probe n k toks asked' rest' (ap is_empty (flowed.rest_is Channel.B ∙ whole))
+      (ap (completes {w = w} (Beat.B (probe_beat n k))) (flowed.rest_is Channel.B ∙ whole)) (subst
+      (λ (z : Beat w). AreRests z (unfinished_at sys c) rest') x_is rests) asks (same_block n) seen (cap-waited k
+      (s.block n).service c seen) (λ m. comes-same m before asked' (unfinished_at sys c Channel.D) asks) flowed)

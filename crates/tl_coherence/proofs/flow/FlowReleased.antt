@@ -1,17 +1,17 @@
 -- What is delivered on a link, as the beats of a Release are.
-use Rattle.std.proofs.Common.{◌≡◌, ℕ, Bool, true, false, not, ◌&&◌, ◌||◌, ◌∷◌, Option, Some, None, refl, sym, ◌∙◌, ap}
-use Rattle.std.proofs.Common.{arith, List, ◌⊎◌, inl, inr, ne_eqb, ◌==◌, if◌then◌else◌, option_map, unwrap_or}
+use Rattle.std.proofs.Common.{◌≡◌, ℕ, Bool, true, false, not, ◌&&◌, ◌||◌, ◌==◌, if◌then◌else◌, List, ◌∷◌, Option, Some}
+use Rattle.std.proofs.Common.{None, refl, sym, ◌∙◌, ap, arith, ◌⊎◌, inl, inr, ne_eqb, option_map, unwrap_or}
 use Rattle.tl_coherence.proofs
-use proofs.Imports.{cases_eq, and_right, Beat, BeatA, BeatC, Channel, History, ReleaseSource, Prune, Perm, prune_right}
-use proofs.Imports.{comes_in_release, begins, ends, block_at, pending, is_probe_ack, is_release, release_of, reported}
-use proofs.Imports.{grant_sink-c, probe_of-c, request_of-c, is_of, releases_with, ReleasePhase, ReleaseSent}
-use proofs.Imports.{ReleaseAcked, is_unreleased, Service, Block, State, view, is_acknowledging, is_answered}
-use proofs.Imports.{is_unserved, comes_granting, MonitorRelation, is_requested, is_release_pending, is_let_by, is_sunk}
-use proofs.Imports.{probe_beat, cap_waited}
-use proofs.flow.{FlowAlone.AreRests, FlowAside.requested-blocks, FlowReported.unsaid}
+use proofs.Imports.{and_right, cases_eq, Beat, BeatA, BeatC, Channel, History, ReleaseSource, Prune, Perm, prune_right}
+use proofs.Imports.{comes_in_release, begins, block_at, ends, is_probe_ack, is_release, reported, pending, release_of}
+use proofs.Imports.{grant_sink-c, probe_of-c, request_of-c, is_of, releases_with, ReleaseAcked, ReleasePhase}
+use proofs.Imports.{ReleaseSent, is_unreleased, Block, Service, State, view, is_acknowledging, is_answered, is_unserved}
+use proofs.Imports.{comes_granting, MonitorRelation, is_let_by, is_release_pending, is_requested, is_sunk, probe_beat}
+use proofs.Imports.{cap_waited}
+use proofs.flow.{FlowAlone.AreRests, FlowAlone.requested-blocks, FlowReported.unsaid}
 use proofs.flow.FlowStep.{flowed-next, held_by, acquired_by, let_of, granted_by, step, step_quiet}
-use proofs.queues.{Tokens.same_number}
-use proofs.protocol.{BothParts.is_of-is}
+use proofs.queues.Tokens.{same_number}
+use proofs.protocol.BothParts.{is_of-is}
 
 -- ---- another value of one block
 

@@ -1,30 +1,99 @@
+-- What is half taken on channel A while a response is on its way.
 -- A response that is delivered breaks no rule of order after what was delivered on its link.
-use Rattle.std.proofs.Common.{◌≡◌, subst, ℕ, zero, suc, Bool, true, false, not, ◌&&◌, ◌||◌, List, [], ◌∷◌, Option, Some}
-use Rattle.std.proofs.Common.{None, refl, sym, ◌∙◌, ap, eqb-true, ◌==◌, map}
+use Rattle.std.proofs.Common.{◌≡◌, ℕ, zero, suc, Bool, true, false, not, ◌&&◌, ◌||◌, ◌==◌, List, [], ◌∷◌, Option, Some}
+use Rattle.std.proofs.Common.{None, refl, sym, ◌∙◌, ap, subst, arith, eqb-true, map}
 use Rattle.tl_coherence.proofs
 use proofs.Imports.{and_from, same_Some, Beat, BeatA, Channel, OpB, OpC, IsWidth, Message, MessageA, MessageC, MessageD}
-use proofs.Imports.{a_beat_of, beat_of, begun, d_beat_of, unfinished, History, channel_of, Config, RequestSource}
-use proofs.Imports.{ReleaseSource, Level, Prune, Report, Perm, Profile, prune_code, report_code, report_left, on_link}
-use proofs.Imports.{comes_in_release, broken_in_order, same_perm, broken_after, is_release, held, pending, request_of}
-use proofs.Imports.{illegal, same_block, zeros, acquisition, about, release, probe_ack, no_ack_grant, grant_opcode}
-use proofs.Imports.{level_of, is_busy, IsInvariant, Kind, ProbeAck, Release, Answer, Grant, ReleaseAck, Packet, View}
-use proofs.Imports.{ReleasePhase, ReleaseSent, ReleaseAcked, AcquirePhase, AcquireOpen, is_unreleased, Service}
-use proofs.Imports.{GrantSent, State, SourceState, view, packet, is_on, is_answered, is_acked, is_granting}
-use proofs.Imports.{is_acknowledging, is_unserved, is_releasing, acquire_opcode, IsCarried, is_requested, is_sunk}
-use proofs.Imports.{is_release_pending, AccessMessages, report_told, prune_told, block_message, message_of}
-use proofs.Imports.{message_of_kind, SimulationRelation, MonitorRelations, is_caching, IsGivenAsked, gives_asked, flow}
-use proofs.Imports.{Log, System}
+use proofs.Imports.{a_beat_of, beat_of, begun, d_beat_of, History, channel_of, unfinished, Config, ReleaseSource}
+use proofs.Imports.{RequestSource, Level, Prune, Report, Perm, Profile, prune_code, report_code, report_left}
+use proofs.Imports.{broken_in_order, comes_in_release, comes_in_request, same_perm, broken_after, on_link, is_release}
+use proofs.Imports.{held, pending, request_of, illegal, same_block, zeros, about, acquisition, probe_ack, release}
+use proofs.Imports.{no_ack_grant, grant_opcode, level_of, IsInvariant, is_busy, Acquire, Answer, Grant, Kind, Packet}
+use proofs.Imports.{ProbeAck, Release, ReleaseAck, Request, AcquireOpen, AcquirePhase, ReleaseAcked, ReleasePhase}
+use proofs.Imports.{ReleaseSent, View, is_unreleased, Acquires, Asked, GrantSent, Service, SourceState, State, is_on}
+use proofs.Imports.{packet, view, is_acked, is_acknowledging, is_answered, is_granting, is_releasing, is_unserved}
+use proofs.Imports.{is_wanting, acquire_opcode, IsCarried, is_release_pending, is_requested, is_sunk, AccessMessages}
+use proofs.Imports.{message_of, message_of_kind, prune_told, report_told, block_message, IsGivenAsked, MonitorRelations}
+use proofs.Imports.{SimulationRelation, gives_asked, is_caching, flow, Log, System}
 use Rattle.tl_rules.specs.statement.Conformance as rules
-use proofs.queues.{Carried.IsNext, Facts.granting_alone, Phases.and_left, Tokens.same_number, Codes.access_kind}
-use proofs.queues.{FirstToken.IsFirst, FirstToken.first-token, FirstToken.own_kind}
+use proofs.protocol.HeadOfD.{acquire-used, IsAnswerDue, answer-due, IsGrantDue, grant-due, grant-rendered, ack-due}
+use proofs.protocol.HeadOfD.{grant_message, ack_message, own_view}
+use proofs.protocol.BothParts.{wanting-is, first-shown, is_of-is, quiet_unanswered}
+use proofs.protocol.Heads.{asked-first, rendered-acquire}
+use proofs.queues.{FirstToken.own_kind, FirstToken.IsFirst, FirstToken.first-token, Phases.and_left, Phases.and_right}
+use proofs.queues.{Carried.IsNext, Facts.granting_alone, Tokens.same_number, Codes.access_kind}
 use proofs.client.{ClientDelivered.ack_next, ClientEnd.is_access, ClientEnd.asks-access, ClientEnd.asks-acquire}
-use proofs.client.{ClientTakes.answers_acquire, ClientTakes.fits_asked, ClientTakes.fitting, ClientTakes.has_data}
-use proofs.client.{ClientTakes.next-legal, ResponseOrder.answer-legal, ResponseOrder.grant-legal}
-use proofs.client.{ResponseOrder.ack-legal}
-use proofs.flow.{FlowLawful.lawful-beat, ComingRequests.waits_on_a, ComingRequests.not-coming_a}
-use proofs.protocol.{BothParts.is_of-is, BothParts.quiet_unanswered, FirstTokens.first-shown}
-use proofs.protocol.HeadOfD.{IsAnswerDue, answer-due, IsGrantDue, grant-due, grant-rendered, ack-due, grant_message}
-use proofs.protocol.HeadOfD.{ack_message, own_view}
+use proofs.client.{ClientEnd.answers_acquire, ClientEnd.fits_asked, ClientEnd.fitting, ClientEnd.has_data}
+use proofs.client.{ClientEnd.next-legal, ResponseOrder.answer-legal, ResponseOrder.grant-legal, ResponseOrder.ack-legal}
+use proofs.flow.FlowLawful.{lawful-beat}
+
+-- ---- what is half taken on channel A
+
+-- a request with a source of this use is on channel A
+abbrev pub waits_on_a : ℕ → SourceState → State (List ℕ) → Bool
+waits_on_a c Asked s = true
+waits_on_a c (Acquires n) s = is_unserved (view (s.block n).service c)
+waits_on_a c _ s = false
+
+-- the message is a request whose source waits there
+IsWaiting : {w : ℕ} → ℕ → State (List ℕ) → Message w → Type 0
+IsWaiting {w} c s m = (r : MessageA w) × (m ≡ Message.A r) × (waits_on_a c (s.uses c r.source) s ≡ true)
+
+waiting_request : {w : ℕ} {config : Config} {log : Log w} {mail : AccessMessages w} {request : ℕ → MessageA w}
+    {s : State (List ℕ)} {sys : System w} (c i : ℕ)
+    (rest : List Packet) → SimulationRelation config log mail request s sys
+    → (s.link c).a ≡ packet Request i ∷ rest → IsWaiting c s (mail.request c i)
+unfolding IsWaiting
+waiting_request {config} {log} {mail} {request} {s} {sys} c i rest h first =
+    let asked = asked-first c i rest h first in (asked.request, asked.is_it, cc (asked.source_is, asked.used))
+
+waiting_acquire : {w : ℕ} {config : Config} {log : Log w} {mail : AccessMessages w} {request : ℕ → MessageA w}
+    {s : State (List ℕ)} {sys : System w} (c n : ℕ)
+    (rest : List Packet) → SimulationRelation config log mail request s sys
+    → (s.link c).a ≡ packet Acquire n ∷ rest → IsWaiting {w = w} c s (block_message Acquire c n (s.block n))
+unfolding IsWaiting
+waiting_acquire {w} {config} {s} c n rest h first =
+    let shows = first-shown h.invariant c Acquire refl first in
+    let wants = and_left (is_wanting ((s.block n).pair c).acquiring) (is_unserved (view (s.block n).service c)) shows in
+    let asks = wanting-is ((s.block n).pair c).acquiring wants in let fact = acquisition (acquire_opcode asks.0) asks.1
+    ((s.block n).source c) n in let other_fact = ap (λ (u : SourceState). waits_on_a c u s) (acquire-used
+    (is_caching config) c n s h.invariant wants) ∙ and_right (is_wanting ((s.block n).pair c).acquiring) (is_unserved
+    (view (s.block n).service c)) shows in (fact, rendered-acquire c n (s.block n) asks.0 asks.1 asks.2, other_fact)
+
+comes_not : {w : ℕ} (c source : ℕ) (s : State (List ℕ)) (m : Message w) (k : ℕ) (rest : List (Beat w))
+    → rest ≡ begun m k → IsWaiting c s m
+    → waits_on_a c (s.uses c source) s ≡ false → comes_in_request source rest ≡ false
+unfolding IsWaiting
+comes_not {w} c source s m k rest e is none = grind (arith, waits_on_a)
+
+-- no request is half taken whose source waits for an answer
+pub not-coming_a : {w : ℕ} {config : Config} {log : Log w} {mail : AccessMessages w} {request : ℕ → MessageA w}
+    {s : State (List ℕ)} {sys : System w} (c source : ℕ)
+    → SimulationRelation config log mail request s sys → waits_on_a c (s.uses c source) s ≡ false
+    → comes_in_request source (unfinished Channel.A (on_link c sys.manager.trace)) ≡ false
+not-coming_a {w} {config} {mail} {s} {sys} c source h none = go (s.link c).a refl (h.carried c Channel.A)
+  where
+    rest_now : List (Beat w)
+    rest_now = unfinished Channel.A (on_link c sys.manager.trace)
+
+    each : (k : Kind) (i : ℕ) (rest : List Packet) → (s.link c).a ≡ packet k i ∷ rest → is_on Channel.A k ≡ true
+        → IsWaiting c s (message_of_kind k mail s c i)
+    each Request i rest first own = waiting_request c i rest h first
+    each Acquire i rest first own = waiting_acquire c i rest h first
+    each k i rest first own = absurd cc
+
+    go : (xs : List Packet) → (s.link c).a ≡ xs → IsCarried rest_now (map (message_of mail s c) (s.link c).a)
+        (sys.channels c Channel.A) → comes_in_request source rest_now ≡ false
+    go [] first carried =
+        let nothing : IsCarried rest_now [] (sys.channels c Channel.A) =
+        rw (ap (map (message_of mail s c)) first) at carried in
+        ap (comes_in_request source) nothing.0
+    go (x ∷ xs) first carried =
+        let some : IsCarried rest_now (message_of mail s c x ∷ map (message_of mail s c) xs)
+        (sys.channels c Channel.A) = rw (ap (map (message_of mail s c)) first) at carried in
+        comes_not c source s (message_of mail s c x) some.0 rest_now some.2
+        (each x.kind x.number xs first (own_kind (is_caching config) s c Channel.A x.kind x.number xs h.invariant
+        first)) none
 
 -- ---- an answer
 

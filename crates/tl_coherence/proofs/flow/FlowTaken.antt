@@ -1,15 +1,15 @@
 -- Each beat that is taken was first on its channel: what holds of all that are holds of what is delivered.
-use Rattle.std.proofs.Common.{◌≡◌, ℕ, Bool, true, false, List, ◌∷◌, refl, sym, ◌∙◌, ap, ◌++◌, ◌==◌, if◌then◌else◌, []}
+use Rattle.std.proofs.Common.{◌≡◌, ℕ, Bool, true, false, ◌==◌, if◌then◌else◌, List, [], ◌∷◌, ◌++◌, refl, sym, ◌∙◌, ap}
 use Rattle.tl_coherence.proofs
 use proofs.Imports.{Beat, Link, Channel, IsWidth, channel_of, Config, Finish, Event, Deliver, Outcome, AbstractState}
-use proofs.Imports.{SimulationRelation, is_moving, flow, taken_at, IsGiven, Log, system_after, stepped, is_to_client}
+use proofs.Imports.{SimulationRelation, is_moving, taken_at, flow, IsGiven, Log, system_after, is_to_client, stepped}
 use Rattle.tl_coherence.{specs.statement.Flow.IsTaken, specs.statement.Flow.EachTaken, specs.statement.Log.IsLog}
-use proofs.bound.{Settling.given-before}
-use proofs.deliveries.{Matching.shadow}
-use proofs.flow.{FlowReceived.moved-on}
+use proofs.bound.Settling.{given-before}
+use proofs.deliveries.Matching.{shadow}
+use proofs.flow.Flows.{moved-on}
 use proofs.links.{FromInvariant.matched-given, HeadsOfLinks.first-of}
-use proofs.outstanding.{Outstanding.first-moved}
-use proofs.queues.{Tokens.same_number}
+use proofs.outstanding.Outstanding.{first-moved}
+use proofs.queues.Tokens.{same_number}
 
 -- a beat that is moved was first on its channel
 moved-first : {w : ℕ} {config : Config} {log : Log w} (h : AbstractState w) (link : Link) (ch : Channel) (o : Outcome w)

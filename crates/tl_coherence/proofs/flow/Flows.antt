@@ -1,27 +1,117 @@
+-- What the receivers have after a delivery.
 -- What is delivered on each link has the values of the protocol after every event, and so breaks no rule.
-use Rattle.std.proofs.Common.{◌≡◌, subst, ℕ, Bool, true, false, List, [], ◌∷◌, Option, Some, None, refl, sym, ◌∙◌, ap}
-use Rattle.std.proofs.Common.{inl, inr, ne_eqb, eqb-true, ◌==◌, if◌then◌else◌, map}
+use Rattle.std.proofs.Common.{◌≡◌, ℕ, Bool, true, false, ◌&&◌, ◌==◌, if◌then◌else◌, List, [], ◌∷◌, Option, Some, None}
+use Rattle.std.proofs.Common.{refl, sym, ◌∙◌, ap, subst, arith, inl, inr, ne_eqb, eqb-true, map}
 use Rattle.tl_coherence.proofs
-use proofs.Imports.{cases_eq, Beat, Link, Channel, IsWidth, History, completes, Config, Level, Profile, broken_after}
-use proofs.Imports.{unfinished-asked, Op, EndConfig, level_of, Event, Ask, Deliver, Outcome, AbstractState}
-use proofs.Imports.{kind_taken, abstract_step, abstract_step_by, asked, MonitorRelation, message_of, SimulationRelation}
-use proofs.Imports.{MonitorRelations, asked_by, is_moving, flow, IsGiven, Log, system_after, Step, stepped, replied}
-use proofs.Imports.{is_to_client, System, terms_at}
+use proofs.Imports.{cases_eq, Beat, Link, Channel, IsWidth, History, grown, completes, Config, Level, Profile}
+use proofs.Imports.{broken_after, unfinished-asked, Op, EndConfig, Handed, level_of, reaction, Event, Ask, Deliver}
+use proofs.Imports.{Outcome, AbstractState, abstract_step, abstract_step_by, asked, kind_taken, MonitorRelation}
+use proofs.Imports.{message_of, MonitorRelations, SimulationRelation, asked_by, is_caching, receiver, is_moving, flow}
+use proofs.Imports.{IsGiven, Log, system_after, Step, is_to_client, outcome_of, replied, stepped, System, same_channel}
+use proofs.Imports.{terms_at, with_channel, with_manager, with_messages}
+use Rattle.tl_coherence.{specs.statement.Headline.AreTyped, specs.statement.Log.IsLog}
+use Rattle.tl_client.specs.statement.Offer as offer
+use Rattle.tl_manager.specs.statement.End as manager_end
+use Rattle.tl_manager.specs.statement.Offer as manager_offer
 use Rattle.tl_rules.specs.statement.Conformance.{is_legal}
-use Rattle.tl_coherence.specs.{statement.Headline.AreTyped, statement.Log.IsLog}
 use Rattle.tl_client.specs.statement.Ask as ask
-use proofs.deliveries.{AskedWell.asked-well, DeliverDAfter.followed-still, DeliverDUnmoved.unmoved}
-use proofs.deliveries.{FirstRequest.arrival-first, InvariantKept.request-moves, InvariantKept.ready-delivered}
-use proofs.deliveries.{Matching.shadow, Matching.matched, Matching.stepped-nobody}
-use proofs.links.FifoOfChannels.{flow_still}
-use proofs.flow.{FlowAlone.AreRests, FlowAsking.flowed-asked, FlowKinds.FlowsAs, FlowKinds.other-kind, FlowOwn.own-kind}
-use proofs.flow.{FlowLawful.flows-b, FlowLawful.flows-c, FlowRequests.flows-a, FlowResponses.flows-d}
-use proofs.flow.{FlowSame.flowed-rests, FlowSinks.flows-e, FlowReceived.IsMovedOn, FlowReceived.moved-on}
-use proofs.protocol.Events.{IsReady}
-use proofs.simulation.{Fresh.fresh-flowed, Popped.unfinished_at}
-use proofs.queues.{Landed.handed-client, Steps.stepped-asked, Tokens.same_number, KindMoves.on_same}
+use proofs.links.{FromInvariant.flow_moved, FromInvariant.taken_at, FromInvariant.flow_still, HeadsOfLinks.first-of}
+use proofs.queues.{FirstToken.IsFirst, FirstToken.first-token, Tokens.same_number, Moves.on_same}
+use proofs.queues.Steps.{IsOn, landed-client, landed-manager, on_own_channel, clients-with_messages}
+use proofs.queues.Steps.{manager-with_messages, handed-client, stepped-asked}
+use proofs.deliveries.{ManagersAfter.at-manager, AskedWell.asked-well, FirstRequest.arrival-first}
+use proofs.deliveries.DeliverDUnmoved.{followed-moving, followed-still, unmoved}
+use proofs.deliveries.Matching.{request-moves, ready-delivered, shadow, matched, stepped-nobody}
+use proofs.manager.RequestsTaken.{next_tracker}
+use proofs.simulation.{Owned.unfinished_at, Moved.client-moves, Moved.client-heard, Fresh.fresh-flowed}
+use proofs.flow.{FlowAlone.AreRests, FlowAlone.flowed-rests, FlowAsked.flowed-asked, FlowKinds.FlowsAs}
+use proofs.flow.{FlowKinds.other-kind, FlowOwn.own-kind, FlowResponses.flows-d, FlowBeats.flows-e}
+use proofs.flow.FlowLawful.{flows-b, flows-c, flows-a}
+use proofs.protocol.HeadOfD.{IsReady}
 use proofs.outstanding.Outstanding.{first-moved}
-use proofs.manager.UnwaitedRequests.{next_tracker}
+
+-- ---- what the receivers have after a delivery
+
+-- messages that are handed out change no receiver
+receiver_handed : {w : ℕ} (handed : Handed w) (sys : System w) (d : ℕ) (at : Channel)
+    → receiver at d (with_messages handed sys) ≡ receiver at d sys
+receiver_handed handed sys d at = grind (arith, clients-with_messages, manager-with_messages)
+
+-- what is left of a beat that is moved on channel ch of client c's link: what was delivered, what receivers have, and
+-- what the protocol is
+pub record IsMovedOn {w : ℕ} (config : Config) (log : Log w) (link : Link) (ch : Channel) (h : AbstractState w)
+    (x : Beat w) (queue : List (Beat w)) : Type 0 where
+  pub first : IsFirst ch link.0 h.mail h.state (system_after config log) x queue
+  pub on_ch : IsOn ch x
+  pub delivered : (d : ℕ) → flow d
+      ((Deliver link ch, (stepped config (Deliver link ch) (system_after config log)).outcome) ∷ log)
+      ≡ (if link.0 == d then x ∷ flow d log else flow d log)
+  pub rests : (d : ℕ) (at : Channel) → unfinished_at (stepped config (Deliver link ch) (system_after config log)).after
+      d at ≡ (if (d == link.0) && same_channel at ch then grown x (unfinished_at (system_after config log) d at) else
+      unfinished_at (system_after config log) d at)
+  pub follows : abstract_step config (Deliver link ch) (system_after config log) h
+      ≡ (if completes x (unfinished_at (system_after config log) link.0 ch) then kind_taken config
+      (next_tracker (system_after config log)) link.0 first.kind first.number first.rest h else h)
+
+moved-to_manager : {w : ℕ} {config : Config} {log : Log w} (link : Link) (ch : Channel) (h : AbstractState w)
+    (terms : EndConfig) (x : Beat w) (queue : List (Beat w)) → IsWidth w
+    → SimulationRelation config log h.mail h.request h.state (system_after config log)
+    → terms_at config link.0 ≡ Some terms → is_to_client ch ≡ false → (system_after config log).channels link.0 ch
+    ≡ x ∷ queue → is_moving (stepped config (Deliver link ch) (system_after config log)).outcome ≡ true
+    → IsMovedOn config log link ch h x queue
+unfolding with_messages
+moved-to_manager {w} {config} {log} link ch h terms x queue width is known down beats moving =
+    let sys = system_after config log in
+    let handed : Handed w = (reaction config link x sys.manager).handed in
+    let at = at-manager link ch h terms x queue width is known down beats moving in
+    let e : manager_end.End w = manager_offer.taken link x (reaction config link x sys.manager) sys.manager in
+    record {
+      first = at.first;
+      on_ch = at.on_it;
+      delivered = λ d. cc (at.step_is, flow_moved link ch (Outcome.Moved x) x log d refl);
+      rests = λ d i. cc (
+        at.step_is,
+        receiver_handed handed (with_manager e (with_channel link.0 ch queue sys)) d i,
+        (landed-manager link.0 ch x queue (λ k j. None) [] e
+            sys down at.beats at.on_it at.heard (λ k j. refl)).rests d i,
+      );
+      follows = at.follows;
+    }
+
+moved-to_client : {w : ℕ} {config : Config} {log : Log w} (link : Link) (ch : Channel) (h : AbstractState w)
+    (terms : EndConfig) (x : Beat w) (queue : List (Beat w)) → IsWidth w
+    → SimulationRelation config log h.mail h.request h.state (system_after config log)
+    → terms_at config link.0 ≡ Some terms → is_to_client ch ≡ true → (system_after config log).channels link.0 ch
+    ≡ x ∷ queue → is_moving (stepped config (Deliver link ch) (system_after config log)).outcome ≡ true
+    → IsMovedOn config log link ch h x queue
+moved-to_client {w} {config} {log} link ch h terms x queue width is known up beats moving =
+    let sys : System w = system_after config log in
+    let t = client-moves config link ch sys terms x queue known beats up moving in
+    let first : IsFirst ch link.0 h.mail h.state sys x queue = first-token (is_caching config) ch link.0 h.mail h.state
+    sys x queue width is.invariant is.carried beats in
+    let on_ch : IsOn ch x = subst (λ (i : Channel). IsOn i x) (first-of config log h link.0 terms ch x queue width is
+    known beats).on (on_own_channel x) in
+    record {
+      first = first;
+      on_ch = on_ch;
+      delivered = λ d. ap (λ (y : Step w). flow d ((Deliver link ch, y.outcome) ∷ log)) t.step_is ∙ flow_moved link ch
+          (outcome_of x t.verdict_is) x log d (taken_at link ch x t.verdict_is d (cc t.step_is));
+      rests = λ d i. ap (λ (y : Step w). unfinished_at y.after d i) t.step_is
+          ∙ (landed-client link.0 ch x queue t.message (offer.taken x (sys.clients link.0)).after sys up beats on_ch
+          (client-heard width (is.kept link.0) t)).rests d i;
+      follows = cc (followed-moving config link ch sys h x queue moving beats, first.tokens);
+    }
+
+pub moved-on : {w : ℕ} {config : Config} {log : Log w} (link : Link) (ch : Channel) (h : AbstractState w) (x : Beat w)
+    (queue : List (Beat w)) (terms : EndConfig) → IsWidth w → SimulationRelation config log h.mail h.request h.state
+    (system_after config log) → (system_after config log).channels link.0 ch ≡ x ∷ queue
+    → terms_at config link.0 ≡ Some terms
+    → is_moving (stepped config (Deliver link ch) (system_after config log)).outcome ≡ true → (b : Bool)
+    → is_to_client ch ≡ b → IsMovedOn config log link ch h x queue
+moved-on {config} {log} link ch h x queue terms width is beats known moving true e =
+    moved-to_client link ch h terms x queue width is known e beats moving
+moved-on {config} {log} link ch h x queue terms width is beats known moving false e =
+    moved-to_manager link ch h terms x queue width is known e beats moving
 
 -- ---- what is delivered after a delivery
 

@@ -1,19 +1,19 @@
 -- What all links carry together: at a Grant the others hold no more than it leaves them.
-use Rattle.std.proofs.Common.{◌≡◌, ℕ, zero, suc, Bool, true, false, List, ◌∷◌, Some, refl, sym, ◌∙◌, ap, subst, arith}
-use Rattle.std.proofs.Common.{◌||◌, Option, if◌then◌else◌}
+use Rattle.std.proofs.Common.{◌≡◌, ℕ, zero, suc, Bool, true, false, ◌||◌, if◌then◌else◌, List, ◌∷◌, Option, Some, refl}
+use Rattle.std.proofs.Common.{sym, ◌∙◌, ap, subst, arith}
 use Rattle.tl_coherence.proofs
-use proofs.Imports.{cases_eq, Beat, BeatD, Channel, History, channel_of, Config, Cap, Perm, cap_right, on_link}
-use proofs.Imports.{same_perm, Trace, held, grants, capped, leaves, cap-gives, View, Granting, is_unprobed}
-use proofs.Imports.{is_unreleased, Block, Service, GrantSent, view, is_granting, AbstractState, SimulationRelation}
-use proofs.Imports.{flow, trace_of, IsGiven, Log, system_after, perm_le}
-use Rattle.tl_rules.specs.statement.Windows.{is_spared, is_free}
+use proofs.Imports.{cases_eq, Beat, BeatD, Channel, History, channel_of, Config, Cap, Perm, cap_right, Trace, same_perm}
+use proofs.Imports.{on_link, capped, grants, held, leaves, cap-gives, Granting, View, is_unprobed, is_unreleased, Block}
+use proofs.Imports.{GrantSent, Service, view, is_granting, AbstractState, SimulationRelation, trace_of, flow, IsGiven}
+use proofs.Imports.{Log, system_after, perm_le}
 use Rattle.tl_coherence.specs.statement.OneWriter.{IsGivenAlone, IsOneWriter, IsApart}
-use proofs.deliveries.{Matching.shadow}
+use Rattle.tl_rules.specs.statement.Windows.{is_spared, is_free}
+use proofs.deliveries.Matching.{shadow}
 use proofs.flow.{FlowBeats.same_perms, FlowStep.held_by, FlowTaken.each-taken, FlowTraces.trace-flows, Flows.flowed}
 use proofs.flow.{NextOnD.grant-next}
-use proofs.links.{FromInvariant.matched-given}
-use proofs.protocol.{HeadOfD.own_view}
-use proofs.queues.{Facts.granting_alone, Facts.held_at_most, Phases.and_right, Perms.none_below, Perms.trunk_below}
+use proofs.links.FromInvariant.{matched-given}
+use proofs.protocol.HeadOfD.{own_view}
+use proofs.queues.{Facts.granting_alone, Facts.held_at_most, Phases.and_right, Phases.none_below, Phases.trunk_below}
 
 -- ---- all links
 

@@ -1,14 +1,14 @@
 -- A client stores to its copy only where its link holds Trunk.
-use Rattle.std.proofs.Common.{◌≡◌, ℕ, Bool, true, List, refl, sym, ◌∙◌, ap, Option, Some, None, if◌then◌else◌, arith}
+use Rattle.std.proofs.Common.{◌≡◌, ℕ, Bool, true, if◌then◌else◌, List, Option, Some, None, refl, sym, ◌∙◌, ap, arith}
 use Rattle.tl_coherence.proofs
-use proofs.Imports.{Perm, block_at, held, Op, Reply, EndConfig, Ask, Outcome, view, Block, is_granting, AbstractState}
+use proofs.Imports.{Perm, block_at, held, Op, Reply, EndConfig, Ask, Outcome, Block, view, is_granting, AbstractState}
 use proofs.Imports.{SimulationRelation, system_after, perm_le, Step, terms_at}
-use Rattle.tl_coherence.{specs.statement.HiddenStores.HiddenStores}
+use Rattle.tl_coherence.specs.statement.HiddenStores.{HiddenStores}
 use Rattle.tl_client.specs.statement.Ask as ask
-use proofs.client.{Askable.askable}
+use proofs.client.ClientDelivered.{askable}
 use proofs.deliveries.Matching.{shadow, stepped-nobody}
 use proofs.flow.{FlowBeats.same_perms, FlowTraces.trace-flows, Flows.flowed}
-use proofs.links.{FromInvariant.matched-given}
+use proofs.links.FromInvariant.{matched-given}
 use proofs.queues.{Facts.held_at_most, Steps.stepped-asked}
 
 -- who holds Trunk holds it by what was delivered too

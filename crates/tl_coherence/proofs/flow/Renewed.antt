@@ -1,22 +1,49 @@
+-- What excludes an access: who is recorded with no more than its cap leaves it.
 -- What the protocol does at an event to the accesses that are answered: each was answered before, or nobody is recorded
 -- any more with what excludes it, and it is answered what the block had.
-use Rattle.std.proofs.Common.{◌≡◌, ℕ, true, false, not, ◌&&◌, List, ◌∷◌, ◌⊎◌, Option, Some, None, refl, sym, ◌∙◌, ap}
-use Rattle.std.proofs.Common.{arith, inl, inr, length, ◌==◌}
+use Rattle.std.proofs.Common.{◌≡◌, ℕ, true, false, not, ◌&&◌, ◌==◌, List, ◌∷◌, Option, Some, None, refl, sym, ◌∙◌, ap}
+use Rattle.std.proofs.Common.{arith, ◌⊎◌, inl, inr, length}
 use Rattle.tl_coherence.proofs
-use proofs.Imports.{Message, MessageA, Config, Cap, Report, answer_of, block_at, is_acquire, leaves, needs, Op, Reply}
-use proofs.Imports.{access, access_answer, cap_probed, Kind, ProbeAck, Answer, Packet, set, set_at, Other}
-use proofs.Imports.{ProbeAnswered, is_unprobed, after_report, Block, Waits, GrantSent, State, SourceState, SourceFree}
-use proofs.Imports.{Asked, InService, Replied, Acquires, view, packet, on, written, performed_block, ended_block}
-use proofs.Imports.{AbstractState, asked, kind_taken, access_taken, last_taken, taken_by_client, some_below}
-use proofs.Imports.{probes_some, performs, answers, bytes_at, report_told, SimulationRelation, is_caching, IsFor, Log}
-use proofs.Imports.{System}
-use proofs.client.{AnswersKept.set_at-apart}
-use proofs.manager.{Choices.plain-past}
+use proofs.Imports.{same_Some, OpA, Message, MessageA, Config, Cap, Report, Perm, cap_right, same_perm, answer_of}
+use proofs.Imports.{block_at, is_acquire, leaves, needs, Op, Reply, access, access_answer, cap_probed, Answer, Kind}
+use proofs.Imports.{Packet, ProbeAck, set, set_at, Other, ProbeAnswered, is_unprobed, after_report, is_above, Acquires}
+use proofs.Imports.{Asked, Block, GrantSent, InService, Replied, SourceFree, SourceState, State, Waits, ended_block, on}
+use proofs.Imports.{packet, performed_block, view, written, AbstractState, access_taken, answers, asked, bytes_at}
+use proofs.Imports.{kind_taken, last_taken, performs, probes_some, taken_by_client, some_below, report_told}
+use proofs.Imports.{SimulationRelation, is_caching, IsFor, Log, perm_le, System}
+use proofs.client.AnswersKept.{set_at-apart}
+use proofs.manager.Choices.{plain-past}
 use proofs.queues.{Codes.low_cap, Tokens.set-same, Tokens.set_at-same}
-use proofs.protocol.{Granted.recorded_within, RequestsKept.unprobed, RequestsKept.settled_all, FirstTokens.first-report}
-use proofs.protocol.Events.{IsReady, ready-access, true-taken}
-use proofs.flow.Excluded.{above_le, leaves_within, leaves_all}
+use proofs.protocol.{Granted.recorded_within, RequestsKept.unprobed, RequestsKept.settled_all, BothParts.first-report}
+use proofs.protocol.HeadOfD.{IsReady, ready-access, true-taken}
 use proofs.memory.BesideTaken.{intent-reply, memory-reported, memory-unprobed}
+
+some_none : (k : Cap) → Some k ≡ None → ⊥
+some_none k e = cc
+
+pub above_le : (k : Cap) (p : Perm) → is_above k p ≡ false → perm_le p (cap_right k) ≡ true
+above_le k p e = grind arith
+
+at_most_branch : (p : Perm) → perm_le p (cap_right Cap.ToB) ≡ true → not (same_perm p Perm.Trunk) ≡ true
+at_most_branch p e = grind arith
+
+at_most_none : (p : Perm) → perm_le p (cap_right Cap.ToN) ≡ true → same_perm p Perm.None ≡ true
+at_most_none p e = grind arith
+
+within : (j k : Cap) (p : Perm) → Some j ≡ Some k → perm_le p (cap_right k) ≡ true → perm_le p (cap_right j) ≡ true
+within j k p e f = ap (λ (i : Cap). perm_le p (cap_right i)) (same_Some j k e) ∙ f
+
+pub leaves_within : (o : OpA) (param : ℕ) (k : Cap) (p : Perm) → is_acquire o ≡ false → cap_probed o param ≡ Some k
+    → perm_le p (cap_right k) ≡ true → leaves (needs o) p ≡ true
+leaves_within OpA.Get param k p e f g = at_most_branch p (within Cap.ToB k p f g)
+leaves_within OpA.Intent param k p e f g = refl
+leaves_within OpA.AcquireBlock param k p e f g = absurd cc
+leaves_within OpA.AcquirePerm param k p e f g = absurd cc
+leaves_within o param k p e f g = at_most_none p (within Cap.ToN k p f g)
+
+pub leaves_all : (o : OpA) (param : ℕ) (p : Perm) → is_acquire o ≡ false → cap_probed o param ≡ None
+    → leaves (needs o) p ≡ true
+leaves_all o param p e f = grind (arith, some_none)
 
 -- ---- one place of two numbers
 

@@ -1,30 +1,29 @@
 -- Each access is answered after a moment, since it was asked whole, at which nobody held what excludes it.
-use Rattle.std.proofs.Common.{◌≡◌, ℕ, Bool, true, false, List, [], ◌∷◌, Option, Some, None, refl, sym, ◌∙◌, ap, subst}
-use Rattle.std.proofs.Common.{arith, inl, inr, ◌++◌, is_some}
+use Rattle.std.proofs.Common.{◌≡◌, ℕ, Bool, true, false, List, [], ◌∷◌, ◌++◌, Option, Some, None, refl, sym, ◌∙◌, ap}
+use Rattle.std.proofs.Common.{subst, arith, inl, inr, is_some}
 use Rattle.std.proofs.lemmas.Bool.{or_left}
 use Rattle.tl_coherence.proofs
 use proofs.Imports.{or_right, Beat, BeatA, BeatD, Link, Channel, OpA, IsWidth, Message, MessageA, a_beat_of, History}
-use proofs.Imports.{channel_of, unfinished, Config, RequestSource, Perm, open_request, Trace, on_link, comes_in_request}
-use proofs.Imports.{block_at, held, pending, request_of, leaves, needs, is_free, Op, EndConfig, grant_opcode}
-use proofs.Imports.{is_access_answer, Event, Ask, Deliver, Outcome, Acquire, Block, SourceState, SourceFree, Replied}
-use proofs.Imports.{view, AbstractState, abstract_step, abstract_step_by, block_message, SimulationRelation}
-use proofs.Imports.{MonitorRelations, asked_for, block_used, first_of, is_moving, flow, taken_at, IsGiven, Log}
+use proofs.Imports.{channel_of, unfinished, Config, RequestSource, Perm, open_request, Trace, comes_in_request, on_link}
+use proofs.Imports.{block_at, held, pending, request_of, is_free, leaves, needs, Op, EndConfig, grant_opcode}
+use proofs.Imports.{is_access_answer, Event, Ask, Deliver, Outcome, Acquire, Block, Replied, SourceFree, SourceState}
+use proofs.Imports.{view, AbstractState, abstract_step, abstract_step_by, block_message, MonitorRelations}
+use proofs.Imports.{SimulationRelation, asked_for, block_used, first_of, is_moving, taken_at, flow, IsGiven, Log}
 use proofs.Imports.{system_after, perm_le, Step, stepped, System, terms_at}
-use Rattle.tl_rules.{specs.statement.Windows.has_window}
 use Rattle.tl_coherence.{specs.statement.Flow.trace_of, specs.statement.Headline.AreTyped, specs.statement.Log.IsLog}
 use Rattle.tl_coherence.specs.statement.AnsweredInTime.{IsAnsweredInTime, AnsweredInTime}
+use Rattle.tl_rules.specs.statement.Windows.{has_window}
 use Rattle.tl_client.specs.statement.Ask as ask
-use proofs.deliveries.{DeliverDAfter.followed-still, InvariantKept.ready-delivered}
-use proofs.deliveries.Matching.{shadow, matched, stepped-nobody}
+use proofs.deliveries.Matching.{ready-delivered, shadow, matched, stepped-nobody}
+use proofs.deliveries.DeliverDUnmoved.{followed-still}
 use proofs.flow.{FlowStep.held_by, Flows.flowed, FlowTaken.each-taken, FlowTraces.trace-flows, NextOnD.next-on_d}
-use proofs.flow.ComingRequests.{not-coming_a, waits_on_a}
-use proofs.flow.GivenAlone.{free-where, held_by_most}
+use proofs.flow.{FlowResponses.not-coming_a, FlowResponses.waits_on_a, GivenAlone.free-where, GivenAlone.held_by_most}
 use proofs.flow.Renewed.{AreRenewed, AreKept, IsSettledFor, kept-asked, renewed-kind_taken}
-use proofs.links.{FromInvariant.matched-given}
-use proofs.manager.{UnwaitedRequests.next_tracker}
-use proofs.queues.{Facts.held_at_most, Perms.nothing_below, Steps.stepped-asked}
+use proofs.links.FromInvariant.{matched-given}
+use proofs.manager.RequestsTaken.{next_tracker}
+use proofs.queues.{Facts.held_at_most, Phases.nothing_below, Steps.stepped-asked}
 use proofs.simulation.FollowCases.{followed-cases, on-first}
-use proofs.memory.{BesideTaken.same_message}
+use proofs.memory.BesideTaken.{same_message}
 
 -- ---- what is held and excludes nothing
 

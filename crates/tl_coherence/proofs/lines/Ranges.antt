@@ -1,24 +1,23 @@
 -- The numbers of each beat on a channel are within their types.
-use Rattle.std.proofs.Common.{◌≡◌, ℕ, zero, suc, ◌+◌, ◌-◌, ◌*◌, ◌%◌, ◌^◌, ◌<◌, ◌≤◌, Bool, true, false, List, [], ◌∷◌}
-use Rattle.std.proofs.Common.{◌++◌, Option, Some, None, length, refl, sym, lit<, arith, leb-true, IfSome, drop, nat_le}
-use Rattle.std.proofs.Common.{option_map, replicate, slice_get}
+use Rattle.std.proofs.Common.{◌≡◌, ℕ, zero, suc, ◌+◌, ◌*◌, ◌-◌, ◌^◌, ◌<◌, ◌≤◌, Bool, true, false, List, [], ◌∷◌, ◌++◌}
+use Rattle.std.proofs.Common.{Option, Some, None, refl, sym, arith, ◌%◌, length, lit<, leb-true, drop, IfSome}
+use Rattle.std.proofs.Common.{replicate, nat_le, slice_get, option_map}
 use Rattle.std.proofs.lemmas.List.Elements.{All-drop, All-from_get_or, All-replicate, All-take}
 use Rattle.tl_coherence.proofs
 use proofs.Imports.{and_parts, All-append, Channel, OpB, IsInRange, Message, MessageA, beat_of, lanes_at, ClientConfig}
 use proofs.Imports.{Config, Prune, Report, Perm, all_sources_fit, config_fault, sources_fit, is_outside, answer_of}
 use proofs.Imports.{as_payload, block_at, Op, EndConfig, probe_ack, release, sourced, one_if, access_answer}
-use proofs.Imports.{release_ack, Kind, Request, Acquire, Probe, ProbeAck, Release, Answer, Grant, ReleaseAck, GrantAck}
-use proofs.Imports.{Packet, count, is, AcquirePhase, AcquireOpen, Service, GrantSent, State, SourceState, SourceFree}
-use proofs.Imports.{Asked, Replied, Acquires, packet, packets_on, is_on, Answers, IsOpened, AccessMessages, acquire_of}
-use proofs.Imports.{grant_of, message_of_kind, prune_told, block_message, report_told, AreLanes, SimulationRelation}
-use proofs.Imports.{sources_of, Log, Requests, one_memory_after, AreBytes, System, terms_at}
-use Rattle.tl_beat.{specs.statement.Line.AreLanes as HasLanes}
+use proofs.Imports.{release_ack, Acquire, Answer, Grant, GrantAck, Kind, Packet, Probe, ProbeAck, Release, ReleaseAck}
+use proofs.Imports.{Request, is, count, AcquireOpen, AcquirePhase, Acquires, Asked, GrantSent, Replied, Service}
+use proofs.Imports.{SourceFree, SourceState, State, is_on, packet, packets_on, Answers, IsOpened, AccessMessages}
+use proofs.Imports.{acquire_of, grant_of, message_of_kind, prune_told, report_told, block_message, AreLanes}
+use proofs.Imports.{SimulationRelation, sources_of, Log, Requests, one_memory_after, AreBytes, System, terms_at}
+use Rattle.tl_beat.specs.statement.Line.{AreLanes as HasLanes}
 use Rattle.tl_rules.specs.statement.Effect as memory
 use proofs.memory.Bytes.{IsRangedMachine, IsRangedOpen, IsRangedReply}
 use proofs.protocol.Capacities.{acquire_named, answer_named, grant_ack_named, grant_named, release_ack_named}
-use proofs.protocol.Capacities.{release_named, request_named}
-use proofs.protocol.TokenNames.{AreBounded, shown_there, shows_it, tracker_of_service}
-use proofs.queues.{Rendered.same_kind_again, Tokens.same_number, Limits.limits-fit}
+use proofs.protocol.Capacities.{release_named, request_named, AreBounded, shown_there, shows_it, tracker_of_service}
+use proofs.queues.{Channels.same_kind_again, Tokens.same_number, Limits.limits-fit}
 
 -- ---- messages, and their beats
 

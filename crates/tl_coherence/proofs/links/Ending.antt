@@ -1,19 +1,19 @@
 -- A delivery with which an operation ends: it brings the last beat of the response that is first on channel D.
-use Rattle.std.proofs.Common.{◌≡◌, ℕ, Bool, true, false, List, [], ◌∷◌, Option, Some, None, refl, sym, ◌∙◌, ap, subst}
-use Rattle.std.proofs.Common.{if◌then◌else◌, Ok}
+use Rattle.std.proofs.Common.{◌≡◌, ℕ, Bool, true, false, if◌then◌else◌, List, [], ◌∷◌, Option, Some, None, Ok, refl}
+use Rattle.std.proofs.Common.{sym, ◌∙◌, ap, subst}
 use Rattle.tl_coherence.proofs
 use proofs.Imports.{Beat, BeatD, Link, Channel, IsWidth, Message, MessageD, beat_of, d_beat_of, unfinished, completes}
-use proofs.Imports.{Config, Finish, Verdict, Endpoint, EndConfig, Deliver, Outcome, Kind, Answer, Grant, ReleaseAck}
-use proofs.Imports.{Packet, packet, is_on, AbstractState, abstract_step, kind_taken, packet_taken, message_of_kind}
-use proofs.Imports.{block_message, SimulationRelation, is_caching, is_moving, Log, system_after, Step, stepped}
-use proofs.Imports.{is_to_client, outcome_of, System, terms_at}
+use proofs.Imports.{Config, Finish, Verdict, EndConfig, Endpoint, Deliver, Outcome, Answer, Grant, Kind, Packet}
+use proofs.Imports.{ReleaseAck, is_on, packet, AbstractState, abstract_step, kind_taken, packet_taken, message_of_kind}
+use proofs.Imports.{block_message, SimulationRelation, is_caching, is_moving, Log, system_after, Step, is_to_client}
+use proofs.Imports.{outcome_of, stepped, System, terms_at}
 use Rattle.tl_client.specs.statement.Offer as offer
 use proofs.protocol.HeadOfD.{answer-due, grant-due, grant-rendered, ack_message}
 use proofs.queues.{FirstToken.IsFirst, FirstToken.first-token, Steps.stepped-empty}
-use proofs.deliveries.{DeliverDAfter.followed-moving, Matching.not_moving, Matching.stepped-nobody}
-use proofs.client.{ProbeDelivered.delivered-b, DeliverD.finish_at, DeliverD.acked, DeliverD.answer-last}
-use proofs.client.{DeliverD.answer-part, DeliverD.same_answers}
-use proofs.manager.UnwaitedRequests.{next_tracker}
+use proofs.deliveries.{DeliverDUnmoved.followed-moving, Matching.not_moving, Matching.stepped-nobody}
+use proofs.client.DeliverD.{finish_at, acked, answer-last, answer-part, same_answers}
+use proofs.client.ProbeDelivered.{delivered-b}
+use proofs.manager.RequestsTaken.{next_tracker}
 use proofs.simulation.Moved.{IsTakenByClient, client-moves, manager-moves}
 
 -- the operation with this source ends so

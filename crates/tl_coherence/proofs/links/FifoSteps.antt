@@ -1,12 +1,12 @@
 -- Channels lose nothing and keep order: for histories of the two ends of each link, and what is on its channels.
-use Rattle.std.proofs.Common.{◌≡◌, ℕ, zero, suc, Bool, true, false, not, List, [], ◌∷◌, refl, sym, ◌∙◌, ap, inl, inr}
-use Rattle.std.proofs.Common.{arith, ◌++◌, ◌&&◌, ne_eqb, append_assoc, ◌==◌, if◌then◌else◌, reverse}
+use Rattle.std.proofs.Common.{◌≡◌, ℕ, zero, suc, Bool, true, false, not, ◌&&◌, ◌==◌, if◌then◌else◌, List, [], ◌∷◌, ◌++◌}
+use Rattle.std.proofs.Common.{refl, sym, ◌∙◌, ap, arith, inl, inr, ne_eqb, append_assoc, reverse}
 use Rattle.tl_coherence.proofs
 use proofs.Imports.{cases_eq, reverse-append, Beat, Channel, Message, beat_of, beats_of, begun, burst_of, History}
-use proofs.Imports.{beats_from, is_from_client, is_to_client, same_channel, channel_of_message}
+use proofs.Imports.{beats_from, is_from_client, is_to_client, channel_of_message, same_channel}
 use Rattle.tl_burst.specs.statement.Messages.{carried_on, on}
-use proofs.queues.{Beats.reverse-beats_from, Landed.IsOn, Tokens.same_number, Channels.same_channel-is}
-use proofs.deliveries.{ManagersAfter.on_message}
+use proofs.queues.{Beats.reverse-beats_from, Steps.IsOn, Tokens.same_number, Channels.same_channel-is}
+use proofs.deliveries.ManagersAfter.{on_message}
 
 -- ---- lists
 

@@ -1,18 +1,18 @@
 -- At a Grant the client holds what it is granted.
-use Rattle.std.proofs.Common.{◌≡◌, ℕ, Bool, true, false, List, ◌∷◌, Option, Some, None, refl, sym, ◌∙◌, ap, option_map}
-use Rattle.std.proofs.Common.{arith}
+use Rattle.std.proofs.Common.{◌≡◌, ℕ, Bool, true, false, List, ◌∷◌, Option, Some, None, refl, sym, ◌∙◌, ap, arith}
+use Rattle.std.proofs.Common.{option_map}
 use Rattle.tl_coherence.proofs
 use proofs.Imports.{Beat, BeatD, Link, Channel, OpD, IsWidth, Message, MessageD, d_beat_of, Config, Cap, Perm, cap_code}
 use proofs.Imports.{cap_right, held, Op, Finish, op_block, Endpoint, finish_of, grant_opcode, is_access_answer, Deliver}
-use proofs.Imports.{Outcome, Kind, Answer, Grant, ReleaseAck, Packet, AcquirePhase, is_on, packet, SourceState}
-use proofs.Imports.{Acquires, AbstractState, abstract_step, kind_taken, op_of, message_of_kind, block_message}
+use proofs.Imports.{Outcome, Answer, Grant, Kind, Packet, ReleaseAck, AcquirePhase, Acquires, SourceState, is_on}
+use proofs.Imports.{packet, AbstractState, abstract_step, kind_taken, op_of, message_of_kind, block_message}
 use proofs.Imports.{SimulationRelation, is_caching, started, Log, system_after, Open, Requests, one_memory_after}
 use proofs.Imports.{stepped, System}
-use proofs.memory.{Coherence.opened-started}
+use proofs.memory.Coherence.{opened-started}
 use proofs.links.Ending.{IsEnding, ending}
-use proofs.client.{DeliverD.finish_at}
-use proofs.deliveries.{Matching.matched-event}
-use proofs.manager.{UnwaitedRequests.next_tracker}
+use proofs.client.DeliverD.{finish_at}
+use proofs.deliveries.Matching.{matched-event}
+use proofs.manager.RequestsTaken.{next_tracker}
 use proofs.protocol.HeadOfD.{IsGrantDue, ack_message, answer-due, grant-due, grant-rendered, grant_message}
 
 -- ---- how a response ends its operation

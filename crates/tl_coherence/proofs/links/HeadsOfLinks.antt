@@ -1,26 +1,26 @@
 -- The first beat of each channel of a client's link: it is one of the channel, no rule refuses it, and
 -- on channel B it is a Probe.
-use Rattle.std.proofs.Common.{◌≡◌, ℕ, Bool, true, false, List, ◌∷◌, Option, Some, refl, sym, ◌∙◌, ap, subst, map, arith}
-use Rattle.std.proofs.Common.{Result}
+use Rattle.std.proofs.Common.{◌≡◌, ℕ, Bool, true, false, List, ◌∷◌, Option, Some, Result, refl, sym, ◌∙◌, ap, subst}
+use Rattle.std.proofs.Common.{arith, map}
 use Rattle.tl_coherence.proofs
 use proofs.Imports.{Beat, BeatB, Channel, IsWidth, Message, beat_of, channel_of, unfinished, Config, Cap, Rule}
-use proofs.Imports.{is_probe, kept_up, Verdict, is_refused, EndConfig, Offered, offered, silent, taken, Kind, Answer}
-use proofs.Imports.{Grant, ReleaseAck, is_unreleased, packet, is_on, AbstractState, message_of_kind, block_message}
-use proofs.Imports.{cap_sent, message_of, probe_beat, prune_told, report_told, SimulationRelation, is_caching, Log}
-use proofs.Imports.{system_after, System, terms_at}
+use proofs.Imports.{is_probe, kept_up, Verdict, is_refused, EndConfig, Offered, silent, taken, offered, Answer, Grant}
+use proofs.Imports.{Kind, ReleaseAck, is_unreleased, is_on, packet, AbstractState, cap_sent, message_of}
+use proofs.Imports.{message_of_kind, probe_beat, prune_told, report_told, block_message, SimulationRelation, is_caching}
+use proofs.Imports.{Log, system_after, System, terms_at}
+use Rattle.tl_coherence.proofs.queues.FirstToken as packet
 use Rattle.tl_manager.specs.statement.End as manager_end
 use Rattle.tl_manager.specs.statement.Offer as manager
-use Rattle.tl_coherence.proofs.queues.FirstToken as packet
 use proofs.queues.{Carried.IsNext, FirstToken.first-token}
-use proofs.client.ClientDelivered.{shadow_of, delivered-d}
 use proofs.client.ProbeDelivered.{IsProbed, delivered-b}
-use proofs.manager.{Reporting.report-about, Reporting.release-about, UnwaitedRequests.next_tracker}
+use proofs.client.ClientDelivered.{shadow_of, delivered-d}
+use proofs.manager.{Reporting.report-about, Reporting.release-about, RequestsTaken.next_tracker}
 use proofs.manager.ManagerTakes.{by-first_c, by-first_e}
 use proofs.memory.Runs.{IsTakenUp, IsTakenIn}
-use proofs.links.{Stalling.IsFirst}
+use proofs.links.Stalling.{IsFirst}
 use proofs.protocol.HeadOfD.{answer-due, grant-due, grant-rendered}
-use proofs.deliveries.ManagerDelivered.{channel_c-delivered, channel_e-delivered}
 use proofs.deliveries.FirstRequest.{IsArrival, arrival-first, request-taken, request-stalled}
+use proofs.deliveries.ManagerDelivered.{channel_c-delivered, channel_e-delivered}
 
 -- ---- the channel of the first beat
 

@@ -1,24 +1,23 @@
 -- Which deliveries are stalled: a Probe while a Release of its block is outstanding, and the last beat of a request
 -- whose block is in service, or for which there is no tracker.
-use Rattle.std.proofs.Common.{◌≡◌, ℕ, Bool, true, false, List, [], ◌∷◌, refl}
-use Rattle.std.proofs.Common.{sym, ◌∙◌, ap, not, ◌&&◌, Option, Some, arith}
-use Rattle.std.proofs.Common.{None, is_none, is_some, option_map}
+use Rattle.std.proofs.Common.{◌≡◌, ℕ, Bool, true, false, not, ◌&&◌, List, [], ◌∷◌, Option, Some, None, refl, sym, ◌∙◌}
+use Rattle.std.proofs.Common.{ap, arith, is_none, option_map, is_some}
 use Rattle.tl_coherence.proofs
-use proofs.Imports.{and-false, not-true, not-false, Beat, BeatB, Channel, MessageA, channel_of, is_empty, Config}
-use proofs.Imports.{ReleaseOf, Level, Prune, Rule, block_at, is_probe, pending, Op, EndConfig, offered, must_wait}
-use proofs.Imports.{Passes, offered_as, open_level, Deliver, releases_with, is_unreleased, State, IsLet}
-use proofs.Imports.{AccessMessages, SimulationRelation, started, IsCoherent, IsExact, Moves, is_stall, is_moving, Log}
-use proofs.Imports.{system_after, Open, Releases, is_client, is_movable, moves, stalls, one_memory_after, stepped}
-use proofs.Imports.{delivered, stepped_at, System, terms_at}
-use Rattle.tl_client.specs.declared.operation.Op.TheVariants.{Release}
-use Rattle.tl_manager.proofs.judging.Stalls.{never-stalled}
-use Rattle.tl_manager.specs.statement.Offer.{Judgement, breaks_or, waits_or, is_waiting, judged_on, judged_at}
+use proofs.Imports.{and-false, not-false, not-true, Beat, BeatB, Channel, MessageA, channel_of, is_empty, Config}
+use proofs.Imports.{ReleaseOf, Level, Prune, Rule, block_at, is_probe, pending, Op, EndConfig, offered, Passes}
+use proofs.Imports.{must_wait, offered_as, open_level, Deliver, releases_with, is_unreleased, State, IsLet}
+use proofs.Imports.{AccessMessages, SimulationRelation, IsCoherent, started, IsExact, Moves, is_stall, is_moving, Log}
+use proofs.Imports.{system_after, Open, Releases, is_client, moves, stalls, is_movable, one_memory_after, delivered}
+use proofs.Imports.{stepped_at, stepped, System, terms_at}
 use Rattle.tl_coherence.specs.statement.Delivery.{IsReleasing, is_emptiness, outcome_of_delivery}
+use Rattle.tl_client.specs.declared.operation.Op.TheVariants.{Release}
+use Rattle.tl_manager.specs.statement.Offer.{Judgement, breaks_or, waits_or, is_waiting, judged_on, judged_at}
+use Rattle.tl_manager.proofs.judging.Stalls.{never-stalled}
 use Rattle.tl_client.specs.statement.Endpoint as client
 use Rattle.tl_client.specs.statement.Offer as offer
 use Rattle.tl_manager.specs.statement.End as manager_end
 use Rattle.tl_manager.specs.statement.Offer as manager
-use proofs.protocol.TokenNames.{source_of_release}
+use proofs.protocol.Capacities.{source_of_release}
 use proofs.queues.{Tokens.same_number, Phases.and_left, Steps.first-outcome}
 use proofs.memory.Runs.{IsTaken, IsTakenUp, IsTakenIn, stall-delivered}
 

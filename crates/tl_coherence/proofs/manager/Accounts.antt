@@ -1,23 +1,26 @@
 -- What the manager knows follows from five things: what it recorded, which ProbeAcks it misses, which service each
 -- block has, and which request that is. This is for all of its events alike.
-use Rattle.std.proofs.Common.{◌≡◌, ℕ, Bool, true, false, not, ◌&&◌, ◌||◌, Option, Some, None, refl, sym, ◌∙◌, ap, arith}
-use Rattle.std.proofs.Common.{eqb-true, ◌==◌, if◌then◌else◌}
+-- The manager's end beside the protocol: all that is kept of it in one, and what follows from one trace and one memory.
+use Rattle.std.proofs.Common.{◌≡◌, ℕ, ◌*◌, Bool, true, false, not, ◌&&◌, ◌||◌, ◌==◌, if◌then◌else◌, List, [], Option}
+use Rattle.std.proofs.Common.{Some, None, refl, sym, ◌∙◌, ap, arith, eqb-true}
+use Rattle.std.proofs.Math.Bool.{or_comm}
+use Rattle.std.specs.Cmp.Derive.{one_truth}
 use Rattle.tl_coherence.proofs
-use proofs.Imports.{same_Some, Channel, MessageA, unfinished, Config, Cap, Trace, on_link, comes_in_request, probe_of}
-use proofs.Imports.{some_is, IsKept, is_any, IsProbed, End, cap_probed, services, service_of_block, IsInvariant}
-use proofs.Imports.{is_busy, IsOwnSource, is_serving, View, Own, Other, Granting, Acknowledging}
-use proofs.Imports.{GrantedOther, is_unprobed, Service, Free, Waits, GrantSent, GrantTaken, State, SourceState}
-use proofs.Imports.{SourceFree, Asked, InService, Replied, Acquires, view, is_granting, is_acknowledging, is_wanting}
-use proofs.Imports.{ManagerRelation, is_own, client_in, service_with, probe_beat, ServedSourceRelation, IsFor}
-use proofs.Imports.{is_served, is_granted, cap_waited}
-use Rattle.std.{proofs.Math.Bool.or_comm, specs.Cmp.Derive.one_truth}
-use Rattle.tl_manager.{proofs.pending.Sources.source-pending, proofs.pending.Sources.sink-pending}
-use Rattle.tl_manager.{specs.laws.Pending.is_asking, specs.laws.Pending.is_granted_with}
+use proofs.Imports.{same_Some, Channel, MessageA, unfinished, Config, Cap, Trace, comes_in_request, on_link, bytes_from}
+use proofs.Imports.{probe_of, some_is, IsKept, IsProbed, is_any, End, cap_probed, service_of_block, services}
+use proofs.Imports.{IsInvariant, IsOwnSource, is_busy, is_serving, Acknowledging, GrantedOther, Granting, Other, Own}
+use proofs.Imports.{View, is_unprobed, Acquires, Asked, Free, GrantSent, GrantTaken, InService, Replied, Service}
+use proofs.Imports.{SourceFree, SourceState, State, Waits, view, is_acknowledging, is_granting, is_wanting}
+use proofs.Imports.{ManagerRelation, client_in, is_own, service_with, AccessMessages, probe_beat, IsServedWith}
+use proofs.Imports.{SimulationRelation, IsFor, ServedSourceRelation, cap_waited, is_granted, is_served, Log, System}
+use Rattle.tl_manager.specs.laws.Pending.{is_asking, is_granted_with}
+use Rattle.tl_manager.proofs.pending.Sources.{source-pending, sink-pending}
 use Rattle.tl_manager.specs.laws.Pending as waits
 use Rattle.tl_manager.specs.statement.Service as manager
+use proofs.manager.BlockAccounts.{IsTraced, IsSameToManager, SameService, traced-same, any-of, any-found, is_granted_in}
+use proofs.manager.BlockAccounts.{at_service, granted-is}
 use proofs.queues.{Facts.own_wants, Phases.and_left, Phases.and_right, Tokens.same_number}
 use proofs.protocol.BothParts.{is_of-is, acquires_of-is, serves_of-is, not-calm}
-use proofs.manager.BlockAccounts.{any-of, any-found, is_granted_in, IsTraced, at_service, granted-is}
 
 -- ---- sources
 
@@ -280,3 +283,37 @@ traced-known managed served = record {
   requests = served.requests;
   asked = served.asked;
 }
+
+-- all that is kept of the manager's end
+pub record IsAtManager {w : ℕ} (config : Config) (mail : AccessMessages w) (request : ℕ → MessageA w)
+    (s : State (List ℕ)) (e : End w) : Type 0 where
+  pub traced : IsTraced request s e.trace
+  pub served_with : (n : ℕ) → IsServedWith mail (s.block n).service (request n)
+  pub manager_kept : IsKept config e
+  pub memory : (n : ℕ) → bytes_from e.memory (64 * n) 64 ≡ (s.block n).memory
+  pub all_live : e.closed ≡ []
+
+pub at_manager-matched : {w : ℕ} {config : Config} {log : Log w} {mail : AccessMessages w} {request : ℕ → MessageA w}
+    {s : State (List ℕ)} {sys : System w}
+    → SimulationRelation config log mail request s sys → IsAtManager config mail request s sys.manager
+at_manager-matched is = record {
+  traced = traced-known is.managed is.served;
+  served_with = is.served_with;
+  manager_kept = is.manager_kept;
+  memory = is.memory;
+  all_live = is.all_live;
+}
+
+-- ---- events that the manager doesn't see
+
+same_with : {w : ℕ} (mail : AccessMessages w) (service after : Service) (m : MessageA w) → SameService service after
+    → IsServedWith mail service m → IsServedWith mail after m
+same_with mail (GrantSent q d k) (Waits r own source j) m e ok = absurd cc
+same_with mail (GrantSent q d k) after m e ok = tt
+same_with mail service after m e ok = rw e ok
+
+-- what the manager's end knows stays, where the blocks are the same to it
+pub at_manager-same : {w : ℕ} {config : Config} {mail : AccessMessages w} {request : ℕ → MessageA w}
+    {s u : State (List ℕ)} {e : End w} → IsSameToManager s u → ((n : ℕ) → (u.block n).memory ≡ (s.block n).memory)
+    → IsAtManager config mail request s e → IsAtManager config mail request u e
+at_manager-same {mail} {request} {s} {u} same memory is = grind (arith, traced-same, same_with)

@@ -1,27 +1,27 @@
 -- A beat of channel A that is delivered breaks no rule: it is taken, unless it has to wait.
-use Rattle.std.proofs.Common.{◌≡◌, ℕ, zero, suc, Bool, true, false, ◌&&◌, List, [], ◌∷◌, Option, Some, None}
-use Rattle.std.proofs.Common.{refl, sym, ◌∙◌, ap, arith, eqb-true, ◌==◌, map, is_some, All}
+use Rattle.std.proofs.Common.{◌≡◌, ℕ, zero, suc, Bool, true, false, ◌&&◌, ◌==◌, List, [], ◌∷◌, Option, Some, None, refl}
+use Rattle.std.proofs.Common.{sym, ◌∙◌, ap, arith, eqb-true, All, map, is_some}
 use Rattle.tl_coherence.proofs
 use proofs.Imports.{Beat, BeatA, Link, Channel, OpB, first_if, Message, MessageA, a_beat_of, begun, History, unfinished}
-use proofs.Imports.{Config, Key, Level, Grow, Prune, Report, Perm, Profile, H4, H5, report_left, grow_code, later-legal}
-use proofs.Imports.{is_outside, is_spoiled, Trace, on_link, broken_order, broken_in_order, same_perm, grows_from}
-use proofs.Imports.{pending, is_acquire, held, illegal, is_one_of, same_block, acquisition, probe_ack}
-use proofs.Imports.{release, judged-passes, tracker_among, IsSound, comes_of, one_if, End, Passes, level_of, must_wait}
-use proofs.Imports.{open_level, before_stall, offered_as, reaction, services, service_of_block, least_untaken}
-use proofs.Imports.{trackers_of, is_in_service, IsInvariant, is_busy, tracks_with, Kind, ProbeAck, Release, Packet}
-use proofs.Imports.{count, is, ClientBlock, View, Own, is_unprobed, ok, Idle, AcquireOpen, ReleasePhase}
-use proofs.Imports.{is_unreleased, grow_fits, Service, Free, Waits, GrantSent, GrantTaken, Asked, State, packet}
-use proofs.Imports.{view, is_releasing, is_unserved, acquire_opcode, IsCarried, ManagerRelation, is_own, client_in}
-use proofs.Imports.{service_with, AccessMessages, block_message, message_of, report_told, prune_told}
-use proofs.Imports.{SimulationRelation, AreLanes, is_served, Log, System}
+use proofs.Imports.{Config, Key, Level, Grow, Prune, Report, Perm, Profile, H4, H5, grow_code, report_left, later-legal}
+use proofs.Imports.{is_outside, is_spoiled, Trace, broken_in_order, grows_from, same_perm, broken_order, on_link}
+use proofs.Imports.{is_acquire, held, pending, is_one_of, illegal, same_block, acquisition, probe_ack, release}
+use proofs.Imports.{judged-passes, tracker_among, IsSound, comes_of, one_if, End, Passes, before_stall, level_of}
+use proofs.Imports.{must_wait, offered_as, open_level, reaction, is_in_service, service_of_block, trackers_of}
+use proofs.Imports.{least_untaken, services, IsInvariant, is_busy, tracks_with, Kind, Packet, ProbeAck, Release, is}
+use proofs.Imports.{count, AcquireOpen, ClientBlock, Idle, Own, ReleasePhase, View, grow_fits, is_unprobed}
+use proofs.Imports.{is_unreleased, ok, Asked, Free, GrantSent, GrantTaken, Service, State, Waits, packet, view}
+use proofs.Imports.{is_releasing, is_unserved, acquire_opcode, IsCarried, ManagerRelation, client_in, is_own}
+use proofs.Imports.{service_with, AccessMessages, message_of, prune_told, report_told, block_message, AreLanes}
+use proofs.Imports.{SimulationRelation, is_served, Log, System}
 use Rattle.tl_manager.{proofs.messages.Sound.leveled, proofs.words_of_clients.Free.least_free-is_free}
-use Rattle.tl_manager.{specs.code.Kept.IsTyped, specs.statement.Offer.judged, specs.statement.Offer.offered}
-use Rattle.tl_manager.{specs.statement.Offer.taken, specs.statement.Offer.judged_at}
+use Rattle.tl_manager.{specs.code.Kept.IsTyped}
+use Rattle.tl_manager.specs.statement.Offer.{judged, offered, taken, judged_at}
 use Rattle.tl_manager.specs.statement.Offer as manager
-use proofs.manager.{Arrivals.link_of, Orders.acquire-legal}
+use proofs.manager.{Probing.link_of, ManagerTakes.acquire-legal}
 use proofs.queues.{Facts.acquire_fits, PhaseFacts.asked_alone, Phases.and_left, Phases.and_right}
-use proofs.queues.{Rendered.same_kind_again, Tokens.same_number, Codes.acquires-so}
-use proofs.protocol.{Heads.IsWanted, FirstTokens.first-shown}
+use proofs.queues.{Channels.same_kind_again, Tokens.same_number, Codes.acquires-so}
+use proofs.protocol.{Heads.IsWanted, BothParts.first-shown}
 
 -- ---- a Release that is unfinished at the manager is on its way
 

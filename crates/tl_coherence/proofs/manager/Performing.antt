@@ -1,25 +1,32 @@
 -- What the manager knows after a request that is performed at once: an access that is answered, an
 -- Acquire that is granted.
-use Rattle.std.proofs.Common.{◌≡◌, ℕ, suc, Bool, true, false, not, ◌&&◌, [], ◌∷◌, Some, None, refl, sym, ◌∙◌, ap, inl}
-use Rattle.std.proofs.Common.{inr, ne_eqb, ◌==◌, if◌then◌else◌, unwrap_or}
+-- The manager's end after a beat of a request: one that isn't the last, and the last one, where others are probed, the
+-- access is answered, or the Acquire is granted.
+use Rattle.std.proofs.Common.{◌≡◌, ℕ, suc, ◌+◌, ◌*◌, ◌<◌, Bool, true, false, not, ◌&&◌, ◌==◌, if◌then◌else◌, List, []}
+use Rattle.std.proofs.Common.{◌∷◌, Some, None, refl, sym, ◌∙◌, ap, ap₂, subst, inl, inr, ne_eqb, unwrap_or}
 use Rattle.tl_coherence.proofs
 use proofs.Imports.{cases_eq, Beat, Channel, IsWidth, beats-positive, Message, A, D, MessageA, MessageD, a_beat_of}
-use proofs.Imports.{beats_of, unfinished, Config, ProbeOf, Cap, cap_right, held-sent_d, Trace, on_link, Memory, effect}
-use proofs.Imports.{answer_of, pending, held, block_at, is_acquire, is_grant, request_of, capped, asks_for, cap-gives}
-use proofs.Imports.{performed-access, performed-acquire, after_sent, own_link, other_link, whole-taken, reply-quiet}
-use proofs.Imports.{request-reply, End, Reaction, with_handed, performed, access_answer, cap_granted, grant, recorded}
-use proofs.Imports.{services, service_of_block, least_untaken, trackers_of, set, ClientBlock, is_unprobed}
-use proofs.Imports.{after_grant_sent, Free, Waits, GrantSent, Block, State, granted_at_once, performed_block, client_in}
-use proofs.Imports.{service_with}
-use Rattle.tl_rules.specs.declared.answer.Answer.{Answer}
+use proofs.Imports.{beats_of, unfinished, Config, ProbeOf, Cap, cap_right, held-sent_d, not_last, Trace, on_link}
+use proofs.Imports.{Memory, answer_of, bytes_from, effect, asks_for, block_at, capped, is_acquire, is_grant, held}
+use proofs.Imports.{pending, request_of, memory-elsewhere, cap-gives, performed-access, performed-acquire}
+use proofs.Imports.{reaction-part, after_sent, other_link, own_link, whole-taken, reply-quiet, request-reply, IsKept}
+use proofs.Imports.{illegal_message_at, End, Reaction, access_answer, cap_granted, grant, performed, probes}
+use proofs.Imports.{with_handed, cap_probed, is_nobody, probed, recorded, level_of, reaction, service_of_block}
+use proofs.Imports.{trackers_of, least_untaken, services, set, ClientBlock, is_unprobed, after_grant_sent, Block, Free}
+use proofs.Imports.{GrantSent, State, Waits, granted_at_once, performed_block, served_block, performs, client_in}
+use proofs.Imports.{service_with, AccessMessages, IsServedWith}
+use Rattle.tl_manager.{proofs.calls.Events.reaction-probes, proofs.calls.Keeping.kept-offered}
 use Rattle.tl_manager.{proofs.pending.LinkHistories.sent-keeps, proofs.pending.Performed.performed-serving}
 use Rattle.tl_manager.{specs.statement.Handing.is_granted_data, specs.statement.Service.Service}
+use Rattle.tl_manager.specs.statement.Offer.{taken, Reception}
+use Rattle.tl_rules.specs.declared.answer.Answer.{Answer}
 use Rattle.tl_manager.specs.statement.Holders as holders
-use proofs.manager.{BlockAccounts.IsTraced, Traces.traced-at, Arrivals.link_of, Arrivals.with_beat, Arrivals.IsComing}
-use proofs.manager.{Arrivals.service_for, Arrivals.ready-last}
-use proofs.queues.{Codes.grants-so, Tokens.same_number, Tokens.set-same, Tokens.set-other, Tokens.set-part}
-use proofs.manager.Requests.{recorded-beat, missing-beat, request-beat, request-own, IsUnwaited, serving-last}
-use proofs.manager.Requests.{serving-others}
+use proofs.manager.{Admitted.offered-taken, Choices.some-clients, Memories.block-same, Memories.performed-block}
+use proofs.manager.{Accounts.IsAtManager, BlockAccounts.IsTraced, BlockAccounts.traced-at}
+use proofs.manager.Probing.{IsProbing, traced-probing, IsUnwaited, traced-more, link_of, with_beat, IsComing}
+use proofs.manager.Probing.{ends-coming, service_for, served-last, ready-last, recorded-beat, missing-beat}
+use proofs.manager.Probing.{request-beat, request-own, serving-last, serving-others}
+use proofs.queues.{Tokens.set-same, Tokens.set-other, Tokens.set-part, Tokens.same_number, Codes.grants-so}
 
 -- the trace after the last beat of a request, which is performed, and its answer
 abbrev pub with_answer : {w : ℕ} → Config → ℕ → ℕ → MessageA w → Memory → Trace w → Trace w
@@ -219,3 +226,155 @@ traced-granted {w} {X} {config} {request} {c} {k} {n} b {j} {m} {s} u memory {e}
       | inl same ↦ rw same (recorded_own i ∙ rw (ne_eqb n i (λ f. ne (sym f))) refl)
       | inr apart ↦ recorded_apart d i apart
     ]
+
+-- the manager's end after this beat
+abbrev pub end_after : {w : ℕ} → Config → ℕ → ℕ → MessageA w → End w → End w
+end_after config c k m e =
+    taken (link_of c) (Beat.A (a_beat_of m k)) (reaction config (link_of c) (Beat.A (a_beat_of m k)) e) e
+
+-- where this is done
+abbrev pub end_with : {w : ℕ} → ℕ → ℕ → MessageA w → Reaction w → End w → End w
+end_with c k m d e = taken (link_of c) (Beat.A (a_beat_of m k)) d e
+
+kept-coming : {w : ℕ} {config : Config} {c k : ℕ} {m : MessageA w} {e : End w} → IsComing config c k m e
+    → IsKept config (end_after config c k m e)
+kept-coming {w} {config} {c} {k} {m} {e} is = subst (λ (p : Reception w × End w). IsKept config p.1)
+    (offered-taken config (link_of c) Channel.A (Beat.A (a_beat_of m k)) e is.passes)
+    (kept-offered config (link_of c) Channel.A (Beat.A (a_beat_of m k)) e is.width is.typed is.kept)
+
+-- other blocks of the memory stay
+memory-coming : {w : ℕ} {config : Config} {c k : ℕ} (i : ℕ) {m : MessageA w} {e : End w} → IsComing config c k m e
+    → (i ≡ block_at m.address → ⊥)
+    → bytes_from (end_after config c k m e).memory (64 * i) 64 ≡ bytes_from e.memory (64 * i) 64
+memory-coming {w} {config} {c} {k} i {m} {e} is other =
+    cc (block-same (end_after config c k m e).memory e.memory i (λ x f. sym
+    (ap (λ (p : Reception w × End w). p.1.memory x) (offered-taken config (link_of c) Channel.A (Beat.A (a_beat_of m k))
+    e is.passes)) ∙ memory-elsewhere config (link_of c) Channel.A (Beat.A (a_beat_of m k)) e x is.width is.typed is.kept
+    (ne_eqb (block_at m.address) (block_at x) (λ g. other (sym (g ∙ f))))))
+
+-- ---- a beat that isn't the last
+
+pub at_manager-more : {w : ℕ} {config : Config} {mail : AccessMessages w} {request : ℕ
+    → MessageA w} {s : State (List ℕ)} {c k : ℕ} {m : MessageA w} {e : End w}
+    → IsComing config c k m e → k + 1 < beats_of (A m) → IsUnwaited c m.source s → IsAtManager config mail request s e
+    → IsAtManager config mail request s (end_after config c k m e)
+unfolding with_handed
+at_manager-more {w} {config} {mail} {request} {s} {c} {k} {m} {e} is more unwaited known =
+    let done =
+    reaction-part config (link_of c) (Beat.A (a_beat_of m k)) e (ends-coming is ∙ not_last k (beats_of (A m)) more) in
+    subst (λ (d : Reaction w). IsAtManager config mail request s (end_with c k m d e)) (sym done)
+    (record {
+      traced = traced-more is more unwaited known.traced;
+      served_with = known.served_with;
+      manager_kept = subst (λ (d : Reaction w). IsKept config (end_with c k m d e)) done (kept-coming is);
+      memory = known.memory;
+      all_live = known.all_live;
+    })
+
+-- ---- the last one: others are probed
+
+pub reaction-probing : {w : ℕ} (config : Config) (c k n : ℕ) (j : Cap) (m : MessageA w) (e : End w)
+    → IsComing config c k m e → beats_of (A m) ≡ suc k → block_at m.address ≡ n → cap_probed m.opcode m.param ≡ Some j
+    → is_nobody (probed config (service_for c m e.trace) j (with_beat c m k e.trace)) ≡ false
+    → reaction config (link_of c) (Beat.A (a_beat_of m k)) e ≡ record {
+      handed = probes n j (probed config (service_for c m e.trace) j (with_beat c m k e.trace));
+      memory = e.memory;
+    }
+reaction-probing {w} config c k n j m e is last block caps someone =
+    let probing_of : ℕ → List ℕ → Reaction w = λ i ds. record { handed = probes i j ds; memory = e.memory } in
+    let one = some-clients (probed config (service_for c m e.trace) j (with_beat c m k e.trace)) someone in
+    reaction-probes config (link_of c) (a_beat_of m k) (service_for c m e.trace) j one.0 one.1 e
+    (served-last is last) caps one.2
+    ∙ ap₂ (λ i ds. probing_of i ds) block (sym one.2)
+
+pub at_manager-probing : {w : ℕ} {config : Config} {mail : AccessMessages w} {request : ℕ
+    → MessageA w} {c k n : ℕ} {own : Bool} {source : ℕ} {j : Cap} {m : MessageA w} {s u : State (List ℕ)} {e : End w}
+    → ((i : ℕ) → u.block i ≡ set n (served_block c own source (least_untaken (trackers_of (services e.trace))) j
+    (s.block n)) s.block i) → IsProbing config c k n own source j m s e
+    → is_nobody (probed config (service_for c m e.trace) j (with_beat c m k e.trace)) ≡ false
+    → IsServedWith mail (Waits c own source j) m → IsAtManager config mail request s e
+    → IsAtManager config mail (set n m request) u (end_after config c k m e)
+at_manager-probing {w} {config} {mail} {request} {c} {k} {n} {own} {source} {j} {m} {s} {u} {e} blocks is
+    someone with known =
+    let probing : Reaction w = record {
+      handed = probes n j (probed config (service_for c m e.trace) j (with_beat c m k e.trace));
+      memory = e.memory;
+    } in
+    let new = served_block c own source (least_untaken (trackers_of (services e.trace))) j (s.block n) in
+    let served_now : (i : ℕ) → IsServedWith mail (u.block i).service (set n m request i) = λ i. elim (cases_eq i n) [
+      | inl same ↦ rw (same, blocks n, set-same n new s.block, set-same n m request) with
+      | inr other ↦ rw (blocks i, set-other n i new s.block other, set-other n i m request other) (known.served_with i)
+    ] in
+    let done = reaction-probing config c k n j m e is.comes is.last is.for.2 is.for.3 someone in
+    subst (λ (d : Reaction w). IsAtManager config mail (set n m request) u (end_with c k m d e)) (sym done)
+    (record {
+      traced = traced-probing u blocks is known.traced;
+      served_with = λ i. served_now i;
+      manager_kept = subst (λ (d : Reaction w). IsKept config (end_with c k m d e)) done (kept-coming is.comes);
+      memory = λ i. cc (known.memory i, blocks i, set-part (λ (b : Block (List ℕ)). b.memory) n new s.block refl i);
+      all_live = known.all_live;
+    })
+
+-- ---- the last one: the access is answered
+
+pub at_manager-answered : {w : ℕ} {config : Config} {mail : AccessMessages w} {request : ℕ → MessageA w} {c k n : ℕ}
+    {m : MessageA w} {s u : State (List ℕ)} {e : End w}
+    → ((i : ℕ) → u.block i ≡ set n (performed_block (performs m) (s.block n)) s.block i)
+    → IsAnswering config c k n m s e → illegal_message_at (level_of config c) (A m) ≡ None → reaction config (link_of c)
+    (Beat.A (a_beat_of m k)) e ≡ performed config (service_for c m e.trace) (with_beat c m k e.trace) e.memory
+    → IsAtManager config mail request s e → IsAtManager config mail request u (end_after config c k m e)
+at_manager-answered {w} {config} {mail} {request} {c} {k} {n} {m} {s} {u} {e} blocks is lawful done known =
+    let answering : Reaction w = performed config (service_for c m e.trace) (with_beat c m k e.trace) e.memory in
+    let new : Block (List ℕ) = performed_block (performs m) (s.block n) in
+    let served_now : (i : ℕ) → IsServedWith mail (u.block i).service (request i) =
+    λ i. rw (ap (λ (b : Block (List ℕ)). b.service) (blocks i) ∙ set-part (λ (b : Block (List ℕ)). b.service) n new
+    s.block refl i) (known.served_with i) in
+    let memory_is : answering.memory ≡ (effect (A m) e.memory).0 =
+    cc (performed-access config (service_for c m e.trace) (with_beat c m k e.trace) e.memory is.access) in
+    let memory_here : bytes_from answering.memory (64 * n) 64 ≡ performs m (s.block n).memory =
+    cc (memory_is, is.block, performed-block (level_of config c) m e.memory is.comes.width lawful, known.memory n) in
+    let memory_else : (i : ℕ) → (i ≡ n → ⊥) → bytes_from answering.memory (64 * i) 64 ≡ bytes_from e.memory (64 * i)
+    64 = λ i other. cc (done, memory-coming i is.comes (λ f. other (f ∙ is.block))) in
+    let memory_now : (i : ℕ) → bytes_from answering.memory (64 * i) 64 ≡ (u.block i).memory = λ i. elim (cases_eq i n) [
+      | inl same ↦ rw (same, blocks n, set-same n new s.block) memory_here
+      | inr other ↦ rw (blocks i, set-other n i new s.block other) (memory_else i other ∙ known.memory i)
+    ] in
+    subst (λ (d : Reaction w). IsAtManager config mail request u (end_with c k m d e)) (sym done)
+    (record {
+      traced = traced-answered (performs m) u e.memory blocks is known.traced;
+      served_with = λ i. served_now i;
+      manager_kept = subst (λ (d : Reaction w). IsKept config (end_with c k m d e)) done (kept-coming is.comes);
+      memory = λ i. memory_now i;
+      all_live = known.all_live;
+    })
+
+-- ---- the last one: the Acquire is granted
+
+pub at_manager-granted : {w : ℕ} {config : Config} {mail : AccessMessages w} {request : ℕ
+    → MessageA w} {c k n : ℕ} (b : Bool) {j : Cap} {m : MessageA w} {s u : State (List ℕ)} {e : End w}
+    → ((i : ℕ)
+    → u.block i ≡ set n (granted_at_once c (least_untaken (trackers_of (services e.trace))) b j (s.block n)) s.block i)
+    → IsGranting config c k n j m s e → reaction config (link_of c) (Beat.A (a_beat_of m k)) e
+    ≡ performed config (service_for c m e.trace) (with_beat c m k e.trace) e.memory
+    → IsAtManager config mail request s e → IsAtManager config mail (set n m request) u (end_after config c k m e)
+at_manager-granted {w} {config} {mail} {request} {c} {k} {n} b {j} {m} {s} {u} {e} blocks is done known =
+    let granting : Reaction w = performed config (service_for c m e.trace) (with_beat c m k e.trace) e.memory in
+    let new : Block (List ℕ) = granted_at_once c (least_untaken (trackers_of (services e.trace))) b j (s.block n) in
+    let served_now : (i : ℕ) → IsServedWith mail (u.block i).service (set n m request i) = λ i. elim (cases_eq i n) [
+      | inl same ↦ rw (same, blocks n, set-same n new s.block) tt
+      | inr other ↦ rw (blocks i, set-other n i new s.block other, set-other n i m request other) (known.served_with i)
+    ] in
+    let memory_now : (i : ℕ) → bytes_from granting.memory (64 * i) 64 ≡ (u.block i).memory = λ i. cc (
+      performed-acquire config (service_for c m e.trace) (with_beat c m k e.trace) e.memory is.acquires,
+      known.memory i,
+      blocks i,
+      set-part (λ (y : Block (List ℕ)). y.memory) n new s.block refl i,
+    ) in
+    subst (λ (d : Reaction w). IsAtManager config mail (set n m request) u (end_with c k m d e)) (sym done)
+    (record {
+      traced = traced-granted b u e.memory blocks is known.traced;
+      served_with = λ i. served_now i;
+      manager_kept = subst (λ (d : Reaction w). IsKept config (end_with c k m d e)) done (kept-coming is.comes);
+      memory = λ i. memory_now i;
+      all_live = known.all_live;
+    })

@@ -1,19 +1,19 @@
 -- What the manager hands out at the last beat of a request: the messages of the tokens that the protocol pushes.
-use Rattle.std.proofs.Common.{◌≡◌, ℕ, suc, ◌*◌, Bool, true, false, List, [], ◌∷◌, refl, ◌∙◌, ap, ap₂, arith, length}
-use Rattle.std.proofs.Common.{if◌then◌else◌}
+use Rattle.std.proofs.Common.{◌≡◌, ℕ, suc, ◌*◌, Bool, true, false, if◌then◌else◌, List, [], ◌∷◌, refl, ◌∙◌, ap, ap₂}
+use Rattle.std.proofs.Common.{arith, length}
 use Rattle.tl_coherence.proofs
 use proofs.Imports.{cases_eq, Beat, Message, MessageA, a_beat_of, beats_of, Config, Cap, Perm, cap_right, Trace}
 use proofs.Imports.{same_perm, Memory, bytes_from, block_at, same_block, performed-access, performed-acquire, End}
-use proofs.Imports.{Reaction, cap_granted, recorded, cap_probed, level_of, reaction, IsWell, Grant, ClientBlock}
-use proofs.Imports.{after_grant_sent, is_granted_data, GrantSent, Block, State, granted_at_once, answers, gift}
-use proofs.Imports.{is_unheld, probes_some, AccessMessages, block_message, grant_of, SimulationRelation, Log, System}
+use proofs.Imports.{Reaction, cap_granted, cap_probed, recorded, level_of, reaction, IsWell, Grant, ClientBlock}
+use proofs.Imports.{after_grant_sent, is_granted_data, Block, GrantSent, State, granted_at_once, answers, gift}
+use proofs.Imports.{is_unheld, probes_some, AccessMessages, grant_of, block_message, SimulationRelation, Log, System}
 use Rattle.tl_manager.specs.statement.Handing.{grant_with, grant_payload}
 use Rattle.tl_manager.specs.statement.Handing as handing
 use Rattle.tl_manager.specs.statement.Holders as holders
 use Rattle.tl_manager.specs.statement.Service as manager
-use proofs.manager.{Memories.performed-reply, Requests.recorded-beat, RequestsTaken.acquire_wanted}
-use proofs.manager.Arrivals.{link_of, with_beat, IsComing, service_for}
-use proofs.manager.UnwaitedRequests.{next_tracker, reaction-performed, unheld-same}
+use proofs.manager.Memories.{performed-reply}
+use proofs.manager.Probing.{recorded-beat, link_of, with_beat, IsComing, service_for}
+use proofs.manager.RequestsTaken.{acquire_wanted, next_tracker, reaction-performed, unheld-same}
 use proofs.protocol.Heads.{IsAsked, IsWanted}
 use proofs.queues.{Tokens.set-same, Codes.acquires-so, Codes.gives-some, Codes.data-same}
 

@@ -1,18 +1,28 @@
 -- Events that the manager doesn't see: clients that are asked, and beats that clients take. What it knows stays so.
-use Rattle.std.proofs.Common.{◌≡◌, ℕ, Bool, true, false, List, ◌∷◌, refl, sym}
-use Rattle.std.proofs.Common.{◌∙◌, ap, ap₂, inl, inr, eqb-true, ◌==◌, arith}
+-- Steps of the whole that the manager doesn't see: an event of a client that there isn't, a client that is asked, and a
+-- delivery to a client.
+use Rattle.std.proofs.Common.{◌≡◌, ℕ, Bool, true, false, ◌&&◌, ◌==◌, if◌then◌else◌, List, [], ◌∷◌, Option, Some, None}
+use Rattle.std.proofs.Common.{Result, Ok, refl, sym, ◌∙◌, ap, ap₂, subst, arith, inl, inr, eqb-true}
 use Rattle.tl_coherence.proofs
-use proofs.Imports.{cases_eq, Message, MessageA, Config, Cap, Grow, block_at, Op, Reply, copy_stored, whole_grow}
-use proofs.Imports.{access, End, IsInvariant, Kind, Probe, Answer, Grant, ReleaseAck, Packet, set, set_at, ClientBlock}
-use proofs.Imports.{is_unprobed, is_whole, after_acquire, after_release, after_probe, after_grant}
-use proofs.Imports.{after_release_ack, Service, Free, Waits, GrantSent, GrantTaken, Block, State, SourceFree, InService}
-use proofs.Imports.{on, packet, acquiring_block, releasing_block, stored_block, probed_block, taken_block}
-use proofs.Imports.{let_go_block, AbstractState, kind_taken, asked, taken_by_client, channel_for}
-use proofs.Imports.{AccessMessages, cap_sent, IsServedWith, is_to_client}
-use proofs.manager.{Traces.IsSameToManager, Traces.SameService, Choices.waits-used, ManagersEnd.IsAtManager}
-use proofs.manager.{ManagersEnd.at_manager-same, ManagerAfter.IsManagerOf}
-use proofs.protocol.{FollowKept.IsAskable, BothParts.granting-own, FirstTokens.first-probe, FirstTokens.first-shown}
-use proofs.queues.Tokens.{set-same, set-other, set-part}
+use proofs.Imports.{cases_eq, true_from_ne_false, Beat, Link, Channel, Message, MessageA, unfinished, Config, Cap, Grow}
+use proofs.Imports.{Rule, block_at, Op, Reply, Verdict, copy_stored, whole_grow, offered, access, End, Event, Ask}
+use proofs.Imports.{Deliver, Outcome, IsInvariant, Answer, Grant, Kind, Packet, Probe, ReleaseAck, set, set_at}
+use proofs.Imports.{ClientBlock, is_unprobed, is_whole, after_acquire, after_grant, after_probe, after_release}
+use proofs.Imports.{after_release_ack, Block, Free, GrantSent, GrantTaken, InService, Service, SourceFree, State, Waits}
+use proofs.Imports.{acquiring_block, is_on, let_go_block, on, packet, packets_on, probed_block, releasing_block}
+use proofs.Imports.{stored_block, taken_block, AbstractState, abstract_step, abstract_step_by, asked, kind_taken}
+use proofs.Imports.{packet_taken, taken_by_client, channel_for, AccessMessages, cap_sent, IsServedWith}
+use proofs.Imports.{SimulationRelation, is_caching, receiver, is_moving, Log, Step, client_of, handed_by, is_to_client}
+use proofs.Imports.{judged, stepped, System, terms_at, with_channel, with_client}
+use Rattle.tl_coherence.specs.refinement.AbstractStep.{is_last}
+use Rattle.tl_client.specs.statement.Ask as client_ask
+use Rattle.tl_client.specs.statement.Endpoint as client
+use proofs.manager.{Admitted.first_counts, RequestsTaken.next_tracker, Memories.IsManagerOf, Choices.waits-used}
+use proofs.manager.Accounts.{at_manager-matched, IsAtManager, at_manager-same}
+use proofs.manager.BlockAccounts.{IsSameToManager, SameService}
+use proofs.protocol.{FollowKept.IsAskable, BothParts.granting-own, BothParts.first-probe, BothParts.first-shown}
+use proofs.queues.{Moves.kind_channel, Moves.on_same, Tokens.set-same, Tokens.set-other, Tokens.set-part}
+use proofs.queues.Steps.{manager-with_messages, stepped-asked, stepped-to-client, stepped-empty}
 
 -- ---- one block changes, and not to the manager
 
@@ -181,3 +191,87 @@ at_manager-client_taken {w} config tracker c Grant n rest h e kind inv first is 
         at_manager-unseen n (λ i. refl) (same-taken c whole d k k (h.state.block n) (f ∙ rw same refl)) is
     go service f = is
 at_manager-client_taken config tracker c other n rest h e kind inv first is = absurd cc
+
+-- ---- there is no client of this number
+
+pub at_manager-nobody : {w : ℕ} {config : Config} {log : Log w} (h : AbstractState w) {sys : System w} (event : Event w)
+    → SimulationRelation config log h.mail h.request h.state sys → terms_at config (client_of event) ≡ None
+    → IsManagerOf config (abstract_step config event sys h) (stepped config event sys).after.manager
+unfolding stepped
+at_manager-nobody {w} {config} {log} h {sys} event is none =
+    let go : (event : Event w) → IsManagerOf config (abstract_step_by config event Outcome.NoSuchClient sys h)
+    sys.manager = elim [ Ask c o ↦ at_manager-matched is | Deliver link ch ↦ at_manager-matched is ] in
+    rw none (go event)
+
+-- ---- a client is asked
+
+pub at_manager-ask : {w : ℕ} {config : Config} {log : Log w} (h : AbstractState w) {sys : System w} (c : ℕ) (o : Op w)
+    (terms : client.EndConfig)
+    → SimulationRelation config log h.mail h.request h.state sys → terms_at config c ≡ Some terms
+    → IsAskable (is_caching config) c o (client_ask.asked terms o (sys.clients c)).reply h
+    → IsManagerOf config (abstract_step config (Ask c o) sys h) (stepped config (Ask c o) sys).after.manager
+at_manager-ask {w} {config} {log} h {sys} c o terms is there may =
+    let a = client_ask.asked terms o (sys.clients c) in
+    subst (λ (s : Step w). IsManagerOf config (abstract_step_by config (Ask c o) s.outcome sys h) s.after.manager)
+    (sym (stepped-asked config c o sys terms there))
+    (rw (manager-with_messages (handed_by c a.message) (with_client c a.after sys))
+    (at_manager-asked config c o a.reply h sys.manager is.invariant may (at_manager-matched is)))
+
+-- ---- a delivery to a client
+
+manager-judged : {w : ℕ} (r : Result (Verdict × Option (Message w)) Rule) (link : ℕ) (ch : Channel) (x : Beat w)
+    (rest : List (Beat w)) (e : client.Endpoint w)
+    (s : System w) → (judged r link ch x rest e s).after.manager ≡ s.manager
+manager-judged (Ok (Verdict.Taken, m)) link ch x rest e s =
+    manager-with_messages (handed_by link m) (with_client link e (with_channel link ch rest s))
+manager-judged (Ok (Verdict.Done source f, m)) link ch x rest e s =
+    manager-with_messages (handed_by link m) (with_client link e (with_channel link ch rest s))
+manager-judged r link ch x rest e s = refl
+
+manager-to-client : {w : ℕ} (config : Config) (link : Link) (ch : Channel) (sys : System w)
+    (terms : client.EndConfig) → terms_at config link.0 ≡ Some terms
+    → is_to_client ch ≡ true → (stepped config (Deliver link ch) sys).after.manager ≡ sys.manager
+manager-to-client {w} config link ch sys terms there up = go (sys.channels link.0 ch) refl
+  where
+    go : (xs : List (Beat w)) → sys.channels link.0 ch ≡ xs
+        → (stepped config (Deliver link ch) sys).after.manager ≡ sys.manager
+    go [] e = ap (λ (s : Step w). s.after.manager) (stepped-empty config link ch sys terms there e)
+    go (x ∷ rest) e =
+        let o = offered terms ch x (sys.clients link.0) in
+        ap (λ (s : Step w). s.after.manager) (stepped-to-client config link ch sys terms x rest there e up)
+        ∙ manager-judged o.answer link.0 ch x rest o.after sys
+
+-- the kinds of a channel to clients
+to_clients : (ch : Channel) (k : Kind) → is_to_client ch ≡ true → (is_on ch k ≡ false → ⊥) → is_to_clients k ≡ true
+to_clients ch k up on_it = ap is_to_client (kind_channel ch k (true_from_ne_false (is_on ch k) on_it)) ∙ up
+
+-- where the invariant is kept, so is what is kept of the manager's end
+pub at_manager-to_client : {w : ℕ} {config : Config} {log : Log w} (h : AbstractState w) {sys : System w} (link : Link)
+    (ch : Channel) (terms : client.EndConfig) → SimulationRelation config log h.mail h.request h.state sys
+    → terms_at config link.0 ≡ Some terms → is_to_client ch ≡ true
+    → IsManagerOf config (abstract_step config (Deliver link ch) sys h)
+    (stepped config (Deliver link ch) sys).after.manager
+at_manager-to_client {w} {config} {log} h {sys} link ch terms is there up =
+    let go : (b : Bool) → IsManagerOf config (if b then packet_taken config (next_tracker sys) c
+    (packets_on ch (h.state.link c)) h else h) sys.manager =
+    elim [ true ↦ taken (packets_on ch (h.state.link c)) refl | false ↦ known ] in
+    subst (IsManagerOf config (abstract_step config (Deliver link ch) sys h))
+    (sym (manager-to-client config link ch sys terms there up))
+    (go (is_moving (stepped config (Deliver link ch) sys).outcome && is_last (sys.channels c ch)
+    (unfinished ch (receiver ch c sys))))
+  where
+    c : ℕ
+    c = link.0
+
+    known : IsManagerOf config h sys.manager
+    known = at_manager-matched is
+
+    taken : (xs : List Packet) → packets_on ch (h.state.link c) ≡ xs
+        → IsManagerOf config (packet_taken config (next_tracker sys) c xs h) sys.manager
+    taken [] e = known
+    taken (y ∷ ys) e =
+        let here : is_on ch y.kind ≡ false → ⊥ =
+        λ off. first_counts y ys (rw e at (is.invariant.own_kinds c ch y.kind y.number off)) in
+        at_manager-client_taken config (next_tracker sys) c y.kind y.number ys h sys.manager
+        (to_clients ch y.kind up here) is.invariant
+        (on_same ch y.kind (h.state.link c) (true_from_ne_false (is_on ch y.kind) here) ∙ e) known

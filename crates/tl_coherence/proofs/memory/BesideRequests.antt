@@ -1,24 +1,23 @@
 -- The one-memory machine beside the protocol after a beat of a request is taken: an access that is
 -- answered is performed.
-use Rattle.std.proofs.Common.{◌≡◌, subst, ℕ, suc, Bool, true, false, not, List, [], ◌∷◌, Option, Some, None, length}
-use Rattle.std.proofs.Common.{arith, refl, sym, ◌∙◌, ap, ◌⊎◌, inl, inr}
+use Rattle.std.proofs.Common.{◌≡◌, ℕ, suc, Bool, true, false, not, List, [], ◌∷◌, Option, Some, None, refl, sym, ◌∙◌}
+use Rattle.std.proofs.Common.{ap, subst, arith, ◌⊎◌, inl, inr, length}
 use Rattle.tl_coherence.proofs
-use proofs.Imports.{Beat, Message, MessageA, a_beat_of, beats_of, Config, Cap, Trace, Memory, effect, answer_of}
-use proofs.Imports.{block_at, same_block, performed-acquire, Handed, Reaction, probes, access_answer, grant, cap_probed}
-use proofs.Imports.{probed, reaction, cap_asked, Request, Acquire, Packet, AcquireOpen, Block, is_probed, AbstractState}
-use proofs.Imports.{bytes_at, some_below, probes_some, request_taken, kind_taken, IsAccess, MemoryRelation}
+use proofs.Imports.{Beat, Message, MessageA, a_beat_of, beats_of, Config, Cap, Trace, Memory, answer_of, effect}
+use proofs.Imports.{block_at, same_block, performed-acquire, Handed, Reaction, access_answer, grant, probes, cap_probed}
+use proofs.Imports.{probed, reaction, cap_asked, Acquire, Packet, Request, AcquireOpen, Block, is_probed, AbstractState}
+use proofs.Imports.{bytes_at, kind_taken, probes_some, request_taken, some_below, IsAccess, MemoryRelation}
 use proofs.Imports.{SimulationRelation, Log, Machine, Requests, accesses_answered, performing, System}
-use Rattle.tl_rules.{specs.declared.answer.Answer.Answer}
-use Rattle.tl_manager.{specs.statement.Service.Service}
-use Rattle.tl_coherence.{specs.statement.Machine.Performs}
-use proofs.manager.{AtRequests.reaction-probing, Choices.plain-past, RequestsHanded.handed-answered}
-use proofs.manager.Arrivals.{link_of, with_beat, IsComing, service_for}
-use proofs.manager.RequestsTaken.{caps_asked, acquire_wanted}
-use proofs.manager.UnwaitedRequests.{next_tracker, probed-some, reaction-performed}
+use Rattle.tl_coherence.specs.statement.Machine.{Performs}
+use Rattle.tl_rules.specs.declared.answer.Answer.{Answer}
+use Rattle.tl_manager.specs.statement.Service.{Service}
+use proofs.manager.{Performing.reaction-probing, Choices.plain-past, RequestsHanded.handed-answered}
+use proofs.manager.Probing.{link_of, with_beat, IsComing, service_for}
+use proofs.manager.RequestsTaken.{caps_asked, acquire_wanted, next_tracker, probed-some, reaction-performed}
 use proofs.memory.{BesideTaken.IsPerformed, Beside.done_at, Beside.performed-open, Beside.performing-one}
 use proofs.memory.BesideKinds.{access_list, beside-request, beside-acquire}
 use proofs.protocol.Heads.{IsAsked, IsWanted}
-use proofs.queues.{Codes.acquires-so}
+use proofs.queues.Codes.{acquires-so}
 
 -- ---- which accesses are answered
 

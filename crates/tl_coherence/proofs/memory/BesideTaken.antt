@@ -1,21 +1,22 @@
 -- The one-memory machine beside the protocol, after a message that is taken: which accesses are
 -- performed, and which operation ends.
-use Rattle.std.proofs.Common.{◌≡◌, subst, ℕ, ◌^◌, ◌≤◌, Bool, true, false, not, ◌&&◌, List, [], ◌∷◌, Some, None, length}
-use Rattle.std.proofs.Common.{arith, refl, sym, ◌∙◌, ap, ◌⊎◌, inl, inr, if◌then◌else◌}
+use Rattle.std.proofs.Common.{◌≡◌, ℕ, ◌^◌, ◌≤◌, Bool, true, false, not, ◌&&◌, if◌then◌else◌, List, [], ◌∷◌, Some, None}
+use Rattle.std.proofs.Common.{refl, sym, ◌∙◌, ap, subst, arith, ◌⊎◌, inl, inr, length}
 use Rattle.tl_coherence.proofs
 use proofs.Imports.{cases_eq, cases_lt, not-true, OpA, IsWidth, Message, MessageA, Config, Cap, Report, Perm}
-use proofs.Imports.{report_left, same_perm, Memory, IsBlock, effect, block_at, is_acquire, Op, sourced, length-bytes}
-use proofs.Imports.{cap_probed, level_of, IsWell, set_at, ClientBlock, View, ProbePhase, ProbeAnswered, ok, same_cap}
-use proofs.Imports.{is_unprobed, is_above, Block, State, SourceState, Replied, Acquires, is_probed, Waits, view}
-use proofs.Imports.{written, is_sent, some_below, bytes_at, performs, answers, IsAccess, MemoryRelation, IsReach}
-use proofs.Imports.{Answers, AccessMessages, report_told, IsRequest, Machine, Open, Requests, with_memory, performing}
+use proofs.Imports.{report_left, same_perm, IsBlock, Memory, effect, block_at, is_acquire, Op, sourced, length-bytes}
+use proofs.Imports.{cap_probed, level_of, IsWell, set_at, ClientBlock, ProbeAnswered, ProbePhase, View, is_unprobed}
+use proofs.Imports.{same_cap, ok, is_above, Acquires, Block, Replied, SourceState, State, Waits, is_probed, view}
+use proofs.Imports.{written, is_sent, answers, bytes_at, performs, some_below, Answers, IsAccess, IsReach}
+use proofs.Imports.{MemoryRelation, AccessMessages, report_told, IsRequest, Machine, Open, Requests, with_memory}
+use proofs.Imports.{performing}
 use Rattle.tl_rules.specs.statement.Effect as memory
+use proofs.memory.OneMemory.{blocks-performed, reply-performed, effect-sourced}
 use proofs.memory.Beside.{IsSameAcquire, set_at-there, open-here, open-there, open-releases, performing-one}
 use proofs.memory.Beside.{beside-used}
-use proofs.memory.OneMemory.{blocks-performed, reply-performed, effect-sourced}
-use proofs.queues.{Facts.is_other, Perms.nothing-above, Perms.not_out, Tokens.set_at-same}
-use proofs.queues.Phases.{each_phase, of_phase, implies, implies_is}
-use proofs.protocol.{RequestsKept.some-none}
+use proofs.queues.{Facts.is_other, Tokens.set_at-same}
+use proofs.queues.Phases.{nothing-above, not_out, each_phase, of_phase, implies, implies_is}
+use proofs.protocol.RequestsKept.{some-none}
 
 -- ---- the manager's memory is the one memory, where nobody has what he was given to write
 

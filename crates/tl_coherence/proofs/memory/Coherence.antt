@@ -1,14 +1,14 @@
 -- Copies are coherent with the one memory, and the open operations are those that were started.
-use Rattle.std.proofs.Common.{◌≡◌, ℕ, true, ◌&&◌, List, [], ◌∷◌, Option, Some, None, refl, sym, ◌∙◌, ap, arith, subst}
-use Rattle.std.proofs.Common.{◌==◌, if◌then◌else◌, option_map, unwrap_or}
+use Rattle.std.proofs.Common.{◌≡◌, ℕ, true, ◌&&◌, ◌==◌, if◌then◌else◌, List, [], ◌∷◌, Option, Some, None, refl, sym}
+use Rattle.std.proofs.Common.{◌∙◌, ap, subst, arith, option_map, unwrap_or}
 use Rattle.tl_coherence.proofs
 use proofs.Imports.{MessageA, Config, IsBlock, Op, Reply, Event, Ask, Outcome, State, view, AccessMessages}
-use proofs.Imports.{SimulationRelation, started, IsCoherent, Log, system_after, Machine, Open, Pool, Requests, Releases}
-use proofs.Imports.{same_pool, with_open, with_memory, after_reply, after_end, moved, performed_op, performed_open}
-use proofs.Imports.{one_memory_after, performing, accesses_answered, stepped}
+use proofs.Imports.{SimulationRelation, IsCoherent, started, Log, system_after, Machine, Open, Pool, Releases, Requests}
+use proofs.Imports.{after_end, after_reply, moved, performed_op, performed_open, same_pool, with_memory, with_open}
+use proofs.Imports.{accesses_answered, one_memory_after, performing, stepped}
 use Rattle.tl_coherence.{specs.statement.Coherent.started_at, specs.statement.Machine.performed}
 use Rattle.tl_rules.specs.statement.Effect as memory
-use proofs.queues.{Facts.held_at_most, Perms.held-some, Perms.none_below, Perms.trunk_below}
+use proofs.queues.{Facts.held_at_most, Phases.held-some, Phases.none_below, Phases.trunk_below}
 
 -- ---- what is open, as it was asked
 

@@ -1,13 +1,13 @@
 -- What is outstanding after a log is what is open: the starts of the log are its ends and what is open after it.
-use Rattle.std.proofs.Common.{◌≡◌, ℕ, ◌+◌, Bool, [], ◌∷◌, refl, arith, ◌*◌, ◌/◌}
+use Rattle.std.proofs.Common.{◌≡◌, ℕ, ◌+◌, ◌*◌, Bool, [], ◌∷◌, refl, arith, ◌/◌}
 use Rattle.tl_coherence.proofs
-use proofs.Imports.{IsWidth, Config, one_if, open_requests, open_releases, total, Event, Outcome, State, AbstractState}
-use proofs.Imports.{abstract_step, first_state, SimulationRelation, starts_request, starts_release, outstanding}
-use proofs.Imports.{ends_request, ends_release, requests, releases, load, Log, system_after, stepped}
+use proofs.Imports.{IsWidth, Config, one_if, open_releases, open_requests, total, Event, Outcome, State, AbstractState}
+use proofs.Imports.{abstract_step, first_state, SimulationRelation, ends_release, ends_request, load, outstanding}
+use proofs.Imports.{starts_release, starts_request, releases, requests, Log, system_after, stepped}
 use Rattle.tl_coherence.specs.statement.Load.{number}
 use proofs.protocol.OpenCounts.{clients_in, sources_in, IsBalance}
 use proofs.outstanding.Outstanding.{counted-followed}
-use proofs.queues.Sums.{total-zero}
+use proofs.queues.Tokens.{total-zero}
 
 -- the starts of this log are its ends and what is open in this state
 pub record AreCounted {w : ℕ} {X : Type 0} (config : Config) (log : Log w) (s : State X) : Type 0 where

@@ -1,19 +1,19 @@
 -- What is open after a client is asked: an operation that starts opens a request or a Release, with a
 -- source that was free.
-use Rattle.std.proofs.Common.{◌≡◌, ℕ, ◌+◌, ◌<◌, Bool, true, false, refl, ap, arith, Option, Some, None}
+use Rattle.std.proofs.Common.{◌≡◌, ℕ, ◌+◌, ◌<◌, Bool, true, false, Option, Some, None, refl, ap, arith}
 use Rattle.tl_coherence.proofs
-use proofs.Imports.{Message, Config, RequestSource, ReleaseSource, Grow, Prune, Perm, block_at, pending, NotBusy}
-use proofs.Imports.{asked-cases, least_free-some, Busy, Op, Reply, done, store, free_request, free_release, source_or_0}
-use proofs.Imports.{EndConfig, Endpoint, held_at, one_if, is_used, is_let, Ask, Outcome, Request, Acquire, Release}
-use proofs.Imports.{State, SourceState, SourceFree, Asked, Acquires, packet, with_a, with_c, access_asked}
-use proofs.Imports.{acquire_asked, release_asked, AbstractState, asked, SimulationRelation, is_caching}
-use proofs.Imports.{starts_request, starts_release, Log, System, terms_at}
+use proofs.Imports.{Message, Config, ReleaseSource, RequestSource, Grow, Prune, Perm, block_at, pending, NotBusy}
+use proofs.Imports.{asked-cases, least_free-some, Busy, Op, Reply, done, free_release, free_request, source_or_0, store}
+use proofs.Imports.{EndConfig, Endpoint, held_at, one_if, is_let, is_used, Ask, Outcome, Acquire, Release, Request}
+use proofs.Imports.{Acquires, Asked, SourceFree, SourceState, State, access_asked, acquire_asked, packet, release_asked}
+use proofs.Imports.{with_a, with_c, AbstractState, asked, SimulationRelation, is_caching, starts_release}
+use proofs.Imports.{starts_request, Log, System, terms_at}
 use Rattle.tl_client.specs.statement.Ask.{load}
 use Rattle.tl_client.specs.statement.Ask as ask
-use proofs.client.Askable.{askable}
+use proofs.client.ClientDelivered.{askable}
+use proofs.protocol.OpenCounts.{marked-set, acks-same, clients_in, sources_in, IsBalance, requests-split}
 use proofs.protocol.FollowKept.{IsAskable}
 use proofs.queues.Tokens.{set-part}
-use proofs.protocol.OpenCounts.{marked-set, acks-same, clients_in, sources_in, IsBalance, requests-split}
 
 module _ {X : Type 0} (config : Config) (s : State X) where
   access-asked : (c source : ℕ) → c < clients_in config → source < sources_in config c → s.uses c source ≡ SourceFree

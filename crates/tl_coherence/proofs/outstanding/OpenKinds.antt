@@ -1,23 +1,23 @@
 -- What is open after the first token of a channel is taken: an answer ends a request, a Grant turns one into a
 -- GrantAck,
 -- a GrantAck ends it, a ReleaseAck ends a Release, and all else leaves what is open.
-use Rattle.std.proofs.Common.{◌≡◌, ℕ, suc, ◌<◌, Bool, true, false, List, [], ◌∷◌, length, refl, sym, ◌∙◌, ap}
-use Rattle.std.proofs.Common.{arith, Option, Some, None, length-append, ◌==◌, if◌then◌else◌}
+use Rattle.std.proofs.Common.{◌≡◌, ℕ, suc, ◌<◌, Bool, true, false, ◌==◌, if◌then◌else◌, List, [], ◌∷◌, Option, Some}
+use Rattle.std.proofs.Common.{None, refl, sym, ◌∙◌, ap, arith, length, length-append}
 use Rattle.tl_coherence.proofs
-use proofs.Imports.{Config, Cap, Prune, Report, one_if, is_used, is_let, ReleaseAck, Packet, Kind, Answer, Grant}
-use proofs.Imports.{GrantAck, set, State, SourceState, SourceFree, Asked, Acquires, packet, Block, InService, Replied}
-use proofs.Imports.{on, is_probed, with_probe, answered_link, served_link, probed_link, popped_link, ended_link}
-use proofs.Imports.{granted_link, let_link, taken_link, access_answered, access_served, acquire_granted, acquire_served}
-use proofs.Imports.{probe_taken, report_taken, report_answers, report_grants, release_taken, GrantSent, answer_taken}
-use proofs.Imports.{grant_taken, release_ack_taken, grant_ack_taken, AbstractState, taken_by_client, kind_taken}
-use proofs.Imports.{SimulationRelation, is_caching, Log, System}
+use proofs.Imports.{Config, Cap, Prune, Report, one_if, is_let, is_used, Answer, Grant, GrantAck, Kind, Packet}
+use proofs.Imports.{ReleaseAck, set, Acquires, Asked, Block, GrantSent, InService, Replied, SourceFree, SourceState}
+use proofs.Imports.{State, access_answered, access_served, acquire_granted, acquire_served, answer_taken, answered_link}
+use proofs.Imports.{ended_link, grant_ack_taken, grant_taken, granted_link, is_probed, let_link, on, packet}
+use proofs.Imports.{popped_link, probe_taken, probed_link, release_ack_taken, release_taken, report_answers}
+use proofs.Imports.{report_grants, report_taken, served_link, taken_link, with_probe, AbstractState, kind_taken}
+use proofs.Imports.{taken_by_client, SimulationRelation, is_caching, Log, System}
 use Rattle.tl_coherence.specs.protocol.Protocol.{Link}
 use Rattle.tl_coherence.specs.refinement.AbstractStep as follow
-use proofs.protocol.{TokenNames.AreBounded, HeadOfD.answer-due, HeadOfD.grant-due, HeadOfD.ack-due, Events.true-taken}
-use proofs.protocol.{FirstTokens.first-request}
-use proofs.queues.Tokens.{set-part}
+use proofs.protocol.{Capacities.AreBounded, BothParts.first-request}
+use proofs.protocol.HeadOfD.{answer-due, grant-due, ack-due, true-taken}
 use proofs.protocol.OpenCounts.{marked-set, set_at-part, acks-set, acks-same, clients_in, sources_in, IsBalance}
 use proofs.protocol.OpenCounts.{requests-split, balance-same}
+use proofs.queues.Tokens.{set-part}
 use proofs.rank.RankParts.{serving-use}
 
 -- ---- links whose channel E stays

@@ -1,30 +1,90 @@
+-- What an outcome ends of what is outstanding.
 -- What is outstanding is what is open: at every event the requests and Releases that it starts and ends are those that
 -- it
 -- opens and closes.
-use Rattle.std.proofs.Common.{◌≡◌, subst, ℕ, ◌+◌, ◌<◌, Bool, true, false, List, ◌∷◌, refl, sym, ◌∙◌, ap, Option, Some}
-use Rattle.std.proofs.Common.{arith, None, if◌then◌else◌, map, Ok}
+use Rattle.std.proofs.Common.{◌≡◌, ℕ, ◌+◌, ◌<◌, Bool, true, false, ◌==◌, if◌then◌else◌, List, ◌∷◌, Option, Some, None}
+use Rattle.std.proofs.Common.{Ok, refl, sym, ◌∙◌, ap, subst, arith, map}
 use Rattle.tl_coherence.proofs
-use proofs.Imports.{Beat, BeatD, Link, Channel, IsWidth, Message, MessageD, beat_of, beats_of, d_beat_of, unfinished}
-use proofs.Imports.{completes, Config, is_release_ack, Verdict, EndConfig, one_if, is_access_answer, open_requests}
-use proofs.Imports.{open_releases, Event, Ask, Deliver, Outcome, ReleaseAck, Packet, Kind, Answer, Grant, packet, is_on}
-use proofs.Imports.{on, AbstractState, abstract_step, abstract_step_by, kind_taken, message_of, message_of_kind}
-use proofs.Imports.{SimulationRelation, is_caching, receiver, is_moving, starts_request, starts_release, ends_request}
-use proofs.Imports.{ends_release, Log, system_after, Step, is_to_client, outcome_of, stepped, stepped_at, terms_at}
+use proofs.Imports.{Beat, BeatD, Link, Channel, OpD, IsWidth, Message, MessageD, beat_of, beats_of, d_beat_of}
+use proofs.Imports.{channel_of, unfinished, completes, Config, is_release_ack, Verdict, EndConfig, finish_of, one_if}
+use proofs.Imports.{grant_opcode, is_access_answer, open_releases, open_requests, Event, Ask, Deliver, Outcome, Answer}
+use proofs.Imports.{Grant, GrantAck, Kind, Packet, Probe, ReleaseAck, Block, is_on, on, packet, AbstractState}
+use proofs.Imports.{abstract_step, abstract_step_by, kind_taken, message_of, message_of_kind, block_message}
+use proofs.Imports.{SimulationRelation, is_caching, receiver, is_moving, ends_release, ends_request, starts_release}
+use proofs.Imports.{starts_request, Log, system_after, Step, is_to_client, outcome_of, stepped_at, stepped, System}
+use proofs.Imports.{terms_at}
 use Rattle.tl_client.specs.statement.Endpoint as client
 use Rattle.tl_client.specs.statement.Offer as offer
-pub use Rattle.tl_coherence.proofs.outstanding.OutcomeEnds.{first-moved}
-use proofs.simulation.{Bounded.matched-bounded, Moved.IsTakenByClient, Moved.client-moves, Owned.sources-own}
-use proofs.protocol.HeadOfD.{answer-due, grant-due, grant_message, ack_message, grant-rendered}
-use proofs.protocol.OpenCounts.{clients_in, IsBalance}
-use proofs.queues.{Carried.IsNext, QuiescentQueues.client_below, Codes.access_kind, KindMoves.on_same}
+use proofs.queues.{Carried.IsNext, QuiescentQueues.client_below, Codes.access_kind, Moves.on_same}
 use proofs.queues.FirstToken.{IsFirst, first-token}
+use proofs.outstanding.{OpenKinds.is_ending, OpenKinds.is_letting_go, OpenKinds.balance-kind, OpenAsks.balance-asked}
+use proofs.simulation.{Bounded.matched-bounded, Moved.IsTakenByClient, Moved.client-moves, Owned.sources-own}
+use proofs.protocol.OpenCounts.{clients_in, IsBalance}
+use proofs.protocol.HeadOfD.{answer-due, grant-due, grant_message, ack_message, grant-rendered}
 use proofs.client.DeliverD.{finish_at, answer-last, same_answers, acked}
-use proofs.deliveries.{DeliverDWhole.rendered_release_ack, ManagersAfter.at-manager}
-use proofs.deliveries.DeliverDAfter.{followed-moving, followed-still}
-use proofs.outstanding.{OpenAsks.balance-asked, OpenKinds.is_ending, OpenKinds.is_letting_go, OpenKinds.balance-kind}
-use proofs.outstanding.OutcomeEnds.{Ends, still-ends, is_e, moved-ends, finish-ends, manager-kind, ack_whole, one_whole}
-use proofs.outstanding.OutcomeEnds.{grant_kind, probe-ends, first-probe}
-use proofs.manager.{UnwaitedRequests.next_tracker}
+use proofs.deliveries.{ReportsAfter.rendered_release_ack, ManagersAfter.at-manager}
+use proofs.deliveries.DeliverDUnmoved.{followed-moving, followed-still}
+use proofs.manager.RequestsTaken.{next_tracker}
+
+-- ---- what an outcome ends
+
+abbrev pub Ends : {w : ℕ} → Outcome w → Bool → Bool → Type 0
+Ends o ends lets_go = (ends_request o ≡ ends) × (ends_release o ≡ lets_go)
+
+pub still-ends : {w : ℕ} (o : Outcome w) → is_moving o ≡ false → Ends o false false
+still-ends o e = grind arith
+
+abbrev pub is_e : Channel → Bool
+is_e Channel.E = true
+is_e _ = false
+
+pub moved-ends : {w : ℕ} (x : Beat w) → Ends (Outcome.Moved x) (is_e (channel_of x)) false
+moved-ends (Beat.A x) = (refl, refl)
+moved-ends x = (refl, refl)
+
+-- a response ends what its opcode says
+pub finish-ends : {w : ℕ} (x : Beat w) (source : ℕ) (o : OpD) (param size address : ℕ) (payload : List ℕ)
+    → Ends (Outcome.Done x source (finish_of w o param size address payload)) (is_access_answer o) (is_release_ack o)
+finish-ends x source OpD.AccessAck param size address payload = (refl, refl)
+finish-ends x source o param size address payload = (refl, refl)
+
+-- ---- what a message of the manager's channels ends
+
+pub manager-kind : (ch : Channel) (k : Kind) → is_to_client ch ≡ false → is_on ch k ≡ true → (is_ending k ≡ is_e ch)
+    × (is_letting_go k ≡ false)
+manager-kind ch k e f = grind arith
+
+-- a GrantAck is one beat
+pub ack_whole : (w c n : ℕ) (b : Block (List ℕ)) → beats_of (block_message {w = w} GrantAck c n b) ≡ 1
+unfolding block_message
+ack_whole w c n b = refl
+
+pub one_whole : (k n : ℕ) → n ≡ 1 → k < n → (k + 1 == n) ≡ true
+one_whole k n e f = grind arith
+
+pub grant_kind : (b : Bool) → (is_access_answer (grant_opcode b) ≡ false) × (is_release_ack (grant_opcode b) ≡ false)
+grant_kind b = grind arith
+
+probe_on_b : (w c n k : ℕ) (b : Block (List ℕ)) → channel_of (beat_of (block_message {w = w} Probe c n b) k) ≡ Channel.B
+unfolding block_message
+probe_on_b w c n k b = refl
+
+pub probe-ends : {w : ℕ} (x : Beat w) (e : client.Endpoint w) (v : Verdict) (m : Option (Message w))
+    → channel_of x ≡ Channel.B → (offer.taken x e).answer ≡ Ok (v, m) → Ends (outcome_of x v) false false
+probe-ends {w} x e v m of_b answer = grind (arith, moved-ends)
+
+-- the first beat of channel B is one of a Probe
+pub first-probe : {w : ℕ} {c : ℕ} (h : AbstractState w) {sys : System w} {x : Beat w} {queue : List (Beat w)}
+    (first : IsFirst Channel.B c h.mail h.state sys x queue)
+    → (channel_of x ≡ Channel.B) × ((is_ending first.kind ≡ false) × (is_letting_go first.kind ≡ false))
+first-probe {w} {c} h {sys} {x} {queue} first = grind (arith, probe_on_b)
+
+-- a delivery that moves a beat is one of a client's link, which has that beat
+pub first-moved : {w : ℕ} (config : Config) (link : Link) (ch : Channel) (sys : System w)
+    → is_moving (stepped config (Deliver link ch) sys).outcome ≡ true → (x : Beat w) × (queue : List (Beat w))
+    × (terms : EndConfig) × ((sys.channels link.0 ch ≡ x ∷ queue) × (terms_at config link.0 ≡ Some terms))
+unfolding stepped
+first-moved {w} config link ch sys moving = grind arith
 
 -- ---- one event
 

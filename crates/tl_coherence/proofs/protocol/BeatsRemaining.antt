@@ -2,10 +2,10 @@
 use Rattle.std.proofs.Common.{◌≡◌, ℕ, ◌-◌, ◌<◌, ◌≤◌, Bool, true, false, List, [], ◌∷◌, ◌++◌, refl, sym, ap, subst}
 use Rattle.std.proofs.Common.{arith, ◌⊎◌, inl, inr, length}
 use Rattle.tl_coherence.proofs
-use proofs.Imports.{cases_eq, Beat, Channel, beats_of, Left, Kind, Request, Answer, Packet, count, is, State}
-use proofs.Imports.{packets_on, is_on, is_transfer, shown, Move, Pops, IsMoved, channel_for}
-use proofs.Imports.{AccessMessages, block_message, message_of_kind}
-use proofs.protocol.TokenNames.{once, shown_there, shows_it}
+use proofs.Imports.{cases_eq, Beat, Channel, beats_of, Left, Answer, Kind, Packet, Request, is, count, State, is_on}
+use proofs.Imports.{packets_on, is_transfer, shown, IsMoved, Move, Pops, channel_for, AccessMessages, message_of_kind}
+use proofs.Imports.{block_message}
+use proofs.protocol.Capacities.{once, shown_there, shows_it}
 use proofs.queues.Channels.{IsShowing}
 
 -- the token is the first of its channel

@@ -1,15 +1,15 @@
 -- The last ProbeAck that is taken, with which the Acquire that waited is granted, keeps the invariant.
-use Rattle.std.proofs.Common.{◌≡◌, ℕ, Bool, true, false, ◌&&◌, List, [], ◌∷◌, ◌++◌, refl, sym, ◌∙◌, ap, ap₂, ◌⊎◌, inl}
-use Rattle.std.proofs.Common.{inr, ne_eqb, ◌==◌, if◌then◌else◌}
+use Rattle.std.proofs.Common.{◌≡◌, ℕ, Bool, true, false, ◌&&◌, ◌==◌, if◌then◌else◌, List, [], ◌∷◌, ◌++◌, refl, sym, ◌∙◌}
+use Rattle.std.proofs.Common.{ap, ap₂, ◌⊎◌, inl, inr, ne_eqb}
 use Rattle.tl_coherence.proofs
-use proofs.Imports.{cases_eq, beq, Channel, Cap, Grow, Report, IsInvariant, Kind, Acquire, Probe, ProbeAck, Answer}
-use proofs.Imports.{Grant, GrantAck, Packet, set, ClientBlock, Own, Other, Granting, GrantedOther, ProbeAnswered}
-use proofs.Imports.{is_unprobed, is_granted_data, after_grant_sent, after_report, Block, State, view, packet}
-use proofs.Imports.{packets_on, granted_block, granted_link, report_grants, is_transfer, is_wanting, shows, shown, Move}
-use proofs.Imports.{Stays, Pushes, Pops, IsMoved, agrees, is_own_move, channel_for}
+use proofs.Imports.{cases_eq, beq, Channel, Cap, Grow, Report, IsInvariant, Acquire, Answer, Grant, GrantAck, Kind}
+use proofs.Imports.{Packet, Probe, ProbeAck, set, ClientBlock, GrantedOther, Granting, Other, Own, ProbeAnswered}
+use proofs.Imports.{is_unprobed, after_grant_sent, after_report, is_granted_data, Block, State, granted_block}
+use proofs.Imports.{granted_link, packet, packets_on, report_grants, view, is_transfer, is_wanting, shown, shows}
+use proofs.Imports.{IsMoved, Move, Pops, Pushes, Stays, agrees, channel_for, is_own_move}
 use Rattle.tl_coherence.specs.protocol.Protocol.{Link}
-use proofs.queues.{Facts.own_quiet, KindMoves.spares, KindMoves.same_again, Moves.names-kept, Moves.invariant-moved}
-use proofs.queues.{Moves.moved_as, Tokens.same_number, Tokens.set-same, Tokens.set-other, Tokens.set-part}
+use proofs.queues.{Facts.own_quiet, Tokens.same_number, Tokens.set-same, Tokens.set-other, Tokens.set-part}
+use proofs.queues.Moves.{spares, same_again, names-kept, invariant-moved, moved_as}
 use proofs.protocol.Granted.{IsLast, granted-block}
 
 -- c's ProbeAck goes, and q's Grant comes

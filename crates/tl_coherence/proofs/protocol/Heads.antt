@@ -1,17 +1,17 @@
 -- The request whose beat is first on channel A of a link: an access that was asked, or an Acquire that is wanted.
-use Rattle.std.proofs.Common.{◌≡◌, ℕ, ◌-◌, ◌*◌, ◌^◌, ◌<◌, Bool, true, false, List, ◌∷◌, Some, None, refl, sym, ◌∙◌, ap}
+use Rattle.std.proofs.Common.{◌≡◌, ℕ, ◌*◌, ◌-◌, ◌^◌, ◌<◌, Bool, true, false, List, ◌∷◌, Some, None, refl, sym, ◌∙◌, ap}
 use Rattle.std.proofs.Common.{arith, map}
 use Rattle.tl_coherence.proofs
-use proofs.Imports.{same_Some, Beat, Channel, IsWidth, beats-positive, Message, MessageA, beats_of, a_beat_of}
-use proofs.Imports.{IsBlankAfter, unfinished, Config, Grow, on_link, block_at, is_acquire, same_block, open_beat}
-use proofs.Imports.{acquisition, illegal_message_at, level_of, Request, Acquire, Packet, AcquireOpen, Block, State}
-use proofs.Imports.{Asked, Acquires, packet, view, is_wanting, is_unserved, acquire_opcode, IsCarried, AccessMessages}
-use proofs.Imports.{block_message, message_of, messages_on, SimulationRelation, IsRequest, first_of, request_source}
+use proofs.Imports.{same_Some, Beat, Channel, IsWidth, beats-positive, Message, MessageA, IsBlankAfter, a_beat_of}
+use proofs.Imports.{beats_of, unfinished, Config, Grow, on_link, block_at, is_acquire, same_block, open_beat}
+use proofs.Imports.{acquisition, illegal_message_at, level_of, Acquire, Packet, Request, AcquireOpen, Acquires, Asked}
+use proofs.Imports.{Block, State, packet, view, is_unserved, is_wanting, acquire_opcode, IsCarried, AccessMessages}
+use proofs.Imports.{message_of, messages_on, block_message, IsRequest, SimulationRelation, first_of, request_source}
 use proofs.Imports.{Log, System}
 use Rattle.tl_client.specs.statement.EndpointInvariant.{acquires}
-use proofs.queues.{Carried.carried-next, Carried.IsNext, Phases.and_left, Phases.and_right, Tokens.same_number}
-use proofs.queues.{Codes.acquires-so}
-use proofs.protocol.{BothParts.acquires_of-is, BothParts.wanting-is, FirstTokens.first-request, FirstTokens.first-shown}
+use proofs.queues.{Phases.and_left, Phases.and_right, Tokens.same_number, Codes.acquires-so}
+use proofs.queues.Carried.{carried-next, IsNext}
+use proofs.protocol.BothParts.{acquires_of-is, wanting-is, first-request, first-shown}
 
 -- ---- an access that was asked
 

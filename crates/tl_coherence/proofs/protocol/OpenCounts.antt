@@ -1,10 +1,10 @@
 -- How many requests, GrantAcks and Releases are open, as the uses of one source change.
-use Rattle.std.proofs.Common.{◌≡◌, ℕ, ◌+◌, ◌<◌, Bool, false, length, sym, ◌∙◌, ap, ◌⊎◌, inl, inr, arith}
+use Rattle.std.proofs.Common.{◌≡◌, ℕ, ◌+◌, ◌<◌, Bool, false, sym, ◌∙◌, ap, arith, ◌⊎◌, inl, inr, length}
 use Rattle.tl_coherence.proofs
-use proofs.Imports.{cases_eq, Config, one_if, total, is_used, is_let, open_requests, open_releases, set, set_at, State}
+use proofs.Imports.{cases_eq, Config, one_if, is_let, is_used, open_releases, open_requests, total, set, set_at, State}
 use proofs.Imports.{sources_of, terms_at}
 use Rattle.tl_coherence.specs.protocol.Protocol.{Link}
-use proofs.queues.{Sums.total-same, Sums.total-plus, Sums.total-set, Tokens.set-same, Tokens.set-other, Tokens.set-part}
+use proofs.queues.Tokens.{total-same, total-plus, total-set, set-same, set-other, set-part}
 
 -- one summand differs
 total-at : (n m : ℕ) (f g : ℕ → ℕ) → m < n → ((i : ℕ) → (i ≡ m → ⊥) → f i ≡ g i) → total n f + g m ≡ total n g + f m

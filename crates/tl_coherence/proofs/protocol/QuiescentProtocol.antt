@@ -1,21 +1,21 @@
 -- Where nothing is on a channel, nothing is open; and where nothing is open and no GrantAck is on its way, nothing is
 -- on
 -- a channel.
-use Rattle.std.proofs.Common.{◌≡◌, ℕ, ◌<◌, Bool, true, false, List, [], ◌∷◌, refl, sym, ◌∙◌, arith, not, ◌||◌, Option}
-use Rattle.std.proofs.Common.{Some, None, ◌==◌}
+use Rattle.std.proofs.Common.{◌≡◌, ℕ, ◌<◌, Bool, true, false, not, ◌||◌, ◌==◌, List, [], ◌∷◌, Option, Some, None, refl}
+use Rattle.std.proofs.Common.{sym, ◌∙◌, arith}
 use Rattle.tl_coherence.proofs
-use proofs.Imports.{Channel, part_bit, one_if, IsInvariant, acquires_of, serves_of, is_of, is_asked, is_replied}
-use proofs.Imports.{serves_with, Kind, Request, Acquire, Probe, ProbeAck, Release, Answer, Grant}
-use proofs.Imports.{ReleaseAck, GrantAck, Packet, count, ClientBlock, View, Own, ReleasePhase, NoRelease, ReleaseSent}
-use proofs.Imports.{ReleaseAcked, is_unprobed, is_unreleased, ok, Service, Free, Waits, GrantSent, GrantTaken, State}
-use proofs.Imports.{SourceState, SourceFree, Asked, InService, Replied, Acquires, view, on, packets_on, is_on}
-use proofs.Imports.{is_transfer, is_wanting, shown, is_own}
-use proofs.protocol.{Capacities.acquire_named, Capacities.grant_named, Capacities.release_named}
-use proofs.protocol.{Capacities.release_ack_named, TokenNames.shown_there, TokenNames.kind_there}
-use proofs.protocol.{TokenNames.source_of_acquire, QuiescentBlock.IsSilent, QuiescentBlock.free-when_silent}
-use proofs.protocol.{BothParts.not-sent, BothParts.not-answered, BothParts.taken-unseen, BothParts.granted-unseen}
-use proofs.queues.{Distinct.IsThere, Distinct.first-there, Tokens.same_number, Facts.is_other, Phases.each_phase}
-use proofs.queues.{Phases.of_phase, Phases.and_left}
+use proofs.Imports.{Channel, part_bit, one_if, IsInvariant, acquires_of, is_asked, is_of, is_replied, serves_of}
+use proofs.Imports.{serves_with, Acquire, Answer, Grant, GrantAck, Kind, Packet, Probe, ProbeAck, Release, ReleaseAck}
+use proofs.Imports.{Request, count, ClientBlock, NoRelease, Own, ReleaseAcked, ReleasePhase, ReleaseSent, View}
+use proofs.Imports.{is_unprobed, is_unreleased, ok, Acquires, Asked, Free, GrantSent, GrantTaken, InService, Replied}
+use proofs.Imports.{Service, SourceFree, SourceState, State, Waits, is_on, on, packets_on, view, is_transfer}
+use proofs.Imports.{is_wanting, shown, is_own}
+use proofs.protocol.Capacities.{acquire_named, grant_named, release_named, release_ack_named, shown_there, kind_there}
+use proofs.protocol.Capacities.{source_of_acquire}
+use proofs.protocol.QuiescentBlock.{IsSilent, free-when_silent}
+use proofs.protocol.BothParts.{not-sent, not-answered, taken-unseen, granted-unseen}
+use proofs.queues.{Distinct.IsThere, Distinct.first-there, Tokens.same_number, Facts.is_other}
+use proofs.queues.Phases.{each_phase, of_phase, and_left}
 
 -- ---- nothing is on a channel
 

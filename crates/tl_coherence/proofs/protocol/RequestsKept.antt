@@ -1,17 +1,117 @@
+-- An access that is answered as it is taken, and an answer that is taken, keep the invariant.
 -- Each request that is taken keeps the invariant of the protocol, and what that needs of the clients that are probed.
-use Rattle.std.proofs.Common.{◌≡◌, ℕ, zero, suc, ◌*◌, ◌<◌, ◌≤◌, Bool, true, false, not, ◌&&◌, ◌||◌, List, ◌∷◌, Option}
-use Rattle.std.proofs.Common.{Some, None, length, refl, ◌∙◌, ap, ◌⊎◌, inl, inr, arith, ne_eqb, ◌==◌, slice_index}
+use Rattle.std.proofs.Common.{◌≡◌, ℕ, zero, suc, ◌*◌, ◌<◌, ◌≤◌, Bool, true, false, not, ◌&&◌, ◌||◌, ◌==◌, List, ◌∷◌}
+use Rattle.std.proofs.Common.{Option, Some, None, refl, sym, ◌∙◌, ap, arith, ◌⊎◌, inl, inr, length, ne_eqb, slice_index}
 use Rattle.tl_coherence.proofs
-use proofs.Imports.{cases_lt, not-true, not-false, Message, MessageA, Config, Cap, Grow, Perm, Profile, same_perm}
-use proofs.Imports.{Memory, bytes_from, effect, block_at, is_acquire, bytes_are, cap_probed, cap_asked, IsInvariant}
-use proofs.Imports.{AreOutside, Request, Acquire, Packet, ClientBlock, AcquireOpen, same_cap, is_unprobed, cap_fits}
-use proofs.Imports.{grow_fits, is_above, is_granted_data, Free, Block, view, packet, is_probed, acquire_served}
-use proofs.Imports.{acquire_granted, access_answered, access_served, AbstractState, some_below, bytes_at, performs}
-use proofs.Imports.{probes_some, is_unheld, gift}
-use proofs.queues.{Facts.acquire_fits, Codes.low_cap, Perms.none-above, Perms.nothing-above}
-use proofs.protocol.{Answered.access_answered-kept, Granted.grows_to_trunk, Served.access_served-kept}
-use proofs.protocol.{Served.acquire_served-kept, AtOnce.low-unprobed, AtOnce.none-unprobed, AtOnce.acquire_granted-kept}
-use proofs.protocol.{FirstTokens.first-request}
+use proofs.Imports.{cases_lt, not-false, not-true, Channel, Message, MessageA, Config, Cap, Grow, Perm, Profile}
+use proofs.Imports.{same_perm, Memory, bytes_from, effect, block_at, is_acquire, bytes_are, cap_probed, AreOutside}
+use proofs.Imports.{IsInvariant, IsWell, acquires_of, acquires_with, cap_asked, is_of, releases_with, serves_of}
+use proofs.Imports.{serves_with, tracks_with, Acquire, Answer, Kind, Packet, ProbeAck, Request, AcquireOpen}
+use proofs.Imports.{ClientBlock, cap_fits, grow_fits, is_unprobed, same_cap, is_above, is_granted_data, Asked, Block}
+use proofs.Imports.{Free, Replied, State, access_answered, access_served, acquire_granted, acquire_served, answer_taken}
+use proofs.Imports.{answered_link, is_probed, packet, performed_block, view, is_transfer, shown, AbstractState}
+use proofs.Imports.{bytes_at, gift, is_unheld, performs, probes_some, some_below, AreMoved, Move, Pops, Pushes, Stays}
+use proofs.Imports.{channel_for, is_own_move}
+use Rattle.tl_coherence.specs.protocol.Protocol.{Link}
+use proofs.queues.{Tokens.same_number, Facts.held_at_most, Facts.acquire_fits, Codes.low_cap}
+use proofs.queues.Moves.{event-at, bare-elsewhere, invariant-moved_access, names-block, names-set_at}
+use proofs.queues.Moves.{invariant-moved_use, spares, spared-agrees}
+use proofs.queues.Phases.{nothing_below, none-above, nothing-above}
+use proofs.protocol.{Served.access_served-kept, Served.acquire_served-kept, BothParts.first-request}
+use proofs.protocol.Granted.{grows_to_trunk, low-unprobed, none-unprobed, acquire_granted-kept}
+
+-- ---- the block
+
+-- the access leaves the bytes as they are, or nobody has a copy
+abbrev pub Spares : {X : Type 0} → (X → X) → Block X → Type 0
+Spares f b = (f b.truth ≡ b.truth) ⊎ ((d : ℕ) → same_perm (b.pair d).recorded Perm.None ≡ true)
+
+pub performed-block : {X : Type 0} {caching : ℕ → Bool} (f : X → X) {b : Block X} → IsWell caching b → Spares f b
+    → IsWell caching (performed_block f b)
+performed-block {X} f {b} h spared = record {
+  phases = h.phases;
+  awaited = h.awaited;
+  asked_cap = h.asked_cap;
+  own_source = h.own_source;
+  alone = h.alone;
+  one_owner = h.one_owner;
+  outside = h.outside;
+  copies = λ d some. copy_is d some spared;
+  memory = λ none. ap f (h.memory none);
+}
+  where
+    copy_is : (d : ℕ) → same_perm (b.pair d).held Perm.None ≡ false → Spares f b → b.copy d ≡ f b.truth
+    copy_is d some (inl same) = h.copies d some ∙ sym same
+    copy_is d some (inr none) = absurd (let no = nothing_below (b.pair d).held (b.pair d).recorded (held_at_most
+        (b.pair d) (view b.service d) (h.phases d)) (none d) in let differs : true ≡ false = sym no ∙ some in cc)
+
+-- ---- the whole
+
+-- an access is taken and its answer handed out
+abbrev pub answer_moves : ℕ → Channel → Move
+answer_moves source Channel.A = Pops Request source
+answer_moves source Channel.D = Pushes Answer source
+answer_moves source _ = Stays
+
+answer_spared : (source : ℕ) (k : Kind) → is_transfer k ≡ true → spares (answer_moves source (channel_for k)) k ≡ true
+answer_spared source k e = grind arith
+
+pub access_answered-kept : {X : Type 0} {caching : ℕ → Bool} (c n source : ℕ) (f : X → X) (rest : List Packet)
+    {s : State X} → IsInvariant caching s → (s.link c).a ≡ packet Request source ∷ rest → s.uses c source ≡ Asked
+    → Spares f (s.block n) → IsInvariant caching (access_answered c n source f rest s)
+access_answered-kept {X} {caching} c n source f rest {s} inv first asked spared =
+    let here : Link = answered_link (packet Answer source) rest (s.link c) in
+    let moved : AreMoved (answer_moves source) (s.link c) here = elim [ Channel.A ↦ first | _ ↦ refl ] in
+    let own : (ch : Channel) → is_own_move ch (answer_moves source ch) ≡ true = elim [ Channel.A ↦ refl | ch ↦ refl ] in
+    let new : Block X = performed_block f (s.block n) in
+    invariant-moved_use c source Replied s.tracked
+    inv
+    (event-at (record {
+      well = performed-block f (inv.blocks n) spared;
+      moved = moved;
+      own = own;
+      fits = λ k t. spared-agrees (answer_moves source (channel_for k)) k n (shown k c (s.block n))
+          (answer_spared source k t);
+      others = λ d ne k t. refl;
+      in_order = λ m e. absurd (let f : Stays ≡ Pushes ProbeAck m = e in cc);
+    }))
+    (rw (same_number c, same_number source) refl) (rw (same_number c, asked, same_number source) refl)
+    (bare-elsewhere c (answer_moves source))
+    (record {
+      acquires = names-set_at acquires_of acquires_with c source Replied s.uses n new s.block (rw asked at
+          (inv.named.acquires c source n)) (λ m ne. rw asked refl) (λ i ne. refl) (λ d i ne. refl) inv.named.acquires;
+      serves = names-set_at serves_of serves_with c source Replied s.uses n new s.block (rw asked at
+          (inv.named.serves c source n)) (λ m ne. rw asked refl) (λ i ne. refl) (λ d i ne. refl) inv.named.serves;
+      releases = λ d. names-block is_of (releases_with d) (s.lets d) n new s.block (λ i. refl) (inv.named.releases d);
+      trackers = names-block is_of tracks_with s.tracked n new s.block (λ i. refl) inv.named.trackers;
+    })
+
+-- an answer is taken
+abbrev pub done_moves : ℕ → Channel → Move
+done_moves source Channel.D = Pops Answer source
+done_moves source _ = Stays
+
+done_spared : (source : ℕ) (k : Kind) → is_transfer k ≡ true → spares (done_moves source (channel_for k)) k ≡ true
+done_spared source k e = grind arith
+
+pub answer_taken-kept : {X : Type 0} {caching : ℕ → Bool} (c source : ℕ) (rest : List Packet) {s : State X}
+    → IsInvariant caching s → (s.link c).d ≡ packet Answer source ∷ rest → s.uses c source ≡ Replied
+    → IsInvariant caching (answer_taken c source rest s)
+answer_taken-kept {caching} c source rest {s} inv first replied =
+    let here : Link = record (s.link c) { d = rest } in
+    let moved : AreMoved (done_moves source) (s.link c) here = elim [ Channel.D ↦ first | _ ↦ refl ] in
+    let own : (ch : Channel) → is_own_move ch (done_moves source ch) ≡ true = elim [ Channel.A ↦ refl | ch ↦ refl ] in
+    invariant-moved_access
+    inv (record {
+      moved = moved;
+      own = own;
+      spared = done_spared source;
+      still = refl;
+      asked = rw replied refl;
+      replied = rw (same_number source) refl;
+      acquires = λ m. rw replied refl;
+      serves = λ m. rw replied refl;
+    })
 
 -- ---- clients that pass a test
 

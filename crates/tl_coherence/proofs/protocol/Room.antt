@@ -1,16 +1,16 @@
 -- How many beats a channel holds, by the messages that are on it.
-use Rattle.std.proofs.Common.{◌≡◌, ℕ, ◌+◌, ◌-◌, ◌*◌, ◌/◌, ◌<◌, ◌≤◌, Bool, true, false, List, [], ◌∷◌, refl, ◌∙◌}
-use Rattle.std.proofs.Common.{ap, arith, not, length, length-append, map}
-use Rattle.tl_coherence.proofs
-use proofs.Imports.{Beat, Channel, IsWidth, Message, beats_of, beats_room, beats_from, one_if, IsInvariant, Kind, Probe}
-use proofs.Imports.{ReleaseAck, GrantAck, Packet, same_kind, State, is_on, packets_on, IsCarried, AccessMessages}
-use proofs.Imports.{block_message, message_of, message_of_kind, messages_on, capacity}
+use Rattle.std.proofs.Common.{◌≡◌, ℕ, ◌+◌, ◌*◌, ◌-◌, ◌<◌, ◌≤◌, Bool, true, false, not, List, [], ◌∷◌, refl, ◌∙◌, ap}
+use Rattle.std.proofs.Common.{arith, ◌/◌, length, length-append, map}
 use Rattle.std.proofs.lemmas.Nat.{le-div}
+use Rattle.tl_coherence.proofs
+use proofs.Imports.{Beat, Channel, IsWidth, Message, beats_of, beats_room, beats_from, one_if, IsInvariant, GrantAck}
+use proofs.Imports.{Kind, Packet, Probe, ReleaseAck, same_kind, State, is_on, packets_on, IsCarried, AccessMessages}
+use proofs.Imports.{message_of, message_of_kind, messages_on, block_message, capacity}
 use Rattle.tl_coherence.specs.refinement.Carried.{spelled}
-use proofs.queues.{Beats.length-beats_from, Distinct.passing, Distinct.all-pass, Distinct.IsThere, Distinct.first-there}
-use proofs.queues.{Distinct.later-there}
-use proofs.protocol.Capacities.{few_on_a, few_on_b, few_on_c, few_on_e, few_acks_on_d, few_responses_on_d}
-use proofs.protocol.TokenNames.{AreBounded, kind_there}
+use proofs.queues.Distinct.{passing, all-pass, IsThere, first-there, later-there}
+use proofs.queues.Beats.{length-beats_from}
+use proofs.protocol.Capacities.{few_on_a, few_on_b, few_on_c, few_on_e, few_acks_on_d, few_responses_on_d, AreBounded}
+use proofs.protocol.Capacities.{kind_there}
 
 pub positive : (w : ℕ) → IsWidth w → 0 < w
 positive w e = grind arith

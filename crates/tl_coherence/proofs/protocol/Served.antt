@@ -1,21 +1,21 @@
 -- A request that is taken, and for which clients are probed, keeps the invariant.
-use Rattle.std.proofs.Common.{◌≡◌, refl, sym, ◌∙◌, ℕ, Bool, true, false, not, List, ◌∷◌, ◌&&◌, Some, None, arith}
-use Rattle.std.proofs.Common.{eqb-true, ne_eqb, ◌==◌, if◌then◌else◌}
+use Rattle.std.proofs.Common.{◌≡◌, ℕ, Bool, true, false, not, ◌&&◌, ◌==◌, if◌then◌else◌, List, ◌∷◌, Some, None, refl}
+use Rattle.std.proofs.Common.{sym, ◌∙◌, arith, eqb-true, ne_eqb}
 use Rattle.tl_coherence.proofs
-use proofs.Imports.{Channel, Cap, Grow, Perm, same_perm, cap_asked, resting, is_out, is_of, acquires_of, serves_of}
-use proofs.Imports.{acquires_with, serves_with, releases_with, tracks_with, IsAskedCap, IsWell, IsInvariant}
-use proofs.Imports.{IsOwnSource, Kind, Request, Acquire, Probe, ProbeAck, Answer, Packet, set, ClientBlock, View, Idle}
-use proofs.Imports.{Own, Other, ProbePhase, ProbeSent, AcquireOpen, ok, same_cap, is_unprobed, is_above, after_served}
-use proofs.Imports.{Free, Waits, Block, State, Asked, InService, view, packet, packets_on, is_probed, served_pair}
-use proofs.Imports.{served_block, with_probe, served_link, acquire_served, access_served, shows, shown, is_transfer}
-use proofs.Imports.{is_granting, is_wanting, is_sent, is_answered, Move, Stays, Pushes, Pops, IsMoved, agrees}
-use proofs.Imports.{is_own_move, channel_for}
+use proofs.Imports.{Channel, Cap, Grow, Perm, same_perm, IsAskedCap, IsInvariant, IsOwnSource, IsWell, acquires_of}
+use proofs.Imports.{acquires_with, cap_asked, is_of, is_out, releases_with, resting, serves_of, serves_with}
+use proofs.Imports.{tracks_with, Acquire, Answer, Kind, Packet, Probe, ProbeAck, Request, set, AcquireOpen, ClientBlock}
+use proofs.Imports.{Idle, Other, Own, ProbePhase, ProbeSent, View, is_unprobed, same_cap, ok, after_served, is_above}
+use proofs.Imports.{Asked, Block, Free, InService, State, Waits, access_served, acquire_served, is_probed, packet}
+use proofs.Imports.{packets_on, served_block, served_link, served_pair, view, with_probe, is_answered, is_granting}
+use proofs.Imports.{is_sent, is_transfer, is_wanting, shown, shows, IsMoved, Move, Pops, Pushes, Stays, agrees}
+use proofs.Imports.{channel_for, is_own_move}
 use Rattle.tl_coherence.specs.protocol.Protocol.{Link}
-use proofs.queues.{Phases.and_left, Phases.and_right, PhaseSteps.serve-ok, PhaseSteps.served-ok}
-use proofs.queues.{PhaseFacts.quiet_at_rest, Tokens.same_number, KindMoves.same_again, KindMoves.spares}
-use proofs.queues.{KindMoves.spared-agrees}
+use proofs.queues.{Phases.and_left, Phases.and_right, PhaseFacts.quiet_at_rest, Tokens.same_number}
+use proofs.queues.PhaseSteps.{serve-ok, served-ok}
+use proofs.queues.Moves.{same_again, spares, spared-agrees, IsEvent, names-block, names-set, names-set_at}
+use proofs.queues.Moves.{invariant-moved, invariant-moved_use}
 use proofs.protocol.BothParts.{quiet_unanswered, waits_ungranted}
-use proofs.queues.Moves.{IsEvent, names-block, names-set, names-set_at, invariant-moved, invariant-moved_use}
 
 -- ---- who is probed
 

@@ -1,11 +1,11 @@
 -- A Grant that is taken keeps what holds of a block, also where it changes what all copies stand for.
-use Rattle.std.proofs.Common.{◌≡◌, ℕ, Bool, true, false, not, ◌&&◌, ◌||◌, refl, sym, ◌∙◌, ap, inl, inr, ne_eqb, arith}
+use Rattle.std.proofs.Common.{◌≡◌, ℕ, Bool, true, false, not, ◌&&◌, ◌||◌, refl, sym, ◌∙◌, ap, arith, inl, inr, ne_eqb}
 use Rattle.tl_coherence.proofs
-use proofs.Imports.{and-false, cases_eq, Cap, Grow, Perm, cap_right, same_perm, resting, is_out, IsWell, set}
-use proofs.Imports.{ClientBlock, Granting, Acknowledging, GrantedOther, AcquireOpen, is_unprobed, cap_fits, grant_fits}
-use proofs.Imports.{after_grant, GrantSent, GrantTaken, Block, view, taken_block, granted_copy, granted_truth}
-use proofs.queues.{Phases.and_left, Phases.and_right, PhaseSteps.grant_taken-ok, Facts.held_at_most, Facts.grant_is_fit}
-use proofs.queues.Perms.{nothing_below, whole_cap}
+use proofs.Imports.{and-false, cases_eq, Cap, Grow, Perm, cap_right, same_perm, IsWell, is_out, resting, set}
+use proofs.Imports.{Acknowledging, AcquireOpen, ClientBlock, GrantedOther, Granting, cap_fits, grant_fits, is_unprobed}
+use proofs.Imports.{after_grant, Block, GrantSent, GrantTaken, granted_copy, granted_truth, taken_block, view}
+use proofs.queues.{PhaseSteps.grant_taken-ok, Facts.held_at_most, Facts.grant_is_fit}
+use proofs.queues.Phases.{and_left, and_right, nothing_below, whole_cap}
 use proofs.queues.Tokens.{same_number, set-same, set-other, set-part}
 
 -- a Grant for a store of the whole block gives Trunk

@@ -1,10 +1,10 @@
 -- Tokens with names of their own: where each name below a bound is of one token at most, there are no more tokens.
-use Rattle.std.proofs.Common.{◌≡◌, ℕ, ◌+◌, ◌<◌, ◌≤◌, Bool, true, false, List, [], ◌∷◌, refl, sym, ◌∙◌, ap, ◌⊎◌}
-use Rattle.std.proofs.Common.{arith, ◌&&◌, not, length, Option, Some, None, eqb-true, ◌==◌, if◌then◌else◌}
+use Rattle.std.proofs.Common.{◌≡◌, ℕ, ◌+◌, ◌<◌, ◌≤◌, Bool, true, false, not, ◌&&◌, ◌==◌, if◌then◌else◌, List, [], ◌∷◌}
+use Rattle.std.proofs.Common.{Option, Some, None, refl, sym, ◌∙◌, ap, arith, ◌⊎◌, length, eqb-true}
 use Rattle.tl_coherence.proofs
-use proofs.Imports.{cases_eq, and_parts, same_Some, one_if, total, Kind, Packet, is, count}
-use proofs.queues.{Rendered.same_kind_again, Tokens.same_number, Sums.total-same, Sums.total-le, Sums.total-plus}
-use proofs.queues.{Sums.total-zero, Sums.total-one, Sums.total-const}
+use proofs.Imports.{and_parts, cases_eq, same_Some, one_if, total, Kind, Packet, is, count}
+use proofs.queues.Tokens.{same_number, total-same, total-le, total-plus, total-zero, total-one, total-const}
+use proofs.queues.Channels.{same_kind_again}
 
 -- how many tokens pass a test
 unfoldable pub passing : (Packet → Bool) → List Packet → ℕ

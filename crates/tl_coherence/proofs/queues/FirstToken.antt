@@ -2,9 +2,9 @@
 use Rattle.std.proofs.Common.{◌≡◌, ℕ, Bool, true, false, List, [], ◌∷◌, refl, sym, ◌∙◌, ap, arith, map}
 use Rattle.tl_coherence.proofs
 use proofs.Imports.{Beat, Channel, IsWidth, beats-positive, Message, unfinished, one_if, IsInvariant, Kind, Packet, is}
-use proofs.Imports.{count, State, packet, packets_on, is_on, IsCarried, ChannelRelation, AccessMessages, message_of}
+use proofs.Imports.{count, State, is_on, packet, packets_on, IsCarried, ChannelRelation, AccessMessages, message_of}
 use proofs.Imports.{message_of_kind, receiver, System}
-use proofs.queues.{Carried.IsNext, Carried.carried-next, Rendered.same_kind_again, Tokens.same_number}
+use proofs.queues.{Carried.IsNext, Carried.carried-next, Channels.same_kind_again, Tokens.same_number}
 
 -- the first token of a channel, whose message has this beat next
 pub record IsFirst {w : ℕ} (ch : Channel) (c : ℕ) (mail : AccessMessages w) (s : State (List ℕ)) (sys : System w)

@@ -1,11 +1,11 @@
 -- The potential falls where what is owed falls at one client and rises nowhere.
 use Rattle.std.proofs.Common.{◌≡◌, ℕ, zero, suc, ◌+◌, ◌<◌, ◌≤◌, true, refl, arith, ◌⊎◌, inl, inr, length}
 use Rattle.tl_coherence.proofs
-use proofs.Imports.{cases_eq, Config, Left, pair_weight, probes_weight, acquire_weight, let_weight, rank, use_weight}
-use proofs.Imports.{client_weight, Request, Acquire, Answer, Grant, View, State, SourceState, SourceFree}
-use proofs.Imports.{Asked, InService, Replied, Acquires, view, is_unserved, sources_of, terms_at}
+use proofs.Imports.{cases_eq, Config, Left, acquire_weight, client_weight, let_weight, pair_weight, probes_weight, rank}
+use proofs.Imports.{use_weight, Acquire, Answer, Grant, Request, View, Acquires, Asked, InService, Replied, SourceFree}
+use proofs.Imports.{SourceState, State, view, is_unserved, sources_of, terms_at}
 use Rattle.tl_coherence.specs.bound.Rank.{total}
-use proofs.queues.Sums.{total-le}
+use proofs.queues.Tokens.{total-le}
 
 -- one summand falls by k, and the others don't rise
 pub total-falls : (n m k : ℕ) (f g : ℕ → ℕ) → m < n → ((i : ℕ) → i < n → g i ≤ f i) → g m + k ≤ f m

@@ -1,17 +1,17 @@
 -- What is owed falls with each delivery: block by block.
-use Rattle.std.proofs.Common.{◌≡◌, ℕ, ◌+◌, ◌<◌, ◌≤◌, Bool, true, false, List, refl, sym, ◌∙◌, ap, arith, ◌⊎◌, inl, inr}
-use Rattle.std.proofs.Common.{Some, length, eqb-true, if◌then◌else◌}
+use Rattle.std.proofs.Common.{◌≡◌, ℕ, ◌+◌, ◌<◌, ◌≤◌, Bool, true, false, if◌then◌else◌, List, Some, refl, sym, ◌∙◌, ap}
+use Rattle.std.proofs.Common.{arith, ◌⊎◌, inl, inr, length, eqb-true}
 use Rattle.tl_coherence.proofs
-use proofs.Imports.{cases_eq, Config, Cap, Left, pair_weight, probes_weight, letting_weight, IsInvariant, serves_of}
-use proofs.Imports.{serves_with, Release, Own, is_unprobed, State, SourceState}
-use proofs.Imports.{SourceFree, InService, Acquires, view, Service, Waits, AccessMessages}
-use proofs.rank.Frames.{Taking, Falls, AreAsBefore, AreElsewhere, AreNoMore, use-stays, let-all, IsBlockNoMore}
-use proofs.rank.Frames.{acquire-stays, let-stays, pair-stays, wants-used}
-use proofs.protocol.{TokenNames.source_of_acquire, BeatsRemaining.beats_left, QuiescentProtocol.owns_ask}
-use proofs.protocol.{QuiescentProtocol.serves_another}
-use proofs.queues.{Sums.total-le, Tokens.same_number, Facts.is_other}
+use proofs.Imports.{cases_eq, Config, Cap, Left, letting_weight, pair_weight, probes_weight, IsInvariant, serves_of}
+use proofs.Imports.{serves_with, Release, Own, is_unprobed, Acquires, InService, Service, SourceFree, SourceState}
+use proofs.Imports.{State, Waits, view, AccessMessages}
 use proofs.rank.RankDecreases.{IsNoMore, owed_use, owed_use', owed_let, owed_let', clients, use-falls, let-falls}
 use proofs.rank.RankDecreases.{ack-falls, grant-falls, total-falls}
+use proofs.rank.Frames.{Taking, Falls, AreAsBefore, AreElsewhere, AreNoMore, use-stays, let-all, IsBlockNoMore}
+use proofs.rank.Frames.{acquire-stays, let-stays, pair-stays, wants-used}
+use proofs.protocol.{Capacities.source_of_acquire, BeatsRemaining.beats_left}
+use proofs.protocol.QuiescentProtocol.{owns_ask, serves_another}
+use proofs.queues.{Tokens.total-le, Tokens.same_number, Facts.is_other}
 
 -- the access for which a block waits
 pub serving-use : {X : Type 0} {caching : ℕ → Bool} {s : State X} (n q source : ℕ) (k : Cap) → IsInvariant caching s

@@ -1,16 +1,16 @@
 -- What is owed for each open request is at most 33 beats and those of a block, for each Release one
 -- and those of a block.
-use Rattle.std.proofs.Common.{◌≡◌, ℕ, zero, suc, ◌+◌, ◌*◌, ◌<◌, ◌≤◌, Bool, true, false, refl, arith, ◌⊎◌, inl, inr, not}
-use Rattle.std.proofs.Common.{◌&&◌, Option, length, ne_eqb, ◌==◌, if◌then◌else◌}
+use Rattle.std.proofs.Common.{◌≡◌, ℕ, zero, suc, ◌+◌, ◌*◌, ◌<◌, ◌≤◌, Bool, true, false, not, ◌&&◌, ◌==◌, if◌then◌else◌}
+use Rattle.std.proofs.Common.{Option, refl, arith, ◌⊎◌, inl, inr, length, ne_eqb}
 use Rattle.tl_coherence.proofs
-use proofs.Imports.{cases_eq, Config, Perm, same_perm, one_if, Left, pair_weight, probes_weight, acquire_weight}
-use proofs.Imports.{letting_weight, let_weight, rank, probing_weight, use_weight, client_weight, is_used, is_let}
-use proofs.Imports.{open_requests, open_releases, IsInvariant, Request, Acquire, ProbeAck, Answer, Grant, Kind, View}
-use proofs.Imports.{ProbePhase, ReleasePhase, is_unprobed, State, SourceState, SourceFree, Asked, InService, Replied}
-use proofs.Imports.{Acquires, view, some_below, sources_of, terms_at}
-use Rattle.tl_coherence.{specs.bound.Rank.total}
+use proofs.Imports.{cases_eq, Config, Perm, same_perm, one_if, Left, acquire_weight, client_weight, is_let, is_used}
+use proofs.Imports.{let_weight, letting_weight, open_releases, open_requests, pair_weight, probes_weight}
+use proofs.Imports.{probing_weight, rank, use_weight, IsInvariant, Acquire, Answer, Grant, Kind, ProbeAck, Request}
+use proofs.Imports.{ProbePhase, ReleasePhase, View, is_unprobed, Acquires, Asked, InService, Replied, SourceFree}
+use proofs.Imports.{SourceState, State, view, some_below, sources_of, terms_at}
+use Rattle.tl_coherence.specs.bound.Rank.{total}
 use proofs.protocol.RequestsKept.{some-none, some-one}
-use proofs.queues.{Sums.total-le, Sums.total-const, Sums.probes-light, Sums.one-at-most, Tokens.same_number}
+use proofs.queues.Tokens.{total-le, total-const, probes-light, one-at-most, same_number}
 
 -- what is left of a message is no more than it has: a block has n beats, an Acquire one, a report from one who isn't
 -- recorded as the writer one, and an access and its answer one more than a block together

@@ -1,17 +1,16 @@
 -- Sources and trackers that are used are below the numbers that the configuration gives.
-use Rattle.std.proofs.Common.{◌≡◌, ℕ, ◌<◌, Bool, true, false, List, [], ◌∷◌}
-use Rattle.std.proofs.Common.{refl, sym, ◌∙◌, ap, ◌||◌, Option, Some, arith}
-use Rattle.std.proofs.Common.{eqb-true, ◌==◌, is_some}
+use Rattle.std.proofs.Common.{◌≡◌, ℕ, ◌<◌, Bool, true, false, ◌||◌, ◌==◌, List, [], ◌∷◌, Option, Some, refl, sym, ◌∙◌}
+use Rattle.std.proofs.Common.{ap, arith, eqb-true, is_some}
 use Rattle.tl_coherence.proofs
-use proofs.Imports.{and_parts, Message, MessageA, Config, RequestSource, ReleaseSource, pending, is_one_of}
-use proofs.Imports.{tracker_among, services, trackers_of, is_busy, Service, Free, Waits}
-use proofs.Imports.{GrantSent, GrantTaken, State, SourceState, SourceFree, Asked, InService, Replied, Acquires}
-use proofs.Imports.{client_in, service_with, IsOpened, AccessMessages, block_message, SimulationRelation, asked_by}
-use proofs.Imports.{first_of, request_source, IsSourced, sources_of, Log, Requests, one_memory_after, System, terms_at}
+use proofs.Imports.{and_parts, Message, MessageA, Config, ReleaseSource, RequestSource, pending, is_one_of}
+use proofs.Imports.{tracker_among, trackers_of, services, is_busy, Acquires, Asked, Free, GrantSent, GrantTaken}
+use proofs.Imports.{InService, Replied, Service, SourceFree, SourceState, State, Waits, client_in, service_with}
+use proofs.Imports.{IsOpened, AccessMessages, block_message, IsSourced, SimulationRelation, asked_by, first_of}
+use proofs.Imports.{request_source, sources_of, Log, Requests, one_memory_after, System, terms_at}
 use Rattle.tl_manager.specs.code.Kept as kept
-use proofs.protocol.TokenNames.{AreBounded}
+use proofs.protocol.Capacities.{AreBounded}
 use proofs.queues.Tokens.{same_number}
-use proofs.client.Askable.{acquires_something}
+use proofs.client.ClientDelivered.{acquires_something}
 
 -- a client's sources that are pending are its own
 pub record IsOwn {w : ℕ} (config : Config) (c : ℕ) (sys : System w) : Type 0 where

@@ -1,17 +1,17 @@
 -- The channels carry the messages of the tokens after an event at two clients or more: a request that probes, and the
 -- last report, for which an access is answered or an Acquire is granted.
-use Rattle.std.proofs.Common.{◌≡◌, ℕ, zero, suc, ◌+◌, ◌<◌, ◌≤◌, Bool, true, false, ◌&&◌, List, [], ◌∷◌, Option, Some}
-use Rattle.std.proofs.Common.{None, refl, ◌∙◌, ◌⊎◌, inl, inr, arith, ne_eqb, ◌==◌, if◌then◌else◌, eqb-true}
+use Rattle.std.proofs.Common.{◌≡◌, ℕ, zero, suc, ◌+◌, ◌<◌, ◌≤◌, Bool, true, false, ◌&&◌, ◌==◌, if◌then◌else◌, List, []}
+use Rattle.std.proofs.Common.{◌∷◌, Option, Some, None, refl, ◌∙◌, arith, ◌⊎◌, inl, inr, ne_eqb, eqb-true}
 use Rattle.tl_coherence.proofs
-use proofs.Imports.{cases_eq, cases_lt, Channel, Message, Cap, probes, probe_of_block, clients_from, IsInvariant, Kind}
-use proofs.Imports.{Request, Acquire, Probe, Packet, set, ClientBlock, after_served, Free, Block, State, packet}
-use proofs.Imports.{packets_on, is_probed, served_link, served_block, acquire_served, access_served, Move, Stays, Pops}
-use proofs.Imports.{IsMoved, AccessMessages, block_message, message_of, cap_sent, System, same_channel, with_messages}
-use proofs.Imports.{with_message}
-use proofs.protocol.{AlikeRequests.alike-served}
+use proofs.Imports.{cases_eq, cases_lt, Channel, Message, Cap, probe_of_block, probes, clients_from, IsInvariant}
+use proofs.Imports.{Acquire, Kind, Packet, Probe, Request, set, ClientBlock, after_served, Block, Free, State}
+use proofs.Imports.{access_served, acquire_served, is_probed, packet, packets_on, served_block, served_link, IsMoved}
+use proofs.Imports.{Move, Pops, Stays, AccessMessages, cap_sent, message_of, block_message, System, same_channel}
+use proofs.Imports.{with_message, with_messages}
 use proofs.protocol.Served.{request_move, any_moved, served_moves, kind_served, number_served}
-use proofs.queues.{Shown.IsShown, Showing.showing-block, Tokens.same_number, Tokens.set-same}
-use proofs.queues.Channels.{Fits, behind}
+use proofs.protocol.BothParts.{alike-served}
+use proofs.queues.{Showing.showing-block, Tokens.same_number, Tokens.set-same}
+use proofs.queues.Channels.{IsShown, Fits, behind}
 
 -- ---- Probes that are handed out
 

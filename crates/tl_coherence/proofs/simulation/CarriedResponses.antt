@@ -1,15 +1,15 @@
 -- The channels carry the messages of the tokens after a response or a GrantAck is taken.
-use Rattle.std.proofs.Common.{◌≡◌, ℕ, Bool, true, false, ◌&&◌, List, ◌∷◌, Some, None, refl, ◌⊎◌, ◌==◌, if◌then◌else◌}
+use Rattle.std.proofs.Common.{◌≡◌, ℕ, Bool, true, false, ◌&&◌, ◌==◌, if◌then◌else◌, List, ◌∷◌, Some, None, refl, ◌⊎◌}
 use Rattle.tl_coherence.proofs
-use proofs.Imports.{Channel, Message, Cap, IsInvariant, Kind, Answer, Grant, ReleaseAck, GrantAck, Packet, GrantSent}
-use proofs.Imports.{GrantTaken, Block, State, packet, taken_link, answer_taken, grant_taken, taken_block}
-use proofs.Imports.{release_ack_taken, let_go_block, grant_ack_taken, freed_block, shown, Stays, AreMoved}
-use proofs.Imports.{AccessMessages, block_message, message_of, same_channel, channel_of_message}
-use proofs.protocol.{Acknowledged.let_go_moves, Acknowledged.freed_moves, Answered.done_moves, TakenAll.taken_moves}
-use proofs.protocol.{Alike.alike-let_go, Alike.alike-taken, Alike.alike-freed}
-use proofs.queues.{Landed.pushes_of, Moves.moves_at, Shown.IsShown, Showing.carries, Showing.showing-block}
-use proofs.queues.{Channels.Fits, Channels.moved-at, Channels.fits-at, Channels.pushes_at}
-use proofs.simulation.CarriedAsks.{only_on, fits_pushed, new_there}
+use proofs.Imports.{Channel, Message, Cap, IsInvariant, Answer, Grant, GrantAck, Kind, Packet, ReleaseAck, Block}
+use proofs.Imports.{GrantSent, GrantTaken, State, answer_taken, freed_block, grant_ack_taken, grant_taken, let_go_block}
+use proofs.Imports.{packet, release_ack_taken, taken_block, taken_link, shown, AreMoved, Stays, AccessMessages}
+use proofs.Imports.{message_of, block_message, channel_of_message, same_channel}
+use proofs.protocol.{RequestsKept.done_moves, BothParts.alike-let_go, BothParts.alike-taken, BothParts.alike-freed}
+use proofs.protocol.FollowKept.{let_go_moves, freed_moves, taken_moves}
+use proofs.queues.{Steps.pushes_of, Moves.moves_at, Showing.carries, Showing.showing-block}
+use proofs.queues.Channels.{IsShown, Fits, moved-at, fits-at, pushes_at}
+use proofs.simulation.CarriedEvents.{only_on, fits_pushed, new_there}
 
 -- ---- a response is taken
 

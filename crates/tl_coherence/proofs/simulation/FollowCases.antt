@@ -1,19 +1,19 @@
 -- What the protocol does at an event of the world: nothing, what a client is asked for, or the first
 -- token of a channel.
-use Rattle.std.proofs.Common.{◌≡◌, ℕ, Bool, true, false, ◌&&◌, List, [], ◌∷◌, Option, Some, None, refl, sym, ◌∙◌, ap}
-use Rattle.std.proofs.Common.{arith, if◌then◌else◌}
+use Rattle.std.proofs.Common.{◌≡◌, ℕ, Bool, true, false, ◌&&◌, if◌then◌else◌, List, [], ◌∷◌, Option, Some, None, refl}
+use Rattle.std.proofs.Common.{sym, ◌∙◌, ap, arith}
 use Rattle.tl_coherence.proofs
-use proofs.Imports.{Beat, Link, Channel, IsWidth, MessageA, unfinished, completes, Config, Op, EndConfig, Event}
-use proofs.Imports.{Deliver, Ask, Outcome, Kind, Packet, State, packet, on, packets_on, AbstractState, asked}
-use proofs.Imports.{kind_taken, abstract_delivery, abstract_step_by, abstract_step, packet_taken, AccessMessages}
-use proofs.Imports.{SimulationRelation, is_caching, receiver, is_moving, Log, stepped, stepped_at, System, terms_at}
-use Rattle.tl_coherence.{specs.refinement.AbstractStep.is_last}
+use proofs.Imports.{Beat, Link, Channel, IsWidth, MessageA, unfinished, completes, Config, Op, EndConfig, Event, Ask}
+use proofs.Imports.{Deliver, Outcome, Kind, Packet, State, on, packet, packets_on, AbstractState, abstract_delivery}
+use proofs.Imports.{abstract_step, abstract_step_by, asked, kind_taken, packet_taken, AccessMessages}
+use proofs.Imports.{SimulationRelation, is_caching, receiver, is_moving, Log, stepped_at, stepped, System, terms_at}
+use Rattle.tl_coherence.specs.refinement.AbstractStep.{is_last}
 use Rattle.tl_client.specs.statement.Ask as ask
-use proofs.client.{Askable.askable, ClientDelivered.shadow_of}
+use proofs.client.ClientDelivered.{askable, shadow_of}
 use proofs.client.AnswersKept.{AreAnswered, answered-asked, answered-kind_taken}
 use proofs.client.GrantMatchesAcquire.{AreGiven, given-asked, given-kind_taken}
-use proofs.queues.{FirstToken.IsFirst, FirstToken.first-token, KindMoves.on_same}
-use proofs.manager.{UnwaitedRequests.next_tracker}
+use proofs.queues.{FirstToken.IsFirst, FirstToken.first-token, Moves.on_same}
+use proofs.manager.RequestsTaken.{next_tracker}
 
 -- a delivery that completes a message: the beat is moved, and is the last of the message of the first token
 pub record IsDelivery {w : ℕ} (config : Config) (mail : AccessMessages w) (s : State (List ℕ)) (sys : System w)

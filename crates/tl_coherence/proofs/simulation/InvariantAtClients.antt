@@ -2,14 +2,14 @@
 use Rattle.std.proofs.Common.{◌≡◌, ℕ, Bool, true, false, not, List, ◌∷◌, Option, Some, None, refl, sym, ◌∙◌, ap, map}
 use Rattle.tl_coherence.proofs
 use proofs.Imports.{Beat, Link, Channel, IsWidth, MessageA, unfinished, Config, Op, EndConfig, Offered, Deliver}
-use proofs.Imports.{IsInvariant, Kind, Probe, Answer, Grant, ReleaseAck, Packet, NoRelease, is_unreleased, State}
-use proofs.Imports.{packet, is_on, packets_on, asked, AccessMessages, message_of, message_of_kind, SimulationRelation}
-use proofs.Imports.{is_caching, receiver, is_moving, Log, stepped, client_took, is_to_client, Step, System, terms_at}
+use proofs.Imports.{IsInvariant, Answer, Grant, Kind, Packet, Probe, ReleaseAck, NoRelease, is_unreleased, State, is_on}
+use proofs.Imports.{packet, packets_on, asked, AccessMessages, message_of, message_of_kind, SimulationRelation}
+use proofs.Imports.{is_caching, receiver, is_moving, Log, Step, client_took, is_to_client, stepped, System, terms_at}
 use Rattle.tl_client.specs.statement.Ask as ask
-use proofs.client.{Askable.askable, ClientDelivered.shadow_of, ProbeDelivered.probe-delivered}
+use proofs.client.{ClientDelivered.askable, ClientDelivered.shadow_of, ProbeDelivered.probe-delivered}
 use proofs.queues.{Carried.IsNext, Steps.stepped-to-client}
-use proofs.protocol.{Events.IsReady, FollowKept.asked-kept, BothParts.kept-letting}
-use proofs.manager.UnwaitedRequests.{next_tracker}
+use proofs.protocol.{HeadOfD.IsReady, FollowKept.asked-kept, BothParts.kept-letting}
+use proofs.manager.RequestsTaken.{next_tracker}
 
 pub invariant-asked : {w : ℕ} {config : Config} {log : Log w} {mail : AccessMessages w} {request : ℕ → MessageA w}
     {s : State (List ℕ)} {sys : System w} (terms : EndConfig) (c : ℕ) (o : Op w)

@@ -1,12 +1,12 @@
 -- A delivery that moves a beat: the beat was taken, and what was handed out for it is on the channels.
-use Rattle.std.proofs.Common.{◌≡◌, ℕ, Bool, true, false, ◌+◌, ◌<◌, List, [], ◌∷◌, refl, sym, ◌∙◌, ap, ◌⊎◌, inl, inr}
-use Rattle.std.proofs.Common.{arith, ◌&&◌, Option, Some, None, ne_eqb, ◌==◌, if◌then◌else◌, Result, Ok}
+use Rattle.std.proofs.Common.{◌≡◌, ℕ, ◌+◌, ◌<◌, Bool, true, false, ◌&&◌, ◌==◌, if◌then◌else◌, List, [], ◌∷◌, Option}
+use Rattle.std.proofs.Common.{Some, None, Result, Ok, refl, sym, ◌∙◌, ap, arith, ◌⊎◌, inl, inr, ne_eqb}
 use Rattle.tl_coherence.proofs
-use proofs.Imports.{cases_eq, Beat, Link, Channel, IsWidth, beats-positive, Message, beats_of, unfinished, grown}
+use proofs.Imports.{cases_eq, Beat, Link, Channel, IsWidth, beats-positive, Message, beats_of, grown, unfinished}
 use proofs.Imports.{completes, Config, Rule, on_link, Verdict, Offered, Handed, Deliver, Outcome, State, IsCarried}
-use proofs.Imports.{ChannelRelation, AccessMessages, messages_on, receiver, is_moving, stepped, client_took}
-use proofs.Imports.{is_to_client, Step, handing, handed_by, outcome_of, judged, manager_took, System, same_channel}
-use proofs.Imports.{terms_at, with_channel, with_client, with_manager}
+use proofs.Imports.{ChannelRelation, AccessMessages, messages_on, receiver, is_moving, Step, client_took, handed_by}
+use proofs.Imports.{handing, is_to_client, judged, manager_took, outcome_of, stepped, System, same_channel, terms_at}
+use proofs.Imports.{with_channel, with_client, with_manager}
 use Rattle.tl_client.proofs.endpoint.Outstanding.{unfinished-offered}
 use Rattle.tl_manager.specs.laws.After.{is_of_clients, taken_after}
 use Rattle.tl_client.specs.laws.After as after
@@ -18,8 +18,8 @@ use Rattle.tl_manager.specs.statement.Reaction as manager_reaction
 use Rattle.tl_manager.specs.statement.End as manager_end
 use Rattle.tl_manager.specs.statement.Offer as manager_offer
 use Rattle.tl_manager.proofs.pending.Afterwards as manager_after
-use proofs.queues.{Carried.carried-next, Channels.same_channel-is, Steps.stepped-to-client, Steps.stepped-to-manager}
-use proofs.queues.{Tokens.same_number, Landed.IsLanded, Landed.HasHeard, Landed.HasTaken}
+use proofs.queues.{Carried.carried-next, Channels.same_channel-is, Tokens.same_number}
+use proofs.queues.Steps.{stepped-to-client, stepped-to-manager, IsLanded, HasHeard, HasTaken}
 
 -- ---- to a client
 

@@ -1,15 +1,15 @@
 -- The bytes of each block are 64, and each access that is under way has its source, after every event.
-use Rattle.std.proofs.Common.{◌≡◌, ℕ, ◌*◌, Bool, true, false, ◌&&◌, List, refl, sym, ◌∙◌, ap, ◌⊎◌, inl, inr, length}
-use Rattle.std.proofs.Common.{arith, ◌==◌, if◌then◌else◌}
+use Rattle.std.proofs.Common.{◌≡◌, ℕ, ◌*◌, Bool, true, false, ◌&&◌, ◌==◌, if◌then◌else◌, List, refl, sym, ◌∙◌, ap}
+use Rattle.std.proofs.Common.{arith, ◌⊎◌, inl, inr, length}
 use Rattle.tl_coherence.proofs
-use proofs.Imports.{cases_eq, ⊤, Message, Config, Cap, Grow, Report, Perm, same_perm, block_at, word_room}
-use proofs.Imports.{length-stored, Op, Reply, copy_stored, is_word, length-bytes, IsInvariant, Kind, Packet, set}
-use proofs.Imports.{ClientBlock, AcquirePhase, AcquireOpen, is_whole, after_acquire, after_release, after_served}
-use proofs.Imports.{after_grant_sent, after_probe, after_report, after_release_taken, after_release_ack, after_grant}
-use proofs.Imports.{Block, State, acquiring_block, stored_block, served_block, granted_block, granted_pair, taken_block}
-use proofs.Imports.{granted_truth, AbstractState, asked, kind_taken, AreSized, IsTypedOp}
-use proofs.queues.{Tokens.set-same, Tokens.set-other, Tokens.set-each, Tokens.set-part, Perms.trunk-some}
-use proofs.protocol.{Events.true-taken}
+use proofs.Imports.{cases_eq, ⊤, Message, Config, Cap, Grow, Report, Perm, same_perm, block_at, length-stored}
+use proofs.Imports.{word_room, Op, Reply, copy_stored, is_word, length-bytes, IsInvariant, Kind, Packet, set}
+use proofs.Imports.{AcquireOpen, AcquirePhase, ClientBlock, is_whole, after_acquire, after_grant, after_grant_sent}
+use proofs.Imports.{after_probe, after_release, after_release_ack, after_release_taken, after_report, after_served}
+use proofs.Imports.{Block, State, acquiring_block, granted_block, granted_pair, granted_truth, served_block}
+use proofs.Imports.{stored_block, taken_block, AbstractState, asked, kind_taken, AreSized, IsTypedOp}
+use proofs.queues.{Tokens.set-same, Tokens.set-other, Tokens.set-each, Tokens.set-part, Phases.trunk-some}
+use proofs.protocol.HeadOfD.{true-taken}
 
 -- ---- bytes
 

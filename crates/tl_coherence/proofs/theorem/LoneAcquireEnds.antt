@@ -1,19 +1,20 @@
 -- An Acquire that is started alone brings what it asks for, and an AcquireWhole brings Trunk.
-use Rattle.std.proofs.Common.{◌≡◌, ℕ, zero, suc, Bool, true, false, List, ◌∷◌}
-use Rattle.std.proofs.Common.{Option, Some, None, refl, sym, ◌∙◌, ap, arith}
+use Rattle.std.proofs.Common.{◌≡◌, ℕ, zero, suc, Bool, true, false, List, ◌∷◌, Option, Some, None, refl, sym, ◌∙◌, ap}
+use Rattle.std.proofs.Common.{arith}
 use Rattle.tl_coherence.proofs
-use proofs.Imports.{Link, Channel, Config, Grow, Perm, Profile, same_perm, Op, whole_grow, held_at, Deliver, Ask}
-use proofs.Imports.{AcquirePhase, AcquireOpen, ClientBlock, after_acquire, SourceState, Block, State, SourceFree}
-use proofs.Imports.{Acquires, acquire_asked, acquiring_block, AbstractState, asked, abstract_step, IsDrained, grown_to}
-use proofs.Imports.{IsGiven, outstanding, Log, system_after, next_delivery, with_delivery}
+use proofs.Imports.{Link, Channel, Config, Grow, Perm, Profile, same_perm, Op, whole_grow, held_at, Ask, Deliver}
+use proofs.Imports.{AcquireOpen, AcquirePhase, ClientBlock, after_acquire, Acquires, Block, SourceFree, SourceState}
+use proofs.Imports.{State, acquire_asked, acquiring_block, AbstractState, abstract_step, asked, IsDrained, grown_to}
+use proofs.Imports.{IsGiven, outstanding, Log, system_after, with_delivery, next_delivery}
+use Rattle.tl_coherence.{specs.declared.event.Outcome.TheVariants.Replied, specs.statement.Log.IsLog}
+use Rattle.tl_coherence.{specs.statement.Movable.drained}
+use Rattle.tl_coherence.specs.statement.Draining.{LoneAcquire, LoneAcquireWhole}
 use Rattle.tl_client.specs.declared.reply.Reply.TheVariants.{Started}
-use Rattle.tl_coherence.specs.{declared.event.Outcome.TheVariants.Replied, statement.Draining.LoneAcquire}
-use Rattle.tl_coherence.specs.{statement.Draining.LoneAcquireWhole, statement.Log.IsLog, statement.Movable.drained}
 use proofs.memory.Beside.{set_at-there}
 use proofs.outstanding.{Counted.outstanding-open, Movement.closed-when-counted, Progress.counted}
 use proofs.links.FromInvariant.{matched-given}
 use proofs.deliveries.Matching.{shadow}
-use proofs.manager.UnwaitedRequests.{next_tracker}
+use proofs.manager.RequestsTaken.{next_tracker}
 use proofs.bound.Settling.{given-before, given-delivering}
 use proofs.protocol.QuiescentProtocol.{IsClosed}
 use proofs.queues.Tokens.{set-same, set_at-same}

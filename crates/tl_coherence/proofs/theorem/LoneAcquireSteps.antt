@@ -1,25 +1,25 @@
 -- An Acquire that is alone: its client holds the block until it is granted what it asked for, and then that, whatever
 -- message is taken.
-use Rattle.std.proofs.Common.{◌≡◌, subst, ℕ, Bool, true, false, List, ◌∷◌, refl, sym, ◌∙◌, ap, ap₂, ◌⊎◌, inl, inr, ◌&&◌}
-use Rattle.std.proofs.Common.{arith, if◌then◌else◌, ◌==◌}
+use Rattle.std.proofs.Common.{◌≡◌, ℕ, Bool, true, false, ◌&&◌, ◌==◌, if◌then◌else◌, List, ◌∷◌, refl, sym, ◌∙◌, ap, ap₂}
+use Rattle.std.proofs.Common.{subst, arith, ◌⊎◌, inl, inr}
 use Rattle.tl_coherence.proofs
-use proofs.Imports.{cases_eq, Config, Cap, Grow, Report, Perm, Profile, cap_right, IsInvariant, Kind, Request, Probe}
-use proofs.Imports.{Grant, Packet, set, set_at, AcquirePhase, AcquireOpen, ClientBlock, Own, Other, NoAcquire, cap_fits}
-use proofs.Imports.{after_grant_sent, after_probe, after_report, SourceState, packet, Service, Free, Waits, GrantSent}
-use proofs.Imports.{GrantTaken, Block, State, SourceFree, Asked, InService, Replied, Acquires, view, on}
-use proofs.Imports.{granted_at_once, granted_pair, probe_taken, reported_block, served_block, served_pair, let_block}
-use proofs.Imports.{let_go_block, freed_block, granted_block, is_sent, AbstractState, kind_taken, taken_by_client}
-use proofs.Imports.{IsGivenAsked, gives_asked, grown_to}
-use proofs.memory.{Beside.IsElsewhere}
-use proofs.protocol.{TokenNames.source_of_acquire, HeadOfD.IsGrantDue, HeadOfD.grant-due, QuiescentProtocol.owns_ask}
-use proofs.protocol.{QuiescentProtocol.serves_another, BothParts.not-sent, BothParts.taken-unseen}
-use proofs.protocol.{BothParts.granted-unseen, FirstTokens.first-answer, FirstTokens.first-shown, Events.true-taken}
+use proofs.Imports.{cases_eq, Config, Cap, Grow, Report, Perm, Profile, cap_right, IsInvariant, Grant, Kind, Packet}
+use proofs.Imports.{Probe, Request, set, set_at, AcquireOpen, AcquirePhase, ClientBlock, NoAcquire, Other, Own}
+use proofs.Imports.{cap_fits, after_grant_sent, after_probe, after_report, Acquires, Asked, Block, Free, GrantSent}
+use proofs.Imports.{GrantTaken, InService, Replied, Service, SourceFree, SourceState, State, Waits, freed_block}
+use proofs.Imports.{granted_at_once, granted_block, granted_pair, let_block, let_go_block, on, packet, probe_taken}
+use proofs.Imports.{reported_block, served_block, served_pair, view, is_sent, AbstractState, kind_taken}
+use proofs.Imports.{taken_by_client, IsGivenAsked, gives_asked, grown_to}
+use proofs.memory.Beside.{IsElsewhere}
+use proofs.protocol.{Capacities.source_of_acquire, HeadOfD.IsGrantDue, HeadOfD.grant-due, HeadOfD.true-taken}
+use proofs.protocol.QuiescentProtocol.{owns_ask, serves_another}
+use proofs.protocol.BothParts.{not-sent, taken-unseen, granted-unseen, first-answer, first-shown}
 use proofs.client.{ClientEnd.is_access, GrantMatchesAcquire.AreGiven}
-use proofs.links.{Granting.held_granted}
-use proofs.queues.{Facts.is_other, Perms.fits_cap}
+use proofs.links.Granting.{held_granted}
+use proofs.queues.{Facts.is_other, Phases.fits_cap}
 use proofs.queues.Tokens.{same_number, set-each, set-other, set_at-same}
-use proofs.simulation.{Sized.each-set_at, SourcedAfter.first-asked}
-use proofs.rank.{RankParts.serving-use}
+use proofs.simulation.SourcedAfter.{each-set_at, first-asked}
+use proofs.rank.RankParts.{serving-use}
 
 -- what may be held by one who wanted this, and of whom nothing else was asked
 abbrev pub grown : Profile → AcquirePhase → Perm → Bool

@@ -3,7 +3,7 @@ use Rattle.std.proofs.Common.{ℕ, arith}
 use Rattle.tl_coherence.proofs
 use Rattle.tl_coherence.specs.statement.Headline.{Headline, OneMemory}
 use proofs.links.FromInvariant.{coherent, unrefused}
-use proofs.theorem.Machined.{continues, run}
+use proofs.theorem.Continuing.{continues, run}
 use proofs.outstanding.Progress.{counted, moving}
 
 pub one_memory : {w : ℕ} → OneMemory w

@@ -41,7 +41,7 @@ module _ {X : Type 0} (config : Config) (size : ℕ) (left left' : Left) (answer
 
   pair_less : (m d : ℕ) → pair_weight size left' m d ((s.block m).pair d) ≤ pair_weight size left m d
       ((s.block m).pair d)
-  pair_less m d = probing_less (left d ProbeAck m) (left' d ProbeAck m) ((s.block m).pair d) (le d ProbeAck m)
+  pair_less m d = probing_less _ _ ((s.block m).pair d) (le d ProbeAck m)
 
   probes_less : (m : ℕ) → probes_weight number size left' m (s.block m) ≤ probes_weight number size left m (s.block m)
   probes_less m = probes-no-more config size left left' answer answer s s m (λ d lt. pair_less m d)
@@ -51,11 +51,9 @@ module _ {X : Type 0} (config : Config) (size : ℕ) (left left' : Left) (answer
 
   pub none-more : IsNoMore config size left left' answer answer s s
   none-more = record {
-    uses = λ c i. use-no-more config size left left' answer answer s s c i (s.uses c i) refl refl (omega arith)
-        (λ u. le c Request i) (λ u. le c Answer i) (λ m u. probes_less m)
-        (λ m u. acquire-no-more size (left c Acquire m) (left' c Acquire m) (left c Grant m) (left' c Grant m)
-        (probes_weight number size left m (s.block m)) (probes_weight number size left' m (s.block m))
-        (view (s.block m).service c) (λ v. le c Acquire m) (le c Grant m) (probes_less m));
+    uses = λ c i. use-no-more config size left left' answer answer s s c i (s.uses c i) refl refl (omega arith) (λ u.
+        le c Request i) (λ u. le c Answer i) (λ m u. probes_less m) (λ m u. acquire-no-more size (left c Acquire m)
+        (left' c Acquire m) _ _ _ _ (view (s.block m).service c) (λ v. le c Acquire m) (le c Grant m) (probes_less m));
     lets = λ c i. lets_less c (s.lets c i);
     acks = λ c. omega arith;
   }
@@ -171,11 +169,10 @@ pub beat-falls : {w : ℕ} {config : Config} {caching : ℕ → Bool} {ch : Chan
     → c < length config.clients.items → rank config size (beats_left mail s (unfinished_at sys')) answer s + 1
     ≤ rank config size (beats_left mail s (unfinished_at sys)) answer s
 beat-falls {w} {config} {caching} {ch} {c} {mail} {s} {sys} sys' {x} {queue} size answer first more begun inv all lt =
-    let shown_it : shows_it s c first.kind first.number ≡ true = shown_there c ch first.kind first.number inv
+    let shown_it : shows_it s c first.kind first.number ≡ true = shown_there c ch _ first.number inv
     first.own (rw first.tokens (first-there (packet first.kind first.number) first.rest)) in
-    message-less config size (beats_left mail s (unfinished_at sys))
-    (beats_left mail s (unfinished_at sys')) answer s less inv all c lt first.kind first.number shown_it
-    one_less (heavy (is_light first.kind) refl)
+    message-less config size (beats_left mail s (unfinished_at sys)) (beats_left mail s (unfinished_at sys')) answer s
+    less inv all c lt first.kind first.number shown_it one_less (heavy (is_light first.kind) refl)
   where
     longer : (d : ℕ) (at : Channel) → (d ≡ c) ⊎ (d ≡ c → ⊥) → (at ≡ ch) ⊎ (at ≡ ch → ⊥)
         → length (unfinished_at sys d at) ≤ length (unfinished_at sys' d at)
@@ -184,14 +181,13 @@ beat-falls {w} {config} {caching} {ch} {c} {mail} {s} {sys} sys' {x} {queue} siz
     less : (d : ℕ) (k : Kind) (m : ℕ) → beats_left mail s (unfinished_at sys') d k m ≤ beats_left mail s
         (unfinished_at sys) d k m
     less d k m =
-        let more = taken_more (is_front k m (packets_on (channel_for k) (s.link d)))
-        (unfinished_at sys d (channel_for k)) (unfinished_at sys' d (channel_for k))
+        let more = taken_more (is_front k m (packets_on (channel_for k) (s.link d))) _ _
         (longer d (channel_for k) (cases_eq d c) (same_channels (channel_for k) ch)) in
         omega (arith, more)
 
     heavy : (b : Bool) → is_light first.kind ≡ b → b ≡ false
     heavy false e = refl
-    heavy true e = absurd (let one = light-one mail s c first.kind first.number e in omega (arith, one, more))
+    heavy true e = absurd (let one = light-one mail s c _ first.number e in omega (arith, one, more))
 
     front : is_front first.kind first.number (packets_on (channel_for first.kind) (s.link c)) ≡ true
     front = rw (
@@ -221,7 +217,7 @@ narrow-block w e = grind arith
 left-matched : {w : ℕ} {config : Config} {log : Log w} {mail : AccessMessages w} {request : ℕ → MessageA w}
     {s : State (List ℕ)} {sys : System w} → IsWidth w → SimulationRelation config log mail request s sys
     → IsLeft (64 / w) (beats_left mail s (unfinished_at sys)) (answer_to mail) s
-left-matched {config} {mail} {s} {sys} width matched = is-left config mail (unfinished_at sys)
+left-matched {config} {mail} {sys} width matched = is-left config mail (unfinished_at sys)
     width matched.invariant matched.sourced
 
 -- what is owed is at most a block's beats and 33 for each open request, a block's beats and one for each open Release
@@ -243,12 +239,10 @@ pub owed-begun : {w : ℕ} {config : Config} {log : Log w} {mail : AccessMessage
     → (system_after config log).channels c ch ≡ x ∷ queue → completes x (unfinished_at (system_after config log) c ch)
     ≡ false → IsBegun c ch x (unfinished_at (system_after config log)) (unfinished_at sys')
     → owed config mail s sys' + 1 ≤ owed config mail s (system_after config log)
-owed-begun {w} {config} {log} {mail} {request} {s} sys' {ch} {c} {x} queue width matched lt beats part begun =
+owed-begun {w} {config} {log} {mail} {s} sys' {ch} {c} {x} queue width matched lt beats part begun =
     let first = first-token (is_caching config) ch c mail s (system_after config log) x queue width matched.invariant
     matched.carried beats in
-    beat-falls sys' (64 / w) (answer_to mail)
-    first
+    beat-falls sys' (64 / w) (answer_to mail) first
     (not_last (completes x (unfinished_at (system_after config log) c ch)) first.next.k
     (beats_of (message_of_kind first.kind mail s c first.number)) first.next.completes_is part first.next.within) begun
-    matched.invariant
-    (are-clients matched width) lt
+    matched.invariant (are-clients matched width) lt

@@ -5,18 +5,18 @@ use Rattle.std.proofs.Common.{◌≡◌, ℕ, ◌+◌, ◌<◌, ◌≤◌, Bool,
 use Rattle.std.proofs.Common.{refl, sym, ◌∙◌, ap, subst, arith, ◌/◌, length}
 use Rattle.tl_coherence.proofs
 use proofs.Imports.{Beat, Link, Channel, IsWidth, MessageA, grown, completes, Config, Cap, Report, EndConfig, reaction}
-use proofs.Imports.{Deliver, IsInvariant, IsWell, Grant, Kind, Packet, ProbeAck, AcquirePhase, is_whole, Block, Service}
-use proofs.Imports.{Waits, ended_block, grant_taken, on, packet, view, AbstractState, abstract_step, answers}
-use proofs.Imports.{kind_taken, last_taken, performs, taken_by_client, channel_for, SimulationRelation, is_caching}
-use proofs.Imports.{IsFor, is_moving, Log, system_after, Step, is_to_client, stepped, System, same_channel, terms_at}
+use proofs.Imports.{Deliver, IsInvariant, IsWell, Grant, Kind, Packet, ProbeAck, is_whole, Block, Waits, ended_block}
+use proofs.Imports.{grant_taken, on, packet, view, AbstractState, abstract_step, answers, kind_taken, last_taken}
+use proofs.Imports.{performs, taken_by_client, channel_for, SimulationRelation, is_caching, IsFor, is_moving, Log}
+use proofs.Imports.{system_after, is_to_client, stepped, System, same_channel, terms_at}
 use Rattle.tl_coherence.specs.protocol.Protocol as protocol
 use Rattle.tl_client.specs.statement.Offer as offer
 use Rattle.tl_manager.specs.statement.Offer as manager_offer
+use proofs.bound.Beginnings.{owed, IsBegun, none-more, owed-begun}
 use proofs.bound.RankAfter.{IsKeptAfter, access_answered-owed, access_served-owed, acquire_granted-owed}
 use proofs.bound.RankAfter.{acquire_served-owed, probe_taken-owed, report_taken-owed, report_answers-owed}
 use proofs.bound.RankAfter.{report_grants-owed, release_taken-owed, answer_taken-owed, grant_taken-owed}
 use proofs.bound.RankAfter.{release_ack_taken-owed, grant_ack_taken-owed, kept-matched}
-use proofs.bound.Beginnings.{owed, IsBegun, none-more, owed-begun}
 use proofs.rank.{RankParts.serving-use, RankDecreases.stays, BeatsRemainingSums.answer_to}
 use proofs.simulation.{Moved.client-moves, Moved.client-heard, FollowCases.IsDelivery}
 use proofs.simulation.Owned.{IsReceived, unfinished_at, elsewhere}
@@ -66,14 +66,13 @@ module _ {w : ℕ} {config : Config} {log : Log w} (h : AbstractState w) (sys' :
       (inv.blocks n).outside last) for.0 for.3 (matched.sized n).truth) (answer_on_d v _) known.1 is
 
   granted : (n : ℕ) → IsEnding Grant n → Falls (kind_taken config tracker c Grant n rest h)
-  granted n known = subst Falls
-      (sym (ap (λ (v : Service). taken_by_client c n v rest h) due.service ∙ ap (λ (a : AcquirePhase). record h
-      { state = grant_taken c n (is_whole a) due.data_too due.k rest h.state }) due.wants))
+  granted n known = subst Falls (sym (ap (λ v. taken_by_client c n v rest h) due.service
+      ∙ ap (λ a. record h { state = grant_taken c n (is_whole a) due.data_too due.k rest h.state }) due.wants))
       (grant_taken-owed sys' width matched c n rest lt due.whole due.data_too due.k known.0 due.service
       (bare h due matched.invariant) known.1)
     where
       due : IsGrantDue c n h.state
-      due = grant-due (is_caching config) c n rest h.state matched.invariant known.0
+      due = grant-due (is_caching config) c n rest _ matched.invariant known.0
 
   pub kind-owed : (k : Kind) (i : ℕ) → length config.clients.items ≤ 16 → IsEnding k i
       → Falls (kind_taken config tracker c k i rest h)
@@ -83,13 +82,11 @@ module _ {w : ℕ} {config : Config} {log : Log w} (h : AbstractState w) (sys' :
         (performs m) _ known.0 (first-request matched.invariant known.0) (unread-bytes c _ m matched
         (ready-access tracker c source m h known.2 from).0 (rw caps none)) (answer_on_d m _) known.1;
     access_served = λ source m k known from caps some. access_served-owed sys' width matched c _ rest lt source tracker
-        k
-        sixteen known.0 (ready-access tracker c source m h known.2 from).1 known.1;
+        k sixteen known.0 (ready-access tracker c source m h known.2 from).1 known.1;
     acquire_granted = λ n whole g known wants none. acquire_granted-owed sys' width matched c n rest lt tracker _ _
         known.0 known.2.0 known.1;
     acquire_served = λ n whole g known wants some. acquire_served-owed sys' width matched c n rest lt _ tracker _
-        sixteen
-        known.0 known.2.0 known.1;
+        sixteen known.0 known.2.0 known.1;
     probe = λ n known. probe_taken-owed sys' width matched c n rest lt _ known.0 (first-probe matched.invariant known.0)
         known.1;
     report = λ n known more. report_taken-owed sys' width matched c n rest lt (told config c h n) known.0 known.1;
@@ -100,7 +97,7 @@ module _ {w : ℕ} {config : Config} {log : Log w} (h : AbstractState w) (sys' :
         ((matched.invariant.blocks n).phases c) (first-report matched.invariant known.0)))) known.1;
     release = λ n known. release_taken-owed sys' width matched c n rest lt _ known.0 known.1;
     answer = λ source known. answer_taken-owed sys' width matched c source rest lt known.0 known.1;
-    grant = λ n q d k known sent. subst (λ (v : Service). Falls (taken_by_client c n v rest h)) sent (granted n known);
+    grant = λ n q d k known sent. subst (λ v. Falls (taken_by_client c n v rest h)) sent (granted n known);
     release_ack = λ n known. release_ack_taken-owed sys' width matched c n rest lt known.0 known.1;
     grant_ack = λ n known. grant_ack_taken-owed sys' width matched c n rest lt known.0
         (first-grant_ack matched.invariant known.0) known.1;
@@ -128,12 +125,11 @@ grown-moved {w} {config} {log} h link ch terms x queue width is known beats movi
     go : (b : Bool) → is_to_client ch ≡ b → IsGrown link.0 ch x sys (stepped config (Deliver link ch) sys).after
     go true up =
         let t = client-moves config link ch sys terms x queue known beats up moving in
-        subst (λ (y : Step w). IsGrown link.0 ch x sys y.after) (sym t.step_is)
-        (landed-client link.0 ch x queue t.message (offer.taken x (sys.clients link.0)).after sys up beats on_ch
-        (client-heard width (is.kept link.0) t)).rests
+        subst (λ y. IsGrown link.0 ch x sys y.after) (sym t.step_is) (landed-client link.0 ch x queue t.message
+        (offer.taken x (sys.clients link.0)).after sys up beats on_ch (client-heard width (is.kept link.0) t)).rests
     go false down =
         let at = at-manager link ch h terms x queue width is known down beats moving in
-        subst (λ (y : Step w). IsGrown link.0 ch x sys y.after) (sym at.step_is)
+        subst (λ y. IsGrown link.0 ch x sys y.after) (sym at.step_is)
         (rests-manager link.0 ch x queue (reaction config link x sys.manager).handed
         (manager_offer.taken link x (reaction config link x sys.manager) sys.manager) sys down on_ch at.heard)
 
@@ -192,30 +188,28 @@ module _ {w : ℕ} {config : Config} {log : Log w} (h : AbstractState w) (width 
       kept : Kept (abstract_step config (Deliver link ch) sys h)
       kept =
           let h' : AbstractState w = abstract_step config (Deliver link ch) sys h in
-          kept-matched
-          (matched-event h (Deliver link ch) width tt matched)
+          kept-matched (matched-event h (Deliver link ch) width tt matched)
 
       taken : (x : Beat w) (queue : List (Beat w)) (terms : EndConfig) → terms_at config link.0 ≡ Some terms
           → sys.channels link.0 ch ≡ x ∷ queue → (b : Bool)
           → completes x (unfinished_at sys link.0 ch) ≡ b → IsLess (abstract_step config (Deliver link ch) sys h) sys'
       taken x queue terms known beats true last =
-          let first = first-token (is_caching config) ch link.0 h.mail h.state sys x queue width matched.invariant
+          let first = first-token (is_caching config) ch link.0 h.mail _ sys x queue width matched.invariant
           matched.carried beats in
           let d : IsDelivery config h.mail h.state sys link ch x queue =
           record { moves = moving; beats = beats; whole = last; first = first } in
           let follows : abstract_step config (Deliver link ch) sys h ≡ kind_taken config (next_tracker sys) link.0
           first.kind first.number first.rest h =
           cc (followed-moving config link ch sys h x queue moving beats, last, first.tokens) in
-          subst (λ (z : AbstractState w). IsLess z sys') (sym follows)
+          subst (λ z. IsLess z sys') (sym follows)
           (by-first sys' d (client_below config link.0 terms known) sixteen (grown-received link.0 ch x sys sys'
           (grown-moved h link ch terms x queue width matched known beats moving) last) (subst Kept follows kept))
       taken x queue terms known beats false part =
           let follows : abstract_step config (Deliver link ch) sys h ≡ h =
           cc (followed-moving config link ch sys h x queue moving beats, part) in
-          subst (λ (z : AbstractState w). IsLess z sys') (sym follows)
-          (owed-begun sys' queue width matched (client_below config link.0 terms known) beats part
-          (grown-begun link.0 ch x sys sys' (grown-moved h link ch terms x queue width matched known beats moving)
-          part))
+          subst (λ z. IsLess z sys') (sym follows) (owed-begun sys' queue width matched
+          (client_below config link.0 terms known) beats part (grown-begun link.0 ch x sys sys'
+          (grown-moved h link ch terms x queue width matched known beats moving) part))
 
       go : ((x : Beat w) × (queue : List (Beat w)) × (terms : EndConfig)
           × ((sys.channels link.0 ch ≡ x ∷ queue) × (terms_at config link.0 ≡ Some terms)))

@@ -150,7 +150,7 @@ module _ {w : ℕ} {config : Config} {log : Log w} {mail : AccessMessages w} {re
 
   left_after : {mail' : AccessMessages w} {s' : State (List ℕ)} → IsKeptAfter config mail' s'
       → IsLeft (64 / w) (beats_left mail' s' (unfinished_at sys')) (answer_to mail') s'
-  left_after {mail'} {s'} kept = is-left config mail' (unfinished_at sys') width kept.invariant kept.sourced
+  left_after {mail'} kept = is-left config mail' (unfinished_at sys') width kept.invariant kept.sourced
 
   some_beats : 1 ≤ 64 / w
   some_beats = let wide = wide-block w width in omega (arith, wide)
@@ -214,19 +214,17 @@ module _ {w : ℕ} {config : Config} {log : Log w} {mail : AccessMessages w} {re
       let told = releasing_with ((s.block n).pair c).letting it in
       release-taken-falls (taking (release_taken-shown c n r rest
       (block_message ReleaseAck c n (let_block c r (s.block n))) mail matched.invariant kept.invariant first
-      (let_on_d w c n r (s.block n)) refl) received) ((s.block n).release_source c) told.0 r some_beats
-      (release_named c n matched.invariant it) told.1 (some_left Channel.C Release n refl first)
-      (set-same n (let_block c r (s.block n)) s.block) (λ d i. refl) (λ d i. refl)
-      (acks_set c (let_link n rest (s.link c)) s.link refl)
+      (let_on_d w c n r (s.block n)) refl) received) ((s.block n).release_source c) told.0 r some_beats (release_named c
+      n matched.invariant it) told.1 (some_left Channel.C Release n refl first) (set-same n (let_block c r (s.block n))
+      s.block) (λ d i. refl) (λ d i. refl) (acks_set c (let_link n rest (s.link c)) s.link refl)
 
   -- `n` is the source of the access here
   pub answer_taken-owed : (s.link c).d ≡ packet Answer n ∷ rest → IsReceived c Channel.D sys sys'
       → IsKeptAfter config mail (answer_taken c n rest s) → Falls mail (answer_taken c n rest s)
-  answer_taken-owed first received kept =
-      answer-falls (taking (answer_taken-shown c n rest mail matched.invariant kept.invariant first) received) n
-      (answer_named c n matched.invariant (it_shows Channel.D Answer n refl first)) (set_at-same c n SourceFree s.uses)
-      (some_left Channel.D Answer n refl first) refl (λ d i ne. set_at-unlike c n SourceFree s.uses d i ne)
-      (λ d i. refl) (acks_set c (record (s.link c) { d = rest }) s.link refl)
+  answer_taken-owed first received kept = answer-falls (taking (answer_taken-shown c n rest mail matched.invariant
+      kept.invariant first) received) n (answer_named c n matched.invariant (it_shows Channel.D Answer n refl first))
+      (set_at-same c n SourceFree s.uses) (some_left Channel.D Answer n refl first) refl (λ d i ne. set_at-unlike c n
+      SourceFree s.uses d i ne) (λ d i. refl) (acks_set c (record (s.link c) { d = rest }) s.link refl)
 
   pub release_ack_taken-owed : (s.link c).d ≡ packet ReleaseAck n ∷ rest → IsReceived c Channel.D sys sys'
       → IsKeptAfter config mail (release_ack_taken c n rest s) → Falls mail (release_ack_taken c n rest s)
@@ -235,9 +233,8 @@ module _ {w : ℕ} {config : Config} {log : Log w} {mail : AccessMessages w} {re
       release-ack-falls (taking (release_ack_taken-shown c n rest mail matched.invariant kept.invariant first) received)
       ((s.block n).release_source c) (release_ack_named c n matched.invariant it)
       (set_at-same c ((s.block n).release_source c) None s.lets) (acked-is ((s.block n).pair c).letting it)
-      (set-same n (let_go_block c (s.block n)) s.block) (λ d i. refl)
-      (λ d i ne. set_at-unlike c ((s.block n).release_source c) None s.lets d i ne)
-      (acks_set c (record (s.link c) { d = rest }) s.link refl)
+      (set-same n (let_go_block c (s.block n)) s.block) (λ d i. refl) (λ d i ne. set_at-unlike c
+      ((s.block n).release_source c) None s.lets d i ne) (acks_set c (record (s.link c) { d = rest }) s.link refl)
 
   pub grant_taken-owed : (whole d : Bool) (k : Cap) → (s.link c).d ≡ packet Grant n ∷ rest
       → (s.block n).service ≡ GrantSent c d k → ((j : Kind) (i : ℕ) → shown j i (s.block n) ≡ true
@@ -247,19 +244,18 @@ module _ {w : ℕ} {config : Config} {log : Log w} {mail : AccessMessages w} {re
   grant_taken-owed whole d k first given bytes received kept =
       let elsewhere : (e : ℕ) → (e ≡ c → ⊥) → length (set c (taken_link n rest (s.link c)) s.link e).e
       ≤ length (s.link e).e = λ e ne. acks_as (set c (taken_link n rest (s.link c)) s.link e) (s.link e)
-      (ap (λ (l : Link). l.e) (set-other c e (taken_link n rest (s.link c)) s.link ne)) in
+      (ap (λ l. l.e) (set-other c e (taken_link n rest (s.link c)) s.link ne)) in
       grant-taken-falls (taking (grant_taken-shown c n whole d k rest
       (block_message GrantAck c n (taken_block c whole d k (s.block n))) mail matched.invariant kept.invariant first
-      given bytes (taken_on_e w c n whole d k (s.block n)) refl) received) d d whole k k given
-      (grant_named c n matched.invariant (it_shows Channel.D Grant n refl first))
-      (set_at-same c ((s.block n).source c) SourceFree s.uses) (some_left Channel.D Grant n refl first)
-      (set-same n (taken_block c whole d k (s.block n)) s.block)
+      given bytes (taken_on_e w c n whole d k (s.block n)) refl) received) d d whole k k given (grant_named c n
+      matched.invariant (it_shows Channel.D Grant n refl first)) (set_at-same c ((s.block n).source c) SourceFree
+      s.uses) (some_left Channel.D Grant n refl first) (set-same n (taken_block c whole d k (s.block n)) s.block)
       (λ e i ne. set_at-unlike c ((s.block n).source c) SourceFree s.uses e i ne) (λ e i. refl) elsewhere more
     where
       more : length (set c (taken_link n rest (s.link c)) s.link c).e ≡ length (s.link c).e + 1
       more =
           let behind = length-append (s.link c).e (packet GrantAck n ∷ []) in
-          omega (arith, ap (λ (l : Link). length l.e) (set-same c (taken_link n rest (s.link c)) s.link), behind)
+          omega (arith, ap (λ l. length l.e) (set-same c (taken_link n rest (s.link c)) s.link), behind)
 
   pub grant_ack_taken-owed : (s.link c).e ≡ packet GrantAck n ∷ rest → (s.block n).service ≡ GrantTaken c
       → IsReceived c Channel.E sys sys' → IsKeptAfter config mail (grant_ack_taken c n rest s)
@@ -271,7 +267,7 @@ module _ {w : ℕ} {config : Config} {log : Log w} {mail : AccessMessages w} {re
       less : length (set c (record (s.link c) { e = rest }) s.link c).e + 1 ≤ length (s.link c).e
       less =
           let before = ap length first in
-          omega (arith, ap (λ (l : Link). length l.e) (set-same c (record (s.link c) { e = rest }) s.link), before)
+          omega (arith, ap (λ l. length l.e) (set-same c (record (s.link c) { e = rest }) s.link), before)
 
       fewer : (d : ℕ) → (d ≡ c) ⊎ (d ≡ c → ⊥) → length (set c (record (s.link c) { e = rest }) s.link d).e ≤ length
           (s.link d).e
@@ -287,7 +283,7 @@ module _ {w : ℕ} {config : Config} {log : Log w} {mail : AccessMessages w} {re
       (block_message Grant c n (granted_at_once c tracker d k (s.block n))) mail matched.invariant kept.invariant first
       free (once_on_d w c n tracker d k (s.block n)) refl) received in
       acquire-granted-falls it free (granted-letting it tracker d k new) ((s.block n).source c) d k
-      (ap (λ (b : Block (List ℕ)). b.service) new) (acquire_first first) (left_after kept) (λ e i. refl) (λ e i. refl)
+      (ap (λ b. b.service) new) (acquire_first first) (left_after kept) (λ e i. refl) (λ e i. refl)
       (acks_set c (answered_link (packet Grant n) rest (s.link c)) s.link refl)
 
   pub acquire_served-owed : (source tracker : ℕ) (k : Cap) → length config.clients.items ≤ 16
@@ -299,7 +295,7 @@ module _ {w : ℕ} {config : Config} {log : Log w} {mail : AccessMessages w} {re
       let it = taking (acquire_served-shown c n source tracker k rest mail matched.invariant kept.invariant first free)
       received in
       acquire-served-falls it free (served-letting it true source tracker k new) ((s.block n).source c) source k
-      some_beats (narrow-block w width) sixteen (ap (λ (b : Block (List ℕ)). b.service) new) (acquire_first first)
+      some_beats (narrow-block w width) sixteen (ap (λ b. b.service) new) (acquire_first first)
       (some_left Channel.A Acquire n refl first) (left_after kept) (λ d i. refl) (λ d i. refl)
       (acks_served c true n k rest (s.block n) s.link)
 
@@ -312,11 +308,10 @@ module _ {w : ℕ} {config : Config} {log : Log w} {mail : AccessMessages w} {re
       let it = taking (access_served-shown c n source tracker k rest mail matched.invariant kept.invariant first free)
       received in
       serving-falls it free (served-letting it false source tracker k new) source source k some_beats
-      (narrow-block w width) sixteen (ap (λ (b : Block (List ℕ)). b.service) new)
-      (request_named c source matched.invariant (it_shows Channel.A Request source refl first))
-      (set_at-same c source (InService n) s.uses) (some_left Channel.A Request source refl first) (left_after kept)
-      (λ d i ne. set_at-unlike c source (InService n) s.uses d i ne) (λ d i. refl)
-      (acks_served c false n k rest (s.block n) s.link)
+      (narrow-block w width) sixteen (ap (λ b. b.service) new) (request_named c source matched.invariant
+      (it_shows Channel.A Request source refl first)) (set_at-same c source (InService n) s.uses) (some_left Channel.A
+      Request source refl first) (left_after kept) (λ d i ne. set_at-unlike c source (InService n) s.uses d i ne)
+      (λ d i. refl) (acks_served c false n k rest (s.block n) s.link)
 
   pub report_grants-owed : (q source : ℕ) (k gift : Cap) (r : Report) (d : Bool)
       → (s.link c).c ≡ packet ProbeAck n ∷ rest → (s.block n).service ≡ Waits q true source k → (c ≡ q → ⊥)
@@ -326,11 +321,10 @@ module _ {w : ℕ} {config : Config} {log : Log w} {mail : AccessMessages w} {re
       let told = report_first first in
       let who : IsAsking n q true source s = asking n q true source k matched.invariant waits in
       granting-falls (taking (report_grants-shown c q n source r d k gift rest
-      (block_message Grant q n (granted_block c q r d gift (s.block n))) mail matched.invariant kept.invariant first
-      waits apart (granted_on_d w c q n r d gift (s.block n)) refl) received) q who.at source k gift told.0 r d lt
-      told.1 (some_left Channel.C ProbeAck n refl first) waits who.used (left_after kept)
-      (set-same n (granted_block c q r d gift (s.block n)) s.block) (λ e i. refl) (λ e i. refl)
-      (acks_granted c q n rest s.link)
+      (block_message Grant q n (granted_block c q r d gift (s.block n))) mail matched.invariant kept.invariant
+      first waits apart (granted_on_d w c q n r d gift (s.block n)) refl) received) q who.at source k gift told.0
+      r d lt told.1 (some_left Channel.C ProbeAck n refl first) waits who.used (left_after kept) (set-same n
+      (granted_block c q r d gift (s.block n)) s.block) (λ e i. refl) (λ e i. refl) (acks_granted c q n rest s.link)
 
   -- ---- the answer to an access is handed out
 
@@ -340,7 +334,7 @@ module _ {w : ℕ} {config : Config} {log : Log w} {mail : AccessMessages w} {re
   reply_left : {q source : ℕ} (m : Message w) {s' : State (List ℕ)} → IsKeptAfter config (with_reply q source m) s'
       → s'.uses q source ≡ Replied
       → beats_left (with_reply q source m) s' (unfinished_at sys') q Answer source ≤ answer_to mail q source
-  reply_left {q} {source} m {s'} kept replied = answer-left config (with_reply q source m)
+  reply_left {q} {source} m kept replied = answer-left config (with_reply q source m)
       (unfinished_at sys') width kept.invariant kept.sourced q source (kept.answered q source) replied
 
   pub access_answered-owed : (source : ℕ) (f : List ℕ → List ℕ) (m : Message w)
@@ -348,12 +342,11 @@ module _ {w : ℕ} {config : Config} {log : Log w} {mail : AccessMessages w} {re
       → ((k : Kind) (d : ℕ) → (carries k d (s.block n) ≡ false) ⊎ (f (s.block n).truth ≡ (s.block n).truth))
       → channel_of_message m ≡ Channel.D → IsReceived c Channel.A sys sys' → IsKeptAfter config (with_reply c source m)
       (access_answered c n source f rest s) → Falls (with_reply c source m) (access_answered c n source f rest s)
-  access_answered-owed source f m first used bytes chan received kept =
-      answered-falls (taking (access_answered-shown c n source f rest m mail matched.invariant kept.invariant first used
-      bytes chan) received) source f used (set_at-same c source Replied s.uses)
-      (reply_left m kept (set_at-same c source Replied s.uses)) (set-same n (performed_block f (s.block n)) s.block)
-      (λ d i ne. set_at-unlike c source Replied s.uses d i ne) (λ d i. refl)
-      (acks_set c (answered_link (packet Answer source) rest (s.link c)) s.link refl)
+  access_answered-owed source f m first used bytes chan received kept = answered-falls (taking
+      (access_answered-shown c n source f rest m mail matched.invariant kept.invariant first used bytes chan) received)
+      source f used (set_at-same c source Replied s.uses) (reply_left m kept (set_at-same c source Replied s.uses))
+      (set-same n (performed_block f (s.block n)) s.block) (λ d i ne. set_at-unlike c source Replied s.uses d i ne)
+      (λ d i. refl) (acks_set c (answered_link (packet Answer source) rest (s.link c)) s.link refl)
 
   pub report_answers-owed : (q source : ℕ) (r : Report) (k : Cap) (f : List ℕ → List ℕ) (m : Message w)
       → (s.link c).c ≡ packet ProbeAck n ∷ rest → (s.block n).service ≡ Waits q false source k
@@ -365,9 +358,7 @@ module _ {w : ℕ} {config : Config} {log : Log w} {mail : AccessMessages w} {re
   report_answers-owed q source r k f m first waits used bytes chan received kept =
       let told = report_first first in
       answering-falls (taking (report_answers-shown c q n source r k f rest m mail matched.invariant kept.invariant
-      first waits used bytes chan) received) q source k told.0 r f lt told.1
-      (some_left Channel.C ProbeAck n refl first) waits
-      (serving-use n q source k matched.invariant waits)
-      (reply_left m kept (set_at-same q source Replied s.uses)) (set-same n (ended_block c r f (s.block n)) s.block)
-      (set_at-same q source Replied s.uses) (λ d i ne. set_at-unlike q source Replied s.uses d i ne) (λ d i. refl)
-      (acks_ended c q (packet Answer source) rest s.link)
+      first waits used bytes chan) received) q source k told.0 r f lt told.1 (some_left Channel.C ProbeAck n refl first)
+      waits (serving-use n q source k matched.invariant waits) (reply_left m kept (set_at-same q source Replied s.uses))
+      (set-same n (ended_block c r f (s.block n)) s.block) (set_at-same q source Replied s.uses) (λ d i ne.
+      set_at-unlike q source Replied s.uses d i ne) (λ d i. refl) (acks_ended c q (packet Answer source) rest s.link)

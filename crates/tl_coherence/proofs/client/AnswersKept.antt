@@ -90,23 +90,23 @@ unanswered source request answer u e = grind arith
 answered-used : {w : ℕ} (c source : ℕ) (u : SourceState) (mail : AccessMessages w) (s s' : State (List ℕ))
     → is_unanswered u ≡ true → s'.uses ≡ set_at c source u s.uses → AreAnswered mail s → AreAnswered mail s'
 answered-used c source u mail s s' none uses h = answered-at c source mail mail s s'
-    (λ d i other. (refl, refl, ap (λ (f : ℕ → ℕ → SourceState). f d i) uses ∙ set_at-apart c source u s.uses d i other))
+    (λ d i other. (refl, refl, ap (λ f. f d i) uses ∙ set_at-apart c source u s.uses d i other))
     (unanswered source (mail.request c source) (mail.answer c source) (s'.uses c source)
-    (ap is_unanswered (ap (λ (f : ℕ → ℕ → SourceState). f c source) uses ∙ set_at-same c source u s.uses) ∙ none)) h
+    (ap is_unanswered (ap (λ f. f c source) uses ∙ set_at-same c source u s.uses) ∙ none)) h
 
 -- an access that is answered
 answered-now : {w : ℕ} (c source : ℕ) (x : Message w) (mail : AccessMessages w) (s s' : State (List ℕ))
     → s'.uses ≡ set_at c source Replied s.uses → IsAnswer source (mail.request c source) x → AreAnswered mail s
     → AreAnswered (record { request = mail.request; answer = set_at c source x mail.answer }) s'
-answered-now {w} c source x mail s s' uses new h =
+answered-now c source x mail s s' uses new h =
     answered-at c source mail (record { request = mail.request; answer = set_at c source x mail.answer }) s s'
     (λ d i other. (
       refl,
       set_at-apart c source x mail.answer d i other,
-      ap (λ (f : ℕ → ℕ → SourceState). f d i) uses ∙ set_at-apart c source Replied s.uses d i other,
+      ap (λ f. f d i) uses ∙ set_at-apart c source Replied s.uses d i other,
     ))
     (rw (
-      ap (λ (f : ℕ → ℕ → SourceState). f c source) uses ∙ set_at-same c source Replied s.uses,
+      ap (λ f. f c source) uses ∙ set_at-same c source Replied s.uses,
       set_at-same c source x mail.answer,
     ) new) h
 
@@ -148,8 +148,8 @@ answered-kind_taken {w} {config} tracker c k i rest h is first =
           let due = asked-first c source rest is known in
           let same : due.request ≡ m = let both = sym due.is_it ∙ from in cc in
           answered-now c source _ h.mail h.state (access_taken c source m tracker false None rest h).state refl
-          (rw from (answers-access source m _ (ap (λ (x : MessageA w). is_acquire x.opcode) (sym same) ∙ due.access)
-          (ap (λ (x : MessageA w). x.source) (sym same) ∙ due.source_is))) is.answered;
+          (rw from (answers-access source m _ (ap (λ x. is_acquire x.opcode) (sym same) ∙ due.access)
+          (ap (λ x. x.source) (sym same) ∙ due.source_is))) is.answered;
       access_served = λ source m j known from caps some. used c source (InService (block_at m.address))
           (access_taken c source m tracker true (Some j) rest h).state refl refl;
       acquire_granted = λ n whole g known wants none. is.answered;

@@ -58,55 +58,53 @@ pub entry-aside : (c : ℕ) {d : ℕ} (p : ClientBlock) {b b' : Block (List ℕ)
     → is_unreleased p.letting ≡ is_unreleased (b.pair c).letting
     → b'.source ≡ b.source → b'.copy ≡ b.copy → b'.waiting ≡ b.waiting → IsAsideBlock d b b'
 entry-aside c {d} p {b} pair held acquiring letting source copy waiting = pair-aside (ap (λ (f : ℕ → ClientBlock).
-    (f d).held) pair ∙ set-part (λ (q : ClientBlock). q.held) c p b.pair held d) (ap (λ (f : ℕ → ClientBlock).
-    (f d).acquiring) pair ∙ set-part (λ (q : ClientBlock). q.acquiring) c p b.pair acquiring d)
-    (cc (set-part (λ (q : ClientBlock). is_unreleased q.letting) c p b.pair letting d)) source copy waiting
+    (f d).held) pair ∙ set-part (λ q. q.held) c p b.pair held d) (ap (λ (f : ℕ → ClientBlock).
+    (f d).acquiring) pair ∙ set-part (λ q. q.acquiring) c p b.pair acquiring d)
+    (cc (set-part (λ q. is_unreleased q.letting) c p b.pair letting d)) source copy waiting
 
 served_aside : {A : Type 0} (part : ClientBlock → A) (r : ℕ) (own : Bool) (k : Cap) (pair : ℕ → ClientBlock) (d : ℕ)
     → part (after_served k (pair d)) ≡ part (pair d) → part (served_pair r own k pair d) ≡ part (pair d)
-served_aside {A} part r own k pair d e =
+served_aside part r own k pair d e =
     let go : (z : Bool) → part (if z then pair d else after_served k (pair d)) ≡ part (pair d) =
     elim [ true ↦ refl | false ↦ e ] in
     go (own && (d == r))
 
 pub served-aside : {d : ℕ} (r source tracker : ℕ) (own : Bool) (k : Cap) (b : Block (List ℕ))
     → IsAsideBlock d b (served_block r own source tracker k b)
-served-aside {d} r source tracker own k b =
-    pair-aside (served_aside (λ (q : ClientBlock). q.held) r own k b.pair d refl)
-    (served_aside (λ (q : ClientBlock). q.acquiring) r own k b.pair d refl)
-    (served_aside (λ (q : ClientBlock). is_unreleased q.letting) r own k b.pair d refl) refl refl refl
+served-aside {d} r source tracker own k b = pair-aside (served_aside (λ q. q.held) r own k b.pair d refl) (served_aside
+    (λ q. q.acquiring) r own k b.pair d refl) (served_aside (λ q. is_unreleased q.letting) r own k b.pair d refl) refl
+    refl refl
 
 granted_part : {A : Type 0} (part : ClientBlock → A) (c q d : ℕ) (r : Report) (k : Cap) (pair : ℕ → ClientBlock)
     → part (after_grant_sent k (pair q)) ≡ part (pair q) → part (after_report r (pair c)) ≡ part (pair c)
     → part (granted_pair c q r k pair d) ≡ part (pair d)
-granted_part {A} part c q d r k pair sent told = go (d == q) refl
+granted_part part c q d r k pair sent told = go (d == q) refl
   where
     go : (z : Bool) → (d == q) ≡ z
         → part (if z then after_grant_sent k (pair q) else set c (after_report r (pair c)) pair d) ≡ part (pair d)
-    go true e = sent ∙ ap (λ (i : ℕ). part (pair i)) (sym (eqb-true d q e))
-    go false e = set-part part c (after_report r (pair c)) pair told d
+    go true e = sent ∙ ap (λ i. part (pair i)) (sym (eqb-true d q e))
+    go false e = set-part part c _ pair told d
 
 pub granted-aside : {d : ℕ} (c q : ℕ) (r : Report) (data_too : Bool) (k : Cap) (b : Block (List ℕ))
     → IsAsideBlock d b (granted_block c q r data_too k b)
-granted-aside {d} c q r data_too k b =
-    pair-aside (granted_part (λ (p : ClientBlock). p.held) c q d r k b.pair refl refl)
-    (granted_part (λ (p : ClientBlock). p.acquiring) c q d r k b.pair refl refl)
-    (granted_part (λ (p : ClientBlock). is_unreleased p.letting) c q d r k b.pair refl refl) refl refl refl
+granted-aside {d} c q r data_too k b = pair-aside (granted_part (λ p. p.held) c q d r k b.pair refl refl)
+    (granted_part (λ p. p.acquiring) c q d r k b.pair refl refl) (granted_part (λ p. is_unreleased p.letting) c q d r k
+    b.pair refl refl) refl refl refl
 
 -- ---- uses
 
 -- an entry of another client
 pub set_at-other : {X : Type 0} (c d source i : ℕ) (x : X) (f : ℕ → ℕ → X) → (d ≡ c → ⊥)
     → set_at c source x f d i ≡ f d i
-set_at-other {X} c d source i x f ne = ap (λ (g : ℕ → X). g i) (set-other c d (set source x (f c)) f ne)
+set_at-other c d source i x f ne = ap (λ g. g i) (set-other c d (set source x (f c)) f ne)
 
 -- an entry of another source
 pub set_at-else : {X : Type 0} (c source i : ℕ) (x : X) (f : ℕ → ℕ → X) → (i ≡ source → ⊥) → (d : ℕ)
     → set_at c source x f d i ≡ f d i
-set_at-else {X} c source i x f ne d = go (d == c) refl
+set_at-else c source i x f ne d = go (d == c) refl
   where
     go : (z : Bool) → (d == c) ≡ z → (if z then set source x (f c) else f d) i ≡ f d i
-    go true e = set-other source i x (f c) ne ∙ ap (λ (k : ℕ). f k i) (sym (eqb-true d c e))
+    go true e = set-other source i x (f c) ne ∙ ap (λ k. f k i) (sym (eqb-true d c e))
     go false e = refl
 
 -- an access that goes on
@@ -117,7 +115,7 @@ uses-moved c source v uses was is d i = go (d == c) (i == source) refl refl
     go : (x y : Bool) → (d == c) ≡ x → (i == source) ≡ y
         → IsSameUse (uses d i) ((if x then (λ j. if j == source then v else uses c j) else uses d) i)
     go false y e f = inl refl
-    go true false e f = inl (rw f (ap (λ (k : ℕ). uses k i) (sym (eqb-true d c e))))
+    go true false e f = inl (rw f (ap (λ k. uses k i) (sym (eqb-true d c e))))
     go true true e f = inr (rw (eqb-true d c e, eqb-true i source f) was, rw f is)
 
 -- the client's end is left alone
@@ -143,21 +141,18 @@ is_for_manager k = not (is_to_client (channel_for k))
 pub leaves-at_manager : {w : ℕ} {caching : ℕ → Bool} (config : Config) (tracker c : ℕ) (k : Kind) (i : ℕ)
     (rest : List Packet) (h : AbstractState w) (d : ℕ) → is_for_manager k ≡ true → IsInvariant caching h.state
     → on k (h.state.link c) ≡ packet k i ∷ rest → Leaves d h (kind_taken config tracker c k i rest h)
-leaves-at_manager {w} config tracker c k i rest h d for inv first =
-    true-taken config tracker c rest h
+leaves-at_manager {w} config tracker c k i rest h d for inv first = true-taken config tracker c rest h
     (λ j n. (is_for_manager j ≡ true) × (on j (h.state.link c) ≡ packet j n ∷ rest)) (Leaves d h) k i (record {
       nothing = λ j n known idle. leaves-none d h;
-      access_answered = λ source m o known from caps none. aside-block (block_at m.address) refl
-          (pair-aside refl refl refl refl refl refl) (λ e. refl)
-          (uses-moved c source Replied h.state.uses (asked source known.1) refl d) (λ e. refl);
-      access_served = λ source m j known from caps some. aside-block (block_at m.address) refl
+      access_answered = λ source m o known from caps none. aside-block _ refl (pair-aside refl refl refl refl refl refl)
+          (λ e. refl) (uses-moved c source Replied h.state.uses (asked source known.1) refl d) (λ e. refl);
+      access_served = λ source m j known from caps some. aside-block _ refl
           (served-aside c source tracker false j (block (block_at m.address))) (λ e. refl)
           (uses-moved c source (InService (block_at m.address)) h.state.uses (asked source known.1) refl d) (λ e. refl);
       acquire_granted = λ n whole g known wants none. aside-block n refl (entry-aside c (after_grant_sent _
           ((block n).pair c)) refl refl refl refl refl refl refl) (λ e. refl) (λ e. inl refl) (λ e. refl);
-      acquire_served = λ n whole g known wants some. aside-block n refl
-          (served-aside c ((block n).source c) tracker true (cap_asked (AcquireOpen whole g)) (block n)) (λ e. refl)
-          (λ e. inl refl) (λ e. refl);
+      acquire_served = λ n whole g known wants some. aside-block n refl (served-aside c ((block n).source c) tracker
+          true (cap_asked (AcquireOpen whole g)) (block n)) (λ e. refl) (λ e. inl refl) (λ e. refl);
       probe = λ n known. absurd cc;
       report = λ n known more. aside-block n refl (entry-aside c (after_report _
           ((block n).pair c)) refl refl refl refl refl refl refl) (λ e. refl) (λ e. inl refl) (λ e. refl);
@@ -167,7 +162,7 @@ leaves-at_manager {w} config tracker c k i rest h d for inv first =
       report_grants = λ n q source j whole g known last waits wants. aside-block n refl
           (granted-aside c q _ _ _ (block n)) (λ e. refl) (λ e. inl refl) (λ e. refl);
       release = λ n known.
-          let releasing = releasing-open ((block n).pair c).letting (first-shown inv c Release refl known.1) in
+          let releasing = releasing-open _ (first-shown inv c Release refl known.1) in
           aside-block n refl (entry-aside c (after_release_taken _ ((block n).pair c)) refl refl refl (sym releasing)
           refl refl refl) (λ e. refl) (λ e. inl refl) (λ e. refl);
       answer = λ source known. absurd cc;
@@ -181,7 +176,7 @@ leaves-at_manager {w} config tracker c k i rest h d for inv first =
     block = h.state.block
 
     asked : (source : ℕ) → (h.state.link c).a ≡ packet Request source ∷ rest → is_access (h.state.uses c source) ≡ true
-    asked source known = asked_access (h.state.uses c source) (ap is_asked (first-request inv known))
+    asked source known = asked_access _ (ap is_asked (first-request inv known))
 
     served : (n q source : ℕ) (j : Cap) → (block n).service ≡ Waits q false source j
         → is_access (h.state.uses q source) ≡ true
@@ -225,7 +220,7 @@ pub leaves-asked : {w : ℕ} (c : ℕ) (o : Op w) (r : Reply) (h : AbstractState
     → Leaves d h (asked c o r h)
 leaves-asked c (Op.Store address size value) Reply.Stored h d ne =
     let b : Block (List ℕ) = h.state.block (block_at address) in
-    aside-block (block_at address) refl (others-aside refl refl
+    aside-block _ refl (others-aside refl refl
     (set-other c d (copy_stored address size value (b.copy c)) b.copy ne) refl) (λ i. refl) (λ i. inl refl) (λ i. refl)
 leaves-asked c (Op.Acquire n g) (Reply.Started source) h d ne =
     leaves-acquiring c n source false g ((h.state.block n).waiting c) h d ne

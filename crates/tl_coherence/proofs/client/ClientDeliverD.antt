@@ -5,12 +5,11 @@ use Rattle.tl_coherence.proofs
 use proofs.Imports.{Beat, BeatA, BeatC, BeatD, Channel, IsWidth, beats-positive, E, MessageE, History, unfinished}
 use proofs.Imports.{RequestSource, ReleaseSource, AcquireOf, ReleaseOf, Perm, pending-whole, release_of-whole}
 use proofs.Imports.{held-whole, sent, block_at, ends, is_grant, is_release_ack, held, pending, request_of, release_of}
-use proofs.Imports.{grants, capped, release_of-d, Endpoint, open_beat, is_unreleased, State, is_wanting, ClientRelation}
-use proofs.Imports.{OpenSourceRelation}
+use proofs.Imports.{grants, capped, release_of-d, Endpoint, open_beat, is_unreleased, State, is_wanting}
 use Rattle.tl_rules.{proofs.Sent.pending-closed, specs.statement.History.releases}
-use Rattle.tl_client.{proofs.endpoint.HeldAfter.held-beat_d}
 use Rattle.tl_client.proofs.pending.Opens.{acquire_of-d, open_beat-d, open_beat-e, unfinished-d}
-use proofs.client.ClientEnd.{IsWellKept, known-kept}
+use Rattle.tl_client.proofs.endpoint.HeldAfter.{held-beat_d}
+use proofs.client.ClientEnd.{IsWellKept, IsKnown, known-kept}
 
 -- ---- what a beat says
 
@@ -78,47 +77,43 @@ echo-e {w} x m t width whole =
     let none = (unfinished-d x t).3 ∙ whole in
     let some = beats-positive {w = w} (E m) width in
     record {
-      held_is = λ k. held-whole k (E m) (Beat.D x ∷ t) none some;
-      acquires = λ k. pending-whole (AcquireOf k) (E m) (Beat.D x ∷ t) none some;
-      releases = λ k. pending-whole (ReleaseOf k) (E m) (Beat.D x ∷ t) none some;
-      opens = λ i. open_beat-e i m (Beat.D x ∷ t) width none;
-      requests = λ i. pending-whole (RequestSource i) (E m) (Beat.D x ∷ t) none some;
-      release_sources = λ i. pending-whole (ReleaseSource i) (E m) (Beat.D x ∷ t) none some;
-      released = λ i. release_of-whole i (E m) (Beat.D x ∷ t) none some;
+      held_is = λ k. held-whole k (E m) _ none some;
+      acquires = λ k. pending-whole (AcquireOf k) (E m) _ none some;
+      releases = λ k. pending-whole (ReleaseOf k) (E m) _ none some;
+      opens = λ i. open_beat-e i m _ width none;
+      requests = λ i. pending-whole (RequestSource i) (E m) _ none some;
+      release_sources = λ i. pending-whole (ReleaseSource i) (E m) _ none some;
+      released = λ i. release_of-whole i (E m) _ none some;
     }
 
 given_cond : (a b : Bool) (p q r : Perm) → a ≡ b → (b ≡ true → p ≡ q) → cond a p r ≡ cond b q r
 given_cond a b p q r e f = grind arith
 
-pub known-heard : {w : ℕ} {c : ℕ} {x : BeatD w} {t : History w} {p : Perm}
+pub heard : {w : ℕ} {c : ℕ} {x : BeatD w} {t : History w} {p : Perm}
     {closes_block closes_release closes_source closes_let : ℕ → Bool} {asked asked' : ℕ → Option (BeatA w)}
     {s s' : State (List ℕ)} {f : Endpoint w} → IsEcho x t f.past → IsWellKept f
     → IsHeard c x t p closes_block closes_release closes_source closes_let asked asked' s s'
-    → ClientRelation asked (unfinished Channel.D t) c s t → ClientRelation asked' (unfinished Channel.D f.past) c s'
-    f.past
-known-heard {w} {c} {x} {t} {p} {closes_block} {closes_release} {closes_source} {asked'} {s'}
-    {f} echo well event known = known-kept asked' c s' well (λ k. echo.held_is k ∙ held-beat_d k x t ∙ given_cond
-    (ends_grant x t k) (closes_block k) (capped x.param) p (held k t) (event.grants_is k)
-    (event.gives k) ∙ ap (λ (q : Perm). cond (closes_block k) p q) (known.held_is k) ∙ sym (event.held k))
-    (λ k. echo.acquires k ∙ acquire_of-d k x t ∙ ap (λ (b : Bool). cond b false (pending (AcquireOf k) t))
-    (event.grants_is k) ∙ ap (λ (b : Bool). cond (closes_block k) false b) (known.acquires k) ∙ sym (event.acquiring k))
-    (λ k. cc (echo.releases k, release_now k x t, event.releases_is k, known.releases k, event.letting k))
-    (λ i. cc (echo.opens i, open_beat-d i x t, event.source_is i, known.opens i, event.asks i))
-
-pub opened-heard : {w : ℕ} {c : ℕ} {x : BeatD w} {t u : History w} {p : Perm}
-    {closes_block closes_release closes_source closes_let : ℕ → Bool} {asked asked' : ℕ → Option (BeatA w)}
-    {s s' : State (List ℕ)} → IsEcho x t u → IsHeard c x t p closes_block closes_release closes_source closes_let asked
-    asked' s s' → OpenSourceRelation asked c s t → OpenSourceRelation asked' c s' u
-opened-heard {w} {c} {x} {t} {closes_source} {closes_let} {asked} {s} echo event open_ = record {
-  requests = λ i. let fact = pending-closed (RequestSource i) (Beat.D x) t refl in
-      cc (echo.requests i, event.source_is i, open_.requests i, none_cond (closes_source i) (asked i), event.asks i);
-  releases = λ i. let fact = pending-closed (ReleaseSource i) (Beat.D x) t refl in let other_fact = none_cond
-      (closes_let i) (s.lets c i) in cc (echo.release_sources i, event.let_is i, open_.releases i, event.lets i);
-  released = λ i n some. ap (option_map (λ y. block_at y.address)) (echo.released i ∙ release_of-d i x t)
-      ∙ open_.released i n (some_kept (closes_let i) (s.lets c i) n (sym (event.lets i) ∙ some));
-  sizes = λ i n some. ap (option_map (λ y. y.size)) (echo.released i ∙ release_of-d i x t) ∙ open_.sizes i n
-      (some_kept (closes_let i) (s.lets c i) n (sym (event.lets i) ∙ some));
-}
+    → IsKnown asked (unfinished Channel.D t) c s t → IsKnown asked' (unfinished Channel.D f.past) c s' f.past
+heard {w} {c} {x} {t} {p} {closes_block} {closes_release} {closes_source} {closes_let} {asked} {asked'} {s} {s'}
+    {f} echo well event (known, open_) = (
+      known-kept asked' c s' well (λ k. echo.held_is k ∙ held-beat_d k x t ∙ given_cond
+          (ends_grant x t k) (closes_block k) _ p (held k t) (event.grants_is k) (event.gives k)
+          ∙ ap (λ q. cond (closes_block k) p q) (known.held_is k) ∙ sym (event.held k))
+          (λ k. echo.acquires k ∙ acquire_of-d k x t ∙ ap (λ b. cond b false (pending (AcquireOf k) t))
+          (event.grants_is k) ∙ ap (λ b. cond (closes_block k) false b) (known.acquires k) ∙ sym (event.acquiring k))
+          (λ k. cc (echo.releases k, release_now k x t, event.releases_is k, known.releases k, event.letting k))
+          (λ i. cc (echo.opens i, open_beat-d i x t, event.source_is i, known.opens i, event.asks i)),
+      record {
+        requests = λ i. let fact = pending-closed (RequestSource i) (Beat.D x) t refl in let other_fact = none_cond
+            (closes_source i) (asked i) in cc (echo.requests i, event.source_is i, open_.requests i, event.asks i);
+        releases = λ i. let fact = pending-closed (ReleaseSource i) (Beat.D x) t refl in let other_fact = none_cond
+            (closes_let i) (s.lets c i) in cc (echo.release_sources i, event.let_is i, open_.releases i, event.lets i);
+        released = λ i n some. ap (option_map (λ y. block_at y.address)) (echo.released i ∙ release_of-d i x t)
+            ∙ open_.released i n (some_kept (closes_let i) (s.lets c i) n (sym (event.lets i) ∙ some));
+        sizes = λ i n some. ap (option_map (λ y. y.size)) (echo.released i ∙ release_of-d i x t) ∙ open_.sizes i n
+            (some_kept (closes_let i) (s.lets c i) n (sym (event.lets i) ∙ some));
+      },
+    )
 
 -- ---- what each kind of beat closes
 

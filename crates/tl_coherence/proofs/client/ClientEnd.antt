@@ -3,9 +3,9 @@
 use Rattle.std.proofs.Common.{◌≡◌, ℕ, zero, suc, Bool, true, false, not, ◌&&◌, ◌||◌, ◌==◌, if◌then◌else◌, cond, List}
 use Rattle.std.proofs.Common.{[], ◌∷◌, Option, Some, None, refl, sym, ◌∙◌, ap, subst, arith, ◌⊎◌, All, is_some}
 use Rattle.tl_coherence.proofs
-use proofs.Imports.{not-true, Beat, BeatA, Channel, Message, MessageA, MessageD, a_beat_of, beat_of, begun, d_beat_of}
-use proofs.Imports.{History, unfinished, Config, AcquireOf, ReleaseOf, RequestSource, Cap, Grow, Perm, Profile}
-use proofs.Imports.{cap_code, grow_code, later-legal, is_outside, broken_in_order, fits_grow, is_acquire_block}
+use proofs.Imports.{not-true, Beat, BeatA, Channel, Message, MessageA, MessageD, a_beat_of, beat_of, begun, History}
+use proofs.Imports.{unfinished, Config, AcquireOf, ReleaseOf, RequestSource, Cap, Grow, Perm, Profile, cap_code}
+use proofs.Imports.{grow_code, later-legal, is_outside, broken_in_order, fits_grow, is_acquire_block}
 use proofs.Imports.{is_grant_without_data, same_perm, held, pending, request_of, illegal, same_block, EndConfig}
 use proofs.Imports.{Endpoint, is_acquire_beat, taken, waits, offered, open_beat, acquisition, no_ack_grant}
 use proofs.Imports.{grant_opcode, release_ack, level_of, Acquire, set, AcquireOpen, cap_fits, grant_fits, is_unreleased}
@@ -21,16 +21,23 @@ use Rattle.tl_client.specs.laws.Accounted as accounted
 use Rattle.tl_client.specs.statement.EndpointInvariant as client
 use proofs.queues.{Carried.IsNext, Passes.client-takes, Phases.and_left, Phases.and_right, Codes.access_kind}
 use proofs.client.ResponseOrder.{answer-legal, grant-legal, ack-legal}
-use proofs.protocol.HeadOfD.{IsAnswerDue, IsGrantDue, grant_message, ack_message}
+use proofs.protocol.HeadOfD.{IsAnswerDue, IsGrantDue, grant_message}
 
 -- ---- one client's end
 
--- The end of client c: `asked` is the first beat of the open request of each source.
-pub record IsEnd {w : ℕ} (asked : ℕ → Option (BeatA w)) (c : ℕ) (s : State (List ℕ)) (e : Endpoint w) : Type 0 where
-  pub known : ClientRelation asked (unfinished Channel.D e.past) c s e.past
-  pub opened : OpenSourceRelation asked c s e.past
+-- what each call keeps of an end by itself
+pub record IsWellKept {w : ℕ} (e : Endpoint w) : Type 0 where
   pub kept : client.IsEndpointInvariant e
   pub accounted : IsAccounted e.past
+
+-- what client c's end knows of blocks and of sources
+abbrev pub IsKnown : {w : ℕ} → (ℕ → Option (BeatA w)) → List (Beat w) → ℕ → State (List ℕ) → History w → Type 0
+IsKnown asked rest c s t = ClientRelation asked rest c s t × OpenSourceRelation asked c s t
+
+-- The end of client c: `asked` is the first beat of the open request of each source.
+pub record IsEnd {w : ℕ} (asked : ℕ → Option (BeatA w)) (c : ℕ) (s : State (List ℕ)) (e : Endpoint w) : Type 0 where
+  pub knows : IsKnown asked (unfinished Channel.D e.past) c s e.past
+  pub well : IsWellKept e
   pub copies : (n : ℕ) → same_perm ((s.block n).pair c).held Perm.None ≡ false → e.copies n ≡ Some ((s.block n).copy c)
   pub waiting : (n : ℕ) → is_whole ((s.block n).pair c).acquiring ≡ true → e.waiting n ≡ Some ((s.block n).waiting c)
   pub live : e.closed ≡ false
@@ -39,19 +46,12 @@ pub end-matched : {w : ℕ} {config : Config} {log : Log w} {mail : AccessMessag
     {s : State (List ℕ)} {sys : System w} → SimulationRelation config log mail request s sys → (c : ℕ)
     → IsEnd (asked_by mail s c) c s (sys.clients c)
 end-matched h c = record {
-  known = h.known c;
-  opened = h.opened c;
-  kept = h.kept c;
-  accounted = h.accounted c;
+  knows = (h.known c, h.opened c);
+  well = record { kept = h.kept c; accounted = h.accounted c };
   copies = h.copies c;
   waiting = h.waiting c;
   live = h.live c;
 }
-
--- what each call keeps of an end by itself
-pub record IsWellKept {w : ℕ} (e : Endpoint w) : Type 0 where
-  pub kept : client.IsEndpointInvariant e
-  pub accounted : IsAccounted e.past
 
 -- a pending request is the open one
 pub open-is : {w : ℕ} (source : ℕ) (t : History w) → is_acquire_beat (open_beat source t) ≡ true
@@ -86,27 +86,26 @@ pub comes-same : {w : ℕ} (n : ℕ) (asked asked' : ℕ → Option (BeatA w)) (
     → ((source : ℕ) → asked' source ≡ asked source) → comes_granting n asked' rest ≡ comes_granting n asked rest
 comes-same n asked asked' rest e = grind arith
 
-pub known-same : {w : ℕ} {c : ℕ} {asked asked' : ℕ → Option (BeatA w)} {rest : List (Beat w)} {s s' : State (List ℕ)}
-    {t : History w} → IsSame c asked asked' s s' → ClientRelation asked rest c s t → ClientRelation asked' rest c s' t
-known-same {asked} {asked'} {rest} same known = record {
-  held_is = λ n. known.held_is n ∙ sym (same.held n);
-  acquires = λ n. known.acquires n ∙ ap is_wanting (sym (same.acquiring n));
-  releases = λ n. known.releases n ∙ ap not (sym (same.letting n));
-  probes = known.probes;
-  opens = λ source. known.opens source ∙ sym (same.asks source);
-  rest_is = known.rest_is;
-  sinks = known.sinks;
-  grants = λ n. known.grants n ∙ sym (comes-same n asked asked' rest same.asks);
-}
-
-pub opened-same : {w : ℕ} {c : ℕ} {asked asked' : ℕ → Option (BeatA w)} {s s' : State (List ℕ)} {t : History w}
-    → IsSame c asked asked' s s' → OpenSourceRelation asked c s t → OpenSourceRelation asked' c s' t
-opened-same same open_ = record {
-  requests = λ source. open_.requests source ∙ sym (rw (same.asks source) refl);
-  releases = λ source. open_.releases source ∙ sym (rw (same.lets source) refl);
-  released = λ source n some. open_.released source n (sym (same.lets source) ∙ some);
-  sizes = λ source n some. open_.sizes source n (sym (same.lets source) ∙ some);
-}
+pub knows-same : {w : ℕ} {c : ℕ} {asked asked' : ℕ → Option (BeatA w)} {rest : List (Beat w)} {s s' : State (List ℕ)}
+    {t : History w} → IsSame c asked asked' s s' → IsKnown asked rest c s t → IsKnown asked' rest c s' t
+knows-same {asked} {asked'} {rest} same (known, open_) = (
+  record {
+    held_is = λ n. known.held_is n ∙ sym (same.held n);
+    acquires = λ n. known.acquires n ∙ ap is_wanting (sym (same.acquiring n));
+    releases = λ n. known.releases n ∙ ap not (sym (same.letting n));
+    probes = known.probes;
+    opens = λ source. known.opens source ∙ sym (same.asks source);
+    rest_is = known.rest_is;
+    sinks = known.sinks;
+    grants = λ n. known.grants n ∙ sym (comes-same n asked asked' rest same.asks);
+  },
+  record {
+    requests = λ source. open_.requests source ∙ sym (rw (same.asks source) refl);
+    releases = λ source. open_.releases source ∙ sym (rw (same.lets source) refl);
+    released = λ source n some. open_.released source n (sym (same.lets source) ∙ some);
+    sizes = λ source n some. open_.sizes source n (sym (same.lets source) ∙ some);
+  },
+)
 
 -- and so are its bytes
 pub record IsSameCopy (c : ℕ) (s s' : State (List ℕ)) : Type 0 where
@@ -116,11 +115,9 @@ pub record IsSameCopy (c : ℕ) (s s' : State (List ℕ)) : Type 0 where
 -- an end of which the protocol says the same is kept
 end-same : {w : ℕ} {c : ℕ} {asked asked' : ℕ → Option (BeatA w)} {s s' : State (List ℕ)} {e : Endpoint w}
     → IsSame c asked asked' s s' → IsSameCopy c s s' → IsEnd asked c s e → IsEnd asked' c s' e
-end-same {c} {asked} {asked'} {s} {s'} {e} same bytes end = record {
-  known = known-same same end.known;
-  opened = opened-same same end.opened;
-  kept = end.kept;
-  accounted = end.accounted;
+end-same same bytes end = record {
+  knows = knows-same same end.knows;
+  well = end.well;
   copies = λ n some. end.copies n (sym (rw (same.held n) refl) ∙ some) ∙ ap Some (sym (bytes.copy n));
   waiting = λ n storing. end.waiting n (sym (rw (same.acquiring n) refl) ∙ storing) ∙ ap Some (sym (bytes.waiting n));
   live = end.live;
@@ -165,7 +162,7 @@ asks-same c source mail mail' s s' e f g h = grind (arith, acquires_same, access
 -- a source that is closed asks for nothing, and the use that is an access for it, and that of an Acquire for that
 pub asks-closed : {w : ℕ} (c source : ℕ) (mail : AccessMessages w) (s : State (List ℕ)) → s.uses c source ≡ SourceFree
     → asked_by mail s c source ≡ None
-asks-closed {w} c source mail s used = ap (λ (u : SourceState). asked_with u (mail.request c source) s.block c) used
+asks-closed c source mail s used = ap (λ u. asked_with u (mail.request c source) s.block c) used
 
 pub asks-access : {w : ℕ} (c source : ℕ) (m : MessageA w) (mail : AccessMessages w) (s : State (List ℕ))
     → is_access (s.uses c source) ≡ true
@@ -200,7 +197,7 @@ pub record IsAside {w : ℕ} (c : ℕ) (mail mail' : AccessMessages w) (s s' : S
 
 pub end-aside : {w : ℕ} {c : ℕ} {mail mail' : AccessMessages w} {s s' : State (List ℕ)} {e : Endpoint w}
     → IsAside c mail mail' s s' → IsEnd (asked_by mail s c) c s e → IsEnd (asked_by mail' s' c) c s' e
-end-aside {c} {mail} {mail'} {s} {s'} {e} aside end = end-same (record {
+end-aside {c} {mail} {mail'} {s} {s'} aside end = end-same (record {
   held = aside.held;
   acquiring = aside.acquiring;
   letting = aside.letting;
@@ -214,7 +211,7 @@ end-aside {c} {mail} {mail'} {s} {s'} {e} aside end = end-same (record {
 -- a part of each value, where that at one place is another
 pub column : {A Y : Type 0} (part : Y → A) (k : ℕ) (y : Y) (f : ℕ → Y) (n : ℕ)
     → part (set k y f n) ≡ cond (n == k) (part y) (part (f n))
-column {A} {Y} part k y f n =
+column part k y f n =
     let go : (z : Bool) → part (if z then y else f n) ≡ cond z (part y) (part (f n)) =
     elim [ true ↦ refl | false ↦ refl ] in
     go (n == k)
@@ -241,8 +238,8 @@ pub sound-beat : {w : ℕ} {config : Config} {log : Log w} {mail : AccessMessage
     {s : State (List ℕ)} {sys : System w} (c : ℕ) (ch : Channel)
     (x : Beat w) (queue : List (Beat w)) → SimulationRelation config log mail request s sys
     → sys.channels c ch ≡ x ∷ queue → manager.IsSound config (record { 0 = c }, x)
-sound-beat {config} {sys} c ch x queue h beats =
-    first_of_all (λ y. manager.IsSound config (record { 0 = c }, y)) (sys.channels c ch) queue x beats (h.sound c ch)
+sound-beat {config} c ch x queue h beats =
+    first_of_all (λ y. manager.IsSound config (record { 0 = c }, y)) _ queue x beats (h.sound c ch)
 
 -- a beat that goes on with its message breaks no rule of order, and so all do where the first doesn't
 pub next-legal : {w : ℕ} (p : Profile) (m : MessageD w) (k : ℕ) (t : History w)
@@ -261,13 +258,12 @@ pub taken-d : {w : ℕ} {config : Config} {log : Log w} {mail : AccessMessages w
     (sys.clients c).past ≡ None) → offered terms Channel.D x (sys.clients c) ≡ taken x (sys.clients c)
 taken-d {w} {config} {log} {mail} {request} {s} {sys} terms c m {x} {queue} h at beats next first =
     let moves : x ≡ beat_of (Message.D m) next.k → waits x (sys.clients c).past ≡ false =
-    λ f. ap (λ (y : Beat w). waits y (sys.clients c).past) f in
+    λ f. ap (λ y. waits y (sys.clients c).past) f in
     let is = terms-are config c terms at in
     let sound = sound-beat c Channel.D x queue h beats in
-    client-takes terms Channel.D x (sys.clients c) (h.live c) refl (lawful is.level next.beat_is sound.lawful)
-    (moves next.beat_is)
-    (cc (is.profile, next.beat_is, next-legal config.profile m next.k (sys.clients c).past next.rest_is first))
-    (ap (λ (b : ℕ). is_outside b x) is.blocks ∙ sound.inside) sound.clean
+    client-takes terms _ x _ (h.live c) refl (lawful is.level next.beat_is sound.lawful)
+    (moves next.beat_is) (cc (is.profile, next.beat_is, next-legal _ m next.k _ next.rest_is first))
+    (ap (λ b. is_outside b x) is.blocks ∙ sound.inside) sound.clean
   where
     lawful : level_of config c ≡ Some terms.level → x ≡ beat_of (Message.D m) next.k
         → manager.illegal_at (level_of config c) x ≡ None → illegal terms.level Channel.D x ≡ None
@@ -283,16 +279,16 @@ live_request {w} source r t e = grind arith
 pub answer-first : {w : ℕ} (p : Profile) {c source : ℕ} {mail : AccessMessages w} {s : State (List ℕ)} {e : Endpoint w}
     → IsEnd (asked_by mail s c) c s e → (due : IsAnswerDue c source mail s) → unfinished Channel.D e.past ≡ []
     → broken_in_order p (beat_of (Message.D due.answer) 0) e.past ≡ None
-answer-first {w} p {c} {source} {mail} {s} {e} end due whole =
-    let kind = access_kind due.answer.opcode due.answers_access in
-    let asks = asks-access c source due.request mail s (ap is_access due.used) due.request_is in
-    let live = live_request source (a_beat_of due.request 0) e.past (end.known.opens source ∙ asks) in
+answer-first p {c} {source} {mail} {s} {e} end due whole =
+    let kind = access_kind _ due.answers_access in
+    let asks = asks-access c source _ mail s (ap is_access due.used) due.request_is in
+    let live = live_request source _ e.past (end.knows.0.opens source ∙ asks) in
     answer-legal p (record {
       whole = whole;
-      complete = ap (rules.comes_in_request due.answer.source) end.kept.a_whole;
+      complete = ap (rules.comes_in_request due.answer.source) end.well.kept.a_whole;
       other = kind.1;
-      live = ap (λ (i : ℕ). pending (RequestSource i) e.past) due.from ∙ live.0;
-      request = ap (λ (i : ℕ). request_of i e.past) due.from ∙ live.1;
+      live = ap (λ i. pending (RequestSource i) e.past) due.from ∙ live.0;
+      request = ap (λ i. request_of i e.past) due.from ∙ live.1;
       admits = due.admits;
       size = due.size;
     }) kind.0
@@ -339,22 +335,20 @@ pub grant-first : {w : ℕ} (p : Profile) {c n : ℕ} (mail : AccessMessages w) 
 grant-first {w} p {c} {n} mail {s} {e} end due given whole =
     let source = (s.block n).source c in
     let r : BeatA w = a_beat_of (acquisition (acquire_opcode due.whole) due.g source n) 0 in
-    let fits = fitting ((s.block n).pair c).recorded ((s.block n).pair c).held due.data_too due.k due.whole due.g
-    due.fits in
-    let asks = asks-acquire c source n source due.whole due.g mail s due.used due.wants refl in
-    let live = live_request source r e.past (end.known.opens source ∙ asks) in
-    grant-legal p n
-    (record {
+    let fits = fitting _ _ due.data_too due.k due.whole due.g due.fits in
+    let asks = asks-acquire c _ n source due.whole due.g mail s due.used due.wants refl in
+    let live = live_request source r e.past (end.knows.0.opens source ∙ asks) in
+    grant-legal p n (record {
       whole = whole;
-      complete = ap (rules.comes_in_request source) end.kept.a_whole;
+      complete = ap (rules.comes_in_request source) end.well.kept.a_whole;
       other = no_ack_grant due.data_too;
       live = live.0;
       request = live.1;
       admits = answers_acquire due.whole due.data_too fits.bare;
       size = refl;
     }) (same_block n) (fits_asked p due.whole due.g due.k fits.cap_is given)
-    (cc (end.known.held_is n, has_data due.whole due.data_too ((s.block n).pair c).held fits.carried))
-    (end.known.probes n) (cc (end.known.sinks (s.block n).tracker))
+    (cc (end.knows.0.held_is n, has_data due.whole due.data_too _ fits.carried))
+    (end.knows.0.probes n) (cc (end.knows.0.sinks (s.block n).tracker))
 
 -- ---- a ReleaseAck
 
@@ -362,8 +356,7 @@ pub ack-first : {w : ℕ} (p : Profile) {c : ℕ} (n : ℕ) (mail : AccessMessag
     → IsEnd (asked_by mail s c) c s e
     → s.lets c ((s.block n).release_source c) ≡ Some n → unfinished Channel.D e.past ≡ []
     → broken_in_order p (beat_of (release_ack ((s.block n).release_source c)) 0) e.past ≡ None
-ack-first {w} p {c} n mail {s} {e} end let_ whole =
+ack-first p {c} n mail {s} end let_ whole =
     let source = (s.block n).release_source c in
-    ack-legal p (d_beat_of (ack_message source) 0) e.past whole (ap (rules.comes_in_release source) end.kept.c_whole)
-    refl
-    (end.opened.releases source ∙ ap is_some let_) (end.opened.sizes source n let_)
+    ack-legal p _ _ whole (ap (rules.comes_in_release source) end.well.kept.c_whole) refl
+    (end.knows.1.releases source ∙ ap is_some let_) (end.knows.1.sizes source n let_)

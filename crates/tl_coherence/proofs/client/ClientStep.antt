@@ -29,7 +29,7 @@ AreEnds config event sys h c step = IsEndOf c (abstract_step_by config event ste
 -- an end that is left alone
 pub left_alone : {w : ℕ} (c : ℕ) (h h' : AbstractState w) (e f : Endpoint w) → Leaves c h h' → f ≡ e → IsEndOf c h e
     → IsEndOf c h' f
-left_alone {w} c h h' e f leaves same end = subst (λ (x : Endpoint w). IsEndOf c h' x) (sym same) (end-aside leaves end)
+left_alone c h h' e f leaves same end = subst (λ x. IsEndOf c h' x) (sym same) (end-aside leaves end)
 
 -- ---- a client is asked
 
@@ -44,15 +44,15 @@ pub asked_ends : {w : ℕ} {config : Config} {log : Log w} {mail : AccessMessage
     {s : State (List ℕ)} {sys : System w} (terms : EndConfig) (c k : ℕ)
     (o : Op w) → IsWidth w → SimulationRelation config log mail request s sys
     → AreEnds config (Ask c o) sys (shadow_of mail request s) k (replied c (ask.asked terms o (sys.clients c)) sys)
-asked_ends {w} {config} {log} {mail} {request} {s} {sys} terms c k o width h =
+asked_ends {w} {mail} {request} {s} {sys} terms c k o width h =
     let a : ask.Asked w = ask.asked terms o (sys.clients c) in
     let now : (i : ℕ) → (replied c a sys).after.clients i ≡ (with_client c a.after sys).clients i =
-    λ i. ap (λ (f : ℕ → Endpoint w). f i) (clients-with_messages (handed_by c a.message) (with_client c a.after sys)) in
+    λ i. ap (λ f. f i) (clients-with_messages (handed_by c a.message) (with_client c a.after sys)) in
     elim (cases_eq k c) [
       | inl same ↦ rw same (rw (now c ∙ own_client c a.after sys)
           (end-asked terms c o (shadow_of mail request s) (sys.clients c) width h.invariant.named (end-matched h c)))
       | inr other ↦ left_alone k (shadow_of mail request s) (asked c o a.reply (shadow_of mail request s))
-          (sys.clients k) ((replied c a sys).after.clients k) (leaves-asked c o a.reply (shadow_of mail request s) k
+          _ _ (leaves-asked c o a.reply (shadow_of mail request s) k
           other) (now k ∙ other_client k c a.after sys other) (end-matched h k)
     ]
 
@@ -60,17 +60,17 @@ asked_ends {w} {config} {log} {mail} {request} {s} {sys} terms c k o width h =
 
 -- the kinds of the channels to the manager, and to a client
 manager_kind : (ch : Channel) (k : Kind) → is_to_client ch ≡ false → is_on ch k ≡ true → is_for_manager k ≡ true
-manager_kind ch k down own = ap (λ (i : Channel). not (is_to_client i)) (kind_channel ch k own) ∙ ap not down
+manager_kind ch k down own = ap (λ i. not (is_to_client i)) (kind_channel ch k own) ∙ ap not down
 
 pub client_kind : (ch : Channel) (k : Kind) → is_to_client ch ≡ true → is_on ch k ≡ true → is_for_manager k ≡ false
-client_kind ch k up own = ap (λ (i : Channel). not (is_to_client i)) (kind_channel ch k own) ∙ ap not up
+client_kind ch k up own = ap (λ i. not (is_to_client i)) (kind_channel ch k own) ∙ ap not up
 
 -- a message that the manager takes leaves all ends alone
 manager_leaves : {w : ℕ} {caching : ℕ → Bool} (config : Config) (tracker : ℕ) {c : ℕ} {ch : Channel}
     (h : AbstractState w) (d : ℕ) {sys : System w} {x : Beat w} {queue : List (Beat w)} → is_to_client ch ≡ false
     → IsInvariant caching h.state → IsFirst ch c h.mail h.state sys x queue
     → Leaves d h (packet_taken config tracker c (packets_on ch (h.state.link c)) h)
-manager_leaves {w} {caching} config tracker {c} {ch} h d down inv first =
+manager_leaves config tracker {c} {ch} h d down inv first =
     rw first.tokens (leaves-at_manager config tracker c first.kind first.number first.rest h d
     (manager_kind ch first.kind down first.own) inv (on_same ch first.kind (h.state.link c) first.own ∙ first.tokens))
 
@@ -95,13 +95,10 @@ manager_ends {w} {config} {mail} {request} {s} {sys} link ch k x queue (manager.
 
     go : (b : Bool) → IsEndOf k (if b then packet_taken config tracker link.0 (packets_on ch (s.link link.0)) before
         else before) ((with_messages handed (with_manager e (with_channel link.0 ch queue sys))).clients k)
-    go true = left_alone k before (packet_taken config tracker link.0 (packets_on ch (s.link link.0)) before)
-        (sys.clients k) ((with_messages handed (with_manager e (with_channel link.0 ch queue sys))).clients k)
+    go true = left_alone k before (packet_taken config tracker link.0 (packets_on ch (s.link link.0)) before) _ _
         (manager_leaves config tracker before k down h.invariant (first-token (is_caching config) ch link.0 mail s sys x
         queue width h.invariant h.carried beats)) same (end-matched h k)
-    go false = left_alone k before before (sys.clients k)
-        ((with_messages handed (with_manager e (with_channel link.0 ch queue sys))).clients k)
-        (leaves-none k before) same (end-matched h k)
+    go false = left_alone k before before _ _ (leaves-none k before) same (end-matched h k)
 
 -- ---- a client takes a beat
 
@@ -130,14 +127,13 @@ taken_ends : {w : ℕ} {config : Config} {log : Log w} {mail : AccessMessages w}
     → IsEndOf link.0 (packet_taken config (least_untaken (trackers_of (services sys.manager.trace))) link.0
     (packets_on ch (s.link link.0)) (shadow_of mail request s)) (taken x (sys.clients link.0)).after)
     → AreEnds config (Deliver link ch) sys (shadow_of mail request s) k (client_took link.0 ch x queue o sys)
-taken_ends {w} {config} {log} {mail} {request} {s} {sys} link ch k x queue o width h beats up takes more last =
+taken_ends {w} {config} {mail} {request} {s} {sys} link ch k x queue o width h beats up takes more last =
     let moves = moved t.answer link.0 ch x queue t.after sys (kept_up x (sys.clients link.0))
     (taken_now x (sys.clients link.0)) in
-    subst (λ (y : Offered w). AreEnds config (Deliver link ch) sys before k (client_took link.0 ch x queue y sys))
-    (sym takes)
-    (rw moves.0 (subst (λ (f : ℕ → Endpoint w). IsEndOf k (if is_last (sys.channels link.0 ch) rest_now then event
-    else before) (f k)) (sym moves.1) (rw (ap (λ (beats_ : List (Beat w)). is_last beats_ rest_now) beats)
-    (go (completes x rest_now) refl (cases_eq k link.0)))))
+    subst (λ y. AreEnds config (Deliver link ch) sys before k
+    (client_took link.0 ch x queue y sys)) (sym takes) (rw moves.0
+    (subst (λ f. IsEndOf k (if is_last (sys.channels link.0 ch) rest_now then event else before) (f k)) (sym moves.1)
+    (rw (ap (λ beats_. is_last beats_ rest_now) beats) (go (completes x rest_now) refl (cases_eq k link.0)))))
   where
     before : AbstractState w
     before = shadow_of mail request s
@@ -163,25 +159,22 @@ taken_ends {w} {config} {log} {mail} {request} {s} {sys} link ch k x queue o wid
 
     go : (b : Bool) → completes x rest_now ≡ b → (k ≡ link.0) ⊎ (k ≡ link.0 → ⊥)
         → IsEndOf k (if b then event else before) (after.clients k)
-    go true done (inl same) = rw (own same) (subst (λ (i : ℕ). IsEndOf i event t.after) (sym same) (last done))
-    go false goes (inl same) = rw (own same) (subst (λ (i : ℕ). IsEndOf i before t.after) (sym same) (more goes))
-    go true done (inr ne) = left_alone k before event (sys.clients k) (after.clients k)
-        (client_leaves config (least_untaken (trackers_of (services sys.manager.trace))) before k up ne
-        (first-token (is_caching config) ch link.0 mail s sys x queue width h.invariant h.carried beats)) (others ne)
-        (end-matched h k)
-    go false goes (inr ne) = left_alone k before before (sys.clients k) (after.clients k) (leaves-none k before)
-        (others ne) (end-matched h k)
+    go true done (inl same) = rw (own same) (subst (λ i. IsEndOf i event t.after) (sym same) (last done))
+    go false goes (inl same) = rw (own same) (subst (λ i. IsEndOf i before t.after) (sym same) (more goes))
+    go true done (inr ne) = left_alone k before event _ _ (client_leaves config
+        (least_untaken (trackers_of (services sys.manager.trace))) before k up ne (first-token (is_caching config) ch
+        link.0 mail s sys x queue width h.invariant h.carried beats)) (others ne) (end-matched h k)
+    go false goes (inr ne) = left_alone k before before _ _ (leaves-none k before) (others ne) (end-matched h k)
 
 d_ends : {w : ℕ} {config : Config} {log : Log w} {mail : AccessMessages w} {request : ℕ → MessageA w}
     {s : State (List ℕ)} {sys : System w} (terms : EndConfig) (link : Link) (k : ℕ) (x : Beat w) (queue : List (Beat w))
     → IsWidth w → SimulationRelation config log mail request s sys → terms_at config link.0 ≡ Some terms
     → sys.channels link.0 Channel.D ≡ x ∷ queue → AreEnds config (Deliver link Channel.D) sys (shadow_of mail request s)
     k (client_took link.0 Channel.D x queue (offered terms Channel.D x (sys.clients link.0)) sys)
-d_ends {w} {config} {log} {mail} {request} {s} {sys} terms link k x queue width h at beats =
+d_ends {sys} terms link k x queue width h at beats =
     let is = delivered-d terms (least_untaken (trackers_of (services sys.manager.trace)))
     link.0 x queue width h at beats in
-    taken_ends link Channel.D k x queue (offered terms Channel.D x (sys.clients link.0))
-    width h beats refl is.takes is.more is.last
+    taken_ends link Channel.D k x queue _ width h beats refl is.takes is.more is.last
 
 b_ends : {w : ℕ} {config : Config} {log : Log w} {mail : AccessMessages w} {request : ℕ → MessageA w}
     {s : State (List ℕ)} {sys : System w} (terms : EndConfig) (link : Link) (k : ℕ) (x : Beat w) (queue : List (Beat w))
@@ -198,9 +191,8 @@ b_ends {w} {config} {log} {mail} {request} {s} {sys} terms link k x queue width 
     go : (b : Bool) → is_unreleased ((s.block comes.0).pair link.0).letting ≡ b
         → AreEnds config (Deliver link Channel.B) sys (shadow_of mail request s) k
         (client_took link.0 Channel.B x queue (offered terms Channel.B x (sys.clients link.0)) sys)
-    go true kept = taken_ends link Channel.B k x queue (offered terms Channel.B x (sys.clients link.0)) width h beats
-        refl (comes.1.takes kept) (λ goes. absurd (let no : true ≡ false = sym comes.1.whole ∙ goes in cc))
-        (λ done. comes.1.last kept)
+    go true kept = taken_ends link Channel.B k x queue _ width h beats refl (comes.1.takes kept)
+        (λ goes. absurd (let no : true ≡ false = sym comes.1.whole ∙ goes in cc)) (λ done. comes.1.last kept)
     go false open_ = rw (comes.1.waits_for open_) (end-matched h k)
 
 -- ---- every event
@@ -211,20 +203,20 @@ delivered_ends : {w : ℕ} {config : Config} {log : Log w} {mail : AccessMessage
     → terms_at config link.0 ≡ Some terms → sys.channels link.0 ch ≡ beats
     → AreEnds config (Deliver link ch) sys (shadow_of mail request s) k
     (step.delivered config terms link.0 ch beats sys)
-delivered_ends {config} {log} {mail} {request} {s} {sys} terms link ch k [] width h at beats = end-matched h k
+delivered_ends terms link ch k [] width h at beats = end-matched h k
 delivered_ends terms link Channel.B k (x ∷ queue) width h at beats = b_ends terms link k x queue width h at beats
 delivered_ends terms link Channel.D k (x ∷ queue) width h at beats = d_ends terms link k x queue width h at beats
-delivered_ends {config} {log} {mail} {request} {s} {sys} terms link ch k (x ∷ queue) width h at beats =
+delivered_ends {config} {sys} terms link ch k (x ∷ queue) width h at beats =
     manager_ends link ch k x queue (manager.offered config (record { 0 = link.0 }) ch x sys.manager) width h beats refl
 
 event_ends : {w : ℕ} {config : Config} {log : Log w} {mail : AccessMessages w} {request : ℕ → MessageA w}
     {s : State (List ℕ)} {sys : System w} (event : Event w) (o : Option EndConfig) (k : ℕ) → IsWidth w
     → SimulationRelation config log mail request s sys → terms_at config (client_of event) ≡ o
     → AreEnds config event sys (shadow_of mail request s) k (stepped_at config o event sys)
-event_ends {config} {log} {mail} {request} {s} {sys} (Ask c o) None k width h at = end-matched h k
-event_ends {config} {log} {mail} {request} {s} {sys} (Deliver link ch) None k width h at = end-matched h k
+event_ends (Ask c o) None k width h at = end-matched h k
+event_ends (Deliver link ch) None k width h at = end-matched h k
 event_ends (Ask c o) (Some terms) k width h at = asked_ends terms c k o width h
-event_ends {config} {log} {mail} {request} {s} {sys} (Deliver link ch) (Some terms) k width h at =
+event_ends {sys} (Deliver link ch) (Some terms) k width h at =
     delivered_ends terms link ch k (sys.channels link.0 ch) width h at refl
 
 -- Every client's end is that of the protocol after an event of the world.

@@ -6,15 +6,15 @@ use proofs.Imports.{and-false, cases_eq, Beat, BeatA, BeatD, OpD, IsWidth, E, a_
 use proofs.Imports.{cap_code, cap_right, sent, same_perm, block_at, capped, ends, is_grant, is_release_ack, request_of}
 use proofs.Imports.{same_block, swapped, Finish, Endpoint, sending, with_past, address_asked, ended, finish_of, granted}
 use proofs.Imports.{responded, open_beat, acquisition, grant_ack, cap-gives, grants_by_opcode, grant_opcode, AreNamed}
-use proofs.Imports.{acquires_of, Packet, AcquireOpen, ClientBlock, is_unreleased, is_whole, after_grant}
-use proofs.Imports.{after_release_ack, Acquires, Block, SourceFree, State, answer_taken, grant_taken, granted_copy}
-use proofs.Imports.{let_go_block, release_ack_taken, taken_block, is_wanting, acquire_opcode, AccessMessages, asked_by}
-use Rattle.tl_client.specs.laws.After.{copy_granted, waiting_granted}
+use proofs.Imports.{acquires_of, Packet, AcquireOpen, is_unreleased, is_whole, after_grant, after_release_ack, Acquires}
+use proofs.Imports.{Block, SourceFree, State, answer_taken, grant_taken, granted_copy, let_go_block, release_ack_taken}
+use proofs.Imports.{taken_block, is_wanting, acquire_opcode, AccessMessages, asked_by}
 use Rattle.tl_client.proofs.endpoint.AfterOffered.{granted_is}
+use Rattle.tl_client.specs.laws.After.{copy_granted, waiting_granted}
 use proofs.client.{AsideAll.set_at-else, ClientAsked.chosen, ClientAsked.passed}
 use proofs.client.ClientEnd.{IsWellKept, IsEnd, asks-same, asks-closed, asks-acquire, open-is, column}
-use proofs.client.ClientDeliverD.{IsHeard, IsEcho, echo-none, echo-e, known-heard, opened-heard, heard-part}
-use proofs.client.ClientDeliverD.{answer_closes, ack_closes, grant_closes}
+use proofs.client.ClientDeliverD.{IsHeard, IsEcho, echo-none, echo-e, heard, heard-part, answer_closes, ack_closes}
+use proofs.client.ClientDeliverD.{grant_closes}
 use proofs.queues.{Phases.and_right, Codes.acquires-so}
 use proofs.queues.Tokens.{same_number, set-same, set-other, set-part, set_at-same}
 
@@ -23,17 +23,15 @@ use proofs.queues.Tokens.{same_number, set-same, set-other, set-part, set_at-sam
 pub end-part : {w : ℕ} {asked : ℕ → Option (BeatA w)} {c : ℕ} (x : BeatD w) {s : State (List ℕ)} {e f : Endpoint w}
     → f ≡ with_past (Beat.D x ∷ e.past) e → ends (Beat.D x) e.past ≡ false → IsWellKept f
     → IsEnd asked c s e → IsEnd asked c s f
-end-part {w} {asked} {c} x {s} {e} {f} is more well end =
+end-part {asked} {c} x {s} {e} {f} is more well end =
     let event = heard-part c x e.past Perm.None asked s more in
-    let echo : IsEcho x e.past f.past = rw (ap (λ (g : Endpoint w). g.past) is) (echo-none x e.past) in
+    let echo : IsEcho x e.past f.past = rw (ap (λ g. g.past) is) (echo-none x e.past) in
     record {
-      known = known-heard echo well event end.known;
-      opened = opened-heard echo event end.opened;
-      kept = well.kept;
-      accounted = well.accounted;
-      copies = λ n some. ap (λ (g : Endpoint w). g.copies n) is ∙ end.copies n some;
-      waiting = λ n storing. ap (λ (g : Endpoint w). g.waiting n) is ∙ end.waiting n storing;
-      live = ap (λ (g : Endpoint w). g.closed) is ∙ end.live;
+      knows = heard echo well event end.knows;
+      well = well;
+      copies = λ n some. ap (λ g. g.copies n) is ∙ end.copies n some;
+      waiting = λ n storing. ap (λ g. g.waiting n) is ∙ end.waiting n storing;
+      live = ap (λ g. g.closed) is ∙ end.live;
     }
 
 -- ---- the answer to an access
@@ -58,15 +56,13 @@ end-answer_taken {w} {c} source x rest mail {s} {e} {f} is last plain other from
       lets = λ i. refl;
       asks = λ i. asks_now i (cases_eq i source);
     } in
-    let echo : IsEcho x e.past f.past = rw (ap (λ (g : Endpoint w). g.past) is) (echo-none x e.past) in
+    let echo : IsEcho x e.past f.past = rw (ap (λ g. g.past) is) (echo-none x e.past) in
     record {
-      known = known-heard echo well event end.known;
-      opened = opened-heard echo event end.opened;
-      kept = well.kept;
-      accounted = well.accounted;
-      copies = λ n some. ap (λ (g : Endpoint w). g.copies n) is ∙ end.copies n some;
-      waiting = λ n storing. ap (λ (g : Endpoint w). g.waiting n) is ∙ end.waiting n storing;
-      live = ap (λ (g : Endpoint w). g.closed) is ∙ end.live;
+      knows = heard echo well event end.knows;
+      well = well;
+      copies = λ n some. ap (λ g. g.copies n) is ∙ end.copies n some;
+      waiting = λ n storing. ap (λ g. g.waiting n) is ∙ end.waiting n storing;
+      live = ap (λ g. g.closed) is ∙ end.live;
     }
   where
     s' : State (List ℕ)
@@ -90,7 +86,7 @@ pub end-release_ack_taken : {w : ℕ} {c : ℕ} (n : ℕ) (x : BeatD w) (rest : 
 end-release_ack_taken {w} {c} n x rest mail {s} {e} {f} is last plain acks from let_ well end =
     let new : Block (List ℕ) = let_go_block c (s.block n) in
     let pair_is = set-same c (after_release_ack ((s.block n).pair c)) (s.block n).pair in
-    let closes = ack_closes n x e.past last plain acks (end.opened.released x.source n let_) in
+    let closes = ack_closes n x e.past last plain acks (end.knows.1.released x.source n let_) in
     let event : IsHeard c x e.past Perm.None (λ k. false) (λ k. n == k) (λ i. false) (λ i. x.source == i)
     (asked_by mail s c) (asked_by mail s' c) s s' = record {
       grants_is = closes.0;
@@ -98,31 +94,27 @@ end-release_ack_taken {w} {c} n x rest mail {s} {e} {f} is last plain acks from 
       releases_is = closes.1;
       source_is = closes.2;
       let_is = closes.3;
-      held = λ k. set-part (λ (b : Block (List ℕ)). (b.pair c).held) n new s.block
-          (ap (λ (q : ClientBlock). q.held) pair_is) k;
-      acquiring = λ k. set-part (λ (b : Block (List ℕ)). is_wanting (b.pair c).acquiring) n new s.block
-          (ap (λ (q : ClientBlock). is_wanting q.acquiring) pair_is) k;
+      held = λ k. set-part (λ b. (b.pair c).held) n new s.block (ap (λ q. q.held) pair_is) k;
+      acquiring = λ k. set-part (λ b. is_wanting (b.pair c).acquiring) n new s.block
+          (ap (λ q. is_wanting q.acquiring) pair_is) k;
       letting = λ k. let fact = column
-          (λ (b : Block (List ℕ)). not (is_unreleased (b.pair c).letting)) n new s.block k in cc (pair_is, swapped k n);
+          (λ b. not (is_unreleased (b.pair c).letting)) n new s.block k in cc (pair_is, swapped k n);
       lets = λ i. lets_now i (cases_eq i ((s.block n).release_source c));
       asks = λ i. asks-same c i mail mail s s' refl (inl refl) (λ j used. set-part (λ (b : Block (List ℕ)).
-          (b.pair c).acquiring) n new s.block (ap (λ (q : ClientBlock). q.acquiring) pair_is) j)
-          (λ j used. set-part (λ (b : Block (List ℕ)). b.source c) n new s.block refl j);
+          (b.pair c).acquiring) n new s.block (ap (λ q. q.acquiring) pair_is) j)
+          (λ j used. set-part (λ b. b.source c) n new s.block refl j);
     } in
-    let echo : IsEcho x e.past f.past = rw (ap (λ (g : Endpoint w). g.past) is) (echo-none x e.past) in
+    let echo : IsEcho x e.past f.past = rw (ap (λ g. g.past) is) (echo-none x e.past) in
     record {
-      known = known-heard echo well event end.known;
-      opened = opened-heard echo event end.opened;
-      kept = well.kept;
-      accounted = well.accounted;
-      copies = λ k some. let fact = end.copies k (sym (ap (λ (q : Perm). same_perm q Perm.None) (set-part
-          (λ (b : Block (List ℕ)). (b.pair c).held) n new s.block (ap (λ (q : ClientBlock). q.held) pair_is) k))
-          ∙ some) in cc (is, set-part (λ (b : Block (List ℕ)). b.copy c) n new s.block refl k);
-      waiting = λ k storing. ap (λ (g : Endpoint w). g.waiting k) is
-          ∙ end.waiting k (sym (set-part (λ (b : Block (List ℕ)). is_whole (b.pair c).acquiring) n new s.block
-          (ap (λ (q : ClientBlock). is_whole q.acquiring) pair_is) k) ∙ storing)
-          ∙ ap Some (sym (set-part (λ (b : Block (List ℕ)). b.waiting c) n new s.block refl k));
-      live = ap (λ (g : Endpoint w). g.closed) is ∙ end.live;
+      knows = heard echo well event end.knows;
+      well = well;
+      copies = λ k some. let fact = end.copies k (sym (ap (λ q. same_perm q Perm.None) (set-part
+          (λ b. (b.pair c).held) n new s.block (ap (λ q. q.held) pair_is) k))
+          ∙ some) in cc (is, set-part (λ b. b.copy c) n new s.block refl k);
+      waiting = λ k storing. ap (λ g. g.waiting k) is ∙ end.waiting k (sym (set-part
+          (λ b. is_whole (b.pair c).acquiring) n new s.block (ap (λ q. is_whole q.acquiring) pair_is) k) ∙ storing)
+          ∙ ap Some (sym (set-part (λ b. b.waiting c) n new s.block refl k));
+      live = ap (λ g. g.closed) is ∙ end.live;
     }
   where
     s' : State (List ℕ)
@@ -132,7 +124,7 @@ end-release_ack_taken {w} {c} n x rest mail {s} {e} {f} is last plain acks from 
         → s'.lets c i ≡ cond (x.source == i) None (s.lets c i)
     lets_now i (inl same) = ap (s'.lets c) same ∙ set_at-same c ((s.block n).release_source c) None s.lets
         ∙ sym (chosen (x.source == i) None (s.lets c i) (rw (from, same) (same_number ((s.block n).release_source c))))
-    lets_now i (inr ne) = set_at-else c ((s.block n).release_source c) i None s.lets ne c ∙ sym
+    lets_now i (inr ne) = set_at-else c _ i None s.lets ne c ∙ sym
         (passed (x.source == i) None (s.lets c i) (rw from (ne_eqb ((s.block n).release_source c) i (λ g. ne (sym g)))))
 
 -- ---- a Grant
@@ -173,11 +165,11 @@ grant_end {w} data_too x r payload e f opcode is =
     let before : Endpoint w = with_past (Beat.D x ∷ e.past) e in
     let g : Endpoint w = granted x.opcode (Some r) payload before in
     let does = granted_is x.opcode (Some r) payload before in
-    let sends : f ≡ sending (grant_ack x.sink) g = is ∙ ended_end x.opcode data_too x
+    let sends : f ≡ sending (grant_ack x.sink) g = is ∙ ended_end _ data_too x
     (finish_of w x.opcode x.param x.size (address_asked (Some r)) payload) g opcode in
     record {
       past_is = cc (sends, does.same_past);
-      same_closed = ap (λ (h : Endpoint w). h.closed) sends ∙ does.same_closed;
+      same_closed = ap (λ h. h.closed) sends ∙ does.same_closed;
       new_copies = λ k. cc (sends, does.new_copies k, opcode, same_copy data_too r payload k (Beat.D x ∷ e.past) e);
       new_waiting = λ k. cc (sends, does.new_waiting k, opcode);
     }
@@ -189,9 +181,9 @@ pub end-grant_taken : {w : ℕ} {c n : ℕ} {whole data_too : Bool} {g : Grow} {
     → IsEnd (asked_by mail (grant_taken c n whole data_too k rest s) c) c (grant_taken c n whole data_too k rest s) f
 end-grant_taken {w} {c} {n} {whole} {data_too} {g} {k} {x} {payload} rest mail {s} {e} {f} width named is taken last
     well end =
-    let asks : asked_by mail s c x.source ≡ Some r = ap (asked_by mail s c) is.from ∙ asks-acquire c source n source
+    let asks : asked_by mail s c x.source ≡ Some r = ap (asked_by mail s c) is.from ∙ asks-acquire c _ n source
     whole g mail s is.used is.wants refl in
-    let open_ : open_beat x.source e.past ≡ Some r = end.known.opens x.source ∙ asks in
+    let open_ : open_beat x.source e.past ≡ Some r = end.knows.0.opens x.source ∙ asks in
     let request : request_of x.source e.past ≡ Some r = open-is x.source e.past (cc (acquires-so whole)) ∙ open_ in
     let does = grant_end data_too x r payload e f is.opcode (cc) in
     let kind = grants_by_opcode data_too in
@@ -204,21 +196,19 @@ end-grant_taken {w} {c} {n} {whole} {data_too} {g} {k} {x} {payload} rest mail {
       releases_is = closes.1;
       source_is = closes.2;
       let_is = closes.3;
-      held = λ i. cc (column (λ (b : Block (List ℕ)). (b.pair c).held) n new s.block i, pair_is, swapped i n);
-      acquiring = λ i. let fact = column (λ (b : Block (List ℕ)). is_wanting (b.pair c).acquiring) n new s.block i in
+      held = λ i. cc (column (λ b. (b.pair c).held) n new s.block i, pair_is, swapped i n);
+      acquiring = λ i. let fact = column (λ b. is_wanting (b.pair c).acquiring) n new s.block i in
           cc (pair_is, swapped i n);
-      letting = λ i. ap not (set-part (λ (b : Block (List ℕ)). is_unreleased (b.pair c).letting) n new s.block
-          (ap (λ (q : ClientBlock). is_unreleased q.letting) pair_is) i);
+      letting = λ i. ap not (set-part (λ b. is_unreleased (b.pair c).letting) n new s.block
+          (ap (λ q. is_unreleased q.letting) pair_is) i);
       lets = λ i. refl;
       asks = λ i. asks_now i (cases_eq i source);
     } in
-    let echo : IsEcho x e.past f.past =
-    subst (IsEcho x e.past) (sym does.past_is) (echo-e x (record { sink = x.sink }) e.past width end.kept.e_whole) in
+    let echo : IsEcho x e.past f.past = subst (IsEcho x e.past) (sym does.past_is)
+    (echo-e x (record { sink = x.sink }) e.past width end.well.kept.e_whole) in
     record {
-      known = known-heard echo well event end.known;
-      opened = opened-heard echo event end.opened;
-      kept = well.kept;
-      accounted = well.accounted;
+      knows = heard echo well event end.knows;
+      well = well;
       copies = λ i some. does.new_copies i ∙ copy_now i (cases_eq i n) some;
       waiting = λ i storing. does.new_waiting i ∙ waiting_now i (cases_eq i n) storing;
       live = does.same_closed ∙ end.live;
@@ -249,8 +239,8 @@ end-grant_taken {w} {c} {n} {whole} {data_too} {g} {k} {x} {payload} rest mail {
     asks_now i (inl same) = asks-closed c i mail s' (ap (s'.uses c) same ∙ set_at-same c source SourceFree s.uses)
         ∙ sym (chosen (x.source == i) None (asked_by mail s c i) (rw (is.from, same) (same_number source)))
     asks_now i (inr ne) = asks-same c i mail mail s s' refl (inl (set_at-else c source i SourceFree s.uses ne c))
-        (λ j used. ap (λ (b : Block (List ℕ)). (b.pair c).acquiring) (set-other n j new s.block (apart i j ne used)))
-        (λ j used. ap (λ (b : Block (List ℕ)). b.source c) (set-other n j new s.block (apart i j ne used)))
+        (λ j used. ap (λ b. (b.pair c).acquiring) (set-other n j new s.block (apart i j ne used)))
+        (λ j used. ap (λ b. b.source c) (set-other n j new s.block (apart i j ne used)))
         ∙ sym (passed (x.source == i) None (asked_by mail s c i) (rw is.from (ne_eqb source i (λ h. ne (sym h)))))
 
     -- what the block is afterwards
@@ -285,13 +275,11 @@ end-grant_taken {w} {c} {n} {whole} {data_too} {g} {k} {x} {payload} rest mail {
     copy_now : (i : ℕ) → (i ≡ n) ⊎ (i ≡ n → ⊥) → same_perm ((s'.block i).pair c).held Perm.None ≡ false
         → copy_granted (grant_opcode data_too) (Some r) payload i e ≡ Some ((s'.block i).copy c)
     copy_now i (inl same) some = copy_here i whole data_too refl refl same ∙ ap Some
-        (sym (ap (λ (b : Block (List ℕ)). b.copy c) (block_now i same) ∙ set-same c
+        (sym (ap (λ b. b.copy c) (block_now i same) ∙ set-same c
         (granted_copy whole data_too ((s.block n).waiting c) (s.block n).truth ((s.block n).copy c)) (s.block n).copy))
     copy_now i (inr ne) some =
         let old : s'.block i ≡ s.block i = set-other n i new s.block ne in
-        copy_else i data_too ne ∙ end.copies i
-        (sym (ap (λ (b : Block (List ℕ)). same_perm (b.pair c).held Perm.None) old) ∙ some) ∙ ap Some
-        (sym (ap (λ (b : Block (List ℕ)). b.copy c) old))
+        cc (copy_else i data_too ne, end.copies i (sym (ap (λ b. same_perm (b.pair c).held Perm.None) old) ∙ some), old)
 
     waiting_now : (i : ℕ) → (i ≡ n) ⊎ (i ≡ n → ⊥) → is_whole ((s'.block i).pair c).acquiring ≡ true
         → waiting_granted (grant_opcode data_too) (Some r) i (e.waiting i) ≡ Some ((s'.block i).waiting c)

@@ -1,11 +1,10 @@
 -- Under the first profile a Grant that is on its way gives what was asked for: after every event.
 use Rattle.std.proofs.Common.{◌≡◌, ℕ, Bool, true, false, not, List, refl, sym, ◌∙◌, ap, arith}
 use Rattle.tl_coherence.proofs
-use proofs.Imports.{⊤, Message, Config, Cap, Grow, Profile, block_at, Op, Reply, copy_stored, whole_grow, IsInvariant}
-use proofs.Imports.{Kind, Packet, set, AcquireOpen, AcquirePhase, ClientBlock, NoAcquire, is_unacquired, after_acquire}
-use proofs.Imports.{after_grant_sent, after_probe, after_release, after_release_ack, after_release_taken, after_report}
-use proofs.Imports.{Block, GrantSent, Service, State, acquiring_block, releasing_block, stored_block, view}
-use proofs.Imports.{AbstractState, asked, gift, kind_taken, IsGivenAsked, gives_asked}
+use proofs.Imports.{⊤, Message, Config, Cap, Grow, Profile, block_at, Op, Reply, whole_grow, IsInvariant, Kind, Packet}
+use proofs.Imports.{set, AcquireOpen, ClientBlock, NoAcquire, is_unacquired, after_acquire, after_grant_sent}
+use proofs.Imports.{after_probe, after_release, after_release_ack, after_release_taken, after_report, Block, GrantSent}
+use proofs.Imports.{Service, State, AbstractState, asked, gift, kind_taken, IsGivenAsked, gives_asked}
 use proofs.protocol.{HeadOfD.own_view, HeadOfD.true-taken, FollowKept.IsAskable}
 use proofs.queues.{Facts.granting_asks, Tokens.set-same, Tokens.set-other, Tokens.set-part, Tokens.set-each}
 
@@ -44,28 +43,23 @@ gift_given p whole g unheld = grind arith
 not_granting : {caching : ℕ → Bool} (c n : ℕ) {s : State (List ℕ)} → IsInvariant caching s
     → ((s.block n).pair c).acquiring ≡ NoAcquire → (d : Bool) (k : Cap) → (s.block n).service ≡ GrantSent c d k → ⊥
 not_granting c n {s} inv calm d k sent =
-    let asks = granting_asks d k ((s.block n).pair c) (view (s.block n).service c) ((inv.blocks n).phases c)
-    (own_view c d k (s.block n).service sent) in
-    let no : false ≡ true = sym (ap (λ (a : AcquirePhase). not (is_unacquired a)) calm) ∙ asks in
+    let asks = granting_asks d k _ _ ((inv.blocks n).phases c) (own_view c d k (s.block n).service sent) in
+    let no : false ≡ true = sym (ap (λ a. not (is_unacquired a)) calm) ∙ asks in
     cc
 
 pub given-asked : {w : ℕ} {caching : ℕ → Bool} (p : Profile) (c : ℕ) (o : Op w) (r : Reply) (h : AbstractState w)
     → IsInvariant caching h.state → IsAskable caching c o r h → AreGiven p h.state → AreGiven p (asked c o r h).state
 given-asked p c (Op.Store address size value) Reply.Stored h inv may given =
     let n = block_at address in
-    given-set p n (stored_block c (copy_stored address size value ((h.state.block n).copy c)) (h.state.block n)) h.state
-    given (given n)
-given-asked {caching} p c (Op.Acquire n g) (Reply.Started source) h inv may given =
-    given-set p n (acquiring_block c source false g ((h.state.block n).waiting c) (h.state.block n)) h.state given
-    (given-acquiring p c false g (h.state.block n).service (h.state.block n).pair
-    (not_granting c n inv may.2) (given n))
-given-asked {caching} p c (Op.AcquireWhole n bytes) (Reply.Started source) h inv may given =
+    given-set p n _ h.state given (given n)
+given-asked p c (Op.Acquire n g) (Reply.Started source) h inv may given = given-set p n _ h.state given (given-acquiring
+    p c false g (h.state.block n).service (h.state.block n).pair (not_granting c n inv may.2) (given n))
+given-asked p c (Op.AcquireWhole n bytes) (Reply.Started source) h inv may given =
     let g = whole_grow ((h.state.block n).pair c).held in
-    given-set p n (acquiring_block c source true g bytes (h.state.block n)) h.state given
+    given-set p n _ h.state given
     (given-acquiring p c true g (h.state.block n).service (h.state.block n).pair (not_granting c n inv may.2) (given n))
-given-asked p c (Op.Release n r) (Reply.Started source) h inv may given =
-    given-set p n (releasing_block c source r (h.state.block n)) h.state given (given-pair p (h.state.block n).service c
-    (after_release r ((h.state.block n).pair c)) (h.state.block n).pair refl (given n))
+given-asked p c (Op.Release n r) (Reply.Started source) h inv may given = given-set p n _ h.state given (given-pair p
+    (h.state.block n).service c (after_release r ((h.state.block n).pair c)) (h.state.block n).pair refl (given n))
 given-asked p c (Op.Access (Message.A m)) (Reply.Started source) h inv may given = given
 given-asked p c o r h inv may given = given
 
@@ -80,9 +74,8 @@ given_granted p q whole g unheld x pair is = cc (set-same q x pair, gift_given p
 pub given-kind_taken : {w : ℕ} (config : Config) (tracker c : ℕ) (k : Kind) (i : ℕ) (rest : List Packet)
     (h : AbstractState w) → AreGiven config.profile h.state
     → AreGiven config.profile (kind_taken config tracker c k i rest h).state
-given-kind_taken {w} config tracker c k i rest h given =
-    true-taken config tracker c rest h (λ j n. ⊤) (λ (x : AbstractState w). AreGiven config.profile x.state) k i
-    (record {
+given-kind_taken config tracker c k i rest h given = true-taken config tracker c rest h (λ j n. ⊤)
+    (λ x. AreGiven config.profile x.state) k i (record {
       nothing = λ j n known idle. given;
       access_answered = λ source m o known is caps none. changed (block_at m.address) _ (given (block_at m.address));
       access_served = λ source m j known is caps some. changed (block_at m.address) _ tt;
@@ -106,8 +99,8 @@ given-kind_taken {w} config tracker c k i rest h given =
 
     changed : (n : ℕ) (b : Block (List ℕ)) → IsGivenAsked config.profile b.service b.pair → (j : ℕ)
         → IsGivenAsked config.profile (set n b h.state.block j).service (set n b h.state.block j).pair
-    changed n b new = given-set config.profile n b h.state given new
+    changed n b new = given-set _ n b h.state given new
 
     one : (n : ℕ) (x : ClientBlock) → x.acquiring ≡ (pair n c).acquiring
         → IsGivenAsked config.profile (h.state.block n).service (set c x (pair n))
-    one n x same = given-pair config.profile (h.state.block n).service c x (pair n) same (given n)
+    one n x same = given-pair _ _ c x (pair n) same (given n)

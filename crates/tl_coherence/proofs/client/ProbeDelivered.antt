@@ -5,18 +5,18 @@ use Rattle.std.proofs.Common.{sym, ◌∙◌, ap, subst, arith, eqb-true, map}
 use Rattle.tl_coherence.proofs
 use proofs.Imports.{and_right, Beat, BeatA, Channel, IsWidth, Message, MessageA, MessageD, begun, unfinished, completes}
 use proofs.Imports.{Config, ReleaseOf, asks_for, is_grant, pending, illegal, same_block, accounted-offered}
-use proofs.Imports.{kept-offered, Verdict, EndConfig, Endpoint, held_at, Offered, broken_before, silent, taken, waits}
-use proofs.Imports.{offered, grant_opcode, probe_of_block, IsInvariant, Answer, Grant, Kind, Packet, Probe, ReleaseAck}
-use proofs.Imports.{is_unprobed, is_unreleased, State, is_on, packet, view, is_sent, AbstractState, packet_taken}
-use proofs.Imports.{IsCarried, comes_granting, AccessMessages, cap_sent, message_of, message_of_kind, probe_beat}
-use proofs.Imports.{block_message, SimulationRelation, asked_by, is_caching, Log, System, terms_at}
+use proofs.Imports.{kept-offered, Verdict, EndConfig, Endpoint, held_at, broken_before, silent, taken, waits, offered}
+use proofs.Imports.{grant_opcode, probe_of_block, IsInvariant, Answer, Grant, Kind, Packet, Probe, ReleaseAck}
+use proofs.Imports.{is_unprobed, is_unreleased, State, is_on, packet, is_sent, AbstractState, packet_taken, IsCarried}
+use proofs.Imports.{comes_granting, AccessMessages, cap_sent, message_of, message_of_kind, probe_beat, block_message}
+use proofs.Imports.{SimulationRelation, asked_by, is_caching, Log, System, terms_at}
 use Rattle.tl_client.{proofs.endpoint.Cases.passes_before, specs.statement.Offer.probed}
 use proofs.queues.{Carried.IsNext, Facts.granting_alone, Phases.and_left, Codes.access_kind}
 use proofs.queues.FirstToken.{IsFirst, first-token, own_kind}
 use proofs.client.{ClientAsked.IsEndOf, ClientDelivered.shadow_of, KnownProbed.end-probe_taken, KnownProbed.probe-taken}
 use proofs.client.ClientEnd.{terms-are, sound-beat, IsWellKept, end-matched, asks-acquire}
-use proofs.protocol.HeadOfD.{answer-due, grant-due, grant_message, grant-rendered, ack_message, own_view}
 use proofs.protocol.BothParts.{not-sent, first-shown}
+use proofs.protocol.HeadOfD.{answer-due, grant-due, grant_message, grant-rendered, ack_message, own_view}
 
 -- ---- no Grant of a block that is probed has begun to come
 
@@ -39,7 +39,7 @@ not_granted {caching} c n i rest {s} inv first sent = go (i == n) refl
     go false e = refl
     go true e =
         let due = grant-due caching c i rest s inv first in
-        let alone = granting_alone due.data_too due.k ((s.block i).pair c) (view (s.block i).service c)
+        let alone = granting_alone due.data_too due.k _ _
         ((inv.blocks i).phases c) (own_view c due.data_too due.k (s.block i).service due.service) in
         let loud : is_unprobed ((s.block i).pair c).probing ≡ false = ap (λ j. is_unprobed ((s.block j).pair c).probing)
         (eqb-true i n e) ∙ not-sent ((s.block n).pair c).probing sent in
@@ -59,12 +59,11 @@ else_grant : {w : ℕ} {config : Config} {log : Log w} {mail : AccessMessages w}
     (rest : List Packet) → SimulationRelation config log mail request s sys → (s.link c).d ≡ packet Grant i ∷ rest
     → is_sent ((s.block n).pair c).probing ≡ true → IsElse n (asked_by mail s c) (block_message Grant c i (s.block i))
 unfolding IsElse
-else_grant {w} {config} {mail} {s} c n i rest h first sent =
+else_grant {config} {mail} {s} c n i rest h first sent =
     let due = grant-due (is_caching config) c i rest s h.invariant first in
-    let asks = asks-acquire c ((s.block i).source c) i ((s.block i).source c) due.whole due.g mail s due.used due.wants
-    refl in
+    let asks = asks-acquire c _ i ((s.block i).source c) due.whole due.g mail s due.used due.wants refl in
     let elsewhere : asks_for n (asked_by mail s c ((s.block i).source c)) ≡ false =
-    ap (asks_for n) asks ∙ ap (λ (j : ℕ). j == n) (same_block i) ∙ not_granted c n i rest h.invariant first sent in
+    ap (asks_for n) asks ∙ ap (λ j. j == n) (same_block i) ∙ not_granted c n i rest h.invariant first sent in
     let fact = grant_message due.data_too due.k ((s.block i).source c) (s.block i).tracker (s.block i).truth in
     let other_fact = and_right (is_grant (grant_opcode due.data_too))
     (asks_for n (asked_by mail s c ((s.block i).source c))) elsewhere in (fact, grant-rendered c i s due, other_fact)
@@ -99,9 +98,8 @@ not_coming {w} {config} {log} {mail} {request} {s} {sys} c n h sent = go (s.link
     go (x ∷ xs) first carried =
         let some : IsCarried rest_now (message_of mail s c x ∷ map (message_of mail s c) xs)
         (sys.channels c Channel.D) = rw (ap (map (message_of mail s c)) first) at carried in
-        comes_else n (asked_by mail s c) (message_of mail s c x) some.0 rest_now some.2
-        (elses x.kind x.number xs first (own_kind (is_caching config) s c Channel.D x.kind x.number xs h.invariant
-        first))
+        comes_else n (asked_by mail s c) _ some.0 _ some.2 (elses x.kind x.number xs first
+        (own_kind (is_caching config) s c Channel.D x.kind x.number xs h.invariant first))
 
 -- ---- the Probe
 
@@ -150,30 +148,27 @@ probe-delivered {w} {config} {mail} {request} {s} {sys} terms tracker c n rest {
     cc (is.level, beat_is, (sound-beat c Channel.B x queue h beats).lawful) in
     let e = sys.clients c in
     let end = end-matched h c in
-    let whole = ap (completes x) end.kept.b_whole ∙ ap (λ (y : Beat w). completes y []) beat_is in
+    let whole = ap (completes x) end.well.kept.b_whole ∙ ap (λ y. completes y []) beat_is in
     let sent : is_sent ((s.block n).pair c).probing ≡ true = first-shown h.invariant c Probe refl first in
     let before : x ≡ Beat.B (probe_beat n k) → broken_before terms Channel.B x e ≡ None =
-    λ f. cc (f, passes_before terms Channel.B (Beat.B (probe_beat n k)) e (h.live c) refl lawful) in
+    λ f. cc (f, passes_before terms _ _ e (h.live c) refl lawful) in
     let pends : is_unreleased ((s.block n).pair c).letting ≡ false → waits (Beat.B (probe_beat n k)) e.past ≡ true =
-    λ open_. ap (λ (i : ℕ). pending (ReleaseOf i) e.past) (same_block n) ∙ end.known.releases n ∙ ap not open_ in
-    let taken_is : is_unreleased ((s.block n).pair c).letting ≡ true
-    → offered terms Channel.B (Beat.B (probe_beat n k)) e ≡ probed (probe_beat n k) n (held_at e n) e =
-    λ kept. cc (probe-taken terms n k e (h.live c) lawful
-    (cc (is.blocks, same_block n, beat_is, (sound-beat c Channel.B x queue h beats).inside)) end.kept.b_whole
-    (end.known.releases n ∙ ap not kept) (end.known.probes n) (end.known.grants n ∙ not_coming c n h sent)) in
-    let same_taken = ap (λ (i : ℕ). probed (probe_beat n k) i (held_at e i) e) (same_block n) in
+    λ open_. ap (λ i. pending (ReleaseOf i) e.past) (same_block n) ∙ end.knows.0.releases n ∙ ap not open_ in
+    let taken_is : is_unreleased ((s.block n).pair c).letting ≡ true → offered terms Channel.B (Beat.B (probe_beat n k))
+    e ≡ probed (probe_beat n k) n (held_at e n) e = λ kept. cc (probe-taken terms n k e (h.live c) lawful
+    (cc (is.blocks, same_block n, beat_is, (sound-beat c Channel.B x queue h beats).inside)) end.well.kept.b_whole
+    (end.knows.0.releases n ∙ ap not kept) (end.knows.0.probes n) (end.knows.0.grants n ∙ not_coming c n h sent)) in
+    let same_taken = ap (λ i. probed (probe_beat n k) i (held_at e i) e) (same_block n) in
     let takes : is_unreleased ((s.block n).pair c).letting ≡ true → offered terms Channel.B x e ≡ taken x e =
     λ kept. cc (beat_is, taken_is kept, same_taken) in
-    let well : is_unreleased ((s.block n).pair c).letting ≡ true
-    → IsWellKept (probed (probe_beat n k) n (held_at e n) e).after =
-    λ kept. subst (λ (o : Offered w). IsWellKept o.after) (taken_is kept)
-    (record {
-      kept = kept-offered terms Channel.B (Beat.B (probe_beat n k)) e width end.kept;
-      accounted = accounted-offered terms Channel.B (Beat.B (probe_beat n k)) e width end.kept end.accounted;
+    let well : is_unreleased ((s.block n).pair c).letting ≡ true → IsWellKept (probed (probe_beat n k) n (held_at e n)
+    e).after = λ kept. subst (λ o. IsWellKept o.after) (taken_is kept) (record {
+      kept = kept-offered terms Channel.B (Beat.B (probe_beat n k)) e width end.well.kept;
+      accounted = accounted-offered terms Channel.B (Beat.B (probe_beat n k)) e width end.well.kept end.well.accounted;
     }) in
     let last : is_unreleased ((s.block n).pair c).letting ≡ true → IsEndOf c
     (packet_taken config tracker c (s.link c).b (shadow_of mail request s)) (taken x e).after = λ kept. rw first
-    (rw (ap (λ (y : Beat w). taken y e) beat_is ∙ same_taken) (end-probe_taken n k rest mail width (well kept) end)) in
+    (rw (ap (λ y. taken y e) beat_is ∙ same_taken) (end-probe_taken n k rest mail width (well kept) end)) in
     record {
       beat_is = beat_is;
       whole = whole;
@@ -199,5 +194,5 @@ delivered-b {w} {config} {log} {mail} {request} {s} {sys} terms tracker c x queu
         → IsNext x (unfinished Channel.B (sys.clients c).past) (message_of_kind k mail s c i)
         (map (message_of mail s c) first.rest) queue
         → (n : ℕ) × IsProbed config terms tracker c n (shadow_of mail request s) x (sys.clients c)
-    go Probe i tokens own next = (i, probe-delivered terms tracker c i first.rest width h at beats tokens next)
+    go Probe i tokens own next = (i, probe-delivered terms tracker c i _ width h at beats tokens next)
     go k i tokens own next = absurd cc

@@ -35,7 +35,7 @@ size_for {r} is = rw (is.other, is.request, is.size) (same_number r.size)
 
 pub answer-legal : {w : ℕ} (p : Profile) {x : BeatD w} {r : BeatA w} {t : History w} → IsResponse x r t
     → is_grant x.opcode ≡ false → broken_in_order p (Beat.D x) t ≡ None
-answer-legal p {x} {r} {t} is plain = begun p x t is.whole (asked_for is) (size_for is) (rw plain refl) (rw plain refl)
+answer-legal p {x} {t} is plain = begun p x t is.whole (asked_for is) (size_for is) (rw plain refl) (rw plain refl)
 
 -- a Grant of block n gives what was asked for, to a client that gets data or has a copy, and nothing
 -- of the block is probed
@@ -55,10 +55,9 @@ pub ack-legal : {w : ℕ} (p : Profile) (x : BeatD w) (t : History w) → unfini
     → comes_in_release x.source (unfinished Channel.C t) ≡ false → x.opcode ≡ OpD.ReleaseAck
     → pending (ReleaseSource x.source) t ≡ true → option_map (λ (y : BeatC w). y.size) (release_of x.source t)
     ≡ Some x.size → broken_in_order p (Beat.D x) t ≡ None
-ack-legal {w} p x t none complete opcode live size =
-    let acks : is_release_ack x.opcode ≡ true = ap (λ (o : OpD). is_release_ack o) opcode in
-    let plain : is_grant x.opcode ≡ false = ap (λ (o : OpD). is_grant o) opcode in
+ack-legal p x t none complete opcode live size =
+    let acks : is_release_ack x.opcode ≡ true = ap (λ o. is_release_ack o) opcode in
+    let plain : is_grant x.opcode ≡ false = ap (λ o. is_grant o) opcode in
     let asked : has_request x t ≡ true = rw (acks, live, complete) refl in
-    let sized : (x.size == size_asked x t) ≡ true = rw (acks, release_size x.size (release_of x.source t) size)
-    (same_number x.size) in
+    let sized : (x.size == size_asked x t) ≡ true = rw (acks, release_size _ _ size) (same_number x.size) in
     begun p x t none asked sized (rw plain refl) (rw plain refl)

@@ -4,7 +4,7 @@ use Rattle.tl_coherence.proofs
 use proofs.Imports.{cases_eq, ⊤, Message, MessageA, Config, Cap, Grow, block_at, Op, Reply, copy_stored, whole_grow}
 use proofs.Imports.{acquisition, IsInvariant, Acquire, Kind, Packet, set, AcquireOpen, ClientBlock, NoAcquire}
 use proofs.Imports.{after_acquire, after_probe, after_release, after_release_ack, after_release_taken, after_report}
-use proofs.Imports.{Block, Waits, acquiring_block, releasing_block, served_block, stored_block, view, AbstractState}
+use proofs.Imports.{Block, Waits, acquiring_block, releasing_block, served_block, stored_block, AbstractState}
 use proofs.Imports.{acquire_opcode, asked, kind_taken, block_message, IsAcquireOf}
 use proofs.queues.{Facts.own_wants, Tokens.same_number, Tokens.set-same, Tokens.set-other}
 use proofs.protocol.{FollowKept.IsAskable, HeadOfD.true-taken}
@@ -29,14 +29,14 @@ still {w} n b new m same keeps is = grind arith
 replaced : {w : ℕ} (n : ℕ) (new : Block (List ℕ)) (block : ℕ → Block (List ℕ)) (m : MessageA w) (request : ℕ
     → MessageA w) → IsAcquireOf n new new.service m
     → AreAcquired request block → AreAcquired (set n m request) (set n new block)
-replaced {w} n new block m request here others i = elim (cases_eq i n) [
+replaced n new block m request here others i = elim (cases_eq i n) [
   | inl same ↦ rw same (rw (set-same n new block, set-same n m request) here)
   | inr other ↦ rw (set-other n i new block other, set-other n i m request other) (others i)
 ]
 
 kept : {w : ℕ} (n : ℕ) (new : Block (List ℕ)) (block : ℕ → Block (List ℕ)) (request : ℕ → MessageA w)
     → IsAcquireOf n new new.service (request n) → AreAcquired request block → AreAcquired request (set n new block)
-kept {w} n new block request here others i = elim (cases_eq i n) [
+kept n new block request here others i = elim (cases_eq i n) [
   | inl same ↦ rw same (rw (set-same n new block) here)
   | inr other ↦ rw (set-other n i new block other) (others i)
 ]
@@ -64,14 +64,12 @@ waiting_for {w} c n tracker k whole g b wants = grind arith
 pub kind_taken-acquired : {w : ℕ} (config : Config) (tracker c : ℕ) (k : Kind) (i : ℕ) (rest : List Packet)
     (h : AbstractState w) → AreAcquired h.request h.state.block
     → AreAcquired (kind_taken config tracker c k i rest h).request (kind_taken config tracker c k i rest h).state.block
-kind_taken-acquired {w} config tracker c k i rest h is =
-    true-taken config tracker c rest h (λ j n. ⊤) (λ (x : AbstractState w). AreAcquired x.request x.state.block) k i
-    (record {
+kind_taken-acquired config tracker c k i rest h is = true-taken config tracker c rest h (λ j n. ⊤)
+    (λ x. AreAcquired x.request x.state.block) k i (record {
       nothing = λ j n known idle. is;
       access_answered = λ source m o known from caps none. unmoved (block_at m.address) _ h.state.block h.request refl
           (λ r s j e. (refl, refl)) is;
-      access_served = λ source m j known from caps some.
-          replaced (block_at m.address) _ h.state.block m h.request tt is;
+      access_served = λ source m j known from caps some. replaced _ _ h.state.block m h.request tt is;
       acquire_granted = λ n whole g known wants none. replaced n _ h.state.block _ h.request tt is;
       acquire_served = λ n whole g known wants some. replaced n _ h.state.block _ h.request
           (waiting_for c n tracker _ whole g (h.state.block n) wants) is;
@@ -104,18 +102,17 @@ acquiring-acquired : {w : ℕ} {caching : ℕ → Bool} (c n source : ℕ) (whol
     → AreAcquired h.request (set n (acquiring_block c source whole g bytes (h.state.block n)) h.state.block)
 acquiring-acquired {w} c n source whole g bytes h inv calm is =
     let keeps : KeepsOpen b (acquiring_block c source whole g bytes b) = λ r from k e. (
-      ap (λ (p : ClientBlock). p.acquiring) (set-other c r (after_acquire whole g (b.pair c)) b.pair
-          (apart r from k e)),
+      ap (λ p. p.acquiring) (set-other c r (after_acquire whole g (b.pair c)) b.pair (apart r from k e)),
       set-other c r source b.source (apart r from k e),
     ) in
-    unmoved n (acquiring_block c source whole g bytes b) h.state.block h.request refl keeps is
+    unmoved n _ h.state.block h.request refl keeps is
   where
     b : Block (List ℕ)
     b = h.state.block n
 
     apart : (r from : ℕ) (k : Cap) → b.service ≡ Waits r true from k → r ≡ c → ⊥
     apart r from k e same =
-        let wants = own_wants (b.pair r) (view b.service r) ((inv.blocks n).phases r) (rw (e, same_number r) refl) in
+        let wants = own_wants _ _ ((inv.blocks n).phases r) (rw (e, same_number r) refl) in
         let no : false ≡ true = rw calm at (rw same at wants) in
         cc
 
@@ -125,9 +122,9 @@ pub asked-acquired : {w : ℕ} {caching : ℕ → Bool} (c : ℕ) (o : Op w) (r 
 asked-acquired c (Op.Store address size value) Reply.Stored h inv may is = unmoved (block_at address)
     (stored_block c (copy_stored address size value ((h.state.block (block_at address)).copy c))
     (h.state.block (block_at address))) h.state.block h.request refl (λ r from k e. (refl, refl)) is
-asked-acquired {caching} c (Op.Acquire n g) (Reply.Started source) h inv may is =
+asked-acquired c (Op.Acquire n g) (Reply.Started source) h inv may is =
     acquiring-acquired c n source false g ((h.state.block n).waiting c) h inv may.2 is
-asked-acquired {caching} c (Op.AcquireWhole n bytes) (Reply.Started source) h inv may is =
+asked-acquired c (Op.AcquireWhole n bytes) (Reply.Started source) h inv may is =
     acquiring-acquired c n source true (whole_grow ((h.state.block n).pair c).held) bytes h inv may.2 is
 asked-acquired c (Op.Release n p) (Reply.Started source) h inv may is = unmoved n (releasing_block c source p
     (h.state.block n)) h.state.block h.request refl (unwanting c (after_release p ((h.state.block n).pair c))

@@ -38,7 +38,7 @@ IsHandedOut c (Op.Acquire n g) (Reply.Started source) h m =
     m ≡ Some (Message.A (acquisition OpA.AcquireBlock g source n))
 IsHandedOut c (Op.AcquireWhole n bytes) (Reply.Started source) h m =
     m ≡ Some (Message.A (acquisition OpA.AcquirePerm (whole_grow ((h.state.block n).pair c).held) source n))
-IsHandedOut {w} c (Op.Release n p) (Reply.Started source) h m = m ≡ Some (release p source n (h.state.block n).truth)
+IsHandedOut c (Op.Release n p) (Reply.Started source) h m = m ≡ Some (release p source n (h.state.block n).truth)
 IsHandedOut c (Op.Access (Message.A x)) (Reply.Started source) h m = m ≡ Some (access source x)
 IsHandedOut c o r h m = m ≡ None
 
@@ -112,25 +112,24 @@ asked-well {w} config log h sys c terms o width is known = asked-cases terms o e
 
     free_source : is_none (free_request terms e.past) ≡ false
         → s.uses c (source_or_0 (free_request terms e.past)) ≡ SourceFree
-    free_source one = unused c (source_or_0 (free_request terms e.past)) is
-        (least_free-some (λ i. pending (RequestSource i) e.past) 0 terms.sources one).0
+    free_source one = unused c _ is (least_free-some (λ i. pending (RequestSource i) e.past) 0 terms.sources one).0
 
     unopened : (source : ℕ) → s.uses c source ≡ SourceFree → m.opened c Requests source ≡ None
-    unopened source used = go (s.uses c source) used (is.beside.requests c source)
+    unopened source used = go _ used (is.beside.requests c source)
       where
         go : (u : SourceState) → u ≡ SourceFree → IsOpened c source h.mail s u (m.opened c Requests source)
             → m.opened c Requests source ≡ None
-        go u f i = subst (λ (v : SourceState). IsOpened c source h.mail s v (m.opened c Requests source)) f i
+        go u f i = subst (λ v. IsOpened c source h.mail s v (m.opened c Requests source)) f i
 
     transfers : (n : ℕ) → (pending (AcquireOf n) e.past || pending (ReleaseOf n) e.past) ≡ false
         → (((s.block n).pair c).acquiring ≡ NoAcquire) × (((s.block n).pair c).letting ≡ NoRelease)
     transfers n none =
         let parts = or_parts (pending (AcquireOf n) e.past) (pending (ReleaseOf n) e.past) none in
-        let fact = kept-letting ((s.block n).pair c).letting (sym ((is.known c).releases n) ∙ parts.1) in
+        let fact = kept-letting _ (sym ((is.known c).releases n) ∙ parts.1) in
         (calm-is ((s.block n).pair c).acquiring (sym ((is.known c).acquires n) ∙ parts.0), fact)
 
     caching : not (has_transfers terms.level) ≡ false → is_caching config c ≡ true
-    caching four = caches config c terms.level level_is (not-false (has_transfers terms.level) four)
+    caching four = caches config c _ level_is (not-false (has_transfers terms.level) four)
 
     load_well : (address size : ℕ) (p : Perm) → ((s.block (block_at address)).pair c).held ≡ p
         → is_word address size ≡ true → IsAskedWell config c (Op.Load address size) h m (load address size p e)
@@ -144,7 +143,7 @@ asked-well {w} config log h sys c terms o width is known = asked-cases terms o e
           word = tt;
           source = tt;
           reply = tt;
-          replies = let fact = loaded_number m.memory address size (s.block (block_at address)).truth
+          replies = let fact = loaded_number m.memory address size _
               (word_room address size word) (is.beside.memory (block_at address)) in
               cc (copy_is (block_at address) some);
           message = refl;
@@ -155,7 +154,7 @@ asked-well {w} config log h sys c terms o width is known = asked-cases terms o e
       word = tt;
       source = tt;
       reply = tt;
-      replies = let fact = loaded_number m.memory address size (s.block (block_at address)).truth
+      replies = let fact = loaded_number m.memory address size _
           (word_room address size word) (is.beside.memory (block_at address)) in
           cc (copy_is (block_at address) (ap (λ p. same_perm p Perm.None) f));
       message = refl;
@@ -215,10 +214,10 @@ asked-well {w} config log h sys c terms o width is known = asked-cases terms o e
         }
     well (Op.Release n p) free =
         let unlet : (source : ℕ) → s.lets c source ≡ None → m.opened c Releases source ≡ None = λ source none. subst
-        (λ (l : Option ℕ). IsLet l (m.opened c Releases source)) none (is.beside.releases c source) in
+        (λ l. IsLet l (m.opened c Releases source)) none (is.beside.releases c source) in
         let source = source_or_0 (free_release terms e.past) in
         let open_ = (least_free-some (λ i. pending (ReleaseSource i) e.past) 0 terms.sources free.b1).0 in
-        let none = no_let (s.lets c source) (sym ((is.opened c).releases source) ∙ open_) in
+        let none = no_let _ (sym ((is.opened c).releases source) ∙ open_) in
         let still = transfers n free.b2 in
         let begins : same_perm (prune_left p) ((s.block n).pair c).held ≡ true =
         cc (held_is n, not-false (same_perm (prune_left p) (held_at e n)) free.b3) in

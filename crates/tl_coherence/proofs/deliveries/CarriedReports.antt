@@ -6,13 +6,13 @@ use Rattle.tl_coherence.proofs
 use proofs.Imports.{or-true, cases_eq, same_Some, Beat, Channel, IsWidth, Message, MessageA, beat_of, unfinished}
 use proofs.Imports.{completes, Config, Cap, Report, Perm, prune_left, same_perm, is_acquire, EndConfig, End, Handed}
 use proofs.Imports.{access_answer, cap_probed, reaction, Deliver, Outcome, IsInvariant, IsWell, Grant, Kind, Packet}
-use proofs.Imports.{ProbeAck, Release, ReleaseAck, set, AcquireOpen, AcquirePhase, ClientBlock, NoAcquire}
-use proofs.Imports.{ProbeAnswered, is_unprobed, after_report, is_granted_data, Block, Free, GrantSent, GrantTaken}
-use proofs.Imports.{Service, Waits, ended_block, granted_block, let_block, packet, release_taken, report_taken, view}
-use proofs.Imports.{shown, AbstractState, abstract_step, ack_taken, answers, granted_after, last_taken, packet_taken}
-use proofs.Imports.{performs, with_state, some_below, ChannelRelation, prune_told, report_told, block_message}
-use proofs.Imports.{SimulationRelation, is_caching, IsFor, receiver, Log, Step, handing, is_to_client, stepped, System}
-use proofs.Imports.{channel_of_message, terms_at, with_channel, with_manager, with_messages}
+use proofs.Imports.{ProbeAck, Release, ReleaseAck, set, AcquireOpen, AcquirePhase, NoAcquire, ProbeAnswered}
+use proofs.Imports.{is_unprobed, after_report, is_granted_data, Block, Free, GrantSent, GrantTaken, Service, Waits}
+use proofs.Imports.{ended_block, granted_block, let_block, packet, release_taken, report_taken, view, shown}
+use proofs.Imports.{AbstractState, abstract_step, ack_taken, answers, granted_after, last_taken, packet_taken, performs}
+use proofs.Imports.{with_state, some_below, ChannelRelation, prune_told, report_told, block_message, SimulationRelation}
+use proofs.Imports.{is_caching, IsFor, receiver, Log, handing, is_to_client, stepped, System, channel_of_message}
+use proofs.Imports.{terms_at, with_channel, with_manager, with_messages}
 use Rattle.tl_coherence.specs.protocol.Protocol as protocol
 use Rattle.tl_rules.specs.declared.answer.Answer.{Answer}
 use Rattle.tl_rules.specs.declared.answer.Answer as answers_of
@@ -25,11 +25,11 @@ use proofs.queues.Facts.{answered_other, is_other, own_wants}
 use proofs.manager.{Memories.left, Memories.others_probed, ManagerTakes.IsTakenUp, ManagerTakes.by-first_c}
 use proofs.manager.{Admitted.head_all, Choices.plain-past, ManagerSettles.gift_after, Reporting.report-about}
 use proofs.manager.{Reporting.release-about, RequestsTaken.invariant-taken, RequestsTaken.next_tracker}
-use proofs.deliveries.ManagerFollowed.{client-of, step-taken, followed-taken}
 use proofs.deliveries.ManagerDelivered.{pushed, Delivered, channel_c-delivered, pushed_by, releases-delivered}
 use proofs.deliveries.ManagerDelivered.{reports-delivered, pushed_last, seen_apart}
-use proofs.simulation.CarriedEvents.{release_taken-shown, report_taken-shown, report_answers-shown, report_grants-shown}
+use proofs.deliveries.ManagerFollowed.{client-of, step-taken, followed-taken}
 use proofs.simulation.Moved.{carried-part, manager-heard}
+use proofs.simulation.CarriedEvents.{release_taken-shown, report_taken-shown, report_answers-shown, report_grants-shown}
 use proofs.protocol.{RequestsKept.leaves-bytes, RequestsKept.settled_all, Granted.recorded_within}
 use proofs.protocol.BothParts.{taken-unseen, granted-unseen, first-report}
 use proofs.rank.RankParts.{serving-use}
@@ -41,8 +41,7 @@ unrecorded : {caching : ℕ → Bool} (c q source : ℕ) (r : Report) (f : List 
     → IsWell caching b → b.service ≡ Waits q false source Cap.ToN → (b.pair c).probing ≡ ProbeAnswered r
     → ((d : ℕ) → (d ≡ c → ⊥) → is_unprobed (b.pair d).probing ≡ true) → (d : ℕ)
     → same_perm ((ended_block c r f b).pair d).recorded Perm.None ≡ true
-unrecorded c q source r f {b} well waits answered settled d =
-    nothing_below (set c (after_report r (b.pair c)) b.pair d).recorded Perm.None
+unrecorded c q source r f {b} well waits answered settled d = nothing_below _ Perm.None
     (recorded_within c r Cap.ToN well answered settled (rw waits refl) d (rw waits refl)) refl
 
 pub ended-bytes : {w : ℕ} {caching : ℕ → Bool} (c q source : ℕ) (r : Report) (k : Cap) (m : MessageA w)
@@ -69,7 +68,7 @@ ended-bytes {w} {caching} c q source r k m {b} before after waits answered settl
           cc)
       | inr other ↦ rw (set-other c i (after_report r (b.pair c)) b.pair other) refl
     ]
-    kept Release e = sym (set-part (λ (p : ClientBlock). same_perm (prune_left (prune_told p.letting)) Perm.Trunk) c
+    kept Release e = sym (set-part (λ p. same_perm (prune_left (prune_told p.letting)) Perm.Trunk) c
         (after_report r (b.pair c)) b.pair refl i)
     kept Grant e = rw waits refl
     kept x e = refl
@@ -96,8 +95,7 @@ landed-taken {w} {config} {c} {ch} {x} queue sys t handed pushes width kept type
     let e : End w = left c x (reaction config (record { 0 = c }) x sys.manager) sys.manager in
     let base : System w = with_manager e (with_channel c ch queue sys) in
     let step = step-taken config c ch x queue sys t terms beats down up in
-    subst (λ (i : Step w). IsLanded c ch x queue pushes sys i.after)
-    (sym (step ∙ ap (λ (i : Handed w). handing (Outcome.Moved x) i base) is))
+    subst (λ i. IsLanded c ch x queue pushes sys i.after) (sym (step ∙ ap (λ i. handing (Outcome.Moved x) i base) is))
     (landed-manager c ch x queue pushes handed e sys down beats on_ch (manager-heard config
     (record { 0 = c }) ch x queue sys (stepped config (Deliver (record { 0 = c }) ch) sys) width typed kept
     (record { takes = up.answer; step_is = step })) (pushed base))
@@ -118,12 +116,11 @@ landed-received : {w : ℕ} {config : Config} {log : Log w} {h : AbstractState w
     → IsReceived config log h sys c ch x queue → (reaction config (record { 0 = c }) x sys.manager).handed ≡ handed
     → ((s : System w) (d : ℕ) (at : Channel) → (with_messages handed s).channels d at ≡ behind (pushes d at)
     (s.channels d at)) → IsLanded c ch x queue pushes sys (stepped config (Deliver (record { 0 = c }) ch) sys).after
-landed-received {w} {config} {sys} {c} {ch} {x} {queue} handed pushes at is pushed =
+landed-received {config} {sys} {c} {ch} {x} {queue} handed pushes at is pushed =
     let t = client-of config c ch x queue sys at.beats (at.is.sound c ch) in
-    landed-taken queue sys t.0 handed pushes at.width at.is.manager_kept
-    (head_all (λ y. manager.IsSound config (record { 0 = c }, y)) x queue (sys.channels c ch) at.beats
-    (at.is.sound c ch)).typed at.down at.on_ch t.1
-    at.beats at.up is pushed
+    landed-taken queue sys t.0 _ pushes at.width at.is.manager_kept (head_all (λ y. manager.IsSound config
+    (record { 0 = c }, y)) x queue (sys.channels c ch) at.beats (at.is.sound c ch)).typed at.down at.on_ch t.1 at.beats
+    at.up is pushed
 
 -- the channels then
 abbrev pub CarriesAfter : {w : ℕ} → Config → ℕ → Channel → System w → AbstractState w → Type 0
@@ -135,7 +132,7 @@ pub part-carried : {w : ℕ} {config : Config} {log : Log w} {h : AbstractState 
     {x : Beat w} {queue : List (Beat w)}
     → IsReceived config log h sys c ch x queue → (reaction config (record { 0 = c }) x sys.manager).handed ≡ []
     → completes x (unfinished ch (receiver ch c sys)) ≡ false → CarriesAfter config c ch sys h
-part-carried {config} {log} {h} {sys} {c} {ch} {x} {queue} at none part = carried-part h.mail h.state at.width
+part-carried {h} at none part = carried-part h.mail h.state at.width
     (landed-received [] no_pushes at none no-messages) (λ d i. refl) part at.is.carried
 
 -- its last beat, for which one message is handed out, or none
@@ -178,9 +175,8 @@ reports-last : {w : ℕ} {config : Config} {log : Log w} {h : AbstractState w} {
     (ack_taken (length config.clients.items) config.profile c n (report_told ((h.state.block n).pair c).probing) rest h)
     → CarriesAfter config c Channel.C sys (ack_taken (length config.clients.items) config.profile c n
     (report_told ((h.state.block n).pair c).probing) rest h)
-reports-last {w} {config} {log} {h} {sys} {c} n rest {x} {queue} at tokens whole handed =
-    others (some_below (length config.clients.items) (others_probed c b.pair)) refl
-    (invariant-taken h c ProbeAck n rest at.is tokens tt) handed
+reports-last {w} {config} {log} {h} {sys} {c} n rest {x} {queue} at tokens whole handed = others (some_below (length
+    config.clients.items) (others_probed c b.pair)) refl (invariant-taken h c ProbeAck n rest at.is tokens tt) handed
   where
     b : Block (List ℕ)
     b = h.state.block n
@@ -198,7 +194,7 @@ reports-last {w} {config} {log} {h} {sys} {c} n rest {x} {queue} at tokens whole
     answered = first-report inv tokens
 
     seen : is_other (view b.service c) ≡ true
-    seen = answered_other r (b.pair c) (view b.service c) ((inv.blocks n).phases c) answered
+    seen = answered_other r _ _ ((inv.blocks n).phases c) answered
 
     Hands : Handed w → Type 0
     Hands pushes = (reaction config (record { 0 = c }) x sys.manager).handed ≡ pushes
@@ -222,7 +218,7 @@ reports-last {w} {config} {log} {h} {sys} {c} n rest {x} {queue} at tokens whole
         (later.blocks n)) f answered (settled_all (length config.clients.items) (is_caching config) c b.pair
         (plain-past config) (inv.blocks n).outside alone) for.0 for.3 (at.is.sized n).truth) (answer_on_d v _))
         (last-handing q said at (one ∙ rw (set_at-same q source said h.mail.answer) refl) whole) at.is.carried
-    last alone (Waits q true source low) f later one = go (b.pair q).acquiring refl later one
+    last alone (Waits q true source low) f later one = go _ refl later one
       where
         go : (y : AcquirePhase) → (b.pair q).acquiring ≡ y
             → IsInvariant (is_caching config) (granted_after (length config.clients.items) config.profile c q n r y rest
@@ -233,7 +229,7 @@ reports-last {w} {config} {log} {h} {sys} {c} n rest {x} {queue} at tokens whole
             ) ∷ [])
             → CarriesAfter config c Channel.C sys (granted_after (length config.clients.items) config.profile c q n r y
             rest h)
-        go NoAcquire g then_well one = absurd (let wants = own_wants (b.pair q) (view b.service q)
+        go NoAcquire g then_well one = absurd (let wants = own_wants _ _
             ((inv.blocks n).phases q) (rw (f, same_number q) refl) in let none : false ≡ true = rw g at wants in cc)
         go (AcquireOpen whole_block grow) g then_well one =
             let d = is_granted_data whole_block grow (b.pair q).recorded in
@@ -274,18 +270,15 @@ received_on : {w : ℕ} {config : Config} {log : Log w} (h : AbstractState w) {s
     (queue : List (Beat w)) → IsWidth w → SimulationRelation config log h.mail h.request h.state sys
     → sys.channels c Channel.C ≡ x ∷ queue → IsOn Channel.C x
 unfolding block_message
-received_on {w} {config} h {sys} c x queue width is beats =
-    by-first_c (λ i. IsOn Channel.C x) c h.mail h.state sys x queue (first-token (is_caching config) Channel.C c h.mail
-    h.state sys x queue width is.invariant is.carried beats)
+received_on {config} h {sys} c x queue width is beats = by-first_c (λ i. IsOn Channel.C x) c h.mail h.state sys x
+    queue (first-token (is_caching config) Channel.C c h.mail h.state sys x queue width is.invariant is.carried beats)
     (λ n rest tokens next.
-    let m = report-about (report_told ((h.state.block n).pair c).probing) n (h.state.block n).truth width
-    (is.sized n).truth in
-    subst (IsOn Channel.C) (sym (next.beat_is ∙ ap (λ (i : Message w). beat_of i next.k) m.1))
-    (on_own_channel (beat_of (Message.C m.0) next.k)))
-    (λ n rest tokens next.
+    let m = report-about (report_told ((h.state.block n).pair c).probing) n _ width (is.sized n).truth in
+    subst (IsOn Channel.C) (sym (next.beat_is ∙ ap (λ i. beat_of i next.k) m.1))
+    (on_own_channel (beat_of (Message.C m.0) next.k))) (λ n rest tokens next.
     let m = release-about (prune_told ((h.state.block n).pair c).letting) ((h.state.block n).release_source c) n
-    (h.state.block n).truth width (is.sized n).truth in
-    subst (IsOn Channel.C) (sym (next.beat_is ∙ ap (λ (i : Message w). beat_of i next.k) m.1))
+    _ width (is.sized n).truth in
+    subst (IsOn Channel.C) (sym (next.beat_is ∙ ap (λ i. beat_of i next.k) m.1))
     (on_own_channel (beat_of (Message.C m.0) next.k)))
 
 -- the channels after a delivery on C, as the protocol follows it
@@ -295,15 +288,13 @@ pub carried-followed_c : {w : ℕ} {config : Config} {log : Log w} (h : Abstract
     → CarriesAfter config c Channel.C sys (abstract_step config (Deliver (record { 0 = c }) Channel.C) sys h)
 carried-followed_c {w} {config} {log} h {sys} c x queue width is beats =
     let t = client-of config c Channel.C x queue sys beats (is.sound c Channel.C) in
-    subst (CarriesAfter config c Channel.C sys)
-    (sym (followed-taken queue sys h t.0 t.1 beats refl any.up))
+    subst (CarriesAfter config c Channel.C sys) (sym (followed-taken queue sys h t.0 t.1 beats refl any.up))
     (by-first_c (λ i. CarriesAfter config c Channel.C sys
     (if completes x before then packet_taken config (next_tracker sys) c i h else h)) c h.mail h.state sys x queue
     (first-token (is_caching config) Channel.C c h.mail h.state sys x queue width is.invariant is.carried beats)
     (λ n rest tokens next.
     let d = reports-delivered h c n rest width is beats tokens next in
-    by-place _ _ at d.handed (λ whole one. reports-last n rest at tokens whole one))
-    (λ n rest tokens next.
+    by-place _ _ at d.handed (λ whole one. reports-last n rest at tokens whole one)) (λ n rest tokens next.
     let d = releases-delivered h c n rest width is beats tokens next in
     by-place _ _ at d.handed (λ whole one. releases-last n rest tokens whole one)))
   where

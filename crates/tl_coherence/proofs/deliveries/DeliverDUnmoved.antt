@@ -12,7 +12,7 @@ use proofs.Imports.{kind_taken, packet_taken, IsCarried, ChannelRelation, Memory
 use proofs.Imports.{block_message, SimulationRelation, receiver, is_moving, Log, system_after, Machine, Releases}
 use proofs.Imports.{Requests, after_end, moved, pool_of, accesses_answered, one_memory_after, performing, Step}
 use proofs.Imports.{client_took, handed_by, is_to_client, judged, manager_took, only, stepped_at, stepped, System}
-use proofs.Imports.{terms_at, with_channel, with_client, with_manager, with_messages}
+use proofs.Imports.{with_channel, with_client, with_manager, with_messages}
 use Rattle.tl_coherence.specs.statement.Step as step
 use Rattle.tl_client.specs.statement.Offer as offer
 use Rattle.tl_client.proofs.messages.Calls.{refusal-offered}
@@ -74,9 +74,9 @@ pub record IsLastBeat {w : ℕ} (c : ℕ) (x : Beat w) (queue : List (Beat w)) (
 taken_d : {w : ℕ} {c : ℕ} {x : Beat w} {queue : List (Beat w)} {sys : System w} {mm : MessageD w}
     (m : Option (Message w)) → IsLastBeat c x queue sys mm
     → IsTaken c Channel.D x queue (pushes_at c (pushes_of m)) sys (after_heard c Channel.D x queue sys m)
-taken_d {w} {c} {x} {queue} {sys} m is =
+taken_d {c} {x} {queue} {sys} m is =
     taken-landed (landed-client c Channel.D x queue m (offer.taken x (sys.clients c)).after sys refl is.first
-    (subst (λ (z : Beat w). IsOn Channel.D z) (sym is.x_is) (on_own_channel (Beat.D is.y))) is.heard) is.last
+    (subst (λ z. IsOn Channel.D z) (sym is.x_is) (on_own_channel (Beat.D is.y))) is.heard) is.last
 
 finish_pool_is : {w : ℕ} {c : ℕ} {x : Beat w} {queue : List (Beat w)} {sys : System w} {mm : MessageD w}
     (is : IsLastBeat c x queue sys mm)
@@ -93,15 +93,15 @@ pub responded-answer : {w : ℕ} {config : Config} {log : Log w} (h : AbstractSt
     (finish_at is.y (sys.clients c)) (acked is.y.opcode is.y.sink) (kind_taken config (next_tracker sys) c Answer source
     rest h)
 unfolding accesses_answered
-responded-answer {w} {config} {log} h {sys} {c} {source} rest {x} {queue} due width matched first is =
-    let plain = access_kind due.answer.opcode due.answers_access in
-    let none = acked_none is.y.opcode is.y.sink (ap is_grant is.opcode ∙ plain.0) in
+responded-answer h {sys} {c} {source} rest due width matched first is =
+    let plain = access_kind _ due.answers_access in
+    let none = acked_none _ is.y.sink (ap is_grant is.opcode ∙ plain.0) in
     let pool : pool_of (finish_at is.y (sys.clients c)) ≡ Requests = finish_pool_is is ∙ rw plain.1 refl in
     record {
       carried = rw none (carried-shown width (answer_taken-shown c source rest h.mail matched.invariant
           (invariant-taken h c Answer source rest matched first tt) first) (taken_d None is) matched.carried);
       beside = rw pool (rw (is.source ∙ due.from) (beside-answer c source rest due.used matched.beside));
-      quiet = ap (λ (m : Option (Message w)). accesses_answered (handed_by c m)) none;
+      quiet = ap (λ m. accesses_answered (handed_by c m)) none;
     }
 
 pub responded-release_ack : {w : ℕ} {config : Config} {log : Log w} (h : AbstractState w) {sys : System w} {c : ℕ}
@@ -112,14 +112,14 @@ pub responded-release_ack : {w : ℕ} {config : Config} {log : Log w} (h : Abstr
     → IsResponded c x queue sys (one_memory_after config log) is.y.source (finish_at is.y (sys.clients c))
     (acked is.y.opcode is.y.sink) (kind_taken config (next_tracker sys) c ReleaseAck n rest h)
 unfolding accesses_answered
-responded-release_ack {w} {config} {log} h {sys} {c} n rest {x} {queue} width matched first open_ is =
-    let none : acked {w = w} is.y.opcode is.y.sink ≡ None = acked_none is.y.opcode is.y.sink (ap is_grant is.opcode) in
+responded-release_ack {w} h {c} n rest width matched first open_ is =
+    let none : acked {w = w} is.y.opcode is.y.sink ≡ None = acked_none _ is.y.sink (ap is_grant is.opcode) in
     record {
       carried = rw none (carried-shown width (release_ack_taken-shown c n rest h.mail matched.invariant
           (invariant-taken h c ReleaseAck n rest matched first tt) first) (taken_d None is) matched.carried);
       beside =
           rw (finish_pool_is is) (rw is.source (beside-release_ack c n rest matched.invariant open_ matched.beside));
-      quiet = ap (λ (m : Option (Message w)). accesses_answered (handed_by c m)) none;
+      quiet = ap (λ m. accesses_answered (handed_by c m)) none;
     }
 
 rendered_ack : {w : ℕ} (c n : ℕ) (whole d : Bool) (k : Cap) (b : Block (List ℕ))
@@ -147,11 +147,11 @@ responded-grant {w} {config} {log} h {sys} {c} {n} rest {x} {queue} due width ma
       (rw same at (invariant-taken h c Grant n rest matched first tt)) first due.service bare refl
       (rendered_ack c n due.whole due.data_too due.k (h.state.block n)))
       (taken_d (Some (grant_ack (h.state.block n).tracker)) is) matched.carried);
-  beside = rw pool (subst (λ (i : ℕ). MemoryRelation h.mail (grant_taken c n due.whole due.data_too due.k rest h.state)
+  beside = rw pool (subst (λ i. MemoryRelation h.mail (grant_taken c n due.whole due.data_too due.k rest h.state)
       (after_end c Requests i ((one_memory_after config log).opened c Requests i) (one_memory_after config log)))
       (sym is.source) (rw (ap is_whole due.wants) at
       (beside-grant c n due.data_too due.k rest matched.invariant (ap is_wanting due.wants) matched.beside)));
-  quiet = ap (λ (m : Option (Message w)). accesses_answered (handed_by c m)) some;
+  quiet = ap (λ m. accesses_answered (handed_by c m)) some;
 })
   where
     mm : MessageD w
@@ -198,7 +198,7 @@ bare {w} {c} {n} h due inv j i before now = go due.whole refl
     go : (x : Bool) → due.whole ≡ x → (carries j i b ≡ false)
         ⊎ ((taken_block c due.whole due.data_too due.k b).truth ≡ b.truth)
     go true e = inl (told e (cases_eq i c))
-    go false e = inr (ap (λ (x : Bool). (taken_block c x due.data_too due.k b).truth) e)
+    go false e = inr (ap (λ x. (taken_block c x due.data_too due.k b).truth) e)
 
 -- ---- a delivery that moves no beat
 
@@ -223,7 +223,7 @@ pub unmoved : {w : ℕ} (config : Config) (link : Link) (ch : Channel) (sys : Sy
     → is_moving (stepped config (Deliver link ch) sys).outcome ≡ false
     → IsUnmoved sys (stepped config (Deliver link ch) sys)
 unfolding stepped manager_offer.offered
-unmoved {w} config link ch sys still = at (terms_at config link.0) still
+unmoved {w} config link ch sys still = at _ still
   where
     c : ℕ
     c = link.0
@@ -254,13 +254,13 @@ unmoved {w} config link ch sys still = at (terms_at config link.0) still
             sys).outcome ≡ false → IsUnmoved sys
             (if b then client_took c ch x queue (offer.offered terms ch x (sys.clients c)) sys else manager_took c ch x
             queue (manager_offer.offered config (record { 0 = c }) ch x sys.manager) sys)
-        to true s = by_client terms x queue (offer.offered terms ch x (sys.clients c)).answer refl s
-        to false s = by_manager x queue (manager_offer.judged config (record { 0 = c }) ch x sys.manager) s
+        to true s = by_client terms x queue _ refl s
+        to false s = by_manager x queue _ s
 
     at : (o : Option client.EndConfig) → is_moving (stepped_at config o (Deliver link ch) sys).outcome ≡ false
         → IsUnmoved sys (stepped_at config o (Deliver link ch) sys)
     at None s = only_unmoved Outcome.NoSuchClient sys (λ l i m. refl)
-    at (Some terms) s = delivered_to terms (sys.channels c ch) s
+    at (Some terms) s = delivered_to terms _ s
 
 carried-unmoved : {w : ℕ} (mail : AccessMessages w) (s : State (List ℕ)) {sys : System w} {x : Step w}
     → IsUnmoved sys x → ChannelRelation mail s sys → ChannelRelation mail s x.after
@@ -276,7 +276,7 @@ beside-unmoved : {w : ℕ} (config : Config) (log : Log w) {mail : AccessMessage
     → MemoryRelation mail s (one_memory_after config
     ((Deliver link ch, (stepped config (Deliver link ch) (system_after config log)).outcome) ∷ log))
 unfolding one_memory_after performing accesses_answered
-beside-unmoved {w} config log link ch is h = rw (is.handed, is.machine link ch (one_memory_after config log)) h
+beside-unmoved config log link ch is h = rw (is.handed, is.machine link ch (one_memory_after config log)) h
 
 -- ---- the channels and the one memory after a delivery
 
@@ -297,14 +297,13 @@ pub delivered_as : {w : ℕ} (config : Config) (log : Log w) (link : Link) (ch :
     → MemoryRelation h'.mail h'.state
     (one_memory_after config ((Deliver link ch, (stepped config (Deliver link ch) (system_after config log)).outcome)
     ∷ log)) → IsDelivered config log link ch h
-delivered_as {w} config log link ch h h' e carried beside = record { carried = rw e carried; beside = rw e beside }
+delivered_as config log link ch h h' e carried beside = record { carried = rw e carried; beside = rw e beside }
 
 pub delivered-unmoved : {w : ℕ} {config : Config} {log : Log w} (link : Link) (ch : Channel) (h : AbstractState w)
     → SimulationRelation config log h.mail h.request h.state (system_after config log)
     → is_moving (stepped config (Deliver link ch) (system_after config log)).outcome ≡ false
     → IsDelivered config log link ch h
-delivered-unmoved {w} {config} {log} link ch h is still =
-    let no = unmoved config link ch (system_after config log) still in
-    delivered_as config log link ch h h (followed-still config link ch (system_after config log) h still)
-    (carried-unmoved h.mail h.state no is.carried)
-    (beside-unmoved config log link ch no is.beside)
+delivered-unmoved {config} {log} link ch h is still =
+    let no = unmoved config link ch _ still in
+    delivered_as _ log link ch h h (followed-still config link ch (system_after config log) h still)
+    (carried-unmoved h.mail h.state no is.carried) (beside-unmoved config log link ch no is.beside)

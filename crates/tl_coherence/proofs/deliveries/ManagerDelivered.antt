@@ -7,13 +7,13 @@ use Rattle.tl_coherence.proofs
 use proofs.Imports.{Beat, BeatE, Channel, IsWidth, Message, MessageA, MessageC, beats_of, begun, c_beat_of, unfinished}
 use proofs.Imports.{completes, Config, Cap, Grow, Prune, Report, Perm, grow_code, prune_code, prune_left, report_code}
 use proofs.Imports.{report_left, broken_in_order, same_perm, on_link, reaction-ack, reaction-part, whole-e, End, Handed}
-use proofs.Imports.{Reaction, reaction, IsInvariant, IsOwnSource, IsWell, Acquire, Grant, GrantAck, Kind, Packet}
-use proofs.Imports.{ProbeAck, Release, ReleaseAck, set, Acknowledging, AcquireOpen, AcquirePhase, GrantedOther}
-use proofs.Imports.{Granting, NoAcquire, Other, Own, ProbeAnswered, View, is_granted_data, Acquires, Block, Free}
-use proofs.Imports.{GrantSent, GrantTaken, Service, Waits, grant_ack_taken, granted_block, let_block, packet}
-use proofs.Imports.{release_taken, report_taken, view, is_wanting, AbstractState, ack_taken, acquire_opcode, answers}
-use proofs.Imports.{granted_after, last_taken, packet_taken, with_state, some_below, prune_told, report_told}
-use proofs.Imports.{block_message, IsAcquireOf, SimulationRelation, is_caching, IsFor, Log, System}
+use proofs.Imports.{reaction, IsInvariant, IsOwnSource, IsWell, Acquire, Grant, GrantAck, Kind, Packet, ProbeAck}
+use proofs.Imports.{Release, ReleaseAck, set, Acknowledging, AcquireOpen, AcquirePhase, GrantedOther, Granting}
+use proofs.Imports.{NoAcquire, Other, Own, ProbeAnswered, View, is_granted_data, Acquires, Block, Free, GrantSent}
+use proofs.Imports.{GrantTaken, Service, Waits, grant_ack_taken, granted_block, let_block, packet, release_taken}
+use proofs.Imports.{report_taken, view, is_wanting, AbstractState, ack_taken, acquire_opcode, answers, granted_after}
+use proofs.Imports.{last_taken, packet_taken, with_state, some_below, prune_told, report_told, block_message}
+use proofs.Imports.{IsAcquireOf, SimulationRelation, is_caching, IsFor, Log, System}
 use Rattle.tl_coherence.specs.protocol.Protocol as protocol
 use Rattle.tl_manager.specs.code.Kept as manager
 use proofs.manager.{RequestsTaken.invariant-taken, Accounts.at_manager-matched, ManagedGrants.IsAcked}
@@ -34,12 +34,12 @@ wanted_fields : {w : ℕ} (q n : ℕ) (whole : Bool) (g : Grow) (b : Block (List
     → (b.pair q).acquiring ≡ AcquireOpen whole g
     → block_message Acquire q n b ≡ Message.A v → (v.opcode ≡ acquire_opcode whole) × (v.param ≡ grow_code g)
 unfolding block_message
-wanted_fields {w} q n true g b v wants e =
+wanted_fields q n true g b v wants e =
     let same = same_message _ v (rw wants at e) in
-    (ap (λ (m : MessageA w). m.opcode) (sym same), ap (λ (m : MessageA w). m.param) (sym same))
-wanted_fields {w} q n false g b v wants e =
+    (ap (λ m. m.opcode) (sym same), ap (λ m. m.param) (sym same))
+wanted_fields q n false g b v wants e =
     let same = same_message _ v (rw wants at e) in
-    (ap (λ (m : MessageA w). m.opcode) (sym same), ap (λ (m : MessageA w). m.param) (sym same))
+    (ap (λ m. m.opcode) (sym same), ap (λ m. m.param) (sym same))
 
 -- what a client sees that has answered a Probe
 pub seen_apart : (q source : ℕ) (k : Cap) (c : ℕ) → is_other (view (Waits q true source k) c) ≡ true → c ≡ q → ⊥
@@ -100,7 +100,7 @@ reported-last {w} {config} {log} h {sys} {c} {n} {k} rest {m} is tokens answered
         × ((reaction config (record { 0 = c }) x e).handed ≡ pushes)
 
     seen : is_other (view b.service c) ≡ true
-    seen = answered_other r (b.pair c) (view b.service c) ((is.invariant.blocks n).phases c) answered
+    seen = answered_other r _ _ ((is.invariant.blocks n).phases c) answered
 
     unseen : (x : Bool) (u v : View) → is_other u ≡ false → is_other v ≡ false → is_other (if x then u else v) ≡ true
         → ⊥
@@ -124,7 +124,7 @@ reported-last {w} {config} {log} h {sys} {c} {n} {k} rest {m} is tokens answered
           is = at_manager-matched is;
         } in (
           ended-left rest at,
-          ap (λ (d : Reaction w). d.handed) (reaction-ended at) ∙ rw
+          ap (λ d. d.handed) (reaction-ended at) ∙ rw
               (set_at-same q source (answers (h.request n) (protocol.written r b.truth b.memory)) h.mail.answer) refl,
         )
     last alone (Waits q true source low) f inv = go (b.pair q).acquiring refl inv
@@ -134,11 +134,11 @@ reported-last {w} {config} {log} h {sys} {c} {n} {k} rest {m} is tokens answered
             rw f at ((is.invariant.blocks n).own_source) in here
 
         wants : is_wanting (b.pair q).acquiring ≡ true
-        wants = not-calm (b.pair q).acquiring
+        wants = not-calm _
             (own_wants (b.pair q) (view b.service q) ((is.invariant.blocks n).phases q) (rw (f, same_number q) refl))
 
         used : h.state.uses q source ≡ Acquires n
-        used = acquires_of-is n (h.state.uses q source)
+        used = acquires_of-is n _
             (is.invariant.named.acquires q source n ∙ rw (wants, ← own_source, same_number source) refl)
 
         go : (y : AcquirePhase) → (b.pair q).acquiring ≡ y
@@ -152,7 +152,7 @@ reported-last {w} {config} {log} h {sys} {c} {n} {k} rest {m} is tokens answered
         go NoAcquire g after = absurd (let none : false ≡ true = rw g at wants in cc)
         go (AcquireOpen whole grow) g after =
             let fields = wanted_fields q n whole grow b (h.request n) g
-            (subst (λ (v : Service). IsAcquireOf n b v (h.request n)) f (is.acquired n)) in
+            (subst (λ v. IsAcquireOf n b v (h.request n)) f (is.acquired n)) in
             let at : IsSettling config c q n source k true low r m h e =
             record { up = up; end = end; alone = alone; waits = f; is = at_manager-matched is } in
             let wanted : IsWanted c q n source whole grow h = record {
@@ -164,7 +164,7 @@ reported-last {w} {config} {log} h {sys} {c} {n} {k} rest {m} is tokens answered
             let new : Block (List ℕ) = granted_block c q r (is_granted_data whole grow (b.pair q).recorded)
             (gift_after config c n r whole grow h) b in
             let here : set n new h.state.block n ≡ new = set-same n new h.state.block in
-            let fact = ap (λ (d : Reaction w). d.handed) (reaction-conceded at wanted) ∙ ap (λ (i : Message w).
+            let fact = ap (λ d. d.handed) (reaction-conceded at wanted) ∙ ap (λ (i : Message w).
             (record { 0 = q }, i) ∷ []) (grant-rendered config c q n source r whole grow h own_source
             (subst (IsWell (is_caching config)) here (after.blocks n)) ∙ ap (block_message Grant q n) (sym here)) in
             (conceded-left rest at wanted, fact)
@@ -176,7 +176,7 @@ reported-last {w} {config} {log} h {sys} {c} {n} {k} rest {m} is tokens answered
         config.profile c n r b.service rest h) (if some_below (length config.clients.items) (others_probed c b.pair)
         then [] else pushed_last n b.service (if y then with_state (report_taken c n r rest h.state) h else last_taken
         (length config.clients.items) config.profile c n r b.service rest h))
-    others true f inv = let fact = ap (λ (d : Reaction w). d.handed)
+    others true f inv = let fact = ap (λ d. d.handed)
         (reaction-reported config r h end f (at_manager-matched is).traced) ∙ rw f refl in
         (reported-left r rest h up end f (at_manager-matched is), fact)
     others false f inv =
@@ -223,7 +223,7 @@ delivered-c {w} config h h' kind c n m e width is sound next order last =
     up = takes c Channel.C y e (rw next.beat_is at sound) refl refl is.all_live (order next.k next.rest_is) refl
 
     completes_it : completes y rest ≡ (next.k + 1 == beats_of (Message.C m))
-    completes_it = ap (λ (i : Beat w). completes i rest) (sym next.beat_is) ∙ next.completes_is
+    completes_it = ap (λ i. completes i rest) (sym next.beat_is) ∙ next.completes_is
 
     go : (b : Bool) → (next.k + 1 == beats_of (Message.C m)) ≡ b → Delivered config c Channel.C rest h h' pushes e y
     go true f =
@@ -232,7 +232,7 @@ delivered-c {w} config h h' kind c n m e width is sound next order last =
         record {
           up = up;
           manager = rw ended done.0;
-          handed = done.1 ∙ sym (ap (λ (b : Bool). if b then pushes else []) ended);
+          handed = done.1 ∙ sym (ap (λ b. if b then pushes else []) ended);
         }
     go false f =
         let part : completes y rest ≡ false = completes_it ∙ f in
@@ -252,15 +252,13 @@ pub reports-delivered : {w : ℕ} {config : Config} {log : Log w} (h : AbstractS
     (pushed config c ProbeAck n h (ack_taken (length config.clients.items) config.profile c n
     (report_told ((h.state.block n).pair c).probing) rest h)) sys.manager x
 unfolding block_message
-reports-delivered {w} {config} {log} h {sys} c n rest {x} {queue} {ms} width is beats tokens next =
+reports-delivered {config} h {sys} c n rest {x} {queue} {ms} width is beats tokens next =
     let r : Report = report_told ((h.state.block n).pair c).probing in
-    let about = report-about r n (h.state.block n).truth width (is.sized n).truth in
+    let about = report-about r n _ width (is.sized n).truth in
     let answered : ((h.state.block n).pair c).probing ≡ ProbeAnswered r = first-report is.invariant tokens in
-    delivered-c config h _ ProbeAck c n about.0 sys.manager width
-    (at_manager-matched is)
-    (head_all (λ y. manager.IsSound config (record { 0 = c }, y)) x queue (sys.channels c Channel.C) beats
-    (is.sound c Channel.C))
-    (subst (λ (i : Message w). IsNext x (unfinished Channel.C (on_link c sys.manager.trace)) i ms queue) about.1 next)
+    delivered-c config h _ ProbeAck c n about.0 _ width (at_manager-matched is) (head_all
+    (λ y. manager.IsSound config (record { 0 = c }, y)) x queue (sys.channels c Channel.C) beats (is.sound c Channel.C))
+    (subst (λ i. IsNext x (unfinished Channel.C (on_link c sys.manager.trace)) i ms queue) about.1 next)
     (λ k before. report-order c k r is.invariant is.managed is.served is.manager_kept answered about.2 before)
     (λ k all before up. reported-last h rest is tokens answered up
     (record { width = width; about = about.2; rest = before; last = all; long = (is.sized n).truth }))
@@ -279,17 +277,13 @@ pub releases-delivered : {w : ℕ} {config : Config} {log : Log w} (h : Abstract
 unfolding block_message
 releases-delivered {w} {config} {log} h {sys} c n rest {x} {queue} {ms} width is beats tokens next =
     let r : Prune = prune_told ((h.state.block n).pair c).letting in
-    let about = release-about r ((h.state.block n).release_source c) n (h.state.block n).truth width (is.sized n).truth
-    in
+    let about = release-about r ((h.state.block n).release_source c) n _ width (is.sized n).truth in
     let m : MessageC w = about.0 in
-    delivered-c config h _ Release c n m sys.manager width
-    (at_manager-matched is)
-    (head_all (λ y. manager.IsSound config (record { 0 = c }, y)) x queue (sys.channels c Channel.C) beats
-    (is.sound c Channel.C))
-    (subst (λ (i : Message w). IsNext x (unfinished Channel.C (on_link c sys.manager.trace)) i ms queue) about.1 next)
+    delivered-c config h _ Release c n m _ width (at_manager-matched is) (head_all
+    (λ y. manager.IsSound config (record { 0 = c }, y)) x queue (sys.channels c Channel.C) beats (is.sound c Channel.C))
+    (subst (λ i. IsNext x (unfinished Channel.C (on_link c sys.manager.trace)) i ms queue) about.1 next)
     (λ k before. release-order c k r rest is.invariant is.managed is.manager_kept tokens
-    (first-release is.invariant tokens) about.2 before)
-    (λ k all before up.
+    (first-release is.invariant tokens) about.2 before) (λ k all before up.
     let end : IsEnd false c n (prune_code r) (same_perm (prune_left r) Perm.Trunk) (h.state.block n).truth k m
     sys.manager =
     record { width = width; about = about.2; rest = before; last = all; long = (is.sized n).truth } in (
@@ -311,7 +305,7 @@ acks-delivered {w} {config} {log} h {sys} c n rest {x} {queue} width is beats to
     let order = ack-order c n y is.invariant.named is.served is.manager_kept taken_is refl in
     let before : List (Beat w) = unfinished Channel.E (on_link c e.trace) in
     let after : AbstractState w = with_state (grant_ack_taken c n rest h.state) h in
-    let up = takes c Channel.E (Beat.E y) e (subst (λ (i : Beat w). manager.IsSound config (record { 0 = c }, i))
+    let up = takes c Channel.E (Beat.E y) e (subst (λ i. manager.IsSound config (record { 0 = c }, i))
     next.beat_is (head_all (λ i. manager.IsSound config (record { 0 = c }, i)) x queue (sys.channels c Channel.E)
     beats (is.sound c Channel.E))) refl refl is.all_live order.1 refl in
     let whole : completes {w = w} (Beat.E y) before ≡ true = (whole-e {w = w} y (on_link c e.trace)).1 in
@@ -348,7 +342,7 @@ pub channel_c-delivered : {w : ℕ} {config : Config} {log : Log w} (tracker : �
     → Delivered config c Channel.C (unfinished Channel.C (on_link c sys.manager.trace)) h
     (packet_taken config tracker c (h.state.link c).c h)
     (pushed_by config c (h.state.link c).c h (packet_taken config tracker c (h.state.link c).c h)) sys.manager x
-channel_c-delivered {w} {config} {log} tracker h {sys} c x queue width is beats =
+channel_c-delivered {config} tracker h {sys} c x queue width is beats =
     by-first_c (λ i. Delivered config c Channel.C (unfinished Channel.C (on_link c sys.manager.trace)) h
     (packet_taken config tracker c i h) (pushed_by config c i h (packet_taken config tracker c i h)) sys.manager x) c
     h.mail h.state sys x queue (first-token (is_caching config) Channel.C c h.mail h.state sys x queue width
@@ -361,7 +355,7 @@ pub channel_e-delivered : {w : ℕ} {config : Config} {log : Log w} (tracker : �
     → Delivered config c Channel.E (unfinished Channel.E (on_link c sys.manager.trace)) h
     (packet_taken config tracker c (h.state.link c).e h)
     (pushed_by config c (h.state.link c).e h (packet_taken config tracker c (h.state.link c).e h)) sys.manager x
-channel_e-delivered {w} {config} {log} tracker h {sys} c x queue width is beats =
+channel_e-delivered {config} tracker h {sys} c x queue width is beats =
     by-first_e (λ i. Delivered config c Channel.E (unfinished Channel.E (on_link c sys.manager.trace)) h
     (packet_taken config tracker c i h) (pushed_by config c i h (packet_taken config tracker c i h)) sys.manager x)
     (first-token (is_caching config) Channel.E c h.mail h.state sys x queue width is.invariant is.carried beats)

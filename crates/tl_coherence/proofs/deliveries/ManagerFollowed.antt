@@ -2,9 +2,9 @@
 use Rattle.std.proofs.Common.{◌≡◌, ℕ, false, if◌then◌else◌, List, ◌∷◌, Option, Some, None, refl, sym, ◌∙◌, ap, subst}
 use Rattle.std.proofs.Common.{arith, All, slice_get, option_map}
 use Rattle.tl_coherence.proofs
-use proofs.Imports.{Beat, Channel, IsWidth, unfinished, completes, ClientConfig, Config, EndConfig, illegal_at, End}
+use proofs.Imports.{Beat, Channel, IsWidth, unfinished, completes, ClientConfig, Config, EndConfig, illegal_at}
 use proofs.Imports.{reaction, trackers_of, least_untaken, services, Deliver, Outcome, packets_on, AbstractState}
-use proofs.Imports.{abstract_delivery, abstract_step, packet_taken, SimulationRelation, receiver, Log, Step, handing}
+use proofs.Imports.{abstract_delivery, abstract_step, packet_taken, SimulationRelation, receiver, Log, handing}
 use proofs.Imports.{is_to_client, stepped, System, terms_at, with_channel, with_manager}
 use Rattle.tl_coherence.specs.refinement.AbstractStep.{is_last}
 use Rattle.tl_manager.specs.code.Kept as manager
@@ -18,7 +18,7 @@ pub client-of : {w : ℕ} (config : Config) (c : ℕ) (ch : Channel) (x : Beat w
     → (t : EndConfig) × (terms_at config c ≡ Some t)
 client-of {w} config c ch x queue sys beats sound =
     let go : (o : Option ClientConfig) → illegal_at (option_map (λ (i : ClientConfig). i.level) o) x ≡ None
-    → (t : EndConfig) × (option_map (λ (i : ClientConfig). record {
+    → (t : EndConfig) × (option_map (λ i. record {
       level = i.level;
       profile = config.profile;
       sources = i.sources;
@@ -55,10 +55,9 @@ pub followed-taken : {w : ℕ} {config : Config} {c : ℕ} {ch : Channel} {x : B
     → abstract_step config (Deliver (record { 0 = c }) ch) sys h
     ≡ (if completes x (unfinished ch (receiver ch c sys)) then packet_taken config
     (least_untaken (trackers_of (services sys.manager.trace))) c (packets_on ch (h.state.link c)) h else h)
-followed-taken {w} {config} {c} {ch} {x} queue sys h t terms beats down up =
-    ap (λ (s : Step w). abstract_delivery config c ch s.outcome sys h)
-    (step-taken config c ch x queue sys t terms beats down up)
-    ∙ ap (λ (b : List (Beat w)). if is_last b (unfinished ch (receiver ch c sys)) then packet_taken config
+followed-taken {config} {c} {ch} {x} queue sys h t terms beats down up =
+    ap (λ s. abstract_delivery config c ch s.outcome sys h) (step-taken config c ch x queue sys t terms beats down up)
+    ∙ ap (λ b. if is_last b (unfinished ch (receiver ch c sys)) then packet_taken config
     (least_untaken (trackers_of (services sys.manager.trace))) c (packets_on ch (h.state.link c)) h else h) beats
 
 pub manager-followed_c : {w : ℕ} {config : Config} {log : Log w} (h : AbstractState w) {sys : System w} (c : ℕ)
@@ -66,10 +65,10 @@ pub manager-followed_c : {w : ℕ} {config : Config} {log : Log w} (h : Abstract
     → SimulationRelation config log h.mail h.request h.state sys → sys.channels c Channel.C ≡ x ∷ queue
     → IsManagerOf config (abstract_step config (Deliver (record { 0 = c }) Channel.C) sys h)
     (stepped config (Deliver (record { 0 = c }) Channel.C) sys).after.manager
-manager-followed_c {w} {config} {log} h {sys} c x queue width is beats =
+manager-followed_c {config} h {sys} c x queue width is beats =
     let t = client-of config c Channel.C x queue sys beats (is.sound c Channel.C) in
     let d = channel_c-delivered (least_untaken (trackers_of (services sys.manager.trace))) h c x queue width is beats in
-    subst (λ (i : End w). IsManagerOf config (abstract_step config (Deliver (record { 0 = c }) Channel.C) sys h) i)
+    subst (λ i. IsManagerOf config (abstract_step config (Deliver (record { 0 = c }) Channel.C) sys h) i)
     (sym (manager-taken config c Channel.C x queue sys t.0 t.1 beats refl d.up))
     (rw (followed-taken queue sys h t.0 t.1 beats refl d.up) d.manager)
 
@@ -78,9 +77,9 @@ pub manager-followed_e : {w : ℕ} {config : Config} {log : Log w} (h : Abstract
     → SimulationRelation config log h.mail h.request h.state sys → sys.channels c Channel.E ≡ x ∷ queue
     → IsManagerOf config (abstract_step config (Deliver (record { 0 = c }) Channel.E) sys h)
     (stepped config (Deliver (record { 0 = c }) Channel.E) sys).after.manager
-manager-followed_e {w} {config} {log} h {sys} c x queue width is beats =
+manager-followed_e {config} h {sys} c x queue width is beats =
     let t = client-of config c Channel.E x queue sys beats (is.sound c Channel.E) in
     let d = channel_e-delivered (least_untaken (trackers_of (services sys.manager.trace))) h c x queue width is beats in
-    subst (λ (i : End w). IsManagerOf config (abstract_step config (Deliver (record { 0 = c }) Channel.E) sys h) i)
+    subst (λ i. IsManagerOf config (abstract_step config (Deliver (record { 0 = c }) Channel.E) sys h) i)
     (sym (manager-taken config c Channel.E x queue sys t.0 t.1 beats refl d.up))
     (rw (followed-taken queue sys h t.0 t.1 beats refl d.up) d.manager)

@@ -22,14 +22,14 @@ empty-delivered : {w : ℕ} {config : Config} {log : Log w} (h : AbstractState w
     (terms : EndConfig) → SimulationRelation config log h.mail h.request h.state sys → terms_at config c ≡ Some terms
     → sys.channels c ch ≡ [] → IsManagerOf config (abstract_step config (Deliver (record { 0 = c }) ch) sys h)
     (stepped config (Deliver (record { 0 = c }) ch) sys).after.manager
-empty-delivered {w} {config} {log} h {sys} c ch terms is client none =
+empty-delivered {config} h {sys} c ch terms is client none =
     rw (stepped-empty config (record { 0 = c }) ch sys terms client none) (at_manager-matched is)
 
 pub manager-kept : {w : ℕ} {config : Config} {log : Log w} (h : AbstractState w) {sys : System w} (event : Event w)
     → IsWidth w → SimulationRelation config log h.mail h.request h.state sys
     → ((terms : EndConfig) → terms_at config (client_of event) ≡ Some terms → IsAllowed config event terms sys h)
     → IsManagerOf config (abstract_step config event sys h) (stepped config event sys).after.manager
-manager-kept {w} {config} {log} h {sys} event width is may = go (terms_at config (client_of event)) refl
+manager-kept {w} {config} h {sys} event width is may = go (terms_at config (client_of event)) refl
   where
     reports : (c : ℕ) (terms : EndConfig) → terms_at config c ≡ Some terms → (xs : List (Beat w))
         → sys.channels c Channel.C ≡ xs

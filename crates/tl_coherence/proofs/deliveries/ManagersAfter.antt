@@ -11,8 +11,8 @@ use proofs.Imports.{Request, AcquirePhase, ClientBlock, is_unreleased, after_pro
 use proofs.Imports.{probe_taken, probed_block, AbstractState, abstract_step, kind_taken, ChannelRelation}
 use proofs.Imports.{MemoryRelation, acquire_of, cap_sent, message_of, message_of_kind, probe_beat, prune_told}
 use proofs.Imports.{report_told, block_message, IsRequest, SimulationRelation, is_caching, receiver, is_moving, Log}
-use proofs.Imports.{system_after, Machine, moved, accesses_answered, one_memory_after, performing, Step, handed_by}
-use proofs.Imports.{handing, is_to_client, stepped, System, channel_of_message, terms_at, with_channel, with_client}
+use proofs.Imports.{system_after, moved, accesses_answered, one_memory_after, performing, Step, handed_by, handing}
+use proofs.Imports.{is_to_client, stepped, System, channel_of_message, terms_at, with_channel, with_client}
 use proofs.Imports.{with_manager, with_messages}
 use Rattle.tl_client.specs.statement.Endpoint as client
 use Rattle.tl_client.specs.statement.Offer as offer
@@ -27,8 +27,8 @@ use proofs.simulation.{CarriedEvents.probe_taken-shown, SourcedAfter.first-asked
 use proofs.simulation.Moved.{IsTakenByClient, client-moves, client-heard, manager-moves, manager-heard, carried-part}
 use proofs.client.{DeliverD.same_answers, KnownProbed.report_is}
 use proofs.client.ProbeDelivered.{IsProbed, probe-delivered}
-use proofs.deliveries.ReportsAfter.{remembered_after}
 use proofs.deliveries.DeliverDUnmoved.{followed-moving, IsDelivered, delivered_as}
+use proofs.deliveries.ReportsAfter.{remembered_after}
 use proofs.protocol.BothParts.{kept-is, first-probe}
 use proofs.manager.RequestsTaken.{next_tracker, invariant-taken}
 
@@ -38,7 +38,7 @@ channel_of_beat : {w : ℕ} (m : Message w) (i : ℕ) → channel_of (beat_of m 
 channel_of_beat m i = grind arith
 
 pub on_message : {w : ℕ} (m : Message w) (i : ℕ) → IsOn (channel_of_message m) (beat_of m i)
-on_message m i = subst (λ (ch : Channel). IsOn ch (beat_of m i)) (channel_of_beat m i) (on_own_channel (beat_of m i))
+on_message m i = subst (λ ch. IsOn ch (beat_of m i)) (channel_of_beat m i) (on_own_channel (beat_of m i))
 
 acquire_channel : (w : ℕ) (x : AcquirePhase) (source n : ℕ)
     → channel_of_message {w = w} (acquire_of x source n) ≡ Channel.A
@@ -95,20 +95,18 @@ pub at-manager : {w : ℕ} {config : Config} {log : Log w} (link : Link) (ch : C
     ≡ x ∷ queue → is_moving (stepped config (Deliver link ch) (system_after config log)).outcome ≡ true
     → IsAtManager config log link ch h x queue
 at-manager {w} {config} {log} link ch h terms x queue width is known down beats moving =
-    let first = first-token (is_caching config) ch link.0 h.mail h.state (system_after config log) x queue width
-    is.invariant is.carried beats in
-    let t = manager-moves config link ch (system_after config log) terms x queue known beats down moving in
-    let chan = message_channel first.kind first.number first.tokens first.own in
+    let first = first-token (is_caching config) ch link.0 h.mail _ _ x queue width is.invariant is.carried beats in
+    let t = manager-moves config link ch _ terms x queue known beats down moving in
+    let chan = message_channel _ _ first.tokens first.own in
     record {
       first = first;
-      on_it = subst (λ (i : Channel). IsOn i x) chan (subst (λ (z : Beat w). IsOn (channel_of_message
+      on_it = subst (λ i. IsOn i x) chan (subst (λ z. IsOn (channel_of_message
           (message_of_kind first.kind h.mail h.state link.0 first.number)) z) (sym first.next.beat_is)
           (on_message (message_of_kind first.kind h.mail h.state link.0 first.number) first.next.k));
-      of_it = ap (λ (z : Beat w). channel_of z) first.next.beat_is ∙ channel_of_beat
+      of_it = ap (λ z. channel_of z) first.next.beat_is ∙ channel_of_beat
           (message_of_kind first.kind h.mail h.state link.0 first.number) first.next.k ∙ chan;
       beats = beats;
-      heard = manager-heard config link ch x queue (system_after config log)
-          (stepped config (Deliver link ch) (system_after config log)) width head.typed is.manager_kept t;
+      heard = manager-heard _ link ch x queue _ _ width head.typed is.manager_kept t;
       step_is = t.step_is;
       follows = cc (followed-moving config link ch (system_after config log) h x queue moving beats, first.tokens);
     }
@@ -160,8 +158,8 @@ pub delivered-last : {w : ℕ} {config : Config} {log : Log w} {link : Link} {ch
     → IsDelivered config log link ch h
 delivered-last {w} {config} {log} {link} {ch} {h} {x} {queue} handed pushes down is last gives pushed carried beside =
     let h' = kind_taken config (next_tracker sys) link.0 is.first.kind is.first.number is.first.rest h in
-    delivered_as config log link ch h h' (is.follows ∙ ap (λ (b : Bool). if b then h' else h) last)
-    (subst (λ (y : Step w). ChannelRelation h'.mail h'.state y.after) (sym step_is) (carried (taken-landed
+    delivered_as config log link ch h h' (is.follows ∙ ap (λ b. if b then h' else h) last)
+    (subst (λ y. ChannelRelation h'.mail h'.state y.after) (sym step_is) (carried (taken-landed
     (landed-manager link.0 ch x queue pushes handed e sys down is.beats is.on_it is.heard pushed) last)))
     (rw (remembered_after config log link ch now step_is) beside)
   where
@@ -192,7 +190,7 @@ unfolding with_messages performing accesses_answered
 delivered-part {w} {config} {log} {link} {ch} {h} {x} {queue} width matched down is part =
     delivered_as config log link ch h h (cc is.follows) (rw step_is (carried-part h.mail h.state width
     (landed-manager link.0 ch x queue (λ d at. None) [] e sys down is.beats is.on_it is.heard (λ d at. refl))
-    (λ d at. refl) part matched.carried)) (subst (λ (m : Machine w). MemoryRelation h.mail h.state m)
+    (λ d at. refl) part matched.carried)) (subst (λ m. MemoryRelation h.mail h.state m)
     (sym (remembered_after config log link ch now step_is)) matched.beside)
   where
     sys : System w
@@ -205,7 +203,7 @@ delivered-part {w} {config} {log} {link} {ch} {h} {x} {queue} width matched down
     now = handing (Outcome.Moved x) [] (with_manager e (with_channel link.0 ch queue sys))
 
     step_is : stepped config (Deliver link ch) sys ≡ now
-    step_is = is.step_is ∙ ap (λ (l : Handed w). handing (Outcome.Moved x) l
+    step_is = is.step_is ∙ ap (λ l. handing (Outcome.Moved x) l
         (with_manager e (with_channel link.0 ch queue sys))) (ap (λ d. d.handed)
         (reaction-part config link x sys.manager (cc (is.of_it, receiver_down ch link.0 sys down, part))))
 
@@ -234,7 +232,7 @@ rendered_probed : {w : ℕ} (c n : ℕ) (k : Cap) (b : Block (List ℕ))
     → block_message {w = w} ProbeAck c n (probed_block c k b) ≡ probe_ack OpB.ProbeBlock (b.pair c).held
     (report_at k (b.pair c).held) n b.truth
 unfolding block_message
-rendered_probed {w} c n k b = rw (set-same c (after_probe k (b.pair c)) b.pair, left_is k (b.pair c).held) refl
+rendered_probed c n k b = rw (set-same c (after_probe k (b.pair c)) b.pair, left_is k (b.pair c).held) refl
 
 -- the message that the client hands out
 abbrev handed_for : {w : ℕ} → BeatB w → client.Endpoint w → Message w
@@ -265,7 +263,7 @@ delivered-b {w} {config} {log} link h terms x queue width is known beats moving 
     e = sys.clients c
 
     first : IsFirst Channel.B c h.mail h.state sys x queue
-    first = first-token (is_caching config) Channel.B c h.mail h.state sys x queue width is.invariant is.carried beats
+    first = first-token (is_caching config) Channel.B c h.mail _ sys x queue width is.invariant is.carried beats
 
     t : IsTakenByClient terms c Channel.B x queue sys (stepped config (Deliver link Channel.B) sys)
     t = client-moves config link Channel.B sys terms x queue known beats refl moving
@@ -289,14 +287,13 @@ delivered-b {w} {config} {log} link h terms x queue width is known beats moving 
           mail = h.mail;
           request = h.request;
         }) x e
-        probed = probe-delivered terms (next_tracker sys) c n first.rest width is known beats tokens next
+        probed = probe-delivered terms (next_tracker sys) c n _ width is known beats tokens next
 
         answers : (offer.taken x e).answer ≡ Ok (Verdict.Taken, Some (handed_for y e))
-        answers = ap (λ (z : Beat w). (offer.taken z e).answer) probed.beat_is ∙ refl
+        answers = ap (λ z. (offer.taken z e).answer) probed.beat_is ∙ refl
 
         same_parts : (t.verdict_is ≡ Verdict.Taken) × (t.message ≡ Some (handed_for y e))
-        same_parts = same_answers t.verdict_is Verdict.Taken t.message (Some (handed_for y e)) (offer.taken x e).answer
-            t.answer answers
+        same_parts = same_answers t.verdict_is Verdict.Taken t.message (Some (handed_for y e)) _ t.answer answers
 
         ack : Message w
         ack = probe_ack OpB.ProbeBlock b_pair.held (report_at k b_pair.held) n (h.state.block n).truth
@@ -322,26 +319,26 @@ delivered-b {w} {config} {log} link h terms x queue width is known beats moving 
 
         taken : IsTaken c Channel.B x queue (pushes_at c (pushes_of (Some ack))) sys now.after
         taken = taken-landed (landed-client c Channel.B x queue (Some ack) (offer.taken x e).after sys refl beats
-            (subst (λ (z : Beat w). IsOn Channel.B z) (sym probed.beat_is) (on_own_channel (Beat.B y)))
+            (subst (λ z. IsOn Channel.B z) (sym probed.beat_is) (on_own_channel (Beat.B y)))
             (client-heard width (is.kept c) t)) probed.whole
 
         by_letting : (b : Bool) → is_unreleased b_pair.letting ≡ b → IsDelivered config log link Channel.B h
         by_letting true kept =
-            let inv = invariant-taken h c Probe n first.rest is tokens (kept-is b_pair.letting kept) in
+            let inv = invariant-taken h c Probe n _ is tokens (kept-is b_pair.letting kept) in
             delivered_as config log link Channel.B h (kind_taken config (next_tracker sys) c Probe n first.rest h)
             cc (followed-moving config link Channel.B sys h x queue moving beats, probed.whole, tokens)
-            (subst (λ (z : Step w). ChannelRelation h.mail (probe_taken c n k first.rest h.state) z.after) (sym step_is)
+            (subst (λ z. ChannelRelation h.mail (probe_taken c n k first.rest h.state) z.after) (sym step_is)
             (carried-shown width (probe_taken-shown c n k first.rest ack h.mail is.invariant inv tokens
             (first-probe is.invariant tokens) (ack_channel w b_pair.held (report_at k b_pair.held) n
             (h.state.block n).truth) (rendered_probed c n k (h.state.block n))) taken is.carried))
-            (subst (λ (m : Machine w). MemoryRelation h.mail (probe_taken c n k first.rest h.state) m)
-            (sym (remembered_after config log link Channel.B now step_is ∙ ap (λ (l : List (ℕ × ℕ)). performing l
+            (subst (λ m. MemoryRelation h.mail (probe_taken c n k first.rest h.state) m)
+            (sym (remembered_after config log link Channel.B now step_is ∙ ap (λ l. performing l
             (moved (Deliver link Channel.B) now.outcome (one_memory_after config log))) (ack_quiet w c b_pair.held
             (report_at k b_pair.held) n (h.state.block n).truth))) (beside_block n (probed_block c k
             (h.state.block n)) (probe_taken c n k first.rest h.state) (λ i. refl) (λ d i. refl) (λ d i. refl) refl
             (λ d. same_acquiring c (after_probe k b_pair) (h.state.block n).pair refl d) (λ d. refl) is.beside))
         by_letting false open_ =
-            let stalled = ap (λ (o : offer.Offered w). o.answer) (sym t.takes ∙ probed.waits_for open_) in
+            let stalled = ap (λ o. o.answer) (sym t.takes ∙ probed.waits_for open_) in
             let differ = (same_answers Verdict.Taken Verdict.Stalled (Some (handed_for y e)) None
             (offer.taken x e).answer answers stalled).0 in
             absurd (absurd cc)

@@ -13,7 +13,6 @@ use proofs.Imports.{system_after, Machine, moved, accesses_answered, one_memory_
 use proofs.Imports.{manager_took, only, stepped, System, terms_at, with_channel, with_messages}
 use Rattle.tl_coherence.{specs.statement.Headline.AreTyped, specs.statement.Log.IsLog}
 use Rattle.tl_client.specs.statement.Endpoint as client
-use Rattle.tl_manager.specs.statement.End as manager_end
 use Rattle.tl_manager.specs.statement.Offer as manager
 use Rattle.tl_client.specs.statement.Ask as ask
 use proofs.memory.BesideKinds.{beside_block}
@@ -61,10 +60,10 @@ delivered-e {w} {config} {log} link h terms x queue width matched known beats mo
     n = is.first.number
 
     kind : is.first.kind ≡ GrantAck
-    kind = ack_kind is.first.kind is.first.own
+    kind = ack_kind _ is.first.own
 
     tokens : (h.state.link link.0).e ≡ packet GrantAck n ∷ is.first.rest
-    tokens = is.first.tokens ∙ ap (λ (k : Kind). packet k n ∷ is.first.rest) kind
+    tokens = is.first.tokens ∙ ap (λ k. packet k n ∷ is.first.rest) kind
 
     go : (b : Bool) → completes x (unfinished Channel.E (on_link link.0 sys.manager.trace)) ≡ b
         → IsDelivered config log link Channel.E h
@@ -74,7 +73,7 @@ delivered-e {w} {config} {log} link h terms x queue width matched known beats mo
         ≡ (with_channel link.0 Channel.E queue sys).channels d at = λ d at. refl in
         let quiet = beside_block n (freed_block (h.state.block n)) (grant_ack_taken link.0 n is.first.rest h.state)
         (λ i. refl) (λ d i. refl) (λ d i. refl) refl (λ d. refl) (λ d. refl) matched.beside in
-        delivered-last [] (λ d at. None) refl is last (ap (λ (z : Beat w). (reaction config link z sys.manager).handed)
+        delivered-last [] (λ d at. None) refl is last (ap (λ z. (reaction config link z sys.manager).handed)
         (cc (is.first.next.beat_is, kind)) ∙ ap (λ d. d.handed) (reaction-ack config link
         (record { sink = (h.state.block n).tracker }) sys.manager)) (λ d at. unpushed d at)
         (λ taken. rw kind (carried-shown width (grant_ack_taken-shown link.0 n is.first.rest h.mail matched.invariant
@@ -96,8 +95,8 @@ request-moves {w} {config} {log} {mail} {request} {s} {sys} link {x} {queue} h m
     stands : (terms : EndConfig) → terms_at config link.0 ≡ Some terms
         → must_wait config (record { 0 = link.0 }) x sys.manager.trace ≡ true
         → is_moving (stepped config (Deliver link Channel.A) sys).outcome ≡ false
-    stands terms at waits = ap (λ (i : Step w). is_moving i.outcome) (stepped-to-manager config link Channel.A sys terms
-        x queue at beats refl) ∙ ap (λ (a : manager.Reception w × manager_end.End w). is_moving
+    stands terms at waits = ap (λ i. is_moving i.outcome) (stepped-to-manager config link Channel.A sys terms
+        x queue at beats refl) ∙ ap (λ a. is_moving
         (manager_took link.0 Channel.A x queue a sys).outcome) (request-stalled h beats arrives waits)
 
     at_terms : (o : Option EndConfig) → terms_at config link.0 ≡ o
@@ -116,7 +115,7 @@ ready-a : {w : ℕ} {config : Config} {log : Log w} {mail : AccessMessages w} {r
     → IsReady (next_tracker sys) link.0 d.first.kind d.first.number (shadow_of mail request s)
 ready-a {w} {config} {log} {mail} {request} {s} {sys} {link} {x} {queue} width h d =
     let next_number : (k n : ℕ) → k + 1 ≡ n → n ≡ suc k = λ k n e. omega (arith, e) in
-    let arrives = arrival-first (shadow_of mail request s) link.0 x queue width h d.beats in
+    let arrives = arrival-first _ link.0 x queue width h d.beats in
     let moves = request-moves link h d.moves d.beats arrives in
     subst (λ (y : Packet). IsReady (next_tracker sys) link.0 y.kind y.number (shadow_of mail request s))
     (cc)
@@ -145,29 +144,26 @@ pub ready-delivered : {w : ℕ} {config : Config} {log : Log w} {mail : AccessMe
     → IsReady (next_tracker sys) link.0 d.first.kind d.first.number (shadow_of mail request s)
 ready-delivered Channel.A width h d = ready-a width h d
 ready-delivered {mail} {request} {s} {sys} {link} Channel.C width h d =
-    ready_up (next_tracker sys) link.0 Channel.C d.first.kind d.first.number (shadow_of mail request s) refl d.first.own
+    ready_up (next_tracker sys) link.0 Channel.C _ d.first.number (shadow_of mail request s) refl d.first.own
 ready-delivered {mail} {request} {s} {sys} {link} Channel.E width h d =
-    ready_up (next_tracker sys) link.0 Channel.E d.first.kind d.first.number (shadow_of mail request s) refl d.first.own
-ready-delivered {link} ch width h d =
-    ready-client link ch d.first.kind d.first.number d.first.rest width h refl d.first.own d.moves d.beats
-    d.first.tokens d.first.next
+    ready_up (next_tracker sys) link.0 Channel.E _ d.first.number (shadow_of mail request s) refl d.first.own
+ready-delivered {link} ch width h d = ready-client link ch _ _ _ width h refl d.first.own d.moves d.beats d.first.tokens
+    d.first.next
 
 invariant-delivered : {w : ℕ} {config : Config} {log : Log w} {mail : AccessMessages w} {request : ℕ → MessageA w}
     {s : State (List ℕ)} {sys : System w} {link : Link} {ch : Channel} {x : Beat w} {queue : List (Beat w)} → IsWidth w
     → SimulationRelation config log mail request s sys → (d : IsDelivery config mail s sys link ch x queue)
     → IsInvariant (is_caching config) (taken_of config mail request s sys link.0 d.first.kind d.first.number
     d.first.rest).state
-invariant-delivered {config} {log} {mail} {request} {s} {sys} {link} {ch} {x} {queue} width h d =
-    invariant-taken (shadow_of mail request s) link.0 d.first.kind d.first.number d.first.rest h
-    (on-first d) (ready-delivered ch width h d)
+invariant-delivered {mail} {request} {s} {link} {ch} width h d = invariant-taken _ link.0 _ _ _ h (on-first d)
+    (ready-delivered ch width h d)
 
 pub invariant-followed : {w : ℕ} {config : Config} {log : Log w} {mail : AccessMessages w} {request : ℕ → MessageA w}
     {s : State (List ℕ)} {sys : System w}
     (event : Event w) → IsWidth w → SimulationRelation config log mail request s sys
     → IsInvariant (is_caching config) (abstract_step config event sys (shadow_of mail request s)).state
-invariant-followed {w} {config} {log} {mail} {request} {s} {sys} event width h =
-    followed-cases event (λ (i : AbstractState w). IsInvariant (is_caching config) i.state) width h h.invariant
-    (λ terms c o at. invariant-asked terms c o h at) (λ link ch x queue d. invariant-delivered width h d)
+invariant-followed {config} event width h = followed-cases event (λ i. IsInvariant (is_caching config) i.state) width h
+    h.invariant (λ terms c o at. invariant-asked terms c o h at) (λ link ch x queue d. invariant-delivered width h d)
 
 -- ---- steps
 
@@ -188,7 +184,7 @@ unfolding one_memory_after
 delivered-a {w} {config} {log} c h terms width is at =
     let sys : System w = system_after config log in
     let m : Machine w = one_memory_after config log in
-    let still = delivery-a h c terms (λ (step : Step w). moved (Deliver (record { 0 = c }) Channel.A) step.outcome m
+    let still = delivery-a h c terms (λ step. moved (Deliver (record { 0 = c }) Channel.A) step.outcome m
     ≡ m) width is at (λ e. refl) (λ x queue e waits. refl) (λ x queue e arrives moves. refl) in
     record {
       carried = carried-delivered_a h c terms width is at;
@@ -235,12 +231,11 @@ record IsFollowed {w : ℕ} (config : Config) (log : Log w) (event : Event w) (h
 
 -- where this is the step
 abbrev FollowedBy : {w : ℕ} → Config → Log w → Event w → AbstractState w → Step w → Type 0
-FollowedBy config log event h x =
-    ChannelRelation (abstract_step_by config event x.outcome (system_after config log) h).mail
-    (abstract_step_by config event x.outcome (system_after config log) h).state x.after
+FollowedBy config log event h x = ChannelRelation (abstract_step_by config event x.outcome (system_after config log)
+    h).mail (abstract_step_by config event x.outcome (system_after config log) h).state x.after
     × MemoryRelation (abstract_step_by config event x.outcome (system_after config log) h).mail
-    (abstract_step_by config event x.outcome (system_after config log) h).state
-    (performing (accesses_answered x.handed) (moved event x.outcome (one_memory_after config log)))
+    (abstract_step_by config event x.outcome (system_after config log) h).state (performing (accesses_answered x.handed)
+    (moved event x.outcome (one_memory_after config log)))
 
 asked-all : {w : ℕ} {config : Config} {log : Log w} (c : ℕ) (o : Op w) (h : AbstractState w) → IsWidth w
     → SimulationRelation config log h.mail h.request h.state (system_after config log)
@@ -257,15 +252,15 @@ asked-all {w} {config} {log} c o h width is = go (terms_at config c) refl
     go (Some terms) known =
         let r = (ask.asked terms o (sys.clients c)).reply in
         let replied : (stepped config (Ask c o) sys).outcome ≡ Outcome.Replied r =
-        ap (λ (x : Step w). x.outcome) (stepped-asked config c o sys terms known) in
+        ap (λ x. x.outcome) (stepped-asked config c o sys terms known) in
         (rw replied (carried-ask h c terms o width is known), rw replied (beside-ask h c terms o width is known))
 
 followed-all : {w : ℕ} {config : Config} {log : Log w} (event : Event w) (h : AbstractState w) → IsWidth w
     → SimulationRelation config log h.mail h.request h.state (system_after config log) → IsFollowed config log event h
 unfolding one_memory_after
-followed-all {config} {log} (Ask c o) h width is = let all = asked-all c o h width is in
+followed-all (Ask c o) h width is = let all = asked-all c o h width is in
     record { carried = all.0; beside = all.1 }
-followed-all {config} {log} (Deliver link ch) h width is = let all = delivered-all link ch h width is in
+followed-all (Deliver link ch) h width is = let all = delivered-all link ch h width is in
     record { carried = all.carried; beside = all.beside }
 
 -- ---- all that is kept, after an event
@@ -274,22 +269,19 @@ sized-followed : {w : ℕ} {config : Config} {log : Log w} (h : AbstractState w)
     → IsWidth w → SimulationRelation config log h.mail h.request h.state sys → IsTyped event
     → AllSized (abstract_step config event sys h).state
 unfolding stepped
-sized-followed {w} {config} {log} h {sys} (Ask c o) width is typed = asked-cases config log h.mail h.request h.state sys
-    c o (terms_at config c) (λ (i : AbstractState w). AllSized i.state) refl is.sized
-    (λ terms at. sized-asked c o (ask.asked terms o (sys.clients c)).reply h is.invariant typed
+sized-followed {config} {log} h {sys} (Ask c o) width is typed = asked-cases config log h.mail h.request h.state sys
+    c o (terms_at config c) (λ i. AllSized i.state) refl is.sized (λ terms at. sized-asked c o _ h is.invariant typed
     (asked-well config log h sys c terms o width is at).word is.sized)
-sized-followed {w} {config} {log} h {sys} (Deliver link ch) width is typed =
-    delivered-cases link ch (λ (i : AbstractState w). AllSized i.state) width is is.sized
+sized-followed {config} h {sys} (Deliver link ch) width is typed =
+    delivered-cases link ch (λ i. AllSized i.state) width is is.sized
     (λ x queue d. sized-kind_taken config (next_tracker sys) link.0 d.first.kind d.first.number d.first.rest h is.sized)
 
 strangers-followed : {w : ℕ} {config : Config} {log : Log w} (h : AbstractState w) {sys : System w} (event : Event w)
     → IsWidth w → SimulationRelation config log h.mail h.request h.state sys
     → AreStrange config (abstract_step config event sys h).state.uses
-strangers-followed {w} {config} {log} h {sys} event width is =
-    followed-cases event
-    (λ (i : AbstractState w). AreStrange config i.state.uses) width is is.strangers
-    (λ terms c o at. strangers-asked config c o (ask.asked terms o (sys.clients c)).reply h terms at is.strangers)
-    (λ link ch x queue d.
+strangers-followed {config} h {sys} event width is = followed-cases event (λ i. AreStrange config i.state.uses) width
+    is is.strangers (λ terms c o at. strangers-asked config c o (ask.asked terms o (sys.clients c)).reply h terms at
+    is.strangers) (λ link ch x queue d.
     let t = client-of config link.0 ch x queue sys d.beats (is.sound link.0 ch) in
     strangers-kind_taken config (next_tracker sys) link.0 d.first.kind d.first.number d.first.rest h
     t.0 is.invariant t.1 is.strangers)
@@ -297,26 +289,23 @@ strangers-followed {w} {config} {log} h {sys} event width is =
 sourced-followed : {w : ℕ} {config : Config} {log : Log w} (h : AbstractState w) {sys : System w} (event : Event w)
     → IsWidth w → SimulationRelation config log h.mail h.request h.state sys
     → AreSourced config (abstract_step config event sys h).mail.request (abstract_step config event sys h).state.uses
-sourced-followed {w} {config} {log} h {sys} event width is =
-    followed-cases event (λ (i : AbstractState w). AreSourced config i.mail.request i.state.uses) width is is.sourced
-    (λ terms c o at. sourced-asked config c o (ask.asked terms o (sys.clients c)).reply h
-    (asked-well config log h sys c terms o width is at).source is.sourced)
-    (λ link ch x queue d. sourced-kind_taken config (next_tracker sys) link.0 d.first.kind d.first.number d.first.rest h
-    is.invariant (on-first d) is.sourced)
+sourced-followed {config} {log} h {sys} event width is = followed-cases event
+    (λ i. AreSourced config i.mail.request i.state.uses) width is is.sourced (λ terms c o at. sourced-asked config c o
+    _ h (asked-well config log h sys c terms o width is at).source is.sourced) (λ link ch x queue d. sourced-kind_taken
+    config (next_tracker sys) link.0 _ _ _ h is.invariant (on-first d) is.sourced)
 
 acquired-followed : {w : ℕ} {config : Config} {log : Log w} (h : AbstractState w) {sys : System w} (event : Event w)
     → IsWidth w → SimulationRelation config log h.mail h.request h.state sys
     → AreAcquired (abstract_step config event sys h).request (abstract_step config event sys h).state.block
-acquired-followed {w} {config} {log} h {sys} event width is =
-    followed-cases event (λ (i : AbstractState w). AreAcquired i.request i.state.block) width is is.acquired
-    (λ terms c o at. asked-acquired c o (ask.asked terms o (sys.clients c)).reply h is.invariant
-    (askable terms c o is at) is.acquired) (λ link ch x queue d. kind_taken-acquired config (next_tracker sys) link.0
-    d.first.kind d.first.number d.first.rest h is.acquired)
+acquired-followed {config} h {sys} event width is = followed-cases event (λ i. AreAcquired i.request i.state.block)
+    width is is.acquired (λ terms c o at. asked-acquired c o _ h is.invariant (askable terms c o is at) is.acquired)
+    (λ link ch x queue d. kind_taken-acquired config (next_tracker sys) link.0 d.first.kind d.first.number d.first.rest
+    h is.acquired)
 
 allowed : {w : ℕ} {config : Config} {log : Log w} (h : AbstractState w) {sys : System w} (event : Event w) → IsWidth w
     → SimulationRelation config log h.mail h.request h.state sys → (terms : EndConfig)
     → terms_at config (client_of event) ≡ Some terms → IsAllowed config event terms sys h
-allowed {config} {log} h {sys} (Ask c o) width is terms at = askable terms c o is at
+allowed h (Ask c o) width is terms at = askable terms c o is at
 allowed h event width is terms at = tt
 
 -- what is kept of the whole is kept by an event
@@ -343,10 +332,10 @@ matched-event {w} {config} {log} h event width typed is =
       sourced = sourced-followed h event width is;
       answered = answered-followed event width is;
       given = given-followed event width is;
-      known = λ c. (end c).known;
-      opened = λ c. (end c).opened;
-      kept = λ c. (end c).kept;
-      accounted = λ c. (end c).accounted;
+      known = λ c. (end c).knows.0;
+      opened = λ c. (end c).knows.1;
+      kept = λ c. (end c).well.kept;
+      accounted = λ c. (end c).well.accounted;
       copies = λ c. (end c).copies;
       waiting = λ c. (end c).waiting;
       live = λ c. (end c).live;
@@ -377,6 +366,5 @@ matched {w} config (x ∷ log) width typed is =
     let sys : System w = system_after config log in
     let h : AbstractState w = shadow config log in
     let h' : AbstractState w = abstract_step config x.0 sys h in
-    subst (λ (o : Outcome w). SimulationRelation config ((x.0, o) ∷ log) h'.mail h'.request h'.state
-    (stepped config x.0 sys).after) (sym is.0)
-    (matched-event h x.0 width typed.0 (matched config log width typed.1 is.1))
+    subst (λ o. SimulationRelation config ((x.0, o) ∷ log) h'.mail h'.request h'.state (stepped config x.0 sys).after)
+    (sym is.0) (matched-event h x.0 width typed.0 (matched config log width typed.1 is.1))

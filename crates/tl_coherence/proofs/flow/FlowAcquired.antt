@@ -1,18 +1,18 @@
 -- What is delivered on a link, as a beat of an access is.
 -- What is delivered on a link, as the beat of an Acquire is.
 use Rattle.std.proofs.Common.{◌≡◌, ℕ, Bool, true, false, not, ◌&&◌, ◌||◌, ◌==◌, if◌then◌else◌, List, ◌∷◌, Option, Some}
-use Rattle.std.proofs.Common.{None, refl, sym, ◌∙◌, ap, arith, ne_eqb, option_map}
+use Rattle.std.proofs.Common.{None, refl, sym, ◌∙◌, ap, arith, ne_eqb}
 use Rattle.tl_coherence.proofs
 use proofs.Imports.{and_from, and_right, Beat, BeatA, Channel, History, Perm, comes_in_request, begins, block_at, ends}
 use proofs.Imports.{is_acquire, grant_sink, probe_of, release_of, request_of, grant_sink-a, probe_of-a, acquires_of}
 use proofs.Imports.{Idle, Acquires, Asked, Block, InService, Replied, SourceFree, SourceState, State, view}
 use proofs.Imports.{is_acknowledging, is_answered, is_granting, is_unserved, is_wanting, comes_granting}
 use proofs.Imports.{MonitorRelation, is_let_by, is_requested, is_sunk, probe_beat, cap_waited}
+use proofs.flow.FlowAlone.{AreRests, let_by-same, no_coming, IsComing}
 use proofs.flow.FlowGranted.{begun, requested-apart}
 use proofs.flow.FlowReleased.{with_true, AreElsewhere, each-block, part-block}
 use proofs.flow.FlowStep.{flowed-next, held_by, acquired_by, let_of, granted_by, step, step_quiet, whole_opened}
-use proofs.flow.FlowStep.{whole_unopened}
-use proofs.flow.FlowAlone.{AreRests, let_by-same, no_coming, IsComing}
+use proofs.flow.FlowStep.{let_still, whole_unopened}
 use proofs.queues.Tokens.{same_number}
 use proofs.client.ClientEnd.{comes-same}
 
@@ -66,27 +66,22 @@ flowed-access {w} {X} {c} {y} {first} {last} {asked} {rest} {rest'} {s} {s'} {t}
     λ i. elim [ None ↦ refl | Some m ↦ cc (is.blocks m) ] in
     let grants : (m : ℕ) → granted_by c m asked (rest' Channel.D) (s'.block m) ≡ granted_by c m asked (rest Channel.D)
     (s.block m) = λ m. cc (rests Channel.D, is.blocks m) in
-    flowed-next (record {
-      first_is = first_is;
-      last_is = last_is;
-      rests = rests;
+    flowed-next first_is last_is rests (record {
       held_is = λ m. ap (held_by c) (is.blocks m) ∙ sym (unsaid last (held_by c (s.block m)));
       requests = λ i. requests i (y.source == i) refl;
       asked_is = λ i e. asked_still i e (y.source == i) refl;
       acquires = λ m. cc (is.blocks m, is.access, step_quiet first last (acquired_by c (s.block m)));
       release_sources = λ i. lets i ∙ sym (step_quiet first last (is_let_by c i (rest Channel.C) (s.lets c i) s));
-      released = λ i m e f. ap (option_map (λ z. block_at z.address)) (released-of i y t) ∙ before.released i m
-          (sym (is.lets i) ∙ e) (before.release_sources i ∙ sym (lets i) ∙ f);
-      sizes = λ i m e f. ap (option_map (λ z. z.size)) (released-of i y t) ∙ before.sizes i m (sym (is.lets i) ∙ e)
-          (before.release_sources i ∙ sym (lets i) ∙ f);
+      released = λ i m e f. let_still before i m (released-of i y t) (cc (is.lets i))
+          (cc (before.release_sources i, lets i));
       releases = λ m. cc (rests Channel.C, is.blocks m, step_quiet first last (let_of c (rest Channel.C) (s.block m)));
-      sinks = λ i. ap (λ (l : List (Beat w)). is_sunk c i l (s'.tracked i) s') (rests Channel.D)
-          ∙ ap (λ (o : Option ℕ). is_sunk c i (rest Channel.D) o s') (is.tracked i) ∙ sinks i (s.tracked i)
+      sinks = λ i. ap (λ l. is_sunk c i l (s'.tracked i) s') (rests Channel.D)
+          ∙ ap (λ o. is_sunk c i (rest Channel.D) o s') (is.tracked i) ∙ sinks i (s.tracked i)
           ∙ sym (step_quiet first last (is_sunk c i (rest Channel.D) (s.tracked i) s));
       grants = λ m. grants m ∙ sym (step_quiet first last (granted_by c m asked (rest Channel.D) (s.block m)));
       probes = λ m. cc (is.blocks m, step_quiet first last (is_answered ((s.block m).pair c).probing));
-      probed = λ m e. probe_of-a m y t ∙ before.probed m (sym (ap (λ (z : Block X). is_answered (z.pair c).probing)
-          (is.blocks m)) ∙ e) ∙ sym (ap (λ (z : Block X). Some (probe_beat m (cap_waited z.service))) (is.blocks m));
+      probed = λ m e. probe_of-a m y t ∙ before.probed m (sym (ap (λ z. is_answered (z.pair c).probing)
+          (is.blocks m)) ∙ e) ∙ sym (ap (λ z. Some (probe_beat m (cap_waited z.service))) (is.blocks m));
       sunk = λ m e. cc (grant_sink-a m y t, before.sunk m (before.grants m ∙ sym (grants m) ∙ e), is.blocks m);
     }) before
   where
@@ -106,7 +101,7 @@ flowed-access {w} {X} {c} {y} {first} {last} {asked} {rest} {rest'} {s} {s'} {t}
 
     same : (i : ℕ) → (y.source == i) ≡ false → is_requested c i (rest' Channel.A) (s'.uses c i) s' ≡ is_requested c i
         (rest Channel.A) (s.uses c i) s
-    same i e = let fact = requested-rest c i (rest Channel.A) (rest' Channel.A) (s.uses c i) s s' is.blocks (is.comes i
+    same i e = let fact = requested-rest c i _ _ (s.uses c i) s s' is.blocks (is.comes i
         ∙ and_right (not last) (y.source == i) e ∙ sym (is.came i ∙ and_right (not first) (y.source == i) e)) in
         cc (use_at i false e, off last (s.uses c i) Replied)
 
@@ -161,8 +156,7 @@ pub flowed-acquire : {w : ℕ} {X : Type 0} {c n : ℕ} {y : BeatA w} {asked ask
 flowed-acquire {w} {X} {c} {n} {y} {asked} {asked'} {rest} {rest'} {s} {s'} {t} first_is last_is rests is before =
     let probed = each-block (λ m z. is_answered (z.pair c).probing ≡ true → probe_of m t ≡ Some (probe_beat m
     (cap_waited z.service))) n s s' is.elsewhere (λ e. absurd (cc is.answered)) (λ m ne e. before.probed m e) in
-    let answered =
-    part-block (λ (z : Block X). is_answered (z.pair c).probing) n s s' is.elsewhere (is.answered ∙ sym is.quiet) in
+    let answered = part-block (λ z. is_answered (z.pair c).probing) n s s' is.elsewhere (is.answered ∙ sym is.quiet) in
     let b : Block X = s.block n in
     let new : Block X = s'.block n in
     let none_comes = no_coming (is_granting (view b.service c)) (comes_granting n asked (rest Channel.D))
@@ -181,10 +175,7 @@ flowed-acquire {w} {X} {c} {n} {y} {asked} {asked'} {rest} {rest'} {s} {s'} {t} 
     (s'.block m).tracker = λ m e. each-block (λ j z. granted_by c j asked (rest Channel.D) (s.block j) ≡ true →
     grant_sink j t ≡ Some z.tracker) n s s' is.elsewhere (λ f. absurd (let g : false ≡ true = sym granted_then ∙ f
     in cc)) (λ j ne f. before.sunk j (before.grants j ∙ f)) m (sym (grants m) ∙ e) in
-    flowed-next (record {
-      first_is = first_is;
-      last_is = last_is;
-      rests = rests;
+    flowed-next first_is last_is rests (record {
       held_is = part-block (held_by c) n s s' is.elsewhere is.held_is;
       requests = λ i. requests i (y.source == i) refl;
       asked_is = λ i e. asked_still i e (y.source == i) refl;
@@ -196,13 +187,11 @@ flowed-acquire {w} {X} {c} {n} {y} {asked} {asked'} {rest} {rest'} {s} {s'} {t} 
           (λ m ne. sym (whole_unopened (is_acquire y.opcode && (block_at y.address == m)) (acquired_by c (s.block m))
           (and_right (is_acquire y.opcode) (block_at y.address == m) (rw is.at (ne_eqb n m (λ e. ne (sym e)))))));
       release_sources = lets;
-      released = λ i m e f. ap (option_map (λ z. block_at z.address)) (released-of i y t) ∙ before.released i m
-          (sym (is.lets i) ∙ e) (before.release_sources i ∙ sym (lets i) ∙ f);
-      sizes = λ i m e f. ap (option_map (λ z. z.size)) (released-of i y t) ∙ before.sizes i m (sym (is.lets i) ∙ e)
-          (before.release_sources i ∙ sym (lets i) ∙ f);
-      releases = λ m. ap (λ (l : List (Beat w)). let_of c l (s'.block m)) (rests Channel.C) ∙ part-block
+      released = λ i m e f. let_still before i m (released-of i y t) (cc (is.lets i))
+          (cc (before.release_sources i, lets i));
+      releases = λ m. ap (λ l. let_of c l (s'.block m)) (rests Channel.C) ∙ part-block
           (let_of c (rest Channel.C)) n s s' is.elsewhere (rw (is.release_source, is.letting_is) refl) m;
-      sinks = λ i. ap (λ (l : List (Beat w)). is_sunk c i l (s'.tracked i) s') (rests Channel.D) ∙ is.sinks i;
+      sinks = λ i. ap (λ l. is_sunk c i l (s'.tracked i) s') (rests Channel.D) ∙ is.sinks i;
       grants = grants;
       probes = answered;
       probed = λ m e. probe_of-a m y t ∙ probed m e;
@@ -211,7 +200,7 @@ flowed-acquire {w} {X} {c} {n} {y} {asked} {asked'} {rest} {rest'} {s} {s'} {t} 
   where
     same : (i : ℕ) → (y.source == i) ≡ false → is_requested c i (rest' Channel.A) (s'.uses c i) s' ≡ is_requested c i
         (rest Channel.A) (s.uses c i) s
-    same i e = let fact = requested-apart c i n (rest Channel.A) (rest' Channel.A) (s.uses c i) s s' is.elsewhere
+    same i e = let fact = requested-apart c i n _ _ _ s s' is.elsewhere
         (is.comes i ∙ sym (is.came i)) (is.no_use i e) in cc (is.uses i)
 
     requests : (i : ℕ) (here : Bool) → (y.source == i) ≡ here → is_requested c i (rest' Channel.A) (s'.uses c i) s'
@@ -230,4 +219,4 @@ flowed-acquire {w} {X} {c} {n} {y} {asked} {asked'} {rest} {rest'} {s} {s'} {t} 
 
     lets : (i : ℕ) → is_let_by c i (rest' Channel.C) (s'.lets c i) s' ≡ is_let_by c i (rest Channel.C) (s.lets c i) s
     lets i = let fact = let_by-same c i (rest Channel.C) (s.lets c i) s s' (part-block
-        (λ (z : Block X). (z.pair c).letting) n s s' is.elsewhere is.letting_is) in cc (rests Channel.C, is.lets i)
+        (λ z. (z.pair c).letting) n s s' is.elsewhere is.letting_is) in cc (rests Channel.C, is.lets i)

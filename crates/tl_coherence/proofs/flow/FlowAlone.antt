@@ -14,7 +14,7 @@ use Rattle.tl_burst.specs.statement.Messages.{on}
 use Rattle.tl_rules.specs.statement.History.{is_sink}
 use Rattle.tl_client.proofs.pending.AccountedResponse.{is_own_sink}
 use Rattle.tl_manager.proofs.pending.Acked.{probe_of-e, grant_sink-e}
-use proofs.flow.FlowStep.{held_by, acquired_by, let_of, granted_by, flowed-next, step}
+use proofs.flow.FlowStep.{held_by, acquired_by, let_of, granted_by, flowed-next, step, let_still}
 use proofs.client.ClientEnd.{comes-same}
 use proofs.queues.Tokens.{same_number, set-same, set-other, set-each, set-part}
 
@@ -73,9 +73,9 @@ flowed-rests {w} {asked} rest' {c} {s} same before = record {
   release_sources = λ i. cc (before.release_sources i, same Channel.C);
   released = before.released;
   sizes = before.sizes;
-  releases = λ n. before.releases n ∙ ap (λ (l : List (Beat w)). let_of c l (s.block n)) (sym (same Channel.C));
-  sinks = λ i. before.sinks i ∙ ap (λ (l : List (Beat w)). is_sunk c i l (s.tracked i) s) (sym (same Channel.D));
-  grants = λ n. before.grants n ∙ ap (λ (l : List (Beat w)). granted_by c n asked l (s.block n)) (sym (same Channel.D));
+  releases = λ n. before.releases n ∙ ap (λ l. let_of c l (s.block n)) (sym (same Channel.C));
+  sinks = λ i. before.sinks i ∙ ap (λ l. is_sunk c i l (s.tracked i) s) (sym (same Channel.D));
+  grants = λ n. before.grants n ∙ ap (λ l. granted_by c n asked l (s.block n)) (sym (same Channel.D));
   probes = before.probes;
   probed = before.probed;
   sunk = before.sunk;
@@ -136,7 +136,7 @@ requested-same : {w : ℕ} {X : Type 0} (c i : ℕ) (rest : List (Beat w)) (s s'
     → IsSameUse (s.uses c i) (s'.uses c i)
     → is_requested c i rest (s'.uses c i) s' ≡ is_requested c i rest (s.uses c i) s
 requested-same c i rest s s' h (inl same) = cc (same, requested-blocks c i rest (s.uses c i) s s' h)
-requested-same c i rest s s' h (inr both) = heard_requested c i rest (s'.uses c i) s' both.1 ∙ sym
+requested-same c i rest s s' h (inr both) = heard_requested c i rest _ s' both.1 ∙ sym
     (heard_requested c i rest (s.uses c i) s both.0)
 
 pub let_by-same : {w : ℕ} {X : Type 0} (c i : ℕ) (rest : List (Beat w)) (o : Option ℕ) (s s' : State X)
@@ -171,7 +171,7 @@ flowed-aside {w} {X} {asked} {asked'} {rest} {d} {s} {s'} {t} is = flowed-untouc
   requests = λ i. requested-same d i (rest Channel.A) s s' (λ n. (is.blocks n).unserved) (is.uses i);
   asked_is = λ i e. is.asked_is i;
   acquires = λ n. rw ((is.blocks n).wanting, (is.blocks n).unserved) refl;
-  release_sources = λ i. ap (λ (o : Option ℕ). is_let_by d i (rest Channel.C) o s') (is.lets i) ∙ let_by-same d i
+  release_sources = λ i. ap (λ o. is_let_by d i (rest Channel.C) o s') (is.lets i) ∙ let_by-same d i
       (rest Channel.C) (s.lets d i) s s' (λ n. (is.blocks n).letting);
   lets = λ i n e f. sym (is.lets i) ∙ f;
   releases = λ n. cc ((is.blocks n).source, (is.blocks n).letting);
@@ -194,7 +194,7 @@ flowed-aside {w} {X} {asked} {asked'} {rest} {d} {s} {s'} {t} is = flowed-untouc
 pub flowed-asks : {w : ℕ} {X : Type 0} {asked : ℕ → Option (BeatA w)} (asked' : ℕ → Option (BeatA w))
     {rest : Channel → List (Beat w)} {d : ℕ} {s : State X} {t : History w} → ((i : ℕ) → asked' i ≡ asked i)
     → MonitorRelation asked rest d s t → MonitorRelation asked' rest d s t
-flowed-asks {asked} asked' {rest} {d} {s} {t} asks = flowed-untouched (record {
+flowed-asks {asked} asked' {rest} {d} {s} asks = flowed-untouched (record {
   held_is = λ n. refl;
   requests = λ i. refl;
   asked_is = λ i e. asks i;
@@ -203,7 +203,7 @@ flowed-asks {asked} asked' {rest} {d} {s} {t} asks = flowed-untouched (record {
   lets = λ i n e f. f;
   releases = λ n. refl;
   sinks = λ i. refl;
-  grants = λ n. ap (λ (z : Bool). is_acknowledging (view (s.block n).service d) || z)
+  grants = λ n. ap (λ z. is_acknowledging (view (s.block n).service d) || z)
       (comes-same n asked asked' (rest Channel.D) asks);
   probes = λ n. refl;
   caps = λ n e. refl;
@@ -246,36 +246,32 @@ flowed-grant_ack {w} {X} {c} n toks y {asked} asked' {rest} rest' {s}
     let tracked = set-each (λ m z. granted_by c m asked' (rest' Channel.D) z ≡ true → grant_sink m t
     ≡ Some z.tracker) n new s.block (λ e. absurd (let f : false ≡ true = sym (grants_rest n ∙ none_comes) ∙ e in cc))
     (λ m ne e. before.sunk m (cc (before.grants m, grants_rest m))) in
-    let acks_here = ap (λ (v : View). is_acknowledging v || comes_granting n asked (rest Channel.D)) seen in
+    let acks_here = ap (λ v. is_acknowledging v || comes_granting n asked (rest Channel.D)) seen in
     let grants = set-each (λ m z. granted_by c m asked' (rest' Channel.D) z ≡ step true true false
     (is_sink y.sink (grant_sink m t)) (granted_by c m asked (rest Channel.D) (s.block m))) n new s.block
     (grants_rest n ∙ none_comes ∙ sym (closes_it (granted_by c n asked (rest Channel.D) b) (is_sink y.sink
     (grant_sink n t)) (rw sink (is_own_sink b.tracker (grant_sink n t) (before.sunk n (before.grants n ∙ acks_here))))))
-    (λ m ne. ap (λ (z : Bool). is_acknowledging (view (s.block m).service c) || z) (grants_rest m) ∙ sym (leaves_it
+    (λ m ne. ap (λ z. is_acknowledging (view (s.block m).service c) || z) (grants_rest m) ∙ sym (leaves_it
     (granted_by c m asked (rest Channel.D) (s.block m)) (is_sink y.sink (grant_sink m t)) (other_closed m ne))) in
     let requests : (i : ℕ) → is_requested c i (rest' Channel.A) (s'.uses c i) s' ≡ is_requested c i (rest Channel.A)
     (s.uses c i) s = λ i. cc (
       rests Channel.A,
       requested-blocks c i (rest Channel.A) (s.uses c i) s s'
-          (set-part (λ (z : Block X). is_unserved (view z.service c)) n new s.block (sym (ap is_unserved seen))),
+          (set-part (λ z. is_unserved (view z.service c)) n new s.block (sym (ap is_unserved seen))),
     ) in
-    flowed-next (record {
-      first_is = first;
-      last_is = last;
-      rests = rests;
+    flowed-next first last rests (record {
       held_is = set-part (held_by c) n new s.block
-          (sym (ap (λ (v : View). if is_granting v then (b.pair c).held else (b.pair c).recorded) seen));
+          (sym (ap (λ v. if is_granting v then (b.pair c).held else (b.pair c).recorded) seen));
       requests = requests;
       asked_is = λ i e. request_of-e i y t ∙ before.asked_is i (cc (before.requests i, requests i)) ∙ sym (asks i);
       acquires = set-part (acquired_by c) n new s.block
-          (sym (ap (λ (v : View). is_wanting (b.pair c).acquiring && not (is_unserved v)) seen));
+          (sym (ap (λ v. is_wanting (b.pair c).acquiring && not (is_unserved v)) seen));
       release_sources = lets;
-      released = λ i m e f. cc (released-of i y t, before.released i m e (before.release_sources i ∙ sym (lets i) ∙ f));
-      sizes = λ i m e f. cc (released-of i y t, before.sizes i m e (before.release_sources i ∙ sym (lets i) ∙ f));
+      released = λ i m e f. let_still before i m (released-of i y t) e (cc (before.release_sources i, lets i));
       releases = λ m. cc (rests Channel.C, set-part (let_of c (rest Channel.C)) n new s.block refl m);
       sinks = sinks;
       grants = grants;
-      probes = set-part (λ (z : Block X). is_answered (z.pair c).probing) n new s.block refl;
+      probes = set-part (λ z. is_answered (z.pair c).probing) n new s.block refl;
       probed = λ m e. probe_of-e m y t ∙ probed m e;
       sunk = λ m e. grant_sink-e m y t ∙ tracked m e;
     }) before
@@ -291,15 +287,15 @@ flowed-grant_ack {w} {X} {c} n toks y {asked} asked' {rest} rest' {s}
 
     lets : (i : ℕ) → is_let_by c i (rest' Channel.C) (s'.lets c i) s' ≡ is_let_by c i (rest Channel.C) (s.lets c i) s
     lets i = let fact = let_by-same c i (rest Channel.C) (s.lets c i) s s'
-        (set-part (λ (z : Block X). (z.pair c).letting) n new s.block refl) in cc (rests Channel.C)
+        (set-part (λ z. (z.pair c).letting) n new s.block refl) in cc (rests Channel.C)
 
     answered_other : (m : ℕ) → is_answered ((s'.block m).pair c).probing ≡ true
         → is_answered ((s.block m).pair c).probing ≡ true
-    answered_other m e = sym (set-part (λ (z : Block X). is_answered (z.pair c).probing) n new s.block refl m) ∙ e
+    answered_other m e = sym (set-part (λ z. is_answered (z.pair c).probing) n new s.block refl m) ∙ e
 
     probed : (m : ℕ) → is_answered ((s'.block m).pair c).probing ≡ true
         → probe_of m t ≡ Some (probe_beat m (cap_waited (s'.block m).service))
-    probed m e = let fact = set-part (λ (z : Block X). cap_waited z.service) n new s.block
+    probed m e = let fact = set-part (λ z. cap_waited z.service) n new s.block
         (no_cap b.service seen) m in cc (before.probed m (answered_other m e))
       where
         no_cap : (q : Service) → view q c ≡ Acknowledging → cap_waited Free ≡ cap_waited q
@@ -332,12 +328,12 @@ flowed-grant_ack {w} {X} {c} n toks y {asked} asked' {rest} rest' {s}
 
     sinks : (i : ℕ) → is_sunk c i (rest' Channel.D) (s'.tracked i) s' ≡ step true true false (y.sink == i)
         (is_sunk c i (rest Channel.D) (s.tracked i) s)
-    sinks i = ap (λ (r : List (Beat w)). is_sunk c i r (s'.tracked i) s') (rests Channel.D) ∙ go (cases_eq i b.tracker)
+    sinks i = ap (λ r. is_sunk c i r (s'.tracked i) s') (rests Channel.D) ∙ go (cases_eq i b.tracker)
       where
         others : (o : Option ℕ) → is_of n o ≡ false → is_sunk c i (rest Channel.D) o s' ≡ is_sunk c i (rest Channel.D) o
             s
         others None f = refl
-        others (Some m) f = ap (λ (z : Block X). is_sunk_with z) (set-other n m new s.block (λ e. let g : true ≡ false =
+        others (Some m) f = ap (λ z. is_sunk_with z) (set-other n m new s.block (λ e. let g : true ≡ false =
             sym (rw e (same_number n)) ∙ f in cc))
           where
             is_sunk_with : Block X → Bool
@@ -349,6 +345,6 @@ flowed-grant_ack {w} {X} {c} n toks y {asked} asked' {rest} rest' {s}
         go (inl same) = let fact = closes_it (is_sunk c i (rest Channel.D) (s.tracked i) s) (y.sink == i)
             (rw (sink, same) (same_number b.tracker)) in cc (same, set-same b.tracker None s.tracked)
         go (inr other) = let fact =
-            others (s.tracked i) (named.trackers i n ∙ rw (busy, ne_eqb i b.tracker other) refl) in let other_fact =
+            others _ (named.trackers i n ∙ rw (busy, ne_eqb i b.tracker other) refl) in let other_fact =
             leaves_it (is_sunk c i (rest Channel.D) (s.tracked i) s) (y.sink == i)
             (λ e. rw sink (ne_eqb b.tracker i (λ f. other (sym f)))) in cc (set-other b.tracker i None s.tracked other)

@@ -5,12 +5,11 @@ use Rattle.std.proofs.Common.{refl, sym, ◌∙◌, ap, arith, inl, inr, ne_eqb}
 use Rattle.tl_coherence.proofs
 use proofs.Imports.{cases_eq, Beat, BeatA, Channel, IsWidth, Message, MessageA, History, Config, Grow, Prune}
 use proofs.Imports.{comes_in_release, comes_in_request, block_at, Op, Reply, copy_stored, whole_grow, access, is_of}
-use proofs.Imports.{set_at, ClientBlock, NoAcquire, NoRelease, ReleaseSent, View, after_acquire, after_release}
-use proofs.Imports.{Acquires, Asked, Block, SourceFree, SourceState, State, access_asked, acquire_asked}
-use proofs.Imports.{acquiring_block, block_stored, release_asked, releasing_block, view, is_acknowledging, is_answered}
-use proofs.Imports.{is_granting, is_unserved, is_wanting, AbstractState, asked, comes_granting, MonitorRelation}
-use proofs.Imports.{is_let_by, is_release_pending, is_requested, AccessMessages, SimulationRelation, asked_by}
-use proofs.Imports.{is_caching, cap_waited, Log, System}
+use proofs.Imports.{set_at, NoAcquire, NoRelease, ReleaseSent, View, after_acquire, after_release, Acquires, Asked}
+use proofs.Imports.{Block, SourceFree, SourceState, State, access_asked, acquire_asked, acquiring_block, block_stored}
+use proofs.Imports.{release_asked, releasing_block, view, is_acknowledging, is_answered, is_granting, is_unserved}
+use proofs.Imports.{is_wanting, AbstractState, asked, comes_granting, MonitorRelation, is_let_by, is_release_pending}
+use proofs.Imports.{is_requested, AccessMessages, SimulationRelation, asked_by, is_caching, cap_waited, Log, System}
 use proofs.client.{ClientAsked.asks_acquire, ClientEnd.asks-same, ClientEnd.comes-same}
 use proofs.client.AsideAll.{set_at-else, Leaves, leaves-asked}
 use proofs.deliveries.AskedAfter.{reply-cases, IsPlain}
@@ -41,9 +40,8 @@ asked-now : {w : ℕ} {X : Type 0} (c source : ℕ) (asked asked' : ℕ → Opti
     (s : State X) → s.uses c source ≡ SourceFree → ((i : ℕ) → (i ≡ source → ⊥) → asked' i ≡ asked i) → (i : ℕ)
     → is_requested c i rest (s.uses c i) s ≡ true → asked' i ≡ asked i
 asked-now c source asked asked' rest s closed asks i e = elim (cases_eq i source) [
-  | inl here ↦ absurd (let no : false ≡ true =
-      sym (ap (λ (j : ℕ). is_requested c j rest (s.uses c j) s) here ∙ ap
-      (λ (v : SourceState). is_requested c source rest v s) closed) ∙ e in cc)
+  | inl here ↦ absurd (let no : false ≡ true = sym (ap (λ j. is_requested c j rest (s.uses c j) s) here
+      ∙ ap (λ v. is_requested c source rest v s) closed) ∙ e in cc)
   | inr other ↦ asks i other
 ]
 
@@ -54,15 +52,14 @@ pub untouched-access_asked : {w : ℕ} {X : Type 0} (c source : ℕ) (asked aske
     → IsUntouched asked asked' rest c s (access_asked c source s)
 untouched-access_asked c source asked asked' rest s closed none asks grants = record {
   held_is = λ m. refl;
-  requests = requested-now c source Asked (rest Channel.A) s (access_asked c source s) closed (λ i. refl) none
-      (λ m. refl);
-  asked_is = asked-now c source asked asked' (rest Channel.A) s closed asks;
+  requests = requested-now c _ Asked (rest Channel.A) s (access_asked c source s) closed (λ i. refl) none (λ m. refl);
+  asked_is = asked-now c _ asked asked' (rest Channel.A) s closed asks;
   acquires = λ m. refl;
   release_sources = λ i. let_by-same c i (rest Channel.C) (s.lets c i) s (access_asked c source s) (λ m. refl);
   lets = λ i m e f. f;
   releases = λ m. refl;
   sinks = λ i. sunk-as c i (rest Channel.D) (s.tracked i) s (access_asked c source s) (λ m. refl);
-  grants = λ m. ap (λ (z : Bool). is_acknowledging (view (s.block m).service c) || z) (grants m);
+  grants = λ m. ap (λ z. is_acknowledging (view (s.block m).service c) || z) (grants m);
   probes = λ m. refl;
   caps = λ m e. refl;
   trackers = λ m e. refl;
@@ -81,29 +78,26 @@ untouched-acquire_asked {w} {X} c n source whole g bytes asked asked' rest s clo
     let served : (p q : Bool) → q ≡ true → (p && not q) ≡ false = elim [ true ↦ λ q e. rw e refl | false ↦ λ q e. refl ]
     in
     let s' : State X = acquire_asked c n source whole g bytes s in
-    let letting_same : (new.pair c).letting ≡ (b.pair c).letting = ap (λ (p : ClientBlock). p.letting) pair in
-    let unserved_same = set-part (λ (z : Block X). is_unserved (view z.service c)) n new s.block refl in
+    let letting_same : (new.pair c).letting ≡ (b.pair c).letting = ap (λ p. p.letting) pair in
+    let unserved_same = set-part (λ z. is_unserved (view z.service c)) n new s.block refl in
     record {
       held_is = set-part (held_by c) n new s.block
-          (ap (λ (p : ClientBlock). if is_granting (view b.service c) then p.held else p.recorded) pair);
-      requests = requested-now c source (Acquires n) (rest Channel.A) s s' closed (λ i. refl)
-          (ap not (unserved_same n ∙ unserved)) unserved_same;
-      asked_is = asked-now c source asked asked' (rest Channel.A) s closed asks;
+          (ap (λ p. if is_granting (view b.service c) then p.held else p.recorded) pair);
+      requests = requested-now c _ _ _ s s' closed (λ i. refl) (ap not (unserved_same n ∙ unserved)) unserved_same;
+      asked_is = asked-now c _ asked asked' (rest Channel.A) s closed asks;
       acquires = set-part (acquired_by c) n new s.block
           (served (is_wanting (new.pair c).acquiring) (is_unserved (view b.service c)) unserved
           ∙ sym (served (is_wanting (b.pair c).acquiring) (is_unserved (view b.service c)) unserved));
       release_sources = λ i. let_by-same c i (rest Channel.C) (s.lets c i) s s'
-          (set-part (λ (z : Block X). (z.pair c).letting) n new s.block letting_same);
+          (set-part (λ z. (z.pair c).letting) n new s.block letting_same);
       lets = λ i m e f. f;
       releases = set-part (let_of c (rest Channel.C)) n new s.block
           (ap (is_release_pending (b.release_source c) (rest Channel.C)) letting_same);
-      sinks = λ i. sunk-as c i (rest Channel.D) (s.tracked i) s s'
-          (set-part (sunk_in c i (rest Channel.D)) n new s.block refl);
+      sinks = λ i. sunk-as c i _ (s.tracked i) s s' (set-part (sunk_in c i (rest Channel.D)) n new s.block refl);
       grants = λ m. cc (grants m, set-part (granted_by c m asked (rest Channel.D)) n new s.block refl m);
-      probes = set-part (λ (z : Block X). is_answered (z.pair c).probing) n new s.block
-          (ap (λ (p : ClientBlock). is_answered p.probing) pair);
-      caps = λ m e. set-part (λ (z : Block X). cap_waited z.service) n new s.block refl m;
-      trackers = λ m e. set-part (λ (z : Block X). z.tracker) n new s.block refl m;
+      probes = set-part (λ z. is_answered (z.pair c).probing) n new s.block (ap (λ p. is_answered p.probing) pair);
+      caps = λ m e. set-part (λ z. cap_waited z.service) n new s.block refl m;
+      trackers = λ m e. set-part (λ z. z.tracker) n new s.block refl m;
     }
 
 -- ---- a Release
@@ -116,30 +110,27 @@ pub untouched-release_asked : {w : ℕ} {X : Type 0} (c n source : ℕ) (r : Pru
 untouched-release_asked {w} {X} c n source r asked asked' rest s free none kept unused ungranted asks =
     let still : (i m : ℕ) → is_let_by c i (rest Channel.C) (s.lets c i) s ≡ true → s'.lets c i ≡ Some m
     → s.lets c i ≡ Some m = λ i m e f. elim (cases_eq i source) [
-      | inl here ↦ absurd (let no : false ≡ true =
-          sym (ap (λ (j : ℕ). is_let_by c j (rest Channel.C) (s.lets c j) s) here
-          ∙ ap (λ (o : Option ℕ). is_let_by c source (rest Channel.C) o s) free) ∙ e in cc)
+      | inl here ↦ absurd (let no : false ≡ true = sym (ap (λ j. is_let_by c j (rest Channel.C) (s.lets c j) s) here
+          ∙ ap (λ o. is_let_by c source (rest Channel.C) o s) free) ∙ e in cc)
       | inr other ↦ sym (set_at-else c source i (Some n) s.lets other c) ∙ f
     ] in
     record {
       held_is = set-part (held_by c) n new s.block (cc (ungranted, pair));
       requests = λ i. requested-blocks c i (rest Channel.A) (s.uses c i) s s'
-          (set-part (λ (z : Block X). is_unserved (view z.service c)) n new s.block refl);
+          (set-part (λ z. is_unserved (view z.service c)) n new s.block refl);
       asked_is = λ i e. asks i;
       acquires = set-part (acquired_by c) n new s.block
-          (ap (λ (p : ClientBlock). is_wanting p.acquiring && not (is_unserved (view b.service c))) pair);
+          (ap (λ p. is_wanting p.acquiring && not (is_unserved (view b.service c))) pair);
       release_sources = lets;
       lets = λ i m e f. still i m e f;
       releases = set-part (let_of c (rest Channel.C)) n new s.block
           (cc (letting_is, set-same c source b.release_source, none, kept));
-      sinks = λ i. sunk-as c i (rest Channel.D) (s.tracked i) s s'
-          (set-part (sunk_in c i (rest Channel.D)) n new s.block refl);
+      sinks = λ i. sunk-as c i _ (s.tracked i) s s' (set-part (sunk_in c i (rest Channel.D)) n new s.block refl);
       grants = λ m. let fact = set-part (granted_by c m asked (rest Channel.D)) n new s.block refl m in
           cc (comes-same m asked asked' (rest Channel.D) asks);
-      probes = set-part (λ (z : Block X). is_answered (z.pair c).probing) n new s.block
-          (ap (λ (p : ClientBlock). is_answered p.probing) pair);
-      caps = λ m e. set-part (λ (z : Block X). cap_waited z.service) n new s.block refl m;
-      trackers = λ m e. set-part (λ (z : Block X). z.tracker) n new s.block refl m;
+      probes = set-part (λ z. is_answered (z.pair c).probing) n new s.block (ap (λ p. is_answered p.probing) pair);
+      caps = λ m e. set-part (λ z. cap_waited z.service) n new s.block refl m;
+      trackers = λ m e. set-part (λ z. z.tracker) n new s.block refl m;
     }
   where
     b : Block X
@@ -155,7 +146,7 @@ untouched-release_asked {w} {X} c n source r asked asked' rest s free none kept 
     pair = set-same c (after_release r (b.pair c)) b.pair
 
     letting_is : (new.pair c).letting ≡ ReleaseSent r
-    letting_is = ap (λ (p : ClientBlock). p.letting) pair
+    letting_is = ap (λ p. p.letting) pair
 
     others : (i : ℕ) (o : Option ℕ) → is_of n o ≡ false → is_let_by c i (rest Channel.C) o s' ≡ is_let_by c i
         (rest Channel.C) o s
@@ -195,12 +186,10 @@ module _ {w : ℕ} {config : Config} {log : Log w} (h : AbstractState w) {sys : 
   own-stored t address size value may =
       let n = block_at address in
       let bytes = copy_stored address size value ((h.state.block n).copy c) in
-      let asks : (i : ℕ) → asked_by h.mail (block_stored c n bytes h.state) c i ≡ asked_by h.mail h.state c i =
-      λ i. asks-same c i h.mail h.mail h.state (block_stored c n bytes h.state) refl (inl refl)
-      (λ j used. set-part (λ b. (b.pair c).acquiring) n _ h.state.block refl j)
-      (λ j used. set-part (λ b. b.source c) n _ h.state.block refl j) in
-      flowed-aside
-      (left-block_stored c (asked_by h.mail h.state c) (asked_by h.mail (block_stored c n bytes h.state) c)
+      let asks : (i : ℕ) → asked_by h.mail (block_stored c n bytes h.state) c i ≡ asked_by h.mail h.state c i = λ i.
+      asks-same c i h.mail h.mail h.state (block_stored c n bytes h.state) refl (inl refl) (λ j used. set-part (λ b.
+      (b.pair c).acquiring) n _ h.state.block refl j) (λ j used. set-part (λ b. b.source c) n _ h.state.block refl j) in
+      flowed-aside (left-block_stored c (asked_by h.mail h.state c) (asked_by h.mail (block_stored c n bytes h.state) c)
       (unfinished_at sys c) h.state asks (coming-granting c is) c n bytes)
 
   own-acquire : {t : History w} (n source : ℕ) (whole : Bool) (g : Grow) (bytes : List ℕ)
@@ -208,11 +197,10 @@ module _ {w : ℕ} {config : Config} {log : Log w} (h : AbstractState w) {sys : 
       → MonitorRelation (asked_by h.mail h.state c) (unfinished_at sys c) c h.state t
       → MonitorRelation (asked_by h.mail (acquire_asked c n source whole g bytes h.state) c) (unfinished_at sys c) c
       (acquire_asked c n source whole g bytes h.state) t
-  own-acquire n source whole g bytes closed calm = flowed-untouched
-      (untouched-acquire_asked c n source whole g bytes before after (unfinished_at sys c) h.state closed calm
-      (unserved_calm ((h.state.block n).pair c) (view (h.state.block n).service c)
-      ((is.invariant.blocks n).phases c) calm) asks (λ m. coming-asked c m before after is
-      (λ i k used. asks i (λ e. acquires_not (h.state.uses c i) k (ap (h.state.uses c) e ∙ closed) used))))
+  own-acquire n source whole g bytes closed calm = flowed-untouched (untouched-acquire_asked c n source whole
+      g bytes before after (unfinished_at sys c) h.state closed calm (unserved_calm ((h.state.block n).pair c)
+      (view (h.state.block n).service c) ((is.invariant.blocks n).phases c) calm) asks (λ m. coming-asked c m before
+      after is (λ i k used. asks i (λ e. acquires_not _ k (ap (h.state.uses c) e ∙ closed) used))))
     where
       before : ℕ → Option (BeatA w)
       before = asked_by h.mail h.state c
@@ -229,11 +217,10 @@ module _ {w : ℕ} {config : Config} {log : Log w} (h : AbstractState w) {sys : 
       let before : ℕ → Option (BeatA w) = asked_by h.mail h.state c in
       let after : ℕ → Option (BeatA w) = asked_by h.mail (release_asked c n source r h.state) c in
       let new : Block (List ℕ) = releasing_block c source r (h.state.block n) in
-      let asks : (i : ℕ) → after i ≡ before i =
-      λ i. asks-same c i h.mail h.mail h.state (release_asked c n source r h.state) refl (inl refl) (λ j used. set-part
-      (λ (b : Block (List ℕ)). (b.pair c).acquiring) n new h.state.block (ap (λ (p : ClientBlock). p.acquiring)
-      (set-same c (after_release r ((h.state.block n).pair c)) (h.state.block n).pair)) j)
-      (λ j used. set-part (λ (b : Block (List ℕ)). b.source c) n new h.state.block refl j) in
+      let asks : (i : ℕ) → after i ≡ before i = λ i. asks-same c i h.mail h.mail h.state (release_asked c n
+      source r h.state) refl (inl refl) (λ j used. set-part (λ b. (b.pair c).acquiring) n new h.state.block
+      (ap (λ p. p.acquiring) (set-same c (after_release r ((h.state.block n).pair c)) (h.state.block n).pair)) j)
+      (λ j used. set-part (λ b. b.source c) n new h.state.block refl j) in
       flowed-untouched
       (untouched-release_asked c n source r before after (unfinished_at sys c) h.state may.1
       (coming-free c source width is may.1) may.3 (λ i. is.invariant.named.releases c i n ∙ rw may.3 refl)
@@ -250,10 +237,9 @@ module _ {w : ℕ} {config : Config} {log : Log w} (h : AbstractState w) {sys : 
       let asks : (i : ℕ) → (i ≡ source → ⊥) → after i ≡ before i = λ i ne. asks-same c i h.mail mail' h.state
       (access_asked c source h.state) (set_at-else c source i (access source m) h.mail.request ne c)
       (inl (set_at-else c source i Asked h.state.uses ne c)) (λ n used. refl) (λ n used. refl) in
-      flowed-untouched
-      (untouched-access_asked c source before after (unfinished_at sys c) h.state closed (not-coming_a c source is
-      (ap (λ (u : SourceState). waits_on_a c u h.state) closed)) asks (λ k. coming-asked c k before after is
-      (λ i n used. asks i (λ e. acquires_not (h.state.uses c i) n (ap (h.state.uses c) e ∙ closed) used))))
+      flowed-untouched (untouched-access_asked c source before after (unfinished_at sys c) h.state closed
+      (not-coming_a c source is (ap (λ u. waits_on_a c u h.state) closed)) asks (λ k. coming-asked c k before after is
+      (λ i n used. asks i (λ e. acquires_not _ n (ap (h.state.uses c) e ∙ closed) used))))
 
   -- ---- another one
 
@@ -283,8 +269,8 @@ module _ {w : ℕ} {config : Config} {log : Log w} (h : AbstractState w) {sys : 
   pub flowed-asked : (d : ℕ) (t : History w) (o : Op w) (r : Reply) → IsReply o r → IsAskedOn d t o r
   flowed-asked d t o r may_be = elim (cases_eq d c) [
     | inl same ↦ rw same (reply-cases (IsAskedOn c t) o r may_be (own-stored t) (λ n g source may. own-acquire {t =
-        t} n source false g ((h.state.block n).waiting c) may.1 may.2) (λ n bytes source may. own-acquire {t =
-        t} n source true (whole_grow ((h.state.block n).pair c).held) bytes may.1 may.2)
+        t} n _ false g ((h.state.block n).waiting c) may.1 may.2) (λ n bytes source may. own-acquire {t =
+        t} n _ true (whole_grow ((h.state.block n).pair c).held) bytes may.1 may.2)
         (λ n p source. own-release t n source p) (own-access t) (asked-nothing c t))
     | inr ne ↦ asked-other d t o r ne may_be
   ]

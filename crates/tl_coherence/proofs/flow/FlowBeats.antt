@@ -22,7 +22,7 @@ use proofs.client.{AsideAll.set_at-else, ProbeDelivered.first_beat}
 pub came-so : {w : ℕ} (f : List (Beat w) → Bool) {m : Message w} {x : Beat w} {rest : List (Beat w)}
     {ms : List (Message w)} {queue : List (Beat w)} (v : Bool) → IsNext x rest m ms queue → f [] ≡ false
     → ((j : ℕ) → f (begun m (suc j)) ≡ v) → f rest ≡ (not (is_empty rest) && v)
-came-so {w} f {m} v next none some =
+came-so f {m} v next none some =
     let go : (k : ℕ) → f (begun m k) ≡ (not (is_empty (begun m k)) && v) = elim [ zero ↦ none | suc j ↦ some j ] in
     rw next.rest_is (go next.k)
 
@@ -95,13 +95,12 @@ else_grant : {w : ℕ} {config : Config} {log : Log w} {mail : AccessMessages w}
     → (s.block n).service ≡ GrantTaken c
     → IsElse {w = w} (s.block n).tracker (block_message {w = w} Grant c i (s.block i))
 unfolding IsElse
-else_grant {w} {config} {s} c n i rest h first taken =
+else_grant {config} {s} c n i rest h first taken =
     let due = grant-due (is_caching config) c i rest s h.invariant first in
     let mine : s.tracked (s.block i).tracker ≡ Some i = tracker-of i h.invariant.named (rw due.service refl) in
     let theirs : s.tracked (s.block n).tracker ≡ Some n = tracker-of n h.invariant.named (rw taken refl) in
-    let apart : (s.block i).tracker ≡ (s.block n).tracker → ⊥ =
-    λ e. not_both c due.data_too due.k (s.block i).service due.service
-    (ap (λ (j : ℕ). (s.block j).service) (same_Some i n (sym mine ∙ ap s.tracked e ∙ theirs)) ∙ taken) in
+    let apart : (s.block i).tracker ≡ (s.block n).tracker → ⊥ = λ e. not_both c due.data_too due.k _ due.service
+    (ap (λ j. (s.block j).service) (same_Some i n (sym mine ∙ ap s.tracked e ∙ theirs)) ∙ taken) in
     let fact = grant_message due.data_too due.k ((s.block i).source c) (s.block i).tracker (s.block i).truth in
     let other_fact = and_right (is_grant (grant_opcode due.data_too)) ((s.block i).tracker == (s.block n).tracker)
     (ne_eqb (s.block i).tracker (s.block n).tracker apart) in (fact, grant-rendered c i s due, other_fact)
@@ -139,9 +138,8 @@ no_grant_coming {w} {config} {log} {mail} {request} {s} {sys} c n h taken = go (
     go (x ∷ xs) first carried =
         let some : IsCarried rest_now (message_of mail s c x ∷ map (message_of mail s c) xs)
         (sys.channels c Channel.D) = rw (ap (map (message_of mail s c)) first) at carried in
-        comes_else sink (message_of mail s c x) some.0 rest_now some.2
-        (elses x.kind x.number xs first (own_kind (is_caching config) s c Channel.D x.kind x.number xs h.invariant
-        first))
+        comes_else sink _ some.0 _ some.2 (elses x.kind x.number xs first (own_kind (is_caching config) s c Channel.D
+        x.kind x.number xs h.invariant first))
 
 ack-lawful : {w : ℕ} {config : Config} {log : Log w} {mail : AccessMessages w} {request : ℕ → MessageA w}
     {s : State (List ℕ)} {sys : System w} (c n : ℕ) (toks : List Packet) (l : Level) {x : Beat w}
@@ -150,15 +148,12 @@ ack-lawful : {w : ℕ} {config : Config} {log : Log w} {mail : AccessMessages w}
     → IsNext x (unfinished Channel.E (on_link c sys.manager.trace)) (block_message GrantAck c n (s.block n)) ms queue
     → broken_after l config.profile x (flow c log) ≡ None
 unfolding block_message
-ack-lawful {w} {config} {log} {mail} {request} {s} {sys} c n toks l {x} {ms} {queue} is flowed lawful tokens next =
+ack-lawful {config} {s} c n toks l is flowed lawful tokens next =
     let y : BeatE = record { sink = (s.block n).tracker } in
     let shows = first-shown is.invariant c GrantAck refl tokens in
-    let taken : (s.block n).service ≡ GrantTaken c = acknowledging-is (s.block n).service c shows in
-    next-flows l config.profile
-    (flow c log) lawful next
-    ((flowed c).rest_is Channel.E)
-    (λ none. grant_ack-flows config.profile n y (flowed c) none (tracker-of n is.invariant.named (rw taken refl)) shows
-    (no_grant_coming c n is taken))
+    let taken : (s.block n).service ≡ GrantTaken c = acknowledging-is _ c shows in
+    next-flows l config.profile _ lawful next ((flowed c).rest_is Channel.E) (λ none. grant_ack-flows config.profile n y
+    (flowed c) none (tracker-of n is.invariant.named (rw taken refl)) shows (no_grant_coming c n is taken))
 
 pub flows-e : {w : ℕ} {config : Config} {log : Log w} {mail : AccessMessages w} {request : ℕ → MessageA w}
     {s : State (List ℕ)} {sys : System w} (c : ℕ) (l : Level) (x : Beat w) (queue : List (Beat w)) → IsWidth w
@@ -166,7 +161,6 @@ pub flows-e : {w : ℕ} {config : Config} {log : Log w} {mail : AccessMessages w
     → sys.channels c Channel.E ≡ x ∷ queue → level_of config c ≡ Some l → broken_after l config.profile x (flow c log)
     ≡ None
 flows-e {w} {config} {log} {mail} {request} {s} {sys} c l x queue width is flowed beats level =
-    cc (by-first_e (λ i. broken_after l config.profile x (flow c log) ≡ None)
-    (first-token (is_caching config) Channel.E c mail s sys x queue width is.invariant is.carried beats)
-    (λ n rest tokens next. ack-lawful c n rest l
-    is flowed (lawful-beat c Channel.E l x queue is beats level) tokens next))
+    cc (by-first_e (λ i. broken_after l config.profile x (flow c log) ≡ None) (first-token (is_caching config) Channel.E
+    c mail s sys x queue width is.invariant is.carried beats) (λ n rest tokens next. ack-lawful c n rest l is flowed
+    (lawful-beat c Channel.E l x queue is beats level) tokens next))

@@ -19,7 +19,7 @@ use proofs.protocol.BothParts.{is_of-is, releasing-is, first-shown}
 
 -- the beat is one of the Grant of this block, which is due to client c
 abbrev pub IsOfGrant : {w : ℕ} → ℕ → State (List ℕ) → BeatD w → Type 0
-IsOfGrant {w} c s x = (n : ℕ) × IsGrantDue c n s × (x.source ≡ (s.block n).source c) × (x.sink ≡ (s.block n).tracker)
+IsOfGrant c s x = (n : ℕ) × IsGrantDue c n s × (x.source ≡ (s.block n).source c) × (x.sink ≡ (s.block n).tracker)
 
 -- a beat of this message is, if it is one of a Grant
 IsGrantAlone : {w : ℕ} → ℕ → State (List ℕ) → Message w → Type 0
@@ -60,7 +60,7 @@ alone_ack w s c n = (ack_message ((s.block n).release_source c), refl, λ e. abs
 begun_alone : {w : ℕ} (c : ℕ) (s : State (List ℕ)) (m : Message w) (k : ℕ) (x : BeatD w) (more : List (Beat w))
     → IsGrantAlone c s m → Beat.D x ∷ more ≡ begun m k → is_grant x.opcode ≡ true → IsOfGrant c s x
 unfolding IsGrantAlone
-begun_alone {w} c s m k x more is e grants = go k (e ∙ ap (λ (y : Message w). begun y k) is.1)
+begun_alone {w} c s m k x more is e grants = go k (e ∙ ap (λ y. begun y k) is.1)
   where
     go : (i : ℕ) → Beat.D x ∷ more ≡ begun (Message.D is.0) i → IsOfGrant c s x
     go zero f = absurd cc
@@ -95,17 +95,15 @@ half-granted {w} {config} {log} {mail} {request} {s} {sys} c x more h is grants 
     go : (xs : List Packet) → (s.link c).d ≡ xs → IsCarried rest_now (map (message_of mail s c) (s.link c).d)
         (sys.channels c Channel.D) → IsOfGrant c s x
     go [] first carried =
-        let none : IsCarried rest_now [] (sys.channels c Channel.D) =
-        subst (λ (ms : List (Message w)). IsCarried rest_now ms (sys.channels c Channel.D))
-        (ap (map (message_of mail s c)) first) carried in
+        let none : IsCarried rest_now [] (sys.channels c Channel.D) = subst (λ ms. IsCarried rest_now ms
+        (sys.channels c Channel.D)) (ap (map (message_of mail s c)) first) carried in
         absurd (let no : [] ≡ Beat.D x ∷ more = sym none.0 ∙ is in cc)
     go (y ∷ ys) first carried =
         let some : IsCarried rest_now (message_of mail s c y ∷ map (message_of mail s c) ys)
-        (sys.channels c Channel.D) = subst (λ (ms : List (Message w)). IsCarried rest_now ms (sys.channels c Channel.D))
+        (sys.channels c Channel.D) = subst (λ ms. IsCarried rest_now ms (sys.channels c Channel.D))
         (ap (map (message_of mail s c)) first) carried in
-        begun_alone c s (message_of mail s c y) some.0 x more
-        (each y.kind y.number ys first (own_kind (is_caching config) s c Channel.D y.kind y.number ys h.invariant
-        first)) (sym is ∙ some.2) grants
+        begun_alone c s _ some.0 x more (each y.kind y.number ys first (own_kind (is_caching config) s c Channel.D
+        y.kind y.number ys h.invariant first)) (sym is ∙ some.2) grants
 
 -- the block of a Grant with this sink that was delivered in part
 pub coming-sink : {w : ℕ} {config : Config} {log : Log w} {mail : AccessMessages w} {request : ℕ → MessageA w}
@@ -134,12 +132,11 @@ coming-granting {w} {config} {log} {mail} {request} {s} {sys} c h n =
         → comes_granting n (asked_by mail s c) beats ≡ true → is_granting (view (s.block n).service c) ≡ true
     go (Beat.D x ∷ more) e f =
         let of = half-granted c x more h e (and_left (is_grant x.opcode) (asks_for n (asked_by mail s c x.source)) f) in
-        let asks = asks-acquire c ((s.block of.0).source c) of.0 ((s.block of.0).source c) of.1.whole of.1.g mail s
-        of.1.used of.1.wants refl in
+        let asks = asks-acquire c _ of.0 ((s.block of.0).source c) of.1.whole of.1.g mail s of.1.used of.1.wants refl in
         let here : (block_at (64 * of.0) == n) ≡ true =
         cc (of.2, asks, and_right (is_grant x.opcode) (asks_for n (asked_by mail s c x.source)) f) in
         let same : of.0 ≡ n = sym (same_block of.0) ∙ eqb-true (block_at (64 * of.0)) n here in
-        ap (λ (i : ℕ). is_granting (view (s.block i).service c)) (sym same) ∙ ap is_granting
+        ap (λ i. is_granting (view (s.block i).service c)) (sym same) ∙ ap is_granting
         (own_view c of.1.data_too of.1.k (s.block of.0).service of.1.service)
     go beats e f = absurd cc
 
@@ -149,8 +146,7 @@ pub coming-asked : {w : ℕ} {config : Config} {log : Log w} {mail : AccessMessa
     → SimulationRelation config log mail request s sys → ((i n : ℕ) → s.uses c i ≡ Acquires n → asked' i ≡ asked i)
     → comes_granting m asked' (unfinished Channel.D (sys.clients c).past) ≡ comes_granting m asked
     (unfinished Channel.D (sys.clients c).past)
-coming-asked {w} {config} {log} {mail} {request} {s} {sys} c m asked asked' h same =
-    go (unfinished Channel.D (sys.clients c).past) refl
+coming-asked {w} {s} {sys} c m asked asked' h same = go (unfinished Channel.D (sys.clients c).past) refl
   where
     go : (beats : List (Beat w)) → unfinished Channel.D (sys.clients c).past ≡ beats
         → comes_granting m asked' beats ≡ comes_granting m asked beats
@@ -177,7 +173,7 @@ alone_report : {w : ℕ} (c n : ℕ) {s : State (List ℕ)} (width : IsWidth w) 
     → IsReleaseAlone {w = w} c s (block_message ProbeAck c n (s.block n))
 unfolding IsReleaseAlone block_message
 alone_report c n {s} width h =
-    let about = report-about (report_told ((s.block n).pair c).probing) n (s.block n).truth width (h.sized n).truth in
+    let about = report-about (report_told ((s.block n).pair c).probing) n _ width (h.sized n).truth in
     (about.0, about.1, never_grant (is_release about.0.opcode) about.2.releases)
 
 alone_release : {w : ℕ} (c n : ℕ) {s : State (List ℕ)} (width : IsWidth w) {config : Config} {log : Log w}
@@ -187,14 +183,14 @@ alone_release : {w : ℕ} (c n : ℕ) {s : State (List ℕ)} (width : IsWidth w)
 unfolding IsReleaseAlone block_message
 alone_release c n {s} width h shows =
     let about = release-about (prune_told ((s.block n).pair c).letting) ((s.block n).release_source c) n
-    (s.block n).truth width (h.sized n).truth in
+    _ width (h.sized n).truth in
     (about.0, about.1, λ e. (n, shows, about.3))
 
 begun_release : {w : ℕ} (c : ℕ) (s : State (List ℕ)) (m : Message w) (k : ℕ) (x : BeatC w) (more : List (Beat w))
     → IsReleaseAlone c s m → Beat.C x ∷ more ≡ begun m k → is_release x.opcode ≡ true
     → (n : ℕ) × (is_releasing ((s.block n).pair c).letting ≡ true) × (x.source ≡ (s.block n).release_source c)
 unfolding IsReleaseAlone
-begun_release {w} c s m k x more is e releases = go k (e ∙ ap (λ (y : Message w). begun y k) is.1)
+begun_release {w} c s m k x more is e releases = go k (e ∙ ap (λ y. begun y k) is.1)
   where
     go : (i : ℕ) → Beat.C x ∷ more ≡ begun (Message.C is.0) i
         → (n : ℕ) × (is_releasing ((s.block n).pair c).letting ≡ true) × (x.source ≡ (s.block n).release_source c)
@@ -232,17 +228,15 @@ half-released {w} {config} {log} {mail} {request} {s} {sys} c x more width h is 
     go : (xs : List Packet) → (s.link c).c ≡ xs → IsCarried rest_now (map (message_of mail s c) (s.link c).c)
         (sys.channels c Channel.C) → Here
     go [] first carried =
-        let none : IsCarried rest_now [] (sys.channels c Channel.C) =
-        subst (λ (ms : List (Message w)). IsCarried rest_now ms (sys.channels c Channel.C))
-        (ap (map (message_of mail s c)) first) carried in
+        let none : IsCarried rest_now [] (sys.channels c Channel.C) = subst (λ ms. IsCarried rest_now ms
+        (sys.channels c Channel.C)) (ap (map (message_of mail s c)) first) carried in
         absurd (let no : [] ≡ Beat.C x ∷ more = sym none.0 ∙ is in cc)
     go (y ∷ ys) first carried =
         let some : IsCarried rest_now (message_of mail s c y ∷ map (message_of mail s c) ys)
-        (sys.channels c Channel.C) = subst (λ (ms : List (Message w)). IsCarried rest_now ms (sys.channels c Channel.C))
+        (sys.channels c Channel.C) = subst (λ ms. IsCarried rest_now ms (sys.channels c Channel.C))
         (ap (map (message_of mail s c)) first) carried in
-        begun_release c s (message_of mail s c y) some.0 x more
-        (each y.kind y.number ys first (own_kind (is_caching config) s c Channel.C y.kind y.number ys h.invariant
-        first)) (sym is ∙ some.2) releases
+        begun_release c s _ some.0 x more (each y.kind y.number ys first (own_kind (is_caching config) s c Channel.C
+        y.kind y.number ys h.invariant first)) (sym is ∙ some.2) releases
 
 -- no Release is half delivered with a source that is free
 pub coming-free : {w : ℕ} {config : Config} {log : Log w} {mail : AccessMessages w} {request : ℕ → MessageA w}
@@ -261,9 +255,8 @@ coming-free {w} {config} {log} {mail} {request} {s} {sys} c source width h free 
             let of = half-released c x more width h e (and_left (is_release x.opcode) (x.source == source) f) in
             let same : source ≡ (s.block of.0).release_source c =
             sym (eqb-true x.source source (and_right (is_release x.opcode) (x.source == source) f)) ∙ of.2 in
-            let letting = releasing-is ((s.block of.0).pair c).letting of.1 in
-            let used = is_of-is of.0 (s.lets c ((s.block of.0).release_source c))
-            (h.invariant.named.releases c ((s.block of.0).release_source c) of.0
+            let letting = releasing-is _ of.1 in
+            let used = is_of-is of.0 _ (h.invariant.named.releases c ((s.block of.0).release_source c) of.0
             ∙ rw (letting, same_number ((s.block of.0).release_source c)) refl) in
             absurd (let no : None ≡ Some of.0 = sym free ∙ ap (s.lets c) same ∙ used in cc)
     go beats e = refl

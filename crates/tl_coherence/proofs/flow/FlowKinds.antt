@@ -32,8 +32,7 @@ module _ {w : ℕ} {config : Config} {log : Log w} (h : AbstractState w) {sys : 
 
   -- nothing of a free block is under way
   free_quiet : (n : ℕ) → (s.block n).service ≡ Free → (d : ℕ) → is_unprobed ((s.block n).pair d).probing ≡ true
-  free_quiet n free d = quiet_at_rest ((s.block n).pair d) (view (s.block n).service d)
-      ((is.invariant.blocks n).phases d) (rw free refl)
+  free_quiet n free d = quiet_at_rest _ _ ((is.invariant.blocks n).phases d) (rw free refl)
 
   -- ---- what comes of the last beat at the manager, for client d's link
 
@@ -52,7 +51,7 @@ module _ {w : ℕ} {config : Config} {log : Log w} (h : AbstractState w) {sys : 
     -- nobody else has a ProbeAck under way
     unanswered : (n : ℕ) → waits_for_others config c h n ≡ false → (i : ℕ) → (i ≡ c → ⊥)
         → is_answered ((s.block n).pair i).probing ≡ false
-    unanswered n last i ne = quiet_unanswered ((s.block n).pair i).probing (settled_all (length config.clients.items)
+    unanswered n last i ne = quiet_unanswered _ (settled_all (length config.clients.items)
         (is_caching config) c (s.block n).pair (plain-past config) (is.invariant.blocks n).outside last i ne)
 
     -- ---- an access, and a ProbeAck
@@ -79,11 +78,9 @@ module _ {w : ℕ} {config : Config} {log : Log w} (h : AbstractState w) {sys : 
     answers-report n toks q source k known last waits l =
         let after = last_taken (length config.clients.items) config.profile c n (told config c h n)
         (Waits q false source k) toks h in
-        flowed-aside
-        (left-report_answers d before (asked_by after.mail after.state d) rest s (asks-left d h after l) coming c n
-        (told config c h n) toks q source k (performs (h.request n)) waits (unanswered n last)
-        (tracker-of n is.invariant.named (rw waits refl))
-        (ap is_heard (serving-use n q source k is.invariant waits))) known.2
+        flowed-aside (left-report_answers d before (asked_by after.mail after.state d) rest s (asks-left d h after l)
+        coming c n (told config c h n) toks q source k (performs (h.request n)) waits (unanswered n last) (tracker-of n
+        is.invariant.named (rw waits refl)) (ap is_heard (serving-use n q source k is.invariant waits))) known.2
 
     -- and of an Acquire
     grants-report : (n : ℕ) (toks : List Packet) (q source : ℕ) (k : Cap) (whole : Bool) (g : Grow)
@@ -92,21 +89,20 @@ module _ {w : ℕ} {config : Config} {log : Log w} (h : AbstractState w) {sys : 
         → Follows (granted_after (length config.clients.items) config.profile c q n (told config c h n)
         (AcquireOpen whole g) toks h)
     grants-report n toks q source k whole g known last waits wants l =
-        let even = same_perms ((s.block n).pair q).recorded ((s.block n).pair q).held (and_right (is_unreleased
+        let even = same_perms _ _ (and_right (is_unreleased
         ((s.block n).pair q).letting) _ (and_right (is_unprobed ((s.block n).pair q).probing) _ (own_alone
         ((s.block n).pair q) (view (s.block n).service q) ((is.invariant.blocks n).phases q) own))) in
         let after = granted_after (length config.clients.items) config.profile c q n (told config c h n)
         (AcquireOpen whole g) toks h in
-        flowed-aside
-        (left-report_grants d before (asked_by after.mail after.state d) rest s (asks-left d h after l) coming c n
-        (told config c h n) toks q source k _ _ waits (unanswered n last) apart even none_comes) known.2
+        flowed-aside (left-report_grants d before (asked_by after.mail after.state d) rest s (asks-left d h after l)
+        coming c n (told config c h n) toks q source k _ _ waits (unanswered n last) apart even none_comes) known.2
       where
         own : view (s.block n).service q ≡ Own
         own = rw (waits, same_number q) refl
 
         apart : q ≡ c → ⊥
         apart same = let no : is_other Own ≡ true = sym (ap is_other own)
-            ∙ ap (λ (i : ℕ). is_other (view (s.block n).service i)) same ∙ (answered_other _ ((s.block n).pair c)
+            ∙ ap (λ i. is_other (view (s.block n).service i)) same ∙ (answered_other _ ((s.block n).pair c)
             (view (s.block n).service c) ((is.invariant.blocks n).phases c) (first-report is.invariant known.0)) in cc
 
         -- no Grant that was delivered in part is of a block that waits
@@ -119,7 +115,7 @@ module _ {w : ℕ} {config : Config} {log : Log w} (h : AbstractState w) {sys : 
                 let of = coming-sink d i is f in
                 let here : of.0 ≡ n = same_Some of.0 n (sym of.2 ∙ tracks) in
                 absurd (let no : GrantSent d of.1.data_too of.1.k ≡ Waits q true source k =
-                sym of.1.service ∙ ap (λ (j : ℕ). (s.block j).service) here ∙ waits in cc)
+                sym of.1.service ∙ ap (λ j. (s.block j).service) here ∙ waits in cc)
 
     pub settled : (k : Kind) (i : ℕ) (toks : List Packet) → on k (s.link c) ≡ packet k i ∷ toks
         → IsReady tracker c k i h → Begins toks k i → Leaves d h (kind_taken config tracker c k i toks h)
@@ -206,7 +202,7 @@ module _ {w : ℕ} {config : Config} {log : Log w} (h : AbstractState w) {sys : 
               let due = grant-due (is_caching config) c n toks s is.invariant taken.0 in
               let same : q ≡ c = let both = sym sent ∙ due.service in cc in
               flowed-aside (left-grant_taken d then_asked _ (unfinished_at sys d) s (asks-left d h (taken_by_client c n
-              (GrantSent q x j) toks h) l) comes c n _ x j toks ne (sent ∙ ap (λ (i : ℕ). GrantSent i x j) same))
+              (GrantSent q x j) toks h) l) comes c n _ x j toks ne (sent ∙ ap (λ i. GrantSent i x j) same))
               flowed;
           release_ack = λ n taken l. flowed-aside (left-release_ack_taken d then_asked _ (unfinished_at sys d) s
               (asks-left d h (kind_taken config tracker c ReleaseAck n toks h) l) comes c n toks ne) flowed;
@@ -221,10 +217,9 @@ module _ {w : ℕ} {config : Config} {log : Log w} (h : AbstractState w) {sys : 
     by_kind : (k : Kind) (i : ℕ) (toks : List Packet) → on k (s.link c) ≡ packet k i ∷ toks → IsReady tracker c k i h
         → Leaves d h (kind_taken config tracker c k i toks h) → FlowsAs h
         → FlowsAs (kind_taken config tracker c k i toks h)
-    by_kind Request source toks first ready l flowed = settled d (unfinished_at sys d) refl t Request source toks first
-        ready (flowed-aside (left-replied d then_asked then_asked (unfinished_at sys d) s (λ i. refl) comes c source ne)
-        flowed) l
-    by_kind ProbeAck n toks first ready l flowed = settled d (unfinished_at sys d) refl t ProbeAck n toks first ready
+    by_kind Request source toks first ready l flowed = settled d _ refl t Request source toks first ready (flowed-aside
+        (left-replied d then_asked then_asked (unfinished_at sys d) s (λ i. refl) comes c source ne) flowed) l
+    by_kind ProbeAck n toks first ready l flowed = settled d _ refl t ProbeAck n toks first ready
         (flowed-aside (left-report_taken d then_asked then_asked (unfinished_at sys d) s (λ i. refl) comes c n
         (report_told ((s.block n).pair c).probing) toks ne) flowed) l
     by_kind k i toks first ready l flowed = unsettled k i toks (first, ready, refl) flowed l

@@ -5,7 +5,7 @@ use Rattle.std.proofs.Common.{◌≡◌, ℕ, zero, suc, Bool, true, false, ◌&
 use Rattle.std.proofs.Common.{sym, ◌∙◌, ap, subst, arith, length, map, nat_le}
 use Rattle.tl_coherence.proofs
 use proofs.Imports.{and-false, or_parts, Beat, BeatA, BeatB, BeatC, BeatE, Channel, first_if, IsWidth, Message}
-use proofs.Imports.{MessageA, MessageC, a_beat_of, beat_of, beats_of, begun, c_beat_of, History, channel_in, channel_of}
+use proofs.Imports.{MessageA, MessageC, a_beat_of, beat_of, beats_of, begun, History, channel_in, channel_of}
 use proofs.Imports.{unfinished, Config, Key, Level, Cap, Prune, Report, Profile, prune_code, prune_left, prune_of}
 use proofs.Imports.{report_at, report_code, later-legal, is_last, broken_in_order, comes_in_grant, grows_from}
 use proofs.Imports.{prunes_from, same_perm, broken_after, broken_order, on_link, block_at, ends, is_acquire, is_probe}
@@ -14,10 +14,9 @@ use proofs.Imports.{services, Acquire, Kind, Packet, Probe, ProbeAck, Release, R
 use proofs.Imports.{AcquirePhase, ClientBlock, Granting, Idle, NoAcquire, NoRelease, ProbeAnswered, ProbePhase}
 use proofs.Imports.{ProbeSent, ReleaseAcked, ReleasePhase, ReleaseSent, View, is_unprobed, is_unreleased, same_report}
 use proofs.Imports.{ok, Acquires, Asked, Block, Free, State, is_on, packet, view, is_acked, is_acknowledging}
-use proofs.Imports.{is_answered, is_granting, is_sent, is_wanting, comes_granting, MonitorRelation, is_let_by}
-use proofs.Imports.{is_release_pending, AccessMessages, message_of, message_of_kind, probe_beat, prune_told}
-use proofs.Imports.{report_told, block_message, MonitorRelations, SimulationRelation, is_caching, cap_waited, flow, Log}
-use proofs.Imports.{System}
+use proofs.Imports.{is_answered, is_granting, is_sent, is_wanting, comes_granting, MonitorRelation, is_release_pending}
+use proofs.Imports.{AccessMessages, message_of, message_of_kind, probe_beat, prune_told, report_told, block_message}
+use proofs.Imports.{MonitorRelations, SimulationRelation, is_caching, cap_waited, flow, Log, System}
 use Rattle.tl_params.specs.declared.rule.Rule.TheVariants.{H9}
 use Rattle.tl_client.proofs.messages.InOrder.{prune_again}
 use proofs.manager.{RequestsTaken.acquire_wanted, Reporting.report-about, Reporting.release-about}
@@ -28,8 +27,8 @@ use proofs.queues.Facts.{acquire_fits, answered_other, granting_alone, is_other,
 use proofs.queues.PhaseFacts.{asked_alone, acknowledging_quiet, release_alone, report_first, report_fits}
 use proofs.queues.FirstToken.{IsFirst, first-token}
 use proofs.deliveries.FirstRequest.{ends-burst}
-use proofs.protocol.Heads.{IsAsked, asked-first, IsWanted, wanted-first, acquisition_beats}
 use proofs.protocol.BothParts.{kept-is, is_of-is, first-release, first-report, first-shown}
+use proofs.protocol.Heads.{IsAsked, asked-first, IsWanted, wanted-first, acquisition_beats}
 use proofs.client.{ClientEnd.sound-beat, ProbeDelivered.not_coming}
 
 -- who isn't granted the block holds what is recorded, as far as was delivered
@@ -88,14 +87,11 @@ pub report-flows : {w : ℕ} {X : Type 0} (p : Profile) {c : ℕ} (n : ℕ) (k :
     ≡ ProbeAnswered r → cap_waited (s.block n).service ≡ k → is_acked ((s.block n).pair c).letting ≡ false
     → is_granting (view (s.block n).service c) ≡ false → r ≡ report_at k ((s.block n).pair c).recorded
     → broken_in_order p (Beat.C x) t ≡ None
-report-flows p {c} n k r x {rest} {s} {t} flowed whole acks other block param answered waited unacked ungranted told =
+report-flows p {c} n k r x {s} {t} flowed whole acks other block param answered waited unacked ungranted told =
     let answers : is_answered ((s.block n).pair c).probing ≡ true = ap is_answered answered in
-    report-legal p n k r ((s.block n).pair c).recorded x t acks other block param (flowed.rest_is Channel.C ∙ whole)
-    (flowed.probes n ∙ answers)
-    (flowed.releases n ∙ unlet ((s.block n).release_source c) (rest Channel.C) ((s.block n).pair c).letting whole
-    unacked)
-    (flowed.probed n answers ∙ ap (λ (j : Cap). Some (probe_beat n j)) waited)
-    (held_as n flowed ungranted) told
+    report-legal p n k r _ x t acks other block param (flowed.rest_is Channel.C ∙ whole)
+    (flowed.probes n ∙ answers) (flowed.releases n ∙ unlet ((s.block n).release_source c) _ _ whole unacked)
+    (flowed.probed n answers ∙ ap (λ j. Some (probe_beat n j)) waited) (held_as n flowed ungranted) told
 
 pub release-flows : {w : ℕ} {X : Type 0} (p : Profile) {c : ℕ} (n : ℕ) (r : Prune) (x : BeatC w) {asked : ℕ
     → Option (BeatA w)} {rest : Channel → List (Beat w)} {s : State X} {t : History w}
@@ -106,12 +102,14 @@ pub release-flows : {w : ℕ} {X : Type 0} (p : Profile) {c : ℕ} (n : ℕ) (r 
 unfolding broken_order
 release-flows {w} p {c} n r x {asked} {rest} {s} {t} flowed whole is block param used lets calm ungranted left =
     let none : unfinished Channel.C t ≡ [] = flowed.rest_is Channel.C ∙ whole in
-    let free : pending (Key.ReleaseSource x.source) t ≡ false =
-    flowed.release_sources x.source ∙ ap (λ (o : Option ℕ). is_let_by c x.source (rest Channel.C) o s) used ∙ unlet
-    x.source (rest Channel.C) ((s.block n).pair c).letting whole (ap is_acked lets) in
+    let free : pending (Key.ReleaseSource x.source) t ≡ false = cc (
+      flowed.release_sources x.source,
+      used,
+      unlet x.source _ _ whole (ap is_acked lets),
+    ) in
     let once : pending (Key.AcquireOf n) t ≡ false = cc (flowed.acquires n, calm) in
     let again : pending (Key.ReleaseOf n) t ≡ false = flowed.releases n ∙ unlet ((s.block n).release_source c)
-    (rest Channel.C) ((s.block n).pair c).letting whole (ap is_acked lets) in
+    _ _ whole (ap is_acked lets) in
     let prunes : prunes_from (prune_of x.param) (held n t) ≡ true =
     rw (param, prune_again r, held_as n flowed ungranted) left in
     rw (none, is, block) (rw (free, once, again, prunes) refl)
@@ -173,9 +171,8 @@ report-lawful {w} {config} {log} {mail} {s} {sys} c n toks l {x} {ms} {queue} wi
     let told : r ≡ report_at (cap_waited b.service) (b.pair c).recorded =
     cc (same_report-is r (report_at (cap_waited b.service) (b.pair c).recorded) (seen_cap (λ k. same_report r
     (report_at k (b.pair c).recorded)) b.service c (report_fits r (b.pair c) (view b.service c) ok_is answered))) in
-    next-flows l config.profile (flow c log) lawful
-    (subst (λ (i : Message w). IsNext x rest i ms queue) about.1 next) ((flowed c).rest_is Channel.C)
-    (λ none. report-flows config.profile n (cap_waited b.service) r (c_beat_of m 0) (flowed c) none about.2.reports
+    next-flows l config.profile _ lawful (subst (λ i. IsNext x rest i ms queue) about.1 next)
+    ((flowed c).rest_is Channel.C) (λ none. report-flows config.profile n _ r _ (flowed c) none about.2.reports
     about.2.releases about.2.block about.2.param_is answered refl (unacked (b.pair c).letting refl)
     (other_ungranted (view b.service c) (answered_other r (b.pair c) (view b.service c) ok_is answered)) told)
   where
@@ -192,7 +189,7 @@ report-lawful {w} {config} {log} {mail} {s} {sys} c n toks l {x} {ms} {queue} wi
     answered = first-report is.invariant tokens
 
     unacked : (y : ReleasePhase) → (b.pair c).letting ≡ y → is_acked y ≡ false
-    unacked ReleaseAcked f = absurd (let first = report_first r (b.pair c) (view b.service c) ok_is answered in
+    unacked ReleaseAcked f = absurd (let first = report_first r _ _ ok_is answered in
         let no : false ≡ true = rw f at first in cc)
     unacked y f = refl
 
@@ -206,14 +203,13 @@ unfolding block_message
 release-lawful {w} {config} {log} {mail} {s} {sys} c n toks l {x} {ms} {queue} width is flowed lawful tokens next =
     let rest : List (Beat w) = unfinished Channel.C (on_link c sys.manager.trace) in
     let about = release-about r (b.release_source c) n b.truth width (is.sized n).truth in
-    let used = is_of-is n (s.lets c (b.release_source c)) (is.invariant.named.releases c (b.release_source c) n
+    let used = is_of-is n _ (is.invariant.named.releases c (b.release_source c) n
     ∙ rw (releasing, same_number (b.release_source c)) refl) in
-    next-flows l config.profile (flow c log) lawful
-    (subst (λ (i : Message w). IsNext x rest i ms queue) about.1 next) ((flowed c).rest_is Channel.C)
-    (λ none. release-flows config.profile n r (c_beat_of about.0 0)
-    (flowed c) none about.2.releases about.2.block about.2.param_is (ap (s.lets c) about.3 ∙ used) releasing
-    (calm (b.pair c).acquiring refl) (ungranted (view b.service c) refl) (release_begins r (b.pair c)
-    (view b.service c) ok_is releasing (unanswered (is_caching config) c n toks s is.invariant tokens)))
+    next-flows l config.profile _ lawful (subst (λ i. IsNext x rest i ms queue) about.1 next)
+    ((flowed c).rest_is Channel.C) (λ none. release-flows config.profile n r _ (flowed c) none about.2.releases
+    about.2.block about.2.param_is (ap (s.lets c) about.3 ∙ used) releasing (calm (b.pair c).acquiring refl)
+    (ungranted (view b.service c) refl) (release_begins r (b.pair c) (view b.service c) ok_is releasing
+    (unanswered (is_caching config) c n toks s is.invariant tokens)))
   where
     b : Block (List ℕ)
     b = s.block n
@@ -229,7 +225,7 @@ release-lawful {w} {config} {log} {mail} {s} {sys} c n toks l {x} {ms} {queue} w
 
     calm : (y : AcquirePhase) → (b.pair c).acquiring ≡ y → y ≡ NoAcquire
     calm NoAcquire f = refl
-    calm (AcquireOpen whole g) f = absurd (let alone = release_alone (b.pair c) (view b.service c) ok_is in
+    calm (AcquireOpen whole g) f = absurd (let alone = release_alone _ _ ok_is in
         let no : false ≡ true = rw (releasing, f) at alone in cc)
 
     ungranted : (v : View) → view b.service c ≡ v → is_granting v ≡ false
@@ -264,13 +260,11 @@ probe-lawful : {w : ℕ} {config : Config} {log : Log w} {mail : AccessMessages 
     → is_acknowledging (view (s.block n).service c) ≡ false → IsNext x (unfinished Channel.B (sys.clients c).past)
     (block_message Probe c n (s.block n)) ms queue → broken_after l config.profile x (flow c log) ≡ None
 unfolding block_message
-probe-lawful {config} {log} {s} c n toks l is flowed lawful tokens unacknowledged next =
+probe-lawful {config} {s} c n toks l is flowed lawful tokens unacknowledged next =
     let b : Block (List ℕ) = s.block n in
     let shows : is_sent (b.pair c).probing ≡ true = first-shown is.invariant c Probe refl tokens in
-    next-flows l config.profile
-    (flow c log) lawful next ((flowed c).rest_is Channel.B)
-    (λ none. probe-flows config.profile n _ (flowed c) none (same_block n) (unanswered_yet (b.pair c).probing shows)
-    unacknowledged (not_coming c n is shows))
+    next-flows l config.profile _ lawful next ((flowed c).rest_is Channel.B) (λ none. probe-flows config.profile n _
+    (flowed c) none (same_block n) (unanswered_yet (b.pair c).probing shows) unacknowledged (not_coming c n is shows))
 
 pub flows-b : {w : ℕ} {config : Config} {log : Log w} {mail : AccessMessages w} {request : ℕ → MessageA w}
     {s : State (List ℕ)} {sys : System w} (c : ℕ) (l : Level) (x : Beat w) (queue : List (Beat w)) → IsWidth w
@@ -288,7 +282,7 @@ flows-b {w} {config} {log} {mail} {request} {s} {sys} c l x queue width is flowe
     unacknowledged n shows Acknowledging f =
         let not_both : (p : ProbePhase) → is_sent p ≡ true → is_unprobed p ≡ true → ⊥ =
         elim [ ProbeSent k ↦ λ g i. cc | p ↦ λ g i. cc ] in
-        let quiet = acknowledging_quiet ((s.block n).pair c) (view (s.block n).service c)
+        let quiet = acknowledging_quiet _ _
         ((is.invariant.blocks n).phases c) f in absurd (not_both ((s.block n).pair c).probing shows quiet)
     unacknowledged n shows v f = refl
 
@@ -306,12 +300,11 @@ access-lawful : {w : ℕ} {config : Config} {log : Log w} {mail : AccessMessages
     → illegal l (channel_of x) x ≡ None → IsAsked config c source mail s
     → IsNext x (unfinished Channel.A (on_link c sys.manager.trace)) (mail.request c source) ms queue
     → broken_after l config.profile x (flow c log) ≡ None
-access-lawful {w} {config} {log} {mail} {s} {sys} {c} l {x} {ms} {queue} is flowed lawful asked next =
+access-lawful {w} {config} {s} {sys} {c} l {x} {ms} {queue} is flowed lawful asked next =
     let rest : List (Beat w) = unfinished Channel.A (on_link c sys.manager.trace) in
-    next-flows l config.profile (flow c log) lawful
-    (subst (λ (i : Message w). IsNext x rest i ms queue) asked.is_it next) ((flowed c).rest_is Channel.A)
-    (λ none. request-flows config.profile (a_beat_of asked.request 0)
-    (flowed c) none asked.access (ap (s.uses c) asked.source_is ∙ asked.used))
+    next-flows l config.profile _ lawful (subst (λ i. IsNext x rest i ms queue) asked.is_it next)
+    ((flowed c).rest_is Channel.A) (λ none. request-flows config.profile _ (flowed c) none asked.access
+    (ap (s.uses c) asked.source_is ∙ asked.used))
 
 acquire-lawful : {w : ℕ} {config : Config} {log : Log w} {mail : AccessMessages w} {request : ℕ → MessageA w}
     {s : State (List ℕ)} {sys : System w} {c n : ℕ} (l : Level) {x : Beat w} {ms : List (Message w)}
@@ -327,8 +320,8 @@ acquire-lawful {w} {config} {log} {s} {sys} {c} {n} l is flowed lawful wanted ne
     let settled = first_three (is_unprobed p.probing) (is_unreleased p.letting) (same_perm p.recorded p.held) _
     (asked_alone wanted.whole wanted.grow p (view (s.block n).service c) well idle wanted.wants) in
     next-flows l config.profile
-    (flow c log) lawful next ((flowed c).rest_is Channel.A)
-    (λ none. acquire-flows config.profile n (a_beat_of m 0) (flowed c) none (acquires-so wanted.whole) (same_block n)
+    _ lawful next ((flowed c).rest_is Channel.A)
+    (λ none. acquire-flows config.profile n _ (flowed c) none (acquires-so wanted.whole) (same_block n)
     wanted.used idle (kept-is p.letting (and_right (is_unprobed p.probing) (is_unreleased p.letting)
     (and_left (is_unprobed p.probing && is_unreleased p.letting) (same_perm p.recorded p.held) settled)))
     (grows wanted.whole p.recorded p.held wanted.grow
@@ -345,7 +338,7 @@ acquire-lawful {w} {config} {log} {s} {sys} {c} {n} l is flowed lawful wanted ne
         let ended : ends (Beat.A (a_beat_of m next.k)) (on_link c sys.manager.trace) ≡ true =
         ends-burst c next.k m sys.manager next.rest_is ∙ is_last next.k (beats_of (Message.A m))
         (omega (arith, next.within, acquisition_beats w wanted.whole wanted.grow ((s.block n).source c) n)) in
-        let free_at = unserved-free (block_at m.address) is.managed
+        let free_at = unserved-free _ is.managed
         (or_parts (is_in_service (block_at m.address) (services sys.manager.trace))
         (nat_le config.trackers (length (services sys.manager.trace))) (rw ended at moves_so)).0 in
         ap (λ i. (s.block i).service) (sym (same_block n)) ∙ free_at
@@ -373,9 +366,7 @@ flows-a {w} {config} {log} {mail} {request} {s} {sys} c l x queue width is flowe
         → broken_after l config.profile x (flow c log) ≡ None
     go Request i tokens own next = access-lawful l is flowed lawful (asked-first c i first.rest is tokens) next
     go Acquire i tokens own next =
-        let wanted = wanted-first c i first.rest is tokens in
-        acquire-lawful l is flowed
-        lawful wanted
-        (subst (λ (j : Message w). IsNext x rest j (map (message_of mail s c) first.rest) queue) wanted.renders next)
-        moves
+        let wanted = wanted-first c i _ is tokens in
+        acquire-lawful l is flowed lawful wanted (subst (λ j. IsNext x rest j (map (message_of mail s c) first.rest)
+        queue) wanted.renders next) moves
     go k i tokens own next = absurd cc

@@ -14,8 +14,9 @@ use Rattle.tl_client.proofs.pending.Opens.{request_of-b}
 use proofs.protocol.BothParts.{cap-waited, first-probe}
 use proofs.queues.{Carried.IsNext, Phases.and_left}
 use proofs.queues.Tokens.{same_number, set-same, set-each, set-part}
-use proofs.flow.FlowStep.{flowed-next, held_by, acquired_by, let_of, granted_by, step, whole_opened, whole_unopened}
 use proofs.flow.FlowAlone.{AreRests, requested-blocks, let_by-same}
+use proofs.flow.FlowStep.{flowed-next, held_by, acquired_by, let_of, granted_by, step, whole_opened, whole_unopened}
+use proofs.flow.FlowStep.{let_still}
 use proofs.client.{ProbeDelivered.probe-beat, ClientEnd.comes-same}
 use proofs.simulation.Owned.{unfinished_at}
 
@@ -48,35 +49,30 @@ pub flowed-probe : {w : ℕ} {X : Type 0} {c : ℕ} (n : ℕ) (k : Cap) (toks : 
 flowed-probe {w} {X} {c} n k toks {asked} asked' {rest} rest' {s} {t} first last rests asks at seen waited comes
     before =
     let sunk_same : (i : ℕ) (o : Option ℕ) → is_sunk c i (rest Channel.D) o s' ≡ is_sunk c i (rest Channel.D) o s =
-    λ i. elim [ None ↦ refl | Some m ↦ cc (set-part (λ (z : Block X). z.service) n new s.block refl m) ] in
-    let part_true = ap (λ (p : ClientBlock). is_answered p.probing) (set-same c (after_probe k (b.pair c)) b.pair) in
+    λ i. elim [ None ↦ refl | Some m ↦ cc (set-part (λ z. z.service) n new s.block refl m) ] in
+    let part_true = ap (λ p. is_answered p.probing) (set-same c (after_probe k (b.pair c)) b.pair) in
     let requests : (i : ℕ) → is_requested c i (rest' Channel.A) (s'.uses c i) s' ≡ is_requested c i (rest Channel.A)
     (s.uses c i) s = λ i. cc (
       rests Channel.A,
       requested-blocks c i (rest Channel.A) (s.uses c i) s s'
-          (set-part (λ (z : Block X). is_unserved (view z.service c)) n new s.block refl),
+          (set-part (λ z. is_unserved (view z.service c)) n new s.block refl),
     ) in
     let grants : (m : ℕ)
     → granted_by c m asked' (rest' Channel.D) (s'.block m) ≡ granted_by c m asked (rest Channel.D) (s.block m) =
     λ m. cc (rests Channel.D, comes m, set-part (granted_by c m asked (rest Channel.D)) n new s.block refl m) in
-    flowed-next (record {
-      first_is = first;
-      last_is = last;
-      rests = rests;
+    flowed-next first last rests (record {
       held_is = set-part (held_by c) n new s.block
-          (cc (part_of (λ (p : ClientBlock). p.recorded) c (after_probe k (b.pair c)) b.pair refl));
+          (cc (part_of (λ p. p.recorded) c (after_probe k (b.pair c)) b.pair refl));
       requests = requests;
-      asked_is = λ i e. request_of-b i y t ∙ before.asked_is i (cc (before.requests i, requests i)) ∙ sym (asks i);
-      acquires = set-part (acquired_by c) n new s.block (ap (λ (z : Bool). z && not (is_unserved (view b.service c)))
-          (part_of (λ (p : ClientBlock). is_wanting p.acquiring) c (after_probe k (b.pair c)) b.pair refl));
+      asked_is = λ i e. request_of-b i y t ∙ before.asked_is i (before.requests i ∙ sym (requests i) ∙ e)
+          ∙ sym (asks i);
+      acquires = set-part (acquired_by c) n new s.block (ap (λ z. z && not (is_unserved (view b.service c)))
+          (part_of (λ p. is_wanting p.acquiring) c (after_probe k (b.pair c)) b.pair refl));
       release_sources = lets;
-      released = λ i m e f. cc (released-of i y t, before.released i m e (before.release_sources i ∙ sym (lets i) ∙ f));
-      sizes = λ i m e f. cc (released-of i y t, before.sizes i m e (before.release_sources i ∙ sym (lets i) ∙ f));
-      releases = λ m. ap (λ (r : List (Beat w)). let_of c r (s'.block m)) (rests Channel.C)
-          ∙ set-part (let_of c (rest Channel.C)) n new s.block
-          (ap (is_release_pending (b.release_source c) (rest Channel.C)) letting_same) m;
-      sinks = λ i. ap (λ (r : List (Beat w)). is_sunk c i r (s.tracked i) s') (rests Channel.D) ∙ sunk_same i
-          (s.tracked i);
+      released = λ i m e f. let_still before i m (released-of i y t) e (cc (before.release_sources i, lets i));
+      releases = λ m. ap (λ r. let_of c r (s'.block m)) (rests Channel.C) ∙ set-part (let_of c (rest Channel.C)) n new
+          s.block (ap (is_release_pending (b.release_source c) (rest Channel.C)) letting_same) m;
+      sinks = λ i. ap (λ r. is_sunk c i r (s.tracked i) s') (rests Channel.D) ∙ sunk_same i (s.tracked i);
       grants = grants;
       probes = set-each (λ m z. is_answered (z.pair c).probing ≡ step true true (block_at (64 * n) == m) false
           (is_answered ((s.block m).pair c).probing)) n new s.block (part_true ∙ sym (whole_opened (block_at
@@ -84,7 +80,7 @@ flowed-probe {w} {X} {c} n k toks {asked} asked' {rest} rest' {s} {t} first last
           (block_at (64 * n) == m) (is_answered ((s.block m).pair c).probing) (rw at (ne_eqb n m (λ e. ne (sym e))))));
       probed = λ m e. probed-of m y t first ∙ probed m e;
       sunk = λ m e. sunk-of m y t ∙ before.sunk m (before.grants m ∙ sym (grants m) ∙ e) ∙ ap Some
-          (sym (set-part (λ (z : Block X). z.tracker) n new s.block refl m));
+          (sym (set-part (λ z. z.tracker) n new s.block refl m));
     }) before
   where
     y : BeatB w
@@ -100,11 +96,11 @@ flowed-probe {w} {X} {c} n k toks {asked} asked' {rest} rest' {s} {t} first last
     s' = probe_taken c n k toks s
 
     letting_same : (new.pair c).letting ≡ (b.pair c).letting
-    letting_same = part_of (λ (p : ClientBlock). p.letting) c (after_probe k (b.pair c)) b.pair refl
+    letting_same = part_of (λ p. p.letting) c (after_probe k (b.pair c)) b.pair refl
 
     lets : (i : ℕ) → is_let_by c i (rest' Channel.C) (s'.lets c i) s' ≡ is_let_by c i (rest Channel.C) (s.lets c i) s
     lets i = let fact = let_by-same c i (rest Channel.C) (s.lets c i) s s'
-        (set-part (λ (z : Block X). (z.pair c).letting) n new s.block letting_same) in cc (rests Channel.C)
+        (set-part (λ z. (z.pair c).letting) n new s.block letting_same) in cc (rests Channel.C)
 
     probed : (m : ℕ) → is_answered ((s'.block m).pair c).probing ≡ true
         → (if true && (block_at (64 * n) == m) then Some y else probe_of m t) ≡ Some
@@ -116,7 +112,7 @@ flowed-probe {w} {X} {c} n k toks {asked} asked' {rest} rest' {s} {t} first last
         λ o p q e. rw e refl in
         set-each (λ m z. is_answered (z.pair c).probing ≡ true → (if true && (block_at (64 * n) == m) then Some y else
         probe_of m t) ≡ Some (probe_beat m (cap_waited z.service))) n new s.block (λ e. chosen (block_at (64 * n) ==
-        n) (Some y) (probe_of n t) (rw at (same_number n)) ∙ ap (λ (j : Cap). Some (probe_beat n j)) (sym waited))
+        n) (Some y) (probe_of n t) (rw at (same_number n)) ∙ ap (λ j. Some (probe_beat n j)) (sym waited))
         (λ m ne e. unchosen (block_at (64 * n) == m) (Some y) (probe_of m t) (rw at (ne_eqb n m (λ f. ne (sym f))))
         ∙ before.probed m e)
 
@@ -153,10 +149,9 @@ module _ {w : ℕ} {config : Config} {log : Log w} (h : AbstractState w) {sys : 
       let k : Cap = cap_sent ((s.block n).pair c).probing in
       let x_is : x ≡ Beat.B (probe_beat n k) = probe-beat c n s next in
       let whole : unfinished_at sys c Channel.B ≡ [] = (is.kept c).b_whole in
-      let seen = sent_sees k ((s.block n).pair c) (view (s.block n).service c) ((is.invariant.blocks n).phases c)
-      (first-probe is.invariant tokens) in
-      subst (λ (z : Beat w). MonitorRelation asked' rest' c (probe_taken c n k toks s) (z ∷ t)) (sym x_is)
+      let seen = sent_sees k _ _ ((is.invariant.blocks n).phases c) (first-probe is.invariant tokens) in
+      subst (λ z. MonitorRelation asked' rest' c (probe_taken c n k toks s) (z ∷ t)) (sym x_is)
       (flowed-probe n k toks asked' rest' (ap is_empty (flowed.rest_is Channel.B ∙ whole))
       (ap (completes {w = w} (Beat.B (probe_beat n k))) (flowed.rest_is Channel.B ∙ whole)) (subst
-      (λ (z : Beat w). AreRests z (unfinished_at sys c) rest') x_is rests) asks (same_block n) seen (cap-waited k
+      (λ z. AreRests z (unfinished_at sys c) rest') x_is rests) asks (same_block n) seen (cap-waited k
       (s.block n).service c seen) (λ m. comes-same m before asked' (unfinished_at sys c Channel.D) asks) flowed)

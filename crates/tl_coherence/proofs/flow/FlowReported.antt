@@ -1,15 +1,15 @@
 -- What is delivered on a link, as the beats of a ProbeAck are.
 -- What is delivered on a link, as the last beat of a ProbeAck is.
 use Rattle.std.proofs.Common.{◌≡◌, ℕ, Bool, true, false, not, ◌&&◌, ◌||◌, ◌==◌, if◌then◌else◌, List, ◌∷◌, Option, Some}
-use Rattle.std.proofs.Common.{None, refl, sym, ◌∙◌, ap, arith, ne_eqb, option_map, unwrap_or}
+use Rattle.std.proofs.Common.{None, refl, sym, ◌∙◌, ap, arith, ne_eqb, unwrap_or}
 use Rattle.tl_coherence.proofs
 use proofs.Imports.{Beat, BeatA, BeatC, Channel, History, Report, Perm, report_right, comes_in_release, begins}
 use proofs.Imports.{block_at, ends, is_probe_ack, is_release, reported, probe_of, release_of, grant_sink-c, probe_of-c}
-use proofs.Imports.{request_of-c, Packet, ClientBlock, ReleasePhase, after_report, Block, State, report_taken}
-use proofs.Imports.{reported_block, view, is_answered, is_granting, is_unserved, is_wanting, MonitorRelation, is_let_by}
-use proofs.Imports.{is_release_pending, is_requested, is_sunk, probe_beat, cap_waited}
+use proofs.Imports.{request_of-c, Packet, ReleasePhase, after_report, Block, State, report_taken, reported_block, view}
+use proofs.Imports.{is_answered, is_granting, is_unserved, is_wanting, MonitorRelation, is_let_by, is_release_pending}
+use proofs.Imports.{is_requested, is_sunk, probe_beat, cap_waited}
 use proofs.flow.{FlowAlone.AreRests, FlowAlone.requested-blocks, FlowAlone.let_by-same, FlowProbe.part_of}
-use proofs.flow.FlowStep.{flowed-next, let_of, granted_by, step, step_quiet, held_by, acquired_by}
+use proofs.flow.FlowStep.{flowed-next, let_of, granted_by, step, step_quiet, held_by, acquired_by, let_still}
 use proofs.queues.Tokens.{same_number, set-same, set-each, set-part}
 
 pub released-of : {w : ℕ} (i : ℕ) (y : BeatC w) (t : History w) → is_release y.opcode ≡ false
@@ -41,13 +41,10 @@ pub flowed-report_part : {w : ℕ} {X : Type 0} {c : ℕ} (y : BeatC w) (first :
     → MonitorRelation asked rest c s t → MonitorRelation asked rest' c s (Beat.C y ∷ t)
 flowed-report_part {w} {X} {c} y first {asked} {rest} rest' {s} {t} first_is last_is rests other comes before =
     let requests : (i : ℕ) → is_requested c i (rest' Channel.A) (s.uses c i) s ≡ is_requested c i (rest Channel.A)
-    (s.uses c i) s = λ i. ap (λ (r : List (Beat w)). is_requested c i r (s.uses c i) s) (rests Channel.A) in
+    (s.uses c i) s = λ i. ap (λ r. is_requested c i r (s.uses c i) s) (rests Channel.A) in
     let grants : (n : ℕ) → granted_by c n asked (rest' Channel.D) (s.block n) ≡ granted_by c n asked (rest Channel.D)
-    (s.block n) = λ n. ap (λ (r : List (Beat w)). granted_by c n asked r (s.block n)) (rests Channel.D) in
-    flowed-next (record {
-      first_is = first_is;
-      last_is = last_is;
-      rests = rests;
+    (s.block n) = λ n. ap (λ r. granted_by c n asked r (s.block n)) (rests Channel.D) in
+    flowed-next first_is last_is rests (record {
       held_is = λ n. refl;
       requests = λ i. requests i ∙ sym (step_quiet first false (is_requested c i (rest Channel.A) (s.uses c i) s));
       asked_is = λ i e. request_of-c i y t ∙ before.asked_is i (before.requests i ∙ sym (requests i) ∙ e);
@@ -55,13 +52,11 @@ flowed-report_part {w} {X} {c} y first {asked} {rest} rest' {s} {t} first_is las
           (is_wanting ((s.block n).pair c).acquiring && not (is_unserved (view (s.block n).service c))));
       release_sources = λ i. lets i ∙ sym (unopened first false (is_release y.opcode) (y.source == i)
           (is_let_by c i (rest Channel.C) (s.lets c i) s) other);
-      released = λ i m e f. ap (option_map (λ z. block_at z.address)) (released-of i y t other) ∙ before.released i m e
-          (before.release_sources i ∙ sym (lets i) ∙ f);
-      sizes = λ i m e f. cc (released-of i y t other, before.sizes i m e (before.release_sources i ∙ sym (lets i) ∙ f));
+      released = λ i m e f. let_still before i m (released-of i y t other) e (cc (before.release_sources i, lets i));
       releases = λ n. let_rest ((s.block n).release_source c) (rest Channel.C) (rest' Channel.C)
           ((s.block n).pair c).letting (comes ((s.block n).release_source c)) ∙ sym (unopened first false
           (is_release y.opcode) (block_at y.address == n) (let_of c (rest Channel.C) (s.block n)) other);
-      sinks = λ i. ap (λ (r : List (Beat w)). is_sunk c i r (s.tracked i) s) (rests Channel.D) ∙ sym
+      sinks = λ i. ap (λ r. is_sunk c i r (s.tracked i) s) (rests Channel.D) ∙ sym
           (step_quiet first false (is_sunk c i (rest Channel.D) (s.tracked i) s));
       grants = λ n. grants n ∙ sym (step_quiet first false (granted_by c n asked (rest Channel.D) (s.block n)));
       probes = λ n. sym (unclosed first (is_probe_ack y.opcode && (block_at y.address == n))
@@ -97,22 +92,22 @@ pub flowed-report : {w : ℕ} {X : Type 0} {c : ℕ} (n : ℕ) (r : Report) (tok
     → MonitorRelation asked rest c s t → MonitorRelation asked rest' c (report_taken c n r toks s) (Beat.C y ∷ t)
 flowed-report {w} {X} {c} n r toks y first {asked} {rest} rest' {s}
     {t} first_is last_is rests ack other comes at says alone before =
-    let quiet = ap (λ (p : ClientBlock). is_answered p.probing) (set-same c (after_report r (b.pair c)) b.pair) in
+    let quiet = ap (λ p. is_answered p.probing) (set-same c (after_report r (b.pair c)) b.pair) in
     let probed = set-each (λ m z. is_answered (z.pair c).probing ≡ true → probe_of m t
     ≡ Some (probe_beat m (cap_waited z.service))) n new s.block (λ e. absurd cc) (λ m ne e. before.probed m e) in
-    let recorded = ap (λ (p : ClientBlock). p.recorded) (set-same c (after_report r (b.pair c)) b.pair) in
+    let recorded = ap (λ p. p.recorded) (set-same c (after_report r (b.pair c)) b.pair) in
     let sunk_same : (i : ℕ) (o : Option ℕ) → is_sunk c i (rest Channel.D) o s' ≡ is_sunk c i (rest Channel.D) o s =
-    λ i. elim [ None ↦ refl | Some m ↦ cc (set-part (λ (z : Block X). z.service) n new s.block refl m) ] in
+    λ i. elim [ None ↦ refl | Some m ↦ cc (set-part (λ z. z.service) n new s.block refl m) ] in
     let apart : (m : ℕ) → (m ≡ n → ⊥) → (block_at y.address == m) ≡ false =
     λ m ne. rw at (ne_eqb n m (λ e. ne (sym e))) in
     let requests : (i : ℕ) → is_requested c i (rest' Channel.A) (s'.uses c i) s' ≡ is_requested c i (rest Channel.A)
     (s.uses c i) s = λ i. cc (
       rests Channel.A,
       requested-blocks c i (rest Channel.A) (s.uses c i) s s'
-          (set-part (λ (z : Block X). is_unserved (view z.service c)) n new s.block refl),
+          (set-part (λ z. is_unserved (view z.service c)) n new s.block refl),
     ) in
-    let acquires = set-part (acquired_by c) n new s.block (ap (λ (z : Bool). z && not (is_unserved (view b.service c)))
-    (part_of (λ (p : ClientBlock). is_wanting p.acquiring) c (after_report r (b.pair c)) b.pair refl)) in
+    let acquires = set-part (acquired_by c) n new s.block (ap (λ z. z && not (is_unserved (view b.service c)))
+    (part_of (λ p. is_wanting p.acquiring) c (after_report r (b.pair c)) b.pair refl)) in
     let releases : (m : ℕ) → let_of c (rest' Channel.C) (s'.block m) ≡ let_of c (rest Channel.C) (s.block m) = λ m. cc (
       let_rest ((s'.block m).release_source c) (rest Channel.C) (rest' Channel.C)
           ((s'.block m).pair c).letting (comes ((s'.block m).release_source c)),
@@ -121,10 +116,7 @@ flowed-report {w} {X} {c} n r toks y first {asked} {rest} rest' {s}
     ) in
     let grants : (m : ℕ) → granted_by c m asked (rest' Channel.D) (s'.block m) ≡ granted_by c m asked (rest Channel.D)
     (s.block m) = λ m. cc (rests Channel.D, set-part (granted_by c m asked (rest Channel.D)) n new s.block refl m) in
-    flowed-next (record {
-      first_is = first_is;
-      last_is = last_is;
-      rests = rests;
+    flowed-next first_is last_is rests (record {
       held_is = set-each (λ m z. held_by c z ≡ unwrap_or (if (is_probe_ack y.opcode || is_release y.opcode)
           && (block_at y.address == m) then Some (reported y.param) else None) (held_by c (s.block m))) n new s.block
           (cc (said (is_probe_ack y.opcode) (is_release y.opcode) (block_at y.address == n) (reported y.param)
@@ -135,11 +127,9 @@ flowed-report {w} {X} {c} n r toks y first {asked} {rest} rest' {s}
       acquires = λ m. acquires m ∙ sym (step_quiet first true (acquired_by c (s.block m)));
       release_sources = λ i. lets i ∙ sym (unopened first true (is_release y.opcode) (y.source == i)
           (is_let_by c i (rest Channel.C) (s.lets c i) s) other);
-      released = λ i m e f. ap (option_map (λ z. block_at z.address)) (released-of i y t other) ∙ before.released i m e
-          (before.release_sources i ∙ sym (lets i) ∙ f);
-      sizes = λ i m e f. cc (released-of i y t other, before.sizes i m e (before.release_sources i ∙ sym (lets i) ∙ f));
+      released = λ i m e f. let_still before i m (released-of i y t other) e (cc (before.release_sources i, lets i));
       releases = λ m. cc (releases m, other, step_quiet first true (let_of c (rest Channel.C) (s.block m)));
-      sinks = λ i. ap (λ (l : List (Beat w)). is_sunk c i l (s.tracked i) s') (rests Channel.D)
+      sinks = λ i. ap (λ l. is_sunk c i l (s.tracked i) s') (rests Channel.D)
           ∙ sunk_same i (s.tracked i) ∙ sym (step_quiet first true (is_sunk c i (rest Channel.D) (s.tracked i) s));
       grants = λ m. grants m ∙ sym (step_quiet first true (granted_by c m asked (rest Channel.D) (s.block m)));
       probes = set-each (λ m z. is_answered (z.pair c).probing ≡ step first true false
@@ -149,7 +139,7 @@ flowed-report {w} {X} {c} n r toks y first {asked} {rest} rest' {s}
           (is_probe_ack y.opcode) (block_at y.address == m) (is_answered ((s.block m).pair c).probing) (apart m ne)));
       probed = λ m e. probe_of-c m y t ∙ probed m e;
       sunk = λ m e. grant_sink-c m y t ∙ before.sunk m (before.grants m ∙ sym (grants m) ∙ e) ∙ ap Some
-          (sym (set-part (λ (z : Block X). z.tracker) n new s.block refl m));
+          (sym (set-part (λ z. z.tracker) n new s.block refl m));
     }) before
   where
     b : Block X
@@ -162,8 +152,8 @@ flowed-report {w} {X} {c} n r toks y first {asked} {rest} rest' {s}
     s' = report_taken c n r toks s
 
     letting_same : (new.pair c).letting ≡ (b.pair c).letting
-    letting_same = part_of (λ (p : ClientBlock). p.letting) c (after_report r (b.pair c)) b.pair refl
+    letting_same = part_of (λ p. p.letting) c (after_report r (b.pair c)) b.pair refl
 
     lets : (i : ℕ) → is_let_by c i (rest' Channel.C) (s'.lets c i) s' ≡ is_let_by c i (rest Channel.C) (s.lets c i) s
-    lets i = let_by_rest c i (rest Channel.C) (rest' Channel.C) (s.lets c i) s' (comes i) ∙ let_by-same c i
-        (rest Channel.C) (s.lets c i) s s' (set-part (λ (z : Block X). (z.pair c).letting) n new s.block letting_same)
+    lets i = let_by_rest c i _ _ (s.lets c i) s' (comes i) ∙ let_by-same c i
+        (rest Channel.C) (s.lets c i) s s' (set-part (λ z. (z.pair c).letting) n new s.block letting_same)

@@ -87,16 +87,16 @@ moved-to_client : {w : ℕ} {config : Config} {log : Log w} (link : Link) (ch : 
 moved-to_client {w} {config} {log} link ch h terms x queue width is known up beats moving =
     let sys : System w = system_after config log in
     let t = client-moves config link ch sys terms x queue known beats up moving in
-    let first : IsFirst ch link.0 h.mail h.state sys x queue = first-token (is_caching config) ch link.0 h.mail h.state
+    let first : IsFirst ch link.0 h.mail h.state sys x queue = first-token (is_caching config) ch link.0 h.mail _
     sys x queue width is.invariant is.carried beats in
-    let on_ch : IsOn ch x = subst (λ (i : Channel). IsOn i x) (first-of config log h link.0 terms ch x queue width is
+    let on_ch : IsOn ch x = subst (λ i. IsOn i x) (first-of config log h link.0 terms ch x queue width is
     known beats).on (on_own_channel x) in
     record {
       first = first;
       on_ch = on_ch;
-      delivered = λ d. ap (λ (y : Step w). flow d ((Deliver link ch, y.outcome) ∷ log)) t.step_is ∙ flow_moved link ch
+      delivered = λ d. ap (λ y. flow d ((Deliver link ch, y.outcome) ∷ log)) t.step_is ∙ flow_moved link ch
           (outcome_of x t.verdict_is) x log d (taken_at link ch x t.verdict_is d (cc t.step_is));
-      rests = λ d i. ap (λ (y : Step w). unfinished_at y.after d i) t.step_is
+      rests = λ d i. ap (λ y. unfinished_at y.after d i) t.step_is
           ∙ (landed-client link.0 ch x queue t.message (offer.taken x (sys.clients link.0)).after sys up beats on_ch
           (client-heard width (is.kept link.0) t)).rests d i;
       follows = cc (followed-moving config link ch sys h x queue moving beats, first.tokens);
@@ -108,9 +108,9 @@ pub moved-on : {w : ℕ} {config : Config} {log : Log w} (link : Link) (ch : Cha
     → terms_at config link.0 ≡ Some terms
     → is_moving (stepped config (Deliver link ch) (system_after config log)).outcome ≡ true → (b : Bool)
     → is_to_client ch ≡ b → IsMovedOn config log link ch h x queue
-moved-on {config} {log} link ch h x queue terms width is beats known moving true e =
+moved-on link ch h x queue terms width is beats known moving true e =
     moved-to_client link ch h terms x queue width is known e beats moving
-moved-on {config} {log} link ch h x queue terms width is beats known moving false e =
+moved-on link ch h x queue terms width is beats known moving false e =
     moved-to_manager link ch h terms x queue width is known e beats moving
 
 -- ---- what is delivered after a delivery
@@ -131,9 +131,8 @@ moved-flowed : {w : ℕ} {config : Config} {log : Log w} {link : Link} {ch : Cha
 moved-flowed {w} {config} {log} {link} {ch} {h} {x} {queue} width is flowed beats moving at d =
     let Here : AbstractState w → History w → Type 0 = λ z t. MonitorRelation (asked_by z.mail z.state d)
     (unfinished_at sys' d) d z.state t in
-    subst (λ (z : AbstractState w). Here z
-    (flow d ((Deliver link ch, (stepped config (Deliver link ch) sys).outcome) ∷ log))) (sym at.follows)
-    (subst (λ (t : History w). Here h' t) (sym (at.delivered d)) (elim (cases_eq d c) [
+    subst (λ z. Here z (flow d ((Deliver link ch, (stepped config (Deliver link ch) sys).outcome) ∷ log)))
+    (sym at.follows) (subst (λ t. Here h' t) (sym (at.delivered d)) (elim (cases_eq d c) [
       | inl same ↦ rw same own
       | inr other ↦ others other
     ]))
@@ -219,19 +218,19 @@ asked-flowed {w} {config} {log} c o h width is flowed = go (terms_at config c) r
     go (Some terms) known =
         let a : ask.Asked w = ask.asked terms o (sys.clients c) in
         let h' : AbstractState w = asked c o a.reply h in
-        let well = asked-well config log h sys c terms o width is known in
-        subst After (sym (stepped-asked config c o sys terms known)) (λ d. subst (λ (t : History w). MonitorRelation
+        let well = asked-well _ log h sys c terms o width is known in
+        subst After (sym (stepped-asked config c o sys terms known)) (λ d. subst (λ t. MonitorRelation
         (asked_by h'.mail h'.state d) (unfinished_at (replied c a sys).after d) d h'.state t) (sym (flow_still (Ask
         c o) (Outcome.Replied a.reply) log d refl)) (flowed-rests
         (unfinished_at (replied c a sys).after d) (λ i. (handed-client c a.message
-        a.after sys (λ j. unfinished-asked terms o (sys.clients c) j width (is.kept c))).rests d i)
+        a.after sys (λ j. unfinished-asked terms o _ j width (is.kept c))).rests d i)
         (flowed-asked h c width is d (flow d log) o a.reply well.reply well.may (flowed d))))
 
 flowed-event : {w : ℕ} {config : Config} {log : Log w} (event : Event w) (h : AbstractState w) → IsWidth w
     → SimulationRelation config log h.mail h.request h.state (system_after config log)
     → MonitorRelations log h.mail h.state (system_after config log) → AreFlowedAfter config log event h
-flowed-event {config} {log} (Ask c o) h width is flowed = asked-flowed c o h width is flowed
-flowed-event {config} {log} (Deliver link ch) h width is flowed = delivered-flowed link ch h width is flowed
+flowed-event (Ask c o) h width is flowed = asked-flowed c o h width is flowed
+flowed-event (Deliver link ch) h width is flowed = delivered-flowed link ch h width is flowed
 
 -- what is delivered on each link has the values of the protocol after every log
 pub flowed : {w : ℕ} (config : Config) (log : Log w) → IsWidth w → AreTyped log → IsLog config log
@@ -242,8 +241,7 @@ flowed {w} config (x ∷ log) width typed is =
     let sys : System w = system_after config log in
     let h : AbstractState w = shadow config log in
     let h' : AbstractState w = abstract_step config x.0 sys h in
-    subst (λ (o : Outcome w). MonitorRelations ((x.0, o) ∷ log) h'.mail h'.state (stepped config x.0 sys).after)
-    (sym is.0)
+    subst (λ o. MonitorRelations ((x.0, o) ∷ log) h'.mail h'.state (stepped config x.0 sys).after) (sym is.0)
     (flowed-event x.0 h width (matched config log width typed.1 is.1) (flowed config log width typed.1 is.1))
 
 -- ---- no rule is broken
@@ -260,16 +258,15 @@ unbroken : {w : ℕ} {config : Config} {log : Log w} (h : AbstractState w) (link
     → is_moving (stepped config (Deliver link ch) (system_after config log)).outcome ≡ true
     → (system_after config log).channels link.0 ch ≡ x ∷ queue → level_of config link.0 ≡ Some l
     → broken_after l config.profile x (flow link.0 log) ≡ None
-unbroken {config} {log} h link Channel.A l x queue width is values moving beats level =
-    flows-a link.0 l x queue width is values beats level
-    (request-moves link is moving beats (arrival-first h link.0 x queue width is beats))
-unbroken {config} {log} h link Channel.B l x queue width is values moving beats level =
+unbroken h link Channel.A l x queue width is values moving beats level = flows-a link.0 l x queue width is values beats
+    level (request-moves link is moving beats (arrival-first h link.0 x queue width is beats))
+unbroken h link Channel.B l x queue width is values moving beats level =
     flows-b link.0 l x queue width is values beats level
-unbroken {config} {log} h link Channel.C l x queue width is values moving beats level =
+unbroken h link Channel.C l x queue width is values moving beats level =
     flows-c link.0 l x queue width is values beats level
-unbroken {config} {log} h link Channel.D l x queue width is values moving beats level =
+unbroken h link Channel.D l x queue width is values moving beats level =
     flows-d link.0 l x queue width is values beats level
-unbroken {config} {log} h link Channel.E l x queue width is values moving beats level =
+unbroken h link Channel.E l x queue width is values moving beats level =
     flows-e link.0 l x queue width is values beats level
 
 -- who is asked moves no beat
@@ -288,7 +285,7 @@ legal-event : {w : ℕ} {config : Config} {log : Log w} (h : AbstractState w) (e
     → is_legal l config.profile (flow d log) ≡ true
     → is_legal l config.profile (flow d ((event, (stepped config event (system_after config log)).outcome) ∷ log))
     ≡ true
-legal-event {w} {config} {log} h (Ask c o) d l width is values level legal = ap (is_legal l config.profile) (flow_still
+legal-event {config} {log} h (Ask c o) d l width is values level legal = ap (is_legal l config.profile) (flow_still
     (Ask c o) (stepped config (Ask c o) (system_after config log)).outcome log d (asked-still config log c o)) ∙ legal
 legal-event {w} {config} {log} h (Deliver link ch) d l width is values level legal =
     go (is_moving (stepped config (Deliver link ch) sys).outcome) refl
@@ -298,7 +295,7 @@ legal-event {w} {config} {log} h (Deliver link ch) d l width is values level leg
 
     with_beat : (x : Beat w) (b : Bool) → (b ≡ true → broken_after l config.profile x (flow d log) ≡ None)
         → is_legal l config.profile (if b then x ∷ flow d log else flow d log) ≡ true
-    with_beat x true whole = legal_more l config.profile x (flow d log) (whole refl) legal
+    with_beat x true whole = legal_more l _ x _ (whole refl) legal
     with_beat x false whole = legal
 
     go : (b : Bool) → is_moving (stepped config (Deliver link ch) sys).outcome ≡ b
@@ -306,11 +303,10 @@ legal-event {w} {config} {log} h (Deliver link ch) d l width is values level leg
         ≡ true
     go true moving =
         let at = first-moved config link ch sys moving in
-        ap (is_legal l config.profile)
-        ((moved-on link ch h at.0 at.1 at.2 width is at.3.0 at.3.1 moving (is_to_client ch) refl).delivered d)
-        ∙ with_beat at.0 (link.0 == d) (λ same.
+        ap (is_legal l config.profile) ((moved-on link ch h at.0 at.1 at.2 width is at.3.0 at.3.1 moving
+        (is_to_client ch) refl).delivered d) ∙ with_beat at.0 (link.0 == d) (λ same.
         let here : link.0 ≡ d = eqb-true link.0 d same in
-        subst (λ (i : ℕ). broken_after l config.profile at.0 (flow i log) ≡ None) here
+        subst (λ i. broken_after l config.profile at.0 (flow i log) ≡ None) here
         (unbroken h link ch l at.0 at.1 width is values moving at.3.0 (ap (level_of config) here ∙ level)))
     go false still = cc (flow_still (Deliver link ch) (stepped config (Deliver link ch) sys).outcome log d still, legal)
 
@@ -318,7 +314,7 @@ legal : {w : ℕ} (config : Config) (log : Log w) (d : ℕ) (l : Level) → IsWi
     → level_of config d ≡ Some l → is_legal l config.profile (flow d log) ≡ true
 unfolding AreTyped IsLog flow is_legal
 legal config [] d l width typed is level = refl
-legal {w} config (x ∷ log) d l width typed is level =
+legal config (x ∷ log) d l width typed is level =
     rw is.0 (legal-event (shadow config log) x.0 d l width (matched config log width typed.1 is.1)
     (flowed config log width typed.1 is.1) level (legal config log d l width typed.1 is.1 level))
 

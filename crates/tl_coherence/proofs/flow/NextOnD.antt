@@ -4,12 +4,12 @@ use Rattle.std.proofs.Common.{map}
 use Rattle.tl_coherence.proofs
 use proofs.Imports.{Beat, BeatD, Channel, IsWidth, length-begun, Message, MessageD, beat_of, begun, d_beat_of}
 use proofs.Imports.{unfinished, Config, is_grant, asks_for, request_of, grants, same_block, Kind, Answer, Grant}
-use proofs.Imports.{ReleaseAck, View, Block, State, SourceState, packet, is_on, is_unserved, AbstractState}
-use proofs.Imports.{is_requested, message_of, message_of_kind, block_message, SimulationRelation, MonitorRelations}
-use proofs.Imports.{is_caching, asked_by, receiver, flow, Log, system_after}
+use proofs.Imports.{ReleaseAck, Block, State, packet, is_on, is_unserved, AbstractState, is_requested, message_of}
+use proofs.Imports.{message_of_kind, block_message, SimulationRelation, MonitorRelations, is_caching, asked_by}
+use proofs.Imports.{receiver, flow, Log, system_after}
 use proofs.client.ClientEnd.{asks-acquire}
-use proofs.queues.{Carried.IsNext, Codes.access_kind, FirstToken.IsFirst, FirstToken.first-token, Phases.and_left}
-use proofs.queues.{Phases.and_right}
+use proofs.queues.{Carried.IsNext, Codes.access_kind, Phases.and_left, Phases.and_right}
+use proofs.queues.FirstToken.{IsFirst, first-token}
 use proofs.protocol.HeadOfD.{IsAnswerDue, IsGrantDue, ack_message, answer-due, grant-due, grant-rendered, grant_message}
 use proofs.protocol.HeadOfD.{own_view}
 
@@ -33,7 +33,7 @@ module _ {w : ℕ} (config : Config) (log : Log w) (h : AbstractState w) (c : �
   s = h.state
 
   first : IsFirst Channel.D c h.mail s (system_after config log) (Beat.D y) queue
-  first = first-token (is_caching config) Channel.D c h.mail s (system_after config log) (Beat.D y) queue width
+  first = first-token (is_caching config) Channel.D c h.mail s (system_after config log) _ queue width
       is.invariant is.carried beats
 
   abbrev Next : Kind → ℕ → Type 0
@@ -54,17 +54,16 @@ module _ {w : ℕ} (config : Config) (log : Log w) (h : AbstractState w) (c : �
 
       go : (k : Kind) (i : ℕ) → (s.link c).d ≡ packet k i ∷ first.rest → is_on Channel.D k ≡ true → Next k i → P
       go Answer i tokens own next =
-          let due = answer-due (is_caching config) c i first.rest h.mail s is.invariant (is.answered c i) tokens in
-          answer i due (same_beat y (d_beat_of due.answer next.k)
-          (next.beat_is ∙ ap (λ (m : Message w). beat_of m next.k) due.answer_is)
-          ∙ ap (d_beat_of due.answer) (place (message_of_kind Answer h.mail s c i) next.k next.rest_is))
+          let due = answer-due (is_caching config) c i _ h.mail s is.invariant (is.answered c i) tokens in
+          answer i due (same_beat y (d_beat_of due.answer next.k) (next.beat_is ∙ ap (λ m. beat_of m next.k)
+          due.answer_is) ∙ ap (d_beat_of due.answer) (place (message_of_kind Answer h.mail s c i) next.k next.rest_is))
       go Grant i tokens own next =
-          let due = grant-due (is_caching config) c i first.rest s is.invariant tokens in
+          let due = grant-due (is_caching config) c i _ s is.invariant tokens in
           grant i (record {
             due = due;
             beat_is = cc (
               same_beat y (d_beat_of (grant_sent c i s due) next.k) (next.beat_is
-                  ∙ ap (λ (z : Message w). beat_of z next.k) (grant-rendered c i s due)),
+                  ∙ ap (λ z. beat_of z next.k) (grant-rendered c i s due)),
               place (message_of_kind Grant h.mail s c i) next.k next.rest_is,
             );
           })
@@ -78,15 +77,15 @@ module _ {w : ℕ} (config : Config) (log : Log w) (h : AbstractState w) (c : �
   granted_block {i} n grant asks =
       let b : Block (List ℕ) = s.block i in
       let rest_now : List (Beat w) = unfinished Channel.A (receiver Channel.A c (system_after config log)) in
-      let from : y.source ≡ b.source c = ap (λ (z : BeatD w). z.source) grant.beat_is in
+      let from : y.source ≡ b.source c = ap (λ z. z.source) grant.beat_is in
       let requested : is_requested c y.source rest_now (s.uses c y.source) s ≡ true =
-      ap (λ (u : SourceState). is_requested c y.source rest_now u s) (ap (s.uses c) from ∙ due.used)
-      ∙ ap (λ (v : View). not (is_unserved v)) (own_view c due.data_too due.k b.service due.service) in
+      ap (λ u. is_requested c y.source rest_now u s) (ap (s.uses c) from ∙ due.used)
+      ∙ ap (λ v. not (is_unserved v)) (own_view c due.data_too due.k b.service due.service) in
       let asked : request_of y.source (flow c log) ≡ asked_by h.mail s c (b.source c) =
       cc ((flowed c).asked_is y.source ((flowed c).requests y.source ∙ requested), from) in
       let asked_for : asks_for n (request_of y.source (flow c log)) ≡ (i == n) = cc (
         asked,
-        asks-acquire c (b.source c) i (b.source c) due.whole due.g h.mail s due.used due.wants refl,
+        asks-acquire c _ i (b.source c) due.whole due.g h.mail s due.used due.wants refl,
         same_block i,
       ) in
       eqb-true i n (sym asked_for ∙ asks)
@@ -97,11 +96,11 @@ module _ {w : ℕ} (config : Config) (log : Log w) (h : AbstractState w) (c : �
   -- a beat that grants a block is one of that block's Grant
   pub grant-next : (n : ℕ) → grants n y (flow c log) ≡ true
       → IsGrantBeat c n s y (length (unfinished Channel.D (flow c log)))
-  grant-next n granted = next-on_d Of (λ i due e. not_granted (ap (λ (z : BeatD w). is_grant z.opcode) e
+  grant-next n granted = next-on_d Of (λ i due e. not_granted (ap (λ z. is_grant z.opcode) e
       ∙ (access_kind due.answer.opcode due.answers_access).0))
-      (λ i grant. subst (λ (j : ℕ). IsGrantBeat c j s y (length (unfinished Channel.D (flow c log))))
+      (λ i grant. subst (λ j. IsGrantBeat c j s y (length (unfinished Channel.D (flow c log))))
       (granted_block n grant (and_right (is_grant y.opcode) (asks_for n (request_of y.source (flow c log))) granted))
-      grant) (λ i k e. not_granted (ap (λ (z : BeatD w). is_grant z.opcode) e))
+      grant) (λ i k e. not_granted (ap (λ z. is_grant z.opcode) e))
     where
       Of : Type 0
       Of = IsGrantBeat c n s y (length (unfinished Channel.D (flow c log)))

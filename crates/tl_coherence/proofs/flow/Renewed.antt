@@ -31,7 +31,7 @@ at_most_none : (p : Perm) → perm_le p (cap_right Cap.ToN) ≡ true → same_pe
 at_most_none p e = grind arith
 
 within : (j k : Cap) (p : Perm) → Some j ≡ Some k → perm_le p (cap_right k) ≡ true → perm_le p (cap_right j) ≡ true
-within j k p e f = ap (λ (i : Cap). perm_le p (cap_right i)) (same_Some j k e) ∙ f
+within j k p e f = ap (λ i. perm_le p (cap_right i)) (same_Some j k e) ∙ f
 
 pub leaves_within : (o : OpA) (param : ℕ) (k : Cap) (p : Perm) → is_acquire o ≡ false → cap_probed o param ≡ Some k
     → perm_le p (cap_right k) ≡ true → leaves (needs o) p ≡ true
@@ -70,7 +70,7 @@ AreRenewed {w} h i = (c source : ℕ) → i.state.uses c source ≡ Replied → 
 
 -- each was answered before
 abbrev pub AreKept : {w : ℕ} → AbstractState w → AbstractState w → Type 0
-AreKept {w} h i = (c source : ℕ) → i.state.uses c source ≡ Replied → (h.state.uses c source ≡ Replied)
+AreKept h i = (c source : ℕ) → i.state.uses c source ≡ Replied → (h.state.uses c source ≡ Replied)
     × AreSameMessages h i c source
 
 kept-set : {w : ℕ} (c k : ℕ) (u : SourceState) (h i : AbstractState w) → (u ≡ Replied → ⊥)
@@ -157,7 +157,7 @@ renewed-kind_taken {w} {config} tracker c k i rest h is first ready =
         → AreRenewed h (access_taken c source m tracker false None rest h)
     answered source m o from plain caps none = renewed-reply c source m b.memory h
         (access_taken c source m tracker false None rest h) (λ d j. refl) (λ d j. refl) (λ d j. refl) from
-        (λ d. ap (λ (z : Block (List ℕ)). leaves (needs m.opcode) (z.pair d).recorded)
+        (λ d. ap (λ z. leaves (needs m.opcode) (z.pair d).recorded)
         (set-same n (performed_block (performs m) b) h.state.block) ∙ (found o caps none).0 d) (found o caps none).1
       where
         n : ℕ
@@ -187,7 +187,7 @@ renewed-kind_taken {w} {config} tracker c k i rest h is first ready =
     reported n q source j known last waits = renewed-reply q source m (written r b.truth b.memory) h
         (last_taken clients config.profile c n r (Waits q false source j) rest h) (λ d i. refl) (λ d i. refl)
         (λ d i. refl) (rw waits at (is.served_with n)) settled (ap (answers m) (memory-reported c q source r j
-        (is.invariant.blocks n) waits answer quiet ∙ ap (λ (i : ℕ). (h.state.block i).truth) (sym for.2)))
+        (is.invariant.blocks n) waits answer quiet ∙ ap (λ i. (h.state.block i).truth) (sym for.2)))
       where
         b : Block (List ℕ)
         b = h.state.block n
@@ -205,15 +205,14 @@ renewed-kind_taken {w} {config} tracker c k i rest h is first ready =
         answer = first-report is.invariant known
 
         quiet : (d : ℕ) → (d ≡ c → ⊥) → is_unprobed (b.pair d).probing ≡ true
-        quiet = settled_all clients (is_caching config) c b.pair (plain-past config) (is.invariant.blocks n).outside
-            last
+        quiet = settled_all _ (is_caching config) c b.pair (plain-past config) (is.invariant.blocks n).outside last
 
         other : (d : ℕ) → view b.service d ≡ Other j
         other d = rw waits refl
 
         settled : IsSettledFor m (last_taken clients config.profile c n r (Waits q false source j) rest h).state
-        settled d = ap (λ (i : ℕ). leaves (needs m.opcode) ((set n new h.state.block i).pair d).recorded) for.2
-            ∙ ap (λ (z : Block (List ℕ)). leaves (needs m.opcode) (z.pair d).recorded) (set-same n new h.state.block)
+        settled d = ap (λ i. leaves (needs m.opcode) ((set n new h.state.block i).pair d).recorded) for.2
+            ∙ ap (λ z. leaves (needs m.opcode) (z.pair d).recorded) (set-same n new h.state.block)
             ∙ leaves_within m.opcode m.param j (set c (after_report r (b.pair c)) b.pair d).recorded for.0 for.3
             (recorded_within c r j (is.invariant.blocks n) answer quiet (other c) d (other d))
           where

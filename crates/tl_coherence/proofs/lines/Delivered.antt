@@ -98,7 +98,7 @@ roomy l ch (E x) width mask e = tt
 
 pub legal-writable : {w : ℕ} (l : Level) (ch : Channel) (m : Message w) (k : ℕ) → IsWidth w
     → illegal l ch (beat_of m k) ≡ None → IsWritable (beat_of m k)
-legal-writable l ch m k width e = roomy l ch (beat_of m k) width (narrow m k) e
+legal-writable l ch m k width e = roomy l ch _ width (narrow m k) e
 
 -- ---- the first beat of a channel
 
@@ -107,17 +107,16 @@ module _ {w : ℕ} {config : Config} {log : Log w} (given : IsGiven config log) 
     (beats : (system_after config log).channels c ch ≡ x ∷ queue) where
   is : SimulationRelation config log (shadow config log).mail (shadow config log).request (shadow config log).state
       (system_after config log)
-  is = matched-given config log given
+  is = matched-given _ log given
 
   first : IsFirst ch c (shadow config log).mail (shadow config log).state (system_after config log) x queue
-  first = first-token (is_caching config) ch c (shadow config log).mail (shadow config log).state
-      (system_after config log) x queue given.width is.invariant is.carried beats
+  first = first-token (is_caching config) ch c _ _ _ x queue given.width is.invariant is.carried beats
 
   first-writable : IsWritable x
   first-writable =
-      let lawful = lawful-beat c ch terms.level x queue is beats (level-terms config c terms known).0 in
+      let lawful = lawful-beat c ch _ x queue is beats (level-terms config c terms known).0 in
       subst IsWritable (sym first.next.beat_is) (legal-writable terms.level (channel_of x) _ first.next.k given.width
-      (ap (λ (y : Beat w). illegal terms.level (channel_of x) y) (sym first.next.beat_is) ∙ lawful))
+      (ap (λ y. illegal terms.level (channel_of x) y) (sym first.next.beat_is) ∙ lawful))
 
   first-in_range : AreRanged log → IsInRange x
   first-in_range ranged =
@@ -125,9 +124,8 @@ module _ {w : ℕ} {config : Config} {log : Log w} (given : IsGiven config log) 
       let lanes : AreLanes x = All-head AreLanes x queue (rw beats at (is.typed c ch)) in
       let bounds = matched-bounded config log (shadow config log).mail (shadow config log).request
       (shadow config log).state (system_after config log) is c (sources-own config log c given.width) in
-      subst IsInRange (sym first.next.beat_is)
-      (ranged-beat config.blocks _ first.next.k few.1 (ap (λ (y : Beat w). is_outside config.blocks y)
-      (sym first.next.beat_is) ∙ (sound-beat c ch x queue is beats).inside)
+      subst IsInRange (sym first.next.beat_is) (ranged-beat config.blocks _ first.next.k few.1
+      (ap (λ y. is_outside config.blocks y) (sym first.next.beat_is) ∙ (sound-beat c ch x queue is beats).inside)
       (subst AreLanes first.next.beat_is lanes) (first-ranged is (remembered-ranged config log ranged) bounds
       (few-sources config c given.fits) few.2 ch first.kind first.number first.rest first.own first.tokens))
 
@@ -169,16 +167,16 @@ module _ {w : ℕ} (config : Config) (P : Beat w → Type 0) (Q : Log w → Type
     all-delivered (x ∷ log) given q d =
         let before : IsGiven config log =
         record { width = given.width; fits = given.fits; typed = given.typed.1; is_log = given.is_log.1 } in
-        subst (λ (o : Outcome w). All P (flow d ((x.0, o) ∷ log))) (sym given.is_log.0)
+        subst (λ o. All P (flow d ((x.0, o) ∷ log))) (sym given.is_log.0)
         (next x.0 d before (earlier x log q) (all-delivered log before (earlier x log q) d))
 
 pub have-room : {w : ℕ} (config : Config) (log : Log w) → IsGiven config log → (link : ℕ)
     → All IsWritable (flow link log)
-have-room config log given link = all-delivered config IsWritable (λ l. Unit {0}) (λ x l q. tt)
+have-room config log given link = all-delivered _ IsWritable (λ l. Unit {0}) (λ x l q. tt)
     (λ l g q c terms known ch x queue beats. first-writable g c terms known ch x queue beats) log given tt link
 
 pub are-in_range : {w : ℕ} (config : Config) (log : Log w) → IsGiven config log → AreRanged log → (link : ℕ)
     → All IsInRange (flow link log)
 unfolding AreRanged
-are-in_range config log given ranged link = all-delivered config IsInRange AreRanged (λ x l q. q.1)
+are-in_range config log given ranged link = all-delivered _ IsInRange AreRanged (λ x l q. q.1)
     (λ l g q c terms known ch x queue beats. first-in_range g c terms known ch x queue beats q) log given ranged link

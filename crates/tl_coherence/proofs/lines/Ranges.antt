@@ -93,7 +93,7 @@ each-fits [] k client fit e = absurd cc
 each-fits (x ∷ clients) zero client fit e = let is : x ≡ client = cc in
     rw is at (and_parts (sources_fit x) (all_sources_fit clients) fit).0
 each-fits (x ∷ clients) (suc k) client fit e =
-    each-fits clients k client (and_parts (sources_fit x) (all_sources_fit clients) fit).1 e
+    each-fits clients k _ (and_parts (sources_fit x) (all_sources_fit clients) fit).1 e
 
 pub few-sources : (config : Config) (c : ℕ) → config_fault config ≡ None → sources_of (terms_at config c) ≤ 8
 few-sources config c fits = go (slice_get config.clients.items c) refl
@@ -155,21 +155,18 @@ module _ {w : ℕ} {config : Config} {log : Log w} {mail : AccessMessages w} {re
   unfolding block_message
   kind-ranged Request n shows = request-ranged n (request_named c n matched.invariant shows)
   kind-ranged Answer n shows = answer-is-ranged n (answer_named c n matched.invariant shows)
-  kind-ranged Acquire n shows = acquire-ranged w ((s.block n).pair c).acquiring ((s.block n).source c) n
+  kind-ranged Acquire n shows = acquire-ranged w ((s.block n).pair c).acquiring _ n
       (used-small ((s.block n).source c) (Acquires n) (acquire_named c n matched.invariant shows) (λ e. absurd cc))
   kind-ranged Probe n shows = (lit< tt, zeros-bytes 64)
-  kind-ranged ProbeAck n shows = report-ranged w _ (report_told ((s.block n).pair c).probing) n (s.block n).truth
-      (truth-bytes n)
-  kind-ranged Release n shows =
-      release-ranged w (prune_told ((s.block n).pair c).letting) ((s.block n).release_source c) n (s.block n).truth
+  kind-ranged ProbeAck n shows = report-ranged w _ (report_told ((s.block n).pair c).probing) n _ (truth-bytes n)
+  kind-ranged Release n shows = release-ranged w (prune_told ((s.block n).pair c).letting) _ n _
       (let-small ((s.block n).release_source c) n (release_named c n matched.invariant shows)) (truth-bytes n)
-  kind-ranged Grant n shows = grant-ranged w (s.block n).service ((s.block n).source c) (s.block n).tracker
-      (s.block n).truth (used-small ((s.block n).source c) (Acquires n) (grant_named c n matched.invariant shows)
-      (λ e. absurd cc)) (λ q d k e. tracker-small (s.block n).tracker n
-      (tracker_of_service n matched.invariant (rw e refl))) (truth-bytes n)
-  kind-ranged ReleaseAck n shows = ack-ranged w ((s.block n).release_source c)
+  kind-ranged Grant n shows = grant-ranged w (s.block n).service _ (s.block n).tracker _
+      (used-small ((s.block n).source c) (Acquires n) (grant_named c n matched.invariant shows) (λ e. absurd cc))
+      (λ q d k e. tracker-small _ n (tracker_of_service n matched.invariant (rw e refl))) (truth-bytes n)
+  kind-ranged ReleaseAck n shows = ack-ranged w _
       (let-small ((s.block n).release_source c) n (release_ack_named c n matched.invariant shows))
-  kind-ranged GrantAck n shows = tracker-small (s.block n).tracker n (grant_ack_named c n matched.invariant shows)
+  kind-ranged GrantAck n shows = tracker-small _ n (grant_ack_named c n matched.invariant shows)
 
   pub first-ranged : (ch : Channel) (k : Kind) (n : ℕ) (rest : List Packet) → is_on ch k ≡ true
       → packets_on ch (s.link c) ≡ packet k n ∷ rest → IsRangedMessage (message_of_kind k mail s c n)

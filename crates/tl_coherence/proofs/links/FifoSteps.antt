@@ -32,7 +32,7 @@ pop_order false x rest sent queue taken first is = is
 carried-begun : {w : ℕ} (m : Message w) (k : ℕ) (at : Channel) (t : History w) → carried_on at (begun m k ++ t)
     ≡ (if same_channel at (channel_of_message m) then begun m k ++ carried_on at t else carried_on at t)
 unfolding carried_on
-carried-begun {w} m zero at t =
+carried-begun m zero at t =
     let go : (b : Bool) → carried_on at t ≡ (if b then carried_on at t else carried_on at t) =
     elim [ true ↦ refl | false ↦ refl ] in
     go (same_channel at (channel_of_message m))
@@ -86,7 +86,7 @@ popped_at c ch queue q d at = if (d == c) && same_channel at ch then queue else 
 said_here : {w : ℕ} (l : ℕ) (m : Message w) (p : ℕ → History w) (q : ℕ → Channel → List (Beat w)) (d : ℕ) (at : Channel)
     (taken : List (Beat w)) → IsInOrder (carried_on at (p d)) (q d at) taken
     → IsInOrder (carried_on at (said_at l m p d)) (queued_at l m q d at) taken
-said_here {w} l m p q d at taken is = elim (cases_eq d l) [
+said_here l m p q d at taken is = elim (cases_eq d l) [
   | inl same ↦ rw (same, same_number l, carried-begun m (beats_of m) at (p l))
       (push_order (same_channel at (channel_of_message m)) m (carried_on at (p l)) (q l at) (q l (channel_of_message m))
       taken (λ e. ap (q l) (sym (same_channel-is at (channel_of_message m) e))) (rw same at is))
@@ -105,9 +105,9 @@ unsaid_queue {w} l m q d at differs = grind arith
 pub client-says : {w : ℕ} (l : ℕ) (m : Message w) {p t : ℕ → History w} {q : ℕ → Channel → List (Beat w)} {f : ℕ
     → History w}
     → is_from_client (beat_of m 0) ≡ true → ArePassing p t q f → ArePassing (said_at l m p) t (queued_at l m q) f
-client-says {w} l m {p} {t} {q} ours is = record {
+client-says l m {p} {t} {q} ours is = record {
   down = λ d at e.
-      let differs = apart at (channel_of_message m) true e (sends m false ours) in
+      let differs = apart at _ true e (sends m false ours) in
       rw (unsaid_queue l m q d at differs, unsaid_history l m p d at differs) (is.down d at e);
   up = λ d at e. (said_here l m p q d at (carried_on at (t d)) (is.up d at e).0, (is.up d at e).1);
 }
@@ -115,9 +115,9 @@ client-says {w} l m {p} {t} {q} ours is = record {
 pub manager-says : {w : ℕ} (l : ℕ) (m : Message w) {p t : ℕ → History w} {q : ℕ → Channel → List (Beat w)} {f : ℕ
     → History w}
     → is_from_client (beat_of m 0) ≡ false → ArePassing p t q f → ArePassing p (said_at l m t) (queued_at l m q) f
-manager-says {w} l m {p} {t} {q} ours is = record {
+manager-says l m {p} {t} {q} ours is = record {
   up = λ d at e.
-      let differs = apart at (channel_of_message m) false e (sends m true ours) in
+      let differs = apart at _ false e (sends m true ours) in
       rw (unsaid_queue l m q d at differs, unsaid_history l m t d at differs) (is.up d at e);
   down = λ d at e. (said_here l m t q d at (carried_on at (p d)) (is.down d at e).0, (is.down d at e).1);
 }
@@ -156,8 +156,8 @@ unpopped {w} c ch queue q d at differs = grind arith
 pub client-hears : {w : ℕ} (c : ℕ) (ch : Channel) (x : Beat w) (queue : List (Beat w)) {p t : ℕ → History w} {q : ℕ
     → Channel → List (Beat w)} {f : ℕ → History w} → is_to_client ch ≡ true → IsOn ch x → q c ch ≡ x ∷ queue
     → ArePassing p t q f → ArePassing (heard_at c x p) t (popped_at c ch queue q) (heard_at c x f)
-client-hears {w} c ch x queue {p} {t} {q} {f} theirs on first is = record {
-  down = λ d at e. heard_here c ch x queue p q f d at (carried_on at (t d)) on first (is.down d at e);
+client-hears c ch x queue {p} {t} {q} {f} theirs on first is = record {
+  down = λ d at e. heard_here c ch x queue p q f d at _ on first (is.down d at e);
   up = λ d at e.
       let differs = apart at ch false e theirs in
       rw (unheard c ch x p d at on differs, unheard c ch x f d at on differs, unpopped c ch queue q d at differs)
@@ -167,8 +167,8 @@ client-hears {w} c ch x queue {p} {t} {q} {f} theirs on first is = record {
 pub manager-hears : {w : ℕ} (c : ℕ) (ch : Channel) (x : Beat w) (queue : List (Beat w)) {p t : ℕ → History w} {q : ℕ
     → Channel → List (Beat w)} {f : ℕ → History w} → is_to_client ch ≡ false → IsOn ch x → q c ch ≡ x ∷ queue
     → ArePassing p t q f → ArePassing p (heard_at c x t) (popped_at c ch queue q) (heard_at c x f)
-manager-hears {w} c ch x queue {p} {t} {q} {f} theirs on first is = record {
-  up = λ d at e. heard_here c ch x queue t q f d at (carried_on at (p d)) on first (is.up d at e);
+manager-hears c ch x queue {p} {t} {q} {f} theirs on first is = record {
+  up = λ d at e. heard_here c ch x queue t q f d at _ on first (is.up d at e);
   down = λ d at e.
       let differs = apart at ch true e theirs in
       rw (unheard c ch x t d at on differs, unheard c ch x f d at on differs, unpopped c ch queue q d at differs)

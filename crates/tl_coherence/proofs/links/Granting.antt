@@ -1,13 +1,11 @@
 -- At a Grant the client holds what it is granted.
-use Rattle.std.proofs.Common.{◌≡◌, ℕ, Bool, true, false, List, ◌∷◌, Option, Some, None, refl, sym, ◌∙◌, ap, arith}
-use Rattle.std.proofs.Common.{option_map}
+use Rattle.std.proofs.Common.{◌≡◌, ℕ, Bool, true, false, List, ◌∷◌, Some, None, refl, sym, ◌∙◌, ap, arith, option_map}
 use Rattle.tl_coherence.proofs
 use proofs.Imports.{Beat, BeatD, Link, Channel, OpD, IsWidth, Message, MessageD, d_beat_of, Config, Cap, Perm, cap_code}
 use proofs.Imports.{cap_right, held, Op, Finish, op_block, Endpoint, finish_of, grant_opcode, is_access_answer, Deliver}
 use proofs.Imports.{Outcome, Answer, Grant, Kind, Packet, ReleaseAck, AcquirePhase, Acquires, SourceState, is_on}
-use proofs.Imports.{packet, AbstractState, abstract_step, kind_taken, op_of, message_of_kind, block_message}
-use proofs.Imports.{SimulationRelation, is_caching, started, Log, system_after, Open, Requests, one_memory_after}
-use proofs.Imports.{stepped, System}
+use proofs.Imports.{packet, AbstractState, kind_taken, op_of, message_of_kind, block_message, SimulationRelation}
+use proofs.Imports.{is_caching, started, Log, system_after, Requests, one_memory_after, stepped, System}
 use proofs.memory.Coherence.{opened-started}
 use proofs.links.Ending.{IsEnding, ending}
 use proofs.client.DeliverD.{finish_at}
@@ -79,50 +77,50 @@ granted-holds {w} {config} {log} link ch h x source p op width is done asked = g
     c = link.0
 
     end : IsEnding config log link ch h x source (Finish.Granted p)
-    end = ending config log link ch h x source (Finish.Granted p) width is done
+    end = ending _ log link ch h x source _ width is done
 
     n : ℕ
     n = end.first.number
 
     tokens : (k : Kind) → end.first.kind ≡ k → (h.state.link c).d ≡ packet k n ∷ end.first.rest
-    tokens k e = end.first.tokens ∙ ap (λ (i : Kind). packet i n ∷ end.first.rest) e
+    tokens k e = end.first.tokens ∙ ap (λ i. packet i n ∷ end.first.rest) e
 
     response_is : (k : Kind) → end.first.kind ≡ k → message_of_kind k h.mail h.state c n ≡ Message.D end.response
-    response_is k e = ap (λ (i : Kind). message_of_kind i h.mail h.state c n) (sym e) ∙ end.response_is
+    response_is k e = ap (λ i. message_of_kind i h.mail h.state c n) (sym e) ∙ end.response_is
 
     grant : (e : end.first.kind ≡ Grant)
         → held (op_block op) ((stepped config (Deliver link ch) sys).after.clients c).past ≡ p
     grant e =
-        let due = grant-due (is_caching config) c n end.first.rest h.state is.invariant (tokens Grant e) in
+        let due = grant-due (is_caching config) c n _ _ is.invariant (tokens Grant e) in
         let m : MessageD w = grant_message due.data_too due.k ((h.state.block n).source c) (h.state.block n).tracker
         (h.state.block n).truth in
-        let same = same-response end.response m (sym (response_is Grant e) ∙ grant-rendered c n h.state due) in
-        let opened = opened-acquire config log h sys c source n (h.state.uses c source) is refl
-        (ap (h.state.uses c) (end.source_is ∙ ap (λ (i : MessageD w). i.source) same) ∙ due.used) in
+        let same = same-response _ m (sym (response_is Grant e) ∙ grant-rendered c n h.state due) in
+        let opened = opened-acquire _ log h sys c source n _ is refl
+        (ap (h.state.uses c) (end.source_is ∙ ap (λ i. i.source) same) ∙ due.used) in
         let op_is = same_op op _ (sym asked ∙ sym (opened-started config log c Requests source)
-        ∙ ap (λ (o : Option (Open w)). option_map (λ i. i.asked) o) opened) in
-        ap (λ (i : ℕ). held i ((stepped config (Deliver link ch) sys).after.clients c).past)
-        (ap op_block op_is ∙ acquired_block w ((h.state.block n).pair c).acquiring n ((h.state.block n).waiting c))
-        ∙ ((matched-event h (Deliver link ch) width tt is).known c).held_is n
-        ∙ ap (λ (at : Channel). (((abstract_step config (Deliver link at) sys h).state.block n).pair c).held) end.on_d
-        ∙ ap (λ (i : AbstractState w). ((i.state.block n).pair c).held) end.follows ∙ ap
-        (λ (k : Kind). (((kind_taken config (next_tracker sys) c k n end.first.rest h).state.block n).pair c).held)
-        e
-        ∙ held_granted config (next_tracker sys) end.first.rest h due ∙ sym (same_grant p (cap_right due.k)
-        (end.finish_is ∙ granted-at (d_beat_of end.response end.first.next.k) (sys.clients c) due.data_too due.k
-        (ap (λ (i : MessageD w). i.opcode) same) (ap (λ (i : MessageD w). i.param) same)))
+        ∙ ap (λ o. option_map (λ i. i.asked) o) opened) in
+        cc (
+          op_is,
+          acquired_block w ((h.state.block n).pair c).acquiring n ((h.state.block n).waiting c),
+          ((matched-event h (Deliver link ch) width tt is).known c).held_is n,
+          end.on_d,
+          end.follows,
+          e,
+          held_granted config (next_tracker sys) end.first.rest h due,
+          same_grant p (cap_right due.k) (end.finish_is ∙ granted-at _
+              (sys.clients c) due.data_too due.k (ap (λ i. i.opcode) same) (ap (λ i. i.param) same)),
+        )
 
     go : (k : Kind) → end.first.kind ≡ k → is_on Channel.D end.first.kind ≡ true
         → held (op_block op) ((stepped config (Deliver link ch) sys).after.clients c).past ≡ p
     go Grant e own = grant e
     go Answer e own =
-        let due = answer-due (is_caching config) c n end.first.rest h.mail h.state is.invariant (is.answered c n)
-        (tokens Answer e) in
-        let same = same-response end.response due.answer (sym (response_is Answer e) ∙ due.answer_is) in
+        let due = answer-due (is_caching config) c n _ h.mail _ is.invariant (is.answered c n) (tokens Answer e) in
+        let same = same-response _ _ (sym (response_is Answer e) ∙ due.answer_is) in
         absurd (answer_at (d_beat_of end.response end.first.next.k) (sys.clients c) p
-        (ap (λ (i : MessageD w). is_access_answer i.opcode) same ∙ due.answers_access) end.finish_is)
+        (ap (λ i. is_access_answer i.opcode) same ∙ due.answers_access) end.finish_is)
     go ReleaseAck e own =
         let m : MessageD w = ack_message ((h.state.block n).release_source c) in
-        absurd (ack_grants p (end.finish_is ∙ released-at (d_beat_of end.response end.first.next.k) (sys.clients c)
-        (ap (λ (i : MessageD w). i.opcode) (same-response end.response m (sym (response_is ReleaseAck e))))))
+        absurd (ack_grants p (end.finish_is ∙ released-at _ (sys.clients c)
+        (ap (λ i. i.opcode) (same-response end.response m (sym (response_is ReleaseAck e))))))
     go k e own = absurd (let f : false ≡ true = rw e at own in cc)

@@ -7,12 +7,12 @@ use proofs.Imports.{and-false, not-false, not-true, Beat, BeatB, Channel, Messag
 use proofs.Imports.{ReleaseOf, Level, Prune, Rule, block_at, is_probe, pending, Op, EndConfig, offered, Passes}
 use proofs.Imports.{must_wait, offered_as, open_level, Deliver, releases_with, is_unreleased, State, IsLet}
 use proofs.Imports.{AccessMessages, SimulationRelation, IsCoherent, started, IsExact, Moves, is_stall, is_moving, Log}
-use proofs.Imports.{system_after, Open, Releases, is_client, moves, stalls, is_movable, one_memory_after, delivered}
+use proofs.Imports.{system_after, Releases, is_client, moves, stalls, is_movable, one_memory_after, delivered}
 use proofs.Imports.{stepped_at, stepped, System, terms_at}
 use Rattle.tl_coherence.specs.statement.Delivery.{IsReleasing, is_emptiness, outcome_of_delivery}
 use Rattle.tl_client.specs.declared.operation.Op.TheVariants.{Release}
-use Rattle.tl_manager.specs.statement.Offer.{Judgement, breaks_or, waits_or, is_waiting, judged_on, judged_at}
 use Rattle.tl_manager.proofs.judging.Stalls.{never-stalled}
+use Rattle.tl_manager.specs.statement.Offer.{Judgement, breaks_or, waits_or, is_waiting, judged_on, judged_at}
 use Rattle.tl_client.specs.statement.Endpoint as client
 use Rattle.tl_client.specs.statement.Offer as offer
 use Rattle.tl_manager.specs.statement.End as manager_end
@@ -77,8 +77,7 @@ module _ {w : ℕ} {config : Config} {log : Log w} {mail : AccessMessages w} {re
 
       of_let : IsLet (Some n) ((one_memory_after config log).opened c Releases source)
           → (prune : Prune) × (started c Releases source log ≡ Some (Release n prune))
-      of_let (p, is) =
-          (p, sym (coherent.opened c Releases source) ∙ ap (λ (o : Option (Open w)). option_map (λ x. x.asked) o) is)
+      of_let (p, is) = (p, sym (coherent.opened c Releases source) ∙ ap (λ o. option_map (λ x. x.asked) o) is)
 
   pub started-releasing : IsReleasing c n log → pending (ReleaseOf n) ((system_after config log).clients c).past ≡ true
   started-releasing (source, prune, is) = go (s.lets c source) refl (matched.beside.releases c source)
@@ -101,7 +100,7 @@ module _ {w : ℕ} {config : Config} {log : Log w} {mail : AccessMessages w} {re
           let asked : option_map (λ x. x.asked) ((one_memory_after config log).opened c Releases source) ≡ Some
           (Release m p) = rw opened refl in
           let named : releases_with c source (s.block n) ≡ true = sym (matched.invariant.named.releases c source n)
-          ∙ (rw (e ∙ ap (λ (i : ℕ). Some i) (same_release m p _ _ asked asked_is refl)) (same_number n)) in
+          ∙ (rw (e ∙ ap (λ i. Some i) (same_release m p _ _ asked asked_is refl)) (same_number n)) in
           (matched.known c).releases n ∙ and_left (not (is_unreleased ((s.block n).pair c).letting)) _ named
 
 -- ---- deliveries
@@ -136,11 +135,11 @@ movable-moves {w} config log c ch exactly movable =
         → moves config o c ch beats sys ≡ true → is_moving (outcome_of_delivery config log c ch) ≡ true
     go (Some terms) e (x ∷ rest) f g =
         let is : IsExact config log c ch = exactly (ap is_some e) in
-        let same = ap (λ (o : Option EndConfig). (stepped_at config o (Deliver (record { 0 = c }) ch) sys).outcome) e in
+        let same = ap (λ o. (stepped_at config o (Deliver (record { 0 = c }) ch) sys).outcome) e in
         let some : is_emptiness (outcome_of_delivery config log c ch) ≡ false = is.empty ∙ ap is_empty f in
         let unstalled : is_stall (outcome_of_delivery config log c ch) ≡ false =
         cc (is.stalled, movable, and-false (not (is_empty (sys.channels c ch)))) in
-        ap is_moving same ∙ moving-else config terms c ch (sys.channels c ch) sys (sym (ap is_emptiness same) ∙ some)
+        ap is_moving same ∙ moving-else config terms c ch _ sys (sym (ap is_emptiness same) ∙ some)
         (sym (ap is_stall same) ∙ unstalled)
     go o e beats f g = absurd cc
 
@@ -169,20 +168,18 @@ module _ {w : ℕ} {config : Config} {log : Log w} {mail : AccessMessages w} {re
 
   moves-exactly : (ch : Channel) (x : Beat w) (rest : List (Beat w)) → (system_after config log).channels c ch
       ≡ x ∷ rest → IsFirst config terms c ch x (system_after config log) → Moves config log c x
-  moves-exactly Channel.A (Beat.A y) rest e first =
-      movable-is Channel.A (Beat.A y) rest e ∙ ap not (stalled-as-it-must config (record { 0 = c }) Channel.A (Beat.A y)
-      (system_after config log).manager (first.taken.1 refl))
-  moves-exactly Channel.C (Beat.C y) rest e first = movable-is Channel.C (Beat.C y) rest e
+  moves-exactly Channel.A (Beat.A y) rest e first = movable-is Channel.A _ rest e ∙ ap not (stalled-as-it-must config
+      (record { 0 = c }) Channel.A (Beat.A y) (system_after config log).manager (first.taken.1 refl))
+  moves-exactly Channel.C (Beat.C y) rest e first = movable-is Channel.C _ rest e
       ∙ ap not (never-stalled config (record { 0 = c }) Channel.C (Beat.C y) (system_after config log).manager refl)
-  moves-exactly Channel.E (Beat.E y) rest e first = movable-is Channel.E (Beat.E y) rest e
+  moves-exactly Channel.E (Beat.E y) rest e first = movable-is Channel.E _ rest e
       ∙ ap not (never-stalled config (record { 0 = c }) Channel.E (Beat.E y) (system_after config log).manager refl)
-  moves-exactly Channel.D (Beat.D y) rest e first =
-      movable-is Channel.D (Beat.D y) rest e ∙ ap not
-      (stalled-as-it-waits terms Channel.D (Beat.D y) ((system_after config log).clients c) (first.taken.0 refl))
+  moves-exactly Channel.D (Beat.D y) rest e first = movable-is Channel.D _ rest e ∙ ap not (stalled-as-it-waits terms
+      Channel.D (Beat.D y) ((system_after config log).clients c) (first.taken.0 refl))
   moves-exactly Channel.B (Beat.B y) rest e first =
       let waits : is_movable config c Channel.B (system_after config log)
       ≡ not (pending (ReleaseOf (block_at y.address)) ((system_after config log).clients c).past) =
-      movable-is Channel.B (Beat.B y) rest e ∙ ap not (stalled-as-it-waits terms Channel.B (Beat.B y)
+      movable-is Channel.B _ rest e ∙ ap not (stalled-as-it-waits terms Channel.B (Beat.B y)
       ((system_after config log).clients c) (first.taken.0 refl) ∙ rw (first.probes y refl) refl) in
       let there : is_movable config c Channel.B (system_after config log) ≡ false → IsReleasing c
       (block_at y.address) log = λ h. releasing-started matched coherent c (block_at y.address) (not-false _ (cc)) in

@@ -44,9 +44,9 @@ asking-served request {s} c source n tracker (Waits q own src k) inv f for ungra
     go true g =
         let waits_so : (s.block n).service ≡ Waits c true source k = f ∙ rw (q_is, src_is, g) refl in
         let own_view : view (s.block n).service c ≡ Own = rw (waits_so, same_number c) refl in
-        let wants = not-calm ((s.block n).pair c).acquiring (own_wants ((s.block n).pair c) (view (s.block n).service c)
+        let wants = not-calm _ (own_wants ((s.block n).pair c) (view (s.block n).service c)
         ((inv.blocks n).phases c) own_view) in
-        let used = acquires_of-is n (s.uses c source) (inv.named.acquires c source n
+        let used = acquires_of-is n _ (inv.named.acquires c source n
         ∙ rw (wants, ← (rw waits_so at (inv.blocks n).own_source), same_number source) refl) in
         rw (used, own_view) refl
     go false g =
@@ -116,8 +116,7 @@ sources-traced {w} {X} {caching} {config} {request} {s} {e} inv kept is c source
     at_block n v (Waits r own src k) f found asks granted =
         let v_is = some_is (at_service r (s.block n).tracker (request n)) v found in
         let here : is_asking c source t (at_service r (s.block n).tracker (request n)) ≡ true = cc (v_is, asks) in
-        asking-served request c source n (s.block n).tracker (Waits r own src k) inv f
-        (rw f at (is.requests n)) refl r refl
+        asking-served request c source n (s.block n).tracker _ inv f (rw f at (is.requests n)) refl r refl
         (and_left (r == c) _ here) (and_left ((request n).source == source) _ (and_right (r == c) _ here))
     at_block n v (GrantSent q d k) f found asks granted = absurd (ungranted v asks granted)
       where
@@ -136,21 +135,19 @@ sources-traced {w} {X} {caching} {config} {request} {s} {e} inv kept is c source
 
     asking : is_any (is_asking c source t) (services t) ≡ true → is_served c (s.uses c source) s ≡ true
     asking any =
-        let one = any-found (is_asking c source t) (services t) kept.blocks_apart any in
-        at_block one.block one.service (s.block one.block).service refl (sym (is.serving_is one.block) ∙ one.serves)
-        one.passes
+        let one = any-found (is_asking c source t) _ kept.blocks_apart any in
+        at_block one.block _ _ refl (sym (is.serving_is one.block) ∙ one.serves) one.passes
         (granted-is inv kept is one.block one.service one.serves)
 
     serving_it : is_served c (s.uses c source) s ≡ true → is_any (is_asking c source t) (services t) ≡ true
     serving_it served =
-        let one = served-waits c source (s.uses c source) inv refl served in
+        let one = served-waits c source _ inv refl served in
         let v : manager.Service w = at_service c (s.block one.block).tracker (request one.block) in
         let found : service_of_block one.block (services t) ≡ Some v = is.serving_is one.block ∙ rw one.waits_so refl in
         let for : IsFor (Waits c one.own source one.cap) one.block (request one.block) =
         rw one.waits_so at (is.requests one.block) in
         let granted : waits.is_granted t v ≡ false = granted-is inv kept is one.block v found ∙ rw one.waits_so refl in
-        any-of one.block (is_asking c source t) (services t) v found
-        (rw (same_number c, for.1, same_number source, granted) refl)
+        any-of one.block (is_asking c source t) _ v found (rw (same_number c, for.1, same_number source, granted) refl)
 
 -- ---- sinks
 
@@ -166,14 +163,12 @@ granted-to c (Waits r own source k) e =
     ≡ true → ⊥ = elim [ true ↦ λ g. cc | false ↦ λ g. cc ] in
     absurd (never (own && (c == r)) e)
 granted-to c (GrantSent q d k) e =
-    let own : (b : Bool) → (is_granting (if b then Granting d k else GrantedOther) || is_acknowledging
-    (if b then Granting d k else GrantedOther)) ≡ true → b ≡ true =
-    elim [ true ↦ λ g. refl | false ↦ λ g. absurd cc ] in
+    let own : (b : Bool) → (is_granting (if b then Granting d k else GrantedOther) || is_acknowledging (if b then
+    Granting d k else GrantedOther)) ≡ true → b ≡ true = elim [ true ↦ λ g. refl | false ↦ λ g. absurd cc ] in
     let same = eqb-true c q (own (c == q) e) in (refl, rw same refl)
 granted-to c (GrantTaken q) e =
-    let own : (b : Bool) → (is_granting (if b then Acknowledging else GrantedOther) || is_acknowledging
-    (if b then Acknowledging else GrantedOther)) ≡ true → b ≡ true =
-    elim [ true ↦ λ g. refl | false ↦ λ g. absurd cc ] in
+    let own : (b : Bool) → (is_granting (if b then Acknowledging else GrantedOther) || is_acknowledging (if b then
+    Acknowledging else GrantedOther)) ≡ true → b ≡ true = elim [ true ↦ λ g. refl | false ↦ λ g. absurd cc ] in
     let same = eqb-true c q (own (c == q) e) in (refl, rw same refl)
 
 to-granted : (c : ℕ) (service : Service) → is_granted_in service ≡ true → client_in service ≡ Some c
@@ -199,34 +194,32 @@ sinks-traced {w} {request} {s} {e} inv kept is c sink = one_truth _ _ granted_wi
         → service_with o tracker m ≡ Some v → (o ≡ Some v.link.0) × (v.tracker ≡ tracker)
     client_of None tracker m v f = absurd cc
     client_of (Some r) tracker m v f = let v_is = some_is (at_service r tracker m) v f in
-        (ap (λ (u : manager.Service w). Some u.link.0) v_is, sym (ap (λ (u : manager.Service w). u.tracker) v_is))
+        (ap (λ u. Some u.link.0) v_is, sym (ap (λ u. u.tracker) v_is))
 
     granted_with : is_any (is_granted_with c sink t) (services t) ≡ true → is_granted c (s.tracked sink) s ≡ true
     granted_with any =
-        let one = any-found (is_granted_with c sink t) (services t) kept.blocks_apart any in
+        let one = any-found (is_granted_with c sink t) _ kept.blocks_apart any in
         let n : ℕ = one.block in
         let v : manager.Service w = one.service in
         let yes = and_right (v.tracker == sink) _ (and_right (v.link.0 == c) _ one.passes) in
         let granted : is_granted_in (s.block n).service ≡ true = sym (granted-is inv kept is n v one.serves) ∙ yes in
-        let of = client_of (client_in (s.block n).service) (s.block n).tracker (request n) v
-        (sym (is.serving_is n) ∙ one.serves) in
+        let of = client_of _ _ _ v (sym (is.serving_is n) ∙ one.serves) in
         let tracker_is : sink ≡ (s.block n).tracker = sym (eqb-true v.tracker sink
         (and_left (v.tracker == sink) _ (and_right (v.link.0 == c) _ one.passes))) ∙ of.1 in
-        ap (λ (o : Option ℕ). is_granted c o s) (is_of-is n (s.tracked sink) (inv.named.trackers sink n
+        ap (λ o. is_granted c o s) (is_of-is n (s.tracked sink) (inv.named.trackers sink n
         ∙ rw (busy-granted (s.block n).service granted, ← tracker_is, same_number sink) refl)) ∙ to-granted c
-        (s.block n).service granted
-        (of.0 ∙ ap Some (eqb-true v.link.0 c (and_left (v.link.0 == c) _ one.passes)))
+        (s.block n).service granted (of.0 ∙ ap Some (eqb-true v.link.0 c (and_left (v.link.0 == c) _ one.passes)))
 
     with_granted : (o : Option ℕ) → s.tracked sink ≡ o → is_granted c o s ≡ true
         → is_any (is_granted_with c sink t) (services t) ≡ true
     with_granted None f g = absurd cc
     with_granted (Some n) f g =
-        let to = granted-to c (s.block n).service g in
+        let to = granted-to c _ g in
         let v : manager.Service w = at_service c (s.block n).tracker (request n) in
         let found : service_of_block n (services t) ≡ Some v = cc (is.serving_is n, to.1) in
         let number = eqb-true sink (s.block n).tracker (and_right (is_busy (s.block n).service)
         (sink == (s.block n).tracker) (sym (inv.named.trackers sink n) ∙ rw (f, same_number n) refl)) in
-        any-of n (is_granted_with c sink t) (services t) v found
+        any-of n (is_granted_with c sink t) _ v found
         (rw (same_number c, granted-is inv kept is n v found ∙ to.0, ← number, same_number sink) refl)
 
 -- ---- all of it
@@ -242,22 +235,21 @@ request-with : {w : ℕ} (service : Service) (tracker : ℕ) (m : MessageA w) (v
     → service_with (client_in service) tracker m ≡ Some v → (v.request ≡ m) × (service ≡ Free → ⊥)
 request-with Free tracker m v f = absurd (let no : None ≡ Some v = f in cc)
 request-with {w} (Waits r own source k) tracker m v f =
-    (sym (ap (λ (u : manager.Service w). u.request) (some_is (at_service r tracker m) v f)), λ e. cc)
+    (sym (ap (λ u. u.request) (some_is (at_service r tracker m) v f)), λ e. cc)
 request-with {w} (GrantSent q d k) tracker m v f =
-    (sym (ap (λ (u : manager.Service w). u.request) (some_is (at_service q tracker m) v f)), λ e. cc)
+    (sym (ap (λ u. u.request) (some_is (at_service q tracker m) v f)), λ e. cc)
 request-with {w} (GrantTaken q) tracker m v f =
-    (sym (ap (λ (u : manager.Service w). u.request) (some_is (at_service q tracker m) v f)), λ e. cc)
+    (sym (ap (λ u. u.request) (some_is (at_service q tracker m) v f)), λ e. cc)
 
 probes-traced : {w : ℕ} {X : Type 0} {caching : ℕ → Bool} {config : Config} {request : ℕ → MessageA w} {s : State X}
     {e : End w} → IsInvariant caching s → IsKept config e → IsTraced request s e.trace
     → (c n : ℕ) → is_unprobed ((s.block n).pair c).probing ≡ false
     → probe_of n (on_link c e.trace) ≡ Some (probe_beat n (cap_waited (s.block n).service))
-probes-traced {w} {X} {caching} {config} {request} {s} {e} inv kept is c n sent =
+probes-traced {request} {s} {e} inv kept is c n sent =
     let probed : IsProbed c n e.trace = (kept.steady.accounted.blocks n).probes c (is.probes c n ∙ ap not sent) in
-    let of = request-with (s.block n).service (s.block n).tracker (request n) probed.service
-    (sym (is.serving_is n) ∙ probed.serves) in
+    let of = request-with _ _ _ _ (sym (is.serving_is n) ∙ probed.serves) in
     let caps : cap_probed (request n).opcode (request n).param ≡ Some probed.cap = rw (← of.0) probed.caps in
-    probed.probe ∙ ap (λ (k : Cap). Some (probe_beat n k)) (cap-of (s.block n).service n (request n) probed.cap
+    probed.probe ∙ ap (λ k. Some (probe_beat n k)) (cap-of (s.block n).service n (request n) probed.cap
     (is.requests n) (sym (granted-is inv kept is n probed.service probed.serves) ∙ probed.unanswered) of.1 caps)
 
 pub are_served-traced : {w : ℕ} {X : Type 0} {caching : ℕ → Bool} {config : Config} {request : ℕ → MessageA w}

@@ -9,7 +9,7 @@ use proofs.Imports.{service_of_block, services, IsAwaited, IsInvariant, Acknowle
 use proofs.Imports.{Granting, Other, Own, View, is_unprobed, ok, Free, GrantSent, GrantTaken, Service, State, Waits}
 use proofs.Imports.{view, ManagerRelation, client_in, is_own, service_with, IsFor}
 use Rattle.tl_manager.{proofs.pending.Settled.all-settled, proofs.services.Serving.none_of_block}
-use Rattle.tl_manager.specs.laws.Pending.{is_acquiring, is_granted_to, is_awaited}
+use Rattle.tl_manager.specs.laws.Pending.{is_acquiring, is_awaited}
 use Rattle.tl_manager.specs.laws.Pending as waits
 use Rattle.tl_manager.specs.statement.Service as manager
 use proofs.queues.{Facts.is_other, Phases.each_phase, Phases.of_phase, Tokens.same_number, Tokens.if-part}
@@ -19,7 +19,7 @@ use proofs.queues.{Facts.is_other, Phases.each_phase, Phases.of_phase, Tokens.sa
 pub any-of : {w : ℕ} (n : ℕ) (test : manager.Service w → Bool) (ss : List (manager.Service w)) (v : manager.Service w)
     → service_of_block n ss ≡ Some v → test v ≡ true → is_any test ss ≡ true
 any-of n test [] v e f = absurd cc
-any-of {w} n test (s ∷ ss) v e f = go (block_at s.request.address == n) (λ g. any-of n test ss v g f) e
+any-of n test (s ∷ ss) v e f = go (block_at s.request.address == n) (λ g. any-of n test ss v g f) e
   where
     go : (b : Bool) → (service_of_block n ss ≡ Some v → is_any test ss ≡ true)
         → (if b then Some s else service_of_block n ss) ≡ Some v → (test s || is_any test ss) ≡ true
@@ -128,7 +128,7 @@ granted-is {w} {X} {config} {s} {e} inv kept is n v found = go (s.block n).servi
         let no : Some v ≡ None = sym found ∙ none in cc)
     go (Waits r own source k) f =
         let someone : IsAwaited (Waits r own source k) (s.block n).pair = rw f at (inv.blocks n).awaited in
-        waiting (Waits r own source k) f someone refl (λ g. cc)
+        waiting _ f someone refl (λ g. cc)
     go service f = granted (rw f refl)
 
 -- what a service says of the client whose request it is, and of another
@@ -158,7 +158,7 @@ managed-traced {w} {X} {caching} {config} {request} {s} {e} inv kept is = record
   recorded_is = is.recorded_is;
   probes = is.probes;
   acquires = λ c n. (kept.steady.accounted.blocks n).acquires c ∙ ap (is_acquiring c e.trace) (is.serving_is n)
-      ∙ acquiring-is c n (s.block n).tracker (request n) e.trace (s.block n).service (is.requests n) (granted n);
+      ∙ acquiring-is c n _ _ e.trace _ (is.requests n) (granted n);
   serving_is = is.serving_is;
 }
   where
@@ -210,8 +210,7 @@ traced-at {w} {X} {n} {s} {u} at is = record {
         rw same (at.asked_here r source own k here)
     | inr other ↦
         let before : (s.block i).service ≡ Waits r own source k = cc (at.other_blocks i other, e) in
-        at.asked_else i r source own k other before ∙ is.asked i r source own k before ∙ ap
-        (λ (m : MessageA w). Some (a_beat_of m 0)) (sym (at.other_requests i other))
+        cc (at.asked_else i r source own k other before, is.asked i r source own k before, at.other_requests i other)
   ];
 }
 
@@ -245,12 +244,12 @@ same_waits service after r source own k e f = grind arith
 
 pub traced-same : {w : ℕ} {X : Type 0} {request : ℕ → MessageA w} {s u : State X} {t : Trace w} → IsSameToManager s u
     → IsTraced request s t → IsTraced request u t
-traced-same {w} {X} {request} {s} {u} same is = record {
+traced-same {request} {s} {u} same is = record {
   recorded_is = λ c n. is.recorded_is c n ∙ sym (same.recorded_same c n);
   probes = λ c n. is.probes c n ∙ ap not (sym (same.quiet_same c n));
   serving_is = λ n. is.serving_is n ∙ ap₂ (λ (o : Option ℕ) (i : ℕ). service_with o i (request n))
       (sym (same_client (s.block n).service (u.block n).service (same.service_same n))) (sym (same.tracker_same n));
-  requests = λ n. same_for (s.block n).service (u.block n).service n (request n) (same.service_same n) (is.requests n);
+  requests = λ n. same_for _ _ n _ (same.service_same n) (is.requests n);
   asked = λ n r source own k e. is.asked n r source own k (same_waits (s.block n).service (u.block n).service r source
       own k (same.service_same n) e);
 }

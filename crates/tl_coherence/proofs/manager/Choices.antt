@@ -31,10 +31,10 @@ nobody-some config test = go (some_below (length config.clients.items) test) ref
     go : (b : Bool) → some_below (length config.clients.items) test ≡ b → (x : Bool)
         → is_nobody (clients_where config test) ≡ x → x ≡ not b
     go true e true f =
-        let one = some-found (length config.clients.items) test e in
+        let one = some-found _ test e in
         let among : is_one_of one.0 (clients_where config test) ≡ true =
         among-where config test one.0 ∙ rw (lt-ltb one.0 (length config.clients.items) one.1, one.2) refl in
-        let none = nobody-is (clients_where config test) f one.0 in
+        let none = nobody-is _ f one.0 in
         absurd cc
     go true e false f = refl
     go false e x f = sym f ∙ (nobody-where config test).1 (some-none (length config.clients.items) test e)
@@ -61,8 +61,8 @@ pub waits-used : {X : Type 0} {caching : ℕ → Bool} {s : State X} (n r source
     → s.uses r source ≡ (if own then Acquires n else InService n)
 waits-used {s} n r source true k inv e =
     let sourced : IsOwnSource (Waits r true source k) (s.block n).source = rw e at (inv.blocks n).own_source in
-    let wants = not-calm ((s.block n).pair r).acquiring (own_wants ((s.block n).pair r) (view (s.block n).service r)
+    let wants = not-calm _ (own_wants ((s.block n).pair r) (view (s.block n).service r)
     ((inv.blocks n).phases r) (rw (e, same_number r) refl)) in
-    acquires_of-is n (s.uses r source) (inv.named.acquires r source n ∙ rw (wants, ← sourced, same_number source) refl)
+    acquires_of-is n _ (inv.named.acquires r source n ∙ rw (wants, ← sourced, same_number source) refl)
 waits-used {s} n r source false k inv e =
-    serves_of-is n (s.uses r source) (inv.named.serves r source n ∙ rw (e, same_number r, same_number source) refl)
+    serves_of-is n _ (inv.named.serves r source n ∙ rw (e, same_number r, same_number source) refl)

@@ -57,15 +57,14 @@ given-records {w} {q} {n} {m} {u} is d i = go (q == d) refl
 pub pair-over : {X A : Type 0} (part : ClientBlock → A) (q n : ℕ) (p : ClientBlock) (new mid : Block X) (block : ℕ
     → Block X) → ((d : ℕ) → new.pair d ≡ set q p mid.pair d) → (d i : ℕ)
     → part ((set n new block i).pair d) ≡ (if (q == d) && (n == i) then part p else part ((set n mid block i).pair d))
-pair-over {X} {A} part q n p new mid block is d i =
+pair-over part q n p new mid block is d i =
     let never : (b : Bool) → part ((block i).pair d) ≡ (if b && false then part p else part ((block i).pair d)) =
     elim [ true ↦ refl | false ↦ refl ] in
     elim (cases_eq i n) [
       | inl same ↦ rw (same, set-same n new block, set-same n mid block, same_number n, is d) (elim (cases_eq d q) [
         | inl mine ↦ rw (mine, set-same q p mid.pair, same_number q) refl
         | inr apart ↦ let differ : q ≡ d → ⊥ = λ e. apart (sym e) in
-            rw (set-other q d p mid.pair apart, ne_eqb q d differ)
-            refl
+            rw (set-other q d p mid.pair apart, ne_eqb q d differ) refl
       ])
       | inr other ↦ let differ : n ≡ i → ⊥ = λ e. other (sym e) in
           rw (set-other n i new block other, set-other n i mid block other, ne_eqb n i differ) (never (q == d))
@@ -76,7 +75,7 @@ pair-over {X} {A} part q n p new mid block is d i =
 -- the tracker of a block that is in service is of the block, and no other one is
 pub tracker-of : {X : Type 0} (n : ℕ) {s : State X} → AreNamed s → is_busy (s.block n).service ≡ true
     → s.tracked (s.block n).tracker ≡ Some n
-tracker-of n {s} named busy = is_of-is n (s.tracked (s.block n).tracker) (named.trackers (s.block n).tracker n
+tracker-of n {s} named busy = is_of-is n _ (named.trackers (s.block n).tracker n
     ∙ rw (busy, same_number (s.block n).tracker) refl)
 
 -- ---- the answer
@@ -111,13 +110,12 @@ traced-ended {w} {X} {request} {c} {q} {n} {r} f rest {x} {m} {s} {t} is known =
     λ i p source own cap. set-each (λ j z. z.service ≡ Waits p own source cap → request_of source (on_link p t)
     ≡ Some (a_beat_of (request j) 0)) n new s.block (λ e. absurd cc) (λ j ne. known.asked j p source own cap) i in
     record {
-      recorded_is = λ d i. recorded-answer (record { 0 = q }) m u is.reply.width is.reply.whole
+      recorded_is = λ d i. recorded-answer _ m u is.reply.width is.reply.whole
           (answer_kind m.opcode is.answers) d i ∙ reported-records r new is.last (λ j. refl) known d i;
-      probes = λ d i. reply-quiet (Key.ProbeOf i) (record { 0 = q }) m u d is.reply.width is.reply.whole
+      probes = λ d i. reply-quiet (Key.ProbeOf i) _ m u d is.reply.width is.reply.whole
           (λ e. (refl, refl)) ∙ reported-missing r new is.last is.report (λ j. refl) known d i;
       serving_is = λ i. ap (service_of_block i) (services-answer n (service_for q n request s) m u is.reply is.answers
-          is.access is.accounted) ∙ serving-without n i (services u)
-          ∙ elim (cases_eq n i) [
+          is.access is.accounted) ∙ serving-without n i (services u) ∙ elim (cases_eq n i) [
             | inl same ↦ rw (← same, same_number n) refl
             | inr apart ↦ rw (ne_eqb n i apart, ne_eqb i n (λ e. apart (sym e)))
                 (ap (service_of_block i) (quiet-c (record { 0 = c }) x t).serves ∙ known.serving_is i)
@@ -175,8 +173,7 @@ traced-conceded {w} {X} {request} {c} {q} {n} {gift} {r} dt rest {x} {m} {s} {t}
           ∙ sym (pair-over (λ p. not (is_unprobed p.probing)) q n gives new mid s.block (λ j. refl) d i
           ∙ probing_same d i ((q == d) && (n == i)) refl);
       serving_is = λ i. ap (service_of_block i) (services-grant (record { 0 = q }) m u given.width given.whole
-          given.grants ∙ (quiet-c (record { 0 = c }) x t).serves) ∙ known.serving_is i
-          ∙ sym (elim (cases_eq i n) [
+          given.grants ∙ (quiet-c (record { 0 = c }) x t).serves) ∙ known.serving_is i ∙ sym (elim (cases_eq i n) [
             | inl same ↦ rw (same, set-same n new s.block, is.waits) refl
             | inr other ↦ rw (set-other n i new s.block other) refl
           ]);
@@ -232,7 +229,7 @@ serving-acked : {w : ℕ} {X : Type 0} {c n : ℕ} {x : BeatE} {request : ℕ �
     → (service_of_block i (services (acked c x t)) ≡ (if i == n then None else service_of_block i (services t)))
 serving-acked {w} {c} {n} {x} {request} {s} {t} is known i =
     let passed : service_of_block i (services (acked c x t)) ≡ if_passes keeps (service_of_block i (services t)) =
-    ap (service_of_block i) (services-e (record { 0 = c }) x t) ∙ serving-filter i keeps (services t) is.apart in
+    ap (service_of_block i) (services-e (record { 0 = c }) x t) ∙ serving-filter i keeps _ is.apart in
     passed ∙ elim (cases_eq i n) [
       | inl same ↦ rw (same, known.serving_is n, is.taken)
           (rw (same_number c, is.acquires, is.sink_is, same_number (s.block n).tracker, same_number n) refl)
@@ -275,10 +272,10 @@ traced-acked {X} {request} {c} {n} rest {x} {s} {t} is known =
     s.block (λ e. absurd cc) (λ j ne. known.asked j p from own low) i in
     record {
       recorded_is = λ d i. beat-keeps (held i) d (record { 0 = c }) (Beat.E x) t (λ h. held_unsaid i (Beat.E x) h refl)
-          ∙ known.recorded_is d i ∙ sym (set-part (λ (b : Block X). (b.pair d).recorded) n new s.block refl i);
+          ∙ known.recorded_is d i ∙ sym (set-part (λ b. (b.pair d).recorded) n new s.block refl i);
       probes = λ d i. beat-keeps (pending (Key.ProbeOf i)) d (record { 0 = c }) (Beat.E x) t
           (λ h. pending-quiet (Key.ProbeOf i) (Beat.E x) h refl refl) ∙ known.probes d i
-          ∙ sym (set-part (λ (b : Block X). not (is_unprobed (b.pair d).probing)) n new s.block refl i);
+          ∙ sym (set-part (λ b. not (is_unprobed (b.pair d).probing)) n new s.block refl i);
       serving_is = λ i. serving-acked is known i ∙ elim (cases_eq i n) [
         | inl same ↦ rw (same, set-same n new s.block, same_number n) refl
         | inr other ↦ rw (set-other n i new s.block other, ne_eqb i n other) (known.serving_is i)

@@ -1,8 +1,8 @@
 -- The service that the last report of a block settles.
 -- All that is kept of the manager's end, after the last ProbeAck that a request waited for.
 -- What the manager hands out at a beat of channel C or E: the messages of the tokens that the protocol pushes.
-use Rattle.std.proofs.Common.{◌≡◌, ℕ, Bool, true, false, not, List, [], ◌∷◌, Some, refl, sym, ◌∙◌, ap, ap₂, subst}
-use Rattle.std.proofs.Common.{arith, length}
+use Rattle.std.proofs.Common.{◌≡◌, ℕ, Bool, true, false, not, List, [], ◌∷◌, Some, refl, sym, ◌∙◌, ap, subst, arith}
+use Rattle.std.proofs.Common.{length}
 use Rattle.tl_coherence.proofs
 use proofs.Imports.{Beat, BeatC, Channel, Message, MessageA, MessageC, MessageD, c_beat_of, Config, Cap, Grow, Report}
 use proofs.Imports.{Perm, cap_code, cap_right, grow_code, report_code, report_left, report_right, Trace, same_perm}
@@ -46,12 +46,12 @@ trace_with c k m e = endings.taken c (c_beat_of m k) e.trace
 pub settling-last : {w : ℕ} {config : Config} {c q n source k : ℕ} {own : Bool} {low : Cap} {r : Report}
     {m : MessageC w} {h : AbstractState w} {e : End w} → IsSettling config c q n source k own low r m h e
     → IsLastOf c n (report_right r) (c_beat_of m k) e.trace
-settling-last {c} {n} {k} {r} {m} {h} {e} at = last-of (report_right r) at.end (reported-report r)
+settling-last {r} at = last-of _ at.end (reported-report r)
 
 settling-all : {w : ℕ} {config : Config} {c q n source k : ℕ} {own : Bool} {low : Cap} {r : Report} {m : MessageC w}
     {h : AbstractState w} {e : End w}
     → IsSettling config c q n source k own low r m h e → is_settled config n (trace_with c k m e) ≡ true
-settling-all {config} {c} {q} {n} {source} {k} {own} {low} {r} {m} {h} {e} at =
+settling-all {config} {h} {e} at =
     settled-is config h e (settling-last at) at.end.about.reports at.is.traced ∙ ap not at.alone
 
 settling-found : {w : ℕ} {config : Config} {c q n source k : ℕ} {own : Bool} {low : Cap} {r : Report} {m : MessageC w}
@@ -62,12 +62,12 @@ settling-found {c} {n} {k} {m} {e} at = grind (arith, quiet-c)
 pub settling-ready : {w : ℕ} {config : Config} {c q n source k : ℕ} {own : Bool} {low : Cap} {r : Report}
     {m : MessageC w} {h : AbstractState w} {e : End w} → IsSettling config c q n source k own low r m h e
     → IsReady config n (service_for q n h.request h.state) (trace_with c k m e)
-settling-ready {w} {config} {c} {q} {n} {source} {k} {own} {low} {r} {m} {h} {e} at = rw at.end.about.block at
+settling-ready {config} {c} {q} {n} {k} {m} {h} {e} at = rw at.end.about.block at
     (report-ready config (record { 0 = c }) (c_beat_of m k) (service_for q n h.request h.state) e
     (is_taken config (record { 0 = c }) (Beat.C (c_beat_of m k)) e at.end.width (passed config
     (record { 0 = c }) Channel.C (Beat.C (c_beat_of m k)) e tt at.up.passes) at.is.manager_kept) at.end.about.reports
-    (ap (λ (i : ℕ). service_of_block i (services (trace_with c k m e))) at.end.about.block ∙ settling-found at)
-    (ap (λ (i : ℕ). is_settled config i (trace_with c k m e)) at.end.about.block ∙ settling-all at))
+    (ap (λ i. service_of_block i (services (trace_with c k m e))) at.end.about.block ∙ settling-found at)
+    (ap (λ i. is_settled config i (trace_with c k m e)) at.end.about.block ∙ settling-all at))
 
 pub settling-reaction : {w : ℕ} {config : Config} {c q n source k : ℕ} {own : Bool} {low : Cap} {r : Report}
     {m : MessageC w} {h : AbstractState w} {e : End w} → IsSettling config c q n source k own low r m h e
@@ -75,15 +75,15 @@ pub settling-reaction : {w : ℕ} {config : Config} {c q n source k : ℕ} {own 
     (service_for q n h.request h.state) (trace_with c k m e) (memory_with (record { 0 = c }) (c_beat_of m k) e)
 settling-reaction {config} {c} {q} {n} {k} {m} {h} {e} at = cc (reaction-settled config (record { 0 = c })
     (c_beat_of m k) (service_for q n h.request h.state) e (ends-it at.end) at.end.about.releases at.end.about.reports
-    (ap (λ (i : ℕ). is_settled config i (trace_with c k m e)) at.end.about.block ∙ settling-all at)
-    (ap (λ (i : ℕ). service_of_block i (services (trace_with c k m e))) at.end.about.block ∙ settling-found at))
+    (ap (λ i. is_settled config i (trace_with c k m e)) at.end.about.block ∙ settling-all at)
+    (ap (λ i. service_of_block i (services (trace_with c k m e))) at.end.about.block ∙ settling-found at))
 
 -- the request is lawful
 pub settling-lawful : {w : ℕ} {config : Config} {c q n source k : ℕ} {own : Bool} {low : Cap} {r : Report}
     {m : MessageC w} {h : AbstractState w} {e : End w} → IsSettling config c q n source k own low r m h e
     → IsPerformable config (service_for q n h.request h.state)
-settling-lawful {config} {q} {n} {h} {e} at = of_served (IsPerformable config) n (services e.trace)
-    (service_for q n h.request h.state) (at.is.traced.serving_is n ∙ rw at.waits refl) at.is.manager_kept.requests
+settling-lawful {config} {n} {e} at = of_served (IsPerformable config) n _
+    _ (at.is.traced.serving_is n ∙ rw at.waits refl) at.is.manager_kept.requests
 
 pub settling-for : {w : ℕ} {config : Config} {c q n source k : ℕ} {own : Bool} {low : Cap} {r : Report} {m : MessageC w}
     {h : AbstractState w} {e : End w}
@@ -95,7 +95,7 @@ pub settling-reply : {w : ℕ} {config : Config} {c q n source k : ℕ} {own : B
     {m : MessageC w} (i : MessageD w) {h : AbstractState w} {e : End w}
     → IsSettling config c q n source k own low r m h e → i.source ≡ (h.request n).source
     → is_release_ack i.opcode ≡ false → IsReply n (service_for q n h.request h.state) i (trace_with c k m e)
-settling-reply {config} {c} {q} {n} {source} {k} {own} {low} {r} {m} i {h} {e} at source_is other =
+settling-reply {q} {source} i at source_is other =
     let ready = settling-ready at in
     record {
       width = at.end.width;
@@ -134,12 +134,10 @@ pub reaction-ended : {w : ℕ} {config : Config} {c q n source k : ℕ} {low : C
       ) ∷ [];
       memory = (effect (Message.A (h.request n)) (memory_with (record { 0 = c }) (c_beat_of m k) e)).0;
     }
-reaction-ended {w} {config} {c} {q} {n} {source} {k} {low} {r} {m} {h} {e} at =
+reaction-ended {config} {c} {q} {n} {k} {m} {h} {e} at =
     let for = settling-for at in
     let memory = memory_with (record { 0 = c }) (c_beat_of m k) e in
-    settling-reaction at ∙ performed-access config
-    (service_for q n h.request h.state) (trace_with c k m e) memory for.0
-    ∙ ap (λ (i : Message w). record {
+    settling-reaction at ∙ performed-access config _ (trace_with c k m e) memory for.0 ∙ ap (λ i. record {
       handed = (record { 0 = q }, i) ∷ [];
       memory = (effect (Message.A (h.request n)) memory).0;
     })
@@ -176,9 +174,9 @@ ended-left {w} {config} {c} {q} {n} {source} {k} {low} {r} rest {m} {h} {e} at =
     } in
     let still = set-each (λ i z. IsServedWith h.mail z.service (h.request i)) n new h.state.block tt
     (λ i ne. at.is.served_with i) in
-    subst (λ (d : Reaction w). IsManagerOf config (with_answer q source said (with_state after h))
+    subst (λ d. IsManagerOf config (with_answer q source said (with_state after h))
     (left c (Beat.C x) d e)) (sym done) (record {
-      traced = subst (λ (i : Message w). IsTraced h.request after (with_handed ((record { 0 = q }, i) ∷ [])
+      traced = subst (λ i. IsTraced h.request after (with_handed ((record { 0 = q }, i) ∷ [])
           (trace_with c k m e))) (sym reply.1) (traced-ended (performs (h.request n)) rest ending at.is.traced);
       served_with = λ i. still i;
       manager_kept = kept-left x does at.end.width at.up done at.is.manager_kept;
@@ -197,7 +195,7 @@ grant-made : {w : ℕ} (config : Config) (q n tracker : ℕ) (v : MessageA w) (t
     → block_at v.address ≡ n → holders.is_unheld config n t ≡ unheld → recorded q n t ≡ p
     → grant config (record { tracker = tracker; link = record { 0 = q }; request = v }) t memory ≡ grant_of
     (GrantSent q (is_granted_data whole g p) (gift config.profile whole g unheld)) v.source tracker (block_in memory n)
-grant-made {w} config q n tracker v t memory whole g unheld p opcode param block none held_is =
+grant-made config q n tracker v t memory whole g unheld p opcode param block none held_is =
     let go : (d : Bool) → handing.grant_with (record { tracker = tracker; link = record { 0 = q }; request = v })
     (gift config.profile whole g unheld) d memory ≡ grant_of (GrantSent q d (gift config.profile whole g unheld))
     v.source tracker (block_in memory n) = elim [ true ↦ rw block refl | false ↦ refl ] in
@@ -205,8 +203,7 @@ grant-made {w} config q n tracker v t memory whole g unheld p opcode param block
     config.profile whole g unheld = rw (opcode, param, block, none) refl in
     let data_is : handing.is_granted_data v.opcode v.param (recorded q (block_at v.address) t) ≡ is_granted_data whole g
     p = rw (opcode, param, block, held_is) (data-same whole g p) in
-    ap₂ (λ k d. handing.grant_with (record { tracker = tracker; link = record { 0 = q }; request = v }) k d memory)
-    cap_is data_is ∙ go (is_granted_data whole g p)
+    cc (cap_is, data_is, go (is_granted_data whole g p))
 
 given_is : {w : ℕ} (q : ℕ) (d : Bool) (k : Cap) (source sink : ℕ) (payload : List ℕ)
     → (m : MessageD w) × (grant_of (GrantSent q d k) source sink payload ≡ Message.D m) × (is_grant m.opcode ≡ true)
@@ -220,9 +217,9 @@ pairs_after c r pair = set c (after_report r (pair c)) pair
 settling-records : {w : ℕ} {config : Config} {c q n source k : ℕ} {own : Bool} {low : Cap} {r : Report} {m : MessageC w}
     {h : AbstractState w} {e : End w} → IsSettling config c q n source k own low r m h e
     → (d : ℕ) → recorded d n (trace_with c k m e) ≡ (pairs_after c r (h.state.block n).pair d).recorded
-settling-records {w} {config} {c} {q} {n} {source} {k} {own} {low} {r} {m} {h} {e} at d =
+settling-records {c} {n} {r} {h} at d =
     reported-records r (reported_block c r (h.state.block n)) (settling-last at) (λ j. refl) at.is.traced d n
-    ∙ ap (λ (b : Block (List ℕ)). (b.pair d).recorded) (set-same n (reported_block c r (h.state.block n)) h.state.block)
+    ∙ ap (λ b. (b.pair d).recorded) (set-same n (reported_block c r (h.state.block n)) h.state.block)
 
 has_copy-is : (p : Perm) → has_copy p ≡ not (same_perm p Perm.None)
 has_copy-is p = grind arith
@@ -264,8 +261,7 @@ reaction-conceded {w} {config} {c} {q} {n} {source} {k} {low} {r} {whole} {g} {m
     (gift config.profile whole g unheld)) (h.request n).source (h.state.block n).tracker (block_in memory n)
     ≡ grant_after config c q n source r whole g h = rw (for.1, settling-memory at) refl in
     let fact = grant-made config q n (h.state.block n).tracker (h.request n) u memory whole g unheld
-    ((h.state.block n).pair q).recorded wanted.opcode_is wanted.param_is for.2 none
-    (settling-records at q ∙ (ap (λ (p : ClientBlock). p.recorded)
+    _ wanted.opcode_is wanted.param_is for.2 none (settling-records at q ∙ (ap (λ p. p.recorded)
     (set-other c q (after_report r ((h.state.block n).pair c)) (h.state.block n).pair (λ f. wanted.apart (sym f))))) in
     cc (settling-reaction at, performed-acquire config (service_for q n h.request h.state) u memory for.0, sent)
 
@@ -309,12 +305,12 @@ conceded-left {w} {config} {c} {q} {n} {source} {k} {low} {r} {whole} {g} rest {
     } in
     let still = set-each (λ i z. IsServedWith h.mail z.service (h.request i)) n new h.state.block tt
     (λ i ne. at.is.served_with i) in
-    subst (λ (d : Reaction w). IsManagerOf config (with_state after h) (left c (Beat.C x) d e)) (sym done) (record {
-      traced = subst (λ (i : Message w). IsTraced h.request after (with_handed ((record { 0 = q }, i) ∷ [])
+    subst (λ d. IsManagerOf config (with_state after h) (left c (Beat.C x) d e)) (sym done) (record {
+      traced = subst (λ i. IsTraced h.request after (with_handed ((record { 0 = q }, i) ∷ [])
           (trace_with c k m e))) (sym reply.1) (traced-conceded data_too rest conceded at.is.traced);
       served_with = λ i. still i;
       manager_kept = kept-left x does at.end.width at.up done at.is.manager_kept;
-      memory = λ i. blocks-now e.memory does.memory n new h.state (settling-memory at)
+      memory = λ i. blocks-now e.memory _ n new h.state (settling-memory at)
           (others-left n x does at.end.width at.up done at.is.manager_kept at.end.about.block) at.is.memory i;
       all_live = at.is.all_live;
     })
@@ -326,7 +322,7 @@ conceded-left {w} {config} {c} {q} {n} {source} {k} {low} {r} {whole} {g} rest {
 granted-memory : {caching : ℕ → Bool} (c q : ℕ) (r : Report) (d : Bool) (k : Cap) (b : Block (List ℕ))
     → same_perm (cap_right k) Perm.None ≡ false → IsWell caching (granted_block c q r d k b)
     → protocol.written r b.truth b.memory ≡ b.truth
-granted-memory {caching} c q r d k b some well = memory-granted q d k well refl (ap (λ (p : ClientBlock). p.recorded)
+granted-memory c q r d k b some well = memory-granted q d k well refl (ap (λ p. p.recorded)
     (set-same q (after_grant_sent k (b.pair q)) (set c (after_report r (b.pair c)) b.pair))) some
 
 -- the Grant that is handed out is the one of the token

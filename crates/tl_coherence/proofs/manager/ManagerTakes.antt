@@ -34,15 +34,14 @@ pub report-legal : {w : ℕ} (profile : Profile) (n : ℕ) (k : Cap) (r : Report
     → probe_of n t ≡ Some (probe_beat n k) → held n t ≡ p → r ≡ report_at k p → broken_in_order profile (Beat.C x) t
     ≡ None
 unfolding broken_order
-report-legal {w} profile n k r p x t acks not_release block param none probed released probe is told =
+report-legal profile n k r p x t acks not_release block param none probed released probe is told =
     let found : probe_of (block_at x.address) t ≡ Some (probe_beat n k) = rw block probe in
     let wrong : (not (pending (Key.ProbeOf (block_at x.address)) t) || answers_wrong_probe x
     (probe_of (block_at x.address) t)) ≡ false = rw (block, probed) (rw probe (and-false (c_carries_data x.opcode))) in
     let late : pending (Key.ReleaseOf (block_at x.address)) t ≡ false = rw block released in
     let bad : misreports x (probe_of (block_at x.address) t) (held (block_at x.address) t) ≡ false =
     rw (block, is) (rw (probe, cap-again k, param, told, same_number (report_code (report_at k p))) refl) in
-    rw (none, not_release, acks)
-    (rw (wrong, late, bad) refl)
+    rw (none, not_release, acks) (rw (wrong, late, bad) refl)
 
 -- ---- an Acquire: H1, H4 and H5
 
@@ -114,8 +113,8 @@ takes {w} {config} c ch x e sound theirs own live order free = go (level_of conf
         let opened : open_level config (record { 0 = c }) e ≡ Some l = rw (live, f) refl in
         let legal : unlawful l ch x ≡ None = rw (theirs, ← own) lawful in
         record {
-          passes = judged-passes config l (record { 0 = c }) ch x e opened legal order free sound.inside sound.clean;
-          answer = manager-takes config l (record { 0 = c }) ch x e opened legal order free sound.inside sound.clean;
+          passes = judged-passes config l _ ch x e opened legal order free sound.inside sound.clean;
+          answer = manager-takes config l _ ch x e opened legal order free sound.inside sound.clean;
         }
 
 -- ---- a ProbeAck
@@ -130,7 +129,7 @@ seen_cap test s c = grind (arith, cap-waited, and_left)
 
 -- the place of a beat in its message
 abbrev NextOrder : {w : ℕ} → Profile → MessageC w → ℕ → History w → Type 0
-NextOrder {w} profile m k t = broken_in_order profile (Beat.C (c_beat_of m k)) t ≡ None
+NextOrder profile m k t = broken_in_order profile (Beat.C (c_beat_of m k)) t ≡ None
 
 by_place : {w : ℕ} (profile : Profile) (m : MessageC w) (k : ℕ) (t : History w)
     → unfinished Channel.C t ≡ begun (Message.C m) k
@@ -145,7 +144,7 @@ pub report-order : {w : ℕ} {config : Config} {caching : ℕ → Bool} {request
     → unfinished Channel.C (on_link c e.trace) ≡ begun (Message.C m) k
     → broken_in_order config.profile (Beat.C (c_beat_of m k)) (on_link c e.trace) ≡ None
 report-order {w} {config} c {n} k r {m} {s} {e} inv managed served kept answered about rest =
-    by_place config.profile m k t rest first
+    by_place _ m k t rest first
   where
     t : History w
     t = on_link c e.trace
@@ -158,8 +157,8 @@ report-order {w} {config} c {n} k r {m} {s} {e} inv managed served kept answered
         let missing : pending (Key.ProbeOf n) t ≡ true = managed.probes c n ∙ rw answered refl in
         let released : pending (Key.ReleaseOf n) t ≡ false = (kept.releases c).blocks n ∙ rw none refl in
         let probe = served.probes c n (rw answered refl) in
-        report-legal config.profile n (cap_waited b.service) r (b.pair c).recorded
-        (c_beat_of m 0) t about.reports about.releases about.block about.param_is none missing released probe
+        report-legal config.profile n _ r _
+        _ t about.reports about.releases about.block about.param_is none missing released probe
         (managed.recorded_is c n) (cc (same_report-is r (report_at (cap_waited b.service) (b.pair c).recorded)
         (seen_cap (λ k. same_report r (report_at k (b.pair c).recorded)) b.service c
         (report_fits r (b.pair c) (view b.service c) ((inv.blocks n).phases c) answered))))
@@ -176,8 +175,7 @@ unfolding count
 unanswered caching c n rest s inv first =
     let none : (b : Bool) → one_if b ≡ 0 → b ≡ false =
     elim [ true ↦ λ e. absurd (omega (arith, e)) | false ↦ λ e. refl ] in
-    let behind = ordered-first n (s.link c).c rest (packet Release n) first (rw (same_number n) refl) (inv.ordered c n)
-    in
+    let behind = ordered-first n _ rest _ first (rw (same_number n) refl) (inv.ordered c n) in
     let all : count ProbeAck n (packet Release n ∷ rest) ≡ one_if (is_answered ((s.block n).pair c).probing) =
     rw first at (inv.transfers c ProbeAck refl n) in
     let release : one_if (is ProbeAck n (packet Release n)) ≡ 0 = refl in
@@ -201,7 +199,7 @@ release-order {w} {config} {caching} c {n} k r rest {m} {s} {e} inv managed kept
 
     not_own : (x : View) → view b.service c ≡ x → is_own x ≡ false
     not_own Own f =
-        let alone = own_alone (b.pair c) (view b.service c) ((inv.blocks n).phases c) f in
+        let alone = own_alone (b.pair c) _ ((inv.blocks n).phases c) f in
         let held_back : is_unreleased (b.pair c).letting ≡ true =
         and_left (is_unreleased (b.pair c).letting) _ (and_right (is_unprobed (b.pair c).probing) _ alone) in
         absurd (let no : false ≡ true = rw releasing at held_back in cc)

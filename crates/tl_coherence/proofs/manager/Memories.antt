@@ -11,13 +11,12 @@ use proofs.Imports.{cases_eq, Beat, BeatC, BeatE, Link, Channel, c_carries_data,
 use proofs.Imports.{MessageA, MessageC, MessageD, beats_of, begun, burst_of, c_beat_of, unfinished, Config, Key, Level}
 use proofs.Imports.{Prune, Report, Perm, prune_code, prune_left, prune_right, report_code, report_left, report_right}
 use proofs.Imports.{control_aligned, control_of_legal, after-local, bytes_same, reply-local, room_in_block, is_last}
-use proofs.Imports.{payload_of, same_perm, on_link, AccessResult, Memory, SameBlock, answer_of, bytes_from, effect}
-use proofs.Imports.{block_at, ends, is_grant, is_probe_ack, is_release_ack, reported, pending, reported-report}
-use proofs.Imports.{memory-elsewhere, memory_with, reaction-ack, reaction-part, whole-taken, IsKept, illegal_message_at}
-use proofs.Imports.{End, Reaction, access_answer, nothing, release_ack, with_handed, is_settled, reaction, Packet, set}
-use proofs.Imports.{ClientBlock, is_unprobed, Block, State, freed_block, grant_ack_taken, let_block, release_taken}
-use proofs.Imports.{report_taken, reported_block, AbstractState, answers, bytes_at, performs, with_state, some_below}
-use proofs.Imports.{IsServedWith}
+use proofs.Imports.{payload_of, same_perm, on_link, Memory, SameBlock, answer_of, bytes_from, effect, block_at, ends}
+use proofs.Imports.{is_grant, is_probe_ack, is_release_ack, reported, pending, reported-report, memory-elsewhere}
+use proofs.Imports.{memory_with, reaction-ack, reaction-part, whole-taken, IsKept, illegal_message_at, End, Reaction}
+use proofs.Imports.{access_answer, nothing, release_ack, with_handed, is_settled, reaction, Packet, set, ClientBlock}
+use proofs.Imports.{is_unprobed, Block, State, freed_block, grant_ack_taken, let_block, release_taken, report_taken}
+use proofs.Imports.{reported_block, AbstractState, answers, bytes_at, performs, with_state, some_below, IsServedWith}
 use Rattle.tl_manager.{proofs.blocks.Written.block-written, specs.statement.Reaction.written}
 use Rattle.tl_manager.{proofs.calls.Keeping.kept-offered, specs.statement.Holders.is_missing}
 use Rattle.tl_manager.specs.statement.Offer.{offered, taken}
@@ -59,17 +58,15 @@ pub performed-block : {w : ℕ} (o : Option Level) (m : MessageA w) (f : Memory)
     → illegal_message_at o (A m) ≡ None → bytes_from (effect (A m) f).0 (64 * block_at m.address) 64
     ≡ performs m (bytes_from f (64 * block_at m.address) 64)
 unfolding effect
-performed-block {w} o m f width lawful = block-same (effect (A m) f).0
-    (effect (A m) (bytes_at (block_at m.address) (bytes_from f (64 * block_at m.address) 64))).0 (block_at m.address)
-    (after-local m.opcode m f (bytes_at (block_at m.address) (bytes_from f (64 * block_at m.address) 64))
-    (access-room o m width lawful) (again-same f (block_at m.address)))
+performed-block o m f width lawful = block-same _ _ _ (after-local m.opcode m f (bytes_at (block_at m.address)
+    (bytes_from f (64 * block_at m.address) 64)) (access-room o m width lawful) (again-same f (block_at m.address)))
 
 -- and so is its answer
 pub performed-reply : {w : ℕ} (o : Option Level) (m : MessageA w) (f : Memory) → IsWidth w
     → illegal_message_at o (A m) ≡ None
     → (effect (A m) f).1 ≡ (effect (A m) (bytes_at (block_at m.address) (bytes_from f (64 * block_at m.address) 64))).1
 unfolding effect
-performed-reply {w} o m f width lawful = reply-local m.opcode m f (bytes_at (block_at m.address)
+performed-reply o m f width lawful = reply-local m.opcode m f (bytes_at (block_at m.address)
     (bytes_from f (64 * block_at m.address) 64)) (access-room o m width lawful) (again-same f (block_at m.address))
 
 -- ---- the bytes of a block
@@ -123,7 +120,7 @@ pub block-performed : {w : ℕ} (o : Option Level) (m : MessageA w) (memory : Me
     → illegal_message_at o (Message.A m) ≡ None → block_at m.address ≡ n
     → block_in (effect (Message.A m) memory).0 n ≡ performs m (block_in memory n)
 unfolding effect
-block-performed {w} o m memory n width lawful block =
+block-performed o m memory n width lawful block =
     rw (← block) (block-alike (block_at m.address) _ _ (after-local m.opcode m memory (bytes_at (block_at m.address)
     (block_in memory (block_at m.address))) (room-lawful o m width lawful) (bytes_at-same (block_at m.address) memory)))
 
@@ -132,7 +129,7 @@ pub answer-performed : {w : ℕ} (o : Option Level) (m : MessageA w) (memory : M
     → illegal_message_at o (Message.A m) ≡ None → block_at m.address ≡ n
     → access_answer m (answer_of (Message.A m) (effect (Message.A m) memory).1) ≡ answers m (block_in memory n)
 unfolding effect
-answer-performed {w} o m memory n width lawful block = rw (← block) (ap (λ (r : AccessResult). access_answer m
+answer-performed o m memory n width lawful block = rw (← block) (ap (λ r. access_answer m
     (answer_of (Message.A m) r)) (reply-local m.opcode m memory (bytes_at (block_at m.address)
     (block_in memory (block_at m.address))) (room-lawful o m width lawful) (bytes_at-same (block_at m.address) memory)))
 
@@ -159,7 +156,7 @@ kept-left {config} {c} x d {e} width up is kept = subst (IsKept config) (left-is
 pub others-left : {w : ℕ} {config : Config} {c : ℕ} (n : ℕ) (x : BeatC w) (d : Reaction w) {e : End w} → IsWidth w
     → IsTakenUp config c Channel.C (Beat.C x) e → reaction config (record { 0 = c }) (Beat.C x) e ≡ d → IsKept config e
     → block_at x.address ≡ n → (i : ℕ) → (i ≡ n → ⊥) → block_in d.memory i ≡ block_in e.memory i
-others-left {w} {config} {c} n x d {e} width up is kept block i other = ap (λ (z : End w). block_in z.memory i)
+others-left {c} n x d width up is kept block i other = ap (λ z. block_in z.memory i)
     (sym (left-is d up is)) ∙ other-blocks (record { 0 = c }) Channel.C x n width kept block i other
 
 -- ---- a beat of channel C that isn't the last of its message
@@ -168,12 +165,12 @@ pub report_part-left : {w : ℕ} {config : Config} {c : ℕ} (x : BeatC w) (h : 
     → IsTakenUp config c Channel.C (Beat.C x) e → ends (Beat.C x) (on_link c e.trace) ≡ false → IsManagerOf config h e
     → IsManagerOf config h (left c (Beat.C x) (reaction config (record { 0 = c }) (Beat.C x) e) e)
 unfolding with_handed
-report_part-left {w} {config} {c} x h {e} width up part is =
-    let done = reaction-part config (record { 0 = c }) (Beat.C x) e part in
-    subst (λ (d : Reaction w). IsManagerOf config h (left c (Beat.C x) d e)) (sym done) (record {
+report_part-left {config} {c} x h {e} width up part is =
+    let done = reaction-part config _ _ e part in
+    subst (λ d. IsManagerOf config h (left c (Beat.C x) d e)) (sym done) (record {
       traced = traced-report_part c x part is.traced;
       served_with = is.served_with;
-      manager_kept = kept-left x (nothing e.memory) width up done is.manager_kept;
+      manager_kept = kept-left x _ width up done is.manager_kept;
       memory = is.memory;
       all_live = is.all_live;
     })
@@ -197,17 +194,17 @@ ends-it {k} {m} is = rw (is.rest, length-begun (Message.C m) k) (is_last k (beat
 payload-end : {w : ℕ} {b : Bool} {c n param : ℕ} {carries : Bool} {truth : List ℕ} {k : ℕ} {m : MessageC w}
     {e : End w} → IsEnd b c n param carries truth k m e → carries ≡ true
     → payload_of (Beat.C (c_beat_of m k) ∷ unfinished Channel.C (on_link c e.trace)) ≡ truth
-payload-end {w} {k} {m} is some = let fact = payload-c m (begun (Message.C m) (suc k)) is.width is.about.long
+payload-end {w} {k} {m} is some = let fact = payload-c m _ is.width is.about.long
     (whole, is.about.blank) in cc (is.rest, is.about.payload_is some)
   where
     whole : begun (Message.C m) (suc k) ≡ burst_of (Message.C m)
     whole = let all : suc k ≡ beats_of (Message.C m) = omega (arith, is.last) in
-        ap (λ (i : ℕ). begun (Message.C m) i) all
+        ap (λ i. begun (Message.C m) i) all
 
 pub last-of : {w : ℕ} {b : Bool} {c n param : ℕ} {carries : Bool} {truth : List ℕ} {k : ℕ} (right : Perm)
     {m : MessageC w} {e : End w}
     → IsEnd b c n param carries truth k m e → reported param ≡ right → IsLastOf c n right (c_beat_of m k) e.trace
-last-of {b} {c} {n} {param} {carries} {truth} {k} right {m} {e} is said =
+last-of {b} right is said =
     let either : (b : Bool) → (b || not b) ≡ true = elim [ true ↦ refl | false ↦ refl ] in
     record {
       last = ends-it is;
@@ -220,9 +217,8 @@ last-of {b} {c} {n} {param} {carries} {truth} {k} right {m} {e} is said =
 pub memory-end : {w : ℕ} {b : Bool} {c n param : ℕ} {carries : Bool} {truth : List ℕ} {k : ℕ} {m : MessageC w}
     {e : End w} → IsEnd b c n param carries truth k m e
     → block_in (memory_with (record { 0 = c }) (c_beat_of m k) e) n ≡ (if carries then truth else block_in e.memory n)
-memory-end {w} {b} {c} {n} {param} {carries} {truth} {k} {m} {e} is =
-    block-taken (c_beat_of m k) (Beat.C (c_beat_of m k) ∷ unfinished Channel.C (on_link c e.trace)) e.memory n carries
-    truth is.about.block is.about.carries_is (payload-end is) is.long
+memory-end {c} {n} {carries} {truth} {k} {m} {e} is = block-taken (c_beat_of m k) (Beat.C (c_beat_of m k) ∷ unfinished
+    Channel.C (on_link c e.trace)) e.memory n carries truth is.about.block is.about.carries_is (payload-end is) is.long
 
 -- ---- a Release
 
@@ -236,8 +232,7 @@ pub reaction-released : {w : ℕ} (config : Config) {c n k : ℕ} (r : Prune) {m
       handed = (record { 0 = c }, release_ack m.source) ∷ [];
       memory = memory_with (record { 0 = c }) (c_beat_of m k) e;
     }
-reaction-released config {c} {n} {k} r {m} h {e} end = reaction-release config (record { 0 = c }) (c_beat_of m k) e
-    (ends-it end) end.about.releases
+reaction-released config {c} {k} r {m} h {e} end = reaction-release config _ _ e (ends-it end) end.about.releases
 
 pub released-left : {w : ℕ} {config : Config} {c n k : ℕ} (r : Prune) (rest : List Packet) {m : MessageC w}
     (h : AbstractState w) {e : End w} → IsTakenUp config c Channel.C (Beat.C (c_beat_of m k)) e
@@ -260,10 +255,10 @@ released-left {w} {config} {c} {n} {k} r rest {m} h {e} up end is =
       none = answer.3;
       whole = (whole-taken c (record { 0 = c }) (Beat.C x) e.trace refl (is.manager_kept.whole c)).1;
     } in
-    let still = set-each (λ i z. IsServedWith h.mail z.service (h.request i)) n (let_block c r (h.state.block n))
+    let still = set-each (λ i z. IsServedWith h.mail z.service (h.request i)) n _
     h.state.block (is.served_with n) (λ i ne. is.served_with i) in
-    subst (λ (d : Reaction w). IsManagerOf config (with_state after h) (left c (Beat.C x) d e)) (sym done) (record {
-      traced = subst (λ (i : Message w). IsTraced h.request after
+    subst (λ d. IsManagerOf config (with_state after h) (left c (Beat.C x) d e)) (sym done) (record {
+      traced = subst (λ i. IsTraced h.request after
           (with_handed ((record { 0 = c }, i) ∷ []) ((record { 0 = c }, Beat.C x) ∷ e.trace))) (sym answer.1)
           (traced-released r rest (last-of (prune_right r) end (reported-prune r)) released is.traced);
       served_with = λ i. still i;
@@ -284,7 +279,7 @@ pub settled-is : {w : ℕ} (config : Config) {c n : ℕ} {right : Perm} {x : Bea
     → IsLastOf c n right x e.trace → is_probe_ack x.opcode ≡ true → IsTraced h.request h.state e.trace
     → is_settled config n ((record { 0 = c }, Beat.C x) ∷ e.trace)
     ≡ not (some_below (length config.clients.items) (others_probed c (h.state.block n).pair))
-settled-is {w} config {c} {n} {right} {x} h e last report traced =
+settled-is config {c} {n} {x} h e last report traced =
     nobody-same config (λ d. is_missing d n ((record { 0 = c }, Beat.C x) ∷ e.trace))
     (others_probed c (h.state.block n).pair) (λ d. missing-last last report d n ∙ now d)
   where
@@ -306,8 +301,7 @@ pub reaction-reported : {w : ℕ} (config : Config) {c n k : ℕ} (r : Report) {
 reaction-reported {w} config {c} {n} {k} r {m} h {e} end others traced =
     let x : BeatC w = c_beat_of m k in
     let carries : Bool = same_perm (report_left r) Perm.Trunk in
-    reaction-report config (record { 0 = c }) x e (ends-it end)
-    end.about.releases end.about.reports
+    reaction-report config _ x e (ends-it end) end.about.releases end.about.reports
     (ap (λ i. is_settled config i ((record { 0 = c }, Beat.C x) ∷ e.trace)) end.about.block ∙ settled-is config h e
     (last-of (report_right r) end (reported-report r)) end.about.reports traced ∙ rw others refl)
   where
@@ -327,9 +321,9 @@ reported-left {w} {config} {c} {n} {k} r rest {m} h {e} up end others is =
     let after : State (List ℕ) = report_taken c n r rest h.state in
     let does : Reaction w = nothing (memory_with (record { 0 = c }) x e) in
     let done = reaction-reported config r h end others is.traced in
-    let still = set-each (λ i z. IsServedWith h.mail z.service (h.request i)) n (reported_block c r (h.state.block n))
+    let still = set-each (λ i z. IsServedWith h.mail z.service (h.request i)) n _
     h.state.block (is.served_with n) (λ i ne. is.served_with i) in
-    subst (λ (d : Reaction w). IsManagerOf config (with_state after h) (left c (Beat.C x) d e)) (sym done) (record {
+    subst (λ d. IsManagerOf config (with_state after h) (left c (Beat.C x) d e)) (sym done) (record {
       traced = traced-reported r rest (last-of (report_right r) end (reported-report r)) end.about.reports is.traced;
       served_with = λ i. still i;
       manager_kept = kept-left x does end.width up done is.manager_kept;
@@ -346,17 +340,16 @@ pub acked-left : {w : ℕ} {config : Config} {c n : ℕ} (rest : List Packet) {x
     → IsManagerOf config h e → IsManagerOf config (with_state (grant_ack_taken c n rest h.state) h)
     (left c (Beat.E x) (reaction config (record { 0 = c }) (Beat.E x) e) e)
 unfolding with_handed
-acked-left {w} {config} {c} {n} rest {x} h {e} width up acks is =
+acked-left {config} {c} {n} rest {x} h {e} width up acks is =
     let after : State (List ℕ) = grant_ack_taken c n rest h.state in
     let done = reaction-ack config (record { 0 = c }) x e in
-    let still = set-each (λ i z. IsServedWith h.mail z.service (h.request i)) n (freed_block (h.state.block n))
+    let still = set-each (λ i z. IsServedWith h.mail z.service (h.request i)) n _
     h.state.block tt (λ i ne. is.served_with i) in
-    subst (λ (d : Reaction w). IsManagerOf config (with_state after h) (left c (Beat.E x) d e)) (sym done) (record {
+    subst (λ d. IsManagerOf config (with_state after h) (left c (Beat.E x) d e)) (sym done) (record {
       traced = traced-acked rest acks is.traced;
       served_with = λ i. still i;
       manager_kept = subst (IsKept config) (left-is (nothing e.memory) up done)
           (kept-offered config (record { 0 = c }) Channel.E (Beat.E x) e width tt is.manager_kept);
-      memory = λ i. is.memory i ∙ sym (set-part (λ (b : Block (List ℕ)). b.memory) n (freed_block (h.state.block n))
-          h.state.block refl i);
+      memory = λ i. cc (is.memory i, set-part (λ b. b.memory) n (freed_block (h.state.block n)) h.state.block refl i);
       all_live = is.all_live;
     })

@@ -68,21 +68,16 @@ grown_opened {w} x t burst is ok = go burst is ok (length burst + 1 == burst_len
         → IsOpened (Beat.A x ∷ t) (oldest (if b then [] else Beat.A x ∷ burst))
     go burst is ok true = tt
     go [] is ok false = now_opened x t (rw is refl)
-    go (y ∷ beats) is ok false = opened-other t (Beat.A x ∷ t) (oldest (y ∷ beats))
-        (λ s. still_opened x t s (rw is refl)) ok
+    go (y ∷ beats) is ok false = opened-other t (Beat.A x ∷ t) _ (λ s. still_opened x t s (rw is refl)) ok
 
 opened-always : {w : ℕ} (t : History w) → IsOpened t (oldest (unfinished Channel.A t))
 unfolding unfinished request_of
 opened-always [] = tt
-opened-always (Beat.A x ∷ t) = grown_opened x t (unfinished Channel.A t) refl (opened-always t)
-opened-always (Beat.B x ∷ t) = opened-other t (Beat.B x ∷ t) (oldest (unfinished Channel.A t)) (λ s. refl)
-    (opened-always t)
-opened-always (Beat.C x ∷ t) = opened-other t (Beat.C x ∷ t) (oldest (unfinished Channel.A t)) (λ s. refl)
-    (opened-always t)
-opened-always (Beat.D x ∷ t) = opened-other t (Beat.D x ∷ t) (oldest (unfinished Channel.A t)) (λ s. refl)
-    (opened-always t)
-opened-always (Beat.E x ∷ t) = opened-other t (Beat.E x ∷ t) (oldest (unfinished Channel.A t)) (λ s. refl)
-    (opened-always t)
+opened-always (Beat.A x ∷ t) = grown_opened x t _ refl (opened-always t)
+opened-always (Beat.B x ∷ t) = opened-other t (Beat.B x ∷ t) _ (λ s. refl) (opened-always t)
+opened-always (Beat.C x ∷ t) = opened-other t (Beat.C x ∷ t) _ (λ s. refl) (opened-always t)
+opened-always (Beat.D x ∷ t) = opened-other t (Beat.D x ∷ t) _ (λ s. refl) (opened-always t)
+opened-always (Beat.E x ∷ t) = opened-other t (Beat.E x ∷ t) _ (λ s. refl) (opened-always t)
 
 oldest-begun : {w : ℕ} (m : MessageA w) (i : ℕ) → oldest (begun (A m) (suc i)) ≡ Some (Beat.A (a_beat_of m 0))
 oldest-begun m zero = refl
@@ -91,7 +86,7 @@ oldest-begun m (suc i) = oldest-begun m i
 -- the last request with the source of one that is unfinished is that one
 pub request-begun : {w : ℕ} (m : MessageA w) (i : ℕ) (t : History w) → unfinished Channel.A t ≡ begun (A m) (suc i)
     → request_of m.source t ≡ Some (a_beat_of m 0)
-request-begun {w} m i t burst = subst (IsOpened t) (ap oldest burst ∙ oldest-begun m i) (opened-always t)
+request-begun m i t burst = subst (IsOpened t) (ap oldest burst ∙ oldest-begun m i) (opened-always t)
 
 -- the last request with each source after a beat of a request
 pub request-taken : {w : ℕ} (m : MessageA w) (k : ℕ) (t : History w) → unfinished Channel.A t ≡ begun (A m) k
@@ -130,7 +125,7 @@ payload-length w k n false payload some last room lanes blank =
 
 request-filled : {w : ℕ} (m : MessageA w) (k : ℕ) → IsWidth w → beats_of (A m) ≡ suc k
     → IsTyped (Beat.A (a_beat_of m k)) → IsBlankAfter (beats_of (A m)) (A m) → length m.payload ≡ 64
-request-filled {w} m k width last typed blank = payload-length w k (beats_of (A m)) (a_carries_data m.opcode) m.payload
+request-filled {w} m k width last typed blank = payload-length w k _ (a_carries_data m.opcode) m.payload
     (positive w width) last (beats_room (A m) width) typed.1 blank.0
 
 -- ---- a beat that the manager takes
@@ -169,17 +164,17 @@ pub served-last : {w : ℕ} {config : Config} {c k : ℕ} {m : MessageA w} {e : 
     → beats_of (A m) ≡ suc k → IsServed (link_of c) (a_beat_of m k) (service_for c m e.trace) e.trace
 served-last {w} {config} {c} {k} {m} {e} is last = record {
   last = ends-coming is ∙ rw last (is_last k (suc k) (omega arith));
-  made = let fact = request-again m (begun (A m) (suc k)) is.width (request-filled m k is.width last is.typed is.blank)
+  made = let fact = request-again m _ is.width (request-filled m k is.width last is.typed is.blank)
       (ap (begun (A m)) (sym last), is.blank) in cc is.burst;
 }
 
 -- and it may be performed
 pub ready-last : {w : ℕ} {config : Config} {c k : ℕ} {m : MessageA w} {e : End w} → IsComing config c k m e
     → beats_of (A m) ≡ suc k → IsReady config (block_at m.address) (service_for c m e.trace) (with_beat c m k e.trace)
-ready-last {w} {config} {c} {k} {m} {e} is last =
+ready-last {config} {c} {k} {m} {e} is last =
     let served = served-last is last in
     let found = made (link_of c) (a_beat_of m k) e.trace served.last (le-leb m.size 6 m.small) in
-    subst (λ (v : Service w). IsReady config (block_at m.address) v (with_beat c m k e.trace)) (some_is (service_made
+    subst (λ v. IsReady config (block_at m.address) v (with_beat c m k e.trace)) (some_is (service_made
     (link_of c) (a_beat_of m k) e.trace found.0) (service_for c m e.trace) (sym found.1.made ∙ served.made))
     (request-ready config (link_of c) (a_beat_of m k) e found.0 (taken-coming is) found.1)
 
@@ -200,7 +195,7 @@ pub request-beat : {w : ℕ} (c k : ℕ) (m : MessageA w) (t : Trace w) (d src :
     → request_of src (on_link d (with_beat c m k t)) ≡ request_of src (on_link d t)
 request-beat c k m t d src other = elim (cases_eq c d) [
   | inl same ↦ ap (request_of src) (own_beat d (link_of c) (Beat.A (a_beat_of m k)) t (rw same (same_number d)))
-      ∙ request-else (a_beat_of m k) (on_link d t) src (other (sym same))
+      ∙ request-else _ (on_link d t) src (other (sym same))
   | inr ne ↦ ap (request_of src) (other_beat d (link_of c) (Beat.A (a_beat_of m k)) t (ne_eqb c d ne))
 ]
 
@@ -208,7 +203,7 @@ request-beat c k m t d src other = elim (cases_eq c d) [
 pub request-own : {w : ℕ} {config : Config} {c k : ℕ} {m : MessageA w} {e : End w} → IsComing config c k m e
     → request_of m.source (on_link c (with_beat c m k e.trace)) ≡ Some (a_beat_of m 0)
 request-own {c} {k} {m} {e} is = ap (request_of m.source) (own_beat c (link_of c) (Beat.A (a_beat_of m k)) e.trace
-    (same_number c)) ∙ request-taken m k (on_link c e.trace) is.burst
+    (same_number c)) ∙ request-taken m k _ is.burst
 
 -- ---- which source a request in service has
 
@@ -220,13 +215,12 @@ IsUnwaited c source s = (i src : ℕ) (own : Bool) (k : Cap) → (s.block i).ser
 
 services-more : {w : ℕ} {config : Config} {c k : ℕ} {m : MessageA w} {e : End w} → IsComing config c k m e
     → k + 1 < beats_of (A m) → services (with_beat c m k e.trace) ≡ services e.trace
-services-more {config} {c} {k} {m} {e} is more = services-part (link_of c, Beat.A (a_beat_of m k)) e.trace
-    (ends-coming is ∙ not_last k (beats_of (A m)) more)
+services-more {c} {k} {m} {e} is more = services-part _ e.trace (ends-coming is ∙ not_last k (beats_of (A m)) more)
 
 pub traced-more : {w : ℕ} {X : Type 0} {config : Config} {request : ℕ → MessageA w} {s : State X} {c k : ℕ}
     {m : MessageA w} {e : End w} → IsComing config c k m e → k + 1 < beats_of (A m) → IsUnwaited c m.source s
     → IsTraced request s e.trace → IsTraced request s (with_beat c m k e.trace)
-traced-more {w} {X} {config} {s} {c} {k} {m} {e} is more unwaited known = record {
+traced-more {s} {c} {k} {m} {e} is more unwaited known = record {
   recorded_is = λ d i. recorded-beat c k m e.trace d i ∙ known.recorded_is d i;
   probes = λ d i. missing-beat c k m e.trace d i ∙ known.probes d i;
   serving_is = λ i. ap (service_of_block i) (services-more is more) ∙ known.serving_is i;
@@ -240,8 +234,7 @@ traced-more {w} {X} {config} {s} {c} {k} {m} {e} is more unwaited known = record
 -- one service more
 services-last : {w : ℕ} {config : Config} {c k : ℕ} {m : MessageA w} {e : End w} → IsComing config c k m e
     → beats_of (A m) ≡ suc k → services (with_beat c m k e.trace) ≡ service_for c m e.trace ∷ services e.trace
-services-last {config} {c} {k} {m} {e} is last = services-request (link_of c) (a_beat_of m k) (service_for c m e.trace)
-    e.trace (served-last is last)
+services-last is last = services-request _ _ _ _ (served-last is last)
 
 pub serving-last : {w : ℕ} {config : Config} {c k : ℕ} (n : ℕ) {m : MessageA w} {e : End w} → IsComing config c k m e
     → beats_of (A m) ≡ suc k
@@ -281,17 +274,15 @@ traced-probing {w} {X} {config} {request} {c} {k} {n} {own} {source} {j} {m} {s}
     ∙ known.probes d n ∙ ap not (is.quiet d) in
     let whole_b : (d : ℕ) → unfinished Channel.B (on_link d t) ≡ [] =
     λ d. (whole-taken d (link_of c) (Beat.A (a_beat_of m k)) e.trace refl (is.comes.kept.whole d)).0 in
-    let probed_or : (d : ℕ) (b : Bool)
-    → pending (ProbeOf n) (if b then sent (probe_of_block n j) (on_link d t) else on_link d t) ≡ b =
-    λ d. elim [ true ↦ missing-own_b n j (on_link d t) (whole_b d) | false ↦ missing_before d ] in
+    let probed_or : (d : ℕ) (b : Bool) → pending (ProbeOf n) (if b then sent (probe_of_block n j) (on_link d t) else
+    on_link d t) ≡ b = λ d. elim [ true ↦ missing-own_b n j _ (whole_b d) | false ↦ missing_before d ] in
     let tracker : ℕ = least_untaken (trackers_of (services e.trace)) in
     let new : Block X = served_block c own source tracker j (s.block n) in
     let service_now : Block X → Option (Service w) =
     λ b. service_with (client_in b.service) b.tracker (set n m request n) in
     let here : u.block n ≡ new = blocks n ∙ set-same n new s.block in
-    let recorded_same : (d i : ℕ) → recorded d i after ≡ recorded d i e.trace =
-    λ d i. probes-keep (held i) d n j asked_clients t (λ h. held_unsaid i (Beat.B (probe_beat n j)) h refl)
-    ∙ recorded-beat c k m e.trace d i in
+    let recorded_same : (d i : ℕ) → recorded d i after ≡ recorded d i e.trace = λ d i. probes-keep (held i) d n j
+    asked_clients t (λ h. held_unsaid i (Beat.B (probe_beat n j)) h refl) ∙ recorded-beat c k m e.trace d i in
     -- who is probed
     let test : ℕ → Bool = λ d. holders.is_above j (recorded d (block_at m.address) t) && not
     (is_spared (service_for c m e.trace) d) in
@@ -303,9 +294,8 @@ traced-probing {w} {X} {config} {request} {c} {k} {n} {own} {source} {j} {m} {s}
       same_above j ((s.block n).pair d).recorded,
       swapped c d,
     ) refl in
-    let missing_now : (d : ℕ) → pending (ProbeOf n) (on_link d after)
-    ≡ not (is_unprobed (served_pair c own j (s.block n).pair d).probing) =
-    λ d. elim (cases_lt d (length config.clients.items)) [
+    let missing_now : (d : ℕ) → pending (ProbeOf n) (on_link d after) ≡ not (is_unprobed
+    (served_pair c own j (s.block n).pair d).probing) = λ d. elim (cases_lt d (length config.clients.items)) [
       | inl lt ↦ ap (pending (ProbeOf n)) (probes-within d n j 0 (length config.clients.items) test t (omega arith)
           (omega (arith, lt))) ∙ probed_or d (test d) ∙ test_is d ∙ quiet_now d (own && (d == c))
       | inr le ↦ ap (pending (ProbeOf n)) (probes-beyond d n j 0 (length config.clients.items) test t
@@ -316,9 +306,9 @@ traced-probing {w} {X} {config} {request} {c} {k} {n} {own} {source} {j} {m} {s}
       other_blocks = λ i ne. blocks i ∙ set-other n i new s.block ne;
       other_requests = λ i ne. set-other n i m request ne;
       recorded_here = λ d. recorded_same d n ∙ known.recorded_is d n ∙ sym
-          (ap (λ (b : Block X). (b.pair d).recorded) here ∙ spared (own && (d == c)) ((s.block n).pair d));
+          (ap (λ b. (b.pair d).recorded) here ∙ spared (own && (d == c)) ((s.block n).pair d));
       recorded_else = λ d i ne. recorded_same d i;
-      probes_here = λ d. missing_now d ∙ sym (ap (λ (b : Block X). not (is_unprobed (b.pair d).probing)) here);
+      probes_here = λ d. missing_now d ∙ sym (ap (λ b. not (is_unprobed (b.pair d).probing)) here);
       probes_else = λ d i ne.
           let differ : n ≡ i → ⊥ = λ f. ne (sym f) in
           probes-keep (pending (ProbeOf i)) d n j asked_clients t (λ h. missing-else_b i n j h (ne_eqb n i differ))
@@ -327,7 +317,7 @@ traced-probing {w} {X} {config} {request} {c} {k} {n} {own} {source} {j} {m} {s}
           cc (services-probes n j asked_clients t, serving-last n is.comes is.last is.for.2, set-same n m request);
       serving_else = λ i ne. cc (services-probes n j asked_clients t, serving-others n i is.comes is.last is.for.2 ne);
       request_here = rw (here, set-same n m request) is.for;
-      asked_here = λ r src o l f. asked_now r src o l (ap (λ (b : Block X). b.service) (sym here) ∙ f);
+      asked_here = λ r src o l f. asked_now r src o l (ap (λ b. b.service) (sym here) ∙ f);
       asked_else = λ i r src o l ne f. asked_same r src ∙ request-beat c k m e.trace r src
           (λ same g. is.unwaited i src o l (f ∙ ap (λ z. Waits z o src l) same) (sym is.for.1 ∙ g));
     }) known
@@ -352,7 +342,7 @@ traced-probing {w} {X} {config} {request} {c} {k} {n} {own} {source} {j} {m} {s}
         let client : r ≡ c = cc in
         let number : src ≡ m.source = number_is r src o l f ∙ sym is.for.1 in
         rw (client, number) (asked_same c m.source ∙ request-own is.comes) ∙ ap
-        (λ (i : MessageA w). Some (a_beat_of i 0)) (sym (set-same n m request))
+        (λ i. Some (a_beat_of i 0)) (sym (set-same n m request))
 
     quiet_now : (d : ℕ) (b : Bool) → (is_above j ((s.block n).pair d).recorded && not b) ≡ not
         (is_unprobed (if b then (s.block n).pair d else after_served j ((s.block n).pair d)).probing)

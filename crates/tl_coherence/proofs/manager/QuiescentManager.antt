@@ -51,7 +51,7 @@ pub record IsLastOf {w : ℕ} (c n : ℕ) (right : Perm) (x : BeatC w) (t : Trac
 
 pub recorded-last : {w : ℕ} {c n : ℕ} {right : Perm} {x : BeatC w} {t : Trace w} → IsLastOf c n right x t → (d i : ℕ)
     → recorded d i ((record { 0 = c }, Beat.C x) ∷ t) ≡ (if (c == d) && (n == i) then right else recorded d i t)
-recorded-last {w} {c} {n} {right} {x} {t} is d i =
+recorded-last {c} {n} {right} {x} {t} is d i =
     let go : (b : Bool) → unwrap_or (if b then Some right else None) (recorded c i t)
     ≡ (if b then right else recorded c i t) = elim [ true ↦ refl | false ↦ refl ] in
     recorded-c (record { 0 = c }) x t d i ∙ elim (cases_eq c d) [
@@ -76,7 +76,7 @@ missing-c : {w : ℕ} (c : ℕ) (x : BeatC w) (t : Trace w) (d i : ℕ)
     → pending (Key.ProbeOf i) (on_link d ((record { 0 = c }, Beat.C x) ∷ t))
     ≡ (if (c == d) && (ends (Beat.C x) (on_link d t) && (is_probe_ack x.opcode && (block_at x.address == i))) then false
     else pending (Key.ProbeOf i) (on_link d t))
-missing-c {w} c x t d i = go (c == d) refl
+missing-c c x t d i = go (c == d) refl
   where
     go : (b : Bool) → (c == d) ≡ b → pending (Key.ProbeOf i) (on_link d ((record { 0 = c }, Beat.C x) ∷ t))
         ≡ (if b && (ends (Beat.C x) (on_link d t) && (is_probe_ack x.opcode && (block_at x.address == i))) then false
@@ -113,7 +113,7 @@ quiet-release_ack link m t width none ack other =
 pub recorded-answer : {w : ℕ} (link : Link) (m : MessageD w) (t : Trace w) → IsWidth w
     → unfinished Channel.D (on_link link.0 t) ≡ [] → is_grant m.opcode ≡ false → (d i : ℕ)
     → recorded d i (after_sent link (D m) t) ≡ recorded d i t
-recorded-answer {w} link m t width none other d i = go (link.0 == d) refl
+recorded-answer link m t width none other d i = go (link.0 == d) refl
   where
     go : (b : Bool) → (link.0 == d) ≡ b → recorded d i (after_sent link (D m) t) ≡ recorded d i t
     go true e = ap (held i) (own_link d link (D m) t e) ∙ held-sent_d i m (on_link d t)
@@ -143,7 +143,7 @@ traced-still quiet still records missing known = record {
 pub pair-part : {X A : Type 0} (part : ClientBlock → A) (c n : ℕ) (p : ClientBlock) (new : Block X) (block : ℕ
     → Block X) → ((d : ℕ) → new.pair d ≡ set c p (block n).pair d) → (d i : ℕ)
     → part ((set n new block i).pair d) ≡ (if (c == d) && (n == i) then part p else part ((block i).pair d))
-pair-part {X} {A} part c n p new block is d i =
+pair-part part c n p new block is d i =
     let never : (b : Bool) → part ((block i).pair d) ≡ (if b && false then part p else part ((block i).pair d)) =
     elim [ true ↦ refl | false ↦ refl ] in
     elim (cases_eq i n) [
@@ -172,7 +172,7 @@ pair-still part c n p new block is same d i = pair-part part c n p new block is 
 pub traced-report_part : {w : ℕ} {X : Type 0} {request : ℕ → MessageA w} (c : ℕ) (x : BeatC w) {s : State X}
     {t : Trace w} → ends (Beat.C x) (on_link c t) ≡ false → IsTraced request s t
     → IsTraced request s ((record { 0 = c }, Beat.C x) ∷ t)
-traced-report_part c x {s} {t} part known = traced-still (quiet-c (record { 0 = c }) x t)
+traced-report_part c x {t} part known = traced-still (quiet-c (record { 0 = c }) x t)
     (record { services = λ n. refl; trackers = λ n. refl }) (λ d i. recorded-part c x t part d i
     ∙ known.recorded_is d i) (λ d i. missing-part c x t part d i ∙ known.probes d i) known
 
@@ -180,9 +180,9 @@ traced-report_part c x {s} {t} part known = traced-still (quiet-c (record { 0 = 
 
 still-reported : {X : Type 0} (c n : ℕ) (r : Report) (rest : List Packet) (s : State X)
     → AreStill s (report_taken c n r rest s)
-still-reported {X} c n r rest s = record {
-  services = λ i. set-part (λ (b : Block X). b.service) n (reported_block c r (s.block n)) s.block refl i;
-  trackers = λ i. set-part (λ (b : Block X). b.tracker) n (reported_block c r (s.block n)) s.block refl i;
+still-reported c n r rest s = record {
+  services = λ i. set-part (λ b. b.service) n (reported_block c r (s.block n)) s.block refl i;
+  trackers = λ i. set-part (λ b. b.tracker) n (reported_block c r (s.block n)) s.block refl i;
 }
 
 -- what is said of the one client and block, and of the others as before
@@ -193,7 +193,7 @@ pub reported-records : {w : ℕ} {X : Type 0} {request : ℕ → MessageA w} {c 
     {x : BeatC w} {s : State X} {t : Trace w} → IsLastOf c n (report_right r) x t
     → ((d : ℕ) → new.pair d ≡ set c (after_report r ((s.block n).pair c)) (s.block n).pair d) → IsTraced request s t
     → (d i : ℕ) → recorded d i ((record { 0 = c }, Beat.C x) ∷ t) ≡ ((set n new s.block i).pair d).recorded
-reported-records {c} {n} r new {x} {s} {t} is pairs known d i = recorded-last is d i
+reported-records {c} {n} r new {s} is pairs known d i = recorded-last is d i
     ∙ same_or ((c == d) && (n == i)) (report_right r) _ _ (known.recorded_is d i)
     ∙ sym (pair-part (λ p. p.recorded) c n (after_report r ((s.block n).pair c)) new s.block pairs d i)
 
@@ -202,7 +202,7 @@ pub reported-missing : {w : ℕ} {X : Type 0} {request : ℕ → MessageA w} {c 
     → ((d : ℕ) → new.pair d ≡ set c (after_report r ((s.block n).pair c)) (s.block n).pair d)
     → IsTraced request s t → (d i : ℕ) → pending (Key.ProbeOf i) (on_link d ((record { 0 = c }, Beat.C x) ∷ t))
     ≡ not (is_unprobed ((set n new s.block i).pair d).probing)
-reported-missing {c} {n} r new {x} {s} {t} is report pairs known d i =
+reported-missing {c} {n} r new {s} is report pairs known d i =
     missing-last is report d i ∙ same_or ((c == d) && (n == i)) false _ _ (known.probes d i)
     ∙ sym (pair-part (λ p. not (is_unprobed p.probing)) c n (after_report r ((s.block n).pair c)) new s.block pairs d i)
 
@@ -217,16 +217,16 @@ traced-reported {c} {n} r rest {x} {s} {t} is report known = traced-still (quiet
 
 still-released : {X : Type 0} (c n : ℕ) (r : Prune) (rest : List Packet) (s : State X)
     → AreStill s (release_taken c n r rest s)
-still-released {X} c n r rest s = record {
-  services = λ i. set-part (λ (b : Block X). b.service) n (let_block c r (s.block n)) s.block refl i;
-  trackers = λ i. set-part (λ (b : Block X). b.tracker) n (let_block c r (s.block n)) s.block refl i;
+still-released c n r rest s = record {
+  services = λ i. set-part (λ b. b.service) n (let_block c r (s.block n)) s.block refl i;
+  trackers = λ i. set-part (λ b. b.tracker) n (let_block c r (s.block n)) s.block refl i;
 }
 
 probing-released : {X A : Type 0} (part : ClientBlock → A)
     → ((r : Prune) (p : ClientBlock) → part (after_release_taken r p) ≡ part p)
     → (c n : ℕ) (r : Prune) (rest : List Packet) (s : State X) (d i : ℕ)
     → part (((release_taken c n r rest s).block i).pair d) ≡ part ((s.block i).pair d)
-probing-released part same c n r rest s d i = pair-still part c n (after_release_taken r ((s.block n).pair c))
+probing-released part same c n r rest s d i = pair-still part c n _
     (let_block c r (s.block n)) s.block (λ j. refl) (same r ((s.block n).pair c)) d i
 
 -- the answer of a Release, on a link where nothing handed out is unfinished
@@ -248,13 +248,9 @@ pub traced-released : {w : ℕ} {X : Type 0} {request : ℕ → MessageA w} {c n
     (after_sent (record { 0 = c }) (D m) ((record { 0 = c }, Beat.C x) ∷ t))
 traced-released {w} {c} {n} r rest {x} {m} {s} {t} is answer known =
     let u : Trace w = (record { 0 = c }, Beat.C x) ∷ t in
-    traced-still
-    (released-quiet answer) (still-released c n r rest s)
-    (λ d i. recorded-answer (record { 0 = c }) m u answer.width answer.whole answer.none d i ∙ recorded-last is d
-    i ∙ same_or ((c == d) && (n == i)) (prune_right r) _ _ (known.recorded_is d i) ∙ sym
-    (pair-part (λ p. p.recorded) c n (after_release_taken r ((s.block n).pair c)) (let_block c r (s.block n))
-    s.block (λ j. refl) d i))
-    (λ d i. reply-quiet (Key.ProbeOf i) (record { 0 = c }) m u d answer.width answer.whole (λ e. (refl, refl))
-    ∙ missing-release c x t answer.other d i ∙ known.probes d i
-    ∙ sym (probing-released (λ p. not (is_unprobed p.probing)) (λ q p. refl) c n r rest s d i))
-    known
+    traced-still (released-quiet answer) (still-released c n r rest s) (λ d i. recorded-answer _ m u answer.width
+    answer.whole answer.none d i ∙ recorded-last is d i ∙ same_or ((c == d) && (n == i)) (prune_right r) _ _
+    (known.recorded_is d i) ∙ sym (pair-part (λ p. p.recorded) c n (after_release_taken r ((s.block n).pair c))
+    (let_block c r (s.block n)) s.block (λ j. refl) d i)) (λ d i. reply-quiet (Key.ProbeOf i) _ m u d
+    answer.width answer.whole (λ e. (refl, refl)) ∙ missing-release c x t answer.other d i ∙ known.probes d i
+    ∙ sym (probing-released (λ p. not (is_unprobed p.probing)) (λ q p. refl) c n r rest s d i)) known

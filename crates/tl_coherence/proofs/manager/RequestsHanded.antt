@@ -4,16 +4,16 @@ use Rattle.std.proofs.Common.{arith, length}
 use Rattle.tl_coherence.proofs
 use proofs.Imports.{cases_eq, Beat, Message, MessageA, a_beat_of, beats_of, Config, Cap, Perm, cap_right, Trace}
 use proofs.Imports.{same_perm, Memory, bytes_from, block_at, same_block, performed-access, performed-acquire, End}
-use proofs.Imports.{Reaction, cap_granted, cap_probed, recorded, level_of, reaction, IsWell, Grant, ClientBlock}
-use proofs.Imports.{after_grant_sent, is_granted_data, Block, GrantSent, State, granted_at_once, answers, gift}
-use proofs.Imports.{is_unheld, probes_some, AccessMessages, grant_of, block_message, SimulationRelation, Log, System}
+use proofs.Imports.{cap_granted, cap_probed, recorded, level_of, reaction, IsWell, Grant, after_grant_sent}
+use proofs.Imports.{is_granted_data, Block, GrantSent, State, granted_at_once, answers, gift, is_unheld, probes_some}
+use proofs.Imports.{AccessMessages, grant_of, block_message, SimulationRelation, Log, System}
 use Rattle.tl_manager.specs.statement.Handing.{grant_with, grant_payload}
 use Rattle.tl_manager.specs.statement.Handing as handing
 use Rattle.tl_manager.specs.statement.Holders as holders
 use Rattle.tl_manager.specs.statement.Service as manager
+use proofs.manager.RequestsTaken.{acquire_wanted, next_tracker, reaction-performed, unheld-same}
 use proofs.manager.Memories.{performed-reply}
 use proofs.manager.Probing.{recorded-beat, link_of, with_beat, IsComing, service_for}
-use proofs.manager.RequestsTaken.{acquire_wanted, next_tracker, reaction-performed, unheld-same}
 use proofs.protocol.Heads.{IsAsked, IsWanted}
 use proofs.queues.{Tokens.set-same, Codes.acquires-so, Codes.gives-some, Codes.data-same}
 
@@ -30,9 +30,8 @@ handed-answered {w} {config} {log} {mail} {request} {s} {sys} {c} {k} is asked c
     let m : MessageA w = asked.request in
     let n : ℕ = block_at m.address in
     let e : End w = sys.manager in
-    ap (λ (d : Reaction w). d.handed) (reaction-performed c k n false m is comes last asked.access refl
-    none ∙ performed-access config (service_for c m e.trace) (with_beat c m k e.trace) e.memory asked.access)
-    ∙ ap (λ (i : Message w). (link_of c, i) ∷ [])
+    ap (λ d. d.handed) (reaction-performed c k n false m is comes last asked.access refl none ∙ performed-access
+    config (service_for c m e.trace) (with_beat c m k e.trace) e.memory asked.access) ∙ ap (λ i. (link_of c, i) ∷ [])
     (cc (performed-reply (level_of config c) m e.memory comes.width asked.lawful, is.memory n))
 
 -- ---- a Grant
@@ -80,7 +79,7 @@ handed-granted {w} {config} {log} {mail} {request} {s} {sys} {caching} {c} {n} {
     let gift_is : Cap = gift config.profile asked.whole asked.grow unheld in
     let data_too : Bool = is_granted_data asked.whole asked.grow (b.pair c).recorded in
     let new : Block (List ℕ) = granted_at_once c (next_tracker sys) data_too gift_is b in
-    let recorded_now = ap (λ (p : ClientBlock). p.recorded) (set-same c (after_grant_sent gift_is (b.pair c)) b.pair) in
+    let recorded_now = ap (λ p. p.recorded) (set-same c (after_grant_sent gift_is (b.pair c)) b.pair) in
     let given : cap_granted config.profile m.opcode m.param (holders.is_unheld config (block_at m.address) u)
     ≡ gift_is = cc (same_block n, unheld-same c k n m is) in
     let carried : handing.is_granted_data m.opcode m.param (recorded c (block_at m.address) u) ≡ data_too = cc (
@@ -89,10 +88,9 @@ handed-granted {w} {config} {log} {mail} {request} {s} {sys} {caching} {c} {n} {
       is.managed.recorded_is c n,
       data-same asked.whole asked.grow (b.pair c).recorded,
     ) in
-    ap (λ (d : Reaction w). d.handed) (reaction-performed c k n true m is comes last (acquires-so asked.whole)
-    (same_block n) none ∙ performed-acquire config (service_for c m e.trace) u e.memory (acquires-so asked.whole))
-    ∙ ap (λ (i : Message w). (link_of c, i) ∷ [])
-    (ap₂ (λ (j : Cap) (d : Bool). grant_with (service_for c m e.trace) j d e.memory) given carried ∙ grant-is
-    (service_for c m e.trace) c n (b.source c) (next_tracker sys) data_too gift_is e.memory b.truth refl refl
-    (same_block n) (is.memory n ∙ memory-granted c data_too gift_is well refl recorded_now
+    ap (λ d. d.handed) (reaction-performed c k n true m is comes last (acquires-so asked.whole) (same_block n)
+    none ∙ performed-acquire config (service_for c m e.trace) u e.memory (acquires-so asked.whole))
+    ∙ ap (λ i. (link_of c, i) ∷ []) (ap₂ (λ (j : Cap) (d : Bool). grant_with (service_for c m e.trace) j d e.memory)
+    given carried ∙ grant-is (service_for c m e.trace) c n (b.source c) (next_tracker sys) data_too gift_is
+    _ _ refl refl (same_block n) (is.memory n ∙ memory-granted c data_too gift_is well refl recorded_now
     (gives-some config.profile asked.whole asked.grow unheld)))

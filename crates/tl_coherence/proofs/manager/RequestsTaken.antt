@@ -7,11 +7,10 @@ use proofs.Imports.{and_comm, or_parts, Beat, Message, MessageA, a_beat_of, beat
 use proofs.Imports.{same_perm, on_link, block_at, ends, is_acquire, same_block, swapped, acquisition, End, cap_granted}
 use proofs.Imports.{performed, cap_probed, is_nobody, is_spared, probed, recorded, must_wait, reaction, is_in_service}
 use proofs.Imports.{trackers_of, least_untaken, services, IsInvariant, cap_asked, Acquire, Kind, Packet, Request, set}
-use proofs.Imports.{AcquireOpen, ClientBlock, is_unprobed, is_above, is_granted_data, Acquires, Asked, Block, Free}
-use proofs.Imports.{GrantSent, GrantTaken, InService, Service, State, Waits, acquire_granted, acquire_served, is_probed}
-use proofs.Imports.{on, packet, view, AbstractState, access_taken, acquire_opcode, gift, is_unheld, kind_taken}
-use proofs.Imports.{probes_some, some_below, AccessMessages, IsServedWith, SimulationRelation, is_caching, IsFor, Log}
-use proofs.Imports.{System}
+use proofs.Imports.{AcquireOpen, is_unprobed, is_above, is_granted_data, Acquires, Asked, Block, Free, GrantSent}
+use proofs.Imports.{GrantTaken, InService, Service, State, Waits, acquire_granted, acquire_served, is_probed, on}
+use proofs.Imports.{packet, AbstractState, access_taken, acquire_opcode, gift, is_unheld, kind_taken, probes_some}
+use proofs.Imports.{some_below, AccessMessages, IsServedWith, SimulationRelation, is_caching, IsFor, Log, System}
 use Rattle.tl_manager.proofs.calls.Events.{reaction-unprobed, reaction-intent}
 use Rattle.tl_manager.specs.statement.Holders as holders
 use proofs.manager.{Memories.IsManagerOf, Accounts.IsAtManager, Accounts.at_manager-matched, Admitted.unserved-free}
@@ -35,14 +34,13 @@ pub free-last : {w : ℕ} {config : Config} {log : Log w} {mail : AccessMessages
 free-last {w} {config} {request} {s} {sys} {c} {k} {m} is comes last moves =
     let ended : ends (Beat.A (a_beat_of m k)) (on_link c sys.manager.trace) ≡ true =
     ends-coming comes ∙ rw last (is_last k (suc k) (omega arith)) in
-    unserved-free (block_at m.address) is.managed
-    (or_parts (is_in_service (block_at m.address) (services sys.manager.trace))
+    unserved-free _ is.managed (or_parts (is_in_service (block_at m.address) (services sys.manager.trace))
     (nat_le config.trackers (length (services sys.manager.trace))) (rw ended at moves)).0
 
 pub untracked-next : {w : ℕ} {config : Config} {log : Log w} {mail : AccessMessages w} {request : ℕ → MessageA w}
     {s : State (List ℕ)} {sys : System w}
     → SimulationRelation config log mail request s sys → s.tracked (next_tracker sys) ≡ None
-untracked-next {config} {request} {s} {sys} is = free-untracked is.invariant is.managed
+untracked-next is = free-untracked is.invariant is.managed
 
 -- the access that has a block in service
 serving-for : {w : ℕ} (service : Service) (n : ℕ) (m : MessageA w) → IsFor service n m → IsServing service m
@@ -52,16 +50,15 @@ serving-for service n m for = tt
 serving-matched : {w : ℕ} {config : Config} {log : Log w} {mail : AccessMessages w} {request : ℕ → MessageA w}
     {s : State (List ℕ)} {sys : System w}
     → SimulationRelation config log mail request s sys → (n : ℕ) → IsServing (s.block n).service (request n)
-serving-matched {request} {s} is n = serving-for (s.block n).service n (request n) (is.served.requests n)
+serving-matched {request} {s} is n = serving-for _ n _ (is.served.requests n)
 
 -- the invariant is kept
 pub invariant-taken : {w : ℕ} {config : Config} {log : Log w} (h : AbstractState w) {sys : System w} (c : ℕ) (k : Kind)
     (i : ℕ) (rest : List Packet) → SimulationRelation config log h.mail h.request h.state sys
     → on k (h.state.link c) ≡ packet k i ∷ rest → IsReady (next_tracker sys) c k i h
     → IsInvariant (is_caching config) (kind_taken config (next_tracker sys) c k i rest h).state
-invariant-taken {config} {log} h {sys} c k i rest is first ready =
-    kind_taken-kept config (next_tracker sys) c k i rest h is.invariant (plain-past config)
-    (λ n. (is.sized n).truth) (serving-matched is) first ready
+invariant-taken {config} h {sys} c k i rest is first ready = kind_taken-kept config _ c k i rest h is.invariant
+    (plain-past config) (λ n. (is.sized n).truth) (serving-matched is) first ready
 
 -- ---- who is probed
 
@@ -71,7 +68,7 @@ pub probed-some : {w : ℕ} {config : Config} {log : Log w} {mail : AccessMessag
     → SimulationRelation config log mail request s sys → is_acquire m.opcode ≡ own → block_at m.address ≡ n
     → is_nobody (probed config (service_for c m sys.manager.trace) j (with_beat c m k sys.manager.trace))
     ≡ not (some_below (length config.clients.items) (λ d. is_probed c own j ((s.block n).pair d).recorded d))
-probed-some {w} {config} {s} {sys} c k n own j m is kind block =
+probed-some {config} {s} {sys} c k n own j m is kind block =
     nobody-same config (λ d. holders.is_above j (recorded d (block_at m.address) (with_beat c m k sys.manager.trace))
     && not (is_spared (service_for c m sys.manager.trace) d)) (λ d. is_probed c own j ((s.block n).pair d).recorded d)
     (λ d. rw (
@@ -91,7 +88,7 @@ pub unheld-same : {w : ℕ} {config : Config} {log : Log w} {mail : AccessMessag
     {s : State (List ℕ)} {sys : System w} (c k n : ℕ) (m : MessageA w)
     → SimulationRelation config log mail request s sys → holders.is_unheld config n (with_beat c m k sys.manager.trace)
     ≡ is_unheld (length config.clients.items) (s.block n).pair
-unheld-same {w} {config} {s} {sys} c k n m is = nobody-same config (λ d. holders.has_copy
+unheld-same {config} {s} {sys} c k n m is = nobody-same config (λ d. holders.has_copy
     (recorded d n (with_beat c m k sys.manager.trace))) (λ d. not (same_perm ((s.block n).pair d).recorded Perm.None))
     (λ d. rw (recorded-beat c k m sys.manager.trace d n, is.managed.recorded_is d n)
     (copies_so ((s.block n).pair d).recorded))
@@ -100,14 +97,12 @@ unheld-same {w} {config} {s} {sys} c k n m is = nobody-same config (λ d. holder
 pub quiet-free : {w : ℕ} {config : Config} {log : Log w} {mail : AccessMessages w} {request : ℕ → MessageA w}
     {s : State (List ℕ)} {sys : System w} (n : ℕ) → SimulationRelation config log mail request s sys
     → (s.block n).service ≡ Free → (d : ℕ) → is_unprobed ((s.block n).pair d).probing ≡ true
-quiet-free {s} n is free d = quiet_at_rest ((s.block n).pair d) (view (s.block n).service d)
-    ((is.invariant.blocks n).phases d) (rw free refl)
+quiet-free {s} n is free d = quiet_at_rest _ _ ((is.invariant.blocks n).phases d) (rw free refl)
 
 pub beyond-none : {w : ℕ} {config : Config} {log : Log w} {mail : AccessMessages w} {request : ℕ → MessageA w}
     {s : State (List ℕ)} {sys : System w} (n : ℕ) → SimulationRelation config log mail request s sys
     → (d : ℕ) → length config.clients.items ≤ d → ((s.block n).pair d).recorded ≡ Perm.None
-beyond-none {config} n is d past =
-    ap (λ (p : ClientBlock). p.recorded) ((is.invariant.blocks n).outside d (plain-past config d past))
+beyond-none {config} n is d past = ap (λ p. p.recorded) ((is.invariant.blocks n).outside d (plain-past config d past))
 
 -- ---- what is done
 
@@ -126,9 +121,8 @@ reaction-performed {w} {config} {sys} c k n own m is comes last kind block none 
 
     go : (o : Option Cap) → cap_probed m.opcode m.param ≡ o → reaction config (link_of c) (Beat.A (a_beat_of m k))
         e ≡ performed config (service_for c m e.trace) (with_beat c m k e.trace) e.memory
-    go None f = reaction-intent config (link_of c) (a_beat_of m k) (service_for c m e.trace) e
-        (served-last comes last) f
-    go (Some j) f = reaction-unprobed config (link_of c) (a_beat_of m k) (service_for c m e.trace) j e
+    go None f = reaction-intent config _ _ _ e (served-last comes last) f
+    go (Some j) f = reaction-unprobed config _ _ _ j e
         (served-last comes last) f (no-clients (probed config (service_for c m e.trace) j (with_beat c m k e.trace))
         (probed-some c k n own j m is kind block ∙ ap not (rw f at none)))
 
@@ -164,7 +158,7 @@ with-same : {w : ℕ} (mail after : AccessMessages w) (service : Service) (m : M
     → IsServedWith mail service m → IsServedWith after service m
 with-same mail after Free m same ok = tt
 with-same mail after (Waits r true source k) m same ok = tt
-with-same {w} mail after (Waits r false source k) m same ok = ap (λ (f : ℕ → ℕ → Message w). f r source) same ∙ ok
+with-same mail after (Waits r false source k) m same ok = ap (λ f. f r source) same ∙ ok
 with-same mail after (GrantSent q d k) m same ok = tt
 with-same mail after (GrantTaken q) m same ok = tt
 
@@ -174,7 +168,7 @@ at_manager-answers : {w : ℕ} {config : Config} {mail : AccessMessages w} (afte
     → IsAtManager config mail request s e → IsAtManager config after request s e
 at_manager-answers {mail} after {request} {s} same is = record {
   traced = is.traced;
-  served_with = λ n. with-same mail after (s.block n).service (request n) same (is.served_with n);
+  served_with = λ n. with-same mail after _ _ same (is.served_with n);
   manager_kept = is.manager_kept;
   memory = is.memory;
   all_live = is.all_live;
@@ -185,7 +179,7 @@ pub ready-request : {w : ℕ} {config : Config} {log : Log w} (h : AbstractState
     → IsComing config c k asked.request sys.manager → beats_of (Message.A asked.request) ≡ suc k
     → must_wait config (link_of c) (Beat.A (a_beat_of asked.request k)) sys.manager.trace ≡ false
     → IsReady (next_tracker sys) c Request source h
-ready-request {config} {log} h {sys} {c} {k} is asked comes last moves =
+ready-request h is asked comes last moves =
     (asked.request, asked.is_it, asked.access, free-last is comes last moves, untracked-next is)
 
 -- after the last beat of an access that was taken
@@ -223,7 +217,7 @@ at_manager-request_taken {w} {config} {log} h {sys} {c} {source} {k} rest is ask
     free = free-last is comes last moves
 
     unwaited : IsUnwaited c source h.state
-    unwaited = unwaited-asked c source is asked.used
+    unwaited = unwaited-asked c _ is asked.used
 
     answering : IsAnswering config c k n m h.state e
     answering = record {
@@ -241,8 +235,7 @@ at_manager-request_taken {w} {config} {log} h {sys} {c} {source} {k} rest is ask
     go true (Some j) f g =
         let some = somebody-probed c k n false m is asked.access refl f in
         let same : some.0 ≡ j = (let same : Some some.0 ≡ Some j = sym some.1 ∙ g ∙ refl in cc) in
-        at_manager-probing (λ i. refl)
-        (record {
+        at_manager-probing (λ i. refl) (record {
           comes = comes;
           last = last;
           for = (asked.access, asked.source_is, refl, g);
@@ -252,7 +245,7 @@ at_manager-request_taken {w} {config} {log} h {sys} {c} {source} {k} rest is ask
           unwaited = unwaited;
         })
         (rw same at some.2) asked.is_it (at_manager-matched is)
-    go false o f g = subst (λ (i : AbstractState w). IsManagerOf config i after) (sym refl) (at_manager-answered
+    go false o f g = subst (λ i. IsManagerOf config i after) (sym refl) (at_manager-answered
         (λ i. refl) answering asked.lawful (reaction-performed c k n false m is comes last asked.access refl f)
         (at_manager-answers (access_taken c source m tracker false None rest h).mail refl (at_manager-matched is)))
 
@@ -285,7 +278,7 @@ pub ready-acquire : {w : ℕ} {config : Config} {log : Log w} (h : AbstractState
     → beats_of (Message.A (acquire_wanted c n h.state asked)) ≡ suc k
     → must_wait config (link_of c) (Beat.A (a_beat_of (acquire_wanted c n h.state asked) k)) sys.manager.trace ≡ false
     → IsReady (next_tracker sys) c Acquire n h
-ready-acquire {config} {log} h {sys} {c} {n} {k} is asked comes last moves =
+ready-acquire h {n} is asked comes last moves =
     (ap (λ i. (h.state.block i).service) (sym (same_block n)) ∙ free-last is comes last moves, untracked-next is)
 
 -- after an Acquire that was taken
@@ -296,14 +289,14 @@ pub at_manager-acquire_taken : {w : ℕ} {config : Config} {log : Log w} (h : Ab
     → must_wait config (link_of c) (Beat.A (a_beat_of (acquire_wanted c n h.state asked) k)) sys.manager.trace ≡ false
     → IsManagerOf config (kind_taken config (next_tracker sys) c Acquire n rest h)
     (end_after config c k (acquire_wanted c n h.state asked) sys.manager)
-at_manager-acquire_taken {w} {config} {log} h {sys} {c} {n} {k} rest is asked comes last moves =
+at_manager-acquire_taken {w} {config} h {sys} {c} {n} {k} rest is asked comes last moves =
     rw asked.wants (go (some_below clients (λ d. is_probed c true j (b.pair d).recorded d)) refl)
   where
     b : Block (List ℕ)
     b = h.state.block n
 
     m : MessageA w
-    m = acquire_wanted c n h.state asked
+    m = acquire_wanted c n _ asked
 
     e : End w
     e = sys.manager
@@ -330,7 +323,7 @@ at_manager-acquire_taken {w} {config} {log} h {sys} {c} {n} {k} rest is asked co
     caps = caps_asked w asked.whole asked.grow (b.source c) n
 
     unwaited : IsUnwaited c m.source h.state
-    unwaited = unwaited-acquires c m.source n is asked.used ready.0
+    unwaited = unwaited-acquires c _ n is asked.used ready.0
 
     given : Cap
     given = gift config.profile asked.whole asked.grow (is_unheld clients b.pair)

@@ -12,7 +12,7 @@ use proofs.Imports.{after_release_ack, Block, Free, GrantSent, GrantTaken, InSer
 use proofs.Imports.{acquiring_block, is_on, let_go_block, on, packet, packets_on, probed_block, releasing_block}
 use proofs.Imports.{stored_block, taken_block, AbstractState, abstract_step, abstract_step_by, asked, kind_taken}
 use proofs.Imports.{packet_taken, taken_by_client, channel_for, AccessMessages, cap_sent, IsServedWith}
-use proofs.Imports.{SimulationRelation, is_caching, receiver, is_moving, Log, Step, client_of, handed_by, is_to_client}
+use proofs.Imports.{SimulationRelation, is_caching, receiver, is_moving, Log, client_of, handed_by, is_to_client}
 use proofs.Imports.{judged, stepped, System, terms_at, with_channel, with_client}
 use Rattle.tl_coherence.specs.refinement.AbstractStep.{is_last}
 use Rattle.tl_client.specs.statement.Ask as client_ask
@@ -60,7 +60,7 @@ same-blocks {X} n {new} s u blocks is = (
 at_manager-unseen : {w : ℕ} {config : Config} {mail : AccessMessages w} {request : ℕ → MessageA w} (n : ℕ)
     {new : Block (List ℕ)} {s u : State (List ℕ)} {e : End w} → ((i : ℕ) → u.block i ≡ set n new s.block i)
     → IsSameBlock (s.block n) new → IsAtManager config mail request s e → IsAtManager config mail request u e
-at_manager-unseen n {new} {s} {u} blocks same is =
+at_manager-unseen n {s} {u} blocks same is =
     let all = same-blocks n s u blocks same in
     at_manager-same all.0 all.1 is
 
@@ -68,20 +68,20 @@ at_manager-unseen n {new} {s} {u} blocks same is =
 at_manager-untouched : {w : ℕ} {config : Config} {mail : AccessMessages w} {request : ℕ
     → MessageA w} {s u : State (List ℕ)} {e : End w} → ((i : ℕ) → u.block i ≡ s.block i)
     → IsAtManager config mail request s e → IsAtManager config mail request u e
-at_manager-untouched {s} {u} blocks is = at_manager-same (record {
-  recorded_same = λ c i. ap (λ (b : Block (List ℕ)). (b.pair c).recorded) (blocks i);
-  quiet_same = λ c i. ap (λ (b : Block (List ℕ)). is_unprobed (b.pair c).probing) (blocks i);
-  tracker_same = λ i. ap (λ (b : Block (List ℕ)). b.tracker) (blocks i);
+at_manager-untouched {s} blocks is = at_manager-same (record {
+  recorded_same = λ c i. ap (λ b. (b.pair c).recorded) (blocks i);
+  quiet_same = λ c i. ap (λ b. is_unprobed (b.pair c).probing) (blocks i);
+  tracker_same = λ i. ap (λ b. b.tracker) (blocks i);
   service_same = λ i. rw (blocks i) (same-again (s.block i).service);
-}) (λ i. ap (λ (b : Block (List ℕ)). b.memory) (blocks i)) is
+}) (λ i. ap (λ b. b.memory) (blocks i)) is
 
 -- a client's pair in place of one that is the same to the manager
 same-pair : {X : Type 0} (c : ℕ) (p : ClientBlock) (b : Block X) → p.recorded ≡ (b.pair c).recorded
     → is_unprobed p.probing ≡ is_unprobed (b.pair c).probing → (new : Block X) → new.pair ≡ set c p b.pair
     → new.tracker ≡ b.tracker → SameService b.service new.service → new.memory ≡ b.memory → IsSameBlock b new
 same-pair c p b recorded quiet new pairs tracker service memory = record {
-  recorded_same = λ d. cc (pairs, set-part (λ (q : ClientBlock). q.recorded) c p b.pair recorded d);
-  quiet_same = λ d. cc (pairs, set-part (λ (q : ClientBlock). is_unprobed q.probing) c p b.pair quiet d);
+  recorded_same = λ d. cc (pairs, set-part (λ q. q.recorded) c p b.pair recorded d);
+  quiet_same = λ d. cc (pairs, set-part (λ q. is_unprobed q.probing) c p b.pair quiet d);
   tracker_same = tracker;
   service_same = service;
   memory_same = memory;
@@ -90,7 +90,7 @@ same-pair c p b recorded quiet new pairs tracker service memory = record {
 same-acquiring : {X : Type 0} (c source : ℕ) (whole : Bool) (g : Grow) (bytes : X) (b : Block X)
     → IsSameBlock b (acquiring_block c source whole g bytes b)
 same-acquiring c source whole g bytes b = same-pair c (after_acquire whole g (b.pair c)) b refl refl
-    (acquiring_block c source whole g bytes b) refl refl (same-again b.service) refl
+    _ refl refl (same-again b.service) refl
 
 same-stored : {X : Type 0} (c : ℕ) (bytes : X) (b : Block X) → IsSameBlock b (stored_block c bytes b)
 same-stored c bytes b = record {
@@ -119,7 +119,7 @@ asked_with {w} {caching} c source n i mail {s} m inv closed (Waits r false src k
   | inl client ↦ elim (cases_eq src source) [
     | inl number ↦ absurd (let used : s.uses r src ≡ InService n = waits-used n r src false k inv e in
         let no : SourceFree ≡ InService n = sym closed ∙ ap₂ s.uses (sym client) (sym number) ∙ used in cc)
-    | inr other ↦ rw client (ap (λ (f : ℕ → Message w). f src) (set-same c (set source i (mail.request c)) mail.request)
+    | inr other ↦ rw client (ap (λ f. f src) (set-same c (set source i (mail.request c)) mail.request)
         ∙ set-other source src i (mail.request c) other ∙ ap (λ j. mail.request j src) (sym client) ∙ ok)
   ]
   | inr other ↦ cc (set-other c r (set source i (mail.request c)) mail.request other)
@@ -130,12 +130,11 @@ asked_with c source n i mail m inv closed (GrantTaken q) e ok = tt
 at_manager-access : {w : ℕ} {caching : ℕ → Bool} (config : Config) (c source : ℕ) (m : MessageA w) (h : AbstractState w)
     (e : End w) → IsInvariant caching h.state → h.state.uses c source ≡ SourceFree → IsManagerOf config h e
     → IsManagerOf config (asked c (Op.Access (Message.A m)) (Reply.Started source) h) e
-at_manager-access {w} {caching} config c source m h e inv closed is =
+at_manager-access config c source m h e inv closed is =
     let now = at_manager-untouched (λ i. refl) is in
     record {
       traced = now.traced;
-      served_with = λ n. asked_with c source n (access source m) h.mail (h.request n) inv closed
-          (h.state.block n).service refl (is.served_with n);
+      served_with = λ n. asked_with c _ n (access source m) h.mail _ inv closed _ refl (is.served_with n);
       manager_kept = now.manager_kept;
       memory = now.memory;
       all_live = now.all_live;
@@ -147,7 +146,7 @@ pub at_manager-asked : {w : ℕ} {caching : ℕ → Bool} (config : Config) (c :
     → IsAskable caching c o r h → IsManagerOf config h e → IsManagerOf config (asked c o r h) e
 at_manager-asked config c (Op.Store address size value) Reply.Stored h e inv may is =
     let bytes = copy_stored address size value ((h.state.block (block_at address)).copy c) in
-    at_manager-unseen (block_at address) (λ i. refl) (same-stored c bytes (h.state.block (block_at address))) is
+    at_manager-unseen _ (λ i. refl) (same-stored c bytes (h.state.block (block_at address))) is
 at_manager-asked config c (Op.Acquire n g) (Reply.Started source) h e inv may is =
     at_manager-unseen n (λ i. refl) (same-acquiring c source false g ((h.state.block n).waiting c) (h.state.block n)) is
 at_manager-asked config c (Op.AcquireWhole n bytes) (Reply.Started source) h e inv may is =
@@ -157,7 +156,7 @@ at_manager-asked config c (Op.Release n p) (Reply.Started source) h e inv may is
     (same-pair c (after_release p ((h.state.block n).pair c)) (h.state.block n) refl refl
     (releasing_block c source p (h.state.block n)) refl refl (same-again (h.state.block n).service) refl) is
 at_manager-asked config c (Op.Access (Message.A m)) (Reply.Started source) h e inv may is =
-    at_manager-access config c source m h e inv may is
+    at_manager-access config c _ m h e inv may is
 at_manager-asked config c o r h e inv may is = is
 
 -- ---- a client takes a message
@@ -181,7 +180,7 @@ at_manager-client_taken config tracker c Answer n rest h e kind inv first is = a
 at_manager-client_taken config tracker c ReleaseAck n rest h e kind inv first is = at_manager-unseen n (λ i. refl)
     (same-pair c (after_release_ack ((h.state.block n).pair c)) (h.state.block n) refl refl
     (let_go_block c (h.state.block n)) refl refl (same-again (h.state.block n).service) refl) is
-at_manager-client_taken {w} config tracker c Grant n rest h e kind inv first is = go (h.state.block n).service refl
+at_manager-client_taken config tracker c Grant n rest h e kind inv first is = go (h.state.block n).service refl
   where
     go : (service : Service) → (h.state.block n).service ≡ service
         → IsManagerOf config (taken_by_client c n service rest h) e
@@ -198,7 +197,7 @@ pub at_manager-nobody : {w : ℕ} {config : Config} {log : Log w} (h : AbstractS
     → SimulationRelation config log h.mail h.request h.state sys → terms_at config (client_of event) ≡ None
     → IsManagerOf config (abstract_step config event sys h) (stepped config event sys).after.manager
 unfolding stepped
-at_manager-nobody {w} {config} {log} h {sys} event is none =
+at_manager-nobody {w} {config} h {sys} event is none =
     let go : (event : Event w) → IsManagerOf config (abstract_step_by config event Outcome.NoSuchClient sys h)
     sys.manager = elim [ Ask c o ↦ at_manager-matched is | Deliver link ch ↦ at_manager-matched is ] in
     rw none (go event)
@@ -210,9 +209,9 @@ pub at_manager-ask : {w : ℕ} {config : Config} {log : Log w} (h : AbstractStat
     → SimulationRelation config log h.mail h.request h.state sys → terms_at config c ≡ Some terms
     → IsAskable (is_caching config) c o (client_ask.asked terms o (sys.clients c)).reply h
     → IsManagerOf config (abstract_step config (Ask c o) sys h) (stepped config (Ask c o) sys).after.manager
-at_manager-ask {w} {config} {log} h {sys} c o terms is there may =
+at_manager-ask {config} h {sys} c o terms is there may =
     let a = client_ask.asked terms o (sys.clients c) in
-    subst (λ (s : Step w). IsManagerOf config (abstract_step_by config (Ask c o) s.outcome sys h) s.after.manager)
+    subst (λ s. IsManagerOf config (abstract_step_by config (Ask c o) s.outcome sys h) s.after.manager)
     (sym (stepped-asked config c o sys terms there))
     (rw (manager-with_messages (handed_by c a.message) (with_client c a.after sys))
     (at_manager-asked config c o a.reply h sys.manager is.invariant may (at_manager-matched is)))
@@ -235,10 +234,10 @@ manager-to-client {w} config link ch sys terms there up = go (sys.channels link.
   where
     go : (xs : List (Beat w)) → sys.channels link.0 ch ≡ xs
         → (stepped config (Deliver link ch) sys).after.manager ≡ sys.manager
-    go [] e = ap (λ (s : Step w). s.after.manager) (stepped-empty config link ch sys terms there e)
+    go [] e = ap (λ s. s.after.manager) (stepped-empty config link ch sys terms there e)
     go (x ∷ rest) e =
         let o = offered terms ch x (sys.clients link.0) in
-        ap (λ (s : Step w). s.after.manager) (stepped-to-client config link ch sys terms x rest there e up)
+        ap (λ s. s.after.manager) (stepped-to-client config link ch sys terms x rest there e up)
         ∙ manager-judged o.answer link.0 ch x rest o.after sys
 
 -- the kinds of a channel to clients
@@ -251,14 +250,13 @@ pub at_manager-to_client : {w : ℕ} {config : Config} {log : Log w} (h : Abstra
     → terms_at config link.0 ≡ Some terms → is_to_client ch ≡ true
     → IsManagerOf config (abstract_step config (Deliver link ch) sys h)
     (stepped config (Deliver link ch) sys).after.manager
-at_manager-to_client {w} {config} {log} h {sys} link ch terms is there up =
+at_manager-to_client {config} h {sys} link ch terms is there up =
     let go : (b : Bool) → IsManagerOf config (if b then packet_taken config (next_tracker sys) c
     (packets_on ch (h.state.link c)) h else h) sys.manager =
     elim [ true ↦ taken (packets_on ch (h.state.link c)) refl | false ↦ known ] in
-    subst (IsManagerOf config (abstract_step config (Deliver link ch) sys h))
-    (sym (manager-to-client config link ch sys terms there up))
-    (go (is_moving (stepped config (Deliver link ch) sys).outcome && is_last (sys.channels c ch)
-    (unfinished ch (receiver ch c sys))))
+    subst (IsManagerOf config (abstract_step config (Deliver link ch) sys h)) (sym
+    (manager-to-client config link ch sys terms there up)) (go (is_moving (stepped config (Deliver link ch) sys).outcome
+    && is_last (sys.channels c ch) (unfinished ch (receiver ch c sys))))
   where
     c : ℕ
     c = link.0
@@ -272,6 +270,5 @@ at_manager-to_client {w} {config} {log} h {sys} link ch terms is there up =
     taken (y ∷ ys) e =
         let here : is_on ch y.kind ≡ false → ⊥ =
         λ off. first_counts y ys (rw e at (is.invariant.own_kinds c ch y.kind y.number off)) in
-        at_manager-client_taken config (next_tracker sys) c y.kind y.number ys h sys.manager
-        (to_clients ch y.kind up here) is.invariant
-        (on_same ch y.kind (h.state.link c) (true_from_ne_false (is_on ch y.kind) here) ∙ e) known
+        at_manager-client_taken config (next_tracker sys) c y.kind y.number ys h _ (to_clients ch y.kind up here)
+        is.invariant (on_same ch y.kind (h.state.link c) (true_from_ne_false (is_on ch y.kind) here) ∙ e) known

@@ -4,8 +4,8 @@ use Rattle.std.proofs.Common.{◌≡◌, ℕ, suc, Bool, true, false, not, List,
 use Rattle.std.proofs.Common.{ap, subst, arith, ◌⊎◌, inl, inr, length}
 use Rattle.tl_coherence.proofs
 use proofs.Imports.{Beat, Message, MessageA, a_beat_of, beats_of, Config, Cap, Trace, Memory, answer_of, effect}
-use proofs.Imports.{block_at, same_block, performed-acquire, Handed, Reaction, access_answer, grant, probes, cap_probed}
-use proofs.Imports.{probed, reaction, cap_asked, Acquire, Packet, Request, AcquireOpen, Block, is_probed, AbstractState}
+use proofs.Imports.{block_at, same_block, performed-acquire, Handed, access_answer, grant, probes, cap_probed, probed}
+use proofs.Imports.{reaction, cap_asked, Acquire, Packet, Request, AcquireOpen, Block, is_probed, AbstractState}
 use proofs.Imports.{bytes_at, kind_taken, probes_some, request_taken, some_below, IsAccess, MemoryRelation}
 use proofs.Imports.{SimulationRelation, Log, Machine, Requests, accesses_answered, performing, System}
 use Rattle.tl_coherence.specs.statement.Machine.{Performs}
@@ -49,8 +49,8 @@ unfolding Performs performing
 once-performs l h m (inl none) = rw none refl
 once-performs l h m (inr (q, source, one, opened)) = rw one (
   done_at q source (Message.A opened.0) m,
-  performed-open q source (Message.A opened.0) m opened.2,
-  performing-one q source (Message.A opened.0) m opened.2,
+  performed-open q source _ m opened.2,
+  performing-one q source _ m opened.2,
 )
 
 request-accesses : {w : ℕ} {config : Config} {log : Log w} (h : AbstractState w) {sys : System w} {c source k : ℕ}
@@ -88,10 +88,9 @@ request-accesses {w} {config} {log} h {sys} {c} {source} {k} is asked comes last
     accesses true None f g = absurd (let no : false ≡ true = rw g at f in cc)
     accesses true (Some j) f g =
         let some : some_below clients (λ d. is_probed c false j (b.pair d).recorded d) ≡ true = rw g at f in
-        ap (λ (d : Reaction w). accesses_answered d.handed) (reaction-probing config c k n j m sys.manager comes last
-        refl g (probed-some c k n false j m is asked.access refl ∙ ap not some))
-        ∙ accesses-probes w n j (probed config (service_for c m sys.manager.trace) j
-        (with_beat c m k sys.manager.trace))
+        ap (λ d. accesses_answered d.handed) (reaction-probing config c k n j m sys.manager comes last
+        refl g (probed-some c k n false j m is asked.access refl ∙ ap not some)) ∙ accesses-probes w n j
+        (probed config (service_for c m sys.manager.trace) j (with_beat c m k sys.manager.trace))
     accesses false o f g = answered f
 
 pub request-once : {w : ℕ} {config : Config} {log : Log w} (h : AbstractState w) {sys : System w} {c source k : ℕ}
@@ -100,7 +99,7 @@ pub request-once : {w : ℕ} {config : Config} {log : Log w} (h : AbstractState 
     → beats_of (Message.A asked.request) ≡ suc k → MemoryRelation h.mail h.state machine
     → IsOnce (accesses_answered (reaction config (link_of c) (Beat.A (a_beat_of asked.request k)) sys.manager).handed) h
     machine
-request-once {w} {config} {log} h {sys} {c} {source} {k} {machine} is asked comes last beside =
+request-once {config} h {sys} {c} {source} {k} {machine} is asked comes last beside =
     go (probes_some (length config.clients.items) c false (cap_probed asked.request.opcode asked.request.param)
     (h.state.block (block_at asked.request.address)).pair) (cap_probed asked.request.opcode asked.request.param)
     (request-accesses h is asked comes last)
@@ -124,7 +123,7 @@ pub beside-request_taken : {w : ℕ} {config : Config} {log : Log w} (h : Abstra
     (kind_taken config (next_tracker sys) c Request source rest h).state
     (performing (accesses_answered (reaction config (link_of c) (Beat.A (a_beat_of asked.request k))
     sys.manager).handed) machine)
-beside-request_taken {w} {config} {log} h {sys} {c} {source} {k} rest {machine} is asked comes last beside =
+beside-request_taken {w} {config} h {sys} {c} {source} {k} rest {machine} is asked comes last beside =
     let clients = length config.clients.items in
     let m : MessageA w = asked.request in
     let n : ℕ = block_at m.address in
@@ -138,7 +137,7 @@ beside-request_taken {w} {config} {log} h {sys} {c} {source} {k} rest {machine} 
       opened = rw asked.used at (beside.requests c source);
       long = (is.sized n).truth;
     } in
-    subst (λ (i : Message w). MemoryRelation (request_taken clients c source i tracker rest h).mail
+    subst (λ i. MemoryRelation (request_taken clients c source i tracker rest h).mail
     (request_taken clients c source i tracker rest h).state (performing (accesses_answered
     (reaction config (link_of c) (Beat.A (a_beat_of m k)) sys.manager).handed) machine)) (sym asked.is_it)
     (rw (request-accesses h is asked comes last)
@@ -159,7 +158,7 @@ acquire-accesses {w} {config} {log} h {sys} {c} {n} k is asked comes last =
     b = h.state.block n
 
     m : MessageA w
-    m = acquire_wanted c n h.state asked
+    m = acquire_wanted c n _ asked
 
     clients : ℕ
     clients = length config.clients.items
@@ -190,6 +189,6 @@ pub beside-acquire_taken : {w : ℕ} {config : Config} {log : Log w} (h : Abstra
     (performing (accesses_answered
     (reaction config (link_of c) (Beat.A (a_beat_of (acquire_wanted c n h.state asked) k)) sys.manager).handed) machine)
 unfolding performing
-beside-acquire_taken {w} {config} {log} h {sys} {c} {n} {k} rest {machine} is asked comes last beside =
+beside-acquire_taken {config} h {sys} {c} {n} {k} rest is asked comes last beside =
     rw (acquire-accesses h k is asked comes last) (beside-acquire (length config.clients.items) config.profile c n
     ((h.state.block n).pair c).acquiring (next_tracker sys) rest h beside)

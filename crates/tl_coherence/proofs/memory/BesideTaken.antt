@@ -5,15 +5,14 @@ use Rattle.std.proofs.Common.{refl, sym, ◌∙◌, ap, subst, arith, ◌⊎◌,
 use Rattle.tl_coherence.proofs
 use proofs.Imports.{cases_eq, cases_lt, not-true, OpA, IsWidth, Message, MessageA, Config, Cap, Report, Perm}
 use proofs.Imports.{report_left, same_perm, IsBlock, Memory, effect, block_at, is_acquire, Op, sourced, length-bytes}
-use proofs.Imports.{cap_probed, level_of, IsWell, set_at, ClientBlock, ProbeAnswered, ProbePhase, View, is_unprobed}
-use proofs.Imports.{same_cap, ok, is_above, Acquires, Block, Replied, SourceState, State, Waits, is_probed, view}
-use proofs.Imports.{written, is_sent, answers, bytes_at, performs, some_below, Answers, IsAccess, IsReach}
-use proofs.Imports.{MemoryRelation, AccessMessages, report_told, IsRequest, Machine, Open, Requests, with_memory}
-use proofs.Imports.{performing}
+use proofs.Imports.{cap_probed, IsWell, set_at, ClientBlock, ProbeAnswered, ProbePhase, View, is_unprobed, same_cap, ok}
+use proofs.Imports.{is_above, Acquires, Block, Replied, SourceState, State, Waits, is_probed, view, written, is_sent}
+use proofs.Imports.{answers, bytes_at, performs, some_below, Answers, IsAccess, IsReach, MemoryRelation, AccessMessages}
+use proofs.Imports.{report_told, IsRequest, Machine, Open, Requests, with_memory, performing}
 use Rattle.tl_rules.specs.statement.Effect as memory
-use proofs.memory.OneMemory.{blocks-performed, reply-performed, effect-sourced}
 use proofs.memory.Beside.{IsSameAcquire, set_at-there, open-here, open-there, open-releases, performing-one}
 use proofs.memory.Beside.{beside-used}
+use proofs.memory.OneMemory.{blocks-performed, reply-performed, effect-sourced}
 use proofs.queues.{Facts.is_other, Tokens.set_at-same}
 use proofs.queues.Phases.{nothing-above, not_out, each_phase, of_phase, implies, implies_is}
 use proofs.protocol.RequestsKept.{some-none}
@@ -29,7 +28,7 @@ pub memory-unprobed : (clients : ℕ) {caching : ℕ → Bool} (c : ℕ) (k : Ca
     → some_below clients (λ d. is_probed c false k (b.pair d).recorded d) ≡ false → b.memory ≡ b.truth
 memory-unprobed clients c k {b} plain well low none =
     let unprobed : (d : ℕ) → is_above k (b.pair d).recorded ≡ false = λ d. elim (cases_lt d clients) [
-      | inl lt ↦ some-none clients (λ i. is_probed c false k (b.pair i).recorded i) none d lt
+      | inl lt ↦ some-none _ (λ i. is_probed c false k (b.pair i).recorded i) none d lt
       | inr le ↦ rw (well.outside d (plain d le)) (nothing-above k)
     ] in
     well.memory (λ d. not_out (b.pair d) (view b.service d) (never_above k (b.pair d).recorded low (unprobed d)))
@@ -93,12 +92,12 @@ same_message x y e = cc
 -- the same effect, by the access as it was asked for
 effect_asked : {w : ℕ} (source : ℕ) (x b : MessageA w) (f : Memory) → x ≡ sourced source b
     → effect (Message.A b) f ≡ effect (Message.A x) f
-effect_asked {w} source x b f e = sym (ap (λ (y : MessageA w). effect (Message.A y) f) e ∙ effect-sourced source b f)
+effect_asked source x b f e = sym (ap (λ y. effect (Message.A y) f) e ∙ effect-sourced source b f)
 
 -- what is answered has as many bytes as are asked for
 reply_reach : {w : ℕ} (x : MessageA w) (f : Memory) → IsReach x (effect (Message.A x) f).1
 unfolding effect
-reply_reach {w} x f = go x.opcode
+reply_reach x f = go x.opcode
   where
     go : (o : OpA) → IsReach x (memory.access_result o x f)
     go OpA.Get = length-bytes f x.address (2 ^ x.size)
@@ -130,11 +129,10 @@ beside-performed {w} {config} {c} {source} {a} bytes {mail} {s} s' {m} is same_r
     record { asked = Op.Access (Message.A is.opened.0); answer = Some (effect (Message.A is.opened.0) m.memory).1 } in
     let reply_is : (effect (Message.A is.opened.0) m.memory).1 ≡ (effect (Message.A a) (bytes_at n bytes)).1 = cc (
       effect_is,
-      reply-performed (level_of config c) a m.memory (s.block n).truth is.width is.sent.1 (h.memory n) is.long,
+      reply-performed _ a m.memory _ is.width is.sent.1 (h.memory n) is.long,
       same_reply m.memory (h.memory n),
     ) in
-    subst (λ (z : Machine w). MemoryRelation mail' s' z)
-    (sym (performing-one c source (Message.A is.opened.0) m is.opened.2))
+    subst (λ z. MemoryRelation mail' s' z) (sym (performing-one c source (Message.A is.opened.0) m is.opened.2))
     (beside-used (record {
       memory = λ i. block_now i (cases_eq i n);
       uses = uses;
@@ -143,11 +141,11 @@ beside-performed {w} {config} {c} {source} {a} bytes {mail} {s} s' {m} is same_r
         (effect (Message.A is.opened.0) m.memory).1,
         let fact = open-here c Requests source (Some now) (with_memory (effect (Message.A is.opened.0) m.memory).0 m) in
             (is.opened.0, is.opened.1, fact),
-        subst (λ (x : Message w). Answers x (effect (Message.A is.opened.0) m.memory).1
+        subst (λ x. Answers x (effect (Message.A is.opened.0) m.memory).1
             (set_at c source (answers a bytes) mail.answer c source))
             (sym is.request) (
               cc (set_at-same c source (answers a bytes) mail.answer),
-              subst (λ (y : Memory × memory.AccessResult). IsReach a y.1) (sym effect_is) (reply_reach a m.memory),
+              subst (λ y. IsReach a y.1) (sym effect_is) (reply_reach a m.memory),
             ),
       );
       there = λ d i else_. open-there c Requests source (Some now)
@@ -163,18 +161,18 @@ beside-performed {w} {config} {c} {source} {a} bytes {mail} {s} s' {m} is same_r
     n = block_at a.address
 
     effect_is : effect (Message.A is.opened.0) m.memory ≡ effect (Message.A a) m.memory
-    effect_is = effect_asked source a is.opened.0 m.memory
+    effect_is = effect_asked source a _ m.memory
         (same_message a (sourced source is.opened.0) (sym is.request ∙ is.opened.1))
 
     blocks : IsBlock (effect (Message.A a) m.memory).0 n (performs a (s.block n).truth)
         × ((i : ℕ) → (i ≡ n → ⊥) → IsBlock (effect (Message.A a) m.memory).0 i (s.block i).truth)
-    blocks = blocks-performed (level_of config c) a m.memory (λ i. (s.block i).truth) is.width is.access is.sent.1
+    blocks = blocks-performed _ a m.memory (λ i. (s.block i).truth) is.width is.access is.sent.1
         is.sent.2 is.long h.memory
 
     block_now : (i : ℕ) → (i ≡ n) ⊎ (i ≡ n → ⊥) → IsBlock (effect (Message.A is.opened.0) m.memory).0 i
         (s'.block i).truth
-    block_now i (inl same) = rw same (subst (λ (y : Memory × memory.AccessResult). IsBlock y.0 n (s'.block n).truth)
-        (sym effect_is) (subst (λ (z : List ℕ). IsBlock (effect (Message.A a) m.memory).0 n z) (sym changed) blocks.0))
+    block_now i (inl same) = rw same (subst (λ y. IsBlock y.0 n (s'.block n).truth)
+        (sym effect_is) (subst (λ z. IsBlock (effect (Message.A a) m.memory).0 n z) (sym changed) blocks.0))
     block_now i (inr other) = rw effect_is (rw (others i other) (blocks.1 i other))
 
 -- what an Intent is answered doesn't depend on the bytes

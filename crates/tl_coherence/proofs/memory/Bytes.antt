@@ -61,8 +61,7 @@ module _ {w : ℕ} (m : MessageA w) (f : Memory) (payload : AreBytes m.payload) 
   stored-byte address = grind (arith, put-byte)
 
   made-byte : (n address : ℕ) → memory.with_number m n f address < 2 ^ 8
-  made-byte n address = either (reaches m.address m.size address) (byte_of n (address - m.address)) (f address)
-      (of-number n (address - m.address)) (are address)
+  made-byte n address = either (reaches m.address m.size address) _ _ (of-number n (address - m.address)) (are address)
 
   memory-after : (opcode : OpA) → HasBytes (memory.after opcode m f)
   memory-after OpA.PutFullData address = stored-byte address
@@ -99,7 +98,7 @@ pub record IsRangedMachine {w : ℕ} (m : Machine w) : Type 0 where
 
 opened-ranged : {w : ℕ} (client : ℕ) (at : Pool) (n : ℕ) (o : Option (Open w)) (f : Memory) {m : Machine w} → HasBytes f
     → IsRangedOpen o → IsRangedMachine m → IsRangedMachine (with_open client at n o (with_memory f m))
-opened-ranged {w} client at n o f {m} bytes is was =
+opened-ranged client at n o f {m} bytes is was =
     let go : (c : ℕ) (pool : Pool) (source : ℕ) (b : Bool) → IsRangedOpen (if b then o else m.opened c pool source) =
     λ c pool source. elim [ true ↦ is | false ↦ was.opened c pool source ] in
     record {
@@ -109,23 +108,21 @@ opened-ranged {w} client at n o f {m} bytes is was =
 
 started-ranged : {w : ℕ} (client : ℕ) (o : Op w) (n : ℕ) {m : Machine w} → IsRangedOp o → IsRangedMachine m
     → IsRangedMachine (with_open client (pool_of_op o) n (Some (record { asked = o; answer = None })) m)
-started-ranged client o n {m} is was =
-    opened-ranged client (pool_of_op o) n (Some (record { asked = o; answer = None })) m.memory was.memory (is, tt) was
+started-ranged client o n {m} is was = opened-ranged client (pool_of_op o) n _ m.memory was.memory (is, tt) was
 
 reply-ranged : {w : ℕ} (client : ℕ) (o : Op w) (r : Reply) {m : Machine w} → IsRangedOp o → IsRangedMachine m
     → IsRangedMachine (after_reply client o r m)
-reply-ranged client (Op.Load address size) (Reply.Started n) {m} is was =
+reply-ranged client (Op.Load address size) (Reply.Started n) is was =
     started-ranged client (Op.Load address size) n is was
-reply-ranged client (Op.Store address size value) (Reply.Started n) {m} is was =
+reply-ranged client (Op.Store address size value) (Reply.Started n) is was =
     started-ranged client (Op.Store address size value) n is was
-reply-ranged client (Op.Acquire k g) (Reply.Started n) {m} is was = started-ranged client (Op.Acquire k g) n is was
-reply-ranged client (Op.AcquireWhole k bytes) (Reply.Started n) {m} is was =
+reply-ranged client (Op.Acquire k g) (Reply.Started n) is was = started-ranged client (Op.Acquire k g) n is was
+reply-ranged client (Op.AcquireWhole k bytes) (Reply.Started n) is was =
     started-ranged client (Op.AcquireWhole k bytes) n is was
-reply-ranged client (Op.Release k p) (Reply.Started n) {m} is was = started-ranged client (Op.Release k p) n is was
-reply-ranged client (Op.Access x) (Reply.Started n) {m} is was = started-ranged client (Op.Access x) n is was
+reply-ranged client (Op.Release k p) (Reply.Started n) is was = started-ranged client (Op.Release k p) n is was
+reply-ranged client (Op.Access x) (Reply.Started n) is was = started-ranged client (Op.Access x) n is was
 reply-ranged client (Op.Store address size value) Reply.Stored {m} is was = record {
-  memory = λ i. either (reaches address size i) (byte_of value (i - address)) (m.memory i)
-      (of-number value (i - address)) (was.memory i);
+  memory = λ i. either (reaches address size i) _ _ (of-number value (i - address)) (was.memory i);
   opened = was.opened;
 }
 reply-ranged client o r is was = was
@@ -133,34 +130,33 @@ reply-ranged client o r is was = was
 -- a whole block is stored as it is granted
 stored-ranged : {w : ℕ} (o : Op w) {f : Memory} → IsRangedOp o → HasBytes f → HasBytes (memory_after o f)
 stored-ranged (Op.AcquireWhole k bytes) {f} is are = λ address. either (block_at address == k)
-    (slice_index bytes (address % 64)) (f address) (byte-at bytes (address % 64) is) (are address)
+    _ _ (byte-at bytes (address % 64) is) (are address)
 stored-ranged o is are = are
 
 end-ranged : {w : ℕ} (client : ℕ) (at : Pool) (n : ℕ) (o : Option (Open w)) {m : Machine w} → IsRangedOpen o
     → IsRangedMachine m → IsRangedMachine (after_end client at n o m)
 end-ranged client at n None is was = was
-end-ranged client at n (Some o) {m} is was = opened-ranged client at n None (memory_after o.asked m.memory)
+end-ranged client at n (Some o) {m} is was = opened-ranged client at n None _
     (stored-ranged o.asked is.0 was.memory) tt was
 
 moved-ranged : {w : ℕ} (e : Event w) (o : Outcome w) {m : Machine w} → IsRanged e → IsRangedMachine m
     → IsRangedMachine (moved e o m)
-moved-ranged (Ask client i) (Outcome.Replied r) {m} is was = reply-ranged client i r is was
+moved-ranged (Ask client i) (Outcome.Replied r) is was = reply-ranged client i r is was
 moved-ranged (Deliver link ch) (Outcome.Done x n f) {m} is was =
-    end-ranged link.0 (pool_of f) n (m.opened link.0 (pool_of f) n) (was.opened link.0 (pool_of f) n) was
+    end-ranged link.0 (pool_of f) n _ (was.opened link.0 (pool_of f) n) was
 moved-ranged e o is was = was
 
 op-ranged : {w : ℕ} (client n : ℕ) (o : Op w) (r : Option memory.AccessResult) {m : Machine w} → IsRangedOp o
     → IsRangedMachine m → IsRangedMachine (unwrap_or (performed_op client n o r m) m)
 op-ranged client n (Op.Access x) None {m} is was =
     let e = effect-bytes x is was.memory in
-    opened-ranged client Requests n (Some (record { asked = Op.Access x; answer = Some (effect x m.memory).1 }))
-    (effect x m.memory).0 e.0 (is, e.1) was
+    opened-ranged client Requests n _ _ e.0 (is, e.1) was
 op-ranged client n o r is was = was
 
 one-ranged : {w : ℕ} (client n : ℕ) {m : Machine w} (o : Option (Open w)) → IsRangedOpen o → IsRangedMachine m
     → IsRangedMachine (unwrap_or (performed_open client n o m) m)
 one-ranged client n None is was = was
-one-ranged client n {m} (Some o) is was = op-ranged client n o.asked o.answer is.0 was
+one-ranged client n (Some o) is was = op-ranged client n o.asked o.answer is.0 was
 
 performing-ranged : {w : ℕ} (accesses : List (ℕ × ℕ)) {m : Machine w} → IsRangedMachine m
     → IsRangedMachine (performing accesses m)
@@ -173,6 +169,5 @@ pub remembered-ranged : {w : ℕ} (config : Config) (log : Log w) → AreRanged 
     → IsRangedMachine (one_memory_after config log)
 unfolding one_memory_after AreRanged
 remembered-ranged config [] ranged = record { memory = λ address. lit< tt; opened = λ c pool source. tt }
-remembered-ranged config (x ∷ log) ranged =
-    performing-ranged (accesses_answered (stepped config x.0 (system_after config log)).handed)
-    (moved-ranged x.0 x.1 ranged.0 (remembered-ranged config log ranged.1))
+remembered-ranged config (x ∷ log) ranged = performing-ranged (accesses_answered (stepped config x.0
+    (system_after config log)).handed) (moved-ranged x.0 x.1 ranged.0 (remembered-ranged config log ranged.1))

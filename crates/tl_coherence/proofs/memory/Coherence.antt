@@ -63,14 +63,13 @@ moved_opened e o m c pool source = grind (arith, reply_opened, end_opened)
 op_opened : {w : ℕ} (client n : ℕ) (o : Open w) (m : Machine w) (c : ℕ) (pool : Pool) (source : ℕ)
     → m.opened client Requests n ≡ Some o
     → asked_at c pool source (unwrap_or (performed_open client n (Some o) m) m) ≡ asked_at c pool source m
-op_opened {w} client n o m c pool source e = go o.asked o.answer (ap (option_map (λ i. i.asked)) e)
+op_opened {w} client n o m c pool source e = go _ o.answer (ap (option_map (λ i. i.asked)) e)
   where
     go : (x : Op w) (r : Option memory.AccessResult) → asked_at client Requests n m ≡ Some x
         → asked_at c pool source (unwrap_or (performed_op client n x r m) m) ≡ asked_at c pool source m
     go (Op.Access a) None f = opened_with client Requests n
-        (Some (record { asked = Op.Access a; answer = Some (memory.effect a m.memory).1 }))
-        (with_memory (memory.effect a m.memory).0 m) c pool source
-        ∙ sym (same_there client Requests n (Some (Op.Access a)) m c pool source f)
+        (Some (record { asked = Op.Access a; answer = Some (memory.effect a m.memory).1 })) (with_memory (memory.effect
+        a m.memory).0 m) c pool source ∙ sym (same_there client Requests n (Some (Op.Access a)) m c pool source f)
     go x r f = refl
 
 one_opened : {w : ℕ} (client n : ℕ) (m : Machine w) (c : ℕ) (pool : Pool) (source : ℕ)
@@ -106,13 +105,13 @@ coherent-matched {w} {config} {log} {s} h =
           let none = (h.invariant.blocks n).one_owner c d (trunk_below ((s.block n).pair c).held
           ((s.block n).pair c).recorded (held_at_most ((s.block n).pair c) (view (s.block n).service c)
           ((h.invariant.blocks n).phases c)) (sym ((h.known c).held_is n) ∙ writes)) (λ e. differ (sym e)) in
-          (h.known d).held_is n ∙ none_below ((s.block n).pair d).held ((s.block n).pair d).recorded
+          (h.known d).held_is n ∙ none_below _ _
           (held_at_most ((s.block n).pair d) (view (s.block n).service d) ((h.invariant.blocks n).phases d)) none;
       copies = λ c n bytes copy.
-          let some = held-some ((s.block n).pair c).held (sym (cc ((h.kept c).copies_held n, (h.known c).held_is n))) in
+          let some = held-some _ (sym (cc ((h.kept c).copies_held n, (h.known c).held_is n))) in
           let same : (s.block n).truth ≡ bytes = sym ((h.invariant.blocks n).copies c some)
           ∙ some_is ((s.block n).copy c) bytes (sym (h.copies c n some) ∙ copy) in
-          subst (λ (b : List ℕ). IsBlock (one_memory_after config log).memory n b) same (h.beside.memory n);
+          subst (λ b. IsBlock (one_memory_after config log).memory n b) same (h.beside.memory n);
       kept = λ c n. (h.kept c).copies_held n;
       opened = λ c pool source. opened-started config log c pool source;
     }

@@ -14,7 +14,7 @@ use proofs.manager.Memories.{performed-block, performed-reply, byte_in}
 -- ---- a block's bytes, as a list and by their places
 
 block-of-bytes : (f : Memory) (n : ℕ) (bytes : List ℕ) → bytes_from f (64 * n) 64 ≡ bytes → IsBlock f n bytes
-block-of-bytes f n bytes e i lt = sym (ap (λ (b : List ℕ). slice_index b i) (sym e) ∙ byte_in f (64 * n) 64 i lt)
+block-of-bytes f n bytes e i lt = sym (ap (λ b. slice_index b i) (sym e) ∙ byte_in f (64 * n) 64 i lt)
 
 bytes-of-block : (f : Memory) (n : ℕ) (bytes : List ℕ) → IsBlock f n bytes → length bytes ≡ 64
     → bytes_from f (64 * n) 64 ≡ bytes
@@ -37,10 +37,10 @@ pub blocks-performed : {w : ℕ} (o : Option Level) (m : MessageA w) (f : Memory
     × ((n : ℕ) → (n ≡ block_at m.address → ⊥) → IsBlock (effect (A m) f).0 n (truth n))
 blocks-performed {w} o m f truth width access lawful blank long is =
     let apart : (n i : ℕ) → i < 64 → (n ≡ block_at m.address → ⊥) → (64 * n + i) / 64 ≢ m.address / 64 =
-    λ n i lt ne e. ne (omega (arith, lt, e)) in let fact = block-of-bytes (effect (A m) f).0 (block_at m.address)
-    (performs m (truth (block_at m.address))) (performed-block o m f width lawful ∙ ap (performs m)
+    λ n i lt ne e. ne (omega (arith, lt, e)) in let fact = block-of-bytes _ _
+    _ (performed-block o m f width lawful ∙ ap (performs m)
     (bytes-of-block f (block_at m.address) (truth (block_at m.address)) (is (block_at m.address)) long)) in
-    (fact, λ n ne i lt. elsewhere o m f (64 * n + i) width access lawful blank (apart n i lt ne) ∙ is n i lt)
+    (fact, λ n ne i lt. elsewhere o m f _ width access lawful blank (apart n i lt ne) ∙ is n i lt)
 
 -- its reply, by the bytes of its block
 pub reply-performed : {w : ℕ} (o : Option Level) (m : MessageA w) (f : Memory) (bytes : List ℕ) → IsWidth w

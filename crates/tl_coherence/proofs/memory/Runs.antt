@@ -54,7 +54,7 @@ stall-managed answer link ch x rest s e = grind arith
 pub stall-delivered : {w : ℕ} (config : Config) (terms : EndConfig) (link : ℕ) (ch : Channel) (x : Beat w)
     (rest : List (Beat w)) (s : System w) → IsTaken config terms link ch x s
     → is_stall (delivered config terms link ch (x ∷ rest) s).outcome ≡ stalls config terms link ch x s
-stall-delivered {w} config terms link ch x rest s taken = go (is_to_client ch) refl
+stall-delivered config terms link ch x rest s taken = go (is_to_client ch) refl
   where
     go : (b : Bool) → is_to_client ch ≡ b → is_stall (delivered config terms link ch (x ∷ rest) s).outcome ≡ stalls
         config terms link ch x s

@@ -54,7 +54,7 @@ pub counted-next : {w : ℕ} {config : Config} {log : Log w} (h : AbstractState 
     → AreCounted config ((event, (stepped config event (system_after config log)).outcome) ∷ log)
     (abstract_step config event (system_after config log) h).state
 counted-next {config} {log} h event width matched before = counted-balance event
-    (stepped config event (system_after config log)).outcome (counted-followed h width matched event) before
+    _ (counted-followed h width matched event) before
 
 -- what is outstanding is what is open
 pub requests-open : {w : ℕ} {X : Type 0} (config : Config) (log : Log w) (s : State X) → AreCounted config log s
@@ -69,9 +69,9 @@ releases-open config log s is = omega (arith, is.releases_are)
 
 pub outstanding-open : {w : ℕ} {X : Type 0} {config : Config} {log : Log w} {s : State X} → AreCounted config log s
     → outstanding log ≡ open_requests config s + open_releases config s
-outstanding-open {config} {log} {s} is = omega (arith, requests-open config log s is, releases-open config log s is)
+outstanding-open {config} {log} {s} is = omega (arith, requests-open _ log s is, releases-open _ log s is)
 
 -- and the load is that of what is open
 pub load-open : {w : ℕ} {X : Type 0} {config : Config} {log : Log w} {s : State X} → AreCounted config log s
     → load log ≡ (64 / w + 33) * open_requests config s + (64 / w + 1) * open_releases config s
-load-open {w} {config} {log} {s} is = cc (requests-open config log s is, releases-open config log s is)
+load-open {w} {config} {log} {s} is = cc (requests-open config log s is, releases-open _ log s is)

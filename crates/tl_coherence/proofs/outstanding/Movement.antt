@@ -45,7 +45,7 @@ module _ {w : ℕ} {config : Config} {log : Log w} {mail : AccessMessages w} {re
     → IsFirst config terms c ch x (system_after config log)) where
   -- a channel without a beat has no message
   no_message : (c : ℕ) (ch : Channel) → (system_after config log).channels c ch ≡ [] → packets_on ch (s.link c) ≡ []
-  no_message c ch none = no_tokens (message_of mail s c) (packets_on ch (s.link c))
+  no_message c ch none = no_tokens (message_of mail s c) _
       (carried-none _ (messages_on ch mail s c) (rw none at (matched.carried c ch)))
 
   -- and without a message it has no beat
@@ -62,7 +62,7 @@ module _ {w : ℕ} {config : Config} {log : Log w} {mail : AccessMessages w} {re
         go : (beats : List (Beat w)) → (system_after config log).channels c ch ≡ beats → beats ≡ []
         go [] e = refl
         go (x ∷ rest) e = absurd (let both : true ≡ false =
-            sym (moves x rest e) ∙ nothing-moves config (system_after config log) c terms ch is none in cc)
+            sym (moves x rest e) ∙ nothing-moves _ _ c terms ch is none in cc)
 
     moving : (c : ℕ) (terms : EndConfig) (ch : Channel) (x : Beat w) (rest : List (Beat w))
         → terms_at config c ≡ Some terms → (system_after config log).channels c ch ≡ x ∷ rest → Moves config log c x
@@ -159,7 +159,7 @@ module _ {w : ℕ} {config : Config} {log : Log w} {mail : AccessMessages w} {re
         where
           go : (x : Beat w) → IsFirst config terms c Channel.A x (system_after config log) → Moves config log c x
               → is_movable config c Channel.A (system_after config log) ≡ true
-          go (Beat.A y) first m = m ∙ rw (none_in_service, few_test config.trackers trackers)
+          go (Beat.A y) first m = m ∙ rw (none_in_service, few_test _ trackers)
               (rw (and-false (ends (Beat.A y) (on_link c (system_after config log).manager.trace))) refl)
           go x first m = absurd (let on = first.on in cc)
 
@@ -174,7 +174,7 @@ module _ {w : ℕ} {config : Config} {log : Log w} {mail : AccessMessages w} {re
   pub standing-when-closed : IsClosed s → ((c : ℕ) → (s.link c).e ≡ [])
       → next_delivery config (system_after config log) ≡ None
   standing-when-closed closed no_acks = no-next config (system_after config log) (λ c ch. empty-still config
-      (system_after config log) c ch (no_beat c ch (bare_on ch c (bare-when-closed matched.invariant closed no_acks))))
+      _ c ch (no_beat c ch (bare_on ch c (bare-when-closed matched.invariant closed no_acks))))
     where
       bare_on : (ch : Channel) (c : ℕ) → IsBare s → packets_on ch (s.link c) ≡ []
       bare_on ch c e = grind arith
@@ -203,16 +203,15 @@ nothing_in (x ∷ xs) e = absurd (omega (arith, e))
 none-counted : {X : Type 0} (config : Config) {s : State X} → IsClosed s → ((c : ℕ) → (s.link c).e ≡ [])
     → open_requests config s + open_releases config s ≡ 0
 none-counted config {s} closed no_acks =
-    let requests : open_requests config s ≡ 0 =
-    total-zero (clients_in config) (λ c. total (sources_in config c) (λ i. one_if (is_used (s.uses c i))) + length
-    (s.link c).e) (λ c few.
+    let requests : open_requests config s ≡ 0 = total-zero (clients_in config) (λ c. total (sources_in config c)
+    (λ i. one_if (is_used (s.uses c i))) + length (s.link c).e) (λ c few.
     let uses : total (sources_in config c) (λ i. one_if (is_used (s.uses c i))) ≡ 0 = total-zero (sources_in config c)
-    (λ i. one_if (is_used (s.uses c i))) (λ i lt. ap (λ (u : SourceState). one_if (is_used u)) (closed.uses c i)) in
+    (λ i. one_if (is_used (s.uses c i))) (λ i lt. ap (λ u. one_if (is_used u)) (closed.uses c i)) in
     let acks : length (s.link c).e ≡ 0 = ap length (no_acks c) in
     omega (arith, uses, acks)) in
     let releases = total-zero (clients_in config) (λ c. total (sources_in config c) (λ i. one_if (is_let (s.lets c i))))
     (λ c few. total-zero (sources_in config c) (λ i. one_if (is_let (s.lets c i)))
-    (λ i lt. ap (λ (o : Option ℕ). one_if (is_let o)) (closed.lets c i))) in
+    (λ i lt. ap (λ o. one_if (is_let o)) (closed.lets c i))) in
     omega (arith, requests, releases)
 
 module _ {w : ℕ} {config : Config} {log : Log w} {mail : AccessMessages w} {request : ℕ → MessageA w}
@@ -222,9 +221,9 @@ module _ {w : ℕ} {config : Config} {log : Log w} {mail : AccessMessages w} {re
   of_client : (c : ℕ) → c < clients_in config
       → (total (sources_in config c) (λ i. one_if (is_used (s.uses c i))) + length (s.link c).e ≡ 0)
       × (total (sources_in config c) (λ i. one_if (is_let (s.lets c i))) ≡ 0)
-  of_client c few = let fact = total-none (clients_in config) (λ d. total (sources_in config d)
+  of_client c few = let fact = total-none _ (λ d. total (sources_in config d)
       (λ i. one_if (is_used (s.uses d i))) + length (s.link d).e) (omega (arith, none)) c few in let other_fact =
-      total-none (clients_in config) (λ d. total (sources_in config d) (λ i. one_if (is_let (s.lets d i))))
+      total-none _ (λ d. total (sources_in config d) (λ i. one_if (is_let (s.lets d i))))
       (omega (arith, none)) c few in (fact, other_fact)
 
   bounds : (c : ℕ) → AreBounded c (sources_in config c) config.trackers s
@@ -237,10 +236,10 @@ module _ {w : ℕ} {config : Config} {log : Log w} {mail : AccessMessages w} {re
       zero_there : source < sources_in config c → one_if (is_used (s.uses c source)) ≡ 0
       zero_there lt =
           let both = (of_client c (client_below config c terms at)).0 in
-          total-none (sources_in config c) (λ i. one_if (is_used (s.uses c i))) (omega (arith, both)) source lt
+          total-none _ (λ i. one_if (is_used (s.uses c i))) (omega (arith, both)) source lt
 
       used : (u : SourceState) → s.uses c source ≡ u → (u ≡ SourceFree → ⊥) → s.uses c source ≡ SourceFree
-      used u e open_ = not_used (s.uses c source) (zero_there ((bounds c).requests source (λ closed. open_ (cc))))
+      used u e open_ = not_used _ (zero_there ((bounds c).requests source (λ closed. open_ (cc))))
 
       go : (u : SourceState) → s.uses c source ≡ u → s.uses c source ≡ SourceFree
       go SourceFree e = e
@@ -251,7 +250,7 @@ module _ {w : ℕ} {config : Config} {log : Log w} {mail : AccessMessages w} {re
     where
       go : (o : Option ℕ) → s.lets c source ≡ o → s.lets c source ≡ None
       go None e = e
-      go (Some n) e = not_let (s.lets c source) (total-none (sources_in config c) (λ i. one_if (is_let (s.lets c i)))
+      go (Some n) e = not_let _ (total-none (sources_in config c) (λ i. one_if (is_let (s.lets c i)))
           (of_client c (client_below config c terms at)).1 source ((bounds c).releases source n e))
 
   no_ack : (c : ℕ) (terms : EndConfig) → terms_at config c ≡ Some terms → (s.link c).e ≡ []
@@ -301,7 +300,7 @@ next-while-outstanding {w} {config} {log} {mail} {request} {s} matched coherent 
     go None e false f =
         let bare = bare-when-standing matched coherent trackers firsts e width in
         let none = none-counted config (closed-when-standing matched coherent trackers firsts width e) bare.silent.e in
-        absurd (let yes = zero_is (outstanding log) (sum ∙ none) in let both : true ≡ false = sym yes ∙ f in cc)
+        absurd (let yes = zero_is _ (sum ∙ none) in let both : true ≡ false = sym yes ∙ f in cc)
     go (Some d) e true f =
         let none : open_requests config s + open_releases config s ≡ 0 = sym sum ∙ eqb-true (outstanding log) 0 f in
         let stands = standing-when-closed matched coherent trackers firsts (closed-when-counted matched width none)

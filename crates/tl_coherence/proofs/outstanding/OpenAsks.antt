@@ -1,18 +1,18 @@
 -- What is open after a client is asked: an operation that starts opens a request or a Release, with a
 -- source that was free.
-use Rattle.std.proofs.Common.{◌≡◌, ℕ, ◌+◌, ◌<◌, Bool, true, false, Option, Some, None, refl, ap, arith}
+use Rattle.std.proofs.Common.{◌≡◌, ℕ, ◌+◌, ◌<◌, Bool, true, false, Some, None, refl, ap, arith}
 use Rattle.tl_coherence.proofs
 use proofs.Imports.{Message, Config, ReleaseSource, RequestSource, Grow, Prune, Perm, block_at, pending, NotBusy}
 use proofs.Imports.{asked-cases, least_free-some, Busy, Op, Reply, done, free_release, free_request, source_or_0, store}
 use proofs.Imports.{EndConfig, Endpoint, held_at, one_if, is_let, is_used, Ask, Outcome, Acquire, Release, Request}
-use proofs.Imports.{Acquires, Asked, SourceFree, SourceState, State, access_asked, acquire_asked, packet, release_asked}
-use proofs.Imports.{with_a, with_c, AbstractState, asked, SimulationRelation, is_caching, starts_release}
-use proofs.Imports.{starts_request, Log, System, terms_at}
+use proofs.Imports.{Acquires, Asked, SourceFree, State, access_asked, acquire_asked, packet, release_asked, with_a}
+use proofs.Imports.{with_c, AbstractState, asked, SimulationRelation, is_caching, starts_release, starts_request, Log}
+use proofs.Imports.{System, terms_at}
 use Rattle.tl_client.specs.statement.Ask.{load}
 use Rattle.tl_client.specs.statement.Ask as ask
 use proofs.client.ClientDelivered.{askable}
-use proofs.protocol.OpenCounts.{marked-set, acks-same, clients_in, sources_in, IsBalance, requests-split}
 use proofs.protocol.FollowKept.{IsAskable}
+use proofs.protocol.OpenCounts.{marked-set, acks-same, clients_in, sources_in, IsBalance, requests-split}
 use proofs.queues.Tokens.{set-part}
 
 module _ {X : Type 0} (config : Config) (s : State X) where
@@ -21,8 +21,8 @@ module _ {X : Type 0} (config : Config) (s : State X) where
   access-asked c source few lt free = record {
     requests = omega (
       arith,
-      marked-set is_used (clients_in config) (sources_in config) c source Asked s.uses few lt,
-      ap (λ (x : SourceState). one_if (is_used x)) free,
+      marked-set is_used _ (sources_in config) c source Asked s.uses few lt,
+      ap (λ x. one_if (is_used x)) free,
       acks-same (clients_in config) (access_asked c source s).link s.link
           (λ d. set-part (λ x. x.e) c (with_a (packet Request source) (s.link c)) s.link refl d),
       requests-split config s,
@@ -37,8 +37,8 @@ module _ {X : Type 0} (config : Config) (s : State X) where
   acquire-asked c n source whole g bytes few lt free = record {
     requests = omega (
       arith,
-      marked-set is_used (clients_in config) (sources_in config) c source (Acquires n) s.uses few lt,
-      ap (λ (x : SourceState). one_if (is_used x)) free,
+      marked-set is_used _ (sources_in config) c source (Acquires n) s.uses few lt,
+      ap (λ x. one_if (is_used x)) free,
       acks-same (clients_in config) (acquire_asked c n source whole g bytes s).link s.link
           (λ d. set-part (λ x. x.e) c (with_a (packet Acquire n) (s.link c)) s.link refl d),
       requests-split config s,
@@ -50,12 +50,12 @@ module _ {X : Type 0} (config : Config) (s : State X) where
   release-asked : (c n source : ℕ) (r : Prune) → c < clients_in config → source < sources_in config c
       → s.lets c source ≡ None → IsBalance config s (release_asked c n source r s) false false true false
   release-asked c n source r few lt free =
-      let l = marked-set is_let (clients_in config) (sources_in config) c source (Some n) s.lets few lt in
+      let l = marked-set is_let _ (sources_in config) c source (Some n) s.lets few lt in
       let a = acks-same (clients_in config) (release_asked c n source r s).link s.link
       (λ d. set-part (λ x. x.e) c (with_c (packet Release n) (s.link c)) s.link refl d) in
       record {
         requests = omega (arith, a, requests-split config s, requests-split config (release_asked c n source r s));
-        releases = omega (arith, l, ap (λ (x : Option ℕ). one_if (is_let x)) free);
+        releases = omega (arith, l, ap (λ x. one_if (is_let x)) free);
       }
 
 module _ {w : ℕ} (config : Config) (c : ℕ) (h : AbstractState w) where
@@ -107,7 +107,6 @@ pub balance-asked : {w : ℕ} {config : Config} {log : Log w} (h : AbstractState
     → c < clients_in config → IsBalance config h.state (asked c o (ask.asked terms o (sys.clients c)).reply h).state
     (starts_request (Ask c o) (Outcome.Replied (ask.asked terms o (sys.clients c)).reply)) false
     (starts_release (Ask c o) (Outcome.Replied (ask.asked terms o (sys.clients c)).reply)) false
-balance-asked {w} {config} {log} h {sys} terms c o is at few =
-    asked-cases terms o (sys.clients c) (λ (x : ask.Asked w). IsAskable (is_caching config) c o x.reply h
-    → IsOpenAfter config c h o x.reply) (λ b may. busy-opens config c h o b)
-    (λ free may. done-opens config c h terms (sys.clients c) at few o free may) (askable terms c o is at)
+balance-asked {config} h {sys} terms c o is at few = asked-cases terms o (sys.clients c) (λ x. IsAskable
+    (is_caching config) c o x.reply h → IsOpenAfter config c h o x.reply) (λ b may. busy-opens config c h o b)
+    (λ free may. done-opens _ c h terms (sys.clients c) at few o free may) (askable terms c o is at)

@@ -1,12 +1,12 @@
 -- What is open after the first token of a channel is taken: an answer ends a request, a Grant turns one into a
 -- GrantAck,
 -- a GrantAck ends it, a ReleaseAck ends a Release, and all else leaves what is open.
-use Rattle.std.proofs.Common.{◌≡◌, ℕ, suc, ◌<◌, Bool, true, false, ◌==◌, if◌then◌else◌, List, [], ◌∷◌, Option, Some}
-use Rattle.std.proofs.Common.{None, refl, sym, ◌∙◌, ap, arith, length, length-append}
+use Rattle.std.proofs.Common.{◌≡◌, ℕ, suc, ◌<◌, Bool, true, false, ◌==◌, if◌then◌else◌, List, [], ◌∷◌, Some, None, refl}
+use Rattle.std.proofs.Common.{sym, ◌∙◌, ap, arith, length, length-append}
 use Rattle.tl_coherence.proofs
 use proofs.Imports.{Config, Cap, Prune, Report, one_if, is_let, is_used, Answer, Grant, GrantAck, Kind, Packet}
-use proofs.Imports.{ReleaseAck, set, Acquires, Asked, Block, GrantSent, InService, Replied, SourceFree, SourceState}
-use proofs.Imports.{State, access_answered, access_served, acquire_granted, acquire_served, answer_taken, answered_link}
+use proofs.Imports.{ReleaseAck, set, Acquires, Asked, Block, GrantSent, InService, Replied, SourceFree, State}
+use proofs.Imports.{access_answered, access_served, acquire_granted, acquire_served, answer_taken, answered_link}
 use proofs.Imports.{ended_link, grant_ack_taken, grant_taken, granted_link, is_probed, let_link, on, packet}
 use proofs.Imports.{popped_link, probe_taken, probed_link, release_ack_taken, release_taken, report_answers}
 use proofs.Imports.{report_grants, report_taken, served_link, taken_link, with_probe, AbstractState, kind_taken}
@@ -30,7 +30,7 @@ served_e {X} r own n k rest b link d = go (is_probed r own k (b.pair d).recorded
     go x y = grind arith
 
 pub set_e : (c : ℕ) (l : Link) (link : ℕ → Link) → l.e ≡ (link c).e → (d : ℕ) → (set c l link d).e ≡ (link d).e
-set_e c l link same d = set-part (λ (x : Link). x.e) c l link same d
+set_e c l link same d = set-part (λ x. x.e) c l link same d
 
 popped_e : (c : ℕ) (rest : List Packet) (link : ℕ → Link) (d : ℕ) → (popped_link c rest link d).e ≡ (link d).e
 popped_e c rest link d = set_e c (record (link c) { c = rest }) link refl d
@@ -51,50 +51,45 @@ module _ {X : Type 0} (config : Config) (s : State X) where
 
   access-answered : (c n source : ℕ) (f : X → X) (rest : List Packet) → s.uses c source ≡ Asked
       → IsBalance config s (access_answered c n source f rest s) false false false false
-  access-answered c n source f rest used = balance-same config s (access_answered c n source f rest s)
-      (set_at-part is_used c source Replied s.uses (sym (ap is_used used))) (λ d i. refl)
-      (set_e c (answered_link (packet Answer source) rest (s.link c)) s.link refl)
+  access-answered c n source f rest used = balance-same config s _ (set_at-part is_used c source Replied s.uses (sym
+      (ap is_used used))) (λ d i. refl) (set_e c (answered_link (packet Answer source) rest (s.link c)) s.link refl)
 
   access-served : (c n source tracker : ℕ) (k : Cap) (rest : List Packet) → s.uses c source ≡ Asked
       → IsBalance config s (access_served c n source tracker k rest s) false false false false
-  access-served c n source tracker k rest used = balance-same config s (access_served c n source tracker k rest s)
-      (set_at-part is_used c source (InService n) s.uses (sym (ap is_used used))) (λ d i. refl)
-      (served_e c false n k rest (s.block n) s.link)
+  access-served c n source tracker k rest used = balance-same config s _ (set_at-part is_used c source (InService n)
+      s.uses (sym (ap is_used used))) (λ d i. refl) (served_e c false n k rest (s.block n) s.link)
 
   acquire-granted : (c n tracker : ℕ) (d : Bool) (k : Cap) (rest : List Packet)
       → IsBalance config s (acquire_granted c n tracker d k rest s) false false false false
-  acquire-granted c n tracker d k rest = balance-same config s (acquire_granted c n tracker d k rest s) (λ i j. refl)
+  acquire-granted c n tracker d k rest = balance-same config s _ (λ i j. refl)
       (λ i j. refl) (set_e c (answered_link (packet Grant n) rest (s.link c)) s.link refl)
 
   acquire-served : (c n source tracker : ℕ) (k : Cap) (rest : List Packet)
       → IsBalance config s (acquire_served c n source tracker k rest s) false false false false
-  acquire-served c n source tracker k rest = balance-same config s (acquire_served c n source tracker k rest s)
+  acquire-served c n source tracker k rest = balance-same config s _
       (λ i j. refl) (λ i j. refl) (served_e c true n k rest (s.block n) s.link)
 
   probe-taken : (c n : ℕ) (k : Cap) (rest : List Packet) → IsBalance config s (probe_taken c n k rest s) false false
       false false
-  probe-taken c n k rest = balance-same config s (probe_taken c n k rest s) (λ i j. refl) (λ i j. refl)
+  probe-taken c n k rest = balance-same config s _ (λ i j. refl) (λ i j. refl)
       (set_e c (probed_link n rest (s.link c)) s.link refl)
 
   report-taken : (c n : ℕ) (r : Report) (rest : List Packet) → IsBalance config s (report_taken c n r rest s) false
       false false false
-  report-taken c n r rest = balance-same config s (report_taken c n r rest s) (λ i j. refl) (λ i j. refl)
-      (popped_e c rest s.link)
+  report-taken c n r rest = balance-same config s _ (λ i j. refl) (λ i j. refl) (popped_e c rest s.link)
 
   report-answers : (c q n source : ℕ) (r : Report) (f : X → X) (rest : List Packet) → s.uses q source ≡ InService n
       → IsBalance config s (report_answers c q n source r f rest s) false false false false
-  report-answers c q n source r f rest used = balance-same config s (report_answers c q n source r f rest s)
-      (set_at-part is_used q source Replied s.uses (sym (ap is_used used))) (λ d i. refl)
-      (ended_e c q (packet Answer source) rest s.link)
+  report-answers c q n source r f rest used = balance-same config s _ (set_at-part is_used q source Replied s.uses
+      (sym (ap is_used used))) (λ d i. refl) (ended_e c q (packet Answer source) rest s.link)
 
   report-grants : (c q n : ℕ) (r : Report) (d : Bool) (k : Cap) (rest : List Packet)
       → IsBalance config s (report_grants c q n r d k rest s) false false false false
-  report-grants c q n r d k rest = balance-same config s (report_grants c q n r d k rest s) (λ i j. refl) (λ i j. refl)
-      (granted_e c q n rest s.link)
+  report-grants c q n r d k rest = balance-same config s _ (λ i j. refl) (λ i j. refl) (granted_e c q n rest s.link)
 
   release-taken : (c n : ℕ) (r : Prune) (rest : List Packet) → IsBalance config s (release_taken c n r rest s) false
       false false false
-  release-taken c n r rest = balance-same config s (release_taken c n r rest s) (λ i j. refl) (λ i j. refl)
+  release-taken c n r rest = balance-same config s _ (λ i j. refl) (λ i j. refl)
       (set_e c (let_link n rest (s.link c)) s.link refl)
 
   -- ---- events that end something
@@ -104,8 +99,8 @@ module _ {X : Type 0} (config : Config) (s : State X) where
   answer-taken c source rest few lt used = record {
     requests = omega (
       arith,
-      marked-set is_used (clients_in config) (sources_in config) c source SourceFree s.uses few lt,
-      ap (λ (x : SourceState). one_if (is_used x)) used,
+      marked-set is_used _ (sources_in config) c source SourceFree s.uses few lt,
+      ap (λ x. one_if (is_used x)) used,
       acks-same (clients_in config) (answer_taken c source rest s).link s.link
           (set_e c (record (s.link c) { d = rest }) s.link refl),
       requests-split config s,
@@ -120,9 +115,9 @@ module _ {X : Type 0} (config : Config) (s : State X) where
   grant-taken c n whole d k rest few lt used = record {
     requests = omega (
       arith,
-      marked-set is_used (clients_in config) (sources_in config) c ((s.block n).source c) SourceFree s.uses few lt,
-      ap (λ (x : SourceState). one_if (is_used x)) used,
-      acks-set (clients_in config) c (taken_link n rest (s.link c)) s.link few,
+      marked-set is_used _ (sources_in config) c _ SourceFree s.uses few lt,
+      ap (λ x. one_if (is_used x)) used,
+      acks-set _ c (taken_link n rest (s.link c)) s.link few,
       length-append (s.link c).e (packet GrantAck n ∷ []),
       requests-split config s,
       requests-split config (grant_taken c n whole d k rest s),
@@ -134,19 +129,18 @@ module _ {X : Type 0} (config : Config) (s : State X) where
       → (s.block n).release_source c < sources_in config c → s.lets c ((s.block n).release_source c) ≡ Some n
       → IsBalance config s (release_ack_taken c n rest s) false false false true
   release-ack-taken c n rest few lt used =
-      let l = marked-set is_let (clients_in config) (sources_in config) c ((s.block n).release_source c) None s.lets few
-      lt in
+      let l = marked-set is_let _ (sources_in config) c _ None s.lets few lt in
       let a = acks-same (clients_in config) (release_ack_taken c n rest s).link s.link
       (set_e c (record (s.link c) { d = rest }) s.link refl) in
       record {
         requests = omega (arith, a, requests-split config s, requests-split config (release_ack_taken c n rest s));
-        releases = omega (arith, l, ap (λ (x : Option ℕ). one_if (is_let x)) used);
+        releases = omega (arith, l, ap (λ x. one_if (is_let x)) used);
       }
 
   grant-ack-taken : (c n : ℕ) (rest : List Packet) → c < clients_in config → (s.link c).e ≡ packet GrantAck n ∷ rest
       → IsBalance config s (grant_ack_taken c n rest s) false true false false
   grant-ack-taken c n rest few first =
-      let a = acks-set (clients_in config) c (record (s.link c) { e = rest }) s.link few in
+      let a = acks-set _ c (record (s.link c) { e = rest }) s.link few in
       let more : length (s.link c).e ≡ suc (length rest) = ap length first in
       record {
         requests = omega (arith, a, more, requests-split config s, requests-split config (grant_ack_taken c n rest s));
@@ -174,17 +168,17 @@ still-kind : {w : ℕ} {config : Config} {log : Log w} (tracker c : ℕ) (k : Ki
     → IsBalance config h.state (kind_taken config tracker c k i rest h).state false false false false
 still-kind {w} {config} tracker c k i rest h is few own first ends lets = true-taken config tracker c rest h
     (λ j n. (on j (h.state.link c) ≡ packet j n ∷ rest) × (is_ending j ≡ false) × (is_letting_go j ≡ false))
-    (λ (x : AbstractState w). IsBalance config h.state x.state false false false false) k i (record {
+    (λ x. IsBalance config h.state x.state false false false false) k i (record {
       nothing = λ j n known idle. unchanged config h.state;
-      access_answered = λ source m o known from caps none. access-answered config h.state c _ source
+      access_answered = λ source m o known from caps none. access-answered _ h.state c _ source
           (follow.performs m) rest (first-request is.invariant known.0);
-      access_served = λ source m j known from caps some. access-served config h.state c _ source tracker j rest
+      access_served = λ source m j known from caps some. access-served _ h.state c _ source tracker j rest
           (first-request is.invariant known.0);
       acquire_granted = λ n whole g known wants none. acquire-granted config h.state c n tracker _ _ rest;
       acquire_served = λ n whole g known wants some. acquire-served config h.state c n _ tracker _ rest;
       probe = λ n known. probe-taken config h.state c n _ rest;
       report = λ n known more. report-taken config h.state c n _ rest;
-      report_answers = λ n q source j known last waits. report-answers config h.state c q n source _
+      report_answers = λ n q source j known last waits. report-answers config _ c q n source _
           (follow.performs (h.request n)) rest (serving-use n q source j is.invariant waits);
       report_grants = λ n q source j whole g known last waits wants. report-grants config h.state c q n _ _ _ rest;
       release = λ n known. release-taken config h.state c n _ rest;
@@ -198,8 +192,8 @@ still-kind {w} {config} tracker c k i rest h is few own first ends lets = true-t
         → (h.state.block n).service ≡ GrantSent q d j
         → IsBalance config h.state (taken_by_client c n (GrantSent q d j) rest h).state false false false false
     granted n tokens q d j sent =
-        let due = grant-due (is_caching config) c n rest h.state is.invariant tokens in
-        grant-taken config h.state c n _ d j rest few (own.requests ((h.state.block n).source c) (λ closed. absurd
+        let due = grant-due (is_caching config) c n rest _ is.invariant tokens in
+        grant-taken _ h.state c n _ d j rest few (own.requests ((h.state.block n).source c) (λ closed. absurd
         (let both : Acquires n ≡ SourceFree = sym due.used ∙ closed in cc))) due.used
 
 -- What is open, after the first token of a channel of a client's link is taken.
@@ -210,12 +204,11 @@ pub balance-kind : {w : ℕ} {config : Config} {log : Log w} (tracker : ℕ) {c 
     → IsBalance config h.state (kind_taken config tracker c k i rest h).state false (is_ending k) false
     (is_letting_go k)
 balance-kind {config} tracker {c} Answer source rest h is few own first =
-    let due = answer-due (is_caching config) c source rest h.mail h.state is.invariant (is.answered c source) first in
-    answer-taken config h.state c source rest few
-    (own.requests source (λ closed. absurd (let both : Replied ≡ SourceFree = sym due.used ∙ closed in cc)))
-    due.used
-balance-kind {config} tracker {c} ReleaseAck n rest h is few own first =
+    let due = answer-due (is_caching config) c source rest h.mail _ is.invariant (is.answered c source) first in
+    answer-taken _ _ c source rest few (own.requests source
+    (λ closed. absurd (let both : Replied ≡ SourceFree = sym due.used ∙ closed in cc))) due.used
+balance-kind tracker {c} ReleaseAck n rest h is few own first =
     let let_ = ack-due c n rest is.invariant first in
-    release-ack-taken config h.state c n rest few (own.releases ((h.state.block n).release_source c) n let_) let_
+    release-ack-taken _ _ c n rest few (own.releases ((h.state.block n).release_source c) n let_) let_
 balance-kind {config} tracker {c} GrantAck n rest h is few own first = grant-ack-taken config h.state c n rest few first
 balance-kind tracker {c} k i rest h is few own first = still-kind tracker c k i rest h is few own first refl refl

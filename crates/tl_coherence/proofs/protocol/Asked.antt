@@ -78,12 +78,12 @@ probed_at c i {q} pair g e = grind (arith, quiet_at)
 
 pub alone-set : (c : ℕ) {q : ClientBlock} (pair : ℕ → ClientBlock) → IsGentle (pair c) q → IsAlone pair
     → IsAlone (set c q pair)
-alone-set c {q} pair g h i j trunk probed ne =
+alone-set c pair g h i j trunk probed ne =
     quiet_at c j pair g (h i j (trunk_at c i pair g trunk) (probed_at c i pair g probed) ne)
 
 pub owned-set : (c : ℕ) {q : ClientBlock} (pair : ℕ → ClientBlock) → IsGentle (pair c) q → IsOwned pair
     → IsOwned (set c q pair)
-owned-set c {q} pair g h i j trunk ne = none_at c j pair g (h i j (trunk_at c i pair g trunk) ne)
+owned-set c pair g h i j trunk ne = none_at c j pair g (h i j (trunk_at c i pair g trunk) ne)
 
 -- ---- who has nothing to do with it
 
@@ -103,7 +103,7 @@ acquiring-block : {X : Type 0} {caching : ℕ → Bool} (c source : ℕ) (whole 
     → grow_fits (b.pair c).held (AcquireOpen whole g) ≡ true → IsWell caching (acquiring_block c source whole g bytes b)
 acquiring-block {caching} c source whole g bytes {b} h inside calm kept fits =
     let after : ClientBlock = after_acquire whole g (b.pair c) in
-    let recorded_same = set-part (λ (p : ClientBlock). p.recorded) c after b.pair refl in
+    let recorded_same = set-part (λ p. p.recorded) c after b.pair refl in
     record {
       phases = set-each (λ d q. ok q (view b.service d) ≡ true) c after b.pair
           (acquire-ok whole g (b.pair c) (view b.service c) (h.phases c) calm kept fits) (λ d ne. h.phases d);
@@ -113,13 +113,13 @@ acquiring-block {caching} c source whole g bytes {b} h inside calm kept fits =
       alone = alone-set c b.pair (gentle-same (b.pair c) after refl refl) h.alone;
       one_owner = owned-set c b.pair (gentle-same (b.pair c) after refl refl) h.one_owner;
       outside = outside-set caching c after b.pair (λ e. absurd cc) h.outside;
-      copies = λ d some. h.copies d (rw ((set-part (λ (p : ClientBlock). p.held) c after b.pair refl) d) at some);
+      copies = λ d some. h.copies d (rw ((set-part (λ p. p.held) c after b.pair refl) d) at some);
       memory = λ none. h.memory (λ d. rw (recorded_same d) at (none d));
     }
   where
     not_own : view b.service c ≡ Own → ⊥
     not_own e = let f : not (is_unacquired (b.pair c).acquiring) ≡ true =
-        own_wants (b.pair c) (view b.service c) (h.phases c) e in let g : false ≡ true = rw calm at f in absurd cc
+        own_wants _ _ (h.phases c) e in let g : false ≡ true = rw calm at f in absurd cc
 
 -- what is given up was held
 left_some : (r : Prune) (p : Perm) → same_perm p (prune_left r) ≡ true → same_perm p Perm.None ≡ false
@@ -130,7 +130,7 @@ releasing-block : {X : Type 0} {caching : ℕ → Bool} (c source : ℕ) (r : Pr
     → same_perm (b.pair c).held (prune_left r) ≡ true → IsWell caching (releasing_block c source r b)
 releasing-block {caching} c source r {b} h inside calm kept fits =
     let after : ClientBlock = after_release r (b.pair c) in
-    let recorded_same = set-part (λ (p : ClientBlock). p.recorded) c after b.pair refl in
+    let recorded_same = set-part (λ p. p.recorded) c after b.pair refl in
     record {
       phases = set-each (λ d q. ok q (view b.service d) ≡ true) c after b.pair
           (release-ok r (b.pair c) (view b.service c) (h.phases c) calm kept fits) (λ d ne. h.phases d);
@@ -150,7 +150,7 @@ releasing-block {caching} c source r {b} h inside calm kept fits =
 stored-block : {X : Type 0} {caching : ℕ → Bool} (c : ℕ) (bytes : X) {b : Block X} → IsWell caching b
     → same_perm (b.pair c).held Perm.Trunk ≡ true → IsWell caching (stored_block c bytes b)
 stored-block c bytes {b} h may =
-    let out : is_out (b.pair c) (view b.service c) ≡ true = held_out (b.pair c) (view b.service c) (h.phases c) may in
+    let out : is_out (b.pair c) (view b.service c) ≡ true = held_out _ _ (h.phases c) may in
     let owns = and_left (same_perm (b.pair c).recorded Perm.Trunk) (not (is_granting (view b.service c))) out in
     record {
       phases = h.phases;
@@ -180,12 +180,11 @@ access_spared source k e = grind arith
 
 pub access_asked-kept : {X : Type 0} {caching : ℕ → Bool} (c source : ℕ) {s : State X} → IsInvariant caching s
     → s.uses c source ≡ SourceFree → IsInvariant caching (access_asked c source s)
-access_asked-kept {caching} c source {s} inv closed =
+access_asked-kept c source {s} inv closed =
     let moved : AreMoved (access_moves source) (s.link c) (with_a (packet Request source) (s.link c)) =
     elim [ Channel.A ↦ refl | _ ↦ refl ] in
     let own : (ch : Channel) → is_own_move ch (access_moves source ch) ≡ true = elim [ Channel.A ↦ refl | ch ↦ refl ] in
-    invariant-moved_access
-    inv (record {
+    invariant-moved_access inv (record {
       moved = moved;
       own = own;
       spared = access_spared source;
@@ -220,30 +219,25 @@ acquire_asked-kept {X} {caching} c n source whole g bytes {s} inv inside closed 
     let old : ℕ → ClientBlock = (s.block n).pair in
     let after : ClientBlock = after_acquire whole g (old c) in
     let new : Block X = acquiring_block c source whole g bytes (s.block n) in
-    invariant-moved_use c source (Acquires n) s.tracked
-    inv
-    (event-at (record {
+    invariant-moved_use c source _ s.tracked inv (event-at (record {
       well = acquiring-block c source whole g bytes (inv.blocks n) inside calm kept fits;
       moved = moved;
       own = own;
       fits = λ k t. rw (set-same c after old) (acquire_shows n k whole g (old c) (view (s.block n).service c) t calm
           (unserved_calm (old c) (view (s.block n).service c) ((inv.blocks n).phases c) calm));
-      others = λ d ne k t. ap (λ (p : ClientBlock). shows k p (view (s.block n).service d))
-          (set-other c d after old ne);
+      others = λ d ne k t. ap (λ p. shows k p (view (s.block n).service d)) (set-other c d after old ne);
       in_order = λ m e. absurd (let f : Stays ≡ Pushes ProbeAck m = e in cc);
     }))
-    (rw (same_number c, closed) refl) (rw (same_number c, closed) refl) (bare-elsewhere c (acquire_moves n))
-    (record {
+    (rw (same_number c, closed) refl) (rw (same_number c, closed) refl) (bare-elsewhere c (acquire_moves n)) (record {
       acquires = names-set_at acquires_of acquires_with c source (Acquires n) s.uses n new s.block
           (rw (same_number n, set-same c after old, set-same c source (s.block n).source, same_number source) refl)
-          (λ m ne. rw closed (ne_eqb m n ne))
-          (λ i ne. rw (set-same c after old, set-same c source (s.block n).source, ne_eqb i source ne, calm) refl)
-          (λ d i ne. rw (set-other c d after old ne, set-other c d source (s.block n).source ne) refl)
-          inv.named.acquires;
+          (λ m ne. rw closed (ne_eqb m n ne)) (λ i ne.
+          rw (set-same c after old, set-same c source (s.block n).source, ne_eqb i source ne, calm) refl) (λ d i ne.
+          rw (set-other c d after old ne, set-other c d source (s.block n).source ne) refl) inv.named.acquires;
       serves = names-set_at serves_of serves_with c source (Acquires n) s.uses n new s.block (rw closed at
           (inv.named.serves c source n)) (λ m ne. rw closed refl) (λ i ne. refl) (λ d i ne. refl) inv.named.serves;
       releases = λ d. names-block is_of (releases_with d) (s.lets d) n new s.block
-          (λ i. rw (set-part (λ (p : ClientBlock). p.letting) c after old refl d) refl) (inv.named.releases d);
+          (λ i. rw (set-part (λ p. p.letting) c after old refl d) refl) (inv.named.releases d);
       trackers = names-block is_of tracks_with s.tracked n new s.block (λ i. refl) inv.named.trackers;
     })
 
@@ -270,21 +264,17 @@ release_asked-kept {X} {caching} c n source r {s} inv inside closed calm kept fi
     let old : ℕ → ClientBlock = (s.block n).pair in
     let after : ClientBlock = after_release r (old c) in
     let new : Block X = releasing_block c source r (s.block n) in
-    invariant-moved (set_at c source (Some n) s.lets)
-    s.tracked inv
-    (event-at (record {
+    invariant-moved (set_at c source (Some n) s.lets) s.tracked inv (event-at (record {
       well = releasing-block c source r (inv.blocks n) inside calm kept fits;
       moved = moved;
       own = own;
       fits = λ k t. rw (set-same c after old) (release_shows n k r (old c) (view (s.block n).service c) t kept);
-      others = λ d ne k t. ap (λ (p : ClientBlock). shows k p (view (s.block n).service d))
-          (set-other c d after old ne);
+      others = λ d ne k t. ap (λ p. shows k p (view (s.block n).service d)) (set-other c d after old ne);
       in_order = λ m e. absurd (let f : Pushes Release n ≡ Pushes ProbeAck m = e in cc);
     }))
-    (bare-at c (release_moves n) refl refl)
-    (record {
+    (bare-at c (release_moves n) refl refl) (record {
       acquires = λ d. names-block acquires_of (acquires_with d) (s.uses d) n new s.block
-          (λ i. rw (set-part (λ (p : ClientBlock). p.acquiring) c after old refl d) refl) (inv.named.acquires d);
+          (λ i. rw (set-part (λ p. p.acquiring) c after old refl d) refl) (inv.named.acquires d);
       serves = λ d. names-block serves_of (serves_with d) (s.uses d) n new s.block (λ i. refl) (inv.named.serves d);
       releases = names-set_at is_of releases_with c source (Some n) s.lets n new s.block
           (rw (same_number n, set-same c after old, set-same c source (s.block n).release_source, same_number source)
@@ -319,8 +309,8 @@ probed-block : {X : Type 0} {caching : ℕ → Bool} (c : ℕ) (k : Cap) {b : Bl
     → (b.pair c).probing ≡ ProbeSent k → (b.pair c).letting ≡ NoRelease → IsWell caching (probed_block c k b)
 probed-block c k {b} h sent kept =
     let after : ClientBlock = after_probe k (b.pair c) in
-    let quiet_same = set-part (λ (p : ClientBlock). is_unprobed p.probing) c after b.pair (rw sent refl) in
-    let recorded_same = set-part (λ (p : ClientBlock). p.recorded) c after b.pair refl in
+    let quiet_same = set-part (λ p. is_unprobed p.probing) c after b.pair (rw sent refl) in
+    let recorded_same = set-part (λ p. p.recorded) c after b.pair refl in
     record {
       phases = set-each (λ d q. ok q (view b.service d) ≡ true) c after b.pair
           (probe-ok k (b.pair c) (view b.service c) (h.phases c) sent kept) (λ d ne. h.phases d);
@@ -369,18 +359,15 @@ probe_taken-kept {X} {caching} c n k rest {s} inv first sent kept =
     let number_is : (m : ℕ) → Pushes ProbeAck n ≡ Pushes ProbeAck m → m ≡ n = λ m e. cc in
     let ordered : (m : ℕ) → m ≡ n → count Release m (s.link c).c ≡ 0 =
     λ m e. rw e (inv.transfers c Release refl n ∙ rw kept refl) in
-    invariant-moved s.lets s.tracked inv
-    (event-at (record {
+    invariant-moved s.lets s.tracked inv (event-at (record {
       well = probed-block c k (inv.blocks n) sent kept;
       moved = moved;
       own = own;
       fits = λ j t. rw (set-same c after (s.block n).pair)
           (probe_shows n j k ((s.block n).pair c) (view (s.block n).service c) t sent);
-      others = λ d ne j t. ap (λ (p : ClientBlock). shows j p (view (s.block n).service d))
-          (set-other c d after (s.block n).pair ne);
+      others = λ d ne j t. ap (λ p. shows j p (view (s.block n).service d)) (set-other c d after (s.block n).pair ne);
       in_order = λ m e. ordered m (number_is m e);
     }))
-    (bare-at c (probe_moves n) refl refl)
-    (names-kept n new (set c here s.link) s inv.named
-    (λ d i. rw (set-part (λ (p : ClientBlock). p.acquiring) c after (s.block n).pair refl d) refl) (λ d i. refl)
-    (λ d i. rw (set-part (λ (p : ClientBlock). p.letting) c after (s.block n).pair refl d) refl) (λ i. refl))
+    (bare-at c (probe_moves n) refl refl) (names-kept n new (set c here s.link) s inv.named
+    (λ d i. rw (set-part (λ p. p.acquiring) c after (s.block n).pair refl d) refl) (λ d i. refl)
+    (λ d i. rw (set-part (λ p. p.letting) c after (s.block n).pair refl d) refl) (λ i. refl))

@@ -221,9 +221,9 @@ alike-releasing c source r b kept i = elim (cases_eq i c) [ inl same ↦ rw same
     new = releasing_block c source r b
 
     here : AreAlike c b new
-    here Acquire e f = ((ap (λ (p : ClientBlock). p.acquiring) (pair_at c after b.pair), refl), inr refl)
-    here Probe e f = (ap (λ (p : ClientBlock). p.probing) (pair_at c after b.pair), inr refl)
-    here ProbeAck e f = (ap (λ (p : ClientBlock). p.probing) (pair_at c after b.pair), inr refl)
+    here Acquire e f = ((ap (λ p. p.acquiring) (pair_at c after b.pair), refl), inr refl)
+    here Probe e f = (ap (λ p. p.probing) (pair_at c after b.pair), inr refl)
+    here ProbeAck e f = (ap (λ p. p.probing) (pair_at c after b.pair), inr refl)
     here Release e f = absurd (let h : false ≡ true = rw kept at e in cc)
     here Grant e f = ((refl, refl, refl), inr refl)
     here ReleaseAck e f = absurd (let h : false ≡ true = rw kept at e in cc)
@@ -258,7 +258,7 @@ alike-served r own source tracker k {b} well free =
     alike-pairs b new pairs refl refl (free-grants b new free) (λ j i e f. inr refl)
   where
     quiet : (i : ℕ) → is_unprobed (b.pair i).probing ≡ true
-    quiet i = quiet_at_rest (b.pair i) (view b.service i) (well.phases i) (rw free refl)
+    quiet i = quiet_at_rest _ _ (well.phases i) (rw free refl)
 
     either : (i : ℕ) (x : Bool) → IsAlikePair (b.pair i) (if x then b.pair i else after_served k (b.pair i))
     either i true = alike-parts (b.pair i) (b.pair i) refl refl refl
@@ -293,7 +293,7 @@ reported-pair r p =
     record { acquiring = λ e f. refl; sent = λ e f. absurd cc; answered = λ e f. absurd cc; letting = λ e f. refl }
 
 pub alike-reported : (c : ℕ) (r : Report) (b : Block (List ℕ)) → (i : ℕ) → AreAlike i b (reported_block c r b)
-alike-reported c r b = alike-pairs b (reported_block c r b) (alike-pair c (after_report r (b.pair c)) b.pair
+alike-reported c r b = alike-pairs b _ (alike-pair c (after_report r (b.pair c)) b.pair
     (reported-pair r (b.pair c))) refl refl (same-grants b (reported_block c r b) refl refl) (λ j i e f. inr refl)
 
 -- the bytes change only where nothing that is left carries them
@@ -301,18 +301,16 @@ pub alike-ended : (c q source : ℕ) (r : Report) (k : Cap) (f : List ℕ → Li
     → b.service ≡ Waits q false source k
     → ((j : Kind) (i : ℕ) → shown j i b ≡ true → shown j i (ended_block c r f b) ≡ true → (carries j i b ≡ false)
     ⊎ (f b.truth ≡ b.truth)) → (i : ℕ) → AreAlike i b (ended_block c r f b)
-alike-ended c q source r k f b waits bytes = alike-pairs b (ended_block c r f b)
-    (alike-pair c (after_report r (b.pair c)) b.pair (reported-pair r (b.pair c))) refl refl
-    (waiting-grants q source false k b (ended_block c r f b) waits) bytes
+alike-ended c q source r k f b waits bytes = alike-pairs b _ (alike-pair c (after_report r (b.pair c)) b.pair
+    (reported-pair r (b.pair c))) refl refl (waiting-grants q source false k b (ended_block c r f b) waits) bytes
 
 pub alike-granted : (c q source : ℕ) (r : Report) (own d : Bool) (k gift : Cap) (b : Block (List ℕ))
     → b.service ≡ Waits q own source k → (c ≡ q → ⊥) → (i : ℕ) → AreAlike i b (granted_block c q r d gift b)
 alike-granted c q source r own d k gift b waits apart =
     let reported = set c (after_report r (b.pair c)) b.pair in
-    let pairs = set-each (λ i x. IsAlikePair (b.pair i) x) q (after_grant_sent gift (b.pair q)) reported
-    (alike-parts (b.pair q) (after_grant_sent gift (b.pair q)) refl refl refl)
-    (λ i ne. alike-pair c (after_report r (b.pair c)) b.pair (reported-pair r (b.pair c)) i) in
-    alike-pairs b (granted_block c q r d gift b) pairs refl refl
+    let pairs = set-each (λ i x. IsAlikePair (b.pair i) x) q _ reported (alike-parts (b.pair q)
+    (after_grant_sent gift (b.pair q)) refl refl refl) (λ i ne. alike-pair c _ b.pair (reported-pair r (b.pair c)) i) in
+    alike-pairs b _ pairs refl refl
     (waiting-grants q source own k b (granted_block c q r d gift b) waits) (λ j i e f. inr refl)
 
 -- ---- a Release, and its answer
@@ -321,14 +319,14 @@ pub alike-let : (c : ℕ) (r : Prune) (b : Block (List ℕ)) → (i : ℕ) → A
 alike-let c r b =
     let here : IsAlikePair (b.pair c) (after_release_taken r (b.pair c)) =
     record { acquiring = λ e f. refl; sent = λ e f. refl; answered = λ e f. refl; letting = λ e f. absurd cc } in
-    alike-pairs b (let_block c r b) (alike-pair c (after_release_taken r (b.pair c)) b.pair here) refl refl
+    alike-pairs b _ (alike-pair c (after_release_taken r (b.pair c)) b.pair here) refl refl
     (same-grants b (let_block c r b) refl refl) (λ j i e f. inr refl)
 
 pub alike-let_go : (c : ℕ) (b : Block (List ℕ)) → (i : ℕ) → AreAlike i b (let_go_block c b)
 alike-let_go c b =
     let here : IsAlikePair (b.pair c) (after_release_ack (b.pair c)) =
     record { acquiring = λ e f. refl; sent = λ e f. refl; answered = λ e f. refl; letting = λ e f. absurd cc } in
-    alike-pairs b (let_go_block c b) (alike-pair c (after_release_ack (b.pair c)) b.pair here) refl refl
+    alike-pairs b _ (alike-pair c (after_release_ack (b.pair c)) b.pair here) refl refl
     (same-grants b (let_go_block c b) refl refl) (λ j i e f. inr refl)
 
 -- ---- a Grant, and its answer
@@ -339,7 +337,7 @@ pub alike-taken : (c : ℕ) (whole d : Bool) (k : Cap) (b : Block (List ℕ)) �
 alike-taken c whole d k b sent bytes =
     let here : IsAlikePair (b.pair c) (after_grant k (b.pair c)) =
     record { acquiring = λ e f. absurd cc; sent = λ e f. refl; answered = λ e f. refl; letting = λ e f. refl } in
-    alike-pairs b (taken_block c whole d k b) (alike-pair c (after_grant k (b.pair c)) b.pair here) refl refl
+    alike-pairs b _ (alike-pair c (after_grant k (b.pair c)) b.pair here) refl refl
     (λ i. (
       λ e f. absurd (ungranted (GrantTaken c) i (GrantTaken c) refl (taken_ungranted c i) f),
       λ e f. absurd (unacknowledged b.service i (GrantSent c d k) sent (sent_unacknowledged c d k i) e),
@@ -350,7 +348,7 @@ alike-freed c b taken = grind (arith, alike-pairs, alike-parts)
 
 pub first-shown : {X : Type 0} {caching : ℕ → Bool} {s : State X} → IsInvariant caching s → (c : ℕ) (k : Kind) {n : ℕ}
     {rest : List Packet} → is_transfer k ≡ true → on k (s.link c) ≡ packet k n ∷ rest → shown k c (s.block n) ≡ true
-first-shown {X} {caching} {s} inv c k {n} {rest} transfers first = holds-first k (on k (s.link c)) rest (packet k n)
+first-shown {s} inv c k {rest} transfers first = holds-first k _ rest _
     (λ i. shown k c (s.block i)) first (same_kind_again k) (inv.transfers c k transfers)
 
 module _ {X : Type 0} {caching : ℕ → Bool} {s : State X} (inv : IsInvariant caching s) {c n : ℕ} {rest : List Packet}

@@ -76,7 +76,7 @@ shown_there {s} c ch k n inv on_it there = go k refl
 -- ---- which token a source, or a tracker, is of
 
 pub token-is : (x : Packet) (k : Kind) → x.kind ≡ k → packet k x.number ≡ x
-token-is x k e = ap (λ (j : Kind). packet j x.number) (sym e)
+token-is x k e = ap (λ j. packet j x.number) (sym e)
 
 -- a request on A, and the response to it on D
 abbrev pub asked_by : ℕ → SourceState → Option Packet
@@ -106,17 +106,17 @@ name s c k n = (s.block n).tracker
 -- the source of an open Acquire is of its block
 pub source_of_acquire : {X : Type 0} {caching : ℕ → Bool} {s : State X} (c n : ℕ) → IsInvariant caching s
     → is_wanting ((s.block n).pair c).acquiring ≡ true → s.uses c ((s.block n).source c) ≡ Acquires n
-source_of_acquire {s} c n inv wants = acquires_of-is n (s.uses c ((s.block n).source c))
+source_of_acquire {s} c n inv wants = acquires_of-is n _
     (inv.named.acquires c ((s.block n).source c) n ∙ rw (wants, same_number ((s.block n).source c)) refl)
 
 pub source_of_release : {X : Type 0} {caching : ℕ → Bool} {s : State X} (c n : ℕ) → IsInvariant caching s
     → is_unreleased ((s.block n).pair c).letting ≡ false → s.lets c ((s.block n).release_source c) ≡ Some n
-source_of_release {s} c n inv lets = is_of-is n (s.lets c ((s.block n).release_source c))
+source_of_release {s} c n inv lets = is_of-is n _
     (inv.named.releases c ((s.block n).release_source c) n ∙ rw (lets, same_number ((s.block n).release_source c)) refl)
 
 pub tracker_of_service : {X : Type 0} {caching : ℕ → Bool} {s : State X} (n : ℕ) → IsInvariant caching s
     → is_busy (s.block n).service ≡ true → s.tracked (s.block n).tracker ≡ Some n
-tracker_of_service {s} n inv busy = is_of-is n (s.tracked (s.block n).tracker) (inv.named.trackers (s.block n).tracker n
+tracker_of_service {s} n inv busy = is_of-is n _ (inv.named.trackers (s.block n).tracker n
     ∙ rw (busy, same_number (s.block n).tracker) refl)
 
 -- ---- what phases say
@@ -145,10 +145,10 @@ probes_serve p v h = unless (is_unprobed p.probing) (is_idle v) (of_phase probes
 
 module _ {X : Type 0} {caching : ℕ → Bool} {s : State X} (c n : ℕ) (inv : IsInvariant caching s) where
   pub request_named : is_asked (s.uses c n) ≡ true → s.uses c n ≡ Asked
-  request_named e = is_asked-is (s.uses c n) e
+  request_named e = is_asked-is _ e
 
   pub answer_named : is_replied (s.uses c n) ≡ true → s.uses c n ≡ Replied
-  answer_named e = is_replied-is (s.uses c n) e
+  answer_named e = is_replied-is _ e
 
   pub acquire_named : shown Acquire c (s.block n) ≡ true → s.uses c ((s.block n).source c) ≡ Acquires n
   acquire_named e = source_of_acquire c n inv (and_parts _ _ e).0
@@ -212,13 +212,13 @@ module _ {X : Type 0} (caching : ℕ → Bool) (s : State X) (c sources trackers
       go Request e on_it =
           let used = request_named c x.number inv (shown_there c Channel.A Request x.number inv refl
           (rw e at there)) in (
-            rw used (ap (λ (y : Packet). Some y) (token-is x Request e)),
-            used_below bounds x.number Asked used (λ h. absurd cc),
+            rw used (ap (λ y. Some y) (token-is x Request e)),
+            used_below bounds _ Asked used (λ h. absurd cc),
           )
       go Acquire e on_it =
           let used = acquire_named c x.number inv (shown_there c Channel.A Acquire x.number inv refl (rw e at there)) in
-          let fact = used_below bounds ((s.block x.number).source c) (Acquires x.number) used (λ h. absurd cc) in
-          (rw used (ap (λ (y : Packet). Some y) (token-is x Acquire e)), fact)
+          let fact = used_below bounds _ _ used (λ h. absurd cc) in
+          (rw used (ap (λ y. Some y) (token-is x Acquire e)), fact)
       go k e on_it = absurd cc
 
   pub few_on_a : length (s.link c).a ≤ sources
@@ -236,13 +236,13 @@ module _ {X : Type 0} (caching : ℕ → Bool) (s : State X) (c sources trackers
           × (name s c k x.number < sources)
       go Answer e on_it pass =
           let used = answer_named c x.number inv (shown_there c Channel.D Answer x.number inv refl (rw e at there)) in (
-            rw used (ap (λ (y : Packet). Some y) (token-is x Answer e)),
-            used_below bounds x.number Replied used (λ h. absurd cc),
+            rw used (ap (λ y. Some y) (token-is x Answer e)),
+            used_below bounds _ _ used (λ h. absurd cc),
           )
       go Grant e on_it pass =
           let used = grant_named c x.number inv (shown_there c Channel.D Grant x.number inv refl (rw e at there)) in
-          let fact = used_below bounds ((s.block x.number).source c) (Acquires x.number) used (λ h. absurd cc) in
-          (rw used (ap (λ (y : Packet). Some y) (token-is x Grant e)), fact)
+          let fact = used_below bounds _ _ used (λ h. absurd cc) in
+          (rw used (ap (λ y. Some y) (token-is x Grant e)), fact)
       go k e on_it pass = absurd cc
 
   -- a Release by its source, and its ReleaseAck
@@ -251,16 +251,16 @@ module _ {X : Type 0} (caching : ℕ → Bool) (s : State X) (c sources trackers
       → (of_block k (s.lets c (name s c k x.number)) ≡ Some x) × (name s c k x.number < sources)
   released_token ch x Release e on_it there which =
       let let_by = release_named c x.number inv (shown_there c ch Release x.number inv on_it (rw e at there)) in
-      (rw let_by (ap (λ (y : Packet). Some y) (token-is x Release e)), bounds.releases _ x.number let_by)
+      (rw let_by (ap (λ y. Some y) (token-is x Release e)), bounds.releases _ _ let_by)
   released_token ch x ReleaseAck e on_it there which =
       let let_by = release_ack_named c x.number inv (shown_there c ch ReleaseAck x.number inv on_it (rw e at there)) in
-      (rw let_by (ap (λ (y : Packet). Some y) (token-is x ReleaseAck e)), bounds.releases _ x.number let_by)
+      (rw let_by (ap (λ y. Some y) (token-is x ReleaseAck e)), bounds.releases _ _ let_by)
   released_token ch x k e on_it there which = absurd cc
 
   released_there : (ch : Channel) (k : Kind) (x : Packet) → is_on ch k ≡ true → is_of_release k ≡ true
       → IsThere x (packets_on ch (s.link c)) → x.kind ≡ k
       → (of_block k (s.lets c (name s c x.kind x.number)) ≡ Some x) × (name s c x.kind x.number < sources)
-  released_there ch k x on_it which there e = subst (λ (j : Kind). (of_block k (s.lets c (name s c j x.number))
+  released_there ch k x on_it which there e = subst (λ j. (of_block k (s.lets c (name s c j x.number))
       ≡ Some x) × (name s c j x.number < sources)) (sym e) (released_token ch x k e on_it there which)
 
   -- what goes by its tracker
@@ -269,19 +269,19 @@ module _ {X : Type 0} (caching : ℕ → Bool) (s : State X) (c sources trackers
       → (of_block k (s.tracked (name s c k x.number)) ≡ Some x) × (name s c k x.number < trackers)
   tracked_token ch x Probe e on_it there which =
       let by = probe_named c x.number inv (shown_there c ch Probe x.number inv on_it (rw e at there)) in
-      (rw by (ap (λ (y : Packet). Some y) (token-is x Probe e)), bounds.tracked _ x.number by)
+      (rw by (ap (λ y. Some y) (token-is x Probe e)), bounds.tracked _ _ by)
   tracked_token ch x ProbeAck e on_it there which =
       let by = report_named c x.number inv (shown_there c ch ProbeAck x.number inv on_it (rw e at there)) in
-      (rw by (ap (λ (y : Packet). Some y) (token-is x ProbeAck e)), bounds.tracked _ x.number by)
+      (rw by (ap (λ y. Some y) (token-is x ProbeAck e)), bounds.tracked _ _ by)
   tracked_token ch x GrantAck e on_it there which =
       let by = grant_ack_named c x.number inv (shown_there c ch GrantAck x.number inv on_it (rw e at there)) in
-      (rw by (ap (λ (y : Packet). Some y) (token-is x GrantAck e)), bounds.tracked _ x.number by)
+      (rw by (ap (λ y. Some y) (token-is x GrantAck e)), bounds.tracked _ _ by)
   tracked_token ch x k e on_it there which = absurd cc
 
   tracked_there : (ch : Channel) (k : Kind) (x : Packet) → is_on ch k ≡ true → is_tracked k ≡ true
       → IsThere x (packets_on ch (s.link c)) → x.kind ≡ k
       → (of_block k (s.tracked (name s c x.kind x.number)) ≡ Some x) × (name s c x.kind x.number < trackers)
-  tracked_there ch k x on_it which there e = subst (λ (j : Kind). (of_block k (s.tracked (name s c j x.number))
+  tracked_there ch k x on_it which there e = subst (λ j. (of_block k (s.tracked (name s c j x.number))
       ≡ Some x) × (name s c j x.number < trackers)) (sym e) (tracked_token ch x k e on_it there which)
 
   -- a kind of the channel that isn't the one is the other
@@ -300,33 +300,32 @@ module _ {X : Type 0} (caching : ℕ → Bool) (s : State X) (c sources trackers
   pub few_on_b : length (s.link c).b ≤ trackers
   few_on_b =
       let all = few (λ x. true) (λ x. name s c x.kind x.number) (λ i. of_block Probe (s.tracked i)) trackers
-      (s.link c).b (once c Channel.B inv) (λ x there pass. tracked_there Channel.B Probe x refl refl there
+      _ (once c Channel.B inv) (λ x there pass. tracked_there Channel.B Probe x refl refl there
       (probe_alone x.kind (only_kind Channel.B x there))) in
       rw (all-pass (s.link c).b) at all
 
   pub few_on_e : length (s.link c).e ≤ trackers
   few_on_e =
       let all = few (λ x. true) (λ x. name s c x.kind x.number) (λ i. of_block GrantAck (s.tracked i)) trackers
-      (s.link c).e (once c Channel.E inv) (λ x there pass. tracked_there Channel.E GrantAck x refl refl
+      _ (once c Channel.E inv) (λ x there pass. tracked_there Channel.E _ x refl refl
       there (ack_alone x.kind (only_kind Channel.E x there))) in
       rw (all-pass (s.link c).e) at all
 
   pub few_on_c : length (s.link c).c ≤ sources + trackers
   few_on_c =
       let releases = few (λ x. same_kind x.kind Release) (λ x. name s c x.kind x.number)
-      (λ i. of_block Release (s.lets c i)) sources (s.link c).c (once c Channel.C inv)
-      (λ x there pass. released_there Channel.C Release x refl refl there (kind_is x.kind Release pass)) in
+      (λ i. of_block Release (s.lets c i)) sources _ (once c Channel.C inv)
+      (λ x there pass. released_there Channel.C _ x refl refl there (kind_is x.kind Release pass)) in
       let reports = few (λ x. not (same_kind x.kind Release)) (λ x. name s c x.kind x.number)
-      (λ i. of_block ProbeAck (s.tracked i)) trackers (s.link c).c (once c Channel.C inv)
-      (λ x there pass. tracked_there Channel.C ProbeAck x refl refl there
-      (report_or_release x.kind (only_kind Channel.C x there) pass)) in
+      (λ i. of_block ProbeAck (s.tracked i)) trackers _ (once c Channel.C inv) (λ x there pass. tracked_there Channel.C
+      _ x refl refl there (report_or_release x.kind (only_kind Channel.C x there) pass)) in
       omega (arith, pass-or-not (λ x. same_kind x.kind Release) (s.link c).c, releases, reports)
 
   pub few_acks_on_d : passing (λ x. same_kind x.kind ReleaseAck) (s.link c).d ≤ sources
   few_acks_on_d = few (λ x. same_kind x.kind ReleaseAck) (λ x. name s c x.kind x.number)
-      (λ i. of_block ReleaseAck (s.lets c i)) sources (s.link c).d (once c Channel.D inv)
-      (λ x there pass. released_there Channel.D ReleaseAck x refl refl there (kind_is x.kind ReleaseAck pass))
+      (λ i. of_block ReleaseAck (s.lets c i)) sources _ (once c Channel.D inv)
+      (λ x there pass. released_there Channel.D _ x refl refl there (kind_is x.kind ReleaseAck pass))
 
   pub few_responses_on_d : passing (λ x. not (same_kind x.kind ReleaseAck)) (s.link c).d ≤ sources
   few_responses_on_d = few (λ x. not (same_kind x.kind ReleaseAck)) (λ x. name s c x.kind x.number) (λ i. answered_by i
-      (s.uses c i)) sources (s.link c).d (once c Channel.D inv) (λ x there pass. answered_token x there pass)
+      (s.uses c i)) sources _ (once c Channel.D inv) (λ x there pass. answered_token x there pass)

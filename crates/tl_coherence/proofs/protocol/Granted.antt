@@ -136,12 +136,12 @@ granted-block {X} {c} {q} {r} {whole} {g} {gift} {source} {k} {b} h last =
 
     apart : c ≡ q → ⊥
     apart e =
-        let quiet : is_unprobed (b.pair q).probing ≡ true = own_quiet (b.pair q) (view b.service q) (h.phases q) own in
+        let quiet : is_unprobed (b.pair q).probing ≡ true = own_quiet (b.pair q) _ (h.phases q) own in
         let no : is_unprobed (ProbeAnswered r) ≡ true = rw (rw e at last.answered) at quiet in
         absurd cc
 
     low : same_cap k Cap.ToT ≡ false
-    low = cap_is_low k (b.pair c) (view b.service c) (h.phases c) (other c apart)
+    low = cap_is_low k (b.pair c) _ (h.phases c) (other c apart)
 
     granted_here : granted_pair c q r gift b.pair q ≡ after_grant_sent gift (b.pair q)
     granted_here = set-same q (after_grant_sent gift (b.pair q)) (set c after b.pair)
@@ -152,15 +152,14 @@ granted-block {X} {c} {q} {r} {whole} {g} {gift} {source} {k} {b} h last =
     reported_phase : (d : ℕ) → (d ≡ q → ⊥) → (d ≡ c) ⊎ (d ≡ c → ⊥) → ok (set c after b.pair d) GrantedOther ≡ true
     reported_phase d ne (inl same) =
         rw (same, set-same c after b.pair) (report-ok r (b.pair c) (view b.service c) (h.phases c) last.answered).2
-    reported_phase d ne (inr neither) =
-        rw (set-other c d after b.pair neither) (ended-ok k (b.pair d) (view b.service d) (h.phases d) (other d ne)
-        (quiet-is (b.pair d).probing (last.settled d neither))).1
+    reported_phase d ne (inr neither) = rw (set-other c d after b.pair neither) (ended-ok k (b.pair d)
+        (view b.service d) (h.phases d) (other d ne) (quiet-is (b.pair d).probing (last.settled d neither))).1
 
     held_same : (d : ℕ) → (granted_pair c q r gift b.pair d).held ≡ (b.pair d).held
     held_same d =
-        let first = set-part (λ (p : ClientBlock). p.held) c after b.pair refl q in
-        set-part (λ (p : ClientBlock). p.held) q (after_grant_sent gift (b.pair q)) (set c after b.pair) (sym first)
-        d ∙ set-part (λ (p : ClientBlock). p.held) c after b.pair refl d
+        let first = set-part (λ p. p.held) c after b.pair refl q in
+        set-part (λ p. p.held) q (after_grant_sent gift (b.pair q)) (set c after b.pair) (sym first)
+        d ∙ set-part (λ p. p.held) c after b.pair refl d
 
     -- those who aren't granted have no Trunk
     low_elsewhere : (d : ℕ) → (d ≡ q → ⊥) → same_perm (set c after b.pair d).recorded Perm.Trunk ≡ false
@@ -217,7 +216,7 @@ room-trunk c q r whole g source k {b} h waits answered settled wants trunk apart
     let seen : (i : ℕ) → (i ≡ q → ⊥) → view b.service i ≡ Other k =
     λ i differs. rw waits (other_view q source i k differs) in
     let asked : IsAskedCap (Waits q true source k) b.pair = rw waits at h.asked_cap in
-    low_none k (set c (after_report r (b.pair c)) b.pair d).recorded (asks_none k whole g trunk (rw wants at asked))
+    low_none k _ (asks_none k whole g trunk (rw wants at asked))
     (recorded_within c r k h answered settled (seen c apart) d (seen d ne))
 
 -- ---- the block
@@ -235,8 +234,8 @@ granted_at_once-block : {X : Type 0} {caching : ℕ → Bool} {r : ℕ} (tracker
     → IsWell caching (granted_at_once r tracker (is_granted_data whole g (b.pair r).recorded) gift b)
 granted_at_once-block {caching} {r} tracker {whole} {g} {gift} {b} h is =
     let quiet : (d : ℕ) → is_unprobed (b.pair d).probing ≡ true =
-    λ d. quiet_at_rest (b.pair d) (view b.service d) (h.phases d) (idle d) in
-    let quiet_same = set-part (λ (p : ClientBlock). is_unprobed p.probing) r after b.pair refl in
+    λ d. quiet_at_rest (b.pair d) _ (h.phases d) (idle d) in
+    let quiet_same = set-part (λ p. is_unprobed p.probing) r after b.pair refl in
     record {
       phases = λ d. elim (cases_eq d r) [
         | inl same ↦ rw (same, set-same r after b.pair, same_number r)
@@ -251,7 +250,7 @@ granted_at_once-block {caching} {r} tracker {whole} {g} {gift} {b} h is =
       one_owner = λ i j trunk ne. owner (gives whole g gift is.fits) i j trunk ne;
       outside = outside-set caching r after b.pair (busy-inside caching r b.pair (λ p. not (is_unacquired p.acquiring))
           refl (rw is.wants refl) h.outside) h.outside;
-      copies = λ d some. h.copies d (rw ((set-part (λ (p : ClientBlock). p.held) r after b.pair refl) d) at some);
+      copies = λ d some. h.copies d (rw ((set-part (λ p. p.held) r after b.pair refl) d) at some);
       memory = λ none. h.memory (λ d. not_out (b.pair d) (view b.service d) (low d (cases_eq d r)));
     }
   where
@@ -318,9 +317,7 @@ acquire_granted-kept {X} {caching} {r} n tracker {whole} {g} {gift} rest {s} inv
     let old : ℕ → ClientBlock = (s.block n).pair in
     let after : ClientBlock = after_grant_sent gift (old r) in
     let new : Block X = granted_at_once r tracker with_data gift (s.block n) in
-    invariant-moved s.lets
-    (set tracker (Some n) s.tracked) inv
-    (event-at (record {
+    invariant-moved s.lets (set tracker (Some n) s.tracked) inv (event-at (record {
       well = granted_at_once-block tracker (inv.blocks n) is;
       moved = moved;
       own = own;
@@ -329,14 +326,13 @@ acquire_granted-kept {X} {caching} {r} n tracker {whole} {g} {gift} rest {s} inv
       others = λ d ne k t. rw (is.free, set-other r d after old ne, ne_eqb d r ne) (shows-beside k (old d));
       in_order = λ m e. absurd (let f : Stays ≡ Pushes ProbeAck m = e in cc);
     }))
-    (bare-at r (once_moves n) refl refl)
-    (record {
+    (bare-at r (once_moves n) refl refl) (record {
       acquires = λ d. names-block acquires_of (acquires_with d) (s.uses d) n new s.block
-          (λ i. rw (set-part (λ (p : ClientBlock). p.acquiring) r after old refl d) refl) (inv.named.acquires d);
+          (λ i. rw (set-part (λ p. p.acquiring) r after old refl d) refl) (inv.named.acquires d);
       serves = λ d. names-block serves_of (serves_with d) (s.uses d) n new s.block (λ i. rw is.free refl)
           (inv.named.serves d);
       releases = λ d. names-block is_of (releases_with d) (s.lets d) n new s.block
-          (λ i. rw (set-part (λ (p : ClientBlock). p.letting) r after old refl d) refl) (inv.named.releases d);
+          (λ i. rw (set-part (λ p. p.letting) r after old refl d) refl) (inv.named.releases d);
       trackers = names-set is_of tracks_with s.tracked tracker (Some n) n new s.block
           (rw (same_number n, same_number tracker) refl)
           (λ m ne. rw unused (ne_eqb m n ne)) (λ i ne. rw (is.free, ne_eqb i tracker ne) refl) inv.named.trackers;

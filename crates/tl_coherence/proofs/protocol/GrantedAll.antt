@@ -73,8 +73,8 @@ report_grants-kept {X} {caching} {c} {q} n {r} {whole} {g} {gift} {source} {k} r
         | inl same ↦ rw same (moved_as (granted_moves n c q c ch) (granted_moves n 1 0 1 ch) (packets_on ch (s.link c))
             (packets_on ch (links c)) (packets_on ch at_c) (moves_of_reporter n c q ch apart)
             (ap (packets_on ch) (set-other q c at_q (set c at_c s.link) apart ∙ set-same c at_c s.link)) (moved_c ch))
-        | inr o ↦ moved_as (granted_moves n c q d ch) Stays (packets_on ch (s.link d)) (packets_on ch (links d))
-            (packets_on ch (s.link d)) (moves_of_other n c q d ch o m) (ap (packets_on ch) (links_other d m o)) refl
+        | inr o ↦ moved_as _ Stays (packets_on ch (s.link d)) _
+            _ (moves_of_other n c q d ch o m) (ap (packets_on ch) (links_other d m o)) refl
       ]
     ] in
     invariant-moved {n = n} {b = new} {link = links} {moves = (granted_moves n c q)} s.lets s.tracked inv (record {
@@ -96,7 +96,7 @@ report_grants-kept {X} {caching} {c} {q} n {r} {whole} {g} {gift} {source} {k} r
     apart : c ≡ q → ⊥
     apart e =
         let own : view (s.block n).service q ≡ Own = rw (last.waits, same_number q) refl in
-        let quiet = own_quiet ((s.block n).pair q) (view (s.block n).service q) ((inv.blocks n).phases q) own in
+        let quiet = own_quiet _ _ ((inv.blocks n).phases q) own in
         let differs : is_unprobed (ProbeAnswered r) ≡ true = rw (rw e at last.answered) at quiet in
         absurd cc
 
@@ -156,15 +156,14 @@ report_grants-kept {X} {caching} {c} {q} n {r} {whole} {g} {gift} {source} {k} r
 
     acquiring_same : (d : ℕ) → (new.pair d).acquiring ≡ (old d).acquiring
     acquiring_same d =
-        let first_ = set-part (λ (p : ClientBlock). p.acquiring) c after old refl q in
-        set-part (λ (p : ClientBlock). p.acquiring) q (after_grant_sent gift (old q)) (set c after old) (sym first_)
-        d ∙ set-part (λ (p : ClientBlock). p.acquiring) c after old refl d
+        let first_ = set-part (λ p. p.acquiring) c after old refl q in
+        set-part (λ p. p.acquiring) q _ (set c after old) (sym first_)
+        d ∙ set-part (λ p. p.acquiring) c after old refl d
 
     letting_same : (d : ℕ) → (new.pair d).letting ≡ (old d).letting
     letting_same d =
-        let first_ = set-part (λ (p : ClientBlock). p.letting) c after old refl q in
-        set-part (λ (p : ClientBlock). p.letting) q (after_grant_sent gift (old q)) (set c after old) (sym first_)
-        d ∙ set-part (λ (p : ClientBlock). p.letting) c after old refl d
+        let first_ = set-part (λ p. p.letting) c after old refl q in
+        set-part (λ p. p.letting) q _ (set c after old) (sym first_) d ∙ set-part (λ p. p.letting) c after old refl d
 
     fits : (d : ℕ) (j : Kind) → is_transfer j ≡ true → (d ≡ q) ⊎ (d ≡ q → ⊥) → (d ≡ c) ⊎ (d ≡ c → ⊥)
         → agrees (granted_moves n c q d (channel_for j)) j n (shown j d (s.block n)) (shown j d new) ≡ true
@@ -178,8 +177,7 @@ report_grants-kept {X} {caching} {c} {q} n {r} {whole} {g} {gift} {source} {k} r
         (shows j after GrantedOther) (moves_of_reporter n c q (channel_for j) apart) (ap (shows j (old c))
         (view_other c apart)) (ap₂ (shows j) (set-other q c (after_grant_sent gift (old q)) (set c after old) apart
         ∙ set-same c after old) (new_other c apart)) (at_reporter n j r (old c) k t last.answered))
-    fits d j t (inr m) (inr o) = agrees_as j (granted_moves n c q d (channel_for j)) Stays (shown j d (s.block n))
-        (shown j d new) (shows j (old d) (Other k)) (shows j (old d) GrantedOther)
-        (moves_of_other n c q d (channel_for j) o m) (ap (shows j (old d)) (view_other d m)) (ap₂ (shows j)
-        (set-other q d (after_grant_sent gift (old q)) (set c after old) m ∙ set-other c d after old o) (new_other d m))
-        (at_other n j (old d) k t)
+    fits d j t (inr m) (inr o) = agrees_as j _ Stays (shown j d (s.block n)) (shown j d new)
+        (shows j (old d) (Other k)) (shows j (old d) GrantedOther) (moves_of_other n c q d (channel_for j) o m)
+        (ap (shows j (old d)) (view_other d m)) (ap₂ (shows j) (set-other q d (after_grant_sent gift (old q))
+        (set c after old) m ∙ set-other c d after old o) (new_other d m)) (at_other n j (old d) k t)

@@ -23,9 +23,8 @@ use proofs.protocol.BothParts.{taken_ungranted, is_of-is, acquires_of-is, first-
 
 -- what isn't told by the token alone: a request isn't stalled, and has a tracker that no block has; nor is a Probe
 abbrev pub IsReady : {w : ℕ} → ℕ → ℕ → Kind → ℕ → AbstractState w → Type 0
-IsReady {w} tracker c Request source h =
-    (m : MessageA w) × (h.mail.request c source ≡ Message.A m) × (is_acquire m.opcode ≡ false)
-    × ((h.state.block (block_at m.address)).service ≡ Free) × (h.state.tracked tracker ≡ None)
+IsReady {w} tracker c Request source h = (m : MessageA w) × (h.mail.request c source ≡ Message.A m) × (is_acquire
+    m.opcode ≡ false) × ((h.state.block (block_at m.address)).service ≡ Free) × (h.state.tracked tracker ≡ None)
 IsReady tracker c Acquire n h = ((h.state.block n).service ≡ Free) × (h.state.tracked tracker ≡ None)
 IsReady tracker c Probe n h = ((h.state.block n).pair c).letting ≡ NoRelease
 IsReady tracker c _ n h = ⊤
@@ -250,7 +249,7 @@ wanting_is x e = grind arith
 -- the use of the source of an open Acquire
 pub acquire-used : (caching : ℕ → Bool) (c n : ℕ) (s : State (List ℕ)) → IsInvariant caching s
     → is_wanting ((s.block n).pair c).acquiring ≡ true → s.uses c ((s.block n).source c) ≡ Acquires n
-acquire-used caching c n s inv wanting = acquires_of-is n (s.uses c ((s.block n).source c))
+acquire-used caching c n s inv wanting = acquires_of-is n _
     (inv.named.acquires c ((s.block n).source c) n ∙ and_from (is_wanting ((s.block n).pair c).acquiring)
     ((s.block n).source c == (s.block n).source c) wanting (same_number ((s.block n).source c)))
 
@@ -264,10 +263,10 @@ pub grant-due : (caching : ℕ → Bool) (c n : ℕ) (rest : List Packet) (s : S
 grant-due caching c n rest s inv first =
     let b = s.block n in
     let sent = granting-service b.service c (first-shown inv c Grant refl first) in
-    let mine : view b.service c ≡ Granting sent.0 sent.1 = own_view c sent.0 sent.1 b.service sent.2 in
-    let wants = wanting_is (b.pair c).acquiring (granting_asks sent.0 sent.1 (b.pair c) (view b.service c)
+    let mine : view b.service c ≡ Granting sent.0 sent.1 = own_view c sent.0 sent.1 _ sent.2 in
+    let wants = wanting_is _ (granting_asks sent.0 sent.1 (b.pair c) (view b.service c)
     ((inv.blocks n).phases c) mine) in
-    let fits = grant_is_fit sent.0 sent.1 (b.pair c) (view b.service c) ((inv.blocks n).phases c) mine in
+    let fits = grant_is_fit sent.0 sent.1 _ _ ((inv.blocks n).phases c) mine in
     record {
       data_too = sent.0;
       k = sent.1;
@@ -297,7 +296,7 @@ pub grant-rendered : {w : ℕ} (c n : ℕ) (s : State (List ℕ)) (is : IsGrantD
     → block_message {w = w} Grant c n (s.block n) ≡ Message.D (grant_message is.data_too is.k ((s.block n).source c)
     (s.block n).tracker (s.block n).truth)
 unfolding block_message
-grant-rendered {w} c n s is = rw is.service refl
+grant-rendered c n s is = rw is.service refl
 
 -- ---- a ReleaseAck
 
@@ -320,7 +319,7 @@ acked_open x e = grind arith
 
 pub ack-due : {caching : ℕ → Bool} (c n : ℕ) (rest : List Packet) {s : State (List ℕ)} → IsInvariant caching s
     → (s.link c).d ≡ packet ReleaseAck n ∷ rest → s.lets c ((s.block n).release_source c) ≡ Some n
-ack-due c n rest {s} inv first = is_of-is n (s.lets c ((s.block n).release_source c))
+ack-due c n rest {s} inv first = is_of-is n _
     (inv.named.releases c ((s.block n).release_source c) n ∙ and_from (not (is_unreleased ((s.block n).pair c).letting))
     ((s.block n).release_source c == (s.block n).release_source c) (acked_open ((s.block n).pair c).letting
     (first-shown inv c ReleaseAck refl first)) (same_number ((s.block n).release_source c)))
@@ -330,9 +329,8 @@ pub never-idle : {w : ℕ} {caching : ℕ → Bool} (config : Config) (tracker c
     → IsReady tracker c k i h → is_idle config c h k i ≡ false
 never-idle config tracker c Request source rest h inv first ready = rw ready.1 refl
 never-idle config tracker c Acquire n rest h inv first ready =
-    let wants = wanting-is ((h.state.block n).pair c).acquiring (and_left (is_wanting
-    ((h.state.block n).pair c).acquiring) (is_unserved (view (h.state.block n).service c))
-    (first-shown inv c Acquire refl first)) in
+    let wants = wanting-is _ (and_left (is_wanting ((h.state.block n).pair c).acquiring)
+    (is_unserved (view (h.state.block n).service c)) (first-shown inv c Acquire refl first)) in
     rw wants.2 refl
 never-idle {w} config tracker c ProbeAck n rest h inv first ready = go b.service refl
   where
@@ -340,7 +338,7 @@ never-idle {w} config tracker c ProbeAck n rest h inv first ready = go b.service
     b = h.state.block n
 
     seen : is_other (view b.service c) ≡ true
-    seen = answered_other _ (b.pair c) (view b.service c) ((inv.blocks n).phases c) (first-report inv first)
+    seen = answered_other _ _ _ ((inv.blocks n).phases c) (first-report inv first)
 
     go : (v : Service) → b.service ≡ v → serves_nobody v b.pair ≡ false
     go Free e = absurd (let other : false ≡ true = rw e at seen in cc)

@@ -65,8 +65,8 @@ asked-access {w} {s} {sys} c source m is used mailed =
         let mine : acquires n (open_beat source (sys.clients c).past) ≡ true = rw (opens, e, same_number n) refl in
         let wants : is_wanting (b.pair c).acquiring ≡ true = sym ((is.known c).acquires n) ∙ (is.kept c).outstanding
         source n mine in
-        let asks = wanting-is (b.pair c).acquiring wants in
-        let used_too = acquires_of-is n (s.uses c (b.source c)) (is.invariant.named.acquires c (b.source c) n
+        let asks = wanting-is _ wants in
+        let used_too = acquires_of-is n _ (is.invariant.named.acquires c (b.source c) n
         ∙ rw (wants, same_number (b.source c)) refl) in
         let opens_too : open_beat (b.source c) (sys.clients c).past ≡ Some
         (a_beat_of (acquisition (acquire_opcode asks.0) asks.1 (b.source c) n) 0) =
@@ -79,16 +79,16 @@ pub asked-first : {w : ℕ} {config : Config} {log : Log w} {mail : AccessMessag
     {s : State (List ℕ)} {sys : System w} (c source : ℕ) (rest : List Packet)
     → SimulationRelation config log mail request s sys → (s.link c).a ≡ packet Request source ∷ rest
     → IsAsked config c source mail s
-asked-first {w} {config} {log} {mail} {request} {s} {sys} c source rest is first =
+asked-first {config} {mail} {request} c source rest is first =
     let used = first-request is.invariant first in
     let sourced : IsRequest config c source (mail.request c source) = rw used at (is.sourced c source) in
-    let of : IsOfSource source (mail.request c source) = of_source source (mail.request c source) sourced.0 in
+    let of : IsOfSource source (mail.request c source) = of_source _ _ sourced.0 in
     record {
       request = of.request;
       is_it = of.is_it;
       source_is = of.source_is;
       used = used;
-      access = asked-access c source of.request is used of.is_it;
+      access = asked-access c _ _ is used of.is_it;
       lawful = rw of.is_it at sourced.1;
       blank = rw of.is_it at sourced.2;
     }
@@ -107,17 +107,17 @@ pub record IsWanted (w c n : ℕ) (s : State (List ℕ)) : Type 0 where
 pub wanted-first : {w : ℕ} {config : Config} {log : Log w} {mail : AccessMessages w} {request : ℕ → MessageA w}
     {s : State (List ℕ)} {sys : System w} (c n : ℕ) (rest : List Packet)
     → SimulationRelation config log mail request s sys → (s.link c).a ≡ packet Acquire n ∷ rest → IsWanted w c n s
-wanted-first {w} {s} c n rest is first =
+wanted-first {s} c n rest is first =
     let b : Block (List ℕ) = s.block n in
     let shows = first-shown is.invariant c Acquire refl first in
     let wants = and_left (is_wanting (b.pair c).acquiring) (is_unserved (view b.service c)) shows in
-    let asks = wanting-is (b.pair c).acquiring wants in
+    let asks = wanting-is _ wants in
     record {
       whole = asks.0;
       grow = asks.1;
       wants = asks.2;
       unserved = and_right (is_wanting (b.pair c).acquiring) (is_unserved (view b.service c)) shows;
-      used = acquires_of-is n (s.uses c (b.source c)) (is.invariant.named.acquires c (b.source c) n ∙ rw
+      used = acquires_of-is n _ (is.invariant.named.acquires c (b.source c) n ∙ rw
           (wants, same_number (b.source c)) refl);
       renders = rendered-acquire c n b asks.0 asks.1 asks.2;
     }
@@ -152,7 +152,5 @@ front-of {w} {mail} {s} {sys} c first rest m x queue width is tokens is_it beats
     let carried_so : (ms ns : List (Message w)) (q r : List (Beat w)) → ms ≡ ns → q ≡ r
     → IsCarried (unfinished Channel.A (on_link c sys.manager.trace)) ms q
     → IsCarried (unfinished Channel.A (on_link c sys.manager.trace)) ns r = λ ms ns q r e f h. rw (← e, ← f) h in
-    carried-next x (unfinished Channel.A (on_link c sys.manager.trace)) (Message.A m) (map (message_of mail s c) rest)
-    queue (λ i. beats-positive i width)
-    (carried_so (messages_on Channel.A mail s c) (Message.A m ∷ map (message_of mail s c) rest)
-    (sys.channels c Channel.A) (x ∷ queue) (cc) beats (is.carried c Channel.A))
+    carried-next x _ _ _ queue (λ i. beats-positive i width) (carried_so (messages_on Channel.A mail s c) (Message.A
+    m ∷ map (message_of mail s c) rest) (sys.channels c Channel.A) (x ∷ queue) (cc) beats (is.carried c Channel.A))

@@ -27,12 +27,12 @@ pub marked-set : {B : Type 0} (test : B → Bool) (clients : ℕ) (sources : ℕ
     ≡ marked test clients sources f + one_if (test x)
 marked-set {B} test clients sources c k x f few lt =
     let row : ℕ → (ℕ → B) → ℕ = λ d g. total (sources d) (λ i. one_if (test (g i))) in
-    let inner = total-at (sources c) k (λ i. one_if (test (set k x (f c) i))) (λ i. one_if (test (f c i))) lt
-    (λ i ne. ap (λ (y : B). one_if (test y)) (set-other k i x (f c) ne)) in
+    let inner = total-at _ k (λ i. one_if (test (set k x (f c) i))) (λ i. one_if (test (f c i))) lt
+    (λ i ne. ap (λ y. one_if (test y)) (set-other k i x (f c) ne)) in
     let outer = total-at clients c (λ d. row d (set_at c k x f d)) (λ d. row d (f d)) few
     (λ d ne. ap (row d) (set-other c d (set k x (f c)) f ne)) in
     let changed : row c (set_at c k x f c) ≡ row c (set k x (f c)) = ap (row c) (set-same c (set k x (f c)) f) in
-    omega (arith, inner, ap (λ (y : B). one_if (test y)) (set-same k x (f c)), outer, changed)
+    omega (arith, inner, ap (λ y. one_if (test y)) (set-same k x (f c)), outer, changed)
 
 -- no place changes, as the test has it
 marked-same : {B : Type 0} (test : B → Bool) (clients : ℕ) (sources : ℕ → ℕ) (f g : ℕ → ℕ → B)
@@ -43,11 +43,11 @@ marked-same test clients sources f g same = cc (total-same clients (λ c. total 
 
 pub set_at-part : {A B : Type 0} (part : B → A) (c k : ℕ) (x : B) (f : ℕ → ℕ → B) → part x ≡ part (f c k) → (d i : ℕ)
     → part (set_at c k x f d i) ≡ part (f d i)
-set_at-part {A} {B} part c k x f same d i = go (cases_eq d c)
+set_at-part part c k x f same d i = go (cases_eq d c)
   where
     go : (d ≡ c) ⊎ (d ≡ c → ⊥) → part (set_at c k x f d i) ≡ part (f d i)
-    go (inl e) = rw e (ap (λ (g : ℕ → B). part (g i)) (set-same c (set k x (f c)) f) ∙ set-part part k x (f c) same i)
-    go (inr ne) = ap (λ (g : ℕ → B). part (g i)) (set-other c d (set k x (f c)) f ne)
+    go (inl e) = rw e (ap (λ g. part (g i)) (set-same c (set k x (f c)) f) ∙ set-part part k x (f c) same i)
+    go (inr ne) = ap (λ g. part (g i)) (set-other c d (set k x (f c)) f ne)
 
 -- ---- GrantAcks
 
@@ -58,8 +58,8 @@ pub acks-set : (clients c : ℕ) (l : Link) (link : ℕ → Link) → c < client
     → acks clients (set c l link) + length (link c).e ≡ acks clients link + length l.e
 acks-set clients c l link few =
     let changed = total-at clients c (λ d. length (set c l link d).e) (λ d. length (link d).e) few
-    (λ d ne. ap (λ (x : Link). length x.e) (set-other c d l link ne)) in
-    omega (arith, ap (λ (x : Link). length x.e) (set-same c l link), changed)
+    (λ d ne. ap (λ x. length x.e) (set-other c d l link ne)) in
+    omega (arith, ap (λ x. length x.e) (set-same c l link), changed)
 
 pub acks-same : (clients : ℕ) (f g : ℕ → Link) → ((c : ℕ) → (f c).e ≡ (g c).e) → acks clients f ≡ acks clients g
 acks-same clients f g same = grind (arith, total-same)

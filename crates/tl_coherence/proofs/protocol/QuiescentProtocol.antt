@@ -96,7 +96,7 @@ module _ {X : Type 0} {caching : ℕ → Bool} {s : State X} (inv : IsInvariant 
 
   -- a client that is probed is probed for a request that is open
   probed-for : (c n : ℕ) → is_unprobed ((s.block n).pair c).probing ≡ false → IsClosed s → ⊥
-  probed-for c n probed closed = go (s.block n).service refl
+  probed-for c n probed closed = go _ refl
       (serves_another ((s.block n).pair c) (view (s.block n).service c) ((inv.blocks n).phases c) probed)
     where
       go : (service : Service) → (s.block n).service ≡ service → is_other (view service c) ≡ true → ⊥

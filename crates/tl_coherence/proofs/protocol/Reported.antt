@@ -35,8 +35,7 @@ report_none p r e f = grind arith
 
 pub gentle-report : (r : Report) (p : ClientBlock) → same_perm (report_left r) p.recorded ≡ true
     → IsGentle p (after_report r p)
-gentle-report r p e =
-    record { trunk = λ f. report_trunk r p.recorded e f; none = λ f. report_none p.recorded r e f; quiet = λ f. refl }
+gentle-report r p e = record { trunk = λ f. report_trunk r _ e f; none = λ f. report_none _ r e f; quiet = λ f. refl }
 
 prune_trunk : (r : Prune) (p : Perm) → same_perm (prune_left r) p ≡ true → same_perm (prune_right r) Perm.Trunk ≡ true
     → same_perm p Perm.Trunk ≡ true
@@ -48,8 +47,7 @@ prune_none p r e f = grind arith
 
 gentle-prune : (r : Prune) (p : ClientBlock) → same_perm (prune_left r) p.recorded ≡ true
     → IsGentle p (after_release_taken r p)
-gentle-prune r p e =
-    record { trunk = λ f. prune_trunk r p.recorded e f; none = λ f. prune_none p.recorded r e f; quiet = λ f. f }
+gentle-prune r p e = record { trunk = λ f. prune_trunk r _ e f; none = λ f. prune_none _ r e f; quiet = λ f. f }
 
 -- ---- memory: who gives Trunk up brings the data, and whoever else is out stays so
 
@@ -58,7 +56,7 @@ memory-written : {X : Type 0} (c : ℕ) (left : Perm) (q : ClientBlock) (service
     (memory truth : X) → same_perm left (pair c).recorded ≡ true
     → (((d : ℕ) → is_out (pair d) (view service d) ≡ false) → memory ≡ truth)
     → ((d : ℕ) → is_out (set c q pair d) (view service d) ≡ false) → written_from left truth memory ≡ truth
-memory-written {X} c left q service pair memory truth begins h none =
+memory-written c left q service pair memory truth begins h none =
     let before : same_perm left Perm.Trunk ≡ false → (d : ℕ) → is_out (pair d) (view service d) ≡ false =
     λ e d. elim (cases_eq d c) [
       | inl same ↦ rw same (not_out (pair c) (view service c) (both_trunk left (pair c).recorded begins e))
@@ -75,7 +73,7 @@ reported-block : {X : Type 0} {caching : ℕ → Bool} (c : ℕ) (r : Report) {b
     → IsWell caching (reported_block c r b)
 reported-block {caching} c r {b} h answered w apart missing =
     let after : ClientBlock = after_report r (b.pair c) in
-    let begins = report_begins r (b.pair c) (view b.service c) (h.phases c) answered in
+    let begins = report_begins r _ _ (h.phases c) answered in
     record {
       phases = set-each (λ d q. ok q (view b.service d) ≡ true) c after b.pair
           (report-ok r (b.pair c) (view b.service c) (h.phases c) answered).0 (λ d ne. h.phases d);
@@ -86,15 +84,15 @@ reported-block {caching} c r {b} h answered w apart missing =
       one_owner = owned-set c b.pair (gentle-report r (b.pair c) begins) h.one_owner;
       outside = outside-set caching c after b.pair (busy-inside caching c b.pair (λ p. is_answered p.probing) refl
           (rw answered refl) h.outside) h.outside;
-      copies = λ d some. h.copies d (rw ((set-part (λ (p : ClientBlock). p.held) c after b.pair refl) d) at some);
-      memory = λ none. memory-written c (report_left r) after b.service b.pair b.memory b.truth begins h.memory none;
+      copies = λ d some. h.copies d (rw ((set-part (λ p. p.held) c after b.pair refl) d) at some);
+      memory = λ none. memory-written c _ after b.service b.pair b.memory _ begins h.memory none;
     }
 
 let-block : {X : Type 0} {caching : ℕ → Bool} (c : ℕ) (r : Prune) {b : Block X} → IsWell caching b
     → (b.pair c).letting ≡ ReleaseSent r → is_answered (b.pair c).probing ≡ false → IsWell caching (let_block c r b)
 let-block {caching} c r {b} h releasing first =
     let after : ClientBlock = after_release_taken r (b.pair c) in
-    let begins = release_begins r (b.pair c) (view b.service c) (h.phases c) releasing first in
+    let begins = release_begins r _ _ (h.phases c) releasing first in
     record {
       phases = set-each (λ d q. ok q (view b.service d) ≡ true) c after b.pair
           (release_taken-ok r (b.pair c) (view b.service c) (h.phases c) releasing first) (λ d ne. h.phases d);
@@ -105,8 +103,8 @@ let-block {caching} c r {b} h releasing first =
       one_owner = owned-set c b.pair (gentle-prune r (b.pair c) begins) h.one_owner;
       outside = outside-set caching c after b.pair (busy-inside caching c b.pair (λ p. is_releasing p.letting) refl
           (rw releasing refl) h.outside) h.outside;
-      copies = λ d some. h.copies d (rw ((set-part (λ (p : ClientBlock). p.held) c after b.pair refl) d) at some);
-      memory = λ none. memory-written c (prune_left r) after b.service b.pair b.memory b.truth begins h.memory none;
+      copies = λ d some. h.copies d (rw ((set-part (λ p. p.held) c after b.pair refl) d) at some);
+      memory = λ none. memory-written c _ after b.service b.pair b.memory _ begins h.memory none;
     }
 
 -- ---- a ProbeAck
@@ -133,20 +131,17 @@ report_taken-kept {X} {caching} c n r rest {s} inv first answered w apart missin
     let old : ℕ → ClientBlock = (s.block n).pair in
     let after : ClientBlock = after_report r (old c) in
     let new : Block X = reported_block c r (s.block n) in
-    invariant-moved s.lets s.tracked inv
-    (event-at (record {
+    invariant-moved s.lets s.tracked inv (event-at (record {
       well = reported-block c r (inv.blocks n) answered w apart missing;
       moved = moved;
       own = own;
       fits = λ k t. rw (set-same c after old) (report_shows n k r (old c) (view (s.block n).service c) t answered);
-      others = λ d ne k t. ap (λ (p : ClientBlock). shows k p (view (s.block n).service d))
-          (set-other c d after old ne);
+      others = λ d ne k t. ap (λ p. shows k p (view (s.block n).service d)) (set-other c d after old ne);
       in_order = λ m e. absurd (let f : Pops ProbeAck n ≡ Pushes ProbeAck m = e in cc);
     }))
-    (bare-at c (report_moves n) refl refl)
-    (names-kept n new (set c here s.link) s inv.named
-    (λ d i. rw (set-part (λ (p : ClientBlock). p.acquiring) c after old refl d) refl) (λ d i. refl)
-    (λ d i. rw (set-part (λ (p : ClientBlock). p.letting) c after old refl d) refl) (λ i. refl))
+    (bare-at c (report_moves n) refl refl) (names-kept n new (set c here s.link) s inv.named
+    (λ d i. rw (set-part (λ p. p.acquiring) c after old refl d) refl) (λ d i. refl)
+    (λ d i. rw (set-part (λ p. p.letting) c after old refl d) refl) (λ i. refl))
 
 -- ---- a Release
 
@@ -169,7 +164,7 @@ unfolding count
 release_first c n rest {s} inv first =
     let go : (b : Bool) → one_if b ≡ 0 → b ≡ false = elim [ true ↦ λ e. absurd (omega (arith, e)) | false ↦ λ e. refl ]
     in
-    let behind : count ProbeAck n rest ≡ 0 = ordered-first n (s.link c).c rest (packet Release n) first
+    let behind : count ProbeAck n rest ≡ 0 = ordered-first n _ rest _ first
     (rw (same_number n) refl) (inv.ordered c n) in
     go (is_answered ((s.block n).pair c).probing) (omega (arith, behind, rw first at (inv.transfers c ProbeAck refl n)))
 
@@ -183,20 +178,17 @@ release_taken-kept {X} {caching} c n r rest {s} inv first releasing =
     let old : ℕ → ClientBlock = (s.block n).pair in
     let after : ClientBlock = after_release_taken r (old c) in
     let new : Block X = let_block c r (s.block n) in
-    invariant-moved s.lets s.tracked inv
-    (event-at (record {
+    invariant-moved s.lets s.tracked inv (event-at (record {
       well = let-block c r (inv.blocks n) releasing (release_first c n rest inv first);
       moved = moved;
       own = own;
       fits = λ k t. rw (set-same c after old) (let_shows n k r (old c) (view (s.block n).service c) t releasing);
-      others = λ d ne k t. ap (λ (p : ClientBlock). shows k p (view (s.block n).service d))
-          (set-other c d after old ne);
+      others = λ d ne k t. ap (λ p. shows k p (view (s.block n).service d)) (set-other c d after old ne);
       in_order = λ m e. absurd (let f : Pops Release n ≡ Pushes ProbeAck m = e in cc);
     }))
-    (bare-at c (let_moves n) refl refl)
-    (names-kept n new (set c here s.link) s inv.named (λ d i. rw (set-part
-    (λ (p : ClientBlock). p.acquiring) c after old refl d) refl) (λ d i. refl) (λ d i. rw (set-part
-    (λ (p : ClientBlock). is_unreleased p.letting) c after old (rw releasing refl) d) refl) (λ i. refl))
+    (bare-at c (let_moves n) refl refl) (names-kept n new (set c here s.link) s inv.named
+    (λ d i. rw (set-part (λ p. p.acquiring) c after old refl d) refl) (λ d i. refl)
+    (λ d i. rw (set-part (λ p. is_unreleased p.letting) c after old (rw releasing refl) d) refl) (λ i. refl))
 
 -- ---- the block
 
@@ -213,7 +205,7 @@ ended-block : {X : Type 0} {caching : ℕ → Bool} {c q : ℕ} {r : Report} {f 
 ended-block {X} {caching} {c} {r} {f} {k} {b} h last =
     let begins : same_perm (report_left r) (b.pair c).recorded ≡ true =
     report_begins r (b.pair c) (view b.service c) (h.phases c) last.answered in
-    let low : same_cap k Cap.ToT ≡ false = cap_is_low k (b.pair c) (view b.service c) (h.phases c) (other c) in
+    let low : same_cap k Cap.ToT ≡ false = cap_is_low k (b.pair c) _ (h.phases c) (other c) in
     -- before, nobody had a Trunk but the client whose ProbeAck is taken, if that carries data
     let none_out : same_perm (report_left r) Perm.Trunk ≡ false → (d : ℕ) → is_out (b.pair d) (view b.service d)
     ≡ false = λ bare d. not_out (b.pair d) (view b.service d) (elim (cases_eq d c) [
@@ -257,8 +249,7 @@ ended-block {X} {caching} {c} {r} {f} {k} {b} h last =
 
     copy_is : (d : ℕ) → same_perm (set c after b.pair d).held Perm.None ≡ false → (f b.truth ≡ b.truth) ⊎ (k ≡ Cap.ToN)
         → b.copy d ≡ f b.truth
-    copy_is d some (inl same) =
-        h.copies d (rw ((set-part (λ (p : ClientBlock). p.held) c after b.pair refl) d) at some) ∙ sym same
+    copy_is d some (inl same) = h.copies d (rw ((set-part (λ p. p.held) c after b.pair refl) d) at some) ∙ sym same
     copy_is d some (inr all) =
         let no = nothing_below (set c after b.pair d).held (set c after b.pair d).recorded
         (held_at_most (set c after b.pair d) Idle (phase d)) (nobody all d) in
@@ -302,10 +293,10 @@ report_answers-kept {X} {c} {q} n {r} {f} {source} {k} rest {s} inv first last =
     let never_pushed : (x : Bool) (m : ℕ) → (if x then Pops ProbeAck n else Stays) ≡ Pushes ProbeAck m → ⊥ =
     elim [ true ↦ λ m e. cc | false ↦ λ m e. cc ] in
     let links : ℕ → Link = ended_link c q (packet Answer source) rest s.link in
-    let used : s.uses q source ≡ InService n = serves_of-is n (s.uses q source) (inv.named.serves q source n
+    let used : s.uses q source ≡ InService n = serves_of-is n _ (inv.named.serves q source n
     ∙ rw (last.waits, same_number q, same_number source) refl) in
     let acquires_same : (d i : ℕ) → acquires_with d i new ≡ acquires_with d i (s.block n) =
-    λ d i. rw (set-part (λ (p : ClientBlock). p.acquiring) c after old refl d) refl in
+    λ d i. rw (set-part (λ p. p.acquiring) c after old refl d) refl in
     let first_at : (d : ℕ) → (d == c) ≡ true → (s.link d).c ≡ packet ProbeAck n ∷ rest =
     λ d e. rw (eqb-true d c e) first in
     let answered_at : (d : ℕ) → (d == c) ≡ true → (old d).probing ≡ ProbeAnswered r =
@@ -317,25 +308,23 @@ report_answers-kept {X} {c} {q} n {r} {f} {source} {k} rest {s} inv first last =
     (packets_on ch (if d == q then with_d (packet Answer source) (if d == c then record (s.link d) { c = rest }
     else s.link d) else (if d == c then record (s.link d) { c = rest } else s.link d))) → IsMoved (ended_move (d == c)
     (d == q) n source ch) (packets_on ch (s.link d)) (packets_on ch (links d)) = λ d ch h. rw (popped d) h in
-    invariant-moved_use q source Replied
-    (set tracker None s.tracked) inv (record {
+    invariant-moved_use q source Replied (set tracker None s.tracked) inv (record {
       well = ended-block (inv.blocks n) last;
       moved = λ d ch. by_link d ch (ended_moved (d == c) (d == q) ch n source (s.link d) rest (first_at d));
       own = λ d ch. ended_own ch (d == c) (d == q) n source;
-      fits = λ d j t. by_pair d j (ended_move (d == c) (d == q) n source (channel_for j))
-          (ended_shows (d == c) (d == q) n source j r k (old d) t (answered_at d));
+      fits = λ d j t. by_pair d j _ (ended_shows (d == c) (d == q) n source j r k (old d) t (answered_at d));
       in_order = λ d m e. absurd (never_pushed (d == c) m e);
     })
     (rw used refl) (rw (same_number q, used, same_number source) refl) (λ d ne. (refl, rw (ne_eqb d q ne) refl))
     (record {
-      acquires = names-set_at acquires_of acquires_with q source Replied s.uses n new s.block
+      acquires = names-set_at acquires_of acquires_with q source _ s.uses n new s.block
           ((rw used at (inv.named.acquires q source n)) ∙ sym (acquires_same q source)) (λ m ne. rw used refl)
           (λ i ne. acquires_same q i) (λ d i ne. acquires_same d i) inv.named.acquires;
       serves = names-set_at serves_of serves_with q source Replied s.uses n new s.block refl
           (λ m ne. rw used (sym (ne_eqb m n ne))) (λ i ne. rw (last.waits, same_number q, ne_eqb i source ne) refl)
           (λ d i ne. rw (last.waits, ne_eqb d q ne) refl) inv.named.serves;
       releases = λ d. names-block is_of (releases_with d) (s.lets d) n new s.block
-          (λ i. rw (set-part (λ (p : ClientBlock). p.letting) c after old refl d) refl) (inv.named.releases d);
+          (λ i. rw (set-part (λ p. p.letting) c after old refl d) refl) (inv.named.releases d);
       trackers = names-set is_of tracks_with s.tracked tracker None n new s.block refl (λ m ne. rw (is_of-is n
           (s.tracked tracker) (inv.named.trackers tracker n ∙ rw (last.waits, same_number tracker) refl))
           (sym (ne_eqb m n ne))) (λ i ne. rw (last.waits, ne_eqb i tracker ne) refl) inv.named.trackers;
@@ -358,6 +347,5 @@ report_answers-kept {X} {c} {q} n {r} {f} {source} {k} rest {s} inv first last =
         ≡ true → agrees m j n (shown j d (s.block n)) (shown j d new) ≡ true
     by_pair d j m h =
         let seen : view (s.block n).service d ≡ Other k = rw last.waits refl in
-        rw seen
-        (subst (λ (p : ClientBlock). agrees m j n (shows j (old d) (Other k)) (shows j p Idle) ≡ true) (sym (elim
-        (cases_eq d c) [ inl same ↦ rw (same, same_number c) refl | inr ne ↦ rw (ne_eqb d c ne) refl ])) h)
+        rw seen (subst (λ p. agrees m j n (shows j (old d) (Other k)) (shows j p Idle) ≡ true)
+        (sym (elim (cases_eq d c) [ inl same ↦ rw (same, same_number c) refl | inr ne ↦ rw (ne_eqb d c ne) refl ])) h)

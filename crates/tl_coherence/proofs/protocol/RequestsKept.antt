@@ -42,7 +42,7 @@ performed-block {X} f {b} h spared = record {
   where
     copy_is : (d : ℕ) → same_perm (b.pair d).held Perm.None ≡ false → Spares f b → b.copy d ≡ f b.truth
     copy_is d some (inl same) = h.copies d some ∙ sym same
-    copy_is d some (inr none) = absurd (let no = nothing_below (b.pair d).held (b.pair d).recorded (held_at_most
+    copy_is d some (inr none) = absurd (let no = nothing_below _ _ (held_at_most
         (b.pair d) (view b.service d) (h.phases d)) (none d) in let differs : true ≡ false = sym no ∙ some in cc)
 
 -- ---- the whole
@@ -64,20 +64,16 @@ access_answered-kept {X} {caching} c n source f rest {s} inv first asked spared 
     let moved : AreMoved (answer_moves source) (s.link c) here = elim [ Channel.A ↦ first | _ ↦ refl ] in
     let own : (ch : Channel) → is_own_move ch (answer_moves source ch) ≡ true = elim [ Channel.A ↦ refl | ch ↦ refl ] in
     let new : Block X = performed_block f (s.block n) in
-    invariant-moved_use c source Replied s.tracked
-    inv
-    (event-at (record {
+    invariant-moved_use c source Replied s.tracked inv (event-at (record {
       well = performed-block f (inv.blocks n) spared;
       moved = moved;
       own = own;
-      fits = λ k t. spared-agrees (answer_moves source (channel_for k)) k n (shown k c (s.block n))
-          (answer_spared source k t);
+      fits = λ k t. spared-agrees _ k n (shown k c (s.block n)) (answer_spared source k t);
       others = λ d ne k t. refl;
       in_order = λ m e. absurd (let f : Stays ≡ Pushes ProbeAck m = e in cc);
     }))
     (rw (same_number c, same_number source) refl) (rw (same_number c, asked, same_number source) refl)
-    (bare-elsewhere c (answer_moves source))
-    (record {
+    (bare-elsewhere c (answer_moves source)) (record {
       acquires = names-set_at acquires_of acquires_with c source Replied s.uses n new s.block (rw asked at
           (inv.named.acquires c source n)) (λ m ne. rw asked refl) (λ i ne. refl) (λ d i ne. refl) inv.named.acquires;
       serves = names-set_at serves_of serves_with c source Replied s.uses n new s.block (rw asked at
@@ -97,12 +93,11 @@ done_spared source k e = grind arith
 pub answer_taken-kept : {X : Type 0} {caching : ℕ → Bool} (c source : ℕ) (rest : List Packet) {s : State X}
     → IsInvariant caching s → (s.link c).d ≡ packet Answer source ∷ rest → s.uses c source ≡ Replied
     → IsInvariant caching (answer_taken c source rest s)
-answer_taken-kept {caching} c source rest {s} inv first replied =
+answer_taken-kept c source rest {s} inv first replied =
     let here : Link = record (s.link c) { d = rest } in
     let moved : AreMoved (done_moves source) (s.link c) here = elim [ Channel.D ↦ first | _ ↦ refl ] in
     let own : (ch : Channel) → is_own_move ch (done_moves source ch) ≡ true = elim [ Channel.A ↦ refl | ch ↦ refl ] in
-    invariant-moved_access
-    inv (record {
+    invariant-moved_access inv (record {
       moved = moved;
       own = own;
       spared = done_spared source;
@@ -139,7 +134,7 @@ pub unprobed : (clients : ℕ) (caching : ℕ → Bool) (c : ℕ) (own : Bool) (
     → is_above k (pair d).recorded ≡ false
 unprobed clients caching c own k pair plain outside none d spared = elim (cases_lt d clients) [
   | inl lt ↦ let e : (not (own && (d == c)) && is_above k (pair d).recorded) ≡ false =
-      some-none clients (λ i. is_probed c own k (pair i).recorded i) none d lt in rw spared at e
+      some-none _ (λ i. is_probed c own k (pair i).recorded i) none d lt in rw spared at e
   | inr le ↦ rw (outside d (plain d le)) (nothing-above k)
 ]
 
@@ -149,9 +144,8 @@ pub settled_all : (clients : ℕ) (caching : ℕ → Bool) (c : ℕ) (pair : ℕ
     → is_unprobed (pair d).probing ≡ true
 settled_all clients caching c pair plain outside none d ne = elim (cases_lt d clients) [
   | inl lt ↦ let e : (not (d == c) && not (is_unprobed (pair d).probing)) ≡ false =
-      some-none clients (λ i. not (i == c) && not (is_unprobed (pair i).probing)) none d lt in
-      not-false (is_unprobed (pair d).probing)
-      (rw (ne_eqb d c ne) at e)
+      some-none _ (λ i. not (i == c) && not (is_unprobed (pair i).probing)) none d lt in
+      not-false (is_unprobed (pair d).probing) (rw (ne_eqb d c ne) at e)
   | inr le ↦ rw (outside d (plain d le)) refl
 ]
 
@@ -167,7 +161,7 @@ pub leaves-bytes : {w : ℕ} (m : MessageA w) (bytes : List ℕ) → is_acquire 
     → (performs m bytes ≡ bytes) ⊎ (cap_probed m.opcode m.param ≡ Some Cap.ToN)
 leaves-bytes m bytes e long = elim (leaves_memory m (bytes_at (block_at m.address) bytes) e) [
   | inl all ↦ inr all
-  | inr same ↦ inl (ap (λ (f : Memory). bytes_from f (64 * block_at m.address) 64) same
+  | inr same ↦ inl (ap (λ f. bytes_from f (64 * block_at m.address) 64) same
       ∙ (rw long at (bytes_are (bytes_at (block_at m.address) bytes) (64 * (block_at m.address)) bytes
       (λ i lt. ap (slice_index bytes) (omega arith)))))
 ]
@@ -212,11 +206,10 @@ module _ {w : ℕ} {caching : ℕ → Bool} (config : Config) (c : ℕ) (rest : 
       → length (h.state.block (block_at m.address)).truth ≡ 64 → cap_probed m.opcode m.param ≡ o
       → probes_some clients c false o (h.state.block (block_at m.address)).pair ≡ false
       → IsInvariant caching (access_answered c (block_at m.address) source (performs m) rest h.state)
-  access_answered-followed source m o first access long caps none =
-      access_answered-kept c (block_at m.address) source (performs m) rest inv first (first-request inv first)
-      (elim (leaves-bytes m b.truth access long) [
+  access_answered-followed source m o first access long caps none = access_answered-kept c _ _ (performs m) rest inv
+      first (first-request inv first) (elim (leaves-bytes m b.truth access long) [
         | inl same ↦ inl same
-        | inr all ↦ inr (λ d. none-above (b.pair d).recorded (unprobed clients caching c false Cap.ToN b.pair plain
+        | inr all ↦ inr (λ d. none-above _ (unprobed clients caching c false Cap.ToN b.pair plain
             (inv.blocks (block_at m.address)).outside (let same : o ≡ Some Cap.ToN = cc in rw same at none) d refl))
       ])
     where
@@ -229,9 +222,8 @@ module _ {w : ℕ} {caching : ℕ → Bool} (config : Config) (c : ℕ) (rest : 
       → some_below clients (λ d. is_probed c false k ((h.state.block (block_at m.address)).pair d).recorded d) ≡ true
       → IsInvariant caching (access_served c (block_at m.address) source tracker k rest h.state)
   access_served-followed tracker source m k first free unused caps some =
-      let one =
-      some-one clients (λ d. is_probed c false k ((h.state.block (block_at m.address)).pair d).recorded d) some in
-      access_served-kept c (block_at m.address) source tracker k rest inv first free (first-request inv first)
+      let one = some-one _ (λ d. is_probed c false k ((h.state.block (block_at m.address)).pair d).recorded d) some in
+      access_served-kept c _ _ _ k rest inv first free (first-request inv first)
       (low_cap m.opcode m.param k caps) unused one.0 one.1
 
   pub acquire_served-followed : (tracker n : ℕ) (whole : Bool) (g : Grow)
@@ -242,8 +234,8 @@ module _ {w : ℕ} {caching : ℕ → Bool} (config : Config) (c : ℕ) (rest : 
       rest h.state)
   acquire_served-followed tracker n whole g first free unused wants some =
       let same_again : (k : Cap) → same_cap k k ≡ true = elim [ Cap.ToT ↦ refl | k ↦ refl ] in
-      let one = some-one clients (probed_for_acquire n whole g) some in
-      acquire_served-kept c n ((h.state.block n).source c) tracker whole g (cap_asked (AcquireOpen whole g)) rest inv
+      let one = some-one _ (probed_for_acquire n whole g) some in
+      acquire_served-kept c n ((h.state.block n).source c) _ whole g _ rest inv
       first free wants (same_again (cap_asked (AcquireOpen whole g))) unused refl one.0 one.1
 
   pub acquire_granted-followed : (tracker n : ℕ) (whole : Bool) (g : Grow)
@@ -253,14 +245,14 @@ module _ {w : ℕ} {caching : ℕ → Bool} (config : Config) (c : ℕ) (rest : 
       → IsInvariant caching (acquire_granted c n tracker (is_granted_data whole g ((h.state.block n).pair c).recorded)
       (gift config.profile whole g (is_unheld clients (h.state.block n).pair)) rest h.state)
   acquire_granted-followed tracker n whole g first free unused wants none =
-      acquire_granted-kept n tracker rest inv first (record {
+      acquire_granted-kept n _ rest inv first (record {
         free = free;
         wants = wants;
-        fits = gift_fits config.profile whole g (b.pair c).held (is_unheld clients b.pair) fits;
-        low = λ d ne. low-unprobed whole g (b.pair d).recorded (spared d ne);
+        fits = gift_fits config.profile whole g _ (is_unheld clients b.pair) fits;
+        low = λ d ne. low-unprobed whole g _ (spared d ne);
         room = λ top d ne.
             elim (gift_trunk config.profile whole g (b.pair c).held (is_unheld clients b.pair) fits top) [
-              | inl grows ↦ none-unprobed whole g (b.pair d).recorded grows (spared d ne)
+              | inl grows ↦ none-unprobed whole g _ grows (spared d ne)
               | inr unheld ↦ unheld_none clients caching b.pair plain (inv.blocks n).outside unheld d
             ];
       }) unused
@@ -269,8 +261,7 @@ module _ {w : ℕ} {caching : ℕ → Bool} (config : Config) (c : ℕ) (rest : 
       b = h.state.block n
 
       fits : grow_fits (b.pair c).held (AcquireOpen whole g) ≡ true
-      fits = acquire_fits whole g (b.pair c) (view b.service c) ((inv.blocks n).phases c) wants
+      fits = acquire_fits whole g _ _ ((inv.blocks n).phases c) wants
 
       spared : (d : ℕ) → (d ≡ c → ⊥) → is_above (cap_asked (AcquireOpen whole g)) (b.pair d).recorded ≡ false
-      spared d ne = unprobed clients caching c true (cap_asked (AcquireOpen whole g)) b.pair plain
-          (inv.blocks n).outside none d (ne_eqb d c ne)
+      spared d ne = unprobed _ caching c true _ b.pair plain (inv.blocks n).outside none d (ne_eqb d c ne)

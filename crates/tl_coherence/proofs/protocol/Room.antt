@@ -47,9 +47,8 @@ spelled-few {w} message light (x ∷ xs) width one =
     let rest = spelled-few message light xs width (λ y there. one y (later-there y x xs there)) in
     let parts = length-append (beats_from (message x) 0 (beats_of (message x))) (spelled (map message xs)) in
     let own = length-beats_from (message x) 0 (beats_of (message x)) in
-    sums (64 / w) (beats_of (message x)) (passing (λ y. not (light y)) xs) (passing light xs) (light x) _ _
-    (beats-few (message x) width)
-    (one x (first-there x xs)) rest (parts ∙ ap (λ (n : ℕ). n + length (spelled (map message xs))) own)
+    sums (64 / w) (beats_of (message x)) (passing (λ y. not (light y)) xs) (passing light xs) (light x) _ _ (beats-few
+    (message x) width) (one x (first-there x xs)) rest (parts ∙ ap (λ n. n + length (spelled (map message xs))) own)
   where
     sums : (n b heavy few : ℕ) (l : Bool) (rest all : ℕ) → b ≤ n → (l ≡ true → b ≡ 1) → rest ≤ n * heavy + few
         → all ≡ b + rest → all ≤ n * (one_if (not l) + heavy) + (one_if l + few)
@@ -108,30 +107,29 @@ channel-few {w} {caching} mail {s} {c} {sources} {trackers} ch rest queue width 
         → length queue ≤ capacity (64 / w) sources trackers d
     go Channel.A h =
         let all = spelled-few (message_of mail s c) (λ x. false) (s.link c).a width (λ x there e. absurd cc) in
-        times (64 / w) (passing (λ x. true) (s.link c).a) (passing (λ x. false) (s.link c).a) sources (length queue) _
+        times (64 / w) (passing (λ x. true) (s.link c).a) (passing (λ x. false) (s.link c).a) sources _ _
         (length-carried rest (messages_on Channel.A mail s c) queue h) all (none-pass (s.link c).a)
         (rw (all-pass (s.link c).a) (few_on_a caching s c sources trackers inv bounds))
     go Channel.B h =
         let all = spelled-few (message_of mail s c) (λ x. true) (s.link c).b width
         (λ x there e. one Channel.B x there (light_on_b x.kind)) in
-        no_heavy (64 / w) (passing (λ x. false) (s.link c).b) (passing (λ x. true) (s.link c).b) trackers (length queue)
+        no_heavy (64 / w) (passing (λ x. false) (s.link c).b) (passing (λ x. true) (s.link c).b) trackers _
         _ (length-carried rest (messages_on Channel.B mail s c) queue h) all (none-pass (s.link c).b)
         (rw (all-pass (s.link c).b) (few_on_b caching s c sources trackers inv bounds))
     go Channel.C h =
         let all = spelled-few (message_of mail s c) (λ x. false) (s.link c).c width (λ x there e. absurd cc) in
         times (64 / w) (passing (λ x. true) (s.link c).c) (passing (λ x. false) (s.link c).c) (sources + trackers)
-        (length queue) _ (length-carried rest (messages_on Channel.C mail s c) queue h) all
+        _ _ (length-carried rest (messages_on Channel.C mail s c) queue h) all
         (none-pass (s.link c).c) (rw (all-pass (s.link c).c) (few_on_c caching s c sources trackers inv bounds))
     go Channel.D h =
-        let le = length-carried rest (messages_on Channel.D mail s c) queue h in
+        let le = length-carried rest _ queue h in
         let all = spelled-few (message_of mail s c) (λ x. same_kind x.kind ReleaseAck) (s.link c).d width
         (λ x there e. light-one mail s c x.kind x.number (light_ack x.kind e)) in
-        room_for (64 / w) _ _ sources (length queue) (omega (arith, le, all))
-        (few_responses_on_d caching s c sources trackers inv bounds)
-        (few_acks_on_d caching s c sources trackers inv bounds)
+        room_for (64 / w) _ _ sources (length queue) (omega (arith, le, all)) (few_responses_on_d caching s c sources
+        trackers inv bounds) (few_acks_on_d caching s c sources trackers inv bounds)
     go Channel.E h =
         let all = spelled-few (message_of mail s c) (λ x. true) (s.link c).e width
         (λ x there e. one Channel.E x there (light_on_e x.kind)) in
-        no_heavy (64 / w) (passing (λ x. false) (s.link c).e) (passing (λ x. true) (s.link c).e) trackers (length queue)
+        no_heavy (64 / w) (passing (λ x. false) (s.link c).e) (passing (λ x. true) (s.link c).e) trackers _
         _ (length-carried rest (messages_on Channel.E mail s c) queue h) all (none-pass (s.link c).e)
         (rw (all-pass (s.link c).e) (few_on_e caching s c sources trackers inv bounds))

@@ -55,11 +55,9 @@ served-block : {X : Type 0} {caching : ℕ → Bool} (r : ℕ) {own : Bool} (sou
     → IsWell caching b → b.service ≡ Free → Probes own k (b.pair r) → IsOwnSource (Waits r own source k) b.source
     → (w : ℕ) → is_probed r own k (b.pair w).recorded w ≡ true → IsWell caching (served_block r own source tracker k b)
 served-block r {own} source tracker {k} {b} h free asks sourced w probed =
-    let quiet : (d : ℕ) → is_unprobed (b.pair d).probing ≡ true =
-    λ d. quiet_at_rest (b.pair d) (view b.service d) (h.phases d) (idle d) in
-    let sent : (x : Bool) → (not x && is_above k (b.pair w).recorded) ≡ true
-    → is_unprobed (if x then b.pair w else after_served k (b.pair w)).probing ≡ false =
-    elim [ true ↦ λ e. absurd cc | false ↦ λ e. rw e refl ] in
+    let quiet : (d : ℕ) → is_unprobed (b.pair d).probing ≡ true = λ d. quiet_at_rest _ _ (h.phases d) (idle d) in
+    let sent : (x : Bool) → (not x && is_above k (b.pair w).recorded) ≡ true → is_unprobed (if x then b.pair w else
+    after_served k (b.pair w)).probing ≡ false = elim [ true ↦ λ e. absurd cc | false ↦ λ e. rw e refl ] in
     let left : (j : ℕ) (x : Bool) → same_perm (b.pair j).recorded Perm.None ≡ true
     → is_unprobed (if x then b.pair j else after_served k (b.pair j)).probing ≡ true =
     λ j. elim [ true ↦ λ none. quiet j | false ↦ λ none. rw (none_above k (b.pair j).recorded none) (quiet j) ] in
@@ -91,7 +89,7 @@ served-block r {own} source tracker {k} {b} h free asks sourced w probed =
     phase : (d : ℕ) (x : Bool) → (own && (d == r)) ≡ x → ok (if x then b.pair d else after_served k (b.pair d))
         (if x then Own else Other k) ≡ true
     phase d true e = acquiring own (and_left own (d == r) e) asks d (eqb-true d r (and_right own (d == r) e))
-    phase d false e = served-ok k (b.pair d) (view b.service d) (h.phases d) (idle d) (is_low own k (b.pair r) asks)
+    phase d false e = served-ok k _ _ (h.phases d) (idle d) (is_low own k (b.pair r) asks)
 
     asked : (o : Bool) → Probes o k (b.pair r) → IsAskedCap (Waits r o source k) (served_pair r o k b.pair)
     asked true a = rw (unprobed_part (λ p. p.acquiring) r true k b.pair (λ p. refl) r, a.2) a.3
@@ -178,7 +176,7 @@ served-event {caching} r n {own} source tracker {k} rest {s} inv first free asks
     let before : (j : Kind) (d : ℕ) (after : Bool) (m : Move) → agrees m j n (shows j ((s.block n).pair d) Idle) after
     ≡ true → agrees m j n (shown j d (s.block n)) after ≡ true = λ j d after m h. rw free h in
     let quiet : (d : ℕ) → is_unprobed ((s.block n).pair d).probing ≡ true =
-    λ d. quiet_at_rest ((s.block n).pair d) (view (s.block n).service d) ((inv.blocks n).phases d) (rw free refl) in
+    λ d. quiet_at_rest _ _ ((inv.blocks n).phases d) (rw free refl) in
     record {
       well = served-block r source tracker (inv.blocks n) free asks sourced w probed;
       moved = λ d ch. any_moved (d == r) (is_probed r own k ((s.block n).pair d).recorded d) ch (kind_served own)
@@ -220,8 +218,7 @@ acquire_served-kept {X} r n source tracker whole g k rest {s} inv first free wan
     let new : Block X = served_block r true source tracker k (s.block n) in
     invariant-moved s.lets (set tracker (Some n) s.tracked) inv
     (served-event r n source tracker rest inv first free (whole, g, wants, low) sourced w probed)
-    (λ d. bare_move (d == r) (is_probed r true k ((s.block n).pair d).recorded d) n)
-    (record {
+    (λ d. bare_move (d == r) (is_probed r true k ((s.block n).pair d).recorded d) n) (record {
       acquires = λ c. names-block acquires_of (acquires_with c) (s.uses c) n new s.block
           (same_acquires r source tracker true k (s.block n) c) (inv.named.acquires c);
       serves = λ c. names-block serves_of (serves_with c) (s.uses c) n new s.block (λ i. rw free refl)
@@ -239,22 +236,18 @@ pub access_served-kept : {X : Type 0} {caching : ℕ → Bool} (r n source track
     → s.uses r source ≡ Asked → same_cap k Cap.ToT ≡ false → s.tracked tracker ≡ None → (w : ℕ)
     → is_probed r false k ((s.block n).pair w).recorded w ≡ true
     → IsInvariant caching (access_served r n source tracker k rest s)
-access_served-kept {X} {caching} r n source tracker k rest {s} inv first free asked low unused w probed =
+access_served-kept {X} r n source tracker k rest {s} inv first free asked low unused w probed =
     let new : Block X = served_block r false source tracker k (s.block n) in
-    invariant-moved_use
-    r source (InService n) (set tracker (Some n) s.tracked) inv
-    (served-event r n source tracker rest inv first free low tt w probed)
-    (rw (asked, same_number r, same_number source) refl) (rw asked refl)
-    (λ d ne. (rw (ne_eqb d r ne) refl, refl))
-    (record {
-      acquires = names-set_at acquires_of acquires_with r source (InService n) s.uses n new s.block
+    invariant-moved_use r source _ (set tracker (Some n) s.tracked) inv (served-event r n source tracker
+    rest inv first free low tt w probed) (rw (asked, same_number r, same_number source) refl) (rw asked refl)
+    (λ d ne. (rw (ne_eqb d r ne) refl, refl)) (record {
+      acquires = names-set_at acquires_of acquires_with r source _ s.uses n new s.block
           ((rw asked at (inv.named.acquires r source n)) ∙ sym (same_acquires r source tracker false k (s.block n) r
           source)) (λ m ne. rw asked refl) (λ i ne. same_acquires r source tracker false k (s.block n) r i)
           (λ d i ne. same_acquires r source tracker false k (s.block n) d i) inv.named.acquires;
       serves = names-set_at serves_of serves_with r source (InService n) s.uses n new s.block
-          (rw (same_number n, same_number r, same_number source) refl)
-          (λ m ne. rw asked (ne_eqb m n ne)) (λ i ne. rw (free, ne_eqb i source ne, same_number r) refl)
-          (λ d i ne. rw (free, ne_eqb d r ne) refl) inv.named.serves;
+          (rw (same_number n, same_number r, same_number source) refl) (λ m ne. rw asked (ne_eqb m n ne)) (λ i ne.
+          rw (free, ne_eqb i source ne, same_number r) refl) (λ d i ne. rw (free, ne_eqb d r ne) refl) inv.named.serves;
       releases = λ c. names-block is_of (releases_with c) (s.lets c) n new s.block
           (same_releases r source tracker false k (s.block n) c) (inv.named.releases c);
       trackers = names-set is_of tracks_with s.tracked tracker (Some n) n new s.block

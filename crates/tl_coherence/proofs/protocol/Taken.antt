@@ -11,7 +11,7 @@ use proofs.queues.Tokens.{same_number, set-same, set-other, set-part}
 -- a Grant for a store of the whole block gives Trunk
 whole_trunk : (g : Grow) (k : Cap) (p : Perm) → same_perm p (cap_right k) ≡ true → cap_fits true g k ≡ true
     → same_perm p Perm.Trunk ≡ true
-whole_trunk g k p e f = sym (ap (λ (j : Cap). same_perm p (cap_right j)) (whole_cap g k f)) ∙ e
+whole_trunk g k p e f = sym (ap (λ j. same_perm p (cap_right j)) (whole_cap g k f)) ∙ e
 
 some_held : (p : Perm) → same_perm p Perm.Branch ≡ true → same_perm p Perm.None ≡ false
 some_held p e = grind arith
@@ -19,7 +19,7 @@ some_held p e = grind arith
 pub taken-block : {X : Type 0} {caching : ℕ → Bool} (c : ℕ) (d whole : Bool) (g : Grow) (k : Cap) {b : Block X}
     → IsWell caching b → b.service ≡ GrantSent c d k
     → (b.pair c).acquiring ≡ AcquireOpen whole g → IsWell caching (taken_block c whole d k b)
-taken-block {X} c d whole g k {b} h granting wants = record {
+taken-block c d whole g k {b} h granting wants = record {
   phases = λ i. elim (cases_eq i c) [
     | inl same ↦ rw (same, set-same c after b.pair, view_here)
         (grant_taken-ok d k (b.pair c) (view b.service c) (h.phases c) seen)
@@ -60,10 +60,10 @@ taken-block {X} c d whole g k {b} h granting wants = record {
     view_there i ne = rw (ne_eqb i c ne) refl
 
     recorded_same : (i : ℕ) → (set c after b.pair i).recorded ≡ (b.pair i).recorded
-    recorded_same = set-part (λ (p : ClientBlock). p.recorded) c after b.pair refl
+    recorded_same = set-part (λ p. p.recorded) c after b.pair refl
 
     quiet_same : (i : ℕ) → is_unprobed (set c after b.pair i).probing ≡ is_unprobed (b.pair i).probing
-    quiet_same = set-part (λ (p : ClientBlock). is_unprobed p.probing) c after b.pair refl
+    quiet_same = set-part (λ p. is_unprobed p.probing) c after b.pair refl
 
     -- what the Grant is
     fit : grant_fits (b.pair c).recorded (b.pair c).held d k (AcquireOpen whole g) ≡ true
@@ -75,10 +75,9 @@ taken-block {X} c d whole g k {b} h granting wants = record {
         (cap_fits whole g k && (not (whole && d) && (whole || (d || same_perm (b.pair c).held Perm.Branch)))) fit
 
     owns : whole ≡ true → same_perm (b.pair c).recorded Perm.Trunk ≡ true
-    owns e = whole_trunk g k (b.pair c).recorded (and_left (same_perm (b.pair c).recorded (cap_right k))
-        (cap_fits whole g k && (not (whole && d) && (whole || (d || same_perm (b.pair c).held Perm.Branch)))) fit)
-        (rw e at (and_left (cap_fits whole g k)
-        (not (whole && d) && (whole || (d || same_perm (b.pair c).held Perm.Branch))) fit_rest))
+    owns e = whole_trunk g k _ (and_left (same_perm (b.pair c).recorded (cap_right k)) (cap_fits whole g k
+        && (not (whole && d) && (whole || (d || same_perm (b.pair c).held Perm.Branch)))) fit) (rw e at (and_left
+        (cap_fits whole g k) (not (whole && d) && (whole || (d || same_perm (b.pair c).held Perm.Branch))) fit_rest))
 
     own_copy : (all : Bool) → whole ≡ all → (data_too : Bool) → d ≡ data_too
         → granted_copy whole d (b.waiting c) b.truth (b.copy c) ≡ granted_truth whole (b.waiting c) b.truth
@@ -91,7 +90,7 @@ taken-block {X} c d whole g k {b} h granting wants = record {
     other_copy : (i : ℕ) → (i ≡ c → ⊥) → (all : Bool) → whole ≡ all → same_perm (b.pair i).held Perm.None ≡ false
         → b.copy i ≡ granted_truth whole (b.waiting c) b.truth
     other_copy i ne true e some =
-        let none = nothing_below (b.pair i).held (b.pair i).recorded
+        let none = nothing_below _ _
         (held_at_most (b.pair i) (view b.service i) (h.phases i)) (h.one_owner c i (owns e) ne) in
         absurd cc
     other_copy i ne false e some = rw e (h.copies i some)

@@ -44,8 +44,8 @@ carried-moved {w} (Pushes k n) xs ys f g m q after r rest width moved queued new
 carried-moved {w} (Pops k n) xs ys f g m q after r rest width moved (x, beats, whole, none) new kept h =
     let same : (ms ns : List (Message w)) → ms ≡ ns → IsCarried r ms q → IsCarried r ns (x ∷ after) =
     λ ms ns e i. rw (← e, ← beats) i in
-    let before = same (map f xs) (f (packet k n) ∷ map f ys) (ap (map f) moved) h in
-    let next = carried-next x r (f (packet k n)) (map f ys) after (λ i. beats-positive i width) before in
+    let before = same _ _ (ap (map f) moved) h in
+    let next = carried-next x r _ _ after (λ i. beats-positive i width) before in
     rw (none, kept) (next.last (eqb-true (next.k + 1) (beats_of (f (packet k n))) (sym next.completes_is ∙ whole))).2
 
 -- ---- tokens that stay
@@ -123,7 +123,7 @@ messages-stay {w} {n} {moves} {mail} {mail'} {s} {s'} event d ch = map_kept (λ 
     Kept k i = (count k i stay ≡ 0) ⊎ (message_of_kind k mail' s' d i ≡ message_of_kind k mail s d i)
 
     fewer : (k : Kind) (i : ℕ) → count k i stay ≤ count k i xs
-    fewer k i = stay_before (moves d ch) k i xs ys (event.moved d ch)
+    fewer k i = stay_before _ k i xs ys (event.moved d ch)
 
     here : (k : Kind) (i : ℕ) (a b : Bool) → is_on ch k ≡ true → count k i (on k (s.link d)) ≡ one_if a
         → count k i (on k (s'.link d)) ≡ one_if b → (count k i stay ≡ 0) ⊎ ((a ≡ true) × (b ≡ true))
@@ -131,7 +131,7 @@ messages-stay {w} {n} {moves} {mail} {mail'} {s} {s'} event d ch = map_kept (λ 
         let before : count k i xs ≡ one_if a = sym (ap (count k i) (on_same ch k (s.link d) own)) ∙ e in
         let after : count k i ys ≡ one_if b = sym (ap (count k i) (on_same ch k (s'.link d) own)) ∙ f in
         not_there a b (count k i stay) (omega (arith, fewer k i, before))
-        (omega (arith, stay_after (moves d ch) k i xs ys (event.moved d ch), after))
+        (omega (arith, stay_after _ k i xs ys (event.moved d ch), after))
 
     transfer : (k : Kind) (i : ℕ) → is_on ch k ≡ true → is_transfer k ≡ true
         → (block_message {w = w} k d i (s'.block i) ≡ block_message k d i (s.block i)) ⊎ (count k i stay ≡ 0)
@@ -181,11 +181,9 @@ AreQueued moves mail s before after = (d : ℕ) (ch : Channel)
 pub carried-event : {w : ℕ} {caching : ℕ → Bool} {n : ℕ} {moves : ℕ → Channel → Move} {mail mail' : AccessMessages w}
     {s s' : State (List ℕ)} (sys sys' : System w) → IsWidth w → IsShowing caching n moves mail mail' s s'
     → AreQueued moves mail' s' sys sys' → ChannelRelation mail s sys → ChannelRelation mail' s' sys'
-carried-event {moves} {mail} {mail'} {s} {s'} sys sys' width event queued h d ch =
-    carried-moved (moves d ch) (packets_on ch (s.link d)) (packets_on ch (s'.link d)) (message_of mail s d)
-    (message_of mail' s' d) (λ k i. message_of mail' s' d (packet k i)) (sys.channels d ch) (sys'.channels d ch)
-    (unfinished ch (receiver ch d sys)) (unfinished ch (receiver ch d sys')) width (event.moved d ch) (queued d ch)
-    (λ k i e. refl) (messages-stay event d ch) (h d ch)
+carried-event {moves} {mail} {mail'} {s} {s'} sys sys' width event queued h d ch = carried-moved _ _ _
+    (message_of mail s d) (message_of mail' s' d) (λ k i. message_of mail' s' d (packet k i)) _ _ _ _ width
+    (event.moved d ch) (queued d ch) (λ k i e. refl) (messages-stay event d ch) (h d ch)
 
 -- ---- how a channel's beats move
 
@@ -225,10 +223,9 @@ pub queued-taken : {w : ℕ} {c : ℕ} {ch : Channel} {x : Beat w} {queue : List
     {sys sys' : System w} → IsTaken c ch x queue pushes sys sys'
     → ((d : ℕ) (at : Channel) → Fits ((d == c) && same_channel at ch) (pushes d at) (moves d at)
     (λ k i. message_of mail s d (packet k i))) → AreQueued moves mail s sys sys'
-queued-taken {w} {c} {ch} {x} {queue} {pushes} moves mail s {sys} {sys'} is fits d at =
-    queued-by ((d == c) && same_channel at ch) (pushes d at) (moves d at) (λ k i. message_of mail s d (packet k i)) x
-    queue (sys.channels d at) (sys'.channels d at) (unfinished at (receiver at d sys))
-    (unfinished at (receiver at d sys')) (fits d at) (is.channels d at) (is.rests d at) (λ e. here e (cases_eq d c))
+queued-taken {w} {c} {ch} {x} {queue} {pushes} moves mail s {sys} {sys'} is fits d at = queued-by
+    ((d == c) && same_channel at ch) _ _ (λ k i. message_of mail s d (packet k i)) x queue _ _ _ _ (fits d at)
+    (is.channels d at) (is.rests d at) (λ e. here e (cases_eq d c))
   where
     here : ((d == c) && same_channel at ch) ≡ true → (d ≡ c) ⊎ (d ≡ c → ⊥) → (sys.channels d at ≡ x ∷ queue)
         × (completes x (unfinished at (receiver at d sys)) ≡ true)
@@ -245,8 +242,7 @@ pub queued-handed : {w : ℕ} {pushes : ℕ → Channel → Option (Message w)} 
     (mail : AccessMessages w) (s : State (List ℕ)) {sys sys' : System w} → IsHanded pushes sys sys'
     → ((d : ℕ) (at : Channel) → Fits false (pushes d at) (moves d at) (λ k i. message_of mail s d (packet k i)))
     → AreQueued moves mail s sys sys'
-queued-handed {w} {pushes} moves mail s {sys} {sys'} is fits d at = queued-with (pushes d at) (moves d at)
-    (sys.channels d at) (sys'.channels d at) (unfinished at (receiver at d sys)) (unfinished at (receiver at d sys'))
+queued-handed {w} {pushes} moves mail s {sys} {sys'} is fits d at = queued-with _ _ _ _ _ _
     (λ k i. message_of mail s d (packet k i)) (fits d at) (is.channels d at) (is.rests d at)
   where
     queued-with : (push : Option (Message w)) (move : Move) (q after r rest : List (Beat w)) (render : Kind → ℕ
@@ -313,6 +309,6 @@ pub carried-shown : {w : ℕ} {caching : ℕ → Bool} {n c : ℕ} {ch : Channel
     {mail mail' : AccessMessages w} {s s' : State (List ℕ)} {sys sys' : System w} {x : Beat w} {queue : List (Beat w)}
     → IsWidth w → IsShown caching n c ch pushes mail mail' s s' → IsTaken c ch x queue pushes sys sys'
     → ChannelRelation mail s sys → ChannelRelation mail' s' sys'
-carried-shown {caching = caching} {n = n} {c = c} {ch = ch} {pushes = pushes} {mail = mail} {mail' = mail'} {s = s}
-    {s' = s'} {sys = sys} {sys' = sys'} {x = x} {queue = queue} width shown taken h =
+carried-shown {mail' = mail'}
+    {s' = s'} {sys = sys} {sys' = sys'} width shown taken h =
     carried-event sys sys' width shown.showing (queued-taken shown.moves mail' s' taken shown.fits) h

@@ -66,4 +66,4 @@ module _ {w : ℕ} (config : Config) (P : ℕ → Endpoint w → Type 0) (keep :
   pub ends-kept : (log : Log w) (c : ℕ) → P c ((system_after config log).clients c)
   unfolding system_after
   ends-kept [] c = keep.fresh c
-  ends-kept (x ∷ log) c = stepped-kept x.0 (system_after config log) (ends-kept log) c
+  ends-kept (x ∷ log) c = stepped-kept x.0 _ (ends-kept log) c

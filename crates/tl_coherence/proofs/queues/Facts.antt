@@ -43,18 +43,16 @@ pub spared_within : (k : Cap) (p : ClientBlock) (v : View) → ok p v ≡ true �
 spared_within k p v h e quiet =
     let t = and_right (not (same_cap k Cap.ToT)) (on_quiet p.probing (perm_le p.recorded (cap_right k)) && on_answered
     p.probing (λ r. perm_le (report_right r) (cap_right k))) (within_of k p v h e) in
-    quiet_is p.probing (perm_le p.recorded (cap_right k)) quiet
-    (and_left (on_quiet p.probing (perm_le p.recorded (cap_right k)))
-    (on_answered p.probing (λ r. perm_le (report_right r) (cap_right k))) t)
+    quiet_is _ (perm_le p.recorded (cap_right k)) quiet (and_left (on_quiet p.probing
+    (perm_le p.recorded (cap_right k))) (on_answered p.probing (λ r. perm_le (report_right r) (cap_right k))) t)
 
 pub reported_within : (k : Cap) (r : Report) (p : ClientBlock) (v : View) → ok p v ≡ true → v ≡ Other k
     → p.probing ≡ ProbeAnswered r → perm_le (report_right r) (cap_right k) ≡ true
 reported_within k r p v h e answered =
     let t = and_right (not (same_cap k Cap.ToT)) (on_quiet p.probing (perm_le p.recorded (cap_right k)) && on_answered
     p.probing (λ j. perm_le (report_right j) (cap_right k))) (within_of k p v h e) in
-    answered_is p.probing (λ j. perm_le (report_right j) (cap_right k)) r answered
-    (and_right (on_quiet p.probing (perm_le p.recorded (cap_right k)))
-    (on_answered p.probing (λ j. perm_le (report_right j) (cap_right k))) t)
+    answered_is _ (λ j. perm_le (report_right j) (cap_right k)) r answered (and_right (on_quiet p.probing
+    (perm_le p.recorded (cap_right k))) (on_answered p.probing (λ j. perm_le (report_right j) (cap_right k))) t)
 
 pub cap_is_low : (k : Cap) (p : ClientBlock) (v : View) → ok p v ≡ true → v ≡ Other k → same_cap k Cap.ToT ≡ false
 cap_is_low k p v h e = not-true (same_cap k Cap.ToT)
@@ -77,7 +75,7 @@ own_low p v h e = own_is v (not (same_perm p.recorded Perm.Trunk)) e (of_phase o
 pub report_begins : (r : Report) (p : ClientBlock) (v : View) → ok p v ≡ true → p.probing ≡ ProbeAnswered r
     → same_perm (report_left r) p.recorded ≡ true
 unfolding first_left_test
-report_begins r p v h e = answered_is p.probing (λ j. same_perm (report_left j) p.recorded) r e
+report_begins r p v h e = answered_is _ (λ j. same_perm (report_left j) p.recorded) r e
     (and_left (on_answered p.probing (λ j. same_perm (report_left j) p.recorded))
     (on_releasing p.letting (λ j. is_answered p.probing || same_perm (prune_left j) p.recorded))
     (of_phase first_left_test first_left_all p v h))
@@ -124,9 +122,8 @@ pub release_begins : (r : Prune) (p : ClientBlock) (v : View) → ok p v ≡ tru
     → is_answered p.probing ≡ false → same_perm (prune_left r) p.recorded ≡ true
 unfolding first_left_test
 release_begins r p v h e first =
-    let t = and_right (on_answered p.probing (λ j. same_perm (report_left j) p.recorded))
-    (on_releasing p.letting (λ j. is_answered p.probing || same_perm (prune_left j) p.recorded))
-    (of_phase first_left_test first_left_all p v h) in
+    let t = and_right (on_answered p.probing (λ j. same_perm (report_left j) p.recorded)) (on_releasing p.letting (λ j.
+    is_answered p.probing || same_perm (prune_left j) p.recorded)) (of_phase first_left_test first_left_all p v h) in
     rw first at (releasing_is p.letting (λ j. is_answered p.probing || same_perm (prune_left j) p.recorded) r e t)
 
 -- one who is to be granted at once isn't recorded Trunk
@@ -180,7 +177,7 @@ acquire_all = refl
 pub acquire_fits : (whole : Bool) (g : Grow) (p : ClientBlock) (v : View) → ok p v ≡ true
     → p.acquiring ≡ AcquireOpen whole g → grow_fits p.held (AcquireOpen whole g) ≡ true
 unfolding acquire_test
-acquire_fits whole g p v h e = wants_is p.acquiring (λ w j. grow_fits p.held (AcquireOpen w j)) whole g e
+acquire_fits whole g p v h e = wants_is _ (λ w j. grow_fits p.held (AcquireOpen w j)) whole g e
     (of_phase acquire_test acquire_all p v h)
 
 -- who has answered a Probe sees another's service
@@ -194,7 +191,7 @@ answered_all = refl
 pub answered_other : (r : Report) (p : ClientBlock) (v : View) → ok p v ≡ true → p.probing ≡ ProbeAnswered r
     → is_other v ≡ true
 unfolding answered_test
-answered_other r p v h e = answered_is p.probing (λ j. is_other v) r e (of_phase answered_test answered_all p v h)
+answered_other r p v h e = answered_is _ (λ j. is_other v) r e (of_phase answered_test answered_all p v h)
 
 -- who is granted has an Acquire open
 granting_asks_test : ClientBlock → View → Bool

@@ -40,7 +40,7 @@ same_carried rest ms ms' q q' e f h = rw (← e, ← f) h
 pub first-token : {w : ℕ} (caching : ℕ → Bool) (ch : Channel) (c : ℕ) (mail : AccessMessages w) (s : State (List ℕ))
     (sys : System w) (x : Beat w) (queue : List (Beat w)) → IsWidth w → IsInvariant caching s
     → ChannelRelation mail s sys → sys.channels c ch ≡ x ∷ queue → IsFirst ch c mail s sys x queue
-first-token {w} caching ch c mail s sys x queue width inv carried beats = go (packets_on ch (s.link c)) refl
+first-token caching ch c mail s sys x queue width inv carried beats = go (packets_on ch (s.link c)) refl
   where
     go : (xs : List Packet) → packets_on ch (s.link c) ≡ xs → IsFirst ch c mail s sys x queue
     go [] e = absurd (nothing_first x queue beats
@@ -52,9 +52,7 @@ first-token {w} caching ch c mail s sys x queue width inv carried beats = go (pa
       rest = ys;
       tokens = e;
       own = own_kind caching s c ch y.kind y.number ys inv e;
-      next = carried-next x (unfinished ch (receiver ch c sys)) (message_of_kind y.kind mail s c y.number)
-          (map (message_of mail s c) ys) queue (λ m. beats-positive m width)
-          (same_carried (unfinished ch (receiver ch c sys)) (map (message_of mail s c) (packets_on ch (s.link c)))
-          (message_of mail s c y ∷ map (message_of mail s c) ys) (sys.channels c ch) (x ∷ queue)
-          (ap (map (message_of mail s c)) e) beats (carried c ch));
+      next = carried-next x _ _ _ queue (λ m. beats-positive m width) (same_carried (unfinished ch (receiver ch c sys))
+          (map (message_of mail s c) (packets_on ch (s.link c))) (message_of mail s c y ∷ map (message_of mail s c) ys)
+          (sys.channels c ch) (x ∷ queue) (ap (map (message_of mail s c)) e) beats (carried c ch));
     }

@@ -74,9 +74,8 @@ pub trunk_held : (p : ClientBlock) (v : View) → ok p v ≡ true → same_perm 
     → (same_perm p.recorded Perm.Trunk
     && (is_silent p.probing p.letting && (is_unacquired p.acquiring && not (is_granting v)))) ≡ true
 unfolding trunk_test
-trunk_held p v h e = implies_is (same_perm p.held Perm.Trunk) (same_perm p.recorded Perm.Trunk
-    && (is_silent p.probing p.letting && (is_unacquired p.acquiring && not (is_granting v))))
-    (of_phase trunk_test trunk_all p v h) e
+trunk_held p v h e = implies_is (same_perm p.held Perm.Trunk) (same_perm p.recorded Perm.Trunk && (is_silent p.probing
+    p.letting && (is_unacquired p.acquiring && not (is_granting v)))) (of_phase trunk_test trunk_all p v h) e
 
 -- ---- Grant on D: no Probe, no Release
 
@@ -128,7 +127,7 @@ pub asked_alone : (whole : Bool) (g : Grow) (p : ClientBlock) (v : View) → ok 
     → (is_unprobed p.probing && (is_unreleased p.letting && (same_perm p.recorded p.held && grows_from g p.recorded)))
     ≡ true
 unfolding asked_test
-asked_alone whole g p v h e f = wants_is p.acquiring (λ w j. is_unprobed p.probing
+asked_alone whole g p v h e f = wants_is _ (λ w j. is_unprobed p.probing
     && (is_unreleased p.letting && (same_perm p.recorded p.held && grows_from j p.recorded))) whole g f
     (idle_is v (on_wants p.acquiring (λ w j. is_unprobed p.probing && (is_unreleased p.letting
     && (same_perm p.recorded p.held && grows_from j p.recorded)))) e (of_phase asked_test asked_all p v h))
@@ -164,7 +163,7 @@ report_all = refl
 pub report_fits : (r : Report) (p : ClientBlock) (v : View) → ok p v ≡ true → p.probing ≡ ProbeAnswered r
     → (on_other v (λ k. same_report r (report_at k p.recorded)) && is_other v) ≡ true
 unfolding report_test
-report_fits r p v h e = answered_is p.probing (λ j. on_other v (λ k. same_report j (report_at k p.recorded)) && is_other
+report_fits r p v h e = answered_is _ (λ j. on_other v (λ k. same_report j (report_at k p.recorded)) && is_other
     v) r e (of_phase report_test report_all p v h)
 
 -- ---- H11 of what is delivered
@@ -179,7 +178,7 @@ flow_all = refl
 pub report_first : (r : Report) (p : ClientBlock) (v : View) → ok p v ≡ true → p.probing ≡ ProbeAnswered r
     → not (is_acked p.letting) ≡ true
 unfolding flow_test
-report_first r p v h e = answered_is p.probing (λ j. not (is_acked p.letting)) r e (of_phase flow_test flow_all p v h)
+report_first r p v h e = answered_is _ (λ j. not (is_acked p.letting)) r e (of_phase flow_test flow_all p v h)
 
 -- ---- no Release beside an Acquire
 

@@ -196,7 +196,7 @@ pub none_below : (p q : Perm) → perm_le p q ≡ true → same_perm q Perm.None
 none_below p q e f = grind arith
 
 pub nothing_below : (p q : Perm) → perm_le p q ≡ true → same_perm q Perm.None ≡ true → same_perm p Perm.None ≡ true
-nothing_below p q e f = ap (λ (r : Perm). same_perm r Perm.None) (none_below p q e f)
+nothing_below p q e f = ap (λ r. same_perm r Perm.None) (none_below p q e f)
 
 pub trunk_below : (p q : Perm) → perm_le p q ≡ true → p ≡ Perm.Trunk → same_perm q Perm.Trunk ≡ true
 trunk_below p q e f = grind arith

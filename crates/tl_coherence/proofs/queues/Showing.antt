@@ -86,7 +86,7 @@ showing-block {w} n b' moves mail mail' {s} {s'} inv inv' moved blocks alike req
   same = λ d k t e f.
       let new : s'.block n ≡ b' = blocks n ∙ set-same n b' s.block in
       let both = alike d k e (sym (ap (shown k d) new) ∙ f) in
-      ap (block_message k d n) new ∙ rendered-alike w k d n (s.block n) b' both.0 both.1;
+      ap (block_message k d n) new ∙ rendered-alike w k d n _ b' both.0 both.1;
   requests = requests;
   answers = answers;
 }
@@ -140,8 +140,7 @@ pub none-carried : {caching : ℕ → Bool} {b : Block (List ℕ)} → IsWell ca
     → (k : Kind) (d : ℕ) → carries k d b ≡ false
 none-carried {b} well low k d =
     let is : (i : ℕ) → (not (is_told (b.pair i)) && not (is_granting (view b.service i))) ≡ true =
-    λ i. untold (b.pair i) (view b.service i) (well.phases i) (low i) in
-    uncarried k d b (not-true (is_told (b.pair d))
-    (and_left (not (is_told (b.pair d))) (not (is_granting (view b.service d))) (is d)))
-    (ungiven b.service (λ i. not-true (is_granting (view b.service i))
+    λ i. untold _ _ (well.phases i) (low i) in
+    uncarried k d b (not-true (is_told (b.pair d)) (and_left (not (is_told (b.pair d)))
+    (not (is_granting (view b.service d))) (is d))) (ungiven b.service (λ i. not-true (is_granting (view b.service i))
     (and_right (not (is_told (b.pair i))) (not (is_granting (view b.service i))) (is i))))

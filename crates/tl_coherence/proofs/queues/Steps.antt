@@ -92,7 +92,7 @@ pushes_of (Some m) at = if same_channel at (channel_of_message m) then Some m el
 pub channels-handed : {w : ℕ} (l : ℕ) (m : Option (Message w)) (s : System w) (d : ℕ) (at : Channel)
     → (with_messages (handed_by l m) s).channels d at ≡ behind (pushes_at l (pushes_of m) d at) (s.channels d at)
 unfolding with_messages
-channels-handed {w} l None s d at =
+channels-handed l None s d at =
     let go : (b : Bool) → s.channels d at ≡ behind (if b then None else None) (s.channels d at) =
     elim [ true ↦ refl | false ↦ refl ] in
     go (d == l)
@@ -111,7 +111,7 @@ channels-handed {w} l (Some m) s d at =
     here : (b : Bool) → b ≡ true → (y : Bool) → same_channel at (channel_of_message m) ≡ y
         → (if b && y then s.channels l (channel_of_message m) ++ more else s.channels l at) ≡ behind
         (if b then (if y then Some m else None) else None) (s.channels l at)
-    here b e true f = rw (e, same_channel-is at (channel_of_message m) f) refl
+    here b e true f = rw (e, same_channel-is at _ f) refl
     here b e false f = rw e refl
 
 -- ---- the whole after a beat was taken
@@ -143,7 +143,7 @@ rests-ended {w} c ch x sys last d at = ended (cases_eq d c) (same_channel at ch)
 pub taken-landed : {w : ℕ} {c : ℕ} {ch : Channel} {x : Beat w} {queue : List (Beat w)} {pushes : ℕ → Channel
     → Option (Message w)} {sys sys' : System w} → IsLanded c ch x queue pushes sys sys'
     → completes x (unfinished ch (receiver ch c sys)) ≡ true → IsTaken c ch x queue pushes sys sys'
-taken-landed {w} {c} {ch} {x} {sys} is last = record {
+taken-landed {c} {ch} {x} {sys} is last = record {
   first = is.first;
   last = last;
   channels = is.channels;
@@ -197,14 +197,13 @@ landed-client {w} c ch x queue m e sys to_client first is heard =
     ours : (d : ℕ) (at : Channel) → (d ≡ c) ⊎ (d ≡ c → ⊥)
         → unfinished at (after.clients d).past ≡ (if (d == c) && same_channel at ch then grown x
         (unfinished at (sys.clients d).past) else unfinished at (sys.clients d).past)
-    ours d at (inl same) = rw same (ap (λ (f : ℕ → client.Endpoint w). unfinished at (f c).past) clients_are
-        ∙ ap (λ (b : Bool). unfinished at (if b then e else sys.clients c).past) (same_number c) ∙ heard at
-        ∙ grown_history ch at x (sys.clients c).past is ∙ sym (ap (λ (b : Bool). if b && same_channel at ch then grown x
+    ours d at (inl same) = rw same (ap (λ f. unfinished at (f c).past) clients_are
+        ∙ ap (λ b. unfinished at (if b then e else sys.clients c).past) (same_number c) ∙ heard at
+        ∙ grown_history ch at x (sys.clients c).past is ∙ sym (ap (λ b. if b && same_channel at ch then grown x
         (unfinished at (sys.clients c).past) else unfinished at (sys.clients c).past) (same_number c)))
-    ours d at (inr other) = ap (λ (f : ℕ → client.Endpoint w). unfinished at (f d).past) clients_are
-        ∙ ap (λ (b : Bool). unfinished at (if b then e else sys.clients d).past) (ne_eqb d c other)
-        ∙ sym (ap (λ (b : Bool). if b && same_channel at ch then grown x (unfinished at (sys.clients d).past) else
-        unfinished at (sys.clients d).past) (ne_eqb d c other))
+    ours d at (inr other) = ap (λ f. unfinished at (f d).past) clients_are ∙ ap (λ b. unfinished at
+        (if b then e else sys.clients d).past) (ne_eqb d c other) ∙ sym (ap (λ b. if b && same_channel at ch then grown
+        x (unfinished at (sys.clients d).past) else unfinished at (sys.clients d).past) (ne_eqb d c other))
 
     theirs : (d : ℕ) (at : Channel) → same_channel at ch ≡ false → unfinished at (on_link d after.manager.trace)
         ≡ (if (d == c) && same_channel at ch then grown x (unfinished at (on_link d sys.manager.trace)) else unfinished
@@ -213,7 +212,7 @@ landed-client {w} c ch x queue m e sys to_client first is heard =
         let unless : (b : Bool) → unfinished at (on_link d sys.manager.trace)
         ≡ (if b && false then grown x (unfinished at (on_link d sys.manager.trace)) else unfinished at
         (on_link d sys.manager.trace)) = elim [ true ↦ refl | false ↦ refl ] in
-        rw f (ap (λ (b : manager_end.End w). unfinished at (on_link d b.trace)) manager_is ∙ unless (d == c))
+        rw f (ap (λ b. unfinished at (on_link d b.trace)) manager_is ∙ unless (d == c))
 
     not_here : (ch at : Channel) → is_to_client ch ≡ true → is_to_client at ≡ false → same_channel at ch ≡ false
     not_here ch at a b = apart_channels at ch (λ e. cc)
@@ -239,12 +238,10 @@ handed-client {w} c m e sys same = record { channels = λ d at. channels-handed 
 
     ours : (d : ℕ) (at : Channel) → (d ≡ c) ⊎ (d ≡ c → ⊥) → unfinished at (after.clients d).past ≡ unfinished at
         (sys.clients d).past
-    ours d at (inl here) = rw here (ap (λ (f : ℕ → client.Endpoint w). unfinished at (f c).past)
-        (clients-with_messages (handed_by c m) base)
-        ∙ ap (λ (b : Bool). unfinished at (if b then e else sys.clients c).past) (same_number c) ∙ same at)
-    ours d at (inr other) =
-        ap (λ (f : ℕ → client.Endpoint w). unfinished at (f d).past) (clients-with_messages (handed_by c m) base)
-        ∙ ap (λ (b : Bool). unfinished at (if b then e else sys.clients d).past) (ne_eqb d c other)
+    ours d at (inl here) = rw here (ap (λ f. unfinished at (f c).past) (clients-with_messages (handed_by c m) base)
+        ∙ ap (λ b. unfinished at (if b then e else sys.clients c).past) (same_number c) ∙ same at)
+    ours d at (inr other) = ap (λ f. unfinished at (f d).past) (clients-with_messages (handed_by c m) base)
+        ∙ ap (λ b. unfinished at (if b then e else sys.clients d).past) (ne_eqb d c other)
 
     theirs : (d : ℕ) (at : Channel) → unfinished at (on_link d after.manager.trace) ≡ unfinished at
         (on_link d sys.manager.trace)
@@ -283,10 +280,10 @@ rests-manager {w} c ch x queue handed e sys to_manager is heard = rests
     theirs : (d : ℕ) (at : Channel) → is_to_client at ≡ false → (d ≡ c) ⊎ (d ≡ c → ⊥)
         → unfinished at (on_link d after.manager.trace) ≡ (if (d == c) && same_channel at ch then grown x
         (unfinished at (on_link d sys.manager.trace)) else unfinished at (on_link d sys.manager.trace))
-    theirs d at up (inl same) = rw same (ap (λ (b : manager_end.End w). unfinished at (on_link c b.trace)) manager_is
-        ∙ heard c at up ∙ ap (λ (b : Bool). unfinished at (if b then x ∷ on_link c sys.manager.trace else on_link c
+    theirs d at up (inl same) = rw same (ap (λ b. unfinished at (on_link c b.trace)) manager_is
+        ∙ heard c at up ∙ ap (λ b. unfinished at (if b then x ∷ on_link c sys.manager.trace else on_link c
         sys.manager.trace)) (same_number c) ∙ grown_history ch at x (on_link c sys.manager.trace) is
-        ∙ sym (ap (λ (b : Bool). if b && same_channel at ch then grown x (unfinished at (on_link c sys.manager.trace))
+        ∙ sym (ap (λ b. if b && same_channel at ch then grown x (unfinished at (on_link c sys.manager.trace))
         else unfinished at (on_link c sys.manager.trace)) (same_number c)))
     theirs d at up (inr other) = cc (manager_is, heard d at up, ne_eqb c d (λ f. other (sym f)), ne_eqb d c other)
 

@@ -1,15 +1,15 @@
 -- How many beats are left of what is on the channels: no more than a block has, of a report one unless it is the
 -- writer's,
 -- and of an access and its answer one more than a block has.
-use Rattle.std.proofs.Common.{◌≡◌, ℕ, ◌+◌, ◌/◌, ◌≤◌, Bool, true, false, List, [], ◌∷◌, refl, sym, ◌∙◌, arith}
-use Rattle.std.proofs.Common.{not, Option, Some, None, if◌then◌else◌}
+use Rattle.std.proofs.Common.{◌≡◌, ℕ, ◌+◌, ◌/◌, ◌≤◌, Bool, true, false, List, [], ◌∷◌, refl, sym, ◌∙◌, arith, not}
+use Rattle.std.proofs.Common.{Option, Some, None, if◌then◌else◌}
 use Rattle.tl_coherence.proofs
 use proofs.Imports.{not-false, Beat, Channel, OpA, OpB, OpD, a_carries_data, d_carries_data, IsWidth, Message, MessageA}
 use proofs.Imports.{beats_of, data_beats, Config, Level, Report, Perm, L1, L2, L3, report_left, control_of_legal}
 use proofs.Imports.{next_rule, same_perm, is_one_of, a_has_param, a_has_size, probe_ack, illegal_message_at}
 use proofs.Imports.{is_access_answer, IsInvariant, Request, Acquire, ProbeAck, Answer, View, ProbePhase, ProbeAnswered}
-use proofs.Imports.{ClientBlock, AcquirePhase, ok, State, Replied, view, AccessMessages, acquire_of}
-use proofs.Imports.{report_told, block_message, message_of_kind, IsRequest, IsSourced, IsAnswer, IsAnswered}
+use proofs.Imports.{ClientBlock, AcquirePhase, ok, State, Replied, AccessMessages, acquire_of, report_told}
+use proofs.Imports.{block_message, message_of_kind, IsRequest, IsSourced, IsAnswer, IsAnswered}
 use Rattle.tl_rules.{specs.statement.Conformance.answers, specs.statement.Legality.a_of_level}
 use proofs.queues.{PhaseFacts.data_carried, Phases.and_left}
 use proofs.protocol.{BeatsRemaining.beats_left, BeatsRemaining.left-few, Room.beats-few}
@@ -34,7 +34,7 @@ answer_to mail c source = answer_beats (mail.request c source)
 
 -- data have at most a block's beats
 data-few : {w : ℕ} (m : MessageA w) → IsWidth w → data_beats w m.size ≤ 64 / w
-data-few {w} m width = beats-few (Message.D (record {
+data-few m width = beats-few (Message.D (record {
   opcode = OpD.AccessAckData;
   param = 0;
   size = m.size;
@@ -120,9 +120,8 @@ module _ {w : ℕ} (config : Config) {caching : ℕ → Bool} (mail : AccessMess
     acquires = λ c m. let all = left-few mail s rest c Acquire m in let one =
         acquire-one w ((s.block m).pair c).acquiring ((s.block m).source c) m in omega (arith, all, one);
     reports = λ c m probed spared.
-        let told = untold ((s.block m).pair c) (view (s.block m).service c) ((inv.blocks m).phases c) spared in
-        let one = report-one w (report_left (report_told ((s.block m).pair c).probing))
-        (report_told ((s.block m).pair c).probing) m (s.block m).truth told in
+        let told = untold _ _ ((inv.blocks m).phases c) spared in
+        let one = report-one w _ (report_told ((s.block m).pair c).probing) m (s.block m).truth told in
         omega (arith, left-few mail s rest c ProbeAck m, one);
     accesses = λ c source asked.
         let few = access-few config c source (mail.request c source) width (rw asked at (sourced c source)) in

@@ -177,14 +177,13 @@ module _ {w : ℕ} {config : Config} {mail mail' : AccessMessages w} {s s' : Sta
       (view (s'.block m).service d) ≤ acquire_weight size (left d Acquire m) (left d Grant m)
       (probes_weight number size left m (s.block m)) (view (s.block m).service d)
   unserved-stays d i m e f before after =
-      let a = same d Acquire m
-      (acquire-here showing.before d m (and_from _ _ (wants-used showing.before d i m e) before))
-      (acquire-here showing.after d m (and_from _ _ (wants-used showing.after d i m f) after)) in
+      let a = same d Acquire m (acquire-here showing.before d m (and_from _ _ (wants-used showing.before d i m e)
+      before)) (acquire-here showing.after d m (and_from _ _ (wants-used showing.after d i m f) after)) in
       rw (
         unserved-weight size (left' d Acquire m) (left' d Grant m) (probes_weight number size left' m (s'.block m))
             (view (s'.block m).service d) after,
         unserved-weight size (left d Acquire m) (left d Grant m) (probes_weight number size left m (s.block m))
-            (view (s.block m).service d) before,
+            _ before,
       ) (omega (arith, a))
 
   module _ (block : IsBlockNoMore) where

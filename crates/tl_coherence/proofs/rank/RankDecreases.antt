@@ -69,8 +69,7 @@ module _ {X : Type 0} (config : Config) (n : ℕ) (left left' : Left) (answer an
   pub use-falls : (c i : ℕ) → c < clients → i < sources_of (terms_at config c) → IsNoMore
       → owed_use' c i + 1 ≤ owed_use c i → rank config n left' answer' s' + 1 ≤ rank config n left answer s
   use-falls c i lt below is less =
-      let uses = total-falls (sources_of (terms_at config c)) i 1 (owed_use c) (owed_use' c) below (λ j h. is.uses c j)
-      less in
+      let uses = total-falls _ i 1 (owed_use c) (owed_use' c) below (λ j h. is.uses c j) less in
       let lets = total-le (sources_of (terms_at config c)) (owed_let' c) (owed_let c) (λ j h. is.lets c j) in
       falls c lt (no-more-client is) (omega (arith, uses, lets, is.acks c))
 
@@ -79,8 +78,7 @@ module _ {X : Type 0} (config : Config) (n : ℕ) (left left' : Left) (answer an
       → owed_let' c i + 1 ≤ owed_let c i → rank config n left' answer' s' + 1 ≤ rank config n left answer s
   let-falls c i lt below is less =
       let uses = total-le (sources_of (terms_at config c)) (owed_use' c) (owed_use c) (λ j h. is.uses c j) in
-      let lets = total-falls (sources_of (terms_at config c)) i 1 (owed_let c) (owed_let' c) below (λ j h. is.lets c j)
-      less in
+      let lets = total-falls _ i 1 (owed_let c) (owed_let' c) below (λ j h. is.lets c j) less in
       falls c lt (no-more-client is) (omega (arith, uses, lets, is.acks c))
 
   -- a GrantAck is taken
@@ -102,8 +100,7 @@ module _ {X : Type 0} (config : Config) (n : ℕ) (left left' : Left) (answer an
       here : client_weight clients n left' answer' s' (sources_of (terms_at config c)) c + 1 ≤ client_weight clients n
           left answer s (sources_of (terms_at config c)) c
       here =
-          let u = total-falls (sources_of (terms_at config c)) i 2 (owed_use c) (owed_use' c) below (λ j h. uses c j)
-          less in
+          let u = total-falls _ i 2 (owed_use c) (owed_use' c) below (λ j h. uses c j) less in
           omega (arith, u, total-le (sources_of (terms_at config c)) (owed_let' c) (owed_let c) (λ j h. lets c j), more)
 
       each : (d : ℕ) → (d ≡ c) ⊎ (d ≡ c → ⊥) → client_weight clients n left' answer' s' (sources_of (terms_at config d))

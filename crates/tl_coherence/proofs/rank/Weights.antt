@@ -92,7 +92,7 @@ module _ {X : Type 0} {caching : ℕ → Bool} {s : State X} (inv : IsInvariant 
               → pair_weight n left m d ((s.block m).pair d) ≤ 2
           each d b e f = grind (arith, quiet-pair, neither)
       go true found =
-          let d = some-one clients (writes_probed m) found in
+          let d = some-one _ (writes_probed m) found in
           let parts = both _ _ d.1 in
           alone d.0 parts.1 parts.0
         where
@@ -111,7 +111,7 @@ module _ {X : Type 0} {caching : ℕ → Bool} {s : State X} (inv : IsInvariant 
               at i (inl e) = rw (e, same_number d) (heavy-pair n (left d ProbeAck m) ((s.block m).pair d).recorded
                   ((s.block m).pair d).probing (is.few d ProbeAck m) some)
               at i (inr ne) =
-                  let z = quiet-pair n (left i ProbeAck m) ((s.block m).pair i).recorded ((s.block m).pair i).probing
+                  let z = quiet-pair n (left i ProbeAck m) ((s.block m).pair i).recorded _
                   ((inv.blocks m).alone d i trunk probed ne) in
                   rw (ne_eqb i d ne) (omega (arith, z))
 
@@ -140,12 +140,11 @@ module _ {X : Type 0} {caching : ℕ → Bool} {s : State X} (inv : IsInvariant 
   use-few : (c source : ℕ) (u : SourceState) → s.uses c source ≡ u
       → use_weight clients n left answer s c source u ≤ (n + 33) * one_if (is_used u)
   use-few c source SourceFree e = omega arith
-  use-few c source Asked e = let few = is.accesses c source e in omega (arith, few)
+  use-few c source Asked e = let few = is.accesses c _ e in omega (arith, few)
   use-few c source (InService m) e = let a = is.answers c source in let p = probes-few m in omega (arith, a, p)
   use-few c source Replied e = let a = is.few c Answer source in omega (arith, a)
   use-few c source (Acquires m) e =
-      let all = acquire-few (left c Acquire m) (left c Grant m) (probes_weight clients n left m (s.block m))
-      (view (s.block m).service c) (is.acquires c m) (is.few c Grant m) (probes-few m) in
+      let all = acquire-few _ _ _ (view (s.block m).service c) (is.acquires c m) (is.few c Grant m) (probes-few m) in
       omega (arith, all)
 
   letting-few : (l : ℕ) (x : ReleasePhase) → l ≤ n → letting_weight l x ≤ n + 1

@@ -73,7 +73,7 @@ all-messages P (x ∷ handed) s each before d at = all-messages P handed (with_m
 pub all-popped : {w : ℕ} (P : ℕ → Beat w → Type 0) (c : ℕ) (ch : Channel) (x : Beat w) (queue : List (Beat w))
     (s : System w) → s.channels c ch ≡ x ∷ queue → ((d : ℕ) (at : Channel) → All (P d) (s.channels d at))
     → (d : ℕ) (at : Channel) → All (P d) ((with_channel c ch queue s).channels d at)
-all-popped {w} P c ch x queue s first before d at = elim (cases_eq d c) [
+all-popped P c ch x queue s first before d at = elim (cases_eq d c) [
   | inl same ↦ rw same (here (c == c) (same_number c) (same_channel at ch) refl)
   | inr other ↦ there (d == c) (ne_eqb d c other)
 ]
@@ -131,9 +131,9 @@ good-message {w} config c {l} {m} width level sound ours inside long i lt =
         lawful = rw level (cc (same_channel_of m i, legal_beat l (channel_of (beat_of m 0)) m i sound.is_legal lt));
         inside = same_outside config.blocks m i ∙ inside;
         clean = unspoiled m i ours sound.is_clean;
-        typed = typed_is (beat_of m i) typed;
+        typed = typed_is _ typed;
       };
-      lanes = lanes_are (beat_of m i) typed;
+      lanes = lanes_are _ typed;
     }
 
 -- ---- messages that the manager hands out
@@ -144,7 +144,7 @@ good-handed config [] width each = tt
 good-handed config (x ∷ handed) width each = (
   (λ i lt. record {
     sound = each.0.beats i lt;
-    lanes = lanes_are (beat_of x.1 i) (typed-beat x.1 i width each.0.filled lt);
+    lanes = lanes_are _ (typed-beat x.1 i width each.0.filled lt);
   }),
   good-handed config handed width each.1,
 )
@@ -198,11 +198,11 @@ fit_done {terms} (Op.AcquireWhole n bytes) free typed copies =
     record { long = refl; ours = tt; inside = rw (same_block n) (first_false (nat_le terms.blocks n) _ free.b5) }
 fit_done {w} {terms} (Op.Release n p) {e} free typed copies =
     let s = source_or_0 (free_release terms e.past) in
-    let one = copied_release w p s n (copy_at e n) (copies n) in
+    let one = copied_release w p s n _ (copies n) in
     record {
       long = one.0;
       ours = one.1;
-      inside = release_inside w terms.blocks p s n (copy_at e n) (first_false (nat_le terms.blocks n) _ free.b5);
+      inside = release_inside w _ p s n (copy_at e n) (first_false (nat_le terms.blocks n) _ free.b5);
     }
 fit_done {terms} (Op.Access (Message.A m)) free typed copies =
     record { long = typed; ours = tt; inside = first_false (nat_le terms.blocks (block_at m.address)) _ free.b5 }
@@ -238,15 +238,13 @@ pub fit-taken : {w : ℕ} (blocks : ℕ) (x : Beat w) (e : Endpoint w) → is_ou
     → ((n : ℕ) → length (copy_at e n) ≡ 64) → IsFitAnswer blocks (taken x e).answer
 fit-taken blocks (Beat.A x) e inside copies = tt
 fit-taken {w} blocks (Beat.B x) e inside copies = ack_fit w blocks x.opcode (held_at e (block_at x.address))
-    (report_for x (held_at e (block_at x.address)))
-    (block_at x.address) (copy_at e (block_at x.address)) (copies (block_at x.address)) inside
+    (report_for x (held_at e (block_at x.address))) _ _ (copies (block_at x.address)) inside
 fit-taken blocks (Beat.C x) e inside copies = tt
 fit-taken {w} blocks (Beat.D x) e inside copies =
     let o : Offered w = responded x (request_of x.source e.past) (payload_of (Beat.D x ∷ unfinished Channel.D e.past)) e
     in
-    let go : (y : Bool) → IsFitAnswer blocks
-    (if y then o else silent Verdict.Taken (with_past (Beat.D x ∷ e.past) e)).answer =
-    elim [ true ↦ ended_fit blocks x.opcode x _ _ | false ↦ tt ] in
+    let go : (y : Bool) → IsFitAnswer blocks (if y then o else silent Verdict.Taken
+    (with_past (Beat.D x ∷ e.past) e)).answer = elim [ true ↦ ended_fit blocks x.opcode x _ _ | false ↦ tt ] in
     go (ends (Beat.D x) e.past)
 fit-taken blocks (Beat.E x) e inside copies = tt
 
@@ -276,8 +274,7 @@ one_good : {w : ℕ} (config : Config) (c : ℕ) (m : Option (Message w)) (sys :
     → IsWidth w → terms_at config c ≡ Some terms → IsSoundIfAny terms.level m → IsFitIfAny config.blocks m
     → AllGood config sys → AllGood config (with_messages (handed_by c m) sys)
 one_good config c None sys terms width known sound fit before d at = all-messages (IsGood config) [] sys tt before d at
-one_good {w} config c (Some m) sys terms width known sound fit before d at =
-    all-messages (IsGood config) (handed_by c (Some m)) sys
+one_good config c (Some m) sys terms width known sound fit before d at = all-messages (IsGood config) _ sys
     (good-message config c width (level-terms config c terms known).0 sound fit.ours fit.inside fit.long, tt) before d
     at
 
@@ -285,11 +282,10 @@ judged_good : {w : ℕ} (config : Config) (c : ℕ) (ch : Channel) (x : Beat w) 
     (a : Result (Verdict × Option (Message w)) Rule) (e : client.Endpoint w) (sys : System w) (terms : client.EndConfig)
     → IsWidth w → terms_at config c ≡ Some terms → IsSoundAnswer terms.level a → IsFitAnswer config.blocks a
     → sys.channels c ch ≡ x ∷ queue → AllGood config sys → AllGood config (judged a c ch x queue e sys).after
-judged_good config c ch x queue (Ok (Verdict.Taken, m)) e sys terms width known sound fit first before d at =
-    one_good config c m (with_client c e (with_channel c ch queue sys)) terms width known sound fit
-    (all-popped (IsGood config) c ch x queue sys first before) d at
+judged_good config c ch x queue (Ok (Verdict.Taken, m)) e sys terms width known sound fit first before d at = one_good
+    config c m _ terms width known sound fit (all-popped (IsGood config) c ch x queue sys first before) d at
 judged_good config c ch x queue (Ok (Verdict.Done source finish, m)) e sys terms width known sound fit first before d
-    at = one_good config c m (with_client c e (with_channel c ch queue sys)) terms width known sound fit
+    at = one_good config c m _ terms width known sound fit
     (all-popped (IsGood config) c ch x queue sys first before) d at
 judged_good config c ch x queue a e sys terms width known sound fit first before d at = before d at
 
@@ -300,8 +296,8 @@ manager_good : {w : ℕ} (config : Config) (link : Link) (ch : Channel) (x : Bea
     → AllGood config (manager_took link.0 ch x queue (manager_offer.offered_as j config link x e) sys).after
 manager_good config link ch x queue (manager_offer.Breaks rule) e sys width sound trace first before d at = before d at
 manager_good config link ch x queue manager_offer.Waits e sys width sound trace first before d at = before d at
-manager_good {w} config link ch x queue manager_offer.Passes e sys width sound trace first before d at = all-messages
-    (IsGood config) (manager_reaction.reaction config link x e).handed (with_manager (manager_offer.taken link x
+manager_good config link ch x queue manager_offer.Passes e sys width sound trace first before d at = all-messages
+    (IsGood config) _ (with_manager (manager_offer.taken link x
     (manager_reaction.reaction config link x e) e) (with_channel link.0 ch queue sys)) (good-handed config
     (manager_reaction.reaction config link x e).handed width (reaction_handable config link x e width sound trace))
     (all-popped (IsGood config) link.0 ch x queue sys first before) d at
@@ -323,23 +319,19 @@ good-after {w} {config} {sys} width h event typed = go (terms_at config (client_
     asked_good c o terms known typed_op =
         let fitted : terms.blocks ≡ config.blocks → IsFitIfAny terms.blocks (ask.asked terms o (sys.clients c)).message
         → IsFitIfAny config.blocks (ask.asked terms o (sys.clients c)).message =
-        λ e f. subst (λ (n : ℕ). IsFitIfAny n (ask.asked terms o (sys.clients c)).message) e f in
-        one_good config c (ask.asked terms o (sys.clients c)).message
-        (with_client c (ask.asked terms o (sys.clients c)).after sys) terms width known
-        (asked-sound terms o (sys.clients c) width)
-        (fitted (level-terms config c terms known).1
-        (fit-asked terms o (sys.clients c) typed_op (copy-long h c))) before
+        λ e f. subst (λ n. IsFitIfAny n (ask.asked terms o (sys.clients c)).message) e f in
+        one_good config c _ _ terms width known (asked-sound terms o (sys.clients c) width) (fitted
+        (level-terms config c terms known).1 (fit-asked terms o (sys.clients c) typed_op (copy-long h c))) before
 
     offered_fit : (c : ℕ) (ch : Channel) (x : Beat w) (terms : client.EndConfig) → terms_at config c ≡ Some terms
         → IsFitAnswer config.blocks (offer.offered terms ch x (sys.clients c)).answer
     offered_fit c ch x terms known =
-        let fitted : terms.blocks ≡ config.blocks
-        → IsFitAnswer terms.blocks (offer.offered terms ch x (sys.clients c)).answer
-        → IsFitAnswer config.blocks (offer.offered terms ch x (sys.clients c)).answer =
-        λ e f. subst (λ (n : ℕ). IsFitAnswer n (offer.offered terms ch x (sys.clients c)).answer) e f in
+        let fitted : terms.blocks ≡ config.blocks → IsFitAnswer terms.blocks (offer.offered terms ch x
+        (sys.clients c)).answer → IsFitAnswer config.blocks (offer.offered terms ch x (sys.clients c)).answer = λ e f.
+        subst (λ n. IsFitAnswer n (offer.offered terms ch x (sys.clients c)).answer) e f in
         let same = (level-terms config c terms known).1 in
         fitted same (offered-cases terms ch x (sys.clients c) (λ o. IsFitAnswer terms.blocks o.answer) (λ rule. tt) tt
-        (λ passed. fit-taken terms.blocks x (sys.clients c) passed.inside (copy-long h c)))
+        (λ passed. fit-taken _ x _ passed.inside (copy-long h c)))
 
     delivered_good : (c : ℕ) (ch : Channel) (terms : client.EndConfig) (beats : List (Beat w))
         → sys.channels c ch ≡ beats → terms_at config c ≡ Some terms
@@ -350,15 +342,14 @@ good-after {w} {config} {sys} width h event typed = go (terms_at config (client_
         to : (y : Bool) → AllGood config (if y then client_took c ch x queue (offer.offered terms ch x (sys.clients c))
             sys else manager_took c ch x queue
             (manager_offer.offered config (record { 0 = c }) ch x sys.manager) sys).after
-        to true = judged_good config c ch x queue (offer.offered terms ch x (sys.clients c)).answer
-            (offer.offered terms ch x (sys.clients c)).after sys terms width known
-            (offered-sound terms ch x (sys.clients c)) (offered_fit c ch x terms known) first before
+        to true = judged_good config c ch x queue _ (offer.offered terms ch x (sys.clients c)).after sys terms width
+            known (offered-sound terms ch x (sys.clients c)) (offered_fit c ch x terms known) first before
         to false =
             let same : sys.channels c ch ≡ x ∷ queue → All (IsGood config c) (sys.channels c ch)
             → All (IsGood config c) (x ∷ queue) = λ e f. rw e at f in
             let head : IsGood config c x = All-head (IsGood config c) x queue (same first (before c ch)) in
-            manager_good config (record { 0 = c }) ch x queue (manager_offer.judged config (record { 0 = c }) ch x
-            sys.manager) sys.manager sys width head.sound h.manager_kept.sound first before
+            manager_good config _ ch x queue (manager_offer.judged config (record { 0 = c }) ch x
+            sys.manager) _ sys width head.sound h.manager_kept.sound first before
 
     go : (o : Option client.EndConfig) → terms_at config (client_of event) ≡ o → (ev : Event w) → ev ≡ event
         → IsTyped ev → AllGood config (stepped_at config o ev sys).after

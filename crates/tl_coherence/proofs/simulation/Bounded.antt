@@ -1,6 +1,6 @@
 -- Sources and trackers that are used are below the numbers that the configuration gives.
-use Rattle.std.proofs.Common.{◌≡◌, ℕ, ◌<◌, Bool, true, false, ◌||◌, ◌==◌, List, [], ◌∷◌, Option, Some, refl, sym, ◌∙◌}
-use Rattle.std.proofs.Common.{ap, arith, eqb-true, is_some}
+use Rattle.std.proofs.Common.{◌≡◌, ℕ, ◌<◌, Bool, true, false, ◌||◌, ◌==◌, List, [], ◌∷◌, Some, refl, sym, ◌∙◌, ap}
+use Rattle.std.proofs.Common.{arith, eqb-true, is_some}
 use Rattle.tl_coherence.proofs
 use proofs.Imports.{and_parts, Message, MessageA, Config, ReleaseSource, RequestSource, pending, is_one_of}
 use proofs.Imports.{tracker_among, trackers_of, services, is_busy, Acquires, Asked, Free, GrantSent, GrantTaken}
@@ -67,16 +67,15 @@ module _ {w : ℕ} (config : Config) (log : Log w) (mail : AccessMessages w) (re
   tracker_below i n e =
       let parts = and_parts (is_busy (s.block n).service) (i == (s.block n).tracker)
       (sym (matched.invariant.named.trackers i n) ∙ rw e (same_number n)) in
-      let q = someone (s.block n).service parts.0 in
+      let q = someone _ parts.0 in
       let same : i ≡ (s.block n).tracker = eqb-true i (s.block n).tracker parts.1 in
       rw same (of_each (λ k. k < config.trackers) (trackers_of (services sys.manager.trace)) (s.block n).tracker
       (tracker_among n (services sys.manager.trace) _ (matched.managed.serving_is n
-      ∙ ap (λ (o : Option ℕ). service_with o (s.block n).tracker (request n)) q.1)) matched.manager_kept.tracked)
+      ∙ ap (λ o. service_with o (s.block n).tracker (request n)) q.1)) matched.manager_kept.tracked)
 
   pub matched-bounded : IsOwn config c sys → AreBounded c (sources_of (terms_at config c)) config.trackers s
   matched-bounded own = record {
-    requests = λ source used. own.requests source ((matched.opened c).requests source ∙ asked_of source
-        (s.uses c source) refl used);
-    releases = λ source n e. own.releases source ((matched.opened c).releases source ∙ rw e refl);
+    requests = λ source used. own.requests _ ((matched.opened c).requests source ∙ asked_of source _ refl used);
+    releases = λ source n e. own.releases _ ((matched.opened c).releases source ∙ rw e refl);
     tracked = tracker_below;
   }

@@ -10,9 +10,9 @@ use proofs.Imports.{NoAcquire, NoRelease, ProbeSent, Asked, Block, Free, SourceF
 use proofs.Imports.{access_asked, acquire_asked, acquire_granted, acquiring_block, answered_link, block_stored}
 use proofs.Imports.{ended_block, granted_at_once, granted_block, granted_link, let_block, let_link, packet, packets_on}
 use proofs.Imports.{performed_block, popped_link, probe_taken, probed_block, probed_link, release_asked, release_taken}
-use proofs.Imports.{releasing_block, report_answers, report_grants, report_taken, reported_block, stored_block, with_a}
-use proofs.Imports.{with_c, shown, ChannelRelation, AreMoved, IsMoved, Move, Stays, AccessMessages, message_of}
-use proofs.Imports.{block_message, System, channel_of_message, same_channel}
+use proofs.Imports.{releasing_block, report_answers, report_grants, report_taken, stored_block, with_a, with_c, shown}
+use proofs.Imports.{ChannelRelation, AreMoved, IsMoved, Move, Stays, AccessMessages, message_of, block_message, System}
+use proofs.Imports.{channel_of_message, same_channel}
 use Rattle.tl_coherence.specs.protocol.Protocol.{Link}
 use proofs.protocol.{GrantedAll.granted_moves, RequestsKept.answer_moves, Granted.once_moves}
 use proofs.protocol.BothParts.{alike-ended, alike-granted, alike-acquiring, alike-releasing, alike-bytes}
@@ -54,16 +54,15 @@ access_asked-carried {w} {caching} c source m mail {s} {sys} {sys'} width inv in
     {s = s} {s' = s'} sys sys' width (record {
       before = inv;
       after = inv';
-      moved = moved-at c (access_moves source) (with_a (packet Request source) (s.link c)) s.link moved;
+      moved = moved-at c (access_moves source) _ s.link moved;
       blocks = λ i ne. refl;
       same = λ d k t e f. refl;
       requests = λ d i e f. requests d i e (cases_eq d c) (cases_eq i source);
       answers = λ d i e f. refl;
     })
-    (queued-handed (moves_at c (access_moves source)) mail' s' handed (fits-handed c (pushes_of (Some m))
-    (access_moves source) (λ d k i. message_of mail' s' d (packet k i)) (λ at. fits_pushed false m Channel.A at
-    (access_moves source at) (λ k i. message_of mail' s' c (packet k i)) chan (fits at))))
-    h
+    (queued-handed (moves_at c (access_moves source)) mail' s' handed
+    (fits-handed c (pushes_of (Some m)) (access_moves source) (λ d k i. message_of mail' s' d (packet k i))
+    (λ at. fits_pushed false m _ at _ (λ k i. message_of mail' s' c (packet k i)) chan (fits at)))) h
   where
     mail' : AccessMessages w
     mail' = record { request = set_at c source m mail.request; answer = mail.answer }
@@ -94,14 +93,13 @@ acquire_asked-carried c n source whole g bytes m mail {s} {sys} {sys'} width inv
     let new : Block (List ℕ) = acquiring_block c source whole g bytes (s.block n) in
     let s' : State (List ℕ) = acquire_asked c n source whole g bytes s in
     let fits : (at : Channel) → Fits false (only_on Channel.A m at) (acquire_moves n at) (λ k i. message_of mail s' c
-    (packet k i)) = elim [ Channel.A ↦ new_there Acquire c n new s.block m is | at ↦ tt ] in
-    carried-event sys sys' width
-    (showing-block n new (moves_at c (acquire_moves n)) mail mail inv inv' (moved-at c (acquire_moves n)
-    (with_a (packet Acquire n) (s.link c)) s.link (elim [ Channel.A ↦ refl | _ ↦ refl ])) (λ i. refl)
-    (λ d. alike-acquiring c source whole g bytes (inv.blocks n) calm d) (λ d i e f. refl) (λ d i e f. refl))
-    (queued-handed (moves_at c (acquire_moves n)) mail s' handed (fits-handed c (pushes_of (Some m)) (acquire_moves n)
-    (λ d k i. message_of mail s' d (packet k i)) (λ at. fits_pushed false m Channel.A at (acquire_moves n at)
-    (λ k i. message_of mail s' c (packet k i)) chan (fits at)))) h
+    (packet k i)) = elim [ Channel.A ↦ new_there _ c n new s.block m is | at ↦ tt ] in
+    carried-event sys sys' width (showing-block n new (moves_at c (acquire_moves n)) mail mail inv inv'
+    (moved-at c (acquire_moves n) (with_a (packet Acquire n) (s.link c)) s.link (elim [ Channel.A ↦ refl | _ ↦ refl ]))
+    (λ i. refl) (λ d. alike-acquiring c source whole g bytes (inv.blocks n) calm d) (λ d i e f. refl) (λ d i e f. refl))
+    (queued-handed (moves_at c (acquire_moves n)) mail s' handed
+    (fits-handed c (pushes_of (Some m)) (acquire_moves n) (λ d k i. message_of mail s' d (packet k i))
+    (λ at. fits_pushed false m _ at _ (λ k i. message_of mail s' c (packet k i)) chan (fits at)))) h
 
 pub release_asked-carried : {w : ℕ} {caching : ℕ → Bool} (c n source : ℕ) (r : Prune) (m : Message w)
     (mail : AccessMessages w) {s : State (List ℕ)} {sys sys' : System w} → IsWidth w → IsInvariant caching s
@@ -109,18 +107,17 @@ pub release_asked-carried : {w : ℕ} {caching : ℕ → Bool} (c n source : ℕ
     → channel_of_message m ≡ Channel.C → block_message Release c n (releasing_block c source r (s.block n)) ≡ m
     → IsHanded (pushes_at c (pushes_of (Some m))) sys sys' → ChannelRelation mail s sys
     → ChannelRelation mail (release_asked c n source r s) sys'
-release_asked-carried {w} {caching} c n source r m mail {s} {sys} {sys'} width inv inv' kept chan is handed h =
+release_asked-carried c n source r m mail {s} {sys} {sys'} width inv inv' kept chan is handed h =
     let new : Block (List ℕ) = releasing_block c source r (s.block n) in
     let s' : State (List ℕ) = release_asked c n source r s in
     let fits : (at : Channel) → Fits false (only_on Channel.C m at) (release_moves n at) (λ k i. message_of mail s' c
-    (packet k i)) = elim [ Channel.C ↦ new_there Release c n new s.block m is | at ↦ tt ] in
-    carried-event sys sys' width
-    (showing-block n new (moves_at c (release_moves n)) mail mail inv inv' (moved-at c (release_moves n)
-    (with_c (packet Release n) (s.link c)) s.link (elim [ Channel.A ↦ refl | _ ↦ refl ])) (λ i. refl)
-    (λ d. alike-releasing c source r (s.block n) kept d) (λ d i e f. refl) (λ d i e f. refl))
-    (queued-handed (moves_at c (release_moves n)) mail s' handed (fits-handed c (pushes_of (Some m)) (release_moves n)
-    (λ d k i. message_of mail s' d (packet k i)) (λ at. fits_pushed false m Channel.C at (release_moves n at)
-    (λ k i. message_of mail s' c (packet k i)) chan (fits at)))) h
+    (packet k i)) = elim [ Channel.C ↦ new_there _ c n new s.block m is | at ↦ tt ] in
+    carried-event sys sys' width (showing-block n new (moves_at c (release_moves n)) mail mail inv inv'
+    (moved-at c (release_moves n) (with_c (packet Release n) (s.link c)) s.link (elim [ Channel.A ↦ refl | _ ↦ refl ]))
+    (λ i. refl) (λ d. alike-releasing c source r _ kept d) (λ d i e f. refl) (λ d i e f. refl))
+    (queued-handed (moves_at c (release_moves n)) mail s' handed
+    (fits-handed c (pushes_of (Some m)) (release_moves n) (λ d k i. message_of mail s' d (packet k i))
+    (λ at. fits_pushed false m _ at _ (λ k i. message_of mail s' c (packet k i)) chan (fits at)))) h
 
 -- nothing is handed out
 abbrev still_moves : ℕ → Channel → Move
@@ -132,9 +129,8 @@ no_push b render = grind arith
 pub nothing_asked-carried : {w : ℕ} {caching : ℕ → Bool} (c : ℕ) (mail : AccessMessages w) {s : State (List ℕ)}
     {sys sys' : System w} → IsWidth w → IsInvariant caching s → IsHanded (pushes_at c (pushes_of None)) sys sys'
     → ChannelRelation mail s sys → ChannelRelation mail s sys'
-nothing_asked-carried {w} {caching} c mail {s} {sys} {sys'} width inv handed h =
-    carried-event {caching = caching} {n = 0} {moves = still_moves} {mail = mail} {mail' = mail} {s = s} {s' = s} sys
-    sys' width (record {
+nothing_asked-carried {caching} c mail {s} {sys} {sys'} width inv handed h = carried-event {caching = caching} {n = 0}
+    {moves = still_moves} {mail = mail} {mail' = mail} {s = s} {s' = s} sys sys' width (record {
       before = inv;
       after = inv;
       moved = λ d ch. refl;
@@ -143,22 +139,19 @@ nothing_asked-carried {w} {caching} c mail {s} {sys} {sys'} width inv handed h =
       requests = λ d i e f. refl;
       answers = λ d i e f. refl;
     })
-    (queued-handed still_moves mail s handed (λ d at. no_push (d == c) (λ k i. message_of mail s d (packet k i))))
-    h
+    (queued-handed still_moves mail s handed (λ d at. no_push (d == c) (λ k i. message_of mail s d (packet k i)))) h
 
 pub block_stored-carried : {w : ℕ} {caching : ℕ → Bool} (c n : ℕ) (bytes : List ℕ) (mail : AccessMessages w)
     {s : State (List ℕ)} {sys sys' : System w} → IsWidth w
     → IsInvariant caching s → IsInvariant caching (block_stored c n bytes s)
     → ((k : Kind) (d : ℕ) → carries k d (s.block n) ≡ false) → IsHanded (pushes_at c (pushes_of None)) sys sys'
     → ChannelRelation mail s sys → ChannelRelation mail (block_stored c n bytes s) sys'
-block_stored-carried {w} {caching} c n bytes mail {s} {sys} {sys'} width inv inv' none handed h =
+block_stored-carried c n bytes mail {s} {sys} {sys'} width inv inv' none handed h =
     let new : Block (List ℕ) = stored_block c bytes (s.block n) in
-    carried-event sys sys' width
-    (showing-block n new still_moves mail mail inv inv' (λ d ch. refl) (λ i. refl)
+    carried-event sys sys' width (showing-block n new still_moves mail mail inv inv' (λ d ch. refl) (λ i. refl)
     (alike-bytes (s.block n) new refl refl refl refl refl (λ k d. inl (none k d))) (λ d i e f. refl) (λ d i e f. refl))
-    (queued-handed still_moves mail (block_stored c n bytes s) handed
-    (λ d at. no_push (d == c) (λ k i. message_of mail (block_stored c n bytes s) d (packet k i))))
-    h
+    (queued-handed still_moves mail (block_stored c n bytes s) handed (λ d at. no_push (d == c)
+    (λ k i. message_of mail (block_stored c n bytes s) d (packet k i)))) h
 
 -- ---- a request is taken
 
@@ -178,8 +171,8 @@ access_answered-shown {w} {caching} c n source f rest m mail {s} inv inv' first 
           [ Channel.A ↦ first | _ ↦ refl ])) (λ i. refl) (alike-bytes (s.block n) new refl refl refl refl refl bytes)
           (λ d i e g. refl) (λ d i e g. answers d i e (cases_eq d c) (cases_eq i source));
       fits = fits-at c Channel.A (pushes_of (Some m)) (answer_moves source)
-          (λ d k i. message_of mail' s' d (packet k i)) (λ at. fits_pushed (same_channel at Channel.A) m Channel.D at
-          (answer_moves source at) (λ k i. message_of mail' s' c (packet k i)) chan (fits at));
+          (λ d k i. message_of mail' s' d (packet k i)) (λ at. fits_pushed (same_channel at Channel.A) m _ at
+          _ (λ k i. message_of mail' s' c (packet k i)) chan (fits at));
     }
   where
     mail' : AccessMessages w
@@ -207,7 +200,7 @@ pub acquire_granted-shown : {w : ℕ} {caching : ℕ → Bool} (r n tracker : �
     → block_message Grant r n (granted_at_once r tracker d k (s.block n)) ≡ m
     → IsShown caching n r Channel.A (pushes_at r (pushes_of (Some m))) mail mail s
     (acquire_granted r n tracker d k rest s)
-acquire_granted-shown {w} {caching} r n tracker d k rest m mail {s} inv inv' first free chan is =
+acquire_granted-shown r n tracker d k rest m mail {s} inv inv' first free chan is =
     let new : Block (List ℕ) = granted_at_once r tracker d k (s.block n) in
     let s' : State (List ℕ) = acquire_granted r n tracker d k rest s in
     let fits : (at : Channel) → Fits (same_channel at Channel.A) (only_on Channel.D m at) (once_moves n at)
@@ -217,9 +210,8 @@ acquire_granted-shown {w} {caching} r n tracker d k rest m mail {s} inv inv' fir
       showing = showing-block n new (moves_at r (once_moves n)) mail mail inv inv' (moved-at r (once_moves n)
           (answered_link (packet Grant n) rest (s.link r)) s.link (elim [ Channel.A ↦ first | _ ↦ refl ])) (λ i. refl)
           (alike-granted_at_once r tracker d k (s.block n) free) (λ i j e f. refl) (λ i j e f. refl);
-      fits = fits-at r Channel.A (pushes_of (Some m)) (once_moves n) (λ i j l. message_of mail s' i (packet j l))
-          (λ at. fits_pushed (same_channel at Channel.A) m Channel.D at (once_moves n at)
-          (λ j l. message_of mail s' r (packet j l)) chan (fits at));
+      fits = fits-at r Channel.A (pushes_of (Some m)) (once_moves n) (λ i j l. message_of mail s' i (packet j l)) (λ at.
+          fits_pushed (same_channel at Channel.A) m _ at _ (λ j l. message_of mail s' r (packet j l)) chan (fits at));
     }
 
 -- ---- a Probe is taken
@@ -230,19 +222,18 @@ pub probe_taken-shown : {w : ℕ} {caching : ℕ → Bool} (c n : ℕ) (k : Cap)
     → ((s.block n).pair c).probing ≡ ProbeSent k
     → channel_of_message m ≡ Channel.C → block_message ProbeAck c n (probed_block c k (s.block n)) ≡ m
     → IsShown caching n c Channel.B (pushes_at c (pushes_of (Some m))) mail mail s (probe_taken c n k rest s)
-probe_taken-shown {w} {caching} c n k rest m mail {s} inv inv' first sent chan is =
+probe_taken-shown c n k rest m mail {s} inv inv' first sent chan is =
     let new : Block (List ℕ) = probed_block c k (s.block n) in
     let s' : State (List ℕ) = probe_taken c n k rest s in
     let fits : (at : Channel) → Fits (same_channel at Channel.B) (only_on Channel.C m at) (probe_moves n at)
-    (λ j l. message_of mail s' c (packet j l)) =
-    elim [ Channel.C ↦ new_there ProbeAck c n new s.block m is | at ↦ tt ] in
+    (λ j l. message_of mail s' c (packet j l)) = elim [ Channel.C ↦ new_there _ c n new s.block m is | at ↦ tt ] in
     record {
       moves = (moves_at c (probe_moves n));
       showing = showing-block n new (moves_at c (probe_moves n)) mail mail inv inv'
           (moved-at c (probe_moves n) (probed_link n rest (s.link c)) s.link (elim [ Channel.B ↦ first | _ ↦ refl ]))
           (λ i. refl) (alike-probed c k (s.block n) sent) (λ i j e f. refl) (λ i j e f. refl);
       fits = fits-at c Channel.B (pushes_of (Some m)) (probe_moves n) (λ i j l. message_of mail s' i (packet j l))
-          (λ at. fits_pushed (same_channel at Channel.B) m Channel.C at (probe_moves n at)
+          (λ at. fits_pushed (same_channel at Channel.B) m _ at _
           (λ j l. message_of mail s' c (packet j l)) chan (fits at));
     }
 
@@ -252,9 +243,9 @@ pub report_taken-shown : {w : ℕ} {caching : ℕ → Bool} (c n : ℕ) (r : Rep
     (mail : AccessMessages w) {s : State (List ℕ)} → IsInvariant caching s
     → IsInvariant caching (report_taken c n r rest s) → (s.link c).c ≡ packet ProbeAck n ∷ rest
     → IsShown caching n c Channel.C (λ d at. None) mail mail s (report_taken c n r rest s)
-report_taken-shown {w} {caching} c n r rest mail {s} inv inv' first = record {
+report_taken-shown c n r rest mail {s} inv inv' first = record {
   moves = (moves_at c (report_moves n));
-  showing = showing-block n (reported_block c r (s.block n)) (moves_at c (report_moves n)) mail mail inv inv'
+  showing = showing-block n _ (moves_at c (report_moves n)) mail mail inv inv'
       (moved-at c (report_moves n) (record (s.link c) { c = rest }) s.link (elim [ Channel.C ↦ first | _ ↦ refl ]))
       (λ i. refl) (alike-reported c r (s.block n)) (λ i j e f. refl) (λ i j e f. refl);
   fits = λ d at. fits d at (d == c);
@@ -280,20 +271,18 @@ pub release_taken-shown : {w : ℕ} {caching : ℕ → Bool} (c n : ℕ) (r : Pr
     → IsInvariant caching (release_taken c n r rest s) → (s.link c).c ≡ packet Release n ∷ rest
     → channel_of_message m ≡ Channel.D → block_message ReleaseAck c n (let_block c r (s.block n)) ≡ m
     → IsShown caching n c Channel.C (pushes_at c (pushes_of (Some m))) mail mail s (release_taken c n r rest s)
-release_taken-shown {w} {caching} c n r rest m mail {s} inv inv' first chan is =
+release_taken-shown c n r rest m mail {s} inv inv' first chan is =
     let new : Block (List ℕ) = let_block c r (s.block n) in
     let s' : State (List ℕ) = release_taken c n r rest s in
     let fits : (at : Channel) → Fits (same_channel at Channel.C) (only_on Channel.D m at) (let_moves n at)
-    (λ j l. message_of mail s' c (packet j l)) =
-    elim [ Channel.D ↦ new_there ReleaseAck c n new s.block m is | at ↦ tt ] in
+    (λ j l. message_of mail s' c (packet j l)) = elim [ Channel.D ↦ new_there _ c n new s.block m is | at ↦ tt ] in
     record {
       moves = (moves_at c (let_moves n));
       showing = showing-block n new (moves_at c (let_moves n)) mail mail inv inv'
           (moved-at c (let_moves n) (let_link n rest (s.link c)) s.link (elim [ Channel.C ↦ first | _ ↦ refl ]))
           (λ i. refl) (alike-let c r (s.block n)) (λ i j e f. refl) (λ i j e f. refl);
-      fits = fits-at c Channel.C (pushes_of (Some m)) (let_moves n) (λ i j l. message_of mail s' i (packet j l))
-          (λ at. fits_pushed (same_channel at Channel.C) m Channel.D at (let_moves n at)
-          (λ j l. message_of mail s' c (packet j l)) chan (fits at));
+      fits = fits-at c Channel.C (pushes_of (Some m)) (let_moves n) (λ i j l. message_of mail s' i (packet j l)) (λ at.
+          fits_pushed (same_channel at Channel.C) m _ at _ (λ j l. message_of mail s' c (packet j l)) chan (fits at));
     }
 
 -- ---- the last report, for which an access is answered
@@ -335,9 +324,8 @@ report_answers-shown {w} {caching} c q n source r k f rest m mail {s} inv inv' f
     (d == q) n source m at (λ j l. message_of mail' s' d (packet j l)) (answer_is d)) in
     record {
       moves = moves;
-      showing = showing-block n (ended_block c r f (s.block n)) moves mail mail' inv inv' (λ d ch. moved d ch)
-          (λ i. refl) (alike-ended c q source r k f (s.block n) waits bytes) (λ d i e g. refl)
-          (λ d i e g. answers d i e (cases_eq d q) (cases_eq i source));
+      showing = showing-block n _ moves mail mail' inv inv' (λ d ch. moved d ch) (λ i. refl) (alike-ended c q source r k
+          f (s.block n) waits bytes) (λ d i e g. refl) (λ d i e g. answers d i e (cases_eq d q) (cases_eq i source));
       fits = λ d at. fits d at;
     }
   where

@@ -120,7 +120,7 @@ sent_rendered : {w : ℕ} (r : ℕ) (own : Bool) (source tracker : ℕ) (n : ℕ
     → is_probed r own k (b.pair d).recorded d ≡ true
     → block_message {w = w} Probe d n (served_block r own source tracker k b) ≡ probe_of_block n k
 unfolding block_message
-sent_rendered {w} r own source tracker n k d b e = sent_probe w r own n k d (b.pair d) e
+sent_rendered {w} r own source tracker n k d b e = sent_probe w r own n k d _ e
 
 served-shown : {w : ℕ} {caching : ℕ → Bool} (r n : ℕ) (own : Bool) (source tracker : ℕ) (k : Cap) (rest : List Packet)
     (mail : AccessMessages w) {s s' : State (List ℕ)} → IsInvariant caching s → IsInvariant caching s'
@@ -157,7 +157,7 @@ pub acquire_served-shown : {w : ℕ} {caching : ℕ → Bool} (r n source tracke
     → (s.block n).service ≡ Free
     → IsShown caching n r Channel.A (probe_pushes n k (λ d. is_probed r true k ((s.block n).pair d).recorded d)) mail
     mail s (acquire_served r n source tracker k rest s)
-acquire_served-shown {caching} r n source tracker k rest mail {s} inv inv' first free =
+acquire_served-shown r n source tracker k rest mail inv inv' first free =
     served-shown r n true source tracker k rest mail inv inv' first free (λ i. refl) (λ d. refl)
 
 pub access_served-shown : {w : ℕ} {caching : ℕ → Bool} (r n source tracker : ℕ) (k : Cap) (rest : List Packet)
@@ -166,5 +166,5 @@ pub access_served-shown : {w : ℕ} {caching : ℕ → Bool} (r n source tracker
     → (s.block n).service ≡ Free
     → IsShown caching n r Channel.A (probe_pushes n k (λ d. is_probed r false k ((s.block n).pair d).recorded d)) mail
     mail s (access_served r n source tracker k rest s)
-access_served-shown {caching} r n source tracker k rest mail {s} inv inv' first free =
+access_served-shown r n source tracker k rest mail inv inv' first free =
     served-shown r n false source tracker k rest mail inv inv' first free (λ i. refl) (λ d. refl)

@@ -59,13 +59,12 @@ delivered-cases {w} {config} {mail} {request} {s} {sys} link ch P width h none k
     go : (beats : List (Beat w)) → sys.channels link.0 ch ≡ beats
         → P (if is_moving o && is_last (sys.channels link.0 ch) rest_now then event else before)
     go [] e = either (is_moving o) (is_last (sys.channels link.0 ch) rest_now)
-        (λ moves last. absurd (let no : false ≡ true = sym (ap (λ (beats : List (Beat w)). is_last beats rest_now) e)
-        ∙ last in cc))
+        (λ moves last. absurd (let no : false ≡ true = sym (ap (λ beats. is_last beats rest_now) e) ∙ last in cc))
     go (x ∷ queue) e = either (is_moving o) (is_last (sys.channels link.0 ch) rest_now)
         (λ moves last. taken x queue (record {
           moves = moves;
           beats = e;
-          whole = sym (ap (λ (beats : List (Beat w)). is_last beats rest_now) e) ∙ last;
+          whole = sym (ap (λ beats. is_last beats rest_now) e) ∙ last;
           first = first-token (is_caching config) ch link.0 mail s sys x queue width h.invariant h.carried e;
         }))
 
@@ -97,10 +96,10 @@ pub followed-cases : {w : ℕ} {config : Config} {log : Log w} {mail : AccessMes
     (d : IsDelivery config mail s sys link ch x queue)
     → P (taken_of config mail request s sys link.0 d.first.kind d.first.number d.first.rest))
     → P (abstract_step config event sys (shadow_of mail request s))
-followed-cases {w} {config} {log} {mail} {request} {s} {sys} (Ask c operation) P width h none asks kinds =
+followed-cases {config} {log} {mail} {request} {s} {sys} (Ask c operation) P width h none asks kinds =
     asked_now config mail request s sys c operation P (asked-cases config log mail request s sys c operation
     (terms_at config c) P refl none (λ terms at. asks terms c operation at))
-followed-cases {config} {log} {mail} {request} {s} {sys} (Deliver link ch) P width h none asks kinds =
+followed-cases (Deliver link ch) P width h none asks kinds =
     delivered-cases link ch P width h none (λ x queue d. kinds link ch x queue d)
 
 -- ---- answers and Grants that are on their way
@@ -109,25 +108,22 @@ followed-cases {config} {log} {mail} {request} {s} {sys} (Deliver link ch) P wid
 pub on-first : {w : ℕ} {config : Config} {mail : AccessMessages w} {s : State (List ℕ)} {sys : System w} {link : Link}
     {ch : Channel} {x : Beat w} {queue : List (Beat w)} (d : IsDelivery config mail s sys link ch x queue)
     → on d.first.kind (s.link link.0) ≡ packet d.first.kind d.first.number ∷ d.first.rest
-on-first {s} {link} {ch} d = on_same ch d.first.kind (s.link link.0) d.first.own ∙ d.first.tokens
+on-first {s} {link} {ch} d = on_same ch _ (s.link link.0) d.first.own ∙ d.first.tokens
 
 pub answered-followed : {w : ℕ} {config : Config} {log : Log w} {mail : AccessMessages w} {request : ℕ → MessageA w}
     {s : State (List ℕ)} {sys : System w}
     (event : Event w) → IsWidth w → SimulationRelation config log mail request s sys
     → AreAnswered (abstract_step config event sys (shadow_of mail request s)).mail
     (abstract_step config event sys (shadow_of mail request s)).state
-answered-followed {w} {config} {log} {mail} {request} {s} {sys} event width h =
-    followed-cases event (λ (x : AbstractState w). AreAnswered x.mail x.state) width h h.answered
-    (λ terms c o at. answered-asked c o (ask.asked terms o (sys.clients c)).reply (shadow_of mail request s) h.answered)
-    (λ link ch x queue d. answered-kind_taken (next_tracker sys) link.0 d.first.kind d.first.number d.first.rest
-    (shadow_of mail request s) h (on-first d))
+answered-followed {mail} {request} {s} {sys} event width h = followed-cases event (λ x. AreAnswered x.mail x.state)
+    width h h.answered (λ terms c o at. answered-asked c o (ask.asked terms o (sys.clients c)).reply _ h.answered)
+    (λ link ch x queue d. answered-kind_taken (next_tracker sys) link.0 _ _ _ _ h (on-first d))
 
 pub given-followed : {w : ℕ} {config : Config} {log : Log w} {mail : AccessMessages w} {request : ℕ → MessageA w}
     {s : State (List ℕ)} {sys : System w} (event : Event w)
     → IsWidth w → SimulationRelation config log mail request s sys
     → AreGiven config.profile (abstract_step config event sys (shadow_of mail request s)).state
-given-followed {w} {config} {log} {mail} {request} {s} {sys} event width h =
-    followed-cases event (λ (x : AbstractState w). AreGiven config.profile x.state) width h h.given
-    (λ terms c o at. given-asked config.profile c o (ask.asked terms o (sys.clients c)).reply (shadow_of mail request s)
-    h.invariant (askable terms c o h at) h.given) (λ link ch x queue d. given-kind_taken config (next_tracker sys)
-    link.0 d.first.kind d.first.number d.first.rest (shadow_of mail request s) h.given)
+given-followed {config} {mail} {request} {s} {sys} event width h = followed-cases event (λ x. AreGiven config.profile
+    x.state) width h h.given (λ terms c o at. given-asked _ c o _ _ h.invariant (askable terms c o h at) h.given)
+    (λ link ch x queue d. given-kind_taken config (next_tracker sys) link.0 d.first.kind d.first.number d.first.rest _
+    h.given)

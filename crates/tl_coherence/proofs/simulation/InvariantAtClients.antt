@@ -1,10 +1,10 @@
 -- The protocol keeps its invariant as a client is asked, and as a client takes a message.
 use Rattle.std.proofs.Common.{◌≡◌, ℕ, Bool, true, false, not, List, ◌∷◌, Option, Some, None, refl, sym, ◌∙◌, ap, map}
 use Rattle.tl_coherence.proofs
-use proofs.Imports.{Beat, Link, Channel, IsWidth, MessageA, unfinished, Config, Op, EndConfig, Offered, Deliver}
-use proofs.Imports.{IsInvariant, Answer, Grant, Kind, Packet, Probe, ReleaseAck, NoRelease, is_unreleased, State, is_on}
-use proofs.Imports.{packet, packets_on, asked, AccessMessages, message_of, message_of_kind, SimulationRelation}
-use proofs.Imports.{is_caching, receiver, is_moving, Log, Step, client_took, is_to_client, stepped, System, terms_at}
+use proofs.Imports.{Beat, Link, Channel, IsWidth, MessageA, unfinished, Config, Op, EndConfig, Deliver, IsInvariant}
+use proofs.Imports.{Answer, Grant, Kind, Packet, Probe, ReleaseAck, NoRelease, is_unreleased, State, is_on, packet}
+use proofs.Imports.{packets_on, asked, AccessMessages, message_of, message_of_kind, SimulationRelation, is_caching}
+use proofs.Imports.{receiver, is_moving, Log, client_took, is_to_client, stepped, System, terms_at}
 use Rattle.tl_client.specs.statement.Ask as ask
 use proofs.client.{ClientDelivered.askable, ClientDelivered.shadow_of, ProbeDelivered.probe-delivered}
 use proofs.queues.{Carried.IsNext, Steps.stepped-to-client}
@@ -16,8 +16,7 @@ pub invariant-asked : {w : ℕ} {config : Config} {log : Log w} {mail : AccessMe
     → SimulationRelation config log mail request s sys → terms_at config c ≡ Some terms
     → IsInvariant (is_caching config) (asked c o (ask.asked terms o (sys.clients c)).reply
     (shadow_of mail request s)).state
-invariant-asked {config} {log} {mail} {request} {s} {sys} terms c o h at = asked-kept c o
-    (ask.asked terms o (sys.clients c)).reply (shadow_of mail request s) h.invariant (askable terms c o h at)
+invariant-asked {mail} {request} {s} {sys} terms c o h at = asked-kept c o _ _ h.invariant (askable terms c o h at)
 
 pub nobody_moves : {w : ℕ} (config : Config) (sys : System w) (link : Link) (ch : Channel)
     → terms_at config link.0 ≡ None → is_moving (stepped config (Deliver link ch) sys).outcome ≡ false
@@ -41,9 +40,8 @@ probe_ready {w} {config} {log} {mail} {request} {s} {sys} link n rest {x} {queue
     stands terms at false waits =
         let probed = probe-delivered terms (next_tracker sys) link.0 n rest width h at beats first next in
         let step : is_moving (stepped config (Deliver link Channel.B) sys).outcome ≡ false =
-        ap (λ (i : Step w). is_moving i.outcome) (stepped-to-client config link Channel.B sys terms x queue at beats
-        refl) ∙ ap (λ (o : Offered w). is_moving (client_took link.0 Channel.B x queue o sys).outcome)
-        (probed.waits_for waits) in
+        ap (λ i. is_moving i.outcome) (stepped-to-client config link Channel.B sys terms x queue at beats refl)
+        ∙ ap (λ o. is_moving (client_took link.0 Channel.B x queue o sys).outcome) (probed.waits_for waits) in
         absurd (let no : true ≡ false = sym moves ∙ step in cc)
 
     at_terms : (o : Option EndConfig) → terms_at config link.0 ≡ o → ((s.block n).pair link.0).letting ≡ NoRelease
@@ -58,8 +56,8 @@ pub ready-client : {w : ℕ} {config : Config} {log : Log w} {mail : AccessMessa
     → sys.channels link.0 ch ≡ x ∷ queue → packets_on ch (s.link link.0) ≡ packet k i ∷ rest
     → IsNext x (unfinished ch (receiver ch link.0 sys)) (message_of_kind k mail s link.0 i)
     (map (message_of mail s link.0) rest) queue → IsReady (next_tracker sys) link.0 k i (shadow_of mail request s)
-ready-client {config} {log} {mail} {request} {s} {sys} link Channel.B Probe i rest {x}
-    {queue} width h up own moves beats first next = probe_ready link i rest width h moves beats first next
+ready-client link Channel.B Probe i rest
+    width h up own moves beats first next = probe_ready link i rest width h moves beats first next
 ready-client link Channel.D Answer i rest width h up own moves beats first next = tt
 ready-client link Channel.D Grant i rest width h up own moves beats first next = tt
 ready-client link Channel.D ReleaseAck i rest width h up own moves beats first next = tt

@@ -70,12 +70,12 @@ client_moves {w} terms c ch x queue sys moving = go (offer.offered terms ch x (s
         (with_client c o.after (with_channel c ch queue sys))
         → IsTakenByClient terms c ch x queue sys (judged o.answer c ch x queue o.after sys)
     made v m e taken heard is =
-        let takes = offered-taken terms ch x (sys.clients c) (ap is_taken e ∙ taken) in
+        let takes = offered-taken terms ch x _ (ap is_taken e ∙ taken) in
         record {
           verdict_is = v;
           message = m;
           takes = takes;
-          answer = ap (λ (p : Offered w). p.answer) (sym takes) ∙ e;
+          answer = ap (λ p. p.answer) (sym takes) ∙ e;
           heard = ap (λ a. after.heard a x (sys.clients c).past) e ∙ heard;
           step_is = cc (e, is, takes);
         }
@@ -95,7 +95,7 @@ client-moves {w} config link ch sys terms x queue known first up moving =
     let step = stepped-to-client config link ch sys terms x queue known first up in
     same (stepped config (Deliver link ch) sys)
     (client_took link.0 ch x queue (offer.offered terms ch x (sys.clients link.0)) sys) step
-    (client_moves terms link.0 ch x queue sys (ap (λ (y : Step w). is_moving y.outcome) (sym step) ∙ moving))
+    (client_moves terms link.0 ch x queue sys (ap (λ y. is_moving y.outcome) (sym step) ∙ moving))
 
 pub client-heard : {w : ℕ} {terms : client.EndConfig} {c : ℕ} {ch : Channel} {x : Beat w} {queue : List (Beat w)}
     {sys : System w} {step : Step w} → IsWidth w → client_kept.IsEndpointInvariant (sys.clients c)
@@ -137,8 +137,7 @@ manager_moves {w} config link ch x queue sys moving = go (manager_offer.offered 
         → IsTakenByManager config link ch x queue sys
         (manager_took link.0 ch x queue (manager_offer.offered config link ch x sys.manager) sys)
     go (manager_offer.Sent handed, e) f h =
-        let takes = offered-passes config link ch x sys.manager handed
-        (ap (λ (p : manager_offer.Reception w × manager_end.End w). p.0) f) in
+        let takes = offered-passes config link ch x _ handed (ap (λ p. p.0) f) in
         record { takes = takes; step_is = ap (λ p. manager_took link.0 ch x queue p sys) takes }
     go a f h = absurd cc
 
@@ -152,7 +151,7 @@ manager-moves {w} config link ch sys terms x queue known first down moving =
     let step = stepped-to-manager config link ch sys terms x queue known first down in
     same (stepped config (Deliver link ch) sys)
     (manager_took link.0 ch x queue (manager_offer.offered config link ch x sys.manager) sys) step
-    (manager_moves config link ch x queue sys (ap (λ (y : Step w). is_moving y.outcome) (sym step) ∙ moving))
+    (manager_moves config link ch x queue sys (ap (λ y. is_moving y.outcome) (sym step) ∙ moving))
 
 pub manager-heard : {w : ℕ} (config : Config) (link : Link) (ch : Channel) (x : Beat w) (queue : List (Beat w))
     (sys : System w) (step : Step w) → IsWidth w → manager.IsTyped x → manager.IsKept config sys.manager
@@ -165,10 +164,9 @@ manager-heard {w} config link ch x queue sys step width typed kept is d = λ at.
         (on_link d (manager_offer.taken link x (manager_reaction.reaction config link x sys.manager) sys.manager).trace)
         ≡ unfinished at
         (if link.0 == d then x ∷ on_link d sys.manager.trace else on_link d sys.manager.trace)
-    one at up = ap (λ (p : manager_offer.Reception w × manager_end.End w). unfinished at (on_link d p.1.trace))
-        (sym is.takes) ∙ manager_after.unfinished-offered config link ch x sys.manager d at width typed kept up
-        ∙ ap (λ (p : manager_offer.Reception w × manager_end.End w). unfinished at
-        (taken_after p.0 (link, x) d (on_link d sys.manager.trace))) is.takes
+    one at up = ap (λ p. unfinished at (on_link d p.1.trace)) (sym is.takes)
+        ∙ manager_after.unfinished-offered config link ch x sys.manager d at width typed kept up
+        ∙ ap (λ p. unfinished at (taken_after p.0 (link, x) d (on_link d sys.manager.trace))) is.takes
 
     go : (at : Channel) → is_to_client at ≡ false → unfinished at
         (on_link d (manager_offer.taken link x (manager_reaction.reaction config link x sys.manager) sys.manager).trace)
@@ -199,7 +197,7 @@ carried-part {w} mail s {c} {ch} {x} {queue} {sys} {sys'} width is none part h d
     first : (ms : List (Message w)) → IsCarried (rest c ch) ms (x ∷ queue) → IsCarried (grown x (rest c ch)) ms queue
     first [] i = absurd (let e : x ∷ queue ≡ [] = i.1 in cc)
     first (m ∷ ms) i =
-        let next = carried-next x (rest c ch) m ms queue (λ n. beats-positive n width) i in
+        let next = carried-next x _ m ms queue (λ n. beats-positive n width) i in
         let more = next.more (before next.k (beats_of m) next.within (sym next.completes_is ∙ part)) in
         rw (more.0) more.1
       where
@@ -211,7 +209,7 @@ carried-part {w} mail s {c} {ch} {x} {queue} {sys} {sys'} width is none part h d
     go (inl same) true e = moved (grown x (rest d at)) queue (is.rests d at ∙ rw (same, same_number c, e) refl)
         (channel_is ∙ rw (same, same_number c, e) refl)
         (rw (same, same_channel-is at ch e) (first (messages_on ch mail s c) (rw is.first at (h c ch))))
-    go (inl same) false e = moved (rest d at) (sys.channels d at) (is.rests d at ∙ rw (same, same_number c, e) refl)
+    go (inl same) false e = moved _ _ (is.rests d at ∙ rw (same, same_number c, e) refl)
         (channel_is ∙ rw (same, same_number c, e) refl) (h d at)
-    go (inr other) b e = moved (rest d at) (sys.channels d at) (is.rests d at ∙ rw (ne_eqb d c other) refl)
+    go (inr other) b e = moved _ _ (is.rests d at ∙ rw (ne_eqb d c other) refl)
         (channel_is ∙ rw (ne_eqb d c other) refl) (h d at)

@@ -45,13 +45,13 @@ within-kept {w} config width = record {
     kept = kept-asked terms op e width was.kept;
     inside = λ other so. rw (some_is (terms_at config c) so is)
         (inside-asked terms op e width was.kept (was.inside terms is));
-    nobody = λ so. none_is (terms_at config c) is so;
+    nobody = λ so. none_is _ is so;
   };
   offered = λ c terms ch x e is was. record {
     kept = kept-offered terms ch x e width was.kept;
     inside = λ other so. rw (some_is (terms_at config c) so is)
         (inside-offered terms ch x e width was.kept (was.inside terms is));
-    nobody = λ so. none_is (terms_at config c) is so;
+    nobody = λ so. none_is _ is so;
   };
 }
 
@@ -81,7 +81,7 @@ pub channels-few : {w : ℕ} {config : Config} {log : Log w} {mail : AccessMessa
     {s : State (List ℕ)} → IsWidth w → SimulationRelation config log mail request s (system_after config log)
     → (c : ℕ) (ch : Channel) → length ((system_after config log).channels c ch) ≤ capacity (64 / w)
     (sources_of (terms_at config c)) config.trackers ch
-channels-few {w} {config} {log} {mail} {request} {s} width matched c ch =
+channels-few {config} {log} {mail} {request} {s} width matched c ch =
     channel-few mail ch _ _ width matched.invariant (matched-bounded config log mail request s
     (system_after config log) matched c (sources-own config log c width)) (matched.carried c ch)
 
@@ -118,9 +118,8 @@ module _ {w : ℕ} {config : Config} {log : Log w} {mail : AccessMessages w} {re
       let lawless : (o : Option Level) (m : Message w) → o ≡ None → kept.illegal_message_at o m ≡ None → ⊥ =
       elim [ None ↦ λ m h f. absurd cc | Some l ↦ λ m h f. absurd cc ] in
       let served : service_of_block n (services (system_after config log).manager.trace) ≡ service_with (Some c)
-      (s.block n).tracker (request n) = cc (matched.managed.serving_is n, acknowledged_to (s.block n).service c e) in
-      let performable = of_served (kept.IsPerformable config) n (services (system_after config log).manager.trace) _
-      served matched.manager_kept.requests in
+      (s.block n).tracker (request n) = cc (matched.managed.serving_is n, acknowledged_to _ c e) in
+      let performable = of_served (kept.IsPerformable config) n _ _ served matched.manager_kept.requests in
       lawless (level_of config c) (Message.A (request n)) (no_level config c is) performable.lawful
 
   nothing_shown : (ch : Channel) (k : Kind) (n : ℕ) → is_on ch k ≡ true → 0 < count k n (packets_on ch (s.link c)) → ⊥
@@ -192,14 +191,13 @@ pub popped-received : {w : ℕ} (c : ℕ) (ch : Channel) (pushes : ℕ → Chann
     → IsPopped c ch moves (unfinished_at sys) (unfinished_at sys') s s'
 popped-received {w} c ch pushes moves render s s' sys sys' received fits moved =
     let here : ((c == c) && same_channel ch ch) ≡ true = rw (same_number c, same_channel-refl ch) refl in
-    let head = popped_first (pushes c ch) (moves c ch) (render c) (packets_on ch (s.link c)) (packets_on ch (s'.link c))
-    (fits_by ((c == c) && same_channel ch ch) true (pushes c ch) (moves c ch) (render c) here (fits c ch))
-    (moved c ch) in
+    let head = popped_first _ _ (render c) _ _ (fits_by ((c == c) && same_channel ch ch) true (pushes c ch) (moves c ch)
+    (render c) here (fits c ch)) (moved c ch) in
     record {
       first = head.first;
       tokens = head.is;
-      none = received c ch ∙ ap (λ (b : Bool). if b then [] else unfinished_at sys c ch) here;
-      unpopped = λ d at ne. not_popped (pushes d at) (moves d at) (render d) (fits_by ((d == c)
+      none = received c ch ∙ ap (λ b. if b then [] else unfinished_at sys c ch) here;
+      unpopped = λ d at ne. not_popped _ _ (render d) (fits_by ((d == c)
           && same_channel at ch) false (pushes d at) (moves d at) (render d) (elsewhere c d ch at ne) (fits d at));
       rests = λ d at ne. cc (received d at, elsewhere c d ch at ne);
     }

@@ -30,7 +30,7 @@ sized_same new long waiting storing h =
 -- one client's pair changes, and not what it acquires
 still_acquires : (c : ℕ) (p : ClientBlock) (f : ℕ → ClientBlock) → p.acquiring ≡ (f c).acquiring → (d : ℕ)
     → is_whole (set c p f d).acquiring ≡ true → is_whole (f d).acquiring ≡ true
-still_acquires c p f same d e = sym (ap is_whole (set-part (λ (q : ClientBlock). q.acquiring) c p f same d)) ∙ e
+still_acquires c p f same d e = sym (ap is_whole (set-part (λ q. q.acquiring) c p f same d)) ∙ e
 
 sized_pair : (c : ℕ) (p : ClientBlock) {old : Block (List ℕ)} (new : Block (List ℕ)) → new.pair ≡ set c p old.pair
     → p.acquiring ≡ (old.pair c).acquiring → new.truth ≡ old.truth
@@ -42,12 +42,11 @@ sized_served : (r : ℕ) (own : Bool) (source tracker : ℕ) (k : Cap) {b : Bloc
 sized_served r own source tracker k {b} h =
     let go : (c : ℕ) (x : Bool) → is_whole (if x then b.pair c else after_served k (b.pair c)).acquiring ≡ true
     → is_whole (b.pair c).acquiring ≡ true = λ c. elim [ true ↦ λ e. e | false ↦ λ e. e ] in
-    sized_same (served_block r own source tracker k b) h.truth (λ c. refl) (λ c e. go c (own && (c == r)) e) h
+    sized_same _ h.truth (λ c. refl) (λ c e. go c (own && (c == r)) e) h
 
 sized_granted_block : (c q : ℕ) (r : Report) (d : Bool) (k : Cap) {b : Block (List ℕ)} → AreSized b
     → AreSized (granted_block c q r d k b)
-sized_granted_block c q r d k {b} h = sized_same (granted_block c q r d k b) h.truth (λ i. refl)
-    (λ i e. storing i (cases_eq i q) e) h
+sized_granted_block c q r d k {b} h = sized_same _ h.truth (λ i. refl) (λ i e. storing i (cases_eq i q) e) h
   where
     reported : ℕ → ClientBlock
     reported = set c (after_report r (b.pair c)) b.pair
@@ -56,9 +55,8 @@ sized_granted_block c q r d k {b} h = sized_same (granted_block c q r d k b) h.t
         → is_whole (b.pair i).acquiring ≡ true
     storing i (inl same) e = let f : (set q (after_grant_sent k (b.pair q)) reported q).acquiring
         ≡ (b.pair q).acquiring =
-        ap (λ (p : ClientBlock). p.acquiring) (set-same q (after_grant_sent k (b.pair q)) reported) in
-        ap (λ (j : ℕ). is_whole (b.pair j).acquiring) same ∙ sym (ap is_whole f) ∙ ap
-        (λ (j : ℕ). is_whole (set q (after_grant_sent k (b.pair q)) reported j).acquiring) (sym same) ∙ e
+        ap (λ p. p.acquiring) (set-same q (after_grant_sent k (b.pair q)) reported) in
+        cc (same, f, e)
     storing i (inr other) e = cc (still_acquires c (after_report r (b.pair c)) b.pair refl i (sym (ap (λ (p :
         ClientBlock). is_whole p.acquiring) (set-other q i (after_grant_sent k (b.pair q)) reported other)) ∙ e))
 
@@ -67,8 +65,7 @@ sized_taken_block : (c : ℕ) (d : Bool) (k : Cap) {b : Block (List ℕ)} → Ar
 sized_taken_block c d k {b} h =
     let bytes : (x : AcquirePhase) → (b.pair c).acquiring ≡ x → length (granted_truth (is_whole x)
     (b.waiting c) b.truth) ≡ 64 = elim [ AcquireOpen true g ↦ λ e. h.waiting c (ap is_whole e) | x ↦ λ e. h.truth ] in
-    sized_same (taken_block c (is_whole (b.pair c).acquiring) d k b) (bytes (b.pair c).acquiring refl) (λ i. refl)
-    (λ i e. storing i (cases_eq i c) e) h
+    sized_same _ (bytes (b.pair c).acquiring refl) (λ i. refl) (λ i e. storing i (cases_eq i c) e) h
   where
     storing : (i : ℕ) → (i ≡ c) ⊎ (i ≡ c → ⊥) → is_whole (set c (after_grant k (b.pair c)) b.pair i).acquiring ≡ true
         → is_whole (b.pair i).acquiring ≡ true
@@ -78,8 +75,8 @@ sized_taken_block c d k {b} h =
 
 pub sized-kind_taken : {w : ℕ} (config : Config) (tracker c : ℕ) (k : Kind) (i : ℕ) (rest : List Packet)
     (h : AbstractState w) → AllSized h.state → AllSized (kind_taken config tracker c k i rest h).state
-sized-kind_taken {w} config tracker c k i rest h before =
-    true-taken config tracker c rest h (λ j n. ⊤) (λ (x : AbstractState w). AllSized x.state) k i (record {
+sized-kind_taken config tracker c k i rest h before =
+    true-taken config tracker c rest h (λ j n. ⊤) (λ x. AllSized x.state) k i (record {
       nothing = λ j n known idle. before;
       access_answered = λ source m o known from caps none. changed (block_at m.address) (sized_same _
           (length-bytes _ (64 * block_at m.address) 64) (λ d. refl) (λ d e. e) (before (block_at m.address)));
@@ -92,7 +89,7 @@ sized-kind_taken {w} config tracker c k i rest h before =
       report = λ n known more. one n (after_report _ (pair n c)) _ refl refl refl refl;
       report_answers = λ n q source j known last waits. changed n
           (sized_same _ (length-bytes _ (64 * block_at (h.request n).address) 64) (λ d. refl)
-          (λ d e. still_acquires c (after_report _ (pair n c)) (pair n) refl d e) (before n));
+          (λ d e. still_acquires c _ (pair n) refl d e) (before n));
       report_grants = λ n q source j whole g known last waits wants. changed n
           (sized_granted_block c q _ _ _ (before n));
       release = λ n known. one n (after_release_taken _ (pair n c)) _ refl refl refl refl;
@@ -137,11 +134,10 @@ pub sized-asked : {w : ℕ} {caching : ℕ → Bool} (c : ℕ) (o : Op w) (r : R
 sized-asked c (Op.Store address size value) Reply.Stored h inv typed ask before = λ i.
     let n : ℕ = block_at address in
     let b : Block (List ℕ) = h.state.block n in
-    sized_block n h.state.block
-    (sized_same (stored_block c (copy_stored address size value (b.copy c)) b) (length-stored address size value
-    (b.copy c) (ap length ((inv.blocks n).copies c (trunk-some (b.pair c).held ask.1)) ∙ (before n).truth)
-    (word_room address size ask.0)) (λ d. refl) (λ d e. e) (before n))
-    before i
+    sized_block n h.state.block (sized_same (stored_block c (copy_stored address size value (b.copy c)) b)
+    (length-stored address size value (b.copy c)
+    (ap length ((inv.blocks n).copies c (trunk-some (b.pair c).held ask.1)) ∙ (before n).truth)
+    (word_room address size ask.0)) (λ d. refl) (λ d e. e) (before n)) before i
 sized-asked c (Op.Acquire n g) (Reply.Started source) h inv typed ask before = λ i. sized_block n h.state.block
     (sized_acquiring c source false g ((h.state.block n).waiting c) (λ e. absurd cc) (before n)) before i
 sized-asked c (Op.AcquireWhole n bytes) (Reply.Started source) h inv typed ask before =

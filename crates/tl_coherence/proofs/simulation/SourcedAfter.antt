@@ -4,8 +4,8 @@
 use Rattle.std.proofs.Common.{◌≡◌, ℕ, Bool, List, ◌∷◌, Some, None, refl, sym, ◌∙◌, ap, arith, inl, inr, ne_eqb}
 use Rattle.tl_coherence.proofs
 use proofs.Imports.{cases_eq, ⊤, Message, Config, block_at, Op, Reply, EndConfig, access, IsInvariant, Kind, Packet}
-use proofs.Imports.{Request, set, set_at, Acquires, Asked, InService, Replied, SourceFree, SourceState, on, packet}
-use proofs.Imports.{AbstractState, asked, kind_taken, IsRequest, IsSourced, terms_at}
+use proofs.Imports.{Request, set, set_at, Asked, InService, Replied, SourceFree, SourceState, on, packet, AbstractState}
+use proofs.Imports.{asked, kind_taken, IsRequest, IsSourced, terms_at}
 use proofs.queues.Tokens.{same_number, set-each, set-same}
 use proofs.rank.RankParts.{serving-use}
 use proofs.protocol.{HeadOfD.true-taken, BothParts.first-request}
@@ -44,9 +44,8 @@ pub strangers-kind_taken : {w : ℕ} {caching : ℕ → Bool} (config : Config) 
     (rest : List Packet) (h : AbstractState w) (terms : EndConfig)
     → IsInvariant caching h.state → terms_at config c ≡ Some terms
     → AreStrange config h.state.uses → AreStrange config (kind_taken config tracker c k i rest h).state.uses
-strangers-kind_taken {w} {caching} config tracker c k i rest h terms inv known before =
-    true-taken config tracker c rest h (λ j n. ⊤) (λ (x : AbstractState w). AreStrange config x.state.uses) k i
-    (record {
+strangers-kind_taken {w} {caching} config tracker c k i rest h terms inv known before = true-taken config tracker c rest
+    h (λ j n. ⊤) (λ x. AreStrange config x.state.uses) k i (record {
       nothing = λ j n first idle. before;
       access_answered = λ source m o first from caps none.
           strange_set config c source Replied h.state.uses terms known before;
@@ -100,15 +99,13 @@ pub sourced-kind_taken : {w : ℕ} {caching : ℕ → Bool} (config : Config) (t
     → AreSourced config h.mail.request h.state.uses
     → AreSourced config (kind_taken config tracker c k i rest h).mail.request
     (kind_taken config tracker c k i rest h).state.uses
-sourced-kind_taken {w} config tracker c k i rest h inv first before =
-    true-taken config tracker c rest h (λ j n. on j (h.state.link c) ≡ packet j n ∷ rest)
-    (λ (x : AbstractState w). AreSourced config x.mail.request x.state.uses) k i (record {
+sourced-kind_taken config tracker c k i rest h inv first before = true-taken config tracker c rest h (λ j n. on j
+    (h.state.link c) ≡ packet j n ∷ rest) (λ x. AreSourced config x.mail.request x.state.uses) k i (record {
       nothing = λ j n known idle. before;
       access_answered = λ source m o known from caps none. used c source Replied (asked_request config c source _
           (h.state.uses c source) (first-asked c source rest h inv known) (before c source));
-      access_served = λ source m j known from caps some. used c source (InService (block_at m.address))
-          (asked_request config c source _ (h.state.uses c source) (first-asked c source rest h inv known)
-          (before c source));
+      access_served = λ source m j known from caps some. used c source _ (asked_request config c source _
+          (h.state.uses c source) (first-asked c source rest h inv known) (before c source));
       acquire_granted = λ n whole g known wants none. before;
       acquire_served = λ n whole g known wants some. before;
       probe = λ n known. before;
@@ -117,8 +114,8 @@ sourced-kind_taken {w} config tracker c k i rest h inv first before =
           (h.state.uses q source) (serving-use n q source j inv waits) (before q source));
       report_grants = λ n q source j whole g known last waits wants. before;
       release = λ n known. before;
-      answer = λ source known. used c source SourceFree tt;
-      grant = λ n q d j known sent. used c ((h.state.block n).source c) SourceFree tt;
+      answer = λ source known. used c source _ tt;
+      grant = λ n q d j known sent. used c _ _ tt;
       release_ack = λ n known. before;
       grant_ack = λ n known. before;
     }) first
@@ -136,12 +133,12 @@ pub sourced-asked : {w : ℕ} (config : Config) (c : ℕ) (o : Op w) (r : Reply)
     → IsSourcedAsk config c o r → AreSourced config h.mail.request h.state.uses
     → AreSourced config (asked c o r h).mail.request (asked c o r h).state.uses
 sourced-asked config c (Op.Acquire n g) (Reply.Started source) h ask before =
-    sourced_set config h.mail.request c source (Acquires n) h.state.uses tt before
+    sourced_set config h.mail.request c source _ h.state.uses tt before
 sourced-asked config c (Op.AcquireWhole n bytes) (Reply.Started source) h ask before =
-    sourced_set config h.mail.request c source (Acquires n) h.state.uses tt before
+    sourced_set config h.mail.request c source _ h.state.uses tt before
 sourced-asked {w} config c (Op.Access (Message.A m)) (Reply.Started source) h ask before = λ d i. elim (cases_eq d c) [
   | inl same ↦ elim (cases_eq i source) [
-    | inl also ↦ rw (same, also) (now _ _ (ap (λ (f : ℕ → Message w). f source) (set-same c (set source
+    | inl also ↦ rw (same, also) (now _ _ (ap (λ f. f source) (set-same c (set source
         (access source m) (h.mail.request c)) h.mail.request) ∙ set-same source (access source m) (h.mail.request c))
         (cc (set-same c (set source Asked (h.state.uses c)) h.state.uses, set-same source Asked (h.state.uses c))))
     | inr other ↦ rw (same, same_number c, ne_eqb i source other) (before c i)

@@ -10,7 +10,7 @@ use proofs.Imports.{Ask, Deliver, Outcome, Answer, Grant, Kind, ReleaseAck, Acqu
 use proofs.Imports.{is_on, packet, AbstractState, IsAccess, IsLet, op_of, message_of_kind, block_message}
 use proofs.Imports.{SimulationRelation, is_caching, is_moving, Continues, Log, system_after, Ends, Machine, Open}
 use proofs.Imports.{Releases, Requests, Run, cap_named, is_client, moved, pool_of, accesses_answered, one_memory_after}
-use proofs.Imports.{performing, Step, handed_by, is_to_client, stepped, System, terms_at}
+use proofs.Imports.{performing, handed_by, is_to_client, stepped, System, terms_at}
 use Rattle.tl_coherence.{specs.statement.Headline.AreTyped, specs.statement.Log.IsLog}
 use Rattle.tl_coherence.specs.statement.Machine.{EndsOp, IsStep, Performs}
 use Rattle.tl_coherence.specs.statement.Step as step
@@ -24,8 +24,8 @@ use proofs.deliveries.{AskedAfter.continues-ask, DeliverDUnmoved.unmoved, Report
 use proofs.deliveries.{FirstRequest.once-delivered_a}
 use proofs.deliveries.Matching.{shadow, matched, stepped-nobody, not_moving}
 use proofs.memory.{Runs.AllContinue, Runs.run-continued, BesideRequests.IsOnce, BesideRequests.once-performs}
-use proofs.simulation.BeatsInFlight.{copy-long, IsOfClient, IsFitAnswer, fit-taken}
 use proofs.simulation.Moved.{client-moves, manager-moves}
+use proofs.simulation.BeatsInFlight.{copy-long, IsOfClient, IsFitAnswer, fit-taken}
 
 -- what is granted to a store of the whole block is Trunk
 whole_trunk : (recorded held : Perm) (d : Bool) (k : Cap) (g : Grow)
@@ -62,28 +62,28 @@ ends-transfer {w} {config} {log} {link} {h} {x} {source} {f} is end other = go e
     m = one_memory_after config log
 
     tokens : (k : Kind) → end.first.kind ≡ k → (h.state.link c).d ≡ packet k n ∷ end.first.rest
-    tokens k e = end.first.tokens ∙ ap (λ (i : Kind). packet i n ∷ end.first.rest) e
+    tokens k e = end.first.tokens ∙ ap (λ i. packet i n ∷ end.first.rest) e
 
     response_is : (k : Kind) → end.first.kind ≡ k → message_of_kind k h.mail h.state c n ≡ Message.D end.response
-    response_is k e = ap (λ (i : Kind). message_of_kind i h.mail h.state c n) (sym e) ∙ end.response_is
+    response_is k e = ap (λ i. message_of_kind i h.mail h.state c n) (sym e) ∙ end.response_is
 
     go : (k : Kind) → end.first.kind ≡ k → is_on Channel.D end.first.kind ≡ true
         → Ends (m.opened c (pool_of f) source) x f
     go Grant e own =
-        let due = grant-due (is_caching config) c n end.first.rest h.state is.invariant (tokens Grant e) in
+        let due = grant-due (is_caching config) c n _ _ is.invariant (tokens Grant e) in
         let sent : MessageD w = grant_message due.data_too due.k ((h.state.block n).source c) (h.state.block n).tracker
         (h.state.block n).truth in
         let same = same-response end.response sent (sym (response_is Grant e) ∙ grant-rendered c n h.state due) in
         let fin : f ≡ Finish.Granted (cap_right due.k) = cc (
           end.finish_is,
           granted-at (d_beat_of end.response end.first.next.k) (sys.clients c) due.data_too due.k
-              (ap (λ (i : MessageD w). i.opcode) same) (ap (λ (i : MessageD w). i.param) same),
+              (ap (λ i. i.opcode) same) (ap (λ i. i.param) same),
         ) in
-        let opened = opened-acquire config log h sys c source n (h.state.uses c source) is refl
-        (ap (h.state.uses c) (end.source_is ∙ ap (λ (i : MessageD w). i.source) same) ∙ due.used) in
+        let opened = opened-acquire _ log h sys c source n _ is refl
+        (ap (h.state.uses c) (end.source_is ∙ ap (λ i. i.source) same) ∙ due.used) in
         let named : cap_named x ≡ cap_right due.k = cc (end.beat_is, same, cap-gives due.k) in
         let fits = due.fits in
-        subst (λ (i : Finish). Ends (m.opened c (pool_of i) source) x i) (sym fin)
+        subst (λ i. Ends (m.opened c (pool_of i) source) x i) (sym fin)
         (rw opened (ends_granted n ((h.state.block n).waiting c) x due.k due.whole due.g
         ((h.state.block n).pair c).acquiring due.wants named (λ whole. whole_trunk
         ((h.state.block n).pair c).recorded ((h.state.block n).pair c).held due.data_too due.k due.g (cc))))
@@ -91,11 +91,11 @@ ends-transfer {w} {config} {log} {link} {h} {x} {source} {f} is end other = go e
         let sent : MessageD w = ack_message ((h.state.block n).release_source c) in
         let same : end.response ≡ sent = same-response end.response sent (sym (response_is ReleaseAck e)) in
         let fin : f ≡ Finish.Released = end.finish_is ∙ released-at (d_beat_of end.response end.first.next.k)
-        (sys.clients c) (ap (λ (i : MessageD w). i.opcode) same) in
+        (sys.clients c) (ap (λ i. i.opcode) same) in
         let from : source ≡ (h.state.block n).release_source c = cc (end.source_is, same) in
-        subst (λ (i : Finish). Ends (m.opened c (pool_of i) source) x i) (sym fin)
+        subst (λ i. Ends (m.opened c (pool_of i) source) x i) (sym fin)
         (let_open n (h.state.lets c source) (m.opened c Releases source) x (ap (h.state.lets c) from
-        ∙ ack-due c n end.first.rest is.invariant (tokens ReleaseAck e)) (is.beside.releases c source))
+        ∙ ack-due c n _ is.invariant (tokens ReleaseAck e)) (is.beside.releases c source))
     go Answer e own = absurd (other e)
     go k e own = absurd (let g : false ≡ true = rw e at own in cc)
 
@@ -128,7 +128,7 @@ IsAnswering l h before next = (l ≡ []) ⊎ ((q : ℕ) × (source : ℕ) × (l 
 performs-answering : {w : ℕ} (l : List (ℕ × ℕ)) (h : AbstractState w) (before next : Machine w)
     → IsAnswering l h before next → Performs l next (performing l next)
 performs-answering l h before next (inl none) = performs-none l next none
-performs-answering {w} l h before next (inr (q, source, one, opened, still)) =
+performs-answering l h before next (inr (q, source, one, opened, still)) =
     rw still (once-performs l h before (inr (q, source, one, opened)))
 
 still-none : {w : ℕ} (config : Config) (link : Link) (ch : Channel) (sys : System w)
@@ -177,7 +177,7 @@ answering-delivered {w} config log link ch h width is = go (is_moving (stepped c
         → sys.channels c at ≡ x ∷ queue → is_moving (stepped config (Deliver link at) sys).outcome ≡ true → Then at
     down at terms x queue theirs known beats moving =
         let t = client-moves config link at sys terms x queue known beats theirs moving in
-        inl (ap (λ (s : Step w). accesses_answered s.handed) t.step_is
+        inl (ap (λ s. accesses_answered s.handed) t.step_is
         ∙ fit-quiet config.blocks c t.verdict_is t.message (subst (IsFitAnswer config.blocks) t.answer
         (fit-taken config.blocks x (sys.clients c) (head at x queue beats).inside (copy-long is c))))
 
@@ -188,8 +188,8 @@ answering-delivered {w} config log link ch h width is = go (is_moving (stepped c
         → IsOnce (accesses_answered (reaction config link x sys.manager).handed) h m → Then at
     up at terms x queue theirs known beats moving once =
         let t = manager-moves config link at sys terms x queue known beats theirs moving in
-        let same = ap (λ (s : Step w). accesses_answered s.handed) t.step_is in
-        let still = ap (λ (s : Step w). moved (Deliver link at) s.outcome m) t.step_is in
+        let same = ap (λ s. accesses_answered s.handed) t.step_is in
+        let still = ap (λ s. moved (Deliver link at) s.outcome m) t.step_is in
         elim once [ inl none ↦ inl (same ∙ none) | inr one ↦ inr (one.0, one.1, same ∙ one.2, one.3, still) ]
 
     moves : (at : Channel) (terms : EndConfig) (beats : List (Beat w)) → terms_at config c ≡ Some terms
@@ -229,7 +229,7 @@ pub performs-delivered : {w : ℕ} {config : Config} {log : Log w} (link : Link)
     ∷ log))
 unfolding one_memory_after
 performs-delivered {config} {log} link ch h width is = performs-answering (accesses_answered
-    (stepped config (Deliver link ch) (system_after config log)).handed) h (one_memory_after config log)
+    (stepped config (Deliver link ch) (system_after config log)).handed) h _
     (moved (Deliver link ch) (stepped config (Deliver link ch) (system_after config log)).outcome
     (one_memory_after config log)) (answering-delivered config log link ch h width is)
 
@@ -280,7 +280,7 @@ continues-delivered : {w : ℕ} {config : Config} {log : Log w} (link : Link) (c
 continues-delivered {w} {config} {log} link ch h terms width is known =
     let fact = moved (Deliver link ch) (stepped config (Deliver link ch) (system_after config log)).outcome m in
     let other_fact = accesses_answered (stepped config (Deliver link ch) (system_after config log)).handed in
-    let third_fact = step_allowed config link ch (stepped config (Deliver link ch) (system_after config log)).outcome m
+    let third_fact = step_allowed config link ch _ m
     (stepped-so config link ch terms (system_after config log) known) (ap is_some known) done in
     (fact, other_fact, third_fact, performs-delivered link ch h width is)
   where
@@ -292,7 +292,7 @@ continues-delivered {w} {config} {log} link ch h terms width is known =
     done x source f e = (end.on_d, go end.first.kind refl)
       where
         end : IsEnding config log link ch h x source f
-        end = ending config log link ch h x source f width is e
+        end = ending _ log link ch h x source f width is e
 
         go : (k : Kind) → end.first.kind ≡ k → Ends (m.opened link.0 (pool_of f) source) x f
         go Answer g = ends-answer width is end g
@@ -307,14 +307,14 @@ continues_event {w} {config} {log} event h width is = go event (terms_at config 
         → Continues config (e, (stepped config e (system_after config log)).outcome) log
     go e None none = nobody-continues config log e none
     go (Deliver link ch) (Some terms) known = continues-delivered link ch h terms width is known
-    go (Ask c o) (Some terms) known = rw (ap (λ (x : Step w). x.outcome)
+    go (Ask c o) (Some terms) known = rw (ap (λ x. x.outcome)
         (stepped-asked config c o (system_after config log) terms known)) (continues-ask h c terms o width is known)
 
 -- Each event goes on from the machine before it.
 pub continues : {w : ℕ} (config : Config) (log : Log w) (x : Event w × Outcome w) → IsWidth w → AreTyped log
     → IsLog config (x ∷ log) → Continues config x log
 unfolding IsLog
-continues {w} config log x width typed logged = subst (λ (o : Outcome w). Continues config (x.0, o) log) (sym logged.0)
+continues config log x width typed logged = subst (λ o. Continues config (x.0, o) log) (sym logged.0)
     (continues_event x.0 (shadow config log) width (matched config log width typed logged.1))
 
 -- ---- runs

@@ -6,10 +6,9 @@ use Rattle.tl_coherence.proofs
 use proofs.Imports.{cases_eq, Config, Cap, Grow, Report, Perm, Profile, cap_right, IsInvariant, Grant, Kind, Packet}
 use proofs.Imports.{Probe, Request, set, set_at, AcquireOpen, AcquirePhase, ClientBlock, NoAcquire, Other, Own}
 use proofs.Imports.{cap_fits, after_grant_sent, after_probe, after_report, Acquires, Asked, Block, Free, GrantSent}
-use proofs.Imports.{GrantTaken, InService, Replied, Service, SourceFree, SourceState, State, Waits, freed_block}
-use proofs.Imports.{granted_at_once, granted_block, granted_pair, let_block, let_go_block, on, packet, probe_taken}
-use proofs.Imports.{reported_block, served_block, served_pair, view, is_sent, AbstractState, kind_taken}
-use proofs.Imports.{taken_by_client, IsGivenAsked, gives_asked, grown_to}
+use proofs.Imports.{GrantTaken, InService, Replied, Service, SourceFree, SourceState, State, Waits, granted_pair, on}
+use proofs.Imports.{packet, probe_taken, served_pair, view, is_sent, AbstractState, kind_taken, taken_by_client}
+use proofs.Imports.{IsGivenAsked, gives_asked, grown_to}
 use proofs.memory.Beside.{IsElsewhere}
 use proofs.protocol.{Capacities.source_of_acquire, HeadOfD.IsGrantDue, HeadOfD.grant-due, HeadOfD.true-taken}
 use proofs.protocol.QuiescentProtocol.{owns_ask, serves_another}
@@ -67,9 +66,9 @@ steady_granted : (d q : ℕ) (r : Report) (k : Cap) (pair : ℕ → ClientBlock)
     → IsSteady (pair j) (granted_pair d q r k pair j)
 steady_granted d q r k pair j =
     let told : ℕ → ClientBlock = set d (after_report r (pair d)) pair in
-    let first = steady_pair d (after_report r (pair d)) pair (refl, refl) q in
-    let second = steady_pair q (after_grant_sent k (pair q)) told (sym first.0, sym first.1) j in
-    let third = steady_pair d (after_report r (pair d)) pair (refl, refl) j in
+    let first = steady_pair d _ pair (refl, refl) q in
+    let second = steady_pair q _ told (sym first.0, sym first.1) j in
+    let third = steady_pair d _ pair (refl, refl) j in
     (second.0 ∙ third.0, second.1 ∙ third.1)
 
 -- ---- what a Grant brings
@@ -87,8 +86,7 @@ module _ (p : Profile) (c n source : ℕ) (a : AcquirePhase) where
       → IsSteady ((s.block n).pair c) ((s'.block n).pair c) → IsLone p c n source a s → IsLone p c n source a s'
   lone_steady {s} s' uses same is = record {
     others = λ d i else_. uses d i ∙ is.others d i else_;
-    brings = brings_steady p n a (s.uses c source) (s'.uses c source) ((s.block n).pair c) ((s'.block n).pair c)
-        (uses c source) same is.brings;
+    brings = brings_steady p n a _ _ _ _ (uses c source) same is.brings;
   }
 
   -- ---- which sources are in use
@@ -114,21 +112,21 @@ module _ (p : Profile) (c n source : ℕ) (a : AcquirePhase) where
       go Free e other = absurd cc
       go (GrantSent q d k) e other = granted-unseen (c == q) d k other
       go (GrantTaken q) e other = taken-unseen (c == q) other
-      go (Waits r false i k) e other = no_access r i (InService n) is (serving-use n r i k inv e) refl
+      go (Waits r false i k) e other = no_access r i _ is (serving-use n r i k inv e) refl
       go (Waits r true i k) e other =
           let never : (b : Bool) → b ≡ true → is_other (if b then Own else Other k) ≡ true → ⊥ =
           elim [ true ↦ λ e f. absurd cc | false ↦ λ e f. absurd cc ] in
           let own : view (s.block n).service r ≡ Own = rw (e, same_number r) refl in
-          let mine = own_acquire r ((s.block n).source r) n is (source_of_acquire r n inv
+          let mine = own_acquire r _ n is (source_of_acquire r n inv
           (owns_ask ((s.block n).pair r) (view (s.block n).service r) ((inv.blocks n).phases r) (rw own refl))) in
-          never (c == r) (ap (λ (j : ℕ). c == j) mine.0.0 ∙ same_number c) other
+          never (c == r) (ap (λ j. c == j) mine.0.0 ∙ same_number c) other
 
   -- ---- messages that are taken
 
   lone_probe : {caching : ℕ → Bool} (d m : ℕ) (k : Cap) (rest : List Packet) {s : State (List ℕ)}
       → IsInvariant caching s → is_sent ((s.block m).pair d).probing ≡ true → IsLone p c n source a s
       → IsLone p c n source a (probe_taken d m k rest s)
-  lone_probe {caching} d m k rest {s} inv sent is = lone_steady (probe_taken d m k rest s) (λ e i. refl)
+  lone_probe {caching} d m k rest {s} inv sent is = lone_steady _ (λ e i. refl)
       (steady_at m _ s.block n c (λ here. go here (cases_eq c d))) is
     where
       go : n ≡ m → (c ≡ d) ⊎ (c ≡ d → ⊥)
@@ -142,16 +140,16 @@ module _ (p : Profile) (c n source : ℕ) (a : AcquirePhase) where
   lone_grant {w} config tracker {d} {m} rest h given due is =
       let after : State (List ℕ) = (kind_taken config tracker d Grant m rest h).state in
       let uses_are : (e i : ℕ) → after.uses e i ≡ set_at d src SourceFree h.state.uses e i =
-      λ e i. ap (λ (v : Service). (taken_by_client d m v rest h).state.uses e i) due.service in
+      λ e i. ap (λ v. (taken_by_client d m v rest h).state.uses e i) due.service in
       let gives : gives_asked p (AcquireOpen due.whole due.g) due.k ≡ true =
-      cc (due.wants, subst (λ (v : Service). IsGivenAsked p v (h.state.block m).pair) due.service (given m)) in
+      cc (due.wants, subst (λ v. IsGivenAsked p v (h.state.block m).pair) due.service (given m)) in
       record {
         others = λ e i else_. uses_are e i ∙ each-set_at (λ j k (v : SourceState). IsElsewhere c source j k
             → v ≡ SourceFree) d src SourceFree h.state.uses (λ any. refl) is.others e i else_;
-        brings = brings_granted p n a (after.uses c source) ((after.block n).pair c) (cap_right due.k)
+        brings = brings_granted p n a _ _ _
             (uses_are c source ∙ ap₂ (set_at d src SourceFree h.state.uses) (sym mine.0.0) (sym mine.0.1)
             ∙ set_at-same d src SourceFree h.state.uses) (ap₂ (λ (i j : ℕ). ((after.block i).pair j).held) (sym mine.1)
-            (sym mine.0.0) ∙ held_granted config tracker rest h due) (subst (λ (x : AcquirePhase). grown p x
+            (sym mine.0.0) ∙ held_granted config tracker rest h due) (subst (λ x. grown p x
             (cap_right due.k) ≡ true) wants (grows p due.whole due.g due.k (fits_cap ((h.state.block m).pair d).recorded
             ((h.state.block m).pair d).held due.data_too due.k due.whole due.g due.fits) gives));
       }
@@ -170,32 +168,28 @@ module _ (p : Profile) (c n source : ℕ) (a : AcquirePhase) where
       (rest : List Packet) (h : AbstractState w)
       → IsInvariant caching h.state → AreGiven p h.state → on k (h.state.link d) ≡ packet k i ∷ rest
       → IsLone p c n source a h.state → IsLone p c n source a (kind_taken config tracker d k i rest h).state
-  lone-kind_taken {w} {caching} config tracker d k i rest h inv given first is =
-      true-taken config tracker d rest h (λ j m. on j (h.state.link d) ≡ packet j m ∷ rest)
-      (λ (x : AbstractState w). IsLone p c n source a x.state) k i (record {
+  lone-kind_taken {caching} config tracker d k i rest h inv given first is = true-taken config tracker d rest h
+      (λ j m. on j (h.state.link d) ≡ packet j m ∷ rest) (λ x. IsLone p c n source a x.state) k i (record {
         nothing = λ j m known idle. is;
         access_answered = λ src m o known from caps none. absurd (never src known);
         access_served = λ src m j known from caps some. absurd (never src known);
-        acquire_granted = λ m whole g known wants none. steady m (granted_at_once d tracker _ _ (block m)) _
-            (λ e j. refl) (λ j. refl) (steady_pair d (after_grant_sent _ ((block m).pair d)) (block m).pair (refl, refl)
-            c);
-        acquire_served = λ m whole g known wants some. steady m (served_block d true _ tracker _ (block m)) _
+        acquire_granted = λ m whole g known wants none. steady m _ _ (λ e j. refl) (λ j. refl)
+            (steady_pair d (after_grant_sent _ ((block m).pair d)) (block m).pair (refl, refl) c);
+        acquire_served = λ m whole g known wants some. steady m _ _
             (λ e j. refl) (λ j. refl) (steady_served d true _ (block m).pair c);
         probe = λ m known. lone_probe d m _ rest inv (first-shown inv d Probe refl known) is;
-        report = λ m known more. steady m (reported_block d _ (block m)) _ (λ e j. refl) (λ j. refl)
+        report = λ m known more. steady m _ _ (λ e j. refl) (λ j. refl)
             (steady_pair d (after_report _ ((block m).pair d)) (block m).pair (refl, refl) c);
         report_answers = λ m q src j known last waits.
             absurd (no_access q src (InService m) is (serving-use m q src j inv waits) refl);
-        report_grants = λ m q src j whole g known last waits wants. steady m (granted_block d q _ _ _ (block m)) _
+        report_grants = λ m q src j whole g known last waits wants. steady m _ _
             (λ e f. refl) (λ f. refl) (steady_granted d q _ _ (block m).pair c);
-        release = λ m known. steady m (let_block d _ (block m)) _ (λ e j. refl) (λ j. refl)
-            (steady_pair d _ (block m).pair (refl, refl) c);
+        release = λ m known. steady m _ _ (λ e j. refl) (λ j. refl) (steady_pair d _ (block m).pair (refl, refl) c);
         answer = λ src known. absurd (no_access d src Replied is (first-answer inv known) refl);
         grant = λ m q x j known sent. rw sent at
             (lone_grant config tracker rest h given (grant-due caching d m rest h.state inv known) is);
-        release_ack = λ m known. steady m (let_go_block d (block m)) _ (λ e j. refl) (λ j. refl)
-            (steady_pair d _ (block m).pair (refl, refl) c);
-        grant_ack = λ m known. steady m (freed_block (block m)) _ (λ e j. refl) (λ j. refl) (refl, refl);
+        release_ack = λ m known. steady m _ _ (λ e j. refl) (λ j. refl) (steady_pair d _ (block m).pair (refl, refl) c);
+        grant_ack = λ m known. steady m _ _ (λ e j. refl) (λ j. refl) (refl, refl);
       }) first
     where
       block : ℕ → Block (List ℕ)

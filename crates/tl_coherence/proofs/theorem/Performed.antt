@@ -4,15 +4,14 @@ use Rattle.tl_coherence.proofs
 use proofs.Imports.{BeatA, Link, Channel, Message, MessageA, a_beat_of, Config, on_link, AccessResult, effect, block_at}
 use proofs.Imports.{request_of, is_free, needs, Op, Event, Deliver, Outcome, State, SourceState, Replied, AbstractState}
 use proofs.Imports.{IsAccess, IsOpened, AccessMessages, SimulationRelation, MonitorRelations, trace_of, IsGiven, Log}
-use proofs.Imports.{system_after, Machine, Open, Requests, moved, with_memory, accesses_answered, one_memory_after}
-use proofs.Imports.{stepped}
+use proofs.Imports.{system_after, Open, Requests, moved, with_memory, accesses_answered, one_memory_after, stepped}
 use Rattle.tl_coherence.{specs.statement.Log.IsLog, specs.statement.PerformedFree.PerformedFree}
-use proofs.bound.{Settling.given-before}
-use proofs.deliveries.{Matching.shadow}
+use proofs.bound.Settling.{given-before}
+use proofs.deliveries.Matching.{shadow}
 use proofs.flow.{FlowTraces.trace-flows, Flows.flowed, Renewed.IsSettledFor}
 use proofs.flow.Windowed.{asked_flow, free-now, renewed-followed, same_first}
-use proofs.links.{FromInvariant.matched-given}
-use proofs.theorem.{Continuing.answering-delivered}
+use proofs.links.FromInvariant.{matched-given}
+use proofs.theorem.Continuing.{answering-delivered}
 use proofs.memory.Beside.{done_at, open-here, performing-one}
 
 -- the answer of what is open
@@ -55,10 +54,10 @@ module _ {w : ℕ} {config : Config} (log : Log w) (link : Link) (ch : Channel) 
   accesses = accesses_answered (stepped config event (system_after config log)).handed
 
   is : SimulationRelation config log h.mail h.request h.state (system_after config log)
-  is = matched-given config log (given-before config (event, o) log given)
+  is = matched-given _ log (given-before config (event, o) log given)
 
   is' : SimulationRelation config after h'.mail h'.request h'.state (system_after config after)
-  is' = matched-given config after given
+  is' = matched-given _ after given
 
   values : MonitorRelations after h'.mail h'.state (system_after config after)
   values = flowed config after given.width given.typed given.is_log
@@ -82,16 +81,14 @@ module _ {w : ℕ} {config : Config} (log : Log w) (link : Link) (ch : Channel) 
   unfolding shadow system_after
   free-after q source one access still x asks n =
       let answer : AccessResult = (effect (Message.A access.0) (one_memory_after config log).memory).1 in
-      let opened = ap (λ (m : Machine w). m.opened q Requests source)
-      (machine_after q source one access still) ∙ open-here q Requests source
-      (Some (record { asked = Op.Access (Message.A access.0); answer = Some answer })) (with_memory
+      let opened = ap (λ m. m.opened q Requests source) (machine_after q source one access still) ∙ open-here q
+      Requests source (Some (record { asked = Op.Access (Message.A access.0); answer = Some answer })) (with_memory
       (effect (Message.A access.0) (one_memory_after config log).memory).0 (one_memory_after config log)) in
-      let used : h'.state.uses q source ≡ Replied = replied q source h'.mail h'.state (h'.state.uses q source)
-      ((one_memory_after config after).opened q Requests source) (Message.A access.0) answer
+      let used : h'.state.uses q source ≡ Replied = replied q source h'.mail h'.state _ _ _ answer
       (is'.beside.requests q source) opened in
       let free : (m : MessageA w) → h'.mail.request q source ≡ Message.A m → IsSettledFor m h'.state
       → is_free n None (needs x.opcode) (block_at x.address) (trace_of after) ≡ true = λ m request settled. subst
-      (λ (z : BeatA w). is_free n None (needs z.opcode) (block_at z.address) (trace_of after) ≡ true)
+      (λ z. is_free n None (needs z.opcode) (block_at z.address) (trace_of after) ≡ true)
       (same_first x (a_beat_of m 0) (sym asks ∙ ap (request_of source) (trace-flows q after)
       ∙ asked_flow config after h' (system_after config after) is' values q source m used request))
       (free-now config after h' (system_after config after) is' values q source m used request settled n) in
@@ -113,7 +110,7 @@ performed_free {w} config log link ch o given c source rest x answers asks =
     λ q s one access still same. (
       same.1,
       λ n. free-after log link ch o given q s one access still x
-          (ap (λ (a : ℕ × ℕ). request_of a.1 (on_link a.0 (trace_of ((Deliver link ch, o) ∷ log)))) same.0 ∙ asks) n,
+          (ap (λ a. request_of a.1 (on_link a.0 (trace_of ((Deliver link ch, o) ∷ log)))) same.0 ∙ asks) n,
     ) in
     elim (answering-delivered config log link ch (shadow config log) given.width (is log link ch o given)) [
       | inl none ↦ absurd (cc)

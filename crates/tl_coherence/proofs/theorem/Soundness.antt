@@ -18,9 +18,9 @@ headline = λ config log given.
     record {
       run = run config log given.width given.typed given.is_log;
       continues = λ x typed logged. continues config log x given.width given.typed logged;
-      coherent = coherent config log given;
+      coherent = coherent _ log given;
       unrefused = unrefused given;
-      moving = moving config log given;
+      moving = moving _ log given;
       balanced = record {
         requests = let same = are.requests_are in omega (arith, same);
         releases = let same = are.releases_are in omega (arith, same);

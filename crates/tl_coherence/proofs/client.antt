@@ -1,15 +1,10 @@
-pub mod AnswersKept
 pub mod AsideAll
 pub mod ClientAsked
 pub mod ClientDeliverD
 pub mod ClientDelivered
 pub mod ClientEnd
-pub mod ClientSent
 pub mod ClientStep
-pub mod ClientTaken
 pub mod DeliverD
-pub mod GrantMatchesAcquire
 pub mod KnownProbed
 pub mod ProbeDelivered
-pub mod ResponseOrder
 pub mod Waiting

@@ -5,8 +5,6 @@ pub mod CarriedRequests
 pub mod DeliverDUnmoved
 pub mod FirstRequest
 pub mod ManagerDelivered
-pub mod ManagerFollowed
-pub mod ManagerKept
 pub mod ManagersAfter
 pub mod Matching
 pub mod ReportsAfter

@@ -1,5 +1,4 @@
 pub mod AccessRows
-pub mod Alone
 pub mod Checks
 pub mod FollowChecks
 pub mod Holding

@@ -7,15 +7,12 @@ pub mod FlowAnswered
 pub mod FlowApart
 pub mod FlowAsked
 pub mod FlowBeats
-pub mod FlowComing
 pub mod FlowGranted
 pub mod FlowKinds
 pub mod FlowLawful
 pub mod FlowOthers
 pub mod FlowOwn
-pub mod FlowProbe
 pub mod FlowReleased
-pub mod FlowReported
 pub mod FlowResponses
 pub mod FlowStep
 pub mod FlowTaken

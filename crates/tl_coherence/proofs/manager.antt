@@ -1,15 +1,12 @@
 pub mod Accounts
 pub mod Admitted
 pub mod BlockAccounts
-pub mod Choices
 pub mod ManagedGrants
 pub mod ManagerSettles
 pub mod ManagerTakes
 pub mod Memories
 pub mod Performing
 pub mod Probing
-pub mod QuiescentManager
 pub mod Reporting
-pub mod RequestsHanded
 pub mod RequestsTaken
 pub mod Unseen

@@ -3,7 +3,4 @@ pub mod BesideAsked
 pub mod BesideKinds
 pub mod BesideRequests
 pub mod BesideTaken
-pub mod Bytes
-pub mod Coherence
 pub mod OneMemory
-pub mod Runs

@@ -6,12 +6,7 @@ pub mod FollowKept
 pub mod Granted
 pub mod GrantedAll
 pub mod HeadOfD
-pub mod Heads
-pub mod OpenCounts
-pub mod QuiescentBlock
-pub mod QuiescentProtocol
 pub mod Reported
 pub mod RequestsKept
 pub mod Room
 pub mod Served
-pub mod Taken

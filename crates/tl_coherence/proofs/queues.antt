@@ -2,17 +2,13 @@ pub mod Beats
 pub mod Carried
 pub mod Channels
 pub mod Codes
-pub mod Distinct
-pub mod Ends
 pub mod Facts
 pub mod FirstToken
 pub mod Limits
 pub mod Moves
 pub mod Passes
-pub mod PhaseFacts
 pub mod PhaseSteps
 pub mod Phases
 pub mod QuiescentQueues
-pub mod Showing
 pub mod Steps
 pub mod Tokens

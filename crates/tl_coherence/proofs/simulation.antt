@@ -1,12 +1,7 @@
 pub mod BeatsInFlight
 pub mod Bounded
 pub mod CarriedEvents
-pub mod CarriedProbes
-pub mod CarriedResponses
-pub mod FollowCases
 pub mod Fresh
-pub mod InvariantAtClients
 pub mod Moved
 pub mod Owned
 pub mod SizedAfter
-pub mod SourcedAfter

@@ -1,7 +1,6 @@
 pub mod AccessEnds
 pub mod Continuing
 pub mod LoneAcquireEnds
-pub mod LoneAcquireSteps
 pub mod Performed
 pub mod Soundness
 pub mod Whole

@@ -1,7 +1,7 @@
 -- What is owed falls as a beat is taken that isn't the last of its message.
 -- What is owed in a world: its bound, and how it falls with a beat that isn't the last of its message.
 use Rattle.std.proofs.Common.{◌≡◌, ℕ, ◌+◌, ◌*◌, ◌<◌, ◌≤◌, Bool, true, false, ◌==◌, if◌then◌else◌, List, ◌∷◌, Option}
-use Rattle.std.proofs.Common.{refl, sym, ◌∙◌, arith, ◌⊎◌, ◌/◌, length}
+use Rattle.std.proofs.Common.{refl, sym, ◌∙◌, arith, ◌⊎◌, length, ◌/◌}
 use Rattle.tl_coherence.proofs
 use proofs.Imports.{cases_eq, Beat, Channel, IsWidth, MessageA, beats_of, completes, Config, Left, acquire_weight}
 use proofs.Imports.{let_weight, letting_weight, open_releases, open_requests, pair_weight, probes_weight}
@@ -10,18 +10,18 @@ use proofs.Imports.{Release, Request, ClientBlock, Granting, Own, ReleasePhase, 
 use proofs.Imports.{InService, Replied, SourceFree, State, Waits, packet, packets_on, view, is_granting, is_releasing}
 use proofs.Imports.{is_unserved, is_wanting, shown, channel_for, AccessMessages, message_of_kind, SimulationRelation}
 use proofs.Imports.{is_caching, Log, system_after, System}
-use proofs.queues.{FirstToken.first-token, FirstToken.IsFirst, Tokens.same_number, Distinct.first-there}
-use proofs.queues.{Phases.and_right, Channels.same_kind_again, Moves.kind_channel}
+use proofs.queues.{Tokens.same_number, Phases.and_right, Channels.same_kind_again, Moves.kind_channel}
+use proofs.queues.FirstToken.{first-token, IsFirst, first-there}
 use proofs.protocol.{Room.is_light, Room.light-one, BothParts.not-answered}
 use proofs.protocol.BeatsRemaining.{beats_left, taken_of, is_front, same_channels}
 use proofs.protocol.Capacities.{shown_there, shows_it, request_named, answer_named, acquire_named, grant_named}
 use proofs.protocol.Capacities.{release_named}
 use proofs.simulation.Owned.{unfinished_at, are-clients, first-left}
-use proofs.rank.{Weights.IsLeft, Weights.potential-few, Frames.unserved-weight, Frames.AreClients}
-use proofs.rank.BeatsRemainingSums.{answer_to, is-left, wide-block}
 use proofs.rank.RankParts.{IsAsking, asking, IsWaited, waited-probing, open_use}
 use proofs.rank.RankDecreases.{IsNoMore, owed_use, owed_use', use-falls, let-falls, use-no-more, probes-no-more}
 use proofs.rank.RankDecreases.{acquire-no-more, total-falls}
+use proofs.rank.Weights.{IsLeft, potential-few}
+use proofs.rank.Frames.{unserved-weight, AreClients, answer_to, is-left, wide-block}
 
 -- The receiver of channel ch of client c's link has one beat more, and the others have what they had.
 pub record IsBegun {w : ℕ} (c : ℕ) (ch : Channel) (x : Beat w) (rest rest' : ℕ → Channel → List (Beat w)) : Type 0 where

@@ -2,7 +2,7 @@
 -- What the receiver of each channel has of the message that comes first there, after a delivery that moves a beat.
 -- What is owed in a world falls at every delivery that moves a beat, and rises at none.
 use Rattle.std.proofs.Common.{◌≡◌, ℕ, ◌+◌, ◌<◌, ◌≤◌, Bool, true, false, ◌&&◌, ◌==◌, if◌then◌else◌, List, ◌∷◌, Some}
-use Rattle.std.proofs.Common.{refl, sym, ◌∙◌, ap, subst, arith, ◌/◌, length}
+use Rattle.std.proofs.Common.{refl, sym, ◌∙◌, ap, subst, arith, length, ◌/◌}
 use Rattle.tl_coherence.proofs
 use proofs.Imports.{Beat, Link, Channel, IsWidth, MessageA, grown, completes, Config, Cap, Report, EndConfig, reaction}
 use proofs.Imports.{Deliver, IsInvariant, IsWell, Grant, Kind, Packet, ProbeAck, is_whole, Block, Waits, ended_block}
@@ -17,14 +17,14 @@ use proofs.bound.RankAfter.{IsKeptAfter, access_answered-owed, access_served-owe
 use proofs.bound.RankAfter.{acquire_served-owed, probe_taken-owed, report_taken-owed, report_answers-owed}
 use proofs.bound.RankAfter.{report_grants-owed, release_taken-owed, answer_taken-owed, grant_taken-owed}
 use proofs.bound.RankAfter.{release_ack_taken-owed, grant_ack_taken-owed, kept-matched}
-use proofs.rank.{RankParts.serving-use, RankDecreases.stays, BeatsRemainingSums.answer_to}
-use proofs.simulation.{Moved.client-moves, Moved.client-heard, FollowCases.IsDelivery}
+use proofs.rank.{RankParts.serving-use, RankDecreases.stays, Frames.answer_to}
+use proofs.simulation.Moved.{client-moves, client-heard, IsDelivery}
 use proofs.simulation.Owned.{IsReceived, unfinished_at, elsewhere}
 use proofs.deliveries.{CarriedRequests.unread-bytes, ManagerDelivered.seen_apart, ManagersAfter.at-manager}
 use proofs.deliveries.DeliverDUnmoved.{bare, followed-moving, followed-still, unmoved}
 use proofs.deliveries.CarriedReports.{answer_on_d, ended-bytes}
 use proofs.deliveries.Matching.{ready-delivered, matched-event}
-use proofs.manager.{Choices.plain-past, RequestsTaken.next_tracker}
+use proofs.manager.{Accounts.plain-past, RequestsTaken.next_tracker}
 use proofs.queues.{Facts.answered_other, Tokens.set-same, Tokens.same_number, FirstToken.first-token}
 use proofs.queues.{QuiescentQueues.client_below, Moves.on_same, Moves.kind_channel}
 use proofs.queues.Steps.{same_channel-refl, IsOn, landed-client, rests-manager, rests-ended, on_own_channel}

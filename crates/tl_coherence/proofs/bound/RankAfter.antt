@@ -1,7 +1,7 @@
 -- What an event at which the last beat of a message is taken finds, and what it leaves as it was.
 -- What is owed in a world falls as the last beat of a message is taken.
 use Rattle.std.proofs.Common.{◌≡◌, ℕ, ◌+◌, ◌<◌, ◌≤◌, Bool, true, false, List, [], ◌∷◌, Option, None, refl, ap, arith}
-use Rattle.std.proofs.Common.{◌⊎◌, inl, inr, ◌/◌, length, length-append, map}
+use Rattle.std.proofs.Common.{◌⊎◌, inl, inr, length, ◌/◌, length-append, map}
 use Rattle.tl_coherence.proofs
 use proofs.Imports.{cases_eq, Channel, IsWidth, length-begun, Message, MessageA, Config, Cap, Prune, Report}
 use proofs.Imports.{IsInvariant, is_replied, Acquire, Answer, Grant, GrantAck, Kind, Packet, Probe, ProbeAck, Release}
@@ -21,22 +21,21 @@ use proofs.protocol.{BeatsRemaining.beats_left, BeatsRemaining.taken_of, BeatsRe
 use proofs.protocol.Capacities.{shown_there, shows_it, acquire_named, answer_named, grant_named, release_ack_named}
 use proofs.protocol.Capacities.{release_named, request_named}
 use proofs.outstanding.OpenKinds.{set_e, ended_e, granted_e, served_e}
-use proofs.queues.{Distinct.first-there, Channels.same_kind_again, Channels.IsShown, Tokens.same_number}
-use proofs.queues.{Tokens.set-other, Tokens.set-same, Tokens.set_at-same, Moves.kind_channel, Showing.carries}
-use proofs.simulation.CarriedProbes.{access_served-shown, acquire_served-shown}
+use proofs.queues.{FirstToken.first-there, FirstToken.carries, Channels.same_kind_again, Channels.IsShown}
+use proofs.queues.{Tokens.same_number, Tokens.set-other, Tokens.set-same, Tokens.set_at-same, Moves.kind_channel}
 use proofs.simulation.CarriedEvents.{report_answers-shown, report_grants-shown, probe_taken-shown, report_taken-shown}
 use proofs.simulation.CarriedEvents.{access_answered-shown, acquire_granted-shown, release_taken-shown}
-use proofs.simulation.CarriedResponses.{answer_taken-shown, release_ack_taken-shown, grant_taken-shown}
-use proofs.simulation.CarriedResponses.{grant_ack_taken-shown}
 use proofs.simulation.Owned.{unfinished_at, are-clients, IsReceived, popped-received}
-use proofs.rank.{Frames.Taking, Weights.IsLeft, RankParts.IsAsking, RankParts.asking, RankParts.serving-use}
-use proofs.rank.BeatsRemainingSums.{answer_to, is-left, answer-left, wide-block}
-use proofs.bound.ReportDecreases.{report-falls, answering-falls, granting-falls, probe-falls}
-use proofs.bound.RequestDecreases.{answered-falls, acquire-granted-falls, acquire-served-falls, granted-letting}
-use proofs.bound.RequestDecreases.{served-letting, serving-falls}
+use proofs.simulation.Bounded.{access_served-shown, acquire_served-shown, answer_taken-shown, release_ack_taken-shown}
+use proofs.simulation.Bounded.{grant_taken-shown, grant_ack_taken-shown}
+use proofs.rank.{Weights.IsLeft, RankParts.IsAsking, RankParts.asking, RankParts.serving-use}
+use proofs.rank.Frames.{Taking, answer_to, is-left, answer-left, wide-block}
 use proofs.bound.ResponseDecreases.{answer-falls, grant-taken-falls, release-taken-falls, release-ack-falls}
 use proofs.bound.ResponseDecreases.{grant-ack-falls}
 use proofs.bound.Beginnings.{owed, narrow-block}
+use proofs.bound.ReportDecreases.{report-falls, answering-falls, granting-falls, probe-falls}
+use proofs.bound.RequestDecreases.{answered-falls, acquire-granted-falls, acquire-served-falls, granted-letting}
+use proofs.bound.RequestDecreases.{served-letting, serving-falls}
 use proofs.deliveries.ManagersAfter.{ack_channel}
 
 -- ---- the token that is taken

@@ -9,7 +9,7 @@ use proofs.Imports.{performed_block, served_block, served_pair, view, is_unserve
 use proofs.rank.{RankParts.request-falls, Weights.IsLeft, Weights.probes-few, Weights.probes-fewer}
 use proofs.rank.Frames.{Taking, Falls, AreAsBefore, AreNoMore, AreElsewhere, IsBlockNoMore, acquire-stays, let-stays}
 use proofs.rank.Frames.{pair-stays, unserved-stays, wants-used}
-use proofs.protocol.{BeatsRemaining.beats_left, QuiescentProtocol.serves_another}
+use proofs.protocol.{BeatsRemaining.beats_left, GrantedAll.serves_another}
 use proofs.queues.Tokens.{total-le, same_number, set-part}
 use proofs.bound.ReportDecreases.{is_for_access, nobody-serving}
 

@@ -9,7 +9,7 @@ use proofs.Imports.{is_delivery, is_moving, IsGiven, load, Log, system_after, wi
 use Rattle.tl_coherence.{specs.statement.Draining.beats_moved, specs.statement.Headline.AreTyped}
 use Rattle.tl_coherence.{specs.statement.Log.IsLog, specs.statement.Movable.drained}
 use proofs.outstanding.{Counted.load-open, Movement.none-outstanding, Progress.counted, Progress.moving}
-use proofs.links.{FromInvariant.matched-given, FromInvariant.stalls, Stalling.movable-moves}
+use proofs.links.{FromInvariant.matched-given, FromInvariant.stalls, Granting.movable-moves}
 use proofs.deliveries.Matching.{shadow}
 use proofs.bound.{Beginnings.owed, Beginnings.owed-few, DeliveriesDecrease.moving-owed, DeliveriesDecrease.still-owed}
 use proofs.queues.QuiescentQueues.{next-movable}

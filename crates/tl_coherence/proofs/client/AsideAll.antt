@@ -147,24 +147,24 @@ leaves-at_manager {w} config tracker c k i rest h d for inv first = true-taken c
       access_answered = λ source m o known from caps none. aside-block _ refl (pair-aside refl refl refl refl refl refl)
           (λ e. refl) (uses-moved c source Replied h.state.uses (asked source known.1) refl d) (λ e. refl);
       access_served = λ source m j known from caps some. aside-block _ refl
-          (served-aside c source tracker false j (block (block_at m.address))) (λ e. refl)
+          (served-aside c source tracker false j (h.state.block (block_at m.address))) (λ e. refl)
           (uses-moved c source (InService (block_at m.address)) h.state.uses (asked source known.1) refl d) (λ e. refl);
       acquire_granted = λ n whole g known wants none. aside-block n refl (entry-aside c (after_grant_sent _
-          ((block n).pair c)) refl refl refl refl refl refl refl) (λ e. refl) (λ e. inl refl) (λ e. refl);
-      acquire_served = λ n whole g known wants some. aside-block n refl (served-aside c ((block n).source c) tracker
-          true (cap_asked (AcquireOpen whole g)) (block n)) (λ e. refl) (λ e. inl refl) (λ e. refl);
+          ((h.state.block n).pair c)) refl refl refl refl refl refl refl) (λ e. refl) (λ e. inl refl) (λ e. refl);
+      acquire_served = λ n whole g known wants some. aside-block n refl (served-aside c ((h.state.block n).source c)
+          tracker true (cap_asked (AcquireOpen whole g)) (h.state.block n)) (λ e. refl) (λ e. inl refl) (λ e. refl);
       probe = λ n known. absurd cc;
       report = λ n known more. aside-block n refl (entry-aside c (after_report _
-          ((block n).pair c)) refl refl refl refl refl refl refl) (λ e. refl) (λ e. inl refl) (λ e. refl);
+          ((h.state.block n).pair c)) refl refl refl refl refl refl refl) (λ e. refl) (λ e. inl refl) (λ e. refl);
       report_answers = λ n q source j known last waits. aside-block n refl
-          (entry-aside c (after_report _ ((block n).pair c)) refl refl refl refl refl refl refl) (λ e. refl)
+          (entry-aside c (after_report _ ((h.state.block n).pair c)) refl refl refl refl refl refl refl) (λ e. refl)
           (uses-moved q source Replied h.state.uses (served n q source j waits) refl d) (λ e. refl);
       report_grants = λ n q source j whole g known last waits wants. aside-block n refl
-          (granted-aside c q _ _ _ (block n)) (λ e. refl) (λ e. inl refl) (λ e. refl);
+          (granted-aside c q _ _ _ (h.state.block n)) (λ e. refl) (λ e. inl refl) (λ e. refl);
       release = λ n known.
           let releasing = releasing-open _ (first-shown inv c Release refl known.1) in
-          aside-block n refl (entry-aside c (after_release_taken _ ((block n).pair c)) refl refl refl (sym releasing)
-          refl refl refl) (λ e. refl) (λ e. inl refl) (λ e. refl);
+          aside-block n refl (entry-aside c (after_release_taken _ ((h.state.block n).pair c)) refl refl refl
+          (sym releasing) refl refl refl) (λ e. refl) (λ e. inl refl) (λ e. refl);
       answer = λ source known. absurd cc;
       grant = λ n q x j known sent. absurd cc;
       release_ack = λ n known. absurd cc;
@@ -172,13 +172,10 @@ leaves-at_manager {w} config tracker c k i rest h d for inv first = true-taken c
           (λ e. refl);
     }) (for, first)
   where
-    block : ℕ → Block (List ℕ)
-    block = h.state.block
-
     asked : (source : ℕ) → (h.state.link c).a ≡ packet Request source ∷ rest → is_access (h.state.uses c source) ≡ true
     asked source known = asked_access _ (ap is_asked (first-request inv known))
 
-    served : (n q source : ℕ) (j : Cap) → (block n).service ≡ Waits q false source j
+    served : (n q source : ℕ) (j : Cap) → (h.state.block n).service ≡ Waits q false source j
         → is_access (h.state.uses q source) ≡ true
     served n q source j e = served_access n (h.state.uses q source)
         (cc (inv.named.serves q source n, and_from (q == q) (source == source) (same_number q) (same_number source)))

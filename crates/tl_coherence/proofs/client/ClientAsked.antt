@@ -18,10 +18,10 @@ use Rattle.tl_client.proofs.pending.KeptAsked.{no_acquire, falls_to}
 use Rattle.tl_client.specs.statement.Ask.{load, is_access_of}
 use Rattle.tl_client.specs.statement.Endpoint.{with_copy, with_waiting, kept_for}
 use Rattle.tl_client.specs.statement.Ask as ask
+use proofs.client.ClientDeliverD.{IsRequested, knows-requested, IsReleased, knows-released}
+use proofs.client.AsideAll.{set_at-else}
 use proofs.client.ClientEnd.{is_access, IsWellKept, IsEnd, asks-same, asks-access, asks-acquire, column, IsSame}
 use proofs.client.ClientEnd.{knows-same}
-use proofs.client.ClientSent.{IsRequested, knows-requested, IsReleased, knows-released}
-use proofs.client.AsideAll.{set_at-else}
 use proofs.queues.{Codes.acquires-so, Phases.held-some}
 use proofs.queues.Tokens.{same_number, set-same, set-other, set-part, set_at-same}
 
@@ -212,14 +212,11 @@ end-release_asked {w} {c} n source r copy mail {s} {e} width begins kept end =
     s' : State (List ℕ)
     s' = release_asked c n source r s
 
-    asked' : ℕ → Option (BeatA w)
-    asked' = asked_by mail s' c
-
     pair_is : new.pair c ≡ after_release r ((s.block n).pair c)
     pair_is = set-same c (after_release r ((s.block n).pair c)) (s.block n).pair
 
-    event_of : (m : MessageC w) → IsRelease source n m → IsReleased c n m (prune_right r) (asked_by mail s c) asked' s
-        s'
+    event_of : (m : MessageC w) → IsRelease source n m → IsReleased c n m (prune_right r) (asked_by mail s c)
+        (asked_by mail s' c) s s'
     event_of m is = record {
       releases = is.releases;
       of_block = is.of_block;

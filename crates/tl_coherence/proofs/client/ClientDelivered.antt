@@ -16,10 +16,10 @@ use proofs.Imports.{taken_by_client, AccessMessages, acquire_of, message_of, mes
 use proofs.Imports.{IsAnswered, IsGivenAsked, IsSourced, SimulationRelation, asked_by, asked_for, block_used, first_of}
 use proofs.Imports.{gives_asked, is_caching, request_source, Log, System, terms_at}
 use Rattle.tl_client.specs.statement.Ask as ask
-use proofs.client.ClientTaken.{end-part, end-answer_taken, end-release_ack_taken, end-grant_taken}
 use proofs.client.ClientEnd.{IsEnd, end-matched, terms-are, IsWellKept, answer-first, fitting, grant-first, ack-first}
 use proofs.client.ClientEnd.{taken-d}
 use proofs.client.ClientAsked.{IsEndOf}
+use proofs.client.DeliverD.{end-part, end-answer_taken, end-release_ack_taken, end-grant_taken}
 use proofs.protocol.{FollowKept.IsAskable, BothParts.calm-is, BothParts.kept-letting}
 use proofs.protocol.HeadOfD.{answer-due, IsGrantDue, grant-due, grant_message, grant-rendered, ack-due, ack_message}
 use proofs.queues.{Carried.IsNext, FirstToken.IsFirst, FirstToken.first-token, Codes.access_kind}

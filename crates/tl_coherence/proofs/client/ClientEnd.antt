@@ -20,7 +20,7 @@ use Rattle.tl_client.{specs.laws.Accounted.IsAccounted, specs.statement.Endpoint
 use Rattle.tl_client.specs.laws.Accounted as accounted
 use Rattle.tl_client.specs.statement.EndpointInvariant as client
 use proofs.queues.{Carried.IsNext, Passes.client-takes, Phases.and_left, Phases.and_right, Codes.access_kind}
-use proofs.client.ResponseOrder.{answer-legal, grant-legal, ack-legal}
+use proofs.client.Waiting.{answer-legal, grant-legal, ack-legal}
 use proofs.protocol.HeadOfD.{IsAnswerDue, IsGrantDue, grant_message}
 
 -- ---- one client's end

@@ -1,21 +1,27 @@
 -- An operation that a client is asked for: the channels and the one memory afterwards.
+-- What is kept of the manager's end is kept by every event, where the invariant is.
 use Rattle.std.proofs.Common.{◌≡◌, ℕ, Bool, true, false, ◌||◌, List, [], ◌∷◌, Option, Some, None, refl, sym, ap, subst}
 use Rattle.std.proofs.Common.{arith, inl, inr}
 use Rattle.tl_coherence.proofs
-use proofs.Imports.{cases_eq, or_right, OpA, IsWidth, Message, MessageA, Config, Grow, Prune, Perm, same_perm, block_at}
-use proofs.Imports.{unfinished-asked, Op, Reply, whole_grow, access, acquisition, release, Ask, Outcome, IsInvariant}
-use proofs.Imports.{Acquire, Release, Block, State, acquiring_block, releasing_block, view, AbstractState}
-use proofs.Imports.{acquire_opcode, asked, ChannelRelation, MemoryRelation, AccessMessages, block_message}
-use proofs.Imports.{SimulationRelation, is_caching, Continues, Log, system_after, after_reply, accesses_answered}
-use proofs.Imports.{one_memory_after, performing, handed_by, stepped, System, terms_at, with_client, with_messages}
+use proofs.Imports.{cases_eq, or_right, ⊤, Beat, Channel, OpA, IsWidth, Message, MessageA, Config, Grow, Prune, Perm}
+use proofs.Imports.{same_perm, block_at, unfinished-asked, Op, Reply, whole_grow, EndConfig, access, acquisition}
+use proofs.Imports.{release, Event, Ask, Deliver, Outcome, IsInvariant, Acquire, Release, Block, State, acquiring_block}
+use proofs.Imports.{releasing_block, view, AbstractState, abstract_step, acquire_opcode, asked, ChannelRelation}
+use proofs.Imports.{MemoryRelation, AccessMessages, block_message, SimulationRelation, is_caching, Continues, Log}
+use proofs.Imports.{system_after, after_reply, accesses_answered, one_memory_after, performing, client_of, handed_by}
+use proofs.Imports.{stepped, System, terms_at, with_client, with_messages}
 use Rattle.tl_coherence.specs.statement.Machine.{Performs}
 use Rattle.tl_client.specs.statement.Ask as ask
 use Rattle.tl_client.specs.statement.Endpoint as client
-use proofs.deliveries.{AskedWell.asked-well, AskedWell.IsHandedOut, ManagersAfter.release_channel}
+use proofs.protocol.{FollowKept.IsAskable, FollowKept.asked-kept, Room.rendered-acquire}
+use proofs.manager.{Memories.IsManagerOf, Accounts.at_manager-matched}
+use proofs.manager.Unseen.{at_manager-nobody, at_manager-ask, at_manager-to_client}
+use proofs.deliveries.{FirstRequest.at_manager-delivered_a, ManagersAfter.release_channel}
+use proofs.deliveries.DeliverDUnmoved.{manager-followed_c, manager-followed_e}
+use proofs.deliveries.AskedWell.{asked-well, IsHandedOut}
+use proofs.queues.{Steps.stepped-empty, Steps.pushes_of, Steps.handed-client, Steps.stepped-asked, Channels.IsHanded}
+use proofs.queues.{Channels.pushes_at, Facts.trunk_held, Phases.and_left, FirstToken.none-carried, Tokens.set-same}
 use proofs.memory.BesideAsked.{IsReply, beside-asked}
-use proofs.queues.{Channels.IsHanded, Channels.pushes_at, PhaseFacts.trunk_held, Phases.and_left, Steps.pushes_of}
-use proofs.queues.{Steps.handed-client, Steps.stepped-asked, Showing.none-carried, Tokens.set-same}
-use proofs.protocol.{FollowKept.IsAskable, FollowKept.asked-kept, Heads.rendered-acquire}
 use proofs.simulation.CarriedEvents.{access_asked-carried, acquire_asked-carried, release_asked-carried}
 use proofs.simulation.CarriedEvents.{nothing_asked-carried, block_stored-carried}
 
@@ -176,3 +182,56 @@ continues-ask {config} {log} h c terms o width is known =
     ) in
     let fact = ap (λ l. performing l (after_reply c o x.reply (one_memory_after config log))) none in
     (after_reply c o x.reply (one_memory_after config log), [], (rw known refl, well.replies, refl), fact)
+
+-- what the invariant asks for at an event of a client with these terms: that the client may do what it is asked
+abbrev pub IsAllowed : {w : ℕ} → Config → Event w → EndConfig → System w → AbstractState w → Type 0
+IsAllowed config (Ask c o) terms sys h =
+    IsAskable (is_caching config) c o (ask.asked terms o (sys.clients c)).reply h
+IsAllowed config event terms sys h = ⊤
+
+-- where a channel is empty
+empty-delivered : {w : ℕ} {config : Config} {log : Log w} (h : AbstractState w) {sys : System w} (c : ℕ) (ch : Channel)
+    (terms : EndConfig) → SimulationRelation config log h.mail h.request h.state sys → terms_at config c ≡ Some terms
+    → sys.channels c ch ≡ [] → IsManagerOf config (abstract_step config (Deliver (record { 0 = c }) ch) sys h)
+    (stepped config (Deliver (record { 0 = c }) ch) sys).after.manager
+empty-delivered {config} h {sys} c ch terms is client none =
+    rw (stepped-empty config (record { 0 = c }) ch sys terms client none) (at_manager-matched is)
+
+pub manager-kept : {w : ℕ} {config : Config} {log : Log w} (h : AbstractState w) {sys : System w} (event : Event w)
+    → IsWidth w → SimulationRelation config log h.mail h.request h.state sys
+    → ((terms : EndConfig) → terms_at config (client_of event) ≡ Some terms → IsAllowed config event terms sys h)
+    → IsManagerOf config (abstract_step config event sys h) (stepped config event sys).after.manager
+manager-kept {w} {config} h {sys} event width is may = go (terms_at config (client_of event)) refl
+  where
+    reports : (c : ℕ) (terms : EndConfig) → terms_at config c ≡ Some terms → (xs : List (Beat w))
+        → sys.channels c Channel.C ≡ xs
+        → IsManagerOf config (abstract_step config (Deliver (record { 0 = c }) Channel.C) sys h)
+        (stepped config (Deliver (record { 0 = c }) Channel.C) sys).after.manager
+    reports c terms client [] e = empty-delivered h c Channel.C terms is client e
+    reports c terms client (x ∷ queue) e = manager-followed_c h c x queue width is e
+
+    acks : (c : ℕ) (terms : EndConfig) → terms_at config c ≡ Some terms → (xs : List (Beat w))
+        → sys.channels c Channel.E ≡ xs
+        → IsManagerOf config (abstract_step config (Deliver (record { 0 = c }) Channel.E) sys h)
+        (stepped config (Deliver (record { 0 = c }) Channel.E) sys).after.manager
+    acks c terms client [] e = empty-delivered h c Channel.E terms is client e
+    acks c terms client (x ∷ queue) e = manager-followed_e h c x queue width is e
+
+    with_terms : (terms : EndConfig) (event : Event w) → terms_at config (client_of event) ≡ Some terms
+        → IsAllowed config event terms sys h
+        → IsManagerOf config (abstract_step config event sys h) (stepped config event sys).after.manager
+    with_terms terms (Ask c o) client allowed = at_manager-ask h c o terms is client allowed
+    with_terms terms (Deliver link Channel.A) client allowed = at_manager-delivered_a h link.0 terms width is client
+    with_terms terms (Deliver link Channel.B) client allowed = at_manager-to_client h link Channel.B terms is client
+        refl
+    with_terms terms (Deliver link Channel.C) client allowed =
+        reports link.0 terms client (sys.channels link.0 Channel.C) refl
+    with_terms terms (Deliver link Channel.D) client allowed = at_manager-to_client h link Channel.D terms is client
+        refl
+    with_terms terms (Deliver link Channel.E) client allowed = acks link.0 terms client (sys.channels link.0 Channel.E)
+        refl
+
+    go : (o : Option EndConfig) → terms_at config (client_of event) ≡ o
+        → IsManagerOf config (abstract_step config event sys h) (stepped config event sys).after.manager
+    go None e = at_manager-nobody h event is e
+    go (Some terms) e = with_terms terms event e (may terms e)

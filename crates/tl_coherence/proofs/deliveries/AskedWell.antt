@@ -9,16 +9,16 @@ use proofs.Imports.{AcquireOf, ReleaseOf, ReleaseSource, RequestSource, Level, P
 use proofs.Imports.{legal_beat, same_perm, IsBlock, Memory, number_from, block_at, pending, has_transfers}
 use proofs.Imports.{illegal_message, illegal, word_room, NotBusy, asked-cases, least_free-some, Busy, Op, Reply, done}
 use proofs.Imports.{free_release, free_request, is_word, op_block, source_or_0, store, whole_grow, EndConfig, Endpoint}
-use proofs.Imports.{copy_at, held_at, access, acquisition, release, level_of, NoAcquire, NoRelease, SourceFree}
-use proofs.Imports.{SourceState, State, AbstractState, IsLet, IsOpened, AccessMessages, IsRequest, SimulationRelation}
-use proofs.Imports.{is_caching, Log, Machine, Releases, Requests, one_memory_after, System, terms_at}
+use proofs.Imports.{copy_at, held_at, access, acquisition, release, NoAcquire, NoRelease, SourceFree, SourceState}
+use proofs.Imports.{State, AbstractState, IsLet, IsOpened, AccessMessages, IsRequest, SimulationRelation, is_caching}
+use proofs.Imports.{Log, Machine, Releases, Requests, one_memory_after, System, terms_at}
 use Rattle.tl_coherence.specs.statement.Machine.{Replies}
 use Rattle.tl_rules.{proofs.Legal.legal_from_beats, proofs.Places.number_same}
 use Rattle.tl_client.{proofs.messages.Clean.to_blank, proofs.messages.Sound.formed_access}
 use Rattle.tl_client.specs.statement.Ask.{Asked, only, asked, load, loaded, is_clean, is_formed}
 use proofs.memory.BesideAsked.{IsReply}
 use proofs.protocol.{FollowKept.IsAskable, BothParts.calm-is, BothParts.kept-letting}
-use proofs.simulation.{SizedAfter.IsSizedAsk, SourcedAfter.IsSourcedAsk, BeatsInFlight.level-terms}
+use proofs.simulation.{SizedAfter.IsSizedAsk, SizedAfter.IsSourcedAsk, BeatsInFlight.level-terms}
 use proofs.client.ClientDelivered.{closed-source, swap_perms, no_let, caches}
 
 -- ---- what the protocol has, by what the end has
@@ -96,9 +96,6 @@ asked-well {w} config log h sys c terms o width is known = asked-cases terms o e
     s : State (List ℕ)
     s = h.state
 
-    level_is : level_of config c ≡ Some terms.level
-    level_is = (level-terms config c terms known).0
-
     held_is : (n : ℕ) → held_at e n ≡ ((s.block n).pair c).held
     held_is n = (is.known c).held_is n
 
@@ -129,7 +126,7 @@ asked-well {w} config log h sys c terms o width is known = asked-cases terms o e
         (calm-is ((s.block n).pair c).acquiring (sym ((is.known c).acquires n) ∙ parts.0), fact)
 
     caching : not (has_transfers terms.level) ≡ false → is_caching config c ≡ true
-    caching four = caches config c _ level_is (not-false (has_transfers terms.level) four)
+    caching four = caches config c _ ((level-terms config c terms known).0) (not-false (has_transfers terms.level) four)
 
     load_well : (address size : ℕ) (p : Perm) → ((s.block (block_at address)).pair c).held ≡ p
         → is_word address size ≡ true → IsAskedWell config c (Op.Load address size) h m (load address size p e)
@@ -178,8 +175,8 @@ asked-well {w} config log h sys c terms o width is known = asked-cases terms o e
         (formed_access terms (Message.A x) free.b5) in
         let none = eqb-true x.corrupt 0 (and_parts (x.corrupt == 0) _ parts.1).0 in (
           refl,
-          rw level_is (sourced_legal terms.level x (source_or_0 (free_request terms e.past))
-              (none_rule (illegal_message terms.level Channel.A (Message.A x)) parts.0)),
+          rw ((level-terms config c terms known).0) (sourced_legal terms.level x (source_or_0
+              (free_request terms e.past)) (none_rule (illegal_message terms.level Channel.A (Message.A x)) parts.0)),
           to_blank x none parts.1,
         )
 

@@ -17,17 +17,17 @@ use Rattle.tl_coherence.specs.protocol.Protocol as protocol
 use Rattle.tl_rules.specs.declared.answer.Answer.{Answer}
 use Rattle.tl_rules.specs.declared.answer.Answer as answers_of
 use Rattle.tl_manager.specs.code.Kept as manager
-use proofs.queues.{Showing.carries, Showing.none-carried, Phases.nothing_below, FirstToken.first-token}
+use proofs.queues.{Phases.nothing_below, Facts.answered_other, Facts.is_other, Facts.own_wants}
+use proofs.queues.FirstToken.{carries, none-carried, first-token}
 use proofs.queues.Channels.{behind, IsTaken, pushes_at, carried-shown}
 use proofs.queues.Tokens.{set-same, set-other, set-part, same_number, set_at-same}
 use proofs.queues.Steps.{IsLanded, IsOn, landed-manager, channels-handed, pushes_of, taken-landed, on_own_channel}
-use proofs.queues.Facts.{answered_other, is_other, own_wants}
 use proofs.manager.{Memories.left, Memories.others_probed, ManagerTakes.IsTakenUp, ManagerTakes.by-first_c}
-use proofs.manager.{Admitted.head_all, Choices.plain-past, ManagerSettles.gift_after, Reporting.report-about}
+use proofs.manager.{Admitted.head_all, Accounts.plain-past, ManagerSettles.gift_after, Reporting.report-about}
 use proofs.manager.{Reporting.release-about, RequestsTaken.invariant-taken, RequestsTaken.next_tracker}
 use proofs.deliveries.ManagerDelivered.{pushed, Delivered, channel_c-delivered, pushed_by, releases-delivered}
 use proofs.deliveries.ManagerDelivered.{reports-delivered, pushed_last, seen_apart}
-use proofs.deliveries.ManagerFollowed.{client-of, step-taken, followed-taken}
+use proofs.deliveries.DeliverDUnmoved.{client-of, step-taken, followed-taken}
 use proofs.simulation.Moved.{carried-part, manager-heard}
 use proofs.simulation.CarriedEvents.{release_taken-shown, report_taken-shown, report_answers-shown, report_grants-shown}
 use proofs.protocol.{RequestsKept.leaves-bytes, RequestsKept.settled_all, Granted.recorded_within}
@@ -190,11 +190,8 @@ reports-last {w} {config} {log} {h} {sys} {c} n rest {x} {queue} at tokens whole
     after : System w
     after = (stepped config (Deliver (record { 0 = c }) Channel.C) sys).after
 
-    answered : (b.pair c).probing ≡ ProbeAnswered r
-    answered = first-report inv tokens
-
     seen : is_other (view b.service c) ≡ true
-    seen = answered_other r _ _ ((inv.blocks n).phases c) answered
+    seen = answered_other r _ _ ((inv.blocks n).phases c) (first-report inv tokens)
 
     Hands : Handed w → Type 0
     Hands pushes = (reaction config (record { 0 = c }) x sys.manager).handed ≡ pushes
@@ -215,8 +212,8 @@ reports-last {w} {config} {log} {h} {sys} {c} n rest {x} {queue} at tokens whole
         carried-shown at.width (report_answers-shown c q n source r low (performs v) rest said h.mail inv later tokens f
         (rw (serving-use n q source low inv f) refl) (ended-bytes c q source r low v (inv.blocks n)
         (subst (IsWell (is_caching config)) (set-same n (ended_block c r (performs v) b) h.state.block)
-        (later.blocks n)) f answered (settled_all (length config.clients.items) (is_caching config) c b.pair
-        (plain-past config) (inv.blocks n).outside alone) for.0 for.3 (at.is.sized n).truth) (answer_on_d v _))
+        (later.blocks n)) f (first-report inv tokens) (settled_all (length config.clients.items) (is_caching config) c
+        b.pair (plain-past config) (inv.blocks n).outside alone) for.0 for.3 (at.is.sized n).truth) (answer_on_d v _))
         (last-handing q said at (one ∙ rw (set_at-same q source said h.mail.answer) refl) whole) at.is.carried
     last alone (Waits q true source low) f later one = go _ refl later one
       where

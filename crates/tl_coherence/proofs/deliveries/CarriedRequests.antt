@@ -12,18 +12,18 @@ use proofs.Imports.{gift, is_unheld, kind_taken, performs, probes_some, request_
 use proofs.Imports.{AccessMessages, block_message, SimulationRelation, is_caching, Log, Step, handing, System}
 use proofs.Imports.{with_channel, with_manager, with_messages}
 use Rattle.tl_manager.specs.statement.Holders as holders
-use proofs.manager.{Admitted.offered-taken, Performing.end_after, Performing.reaction-probing}
+use proofs.manager.{Admitted.offered-taken, Unseen.handed-answered, Unseen.handed-granted}
+use proofs.manager.Performing.{end_after, reaction-probing}
 use proofs.manager.Probing.{same_above, recorded-beat, link_of, with_beat, IsComing, ends-coming, service_for}
-use proofs.manager.RequestsHanded.{handed-answered, handed-granted}
 use proofs.manager.RequestsTaken.{caps_asked, acquire_wanted, ready-request, ready-acquire, next_tracker, free-last}
 use proofs.manager.RequestsTaken.{invariant-taken, probed-some, somebody-probed, beyond-none}
-use proofs.queues.{Showing.carries, Showing.none-carried, Tokens.set-same, Codes.acquires-so, Phases.none-above}
+use proofs.queues.{FirstToken.carries, FirstToken.none-carried, Tokens.set-same, Codes.acquires-so, Phases.none-above}
 use proofs.queues.Channels.{carried-shown, behind, IsTaken, pushes_at}
 use proofs.queues.Steps.{pushes_of, IsLanded, taken-landed, HasTaken, landed-manager, channels-handed, on_own_channel}
-use proofs.protocol.{HeadOfD.IsReady, RequestsKept.some-none, RequestsKept.leaves-bytes, Heads.IsAsked, Heads.IsWanted}
-use proofs.simulation.CarriedProbes.{probe_pushes, channels-probes, access_served-shown, acquire_served-shown}
+use proofs.protocol.{HeadOfD.IsReady, RequestsKept.some-none, RequestsKept.leaves-bytes, Room.IsAsked, Room.IsWanted}
 use proofs.simulation.Moved.{manager-heard, carried-part}
 use proofs.simulation.CarriedEvents.{access_answered-shown, acquire_granted-shown}
+use proofs.simulation.Bounded.{probe_pushes, channels-probes, access_served-shown, acquire_served-shown}
 use proofs.bound.RankAfter.{once_on_d}
 use proofs.deliveries.CarriedReports.{answer_on_d}
 
@@ -148,19 +148,15 @@ pub carried-acquire_taken : {w : ℕ} {config : Config} {log : Log w} (h : Abstr
 carried-acquire_taken {w} {config} h {sys} {c} {n} {k} rest queue is first asked comes beats last moves =
     let inv = invariant-taken h c Acquire n rest is first ready in
     subst (λ i. ChannelRelation (acquire_taken clients config.profile c n i tracker rest h).mail
-    (acquire_taken clients config.profile c n i tracker rest h).state after) (sym asked.wants)
-    (go (some_below clients (λ d. is_probed c true j (b.pair d).recorded d)) refl
-    (subst (λ i. IsInvariant (is_caching config) (acquire_taken clients config.profile c n i tracker
-    rest h).state) asked.wants inv))
+    (acquire_taken clients config.profile c n i tracker rest h).state (system_after config c k m queue sys))
+    (sym asked.wants) (go (some_below clients (λ d. is_probed c true j (b.pair d).recorded d)) refl (subst (λ i.
+    IsInvariant (is_caching config) (acquire_taken clients config.profile c n i tracker rest h).state) asked.wants inv))
   where
     b : Block (List ℕ)
     b = h.state.block n
 
     m : MessageA w
     m = acquire_wanted c n _ asked
-
-    after : System w
-    after = system_after config c k m queue sys
 
     clients : ℕ
     clients = length config.clients.items
@@ -189,7 +185,8 @@ carried-acquire_taken {w} {config} h {sys} {c} {n} {k} rest queue is first asked
         data_too given rest h.state
 
     go : (x : Bool) → some_below clients (λ d. is_probed c true j (b.pair d).recorded d) ≡ x
-        → IsInvariant (is_caching config) (state_of x) → ChannelRelation h.mail (state_of x) after
+        → IsInvariant (is_caching config) (state_of x) → ChannelRelation h.mail (state_of x)
+        (system_after config c k m queue sys)
     go true f kept =
         let some = somebody-probed c k n true m is (acquires-so asked.whole) (same_block n) (rw caps f) in
         carried-shown comes.width (acquire_served-shown c n (b.source c) tracker j rest h.mail is.invariant kept first
@@ -253,11 +250,8 @@ carried-request_taken {w} {config} {log} h {sys} {c} {source} {k} rest queue is 
     b : Block (List ℕ)
     b = h.state.block n
 
-    after : System w
-    after = system_after config c k m queue sys
-
     Carries : AbstractState w → Type 0
-    Carries i = ChannelRelation i.mail i.state after
+    Carries i = ChannelRelation i.mail i.state (system_after config c k m queue sys)
 
     clients : ℕ
     clients = length config.clients.items

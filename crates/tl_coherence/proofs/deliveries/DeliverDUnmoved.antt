@@ -1,33 +1,40 @@
 -- A beat that is delivered to a client: the channels and the one memory afterwards.
 -- A delivery that moves no beat, and the channels and the one memory after a delivery.
+-- The manager's end after a delivery on channel C or E, as a step of the whole and as the protocol follows it.
 use Rattle.std.proofs.Common.{◌≡◌, ℕ, Bool, true, false, if◌then◌else◌, List, [], ◌∷◌, Option, Some, None, Result, refl}
-use Rattle.std.proofs.Common.{sym, ◌∙◌, ap, subst, arith, ◌⊎◌, inl, inr}
+use Rattle.std.proofs.Common.{sym, ◌∙◌, ap, subst, arith, ◌⊎◌, inl, inr, All, slice_get, option_map}
 use Rattle.tl_coherence.proofs
 use proofs.Imports.{cases_eq, not-true, or_right, Beat, BeatD, Link, Channel, OpD, IsWidth, Message, MessageD}
-use proofs.Imports.{unfinished, completes, Config, Cap, Grow, Perm, Rule, same_perm, is_grant, is_release_ack, Finish}
-use proofs.Imports.{Verdict, grant_ack, no_ack_grant, Deliver, Outcome, IsInvariant, Answer, Grant, GrantAck, Kind}
+use proofs.Imports.{unfinished, completes, ClientConfig, Config, Cap, Grow, Perm, Rule, same_perm, is_grant}
+use proofs.Imports.{is_release_ack, Finish, Verdict, EndConfig, grant_ack, no_ack_grant, illegal_at, reaction}
+use proofs.Imports.{trackers_of, least_untaken, services, Deliver, Outcome, IsInvariant, Answer, Grant, GrantAck, Kind}
 use proofs.Imports.{Packet, ReleaseAck, AcquireOpen, grant_fits, is_unreleased, is_whole, Block, State, grant_taken}
-use proofs.Imports.{packet, packets_on, taken_block, view, is_granting, is_wanting, shown, AbstractState, abstract_step}
-use proofs.Imports.{kind_taken, packet_taken, IsCarried, ChannelRelation, MemoryRelation, AccessMessages, messages_on}
-use proofs.Imports.{block_message, SimulationRelation, receiver, is_moving, Log, system_after, Machine, Releases}
-use proofs.Imports.{Requests, after_end, moved, pool_of, accesses_answered, one_memory_after, performing, Step}
-use proofs.Imports.{client_took, handed_by, is_to_client, judged, manager_took, only, stepped_at, stepped, System}
-use proofs.Imports.{with_channel, with_client, with_manager, with_messages}
+use proofs.Imports.{packet, packets_on, taken_block, view, is_granting, is_wanting, shown, AbstractState}
+use proofs.Imports.{abstract_delivery, abstract_step, kind_taken, packet_taken, IsCarried, ChannelRelation}
+use proofs.Imports.{MemoryRelation, AccessMessages, messages_on, block_message, SimulationRelation, receiver, is_moving}
+use proofs.Imports.{Log, system_after, Machine, Releases, Requests, after_end, moved, pool_of, accesses_answered}
+use proofs.Imports.{one_memory_after, performing, Step, client_took, handed_by, handing, is_to_client, judged}
+use proofs.Imports.{manager_took, only, stepped_at, stepped, System, terms_at, with_channel, with_client, with_manager}
+use proofs.Imports.{with_messages}
+use Rattle.tl_coherence.specs.refinement.AbstractStep.{is_last}
 use Rattle.tl_coherence.specs.statement.Step as step
+use Rattle.tl_manager.specs.code.Kept as manager
 use Rattle.tl_client.specs.statement.Offer as offer
 use Rattle.tl_client.proofs.messages.Calls.{refusal-offered}
 use Rattle.tl_client.specs.statement.Endpoint as client
 use Rattle.tl_manager.specs.statement.End as manager_end
 use Rattle.tl_manager.specs.statement.Offer as manager_offer
+use proofs.manager.{Memories.IsManagerOf, Memories.left, ManagerTakes.IsTakenUp}
+use proofs.manager.RequestsTaken.{next_tracker, invariant-taken}
+use proofs.deliveries.ManagerDelivered.{channel_c-delivered, channel_e-delivered}
+use proofs.queues.{Steps.manager-with_messages, Steps.stepped-to-manager, Steps.pushes_of, Steps.IsOn, Steps.HasHeard}
+use proofs.queues.{Steps.landed-client, Steps.taken-landed, Steps.on_own_channel, Codes.grants-so, Codes.access_kind}
+use proofs.queues.{Phases.and_left, Phases.whole_cap, Channels.carried-shown, Channels.IsTaken, Channels.pushes_at}
+use proofs.queues.FirstToken.{carries, is_given, is_told, untold, uncarried, granted-untold}
 use proofs.memory.BesideAsked.{beside-answer, beside-grant, beside-release_ack}
-use proofs.queues.{Codes.grants-so, Codes.access_kind, Phases.and_left, Phases.whole_cap}
-use proofs.queues.Channels.{carried-shown, IsTaken, pushes_at}
-use proofs.queues.Showing.{carries, is_given, is_told, untold, uncarried, granted-untold}
-use proofs.queues.Steps.{pushes_of, IsOn, HasHeard, landed-client, taken-landed, on_own_channel}
-use proofs.simulation.CarriedResponses.{answer_taken-shown, grant_taken-shown, release_ack_taken-shown}
+use proofs.simulation.Bounded.{answer_taken-shown, grant_taken-shown, release_ack_taken-shown}
 use proofs.protocol.HeadOfD.{IsAnswerDue, IsGrantDue, grant_message, ack_message, own_view}
 use proofs.client.DeliverD.{finish_at, acked, finish-pool}
-use proofs.manager.RequestsTaken.{next_tracker, invariant-taken}
 
 -- ---- a delivery that moves a beat, as the protocol follows it
 
@@ -307,3 +314,75 @@ delivered-unmoved {config} {log} link ch h is still =
     let no = unmoved config link ch _ still in
     delivered_as _ log link ch h h (followed-still config link ch (system_after config log) h still)
     (carried-unmoved h.mail h.state no is.carried) (beside-unmoved config log link ch no is.beside)
+
+-- a link that has a beat is a client's
+pub client-of : {w : ℕ} (config : Config) (c : ℕ) (ch : Channel) (x : Beat w) (queue : List (Beat w)) (sys : System w)
+    → sys.channels c ch ≡ x ∷ queue → All (λ y. manager.IsSound config (record { 0 = c }, y)) (sys.channels c ch)
+    → (t : EndConfig) × (terms_at config c ≡ Some t)
+client-of {w} config c ch x queue sys beats sound =
+    let go : (o : Option ClientConfig) → illegal_at (option_map (λ (i : ClientConfig). i.level) o) x ≡ None
+    → (t : EndConfig) × (option_map (λ i. record {
+      level = i.level;
+      profile = config.profile;
+      sources = i.sources;
+      blocks = config.blocks;
+    }) o ≡ Some t) =
+    elim [ None ↦ λ e. absurd cc | Some i ↦ λ e. (_, refl) ] in
+    let all : All (λ y. manager.IsSound config (record { 0 = c }, y)) (x ∷ queue) = rw beats at sound in
+    go (slice_get config.clients.items c) (all 0 x (omega arith)).lawful
+
+-- what the step is
+pub step-taken : {w : ℕ} (config : Config) (c : ℕ) (ch : Channel) (x : Beat w) (queue : List (Beat w)) (sys : System w)
+    (t : EndConfig) → terms_at config c ≡ Some t → sys.channels c ch ≡ x ∷ queue → is_to_client ch ≡ false
+    → IsTakenUp config c ch x sys.manager → stepped config (Deliver (record { 0 = c }) ch) sys
+    ≡ handing (Outcome.Moved x) (reaction config (record { 0 = c }) x sys.manager).handed
+    (with_manager (left c x (reaction config (record { 0 = c }) x sys.manager) sys.manager)
+    (with_channel c ch queue sys))
+step-taken {w} config c ch x queue sys t terms beats down up =
+    cc (stepped-to-manager config (record { 0 = c }) ch sys t x queue terms beats down, up.answer)
+
+manager-taken : {w : ℕ} (config : Config) (c : ℕ) (ch : Channel) (x : Beat w) (queue : List (Beat w))
+    (sys : System w) (t : EndConfig) → terms_at config c ≡ Some t → sys.channels c ch ≡ x ∷ queue
+    → is_to_client ch ≡ false → IsTakenUp config c ch x sys.manager
+    → (stepped config (Deliver (record { 0 = c }) ch) sys).after.manager
+    ≡ left c x (reaction config (record { 0 = c }) x sys.manager) sys.manager
+manager-taken {w} config c ch x queue sys t terms beats down up =
+    let fact = manager-with_messages (reaction config (record { 0 = c }) x sys.manager).handed (with_manager
+    (left c x (reaction config (record { 0 = c }) x sys.manager) sys.manager) (with_channel c ch queue sys)) in
+    cc (step-taken config c ch x queue sys t terms beats down up)
+
+-- and what the protocol does then
+pub followed-taken : {w : ℕ} {config : Config} {c : ℕ} {ch : Channel} {x : Beat w} (queue : List (Beat w))
+    (sys : System w) (h : AbstractState w) (t : EndConfig) → terms_at config c ≡ Some t → sys.channels c ch ≡ x ∷ queue
+    → is_to_client ch ≡ false → IsTakenUp config c ch x sys.manager
+    → abstract_step config (Deliver (record { 0 = c }) ch) sys h
+    ≡ (if completes x (unfinished ch (receiver ch c sys)) then packet_taken config
+    (least_untaken (trackers_of (services sys.manager.trace))) c (packets_on ch (h.state.link c)) h else h)
+followed-taken {config} {c} {ch} {x} queue sys h t terms beats down up =
+    ap (λ s. abstract_delivery config c ch s.outcome sys h) (step-taken config c ch x queue sys t terms beats down up)
+    ∙ ap (λ b. if is_last b (unfinished ch (receiver ch c sys)) then packet_taken config
+    (least_untaken (trackers_of (services sys.manager.trace))) c (packets_on ch (h.state.link c)) h else h) beats
+
+pub manager-followed_c : {w : ℕ} {config : Config} {log : Log w} (h : AbstractState w) {sys : System w} (c : ℕ)
+    (x : Beat w) (queue : List (Beat w)) → IsWidth w
+    → SimulationRelation config log h.mail h.request h.state sys → sys.channels c Channel.C ≡ x ∷ queue
+    → IsManagerOf config (abstract_step config (Deliver (record { 0 = c }) Channel.C) sys h)
+    (stepped config (Deliver (record { 0 = c }) Channel.C) sys).after.manager
+manager-followed_c {config} h {sys} c x queue width is beats =
+    let t = client-of config c Channel.C x queue sys beats (is.sound c Channel.C) in
+    let d = channel_c-delivered (least_untaken (trackers_of (services sys.manager.trace))) h c x queue width is beats in
+    subst (λ i. IsManagerOf config (abstract_step config (Deliver (record { 0 = c }) Channel.C) sys h) i)
+    (sym (manager-taken config c Channel.C x queue sys t.0 t.1 beats refl d.up))
+    (rw (followed-taken queue sys h t.0 t.1 beats refl d.up) d.manager)
+
+pub manager-followed_e : {w : ℕ} {config : Config} {log : Log w} (h : AbstractState w) {sys : System w} (c : ℕ)
+    (x : Beat w) (queue : List (Beat w)) → IsWidth w
+    → SimulationRelation config log h.mail h.request h.state sys → sys.channels c Channel.E ≡ x ∷ queue
+    → IsManagerOf config (abstract_step config (Deliver (record { 0 = c }) Channel.E) sys h)
+    (stepped config (Deliver (record { 0 = c }) Channel.E) sys).after.manager
+manager-followed_e {config} h {sys} c x queue width is beats =
+    let t = client-of config c Channel.E x queue sys beats (is.sound c Channel.E) in
+    let d = channel_e-delivered (least_untaken (trackers_of (services sys.manager.trace))) h c x queue width is beats in
+    subst (λ i. IsManagerOf config (abstract_step config (Deliver (record { 0 = c }) Channel.E) sys h) i)
+    (sym (manager-taken config c Channel.E x queue sys t.0 t.1 beats refl d.up))
+    (rw (followed-taken queue sys h t.0 t.1 beats refl d.up) d.manager)

@@ -26,7 +26,7 @@ use proofs.queues.{Tokens.same_number, Carried.IsNext}
 use proofs.queues.Steps.{manager-with_messages, stepped-empty, stepped-to-manager}
 use proofs.deliveries.CarriedRequests.{carried-more, system_after, carried-request_taken, carried-acquire_taken}
 use proofs.protocol.HeadOfD.{IsReady}
-use proofs.protocol.Heads.{IsAsked, asked-first, IsWanted, wanted-first, acquisition-blank, acquisition_beats, front-of}
+use proofs.protocol.Room.{IsAsked, asked-first, IsWanted, wanted-first, acquisition-blank, acquisition_beats, front-of}
 
 -- ---- the request that is first
 
@@ -233,19 +233,17 @@ moved-a {w} {config} {h} {sys} {c} {x} P beats arrives last more =
     subst (λ b. P (if b then packet_taken config (next_tracker sys) c (h.state.link c).a h else h))
     (sym last_is) (go (completes x rest) refl)
   where
-    k : ℕ
-    k = arrives.next.k
-
     rest : List (Beat w)
     rest = unfinished Channel.A (on_link c sys.manager.trace)
 
     go : (b : Bool) → completes x rest ≡ b
         → P (if b then packet_taken config (next_tracker sys) c (h.state.link c).a h else h)
     go true e =
-        let all = eqb-true (k + 1) (beats_of (Message.A arrives.request)) (sym arrives.next.completes_is ∙ e) in
+        let all = eqb-true (arrives.next.k + 1) (beats_of (Message.A arrives.request))
+        (sym arrives.next.completes_is ∙ e) in
         subst P (sym (rw arrives.is_it.tokens refl)) (last (omega (arith, all)))
-    go false e = more (more_beats k (beats_of (Message.A arrives.request)) (sym arrives.next.completes_is ∙ e)
-        arrives.next.within)
+    go false e = more (more_beats arrives.next.k (beats_of (Message.A arrives.request))
+        (sym arrives.next.completes_is ∙ e) arrives.next.within)
 
 -- the step at a beat that is taken
 abbrev pub step_moved : {w : ℕ} → Config → ℕ → ℕ → MessageA w → Beat w → List (Beat w) → System w → Step w

@@ -213,9 +213,6 @@ delivered-c {w} config h h' kind c n m e width is sound next order last =
     rest : List (Beat w)
     rest = unfinished Channel.C (on_link c e.trace)
 
-    pushes : Handed w
-    pushes = pushed config c kind n h h'
-
     y : Beat w
     y = Beat.C (c_beat_of m next.k)
 
@@ -225,14 +222,15 @@ delivered-c {w} config h h' kind c n m e width is sound next order last =
     completes_it : completes y rest ≡ (next.k + 1 == beats_of (Message.C m))
     completes_it = ap (λ i. completes i rest) (sym next.beat_is) ∙ next.completes_is
 
-    go : (b : Bool) → (next.k + 1 == beats_of (Message.C m)) ≡ b → Delivered config c Channel.C rest h h' pushes e y
+    go : (b : Bool) → (next.k + 1 == beats_of (Message.C m)) ≡ b → Delivered config c Channel.C rest h h'
+        (pushed config c kind n h h') e y
     go true f =
         let ended : completes y rest ≡ true = completes_it ∙ f in
         let done = last next.k (eqb-true (next.k + 1) (beats_of (Message.C m)) f) next.rest_is up in
         record {
           up = up;
           manager = rw ended done.0;
-          handed = done.1 ∙ sym (ap (λ b. if b then pushes else []) ended);
+          handed = done.1 ∙ sym (ap (λ b. if b then (pushed config c kind n h h') else []) ended);
         }
     go false f =
         let part : completes y rest ≡ false = completes_it ∙ f in
@@ -303,28 +301,25 @@ acks-delivered : {w : ℕ} {config : Config} {log : Log w} (h : AbstractState w)
 unfolding block_message
 acks-delivered {w} {config} {log} h {sys} c n rest {x} {queue} width is beats tokens next =
     let order = ack-order c n y is.invariant.named is.served is.manager_kept taken_is refl in
-    let before : List (Beat w) = unfinished Channel.E (on_link c e.trace) in
+    let before : List (Beat w) = unfinished Channel.E (on_link c sys.manager.trace) in
     let after : AbstractState w = with_state (grant_ack_taken c n rest h.state) h in
-    let up = takes c Channel.E (Beat.E y) e (subst (λ i. manager.IsSound config (record { 0 = c }, i))
+    let up = takes c Channel.E (Beat.E y) sys.manager (subst (λ i. manager.IsSound config (record { 0 = c }, i))
     next.beat_is (head_all (λ i. manager.IsSound config (record { 0 = c }, i)) x queue (sys.channels c Channel.E)
     beats (is.sound c Channel.E))) refl refl is.all_live order.1 refl in
-    let whole : completes {w = w} (Beat.E y) before ≡ true = (whole-e {w = w} y (on_link c e.trace)).1 in
-    subst (Delivered config c Channel.E before h after [] e) (sym next.beat_is) (record {
+    let whole : completes {w = w} (Beat.E y) before ≡ true = (whole-e {w = w} y (on_link c sys.manager.trace)).1 in
+    subst (Delivered config c Channel.E before h after [] sys.manager) (sym next.beat_is) (record {
       up = up;
       manager = rw whole (acked-left rest h width up acks (at_manager-matched is));
-      handed = cc (reaction-ack config (record { 0 = c }) y e);
+      handed = cc (reaction-ack config (record { 0 = c }) y sys.manager);
     })
   where
-    e : End w
-    e = sys.manager
-
     y : BeatE
     y = record { sink = (h.state.block n).tracker }
 
     taken_is : (h.state.block n).service ≡ GrantTaken c
     taken_is = first-grant_ack is.invariant tokens
 
-    acks : IsAcked c n y h.request h.state e.trace
+    acks : IsAcked c n y h.request h.state sys.manager.trace
     acks = record {
       taken = taken_is;
       sink_is = refl;

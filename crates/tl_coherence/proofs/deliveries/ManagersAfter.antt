@@ -23,7 +23,7 @@ use proofs.memory.BesideKinds.{beside_block, same_acquiring}
 use proofs.queues.{Carried.IsNext, FirstToken.IsFirst, FirstToken.first-token, Tokens.set-same}
 use proofs.queues.Channels.{carried-shown, IsTaken, pushes_at, behind}
 use proofs.queues.Steps.{pushes_of, IsOn, landed-client, taken-landed, on_own_channel, HasTaken, landed-manager}
-use proofs.simulation.{CarriedEvents.probe_taken-shown, SourcedAfter.first-asked}
+use proofs.simulation.{CarriedEvents.probe_taken-shown, SizedAfter.first-asked}
 use proofs.simulation.Moved.{IsTakenByClient, client-moves, client-heard, manager-moves, manager-heard, carried-part}
 use proofs.client.{DeliverD.same_answers, KnownProbed.report_is}
 use proofs.client.ProbeDelivered.{IsProbed, probe-delivered}

@@ -17,17 +17,15 @@ use Rattle.tl_manager.specs.statement.Offer as manager
 use Rattle.tl_client.specs.statement.Ask as ask
 use proofs.memory.BesideKinds.{beside_block}
 use proofs.queues.{Channels.carried-shown, Steps.stepped-to-manager, Steps.stepped-asked, Steps.stepped-empty}
-use proofs.simulation.{CarriedResponses.grant_ack_taken-shown, Fresh.fresh-matched}
-use proofs.simulation.FollowCases.{IsDelivery, taken_of, followed-cases, on-first, asked-cases, delivered-cases}
-use proofs.simulation.FollowCases.{answered-followed, given-followed}
-use proofs.simulation.InvariantAtClients.{invariant-asked, ready-client, nobody_moves}
+use proofs.simulation.{Bounded.grant_ack_taken-shown, Fresh.fresh-matched}
+use proofs.simulation.Moved.{IsDelivery, taken_of, followed-cases, on-first, asked-cases, delivered-cases}
+use proofs.simulation.Moved.{answered-followed, given-followed, invariant-asked, ready-client, nobody_moves}
 use proofs.simulation.BeatsInFlight.{sound-after, typed-after}
-use proofs.simulation.SourcedAfter.{AreStrange, strangers-asked, strangers-kind_taken, AreSourced, sourced-asked}
-use proofs.simulation.SourcedAfter.{sourced-kind_taken}
-use proofs.simulation.SizedAfter.{AllSized, sized-asked, sized-kind_taken}
-use proofs.deliveries.{DeliverDUnmoved.IsDelivered, DeliverDUnmoved.delivered-unmoved, AskedAfter.carried-ask}
-use proofs.deliveries.{AskedAfter.beside-ask, AskedWell.asked-well, ReportsAfter.delivered-d, ReportsAfter.delivered-c}
-use proofs.deliveries.{ManagerFollowed.client-of, ManagerKept.IsAllowed, ManagerKept.manager-kept}
+use proofs.simulation.SizedAfter.{AreStrange, strangers-asked, strangers-kind_taken, AreSourced, sourced-asked}
+use proofs.simulation.SizedAfter.{sourced-kind_taken, AllSized, sized-asked, sized-kind_taken}
+use proofs.deliveries.{AskedWell.asked-well, ReportsAfter.delivered-d, ReportsAfter.delivered-c}
+use proofs.deliveries.DeliverDUnmoved.{IsDelivered, delivered-unmoved, client-of}
+use proofs.deliveries.AskedAfter.{carried-ask, beside-ask, IsAllowed, manager-kept}
 use proofs.deliveries.ManagersAfter.{IsAtManager, at-manager, after_taken, delivered-last, delivered-part, delivered-b}
 use proofs.deliveries.FirstRequest.{IsArrival, arrival-first, coming-arrival, request-stalled, delivery-a}
 use proofs.deliveries.FirstRequest.{carried-delivered_a, beside-delivered_a}

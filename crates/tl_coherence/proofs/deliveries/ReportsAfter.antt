@@ -17,17 +17,17 @@ use Rattle.tl_client.specs.statement.Endpoint as client
 use Rattle.tl_client.specs.statement.Offer as offer
 use proofs.queues.{Carried.IsNext, FirstToken.IsFirst, FirstToken.first-token, Tokens.set_at-same}
 use proofs.queues.Steps.{pushes_of, IsOn, HasHeard, landed-client, on_own_channel}
-use proofs.manager.{RequestsTaken.next_tracker, Choices.plain-past, ManagerTakes.by-first_c}
+use proofs.manager.{RequestsTaken.next_tracker, Accounts.plain-past, ManagerTakes.by-first_c}
 use proofs.protocol.{BothParts.acked-open, BothParts.first-shown, BothParts.first-report, RequestsKept.settled_all}
 use proofs.protocol.HeadOfD.{grant_message, ack_message, answer-due, grant-due, grant-rendered}
 use proofs.client.DeliverD.{finish_at, acked, answer-last, answer-part, same_answers}
-use proofs.deliveries.DeliverDUnmoved.{IsLastBeat, IsResponded, followed-moving, responded-answer, responded-grant}
-use proofs.deliveries.DeliverDUnmoved.{responded-release_ack, bare, IsDelivered, delivered_as}
 use proofs.deliveries.CarriedReports.{carried-followed_c}
 use proofs.deliveries.ManagerDelivered.{channel_c-delivered, releases-delivered, reports-delivered, pushed, pushed_last}
-use proofs.deliveries.ManagerFollowed.{client-of, followed-taken, step-taken}
+use proofs.deliveries.DeliverDUnmoved.{IsLastBeat, IsResponded, followed-moving, responded-answer, responded-grant}
+use proofs.deliveries.DeliverDUnmoved.{responded-release_ack, bare, IsDelivered, delivered_as, client-of}
+use proofs.deliveries.DeliverDUnmoved.{followed-taken, step-taken}
 use proofs.simulation.Moved.{IsTakenByClient, client-moves, client-heard, carried-part}
-use proofs.simulation.SourcedAfter.{served-request}
+use proofs.simulation.SizedAfter.{served-request}
 use proofs.memory.BesideKinds.{IsWaiting, accesses_by, beside-report, beside_block, last_accesses, same_acquiring}
 use proofs.memory.BesideRequests.{IsOnce, accesses-answer}
 use proofs.rank.RankParts.{serving-use}

@@ -8,11 +8,11 @@ use proofs.Imports.{Granting, Own, is_unprobed, is_unreleased, after_grant_sent,
 use proofs.Imports.{acquire_granted, acquire_served, granted_at_once, served_block, view, is_acknowledging, is_answered}
 use proofs.Imports.{is_granting, is_unserved, AbstractState, MonitorRelation, SimulationRelation, asked_by, Log, System}
 use proofs.manager.{Admitted.first_three, RequestsTaken.acquire_wanted}
-use proofs.queues.{Carried.IsNext, PhaseFacts.asked_alone, Phases.and_left, Phases.and_right, Codes.acquires-so}
+use proofs.queues.{Carried.IsNext, Facts.asked_alone, Phases.and_left, Phases.and_right, Codes.acquires-so}
 use proofs.queues.Tokens.{if-part, same_number, set-same, set-other}
 use proofs.protocol.{HeadOfD.IsGrantDue, BothParts.quiet_unanswered}
-use proofs.protocol.Heads.{acquisition_beats, IsAsked, IsWanted}
-use proofs.flow.{FlowAlone.AreRests, FlowComing.coming-sink, FlowComing.coming-granting, FlowStep.held_by}
+use proofs.protocol.Room.{acquisition_beats, IsAsked, IsWanted}
+use proofs.flow.{FlowAlone.AreRests, NextOnD.coming-sink, NextOnD.coming-granting, FlowStep.held_by}
 use proofs.flow.FlowAcquired.{IsAccess, flowed-access, flowed-acquire}
 use proofs.flow.FlowApart.{replied, sunk_in, sunk-elsewhere, tracked-new}
 use proofs.flow.FlowBeats.{came-so, comes-so, first-zero, one-beat, set_at-if, same_perms, unused-else}

@@ -1,6 +1,6 @@
 -- What is delivered on a link, as a beat of an access's answer or a ReleaseAck is.
 use Rattle.std.proofs.Common.{◌≡◌, ℕ, Bool, true, false, not, ◌&&◌, ◌||◌, ◌==◌, if◌then◌else◌, List, ◌∷◌, Option, Some}
-use Rattle.std.proofs.Common.{None, refl, sym, ◌∙◌, ap, arith, ne_eqb, eqb-true, option_map, unwrap_or}
+use Rattle.std.proofs.Common.{None, refl, sym, ◌∙◌, ap, arith, ne_eqb, eqb-true, unwrap_or, option_map}
 use Rattle.tl_coherence.proofs
 use proofs.Imports.{Beat, BeatA, BeatC, BeatD, Channel, History, ReleaseSource, Perm, comes_in_grant, asks_for, begins}
 use proofs.Imports.{block_at, capped, ends, is_grant, is_release_ack, grant_sink, pending, probe_of, release_of}
@@ -8,7 +8,7 @@ use proofs.Imports.{request_of, release_of-d, request_of-d, is_of, releases_with
 use proofs.Imports.{SourceFree, SourceState, State, view, is_acknowledging, is_answered, is_unserved, comes_granting}
 use proofs.Imports.{MonitorRelation, is_let_by, is_release_pending, is_requested, is_sunk, probe_beat, cap_waited}
 use Rattle.tl_rules.specs.statement.History.{releases}
-use proofs.flow.{FlowAlone.AreRests, FlowAlone.requested-blocks, FlowAlone.let_by-same, FlowReported.unopened}
+use proofs.flow.{FlowAlone.AreRests, FlowAlone.requested-blocks, FlowAlone.let_by-same, FlowOthers.unopened}
 use proofs.flow.FlowReleased.{AreElsewhere, each-block, part-block}
 use proofs.flow.FlowStep.{flowed-next, held_by, acquired_by, let_of, granted_by, step, step_quiet, let_still}
 use proofs.queues.Tokens.{same_number}

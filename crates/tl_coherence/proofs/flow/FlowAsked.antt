@@ -16,10 +16,10 @@ use proofs.deliveries.AskedAfter.{reply-cases, IsPlain}
 use proofs.memory.BesideAsked.{IsReply}
 use proofs.queues.{Facts.unserved_calm, Tokens.set-same, Tokens.set-part, Tokens.same_number, Tokens.set_at-same}
 use proofs.flow.{FlowStep.held_by, FlowStep.acquired_by, FlowStep.let_of, FlowStep.granted_by, FlowResponses.waits_on_a}
-use proofs.flow.{FlowResponses.not-coming_a, FlowApart.left-access_asked, FlowApart.left-acquire_asked}
-use proofs.flow.{FlowApart.left-release_asked, FlowApart.left-block_stored, FlowApart.sunk_in, FlowApart.sunk-as}
+use proofs.flow.{FlowResponses.not-coming_a, NextOnD.coming-granting, NextOnD.coming-asked, NextOnD.coming-free}
+use proofs.flow.FlowApart.{left-access_asked, left-acquire_asked, left-release_asked, left-block_stored, sunk_in}
+use proofs.flow.FlowApart.{sunk-as}
 use proofs.flow.FlowAlone.{flowed-untouched, IsAside, flowed-aside, IsUntouched, requested-blocks, let_by-same}
-use proofs.flow.FlowComing.{coming-granting, coming-asked, coming-free}
 use proofs.protocol.FollowKept.{IsAskable}
 use proofs.simulation.Owned.{unfinished_at}
 

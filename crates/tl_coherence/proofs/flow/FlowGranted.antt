@@ -9,7 +9,7 @@ use proofs.Imports.{is_of, Acknowledging, Granting, View, Acquires, Asked, Block
 use proofs.Imports.{SourceState, State, view, is_acknowledging, is_answered, is_granting, is_unserved, is_wanting}
 use proofs.Imports.{comes_granting, MonitorRelation, is_let_by, is_requested, is_sunk, probe_beat, cap_waited}
 use Rattle.tl_rules.specs.statement.History.{releases}
-use proofs.flow.{FlowAlone.AreRests, FlowAlone.let_by-same, FlowReported.unclosed as not_last}
+use proofs.flow.{FlowAlone.AreRests, FlowAlone.let_by-same, FlowOthers.unclosed as not_last}
 use proofs.flow.FlowAnswered.{probed-of, unclosed, closes_last}
 use proofs.flow.FlowReleased.{AreElsewhere, each-block, part-block, opened, with_true}
 use proofs.flow.FlowStep.{flowed-next, held_by, acquired_by, let_of, granted_by, step, step_quiet, let_still}

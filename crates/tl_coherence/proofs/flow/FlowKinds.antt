@@ -10,13 +10,13 @@ use proofs.Imports.{acquire_served, on, packet, report_taken, view, is_answered,
 use proofs.Imports.{granted_after, is_unheld, kind_taken, last_taken, performs, taken_by_client, with_state}
 use proofs.Imports.{MonitorRelation, report_told, SimulationRelation, asked_by, is_caching, Log, System}
 use proofs.client.AsideAll.{Leaves, is_for_manager, leaves-at_manager, leaves-at_client}
-use proofs.manager.{Choices.plain-past, ManagedGrants.tracker-of}
-use proofs.protocol.HeadOfD.{grant-due, IsReady, ready-access, told, true-taken, waits_for_others, never-idle}
+use proofs.manager.{Accounts.plain-past, ManagedGrants.tracker-of}
 use proofs.protocol.RequestsKept.{settled_all}
 use proofs.protocol.BothParts.{quiet_unanswered, first-grant_ack, first-report}
-use proofs.queues.{Phases.and_right, Tokens.same_number, Facts.answered_other, Facts.is_other}
-use proofs.queues.PhaseFacts.{quiet_at_rest, own_alone}
-use proofs.flow.{FlowAsked.asks-left, FlowBeats.same_perms, FlowComing.coming-granting, FlowComing.coming-sink}
+use proofs.protocol.HeadOfD.{grant-due, IsReady, ready-access, told, true-taken, waits_for_others, never-idle}
+use proofs.queues.{Phases.and_right, Tokens.same_number}
+use proofs.queues.Facts.{answered_other, is_other, quiet_at_rest, own_alone}
+use proofs.flow.{FlowAsked.asks-left, FlowBeats.same_perms, NextOnD.coming-granting, NextOnD.coming-sink}
 use proofs.flow.FlowAlone.{is_heard, IsComing, flowed-aside, flowed-asks}
 use proofs.flow.FlowApart.{replied, left-replied, left-served, left-acquire_granted, left-probe_taken}
 use proofs.flow.FlowApart.{left-report_taken, left-release_taken, left-answer_taken, left-grant_taken}

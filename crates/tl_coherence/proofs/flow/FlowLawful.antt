@@ -23,12 +23,12 @@ use proofs.manager.{RequestsTaken.acquire_wanted, Reporting.report-about, Report
 use proofs.manager.ManagerTakes.{report-legal, acquire-legal, by-first_c, same_report-is, seen_cap, unanswered}
 use proofs.manager.Admitted.{first_three, grows, unserved-free}
 use proofs.queues.{Carried.IsNext, Phases.and_left, Phases.and_right, Codes.acquires-so, Tokens.same_number}
-use proofs.queues.Facts.{acquire_fits, answered_other, granting_alone, is_other, release_begins}
-use proofs.queues.PhaseFacts.{asked_alone, acknowledging_quiet, release_alone, report_first, report_fits}
+use proofs.queues.Facts.{acquire_fits, answered_other, granting_alone, is_other, release_begins, asked_alone}
+use proofs.queues.Facts.{acknowledging_quiet, release_alone, report_first, report_fits}
 use proofs.queues.FirstToken.{IsFirst, first-token}
 use proofs.deliveries.FirstRequest.{ends-burst}
 use proofs.protocol.BothParts.{kept-is, is_of-is, first-release, first-report, first-shown}
-use proofs.protocol.Heads.{IsAsked, asked-first, IsWanted, wanted-first, acquisition_beats}
+use proofs.protocol.Room.{IsAsked, asked-first, IsWanted, wanted-first, acquisition_beats}
 use proofs.client.{ClientEnd.sound-beat, ProbeDelivered.not_coming}
 
 -- who isn't granted the block holds what is recorded, as far as was delivered

@@ -2,23 +2,23 @@
 use Rattle.std.proofs.Common.{◌≡◌, ℕ, Bool, true, false, if◌then◌else◌, List, ◌∷◌, refl, sym, ◌∙◌, ap, subst, inl}
 use Rattle.std.proofs.Common.{length}
 use Rattle.tl_coherence.proofs
-use proofs.Imports.{Beat, Channel, IsWidth, Message, MessageA, MessageC, MessageE, beat_of, History, completes, Config}
-use proofs.Imports.{Cap, cap_asked, Acquire, Answer, Grant, GrantAck, Kind, Packet, Probe, ProbeAck, Release}
-use proofs.Imports.{ReleaseAck, Request, AcquireOpen, is_whole, after_probe, after_release_ack, is_granted_data, Block}
-use proofs.Imports.{State, acquire_granted, acquire_served, is_on, is_probed, let_go_block, packet, packets_on}
-use proofs.Imports.{probe_taken, probed_block, release_ack_taken, release_taken, AbstractState, acquire_taken, gift}
-use proofs.Imports.{is_unheld, kind_taken, with_state, some_below, MonitorRelation, cap_sent, message_of_kind}
-use proofs.Imports.{prune_told, block_message, SimulationRelation, asked_by, is_caching, Log, System}
+use proofs.Imports.{Beat, Channel, IsWidth, Message, MessageC, MessageE, beat_of, History, completes, Config, Cap}
+use proofs.Imports.{cap_asked, Acquire, Answer, Grant, GrantAck, Kind, Packet, Probe, ProbeAck, Release, ReleaseAck}
+use proofs.Imports.{Request, AcquireOpen, is_whole, after_probe, after_release_ack, is_granted_data, State}
+use proofs.Imports.{acquire_granted, acquire_served, is_on, is_probed, let_go_block, packet, packets_on, probe_taken}
+use proofs.Imports.{probed_block, release_ack_taken, release_taken, AbstractState, acquire_taken, gift, is_unheld}
+use proofs.Imports.{kind_taken, with_state, some_below, MonitorRelation, cap_sent, message_of_kind, prune_told}
+use proofs.Imports.{block_message, SimulationRelation, asked_by, is_caching, Log, System}
 use Rattle.tl_burst.specs.statement.Messages.{on}
 use proofs.client.{ClientDelivered.ack_next, ClientEnd.asks-same, ProbeDelivered.probe-beat}
 use proofs.client.AsideAll.{Leaves, leaves-at_manager}
 use proofs.queues.{Carried.IsNext, Tokens.set-same, Tokens.set-part}
-use proofs.flow.{FlowAlone.AreRests, FlowAlone.flowed-asks, FlowAsked.asks-left, FlowBeats.one-beat, FlowKinds.settled}
-use proofs.flow.{FlowProbe.own-probe, ChannelD.own-answer, ChannelD.own-release_ack, ChannelD.own-grant}
-use proofs.flow.ChannelA.{own-access, own-acquire_served, own-acquire_granted}
+use proofs.flow.{FlowAlone.AreRests, FlowAlone.flowed-asks, FlowAsked.asks-left, FlowBeats.one-beat}
+use proofs.flow.{FlowBeats.own-probe, FlowKinds.settled, ChannelD.own-answer, ChannelD.own-release_ack}
+use proofs.flow.{ChannelD.own-grant, ChannelA.own-access, ChannelA.own-acquire_served, ChannelA.own-acquire_granted}
 use proofs.flow.ChannelCE.{report_rendered, ack_rendered, own-report, own-release, own-grant_ack}
+use proofs.protocol.Room.{IsAsked, asked-first, IsWanted, wanted-first, acquisition_beats}
 use proofs.protocol.HeadOfD.{IsReady, IsGrantDue, grant-due}
-use proofs.protocol.Heads.{IsAsked, asked-first, IsWanted, wanted-first, acquisition_beats}
 use proofs.manager.RequestsTaken.{acquire_wanted}
 use proofs.simulation.Owned.{unfinished_at}
 
@@ -73,10 +73,7 @@ module _ {w : ℕ} {config : Config} {log : Log w} (h : AbstractState w) {sys : 
         wanted : IsWanted w c i s
         wanted = wanted-first c i toks is tokens
 
-        m : MessageA w
-        m = acquire_wanted c i s wanted
-
-        here : IsNext x (unfinished_at sys c Channel.A) (Message.A m) ms queue
+        here : IsNext x (unfinished_at sys c Channel.A) (Message.A (acquire_wanted c i s wanted)) ms queue
         here = subst (λ z. IsNext x (unfinished_at sys c Channel.A) z ms queue) wanted.renders next
 
         one : completes x (unfinished_at sys c Channel.A) ≡ true
@@ -126,14 +123,11 @@ module _ {w : ℕ} {config : Config} {log : Log w} (h : AbstractState w) {sys : 
         one : completes x (unfinished_at sys c Channel.B) ≡ true
         one = cc ((is.kept c).b_whole, probe-beat c i s next)
 
-        new : Block (List ℕ)
-        new = probed_block c k (s.block i)
-
         asks : (j : ℕ) → asked_by h.mail (probe_taken c i k toks s) c j ≡ asked_by h.mail s c j
         asks j = cc (asks-same c j h.mail h.mail s (probe_taken c i k toks s) refl (inl refl)
-            (λ n used. set-part (λ z. (z.pair c).acquiring) i new s.block
+            (λ n used. set-part (λ z. (z.pair c).acquiring) i (probed_block c k (s.block i)) s.block
             (ap (λ p. p.acquiring) (set-same c (after_probe k ((s.block i).pair c)) (s.block i).pair))
-            n) (λ n used. set-part (λ z. z.source c) i new s.block refl n))
+            n) (λ n used. set-part (λ z. z.source c) i (probed_block c k (s.block i)) s.block refl n))
 
         go : (z : Bool) → completes x (unfinished_at sys c Channel.B) ≡ z
             → FlowsWith x (if z then kind_taken config tracker c Probe i toks h else h)
@@ -201,14 +195,11 @@ module _ {w : ℕ} {config : Config} {log : Log w} (h : AbstractState w) {sys : 
         one : completes x (unfinished_at sys c Channel.D) ≡ true
         one = (one-beat (ack_next c i s next) refl).2
 
-        new : Block (List ℕ)
-        new = let_go_block c (s.block i)
-
         asks : (j : ℕ) → asked_by h.mail (release_ack_taken c i toks s) c j ≡ asked_by h.mail s c j
         asks j = cc (asks-same c j h.mail h.mail s (release_ack_taken c i toks s) refl (inl refl)
-            (λ n used. set-part (λ z. (z.pair c).acquiring) i new s.block
+            (λ n used. set-part (λ z. (z.pair c).acquiring) i (let_go_block c (s.block i)) s.block
             (ap (λ p. p.acquiring) (set-same c (after_release_ack ((s.block i).pair c))
-            (s.block i).pair)) n) (λ n used. set-part (λ z. z.source c) i new s.block refl n))
+            (s.block i).pair)) n) (λ n used. set-part (λ z. z.source c) i (let_go_block c (s.block i)) s.block refl n))
 
         go : (z : Bool) → completes x (unfinished_at sys c Channel.D) ≡ z
             → FlowsWith x (if z then kind_taken config tracker c ReleaseAck i toks h else h)

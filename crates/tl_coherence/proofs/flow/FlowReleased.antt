@@ -8,7 +8,7 @@ use proofs.Imports.{grant_sink-c, probe_of-c, request_of-c, is_of, releases_with
 use proofs.Imports.{ReleaseSent, is_unreleased, Block, State, view, is_acknowledging, is_answered, is_unserved}
 use proofs.Imports.{comes_granting, MonitorRelation, is_let_by, is_release_pending, is_requested, is_sunk, probe_beat}
 use proofs.Imports.{cap_waited}
-use proofs.flow.{FlowAlone.AreRests, FlowAlone.requested-blocks, FlowReported.unsaid}
+use proofs.flow.{FlowAlone.AreRests, FlowAlone.requested-blocks, FlowOthers.unsaid}
 use proofs.flow.FlowStep.{flowed-next, held_by, acquired_by, let_of, granted_by, step, step_quiet, let_still}
 use proofs.flow.FlowStep.{IsReleaseOf}
 use proofs.queues.Tokens.{same_number}

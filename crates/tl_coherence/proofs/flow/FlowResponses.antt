@@ -16,15 +16,15 @@ use proofs.Imports.{is_release_pending, is_requested, is_sunk, AccessMessages, m
 use proofs.Imports.{report_told, block_message, IsGivenAsked, MonitorRelations, SimulationRelation, gives_asked}
 use proofs.Imports.{is_caching, flow, Log, System}
 use Rattle.tl_rules.specs.statement.Conformance as rules
-use proofs.protocol.Heads.{asked-first, rendered-acquire}
 use proofs.protocol.HeadOfD.{acquire-used, IsAnswerDue, answer-due, IsGrantDue, grant-due, grant-rendered, ack-due}
 use proofs.protocol.HeadOfD.{grant_message, ack_message, own_view}
 use proofs.protocol.BothParts.{wanting-is, first-shown, is_of-is, quiet_unanswered}
+use proofs.protocol.Room.{asked-first, rendered-acquire}
 use proofs.queues.{FirstToken.own_kind, FirstToken.IsFirst, FirstToken.first-token, Phases.and_left, Phases.and_right}
 use proofs.queues.{Carried.IsNext, Facts.granting_alone, Tokens.same_number, Codes.access_kind}
-use proofs.client.{ClientDelivered.ack_next, ClientEnd.is_access, ClientEnd.asks-access, ClientEnd.asks-acquire}
-use proofs.client.{ClientEnd.answers_acquire, ClientEnd.fits_asked, ClientEnd.fitting, ClientEnd.has_data}
-use proofs.client.{ClientEnd.next-legal, ResponseOrder.answer-legal, ResponseOrder.grant-legal, ResponseOrder.ack-legal}
+use proofs.client.{ClientDelivered.ack_next, Waiting.answer-legal, Waiting.grant-legal, Waiting.ack-legal}
+use proofs.client.ClientEnd.{is_access, asks-access, asks-acquire, answers_acquire, fits_asked, fitting, has_data}
+use proofs.client.ClientEnd.{next-legal}
 use proofs.flow.FlowLawful.{lawful-beat}
 
 -- ---- what is half taken on channel A

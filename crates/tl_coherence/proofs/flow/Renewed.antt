@@ -6,13 +6,13 @@ use Rattle.std.proofs.Common.{arith, ◌⊎◌, inl, inr, length}
 use Rattle.tl_coherence.proofs
 use proofs.Imports.{same_Some, OpA, Message, MessageA, Config, Cap, Report, Perm, cap_right, same_perm, answer_of}
 use proofs.Imports.{block_at, is_acquire, leaves, needs, Op, Reply, access, access_answer, cap_probed, Answer, Kind}
-use proofs.Imports.{Packet, ProbeAck, set, set_at, Other, ProbeAnswered, is_unprobed, after_report, is_above, Acquires}
-use proofs.Imports.{Asked, Block, GrantSent, InService, Replied, SourceFree, SourceState, State, Waits, ended_block, on}
-use proofs.Imports.{packet, performed_block, view, written, AbstractState, access_taken, answers, asked, bytes_at}
-use proofs.Imports.{kind_taken, last_taken, performs, probes_some, taken_by_client, some_below, report_told}
-use proofs.Imports.{SimulationRelation, is_caching, IsFor, Log, perm_le, System}
-use proofs.client.AnswersKept.{set_at-apart}
-use proofs.manager.Choices.{plain-past}
+use proofs.Imports.{Packet, ProbeAck, set, set_at, Other, is_unprobed, after_report, is_above, Acquires, Asked, Block}
+use proofs.Imports.{GrantSent, InService, Replied, SourceFree, SourceState, State, Waits, ended_block, on, packet}
+use proofs.Imports.{performed_block, view, written, AbstractState, access_taken, answers, asked, bytes_at, kind_taken}
+use proofs.Imports.{last_taken, performs, probes_some, taken_by_client, some_below, report_told, SimulationRelation}
+use proofs.Imports.{is_caching, IsFor, Log, perm_le, System}
+use proofs.client.ProbeDelivered.{set_at-apart}
+use proofs.manager.Accounts.{plain-past}
 use proofs.queues.{Codes.low_cap, Tokens.set-same, Tokens.set_at-same}
 use proofs.protocol.{Granted.recorded_within, RequestsKept.unprobed, RequestsKept.settled_all, BothParts.first-report}
 use proofs.protocol.HeadOfD.{IsReady, ready-access, true-taken}
@@ -184,10 +184,10 @@ renewed-kind_taken {w} {config} tracker c k i rest h is first ready =
         → (h.state.block n).service ≡ Waits q false source j
         → AreRenewed h (last_taken clients config.profile c n (report_told ((h.state.block n).pair c).probing)
         (Waits q false source j) rest h)
-    reported n q source j known last waits = renewed-reply q source m (written r b.truth b.memory) h
-        (last_taken clients config.profile c n r (Waits q false source j) rest h) (λ d i. refl) (λ d i. refl)
-        (λ d i. refl) (rw waits at (is.served_with n)) settled (ap (answers m) (memory-reported c q source r j
-        (is.invariant.blocks n) waits answer quiet ∙ ap (λ i. (h.state.block i).truth) (sym for.2)))
+    reported n q source j known last waits = renewed-reply q source m (written r b.truth b.memory) h (last_taken
+        clients config.profile c n r (Waits q false source j) rest h) (λ d i. refl) (λ d i. refl) (λ d i. refl)
+        (rw waits at (is.served_with n)) settled (ap (answers m) (memory-reported c q source r j (is.invariant.blocks n)
+        waits (first-report is.invariant known) quiet ∙ ap (λ i. (h.state.block i).truth) (sym for.2)))
       where
         b : Block (List ℕ)
         b = h.state.block n
@@ -201,9 +201,6 @@ renewed-kind_taken {w} {config} tracker c k i rest h is first ready =
         for : IsFor (Waits q false source j) n m
         for = rw waits at (is.served.requests n)
 
-        answer : (b.pair c).probing ≡ ProbeAnswered r
-        answer = first-report is.invariant known
-
         quiet : (d : ℕ) → (d ≡ c → ⊥) → is_unprobed (b.pair d).probing ≡ true
         quiet = settled_all _ (is_caching config) c b.pair (plain-past config) (is.invariant.blocks n).outside last
 
@@ -211,10 +208,8 @@ renewed-kind_taken {w} {config} tracker c k i rest h is first ready =
         other d = rw waits refl
 
         settled : IsSettledFor m (last_taken clients config.profile c n r (Waits q false source j) rest h).state
-        settled d = ap (λ i. leaves (needs m.opcode) ((set n new h.state.block i).pair d).recorded) for.2
-            ∙ ap (λ z. leaves (needs m.opcode) (z.pair d).recorded) (set-same n new h.state.block)
-            ∙ leaves_within m.opcode m.param j (set c (after_report r (b.pair c)) b.pair d).recorded for.0 for.3
-            (recorded_within c r j (is.invariant.blocks n) answer quiet (other c) d (other d))
-          where
-            new : Block (List ℕ)
-            new = ended_block c r (performs m) b
+        settled d = ap (λ i. leaves (needs m.opcode) ((set n (ended_block c r (performs m) b) h.state.block i).pair
+            d).recorded) for.2 ∙ ap (λ z. leaves (needs m.opcode) (z.pair d).recorded)
+            (set-same n (ended_block c r (performs m) b) h.state.block) ∙ leaves_within m.opcode m.param
+            j (set c (after_report r (b.pair c)) b.pair d).recorded for.0 for.3 (recorded_within c r j
+            (is.invariant.blocks n) (first-report is.invariant known) quiet (other c) d (other d))

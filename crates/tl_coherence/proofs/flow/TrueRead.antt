@@ -4,14 +4,14 @@ use Rattle.std.proofs.Common.{arith, inr, length, is_some}
 use Rattle.tl_coherence.proofs
 use proofs.Imports.{Beat, BeatA, BeatD, Channel, OpD, Message, MessageA, MessageD, a_beat_of, d_beat_of, channel_of}
 use proofs.Imports.{unfinished, Config, open_request, on_link, Memory, answer_of, effect, block_at, request_of, is_free}
-use proofs.Imports.{needs, access_answer, grant_opcode, level_of, Replied, AbstractState, answers, SimulationRelation}
-use proofs.Imports.{MonitorRelations, flow, trace_of, IsGiven, Log, system_after, one_memory_after, System}
+use proofs.Imports.{needs, access_answer, grant_opcode, level_of, Replied, AbstractState, answers, MonitorRelations}
+use proofs.Imports.{flow, trace_of, IsGiven, Log, system_after, one_memory_after, System}
 use Rattle.tl_coherence.specs.statement.TrueReads.{IsTrueRead, TrueReads, WasFound, lanes_found}
-use proofs.bound.{Settling.given-before}
-use proofs.deliveries.{Matching.shadow}
+use proofs.bound.Settling.{given-before}
+use proofs.deliveries.Matching.{shadow}
 use proofs.flow.{FlowTaken.each-taken, FlowTraces.trace-flows, Flows.flowed, NextOnD.next-on_d, Renewed.IsSettledFor}
 use proofs.flow.Windowed.{asked_flow, closed_first, free-now, opened-now, renewed-followed, same_first}
-use proofs.links.{FromInvariant.matched-given}
+use proofs.links.FromInvariant.{matched-given}
 use proofs.memory.{OneMemory.reply-performed, BesideTaken.same_message}
 
 -- ---- what is answered
@@ -93,15 +93,12 @@ true-next : {w : ℕ} {config : Config} {log : Log w} → IsGiven config log →
     → WasFound config c y.source x y.lanes (length (unfinished Channel.D (flow c log))) log
 true-next {w} {config} {log} given c y queue beats x with_data asks =
     let no_grant : (b : Bool) → grant_opcode b ≡ OpD.AccessAckData → ⊥ = elim [ true ↦ λ e. cc | false ↦ λ e. cc ] in
-    next-on_d config log h c y queue given.width is values beats Found (λ i due e. answer i _ _ e (ap (λ z. z.source)
-    e ∙ due.from) due.used due.request_is due.answer_is) (λ i grant. no_answer (ap (λ z. z.opcode) grant.beat_is)
-    (no_grant grant.due.data_too)) (λ i j e. no_answer (ap (λ z. z.opcode) e) (λ f. cc))
+    next-on_d config log h c y queue given.width (matched-given _ log given) values beats Found (λ i due e. answer i _ _
+    e (ap (λ z. z.source) e ∙ due.from) due.used due.request_is due.answer_is) (λ i grant. no_answer (ap (λ z. z.opcode)
+    grant.beat_is) (no_grant grant.due.data_too)) (λ i j e. no_answer (ap (λ z. z.opcode) e) (λ f. cc))
   where
     h : AbstractState w
     h = shadow config log
-
-    is : SimulationRelation config log h.mail h.request h.state (system_after config log)
-    is = matched-given _ log given
 
     values : MonitorRelations log h.mail h.state (system_after config log)
     values = flowed config log given.width given.typed given.is_log
@@ -121,9 +118,9 @@ true-next {w} {config} {log} given c y queue beats x with_data asks =
         let used_y : h.state.uses c y.source ≡ Replied = ap (h.state.uses c) from ∙ used in
         let request_y : h.mail.request c y.source ≡ Message.A m = ap (h.mail.request c) from ∙ request in
         subst (λ u. WasFound config c y.source u y.lanes k log) (same_first x (a_beat_of m 0)
-        (sym asks ∙ asked_flow config log h (system_after config log) is values c y.source m used_y request_y))
-        (rw (ap (λ u. u.lanes) e) (found-beat config c y.source m z k log (sym (ap (λ u. u.opcode) e) ∙ with_data)
-        (rw (ap (h.mail.answer c) from ∙ reply) at (answered log given c y.source m used_y request_y))))
+        (sym asks ∙ asked_flow config log h (system_after config log) (matched-given _ log given) values c y.source m
+        used_y request_y)) (rw (ap (λ u. u.lanes) e) (found-beat config c y.source m z k log (sym (ap (λ u. u.opcode) e)
+        ∙ with_data) (rw (ap (h.mail.answer c) from ∙ reply) at (answered log given c y.source m used_y request_y))))
 
 true-moved : {w : ℕ} (config : Config) (log : Log w) → IsGiven config log → (c : ℕ) (x : Beat w) (queue : List (Beat w))
     → (system_after config log).channels c (channel_of x) ≡ x ∷ queue → IsTrueRead config c x log

@@ -21,7 +21,7 @@ use proofs.flow.{FlowResponses.not-coming_a, FlowResponses.waits_on_a, GivenAlon
 use proofs.flow.Renewed.{AreRenewed, AreKept, IsSettledFor, kept-asked, renewed-kind_taken}
 use proofs.links.FromInvariant.{matched-given}
 use proofs.queues.{Facts.held_at_most, Phases.nothing_below, Steps.stepped-asked}
-use proofs.simulation.FollowCases.{followed-cases, on-first}
+use proofs.simulation.Moved.{followed-cases, on-first}
 use proofs.memory.BesideTaken.{same_message}
 
 -- ---- what is held and excludes nothing
@@ -168,16 +168,13 @@ answered-next : {w : ℕ} {config : Config} {log : Log w} → IsGiven config log
     → has_window n c y.source (needs x.opcode) (block_at x.address) (trace_of log) ≡ true
 answered-next {w} {config} {log} given c y queue beats n x answers asks =
     let no_answer : is_access_answer y.opcode ≡ false → Windowed x = λ e. absurd cc in
-    cc (next-on_d config log h c y queue given.width is values beats (Windowed x)
+    cc (next-on_d config log h c y queue given.width (matched-given _ log given) values beats (Windowed x)
     (λ i due e. answer i _ (ap (λ z. z.source) e ∙ due.from) due.used due.request_is)
     (λ i grant. no_answer (ap (λ z. is_access_answer z.opcode) grant.beat_is
     ∙ grants_no_access grant.due.data_too)) (λ i k e. no_answer (ap (λ z. is_access_answer z.opcode) e)))
   where
     h : AbstractState w
     h = shadow config log
-
-    is : SimulationRelation config log h.mail h.request h.state (system_after config log)
-    is = matched-given _ log given
 
     values : MonitorRelations log h.mail h.state (system_after config log)
     values = flowed config log given.width given.typed given.is_log
@@ -191,8 +188,8 @@ answered-next {w} {config} {log} given c y queue beats n x answers asks =
         let used_y : h.state.uses c y.source ≡ Replied = ap (h.state.uses c) from ∙ used in
         let request_y : h.mail.request c y.source ≡ Message.A m = ap (h.mail.request c) from ∙ request in
         subst Windowed (same_first x (a_beat_of m 0) (sym asks ∙ ap (request_of y.source) (trace-flows c log)
-        ∙ asked_flow config log h (system_after config log) is values c y.source m used_y request_y))
-        (windowed config log given.width given.typed given.is_log n c y.source m used_y request_y)
+        ∙ asked_flow config log h (system_after config log) (matched-given _ log given) values c y.source m used_y
+        request_y)) (windowed config log given.width given.typed given.is_log n c y.source m used_y request_y)
 
 in_time-moved : {w : ℕ} (config : Config) (log : Log w) → IsGiven config log → (c : ℕ) (x : Beat w)
     (queue : List (Beat w)) → (system_after config log).channels c (channel_of x) ≡ x ∷ queue

@@ -16,7 +16,7 @@ use Rattle.tl_rules.specs.statement.Legality.{breaks_l2, breaks_l3, c_has_param,
 use Rattle.tl_rules.proofs.Sizes.{response-small}
 use Rattle.tl_manager.proofs.words_of_clients.Masks.{request_small}
 use proofs.simulation.{Bounded.matched-bounded, BeatsInFlight.level-terms, Owned.sources-own}
-use proofs.memory.Bytes.{remembered-ranged}
+use proofs.memory.OneMemory.{remembered-ranged}
 use proofs.client.ClientEnd.{sound-beat}
 use proofs.links.FromInvariant.{flow_still, matched-given}
 use proofs.queues.FirstToken.{IsFirst, first-token}

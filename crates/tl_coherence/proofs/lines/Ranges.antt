@@ -1,7 +1,7 @@
 -- The numbers of each beat on a channel are within their types.
 use Rattle.std.proofs.Common.{◌≡◌, ℕ, zero, suc, ◌+◌, ◌*◌, ◌-◌, ◌^◌, ◌<◌, ◌≤◌, Bool, true, false, List, [], ◌∷◌, ◌++◌}
 use Rattle.std.proofs.Common.{Option, Some, None, refl, sym, arith, ◌%◌, length, lit<, leb-true, drop, IfSome}
-use Rattle.std.proofs.Common.{replicate, nat_le, slice_get, option_map}
+use Rattle.std.proofs.Common.{replicate, slice_get, nat_le, option_map}
 use Rattle.std.proofs.lemmas.List.Elements.{All-drop, All-from_get_or, All-replicate, All-take}
 use Rattle.tl_coherence.proofs
 use proofs.Imports.{and_parts, All-append, Channel, OpB, IsInRange, Message, MessageA, beat_of, lanes_at, ClientConfig}
@@ -14,7 +14,7 @@ use proofs.Imports.{acquire_of, grant_of, message_of_kind, prune_told, report_to
 use proofs.Imports.{SimulationRelation, sources_of, Log, Requests, one_memory_after, AreBytes, System, terms_at}
 use Rattle.tl_beat.specs.statement.Line.{AreLanes as HasLanes}
 use Rattle.tl_rules.specs.statement.Effect as memory
-use proofs.memory.Bytes.{IsRangedMachine, IsRangedOpen, IsRangedReply}
+use proofs.memory.OneMemory.{IsRangedMachine, IsRangedOpen, IsRangedReply}
 use proofs.protocol.Capacities.{acquire_named, answer_named, grant_ack_named, grant_named, release_ack_named}
 use proofs.protocol.Capacities.{release_named, request_named, AreBounded, shown_there, shows_it, tracker_of_service}
 use proofs.queues.{Channels.same_kind_again, Tokens.same_number, Limits.limits-fit}

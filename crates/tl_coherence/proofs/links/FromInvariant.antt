@@ -1,7 +1,7 @@
 -- Channels lose nothing and keep order, whatever happens.
 -- What holds of every manager and its clients, whatever happens to them: of what is kept of the whole.
 use Rattle.std.proofs.Common.{◌≡◌, ℕ, ◌≤◌, Bool, true, false, ◌==◌, if◌then◌else◌, List, [], ◌∷◌, ◌++◌, Option, Some}
-use Rattle.std.proofs.Common.{None, Ok, refl, sym, ◌∙◌, ap, ap₂, subst, arith, inl, inr, ◌/◌, length, ne_eqb, All, map}
+use Rattle.std.proofs.Common.{None, Ok, refl, sym, ◌∙◌, ap, ap₂, subst, arith, inl, inr, length, ◌/◌, ne_eqb, All, map}
 use Rattle.tl_coherence.proofs
 use proofs.Imports.{cases_eq, All-head, ⊤, Beat, Link, Channel, IsWidth, Message, beat_of, burst_of, History, Config}
 use proofs.Imports.{Perm, Trace, on_link, Op, Verdict, op_block, EndConfig, Endpoint, held_at, reaction_handable}
@@ -23,17 +23,17 @@ use Rattle.tl_client.specs.statement.Offer as offer
 use Rattle.tl_manager.specs.code.Kept as manager
 use Rattle.tl_manager.specs.statement.Reaction as manager_reaction
 use Rattle.tl_manager.specs.statement.Offer as manager_offer
-use proofs.links.{HeadsOfLinks.first-of, Granting.granted-holds, Stalling.exact}
-use proofs.links.FifoSteps.{ArePassing, heard_at, queued_at, client-says, manager-says, client-hears, manager-hears}
-use proofs.links.FifoSteps.{passing-same}
+use proofs.links.{HeadsOfLinks.first-of, Granting.granted-holds, Granting.exact}
+use proofs.links.Ending.{ArePassing, heard_at, queued_at, client-says, manager-says, client-hears, manager-hears}
+use proofs.links.Ending.{passing-same}
 use proofs.deliveries.DeliverDUnmoved.{unmoved}
 use proofs.deliveries.Matching.{shadow, matched, not_moving, stepped-nobody}
 use proofs.queues.{Steps.IsOn, Steps.on_own_channel, Steps.clients-with_messages, Steps.manager-with_messages}
 use proofs.queues.{Steps.stepped-asked, Steps.stepped-empty, Tokens.same_number, Facts.held_at_most}
-use proofs.simulation.Owned.{channels-few}
 use proofs.simulation.BeatsInFlight.{copy-long, IsOfClient, IsFitIfAny, IsFitAnswer, fit-asked, fit-taken}
 use proofs.simulation.Moved.{IsTakenByClient, IsTakenByManager, client-moves, manager-moves}
-use proofs.memory.Coherence.{coherent-matched}
+use proofs.simulation.Owned.{channels-few}
+use proofs.memory.BesideTaken.{coherent-matched}
 
 -- ---- the whole
 

@@ -12,15 +12,15 @@ use Rattle.tl_coherence.proofs.queues.FirstToken as packet
 use Rattle.tl_manager.specs.statement.End as manager_end
 use Rattle.tl_manager.specs.statement.Offer as manager
 use proofs.queues.{Carried.IsNext, FirstToken.first-token}
-use proofs.client.ClientDelivered.{shadow_of, delivered-d}
 use proofs.client.ProbeDelivered.{IsProbed, delivered-b}
+use proofs.client.ClientDelivered.{shadow_of, delivered-d}
 use proofs.manager.{Reporting.report-about, Reporting.release-about, RequestsTaken.next_tracker}
 use proofs.manager.ManagerTakes.{by-first_c, by-first_e}
-use proofs.memory.Runs.{IsTakenUp, IsTakenIn}
-use proofs.links.Stalling.{IsFirst}
+use proofs.memory.BesideTaken.{IsTakenUp, IsTakenIn}
+use proofs.links.Granting.{IsFirst}
 use proofs.protocol.HeadOfD.{answer-due, grant-due, grant-rendered}
+use proofs.deliveries.FirstRequest.{arrival-first, request-taken, request-stalled}
 use proofs.deliveries.ManagerDelivered.{channel_c-delivered, channel_e-delivered}
-use proofs.deliveries.FirstRequest.{IsArrival, arrival-first, request-taken, request-stalled}
 
 -- ---- the channel of the first beat
 
@@ -107,13 +107,10 @@ first-of {w} config log h c terms Channel.A x queue width is at beats =
       probes = λ y e. not_probe x y _ on (λ f. absurd cc) e;
     }
   where
-    arrives : IsArrival config h (system_after config log) c x queue
-    arrives = arrival-first h c x queue width is beats
-
     either : (b : Bool) → manager.must_wait config (record { 0 = c }) x (system_after config log).manager.trace ≡ b
         → IsTakenIn (manager.offered config (record { 0 = c }) Channel.A x (system_after config log).manager)
-    either true e = taken_in _ _ (request-stalled is beats arrives e) tt
-    either false e = taken_in _ _ (request-taken width is beats arrives e) tt
+    either true e = taken_in _ _ (request-stalled is beats (arrival-first h c x queue width is beats) e) tt
+    either false e = taken_in _ _ (request-taken width is beats (arrival-first h c x queue width is beats) e) tt
 first-of {w} config log h c terms Channel.B x queue width is at beats =
     let k : Cap = cap_sent ((h.state.block probed.0).pair c).probing in
     let is_one : (y : BeatB w) → Beat.B (probe_beat probed.0 k) ≡ Beat.B y → is_probe y.opcode ≡ true =

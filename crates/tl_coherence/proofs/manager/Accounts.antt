@@ -1,26 +1,33 @@
 -- What the manager knows follows from five things: what it recorded, which ProbeAcks it misses, which service each
 -- block has, and which request that is. This is for all of its events alike.
 -- The manager's end beside the protocol: all that is kept of it in one, and what follows from one trace and one memory.
-use Rattle.std.proofs.Common.{◌≡◌, ℕ, ◌*◌, Bool, true, false, not, ◌&&◌, ◌||◌, ◌==◌, if◌then◌else◌, List, [], Option}
-use Rattle.std.proofs.Common.{Some, None, refl, sym, ◌∙◌, ap, arith, eqb-true}
+-- Clients that pass a test, as the manager finds them and as the protocol does; and which source a
+-- request that waits has.
+use Rattle.std.proofs.Common.{◌≡◌, ℕ, zero, suc, ◌*◌, ◌<◌, ◌≤◌, Bool, true, false, not, ◌&&◌, ◌||◌, ◌==◌, if◌then◌else◌}
+use Rattle.std.proofs.Common.{List, [], ◌∷◌, Option, Some, None, refl, sym, ◌∙◌, ap, arith, length, eqb-true, lt-ltb}
+use Rattle.std.proofs.lemmas.Option.{slice_get_past}
 use Rattle.std.proofs.Math.Bool.{or_comm}
 use Rattle.std.specs.Cmp.Derive.{one_truth}
 use Rattle.tl_coherence.proofs
 use proofs.Imports.{same_Some, Channel, MessageA, unfinished, Config, Cap, Trace, comes_in_request, on_link, bytes_from}
-use proofs.Imports.{probe_of, some_is, IsKept, IsProbed, is_any, End, cap_probed, service_of_block, services}
-use proofs.Imports.{IsInvariant, IsOwnSource, is_busy, is_serving, Acknowledging, GrantedOther, Granting, Other, Own}
-use proofs.Imports.{View, is_unprobed, Acquires, Asked, Free, GrantSent, GrantTaken, InService, Replied, Service}
-use proofs.Imports.{SourceFree, SourceState, State, Waits, view, is_acknowledging, is_granting, is_wanting}
-use proofs.Imports.{ManagerRelation, client_in, is_own, service_with, AccessMessages, probe_beat, IsServedWith}
-use proofs.Imports.{SimulationRelation, IsFor, ServedSourceRelation, cap_waited, is_granted, is_served, Log, System}
+use proofs.Imports.{probe_of, is_one_of, some_is, IsKept, IsProbed, is_any, End, cap_probed, is_nobody}
+use proofs.Imports.{service_of_block, services, IsInvariant, IsOwnSource, is_busy, is_serving, Acknowledging}
+use proofs.Imports.{GrantedOther, Granting, Other, Own, View, is_unprobed, Acquires, Asked, Free, GrantSent, GrantTaken}
+use proofs.Imports.{InService, Replied, Service, SourceFree, SourceState, State, Waits, view, is_acknowledging}
+use proofs.Imports.{is_granting, is_wanting, some_below, ManagerRelation, client_in, is_own, service_with}
+use proofs.Imports.{AccessMessages, probe_beat, IsServedWith, SimulationRelation, is_caching, IsFor}
+use proofs.Imports.{ServedSourceRelation, cap_waited, is_granted, is_served, Log, System}
 use Rattle.tl_manager.specs.laws.Pending.{is_asking, is_granted_with}
 use Rattle.tl_manager.proofs.pending.Sources.{source-pending, sink-pending}
+use Rattle.tl_manager.specs.statement.Holders.{clients_where}
+use Rattle.tl_manager.proofs.words_of_clients.Clients.{among-where, nobody-is, nobody-where, where-same}
 use Rattle.tl_manager.specs.laws.Pending as waits
 use Rattle.tl_manager.specs.statement.Service as manager
+use proofs.queues.{Facts.own_wants, Tokens.same_number, Phases.and_left, Phases.and_right}
+use proofs.protocol.RequestsKept.{some-none}
+use proofs.protocol.BothParts.{acquires_of-is, serves_of-is, not-calm, is_of-is}
 use proofs.manager.BlockAccounts.{IsTraced, IsSameToManager, SameService, traced-same, any-of, any-found, is_granted_in}
 use proofs.manager.BlockAccounts.{at_service, granted-is}
-use proofs.queues.{Facts.own_wants, Phases.and_left, Phases.and_right, Tokens.same_number}
-use proofs.protocol.BothParts.{is_of-is, acquires_of-is, serves_of-is, not-calm}
 
 -- ---- sources
 
@@ -34,15 +41,13 @@ asking-served request c source n tracker (GrantSent q d k) inv f for ungranted r
 asking-served request c source n tracker (GrantTaken q) inv f for ungranted r client same here = absurd cc
 asking-served request {s} c source n tracker (Waits q own src k) inv f for ungranted r client same here = go own refl
   where
-    q_is : q ≡ c
-    q_is = same_Some q r client ∙ eqb-true r c same
-
     src_is : src ≡ source
     src_is = sym for.1 ∙ eqb-true (request n).source source here
 
     go : (b : Bool) → own ≡ b → is_served c (s.uses c source) s ≡ true
     go true g =
-        let waits_so : (s.block n).service ≡ Waits c true source k = f ∙ rw (q_is, src_is, g) refl in
+        let waits_so : (s.block n).service ≡ Waits c true source k = f
+        ∙ rw ((same_Some q r client ∙ eqb-true r c same), src_is, g) refl in
         let own_view : view (s.block n).service c ≡ Own = rw (waits_so, same_number c) refl in
         let wants = not-calm _ (own_wants ((s.block n).pair c) (view (s.block n).service c)
         ((inv.blocks n).phases c) own_view) in
@@ -50,7 +55,8 @@ asking-served request {s} c source n tracker (Waits q own src k) inv f for ungra
         ∙ rw (wants, ← (rw waits_so at (inv.blocks n).own_source), same_number source) refl) in
         rw (used, own_view) refl
     go false g =
-        let waits_so : (s.block n).service ≡ Waits c false source k = f ∙ rw (q_is, src_is, g) refl in
+        let waits_so : (s.block n).service ≡ Waits c false source k = f
+        ∙ rw ((same_Some q r client ∙ eqb-true r c same), src_is, g) refl in
         rw (serves_of-is n (s.uses c source) (cc (inv.named.serves c source n, same_number c, same_number source))) refl
 
 -- the block whose service a served use is of
@@ -187,18 +193,16 @@ sinks-traced : {w : ℕ} {X : Type 0} {caching : ℕ → Bool} {config : Config}
     → (c sink : ℕ) → is_any (is_granted_with c sink e.trace) (services e.trace) ≡ is_granted c (s.tracked sink) s
 sinks-traced {w} {request} {s} {e} inv kept is c sink = one_truth _ _ granted_with (with_granted (s.tracked sink) refl)
   where
-    t : Trace w
-    t = e.trace
-
     client_of : (o : Option ℕ) (tracker : ℕ) (m : MessageA w) (v : manager.Service w)
         → service_with o tracker m ≡ Some v → (o ≡ Some v.link.0) × (v.tracker ≡ tracker)
     client_of None tracker m v f = absurd cc
     client_of (Some r) tracker m v f = let v_is = some_is (at_service r tracker m) v f in
         (ap (λ u. Some u.link.0) v_is, sym (ap (λ u. u.tracker) v_is))
 
-    granted_with : is_any (is_granted_with c sink t) (services t) ≡ true → is_granted c (s.tracked sink) s ≡ true
+    granted_with : is_any (is_granted_with c sink e.trace) (services e.trace) ≡ true → is_granted c (s.tracked sink) s
+        ≡ true
     granted_with any =
-        let one = any-found (is_granted_with c sink t) _ kept.blocks_apart any in
+        let one = any-found (is_granted_with c sink e.trace) _ kept.blocks_apart any in
         let n : ℕ = one.block in
         let v : manager.Service w = one.service in
         let yes = and_right (v.tracker == sink) _ (and_right (v.link.0 == c) _ one.passes) in
@@ -211,15 +215,15 @@ sinks-traced {w} {request} {s} {e} inv kept is c sink = one_truth _ _ granted_wi
         (s.block n).service granted (of.0 ∙ ap Some (eqb-true v.link.0 c (and_left (v.link.0 == c) _ one.passes)))
 
     with_granted : (o : Option ℕ) → s.tracked sink ≡ o → is_granted c o s ≡ true
-        → is_any (is_granted_with c sink t) (services t) ≡ true
+        → is_any (is_granted_with c sink e.trace) (services e.trace) ≡ true
     with_granted None f g = absurd cc
     with_granted (Some n) f g =
         let to = granted-to c _ g in
         let v : manager.Service w = at_service c (s.block n).tracker (request n) in
-        let found : service_of_block n (services t) ≡ Some v = cc (is.serving_is n, to.1) in
+        let found : service_of_block n (services e.trace) ≡ Some v = cc (is.serving_is n, to.1) in
         let number = eqb-true sink (s.block n).tracker (and_right (is_busy (s.block n).service)
         (sink == (s.block n).tracker) (sym (inv.named.trackers sink n) ∙ rw (f, same_number n) refl)) in
-        any-of n (is_granted_with c sink t) _ v found
+        any-of n (is_granted_with c sink e.trace) _ v found
         (rw (same_number c, granted-is inv kept is n v found ∙ to.0, ← number, same_number sink) refl)
 
 -- ---- all of it
@@ -309,3 +313,59 @@ pub at_manager-same : {w : ℕ} {config : Config} {mail : AccessMessages w} {req
     {s u : State (List ℕ)} {e : End w} → IsSameToManager s u → ((n : ℕ) → (u.block n).memory ≡ (s.block n).memory)
     → IsAtManager config mail request s e → IsAtManager config mail request u e
 at_manager-same {mail} {request} {s} {u} same memory is = grind (arith, traced-same, same_with)
+
+-- ---- clients that pass a test
+
+pub some-found : (n : ℕ) (test : ℕ → Bool) → some_below n test ≡ true → (i : ℕ) × (i < n) × (test i ≡ true)
+unfolding some_below
+some-found zero test e = absurd cc
+some-found (suc n) test e = go (test n) refl e (λ f. some-found n test f)
+  where
+    go : (b : Bool) → test n ≡ b → (b || some_below n test) ≡ true
+        → (some_below n test ≡ true → (i : ℕ) × (i < n) × (test i ≡ true)) → (i : ℕ) × (i < suc n) × (test i ≡ true)
+    go b e f g = grind arith
+
+-- nobody passes, as the manager finds them, where none does below the number of clients
+nobody-some : (config : Config) (test : ℕ → Bool)
+    → is_nobody (clients_where config test) ≡ not (some_below (length config.clients.items) test)
+nobody-some config test = go (some_below (length config.clients.items) test) refl
+    (is_nobody (clients_where config test)) refl
+  where
+    go : (b : Bool) → some_below (length config.clients.items) test ≡ b → (x : Bool)
+        → is_nobody (clients_where config test) ≡ x → x ≡ not b
+    go true e true f =
+        let one = some-found _ test e in
+        let among : is_one_of one.0 (clients_where config test) ≡ true =
+        among-where config test one.0 ∙ rw (lt-ltb one.0 (length config.clients.items) one.1, one.2) refl in
+        let none = nobody-is _ f one.0 in
+        absurd cc
+    go true e false f = refl
+    go false e x f = sym f ∙ (nobody-where config test).1 (some-none (length config.clients.items) test e)
+
+-- the clients that the manager finds with a test that agrees
+pub nobody-same : (config : Config) (f g : ℕ → Bool) → ((d : ℕ) → f d ≡ g d)
+    → is_nobody (clients_where config f) ≡ not (some_below (length config.clients.items) g)
+nobody-same config f g same = ap is_nobody (where-same 0 (length config.clients.items) f g same) ∙ nobody-some config g
+
+pub some-clients : (clients : List ℕ) → is_nobody clients ≡ false → (d : ℕ) × (ds : List ℕ) × (clients ≡ d ∷ ds)
+some-clients clients e = grind arith
+
+pub no-clients : (clients : List ℕ) → is_nobody clients ≡ true → clients ≡ []
+no-clients clients e = grind arith
+
+-- who isn't a client keeps no copies
+pub plain-past : (config : Config) (d : ℕ) → length config.clients.items ≤ d → is_caching config d ≡ false
+plain-past config d past = rw (slice_get_past config.clients.items d past) refl
+
+-- ---- the source of a request that waits
+
+pub waits-used : {X : Type 0} {caching : ℕ → Bool} {s : State X} (n r source : ℕ) (own : Bool) (k : Cap)
+    → IsInvariant caching s → (s.block n).service ≡ Waits r own source k
+    → s.uses r source ≡ (if own then Acquires n else InService n)
+waits-used {s} n r source true k inv e =
+    let sourced : IsOwnSource (Waits r true source k) (s.block n).source = rw e at (inv.blocks n).own_source in
+    let wants = not-calm _ (own_wants ((s.block n).pair r) (view (s.block n).service r)
+    ((inv.blocks n).phases r) (rw (e, same_number r) refl)) in
+    acquires_of-is n _ (inv.named.acquires r source n ∙ rw (wants, ← sourced, same_number source) refl)
+waits-used {s} n r source false k inv e =
+    serves_of-is n _ (inv.named.serves r source n ∙ rw (e, same_number r, same_number source) refl)

@@ -19,9 +19,9 @@ use Rattle.tl_manager.{specs.code.Kept.IsTyped}
 use Rattle.tl_manager.specs.statement.Offer.{judged, offered, taken, judged_at}
 use Rattle.tl_manager.specs.statement.Offer as manager
 use proofs.manager.{Probing.link_of, ManagerTakes.acquire-legal}
-use proofs.queues.{Facts.acquire_fits, PhaseFacts.asked_alone, Phases.and_left, Phases.and_right}
-use proofs.queues.{Channels.same_kind_again, Tokens.same_number, Codes.acquires-so}
-use proofs.protocol.{Heads.IsWanted, BothParts.first-shown}
+use proofs.queues.{Phases.and_left, Phases.and_right, Channels.same_kind_again, Tokens.same_number, Codes.acquires-so}
+use proofs.queues.Facts.{acquire_fits, asked_alone}
+use proofs.protocol.{Room.IsWanted, BothParts.first-shown}
 
 -- ---- a Release that is unfinished at the manager is on its way
 

@@ -103,28 +103,26 @@ pub granted-is : {w : ℕ} {X : Type 0} {caching : ℕ → Bool} {config : Confi
     → service_of_block n (services e.trace) ≡ Some v → waits.is_granted e.trace v ≡ is_granted_in (s.block n).service
 granted-is {w} {X} {config} {s} {e} inv kept is n v found = go (s.block n).service refl
   where
-    t : Trace w
-    t = e.trace
-
-    granted : is_granted_in (s.block n).service ≡ true → waits.is_granted t v ≡ true
+    granted : is_granted_in (s.block n).service ≡ true → waits.is_granted e.trace v ≡ true
     granted f =
         let only : (b : Bool) → (b || false) ≡ true → b ≡ true = elim [ true ↦ λ g. refl | false ↦ λ g. absurd cc ] in
-        let awaited : is_awaited config n t (Some v) ≡ true = cc (found, kept.steady.awaited n) in
-        only (waits.is_granted t v)
-        (rw (all-settled config n t (λ c. is.probes c n ∙ ap not (quiet_unless ((s.block n).pair c) (view
+        let awaited : is_awaited config n e.trace (Some v) ≡ true = cc (found, kept.steady.awaited n) in
+        only (waits.is_granted e.trace v)
+        (rw (all-settled config n e.trace (λ c. is.probes c n ∙ ap not (quiet_unless ((s.block n).pair c) (view
         (s.block n).service c) ((inv.blocks n).phases c) (granted_views (s.block n).service c f)))) at awaited)
 
     waiting : (service : Service) → (s.block n).service ≡ service → IsAwaited service (s.block n).pair
-        → is_granted_in service ≡ false → (service ≡ Free → ⊥) → waits.is_granted t v ≡ false
+        → is_granted_in service ≡ false → (service ≡ Free → ⊥) → waits.is_granted e.trace v ≡ false
     waiting Free f someone g busy = absurd (busy refl)
     waiting (Waits r own source k) f someone g busy =
-        let missing : pending (ProbeOf n) (on_link someone.0 t) ≡ true = is.probes someone.0 n ∙ ap not someone.1 in
-        let probed : IsProbed someone.0 n t = (kept.steady.accounted.blocks n).probes someone.0 missing in
+        let missing : pending (ProbeOf n) (on_link someone.0 e.trace) ≡ true = is.probes someone.0 n
+        ∙ ap not someone.1 in
+        let probed : IsProbed someone.0 n e.trace = (kept.steady.accounted.blocks n).probes someone.0 missing in
         rw (some_is probed.service v (sym probed.serves ∙ found)) at probed.unanswered
     waiting service f someone g busy = absurd cc
 
-    go : (service : Service) → (s.block n).service ≡ service → waits.is_granted t v ≡ is_granted_in service
-    go Free f = absurd (let none : service_of_block n (services t) ≡ None = is.serving_is n ∙ rw f refl in
+    go : (service : Service) → (s.block n).service ≡ service → waits.is_granted e.trace v ≡ is_granted_in service
+    go Free f = absurd (let none : service_of_block n (services e.trace) ≡ None = is.serving_is n ∙ rw f refl in
         let no : Some v ≡ None = sym found ∙ none in cc)
     go (Waits r own source k) f =
         let someone : IsAwaited (Waits r own source k) (s.block n).pair = rw f at (inv.blocks n).awaited in

@@ -21,7 +21,7 @@ use Rattle.tl_manager.proofs.pending.Accesses.{answer_kind, services-answer}
 use Rattle.tl_manager.proofs.pending.Granted.{IsGrant, services-grant}
 use Rattle.tl_manager.specs.statement.Service as manager
 use proofs.queues.Tokens.{same_number, set-same, set-other, set-each, set-part}
-use proofs.manager.QuiescentManager.{quiet-c, IsLastOf, recorded-answer, reported-records, reported-missing}
+use proofs.manager.Reporting.{quiet-c, IsLastOf, recorded-answer, reported-records, reported-missing}
 use proofs.manager.BlockAccounts.{IsTraced}
 use proofs.protocol.BothParts.{is_of-is}
 

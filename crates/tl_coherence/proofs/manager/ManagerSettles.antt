@@ -22,11 +22,11 @@ use Rattle.tl_manager.{specs.code.Kept.IsPerformable, specs.statement.Holders.ha
 use Rattle.tl_rules.specs.declared.answer.Answer.{Answer}
 use Rattle.tl_manager.specs.statement.Holders as holders
 use Rattle.tl_manager.specs.statement.Handing as handing
-use proofs.manager.{RequestsHanded.memory-granted, ManagerTakes.IsTakenUp, BlockAccounts.IsTraced, Choices.nobody-same}
+use proofs.manager.{Unseen.memory-granted, ManagerTakes.IsTakenUp, BlockAccounts.IsTraced, Accounts.nobody-same}
 use proofs.manager.ManagedGrants.{service_for, traced-conceded, IsConceded, traced-ended, IsEnding}
 use proofs.manager.Memories.{block_in, IsManagerOf, IsEnd, ends-it, last-of, memory-end, others_probed, settled-is}
 use proofs.manager.Memories.{left, kept-left, others-left, blocks-now, block-performed, answer-performed}
-use proofs.manager.QuiescentManager.{quiet-c, IsLastOf, reported-records}
+use proofs.manager.Reporting.{quiet-c, IsLastOf, reported-records}
 use proofs.queues.{Tokens.set-same, Tokens.set-each, Tokens.set-other, Codes.gives-some, Codes.data-same}
 
 -- ---- the service of the block

@@ -21,8 +21,8 @@ use Rattle.tl_manager.specs.statement.Offer.{judged, offered, taken, unlawful}
 use Rattle.tl_manager.proofs.judging.Judged.{manager-takes}
 use Rattle.tl_manager.specs.statement.Offer as manager_offer
 use proofs.queues.{Tokens.same_number, Tokens.ordered-first, Codes.cap-again, FirstToken.IsFirst, Carried.IsNext}
-use proofs.queues.{Facts.is_other, Facts.release_begins, Phases.and_left, Phases.and_right, PhaseSteps.on_other}
-use proofs.queues.PhaseFacts.{report_fits, own_alone}
+use proofs.queues.{Phases.and_left, Phases.and_right, PhaseSteps.on_other}
+use proofs.queues.Facts.{is_other, release_begins, report_fits, own_alone}
 use proofs.protocol.BothParts.{cap-waited}
 use proofs.manager.{ManagedGrants.tracker-of, Reporting.IsAbout}
 

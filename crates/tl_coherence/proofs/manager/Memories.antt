@@ -24,10 +24,10 @@ use Rattle.tl_manager.proofs.calls.Events.{reaction-release, reaction-report}
 use Rattle.tl_manager.specs.statement.End as manager_end
 use Rattle.tl_rules.proofs.Payload.{payload-c}
 use proofs.queues.Tokens.{set-each, same_number, set-part}
-use proofs.manager.{BlockAccounts.IsTraced, ManagedGrants.traced-acked, ManagedGrants.IsAcked, Accounts.IsAtManager}
-use proofs.manager.{Choices.nobody-same, ManagerTakes.IsTakenUp, Reporting.IsAbout, Reporting.reported-prune}
-use proofs.manager.QuiescentManager.{traced-report_part, traced-reported, traced-released, IsReleased, IsLastOf}
-use proofs.manager.QuiescentManager.{missing-last}
+use proofs.manager.{BlockAccounts.IsTraced, Accounts.IsAtManager, Accounts.nobody-same, ManagerTakes.IsTakenUp}
+use proofs.manager.ManagedGrants.{traced-acked, IsAcked}
+use proofs.manager.Reporting.{IsAbout, reported-prune, traced-report_part, traced-reported, traced-released, IsReleased}
+use proofs.manager.Reporting.{IsLastOf, missing-last}
 
 -- the bytes of a block that no byte of is changed
 pub block-same : (f g : Memory) (n : ℕ) → SameBlock n f g → bytes_from f (64 * n) 64 ≡ bytes_from g (64 * n) 64

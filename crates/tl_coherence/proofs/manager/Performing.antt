@@ -21,8 +21,8 @@ use Rattle.tl_manager.{specs.statement.Handing.is_granted_data, specs.statement.
 use Rattle.tl_manager.{specs.statement.Offer.taken}
 use Rattle.tl_rules.specs.declared.answer.Answer.{Answer}
 use Rattle.tl_manager.specs.statement.Holders as holders
-use proofs.manager.{Admitted.offered-taken, Choices.some-clients, Memories.block-same, Memories.performed-block}
-use proofs.manager.{Accounts.IsAtManager, BlockAccounts.IsTraced, BlockAccounts.traced-at}
+use proofs.manager.{Admitted.offered-taken, Accounts.some-clients, Accounts.IsAtManager, Memories.block-same}
+use proofs.manager.{Memories.performed-block, BlockAccounts.IsTraced, BlockAccounts.traced-at}
 use proofs.manager.Probing.{IsProbing, traced-probing, IsUnwaited, traced-more, link_of, with_beat, IsComing}
 use proofs.manager.Probing.{ends-coming, service_for, served-last, ready-last, recorded-beat, missing-beat}
 use proofs.manager.Probing.{request-beat, request-own, serving-last, serving-others}

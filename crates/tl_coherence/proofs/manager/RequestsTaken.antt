@@ -13,13 +13,13 @@ use proofs.Imports.{packet, AbstractState, access_taken, acquire_opcode, gift, i
 use proofs.Imports.{some_below, AccessMessages, IsServedWith, SimulationRelation, is_caching, IsFor, Log, System}
 use Rattle.tl_manager.proofs.calls.Events.{reaction-unprobed, reaction-intent}
 use Rattle.tl_manager.specs.statement.Holders as holders
-use proofs.manager.{Memories.IsManagerOf, Accounts.IsAtManager, Accounts.at_manager-matched, Admitted.unserved-free}
-use proofs.manager.{Admitted.free-untracked, Probing.same_above, Probing.recorded-beat, Probing.link_of}
-use proofs.manager.{Probing.with_beat, Probing.IsComing, Probing.ends-coming, Probing.service_for, Probing.served-last}
-use proofs.manager.{Probing.IsUnwaited, Choices.nobody-same, Choices.no-clients, Choices.plain-past, Choices.waits-used}
+use proofs.manager.{Memories.IsManagerOf, Admitted.unserved-free, Admitted.free-untracked}
+use proofs.manager.Accounts.{IsAtManager, at_manager-matched, nobody-same, no-clients, plain-past, waits-used}
+use proofs.manager.Probing.{same_above, recorded-beat, link_of, with_beat, IsComing, ends-coming, service_for}
+use proofs.manager.Probing.{served-last, IsUnwaited}
 use proofs.manager.Performing.{IsAnswering, end_after, at_manager-probing, at_manager-answered, at_manager-granted}
-use proofs.queues.{PhaseFacts.quiet_at_rest, Codes.acquires-so}
-use proofs.protocol.{HeadOfD.IsReady, FollowKept.IsServing, FollowKept.kind_taken-kept, Heads.IsAsked, Heads.IsWanted}
+use proofs.queues.{Facts.quiet_at_rest, Codes.acquires-so}
+use proofs.protocol.{HeadOfD.IsReady, FollowKept.IsServing, FollowKept.kind_taken-kept, Room.IsAsked, Room.IsWanted}
 
 -- ---- what a request that needn't wait finds
 
@@ -116,15 +116,13 @@ pub reaction-performed : {w : ℕ} {config : Config} {log : Log w} {mail : Acces
     ≡ performed config (service_for c m sys.manager.trace) (with_beat c m k sys.manager.trace) sys.manager.memory
 reaction-performed {w} {config} {sys} c k n own m is comes last kind block none = go (cap_probed m.opcode m.param) refl
   where
-    e : End w
-    e = sys.manager
-
     go : (o : Option Cap) → cap_probed m.opcode m.param ≡ o → reaction config (link_of c) (Beat.A (a_beat_of m k))
-        e ≡ performed config (service_for c m e.trace) (with_beat c m k e.trace) e.memory
-    go None f = reaction-intent config _ _ _ e (served-last comes last) f
-    go (Some j) f = reaction-unprobed config _ _ _ j e
-        (served-last comes last) f (no-clients (probed config (service_for c m e.trace) j (with_beat c m k e.trace))
-        (probed-some c k n own j m is kind block ∙ ap not (rw f at none)))
+        sys.manager ≡ performed config (service_for c m sys.manager.trace) (with_beat c m k sys.manager.trace)
+        sys.manager.memory
+    go None f = reaction-intent config _ _ _ sys.manager (served-last comes last) f
+    go (Some j) f = reaction-unprobed config _ _ _ j sys.manager
+        (served-last comes last) f (no-clients (probed config (service_for c m sys.manager.trace) j
+        (with_beat c m k sys.manager.trace)) (probed-some c k n own j m is kind block ∙ ap not (rw f at none)))
 
 -- somebody is, with this cap
 pub somebody-probed : {w : ℕ} {config : Config} {log : Log w} {mail : AccessMessages w} {request : ℕ → MessageA w}
@@ -147,12 +145,9 @@ pub unwaited-asked : {w : ℕ} {config : Config} {log : Log w} {mail : AccessMes
     → SimulationRelation config log mail request s sys → s.uses c source ≡ Asked → IsUnwaited c source s
 unwaited-asked {w} {config} {s} c source is used i src own j e same = go own (waits-used i c src own j is.invariant e)
   where
-    here : s.uses c src ≡ Asked
-    here = ap (s.uses c) (sym same) ∙ used
-
     go : (b : Bool) → s.uses c src ≡ (if b then Acquires i else InService i) → ⊥
-    go true f = let no : Asked ≡ Acquires i = sym here ∙ f in cc
-    go false f = let no : Asked ≡ InService i = sym here ∙ f in cc
+    go true f = let no : Asked ≡ Acquires i = sym (ap (s.uses c) (sym same) ∙ used) ∙ f in cc
+    go false f = let no : Asked ≡ InService i = sym (ap (s.uses c) (sym same) ∙ used) ∙ f in cc
 
 with-same : {w : ℕ} (mail after : AccessMessages w) (service : Service) (m : MessageA w) → after.request ≡ mail.request
     → IsServedWith mail service m → IsServedWith after service m
@@ -190,7 +185,8 @@ pub at_manager-request_taken : {w : ℕ} {config : Config} {log : Log w} (h : Ab
     sys.manager.trace ≡ false → IsManagerOf config (kind_taken config (next_tracker sys) c Request source rest h)
     (end_after config c k asked.request sys.manager)
 at_manager-request_taken {w} {config} {log} h {sys} {c} {source} {k} rest is asked comes last moves = rw asked.is_it
-    (go (probes_some clients c false (cap_probed m.opcode m.param) b.pair) (cap_probed m.opcode m.param) refl refl)
+    (go (probes_some (length config.clients.items) c false (cap_probed m.opcode m.param) b.pair)
+    (cap_probed m.opcode m.param) refl refl)
   where
     m : MessageA w
     m = asked.request
@@ -201,25 +197,13 @@ at_manager-request_taken {w} {config} {log} h {sys} {c} {source} {k} rest is ask
     b : Block (List ℕ)
     b = h.state.block n
 
-    e : End w
-    e = sys.manager
-
-    after : End w
-    after = end_after config c k m e
-
-    clients : ℕ
-    clients = length config.clients.items
-
-    tracker : ℕ
-    tracker = next_tracker sys
-
     free : b.service ≡ Free
     free = free-last is comes last moves
 
     unwaited : IsUnwaited c source h.state
     unwaited = unwaited-asked c _ is asked.used
 
-    answering : IsAnswering config c k n m h.state e
+    answering : IsAnswering config c k n m h.state sys.manager
     answering = record {
       comes = comes;
       last = last;
@@ -229,8 +213,9 @@ at_manager-request_taken {w} {config} {log} h {sys} {c} {source} {k} rest is ask
       unwaited = λ i src own j f same. unwaited i src own j f (sym asked.source_is ∙ same);
     }
 
-    go : (p : Bool) (o : Option Cap) → probes_some clients c false (cap_probed m.opcode m.param) b.pair ≡ p
-        → cap_probed m.opcode m.param ≡ o → IsManagerOf config (access_taken c source m tracker p o rest h) after
+    go : (p : Bool) (o : Option Cap) → probes_some (length config.clients.items) c false
+        (cap_probed m.opcode m.param) b.pair ≡ p → cap_probed m.opcode m.param ≡ o → IsManagerOf config
+        (access_taken c source m (next_tracker sys) p o rest h) (end_after config c k m sys.manager)
     go true None f g = absurd (let no : false ≡ true = rw g at f in cc)
     go true (Some j) f g =
         let some = somebody-probed c k n false m is asked.access refl f in
@@ -245,9 +230,10 @@ at_manager-request_taken {w} {config} {log} h {sys} {c} {source} {k} rest is ask
           unwaited = unwaited;
         })
         (rw same at some.2) asked.is_it (at_manager-matched is)
-    go false o f g = subst (λ i. IsManagerOf config i after) (sym refl) (at_manager-answered
-        (λ i. refl) answering asked.lawful (reaction-performed c k n false m is comes last asked.access refl f)
-        (at_manager-answers (access_taken c source m tracker false None rest h).mail refl (at_manager-matched is)))
+    go false o f g = subst (λ i. IsManagerOf config i (end_after config c k m sys.manager)) (sym refl)
+        (at_manager-answered (λ i. refl) answering asked.lawful (reaction-performed c k n false m is comes last
+        asked.access refl f) (at_manager-answers (access_taken c source m (next_tracker sys) false None rest h).mail
+        refl (at_manager-matched is)))
 
 -- ---- an Acquire
 
@@ -256,12 +242,9 @@ unwaited-acquires : {w : ℕ} {config : Config} {log : Log w} {mail : AccessMess
     → s.uses c source ≡ Acquires n → (s.block n).service ≡ Free → IsUnwaited c source s
 unwaited-acquires {s} c source n is used free i src own j e same = go own e (waits-used i c src own j is.invariant e)
   where
-    here : s.uses c src ≡ Acquires n
-    here = ap (s.uses c) (sym same) ∙ used
-
     go : (b : Bool) → (s.block i).service ≡ Waits c b src j → s.uses c src ≡ (if b then Acquires i else InService i) → ⊥
     go true f g = let at_n : i ≡ n = cc in let no : Free ≡ Waits c true src j = cc in cc
-    go false f g = let no : Acquires n ≡ InService i = sym here ∙ g in cc
+    go false f g = let no : Acquires n ≡ InService i = sym (ap (s.uses c) (sym same) ∙ used) ∙ g in cc
 
 pub caps_asked : (w : ℕ) (whole : Bool) (g : Grow) (source n : ℕ)
     → cap_probed (acquisition {w = w} (acquire_opcode whole) g source n).opcode
@@ -298,12 +281,6 @@ at_manager-acquire_taken {w} {config} h {sys} {c} {n} {k} rest is asked comes la
     m : MessageA w
     m = acquire_wanted c n _ asked
 
-    e : End w
-    e = sys.manager
-
-    after : End w
-    after = end_after config c k m e
-
     clients : ℕ
     clients = length config.clients.items
 
@@ -334,7 +311,7 @@ at_manager-acquire_taken {w} {config} h {sys} {c} {n} {k} rest is asked comes la
         (is_granted_data asked.whole asked.grow (b.pair c).recorded) given rest h.state
 
     go : (x : Bool) → some_below clients (λ d. is_probed c true j (b.pair d).recorded d) ≡ x
-        → IsAtManager config h.mail (set n m h.request) (state_of x) after
+        → IsAtManager config h.mail (set n m h.request) (state_of x) (end_after config c k m sys.manager)
     go true f = at_manager-probing (λ i. refl) (record {
       comes = comes;
       last = last;

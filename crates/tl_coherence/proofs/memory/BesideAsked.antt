@@ -224,7 +224,7 @@ pub beside-grant : {w : ℕ} {caching : ℕ → Bool} (c n : ℕ) (d : Bool) (k 
     → MemoryRelation mail (grant_taken c n (is_whole ((s.block n).pair c).acquiring) d k rest s)
     (after_end c Requests ((s.block n).source c) (m.opened c Requests ((s.block n).source c)) m)
 beside-grant {w} {caching} c n d k rest {mail} {s} {m} inv wants h =
-    let s' : State (List ℕ) = grant_taken c n whole d k rest s in
+    let s' : State (List ℕ) = grant_taken c n (is_whole (b.pair c).acquiring) d k rest s in
     let ended : Machine w = with_open c Requests source None (with_memory (memory_after asked m.memory) m) in
     subst (λ o. MemoryRelation mail s' (after_end c Requests source o m)) (sym opened) (beside-used (record {
       memory = λ i. block_now i (cases_eq i n);
@@ -245,11 +245,8 @@ beside-grant {w} {caching} c n d k rest {mail} {s} {m} inv wants h =
     source : ℕ
     source = b.source c
 
-    whole : Bool
-    whole = is_whole (b.pair c).acquiring
-
     new : Block (List ℕ)
-    new = taken_block c whole d k b
+    new = taken_block c (is_whole (b.pair c).acquiring) d k b
 
     asked : Op w
     asked = op_of (b.pair c).acquiring n (b.waiting c)

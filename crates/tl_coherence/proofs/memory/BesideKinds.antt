@@ -119,18 +119,16 @@ pub beside-request : {w : ℕ} {caching : ℕ → Bool} {config : Config} {c sou
     (request_taken (length config.clients.items) c source (Message.A x) tracker rest h).state
     (performing (request_accesses (length config.clients.items) c source (Message.A x) h) m)
 unfolding performing
-beside-request {config} {c} {source} tracker {x} rest h {m} inv plain is beside =
-    go (probes_some clients c false (cap_probed x.opcode x.param) b.pair) (cap_probed x.opcode x.param) refl refl
+beside-request {config} {c} {source} tracker {x} rest h {m} inv plain is beside = go (probes_some clients c false
+    (cap_probed x.opcode x.param) (h.state.block (block_at x.address)).pair) (cap_probed x.opcode x.param) refl refl
   where
     clients : ℕ
     clients = length config.clients.items
 
-    b : Block (List ℕ)
-    b = h.state.block (block_at x.address)
-
-    go : (p : Bool) (o : Option Cap) → probes_some clients c false (cap_probed x.opcode x.param) b.pair ≡ p
-        → cap_probed x.opcode x.param ≡ o → MemoryRelation (access_taken c source x tracker p o rest h).mail
-        (access_taken c source x tracker p o rest h).state (performing (access_list c source p o) m)
+    go : (p : Bool) (o : Option Cap) → probes_some clients c false (cap_probed x.opcode x.param)
+        (h.state.block (block_at x.address)).pair ≡ p → cap_probed x.opcode x.param ≡ o → MemoryRelation
+        (access_taken c source x tracker p o rest h).mail (access_taken c source x tracker p o rest h).state
+        (performing (access_list c source p o) m)
     go true (Some k) e f = beside_served tracker k rest is beside
     go true None e f = beside_answered rest is (inr f) beside
     go false None e f = beside_answered rest is (inr f) beside

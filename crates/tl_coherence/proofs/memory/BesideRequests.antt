@@ -11,12 +11,12 @@ use proofs.Imports.{SimulationRelation, Log, Machine, Requests, accesses_answere
 use Rattle.tl_coherence.specs.statement.Machine.{Performs}
 use Rattle.tl_rules.specs.declared.answer.Answer.{Answer}
 use Rattle.tl_manager.specs.statement.Service.{Service}
-use proofs.manager.{Performing.reaction-probing, Choices.plain-past, RequestsHanded.handed-answered}
+use proofs.manager.{Performing.reaction-probing, Accounts.plain-past, Unseen.handed-answered}
 use proofs.manager.Probing.{link_of, with_beat, IsComing, service_for}
 use proofs.manager.RequestsTaken.{caps_asked, acquire_wanted, next_tracker, probed-some, reaction-performed}
 use proofs.memory.{BesideTaken.IsPerformed, Beside.done_at, Beside.performed-open, Beside.performing-one}
 use proofs.memory.BesideKinds.{access_list, beside-request, beside-acquire}
-use proofs.protocol.Heads.{IsAsked, IsWanted}
+use proofs.protocol.Room.{IsAsked, IsWanted}
 use proofs.queues.Codes.{acquires-so}
 
 -- ---- which accesses are answered
@@ -152,7 +152,7 @@ pub acquire-accesses : {w : ℕ} {config : Config} {log : Log w} (h : AbstractSt
     → accesses_answered (reaction config (link_of c) (Beat.A (a_beat_of (acquire_wanted c n h.state asked) k))
     sys.manager).handed ≡ []
 acquire-accesses {w} {config} {log} h {sys} {c} {n} k is asked comes last =
-    none (some_below clients (λ d. is_probed c true j (b.pair d).recorded d)) refl
+    none (some_below (length config.clients.items) (λ d. is_probed c true j (b.pair d).recorded d)) refl
   where
     b : Block (List ℕ)
     b = h.state.block n
@@ -160,16 +160,13 @@ acquire-accesses {w} {config} {log} h {sys} {c} {n} k is asked comes last =
     m : MessageA w
     m = acquire_wanted c n _ asked
 
-    clients : ℕ
-    clients = length config.clients.items
-
     j : Cap
     j = cap_asked (AcquireOpen asked.whole asked.grow)
 
     caps : cap_probed m.opcode m.param ≡ Some j
     caps = caps_asked w asked.whole asked.grow (b.source c) n
 
-    none : (x : Bool) → some_below clients (λ d. is_probed c true j (b.pair d).recorded d) ≡ x
+    none : (x : Bool) → some_below (length config.clients.items) (λ d. is_probed c true j (b.pair d).recorded d) ≡ x
         → accesses_answered (reaction config (link_of c) (Beat.A (a_beat_of m k)) sys.manager).handed ≡ []
     none true f = let fact = reaction-probing config c k n j m sys.manager comes last (same_block n) caps
         (probed-some c k n true j m is (acquires-so asked.whole) (same_block n) ∙ ap not f) in cc (accesses-probes w n j

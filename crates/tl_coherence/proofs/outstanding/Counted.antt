@@ -5,7 +5,7 @@ use proofs.Imports.{IsWidth, Config, one_if, open_releases, open_requests, total
 use proofs.Imports.{abstract_step, first_state, SimulationRelation, ends_release, ends_request, load, outstanding}
 use proofs.Imports.{starts_release, starts_request, releases, requests, Log, system_after, stepped}
 use Rattle.tl_coherence.specs.statement.Load.{number}
-use proofs.protocol.OpenCounts.{clients_in, sources_in, IsBalance}
+use proofs.protocol.Served.{clients_in, sources_in, IsBalance}
 use proofs.outstanding.Outstanding.{counted-followed}
 use proofs.queues.Tokens.{total-zero}
 

@@ -14,10 +14,10 @@ use Rattle.tl_coherence.proofs.simulation.Owned as strangers
 use Rattle.tl_manager.specs.statement.Service as manager
 use proofs.queues.{Carried.carried-none, Tokens.same_number, Tokens.total-zero}
 use proofs.queues.QuiescentQueues.{nothing-moves, no-next, empty-still, client_below}
-use proofs.protocol.{Capacities.AreBounded, OpenCounts.clients_in, OpenCounts.sources_in}
-use proofs.protocol.QuiescentBlock.{IsSilent, free-when_silent}
-use proofs.protocol.QuiescentProtocol.{IsBare, IsClosed, bare-when-closed, closed-when_bare}
-use proofs.links.Stalling.{IsFirst, exact, started-releasing}
+use proofs.protocol.Served.{clients_in, sources_in, IsSilent, free-when_silent}
+use proofs.protocol.GrantedAll.{IsBare, IsClosed, bare-when-closed, closed-when_bare}
+use proofs.protocol.Capacities.{AreBounded}
+use proofs.links.Granting.{IsFirst, exact, started-releasing}
 use proofs.simulation.{Bounded.matched-bounded, Owned.sources-own}
 use proofs.outstanding.Counted.{AreCounted, outstanding-open}
 
@@ -289,9 +289,6 @@ pub next-while-outstanding : {w : ℕ} {config : Config} {log : Log w} {mail : A
 next-while-outstanding {w} {config} {log} {mail} {request} {s} matched coherent trackers firsts width counted =
     go (next_delivery config (system_after config log)) refl (outstanding log == 0) refl
   where
-    sum : outstanding log ≡ open_requests config s + open_releases config s
-    sum = outstanding-open counted
-
     zero_is : (n : ℕ) → n ≡ 0 → (n == 0) ≡ true
     zero_is n e = rw e refl
 
@@ -300,9 +297,10 @@ next-while-outstanding {w} {config} {log} {mail} {request} {s} matched coherent 
     go None e false f =
         let bare = bare-when-standing matched coherent trackers firsts e width in
         let none = none-counted config (closed-when-standing matched coherent trackers firsts width e) bare.silent.e in
-        absurd (let yes = zero_is _ (sum ∙ none) in let both : true ≡ false = sym yes ∙ f in cc)
+        absurd (let yes = zero_is _ ((outstanding-open counted) ∙ none) in let both : true ≡ false = sym yes ∙ f in cc)
     go (Some d) e true f =
-        let none : open_requests config s + open_releases config s ≡ 0 = sym sum ∙ eqb-true (outstanding log) 0 f in
+        let none : open_requests config s + open_releases config s ≡ 0 = sym (outstanding-open counted)
+        ∙ eqb-true (outstanding log) 0 f in
         let stands = standing-when-closed matched coherent trackers firsts (closed-when-counted matched width none)
         (no-acks-counted matched width none) in
         absurd (let both : Some d ≡ None = sym e ∙ stands in cc)

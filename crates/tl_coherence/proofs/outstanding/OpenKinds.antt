@@ -1,22 +1,31 @@
 -- What is open after the first token of a channel is taken: an answer ends a request, a Grant turns one into a
 -- GrantAck,
 -- a GrantAck ends it, a ReleaseAck ends a Release, and all else leaves what is open.
-use Rattle.std.proofs.Common.{◌≡◌, ℕ, suc, ◌<◌, Bool, true, false, ◌==◌, if◌then◌else◌, List, [], ◌∷◌, Some, None, refl}
-use Rattle.std.proofs.Common.{sym, ◌∙◌, ap, arith, length, length-append}
+-- What is open after a client is asked: an operation that starts opens a request or a Release, with a
+-- source that was free.
+use Rattle.std.proofs.Common.{◌≡◌, ℕ, suc, ◌+◌, ◌<◌, Bool, true, false, ◌==◌, if◌then◌else◌, List, [], ◌∷◌, Some, None}
+use Rattle.std.proofs.Common.{refl, sym, ◌∙◌, ap, arith, length, length-append}
 use Rattle.tl_coherence.proofs
-use proofs.Imports.{Config, Cap, Prune, Report, one_if, is_let, is_used, Answer, Grant, GrantAck, Kind, Packet}
-use proofs.Imports.{ReleaseAck, set, Acquires, Asked, Block, GrantSent, InService, Replied, SourceFree, State}
-use proofs.Imports.{access_answered, access_served, acquire_granted, acquire_served, answer_taken, answered_link}
-use proofs.Imports.{ended_link, grant_ack_taken, grant_taken, granted_link, is_probed, let_link, on, packet}
-use proofs.Imports.{popped_link, probe_taken, probed_link, release_ack_taken, release_taken, report_answers}
-use proofs.Imports.{report_grants, report_taken, served_link, taken_link, with_probe, AbstractState, kind_taken}
-use proofs.Imports.{taken_by_client, SimulationRelation, is_caching, Log, System}
+use proofs.Imports.{Message, Config, ReleaseSource, RequestSource, Cap, Grow, Prune, Report, Perm, block_at, pending}
+use proofs.Imports.{NotBusy, asked-cases, least_free-some, Busy, Op, Reply, done, free_release, free_request}
+use proofs.Imports.{source_or_0, store, EndConfig, Endpoint, held_at, one_if, is_let, is_used, Ask, Outcome, Acquire}
+use proofs.Imports.{Answer, Grant, GrantAck, Kind, Packet, Release, ReleaseAck, Request, set, Acquires, Asked, Block}
+use proofs.Imports.{GrantSent, InService, Replied, SourceFree, State, access_answered, access_asked, access_served}
+use proofs.Imports.{acquire_asked, acquire_granted, acquire_served, answer_taken, answered_link, ended_link}
+use proofs.Imports.{grant_ack_taken, grant_taken, granted_link, is_probed, let_link, on, packet, popped_link}
+use proofs.Imports.{probe_taken, probed_link, release_ack_taken, release_asked, release_taken, report_answers}
+use proofs.Imports.{report_grants, report_taken, served_link, taken_link, with_a, with_c, with_probe, AbstractState}
+use proofs.Imports.{asked, kind_taken, taken_by_client, SimulationRelation, is_caching, starts_release, starts_request}
+use proofs.Imports.{Log, System, terms_at}
 use Rattle.tl_coherence.specs.protocol.Protocol.{Link}
 use Rattle.tl_coherence.specs.refinement.AbstractStep as follow
-use proofs.protocol.{Capacities.AreBounded, BothParts.first-request}
+use Rattle.tl_client.specs.statement.Ask.{load}
+use Rattle.tl_client.specs.statement.Ask as ask
+use proofs.client.ClientDelivered.{askable}
+use proofs.protocol.{FollowKept.IsAskable, Capacities.AreBounded, BothParts.first-request}
+use proofs.protocol.Served.{marked-set, acks-same, clients_in, sources_in, IsBalance, requests-split, set_at-part}
+use proofs.protocol.Served.{acks-set, balance-same}
 use proofs.protocol.HeadOfD.{answer-due, grant-due, ack-due, true-taken}
-use proofs.protocol.OpenCounts.{marked-set, set_at-part, acks-set, acks-same, clients_in, sources_in, IsBalance}
-use proofs.protocol.OpenCounts.{requests-split, balance-same}
 use proofs.queues.Tokens.{set-part}
 use proofs.rank.RankParts.{serving-use}
 
@@ -212,3 +221,99 @@ balance-kind tracker {c} ReleaseAck n rest h is few own first =
     release-ack-taken _ _ c n rest few (own.releases ((h.state.block n).release_source c) n let_) let_
 balance-kind {config} tracker {c} GrantAck n rest h is few own first = grant-ack-taken config h.state c n rest few first
 balance-kind tracker {c} k i rest h is few own first = still-kind tracker c k i rest h is few own first refl refl
+
+module _ {X : Type 0} (config : Config) (s : State X) where
+  access-asked : (c source : ℕ) → c < clients_in config → source < sources_in config c → s.uses c source ≡ SourceFree
+      → IsBalance config s (access_asked c source s) true false false false
+  access-asked c source few lt free = record {
+    requests = omega (
+      arith,
+      marked-set is_used _ (sources_in config) c source Asked s.uses few lt,
+      ap (λ x. one_if (is_used x)) free,
+      acks-same (clients_in config) (access_asked c source s).link s.link
+          (λ d. set-part (λ x. x.e) c (with_a (packet Request source) (s.link c)) s.link refl d),
+      requests-split config s,
+      requests-split config (access_asked c source s),
+    );
+    releases = refl;
+  }
+
+  acquire-asked : (c n source : ℕ) (whole : Bool) (g : Grow) (bytes : X) → c < clients_in config
+      → source < sources_in config c → s.uses c source ≡ SourceFree
+      → IsBalance config s (acquire_asked c n source whole g bytes s) true false false false
+  acquire-asked c n source whole g bytes few lt free = record {
+    requests = omega (
+      arith,
+      marked-set is_used _ (sources_in config) c source (Acquires n) s.uses few lt,
+      ap (λ x. one_if (is_used x)) free,
+      acks-same (clients_in config) (acquire_asked c n source whole g bytes s).link s.link
+          (λ d. set-part (λ x. x.e) c (with_a (packet Acquire n) (s.link c)) s.link refl d),
+      requests-split config s,
+      requests-split config (acquire_asked c n source whole g bytes s),
+    );
+    releases = refl;
+  }
+
+  release-asked : (c n source : ℕ) (r : Prune) → c < clients_in config → source < sources_in config c
+      → s.lets c source ≡ None → IsBalance config s (release_asked c n source r s) false false true false
+  release-asked c n source r few lt free =
+      let l = marked-set is_let _ (sources_in config) c source (Some n) s.lets few lt in
+      let a = acks-same (clients_in config) (release_asked c n source r s).link s.link
+      (λ d. set-part (λ x. x.e) c (with_c (packet Release n) (s.link c)) s.link refl d) in
+      record {
+        requests = omega (arith, a, requests-split config s, requests-split config (release_asked c n source r s));
+        releases = omega (arith, l, ap (λ x. one_if (is_let x)) free);
+      }
+
+module _ {w : ℕ} (config : Config) (c : ℕ) (h : AbstractState w) where
+  -- what is open after this operation had this reply
+  abbrev IsOpenAfter : Op w → Reply → Type 0
+  IsOpenAfter o r = IsBalance config h.state (asked c o r h).state (starts_request (Ask c o) (Outcome.Replied r)) false
+      (starts_release (Ask c o) (Outcome.Replied r)) false
+
+  busy-opens : (o : Op w) (b : Busy) → IsOpenAfter o (Reply.Busy b)
+  busy-opens (Op.Access (Message.A m)) b = record { requests = refl; releases = refl }
+  busy-opens o b = record { requests = refl; releases = refl }
+
+  load-opens : (address size : ℕ) (p : Perm) (e : Endpoint w)
+      → IsOpenAfter (Op.Load address size) (load address size p e).reply
+  load-opens address size Perm.None e = record { requests = refl; releases = refl }
+  load-opens address size p e = record { requests = refl; releases = refl }
+
+  store-opens : (address size value : ℕ) (p : Perm) (e : Endpoint w)
+      → IsOpenAfter (Op.Store address size value) (store address size value p e).reply
+  store-opens address size value Perm.None e = record { requests = refl; releases = refl }
+  store-opens address size value p e = record { requests = refl; releases = refl }
+
+  module _ (terms : EndConfig) (e : Endpoint w) (at : terms_at config c ≡ Some terms) (few : c < clients_in config)
+    where
+      own_source : (source : ℕ) → source < 0 + terms.sources → source < sources_in config c
+      own_source source lt = grind (arith, sources_in)
+
+      done-opens : (o : Op w) → NotBusy terms o e → IsAskable (is_caching config) c o (done terms o e).reply h
+          → IsOpenAfter o (done terms o e).reply
+      done-opens (Op.Load address size) free may = load-opens address size (held_at e (block_at address)) e
+      done-opens (Op.Store address size value) free may = store-opens address size value (held_at e (block_at address))
+          e
+      done-opens (Op.Acquire n g) free may =
+          acquire-asked config h.state c n (source_or_0 (free_request terms e.past)) false g _ few
+          (own_source _ (least_free-some (λ s. pending (RequestSource s) e.past) 0 terms.sources free.b1).1) may.1
+      done-opens (Op.AcquireWhole n bytes) free may =
+          acquire-asked config h.state c n (source_or_0 (free_request terms e.past)) true _ bytes few
+          (own_source _ (least_free-some (λ s. pending (RequestSource s) e.past) 0 terms.sources free.b1).1) may.1
+      done-opens (Op.Release n r) free may = release-asked config h.state c n (source_or_0 (free_release terms e.past))
+          r few (own_source _ (least_free-some (λ s. pending (ReleaseSource s) e.past) 0 terms.sources free.b1).1) may.1
+      done-opens (Op.Access (Message.A m)) free may =
+          access-asked config h.state c (source_or_0 (free_request terms e.past)) few
+          (own_source _ (least_free-some (λ s. pending (RequestSource s) e.past) 0 terms.sources free.b1).1) may
+      done-opens o free may = record { requests = refl; releases = refl }
+
+-- What is open after a client is asked.
+pub balance-asked : {w : ℕ} {config : Config} {log : Log w} (h : AbstractState w) {sys : System w} (terms : EndConfig)
+    (c : ℕ) (o : Op w) → SimulationRelation config log h.mail h.request h.state sys → terms_at config c ≡ Some terms
+    → c < clients_in config → IsBalance config h.state (asked c o (ask.asked terms o (sys.clients c)).reply h).state
+    (starts_request (Ask c o) (Outcome.Replied (ask.asked terms o (sys.clients c)).reply)) false
+    (starts_release (Ask c o) (Outcome.Replied (ask.asked terms o (sys.clients c)).reply)) false
+balance-asked {config} h {sys} terms c o is at few = asked-cases terms o (sys.clients c) (λ x. IsAskable
+    (is_caching config) c o x.reply h → IsOpenAfter config c h o x.reply) (λ b may. busy-opens config c h o b)
+    (λ free may. done-opens _ c h terms (sys.clients c) at few o free may) (askable terms c o is at)

@@ -16,10 +16,10 @@ use Rattle.tl_client.specs.statement.Endpoint as client
 use Rattle.tl_client.specs.statement.Offer as offer
 use proofs.queues.{Carried.IsNext, QuiescentQueues.client_below, Codes.access_kind, Moves.on_same}
 use proofs.queues.FirstToken.{IsFirst, first-token}
-use proofs.outstanding.{OpenKinds.is_ending, OpenKinds.is_letting_go, OpenKinds.balance-kind, OpenAsks.balance-asked}
+use proofs.outstanding.OpenKinds.{is_ending, is_letting_go, balance-kind, balance-asked}
 use proofs.simulation.{Bounded.matched-bounded, Moved.IsTakenByClient, Moved.client-moves, Owned.sources-own}
 use proofs.protocol.HeadOfD.{answer-due, grant-due, grant_message, ack_message, grant-rendered}
-use proofs.protocol.OpenCounts.{clients_in, IsBalance}
+use proofs.protocol.Served.{clients_in, IsBalance}
 use proofs.client.DeliverD.{finish_at, answer-last, same_answers, acked}
 use proofs.deliveries.{ReportsAfter.rendered_release_ack, ManagersAfter.at-manager}
 use proofs.deliveries.DeliverDUnmoved.{followed-moving, followed-still}

@@ -17,8 +17,8 @@ use proofs.Imports.{granted_block, let_block, let_go_block, on, packet, probed_b
 use proofs.Imports.{served_block, served_pair, taken_block, view, is_acked, is_acknowledging, is_answered, is_granting}
 use proofs.Imports.{is_releasing, is_sent, is_transfer, is_wanting, shown, shows, cap_sent, prune_told, report_told}
 use proofs.Imports.{cap_waited}
-use proofs.queues.{Channels.same_kind_again, Showing.AreAlike, Showing.carries, Facts.granting_asks, Facts.is_other}
-use proofs.queues.{PhaseFacts.quiet_at_rest, Phases.and_left}
+use proofs.queues.{Channels.same_kind_again, FirstToken.AreAlike, FirstToken.carries, Phases.and_left}
+use proofs.queues.Facts.{granting_asks, is_other, quiet_at_rest}
 use proofs.queues.Tokens.{holds-first, set-each, set-same, if-part}
 
 -- ---- numbers and uses
@@ -189,15 +189,12 @@ alike-acquiring c source whole g bytes {b} well calm i = elim (cases_eq i c) [
     after : ClientBlock
     after = after_acquire whole g (b.pair c)
 
-    new : Block (List ℕ)
-    new = acquiring_block c source whole g bytes b
-
     granted : (v : View) → view b.service c ≡ v → is_granting v ≡ true → ⊥
     granted (Granting d k) e f =
         (let h : false ≡ true = rw calm at (granting_asks d k (b.pair c) (view b.service c) (well.phases c) e) in cc)
     granted v e f = cc
 
-    here : AreAlike c b new
+    here : AreAlike c b (acquiring_block c source whole g bytes b)
     here Acquire e f = absurd (let h : false ≡ true = rw calm at e in cc)
     here Probe e f = (ap (λ (p : ClientBlock). p.probing) (pair_at c after b.pair), inr refl)
     here ProbeAck e f = (ap (λ (p : ClientBlock). p.probing) (pair_at c after b.pair), inr refl)
@@ -207,7 +204,7 @@ alike-acquiring c source whole g bytes {b} well calm i = elim (cases_eq i c) [
     here GrantAck e f = (refl, inr refl)
     here _ e f = (tt, inr refl)
 
-    there : (i ≡ c → ⊥) → AreAlike i b new
+    there : (i ≡ c → ⊥) → AreAlike i b (acquiring_block c source whole g bytes b)
     there e = grind arith
 
 pub alike-releasing : (c source : ℕ) (r : Prune) (b : Block (List ℕ)) → (b.pair c).letting ≡ NoRelease → (i : ℕ)
@@ -217,10 +214,7 @@ alike-releasing c source r b kept i = elim (cases_eq i c) [ inl same ↦ rw same
     after : ClientBlock
     after = after_release r (b.pair c)
 
-    new : Block (List ℕ)
-    new = releasing_block c source r b
-
-    here : AreAlike c b new
+    here : AreAlike c b (releasing_block c source r b)
     here Acquire e f = ((ap (λ p. p.acquiring) (pair_at c after b.pair), refl), inr refl)
     here Probe e f = (ap (λ p. p.probing) (pair_at c after b.pair), inr refl)
     here ProbeAck e f = (ap (λ p. p.probing) (pair_at c after b.pair), inr refl)
@@ -230,7 +224,7 @@ alike-releasing c source r b kept i = elim (cases_eq i c) [ inl same ↦ rw same
     here GrantAck e f = (refl, inr refl)
     here _ e f = (tt, inr refl)
 
-    there : (i ≡ c → ⊥) → AreAlike i b new
+    there : (i ≡ c → ⊥) → AreAlike i b (releasing_block c source r b)
     there e = grind arith
 
 -- the same of a block whose copies, memory and bytes change alone

@@ -9,7 +9,7 @@ use proofs.Imports.{Acknowledging, ClientBlock, View, is_idle, is_unprobed, is_u
 use proofs.Imports.{Service, SourceFree, SourceState, State, is_on, on, packet, packets_on, view, is_acknowledging}
 use proofs.Imports.{is_granting, is_wanting, shown}
 use proofs.queues.{Tokens.same_number, Phases.each_phase, Phases.of_phase, Moves.on_same, Moves.kind_is}
-use proofs.queues.Distinct.{IsThere, passing, pass-or-not, all-pass, few}
+use proofs.queues.FirstToken.{IsThere, passing, pass-or-not, all-pass, few}
 use proofs.protocol.BothParts.{is_of-is, acquires_of-is, not-answered, not-sent, acked-open, releasing-open}
 use proofs.protocol.BothParts.{is_replied-is, is_asked-is}
 

@@ -23,16 +23,16 @@ use proofs.queues.Moves.{event-at, bare-elsewhere, names-block, names-set_at, in
 use proofs.queues.Moves.{names-set, invariant-moved}
 use proofs.queues.Tokens.{same_number, set-same, set-other, set-part, set-each}
 use proofs.queues.PhaseSteps.{release_ack-ok, ack_taken-ok, ack_taken_other-ok}
-use proofs.protocol.{Taken.taken-block, Granted.room-trunk, GrantedAll.report_grants-kept}
+use proofs.protocol.{Granted.room-trunk, GrantedAll.report_grants-kept}
+use proofs.protocol.RequestsKept.{taken-block, answer_taken-kept, some-one, settled_all, leaves-bytes, gift_fits}
+use proofs.protocol.RequestsKept.{gift_trunk, unheld_none, access_answered-followed, access_served-followed}
+use proofs.protocol.RequestsKept.{acquire_granted-followed, acquire_served-followed}
 use proofs.protocol.BothParts.{acquires_of-is, is_of-is, shows-beside, wanting-is, not-calm, granting-own, first-answer}
 use proofs.protocol.BothParts.{first-grant_ack, first-probe, first-release, first-release_ack, first-report}
 use proofs.protocol.BothParts.{first-shown}
 use proofs.protocol.Asked.{gentle-same, awaited-set, asked_cap-set, alone-set, owned-set, outside-set, busy-inside}
 use proofs.protocol.Asked.{probe_taken-kept, access_asked-kept, acquire_asked-kept, release_asked-kept}
 use proofs.protocol.Asked.{block_stored-kept}
-use proofs.protocol.RequestsKept.{answer_taken-kept, some-one, settled_all, leaves-bytes, gift_fits, gift_trunk}
-use proofs.protocol.RequestsKept.{unheld_none, access_answered-followed, access_served-followed}
-use proofs.protocol.RequestsKept.{acquire_granted-followed, acquire_served-followed}
 use proofs.protocol.Reported.{report_answers-kept, report_taken-kept, release_taken-kept}
 use proofs.protocol.HeadOfD.{IsReady, ready-access, true-taken}
 

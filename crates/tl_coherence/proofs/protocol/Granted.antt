@@ -12,10 +12,10 @@ use proofs.Imports.{GrantSent, State, Waits, acquire_granted, answered_link, gra
 use proofs.Imports.{granted_pair, packet, view, written, is_transfer, is_wanting, shows, AreMoved, Move, Pops, Pushes}
 use proofs.Imports.{Stays, agrees, channel_for, is_own_move, perm_le}
 use Rattle.tl_coherence.specs.protocol.Protocol.{Link}
-use proofs.queues.{PhaseFacts.quiet_at_rest, Phases.not_out}
+use proofs.queues.{Phases.not_out, Tokens.same_number, Tokens.set-same, Tokens.set-other, Tokens.set-part}
+use proofs.queues.Facts.{quiet_at_rest, asked_low, spared_within, reported_within, cap_is_low, own_low, own_quiet}
+use proofs.queues.Facts.{report_begins}
 use proofs.queues.Moves.{same_again, event-at, bare-at, names-block, names-set, invariant-moved}
-use proofs.queues.Facts.{asked_low, spared_within, reported_within, cap_is_low, own_low, own_quiet, report_begins}
-use proofs.queues.Tokens.{same_number, set-same, set-other, set-part}
 use proofs.queues.PhaseSteps.{grant_at_once-ok, granted_other-ok, grant_last-ok, report-ok, ended-ok}
 use proofs.protocol.{Asked.busy-inside, Asked.outside-set, BothParts.shows-beside, BothParts.quiet-is}
 

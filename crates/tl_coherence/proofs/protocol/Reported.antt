@@ -296,7 +296,7 @@ report_answers-kept {X} {c} {q} n {r} {f} {source} {k} rest {s} inv first last =
     let used : s.uses q source ≡ InService n = serves_of-is n _ (inv.named.serves q source n
     ∙ rw (last.waits, same_number q, same_number source) refl) in
     let acquires_same : (d i : ℕ) → acquires_with d i new ≡ acquires_with d i (s.block n) =
-    λ d i. rw (set-part (λ p. p.acquiring) c after old refl d) refl in
+    λ d i. rw (set-part (λ p. p.acquiring) c (after_report r (old c)) old refl d) refl in
     let first_at : (d : ℕ) → (d == c) ≡ true → (s.link d).c ≡ packet ProbeAck n ∷ rest =
     λ d e. rw (eqb-true d c e) first in
     let answered_at : (d : ℕ) → (d == c) ≡ true → (old d).probing ≡ ProbeAnswered r =
@@ -324,7 +324,7 @@ report_answers-kept {X} {c} {q} n {r} {f} {source} {k} rest {s} inv first last =
           (λ m ne. rw used (sym (ne_eqb m n ne))) (λ i ne. rw (last.waits, same_number q, ne_eqb i source ne) refl)
           (λ d i ne. rw (last.waits, ne_eqb d q ne) refl) inv.named.serves;
       releases = λ d. names-block is_of (releases_with d) (s.lets d) n new s.block
-          (λ i. rw (set-part (λ p. p.letting) c after old refl d) refl) (inv.named.releases d);
+          (λ i. rw (set-part (λ p. p.letting) c (after_report r (old c)) old refl d) refl) (inv.named.releases d);
       trackers = names-set is_of tracks_with s.tracked tracker None n new s.block refl (λ m ne. rw (is_of-is n
           (s.tracked tracker) (inv.named.trackers tracker n ∙ rw (last.waits, same_number tracker) refl))
           (sym (ne_eqb m n ne))) (λ i ne. rw (last.waits, ne_eqb i tracker ne) refl) inv.named.trackers;
@@ -332,9 +332,6 @@ report_answers-kept {X} {c} {q} n {r} {f} {source} {k} rest {s} inv first last =
   where
     old : ℕ → ClientBlock
     old = (s.block n).pair
-
-    after : ClientBlock
-    after = after_report r (old c)
 
     new : Block X
     new = ended_block c r f (s.block n)

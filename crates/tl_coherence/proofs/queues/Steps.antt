@@ -97,20 +97,17 @@ channels-handed l None s d at =
     elim [ true ↦ refl | false ↦ refl ] in
     go (d == l)
 channels-handed {w} l (Some m) s d at =
-    let there : (b : Bool) → b ≡ false
-    → (if b && same_channel at (channel_of_message m) then s.channels l (channel_of_message m) ++ more else
-    s.channels d at) ≡ behind (if b then pushes_of (Some m) at else None) (s.channels d at) = λ b e. rw e refl in
+    let there : (b : Bool) → b ≡ false → (if b && same_channel at (channel_of_message m) then
+    s.channels l (channel_of_message m) ++ (beats_from m 0 (beats_of m)) else s.channels d at)
+    ≡ behind (if b then pushes_of (Some m) at else None) (s.channels d at) = λ b e. rw e refl in
     elim (cases_eq d l) [
       | inl same ↦ rw same (here (l == l) (same_number l) (same_channel at (channel_of_message m)) refl)
       | inr other ↦ there (d == l) (ne_eqb d l other)
     ]
   where
-    more : List (Beat w)
-    more = beats_from m 0 (beats_of m)
-
     here : (b : Bool) → b ≡ true → (y : Bool) → same_channel at (channel_of_message m) ≡ y
-        → (if b && y then s.channels l (channel_of_message m) ++ more else s.channels l at) ≡ behind
-        (if b then (if y then Some m else None) else None) (s.channels l at)
+        → (if b && y then s.channels l (channel_of_message m) ++ (beats_from m 0 (beats_of m)) else s.channels l at)
+        ≡ behind (if b then (if y then Some m else None) else None) (s.channels l at)
     here b e true f = rw (e, same_channel-is at _ f) refl
     here b e false f = rw e refl
 
@@ -274,18 +271,16 @@ rests-manager {w} c ch x queue handed e sys to_manager is heard = rests
     after : System w
     after = with_messages handed base
 
-    manager_is : after.manager ≡ e
-    manager_is = manager-with_messages handed base
-
     theirs : (d : ℕ) (at : Channel) → is_to_client at ≡ false → (d ≡ c) ⊎ (d ≡ c → ⊥)
         → unfinished at (on_link d after.manager.trace) ≡ (if (d == c) && same_channel at ch then grown x
         (unfinished at (on_link d sys.manager.trace)) else unfinished at (on_link d sys.manager.trace))
-    theirs d at up (inl same) = rw same (ap (λ b. unfinished at (on_link c b.trace)) manager_is
+    theirs d at up (inl same) = rw same (ap (λ b. unfinished at (on_link c b.trace)) (manager-with_messages handed base)
         ∙ heard c at up ∙ ap (λ b. unfinished at (if b then x ∷ on_link c sys.manager.trace else on_link c
         sys.manager.trace)) (same_number c) ∙ grown_history ch at x (on_link c sys.manager.trace) is
         ∙ sym (ap (λ b. if b && same_channel at ch then grown x (unfinished at (on_link c sys.manager.trace))
         else unfinished at (on_link c sys.manager.trace)) (same_number c)))
-    theirs d at up (inr other) = cc (manager_is, heard d at up, ne_eqb c d (λ f. other (sym f)), ne_eqb d c other)
+    theirs d at up (inr other) =
+        cc ((manager-with_messages handed base), heard d at up, ne_eqb c d (λ f. other (sym f)), ne_eqb d c other)
 
     not_here : (ch at : Channel) → is_to_client ch ≡ false → is_to_client at ≡ true → same_channel at ch ≡ false
     not_here ch at a b = apart_channels at ch (λ e. cc)

@@ -10,7 +10,7 @@ use proofs.rank.RankDecreases.{ack-falls, grant-falls, total-falls}
 use proofs.rank.Frames.{Taking, Falls, AreAsBefore, AreElsewhere, AreNoMore, use-stays, let-all, IsBlockNoMore}
 use proofs.rank.Frames.{acquire-stays, let-stays, pair-stays, wants-used}
 use proofs.protocol.{Capacities.source_of_acquire, BeatsRemaining.beats_left}
-use proofs.protocol.QuiescentProtocol.{owns_ask, serves_another}
+use proofs.protocol.GrantedAll.{owns_ask, serves_another}
 use proofs.queues.{Tokens.total-le, Tokens.same_number, Facts.is_other}
 
 -- the access for which a block waits

@@ -21,7 +21,7 @@ use proofs.protocol.Reported.{ended_move, ended_moved, report_moves, let_moves}
 use proofs.protocol.Asked.{access_moves, acquire_moves, release_moves, probe_moves}
 use proofs.queues.{Channels.Fits, Channels.pushes_at, Channels.IsShown, Channels.IsHanded, Channels.carried-event}
 use proofs.queues.{Channels.queued-handed, Channels.moved-at, Channels.fits-handed, Channels.fits-at, Steps.pushes_of}
-use proofs.queues.{Showing.carries, Showing.showing-block, Tokens.same_number, Tokens.set-same, Moves.moves_at}
+use proofs.queues.{FirstToken.carries, FirstToken.showing-block, Tokens.same_number, Tokens.set-same, Moves.moves_at}
 
 -- ---- one message that is handed out
 
@@ -251,12 +251,9 @@ report_taken-shown c n r rest mail {s} inv inv' first = record {
   fits = λ d at. fits d at (d == c);
 }
   where
-    s' : State (List ℕ)
-    s' = report_taken c n r rest s
-
     fits : (d : ℕ) (at : Channel) (b : Bool)
         → Fits (b && same_channel at Channel.C) None (if b then report_moves n at else Stays)
-        (λ j l. message_of mail s' d (packet j l))
+        (λ j l. message_of mail (report_taken c n r rest s) d (packet j l))
     fits d at false = tt
     fits d Channel.A true = tt
     fits d Channel.B true = tt

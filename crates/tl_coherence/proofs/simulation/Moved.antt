@@ -1,12 +1,21 @@
 -- A delivery that moves a beat: the beat was taken, and what was handed out for it is on the channels.
-use Rattle.std.proofs.Common.{◌≡◌, ℕ, ◌+◌, ◌<◌, Bool, true, false, ◌&&◌, ◌==◌, if◌then◌else◌, List, [], ◌∷◌, Option}
-use Rattle.std.proofs.Common.{Some, None, Result, Ok, refl, sym, ◌∙◌, ap, arith, ◌⊎◌, inl, inr, ne_eqb}
+-- What the protocol does at an event of the world: nothing, what a client is asked for, or the first
+-- token of a channel.
+-- The protocol keeps its invariant as a client is asked, and as a client takes a message.
+use Rattle.std.proofs.Common.{◌≡◌, ℕ, ◌+◌, ◌<◌, Bool, true, false, not, ◌&&◌, ◌==◌, if◌then◌else◌, List, [], ◌∷◌}
+use Rattle.std.proofs.Common.{Option, Some, None, Result, Ok, refl, sym, ◌∙◌, ap, arith, ◌⊎◌, inl, inr, ne_eqb, map}
 use Rattle.tl_coherence.proofs
-use proofs.Imports.{cases_eq, Beat, Link, Channel, IsWidth, beats-positive, Message, beats_of, grown, unfinished}
-use proofs.Imports.{completes, Config, Rule, on_link, Verdict, Offered, Handed, Deliver, Outcome, State, IsCarried}
-use proofs.Imports.{ChannelRelation, AccessMessages, messages_on, receiver, is_moving, Step, client_took, handed_by}
-use proofs.Imports.{handing, is_to_client, judged, manager_took, outcome_of, stepped, System, same_channel, terms_at}
-use proofs.Imports.{with_channel, with_client, with_manager}
+use proofs.Imports.{cases_eq, Beat, Link, Channel, IsWidth, beats-positive, Message, MessageA, beats_of, grown}
+use proofs.Imports.{unfinished, completes, Config, Rule, on_link, Op, Verdict, EndConfig, Offered, Handed, Event, Ask}
+use proofs.Imports.{Deliver, Outcome, IsInvariant, Answer, Grant, Kind, Packet, Probe, ReleaseAck, NoRelease}
+use proofs.Imports.{is_unreleased, State, is_on, on, packet, packets_on, AbstractState, abstract_delivery}
+use proofs.Imports.{abstract_step, abstract_step_by, asked, kind_taken, packet_taken, IsCarried, ChannelRelation}
+use proofs.Imports.{AccessMessages, message_of, message_of_kind, messages_on, SimulationRelation, is_caching, receiver}
+use proofs.Imports.{is_moving, Log, Step, client_took, handed_by, handing, is_to_client, judged, manager_took}
+use proofs.Imports.{outcome_of, stepped_at, stepped, System, same_channel, terms_at, with_channel, with_client}
+use proofs.Imports.{with_manager}
+use Rattle.tl_coherence.specs.refinement.AbstractStep.{is_last}
+use Rattle.tl_client.specs.statement.Ask as ask
 use Rattle.tl_client.proofs.endpoint.Outstanding.{unfinished-offered}
 use Rattle.tl_manager.specs.laws.After.{is_of_clients, taken_after}
 use Rattle.tl_client.specs.laws.After as after
@@ -18,8 +27,14 @@ use Rattle.tl_manager.specs.statement.Reaction as manager_reaction
 use Rattle.tl_manager.specs.statement.End as manager_end
 use Rattle.tl_manager.specs.statement.Offer as manager_offer
 use Rattle.tl_manager.proofs.pending.Afterwards as manager_after
-use proofs.queues.{Carried.carried-next, Channels.same_channel-is, Tokens.same_number}
+use proofs.client.ProbeDelivered.{probe-delivered, AreAnswered, answered-asked, answered-kind_taken}
+use proofs.client.Waiting.{AreGiven, given-asked, given-kind_taken}
+use proofs.client.ClientDelivered.{askable, shadow_of}
+use proofs.queues.{Carried.IsNext, Carried.carried-next, Moves.on_same, Channels.same_channel-is, Tokens.same_number}
 use proofs.queues.Steps.{stepped-to-client, stepped-to-manager, IsLanded, HasHeard, HasTaken}
+use proofs.queues.FirstToken.{IsFirst, first-token}
+use proofs.protocol.{HeadOfD.IsReady, FollowKept.asked-kept, BothParts.kept-letting}
+use proofs.manager.RequestsTaken.{next_tracker}
 
 -- ---- to a client
 
@@ -213,3 +228,168 @@ carried-part {w} mail s {c} {ch} {x} {queue} {sys} {sys'} width is none part h d
         (channel_is ∙ rw (same, same_number c, e) refl) (h d at)
     go (inr other) b e = moved _ _ (is.rests d at ∙ rw (ne_eqb d c other) refl)
         (channel_is ∙ rw (ne_eqb d c other) refl) (h d at)
+
+-- a delivery that completes a message: the beat is moved, and is the last of the message of the first token
+pub record IsDelivery {w : ℕ} (config : Config) (mail : AccessMessages w) (s : State (List ℕ)) (sys : System w)
+    (link : Link) (ch : Channel) (x : Beat w) (queue : List (Beat w)) : Type 0 where
+  pub moves : is_moving (stepped config (Deliver link ch) sys).outcome ≡ true
+  pub beats : sys.channels link.0 ch ≡ x ∷ queue
+  pub whole : completes x (unfinished ch (receiver ch link.0 sys)) ≡ true
+  pub first : IsFirst ch link.0 mail s sys x queue
+
+-- what the protocol does then
+abbrev pub taken_of : {w : ℕ} → Config → AccessMessages w → (ℕ → MessageA w) → (s : State (List ℕ)) → (sys : System w)
+    → ℕ → Kind → ℕ → List Packet → AbstractState w
+taken_of config mail request s sys c k i rest =
+    kind_taken config (next_tracker sys) c k i rest (shadow_of mail request s)
+
+pub delivered-cases : {w : ℕ} {config : Config} {log : Log w} {mail : AccessMessages w} {request : ℕ → MessageA w}
+    {s : State (List ℕ)} {sys : System w} (link : Link) (ch : Channel) (P : AbstractState w → Type 0) → IsWidth w
+    → SimulationRelation config log mail request s sys → P (shadow_of mail request s)
+    → ((x : Beat w) (queue : List (Beat w)) (d : IsDelivery config mail s sys link ch x queue)
+    → P (taken_of config mail request s sys link.0 d.first.kind d.first.number d.first.rest))
+    → P (abstract_delivery config link.0 ch (stepped config (Deliver link ch) sys).outcome sys
+    (shadow_of mail request s))
+delivered-cases {w} {config} {mail} {request} {s} {sys} link ch P width h none kinds = go (sys.channels link.0 ch) refl
+  where
+    before : AbstractState w
+    before = shadow_of mail request s
+
+    o : Outcome w
+    o = (stepped config (Deliver link ch) sys).outcome
+
+    rest_now : List (Beat w)
+    rest_now = unfinished ch (receiver ch link.0 sys)
+
+    event : AbstractState w
+    event = packet_taken config (next_tracker sys) link.0 (packets_on ch (s.link link.0)) before
+
+    taken : (x : Beat w) (queue : List (Beat w)) → IsDelivery config mail s sys link ch x queue → P event
+    taken x queue d = rw d.first.tokens (kinds x queue d)
+
+    either : (x y : Bool) → (x ≡ true → y ≡ true → P event) → P (if x && y then event else before)
+    either x y e = grind (arith, none)
+
+    go : (beats : List (Beat w)) → sys.channels link.0 ch ≡ beats
+        → P (if is_moving o && is_last (sys.channels link.0 ch) rest_now then event else before)
+    go [] e = either (is_moving o) (is_last (sys.channels link.0 ch) rest_now)
+        (λ moves last. absurd (let no : false ≡ true = sym (ap (λ beats. is_last beats rest_now) e) ∙ last in cc))
+    go (x ∷ queue) e = either (is_moving o) (is_last (sys.channels link.0 ch) rest_now)
+        (λ moves last. taken x queue (record {
+          moves = moves;
+          beats = e;
+          whole = sym (ap (λ beats. is_last beats rest_now) e) ∙ last;
+          first = first-token (is_caching config) ch link.0 mail s sys x queue width h.invariant h.carried e;
+        }))
+
+pub asked-cases : {w : ℕ} (config : Config) (log : Log w) (mail : AccessMessages w) (request : ℕ → MessageA w)
+    (s : State (List ℕ)) (sys : System w) (c : ℕ) (operation : Op w) (o : Option EndConfig) (P : AbstractState w
+    → Type 0) → terms_at config c ≡ o → P (shadow_of mail request s)
+    → ((terms : EndConfig) → terms_at config c ≡ Some terms
+    → P (asked c operation (ask.asked terms operation (sys.clients c)).reply (shadow_of mail request s)))
+    → P (abstract_step_by config (Ask c operation) (stepped_at config o (Ask c operation) sys).outcome sys
+    (shadow_of mail request s))
+asked-cases config log mail request s sys c operation None P at none asks = none
+asked-cases config log mail request s sys c operation (Some terms) P at none asks = asks terms at
+
+asked_now : {w : ℕ} (config : Config) (mail : AccessMessages w) (request : ℕ → MessageA w) (s : State (List ℕ))
+    (sys : System w) (c : ℕ) (operation : Op w) (P : AbstractState w → Type 0)
+    → P (abstract_step_by config (Ask c operation) (stepped_at config (terms_at config c) (Ask c operation) sys).outcome
+    sys (shadow_of mail request s)) → P (abstract_step config (Ask c operation) sys (shadow_of mail request s))
+unfolding stepped
+asked_now config mail request s sys c operation P is = is
+
+-- what holds of the protocol as it is, after what a client was asked for, and after the first token of each channel
+-- where its message is complete, holds as it follows the event
+pub followed-cases : {w : ℕ} {config : Config} {log : Log w} {mail : AccessMessages w} {request : ℕ → MessageA w}
+    {s : State (List ℕ)} {sys : System w} (event : Event w) (P : AbstractState w → Type 0) → IsWidth w
+    → SimulationRelation config log mail request s sys → P (shadow_of mail request s)
+    → ((terms : EndConfig) (c : ℕ) (operation : Op w) → terms_at config c ≡ Some terms
+    → P (asked c operation (ask.asked terms operation (sys.clients c)).reply (shadow_of mail request s)))
+    → ((link : Link) (ch : Channel) (x : Beat w) (queue : List (Beat w))
+    (d : IsDelivery config mail s sys link ch x queue)
+    → P (taken_of config mail request s sys link.0 d.first.kind d.first.number d.first.rest))
+    → P (abstract_step config event sys (shadow_of mail request s))
+followed-cases {config} {log} {mail} {request} {s} {sys} (Ask c operation) P width h none asks kinds =
+    asked_now config mail request s sys c operation P (asked-cases config log mail request s sys c operation
+    (terms_at config c) P refl none (λ terms at. asks terms c operation at))
+followed-cases (Deliver link ch) P width h none asks kinds =
+    delivered-cases link ch P width h none (λ x queue d. kinds link ch x queue d)
+
+-- ---- answers and Grants that are on their way
+
+-- the first token of its kind
+pub on-first : {w : ℕ} {config : Config} {mail : AccessMessages w} {s : State (List ℕ)} {sys : System w} {link : Link}
+    {ch : Channel} {x : Beat w} {queue : List (Beat w)} (d : IsDelivery config mail s sys link ch x queue)
+    → on d.first.kind (s.link link.0) ≡ packet d.first.kind d.first.number ∷ d.first.rest
+on-first {s} {link} {ch} d = on_same ch _ (s.link link.0) d.first.own ∙ d.first.tokens
+
+pub answered-followed : {w : ℕ} {config : Config} {log : Log w} {mail : AccessMessages w} {request : ℕ → MessageA w}
+    {s : State (List ℕ)} {sys : System w}
+    (event : Event w) → IsWidth w → SimulationRelation config log mail request s sys
+    → AreAnswered (abstract_step config event sys (shadow_of mail request s)).mail
+    (abstract_step config event sys (shadow_of mail request s)).state
+answered-followed {mail} {request} {s} {sys} event width h = followed-cases event (λ x. AreAnswered x.mail x.state)
+    width h h.answered (λ terms c o at. answered-asked c o (ask.asked terms o (sys.clients c)).reply _ h.answered)
+    (λ link ch x queue d. answered-kind_taken (next_tracker sys) link.0 _ _ _ _ h (on-first d))
+
+pub given-followed : {w : ℕ} {config : Config} {log : Log w} {mail : AccessMessages w} {request : ℕ → MessageA w}
+    {s : State (List ℕ)} {sys : System w} (event : Event w)
+    → IsWidth w → SimulationRelation config log mail request s sys
+    → AreGiven config.profile (abstract_step config event sys (shadow_of mail request s)).state
+given-followed {config} {mail} {request} {s} {sys} event width h = followed-cases event (λ x. AreGiven config.profile
+    x.state) width h h.given (λ terms c o at. given-asked _ c o _ _ h.invariant (askable terms c o h at) h.given)
+    (λ link ch x queue d. given-kind_taken config (next_tracker sys) link.0 d.first.kind d.first.number d.first.rest _
+    h.given)
+
+pub invariant-asked : {w : ℕ} {config : Config} {log : Log w} {mail : AccessMessages w} {request : ℕ → MessageA w}
+    {s : State (List ℕ)} {sys : System w} (terms : EndConfig) (c : ℕ) (o : Op w)
+    → SimulationRelation config log mail request s sys → terms_at config c ≡ Some terms
+    → IsInvariant (is_caching config) (asked c o (ask.asked terms o (sys.clients c)).reply
+    (shadow_of mail request s)).state
+invariant-asked {mail} {request} {s} {sys} terms c o h at = asked-kept c o _ _ h.invariant (askable terms c o h at)
+
+pub nobody_moves : {w : ℕ} (config : Config) (sys : System w) (link : Link) (ch : Channel)
+    → terms_at config link.0 ≡ None → is_moving (stepped config (Deliver link ch) sys).outcome ≡ false
+unfolding stepped
+nobody_moves config sys link ch none = cc none
+
+-- a Probe that is moved doesn't wait for a Release
+probe_ready : {w : ℕ} {config : Config} {log : Log w} {mail : AccessMessages w} {request : ℕ → MessageA w}
+    {s : State (List ℕ)} {sys : System w} (link : Link) (n : ℕ) (rest : List Packet) {x : Beat w}
+    {queue : List (Beat w)} → IsWidth w → SimulationRelation config log mail request s sys
+    → is_moving (stepped config (Deliver link Channel.B) sys).outcome ≡ true → sys.channels link.0 Channel.B ≡ x ∷ queue
+    → (s.link link.0).b ≡ packet Probe n ∷ rest → IsNext x (unfinished Channel.B (sys.clients link.0).past)
+    (message_of_kind Probe mail s link.0 n) (map (message_of mail s link.0) rest) queue
+    → ((s.block n).pair link.0).letting ≡ NoRelease
+probe_ready {w} {config} {log} {mail} {request} {s} {sys} link n rest {x} {queue} width h moves beats first next =
+    at_terms (terms_at config link.0) refl
+  where
+    stands : (terms : EndConfig) → terms_at config link.0 ≡ Some terms → (b : Bool)
+        → is_unreleased ((s.block n).pair link.0).letting ≡ b → ((s.block n).pair link.0).letting ≡ NoRelease
+    stands terms at true kept = kept-letting ((s.block n).pair link.0).letting (ap not kept)
+    stands terms at false waits =
+        let probed = probe-delivered terms (next_tracker sys) link.0 n rest width h at beats first next in
+        let step : is_moving (stepped config (Deliver link Channel.B) sys).outcome ≡ false =
+        ap (λ i. is_moving i.outcome) (stepped-to-client config link Channel.B sys terms x queue at beats refl)
+        ∙ ap (λ o. is_moving (client_took link.0 Channel.B x queue o sys).outcome) (probed.waits_for waits) in
+        absurd (let no : true ≡ false = sym moves ∙ step in cc)
+
+    at_terms : (o : Option EndConfig) → terms_at config link.0 ≡ o → ((s.block n).pair link.0).letting ≡ NoRelease
+    at_terms None at = absurd (let no : true ≡ false = sym moves ∙ nobody_moves config sys link Channel.B at in cc)
+    at_terms (Some terms) at = stands terms at (is_unreleased ((s.block n).pair link.0).letting) refl
+
+-- what a client takes, it may take
+pub ready-client : {w : ℕ} {config : Config} {log : Log w} {mail : AccessMessages w} {request : ℕ → MessageA w}
+    {s : State (List ℕ)} {sys : System w} (link : Link) (ch : Channel) (k : Kind) (i : ℕ) (rest : List Packet)
+    {x : Beat w} {queue : List (Beat w)} → IsWidth w → SimulationRelation config log mail request s sys
+    → is_to_client ch ≡ true → is_on ch k ≡ true → is_moving (stepped config (Deliver link ch) sys).outcome ≡ true
+    → sys.channels link.0 ch ≡ x ∷ queue → packets_on ch (s.link link.0) ≡ packet k i ∷ rest
+    → IsNext x (unfinished ch (receiver ch link.0 sys)) (message_of_kind k mail s link.0 i)
+    (map (message_of mail s link.0) rest) queue → IsReady (next_tracker sys) link.0 k i (shadow_of mail request s)
+ready-client link Channel.B Probe i rest
+    width h up own moves beats first next = probe_ready link i rest width h moves beats first next
+ready-client link Channel.D Answer i rest width h up own moves beats first next = tt
+ready-client link Channel.D Grant i rest width h up own moves beats first next = tt
+ready-client link Channel.D ReleaseAck i rest width h up own moves beats first next = tt
+ready-client link ch k i rest width h up own moves beats first next = absurd cc

@@ -2,7 +2,7 @@
 -- Where there is no client, nothing is on a channel.
 -- What a delivery leaves on the channels, who has something open, and how much is left of what is taken.
 use Rattle.std.proofs.Common.{◌≡◌, ℕ, ◌+◌, ◌<◌, ◌≤◌, Bool, true, false, ◌&&◌, ◌==◌, if◌then◌else◌, List, [], ◌∷◌}
-use Rattle.std.proofs.Common.{Option, Some, None, refl, sym, ◌∙◌, ap, arith, ◌/◌, length, slice_get, option_map}
+use Rattle.std.proofs.Common.{Option, Some, None, refl, sym, ◌∙◌, ap, arith, length, ◌/◌, slice_get, option_map}
 use Rattle.tl_coherence.proofs
 use proofs.Imports.{Beat, Channel, IsWidth, length-begun, Message, MessageA, beats_of, unfinished, ClientConfig, Config}
 use proofs.Imports.{Key, ReleaseSource, RequestSource, Level, pending, kept-asked, kept-fresh, kept-offered, EndConfig}
@@ -16,12 +16,12 @@ use Rattle.tl_manager.specs.code.Kept as kept
 use Rattle.tl_client.{specs.laws.Inside.IsInside, specs.statement.Endpoint.fresh}
 use Rattle.tl_client.{specs.statement.EndpointInvariant.IsEndpointInvariant}
 use Rattle.tl_client.proofs.endpoint.Inside.{inside-fresh, inside-asked, inside-offered}
-use proofs.protocol.Capacities.{acquire_named, grant_named, release_named, release_ack_named, request_named}
-use proofs.protocol.Capacities.{answer_named, shown_there, kind_there}
 use proofs.protocol.BeatsRemaining.{IsPopped, beats_left, is_pop, is_front, taken_of}
 use proofs.protocol.Room.{channel-few}
-use proofs.queues.{Distinct.IsThere, Distinct.first-there, FirstToken.IsFirst, QuiescentQueues.client_below}
-use proofs.queues.{Tokens.same_number, Steps.same_channel-refl, Moves.kind_channel, Ends.AreKept, Ends.ends-kept}
+use proofs.protocol.Capacities.{acquire_named, grant_named, release_named, release_ack_named, request_named}
+use proofs.protocol.Capacities.{answer_named, shown_there, kind_there}
+use proofs.queues.{QuiescentQueues.client_below, Tokens.same_number, Steps.same_channel-refl, Moves.kind_channel}
+use proofs.queues.FirstToken.{IsThere, first-there, IsFirst, AreKept, ends-kept}
 use proofs.queues.Channels.{Fits, same_channel-is, same_kind_again}
 use proofs.simulation.Bounded.{matched-bounded, IsOwn}
 use proofs.rank.Frames.{AreClients}

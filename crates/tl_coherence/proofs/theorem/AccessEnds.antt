@@ -1,18 +1,18 @@
 -- What the one-memory machine allows at a delivery: how an access ends as its answer comes.
-use Rattle.std.proofs.Common.{◌≡◌, ℕ, ◌-◌, ◌*◌, ◌%◌, ◌^◌, ◌≤◌, List, ◌∷◌, ◌++◌, length, Option, Some, None, refl, sym}
-use Rattle.std.proofs.Common.{◌∙◌, ap, subst, arith, eqb-true, append_assoc, pow_pos, drop, replicate, take, drop_at}
-use Rattle.std.proofs.Common.{take_at}
+use Rattle.std.proofs.Common.{◌≡◌, ℕ, ◌*◌, ◌-◌, ◌^◌, ◌≤◌, List, ◌∷◌, ◌++◌, Option, Some, None, refl, sym, ◌∙◌, ap}
+use Rattle.std.proofs.Common.{subst, arith, ◌%◌, length, append_assoc, take, eqb-true, drop_at, take_at, drop, pow_pos}
+use Rattle.std.proofs.Common.{replicate}
 use Rattle.tl_coherence.proofs
-use proofs.Imports.{length-replicate, Beat, BeatA, Link, Channel, OpD, IsWidth, Message, MessageA, MessageD, a_beat_of}
-use proofs.Imports.{beats_of, burst_of, d_beat_of, data_beats, IsBlankAfter, History, unfinished, Config, Level}
-use proofs.Imports.{control_of_legal, control_aligned, payload-d, payload_of, as_payload, answer_of, request_of, Access}
-use proofs.Imports.{Finish, finish_of, open_beat, sourced, illegal_message_at, access_answer, no_payload, level_of}
-use proofs.Imports.{Acquire, Answer, SourceState, packet, Replied, AbstractState, Answers, IsOpened, IsReach}
-use proofs.Imports.{message_of_kind, block_message, SimulationRelation, is_caching, IsRequest, block_used, first_of}
-use proofs.Imports.{Log, system_after, Ends, Machine, pool_of, Requests, finish_with, one_memory_after, System}
+use proofs.Imports.{length-replicate, Beat, BeatA, Link, Channel, OpD, IsWidth, Message, MessageA, MessageD}
+use proofs.Imports.{IsBlankAfter, a_beat_of, beats_of, burst_of, d_beat_of, data_beats, History, unfinished, Config}
+use proofs.Imports.{Level, control_aligned, control_of_legal, payload-d, payload_of, answer_of, as_payload, request_of}
+use proofs.Imports.{Access, Finish, finish_of, open_beat, sourced, illegal_message_at, access_answer, no_payload}
+use proofs.Imports.{level_of, Acquire, Answer, Replied, SourceState, packet, AbstractState, Answers, IsOpened, IsReach}
+use proofs.Imports.{message_of_kind, block_message, IsRequest, SimulationRelation, block_used, first_of, is_caching}
+use proofs.Imports.{Log, system_after, Ends, Machine, Requests, finish_with, pool_of, one_memory_after, System}
 use Rattle.tl_manager.proofs.messages.Filled.{data_room, payload-long, payload-zero, room_in_beats}
 use Rattle.tl_rules.specs.statement.Effect as memory
-use proofs.client.AnswersKept.{answer_message}
+use proofs.client.ProbeDelivered.{answer_message}
 use proofs.protocol.HeadOfD.{IsAnswerDue, answer-due}
 use proofs.links.{Ending.IsEnding, Granting.same-response}
 use proofs.flow.Windowed.{asked_replied}
@@ -136,31 +136,28 @@ pub ends-answer : {w : ℕ} {config : Config} {log : Log w} {link : Link} {ch : 
 ends-answer {w} {config} {log} {link} {ch} {h} {x} {source} {f} width is end e =
     let sys : System w = system_after config log in
     let m : Machine w = one_memory_after config log in
-    let it : IsOver config log c n h = over c n h is due.used in
+    let it : IsOver config log link.0 n h = over link.0 n h is due.used in
     let payload : List ℕ = payload_of (Beat.D (d_beat_of end.response end.first.next.k) ∷ unfinished Channel.D
-    (sys.clients c).past) in
+    (sys.clients link.0).past) in
     let fin : f ≡ finish_with (Message.A it.asked) it.reply = cc (
       end.finish_is,
-      ap (λ i. request_of i (sys.clients c).past) (sym end.source_is ∙ from) ∙ it.pending_is,
+      ap (λ i. request_of i (sys.clients link.0).past) (sym end.source_is ∙ from) ∙ it.pending_is,
       ends_answered _ _ _ it.reply _ width it.lawful (response_is ∙ it.answer) it.reach (whole_response end),
       finish_sourced n it.asked it.reply,
     ) in
-    subst (λ i. Ends (m.opened c (pool_of i) source) x i) (sym fin)
-    (subst (λ i. Ends (m.opened c (pool_of (finish_with (Message.A it.asked) it.reply)) i) x
-    (finish_with (Message.A it.asked) it.reply)) (sym from) (open_ends c n m it.asked it.reply x it.opened))
+    subst (λ i. Ends (m.opened link.0 (pool_of i) source) x i) (sym fin)
+    (subst (λ i. Ends (m.opened link.0 (pool_of (finish_with (Message.A it.asked) it.reply)) i) x
+    (finish_with (Message.A it.asked) it.reply)) (sym from) (open_ends link.0 n m it.asked it.reply x it.opened))
   where
-    c : ℕ
-    c = link.0
-
     n : ℕ
     n = end.first.number
 
-    due : IsAnswerDue c n h.mail h.state
-    due = answer-due (is_caching config) c n _ h.mail _ is.invariant (is.answered c n)
+    due : IsAnswerDue link.0 n h.mail h.state
+    due = answer-due (is_caching config) link.0 n _ h.mail _ is.invariant (is.answered link.0 n)
         (end.first.tokens ∙ ap (λ i. packet i n ∷ end.first.rest) e)
 
-    response_is : Message.D end.response ≡ h.mail.answer c n
-    response_is = sym end.response_is ∙ ap (λ i. message_of_kind i h.mail h.state c n) e
+    response_is : Message.D end.response ≡ h.mail.answer link.0 n
+    response_is = sym end.response_is ∙ ap (λ i. message_of_kind i h.mail h.state link.0 n) e
 
     from : source ≡ n
     from = cc (end.source_is, same-response _ _ (response_is ∙ due.answer_is), due.from)

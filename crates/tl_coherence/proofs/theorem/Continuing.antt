@@ -23,7 +23,8 @@ use proofs.theorem.AccessEnds.{ends-answer}
 use proofs.deliveries.{AskedAfter.continues-ask, DeliverDUnmoved.unmoved, ReportsAfter.once-followed_c}
 use proofs.deliveries.{FirstRequest.once-delivered_a}
 use proofs.deliveries.Matching.{shadow, matched, stepped-nobody, not_moving}
-use proofs.memory.{Runs.AllContinue, Runs.run-continued, BesideRequests.IsOnce, BesideRequests.once-performs}
+use proofs.memory.BesideTaken.{AllContinue, run-continued}
+use proofs.memory.BesideRequests.{IsOnce, once-performs}
 use proofs.simulation.Moved.{client-moves, manager-moves}
 use proofs.simulation.BeatsInFlight.{copy-long, IsOfClient, IsFitAnswer, fit-taken}
 

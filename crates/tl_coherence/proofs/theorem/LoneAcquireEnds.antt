@@ -16,10 +16,10 @@ use proofs.links.FromInvariant.{matched-given}
 use proofs.deliveries.Matching.{shadow}
 use proofs.manager.RequestsTaken.{next_tracker}
 use proofs.bound.Settling.{given-before, given-delivering}
-use proofs.protocol.QuiescentProtocol.{IsClosed}
+use proofs.protocol.GrantedAll.{IsClosed}
 use proofs.queues.Tokens.{set-same, set_at-same}
-use proofs.simulation.FollowCases.{delivered-cases, on-first}
-use proofs.theorem.LoneAcquireSteps.{Brings, IsLone, grown, lone-kind_taken}
+use proofs.simulation.Moved.{delivered-cases, on-first}
+use proofs.theorem.Performed.{Brings, IsLone, grown, lone-kind_taken}
 
 -- ---- logs
 

@@ -1,10 +1,6 @@
 pub mod Beginnings
 pub mod DeliveriesDecrease
-pub mod EventDecreases
-pub mod PartialMessages
 pub mod RankAfter
-pub mod RankByKind
-pub mod RankOfLog
 pub mod ReportDecreases
 pub mod RequestDecreases
 pub mod ResponseDecreases

@@ -1,7 +1,4 @@
 pub mod Ending
-pub mod FifoOfChannels
-pub mod FifoSteps
 pub mod FromInvariant
 pub mod Granting
 pub mod HeadsOfLinks
-pub mod Stalling

@@ -2,9 +2,5 @@ pub mod Beside
 pub mod BesideAsked
 pub mod BesideKinds
 pub mod BesideRequests
-pub mod BesideResponses
 pub mod BesideTaken
-pub mod Bytes
-pub mod Coherence
 pub mod OneMemory
-pub mod Runs

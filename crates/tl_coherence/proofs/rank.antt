@@ -1,4 +1,3 @@
-pub mod BeatsRemainingSums
 pub mod Frames
 pub mod RankDecreases
 pub mod RankParts

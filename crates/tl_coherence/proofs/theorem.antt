@@ -1,9 +1,6 @@
 pub mod AccessEnds
-pub mod Allowing
 pub mod Continuing
 pub mod LoneAcquireEnds
-pub mod LoneAcquireSteps
-pub mod Machined
 pub mod Performed
 pub mod Soundness
 pub mod Whole

@@ -1,23 +1,27 @@
 -- What is owed falls as a beat is taken that isn't the last of its message.
-use Rattle.std.proofs.Common.{◌≡◌, ℕ, ◌+◌, ◌<◌, ◌≤◌, Bool, true, false, List, ◌∷◌, refl, sym, ◌∙◌, arith, ◌⊎◌}
-use Rattle.std.proofs.Common.{Option, length, if◌then◌else◌}
+-- What is owed in a world: its bound, and how it falls with a beat that isn't the last of its message.
+use Rattle.std.proofs.Common.{◌≡◌, ℕ, ◌+◌, ◌*◌, ◌<◌, ◌≤◌, Bool, true, false, ◌==◌, if◌then◌else◌, List, ◌∷◌, Option}
+use Rattle.std.proofs.Common.{refl, sym, ◌∙◌, arith, ◌⊎◌, length, ◌/◌}
 use Rattle.tl_coherence.proofs
-use proofs.Imports.{cases_eq, Beat, Channel, beats_of, Config, Left, probing_weight, pair_weight, probes_weight}
-use proofs.Imports.{acquire_weight, letting_weight, rank, let_weight, IsInvariant, is_asked, is_replied, Kind, Request}
-use proofs.Imports.{Acquire, ProbeAck, Release, Answer, Grant, ClientBlock, Own, Granting}
-use proofs.Imports.{ReleaseSent, View, ReleasePhase, Waits, State, SourceFree, Asked, InService, Replied, Acquires}
-use proofs.Imports.{packet, view, packets_on, is_unserved, is_wanting, is_granting, is_releasing, shown}
-use proofs.Imports.{channel_for, AccessMessages, message_of_kind, System}
-use proofs.protocol.{TokenNames.shown_there, TokenNames.shows_it, Room.is_light, Room.light-one, BothParts.not-answered}
-use proofs.protocol.Capacities.{request_named, answer_named, acquire_named, grant_named, release_named}
+use proofs.Imports.{cases_eq, Beat, Channel, IsWidth, MessageA, beats_of, completes, Config, Left, acquire_weight}
+use proofs.Imports.{let_weight, letting_weight, open_releases, open_requests, pair_weight, probes_weight}
+use proofs.Imports.{probing_weight, rank, IsInvariant, is_asked, is_replied, Acquire, Answer, Grant, Kind, ProbeAck}
+use proofs.Imports.{Release, Request, ClientBlock, Granting, Own, ReleasePhase, ReleaseSent, View, Acquires, Asked}
+use proofs.Imports.{InService, Replied, SourceFree, State, Waits, packet, packets_on, view, is_granting, is_releasing}
+use proofs.Imports.{is_unserved, is_wanting, shown, channel_for, AccessMessages, message_of_kind, SimulationRelation}
+use proofs.Imports.{is_caching, Log, system_after, System}
+use proofs.queues.{Tokens.same_number, Phases.and_right, Channels.same_kind_again, Moves.kind_channel}
+use proofs.queues.FirstToken.{first-token, IsFirst, first-there}
+use proofs.protocol.{Room.is_light, Room.light-one, BothParts.not-answered}
 use proofs.protocol.BeatsRemaining.{beats_left, taken_of, is_front, same_channels}
-use proofs.queues.{Distinct.first-there, FirstToken.IsFirst, Phases.and_right, Rendered.same_kind_again}
-use proofs.queues.{Tokens.same_number, KindMoves.kind_channel}
-use proofs.rank.Frames.{unserved-weight, AreClients}
+use proofs.protocol.Capacities.{shown_there, shows_it, request_named, answer_named, acquire_named, grant_named}
+use proofs.protocol.Capacities.{release_named}
+use proofs.simulation.Owned.{unfinished_at, are-clients, first-left}
 use proofs.rank.RankParts.{IsAsking, asking, IsWaited, waited-probing, open_use}
 use proofs.rank.RankDecreases.{IsNoMore, owed_use, owed_use', use-falls, let-falls, use-no-more, probes-no-more}
 use proofs.rank.RankDecreases.{acquire-no-more, total-falls}
-use proofs.simulation.Popped.{unfinished_at, first-left}
+use proofs.rank.Weights.{IsLeft, potential-few}
+use proofs.rank.Frames.{unserved-weight, AreClients, answer_to, is-left, wide-block}
 
 -- The receiver of channel ch of client c's link has one beat more, and the others have what they had.
 pub record IsBegun {w : ℕ} (c : ℕ) (ch : Channel) (x : Beat w) (rest rest' : ℕ → Channel → List (Beat w)) : Type 0 where
@@ -37,7 +41,7 @@ module _ {X : Type 0} (config : Config) (size : ℕ) (left left' : Left) (answer
 
   pair_less : (m d : ℕ) → pair_weight size left' m d ((s.block m).pair d) ≤ pair_weight size left m d
       ((s.block m).pair d)
-  pair_less m d = probing_less (left d ProbeAck m) (left' d ProbeAck m) ((s.block m).pair d) (le d ProbeAck m)
+  pair_less m d = probing_less _ _ ((s.block m).pair d) (le d ProbeAck m)
 
   probes_less : (m : ℕ) → probes_weight number size left' m (s.block m) ≤ probes_weight number size left m (s.block m)
   probes_less m = probes-no-more config size left left' answer answer s s m (λ d lt. pair_less m d)
@@ -47,11 +51,9 @@ module _ {X : Type 0} (config : Config) (size : ℕ) (left left' : Left) (answer
 
   pub none-more : IsNoMore config size left left' answer answer s s
   none-more = record {
-    uses = λ c i. use-no-more config size left left' answer answer s s c i (s.uses c i) refl refl (omega arith)
-        (λ u. le c Request i) (λ u. le c Answer i) (λ m u. probes_less m)
-        (λ m u. acquire-no-more size (left c Acquire m) (left' c Acquire m) (left c Grant m) (left' c Grant m)
-        (probes_weight number size left m (s.block m)) (probes_weight number size left' m (s.block m))
-        (view (s.block m).service c) (λ v. le c Acquire m) (le c Grant m) (probes_less m));
+    uses = λ c i. use-no-more config size left left' answer answer s s c i (s.uses c i) refl refl (omega arith) (λ u.
+        le c Request i) (λ u. le c Answer i) (λ m u. probes_less m) (λ m u. acquire-no-more size (left c Acquire m)
+        (left' c Acquire m) _ _ _ _ (view (s.block m).service c) (λ v. le c Acquire m) (le c Grant m) (probes_less m));
     lets = λ c i. lets_less c (s.lets c i);
     acks = λ c. omega arith;
   }
@@ -167,11 +169,10 @@ pub beat-falls : {w : ℕ} {config : Config} {caching : ℕ → Bool} {ch : Chan
     → c < length config.clients.items → rank config size (beats_left mail s (unfinished_at sys')) answer s + 1
     ≤ rank config size (beats_left mail s (unfinished_at sys)) answer s
 beat-falls {w} {config} {caching} {ch} {c} {mail} {s} {sys} sys' {x} {queue} size answer first more begun inv all lt =
-    let shown_it : shows_it s c first.kind first.number ≡ true = shown_there c ch first.kind first.number inv
+    let shown_it : shows_it s c first.kind first.number ≡ true = shown_there c ch _ first.number inv
     first.own (rw first.tokens (first-there (packet first.kind first.number) first.rest)) in
-    message-less config size (beats_left mail s (unfinished_at sys))
-    (beats_left mail s (unfinished_at sys')) answer s less inv all c lt first.kind first.number shown_it
-    one_less (heavy (is_light first.kind) refl)
+    message-less config size (beats_left mail s (unfinished_at sys)) (beats_left mail s (unfinished_at sys')) answer s
+    less inv all c lt first.kind first.number shown_it one_less (heavy (is_light first.kind) refl)
   where
     longer : (d : ℕ) (at : Channel) → (d ≡ c) ⊎ (d ≡ c → ⊥) → (at ≡ ch) ⊎ (at ≡ ch → ⊥)
         → length (unfinished_at sys d at) ≤ length (unfinished_at sys' d at)
@@ -180,14 +181,13 @@ beat-falls {w} {config} {caching} {ch} {c} {mail} {s} {sys} sys' {x} {queue} siz
     less : (d : ℕ) (k : Kind) (m : ℕ) → beats_left mail s (unfinished_at sys') d k m ≤ beats_left mail s
         (unfinished_at sys) d k m
     less d k m =
-        let more = taken_more (is_front k m (packets_on (channel_for k) (s.link d)))
-        (unfinished_at sys d (channel_for k)) (unfinished_at sys' d (channel_for k))
+        let more = taken_more (is_front k m (packets_on (channel_for k) (s.link d))) _ _
         (longer d (channel_for k) (cases_eq d c) (same_channels (channel_for k) ch)) in
         omega (arith, more)
 
     heavy : (b : Bool) → is_light first.kind ≡ b → b ≡ false
     heavy false e = refl
-    heavy true e = absurd (let one = light-one mail s c first.kind first.number e in omega (arith, one, more))
+    heavy true e = absurd (let one = light-one mail s c _ first.number e in omega (arith, one, more))
 
     front : is_front first.kind first.number (packets_on (channel_for first.kind) (s.link c)) ≡ true
     front = rw (
@@ -207,3 +207,42 @@ beat-falls {w} {config} {caching} {ch} {c} {mail} {s} {sys} sys' {x} {queue} siz
     one_less =
         let t = taken (is_front first.kind first.number (packets_on (channel_for first.kind) (s.link c))) front in
         omega (arith, first-left first, t, more)
+
+abbrev pub owed : {w : ℕ} → Config → AccessMessages w → State (List ℕ) → System w → ℕ
+owed {w} config mail s sys = rank config (64 / w) (beats_left mail s (unfinished_at sys)) (answer_to mail) s
+
+pub narrow-block : (w : ℕ) → IsWidth w → 64 / w ≤ 16
+narrow-block w e = grind arith
+
+left-matched : {w : ℕ} {config : Config} {log : Log w} {mail : AccessMessages w} {request : ℕ → MessageA w}
+    {s : State (List ℕ)} {sys : System w} → IsWidth w → SimulationRelation config log mail request s sys
+    → IsLeft (64 / w) (beats_left mail s (unfinished_at sys)) (answer_to mail) s
+left-matched {config} {mail} {sys} width matched = is-left config mail (unfinished_at sys)
+    width matched.invariant matched.sourced
+
+-- what is owed is at most a block's beats and 33 for each open request, a block's beats and one for each open Release
+pub owed-few : {w : ℕ} {config : Config} {log : Log w} {mail : AccessMessages w} {request : ℕ → MessageA w}
+    {s : State (List ℕ)} {sys : System w} → IsWidth w
+    → SimulationRelation config log mail request s sys → length config.clients.items ≤ 16
+    → owed config mail s sys ≤ (64 / w + 33) * open_requests config s + (64 / w + 1) * open_releases config s
+owed-few {w} {config} {log} {mail} {request} {s} {sys} width matched sixteen = potential-few matched.invariant (64 / w)
+    (beats_left mail s (unfinished_at sys)) (answer_to mail) (left-matched width matched) (let wide =
+    wide-block w width in omega (arith, wide)) (narrow-block w width) (length config.clients.items) sixteen config refl
+
+not_last : (b : Bool) (k n : ℕ) → b ≡ (k + 1 == n) → b ≡ false → k < n → k + 1 < n
+not_last b k n e f lt = grind (arith, same_number)
+
+-- a beat that isn't the last of its message is taken
+pub owed-begun : {w : ℕ} {config : Config} {log : Log w} {mail : AccessMessages w} {request : ℕ → MessageA w}
+    {s : State (List ℕ)} (sys' : System w) {ch : Channel} {c : ℕ} {x : Beat w} (queue : List (Beat w)) → IsWidth w
+    → SimulationRelation config log mail request s (system_after config log) → c < length config.clients.items
+    → (system_after config log).channels c ch ≡ x ∷ queue → completes x (unfinished_at (system_after config log) c ch)
+    ≡ false → IsBegun c ch x (unfinished_at (system_after config log)) (unfinished_at sys')
+    → owed config mail s sys' + 1 ≤ owed config mail s (system_after config log)
+owed-begun {w} {config} {log} {mail} {s} sys' {ch} {c} {x} queue width matched lt beats part begun =
+    let first = first-token (is_caching config) ch c mail s (system_after config log) x queue width matched.invariant
+    matched.carried beats in
+    beat-falls sys' (64 / w) (answer_to mail) first
+    (not_last (completes x (unfinished_at (system_after config log) c ch)) first.next.k
+    (beats_of (message_of_kind first.kind mail s c first.number)) first.next.completes_is part first.next.within) begun
+    matched.invariant (are-clients matched width) lt

@@ -5,13 +5,13 @@ use Rattle.tl_coherence.proofs
 use proofs.Imports.{cases_eq, Config, Cap, Report, Perm, report_at, same_perm, Left, probing_weight, pair_weight}
 use proofs.Imports.{probes_weight, acquire_weight, IsInvariant, serves_of, is_serving, ProbeAck, Acquire, Grant, Answer}
 use proofs.Imports.{set, ClientBlock, Own, Granting, ProbePhase, NoProbe, ProbeSent, ProbeAnswered, is_unprobed}
-use proofs.Imports.{after_probe, after_report, after_grant_sent, Service, Free, Waits, GrantSent, Block}
-use proofs.Imports.{State, SourceFree, InService, Replied, Acquires, view, probed_block, ended_block, granted_block}
-use proofs.Imports.{reported_block, is_unserved, AccessMessages}
+use proofs.Imports.{after_probe, after_report, after_grant_sent, Service, Free, Waits, GrantSent, State, SourceFree}
+use proofs.Imports.{InService, Replied, Acquires, view, probed_block, ended_block, granted_block, reported_block}
+use proofs.Imports.{is_unserved, AccessMessages}
 use Rattle.tl_coherence.specs.bound.Rank.{total}
+use proofs.rank.{Weights.IsLeft, RankParts.pair-falls, RankParts.request-falls}
 use proofs.rank.Frames.{Taking, Falls, AreAsBefore, AreNoMore, AreElsewhere, IsBlockNoMore, let-stays, unserved-stays}
 use proofs.protocol.BeatsRemaining.{beats_left}
-use proofs.rank.{Weights.IsLeft, RankParts.pair-falls, RankParts.request-falls}
 use proofs.queues.Tokens.{same_number, set-same, set-other, set-part}
 
 -- ---- one client's pair
@@ -71,24 +71,22 @@ module _ {w : ℕ} {config : Config} {mail mail' : AccessMessages w} {s s' : Sta
   -- a part of pairs that an event leaves alone
   pub kept_at : {A : Type 0} (part : ClientBlock → A) (p : ClientBlock) → part p ≡ part ((s.block n).pair c)
       → (s'.block n).pair ≡ set c p (s.block n).pair → (d : ℕ) → part ((s'.block n).pair d) ≡ part ((s.block n).pair d)
-  kept_at part p e new d = ap (λ (f : ℕ → ClientBlock). part (f d)) new ∙ set-part part c p (s.block n).pair e d
+  kept_at part p e new d = ap (λ f. part (f d)) new ∙ set-part part c p (s.block n).pair e d
 
   other_at : (p : ClientBlock) → (s'.block n).pair ≡ set c p (s.block n).pair → (d : ℕ) → (d ≡ c → ⊥)
       → (s'.block n).pair d ≡ (s.block n).pair d
-  other_at p new d ne = ap (λ (f : ℕ → ClientBlock). f d) new ∙ set-other c d p (s.block n).pair ne
+  other_at p new d ne = ap (λ f. f d) new ∙ set-other c d p (s.block n).pair ne
 
   own_at : (p : ClientBlock) → (s'.block n).pair ≡ set c p (s.block n).pair → (s'.block n).pair c ≡ p
-  own_at p new = ap (λ (f : ℕ → ClientBlock). f c) new ∙ set-same c p (s.block n).pair
+  own_at p new = ap (λ f. f c) new ∙ set-same c p (s.block n).pair
 
   pub probe-falls : (k : Cap) → c < number → ((s.block n).pair c).probing ≡ ProbeSent k
       → s'.block n ≡ probed_block c k (s.block n) → IsLeft size left' answer s' → AreAsBefore s'.uses s.uses
       → AreAsBefore s'.lets s.lets → AreNoMore s'.link s.link → Falls taking
   probe-falls k lt sent new is uses lets acks =
-      let pairs = ap (λ (b : Block (List ℕ)). b.pair) new in
-      pair-falls taking lt (rw sent refl)
-      (ap (λ (b : Block (List ℕ)). b.service) new)
-      (other_at (after_probe k was) pairs) (kept_at (λ p. p.acquiring) (after_probe k was) refl pairs c)
-      (kept_at (λ p. p.letting) (after_probe k was) refl pairs c)
+      let pairs = ap (λ b. b.pair) new in
+      pair-falls taking lt (rw sent refl) (ap (λ b. b.service) new) (other_at (after_probe k was) pairs) (kept_at
+      (λ p. p.acquiring) (after_probe k was) refl pairs c) (kept_at (λ p. p.letting) (after_probe k was) refl pairs c)
       uses lets acks (less ((s'.block n).pair c) (own_at (after_probe k was) pairs) (is.reports c n))
     where
       was : ClientBlock
@@ -105,22 +103,21 @@ module _ {w : ℕ} {config : Config} {mail mail' : AccessMessages w} {s s' : Sta
   pub report-falls : (told r : Report) → c < number → ((s.block n).pair c).probing ≡ ProbeAnswered told
       → 1 ≤ left c ProbeAck n → s'.block n ≡ reported_block c r (s.block n) → AreAsBefore s'.uses s.uses
       → AreAsBefore s'.lets s.lets → AreNoMore s'.link s.link → Falls taking
-  report-falls told r lt answered some new uses lets acks =
-      pair-falls taking lt (rw answered refl) (ap (λ (b : Block (List ℕ)). b.service) new)
-      (other_at (after_report r was) pairs) (kept_at (λ p. p.acquiring) (after_report r was) refl pairs c)
+  report-falls told r lt answered some new uses lets acks = pair-falls taking lt (rw answered refl) (ap (λ b. b.service)
+      new) (other_at (after_report r was) pairs) (kept_at (λ p. p.acquiring) (after_report r was) refl pairs c)
       (kept_at (λ p. p.letting) (after_report r was) refl pairs c) uses lets acks less
     where
       was : ClientBlock
       was = (s.block n).pair c
 
       pairs : (s'.block n).pair ≡ set c (after_report r was) (s.block n).pair
-      pairs = ap (λ (b : Block (List ℕ)). b.pair) new
+      pairs = ap (λ b. b.pair) new
 
       less : pair_weight size left' n c ((s'.block n).pair c) + 1 ≤ pair_weight size left n c ((s.block n).pair c)
       less =
           let after = quiet_weight size (left' c ProbeAck n) ((s'.block n).pair c).recorded
-          ((s'.block n).pair c).probing (ap (λ (p : ClientBlock). p.probing) (own_at (after_report r was) pairs)) in
-          omega (arith, after, answered_weight size (left c ProbeAck n) was.recorded was.probing told answered, some)
+          _ (ap (λ p. p.probing) (own_at (after_report r was) pairs)) in
+          omega (arith, after, answered_weight size (left c ProbeAck n) was.recorded _ told answered, some)
 
   -- ---- the last report
 
@@ -128,8 +125,7 @@ module _ {w : ℕ} {config : Config} {mail mail' : AccessMessages w} {s s' : Sta
   report-owed : (told : Report) → c < number → ((s.block n).pair c).probing ≡ ProbeAnswered told → 1 ≤ left c ProbeAck n
       → 1 ≤ probes_weight number size left n (s.block n)
   report-owed told lt answered some =
-      let one = answered_weight size (left c ProbeAck n) ((s.block n).pair c).recorded ((s.block n).pair c).probing told
-      answered in
+      let one = answered_weight size (left c ProbeAck n) ((s.block n).pair c).recorded _ told answered in
       omega (arith, one, summand-few number c (λ d. pair_weight size left n d ((s.block n).pair d)) lt, some)
 
   pub answering-falls : (q source : ℕ) (k : Cap) (told r : Report) (f : List ℕ → List ℕ) → c < number
@@ -142,17 +138,16 @@ module _ {w : ℕ} {config : Config} {mail mail' : AccessMessages w} {s s' : Sta
       let was : ClientBlock = (s.block n).pair c in
       let opened : s.uses q source ≡ SourceFree → ⊥ = λ e. absurd (let both : InService n ≡ SourceFree = sym used ∙ e in
       cc) in
-      let pairs = ap (λ (b : Block (List ℕ)). b.pair) new in
-      let free : (s'.block n).service ≡ Free = ap (λ (b : Block (List ℕ)). b.service) new in
+      let pairs = ap (λ b. b.pair) new in
+      let free : (s'.block n).service ≡ Free = ap (λ b. b.service) new in
       let block : IsBlockNoMore taking = record {
         serves = λ d i e g. absurd (nobody-serving n d i showing.after (ap is_for_access free) g);
-        acquires = λ d i e g. unserved-stays taking d i n e g (ap (λ (u : Service). is_unserved (view u d)) waits)
-            (ap (λ (u : Service). is_unserved (view u d)) free);
+        acquires = λ d i e g. unserved-stays taking d i n e g (ap (λ u. is_unserved (view u d)) waits)
+            (ap (λ u. is_unserved (view u d)) free);
         lets = λ d i e g. let-stays taking d n (kept_at (λ p. p.letting) (after_report r was) refl pairs d);
       } in
-      request-falls taking block q source
-      opened unlike lets acks
-      (rw (used, replied) (let owed = report-owed told lt answered some in omega (arith, few, owed)))
+      request-falls taking block q source opened unlike lets acks (rw (used, replied)
+      (let owed = report-owed told lt answered some in omega (arith, few, owed)))
 
   pub granting-falls : (q source at : ℕ) (k gift : Cap) (told r : Report) (data_too : Bool) → c < number
       → ((s.block n).pair c).probing ≡ ProbeAnswered told → 1 ≤ left c ProbeAck n
@@ -162,15 +157,14 @@ module _ {w : ℕ} {config : Config} {mail mail' : AccessMessages w} {s s' : Sta
   granting-falls q source at k gift told r data_too lt answered some waits used is new uses lets acks =
       let opened : s.uses q source ≡ SourceFree → ⊥ = λ e. absurd (let both : Acquires n ≡ SourceFree = sym used ∙ e in
       cc) in
-      request-falls taking block q source
-      opened (λ d i ne. uses d i) lets acks
+      request-falls taking block q source opened (λ d i ne. uses d i) lets acks
       (rw (uses q source, used) (falls-at q refl))
     where
       was : ClientBlock
       was = (s.block n).pair c
 
       given : (s'.block n).service ≡ GrantSent q data_too gift
-      given = ap (λ (b : Block (List ℕ)). b.service) new
+      given = ap (λ b. b.service) new
 
       falls-at : (d : ℕ) → d ≡ q → acquire_weight size (left' d Acquire n) (left' d Grant n)
           (probes_weight number size left' n (s'.block n)) (view (s'.block n).service d) + 1 ≤ acquire_weight size

@@ -2,15 +2,15 @@
 use Rattle.std.proofs.Common.{◌≡◌, ℕ, ◌+◌, ◌≤◌, Bool, true, false, List, refl, sym, ◌∙◌, ap, arith, ◌⊎◌, inl, inr}
 use Rattle.std.proofs.Common.{length, ne_eqb}
 use Rattle.tl_coherence.proofs
-use proofs.Imports.{cases_eq, Config, Cap, Left, pair_weight, probes_weight, acquire_weight, IsInvariant, Request}
-use proofs.Imports.{Acquire, Grant, Answer, ClientBlock, Own, Granting, is_unprobed, Idle, after_grant_sent, Service}
-use proofs.Imports.{Free, Waits, GrantSent, Block, State, SourceFree, Asked, InService, Replied, Acquires, view}
-use proofs.Imports.{granted_at_once, performed_block, served_block, served_pair, is_unserved, AccessMessages}
+use proofs.Imports.{cases_eq, Config, Cap, Left, acquire_weight, pair_weight, probes_weight, IsInvariant, Acquire}
+use proofs.Imports.{Answer, Grant, Request, ClientBlock, Granting, Idle, Own, is_unprobed, after_grant_sent, Acquires}
+use proofs.Imports.{Asked, Free, GrantSent, InService, Replied, SourceFree, State, Waits, granted_at_once}
+use proofs.Imports.{performed_block, served_block, served_pair, view, is_unserved, AccessMessages}
 use proofs.rank.{RankParts.request-falls, Weights.IsLeft, Weights.probes-few, Weights.probes-fewer}
 use proofs.rank.Frames.{Taking, Falls, AreAsBefore, AreNoMore, AreElsewhere, IsBlockNoMore, acquire-stays, let-stays}
 use proofs.rank.Frames.{pair-stays, unserved-stays, wants-used}
-use proofs.protocol.{BeatsRemaining.beats_left, QuiescentProtocol.serves_another}
-use proofs.queues.{Sums.total-le, Tokens.same_number, Tokens.set-part}
+use proofs.protocol.{BeatsRemaining.beats_left, GrantedAll.serves_another}
+use proofs.queues.Tokens.{total-le, same_number, set-part}
 use proofs.bound.ReportDecreases.{is_for_access, nobody-serving}
 
 -- a client whose own Acquire is in service isn't probed for it
@@ -21,7 +21,7 @@ owner_quiet {s} n r inv own = go (is_unprobed ((s.block n).pair r).probing) refl
     go : (b : Bool) → is_unprobed ((s.block n).pair r).probing ≡ b → b ≡ true
     go true e = refl
     go false e =
-        let other = serves_another ((s.block n).pair r) (view (s.block n).service r) ((inv.blocks n).phases r) e in
+        let other = serves_another _ _ ((inv.blocks n).phases r) e in
         let no : false ≡ true = rw own at other in
         absurd cc
 
@@ -56,12 +56,12 @@ module _ {w : ℕ} {config : Config} {mail mail' : AccessMessages w} {s s' : Sta
   block-alike pairs service =
       let probes = total-le number (λ d. pair_weight size left' n d ((s'.block n).pair d))
       (λ d. pair_weight size left n d ((s.block n).pair d)) (λ d lt. pair-stays taking d n
-      (ap (λ (p : ℕ → ClientBlock). (p d).probing) pairs) (ap (λ (p : ℕ → ClientBlock). (p d).recorded) pairs)) in
+      (ap (λ p. (p d).probing) pairs) (ap (λ p. (p d).recorded) pairs)) in
       record {
         serves = λ d i e f. probes;
         acquires = λ d i e f. acquire-stays taking d n (wants-used showing.before d i n e)
-            (ap (λ (p : ℕ → ClientBlock). (p d).acquiring) pairs) (ap (λ (u : Service). view u d) service) probes;
-        lets = λ d i e f. let-stays taking d n (ap (λ (p : ℕ → ClientBlock). (p d).letting) pairs);
+            (ap (λ p. (p d).acquiring) pairs) (ap (λ u. view u d) service) probes;
+        lets = λ d i e f. let-stays taking d n (ap (λ p. (p d).letting) pairs);
       }
 
   pub answered-falls : (source : ℕ) (f : List ℕ → List ℕ) → s.uses c source ≡ Asked → s'.uses c source ≡ Replied
@@ -69,9 +69,8 @@ module _ {w : ℕ} {config : Config} {mail mail' : AccessMessages w} {s s' : Sta
       → AreElsewhere c source s'.uses s.uses → AreAsBefore s'.lets s.lets → AreNoMore s'.link s.link → Falls taking
   answered-falls source f asked replied few new unlike lets acks =
       let opened : s.uses c source ≡ SourceFree → ⊥ = λ e. absurd cc in
-      request-falls taking
-      (block-alike (ap (λ (b : Block (List ℕ)). b.pair) new) (ap (λ (b : Block (List ℕ)). b.service) new))
-      c source opened unlike lets acks (rw (asked, replied) (omega (arith, few)))
+      request-falls taking (block-alike (ap (λ b. b.pair) new) (ap (λ b. b.service) new)) c source opened unlike lets
+      acks (rw (asked, replied) (omega (arith, few)))
 
   -- ---- a free block comes into service
 
@@ -88,12 +87,11 @@ module _ {w : ℕ} {config : Config} {mail mail' : AccessMessages w} {s s' : Sta
       where
         acquire : (d i : ℕ) → s.uses d i ≡ Acquires n → s'.uses d i ≡ Acquires n
             → (is_unserved (view (s'.block n).service d) ≡ true) ⊎ (owed_for' d ≤ owed_for d) → owed_for' d ≤ owed_for d
-        acquire d i e f (inl waits) =
-            unserved-stays taking d i n e f (ap (λ (u : Service). is_unserved (view u d)) free) waits
+        acquire d i e f (inl waits) = unserved-stays taking d i n e f (ap (λ u. is_unserved (view u d)) free) waits
         acquire d i e f (inr less) = less
 
     idle : (d : ℕ) → view (s.block n).service d ≡ Idle
-    idle d = ap (λ (u : Service). view u d) free
+    idle d = ap (λ u. view u d) free
 
     pub serving-falls : (source at : ℕ) (k : Cap) → 1 ≤ size → size ≤ 16 → number ≤ 16
         → (s'.block n).service ≡ Waits c false at k → s.uses c source ≡ Asked → s'.uses c source ≡ InService n
@@ -103,18 +101,16 @@ module _ {w : ℕ} {config : Config} {mail mail' : AccessMessages w} {s s' : Sta
         let opened : s.uses c source ≡ SourceFree → ⊥ = λ e. absurd (let both : Asked ≡ SourceFree = sym asked ∙ e in
         cc) in
         let probes = probes-few showing.after size left' answer is wide narrow number sixteen n in
-        request-falls taking
-        (come-into-service (λ d. inl (ap (λ (u : Service). is_unserved (view u d)) waits)))
-        c source opened unlike lets acks (rw (asked, served) (omega (arith, some, probes)))
+        request-falls taking (come-into-service (λ d. inl (ap (λ u. is_unserved (view u d)) waits))) c source opened
+        unlike lets acks (rw (asked, served) (omega (arith, some, probes)))
 
     pub acquire-granted-falls : (source : ℕ) (data_too : Bool) (k : Cap) → (s'.block n).service ≡ GrantSent c data_too k
         → s.uses c source ≡ Acquires n → IsLeft size left' answer s' → AreAsBefore s'.uses s.uses
         → AreAsBefore s'.lets s.lets → AreNoMore s'.link s.link → Falls taking
     acquire-granted-falls source data_too k given used is uses lets acks =
         let opened : s.uses c source ≡ SourceFree → ⊥ = λ e. absurd cc in
-        request-falls taking
-        (come-into-service (λ d. at d (cases_eq d c)))
-        c source opened (λ d i ne. uses d i) lets acks (rw (uses c source, used) (less c refl))
+        request-falls taking (come-into-service (λ d. at d (cases_eq d c))) c source opened (λ d i ne. uses d i) lets
+        acks (rw (uses c source, used) (less c refl))
       where
         less : (d : ℕ) → d ≡ c → owed_for' d + 1 ≤ owed_for d
         less d e =
@@ -155,10 +151,10 @@ module _ {w : ℕ} {config : Config} {mail mail' : AccessMessages w} {s s' : Sta
   -- the parts of Releases, in a block that is served or granted
   pub served-letting : (own : Bool) (source tracker : ℕ) (k : Cap) → s'.block n ≡ served_block c own source tracker k
       (s.block n) → (d : ℕ) → ((s'.block n).pair d).letting ≡ ((s.block n).pair d).letting
-  served-letting own source tracker k new d = ap (λ (b : Block (List ℕ)). (b.pair d).letting) new ∙ served_letting c own
+  served-letting own source tracker k new d = ap (λ b. (b.pair d).letting) new ∙ served_letting c own
       k (s.block n).pair d
 
   pub granted-letting : (tracker : ℕ) (data_too : Bool) (k : Cap) → s'.block n ≡ granted_at_once c tracker data_too k
       (s.block n) → (d : ℕ) → ((s'.block n).pair d).letting ≡ ((s.block n).pair d).letting
-  granted-letting tracker data_too k new d = ap (λ (b : Block (List ℕ)). (b.pair d).letting) new ∙ set-part
+  granted-letting tracker data_too k new d = ap (λ b. (b.pair d).letting) new ∙ set-part
       (λ p. p.letting) c (after_grant_sent k ((s.block n).pair c)) (s.block n).pair refl d

@@ -1,18 +1,18 @@
 -- What is owed falls as a response is taken, a Release, and a GrantAck.
-use Rattle.std.proofs.Common.{◌≡◌, ℕ, ◌+◌, ◌<◌, ◌≤◌, Bool, true, List, refl, sym, ◌∙◌, ap, arith, ◌⊎◌, inl, inr, Some}
-use Rattle.std.proofs.Common.{None, length, ne_eqb, eqb-true, ◌==◌}
+use Rattle.std.proofs.Common.{◌≡◌, ℕ, ◌+◌, ◌<◌, ◌≤◌, Bool, true, ◌==◌, List, Some, None, refl, sym, ◌∙◌, ap, arith, ◌⊎◌}
+use Rattle.std.proofs.Common.{inl, inr, length, ne_eqb, eqb-true}
 use Rattle.tl_coherence.proofs
-use proofs.Imports.{cases_eq, Config, Cap, Prune, Perm, prune_right, Left, probing_weight, pair_weight, probes_weight}
-use proofs.Imports.{acquire_weight, letting_weight, IsInvariant, Acquire, Grant, ProbeAck, Release, Answer, set}
-use proofs.Imports.{ClientBlock, Granting, ProbePhase, NoProbe, ProbeSent, ProbeAnswered, NoRelease, ReleaseSent}
-use proofs.Imports.{ReleaseAcked, after_release_taken, after_release_ack, after_grant, Service, Free, GrantSent}
-use proofs.Imports.{GrantTaken, Block, State, SourceFree, Replied, Acquires, view, taken_block, let_block, let_go_block}
-use proofs.Imports.{freed_block, is_unserved, is_wanting, is_answered, AccessMessages}
+use proofs.Imports.{cases_eq, Config, Cap, Prune, Perm, prune_right, Left, acquire_weight, letting_weight, pair_weight}
+use proofs.Imports.{probes_weight, probing_weight, IsInvariant, Acquire, Answer, Grant, ProbeAck, Release, set}
+use proofs.Imports.{ClientBlock, Granting, NoProbe, NoRelease, ProbeAnswered, ProbePhase, ProbeSent, ReleaseAcked}
+use proofs.Imports.{ReleaseSent, after_grant, after_release_ack, after_release_taken, Acquires, Free, GrantSent}
+use proofs.Imports.{GrantTaken, Replied, SourceFree, State, freed_block, let_block, let_go_block, taken_block, view}
+use proofs.Imports.{is_answered, is_unserved, is_wanting, AccessMessages}
 use proofs.bound.ReportDecreases.{kept_at, nobody-serving, is_for_access}
 use proofs.rank.Frames.{Taking, Falls, AreAsBefore, AreNoMore, AreElsewhere, IsBlockNoMore, acquire-stays, let-stays}
 use proofs.rank.Frames.{pair-stays, unserved-stays, wants-used, report-here}
 use proofs.rank.RankParts.{request-falls, release-falls, acknowledged-falls, granted-falls, block-same}
-use proofs.queues.{Phases.and_right, Sums.total-le, Tokens.same_number, Tokens.set-same, Tokens.set-other}
+use proofs.queues.{Phases.and_right, Tokens.total-le, Tokens.same_number, Tokens.set-same, Tokens.set-other}
 use proofs.protocol.BeatsRemaining.{beats_left, left-same}
 
 pruned-weight : (size l l' : ℕ) (recorded : Perm) (r : Prune) (x : ProbePhase) → 1 ≤ size → ((a : ℕ) → l' ≤ l)
@@ -47,9 +47,8 @@ module _ {w : ℕ} {config : Config} {mail mail' : AccessMessages w} {s s' : Sta
   answer-falls source replied closed some same unlike lets acks =
       let opened : s.uses c source ≡ SourceFree → ⊥ = λ e. absurd (let both : Replied ≡ SourceFree = sym replied ∙ e in
       cc) in
-      request-falls taking
-      (block-same taking same)
-      c source opened unlike lets acks (rw (replied, closed) (omega (arith, some)))
+      request-falls taking (block-same taking same) c source opened unlike lets acks
+      (rw (replied, closed) (omega (arith, some)))
 
   pub grant-taken-falls : (data_too was_data whole : Bool) (k cap : Cap)
       → (s.block n).service ≡ GrantSent c was_data cap → s.uses c ((s.block n).source c) ≡ Acquires n
@@ -64,7 +63,7 @@ module _ {w : ℕ} {config : Config} {mail mail' : AccessMessages w} {s s' : Sta
       ((s.block n).source c) opened unlike lets acks more (rw (used, closed, before) (omega (arith, some)))
     where
       taken : (s'.block n).service ≡ GrantTaken c
-      taken = ap (λ (b : Block (List ℕ)). b.service) new
+      taken = ap (λ b. b.service) new
 
       acquire : (d i : ℕ) → s.uses d i ≡ Acquires n → s'.uses d i ≡ Acquires n → (d ≡ c) ⊎ (d ≡ c → ⊥)
           → acquire_weight size (left' d Acquire n) (left' d Grant n) (probes_weight number size left' n (s'.block n))
@@ -77,37 +76,36 @@ module _ {w : ℕ} {config : Config} {mail mail' : AccessMessages w} {s s' : Sta
           let still : s'.uses c i ≡ Acquires n = rw same at f in
           absurd (let both : Acquires n ≡ SourceFree = sym still ∙ end in cc)
       acquire d i e f (inr other) = unserved-stays taking d i n e f (rw (given, ne_eqb d c other) refl)
-          (ap (λ (u : Service). is_unserved (view u d)) taken ∙ granted_unserved c d)
+          (ap (λ u. is_unserved (view u d)) taken ∙ granted_unserved c d)
 
       block : IsBlockNoMore taking
       block = record {
         serves = λ d i e f. absurd (nobody-serving n d i showing.before (ap is_for_access given) e);
         acquires = λ d i e f. acquire d i e f (cases_eq d c);
         lets = λ d i e f. let-stays taking d n (kept_at taking (λ p. p.letting) (after_grant k ((s.block n).pair c))
-            refl (ap (λ (b : Block (List ℕ)). b.pair) new) d);
+            refl (ap (λ b. b.pair) new) d);
       }
 
   pub release-taken-falls : (source : ℕ) (told r : Prune) → 1 ≤ size → s.lets c source ≡ Some n
       → ((s.block n).pair c).letting ≡ ReleaseSent told → 1 ≤ left c Release n → s'.block n ≡ let_block c r (s.block n)
       → AreAsBefore s'.uses s.uses → AreAsBefore s'.lets s.lets → AreNoMore s'.link s.link → Falls taking
-  release-taken-falls source told r wide used releasing some new uses lets acks =
-      release-falls taking block c source
-      n used uses (λ d i ne. lets d i) acks (rw (lets c source, used, releasing, acked) (omega (arith, some)))
+  release-taken-falls source told r wide used releasing some new uses lets acks = release-falls taking block c source n
+      used uses (λ d i ne. lets d i) acks (rw (lets c source, used, releasing, acked) (omega (arith, some)))
     where
       was : ClientBlock
       was = (s.block n).pair c
 
       pairs : (s'.block n).pair ≡ set c (after_release_taken r was) (s.block n).pair
-      pairs = ap (λ (b : Block (List ℕ)). b.pair) new
+      pairs = ap (λ b. b.pair) new
 
       own : (s'.block n).pair c ≡ after_release_taken r was
-      own = ap (λ (f : ℕ → ClientBlock). f c) pairs ∙ set-same c (after_release_taken r was) (s.block n).pair
+      own = ap (λ f. f c) pairs ∙ set-same c (after_release_taken r was) (s.block n).pair
 
       other : (d : ℕ) → (d ≡ c → ⊥) → (s'.block n).pair d ≡ (s.block n).pair d
       other d ne = cc (pairs, set-other c d (after_release_taken r was) (s.block n).pair ne)
 
       acked : ((s'.block n).pair c).letting ≡ ReleaseAcked
-      acked = ap (λ (p : ClientBlock). p.letting) own
+      acked = ap (λ p. p.letting) own
 
       told_as : (x : ProbePhase) → was.probing ≡ x → probing_weight size (left' c ProbeAck n) (prune_right r)
           x ≤ probing_weight size (left c ProbeAck n) was.recorded x
@@ -116,14 +114,13 @@ module _ {w : ℕ} {config : Config} {mail mail' : AccessMessages w} {s s' : Sta
           (λ a. omega arith)
       told_as (ProbeAnswered t) e =
           let same = left-same showing popped c ProbeAck n (report-here showing.before c n (rw e refl))
-          (report-here showing.after c n (ap (λ (p : ClientBlock). is_answered p.probing) own ∙ ap is_answered e)) in
+          (report-here showing.after c n (ap (λ p. is_answered p.probing) own ∙ ap is_answered e)) in
           omega (arith, same)
 
       each : (d : ℕ) → (d ≡ c) ⊎ (d ≡ c → ⊥) → pair_weight size left' n d ((s'.block n).pair d) ≤ pair_weight size left
           n d ((s.block n).pair d)
       each d (inl same) = rw same (rw own (told_as was.probing refl))
-      each d (inr ne) = pair-stays taking d n
-          (ap (λ (p : ClientBlock). p.probing) (other d ne)) (ap (λ (p : ClientBlock). p.recorded) (other d ne))
+      each d (inr ne) = pair-stays taking d n (ap (λ p. p.probing) (other d ne)) (ap (λ p. p.recorded) (other d ne))
 
       probes : probes_weight number size left' n (s'.block n) ≤ probes_weight number size left n (s.block n)
       probes = total-le number (λ d. pair_weight size left' n d ((s'.block n).pair d))
@@ -132,14 +129,13 @@ module _ {w : ℕ} {config : Config} {mail mail' : AccessMessages w} {s s' : Sta
       letting : (d : ℕ) → (d ≡ c) ⊎ (d ≡ c → ⊥) → letting_weight (left' d Release n) ((s'.block n).pair d).letting
           ≤ letting_weight (left d Release n) ((s.block n).pair d).letting
       letting d (inl same) = rw (same, acked, releasing) (omega arith)
-      letting d (inr ne) = let-stays taking d n (ap (λ (p : ClientBlock). p.letting) (other d ne))
+      letting d (inr ne) = let-stays taking d n (ap (λ p. p.letting) (other d ne))
 
       block : IsBlockNoMore taking
       block = record {
         serves = λ d i e f. probes;
-        acquires = λ d i e f. acquire-stays taking d n (wants-used showing.before d i n e)
-            (kept_at taking (λ p. p.acquiring) (after_release_taken r was) refl
-            pairs d) (ap (λ (b : Block (List ℕ)). view b.service d) new) probes;
+        acquires = λ d i e f. acquire-stays taking d n (wants-used showing.before d i n e) (kept_at taking
+            (λ p. p.acquiring) (after_release_taken r was) refl pairs d) (ap (λ b. view b.service d) new) probes;
         lets = λ d i e f. letting d (cases_eq d c);
       }
 
@@ -153,14 +149,13 @@ module _ {w : ℕ} {config : Config} {mail mail' : AccessMessages w} {s s' : Sta
       was = (s.block n).pair c
 
       pairs : (s'.block n).pair ≡ set c (after_release_ack was) (s.block n).pair
-      pairs = ap (λ (b : Block (List ℕ)). b.pair) new
+      pairs = ap (λ b. b.pair) new
 
       kept : ((s'.block n).pair c).letting ≡ NoRelease
-      kept = ap (λ (f : ℕ → ClientBlock). (f c).letting) pairs ∙ ap (λ (p : ClientBlock). p.letting)
-          (set-same c (after_release_ack was) (s.block n).pair)
+      kept = ap (λ f. (f c).letting) pairs ∙ ap (λ p. p.letting) (set-same c (after_release_ack was) (s.block n).pair)
 
       other : (d : ℕ) → (d ≡ c → ⊥) → (s'.block n).pair d ≡ (s.block n).pair d
-      other d ne = ap (λ (f : ℕ → ClientBlock). f d) pairs ∙ set-other c d (after_release_ack was) (s.block n).pair ne
+      other d ne = ap (λ f. f d) pairs ∙ set-other c d (after_release_ack was) (s.block n).pair ne
 
       probes : probes_weight number size left' n (s'.block n) ≤ probes_weight number size left n (s.block n)
       probes = total-le number (λ d. pair_weight size left' n d ((s'.block n).pair d)) (λ d. pair_weight size left n d
@@ -170,14 +165,13 @@ module _ {w : ℕ} {config : Config} {mail mail' : AccessMessages w} {s s' : Sta
       letting : (d : ℕ) → (d ≡ c) ⊎ (d ≡ c → ⊥) → letting_weight (left' d Release n) ((s'.block n).pair d).letting
           ≤ letting_weight (left d Release n) ((s.block n).pair d).letting
       letting d (inl same) = rw (same, kept) (omega arith)
-      letting d (inr ne) = let-stays taking d n (ap (λ (p : ClientBlock). p.letting) (other d ne))
+      letting d (inr ne) = let-stays taking d n (ap (λ p. p.letting) (other d ne))
 
       block : IsBlockNoMore taking
       block = record {
         serves = λ d i e f. probes;
-        acquires = λ d i e f. acquire-stays taking d n (wants-used showing.before d i n e)
-            (kept_at taking (λ p. p.acquiring) (after_release_ack was) refl
-            pairs d) (ap (λ (b : Block (List ℕ)). view b.service d) new) probes;
+        acquires = λ d i e f. acquire-stays taking d n (wants-used showing.before d i n e) (kept_at taking
+            (λ p. p.acquiring) (after_release_ack was) refl pairs d) (ap (λ b. view b.service d) new) probes;
         lets = λ d i e f. letting d (cases_eq d c);
       }
 
@@ -185,12 +179,11 @@ module _ {w : ℕ} {config : Config} {mail mail' : AccessMessages w} {s s' : Sta
       → AreAsBefore s'.uses s.uses → AreAsBefore s'.lets s.lets → AreNoMore s'.link s.link
       → length (s'.link c).e + 1 ≤ length (s.link c).e → Falls taking
   grant-ack-falls q lt taken new uses lets acks less =
-      let free : (s'.block n).service ≡ Free = ap (λ (b : Block (List ℕ)). b.service) new in
+      let free : (s'.block n).service ≡ Free = ap (λ b. b.service) new in
       let block : IsBlockNoMore taking = record {
         serves = λ d i e f. absurd (nobody-serving n d i showing.before (ap is_for_access taken) e);
-        acquires = λ d i e f. unserved-stays taking d i n e f (ap (λ (u : Service). is_unserved (view u d)) taken
-            ∙ granted_unserved q d) (ap (λ (u : Service). is_unserved (view u d)) free);
-        lets = λ d i e f. let-stays taking d n (ap (λ (b : Block (List ℕ)). (b.pair d).letting) new);
+        acquires = λ d i e f. unserved-stays taking d i n e f (ap (λ u. is_unserved (view u d)) taken
+            ∙ granted_unserved q d) (ap (λ u. is_unserved (view u d)) free);
+        lets = λ d i e f. let-stays taking d n (ap (λ b. (b.pair d).letting) new);
       } in
-      acknowledged-falls taking block c
-      lt uses lets acks less
+      acknowledged-falls taking block c lt uses lets acks less

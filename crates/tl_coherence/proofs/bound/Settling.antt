@@ -1,17 +1,17 @@
 -- Deliveries move no more beats than the load before them; and the next ones, one after another, end
 -- what is outstanding.
-use Rattle.std.proofs.Common.{◌≡◌, ℕ, zero, suc, ◌+◌, ◌≤◌, Bool, true, false, [], ◌∷◌, ◌++◌, Option, Some, None, length}
-use Rattle.std.proofs.Common.{refl, sym, ◌∙◌, ap, subst, arith, All}
-use Rattle.tl_coherence.proofs
-use proofs.Imports.{All-head, Link, Channel, Config, limits, one_if, Event, Deliver, Ask, Outcome, is_moving}
-use proofs.Imports.{is_delivery, IsDrained, IsGiven, load, Log, system_after, next_delivery, with_delivery, stepped}
+use Rattle.std.proofs.Common.{◌≡◌, ℕ, zero, suc, ◌+◌, ◌≤◌, Bool, true, false, [], ◌∷◌, ◌++◌, Option, Some, None, refl}
+use Rattle.std.proofs.Common.{sym, ◌∙◌, ap, subst, arith, length, All}
 use Rattle.std.proofs.lemmas.List.Elements.{All-tail}
-use Rattle.tl_coherence.specs.{statement.Draining.beats_moved, statement.Headline.AreTyped, statement.Log.IsLog}
-use Rattle.tl_coherence.specs.{statement.Movable.drained}
+use Rattle.tl_coherence.proofs
+use proofs.Imports.{All-head, Link, Channel, Config, limits, one_if, Event, Ask, Deliver, Outcome, IsDrained}
+use proofs.Imports.{is_delivery, is_moving, IsGiven, load, Log, system_after, with_delivery, next_delivery, stepped}
+use Rattle.tl_coherence.{specs.statement.Draining.beats_moved, specs.statement.Headline.AreTyped}
+use Rattle.tl_coherence.{specs.statement.Log.IsLog, specs.statement.Movable.drained}
 use proofs.outstanding.{Counted.load-open, Movement.none-outstanding, Progress.counted, Progress.moving}
-use proofs.links.{FromInvariant.matched-given, FromInvariant.stalls, Stalling.movable-moves}
+use proofs.links.{FromInvariant.matched-given, FromInvariant.stalls, Granting.movable-moves}
 use proofs.deliveries.Matching.{shadow}
-use proofs.bound.{RankOfLog.owed, RankOfLog.owed-few, DeliveriesDecrease.moving-owed, DeliveriesDecrease.still-owed}
+use proofs.bound.{Beginnings.owed, Beginnings.owed-few, DeliveriesDecrease.moving-owed, DeliveriesDecrease.still-owed}
 use proofs.queues.QuiescentQueues.{next-movable}
 
 -- ---- what is owed after a log
@@ -24,10 +24,9 @@ sixteen {config} given = (limits config given.fits).0
 
 -- it is at most the load
 owed-load : {w : ℕ} {config : Config} {log : Log w} → IsGiven config log → owed_after config log ≤ load log
-owed-load {w} {config} {log} given =
+owed-load {config} {log} given =
     let few = owed-few given.width (matched-given config log given) (sixteen given) in
-    subst (λ (n : ℕ). owed_after config log ≤ n)
-    (sym (load-open (counted config log given.width given.typed given.is_log)))
+    subst (λ n. owed_after config log ≤ n) (sym (load-open (counted config log given.width given.typed given.is_log)))
     few
 
 -- ---- logs
@@ -81,7 +80,7 @@ owed-delivered {w} {config} x log given is =
     go x.0 x.1 refl given.is_log.0 is
   where
     before : IsGiven config log
-    before = given-before config x log given
+    before = given-before _ x log given
 
     at : (link : Link) (ch : Channel) (o : Outcome w) (b : Bool)
         → o ≡ (stepped config (Deliver link ch) (system_after config log)).outcome → is_moving o ≡ b
@@ -105,7 +104,7 @@ bounding {config} (x ∷ more) log given all =
     let rest = bounding more log (given-before config x (more ++ log) given)
     (All-tail (λ y. is_delivery y.0 ≡ true) x more all) in
     let count = moved-more x more in
-    omega (arith, rest, owed-delivered x (more ++ log) given (All-head (λ y. is_delivery y.0 ≡ true) x more all), count)
+    omega (arith, rest, owed-delivered x _ given (All-head (λ y. is_delivery y.0 ≡ true) x more all), count)
 
 pub bound : {w : ℕ} {config : Config} (more log : Log w) → IsGiven config (more ++ log)
     → All (λ x. is_delivery x.0 ≡ true) more → beats_moved more ≤ load log
@@ -124,7 +123,7 @@ record IsStanding {w : ℕ} (config : Config) (log : Log w) (n : ℕ) : Type 0 w
 next-moves : {w : ℕ} {config : Config} {log : Log w} (d : Link × Channel) → IsGiven config log
     → next_delivery config (system_after config log) ≡ Some d
     → is_moving (stepped config (Deliver d.0 d.1) (system_after config log)).outcome ≡ true
-next-moves {config} {log} d given is = movable-moves config log d.0.0 d.1 (λ client. stalls given d.0.0 d.1 client)
+next-moves {config} {log} d given is = movable-moves _ log d.0.0 d.1 (λ client. stalls given d.0.0 d.1 client)
     (next-movable config (system_after config log) d is)
 
 standing : {w : ℕ} {config : Config} {log : Log w} (o : Option (Link × Channel)) → IsGiven config log
@@ -136,7 +135,7 @@ standing None given none rest = (0, record { so_many = omega arith; few = omega 
 standing {w} {config} {log} (Some d) given next rest =
     let same : (n : ℕ) → drained config n (with_delivery config (next_delivery config (system_after config log)) log)
     ≡ drained config n (delivering config d.0 d.1 log) =
-    λ n. ap (λ (o : Option (Link × Channel)). drained config n (with_delivery config o log)) next in
+    λ n. ap (λ o. drained config n (with_delivery config o log)) next in
     let later = rest d next in
     let less = owed-moved d.0 d.1 (stepped config (Deliver d.0 d.1) (system_after config log)).outcome given
     (next-moves d given next) in
@@ -146,7 +145,7 @@ standing {w} {config} {log} (Some d) given next rest =
       record {
         so_many = ap length (same later.0) ∙ omega (arith, count);
         few = omega (arith, few, less);
-        stands = ap (λ (l : Log w). next_delivery config (system_after config l)) (same later.0) ∙ later.1.stands;
+        stands = ap (λ l. next_delivery config (system_after config l)) (same later.0) ∙ later.1.stands;
         given = subst (IsGiven config) (sym (same later.0)) later.1.given;
       },
     )
@@ -157,13 +156,11 @@ coming-to-stand : {w : ℕ} {config : Config} (fuel : ℕ) {log : Log w} → IsG
 coming-to-stand {config} zero {log} given le = standing (next_delivery config (system_after config log)) given refl
     (λ d next. let less = owed-moved d.0 d.1 (stepped config (Deliver d.0 d.1) (system_after config log)).outcome given
     (next-moves d given next) in absurd (omega (arith, le, less)))
-coming-to-stand {config} (suc fuel) {log} given le =
-    standing (next_delivery config (system_after config log)) given refl
-    (λ d next.
+coming-to-stand {config} (suc fuel) {log} given le = standing (next_delivery config (system_after config log)) given
+    refl (λ d next.
     let less = owed-moved d.0 d.1 (stepped config (Deliver d.0 d.1) (system_after config log)).outcome given
     (next-moves d given next) in
-    coming-to-stand fuel (given-delivering config d.0 d.1 log given)
-    (omega (arith, le, less)))
+    coming-to-stand fuel (given-delivering config d.0 d.1 log given) (omega (arith, le, less)))
 
 pub drain : {w : ℕ} (config : Config) (log : Log w) → IsGiven config log → (n : ℕ) × IsDrained config log n
 drain config log given =
@@ -175,7 +172,6 @@ drain config log given =
         so_many = stood.1.so_many;
         few = omega (arith, few, load_is);
         stands = stood.1.stands;
-        nothing_left = none-outstanding config (drained config stood.0 log)
-            (moving config (drained config stood.0 log) stood.1.given) stood.1.stands;
+        nothing_left = none-outstanding _ _ (moving config (drained config stood.0 log) stood.1.given) stood.1.stands;
       },
     )

@@ -1,19 +1,24 @@
 -- What a client knows after a Probe: the landed answer has exactly the effect of the abstract event.
-use Rattle.std.proofs.Common.{◌≡◌, ℕ, Bool, true, false, not, cond, List, [], ◌∷◌, Option, None, refl, sym, ◌∙◌, ap}
-use Rattle.std.proofs.Common.{arith, ◌⊎◌, inl, inr, ne_eqb, ◌==◌, if◌then◌else◌, nat_le, option_map}
+-- A client's end after it has taken a Probe, beside the event of the protocol.
+use Rattle.std.proofs.Common.{◌≡◌, ℕ, Bool, true, false, not, ◌&&◌, ◌==◌, if◌then◌else◌, cond, List, [], ◌∷◌, Option}
+use Rattle.std.proofs.Common.{Some, None, refl, sym, ◌∙◌, ap, arith, ◌⊎◌, inl, inr, eqb-true, ne_eqb, nat_le}
+use Rattle.std.proofs.Common.{option_map}
 use Rattle.tl_coherence.proofs
 use proofs.Imports.{cases_eq, Beat, BeatA, BeatB, Channel, OpB, OpC, IsWidth, beats-positive, Message, MessageC}
 use proofs.Imports.{beat_of, History, unfinished, Key, Cap, Report, Perm, Profile, Rule, report_at, report_code}
-use proofs.Imports.{report_right, pending-whole, release_of-whole, pending-quiet, held_unsaid, sent, broken_in_order}
-use proofs.Imports.{broken_order, block_at, held, pending, is_release, release_of, opens, closes, is_probe_ack, illegal}
-use proofs.Imports.{same_block, kept_past, open_beat-c, Verdict, EndConfig, Endpoint, copy_at, held_at, with_past}
-use proofs.Imports.{sending, zeros, silent, offered, waits, taken, broken_before, broken_later, judged_later}
-use proofs.Imports.{report_for, open_beat, about, probe_ack, Packet, ClientBlock, is_unreleased, after_probe, State}
-use proofs.Imports.{Block, probed_block, probe_taken, is_wanting, ClientRelation, probe_beat, OpenSourceRelation}
-use Rattle.tl_client.{proofs.pending.Opens.open_beat-b, specs.statement.Offer.probed, specs.statement.Offer.judged}
+use proofs.Imports.{report_right, pending-whole, release_of-whole, held_unsaid, pending-quiet, sent, broken_in_order}
+use proofs.Imports.{same_perm, broken_order, block_at, closes, is_probe_ack, is_release, opens, held, pending}
+use proofs.Imports.{release_of, illegal, kept_closed, kept_copies, kept_past, same_block, kept_waiting, open_beat-c}
+use proofs.Imports.{Verdict, EndConfig, Endpoint, copy_at, held_at, sending, with_past, zeros, holds, broken_before}
+use proofs.Imports.{broken_later, judged_later, report_for, silent, taken, waits, offered, open_beat, about, probe_ack}
+use proofs.Imports.{Packet, ClientBlock, is_unreleased, is_whole, after_probe, Block, State, probe_taken, probed_block}
+use proofs.Imports.{is_wanting, AccessMessages, probe_beat, asked_by}
+use Rattle.tl_client.{proofs.pending.KeptOffered.reports_held, proofs.pending.Opens.open_beat-b}
+use Rattle.tl_client.specs.statement.Offer.{probed, judged}
 use Rattle.tl_client.proofs.endpoint.HeldAfter.{held-probe_ack, still_whole}
-use proofs.client.ClientEnd.{IsWellKept, known-kept}
-use proofs.queues.{Codes.cap-again, Tokens.same_number, Tokens.set-same, Tokens.set-other}
+use proofs.client.ClientEnd.{IsWellKept, IsEnd, IsSame, knows-same, IsKnown, asks-same, column, known-kept}
+use proofs.queues.{Phases.held-some, Codes.cap-again}
+use proofs.queues.Tokens.{set-same, set-part, same_number, set-other}
 
 -- ---- the Probe
 
@@ -51,10 +56,9 @@ probe-taken {w} terms n k e live lawful inside none released unprobed ungranted 
     λ o x e f. rw f refl in
     let x : Beat w = Beat.B (probe_beat n k) in
     judged_none (broken_before terms Channel.B x e) terms x e (rw (live, lawful) refl)
-    ∙ unstalled (waits x e.past) terms x e (rw (same_block n, released) refl)
-    ∙ later (broken_later terms x e) x e
-    (later-none terms n k e (in_order terms.profile n k e.past none unprobed ungranted) inside)
-    ∙ ap (λ (i : ℕ). probed (probe_beat n k) i (held_at e i) e) (same_block n)
+    ∙ unstalled (waits x e.past) terms x e (rw (same_block n, released) refl) ∙ later (broken_later terms x e)
+    x e (later-none terms n k e (in_order terms.profile n k e.past none unprobed ungranted) inside)
+    ∙ ap (λ i. probed (probe_beat n k) i (held_at e i) e) (same_block n)
 
 -- ---- the ProbeAck
 
@@ -95,10 +99,10 @@ after x m t = sent (Message.C m) (Beat.B x ∷ t)
 
 same_pending : {w : ℕ} (j : Key) {n : ℕ} (x : BeatB w) {m : MessageC w} (t : History w) → IsWidth w → IsProbeAck n m
     → unfinished Channel.C t ≡ [] → IsProbeKey j ≡ false → pending j (after x m t) ≡ pending j t
-same_pending j {n} x {m} t width is none e =
+same_pending j x {m} t width is none e =
     let o = ack_opens j (Beat.B x ∷ t) is e in
     let p = probe_opens j x t e in
-    pending-whole j (Message.C m) (Beat.B x ∷ t) (still_whole x t ∙ none) (beats-positive (Message.C m) width) ∙ rw
+    pending-whole j (Message.C m) _ (still_whole x t ∙ none) (beats-positive (Message.C m) width) ∙ rw
     (o.0, o.1) (pending-quiet j (Beat.B x) t p.0 p.1)
 
 -- ---- what is known
@@ -116,67 +120,106 @@ same_part part c n k rest s e i = elim (cases_eq i n) [
   | inr other ↦ rw (set-other n i (probed_block c k (s.block n)) s.block other) refl
 ]
 
-pub known-probed : {w : ℕ} {asked : ℕ → Option (BeatA w)} {c : ℕ} (n : ℕ) (k : Cap) (rest : List Packet)
+same_release : {w : ℕ} (source : ℕ) (x : BeatB w) (m : MessageC w) (t : History w) → IsWidth w
+    → is_release m.opcode ≡ false → unfinished Channel.C t ≡ [] → release_of source (after x m t) ≡ release_of source t
+unfolding release_of
+same_release source x m t width off none = release_of-whole source (Message.C m) _ (still_whole x t ∙ none)
+    (beats-positive (Message.C m) width) ∙ rw off refl
+
+pub knows-probed : {w : ℕ} {asked : ℕ → Option (BeatA w)} {c : ℕ} (n : ℕ) (k : Cap) (rest : List Packet)
     {s : State (List ℕ)} (e : Endpoint w) → IsWidth w → IsWellKept (probed (probe_beat n k) n (held_at e n) e).after
-    → unfinished Channel.C e.past ≡ [] → ClientRelation asked (unfinished Channel.D e.past) c s e.past
-    → ClientRelation asked (unfinished Channel.D (probed (probe_beat n k) n (held_at e n) e).after.past) c
+    → unfinished Channel.C e.past ≡ [] → IsKnown asked (unfinished Channel.D e.past) c s e.past
+    → IsKnown asked (unfinished Channel.D (probed (probe_beat n k) n (held_at e n) e).after.past) c
     (probe_taken c n k rest s) (probed (probe_beat n k) n (held_at e n) e).after.past
-known-probed {w} {asked} {c} n k rest {s} e width well none known =
+knows-probed {w} {asked} {c} n k rest {s} e width well none (known, open_) =
     let p : Perm = held_at e n in
     let x : BeatB w = probe_beat n k in
     let r : Report = report_for x p in
     let a = ack_of {w = w} p r n (copy_at e n) in
     let t : History w = e.past in
-    let past : (probed x n p e).after.past ≡ after x a.0 t =
-    kept_past n (report_right r) (sending (probe_ack OpB.ProbeBlock p r n (copy_at e n)) (with_past (Beat.B x ∷ t) e))
-    ∙ ap (λ m. sent m (Beat.B x ∷ t)) a.1 in
-    let same = λ (j : Key) (f : IsProbeKey j ≡ false). ap (pending j) past ∙ same_pending j x t width a.2 none f in
-    known-kept asked c (probe_taken c n k rest s) well
-    (λ i. ap (held i) past ∙ ap (λ m. held i (sent m (Beat.B x ∷ t))) (sym a.1) ∙ held-probe_ack i OpB.ProbeBlock p r n
-    (copy_at e n) (Beat.B x ∷ t) width (still_whole x t ∙ none) ∙ held_now i (cases_eq i n))
-    (λ i. same (Key.AcquireOf i) refl ∙ known.acquires i
-    ∙ sym (same_part (λ q. is_wanting q.acquiring) c n k rest s refl i))
-    (λ i. same (Key.ReleaseOf i) refl ∙ known.releases i
-    ∙ sym (same_part (λ q. not (is_unreleased q.letting)) c n k rest s refl i))
-    (λ source. ap (open_beat source) past ∙ open_beat-c source a.0 (Beat.B x ∷ t) width (still_whole x t ∙ none)
-    ∙ open_beat-b source x t ∙ known.opens source)
+    let past : (probed x n p e).after.past ≡ after x a.0 t = kept_past n (report_right r) (sending (probe_ack
+    OpB.ProbeBlock p r n (copy_at e n)) (with_past (Beat.B x ∷ t) e)) ∙ ap (λ m. sent m (Beat.B x ∷ t)) a.1 in
+    let same = λ (j : Key) (f : IsProbeKey j ≡ false). ap (pending j) past ∙ same_pending j x t width a.2 none f in (
+      known-kept asked c (probe_taken c n k rest s) well (λ i. ap (held i) past ∙ ap (λ m. held i
+          (sent m (Beat.B x ∷ t))) (sym a.1) ∙ held-probe_ack i OpB.ProbeBlock p r n (copy_at e n) _ width (still_whole
+          x t ∙ none) ∙ held_now i (cases_eq i n)) (λ i. same (Key.AcquireOf i) refl ∙ known.acquires i ∙ sym (same_part
+          (λ q. is_wanting q.acquiring) c n k rest s refl i)) (λ i. same (Key.ReleaseOf i) refl ∙ known.releases i
+          ∙ sym (same_part (λ q. not (is_unreleased q.letting)) c n k rest s refl i)) (λ source. ap (open_beat source)
+          past ∙ open_beat-c source a.0 _ width (still_whole x t ∙ none) ∙ open_beat-b source x t ∙ known.opens source),
+      -- no source is opened or closed
+      rw past (record {
+        requests = λ source. same_pending (Key.RequestSource source) x t width a.2 none refl ∙ open_.requests source;
+        releases = λ source. same_pending (Key.ReleaseSource source) x t width a.2 none refl ∙ open_.releases source;
+        released = λ source i some. ap (option_map (λ y. block_at y.address))
+            (same_release source x a.0 t width a.2.releases_none none) ∙ open_.released source i some;
+        sizes = λ source i some.
+            cc (same_release source x a.0 t width a.2.releases_none none, open_.sizes source i some);
+      }),
+    )
   where
     held_now : (i : ℕ) → (i ≡ n) ⊎ (i ≡ n → ⊥)
         → cond (i == n) (report_right (report_for (probe_beat {w = w} n k) (held_at e n)))
         (held i (Beat.B (probe_beat n k) ∷ e.past)) ≡ (((probe_taken c n k rest s).block i).pair c).held
     held_now i (inl same) =
-        rw same (ap (λ (z : Bool). cond z (report_right (report_for (probe_beat {w = w} n k) (held_at e n))) (held n
+        rw same (ap (λ z. cond z (report_right (report_for (probe_beat {w = w} n k) (held_at e n))) (held n
         (Beat.B (probe_beat n k) ∷ e.past))) (same_number n) ∙ (cc (report_is w n k (held_at e n), known.held_is n))
-        ∙ sym (ap (λ (bl : Block (List ℕ)). (bl.pair c).held) (set-same n (probed_block c k (s.block n)) s.block)
-        ∙ ap (λ (q : ClientBlock). q.held) (set-same c (after_probe k ((s.block n).pair c)) (s.block n).pair)))
+        ∙ sym (ap (λ bl. (bl.pair c).held) (set-same n (probed_block c k (s.block n)) s.block)
+        ∙ ap (λ q. q.held) (set-same c (after_probe k ((s.block n).pair c)) (s.block n).pair)))
     held_now i (inr other) =
         rw (ne_eqb i n other) (held_unsaid i (Beat.B (probe_beat n k)) e.past refl ∙ known.held_is i)
 
--- ---- sources
+pub end-probe_taken : {w : ℕ} {c : ℕ} (n : ℕ) (k : Cap) (rest : List Packet) (mail : AccessMessages w)
+    {s : State (List ℕ)} {e : Endpoint w} → IsWidth w → IsWellKept (probed (probe_beat n k) n (held_at e n) e).after
+    → IsEnd (asked_by mail s c) c s e → IsEnd (asked_by mail (probe_taken c n k rest s) c) c (probe_taken c n k rest s)
+    (probed (probe_beat n k) n (held_at e n) e).after
+end-probe_taken {w} {c} n k rest mail {s} {e} width well end =
+    let g : Endpoint w = sending (probe_ack OpB.ProbeBlock p (report_for (probe_beat {w = w} n k) p) n (copy_at e n))
+    (with_past (Beat.B (probe_beat n k) ∷ e.past) e) in
+    let s' : State (List ℕ) = probe_taken c n k rest s in
+    let same : IsSame c (asked_by mail s c) (asked_by mail s' c) s' s' = record {
+      held = λ i. refl;
+      acquiring = λ i. refl;
+      letting = λ i. refl;
+      lets = λ i. refl;
+      asks = λ i. asks-same c i mail mail s s' refl (inl refl) (λ j used. set-part (λ (b : Block (List ℕ)).
+          (b.pair c).acquiring) n new s.block (ap (λ q. q.acquiring) pair_is) j)
+          (λ j used. set-part (λ b. b.source c) n new s.block refl j);
+    } in
+    record {
+      knows = knows-same same (knows-probed n k rest e width well end.well.kept.c_whole end.knows);
+      well = well;
+      copies = λ i some. kept_copies n left g i ∙ copy_of i (i == n) refl
+          (sym (column (λ b. same_perm (b.pair c).held Perm.None) n new s.block i) ∙ some)
+          ∙ ap Some (sym (set-part (λ b. b.copy c) n new s.block refl i));
+      waiting = λ i storing. let fact = end.waiting i (sym (set-part (λ b. is_whole
+          (b.pair c).acquiring) n new s.block (ap (λ q. is_whole q.acquiring) pair_is) i) ∙ storing) in
+          cc (kept_waiting n left g i, set-part (λ b. b.waiting c) n new s.block refl i);
+      live = kept_closed n left g ∙ end.live;
+    }
+  where
+    p : Perm
+    p = held_at e n
 
-same_release : {w : ℕ} (source : ℕ) (x : BeatB w) (m : MessageC w) (t : History w) → IsWidth w
-    → is_release m.opcode ≡ false → unfinished Channel.C t ≡ [] → release_of source (after x m t) ≡ release_of source t
-unfolding release_of
-same_release source x m t width off none = release_of-whole source (Message.C m) (Beat.B x ∷ t) (still_whole x t ∙ none)
-    (beats-positive (Message.C m) width) ∙ rw off refl
+    left : Perm
+    left = report_right (report_for (probe_beat {w = w} n k) p)
 
--- no source is opened or closed
-pub opened-probed : {w : ℕ} {X : Type 0} {asked : ℕ → Option (BeatA w)} {c : ℕ} (n : ℕ) (k : Cap) (rest : List Packet)
-    {s : State X} (e : Endpoint w) → IsWidth w → unfinished Channel.C e.past ≡ [] → OpenSourceRelation asked c s e.past
-    → OpenSourceRelation asked c (probe_taken c n k rest s) (probed (probe_beat n k) n (held_at e n) e).after.past
-opened-probed {w} n k rest e width none open_ =
-    let p : Perm = held_at e n in
-    let x : BeatB w = probe_beat n k in
-    let r : Report = report_for x p in
-    let a = ack_of {w = w} p r n (copy_at e n) in
-    let t : History w = e.past in
-    let past : (probed x n p e).after.past ≡ after x a.0 t =
-    kept_past n (report_right r) (sending (probe_ack OpB.ProbeBlock p r n (copy_at e n)) (with_past (Beat.B x ∷ t) e))
-    ∙ ap (λ m. sent m (Beat.B x ∷ t)) a.1 in
-    rw past (record {
-      requests = λ source. same_pending (Key.RequestSource source) x t width a.2 none refl ∙ open_.requests source;
-      releases = λ source. same_pending (Key.ReleaseSource source) x t width a.2 none refl ∙ open_.releases source;
-      released = λ source i some. ap (option_map (λ y. block_at y.address))
-          (same_release source x a.0 t width a.2.releases_none none) ∙ open_.released source i some;
-      sizes = λ source i some. cc (same_release source x a.0 t width a.2.releases_none none, open_.sizes source i some);
-    })
+    new : Block (List ℕ)
+    new = probed_block c k (s.block n)
+
+    pair_is : new.pair c ≡ after_probe k ((s.block n).pair c)
+    pair_is = set-same c (after_probe k ((s.block n).pair c)) (s.block n).pair
+
+    some_held : (q : Perm) → same_perm q Perm.None ≡ false → holds q ≡ true
+    some_held q e = grind arith
+
+    copy_of : (i : ℕ) (b : Bool) → (i == n) ≡ b
+        → cond b (same_perm (new.pair c).held Perm.None) (same_perm ((s.block i).pair c).held Perm.None) ≡ false
+        → cond (b && not (holds left)) None (e.copies i) ≡ Some ((s.block i).copy c)
+    copy_of i false is some = end.copies i some
+    copy_of i true is some =
+        let keeps : (z : Bool) → z ≡ true → cond (not z) None (e.copies i) ≡ e.copies i = λ z q. rw q refl in
+        let stays : holds left ≡ true =
+        ap holds (cc (report_is w n k p, end.knows.0.held_is n, pair_is)) ∙ some_held (new.pair c).held some in
+        let before : holds p ≡ true = reports_held k p (cc (report_is w n k p)) in
+        keeps (holds left) stays ∙ end.copies i
+        (held-some ((s.block i).pair c).held (cc (eqb-true i n is, end.knows.0.held_is n)))

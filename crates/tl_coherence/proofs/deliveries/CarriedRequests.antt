@@ -1,41 +1,38 @@
 -- The channels after a beat of a request is taken carry the messages of the tokens.
-use Rattle.std.proofs.Common.{◌≡◌, ℕ, suc, ◌≤◌, Bool, true, false, not, ◌&&◌, ◌||◌, List, [], ◌∷◌, Option, Some, None}
-use Rattle.std.proofs.Common.{length, refl, sym, subst, ◌∙◌, ap, ◌⊎◌, inl, inr, arith, ◌==◌, if◌then◌else◌}
+use Rattle.std.proofs.Common.{◌≡◌, ℕ, suc, ◌≤◌, Bool, true, false, not, ◌&&◌, ◌||◌, ◌==◌, if◌then◌else◌, List, [], ◌∷◌}
+use Rattle.std.proofs.Common.{Option, Some, None, refl, sym, ◌∙◌, ap, subst, arith, ◌⊎◌, inl, inr, length}
 use Rattle.tl_coherence.proofs
 use proofs.Imports.{and_comm, cases_lt, Beat, Channel, Message, MessageA, a_beat_of, beats_of, unfinished, completes}
-use proofs.Imports.{Config, Cap, Perm, is_last, on_link, same_perm, effect, answer_of, block_at, is_acquire, same_block}
-use proofs.Imports.{swapped, reaction-part, Handed, Reaction, probes, recorded, probed, cap_probed, is_spared}
-use proofs.Imports.{must_wait, reaction, Outcome, IsInvariant, IsWell, cap_asked, Kind, Request, Acquire, Grant, Packet}
-use proofs.Imports.{AcquirePhase, AcquireOpen, is_granted_data, is_above, Block, State, packet, is_probed}
-use proofs.Imports.{granted_at_once, acquire_served, acquire_granted, AbstractState, some_below, answers, kind_taken}
-use proofs.Imports.{bytes_at, probes_some, access_taken, request_taken, performs, gift, is_unheld, acquire_taken}
-use proofs.Imports.{ChannelRelation, AccessMessages, block_message, SimulationRelation, is_caching, Log, Step, handing}
-use proofs.Imports.{System, with_manager, with_channel, with_messages}
+use proofs.Imports.{Config, Cap, Perm, is_last, same_perm, on_link, answer_of, effect, block_at, is_acquire, same_block}
+use proofs.Imports.{swapped, reaction-part, Handed, probes, cap_probed, is_spared, probed, recorded, must_wait}
+use proofs.Imports.{reaction, Outcome, IsInvariant, IsWell, cap_asked, Acquire, Grant, Kind, Packet, Request}
+use proofs.Imports.{AcquireOpen, is_above, is_granted_data, Block, State, acquire_granted, acquire_served}
+use proofs.Imports.{granted_at_once, is_probed, packet, AbstractState, access_taken, acquire_taken, answers, bytes_at}
+use proofs.Imports.{gift, is_unheld, kind_taken, performs, probes_some, request_taken, some_below, ChannelRelation}
+use proofs.Imports.{AccessMessages, block_message, SimulationRelation, is_caching, Log, Step, handing, System}
+use proofs.Imports.{with_channel, with_manager, with_messages}
 use Rattle.tl_manager.specs.statement.Holders as holders
-use proofs.manager.{Admitted.offered-taken, AtRequests.end_after, AtRequests.reaction-probing, ManagedServed.same_above}
-use proofs.manager.{Requests.recorded-beat, Arrivals.link_of, Arrivals.with_beat, Arrivals.IsComing}
-use proofs.manager.{Arrivals.ends-coming, Arrivals.service_for, RequestsHanded.handed-answered}
-use proofs.manager.{RequestsHanded.handed-granted, RequestsTaken.caps_asked, RequestsTaken.acquire_wanted}
-use proofs.manager.{RequestsTaken.ready-request, RequestsTaken.ready-acquire}
-use proofs.queues.{Shown.carried-shown, Showing.carries, Showing.none-carried, Tokens.set-same, Codes.acquires-so}
-use proofs.queues.{Perms.none-above, Channels.behind, Channels.IsTaken, Channels.pushes_at}
-use proofs.protocol.{Events.IsReady, RequestsKept.some-none, RequestsKept.leaves-bytes, Heads.IsAsked, Heads.IsWanted}
-use proofs.simulation.{Moved.manager-heard, Moved.carried-part, CarriedEvents.access_answered-shown}
-use proofs.simulation.{CarriedEvents.acquire_granted-shown}
+use proofs.manager.{Admitted.offered-taken, Unseen.handed-answered, Unseen.handed-granted}
+use proofs.manager.Performing.{end_after, reaction-probing}
+use proofs.manager.Probing.{same_above, recorded-beat, link_of, with_beat, IsComing, ends-coming, service_for}
+use proofs.manager.RequestsTaken.{caps_asked, acquire_wanted, ready-request, ready-acquire, next_tracker, free-last}
+use proofs.manager.RequestsTaken.{invariant-taken, probed-some, somebody-probed, beyond-none}
+use proofs.queues.{FirstToken.carries, FirstToken.none-carried, Tokens.set-same, Codes.acquires-so, Phases.none-above}
+use proofs.queues.Channels.{carried-shown, behind, IsTaken, pushes_at}
+use proofs.queues.Steps.{pushes_of, IsLanded, taken-landed, HasTaken, landed-manager, channels-handed, on_own_channel}
+use proofs.protocol.{HeadOfD.IsReady, RequestsKept.some-none, RequestsKept.leaves-bytes, Room.IsAsked, Room.IsWanted}
+use proofs.simulation.Moved.{manager-heard, carried-part}
+use proofs.simulation.CarriedEvents.{access_answered-shown, acquire_granted-shown}
+use proofs.simulation.Bounded.{probe_pushes, channels-probes, access_served-shown, acquire_served-shown}
 use proofs.bound.RankAfter.{once_on_d}
-use proofs.simulation.CarriedProbes.{probe_pushes, channels-probes, access_served-shown, acquire_served-shown}
-use proofs.manager.UnwaitedRequests.{next_tracker, free-last, invariant-taken, probed-some, somebody-probed}
-use proofs.manager.UnwaitedRequests.{beyond-none}
-use proofs.queues.Landed.{pushes_of, IsLanded, taken-landed, HasTaken, landed-manager, channels-handed, on_own_channel}
-use proofs.deliveries.LandedReports.{answer_on_d}
+use proofs.deliveries.CarriedReports.{answer_on_d}
 
 -- ---- the whole after a beat of a request
 
 -- it, where the manager takes the beat
 abbrev pub system_after : {w : ℕ} → Config → ℕ → ℕ → MessageA w → List (Beat w) → System w → System w
-system_after config c k m queue sys =
-    with_messages (reaction config (link_of c) (Beat.A (a_beat_of m k)) sys.manager).handed
-    (with_manager (end_after config c k m sys.manager) (with_channel c Channel.A queue sys))
+system_after config c k m queue sys = with_messages (reaction config (link_of c) (Beat.A (a_beat_of m k))
+    sys.manager).handed (with_manager (end_after config c k m sys.manager) (with_channel c Channel.A queue sys))
 
 heard-coming : {w : ℕ} (config : Config) (c k : ℕ) (m : MessageA w) (queue : List (Beat w)) (sys : System w)
     → IsComing config c k m sys.manager
@@ -44,8 +41,8 @@ heard-coming {w} config c k m queue sys is =
     let x : Beat w = Beat.A (a_beat_of m k) in
     let step : Step w = handing (Outcome.Moved x) (reaction config (link_of c) x sys.manager).handed
     (with_manager (end_after config c k m sys.manager) (with_channel c Channel.A queue sys)) in
-    manager-heard config (link_of c) Channel.A x queue sys step is.width is.typed is.kept
-    (record { takes = offered-taken config (link_of c) Channel.A x sys.manager is.passes; step_is = refl })
+    manager-heard _ _ _ x queue sys step is.width is.typed is.kept
+    (record { takes = offered-taken config _ Channel.A x _ is.passes; step_is = refl })
 
 -- what is handed out stands behind what was on the channels
 pub landed-coming : {w : ℕ} {config : Config} {c k : ℕ} {m : MessageA w} (queue : List (Beat w)) (sys : System w)
@@ -57,11 +54,9 @@ pub landed-coming : {w : ℕ} {config : Config} {c k : ℕ} {m : MessageA w} (qu
     (system_after config c k m queue sys)
 landed-coming {w} {config} {c} {k} {m} queue sys handed pushes is beats done pushed =
     let base : System w = with_manager (end_after config c k m sys.manager) (with_channel c Channel.A queue sys) in
-    landed-manager c Channel.A (Beat.A (a_beat_of m k)) queue pushes
-    (reaction config (link_of c) (Beat.A (a_beat_of m k)) sys.manager).handed
-    (end_after config c k m sys.manager) sys refl beats (on_own_channel (Beat.A (a_beat_of m k)))
-    (heard-coming config c k m queue sys is)
-    (λ d at. ap (λ (i : Handed w). (with_messages i base).channels d at) done ∙ pushed base d at)
+    landed-manager c Channel.A _ queue pushes (reaction config (link_of c) (Beat.A (a_beat_of m k)) sys.manager).handed
+    _ sys refl beats (on_own_channel (Beat.A (a_beat_of m k))) (heard-coming config c k m queue sys is)
+    (λ d at. ap (λ i. (with_messages i base).channels d at) done ∙ pushed base d at)
 
 -- ---- a beat that isn't the last
 
@@ -78,10 +73,9 @@ pub carried-more : {w : ℕ} {config : Config} {log : Log w} {mail : AccessMessa
     → ChannelRelation mail s (system_after config c k m queue sys)
 carried-more {w} {config} {mail} {s} {sys} {c} {k} {m} queue is comes beats part =
     let x : Beat w = Beat.A (a_beat_of m k) in
-    let done = ap (λ (d : Reaction w). d.handed) (reaction-part config (link_of c) x sys.manager part) in
-    carried-part mail s comes.width
-    (landed-coming queue sys [] (λ d at. None) comes beats done nothing-handed) (λ d at. refl) part
-    is.carried
+    let done = ap (λ d. d.handed) (reaction-part config (link_of c) x sys.manager part) in
+    carried-part mail s comes.width (landed-coming queue sys [] (λ d at. None) comes beats done nothing-handed)
+    (λ d at. refl) part is.carried
 
 -- ---- its last beat: others are probed
 
@@ -122,7 +116,7 @@ taken-probing {w} {config} {log} {mail} {request} {s} {sys} {c} {k} n own j {m} 
     taken-landed
     (landed-coming queue sys
     (probes n j (probed config (service_for c m sys.manager.trace) j (with_beat c m k sys.manager.trace))) pushes
-    comes beats done (λ v d at. channels-probes n j (length config.clients.items)
+    comes beats done (λ v d at. channels-probes n j _
     (λ i. holders.is_above j (recorded i (block_at m.address) (with_beat c m k sys.manager.trace)) && not
     (is_spared (service_for c m sys.manager.trace) i)) test v (λ i lt. same i) none d at))
     (ends-coming comes ∙ rw last (is_last k (suc k) (omega arith)))
@@ -151,22 +145,18 @@ pub carried-acquire_taken : {w : ℕ} {config : Config} {log : Log w} (h : Abstr
     → ChannelRelation (kind_taken config (next_tracker sys) c Acquire n rest h).mail
     (kind_taken config (next_tracker sys) c Acquire n rest h).state
     (system_after config c k (acquire_wanted c n h.state asked) queue sys)
-carried-acquire_taken {w} {config} {log} h {sys} {c} {n} {k} rest queue is first asked comes beats last moves =
+carried-acquire_taken {w} {config} h {sys} {c} {n} {k} rest queue is first asked comes beats last moves =
     let inv = invariant-taken h c Acquire n rest is first ready in
-    subst (λ (i : AcquirePhase). ChannelRelation (acquire_taken clients config.profile c n i tracker rest h).mail
-    (acquire_taken clients config.profile c n i tracker rest h).state after) (sym asked.wants)
-    (go (some_below clients (λ d. is_probed c true j (b.pair d).recorded d)) refl
-    (subst (λ (i : AcquirePhase). IsInvariant (is_caching config) (acquire_taken clients config.profile c n i tracker
-    rest h).state) asked.wants inv))
+    subst (λ i. ChannelRelation (acquire_taken clients config.profile c n i tracker rest h).mail
+    (acquire_taken clients config.profile c n i tracker rest h).state (system_after config c k m queue sys))
+    (sym asked.wants) (go (some_below clients (λ d. is_probed c true j (b.pair d).recorded d)) refl (subst (λ i.
+    IsInvariant (is_caching config) (acquire_taken clients config.profile c n i tracker rest h).state) asked.wants inv))
   where
     b : Block (List ℕ)
     b = h.state.block n
 
     m : MessageA w
-    m = acquire_wanted c n h.state asked
-
-    after : System w
-    after = system_after config c k m queue sys
+    m = acquire_wanted c n _ asked
 
     clients : ℕ
     clients = length config.clients.items
@@ -195,12 +185,13 @@ carried-acquire_taken {w} {config} {log} h {sys} {c} {n} {k} rest queue is first
         data_too given rest h.state
 
     go : (x : Bool) → some_below clients (λ d. is_probed c true j (b.pair d).recorded d) ≡ x
-        → IsInvariant (is_caching config) (state_of x) → ChannelRelation h.mail (state_of x) after
+        → IsInvariant (is_caching config) (state_of x) → ChannelRelation h.mail (state_of x)
+        (system_after config c k m queue sys)
     go true f kept =
         let some = somebody-probed c k n true m is (acquires-so asked.whole) (same_block n) (rw caps f) in
         carried-shown comes.width (acquire_served-shown c n (b.source c) tracker j rest h.mail is.invariant kept first
         ready.0) (taken-probing n true j queue is comes beats last (acquires-so asked.whole) (same_block n)
-        (ap (λ (d : Reaction w). d.handed) (reaction-probing config c k n j m sys.manager comes last (same_block n)
+        (ap (λ d. d.handed) (reaction-probing config c k n j m sys.manager comes last (same_block n)
         caps (probed-some c k n true j m is (acquires-so asked.whole) (same_block n) ∙ ap not f)))) is.carried
     go false f kept =
         let new = granted_at_once c tracker data_too given b in
@@ -217,11 +208,10 @@ pub unread-bytes : {w : ℕ} {config : Config} {log : Log w} {mail : AccessMessa
     (m : MessageA w) → SimulationRelation config log mail request s sys → is_acquire m.opcode ≡ false
     → probes_some (length config.clients.items) c false (cap_probed m.opcode m.param) (s.block n).pair ≡ false
     → (k : Kind) (d : ℕ) → (carries k d (s.block n) ≡ false) ⊎ (performs m (s.block n).truth ≡ (s.block n).truth)
-unread-bytes {w} {config} {s} c n m is access none k d =
-    let unheld : (i : ℕ) → cap_probed m.opcode m.param ≡ Some Cap.ToN
-    → same_perm ((s.block n).pair i).recorded Perm.None ≡ true =
-    λ i all. elim (cases_lt i (length config.clients.items)) [
-      | inl lt ↦ none-above ((s.block n).pair i).recorded (some-none (length config.clients.items)
+unread-bytes {config} {s} c n m is access none k d =
+    let unheld : (i : ℕ) → cap_probed m.opcode m.param ≡ Some Cap.ToN → same_perm ((s.block n).pair i).recorded
+    Perm.None ≡ true = λ i all. elim (cases_lt i (length config.clients.items)) [
+      | inl lt ↦ none-above _ (some-none (length config.clients.items)
           (λ j. is_probed c false Cap.ToN ((s.block n).pair j).recorded j) (rw all at none) i lt)
       | inr past ↦ rw (beyond-none n is i past) refl
     ] in
@@ -247,10 +237,9 @@ pub carried-request_taken : {w : ℕ} {config : Config} {log : Log w} (h : Abstr
     (system_after config c k asked.request queue sys)
 carried-request_taken {w} {config} {log} h {sys} {c} {source} {k} rest queue is first asked comes beats last moves =
     let inv = invariant-taken h c Request source rest is first (ready-request h is asked comes last moves) in
-    subst (λ (i : Message w). Carries (request_taken clients c source i tracker rest h)) (sym asked.is_it)
-    (go (probes_some clients c false (cap_probed m.opcode m.param) b.pair) (cap_probed m.opcode m.param) refl refl
-    (subst (λ (i : Message w). IsInvariant (is_caching config) (request_taken clients c source i tracker rest h).state)
-    asked.is_it inv))
+    subst (λ i. Carries (request_taken clients c source i tracker rest h)) (sym asked.is_it) (go
+    (probes_some clients c false (cap_probed m.opcode m.param) b.pair) (cap_probed m.opcode m.param) refl refl (subst
+    (λ i. IsInvariant (is_caching config) (request_taken clients c source i tracker rest h).state) asked.is_it inv))
   where
     m : MessageA w
     m = asked.request
@@ -261,11 +250,8 @@ carried-request_taken {w} {config} {log} h {sys} {c} {source} {k} rest queue is 
     b : Block (List ℕ)
     b = h.state.block n
 
-    after : System w
-    after = system_after config c k m queue sys
-
     Carries : AbstractState w → Type 0
-    Carries i = ChannelRelation i.mail i.state after
+    Carries i = ChannelRelation i.mail i.state (system_after config c k m queue sys)
 
     clients : ℕ
     clients = length config.clients.items
@@ -290,7 +276,7 @@ carried-request_taken {w} {config} {log} h {sys} {c} {source} {k} rest queue is 
         carried-shown comes.width (access_served-shown c n source tracker j rest h.mail is.invariant kept first
         (free-last is comes last moves))
         (taken-probing n false j queue is comes beats last asked.access refl
-        (ap (λ (d : Reaction w). d.handed) (reaction-probing config c k n j m sys.manager comes last refl g
+        (ap (λ d. d.handed) (reaction-probing config c k n j m sys.manager comes last refl g
         (probed-some c k n false j m is asked.access refl ∙ ap not some))))
         is.carried
     go false o f g kept = answered f kept

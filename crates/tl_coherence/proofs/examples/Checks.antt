@@ -1,20 +1,26 @@
 -- Whether what the headline says holds at every event of a list that is played, evaluated: by tests, each with a
 -- number, of which those that fail are listed.
-use Rattle.std.proofs.Common.{◌≡◌, ◌-◌, ℕ, zero, suc, Bool, true, false, not, List, [], ◌∷◌, ◌++◌, ◌&&◌, ◌||◌, ◌*◌, ◌/◌}
-use Rattle.std.proofs.Common.{◌^◌, length, Option, Some, None, min, ◌==◌, nat_le, reverse, is_none}
+-- An Acquire that is alone, drained.
+use Rattle.std.proofs.Common.{◌≡◌, ℕ, zero, suc, ◌*◌, ◌-◌, ◌^◌, Bool, true, false, not, ◌&&◌, ◌||◌, ◌==◌, List, [], ◌∷◌}
+use Rattle.std.proofs.Common.{◌++◌, Option, Some, None, refl, length, ◌/◌, min, is_none, reverse, nat_le}
 use Rattle.tl_coherence.proofs
-use proofs.Imports.{beq, Beat, Link, Channel, same_control, Config, Level, Perm, Profile, broken_after, same_perm}
-use proofs.Imports.{bytes_from, number_from, Memory, block_at, Op, Access, Reply, Finish, same_bytes, op_block, held_at}
-use proofs.Imports.{level_of, must_wait, Event, Ask, Deliver, Outcome, started, capacity, sources_of, receiver}
-use proofs.Imports.{is_delivery, is_moving, flow, requests, releases, outstanding, load, Log, Machine, Open, Requests}
-use proofs.Imports.{Releases, first, is_client, pool_of_op, pool_of, finish_with, cap_named, moved, is_movable}
-use proofs.Imports.{next_delivery, accesses_answered, performing, Step, stepped, client_of, System, fresh, terms_at}
+use proofs.Imports.{beq, Beat, Link, Channel, same_control, unfinished, Config, Level, Grow, Perm, Profile, same_perm}
+use proofs.Imports.{broken_after, Memory, bytes_from, number_from, block_at, grant_sink, held, pending, probe_of}
+use proofs.Imports.{release_of, request_of, Op, Access, Reply, Finish, op_block, same_bytes, held_at, level_of}
+use proofs.Imports.{must_wait, Event, Ask, Deliver, Outcome, started, capacity, receiver, sources_of, is_delivery}
+use proofs.Imports.{is_moving, flow, load, outstanding, releases, requests, Log, system_after, Machine, Open, Releases}
+use proofs.Imports.{Requests, cap_named, finish_with, first, is_client, moved, pool_of, pool_of_op, is_movable}
+use proofs.Imports.{next_delivery, accesses_answered, performing, Step, client_of, stepped, System, fresh, terms_at}
+use proofs.Imports.{with_messages}
+use Rattle.tl_coherence.{specs.declared.event.Outcome.TheVariants.Replied, specs.statement.Log.IsLog}
+use Rattle.tl_coherence.{specs.statement.Movable.drained, specs.statement.Delivery.sender}
+use Rattle.tl_coherence.specs.statement.Machine.{is_word_op, performed}
+use Rattle.tl_client.specs.statement.Ask as ask
 use Rattle.tl_burst.specs.statement.Messages.{carried_on}
 use Rattle.tl_rules.{specs.statement.Admission.lanes_of, specs.statement.Conformance.is_legal}
 use Rattle.tl_client.specs.declared.operation.Op.TheVariants.{Load, Store, Acquire, AcquireWhole, Release}
-use Rattle.tl_coherence.specs.{statement.Delivery.sender, statement.Machine.is_word_op, statement.Machine.performed}
 use Rattle.tl_rules.specs.statement.Effect as memory
-use proofs.examples.Play.{Line, Does, Drains}
+use proofs.examples.Play.{evaluated, world, Line, Does, Drains}
 use proofs.queues.Phases.{implies}
 
 -- ---- a whole, what has happened to it, and the one-memory machine beside it
@@ -240,3 +246,24 @@ unfoldable pub evaluated_tests : ℕ
 unfolding performs all_below carried_on started flow requests releases accesses_answered performing broken_after
     is_legal
 evaluated_tests = 0
+
+abbrev two_caches : Config
+two_caches = world Profile.One 1 1 ((Level.C, 1) ∷ (Level.C, 1) ∷ [])
+
+abbrev asked_once : Log 8
+asked_once = (Ask 0 (Op.Acquire 0 Grow.NtoT), Replied (Reply.Started 0)) ∷ []
+
+is_a_log : IsLog two_caches asked_once
+unfolding IsLog system_after stepped with_messages ask.asked ask.busy ask.least_free unfinished request_of release_of
+    probe_of grant_sink pending held
+is_a_log = (refl, tt)
+
+moves_ten_beats : (length (drained two_caches 12 asked_once) ≡ 11) × (load asked_once ≡ 41)
+    × (next_delivery two_caches (system_after two_caches (drained two_caches 12 asked_once)) ≡ None)
+unfolding drained system_after requests releases evaluated
+moves_ten_beats = (refl, refl, refl)
+
+brings_what_it_asks_for : held_at ((system_after two_caches (drained two_caches 10 asked_once)).clients 0)
+    0 ≡ Perm.Trunk
+unfolding drained system_after requests releases evaluated
+brings_what_it_asks_for = refl

@@ -1,23 +1,28 @@
 -- Tests of the simulation relation, event by event, for the worked schedules.
-use Rattle.std.proofs.Common.{◌≡◌, ℕ, zero, suc, Bool, true, false, not, List, [], ◌∷◌, ◌++◌, ◌&&◌, ◌||◌, ◌*◌, Option}
-use Rattle.std.proofs.Common.{Some, None, length, ◌==◌, reverse, is_some, option_map, if◌then◌else◌}
+-- Whether the protocol follows the world at every event of a list that is played, evaluated: the values that the ends,
+-- the manager and the flow have are those of the protocol, and its phases are well. By tests with numbers, of which
+-- those
+-- that fail are listed.
+use Rattle.std.proofs.Common.{◌≡◌, ℕ, zero, suc, ◌*◌, Bool, true, false, not, ◌&&◌, ◌||◌, ◌==◌, if◌then◌else◌, List, []}
+use Rattle.std.proofs.Common.{◌∷◌, ◌++◌, Option, Some, None, refl, length, lit≤, replicate, reverse, option_map}
+use Rattle.std.proofs.Common.{is_some}
 use Rattle.tl_coherence.proofs
-use proofs.Imports.{beq, Beat, BeatA, BeatB, Link, Channel, MessageA, a_beat_of, unfinished, same_control, Config}
-use proofs.Imports.{RequestSource, ReleaseSource, AcquireOf, ReleaseOf, GrantSink, GrantAckOf, ProbeOf, Cap, Perm}
-use proofs.Imports.{on_link, Trace, comes_in_release, comes_in_request, comes_in_grant, same_perm, bytes_from, held}
-use proofs.Imports.{pending, request_of, release_of, probe_of, grant_sink, block_at, is_acquire, same_bytes, open_beat}
-use proofs.Imports.{comes_of, recorded, cap_probed, services, service_of_block, Event, Deliver, is_of, acquires_of}
-use proofs.Imports.{serves_of, acquires_with, serves_with, releases_with, tracks_with, ok, same_cap, is_unprobed}
-use proofs.Imports.{is_unreleased, is_whole, Service, Free, Waits, State, view, is_wanting, is_granting}
-use proofs.Imports.{is_acknowledging, is_unserved, is_answered, AbstractState, first_abstract_state, abstract_step}
-use proofs.Imports.{some_below, comes_granting, is_own, client_in, is_requested, is_release_pending, is_let_by, is_sunk}
-use proofs.Imports.{AccessMessages, messages_on, probe_beat, block_message, asked_by, is_served, is_granted, cap_waited}
-use proofs.Imports.{started, receiver, flow, requests, releases, next_delivery, accesses_answered, performing, Step}
-use proofs.Imports.{stepped, System}
+use proofs.Imports.{beq, Beat, BeatA, BeatB, Link, Channel, OpA, MessageA, a_beat_of, same_control, unfinished, Config}
+use proofs.Imports.{AcquireOf, GrantAckOf, GrantSink, ProbeOf, ReleaseOf, ReleaseSource, RequestSource, Level, Cap}
+use proofs.Imports.{Grow, Prune, Perm, Profile, Trace, comes_in_grant, comes_in_release, comes_in_request, same_perm}
+use proofs.Imports.{on_link, bytes_from, block_at, is_acquire, grant_sink, held, pending, probe_of, release_of}
+use proofs.Imports.{request_of, same_bytes, open_beat, comes_of, cap_probed, recorded, service_of_block, services}
+use proofs.Imports.{Event, Deliver, acquires_of, acquires_with, is_of, releases_with, serves_of, serves_with}
+use proofs.Imports.{tracks_with, is_unprobed, is_unreleased, is_whole, same_cap, ok, Free, Service, State, Waits, view}
+use proofs.Imports.{is_acknowledging, is_answered, is_granting, is_unserved, is_wanting, AbstractState, abstract_step}
+use proofs.Imports.{first_abstract_state, some_below, comes_granting, client_in, is_own, is_let_by, is_release_pending}
+use proofs.Imports.{is_requested, is_sunk, AccessMessages, messages_on, probe_beat, block_message, asked_by, cap_waited}
+use proofs.Imports.{is_granted, is_served, started, receiver, flow, releases, requests, next_delivery}
+use proofs.Imports.{accesses_answered, performing, Step, stepped, System}
 use Rattle.tl_coherence.specs.refinement.Carried.{spelled}
 use Rattle.tl_manager.specs.statement.Service as service
-use proofs.examples.{Checks.Past, Checks.begun, Checks.next, Checks.all_below, Checks.failed, Checks.same_beats}
-use proofs.examples.{Checks.performs, Play.Line, Play.Does, Play.Drains}
+use proofs.examples.Checks.{Past, begun, next, all_below, failed, same_beats, performs}
+use proofs.examples.Play.{evaluated, Drains, world, deliver, load, store, acquire, whole, release, access, Line, Does}
 use proofs.queues.Phases.{implies}
 
 -- ---- tests of values
@@ -202,3 +207,119 @@ unfoldable pub evaluated_tests : ℕ
 unfolding block_message some_below spelled ok performs all_below flow started requests releases accesses_answered
     performing
 evaluated_tests = 0
+
+-- ---- lists that are known from elsewhere
+
+plain_accesses_of_what_a_cache_holds : Follows {w = 8} 2 (world Profile.One 2 1 ((Level.C, 1) ∷ (Level.UL, 1) ∷ []))
+    ((acquire 0 0 Grow.NtoT ∷ Drains 220 ∷ store 0 0 0 90 ∷ access 1 OpA.Get 0 0 (lit≤ tt) 0 1
+    (replicate 64 0) ∷ deliver 1 Channel.A ∷ deliver 0 Channel.B ∷ []) ++ replicate 8 (deliver 0 Channel.C)
+    ++ (deliver 1 Channel.D ∷ load 0 0 0 ∷ access 1 OpA.PutFullData 0 0 (lit≤ tt) 0 1 ((107 ∷ []) ++ replicate 63 0)
+    ∷ deliver 1 Channel.A ∷ deliver 0 Channel.B ∷ deliver 0 Channel.C ∷ deliver 1 Channel.D ∷ load 0 0 0 ∷ []))
+unfolding faults faults_draining evaluated_tests evaluated
+plain_accesses_of_what_a_cache_holds = refl
+
+bytes_of_a_word : Follows {w = 8} 2 (world Profile.One 1 1 ((Level.UL, 1) ∷ []))
+    ((access 0 OpA.PutPartialData 0 2 (lit≤ tt) 4 80 (replicate 4 0 ++ (17 ∷ 34 ∷ 51 ∷ 68 ∷ []) ++ replicate 56 0)
+    ∷ Drains 220 ∷ access 0 OpA.Get 0 3 (lit≤ tt) 0 255 (replicate 64 0) ∷ Drains 220 ∷ []))
+unfolding faults faults_draining evaluated_tests evaluated
+bytes_of_a_word = refl
+
+a_put_counts_from_its_last_beat : Follows {w = 8} 2 (world Profile.One 1 1 ((Level.UH, 1) ∷ (Level.UH, 1) ∷ []))
+    ((access 0 OpA.PutFullData 0 6 (lit≤ tt) 0 18446744073709551615 (replicate 64 255) ∷ [])
+    ++ replicate 7 (deliver 0 Channel.A)
+    ++ (access 1 OpA.Get 0 3 (lit≤ tt) 0 255 (replicate 64 0) ∷ deliver 1 Channel.A ∷ deliver 1 Channel.D ∷ []))
+unfolding faults faults_draining evaluated_tests evaluated
+a_put_counts_from_its_last_beat = refl
+
+min_by_sign_and_without : Follows {w = 8} 2 (world Profile.One 1 1 ((Level.UH, 1) ∷ []))
+    ((access 0 OpA.PutFullData 0 2 (lit≤ tt) 0 15 (replicate 4 255 ++ replicate 60 0) ∷ Drains 220 ∷ access 0
+    OpA.ArithmeticData 0 2 (lit≤ tt) 0 15
+    ((1 ∷ []) ++ replicate 63 0) ∷ Drains 220 ∷ access 0 OpA.ArithmeticData 2 2 (lit≤ tt) 0 15
+    ((1 ∷ []) ++ replicate 63 0) ∷ Drains 220 ∷ access 0 OpA.Get 0 2 (lit≤ tt) 0 15 (replicate 64 0) ∷ Drains 220 ∷ []))
+unfolding faults faults_draining evaluated_tests evaluated
+min_by_sign_and_without = refl
+
+add_wraps : Follows {w = 8} 2 (world Profile.One 1 1 ((Level.UH, 1) ∷ []))
+    ((access 0 OpA.PutFullData 0 3 (lit≤ tt) 0 255 (replicate 8 255 ++ replicate 56 0) ∷ Drains 220 ∷ access 0
+    OpA.ArithmeticData 4 3 (lit≤ tt) 0 255 ((1 ∷ []) ++ replicate 63 0) ∷ Drains 220 ∷ access 0 OpA.Get 0 3 (lit≤ tt) 0
+    255 (replicate 64 0) ∷ Drains 220 ∷ []))
+unfolding faults faults_draining evaluated_tests evaluated
+add_wraps = refl
+
+a_reader_gets_what_the_writer_stored : Follows {w = 8} 2 (world Profile.One 1 1 ((Level.C, 1) ∷ (Level.C, 1) ∷ []))
+    ((acquire 0 0 Grow.NtoT ∷ Drains 220 ∷ store 0 0 0 90 ∷ acquire 1 0 Grow.NtoB ∷ Drains 220 ∷ load 0 0 0 ∷ load 1 0
+    0 ∷ []))
+unfolding faults faults_draining evaluated_tests evaluated
+a_reader_gets_what_the_writer_stored = refl
+
+a_release_while_a_probe_waits : Follows {w = 8} 2 (world Profile.One 1 1 ((Level.C, 1) ∷ (Level.C, 1) ∷ []))
+    ((acquire 0 0 Grow.NtoT ∷ Drains 220 ∷ store 0 0 0 90 ∷ acquire 1 0 Grow.NtoT ∷ deliver 1 Channel.A ∷ release 0 0
+    Prune.TtoN ∷ deliver 0 Channel.B ∷ Drains 220 ∷ load 1 0 0 ∷ []))
+unfolding faults faults_draining evaluated_tests evaluated
+a_release_while_a_probe_waits = refl
+
+the_second_writer_gets_data : Follows {w = 8} 2 (world Profile.One 1 2 ((Level.C, 1) ∷ (Level.C, 1) ∷ []))
+    ((acquire 0 0 Grow.NtoB ∷ Drains 220 ∷ acquire 1 0 Grow.NtoB ∷ Drains 220 ∷ acquire 0 0 Grow.BtoT ∷ acquire 1 0
+    Grow.BtoT ∷ Drains 220 ∷ []))
+unfolding faults faults_draining evaluated_tests evaluated
+the_second_writer_gets_data = refl
+
+a_whole_block_store_takes_no_data : Follows {w = 8} 2 (world Profile.One 1 2 ((Level.C, 1) ∷ (Level.C, 1) ∷ []))
+    ((acquire 0 0 Grow.NtoB ∷ Drains 220 ∷ acquire 1 0 Grow.NtoB ∷ Drains 220 ∷ acquire 0 0 Grow.BtoT ∷ whole 1 0
+    (replicate 64 17) ∷ Drains 220 ∷ load 1 0 0 ∷ load 0 0 0 ∷ []))
+unfolding faults faults_draining evaluated_tests evaluated
+a_whole_block_store_takes_no_data = refl
+
+a_release_before_its_grant_ack : Follows {w = 8} 2 (world Profile.One 1 1 ((Level.C, 1) ∷ []))
+    ((acquire 0 0 Grow.NtoB ∷ deliver 0 Channel.A ∷ []) ++ replicate 8 (deliver 0 Channel.D)
+    ++ (release 0 0 Prune.BtoN ∷ deliver 0 Channel.C ∷ deliver 0 Channel.D ∷ acquire 0 0 Grow.NtoB ∷ deliver 0
+    Channel.A ∷ deliver 0 Channel.E ∷ deliver 0 Channel.A ∷ []))
+unfolding faults faults_draining evaluated_tests evaluated
+a_release_before_its_grant_ack = refl
+
+busy_in_order : Follows {w = 8} 2 (world Profile.One 1 1 ((Level.UL, 1) ∷ []))
+    ((load 0 0 0 ∷ access 0 OpA.Get 0 4 (lit≤ tt) 0 255 (replicate 64 0) ∷ access 0 OpA.Get 0 3 (lit≤ tt) 0 255
+    (replicate 64 0) ∷ access 0 OpA.Get 0 3 (lit≤ tt) 0 255 (replicate 64 0) ∷ access 0 OpA.PutPartialData 0 1 (lit≤ tt)
+    7 128 (replicate 7 0 ++ (17 ∷ []) ++ replicate 56 0) ∷ deliver 0 Channel.D ∷ []))
+unfolding faults faults_draining evaluated_tests evaluated
+busy_in_order = refl
+
+beats_of_4_bytes : Follows {w = 4} 2 (world Profile.One 1 1 ((Level.C, 1) ∷ (Level.C, 1) ∷ []))
+    ((acquire 0 0 Grow.NtoT ∷ Drains 220 ∷ store 0 0 0 90 ∷ acquire 1 0 Grow.NtoB ∷ Drains 220 ∷ load 0 0 0 ∷ load 1 0
+    0 ∷ []))
+unfolding faults faults_draining evaluated_tests evaluated
+beats_of_4_bytes = refl
+
+beats_of_16_bytes : Follows {w = 16} 2 (world Profile.One 1 1 ((Level.C, 1) ∷ (Level.C, 1) ∷ []))
+    ((acquire 0 0 Grow.NtoT ∷ Drains 220 ∷ store 0 0 0 90 ∷ acquire 1 0 Grow.NtoB ∷ Drains 220 ∷ load 0 0 0 ∷ load 1 0
+    0 ∷ []))
+unfolding faults faults_draining evaluated_tests evaluated
+beats_of_16_bytes = refl
+
+an_atomic_of_two_beats : Follows {w = 4} 2 (world Profile.One 1 1 ((Level.UH, 1) ∷ []))
+    ((access 0 OpA.PutFullData 0 3 (lit≤ tt) 0 255 (replicate 8 255 ++ replicate 56 0) ∷ Drains 220 ∷ access 0
+    OpA.ArithmeticData 4 3 (lit≤ tt) 0 255 ((1 ∷ []) ++ replicate 63 0) ∷ Drains 220 ∷ []))
+unfolding faults faults_draining evaluated_tests evaluated
+an_atomic_of_two_beats = refl
+
+a_lone_reader_may_write : Follows {w = 8} 2 (world Profile.Two 1 1 ((Level.C, 1) ∷ (Level.C, 1) ∷ []))
+    ((acquire 0 0 Grow.NtoB ∷ Drains 220 ∷ store 0 0 0 90 ∷ acquire 1 0 Grow.NtoB ∷ Drains 220 ∷ []))
+unfolding faults faults_draining evaluated_tests evaluated
+a_lone_reader_may_write = refl
+
+nobody_has_it_any_longer_at_the_grant : Follows {w = 8} 2 (world Profile.Two 1 1 ((Level.C, 1) ∷ (Level.C, 1) ∷ []))
+    ((acquire 0 0 Grow.NtoB ∷ Drains 220 ∷ store 0 0 0 90 ∷ acquire 1 0 Grow.NtoB ∷ deliver 1 Channel.A ∷ release 0 0
+    Prune.TtoN ∷ Drains 220 ∷ []))
+unfolding faults faults_draining evaluated_tests evaluated
+nobody_has_it_any_longer_at_the_grant = refl
+
+-- two blocks and two trackers, with Releases beside Acquires, and the oldest beats not first
+beside_each_other : Follows {w = 16} 3 (world Profile.One 2 2 ((Level.C, 2) ∷ (Level.C, 2) ∷ (Level.UH, 1) ∷ []))
+    ((acquire 0 0 Grow.NtoT ∷ acquire 0 1 Grow.NtoB ∷ acquire 1 1 Grow.NtoB ∷ Drains 220 ∷ store 0 0 2 90 ∷ release 0 1
+    Prune.BtoN ∷ release 0 0 Prune.TtoB ∷ acquire 1 0 Grow.NtoB ∷ deliver 1 Channel.A ∷ whole 1 1
+    (replicate 64 7) ∷ access 2 OpA.Get 0 6 (lit≤ tt) 0 65535 (replicate 64 0) ∷ deliver 2 Channel.A ∷ deliver 0
+    Channel.C ∷ Drains 220 ∷ access 2 OpA.PutFullData 0 6 (lit≤ tt) 0 18446744073709551615 (replicate 64 3) ∷ acquire 0
+    1 Grow.NtoB ∷ Drains 220 ∷ release 0 1 Prune.BtoN ∷ Drains 220 ∷ access 0 OpA.Intent 0 6 (lit≤ tt) 0 65535
+    (replicate 64 0) ∷ Drains 220 ∷ []))
+unfolding faults faults_draining evaluated_tests evaluated
+beside_each_other = refl

@@ -1,29 +1,27 @@
 -- What is delivered on a link, as a beat of channel A is: of an access, or of an Acquire.
-use Rattle.std.proofs.Common.{◌≡◌, subst, ℕ, Bool, true, false, ◌&&◌, List, ◌∷◌, Option, Some, None, refl, sym, ◌∙◌, ap}
-use Rattle.std.proofs.Common.{inl, inr, eqb-true, ◌==◌, if◌then◌else◌}
+use Rattle.std.proofs.Common.{◌≡◌, ℕ, Bool, true, false, ◌&&◌, ◌==◌, if◌then◌else◌, List, ◌∷◌, Option, Some, None, refl}
+use Rattle.std.proofs.Common.{sym, ◌∙◌, ap, subst, inl, inr, eqb-true}
 use Rattle.tl_coherence.proofs
-use proofs.Imports.{and-false, cases_eq, same_Some, Beat, BeatA, Channel, Message, a_beat_of, History, is_empty}
-use proofs.Imports.{completes, Config, Cap, comes_in_request, comes_in_grant, same_perm, same_block, Packet, set}
-use proofs.Imports.{ClientBlock, View, Own, Granting, is_unprobed, is_unreleased, after_grant_sent, Free, GrantSent}
-use proofs.Imports.{Block, State, Replied, view, served_block, acquire_served, granted_at_once, acquire_granted}
-use proofs.Imports.{is_granting, is_acknowledging, is_answered, is_unserved, AbstractState, MonitorRelation}
-use proofs.Imports.{SimulationRelation, asked_by, Log, System}
+use proofs.Imports.{and-false, cases_eq, same_Some, Beat, BeatA, Channel, Message, a_beat_of, History, completes}
+use proofs.Imports.{is_empty, Config, Cap, comes_in_grant, comes_in_request, same_perm, same_block, Packet, set}
+use proofs.Imports.{Granting, Own, is_unprobed, is_unreleased, after_grant_sent, Block, Free, GrantSent, Replied, State}
+use proofs.Imports.{acquire_granted, acquire_served, granted_at_once, served_block, view, is_acknowledging, is_answered}
+use proofs.Imports.{is_granting, is_unserved, AbstractState, MonitorRelation, SimulationRelation, asked_by, Log, System}
 use proofs.manager.{Admitted.first_three, RequestsTaken.acquire_wanted}
-use proofs.queues.{Tokens.if-part, Tokens.same_number, Tokens.set-same, Tokens.set-other, Carried.IsNext}
-use proofs.queues.{PhaseFacts.asked_alone, Phases.and_left, Phases.and_right, Codes.acquires-so}
-use proofs.protocol.{HeadOfD.IsGrantDue, BothParts.quiet_unanswered, Heads.acquisition_beats, Heads.IsAsked}
-use proofs.protocol.{Heads.IsWanted}
-use proofs.flow.{FlowAccess.IsAccess, FlowAccess.flowed-access, FlowAcquired.flowed-acquire, FlowAlone.AreRests}
-use proofs.flow.{FlowApart.replied, FlowComing.coming-sink, FlowComing.coming-granting, FlowStep.held_by}
-use proofs.flow.{FlowSunk.sunk_in, FlowSunk.sunk-elsewhere, FlowSunk.tracked-new}
-use proofs.simulation.Popped.{unfinished_at}
-use proofs.client.ClientEnd.{is_access, asks-access, asks-acquire}
+use proofs.queues.{Carried.IsNext, Facts.asked_alone, Phases.and_left, Phases.and_right, Codes.acquires-so}
+use proofs.queues.Tokens.{if-part, same_number, set-same, set-other}
+use proofs.protocol.{HeadOfD.IsGrantDue, BothParts.quiet_unanswered}
+use proofs.protocol.Room.{acquisition_beats, IsAsked, IsWanted}
+use proofs.flow.{FlowAlone.AreRests, NextOnD.coming-sink, NextOnD.coming-granting, FlowStep.held_by}
+use proofs.flow.FlowAcquired.{IsAccess, flowed-access, flowed-acquire}
+use proofs.flow.FlowApart.{replied, sunk_in, sunk-elsewhere, tracked-new}
 use proofs.flow.FlowBeats.{came-so, comes-so, first-zero, one-beat, set_at-if, same_perms, unused-else}
+use proofs.simulation.Owned.{unfinished_at}
+use proofs.client.ClientEnd.{is_access, asks-access, asks-acquire}
 
 module _ {w : ℕ} {config : Config} {log : Log w} (h : AbstractState w) {sys : System w} {c : ℕ}
-    (is : SimulationRelation config log h.mail h.request h.state sys) {t : History w}
-    (flowed : MonitorRelation (asked_by h.mail h.state c) (unfinished_at sys c) c h.state t) (rest' : Channel
-    → List (Beat w)) where
+    (is : SimulationRelation config log h.mail h.request h.state sys) {t : History w} (flowed : MonitorRelation
+    (asked_by h.mail h.state c) (unfinished_at sys c) c h.state t) (rest' : Channel → List (Beat w)) where
   -- ---- an access
 
   -- the state in which the access is answered, with the last beat
@@ -43,7 +41,7 @@ module _ {w : ℕ} {config : Config} {log : Log w} (h : AbstractState w) {sys : 
         access = asked.access;
         use_is = λ i e. ap (h.state.uses c) (sym (eqb-true asked.request.source i e) ∙ asked.source_is) ∙ asked.used;
         asked_is = λ i e first.
-            let fact = asks-access c source asked.request h.mail h.state (ap is_access asked.used) asked.is_it in
+            let fact = asks-access c source _ h.mail h.state (ap is_access asked.used) asked.is_it in
             cc (eqb-true asked.request.source i e, asked.source_is, zeroth first);
         came = λ i. came-so (comes_in_request i) (asked.request.source == i) next refl (λ j. refl);
         comes = λ i. let fact = comes-so (comes_in_request i) y (unfinished_at sys c Channel.A)
@@ -56,7 +54,7 @@ module _ {w : ℕ} {config : Config} {log : Log w} (h : AbstractState w) {sys : 
     where
       uses : (z : Bool) (i : ℕ)
           → (replied_if source z).uses c i ≡ (if z && (asked.request.source == i) then Replied else h.state.uses c i)
-      uses true i = set_at-if c source i Replied h.state.uses asked.request.source asked.source_is
+      uses true i = set_at-if c source i Replied h.state.uses _ asked.source_is
       uses false i = refl
 
   pub own-access : (source : ℕ) (asked : IsAsked config c source h.mail h.state) (x : Beat w) (ms : List (Message w))
@@ -65,11 +63,10 @@ module _ {w : ℕ} {config : Config} {log : Log w} (h : AbstractState w) {sys : 
       → MonitorRelation (asked_by h.mail h.state c) rest' c (replied_if source b) (x ∷ t)
   own-access source asked x ms queue next rests b last =
       let last_y : completes (Beat.A (a_beat_of asked.request next.k)) (unfinished_at sys c Channel.A) ≡ b =
-      sym (ap (λ (z : Beat w). completes z (unfinished_at sys c Channel.A)) next.beat_is) ∙ last in
+      sym (ap (λ z. completes z (unfinished_at sys c Channel.A)) next.beat_is) ∙ last in
       let rests_y : AreRests (Beat.A (a_beat_of asked.request next.k)) (unfinished_at sys c) rest' =
-      subst (λ (z : Beat w). AreRests z (unfinished_at sys c) rest') next.beat_is rests in
-      subst (λ (z : Beat w). MonitorRelation (asked_by h.mail h.state c) rest' c (replied_if source b) (z ∷ t))
-      (sym next.beat_is)
+      subst (λ z. AreRests z (unfinished_at sys c) rest') next.beat_is rests in
+      subst (λ z. MonitorRelation (asked_by h.mail h.state c) rest' c (replied_if source b) (z ∷ t)) (sym next.beat_is)
       (flowed-access (ap is_empty (flowed.rest_is Channel.A)) (cc (flowed.rest_is Channel.A)) rests_y
       (access_of source asked next.k ms queue (rw next.beat_is at next) rests_y b last_y (first-zero next)) flowed)
 
@@ -89,7 +86,7 @@ module _ {w : ℕ} {config : Config} {log : Log w} (h : AbstractState w) {sys : 
         ((is.invariant.blocks n).phases c) (rw free refl) wanted.wants)
 
     quiet : is_answered ((s.block n).pair c).probing ≡ false
-    quiet = quiet_unanswered ((s.block n).pair c).probing
+    quiet = quiet_unanswered _
         (and_left (is_unprobed ((s.block n).pair c).probing) (is_unreleased ((s.block n).pair c).letting)
         (and_left (is_unprobed ((s.block n).pair c).probing && is_unreleased ((s.block n).pair c).letting)
         (same_perm ((s.block n).pair c).recorded ((s.block n).pair c).held) settled))
@@ -120,18 +117,18 @@ module _ {w : ℕ} {config : Config} {log : Log w} (h : AbstractState w) {sys : 
         let unsunk : (i : ℕ) → set tracker (Some n) s.tracked i ≡ Some n
         → sunk_in c i (unfinished_at sys c Channel.D) (s'.block n) ≡ false =
         λ i e. rw (
-          ap (λ (b : Block (List ℕ)). is_acknowledging (view b.service c)) now ∙ taken.waits_so,
+          ap (λ b. is_acknowledging (view b.service c)) now ∙ taken.waits_so,
           none_comes i e,
         ) (and-false (is_granting (view (s'.block n).service c))) in
-        subst (λ (z : Beat w). MonitorRelation asked' rest' c s' (z ∷ t)) (sym x_is)
+        subst (λ z. MonitorRelation asked' rest' c s' (z ∷ t)) (sym x_is)
         (flowed-acquire (ap is_empty (flowed.rest_is Channel.A ∙ one.1))
         (ap (completes (Beat.A y)) (flowed.rest_is Channel.A) ∙ last_y) rests_y (record {
           acquire = acquires-so wanted.whole;
           at = same_block n;
           use_is = λ i e. ap (s.uses c) (sym (eqb-true ((s.block n).source c) i e)) ∙ wanted.used;
           no_use = λ i e. unused-else c n i is.invariant.named e;
-          asks = λ i e. let fact = asks-acquire c ((s.block n).source c) n
-              ((s.block n).source c) wanted.whole wanted.grow h.mail s wanted.used wanted.wants refl in
+          asks = λ i e. let fact = asks-acquire c _ n
+              ((s.block n).source c) wanted.whole _ h.mail s wanted.used wanted.wants refl in
               cc (eqb-true ((s.block n).source c) i e);
           idle = rw free refl;
           quiet = quiet;
@@ -147,11 +144,11 @@ module _ {w : ℕ} {config : Config} {log : Log w} (h : AbstractState w) {sys : 
               (λ m ne. changed m ∙ set-other n m new s.block ne) (rw (tracked i)
               (tracked-new n tracker s.tracked unused i)) (λ e. rw free refl) (λ e. unsunk i (sym (tracked i) ∙ e));
           held_is = ap (held_by c) now ∙ taken.keeps_held;
-          served = ap (λ (b : Block (List ℕ)). is_unserved (view b.service c)) now ∙ taken.serves;
-          waits = ap (λ (b : Block (List ℕ)). is_acknowledging (view b.service c)) now ∙ taken.waits_so;
+          served = ap (λ b. is_unserved (view b.service c)) now ∙ taken.serves;
+          waits = ap (λ b. is_acknowledging (view b.service c)) now ∙ taken.waits_so;
           wants = cc (now, taken.pair_acquiring, wanted.wants);
-          letting_is = ap (λ (b : Block (List ℕ)). (b.pair c).letting) now ∙ taken.pair_letting;
-          release_source = ap (λ (b : Block (List ℕ)). b.release_source c) now ∙ taken.keeps_source;
+          letting_is = ap (λ b. (b.pair c).letting) now ∙ taken.pair_letting;
+          release_source = ap (λ b. b.release_source c) now ∙ taken.keeps_source;
           answered = cc (now, taken.pair_probing, quiet);
         }) flowed)
       where
@@ -186,9 +183,9 @@ module _ {w : ℕ} {config : Config} {log : Log w} (h : AbstractState w) {sys : 
         let seen : view new.service c ≡ Own = rw (same_number c) refl in
         acquired new (acquire_served c n ((s.block n).source c) tracker k toks s) (λ m. refl)
         (λ i. refl) (λ i. refl) (λ i. refl) (record {
-          pair_acquiring = ap (λ (p : ClientBlock). p.acquiring) pair;
-          pair_letting = ap (λ (p : ClientBlock). p.letting) pair;
-          pair_probing = ap (λ (p : ClientBlock). p.probing) pair;
+          pair_acquiring = ap (λ p. p.acquiring) pair;
+          pair_letting = ap (λ p. p.letting) pair;
+          pair_probing = ap (λ p. p.probing) pair;
           keeps_source = refl;
           keeps_held = cc (seen, pair, held_free);
           serves = ap is_unserved seen;
@@ -202,15 +199,13 @@ module _ {w : ℕ} {config : Config} {log : Log w} (h : AbstractState w) {sys : 
         → MonitorRelation asked' rest' c (acquire_granted c n tracker d k toks s) (x ∷ t)
     own-acquire_granted d k toks =
         let seen : view new.service c ≡ Granting d k = rw (same_number c) refl in
-        acquired new (acquire_granted c n tracker d k toks s) (λ m. refl) (λ i. refl)
-        (λ i. refl) (λ i. refl) (record {
-          pair_acquiring = ap (λ (p : ClientBlock). p.acquiring) pair;
-          pair_letting = ap (λ (p : ClientBlock). p.letting) pair;
-          pair_probing = ap (λ (p : ClientBlock). p.probing) pair;
+        acquired new (acquire_granted c n tracker d k toks s) (λ m. refl) (λ i. refl) (λ i. refl) (λ i. refl) (record {
+          pair_acquiring = ap (λ p. p.acquiring) pair;
+          pair_letting = ap (λ p. p.letting) pair;
+          pair_probing = ap (λ p. p.probing) pair;
           keeps_source = refl;
-          keeps_held = ap (λ (v : View). if is_granting v then (new.pair c).held else (new.pair c).recorded) seen
-              ∙ ap (λ (p : ClientBlock). p.held) pair
-              ∙ (same_perms ((s.block n).pair c).recorded ((s.block n).pair c).held
+          keeps_held = ap (λ v. if is_granting v then (new.pair c).held else (new.pair c).recorded) seen
+              ∙ ap (λ p. p.held) pair ∙ (same_perms ((s.block n).pair c).recorded ((s.block n).pair c).held
               (and_right (is_unprobed ((s.block n).pair c).probing && is_unreleased ((s.block n).pair c).letting)
               (same_perm ((s.block n).pair c).recorded ((s.block n).pair c).held) settled)) ∙ sym held_free;
           serves = ap is_unserved seen;

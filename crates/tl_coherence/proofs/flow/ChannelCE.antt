@@ -1,24 +1,24 @@
 -- What is delivered on a link, as a beat of channel C or E is: of a ProbeAck, a Release or a GrantAck.
-use Rattle.std.proofs.Common.{◌≡◌, subst, ℕ, Bool, true, false, not, ◌&&◌, List, ◌∷◌, Option, refl, sym, ◌∙◌, ap, arith}
-use Rattle.std.proofs.Common.{length, ◌==◌, if◌then◌else◌}
+use Rattle.std.proofs.Common.{◌≡◌, ℕ, Bool, true, false, not, ◌&&◌, ◌==◌, if◌then◌else◌, List, ◌∷◌, Option, refl, sym}
+use Rattle.std.proofs.Common.{◌∙◌, ap, subst, arith, length}
 use Rattle.tl_coherence.proofs
 use proofs.Imports.{and_right as with_false, Beat, BeatA, BeatE, Channel, IsWidth, Message, MessageC, c_beat_of}
-use proofs.Imports.{History, is_empty, completes, Config, Prune, Report, Perm, prune_code, prune_left, report_code}
-use proofs.Imports.{report_left, prune_right, comes_in_release, same_perm, is_release, reported, reported-report}
-use proofs.Imports.{release, is_busy, ProbeAck, Release, GrantAck, Packet, ClientBlock, View, Idle, Granting}
-use proofs.Imports.{Acknowledging, ReleaseSent, is_unprobed, is_unreleased, ok, after_release_taken, Service}
-use proofs.Imports.{Block, State, packet, view, let_block, release_taken, report_taken, grant_ack_taken, is_granting}
-use proofs.Imports.{is_acknowledging, AbstractState, MonitorRelation, block_message, prune_told, report_told}
+use proofs.Imports.{History, completes, is_empty, Config, Prune, Report, Perm, prune_code, prune_left, prune_right}
+use proofs.Imports.{report_code, report_left, comes_in_release, same_perm, is_release, reported, reported-report}
+use proofs.Imports.{release, is_busy, GrantAck, Packet, ProbeAck, Release, Acknowledging, ClientBlock, Granting, Idle}
+use proofs.Imports.{ReleaseSent, View, is_unprobed, is_unreleased, ok, after_release_taken, Block, Service, State}
+use proofs.Imports.{grant_ack_taken, let_block, packet, release_taken, report_taken, view, is_acknowledging}
+use proofs.Imports.{is_granting, AbstractState, MonitorRelation, prune_told, report_told, block_message}
 use proofs.Imports.{SimulationRelation, asked_by, Log, System}
-use proofs.queues.{Tokens.if-part, Tokens.set-same, Tokens.set-other, Carried.IsNext, Facts.answered_other}
-use proofs.queues.{Facts.granting_alone, Phases.and_left, Phases.and_right}
-use proofs.flow.{FlowAlone.AreRests, FlowAlone.flowed-grant_ack, FlowComing.coming-granting, FlowLawful.other_ungranted}
-use proofs.flow.{FlowReleased.letting_after, FlowReleased.flowed-release, FlowReport.flowed-report_part}
-use proofs.flow.{FlowReported.flowed-report, FlowStep.held_by, FlowBeats.came-so, FlowBeats.comes-so}
-use proofs.flow.{FlowBeats.one-beat, FlowBeats.first_false}
-use proofs.simulation.Popped.{unfinished_at}
+use proofs.queues.{Carried.IsNext, Facts.answered_other, Facts.granting_alone, Phases.and_left, Phases.and_right}
+use proofs.queues.Tokens.{if-part, set-same, set-other}
+use proofs.flow.{FlowAlone.AreRests, FlowAlone.flowed-grant_ack, NextOnD.coming-granting, FlowLawful.other_ungranted}
+use proofs.flow.{FlowStep.held_by, FlowOthers.flowed-report_part, FlowOthers.flowed-report}
+use proofs.flow.FlowReleased.{letting_after, flowed-release}
+use proofs.flow.FlowBeats.{came-so, comes-so, one-beat, first_false}
+use proofs.simulation.Owned.{unfinished_at}
 use proofs.manager.Reporting.{IsAbout, report-about, release-about, reported-prune}
-use proofs.protocol.FirstTokens.{first-release, first-report, first-shown}
+use proofs.protocol.BothParts.{first-release, first-report, first-shown}
 use proofs.client.ClientEnd.{comes-same}
 
 -- ---- what the messages say
@@ -52,13 +52,13 @@ unfolding block_message
 release_rendered c n b width long =
     let r = prune_told (b.pair c).letting in
     let about = release-about r (b.release_source c) n b.truth width long in
-    (about.0, about.1, about.2, about.3, release_size r (b.release_source c) n b.truth about.0 about.1)
+    (about.0, about.1, about.2, about.3, release_size r _ n b.truth _ about.1)
 
 -- who has a Release open isn't granted the block
 released_ungranted : (r : Prune) (p : ClientBlock) (v : View) → ok p v ≡ true → p.letting ≡ ReleaseSent r
     → is_granting v ≡ false
 released_ungranted r p (Granting d k) well open_ =
-    let alone = granting_alone d k p (Granting d k) well refl in
+    let alone = granting_alone d k p _ well refl in
     let held_back = and_left (is_unreleased p.letting) _ (and_right (is_unprobed p.probing) _ alone) in
     absurd (let no : false ≡ true = rw open_ at held_back in cc)
 released_ungranted r p v well open_ = refl
@@ -87,19 +87,18 @@ module _ {w : ℕ} {config : Config} {log : Log w} (h : AbstractState w) {sys : 
 
   -- the beat of a message of channel C
   module _ (m : MessageC w) (x : Beat w) (ms : List (Message w)) (queue : List (Beat w))
-      (next : IsNext x (unfinished_at sys c Channel.C) (Message.C m) ms queue)
-      (rests : AreRests x (unfinished_at sys c) rest') (b : Bool)
-      (last : completes x (unfinished_at sys c Channel.C) ≡ b) where
+      (next : IsNext x (unfinished_at sys c Channel.C) (Message.C m) ms queue) (rests : AreRests x (unfinished_at sys c)
+      rest') (b : Bool) (last : completes x (unfinished_at sys c Channel.C) ≡ b) where
     rests_y : AreRests (Beat.C (c_beat_of m next.k)) (unfinished_at sys c) rest'
-    rests_y = subst (λ (z : Beat w). AreRests z (unfinished_at sys c) rest') next.beat_is rests
+    rests_y = subst (λ z. AreRests z (unfinished_at sys c) rest') next.beat_is rests
 
     last_y : completes (Beat.C (c_beat_of m next.k)) (unfinished_at sys c Channel.C) ≡ b
-    last_y = sym (ap (λ (z : Beat w). completes z (unfinished_at sys c Channel.C)) next.beat_is) ∙ last
+    last_y = sym (ap (λ z. completes z (unfinished_at sys c Channel.C)) next.beat_is) ∙ last
 
     -- what of a Release with source i was delivered, before and afterwards
     came : (i : ℕ) → comes_in_release i (unfinished_at sys c Channel.C)
         ≡ (not (is_empty (unfinished_at sys c Channel.C)) && (is_release m.opcode && (m.source == i)))
-    came i = came-so (comes_in_release i) (is_release m.opcode && (m.source == i)) (subst (λ (z : Beat w). IsNext z
+    came i = came-so (comes_in_release i) (is_release m.opcode && (m.source == i)) (subst (λ z. IsNext z
         (unfinished_at sys c Channel.C) (Message.C m) ms queue) next.beat_is next) refl (λ j. refl)
 
     comes : (i : ℕ) → comes_in_release i (rest' Channel.C) ≡ (not b && (is_release m.opcode && (m.source == i)))
@@ -130,7 +129,7 @@ module _ {w : ℕ} {config : Config} {log : Log w} (h : AbstractState w) {sys : 
       m = about.0
 
       here : IsNext x (unfinished_at sys c Channel.C) (Message.C m) ms queue
-      here = subst (λ (i : Message w). IsNext x (unfinished_at sys c Channel.C) i ms queue) about.1 next
+      here = subst (λ i. IsNext x (unfinished_at sys c Channel.C) i ms queue) about.1 next
 
       alone : is_granting (view (s.block n).service c) ≡ false
       alone = other_ungranted (view (s.block n).service c)
@@ -149,9 +148,8 @@ module _ {w : ℕ} {config : Config} {log : Log w} (h : AbstractState w) {sys : 
           (flowed.rest_is Channel.C)) (cc (flowed.rest_is Channel.C, last_y m x ms queue here rests false e))
           (rests_y m x ms queue here rests false e) about.2.releases (same false e) flowed
       go true e = flowed-report n r toks (c_beat_of m here.k) (is_empty (unfinished_at sys c Channel.C)) rest'
-          (ap is_empty (flowed.rest_is Channel.C))
-          (ap (completes (Beat.C (c_beat_of m here.k))) (flowed.rest_is Channel.C)
-          ∙ last_y m x ms queue here rests true e) (rests_y m x ms queue here rests true e) about.2.reports
+          (ap is_empty (flowed.rest_is Channel.C)) (ap (completes (Beat.C (c_beat_of m here.k))) (flowed.rest_is
+          Channel.C) ∙ last_y m x ms queue here rests true e) (rests_y m x ms queue here rests true e) about.2.reports
           about.2.releases (same true e) about.2.block (ap reported about.2.param_is ∙ reported-report r) alone flowed
 
   -- ---- a Release
@@ -178,9 +176,8 @@ module _ {w : ℕ} {config : Config} {log : Log w} (h : AbstractState w) {sys : 
       let m : MessageC w = about.0 in
       let here : IsNext x (unfinished_at sys c Channel.C) (Message.C m) ms queue = rw about.1 at next in
       subst (λ (z : Beat w). MonitorRelation before rest' c (released_if r b) (z ∷ t)) (sym here.beat_is)
-      (flowed-release (ap is_empty (flowed.rest_is Channel.C))
-      (ap (completes (Beat.C (c_beat_of m here.k))) (flowed.rest_is Channel.C) ∙ last_y m x ms queue here rests b
-      last) (rests_y m x ms queue here rests b last)
+      (flowed-release (ap is_empty (flowed.rest_is Channel.C)) (ap (completes (Beat.C (c_beat_of m here.k)))
+      (flowed.rest_is Channel.C) ∙ last_y m x ms queue here rests b last) (rests_y m x ms queue here rests b last)
       (λ i k. is.invariant.named.releases c i k) (record {
         release = about.2.releases;
         ack = about.2.reports;
@@ -232,7 +229,7 @@ module _ {w : ℕ} {config : Config} {log : Log w} (h : AbstractState w) {sys : 
       rw (ack_rendered c n (s.block n)) at next in
       let one = one-beat here refl in
       let x_is : x ≡ Beat.E y = here.beat_is in
-      subst (λ (z : Beat w). MonitorRelation asked' rest' c (grant_ack_taken c n toks s) (z ∷ t)) (sym x_is)
+      subst (λ z. MonitorRelation asked' rest' c (grant_ack_taken c n toks s) (z ∷ t)) (sym x_is)
       (flowed-grant_ack n toks y asked' rest' (ap is_empty (flowed.rest_is Channel.E ∙ one.1)) (ap (completes {w = w}
       (Beat.E y)) (flowed.rest_is Channel.E ∙ one.1)) (rw x_is at rests) asks refl seen is.invariant.named
       (busy_seen is_acknowledging refl (s.block n).service c shows) (λ k e. busy_seen is_acknowledging refl

@@ -1,24 +1,24 @@
 -- What is delivered on a link, as a beat of channel D is: of an answer, a Grant or a ReleaseAck.
-use Rattle.std.proofs.Common.{◌≡◌, subst, ℕ, Bool, true, false, not, ◌&&◌, List, ◌∷◌, Option, None, refl, sym, ◌∙◌, ap}
-use Rattle.std.proofs.Common.{inl, eqb-true, ◌==◌, if◌then◌else◌}
+use Rattle.std.proofs.Common.{◌≡◌, ℕ, Bool, true, false, not, ◌&&◌, ◌==◌, if◌then◌else◌, List, ◌∷◌, Option, None, refl}
+use Rattle.std.proofs.Common.{sym, ◌∙◌, ap, subst, inl, eqb-true}
 use Rattle.tl_coherence.proofs
-use proofs.Imports.{eqb-false, and_right as with_false, Beat, BeatA, Channel, Message, MessageD, d_beat_of, History}
-use proofs.Imports.{unfinished, is_empty, completes, Config, Cap, cap_right, comes_in_grant, is_grant, asks_for}
-use proofs.Imports.{same_block, cap-gives, no_ack_grant, acquires_of, is_busy, Answer, Grant, ReleaseAck, Packet}
-use proofs.Imports.{ClientBlock, Granting, is_unprobed, is_unreleased, after_release_ack, after_grant, Block, State}
-use proofs.Imports.{SourceFree, Acquires, packet, view, taken_block, let_go_block, release_ack_taken, answer_taken}
-use proofs.Imports.{grant_taken, is_granting, is_answered, is_wanting, AbstractState, comes_granting, MonitorRelation}
-use proofs.Imports.{block_message, SimulationRelation, is_caching, asked_by, Log, System}
+use proofs.Imports.{and_right as with_false, eqb-false, Beat, BeatA, Channel, Message, MessageD, d_beat_of, History}
+use proofs.Imports.{unfinished, completes, is_empty, Config, Cap, cap_right, comes_in_grant, asks_for, is_grant}
+use proofs.Imports.{same_block, cap-gives, no_ack_grant, acquires_of, is_busy, Answer, Grant, Packet, ReleaseAck}
+use proofs.Imports.{ClientBlock, Granting, is_unprobed, is_unreleased, after_grant, after_release_ack, Acquires, Block}
+use proofs.Imports.{SourceFree, State, answer_taken, grant_taken, let_go_block, packet, release_ack_taken, taken_block}
+use proofs.Imports.{view, is_answered, is_granting, is_wanting, AbstractState, comes_granting, MonitorRelation}
+use proofs.Imports.{block_message, SimulationRelation, asked_by, is_caching, Log, System}
 use Rattle.tl_manager.proofs.services.Serving.{not_swapped}
-use proofs.client.{Aside.set_at-else, ClientDelivered.ack_next, ClientEnd.asks-same, ClientEnd.asks-acquire}
-use proofs.queues.{Tokens.if-part, Tokens.same_number, Tokens.set-same, Tokens.set-other, Carried.IsNext}
-use proofs.queues.{Facts.granting_alone, Phases.and_right, Codes.access_kind, Codes.grants-so}
+use proofs.client.{AsideAll.set_at-else, ClientDelivered.ack_next, ClientEnd.asks-same, ClientEnd.asks-acquire}
+use proofs.queues.{Carried.IsNext, Facts.granting_alone, Phases.and_right, Codes.access_kind, Codes.grants-so}
+use proofs.queues.Tokens.{if-part, same_number, set-same, set-other}
 use proofs.flow.{FlowAlone.AreRests, FlowAnswered.flowed-answer, FlowAnswered.flowed-let_go, FlowGranted.seen_after}
 use proofs.flow.{FlowGranted.flowed-grant, FlowResponses.grant_quiet, FlowResponses.grant_tracked, FlowStep.held_by}
-use proofs.simulation.Popped.{unfinished_at}
-use proofs.protocol.HeadOfD.{answer-due, IsGrantDue, grant-rendered, grant_message, ack_message, own_view}
 use proofs.flow.FlowBeats.{came-so, comes-so, one-beat, set_at-if, same_perms, unused-else, first_false}
-use proofs.protocol.FirstTokens.{first-release_ack}
+use proofs.simulation.Owned.{unfinished_at}
+use proofs.protocol.BothParts.{first-release_ack}
+use proofs.protocol.HeadOfD.{answer-due, IsGrantDue, grant-rendered, grant_message, ack_message, own_view}
 
 module _ {w : ℕ} {config : Config} {log : Log w} (h : AbstractState w) {sys : System w} {c : ℕ}
     (is : SimulationRelation config log h.mail h.request h.state sys) {t : History w}
@@ -33,17 +33,16 @@ module _ {w : ℕ} {config : Config} {log : Log w} (h : AbstractState w) {sys : 
   -- ---- a beat of channel D
 
   module _ (m : MessageD w) (x : Beat w) (ms : List (Message w)) (queue : List (Beat w))
-      (next : IsNext x (unfinished_at sys c Channel.D) (Message.D m) ms queue)
-      (rests : AreRests x (unfinished_at sys c) rest') (b : Bool)
-      (last : completes x (unfinished_at sys c Channel.D) ≡ b) where
+      (next : IsNext x (unfinished_at sys c Channel.D) (Message.D m) ms queue) (rests : AreRests x (unfinished_at sys c)
+      rest') (b : Bool) (last : completes x (unfinished_at sys c Channel.D) ≡ b) where
     rests_y : AreRests (Beat.D (d_beat_of m next.k)) (unfinished_at sys c) rest'
-    rests_y = subst (λ (z : Beat w). AreRests z (unfinished_at sys c) rest') next.beat_is rests
+    rests_y = subst (λ z. AreRests z (unfinished_at sys c) rest') next.beat_is rests
 
     last_y : completes (Beat.D (d_beat_of m next.k)) (unfinished_at sys c Channel.D) ≡ b
-    last_y = sym (ap (λ (z : Beat w). completes z (unfinished_at sys c Channel.D)) next.beat_is) ∙ last
+    last_y = sym (ap (λ z. completes z (unfinished_at sys c Channel.D)) next.beat_is) ∙ last
 
     next_y : IsNext (Beat.D (d_beat_of m next.k)) (unfinished_at sys c Channel.D) (Message.D m) ms queue
-    next_y = subst (λ (z : Beat w). IsNext z (unfinished_at sys c Channel.D) (Message.D m) ms queue) next.beat_is next
+    next_y = subst (λ z. IsNext z (unfinished_at sys c Channel.D) (Message.D m) ms queue) next.beat_is next
 
     -- what of a Grant with sink i was delivered, before and afterwards
     came : (i : ℕ) → comes_in_grant i (unfinished_at sys c Channel.D)
@@ -93,13 +92,13 @@ module _ {w : ℕ} {config : Config} {log : Log w} (h : AbstractState w) {sys : 
 
   answer_uses : (source : ℕ) (b : Bool) (i j : ℕ) → j ≡ source
       → (answered_if source b).uses c i ≡ (if b && (j == i) then SourceFree else s.uses c i)
-  answer_uses source true i j e = set_at-if c source i SourceFree s.uses j e
+  answer_uses source true i j e = set_at-if c _ i SourceFree s.uses j e
   answer_uses source false i j e = refl
 
   answer_asks : (source : ℕ) (b : Bool) (i j : ℕ) → j ≡ source → (b && (j == i)) ≡ false
       → asked_by h.mail (answered_if source b) c i ≡ before i
   answer_asks source true i j e f = asks-same c i h.mail h.mail s (answer_taken c source toks s) refl
-      (inl (set_at-else c source i SourceFree s.uses (λ same. eqb-false source i (sym (ap (λ (k : ℕ). k == i) e) ∙ f)
+      (inl (set_at-else c source i SourceFree s.uses (λ same. eqb-false source i (sym (ap (λ k. k == i) e) ∙ f)
       (sym same)) c)) (λ n used. refl) (λ n used. refl)
   answer_asks source false i j e f = refl
 
@@ -111,10 +110,9 @@ module _ {w : ℕ} {config : Config} {log : Log w} (h : AbstractState w) {sys : 
       let due = answer-due (is_caching config) c source toks h.mail s is.invariant (is.answered c source) tokens in
       let here : IsNext x (unfinished_at sys c Channel.D) (Message.D due.answer) ms queue = rw due.answer_is at next in
       let kind = access_kind due.answer.opcode due.answers_access in
-      subst (λ (z : Beat w). MonitorRelation (asked_by h.mail (answered_if source b) c) rest' c (answered_if source b)
-      (z ∷ t)) (sym here.beat_is)
-      (flowed-answer (is_empty (unfinished_at sys c Channel.D)) (begins_y due.answer x ms queue here rests b last)
-      (ends_y due.answer x ms queue here rests b last)
+      subst (λ (z : Beat w). MonitorRelation (asked_by h.mail (answered_if source b) c) rest' c
+      (answered_if source b) (z ∷ t)) (sym here.beat_is) (flowed-answer (is_empty (unfinished_at sys c Channel.D))
+      (begins_y due.answer x ms queue here rests b last) (ends_y due.answer x ms queue here rests b last)
       (rests_y due.answer x ms queue here rests b last) (record {
         grant = kind.0;
         ack = kind.1;
@@ -139,10 +137,9 @@ module _ {w : ℕ} {config : Config} {log : Log w} (h : AbstractState w) {sys : 
       let here = ack_next c n s next in
       let one = one-beat here refl in
       let now : (release_ack_taken c n toks s).block n ≡ new = set-same n new s.block in
-      subst (λ (z : Beat w). MonitorRelation asked' rest' c (release_ack_taken c n toks s) (z ∷ t)) (sym here.beat_is)
-      (flowed-let_go (begins_y m x ms queue here rests true one.2 ∙ ap is_empty one.1)
-      (ends_y m x ms queue here rests true one.2) (rests_y m x ms queue here rests true one.2)
-      (λ i k. is.invariant.named.releases c i k) (record {
+      subst (λ z. MonitorRelation asked' rest' c (release_ack_taken c n toks s) (z ∷ t)) (sym here.beat_is)
+      (flowed-let_go (begins_y m x ms queue here rests true one.2 ∙ ap is_empty one.1) (ends_y m x ms queue here rests
+      true one.2) (rests_y m x ms queue here rests true one.2) (λ i k. is.invariant.named.releases c i k) (record {
         grant = refl;
         ack = refl;
         source = refl;
@@ -154,13 +151,13 @@ module _ {w : ℕ} {config : Config} {log : Log w} (h : AbstractState w) {sys : 
         uses = λ i. refl;
         lets = λ i. set_at-if c ((s.block n).release_source c) i None s.lets ((s.block n).release_source c) refl;
         tracked = λ i. refl;
-        held_is = ap (held_by c) now ∙ ap (λ (p : ClientBlock). if is_granting (view (s.block n).service c) then p.held
+        held_is = ap (held_by c) now ∙ ap (λ p. if is_granting (view (s.block n).service c) then p.held
             else p.recorded) pair;
-        service = ap (λ (z : Block (List ℕ)). z.service) now;
-        tracker = ap (λ (z : Block (List ℕ)). z.tracker) now;
-        acquiring = ap (λ (z : Block (List ℕ)). (z.pair c).acquiring) now ∙ ap (λ (p : ClientBlock). p.acquiring) pair;
-        probing = ap (λ (z : Block (List ℕ)). (z.pair c).probing) now ∙ ap (λ (p : ClientBlock). p.probing) pair;
-        letting_is = ap (λ (z : Block (List ℕ)). (z.pair c).letting) now ∙ ap (λ (p : ClientBlock). p.letting) pair;
+        service = ap (λ z. z.service) now;
+        tracker = ap (λ z. z.tracker) now;
+        acquiring = ap (λ z. (z.pair c).acquiring) now ∙ ap (λ p. p.acquiring) pair;
+        probing = ap (λ z. (z.pair c).probing) now ∙ ap (λ p. p.probing) pair;
+        letting_is = ap (λ z. (z.pair c).letting) now ∙ ap (λ p. p.letting) pair;
       }) flowed)
     where
       new : Block (List ℕ)
@@ -179,8 +176,8 @@ module _ {w : ℕ} {config : Config} {log : Log w} (h : AbstractState w) {sys : 
   grant_asks n whole d k false i e = refl
   grant_asks n whole d k true i e = cc (asks-same c i h.mail h.mail s (grant_taken c n whole d k toks s) refl (inl
       (set_at-else c ((s.block n).source c) i SourceFree s.uses (λ same. eqb-false ((s.block n).source c) i e (sym
-      same)) c)) (λ j used. ap (λ (z : Block (List ℕ)). (z.pair c).acquiring) (set-other n j (taken_block c whole d k
-      (s.block n)) s.block (apart j used))) (λ j used. ap (λ (z : Block (List ℕ)). z.source c) (set-other n j
+      same)) c)) (λ j used. ap (λ z. (z.pair c).acquiring) (set-other n j (taken_block c whole d k
+      (s.block n)) s.block (apart j used))) (λ j used. ap (λ z. z.source c) (set-other n j
       (taken_block c whole d k (s.block n)) s.block (apart j used))))
     where
       apart : (j : ℕ) → s.uses c i ≡ Acquires j → j ≡ n → ⊥

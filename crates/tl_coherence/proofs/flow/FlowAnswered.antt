@@ -1,18 +1,18 @@
 -- What is delivered on a link, as a beat of an access's answer or a ReleaseAck is.
-use Rattle.std.proofs.Common.{◌≡◌, ℕ, Bool, true, false, not, ◌&&◌, ◌||◌, ◌∷◌, Option, Some, None, refl, sym, ◌∙◌, ap}
-use Rattle.std.proofs.Common.{arith, List, ne_eqb, eqb-true, ◌==◌, if◌then◌else◌, option_map, unwrap_or}
+use Rattle.std.proofs.Common.{◌≡◌, ℕ, Bool, true, false, not, ◌&&◌, ◌||◌, ◌==◌, if◌then◌else◌, List, ◌∷◌, Option, Some}
+use Rattle.std.proofs.Common.{None, refl, sym, ◌∙◌, ap, arith, ne_eqb, eqb-true, unwrap_or, option_map}
 use Rattle.tl_coherence.proofs
-use proofs.Imports.{Beat, BeatA, BeatC, BeatD, Channel, History, ReleaseSource, Perm, comes_in_grant, begins, ends}
-use proofs.Imports.{block_at, pending, is_grant, is_release_ack, asks_for, request_of, release_of, probe_of, grant_sink}
-use proofs.Imports.{capped, release_of-d, request_of-d, is_of, releases_with, NoRelease, ReleaseAcked, Service, Block}
-use proofs.Imports.{State, SourceState, SourceFree, view, is_acknowledging, is_answered, is_unserved, comes_granting}
-use proofs.Imports.{MonitorRelation, is_requested, is_release_pending, is_let_by, is_sunk, probe_beat, cap_waited}
-use Rattle.tl_rules.{specs.statement.History.releases}
-use proofs.flow.{FlowAlone.AreRests, FlowAside.requested-blocks, FlowAside.let_by-same, FlowReport.unopened}
+use proofs.Imports.{Beat, BeatA, BeatC, BeatD, Channel, History, ReleaseSource, Perm, comes_in_grant, asks_for, begins}
+use proofs.Imports.{block_at, capped, ends, is_grant, is_release_ack, grant_sink, pending, probe_of, release_of}
+use proofs.Imports.{request_of, release_of-d, request_of-d, is_of, releases_with, NoRelease, ReleaseAcked, Block}
+use proofs.Imports.{SourceFree, SourceState, State, view, is_acknowledging, is_answered, is_unserved, comes_granting}
+use proofs.Imports.{MonitorRelation, is_let_by, is_release_pending, is_requested, is_sunk, probe_beat, cap_waited}
+use Rattle.tl_rules.specs.statement.History.{releases}
+use proofs.flow.{FlowAlone.AreRests, FlowAlone.requested-blocks, FlowAlone.let_by-same, FlowOthers.unopened}
 use proofs.flow.FlowReleased.{AreElsewhere, each-block, part-block}
-use proofs.flow.FlowStep.{flowed-next, held_by, acquired_by, let_of, granted_by, step, step_quiet}
-use proofs.queues.{Tokens.same_number}
-use proofs.protocol.{BothParts.is_of-is}
+use proofs.flow.FlowStep.{flowed-next, held_by, acquired_by, let_of, granted_by, step, step_quiet, let_still}
+use proofs.queues.Tokens.{same_number}
+use proofs.protocol.BothParts.{is_of-is}
 
 pub probed-of : {w : ℕ} (n : ℕ) (y : BeatD w) (t : History w) → probe_of n (Beat.D y ∷ t) ≡ probe_of n t
 unfolding probe_of
@@ -59,33 +59,26 @@ flowed-answer {w} {X} {c} {y} first {last} {asked} {asked'} {rest} {rest'} {s} {
     before =
     let sinks : (i : ℕ) (o : Option ℕ) → is_sunk c i (rest' Channel.D) o s' ≡ is_sunk c i (rest Channel.D) o s =
     λ i. elim [ None ↦ refl | Some m ↦ cc (is.comes i, is.blocks m) ] in
-    flowed-next (record {
-      first_is = first_is;
-      last_is = last_is;
-      rests = rests;
+    flowed-next first_is last_is rests (record {
       held_is = λ m. ap (held_by c) (is.blocks m) ∙ sym (unsaid last (is_grant y.opcode)
           (asks_for m (request_of y.source t)) (capped y.param) (held_by c (s.block m)) is.grant);
-      requests = λ i. ap (λ (l : List (Beat w)). is_requested c i l (s'.uses c i) s') (rests Channel.A) ∙ ap
-          (λ (u : SourceState). is_requested c i (rest Channel.A) u s') (is.uses i) ∙ requests i last (y.source == i)
-          ∙ sym (ap (λ (z : Bool). step first last false (not z && (y.source == i))
-          (is_requested c i (rest Channel.A) (s.uses c i) s)) is.ack);
+      requests = λ i. ap (λ l. is_requested c i l (s'.uses c i) s') (rests Channel.A) ∙ ap (λ u. is_requested c i
+          (rest Channel.A) u s') (is.uses i) ∙ requests i last (y.source == i) ∙ sym (ap (λ z. step first last false
+          (not z && (y.source == i)) (is_requested c i (rest Channel.A) (s.uses c i) s)) is.ack);
       asked_is = λ i e. asked_still i e (last && (y.source == i)) refl;
       acquires = λ m. cc (is.blocks m, is.grant, step_quiet first last (acquired_by c (s.block m)));
       release_sources = λ i. lets i ∙ sym (unclosed first last (is_release_ack y.opcode) (y.source == i)
           (is_let_by c i (rest Channel.C) (s.lets c i) s) is.ack);
-      released = λ i m e f. ap (option_map (λ z. block_at z.address)) (release_of-d i y t) ∙ before.released i m
-          (sym (is.lets i) ∙ e) (before.release_sources i ∙ sym (lets i) ∙ f);
-      sizes = λ i m e f. ap (option_map (λ z. z.size)) (release_of-d i y t) ∙ before.sizes i m (sym (is.lets i) ∙ e)
-          (before.release_sources i ∙ sym (lets i) ∙ f);
+      released = λ i m e f. let_still before i m (release_of-d i y t) (cc (is.lets i))
+          (cc (before.release_sources i, lets i));
       releases =
           λ m. cc (rests Channel.C, is.blocks m, is.ack, step_quiet first last (let_of c (rest Channel.C) (s.block m)));
-      sinks = λ i. ap (λ (o : Option ℕ). is_sunk c i (rest' Channel.D) o s') (is.tracked i) ∙ sinks i (s.tracked i)
-          ∙ sym (unopened first last (is_grant y.opcode) (y.sink == i) (is_sunk c i (rest Channel.D) (s.tracked i) s)
-          is.grant);
+      sinks = λ i. ap (λ o. is_sunk c i (rest' Channel.D) o s') (is.tracked i) ∙ sinks i (s.tracked i) ∙ sym (unopened
+          first last (is_grant y.opcode) (y.sink == i) (is_sunk c i (rest Channel.D) (s.tracked i) s) is.grant);
       grants = λ m. cc (grants m, is.grant, step_quiet first last (granted_by c m asked (rest Channel.D) (s.block m)));
       probes = λ m. cc (is.blocks m, step_quiet first last (is_answered ((s.block m).pair c).probing));
-      probed = λ m e. probed-of m y t ∙ before.probed m (sym (ap (λ (z : Block X). is_answered (z.pair c).probing)
-          (is.blocks m)) ∙ e) ∙ sym (ap (λ (z : Block X). Some (probe_beat m (cap_waited z.service))) (is.blocks m));
+      probed = λ m e. probed-of m y t ∙ before.probed m (sym (ap (λ z. is_answered (z.pair c).probing)
+          (is.blocks m)) ∙ e) ∙ sym (ap (λ z. Some (probe_beat m (cap_waited z.service))) (is.blocks m));
       sunk = λ m e. cc (sunk-of m y t is.grant, before.sunk m (before.grants m ∙ sym (grants m) ∙ e), is.blocks m);
     }) before
   where
@@ -110,10 +103,8 @@ flowed-answer {w} {X} {c} {y} first {last} {asked} {asked'} {rest} {rest'} {s} {
 
     asked_still : (i : ℕ) → is_requested c i (rest' Channel.A) (s'.uses c i) s' ≡ true → (z : Bool)
         → (last && (y.source == i)) ≡ z → request_of i (Beat.D y ∷ t) ≡ asked' i
-    asked_still i e true f =
-        absurd (let g : false ≡ true =
-        sym (use_at i ∙ ap (λ (z : Bool). is_requested c i (rest Channel.A) (if z then SourceFree else s.uses c i) s')
-        f) ∙ e in cc)
+    asked_still i e true f = absurd (let g : false ≡ true = sym (use_at i
+        ∙ ap (λ z. is_requested c i (rest Channel.A) (if z then SourceFree else s.uses c i) s') f) ∙ e in cc)
     asked_still i e false f = let fact = before.asked_is i
         (cc (before.requests i, same_requested i (s.uses c i), use_at i)) in cc (request_of-d i y t, is.asked_is i f)
 
@@ -177,42 +168,36 @@ flowed-let_go {w} {X} {c} {n} {y} {asked} {asked'} {rest} {rest'} {s} {s'} {t} f
     (s.uses c i) s = λ i. cc (
       rests Channel.A,
       is.uses i,
-      requested-blocks c i (rest Channel.A) (s.uses c i) s s' (part-block (λ (z : Block X). is_unserved
-          (view z.service c)) n s s' is.elsewhere (ap (λ (q : Service). is_unserved (view q c)) is.service)),
+      requested-blocks c i (rest Channel.A) (s.uses c i) s s' (part-block (λ z. is_unserved
+          (view z.service c)) n s s' is.elsewhere (ap (λ q. is_unserved (view q c)) is.service)),
     ) in
     let acquires = part-block (acquired_by c) n s s' is.elsewhere (cc (is.acquiring, is.service)) in
     let answered : (m : ℕ) → is_answered ((s'.block m).pair c).probing ≡ is_answered ((s.block m).pair c).probing =
-    part-block (λ (z : Block X). is_answered (z.pair c).probing) n s s' is.elsewhere (ap is_answered is.probing) in
+    part-block (λ z. is_answered (z.pair c).probing) n s s' is.elsewhere (ap is_answered is.probing) in
     let still_pending : (i m : ℕ) → s'.lets c i ≡ Some m → is_let_by c i (rest' Channel.C) (s'.lets c i) s' ≡ true
     → pending (ReleaseSource i) t ≡ true = λ i m e f. before.release_sources i
     ∙ sym (unclosed_by (is_release_ack y.opcode) (y.source == i) (is_let_by c i (rest Channel.C) (s.lets c i) s)
     (is_another i m e (y.source == i) refl).0) ∙ sym (lets i (y.source == i) refl) ∙ f in
-    flowed-next (record {
-      first_is = first_is;
-      last_is = last_is;
-      rests = rests;
+    flowed-next first_is last_is rests (record {
       held_is = λ m. part-block (held_by c) n s s' is.elsewhere is.held_is m ∙ sym (unsaid true (is_grant y.opcode)
           (asks_for m (request_of y.source t)) (capped y.param) (held_by c (s.block m)) is.grant);
-      requests = λ i. requests i ∙ sym (ap (λ (z : Bool). step true true false (not z && (y.source == i))
+      requests = λ i. requests i ∙ sym (ap (λ z. step true true false (not z && (y.source == i))
           (is_requested c i (rest Channel.A) (s.uses c i) s)) is.ack);
       asked_is = λ i e. request_of-d i y t ∙ before.asked_is i (before.requests i ∙ sym (requests i) ∙ e) ∙ sym
           (is.asked_is i);
       acquires = λ m. cc (acquires m, is.grant);
       release_sources = λ i. lets i (y.source == i) refl;
-      released = λ i m e f. ap (option_map (λ z. block_at z.address)) (release_of-d i y t) ∙ before.released i m
-          (is_another i m e (y.source == i) refl).1 (still_pending i m e f);
-      sizes = λ i m e f. ap (option_map (λ z. z.size)) (release_of-d i y t) ∙ before.sizes i m
-          (is_another i m e (y.source == i) refl).1 (still_pending i m e f);
-      releases = λ m. ap (λ (l : List (Beat w)). let_of c l (s'.block m)) (rests Channel.C) ∙ releases_at m;
-      sinks = λ i. ap (λ (o : Option ℕ). is_sunk c i (rest' Channel.D) o s') (is.tracked i) ∙ sinks i (s.tracked i)
-          ∙ sym (unopened true true (is_grant y.opcode) (y.sink == i) (is_sunk c i (rest Channel.D) (s.tracked i) s)
-          is.grant);
+      released = λ i m e f. let_still before i m (release_of-d i y t) (is_another i m e (y.source == i) refl).1
+          (still_pending i m e f);
+      releases = λ m. ap (λ l. let_of c l (s'.block m)) (rests Channel.C) ∙ releases_at m;
+      sinks = λ i. ap (λ o. is_sunk c i (rest' Channel.D) o s') (is.tracked i) ∙ sinks i (s.tracked i) ∙ sym (unopened
+          true true (is_grant y.opcode) (y.sink == i) (is_sunk c i (rest Channel.D) (s.tracked i) s) is.grant);
       grants = λ m. cc (grants m, is.grant);
       probes = answered;
       probed = λ m e. probed-of m y t ∙ before.probed m (sym (answered m) ∙ e) ∙ sym (ap (λ k. Some (probe_beat m k))
-          (part-block (λ (z : Block X). cap_waited z.service) n s s' is.elsewhere (ap cap_waited is.service) m));
+          (part-block (λ z. cap_waited z.service) n s s' is.elsewhere (ap cap_waited is.service) m));
       sunk = λ m e. sunk-of m y t is.grant ∙ before.sunk m (before.grants m ∙ sym (grants m) ∙ e) ∙ ap Some
-          (sym (part-block (λ (z : Block X). z.tracker) n s s' is.elsewhere is.tracker m));
+          (sym (part-block (λ z. z.tracker) n s s' is.elsewhere is.tracker m));
     }) before
   where
     b : Block X
@@ -220,12 +205,12 @@ flowed-let_go {w} {X} {c} {n} {y} {asked} {asked'} {rest} {rest'} {s} {s'} {t} f
 
     sinks : (i : ℕ) (o : Option ℕ) → is_sunk c i (rest' Channel.D) o s' ≡ is_sunk c i (rest Channel.D) o s
     sinks i None = refl
-    sinks i (Some m) = cc (is.comes i, part-block (λ (z : Block X). z.service) n s s' is.elsewhere is.service m)
+    sinks i (Some m) = cc (is.comes i, part-block (λ z. z.service) n s s' is.elsewhere is.service m)
 
     grants : (m : ℕ) → granted_by c m asked' (rest' Channel.D) (s'.block m) ≡ granted_by c m asked (rest Channel.D)
         (s.block m)
     grants m = let fact = part-block (granted_by c m asked (rest Channel.D)) n s s' is.elsewhere
-        (ap (λ (q : Service). is_acknowledging (view q c) || comes_granting m asked (rest Channel.D)) is.service) m in
+        (ap (λ q. is_acknowledging (view q c) || comes_granting m asked (rest Channel.D)) is.service) m in
         cc (is.grants m)
 
     -- an open Release with another source is of another block

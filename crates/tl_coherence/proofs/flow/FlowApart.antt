@@ -1,23 +1,71 @@
+-- Which sinks are those of Grants that were delivered, as an event changes one block and its tracker.
 -- What an event leaves of what is delivered on a link: each value is as before, where the event isn't of the link, or
 -- comes of a beat of it that is accounted for.
-use Rattle.std.proofs.Common.{◌≡◌, subst, ℕ, Bool, true, false, ◌&&◌, ◌||◌, Option, Some, None, refl, sym, ◌∙◌, ap}
-use Rattle.std.proofs.Common.{arith, List, ◌⊎◌, inl, inr, ◌==◌, if◌then◌else◌}
+use Rattle.std.proofs.Common.{◌≡◌, ℕ, Bool, true, false, ◌&&◌, ◌||◌, ◌==◌, if◌then◌else◌, List, Option, Some, None}
+use Rattle.std.proofs.Common.{refl, sym, ◌∙◌, ap, subst, arith, ◌⊎◌, inl, inr}
 use Rattle.tl_coherence.proofs
-use proofs.Imports.{cases_eq, Beat, BeatA, Channel, Cap, Grow, Prune, Report, comes_in_grant, Packet, set, set_at, Own}
-use proofs.Imports.{Other, is_unprobed, Service, Free, Waits, GrantSent, GrantTaken, Block, State, SourceState}
-use proofs.Imports.{InService, Replied, Acquires, view, acquiring_block, acquire_asked, access_asked, releasing_block}
-use proofs.Imports.{release_asked, granted_at_once, acquire_granted, served_block, probed_block, probe_taken}
-use proofs.Imports.{reported_block, report_taken, let_block, release_taken, taken_block, let_go_block}
-use proofs.Imports.{release_ack_taken, freed_block, grant_ack_taken, stored_block, block_stored, performed_block}
-use proofs.Imports.{access_answered, access_served, ended_block, report_answers, granted_block, report_grants}
-use proofs.Imports.{answer_taken, grant_taken, is_granting, is_acknowledging, is_answered, is_sunk}
-use proofs.client.Aside.{set_at-other, set_at-else}
-use proofs.flow.FlowAside.{IsSameBlock, same-block, is_heard, IsSameUse, IsComing, IsAside}
+use proofs.Imports.{cases_eq, Beat, BeatA, Channel, Cap, Grow, Prune, Report, comes_in_grant, Packet, set, set_at}
+use proofs.Imports.{Other, Own, View, is_unprobed, Acquires, Block, Free, GrantSent, GrantTaken, InService, Replied}
+use proofs.Imports.{Service, SourceState, State, Waits, access_answered, access_asked, access_served, acquire_asked}
+use proofs.Imports.{acquire_granted, acquiring_block, answer_taken, block_stored, ended_block, freed_block}
+use proofs.Imports.{grant_ack_taken, grant_taken, granted_at_once, granted_block, let_block, let_go_block}
+use proofs.Imports.{performed_block, probe_taken, probed_block, release_ack_taken, release_asked, release_taken}
+use proofs.Imports.{releasing_block, report_answers, report_grants, report_taken, reported_block, served_block}
+use proofs.Imports.{stored_block, taken_block, view, is_acknowledging, is_answered, is_granting, is_sunk}
 use proofs.flow.FlowOthers.{is_outside, outside-waits, outside-sent, outside-taken, same-performed, same-served}
 use proofs.flow.FlowOthers.{same-granted_at_once, same-probed, same-reported, same-settled, same-granted, same-given}
 use proofs.flow.FlowOthers.{same-let, same-let_go, same-taken, same-freed, same-acquiring, same-releasing, same-stored}
-use proofs.flow.FlowSunk.{sunk_in, sunk-as, IsWithin, sunk-elsewhere, tracked-new, tracked-free, outside-unsunk}
+use proofs.flow.FlowReleased.{AreElsewhere}
+use proofs.flow.FlowAlone.{IsSameBlock, same-block, is_heard, IsSameUse, IsComing, IsAside}
+use proofs.client.AsideAll.{set_at-other, set_at-else}
 use proofs.queues.Tokens.{set-same, set-other, set-each, set-part, set_at-same}
+
+-- the Grant of the block, if it has this sink, was delivered to client c, and its GrantAck wasn't
+abbrev pub sunk_in : {w : ℕ} {X : Type 0} → ℕ → ℕ → List (Beat w) → Block X → Bool
+sunk_in c sink rest b = is_acknowledging (view b.service c) || (is_granting (view b.service c) && comes_in_grant sink
+    rest)
+
+-- each block is as before
+pub sunk-as : {w : ℕ} {X : Type 0} (c i : ℕ) (rest : List (Beat w)) (o : Option ℕ) (s s' : State X)
+    → ((n : ℕ) → sunk_in c i rest (s'.block n) ≡ sunk_in c i rest (s.block n))
+    → is_sunk c i rest o s' ≡ is_sunk c i rest o s
+sunk-as c i rest None s s' same = refl
+sunk-as c i rest (Some n) s s' same = same n
+
+-- the number is of block n, or of none
+abbrev pub IsWithin : ℕ → Option ℕ → Type 0
+IsWithin n o = (o ≡ None) ⊎ (o ≡ Some n)
+
+unsunk : {w : ℕ} {X : Type 0} (c i : ℕ) {n : ℕ} (rest : List (Beat w)) {o : Option ℕ} (s : State X) → IsWithin n o
+    → (o ≡ Some n → sunk_in c i rest (s.block n) ≡ false) → is_sunk c i rest o s ≡ false
+unsunk c i rest s (inl e) none = ap (λ p. is_sunk c i rest p s) e
+unsunk c i rest s (inr e) none = ap (λ p. is_sunk c i rest p s) e ∙ none e
+
+-- block n isn't one of the client's Grants before, nor afterwards
+pub sunk-elsewhere : {w : ℕ} {X : Type 0} (c i n : ℕ) (rest : List (Beat w)) (o o' : Option ℕ) (s s' : State X)
+    → AreElsewhere n s s' → (o' ≡ o) ⊎ (IsWithin n o × IsWithin n o')
+    → (o ≡ Some n → sunk_in c i rest (s.block n) ≡ false) → (o' ≡ Some n → sunk_in c i rest (s'.block n) ≡ false)
+    → is_sunk c i rest o' s' ≡ is_sunk c i rest o s
+sunk-elsewhere c i n rest o o' s s' same (inr both) before now =
+    unsunk c i rest s' both.1 now ∙ sym (unsunk c i rest s both.0 before)
+sunk-elsewhere {w} {X} c i n rest o o' s s' same (inl e) before now = cc (e, go o before (λ f. now (e ∙ f)))
+  where
+    go : (p : Option ℕ) → (p ≡ Some n → sunk_in c i rest (s.block n) ≡ false)
+        → (p ≡ Some n → sunk_in c i rest (s'.block n) ≡ false) → is_sunk c i rest p s' ≡ is_sunk c i rest p s
+    go p e f = grind (arith, cases_eq)
+
+-- a tracker that gets block n, or loses it
+pub tracked-new : (n tracker : ℕ) (tracked : ℕ → Option ℕ) → tracked tracker ≡ None → (i : ℕ)
+    → (set tracker (Some n) tracked i ≡ tracked i)
+    ⊎ (IsWithin n (tracked i) × IsWithin n (set tracker (Some n) tracked i))
+tracked-new n tracker tracked free i = grind (arith, cases_eq)
+
+pub tracked-free : (n tracker : ℕ) (tracked : ℕ → Option ℕ) → tracked tracker ≡ Some n → (i : ℕ)
+    → (set tracker None tracked i ≡ tracked i) ⊎ (IsWithin n (tracked i) × IsWithin n (set tracker None tracked i))
+tracked-free n tracker tracked used i = grind (arith, cases_eq)
+
+pub outside-unsunk : (v : View) (b : Bool) → is_outside v ≡ true → (is_acknowledging v || (is_granting v && b)) ≡ false
+outside-unsunk v b e = grind arith
 
 -- the access with this source is answered, as far as its link is concerned
 abbrev pub replied : {X : Type 0} → ℕ → ℕ → State X → State X
@@ -53,7 +101,7 @@ module _ {w : ℕ} {X : Type 0} (d : ℕ) (asked asked' : ℕ → Option (BeatA 
       → ((i : ℕ) → IsSameUse (s.uses d i) (s'.uses d i))
       → ((i : ℕ) → s'.lets d i ≡ s.lets d i) → AreSameSinks s' → IsLeft s'
   apart-at n {b} s' changed same uses lets sinks = record {
-    blocks = λ m. subst (λ (z : Block X). IsSameBlock d (s.block m) z) (sym (changed m))
+    blocks = λ m. subst (λ z. IsSameBlock d (s.block m) z) (sym (changed m))
         (set-each (λ j z. IsSameBlock d (s.block j) z) n b s.block same (λ j ne. same-block d (s.block j)) m);
     uses = uses;
     lets = lets;
@@ -66,7 +114,7 @@ module _ {w : ℕ} {X : Type 0} (d : ℕ) (asked asked' : ℕ → Option (BeatA 
       → ((i : ℕ) → s'.tracked i ≡ s.tracked i) → AreSameSinks s'
   sinks-same n b s' changed same tracked i = let fact =
       sunk-as d i (rest Channel.D) (s.tracked i) s s' (λ m. ap (sunk_in d i (rest Channel.D)) (changed m) ∙ set-part
-      (sunk_in d i (rest Channel.D)) n b s.block (ap (λ (q : Service). is_acknowledging
+      (sunk_in d i (rest Channel.D)) n b s.block (ap (λ q. is_acknowledging
       (view q d) || (is_granting (view q d) && comes_in_grant i (rest Channel.D))) same) m) in cc (tracked i)
 
   sinks-outside : (n : ℕ) (b : Block X) (s' : State X) → IsChanged n b s'
@@ -76,10 +124,10 @@ module _ {w : ℕ} {X : Type 0} (d : ℕ) (asked asked' : ℕ → Option (BeatA 
   sinks-outside n b s' changed was now tracked i = cc (sunk-elsewhere d i n (rest Channel.D) (s.tracked i) (s'.tracked
       i) s s' (λ m ne. changed m ∙ set-other n m b s.block ne) (tracked i) (λ e. outside-unsunk (view (s.block
       n).service d) (comes_in_grant i (rest Channel.D)) was) (λ e. ap (sunk_in d i (rest Channel.D)) (changed n ∙
-      set-same n b s.block) ∙ outside-unsunk (view b.service d) (comes_in_grant i (rest Channel.D)) now))
+      set-same n b s.block) ∙ outside-unsunk _ (comes_in_grant i (rest Channel.D)) now))
 
   free-outside : (n : ℕ) → (s.block n).service ≡ Free → is_outside (view (s.block n).service d) ≡ true
-  free-outside n free = ap (λ (q : Service). is_outside (view q d)) free
+  free-outside n free = ap (λ q. is_outside (view q d)) free
 
   -- ---- another client is asked
 
@@ -95,20 +143,18 @@ module _ {w : ℕ} {X : Type 0} (d : ℕ) (asked asked' : ℕ → Option (BeatA 
 
   pub left-acquire_asked : (c n source : ℕ) (whole : Bool) (g : Grow) (bytes : X) → (d ≡ c → ⊥)
       → IsLeft (acquire_asked c n source whole g bytes s)
-  left-acquire_asked c n source whole g bytes ne = apart-at n (acquire_asked c n source whole g bytes s) (λ m. refl)
+  left-acquire_asked c n source whole g bytes ne = apart-at n _ (λ m. refl)
       (same-acquiring d c source whole g bytes (s.block n) ne) (λ i. inl (set_at-other c d source i
       (Acquires n) s.uses ne)) (λ i. refl) (sinks-same n (acquiring_block c source whole g bytes (s.block n))
       (acquire_asked c n source whole g bytes s) (λ m. refl) refl (λ i. refl))
 
   pub left-release_asked : (c n source : ℕ) (r : Prune) → (d ≡ c → ⊥) → IsLeft (release_asked c n source r s)
-  left-release_asked c n source r ne = apart-at n
-      (release_asked c n source r s) (λ m. refl) (same-releasing d c source r (s.block n) ne) (λ i. inl refl)
-      (λ i. set_at-other c d source i (Some n) s.lets ne) (sinks-same n (releasing_block c source r (s.block n))
-      (release_asked c n source r s) (λ m. refl) refl (λ i. refl))
+  left-release_asked c n source r ne = apart-at n _ (λ m. refl) (same-releasing d c source r (s.block n) ne)
+      (λ i. inl refl) (λ i. set_at-other c d source i (Some n) s.lets ne) (sinks-same n
+      (releasing_block c source r (s.block n)) (release_asked c n source r s) (λ m. refl) refl (λ i. refl))
 
   pub left-block_stored : (c n : ℕ) (bytes : X) → IsLeft (block_stored c n bytes s)
-  left-block_stored c n bytes = apart-at n (block_stored c n bytes s) (λ m. refl)
-      (same-stored d c bytes (s.block n)) (λ i. inl refl) (λ i. refl)
+  left-block_stored c n bytes = apart-at n _ (λ m. refl) (same-stored d c bytes (s.block n)) (λ i. inl refl) (λ i. refl)
       (sinks-same n (stored_block c bytes (s.block n)) (block_stored c n bytes s) (λ m. refl) refl (λ i. refl))
 
   -- ---- a request is taken
@@ -143,7 +189,7 @@ module _ {w : ℕ} {X : Type 0} (d : ℕ) (asked asked' : ℕ → Option (BeatA 
   pub left-acquire_granted : (r n tracker : ℕ) (x : Bool) (k : Cap) (toks : List Packet) → (d ≡ r → ⊥)
       → (s.block n).service ≡ Free → is_answered ((s.block n).pair d).probing ≡ false → s.tracked tracker ≡ None
       → IsLeft (acquire_granted r n tracker x k toks s)
-  left-acquire_granted r n tracker x k toks ne free quiet unused = apart-at n (acquire_granted r n tracker x k toks s)
+  left-acquire_granted r n tracker x k toks ne free quiet unused = apart-at n _
       (λ m. refl) (same-granted_at_once d r tracker x k (s.block n) ne free quiet) (λ i. inl refl) (λ i. refl)
       (sinks-outside n (granted_at_once r tracker x k (s.block n)) (acquire_granted r n tracker x k toks s) (λ m. refl)
       (free-outside n free) (outside-sent d r x k ne) (tracked-new n tracker s.tracked unused))
@@ -151,20 +197,17 @@ module _ {w : ℕ} {X : Type 0} (d : ℕ) (asked asked' : ℕ → Option (BeatA 
   -- ---- Probes, ProbeAcks and Releases
 
   pub left-probe_taken : (c n : ℕ) (k : Cap) (toks : List Packet) → (d ≡ c → ⊥) → IsLeft (probe_taken c n k toks s)
-  left-probe_taken c n k toks ne = apart-at n (probe_taken c n k toks s) (λ m. refl)
-      (same-probed d c k (s.block n) ne) (λ i. inl refl) (λ i. refl)
-      (sinks-same n (probed_block c k (s.block n)) (probe_taken c n k toks s) (λ m. refl) refl (λ i. refl))
+  left-probe_taken c n k toks ne = apart-at n _ (λ m. refl) (same-probed d c k (s.block n) ne) (λ i. inl refl)
+      (λ i. refl) (sinks-same n (probed_block c k (s.block n)) (probe_taken c n k toks s) (λ m. refl) refl (λ i. refl))
 
   pub left-report_taken : (c n : ℕ) (r : Report) (toks : List Packet) → (d ≡ c → ⊥) → IsLeft (report_taken c n r toks s)
-  left-report_taken c n r toks ne = apart-at n (report_taken c n r toks s) (λ m. refl)
-      (same-reported d c r (s.block n) ne) (λ i. inl refl) (λ i. refl)
-      (sinks-same n (reported_block c r (s.block n)) (report_taken c n r toks s) (λ m. refl) refl (λ i. refl))
+  left-report_taken c n r toks ne = apart-at n _ (λ m. refl) (same-reported d c r (s.block n) ne) (λ i. inl refl) (λ i.
+      refl) (sinks-same n (reported_block c r (s.block n)) (report_taken c n r toks s) (λ m. refl) refl (λ i. refl))
 
   pub left-release_taken : (c n : ℕ) (r : Prune) (toks : List Packet) → (d ≡ c → ⊥)
       → IsLeft (release_taken c n r toks s)
-  left-release_taken c n r toks ne = apart-at n (release_taken c n r toks s) (λ m. refl)
-      (same-let d c r (s.block n) ne) (λ i. inl refl) (λ i. refl)
-      (sinks-same n (let_block c r (s.block n)) (release_taken c n r toks s) (λ m. refl) refl (λ i. refl))
+  left-release_taken c n r toks ne = apart-at n _ (λ m. refl) (same-let d c r (s.block n) ne) (λ i. inl refl)
+      (λ i. refl) (sinks-same n (let_block c r (s.block n)) (release_taken c n r toks s) (λ m. refl) refl (λ i. refl))
 
   -- ---- responses and GrantAcks
 
@@ -180,21 +223,21 @@ module _ {w : ℕ} {X : Type 0} (d : ℕ) (asked asked' : ℕ → Option (BeatA 
 
   pub left-grant_taken : (c n : ℕ) (whole x : Bool) (k : Cap) (toks : List Packet) → (d ≡ c → ⊥)
       → (s.block n).service ≡ GrantSent c x k → IsLeft (grant_taken c n whole x k toks s)
-  left-grant_taken c n whole x k toks ne sent = apart-at n (grant_taken c n whole x k toks s) (λ m. refl)
+  left-grant_taken c n whole x k toks ne sent = apart-at n _ (λ m. refl)
       (same-taken d c whole x k (s.block n) ne sent) (λ i. inl (set_at-other c d ((s.block n).source c) i _ s.uses ne))
       (λ i. refl) (sinks-outside n (taken_block c whole x k (s.block n)) (grant_taken c n whole x k toks s) (λ m. refl)
       (cc (outside-sent d c x k ne)) (outside-taken d c ne) (λ i. inl refl))
 
   pub left-release_ack_taken : (c n : ℕ) (toks : List Packet) → (d ≡ c → ⊥) → IsLeft (release_ack_taken c n toks s)
-  left-release_ack_taken c n toks ne = apart-at n (release_ack_taken c n toks s) (λ m. refl)
+  left-release_ack_taken c n toks ne = apart-at n _ (λ m. refl)
       (same-let_go d c (s.block n) ne) (λ i. inl refl) (λ i. set_at-other c d ((s.block n).release_source c) i None
       s.lets ne) (sinks-same n (let_go_block c (s.block n)) (release_ack_taken c n toks s) (λ m. refl) refl (λ i. refl))
 
   pub left-grant_ack_taken : (c n : ℕ) (toks : List Packet) → (d ≡ c → ⊥) → (s.block n).service ≡ GrantTaken c
       → s.tracked (s.block n).tracker ≡ Some n → IsLeft (grant_ack_taken c n toks s)
-  left-grant_ack_taken c n toks ne taken tracks = apart-at n (grant_ack_taken c n toks s) (λ m. refl)
+  left-grant_ack_taken c n toks ne taken tracks = apart-at n _ (λ m. refl)
       (same-freed d c (s.block n) ne taken) (λ i. inl refl) (λ i. refl) (sinks-outside n (freed_block (s.block n))
-      (grant_ack_taken c n toks s) (λ m. refl) (ap (λ (q : Service). is_outside (view q d)) taken
+      (grant_ack_taken c n toks s) (λ m. refl) (ap (λ q. is_outside (view q d)) taken
       ∙ outside-taken d c ne) refl (tracked-free n (s.block n).tracker s.tracked tracks))
 
 -- ---- an access, after its last beat
@@ -223,7 +266,7 @@ module _ {w : ℕ} {X : Type 0} (d : ℕ) (asked asked' : ℕ → Option (BeatA 
     new_is = set-same n (reported_block c r (s.block n)) s.block
 
     coming_still : IsComing asked (rest Channel.D) d between
-    coming_still m e = set-part (λ (z : Block X). is_granting (view z.service d)) n (reported_block c r (s.block n))
+    coming_still m e = set-part (λ z. is_granting (view z.service d)) n (reported_block c r (s.block n))
         s.block refl m ∙ coming m e
 
     unanswered : ((i : ℕ) → (i ≡ c → ⊥) → is_answered ((s.block n).pair i).probing ≡ false)
@@ -231,7 +274,7 @@ module _ {w : ℕ} {X : Type 0} (d : ℕ) (asked asked' : ℕ → Option (BeatA 
     unanswered quiet = grind (arith, cases_eq)
 
     seen : (q : Service) → (s.block n).service ≡ q → view (between.block n).service d ≡ view q d
-    seen q e = ap (λ (z : Block X). view z.service d) new_is ∙ ap (λ (i : Service). view i d) e
+    seen q e = ap (λ z. view z.service d) new_is ∙ ap (λ i. view i d) e
 
     pub left-report_answers : (q source : ℕ) (k : Cap) (f : X → X) → (s.block n).service ≡ Waits q false source k
         → ((i : ℕ) → (i ≡ c → ⊥) → is_answered ((s.block n).pair i).probing ≡ false) → s.tracked (s.block n).tracker
@@ -271,7 +314,7 @@ module _ {w : ℕ} {X : Type 0} (d : ℕ) (asked asked' : ℕ → Option (BeatA 
         (report_grants c q n r x k toks s) (λ m ne. changed m ∙ set-other n m new between.block ne) (inl refl)
         (λ e. unsunk_then i) (λ e. ap (sunk_in d i (rest Channel.D)) (set-same n new s.block) ∙ unsunk_now i e)) in
         apart-at d asked asked' rest between asks coming_still n (report_grants c q n r x k toks s) changed
-        (subst (λ (z : Block X). IsSameBlock d z new) (sym new_is) same) (λ i. inl refl) (λ i. refl) sinks
+        (subst (λ z. IsSameBlock d z new) (sym new_is) same) (λ i. inl refl) (λ i. refl) sinks
       where
         new : Block X
         new = granted_block c q r x k (s.block n)

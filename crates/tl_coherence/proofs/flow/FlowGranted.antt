@@ -1,19 +1,19 @@
 -- What is delivered on a link, as a beat of a Grant is.
-use Rattle.std.proofs.Common.{◌≡◌, ℕ, Bool, true, false, not, ◌&&◌, ◌||◌, ◌∷◌, Option, Some, None, refl, sym, ◌∙◌, ap}
-use Rattle.std.proofs.Common.{arith, List, ne_eqb, ◌==◌, if◌then◌else◌, option_map, unwrap_or}
+use Rattle.std.proofs.Common.{◌≡◌, ℕ, Bool, true, false, not, ◌&&◌, ◌||◌, ◌==◌, if◌then◌else◌, List, ◌∷◌, Option, Some}
+use Rattle.std.proofs.Common.{None, refl, sym, ◌∙◌, ap, arith, ne_eqb, unwrap_or}
 use Rattle.tl_coherence.proofs
 use proofs.Imports.{and_right, Beat, BeatA, BeatD, Channel, History, RequestSource, Cap, Perm, cap_right}
-use proofs.Imports.{comes_in_request, comes_in_grant, begins, ends, block_at, pending, is_grant, is_release_ack}
-use proofs.Imports.{asks_for, request_of, release_of, probe_of, grant_sink, capped, release_of-d, request_of-d, is_of}
-use proofs.Imports.{acquires_of, View, Granting, Acknowledging, Block, State, SourceState, SourceFree, Asked, InService}
-use proofs.Imports.{Replied, Acquires, view, is_granting, is_acknowledging, is_answered, is_wanting, is_unserved}
-use proofs.Imports.{comes_granting, MonitorRelation, is_requested, is_let_by, is_sunk, probe_beat, cap_waited}
-use Rattle.tl_rules.{specs.statement.History.releases}
-use proofs.flow.{FlowAlone.AreRests, FlowAside.let_by-same, FlowReport.unclosed as not_last}
+use proofs.Imports.{comes_in_grant, comes_in_request, asks_for, begins, capped, ends, is_grant, is_release_ack}
+use proofs.Imports.{grant_sink, pending, probe_of, release_of, request_of, release_of-d, request_of-d, acquires_of}
+use proofs.Imports.{is_of, Acknowledging, Granting, View, Acquires, Asked, Block, InService, Replied, SourceFree}
+use proofs.Imports.{SourceState, State, view, is_acknowledging, is_answered, is_granting, is_unserved, is_wanting}
+use proofs.Imports.{comes_granting, MonitorRelation, is_let_by, is_requested, is_sunk, probe_beat, cap_waited}
+use Rattle.tl_rules.specs.statement.History.{releases}
+use proofs.flow.{FlowAlone.AreRests, FlowAlone.let_by-same, FlowOthers.unclosed as not_last}
 use proofs.flow.FlowAnswered.{probed-of, unclosed, closes_last}
 use proofs.flow.FlowReleased.{AreElsewhere, each-block, part-block, opened, with_true}
-use proofs.flow.FlowStep.{flowed-next, held_by, acquired_by, let_of, granted_by, step, step_quiet}
-use proofs.queues.{Tokens.same_number}
+use proofs.flow.FlowStep.{flowed-next, held_by, acquired_by, let_of, granted_by, step, step_quiet, let_still}
+use proofs.queues.Tokens.{same_number}
 
 abbrev pub seen_after : Bool → Bool → Cap → View
 seen_after true d k = Acknowledging
@@ -122,7 +122,7 @@ flowed-grant {w} {X} {c} {n} {d} {k} {y} {first} {last} {asked} {asked'} {rest} 
     let probed = each-block (λ m z. is_answered (z.pair c).probing ≡ true
     → probe_of m t ≡ Some (probe_beat m (cap_waited z.service))) n s s' is.elsewhere
     (λ e. absurd (let f : false ≡ true = sym is.quiet ∙ sym is.answered ∙ e in cc)) (λ m ne e. before.probed m e) in
-    let answered = part-block (λ (z : Block X). is_answered (z.pair c).probing) n s s' is.elsewhere is.answered in
+    let answered = part-block (λ z. is_answered (z.pair c).probing) n s s' is.elsewhere is.answered in
     let b : Block X = s.block n in
     let grants_at : ℕ → Bool = λ m. is_grant y.opcode && asks_for m (request_of y.source t) in
     let names : (m : ℕ) → (is_grant y.opcode && asks_for m (request_of y.source t)) ≡ (n == m) = λ m. cc (
@@ -142,13 +142,10 @@ flowed-grant {w} {X} {c} {n} {d} {k} {y} {first} {last} {asked} {asked'} {rest} 
       is.granted m,
       and_right (not first) (n == m) (ne_eqb n m (λ e. ne (sym e))),
     ) in
-    flowed-next (record {
-      first_is = first_is;
-      last_is = last_is;
-      rests = rests;
+    flowed-next first_is last_is rests (record {
       held_is = each-block (λ m z. held_by c z ≡ (if last then unwrap_or (if is_grant y.opcode && asks_for m
           (request_of y.source t) then Some (capped y.param) else None) (held_by c (s.block m)) else held_by c
-          (s.block m))) n s s' is.elsewhere (is.held_is ∙ ap (λ (q : Perm). if last then q else held_by c b)
+          (s.block m))) n s s' is.elsewhere (is.held_is ∙ ap (λ q. if last then q else held_by c b)
           (sym is.says) ∙ sym (said last (grants_at n) (capped y.param) (held_by c b) (names n ∙ same_number n)))
           (λ m ne. sym (unsaid last (grants_at m) (capped y.param) (held_by c (s.block m)) (apart m ne)));
       requests = λ i. use_at i ∙ requests i last (y.source == i) refl refl;
@@ -160,29 +157,24 @@ flowed-grant {w} {X} {c} {n} {d} {k} {y} {first} {last} {asked} {asked'} {rest} 
           (λ m ne. sym (rw (apart m ne) (step_quiet first last (acquired_by c (s.block m)))));
       release_sources = λ i. lets i ∙ sym (unclosed first last (is_release_ack y.opcode) (y.source == i)
           (is_let_by c i (rest Channel.C) (s.lets c i) s) is.ack);
-      released = λ i m e f. ap (option_map (λ z. block_at z.address)) (release_of-d i y t) ∙ before.released i m
-          (sym (is.lets i) ∙ e) (before.release_sources i ∙ sym (lets i) ∙ f);
-      sizes = λ i m e f. ap (option_map (λ z. z.size)) (release_of-d i y t) ∙ before.sizes i m (sym (is.lets i) ∙ e)
-          (before.release_sources i ∙ sym (lets i) ∙ f);
-      releases = λ m. ap (λ (l : List (Beat w)). let_of c l (s'.block m)) (rests Channel.C)
-          ∙ (part-block (let_of c (rest Channel.C)) n s s' is.elsewhere (rw (is.release_source, is.letting_is) refl)) m
-          ∙ sym (unclosed first last (is_release_ack y.opcode) (releases m (release_of y.source t))
-          (let_of c (rest Channel.C) (s.block m)) is.ack);
-      sinks = λ i. ap (λ (o : Option ℕ). is_sunk c i (rest' Channel.D) o s') (is.tracked i) ∙ sinks i (y.sink == i)
+      released = λ i m e f. let_still before i m (release_of-d i y t) (cc (is.lets i))
+          (cc (before.release_sources i, lets i));
+      releases = λ m. ap (λ l. let_of c l (s'.block m)) (rests Channel.C) ∙ (part-block (let_of c (rest Channel.C)) n
+          s s' is.elsewhere (rw (is.release_source, is.letting_is) refl)) m ∙ sym (unclosed first last (is_release_ack
+          y.opcode) (releases m (release_of y.source t)) (let_of c (rest Channel.C) (s.block m)) is.ack);
+      sinks = λ i. ap (λ o. is_sunk c i (rest' Channel.D) o s') (is.tracked i) ∙ sinks i (y.sink == i)
           (s.tracked i) refl refl;
-      grants = each-block (λ m z. granted_by c m asked' (rest' Channel.D) z ≡ step first last
-          (is_grant y.opcode && asks_for m (request_of y.source t)) false
-          (granted_by c m asked (rest Channel.D) (s.block m))) n s s' is.elsewhere
-          (now_granted last d k (view new.service c) (comes_granting n asked' (rest' Channel.D)) is.seen_is
-          (is.grants n ∙ with_true (not last) (n == n) (same_number n)) ∙ sym (begun first last (grants_at n)
+      grants = each-block (λ m z. granted_by c m asked' (rest' Channel.D) z ≡ step first last (is_grant y.opcode
+          && asks_for m (request_of y.source t)) false (granted_by c m asked (rest Channel.D) (s.block m))) n s
+          s' is.elsewhere (now_granted last d k (view new.service c) (comes_granting n asked' (rest' Channel.D))
+          is.seen_is (is.grants n ∙ with_true (not last) (n == n) (same_number n)) ∙ sym (begun first last (grants_at n)
           (granted_by c n asked (rest Channel.D) b) (names n ∙ same_number n) granted_then)) (λ m ne. grants_other m ne
           ∙ sym (unbegun first last (grants_at m) (granted_by c m asked (rest Channel.D) (s.block m)) (apart m ne)));
       probes = λ m. answered m ∙ sym (step_quiet first last (is_answered ((s.block m).pair c).probing));
       probed = λ m e. probed-of m y t ∙ probed m e;
-      sunk = each-block (λ m z. granted_by c m asked' (rest' Channel.D) z ≡ true
-          → grant_sink m (Beat.D y ∷ t) ≡ Some z.tracker) n s s' is.elsewhere
-          (λ e. of_block n y t first new.tracker first_is (names n ∙ same_number n) (is.sink ∙ sym is.tracker)
-          (λ f. before.sunk n (before.grants n ∙ granted_then ∙ ap not f) ∙ ap Some (sym is.tracker)))
+      sunk = each-block (λ m z. granted_by c m asked' (rest' Channel.D) z ≡ true → grant_sink m (Beat.D y ∷ t) ≡ Some
+          z.tracker) n s s' is.elsewhere (λ e. of_block n y t first _ first_is (names n ∙ same_number n) (is.sink
+          ∙ sym is.tracker) (λ f. before.sunk n (before.grants n ∙ granted_then ∙ ap not f) ∙ ap Some (sym is.tracker)))
           (λ m ne e. of_other m y t (apart m ne) ∙ before.sunk m (before.grants m ∙ sym (grants_other m ne) ∙ e));
     }) before
   where
@@ -203,11 +195,11 @@ flowed-grant {w} {X} {c} {n} {d} {k} {y} {first} {last} {asked} {asked'} {rest} 
         (is_requested c i (rest Channel.A) (s.uses c i) s) is.ack f (was_requested i f))
     requests i false true e f = let fact = closed first last (is_release_ack y.opcode) (y.source == i)
         (is_requested c i (rest Channel.A) (s.uses c i) s) is.ack f (was_requested i f) in
-        cc (is.use_is i f, now_requested last d k (view new.service c) is.seen_is e, e)
-    requests i true false e f = requested-apart c i n (rest Channel.A) (rest Channel.A) (s.uses c i) s s' is.elsewhere
+        cc (is.use_is i f, now_requested last d k _ is.seen_is e, e)
+    requests i true false e f = requested-apart c i n (rest Channel.A) (rest Channel.A) _ s s' is.elsewhere
         refl (is.no_use i f) ∙ sym (unclosed_by first last (not (is_release_ack y.opcode)) (y.source == i)
         (is_requested c i (rest Channel.A) (s.uses c i) s) f)
-    requests i false false e f = requested-apart c i n (rest Channel.A) (rest Channel.A) (s.uses c i) s s' is.elsewhere
+    requests i false false e f = requested-apart c i n (rest Channel.A) (rest Channel.A) _ s s' is.elsewhere
         refl (is.no_use i f) ∙ sym (unclosed_by first last (not (is_release_ack y.opcode)) (y.source == i)
         (is_requested c i (rest Channel.A) (s.uses c i) s) f)
 
@@ -219,22 +211,20 @@ flowed-grant {w} {X} {c} {n} {d} {k} {y} {first} {last} {asked} {asked'} {rest} 
 
     asked_still : (i : ℕ) → is_requested c i (rest' Channel.A) (s'.uses c i) s' ≡ true → (z : Bool)
         → (last && (y.source == i)) ≡ z → request_of i (Beat.D y ∷ t) ≡ asked' i
-    asked_still i e true f =
-        absurd (let g : false ≡ true =
-        sym (use_at i ∙ ap (λ (z : Bool). is_requested c i (rest Channel.A) (if z then SourceFree else s.uses c i) s')
-        f) ∙ e in cc)
+    asked_still i e true f = absurd (let g : false ≡ true = sym (use_at i
+        ∙ ap (λ z. is_requested c i (rest Channel.A) (if z then SourceFree else s.uses c i) s') f) ∙ e in cc)
     asked_still i e false f =
         cc (request_of-d i y t, before.asked_is i (was_pending i (cc (use_at i)) (y.source == i) refl), is.asked_is i f)
 
     lets : (i : ℕ) → is_let_by c i (rest' Channel.C) (s'.lets c i) s' ≡ is_let_by c i (rest Channel.C) (s.lets c i) s
     lets i = let fact = let_by-same c i (rest Channel.C) (s.lets c i) s s' (part-block
-        (λ (z : Block X). (z.pair c).letting) n s s' is.elsewhere is.letting_is) in cc (rests Channel.C, is.lets i)
+        (λ z. (z.pair c).letting) n s s' is.elsewhere is.letting_is) in cc (rests Channel.C, is.lets i)
 
     sinks : (i : ℕ) (z : Bool) (o : Option ℕ) → (y.sink == i) ≡ z → s.tracked i ≡ o → is_sunk c i (rest' Channel.D) o s'
         ≡ step first last (is_grant y.opcode && (y.sink == i)) false (is_sunk c i (rest Channel.D) o s)
     sinks i true o e f =
         let at_n : o ≡ Some n = sym f ∙ is.tracks i e in
-        let fact = now_sunk last d k (view new.service c) (comes_in_grant i (rest' Channel.D)) is.seen_is
+        let fact = now_sunk last d k _ (comes_in_grant i (rest' Channel.D)) is.seen_is
         (is.comes i ∙ with_true (not last) (y.sink == i) e) in let other_fact =
         opened first last (is_grant y.opcode) (y.sink == i) (is_sunk c i (rest Channel.D) o s) is.grant e
         (cc (at_n, is.seen, is.came i, with_true (not first) (y.sink == i) e)) in cc at_n

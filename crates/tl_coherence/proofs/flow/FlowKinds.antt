@@ -1,29 +1,29 @@
 -- What is delivered on a link, as messages of another link are taken; and after the last beat of a request or ProbeAck,
 -- as what comes of it at the manager.
-use Rattle.std.proofs.Common.{◌≡◌, ℕ, Bool, true, false, List, ◌∷◌, Option, Some, None, length, refl, sym, ◌∙◌, ap, inl}
+use Rattle.std.proofs.Common.{◌≡◌, ℕ, Bool, true, false, List, ◌∷◌, Option, Some, None, refl, sym, ◌∙◌, ap, inl, length}
 use Rattle.std.proofs.Common.{ne_eqb}
 use Rattle.tl_coherence.proofs
 use proofs.Imports.{same_Some, Beat, BeatA, Channel, History, Config, Cap, Grow, comes_in_grant, block_at, cap_asked}
-use proofs.Imports.{Kind, Request, Probe, ProbeAck, Release, Answer, ReleaseAck, GrantAck, Packet, Own, AcquireOpen}
-use proofs.Imports.{is_unprobed, is_unreleased, is_granted_data, Free, Waits, GrantSent, State, packet, view}
-use proofs.Imports.{acquire_served, acquire_granted, report_taken, on, is_answered, AbstractState, kind_taken}
-use proofs.Imports.{with_state, performs, access_taken, is_unheld, gift, granted_after, last_taken, taken_by_client}
-use proofs.Imports.{MonitorRelation, report_told, SimulationRelation, is_caching, asked_by, Log, System}
+use proofs.Imports.{Answer, GrantAck, Kind, Packet, Probe, ProbeAck, Release, ReleaseAck, Request, AcquireOpen, Own}
+use proofs.Imports.{is_unprobed, is_unreleased, is_granted_data, Free, GrantSent, State, Waits, acquire_granted}
+use proofs.Imports.{acquire_served, on, packet, report_taken, view, is_answered, AbstractState, access_taken, gift}
+use proofs.Imports.{granted_after, is_unheld, kind_taken, last_taken, performs, taken_by_client, with_state}
+use proofs.Imports.{MonitorRelation, report_told, SimulationRelation, asked_by, is_caching, Log, System}
 use proofs.client.AsideAll.{Leaves, is_for_manager, leaves-at_manager, leaves-at_client}
-use proofs.manager.{Choices.plain-past, ManagedEndings.tracker-of}
-use proofs.protocol.{HeadOfD.grant-due, Events.IsReady, Events.ready-access, Events.told, Events.true-taken}
-use proofs.protocol.{Events.waits_for_others, RequestsKept.settled_all, BothParts.quiet_unanswered}
-use proofs.protocol.{FirstTokens.first-grant_ack, FirstTokens.first-report, NeverIdle.never-idle}
-use proofs.queues.{PhaseFacts.quiet_at_rest, PhaseFacts.own_alone, Phases.and_right, Tokens.same_number}
-use proofs.queues.{Facts.answered_other, Facts.is_other}
-use proofs.flow.{FlowAsking.asks-left, FlowBeats.same_perms, FlowComing.coming-granting, FlowComing.coming-sink}
-use proofs.flow.{FlowAside.is_heard, FlowAside.IsComing, FlowAside.flowed-aside, FlowAside.flowed-asks}
-use proofs.rank.RankParts.{serving-use}
-use proofs.simulation.Popped.{unfinished_at}
+use proofs.manager.{Accounts.plain-past, ManagedGrants.tracker-of}
+use proofs.protocol.RequestsKept.{settled_all}
+use proofs.protocol.BothParts.{quiet_unanswered, first-grant_ack, first-report}
+use proofs.protocol.HeadOfD.{grant-due, IsReady, ready-access, told, true-taken, waits_for_others, never-idle}
+use proofs.queues.{Phases.and_right, Tokens.same_number}
+use proofs.queues.Facts.{answered_other, is_other, quiet_at_rest, own_alone}
+use proofs.flow.{FlowAsked.asks-left, FlowBeats.same_perms, NextOnD.coming-granting, NextOnD.coming-sink}
+use proofs.flow.FlowAlone.{is_heard, IsComing, flowed-aside, flowed-asks}
 use proofs.flow.FlowApart.{replied, left-replied, left-served, left-acquire_granted, left-probe_taken}
 use proofs.flow.FlowApart.{left-report_taken, left-release_taken, left-answer_taken, left-grant_taken}
 use proofs.flow.FlowApart.{left-release_ack_taken, left-grant_ack_taken, left-access_answered, left-access_served}
 use proofs.flow.FlowApart.{left-report_answers, left-report_grants}
+use proofs.rank.RankParts.{serving-use}
+use proofs.simulation.Owned.{unfinished_at}
 
 module _ {w : ℕ} {config : Config} {log : Log w} (h : AbstractState w) {sys : System w} (c : ℕ)
     (is : SimulationRelation config log h.mail h.request h.state sys) (tracker : ℕ) where
@@ -32,8 +32,7 @@ module _ {w : ℕ} {config : Config} {log : Log w} (h : AbstractState w) {sys : 
 
   -- nothing of a free block is under way
   free_quiet : (n : ℕ) → (s.block n).service ≡ Free → (d : ℕ) → is_unprobed ((s.block n).pair d).probing ≡ true
-  free_quiet n free d = quiet_at_rest ((s.block n).pair d) (view (s.block n).service d)
-      ((is.invariant.blocks n).phases d) (rw free refl)
+  free_quiet n free d = quiet_at_rest _ _ ((is.invariant.blocks n).phases d) (rw free refl)
 
   -- ---- what comes of the last beat at the manager, for client d's link
 
@@ -52,7 +51,7 @@ module _ {w : ℕ} {config : Config} {log : Log w} (h : AbstractState w) {sys : 
     -- nobody else has a ProbeAck under way
     unanswered : (n : ℕ) → waits_for_others config c h n ≡ false → (i : ℕ) → (i ≡ c → ⊥)
         → is_answered ((s.block n).pair i).probing ≡ false
-    unanswered n last i ne = quiet_unanswered ((s.block n).pair i).probing (settled_all (length config.clients.items)
+    unanswered n last i ne = quiet_unanswered _ (settled_all (length config.clients.items)
         (is_caching config) c (s.block n).pair (plain-past config) (is.invariant.blocks n).outside last i ne)
 
     -- ---- an access, and a ProbeAck
@@ -79,11 +78,9 @@ module _ {w : ℕ} {config : Config} {log : Log w} (h : AbstractState w) {sys : 
     answers-report n toks q source k known last waits l =
         let after = last_taken (length config.clients.items) config.profile c n (told config c h n)
         (Waits q false source k) toks h in
-        flowed-aside
-        (left-report_answers d before (asked_by after.mail after.state d) rest s (asks-left d h after l) coming c n
-        (told config c h n) toks q source k (performs (h.request n)) waits (unanswered n last)
-        (tracker-of n is.invariant.named (rw waits refl))
-        (ap is_heard (serving-use n q source k is.invariant waits))) known.2
+        flowed-aside (left-report_answers d before (asked_by after.mail after.state d) rest s (asks-left d h after l)
+        coming c n (told config c h n) toks q source k (performs (h.request n)) waits (unanswered n last) (tracker-of n
+        is.invariant.named (rw waits refl)) (ap is_heard (serving-use n q source k is.invariant waits))) known.2
 
     -- and of an Acquire
     grants-report : (n : ℕ) (toks : List Packet) (q source : ℕ) (k : Cap) (whole : Bool) (g : Grow)
@@ -92,21 +89,20 @@ module _ {w : ℕ} {config : Config} {log : Log w} (h : AbstractState w) {sys : 
         → Follows (granted_after (length config.clients.items) config.profile c q n (told config c h n)
         (AcquireOpen whole g) toks h)
     grants-report n toks q source k whole g known last waits wants l =
-        let even = same_perms ((s.block n).pair q).recorded ((s.block n).pair q).held (and_right (is_unreleased
+        let even = same_perms _ _ (and_right (is_unreleased
         ((s.block n).pair q).letting) _ (and_right (is_unprobed ((s.block n).pair q).probing) _ (own_alone
         ((s.block n).pair q) (view (s.block n).service q) ((is.invariant.blocks n).phases q) own))) in
         let after = granted_after (length config.clients.items) config.profile c q n (told config c h n)
         (AcquireOpen whole g) toks h in
-        flowed-aside
-        (left-report_grants d before (asked_by after.mail after.state d) rest s (asks-left d h after l) coming c n
-        (told config c h n) toks q source k _ _ waits (unanswered n last) apart even none_comes) known.2
+        flowed-aside (left-report_grants d before (asked_by after.mail after.state d) rest s (asks-left d h after l)
+        coming c n (told config c h n) toks q source k _ _ waits (unanswered n last) apart even none_comes) known.2
       where
         own : view (s.block n).service q ≡ Own
         own = rw (waits, same_number q) refl
 
         apart : q ≡ c → ⊥
         apart same = let no : is_other Own ≡ true = sym (ap is_other own)
-            ∙ ap (λ (i : ℕ). is_other (view (s.block n).service i)) same ∙ (answered_other _ ((s.block n).pair c)
+            ∙ ap (λ i. is_other (view (s.block n).service i)) same ∙ (answered_other _ ((s.block n).pair c)
             (view (s.block n).service c) ((is.invariant.blocks n).phases c) (first-report is.invariant known.0)) in cc
 
         -- no Grant that was delivered in part is of a block that waits
@@ -119,7 +115,7 @@ module _ {w : ℕ} {config : Config} {log : Log w} (h : AbstractState w) {sys : 
                 let of = coming-sink d i is f in
                 let here : of.0 ≡ n = same_Some of.0 n (sym of.2 ∙ tracks) in
                 absurd (let no : GrantSent d of.1.data_too of.1.k ≡ Waits q true source k =
-                sym of.1.service ∙ ap (λ (j : ℕ). (s.block j).service) here ∙ waits in cc)
+                sym of.1.service ∙ ap (λ j. (s.block j).service) here ∙ waits in cc)
 
     pub settled : (k : Kind) (i : ℕ) (toks : List Packet) → on k (s.link c) ≡ packet k i ∷ toks
         → IsReady tracker c k i h → Begins toks k i → Leaves d h (kind_taken config tracker c k i toks h)
@@ -206,7 +202,7 @@ module _ {w : ℕ} {config : Config} {log : Log w} (h : AbstractState w) {sys : 
               let due = grant-due (is_caching config) c n toks s is.invariant taken.0 in
               let same : q ≡ c = let both = sym sent ∙ due.service in cc in
               flowed-aside (left-grant_taken d then_asked _ (unfinished_at sys d) s (asks-left d h (taken_by_client c n
-              (GrantSent q x j) toks h) l) comes c n _ x j toks ne (sent ∙ ap (λ (i : ℕ). GrantSent i x j) same))
+              (GrantSent q x j) toks h) l) comes c n _ x j toks ne (sent ∙ ap (λ i. GrantSent i x j) same))
               flowed;
           release_ack = λ n taken l. flowed-aside (left-release_ack_taken d then_asked _ (unfinished_at sys d) s
               (asks-left d h (kind_taken config tracker c ReleaseAck n toks h) l) comes c n toks ne) flowed;
@@ -221,10 +217,9 @@ module _ {w : ℕ} {config : Config} {log : Log w} (h : AbstractState w) {sys : 
     by_kind : (k : Kind) (i : ℕ) (toks : List Packet) → on k (s.link c) ≡ packet k i ∷ toks → IsReady tracker c k i h
         → Leaves d h (kind_taken config tracker c k i toks h) → FlowsAs h
         → FlowsAs (kind_taken config tracker c k i toks h)
-    by_kind Request source toks first ready l flowed = settled d (unfinished_at sys d) refl t Request source toks first
-        ready (flowed-aside (left-replied d then_asked then_asked (unfinished_at sys d) s (λ i. refl) comes c source ne)
-        flowed) l
-    by_kind ProbeAck n toks first ready l flowed = settled d (unfinished_at sys d) refl t ProbeAck n toks first ready
+    by_kind Request source toks first ready l flowed = settled d _ refl t Request source toks first ready (flowed-aside
+        (left-replied d then_asked then_asked (unfinished_at sys d) s (λ i. refl) comes c source ne) flowed) l
+    by_kind ProbeAck n toks first ready l flowed = settled d _ refl t ProbeAck n toks first ready
         (flowed-aside (left-report_taken d then_asked then_asked (unfinished_at sys d) s (λ i. refl) comes c n
         (report_told ((s.block n).pair c).probing) toks ne) flowed) l
     by_kind k i toks first ready l flowed = unsettled k i toks (first, ready, refl) flowed l

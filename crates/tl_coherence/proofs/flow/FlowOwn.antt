@@ -1,26 +1,26 @@
 -- What is delivered on a link, as a beat of it is: each value of it is that of the protocol afterwards.
-use Rattle.std.proofs.Common.{◌≡◌, subst, ℕ, Bool, true, false, List, ◌∷◌, length, refl, sym, ◌∙◌, ap, inl}
-use Rattle.std.proofs.Common.{if◌then◌else◌}
+use Rattle.std.proofs.Common.{◌≡◌, ℕ, Bool, true, false, if◌then◌else◌, List, ◌∷◌, refl, sym, ◌∙◌, ap, subst, inl}
+use Rattle.std.proofs.Common.{length}
 use Rattle.tl_coherence.proofs
-use proofs.Imports.{Beat, Channel, IsWidth, Message, MessageA, MessageC, MessageE, beat_of, History, completes, Config}
-use proofs.Imports.{Cap, cap_asked, Kind, Request, Acquire, Probe, ProbeAck, Release, Answer, Grant, ReleaseAck}
-use proofs.Imports.{GrantAck, Packet, is_whole, ClientBlock, AcquireOpen, is_granted_data, after_probe}
-use proofs.Imports.{after_release_ack, packets_on, is_probed, Block, State, packet, is_on, probed_block, probe_taken}
-use proofs.Imports.{let_go_block, release_ack_taken, release_taken, acquire_served, acquire_granted, AbstractState}
-use proofs.Imports.{kind_taken, with_state, some_below, is_unheld, gift, acquire_taken, MonitorRelation, cap_sent}
-use proofs.Imports.{prune_told, block_message, message_of_kind, SimulationRelation, is_caching, asked_by, Log, System}
+use proofs.Imports.{Beat, Channel, IsWidth, Message, MessageC, MessageE, beat_of, History, completes, Config, Cap}
+use proofs.Imports.{cap_asked, Acquire, Answer, Grant, GrantAck, Kind, Packet, Probe, ProbeAck, Release, ReleaseAck}
+use proofs.Imports.{Request, AcquireOpen, is_whole, after_probe, after_release_ack, is_granted_data, State}
+use proofs.Imports.{acquire_granted, acquire_served, is_on, is_probed, let_go_block, packet, packets_on, probe_taken}
+use proofs.Imports.{probed_block, release_ack_taken, release_taken, AbstractState, acquire_taken, gift, is_unheld}
+use proofs.Imports.{kind_taken, with_state, some_below, MonitorRelation, cap_sent, message_of_kind, prune_told}
+use proofs.Imports.{block_message, SimulationRelation, asked_by, is_caching, Log, System}
 use Rattle.tl_burst.specs.statement.Messages.{on}
-use proofs.client.{AsideAll.Leaves, AsideAll.leaves-at_manager, ClientDelivered.ack_next, ClientEnd.asks-same}
-use proofs.client.{ProbeDelivered.probe-beat}
+use proofs.client.{ClientDelivered.ack_next, ClientEnd.asks-same, ProbeDelivered.probe-beat}
+use proofs.client.AsideAll.{Leaves, leaves-at_manager}
 use proofs.queues.{Carried.IsNext, Tokens.set-same, Tokens.set-part}
-use proofs.flow.{FlowAlone.AreRests, FlowAside.flowed-asks, FlowAsking.asks-left, FlowBeats.one-beat, FlowKinds.settled}
-use proofs.flow.{ChannelB.own-probe, ChannelD.own-answer, ChannelD.own-release_ack, ChannelD.own-grant}
-use proofs.flow.{ChannelA.own-access, ChannelA.own-acquire_served, ChannelA.own-acquire_granted}
-use proofs.protocol.{Events.IsReady, HeadOfD.IsGrantDue, HeadOfD.grant-due, Heads.IsAsked, Heads.asked-first}
-use proofs.protocol.{Heads.IsWanted, Heads.wanted-first, Heads.acquisition_beats}
-use proofs.manager.RequestsTaken.{acquire_wanted}
-use proofs.simulation.Popped.{unfinished_at}
+use proofs.flow.{FlowAlone.AreRests, FlowAlone.flowed-asks, FlowAsked.asks-left, FlowBeats.one-beat}
+use proofs.flow.{FlowBeats.own-probe, FlowKinds.settled, ChannelD.own-answer, ChannelD.own-release_ack}
+use proofs.flow.{ChannelD.own-grant, ChannelA.own-access, ChannelA.own-acquire_served, ChannelA.own-acquire_granted}
 use proofs.flow.ChannelCE.{report_rendered, ack_rendered, own-report, own-release, own-grant_ack}
+use proofs.protocol.Room.{IsAsked, asked-first, IsWanted, wanted-first, acquisition_beats}
+use proofs.protocol.HeadOfD.{IsReady, IsGrantDue, grant-due}
+use proofs.manager.RequestsTaken.{acquire_wanted}
+use proofs.simulation.Owned.{unfinished_at}
 
 module _ {w : ℕ} {config : Config} {log : Log w} (h : AbstractState w) {sys : System w} {c : ℕ} (width : IsWidth w)
     (is : SimulationRelation config log h.mail h.request h.state sys) (tracker : ℕ) {t : History w}
@@ -58,7 +58,7 @@ module _ {w : ℕ} {config : Config} {log : Log w} (h : AbstractState w) {sys : 
         asked = asked-first c i toks is tokens
 
         here : IsNext x (unfinished_at sys c Channel.A) (Message.A asked.request) ms queue
-        here = subst (λ (m : Message w). IsNext x (unfinished_at sys c Channel.A) m ms queue) asked.is_it next
+        here = subst (λ m. IsNext x (unfinished_at sys c Channel.A) m ms queue) asked.is_it next
 
         go : (z : Bool) → completes x (unfinished_at sys c Channel.A) ≡ z → (z ≡ true → IsReady tracker c Request i h)
             → FlowsWith x (if z then kind_taken config tracker c Request i toks h else h)
@@ -73,11 +73,8 @@ module _ {w : ℕ} {config : Config} {log : Log w} (h : AbstractState w) {sys : 
         wanted : IsWanted w c i s
         wanted = wanted-first c i toks is tokens
 
-        m : MessageA w
-        m = acquire_wanted c i s wanted
-
-        here : IsNext x (unfinished_at sys c Channel.A) (Message.A m) ms queue
-        here = subst (λ (z : Message w). IsNext x (unfinished_at sys c Channel.A) z ms queue) wanted.renders next
+        here : IsNext x (unfinished_at sys c Channel.A) (Message.A (acquire_wanted c i s wanted)) ms queue
+        here = subst (λ z. IsNext x (unfinished_at sys c Channel.A) z ms queue) wanted.renders next
 
         one : completes x (unfinished_at sys c Channel.A) ≡ true
         one = (one-beat here (acquisition_beats w wanted.whole wanted.grow ((s.block i).source c) i)).2
@@ -126,14 +123,11 @@ module _ {w : ℕ} {config : Config} {log : Log w} (h : AbstractState w) {sys : 
         one : completes x (unfinished_at sys c Channel.B) ≡ true
         one = cc ((is.kept c).b_whole, probe-beat c i s next)
 
-        new : Block (List ℕ)
-        new = probed_block c k (s.block i)
-
         asks : (j : ℕ) → asked_by h.mail (probe_taken c i k toks s) c j ≡ asked_by h.mail s c j
         asks j = cc (asks-same c j h.mail h.mail s (probe_taken c i k toks s) refl (inl refl)
-            (λ n used. set-part (λ (z : Block (List ℕ)). (z.pair c).acquiring) i new s.block
-            (ap (λ (p : ClientBlock). p.acquiring) (set-same c (after_probe k ((s.block i).pair c)) (s.block i).pair))
-            n) (λ n used. set-part (λ (z : Block (List ℕ)). z.source c) i new s.block refl n))
+            (λ n used. set-part (λ z. (z.pair c).acquiring) i (probed_block c k (s.block i)) s.block
+            (ap (λ p. p.acquiring) (set-same c (after_probe k ((s.block i).pair c)) (s.block i).pair))
+            n) (λ n used. set-part (λ z. z.source c) i (probed_block c k (s.block i)) s.block refl n))
 
         go : (z : Bool) → completes x (unfinished_at sys c Channel.B) ≡ z
             → FlowsWith x (if z then kind_taken config tracker c Probe i toks h else h)
@@ -147,10 +141,10 @@ module _ {w : ℕ} {config : Config} {log : Log w} (h : AbstractState w) {sys : 
     goes-report tokens next b last ready = go b last
       where
         about : (m : MessageC w) × (block_message ProbeAck c i (s.block i) ≡ Message.C m)
-        about = let told = report_rendered c i (s.block i) width (is.sized i).truth in (told.0, told.1)
+        about = let told = report_rendered c i _ width (is.sized i).truth in (told.0, told.1)
 
         here : IsNext x (unfinished_at sys c Channel.C) (Message.C about.0) ms queue
-        here = subst (λ (m : Message w). IsNext x (unfinished_at sys c Channel.C) m ms queue) about.1 next
+        here = subst (λ m. IsNext x (unfinished_at sys c Channel.C) m ms queue) about.1 next
 
         go : (z : Bool) → completes x (unfinished_at sys c Channel.C) ≡ z
             → FlowsWith x (if z then kind_taken config tracker c ProbeAck i toks h else h)
@@ -201,14 +195,11 @@ module _ {w : ℕ} {config : Config} {log : Log w} (h : AbstractState w) {sys : 
         one : completes x (unfinished_at sys c Channel.D) ≡ true
         one = (one-beat (ack_next c i s next) refl).2
 
-        new : Block (List ℕ)
-        new = let_go_block c (s.block i)
-
         asks : (j : ℕ) → asked_by h.mail (release_ack_taken c i toks s) c j ≡ asked_by h.mail s c j
         asks j = cc (asks-same c j h.mail h.mail s (release_ack_taken c i toks s) refl (inl refl)
-            (λ n used. set-part (λ (z : Block (List ℕ)). (z.pair c).acquiring) i new s.block
-            (ap (λ (p : ClientBlock). p.acquiring) (set-same c (after_release_ack ((s.block i).pair c))
-            (s.block i).pair)) n) (λ n used. set-part (λ (z : Block (List ℕ)). z.source c) i new s.block refl n))
+            (λ n used. set-part (λ z. (z.pair c).acquiring) i (let_go_block c (s.block i)) s.block
+            (ap (λ p. p.acquiring) (set-same c (after_release_ack ((s.block i).pair c))
+            (s.block i).pair)) n) (λ n used. set-part (λ z. z.source c) i (let_go_block c (s.block i)) s.block refl n))
 
         go : (z : Bool) → completes x (unfinished_at sys c Channel.D) ≡ z
             → FlowsWith x (if z then kind_taken config tracker c ReleaseAck i toks h else h)
@@ -224,7 +215,7 @@ module _ {w : ℕ} {config : Config} {log : Log w} (h : AbstractState w) {sys : 
         go b last
       where
         one : completes x (unfinished_at sys c Channel.E) ≡ true
-        one = (one-beat (subst (λ (z : Message w). IsNext x (unfinished_at sys c Channel.E) z ms queue)
+        one = (one-beat (subst (λ z. IsNext x (unfinished_at sys c Channel.E) z ms queue)
             (ack_rendered c i (s.block i)) next) refl).2
 
         go : (z : Bool) → completes x (unfinished_at sys c Channel.E) ≡ z
@@ -232,9 +223,8 @@ module _ {w : ℕ} {config : Config} {log : Log w} (h : AbstractState w) {sys : 
         go false e = contrary (completes x (unfinished_at sys c Channel.E)) one e
         go true e =
             let after = kind_taken config tracker c GrantAck i toks h in
-            own-grant_ack h width is flowed rest' i toks tokens x ms queue next rests
-            (asked_by after.mail after.state c)
-            (asks-left c h after (leaves-at_manager config tracker c GrantAck i toks h c refl is.invariant tokens))
+            own-grant_ack h width is flowed rest' i toks tokens x ms queue next rests (asked_by after.mail after.state
+            c) (asks-left c h after (leaves-at_manager config tracker c GrantAck i toks h c refl is.invariant tokens))
 
     -- ---- each kind on its channel
 

@@ -1,17 +1,18 @@
 -- What is delivered on a link, as the beats of a Release are.
-use Rattle.std.proofs.Common.{◌≡◌, ℕ, Bool, true, false, not, ◌&&◌, ◌||◌, ◌∷◌, Option, Some, None, refl, sym, ◌∙◌, ap}
-use Rattle.std.proofs.Common.{arith, List, ◌⊎◌, inl, inr, ne_eqb, ◌==◌, if◌then◌else◌, option_map, unwrap_or}
+use Rattle.std.proofs.Common.{◌≡◌, ℕ, Bool, true, false, not, ◌&&◌, ◌||◌, ◌==◌, if◌then◌else◌, List, ◌∷◌, Option, Some}
+use Rattle.std.proofs.Common.{None, refl, sym, ◌∙◌, ap, arith, ◌⊎◌, inl, inr, ne_eqb, unwrap_or}
 use Rattle.tl_coherence.proofs
-use proofs.Imports.{cases_eq, and_right, Beat, BeatA, BeatC, Channel, History, ReleaseSource, Prune, Perm, prune_right}
-use proofs.Imports.{comes_in_release, begins, ends, block_at, pending, is_probe_ack, is_release, release_of, reported}
-use proofs.Imports.{grant_sink-c, probe_of-c, request_of-c, is_of, releases_with, ReleasePhase, ReleaseSent}
-use proofs.Imports.{ReleaseAcked, is_unreleased, Service, Block, State, view, is_acknowledging, is_answered}
-use proofs.Imports.{is_unserved, comes_granting, MonitorRelation, is_requested, is_release_pending, is_let_by, is_sunk}
-use proofs.Imports.{probe_beat, cap_waited}
-use proofs.flow.{FlowAlone.AreRests, FlowAside.requested-blocks, FlowReported.unsaid}
-use proofs.flow.FlowStep.{flowed-next, held_by, acquired_by, let_of, granted_by, step, step_quiet}
-use proofs.queues.{Tokens.same_number}
-use proofs.protocol.{BothParts.is_of-is}
+use proofs.Imports.{and_right, cases_eq, Beat, BeatA, BeatC, Channel, History, ReleaseSource, Prune, Perm, prune_right}
+use proofs.Imports.{comes_in_release, begins, block_at, ends, is_probe_ack, is_release, reported, pending, release_of}
+use proofs.Imports.{grant_sink-c, probe_of-c, request_of-c, is_of, releases_with, ReleaseAcked, ReleasePhase}
+use proofs.Imports.{ReleaseSent, is_unreleased, Block, State, view, is_acknowledging, is_answered, is_unserved}
+use proofs.Imports.{comes_granting, MonitorRelation, is_let_by, is_release_pending, is_requested, is_sunk, probe_beat}
+use proofs.Imports.{cap_waited}
+use proofs.flow.{FlowAlone.AreRests, FlowAlone.requested-blocks, FlowOthers.unsaid}
+use proofs.flow.FlowStep.{flowed-next, held_by, acquired_by, let_of, granted_by, step, step_quiet, let_still}
+use proofs.flow.FlowStep.{IsReleaseOf}
+use proofs.queues.Tokens.{same_number}
+use proofs.protocol.BothParts.{is_of-is}
 
 -- ---- another value of one block
 
@@ -91,13 +92,12 @@ let_other : {w : ℕ} (i : ℕ) (rest rest' : List (Beat w)) (l : ReleasePhase)
 let_other i rest rest' l e = grind arith
 
 -- the last Release with the source of the beat, and with another one
-of_source : {w : ℕ} {A : Type 0} (part : BeatC w → A) (v : A) (i : ℕ) (y : BeatC w) (t : History w) (first : Bool)
-    → begins (Beat.C y) t ≡ first → is_release y.opcode ≡ true → (y.source == i) ≡ true → part y ≡ v
-    → (first ≡ false → option_map part (release_of i t) ≡ Some v) → option_map part (release_of i (Beat.C y ∷ t))
-    ≡ Some v
+of_source : {w : ℕ} (n i : ℕ) (y : BeatC w) (t : History w) (first : Bool) → begins (Beat.C y) t ≡ first
+    → is_release y.opcode ≡ true → (y.source == i) ≡ true → IsReleaseOf n (Some y)
+    → (first ≡ false → IsReleaseOf n (release_of i t)) → IsReleaseOf n (release_of i (Beat.C y ∷ t))
 unfolding release_of
-of_source part v i y t true e f g h before = rw (e, f, g) (ap Some h)
-of_source part v i y t false e f g h before = rw e (before refl)
+of_source n i y t true e f g h before = rw (e, f, g) h
+of_source n i y t false e f g h before = rw e (before refl)
 
 of_other : {w : ℕ} (i : ℕ) (y : BeatC w) (t : History w) → (y.source == i) ≡ false
     → release_of i (Beat.C y ∷ t) ≡ release_of i t
@@ -118,26 +118,24 @@ flowed-release {w} {X} {c} {n} {r} {y} {first} {last} {asked} {rest} {rest'} {s}
     let apart : (m : ℕ) → (m ≡ n → ⊥) → (block_at y.address == m) ≡ false =
     λ m ne. rw is.at (ne_eqb n m (λ e. ne (sym e))) in
     let then_here : let_of c (rest Channel.C) b ≡ not first = let_then (b.release_source c) first r (rest Channel.C)
-    (b.pair c).letting is.letting (is.came (b.release_source c)
+    _ is.letting (is.came (b.release_source c)
     ∙ with_true (not first) (y.source == b.release_source c) (rw is.source (same_number (b.release_source c)))) in
     let open_other : (m : ℕ) → (m ≡ n → ⊥) → (i : ℕ) → i ≡ (s.block m).release_source c → is_unreleased ((s.block
-    m).pair c).letting ≡ false → i ≡ y.source → ⊥ = λ m ne i at begun same. ne (both_some m n (s.lets c i)
-    (is_of-is m (s.lets c i) (named i m ∙ rw (begun, at) (same_number ((s.block m).release_source c)))) (of_block i
-    same)) in
+    m).pair c).letting ≡ false → i ≡ y.source → ⊥ = λ m ne i at begun same. ne (both_some m n (s.lets c i) (is_of-is m
+    (s.lets c i) (named i m ∙ rw (begun, at) (same_number ((s.block m).release_source c)))) (of_block i same)) in
     let let_rest : (m : ℕ) → (m ≡ n → ⊥) → let_of c (rest' Channel.C) (s.block m) ≡ let_of c (rest Channel.C)
     (s.block m) = λ m ne. let_other ((s.block m).release_source c) (rest Channel.C) (rest' Channel.C)
-    ((s.block m).pair c).letting (λ begun. comes_other ((s.block m).release_source c)
-    (open_other m ne ((s.block m).release_source c) refl begun)) in
+    ((s.block m).pair c).letting (λ begun. comes_other _ (open_other m ne ((s.block m).release_source c) refl begun)) in
     let requests : (i : ℕ) → is_requested c i (rest' Channel.A) (s'.uses c i) s' ≡ is_requested c i (rest Channel.A)
     (s.uses c i) s = λ i. cc (
       rests Channel.A,
       is.uses i,
-      requested-blocks c i (rest Channel.A) (s.uses c i) s s' (part-block (λ (z : Block X). is_unserved
-          (view z.service c)) n s s' is.elsewhere (ap (λ (q : Service). is_unserved (view q c)) is.service)),
+      requested-blocks c i (rest Channel.A) (s.uses c i) s s' (part-block (λ z. is_unserved
+          (view z.service c)) n s s' is.elsewhere (ap (λ q. is_unserved (view q c)) is.service)),
     ) in
     let acquires = part-block (acquired_by c) n s s' is.elsewhere (cc (is.acquiring, is.service)) in
     let answered : (m : ℕ) → is_answered ((s'.block m).pair c).probing ≡ is_answered ((s.block m).pair c).probing =
-    part-block (λ (z : Block X). is_answered (z.pair c).probing) n s s' is.elsewhere (ap is_answered is.probing) in
+    part-block (λ z. is_answered (z.pair c).probing) n s s' is.elsewhere (ap is_answered is.probing) in
     let not_closed : (m : ℕ) → step first last false (is_probe_ack y.opcode && (block_at y.address == m))
     (is_answered ((s.block m).pair c).probing) ≡ is_answered ((s.block m).pair c).probing =
     λ m. rw is.ack (step_quiet first last (is_answered ((s.block m).pair c).probing)) in
@@ -145,16 +143,13 @@ flowed-release {w} {X} {c} {n} {r} {y} {first} {last} {asked} {rest} {rest'} {s}
     (s.block m) = λ m. cc (
       rests Channel.D,
       part-block (granted_by c m asked (rest Channel.D)) n s s' is.elsewhere
-          (ap (λ (q : Service). is_acknowledging (view q c) || comes_granting m asked (rest Channel.D)) is.service) m,
+          (ap (λ q. is_acknowledging (view q c) || comes_granting m asked (rest Channel.D)) is.service) m,
     ) in
-    flowed-next (record {
-      first_is = first_is;
-      last_is = last_is;
-      rests = rests;
+    flowed-next first_is last_is rests (record {
       held_is =
           each-block (λ m z. held_by c z ≡ (if last then unwrap_or (if (is_probe_ack y.opcode || is_release y.opcode)
           && (block_at y.address == m) then Some (reported y.param) else None) (held_by c (s.block m)) else held_by c
-          (s.block m))) n s s' is.elsewhere (is.held_is ∙ ap (λ (q : Perm). if last then q else held_by c b)
+          (s.block m))) n s s' is.elsewhere (is.held_is ∙ ap (λ q. if last then q else held_by c b)
           (sym is.says) ∙ sym (said last (is_probe_ack y.opcode) (is_release y.opcode) (block_at y.address == n)
           (reported y.param) (held_by c b) is.release here_at)) (λ m ne. sym (unsaid_any last (is_probe_ack y.opcode)
           (is_release y.opcode) (block_at y.address == m) (reported y.param) (held_by c (s.block m)) (apart m ne)));
@@ -163,7 +158,6 @@ flowed-release {w} {X} {c} {n} {r} {y} {first} {last} {asked} {rest} {rest'} {s}
       acquires = λ m. acquires m ∙ sym (step_quiet first last (acquired_by c (s.block m)));
       release_sources = lets;
       released = λ i m e f. released i m (sym (is.lets i) ∙ e) f (cases_eq i y.source);
-      sizes = λ i m e f. sizes i m (sym (is.lets i) ∙ e) f (cases_eq i y.source);
       releases = each-block (λ m z. let_of c (rest' Channel.C) z ≡ step first last (is_release y.opcode
           && (block_at y.address == m)) false (let_of c (rest Channel.C) (s.block m))) n s s' is.elsewhere
           (let_now (new.release_source c) last r (rest' Channel.C) (new.pair c).letting is.letting_is
@@ -175,9 +169,9 @@ flowed-release {w} {X} {c} {n} {r} {y} {first} {last} {asked} {rest} {rest'} {s}
       grants = λ m. grants m ∙ sym (step_quiet first last (granted_by c m asked (rest Channel.D) (s.block m)));
       probes = λ m. answered m ∙ sym (not_closed m);
       probed = λ m e. probe_of-c m y t ∙ before.probed m (sym (answered m) ∙ e) ∙ sym (ap (λ k. Some (probe_beat m k))
-          (part-block (λ (z : Block X). cap_waited z.service) n s s' is.elsewhere (ap cap_waited is.service) m));
+          (part-block (λ z. cap_waited z.service) n s s' is.elsewhere (ap cap_waited is.service) m));
       sunk = λ m e. grant_sink-c m y t ∙ before.sunk m (before.grants m ∙ sym (grants m) ∙ e) ∙ ap Some
-          (sym (part-block (λ (z : Block X). z.tracker) n s s' is.elsewhere is.tracker m));
+          (sym (part-block (λ z. z.tracker) n s s' is.elsewhere is.tracker m));
     }) before
   where
     b : Block X
@@ -206,16 +200,16 @@ flowed-release {w} {X} {c} {n} {r} {y} {first} {last} {asked} {rest} {rest'} {s}
       where
         same : (o : Option ℕ) → is_sunk c i (rest Channel.D) o s' ≡ is_sunk c i (rest Channel.D) o s
         same None = refl
-        same (Some m) = cc (part-block (λ (z : Block X). z.service) n s s' is.elsewhere is.service m)
+        same (Some m) = cc (part-block (λ z. z.service) n s s' is.elsewhere is.service m)
 
     then_by : (i : ℕ) (o : Option ℕ) → s.lets c i ≡ o → i ≡ y.source → is_let_by c i (rest Channel.C) o s ≡ not first
-    then_by i o e same = let fact = let_then i first r (rest Channel.C) (b.pair c).letting is.letting
+    then_by i o e same = let fact = let_then i first r (rest Channel.C) _ is.letting
         (is.came i ∙ with_true (not first) (y.source == i) (rw same (same_number y.source))) in cc (e, of_block i same)
 
     lets_with : (i : ℕ) (o : Option ℕ) → s.lets c i ≡ o → (i ≡ y.source) ⊎ (i ≡ y.source → ⊥)
         → is_let_by c i (rest' Channel.C) o s' ≡ step first last (is_release y.opcode && (y.source == i)) false
         (is_let_by c i (rest Channel.C) o s)
-    lets_with i o e (inl same) = let fact = let_now i last r (rest' Channel.C) (new.pair c).letting is.letting_is
+    lets_with i o e (inl same) = let fact = let_now i last r (rest' Channel.C) _ is.letting_is
         (is.comes i ∙ with_true (not last) (y.source == i) (rw same (same_number y.source))) in let other_fact =
         opened first last (is_release y.opcode) (y.source == i) (is_let_by c i (rest Channel.C) o s) is.release
         (rw same (same_number y.source)) (then_by i o e same) in cc (e, of_block i same)
@@ -241,15 +235,8 @@ flowed-release {w} {X} {c} {n} {r} {y} {first} {last} {asked} {rest} {rest'} {s}
         (is_let_by c i (rest Channel.C) (s.lets c i) s) (another i ne)) ∙ sym (lets i) ∙ f
 
     released : (i m : ℕ) → s.lets c i ≡ Some m → is_let_by c i (rest' Channel.C) (s'.lets c i) s' ≡ true
-        → (i ≡ y.source) ⊎ (i ≡ y.source → ⊥)
-        → option_map (λ z. block_at z.address) (release_of i (Beat.C y ∷ t)) ≡ Some m
-    released i m e f (inl same) =
-        of_source (λ z. block_at z.address) m i y t first first_is is.release (rw same (same_number y.source))
-        (is.at ∙ both_some n m (s.lets c i) (of_block i same) e) (λ g. before.released i m e (was_pending i same g))
-    released i m e f (inr ne) = cc (of_other i y t (another i ne), before.released i m e (still_pending i ne f))
-
-    sizes : (i m : ℕ) → s.lets c i ≡ Some m → is_let_by c i (rest' Channel.C) (s'.lets c i) s' ≡ true
-        → (i ≡ y.source) ⊎ (i ≡ y.source → ⊥) → option_map (λ z. z.size) (release_of i (Beat.C y ∷ t)) ≡ Some 6
-    sizes i m e f (inl same) = of_source (λ z. z.size) 6 i y t first first_is is.release
-        (rw same (same_number y.source)) is.size (λ g. before.sizes i m e (was_pending i same g))
-    sizes i m e f (inr ne) = cc (of_other i y t (another i ne), before.sizes i m e (still_pending i ne f))
+        → (i ≡ y.source) ⊎ (i ≡ y.source → ⊥) → IsReleaseOf m (release_of i (Beat.C y ∷ t))
+    released i m e f (inl same) = of_source m i y t first first_is is.release (rw same (same_number y.source))
+        (ap Some (is.at ∙ both_some n m (s.lets c i) (of_block i same) e), ap Some is.size)
+        (λ g. (before.released i m e (was_pending i same g), before.sizes i m e (was_pending i same g)))
+    released i m e f (inr ne) = let_still before i m (of_other i y t (another i ne)) e (still_pending i ne f)

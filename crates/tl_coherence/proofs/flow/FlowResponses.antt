@@ -1,30 +1,98 @@
+-- What is half taken on channel A while a response is on its way.
 -- A response that is delivered breaks no rule of order after what was delivered on its link.
-use Rattle.std.proofs.Common.{◌≡◌, subst, ℕ, zero, suc, Bool, true, false, not, ◌&&◌, ◌||◌, List, [], ◌∷◌, Option, Some}
-use Rattle.std.proofs.Common.{None, refl, sym, ◌∙◌, ap, eqb-true, ◌==◌, map}
+use Rattle.std.proofs.Common.{◌≡◌, ℕ, zero, suc, Bool, true, false, not, ◌&&◌, ◌||◌, ◌==◌, List, [], ◌∷◌, Some, None}
+use Rattle.std.proofs.Common.{refl, sym, ◌∙◌, ap, subst, arith, eqb-true, map}
 use Rattle.tl_coherence.proofs
 use proofs.Imports.{and_from, same_Some, Beat, BeatA, Channel, OpB, OpC, IsWidth, Message, MessageA, MessageC, MessageD}
-use proofs.Imports.{a_beat_of, beat_of, begun, d_beat_of, unfinished, History, channel_of, Config, RequestSource}
-use proofs.Imports.{ReleaseSource, Level, Prune, Report, Perm, Profile, prune_code, report_code, report_left, on_link}
-use proofs.Imports.{comes_in_release, broken_in_order, same_perm, broken_after, is_release, held, pending, request_of}
-use proofs.Imports.{illegal, same_block, zeros, acquisition, about, release, probe_ack, no_ack_grant, grant_opcode}
-use proofs.Imports.{level_of, is_busy, IsInvariant, Kind, ProbeAck, Release, Answer, Grant, ReleaseAck, Packet, View}
-use proofs.Imports.{ReleasePhase, ReleaseSent, ReleaseAcked, AcquirePhase, AcquireOpen, is_unreleased, Service}
-use proofs.Imports.{GrantSent, State, SourceState, view, packet, is_on, is_answered, is_acked, is_granting}
-use proofs.Imports.{is_acknowledging, is_unserved, is_releasing, acquire_opcode, IsCarried, is_requested, is_sunk}
-use proofs.Imports.{is_release_pending, AccessMessages, report_told, prune_told, block_message, message_of}
-use proofs.Imports.{message_of_kind, SimulationRelation, MonitorRelations, is_caching, IsGivenAsked, gives_asked, flow}
-use proofs.Imports.{Log, System}
+use proofs.Imports.{a_beat_of, beat_of, begun, History, channel_of, unfinished, Config, ReleaseSource, RequestSource}
+use proofs.Imports.{Level, Prune, Report, Perm, Profile, prune_code, report_code, report_left, broken_in_order}
+use proofs.Imports.{comes_in_release, comes_in_request, same_perm, broken_after, on_link, is_release, held, pending}
+use proofs.Imports.{request_of, illegal, same_block, zeros, about, acquisition, probe_ack, release, no_ack_grant}
+use proofs.Imports.{grant_opcode, level_of, IsInvariant, is_busy, Acquire, Answer, Grant, Kind, Packet, ProbeAck}
+use proofs.Imports.{Release, ReleaseAck, Request, AcquireOpen, ReleaseAcked, ReleasePhase, ReleaseSent, is_unreleased}
+use proofs.Imports.{Acquires, Asked, GrantSent, SourceState, State, is_on, packet, view, is_acked, is_acknowledging}
+use proofs.Imports.{is_answered, is_granting, is_releasing, is_unserved, is_wanting, acquire_opcode, IsCarried}
+use proofs.Imports.{is_release_pending, is_requested, is_sunk, AccessMessages, message_of, message_of_kind, prune_told}
+use proofs.Imports.{report_told, block_message, IsGivenAsked, MonitorRelations, SimulationRelation, gives_asked}
+use proofs.Imports.{is_caching, flow, Log, System}
 use Rattle.tl_rules.specs.statement.Conformance as rules
-use proofs.queues.{Carried.IsNext, Facts.granting_alone, Phases.and_left, Tokens.same_number, Codes.access_kind}
-use proofs.queues.{FirstToken.IsFirst, FirstToken.first-token, FirstToken.own_kind}
-use proofs.client.{ClientDelivered.ack_next, ClientEnd.is_access, ClientEnd.asks-access, ClientEnd.asks-acquire}
-use proofs.client.{ClientTakes.answers_acquire, ClientTakes.fits_asked, ClientTakes.fitting, ClientTakes.has_data}
-use proofs.client.{ClientTakes.next-legal, ResponseOrder.answer-legal, ResponseOrder.grant-legal}
-use proofs.client.{ResponseOrder.ack-legal}
-use proofs.flow.{FlowLawful.lawful-beat, ComingRequests.waits_on_a, ComingRequests.not-coming_a}
-use proofs.protocol.{BothParts.is_of-is, BothParts.quiet_unanswered, FirstTokens.first-shown}
-use proofs.protocol.HeadOfD.{IsAnswerDue, answer-due, IsGrantDue, grant-due, grant-rendered, ack-due, grant_message}
-use proofs.protocol.HeadOfD.{ack_message, own_view}
+use proofs.protocol.HeadOfD.{acquire-used, IsAnswerDue, answer-due, IsGrantDue, grant-due, grant-rendered, ack-due}
+use proofs.protocol.HeadOfD.{grant_message, ack_message, own_view}
+use proofs.protocol.BothParts.{wanting-is, first-shown, is_of-is, quiet_unanswered}
+use proofs.protocol.Room.{asked-first, rendered-acquire}
+use proofs.queues.{FirstToken.own_kind, FirstToken.IsFirst, FirstToken.first-token, Phases.and_left, Phases.and_right}
+use proofs.queues.{Carried.IsNext, Facts.granting_alone, Tokens.same_number, Codes.access_kind}
+use proofs.client.{ClientDelivered.ack_next, Waiting.answer-legal, Waiting.grant-legal, Waiting.ack-legal}
+use proofs.client.ClientEnd.{is_access, asks-access, asks-acquire, answers_acquire, fits_asked, fitting, has_data}
+use proofs.client.ClientEnd.{next-legal}
+use proofs.flow.FlowLawful.{lawful-beat}
+
+-- ---- what is half taken on channel A
+
+-- a request with a source of this use is on channel A
+abbrev pub waits_on_a : ℕ → SourceState → State (List ℕ) → Bool
+waits_on_a c Asked s = true
+waits_on_a c (Acquires n) s = is_unserved (view (s.block n).service c)
+waits_on_a c _ s = false
+
+-- the message is a request whose source waits there
+IsWaiting : {w : ℕ} → ℕ → State (List ℕ) → Message w → Type 0
+IsWaiting {w} c s m = (r : MessageA w) × (m ≡ Message.A r) × (waits_on_a c (s.uses c r.source) s ≡ true)
+
+waiting_request : {w : ℕ} {config : Config} {log : Log w} {mail : AccessMessages w} {request : ℕ → MessageA w}
+    {s : State (List ℕ)} {sys : System w} (c i : ℕ)
+    (rest : List Packet) → SimulationRelation config log mail request s sys
+    → (s.link c).a ≡ packet Request i ∷ rest → IsWaiting c s (mail.request c i)
+unfolding IsWaiting
+waiting_request {config} {log} {mail} {request} {s} {sys} c i rest h first =
+    let asked = asked-first c i rest h first in (asked.request, asked.is_it, cc (asked.source_is, asked.used))
+
+waiting_acquire : {w : ℕ} {config : Config} {log : Log w} {mail : AccessMessages w} {request : ℕ → MessageA w}
+    {s : State (List ℕ)} {sys : System w} (c n : ℕ)
+    (rest : List Packet) → SimulationRelation config log mail request s sys
+    → (s.link c).a ≡ packet Acquire n ∷ rest → IsWaiting {w = w} c s (block_message Acquire c n (s.block n))
+unfolding IsWaiting
+waiting_acquire {config} {s} c n rest h first =
+    let shows = first-shown h.invariant c Acquire refl first in
+    let wants = and_left (is_wanting ((s.block n).pair c).acquiring) (is_unserved (view (s.block n).service c)) shows in
+    let asks = wanting-is _ wants in let fact = acquisition (acquire_opcode asks.0) asks.1
+    ((s.block n).source c) n in let other_fact = ap (λ u. waits_on_a c u s) (acquire-used
+    (is_caching config) c n s h.invariant wants) ∙ and_right (is_wanting ((s.block n).pair c).acquiring) (is_unserved
+    (view (s.block n).service c)) shows in (fact, rendered-acquire c n _ asks.0 asks.1 asks.2, other_fact)
+
+comes_not : {w : ℕ} (c source : ℕ) (s : State (List ℕ)) (m : Message w) (k : ℕ) (rest : List (Beat w))
+    → rest ≡ begun m k → IsWaiting c s m
+    → waits_on_a c (s.uses c source) s ≡ false → comes_in_request source rest ≡ false
+unfolding IsWaiting
+comes_not {w} c source s m k rest e is none = grind (arith, waits_on_a)
+
+-- no request is half taken whose source waits for an answer
+pub not-coming_a : {w : ℕ} {config : Config} {log : Log w} {mail : AccessMessages w} {request : ℕ → MessageA w}
+    {s : State (List ℕ)} {sys : System w} (c source : ℕ)
+    → SimulationRelation config log mail request s sys → waits_on_a c (s.uses c source) s ≡ false
+    → comes_in_request source (unfinished Channel.A (on_link c sys.manager.trace)) ≡ false
+not-coming_a {w} {config} {mail} {s} {sys} c source h none = go (s.link c).a refl (h.carried c Channel.A)
+  where
+    rest_now : List (Beat w)
+    rest_now = unfinished Channel.A (on_link c sys.manager.trace)
+
+    each : (k : Kind) (i : ℕ) (rest : List Packet) → (s.link c).a ≡ packet k i ∷ rest → is_on Channel.A k ≡ true
+        → IsWaiting c s (message_of_kind k mail s c i)
+    each Request i rest first own = waiting_request c i rest h first
+    each Acquire i rest first own = waiting_acquire c i rest h first
+    each k i rest first own = absurd cc
+
+    go : (xs : List Packet) → (s.link c).a ≡ xs → IsCarried rest_now (map (message_of mail s c) (s.link c).a)
+        (sys.channels c Channel.A) → comes_in_request source rest_now ≡ false
+    go [] first carried =
+        let nothing : IsCarried rest_now [] (sys.channels c Channel.A) =
+        rw (ap (map (message_of mail s c)) first) at carried in
+        ap (comes_in_request source) nothing.0
+    go (x ∷ xs) first carried =
+        let some : IsCarried rest_now (message_of mail s c x ∷ map (message_of mail s c) xs)
+        (sys.channels c Channel.A) = rw (ap (map (message_of mail s c)) first) at carried in
+        comes_not c source s _ some.0 _ some.2 (each x.kind x.number xs first (own_kind (is_caching config) s c
+        Channel.A x.kind x.number xs h.invariant first)) none
 
 -- ---- an answer
 
@@ -33,20 +101,20 @@ flow-answer : {w : ℕ} {config : Config} {log : Log w} {mail : AccessMessages w
     → MonitorRelations log mail s sys → (due : IsAnswerDue c source mail s) → unfinished Channel.D (sys.clients c).past
     ≡ [] → broken_in_order config.profile (beat_of (Message.D due.answer) 0) (flow c log) ≡ None
 flow-answer {w} {config} {log} {mail} {request} {s} {sys} {c} {source} h flowed due whole =
-    let kind = access_kind due.answer.opcode due.answers_access in
-    let asks = asks-access c source due.request mail s (ap is_access due.used) due.request_is in
-    let live = (flowed c).requests source ∙ ap (λ (u : SourceState). is_requested c source
+    let kind = access_kind _ due.answers_access in
+    let asks = asks-access c source _ mail s (ap is_access due.used) due.request_is in
+    let live = (flowed c).requests source ∙ ap (λ u. is_requested c source
     (unfinished Channel.A (on_link c sys.manager.trace)) u s) due.used in
     answer-legal config.profile (record {
       whole = (flowed c).rest_is Channel.D ∙ whole;
       complete = cc (
         (flowed c).rest_is Channel.A,
         due.from,
-        not-coming_a c source h (ap (λ (u : SourceState). waits_on_a c u s) due.used),
+        not-coming_a c source h (ap (λ u. waits_on_a c u s) due.used),
       );
       other = kind.1;
-      live = ap (λ (i : ℕ). pending (RequestSource i) (flow c log)) due.from ∙ live;
-      request = ap (λ (i : ℕ). request_of i (flow c log)) due.from ∙ (flowed c).asked_is source live ∙ asks;
+      live = ap (λ i. pending (RequestSource i) (flow c log)) due.from ∙ live;
+      request = ap (λ i. request_of i (flow c log)) due.from ∙ (flowed c).asked_is source live ∙ asks;
       admits = due.admits;
       size = due.size;
     }) kind.0
@@ -60,16 +128,15 @@ none_of w = []
 pub grant_quiet : {caching : ℕ → Bool} {c n : ℕ} {s : State (List ℕ)} → IsInvariant caching s → (due : IsGrantDue c n s)
     → is_answered ((s.block n).pair c).probing ≡ false
 grant_quiet {c} {n} {s} inv due =
-    let alone = granting_alone due.data_too due.k ((s.block n).pair c) (view (s.block n).service c)
+    let alone = granting_alone due.data_too due.k _ _
     ((inv.blocks n).phases c) (own_view c due.data_too due.k (s.block n).service due.service) in
-    quiet_unanswered ((s.block n).pair c).probing (and_left _ _ alone)
+    quiet_unanswered _ (and_left _ _ alone)
 
 -- the tracker of a Grant is of its block
 pub grant_tracked : {caching : ℕ → Bool} {c n : ℕ} {s : State (List ℕ)} → IsInvariant caching s → IsGrantDue c n s
     → s.tracked (s.block n).tracker ≡ Some n
-grant_tracked {n} {s} inv due = is_of-is n (s.tracked (s.block n).tracker) (inv.named.trackers (s.block n).tracker n
-    ∙ ap (λ (x : Service). is_busy x && ((s.block n).tracker == (s.block n).tracker)) due.service
-    ∙ same_number (s.block n).tracker)
+grant_tracked {n} {s} inv due = is_of-is n _ (inv.named.trackers (s.block n).tracker n
+    ∙ ap (λ x. is_busy x && ((s.block n).tracker == (s.block n).tracker)) due.service ∙ same_number (s.block n).tracker)
 
 flow-grant : {w : ℕ} {config : Config} {log : Log w} {mail : AccessMessages w} {request : ℕ → MessageA w}
     {s : State (List ℕ)} {sys : System w} {c n : ℕ} → SimulationRelation config log mail request s sys
@@ -82,18 +149,16 @@ flow-grant {w} {config} {log} {mail} {request} {s} {sys} {c} {n} h flowed due gi
     let source = (s.block n).source c in
     let sink = (s.block n).tracker in
     let r : BeatA w = a_beat_of (acquisition (acquire_opcode due.whole) due.g source n) 0 in
-    let fits = fitting ((s.block n).pair c).recorded ((s.block n).pair c).held due.data_too due.k due.whole due.g
-    due.fits in
-    let asks = asks-acquire c source n source due.whole due.g mail s due.used due.wants refl in
-    let mine = own_view c due.data_too due.k (s.block n).service due.service in
+    let fits = fitting _ _ due.data_too due.k due.whole due.g due.fits in
+    let asks = asks-acquire c _ n source due.whole due.g mail s due.used due.wants refl in
+    let mine = own_view c due.data_too due.k _ due.service in
     let live : pending (RequestSource source) (flow c log) ≡ true = cc ((flowed c).requests source, due.used, mine) in
     let held_now : held n (flow c log) ≡ ((s.block n).pair c).held = cc ((flowed c).held_is n, mine) in
-    grant-legal config.profile n
-    (record {
+    grant-legal _ n (record {
       whole = (flowed c).rest_is Channel.D ∙ whole;
       complete = cc (
         (flowed c).rest_is Channel.A,
-        not-coming_a c source h (ap (λ (u : SourceState). waits_on_a c u s) due.used ∙ ap is_unserved mine),
+        not-coming_a c source h (ap (λ u. waits_on_a c u s) due.used ∙ ap is_unserved mine),
       );
       other = no_ack_grant due.data_too;
       live = live;
@@ -101,13 +166,11 @@ flow-grant {w} {config} {log} {mail} {request} {s} {sys} {c} {n} h flowed due gi
       admits = answers_acquire due.whole due.data_too fits.bare;
       size = refl;
     }) (same_block n) (fits_asked config.profile due.whole due.g due.k fits.cap_is given)
-    (ap (λ (q : Perm). rules.is_grant_without_data (grant_opcode due.data_too)
-    && (rules.is_acquire_block (acquire_opcode due.whole) && not (same_perm q Perm.Branch))) held_now
-    ∙ has_data due.whole due.data_too ((s.block n).pair c).held fits.carried)
-    ((flowed c).probes n ∙ grant_quiet h.invariant due)
-    ((flowed c).sinks sink ∙ ap (λ (b : List (Beat w)). is_sunk c sink b (s.tracked sink) s) whole
-    ∙ ap (λ (o : Option ℕ). is_sunk c sink (none_of w) o s) (grant_tracked h.invariant due)
-    ∙ ap (λ (v : View). is_acknowledging v || (is_granting v && false)) mine)
+    (ap (λ q. rules.is_grant_without_data (grant_opcode due.data_too)
+    && (rules.is_acquire_block (acquire_opcode due.whole) && not (same_perm q Perm.Branch))) held_now ∙ has_data
+    due.whole due.data_too _ fits.carried) ((flowed c).probes n ∙ grant_quiet h.invariant due) ((flowed c).sinks
+    sink ∙ ap (λ b. is_sunk c sink b (s.tracked sink) s) whole ∙ ap (λ o. is_sunk c sink (none_of w) o s)
+    (grant_tracked h.invariant due) ∙ ap (λ v. is_acknowledging v || (is_granting v && false)) mine)
 
 -- ---- a ReleaseAck
 
@@ -146,7 +209,7 @@ rendered_release : (w : ℕ) (c n source : ℕ) (s : State (List ℕ)) → ((s.b
     → IsUnreleased {w = w} source (block_message Release c n (s.block n))
 unfolding block_message
 rendered_release w c n source s e = unreleased_prune w source (prune_told ((s.block n).pair c).letting)
-    ((s.block n).release_source c) n (s.block n).truth e
+    _ n (s.block n).truth e
 
 -- no Release is half taken with the source of one that was acknowledged
 not-coming_c : {w : ℕ} {config : Config} {log : Log w} {mail : AccessMessages w} {request : ℕ → MessageA w}
@@ -173,13 +236,13 @@ not-coming_c {w} {config} {mail} {s} {sys} c n h let_ acked = go (s.link c).c re
         → ((s.block i).release_source c == source) ≡ b → b ≡ false
     differ i releasing false e = refl
     differ i releasing true e =
-        let open_ = open_release ((s.block i).pair c).letting releasing in
-        let lets = is_of-is i (s.lets c ((s.block i).release_source c)) (h.invariant.named.releases c ((s.block
+        let open_ = open_release _ releasing in
+        let lets = is_of-is i _ (h.invariant.named.releases c ((s.block
         i).release_source c) i ∙ and_from (not (is_unreleased ((s.block i).pair c).letting)) ((s.block
         i).release_source c == (s.block i).release_source c) open_ (same_number ((s.block i).release_source c))) in
         let same = same_Some i n (sym lets ∙ ap (s.lets c) (eqb-true ((s.block i).release_source c) source e) ∙ let_) in
         absurd (apart ((s.block n).pair c).letting acked
-        (sym (ap (λ (j : ℕ). is_releasing ((s.block j).pair c).letting) same) ∙ releasing))
+        (sym (ap (λ j. is_releasing ((s.block j).pair c).letting) same) ∙ releasing))
 
     each : (k : Kind) (i : ℕ) (rest : List Packet) → (s.link c).c ≡ packet k i ∷ rest → is_on Channel.C k ≡ true
         → IsUnreleased source (message_of_kind k mail s c i)
@@ -191,17 +254,15 @@ not-coming_c {w} {config} {mail} {s} {sys} c n h let_ acked = go (s.link c).c re
     go : (xs : List Packet) → (s.link c).c ≡ xs → IsCarried rest_now (map (message_of mail s c) (s.link c).c)
         (sys.channels c Channel.C) → comes_in_release source rest_now ≡ false
     go [] first carried =
-        let nothing : IsCarried rest_now [] (sys.channels c Channel.C) =
-        subst (λ (ms : List (Message w)). IsCarried rest_now ms (sys.channels c Channel.C))
-        (ap (map (message_of mail s c)) first) carried in
+        let nothing : IsCarried rest_now [] (sys.channels c Channel.C) = subst (λ ms. IsCarried rest_now ms
+        (sys.channels c Channel.C)) (ap (map (message_of mail s c)) first) carried in
         ap (comes_in_release source) nothing.0
     go (x ∷ xs) first carried =
         let some : IsCarried rest_now (message_of mail s c x ∷ map (message_of mail s c) xs)
-        (sys.channels c Channel.C) = subst (λ (ms : List (Message w)). IsCarried rest_now ms (sys.channels c Channel.C))
+        (sys.channels c Channel.C) = subst (λ ms. IsCarried rest_now ms (sys.channels c Channel.C))
         (ap (map (message_of mail s c)) first) carried in
-        unreleased source (message_of mail s c x) some.0 rest_now some.2
-        (each x.kind x.number xs first (own_kind (is_caching config) s c Channel.C x.kind x.number xs h.invariant
-        first))
+        unreleased source _ some.0 _ some.2 (each x.kind x.number xs first (own_kind (is_caching config) s c Channel.C
+        x.kind x.number xs h.invariant first))
 
 flow-ack : {w : ℕ} {config : Config} {log : Log w} {mail : AccessMessages w} {request : ℕ → MessageA w}
     {s : State (List ℕ)} {sys : System w} (c n : ℕ) → SimulationRelation config log mail request s sys
@@ -210,18 +271,14 @@ flow-ack : {w : ℕ} {config : Config} {log : Log w} {mail : AccessMessages w} {
     → broken_in_order config.profile (beat_of (Message.D (ack_message ((s.block n).release_source c))) 0) (flow c log)
     ≡ None
 flow-ack {w} {config} {log} {mail} {request} {s} {sys} c n h flowed let_ acked whole =
-    let let_acked : (x : ReleasePhase) (source : ℕ) (rest : List (Beat w)) → is_acked x ≡ true
-    → is_release_pending source rest x ≡ true =
-    elim [ ReleaseAcked ↦ λ source rest e. refl | x ↦ λ source rest e. absurd cc ] in
+    let let_acked : (x : ReleasePhase) (source : ℕ) (rest : List (Beat w)) → is_acked x ≡ true → is_release_pending
+    source rest x ≡ true = elim [ ReleaseAcked ↦ λ source rest e. refl | x ↦ λ source rest e. absurd cc ] in
     let source = (s.block n).release_source c in
     let rest = unfinished Channel.C (on_link c sys.manager.trace) in
     let live : pending (ReleaseSource source) (flow c log) ≡ true =
     cc ((flowed c).release_sources source, let_, let_acked ((s.block n).pair c).letting source rest acked) in
-    ack-legal config.profile (d_beat_of (ack_message source) 0) (flow c log) ((flowed c).rest_is Channel.D ∙ whole)
-    (ap (λ (b : List (Beat w)). comes_in_release source b) ((flowed c).rest_is Channel.C) ∙ not-coming_c
-    c n h let_ acked)
-    refl live
-    ((flowed c).sizes source n let_ live)
+    ack-legal config.profile _ _ ((flowed c).rest_is Channel.D ∙ whole) (ap (λ b. comes_in_release source b)
+    ((flowed c).rest_is Channel.C) ∙ not-coming_c c n h let_ acked) refl live ((flowed c).sizes source n let_ live)
 
 -- ---- all of channel D
 
@@ -232,10 +289,10 @@ legal_next : {w : ℕ} {config : Config} {log : Log w} {mail : AccessMessages w}
     → IsNext x (unfinished Channel.D (sys.clients c).past) (Message.D m) ms queue
     → (unfinished Channel.D (sys.clients c).past ≡ [] → broken_in_order config.profile (beat_of (Message.D m) 0)
     (flow c log) ≡ None) → broken_in_order config.profile x (flow c log) ≡ None
-legal_next {w} {config} {log} c m h flowed next first =
+legal_next {config} {log} c m h flowed next first =
     let rest_is = (flowed c).rest_is Channel.D in
-    ap (λ (y : Beat w). broken_in_order config.profile y (flow c log)) next.beat_is ∙ next-legal config.profile m next.k
-    (flow c log) (rest_is ∙ next.rest_is) (λ whole. first (sym rest_is ∙ whole))
+    ap (λ y. broken_in_order config.profile y (flow c log)) next.beat_is ∙ next-legal config.profile m next.k
+    _ (rest_is ∙ next.rest_is) (λ whole. first (sym rest_is ∙ whole))
 
 legal_d : {w : ℕ} {config : Config} {log : Log w} {mail : AccessMessages w} {request : ℕ → MessageA w}
     {s : State (List ℕ)} {sys : System w} (c : ℕ) (x : Beat w) (queue : List (Beat w)) → IsWidth w
@@ -256,25 +313,23 @@ legal_d {w} {config} {log} {mail} {request} {s} {sys} c x queue width h flowed b
     given : (n : ℕ) (due : IsGrantDue c n s) → gives_asked config.profile (AcquireOpen due.whole due.g) due.k ≡ true
     given n due =
         let all : IsGivenAsked config.profile (GrantSent c due.data_too due.k) (s.block n).pair =
-        subst (λ (i : Service). IsGivenAsked config.profile i (s.block n).pair) due.service (h.given n) in
-        sym (ap (λ (i : AcquirePhase). gives_asked config.profile i due.k) due.wants) ∙ all
+        subst (λ i. IsGivenAsked config.profile i (s.block n).pair) due.service (h.given n) in
+        sym (ap (λ i. gives_asked config.profile i due.k) due.wants) ∙ all
 
     answer : (i : ℕ) → (s.link c).d ≡ packet Answer i ∷ first.rest → IsNext x rest_now (mail.answer c i) ms queue
         → broken_in_order config.profile x (flow c log) ≡ None
     answer i tokens next =
-        let due = answer-due (is_caching config) c i first.rest mail s h.invariant (h.answered c i) tokens in
-        legal_next c due.answer h flowed
-        (subst (λ (m : Message w). IsNext x rest_now m ms queue) due.answer_is next)
+        let due = answer-due (is_caching config) c i _ mail s h.invariant (h.answered c i) tokens in
+        legal_next c _ h flowed (subst (λ m. IsNext x rest_now m ms queue) due.answer_is next)
         (flow-answer h flowed due)
 
     grant : (n : ℕ) → (s.link c).d ≡ packet Grant n ∷ first.rest
         → IsNext x rest_now (block_message Grant c n (s.block n)) ms queue
         → broken_in_order config.profile x (flow c log) ≡ None
     grant n tokens next =
-        let due = grant-due (is_caching config) c n first.rest s h.invariant tokens in
-        legal_next c (grant_message due.data_too due.k ((s.block n).source c)
-        (s.block n).tracker (s.block n).truth) h flowed
-        (subst (λ (m : Message w). IsNext x rest_now m ms queue) (grant-rendered c n s due) next)
+        let due = grant-due (is_caching config) c n _ s h.invariant tokens in
+        legal_next c (grant_message due.data_too due.k ((s.block n).source c) (s.block n).tracker (s.block n).truth)
+        h flowed (subst (λ m. IsNext x rest_now m ms queue) (grant-rendered c n s due) next)
         (flow-grant h flowed due (given n due))
 
     go : (k : Kind) (i : ℕ) → (s.link c).d ≡ packet k i ∷ first.rest → is_on Channel.D k ≡ true
@@ -282,8 +337,7 @@ legal_d {w} {config} {log} {mail} {request} {s} {sys} c x queue width h flowed b
         → broken_in_order config.profile x (flow c log) ≡ None
     go Answer i tokens own next = answer i tokens next
     go Grant i tokens own next = grant i tokens next
-    go ReleaseAck i tokens own next =
-        legal_next c (ack_message ((s.block i).release_source c)) h flowed (ack_next c i s next) (flow-ack c i h flowed
+    go ReleaseAck i tokens own next = legal_next c _ h flowed (ack_next c i s next) (flow-ack c i h flowed
         (ack-due c i first.rest h.invariant tokens) (first-shown h.invariant c ReleaseAck refl tokens))
     go k i tokens own next = absurd cc
 
@@ -297,5 +351,5 @@ pub flows-d : {w : ℕ} {config : Config} {log : Log w} {mail : AccessMessages w
     → SimulationRelation config log mail request s sys → MonitorRelations log mail s sys
     → sys.channels c Channel.D ≡ x ∷ queue → level_of config c ≡ Some l → broken_after l config.profile x (flow c log)
     ≡ None
-flows-d {config} {log} {mail} {request} {s} {sys} c l x queue width h flowed beats level = in_order l config.profile x
-    (flow c log) (lawful-beat c Channel.D l x queue h beats level) (legal_d c x queue width h flowed beats)
+flows-d {config} {log} c l x queue width h flowed beats level = in_order l _ x
+    _ (lawful-beat c Channel.D l x queue h beats level) (legal_d c x queue width h flowed beats)

@@ -2,13 +2,13 @@
 use Rattle.std.proofs.Common.{◌≡◌, ℕ, Bool, true, false, not, ◌&&◌, ◌||◌, ◌∷◌, Option, Some, refl, sym, ◌∙◌, List}
 use Rattle.std.proofs.Common.{arith, if◌then◌else◌, option_map, unwrap_or}
 use Rattle.tl_coherence.proofs
-use proofs.Imports.{Beat, BeatA, Channel, History, unfinished, grown, Key, RequestSource, ReleaseSource, AcquireOf}
-use proofs.Imports.{ReleaseOf, GrantSink, GrantAckOf, ProbeOf, Perm, begins, ends, pending, held, block_at, request_of}
-use proofs.Imports.{release_of, probe_of, grant_sink, opens, closes, Block, State, view, is_granting, is_acknowledging}
-use proofs.Imports.{is_answered, is_wanting, is_unserved, comes_granting, MonitorRelation, is_requested}
-use proofs.Imports.{is_release_pending, is_let_by, is_sunk, probe_beat, cap_waited}
-use Rattle.tl_burst.{specs.statement.Messages.on}
-use Rattle.tl_rules.{specs.statement.History.says_held}
+use proofs.Imports.{Beat, BeatA, BeatC, Channel, History, unfinished, grown, Key, RequestSource, ReleaseSource}
+use proofs.Imports.{AcquireOf, ReleaseOf, GrantSink, GrantAckOf, ProbeOf, Perm, begins, ends, pending, held, block_at}
+use proofs.Imports.{request_of, release_of, probe_of, grant_sink, opens, closes, Block, State, view, is_granting}
+use proofs.Imports.{is_acknowledging, is_answered, is_wanting, is_unserved, comes_granting, MonitorRelation}
+use proofs.Imports.{is_requested, is_release_pending, is_let_by, is_sunk, probe_beat, cap_waited}
+use Rattle.tl_burst.specs.statement.Messages.{on}
+use Rattle.tl_rules.specs.statement.History.{says_held}
 
 -- a key that was pending so, after a beat that begins and completes its message so and opens and closes the key so
 abbrev pub step : Bool → Bool → Bool → Bool → Bool → Bool
@@ -53,12 +53,13 @@ let_of c rest b = is_release_pending (b.release_source c) rest (b.pair c).lettin
 abbrev pub granted_by : {w : ℕ} {X : Type 0} → ℕ → ℕ → (ℕ → Option (BeatA w)) → List (Beat w) → Block X → Bool
 granted_by c n asked rest b = is_acknowledging (view b.service c) || comes_granting n asked rest
 
+-- the Release is of this block, and brings as much as a block has
+abbrev pub IsReleaseOf : {w : ℕ} → ℕ → Option (BeatC w) → Type 0
+IsReleaseOf n o = (option_map (λ x. block_at x.address) o ≡ Some n) × (option_map (λ x. x.size) o ≡ Some 6)
+
 -- each value after the beat, given those before it
 pub record IsStepped {w : ℕ} {X : Type 0} (x : Beat w) (first last : Bool) (asked asked' : ℕ → Option (BeatA w))
     (rest rest' : Channel → List (Beat w)) (c : ℕ) (s s' : State X) (t : History w) : Type 0 where
-  pub first_is : begins x t ≡ first
-  pub last_is : ends x t ≡ last
-  pub rests : (ch : Channel) → rest' ch ≡ (if on ch x then grown x (rest ch) else rest ch)
   pub held_is : (n : ℕ) → held_by c (s'.block n) ≡ (if last then unwrap_or (says_held n x t) (held_by c (s.block n))
       else held_by c (s.block n))
   pub requests : (i : ℕ) → is_requested c i (rest' Channel.A) (s'.uses c i) s' ≡ step first last
@@ -69,9 +70,7 @@ pub record IsStepped {w : ℕ} {X : Type 0} (x : Beat w) (first last : Bool) (as
   pub release_sources : (i : ℕ) → is_let_by c i (rest' Channel.C) (s'.lets c i) s' ≡ step first last
       (opens (ReleaseSource i) x t) (closes (ReleaseSource i) x t) (is_let_by c i (rest Channel.C) (s.lets c i) s)
   pub released : (i n : ℕ) → s'.lets c i ≡ Some n → is_let_by c i (rest' Channel.C) (s'.lets c i) s' ≡ true
-      → option_map (λ y. block_at y.address) (release_of i (x ∷ t)) ≡ Some n
-  pub sizes : (i n : ℕ) → s'.lets c i ≡ Some n → is_let_by c i (rest' Channel.C) (s'.lets c i) s' ≡ true
-      → option_map (λ y. y.size) (release_of i (x ∷ t)) ≡ Some 6
+      → IsReleaseOf n (release_of i (x ∷ t))
   pub releases : (n : ℕ) → let_of c (rest' Channel.C) (s'.block n) ≡ step first last (opens (ReleaseOf n) x t)
       (closes (ReleaseOf n) x t) (let_of c (rest Channel.C) (s.block n))
   pub sinks : (i : ℕ) → is_sunk c i (rest' Channel.D) (s'.tracked i) s' ≡ step first last (opens (GrantSink i) x t)
@@ -85,43 +84,43 @@ pub record IsStepped {w : ℕ} {X : Type 0} (x : Beat w) (first last : Bool) (as
   pub sunk : (n : ℕ) → granted_by c n asked' (rest' Channel.D) (s'.block n) ≡ true
       → grant_sink n (x ∷ t) ≡ Some (s'.block n).tracker
 
-stepped : {w : ℕ} (k : Key) (x : Beat w) (t : History w) (first last p p' : Bool) → begins x t ≡ first → ends x t ≡ last
-    → pending k t ≡ p → p' ≡ step first last (opens k x t) (closes k x t) p → pending k (x ∷ t) ≡ p'
-stepped k x t first last p p' e f before after = cc (pending-next k x t first last e f, before, after)
+-- what is known of the last Release with a source, where a beat leaves it
+pub let_still : {w : ℕ} {X : Type 0} {asked : ℕ → Option (BeatA w)} {rest : Channel → List (Beat w)} {c : ℕ}
+    {s : State X} {t : History w} {o : Option (BeatC w)} → MonitorRelation asked rest c s t → (i n : ℕ)
+    → o ≡ release_of i t → s.lets c i ≡ Some n → pending (ReleaseSource i) t ≡ true → IsReleaseOf n o
+let_still before i n same lets still = rw same (before.released i n lets still, before.sizes i n lets still)
+
+stepped : {w : ℕ} (k : Key) (x : Beat w) (t : History w) {first last p p' : Bool} → begins x t ≡ first
+    → ends x t ≡ last → pending k t ≡ p → p' ≡ step first last (opens k x t) (closes k x t) p → pending k (x ∷ t) ≡ p'
+stepped k x t {first} {last} e f before after = cc (pending-next k x t first last e f, before, after)
 
 pub flowed-next : {w : ℕ} {X : Type 0} {x : Beat w} {first last : Bool} {asked asked' : ℕ → Option (BeatA w)}
-    {rest rest' : Channel → List (Beat w)} {c : ℕ} {s s' : State X} {t : History w}
+    {rest rest' : Channel → List (Beat w)} {c : ℕ} {s s' : State X} {t : History w} → begins x t ≡ first
+    → ends x t ≡ last → ((ch : Channel) → rest' ch ≡ (if on ch x then grown x (rest ch) else rest ch))
     → IsStepped x first last asked asked' rest rest' c s s' t → MonitorRelation asked rest c s t
     → MonitorRelation asked' rest' c s' (x ∷ t)
-flowed-next {w} {X} {x} {first} {last} {asked} {asked'} {rest} {rest'} {c} {s} {s'} {t} is before = record {
-  rest_is = λ ch. cc (unfinished-next ch x t, before.rest_is ch, is.rests ch);
-  held_is = λ n. cc (held-next n x t last is.last_is, (before.held_is n), (is.held_is n));
+flowed-next {w} {X} {x} {last} {asked'} {rest'} {c} {s'} {t} first_is last_is rests is before = record {
+  rest_is = λ ch. cc (unfinished-next ch x t, before.rest_is ch, rests ch);
+  held_is = λ n. cc (held-next n x t last last_is, before.held_is n, is.held_is n);
   requests = requests;
   asked_is = λ i e. is.asked_is i (sym (requests i) ∙ e);
-  acquires = λ n. stepped (AcquireOf n) x t first last (acquired_by c (s.block n)) (acquired_by c (s'.block n))
-      is.first_is is.last_is (before.acquires n) (is.acquires n);
+  acquires = λ n. stepped (AcquireOf n) x t first_is last_is (before.acquires n) (is.acquires n);
   release_sources = lets;
-  released = λ i n e f. is.released i n e (sym (lets i) ∙ f);
-  sizes = λ i n e f. is.sizes i n e (sym (lets i) ∙ f);
-  releases = λ n. stepped (ReleaseOf n) x t first last (let_of c (rest Channel.C) (s.block n))
-      (let_of c (rest' Channel.C) (s'.block n)) is.first_is is.last_is (before.releases n) (is.releases n);
-  sinks = λ i. stepped (GrantSink i) x t first last (is_sunk c i (rest Channel.D) (s.tracked i) s)
-      (is_sunk c i (rest' Channel.D) (s'.tracked i) s') is.first_is is.last_is (before.sinks i) (is.sinks i);
+  released = λ i n e f. (is.released i n e (sym (lets i) ∙ f)).0;
+  sizes = λ i n e f. (is.released i n e (sym (lets i) ∙ f)).1;
+  releases = λ n. stepped (ReleaseOf n) x t first_is last_is (before.releases n) (is.releases n);
+  sinks = λ i. stepped (GrantSink i) x t first_is last_is (before.sinks i) (is.sinks i);
   grants = grants;
-  probes = λ n. stepped (ProbeOf n) x t first last (is_answered ((s.block n).pair c).probing)
-      (is_answered ((s'.block n).pair c).probing) is.first_is is.last_is (before.probes n) (is.probes n);
+  probes = λ n. stepped (ProbeOf n) x t first_is last_is (before.probes n) (is.probes n);
   probed = is.probed;
   sunk = λ n e. is.sunk n (sym (grants n) ∙ e);
 }
   where
     requests : (i : ℕ) → pending (RequestSource i) (x ∷ t) ≡ is_requested c i (rest' Channel.A) (s'.uses c i) s'
-    requests i = stepped (RequestSource i) x t first last (is_requested c i (rest Channel.A) (s.uses c i) s)
-        (is_requested c i (rest' Channel.A) (s'.uses c i) s') is.first_is is.last_is (before.requests i) (is.requests i)
+    requests i = stepped (RequestSource i) x t first_is last_is (before.requests i) (is.requests i)
 
     lets : (i : ℕ) → pending (ReleaseSource i) (x ∷ t) ≡ is_let_by c i (rest' Channel.C) (s'.lets c i) s'
-    lets i = stepped (ReleaseSource i) x t first last (is_let_by c i (rest Channel.C) (s.lets c i) s) (is_let_by c i
-        (rest' Channel.C) (s'.lets c i) s') is.first_is is.last_is (before.release_sources i) (is.release_sources i)
+    lets i = stepped (ReleaseSource i) x t first_is last_is (before.release_sources i) (is.release_sources i)
 
     grants : (n : ℕ) → pending (GrantAckOf n) (x ∷ t) ≡ granted_by c n asked' (rest' Channel.D) (s'.block n)
-    grants n = stepped (GrantAckOf n) x t first last (granted_by c n asked (rest Channel.D) (s.block n))
-        (granted_by c n asked' (rest' Channel.D) (s'.block n)) is.first_is is.last_is (before.grants n) (is.grants n)
+    grants n = stepped (GrantAckOf n) x t first_is last_is (before.grants n) (is.grants n)

@@ -1,15 +1,15 @@
 -- Each beat that is taken was first on its channel: what holds of all that are holds of what is delivered.
-use Rattle.std.proofs.Common.{◌≡◌, ℕ, Bool, true, false, List, ◌∷◌, refl, sym, ◌∙◌, ap, ◌++◌, ◌==◌, if◌then◌else◌, []}
+use Rattle.std.proofs.Common.{◌≡◌, ℕ, Bool, true, false, ◌==◌, if◌then◌else◌, List, [], ◌∷◌, ◌++◌, refl, sym, ◌∙◌, ap}
 use Rattle.tl_coherence.proofs
 use proofs.Imports.{Beat, Link, Channel, IsWidth, channel_of, Config, Finish, Event, Deliver, Outcome, AbstractState}
-use proofs.Imports.{SimulationRelation, is_moving, flow, taken_at, IsGiven, Log, system_after, stepped, is_to_client}
+use proofs.Imports.{SimulationRelation, is_moving, taken_at, flow, IsGiven, Log, system_after, is_to_client, stepped}
 use Rattle.tl_coherence.{specs.statement.Flow.IsTaken, specs.statement.Flow.EachTaken, specs.statement.Log.IsLog}
-use proofs.bound.{Settling.given-before}
-use proofs.deliveries.{Matching.shadow}
-use proofs.flow.{FlowReceived.moved-on}
+use proofs.bound.Settling.{given-before}
+use proofs.deliveries.Matching.{shadow}
+use proofs.flow.Flows.{moved-on}
 use proofs.links.{FromInvariant.matched-given, HeadsOfLinks.first-of}
-use proofs.outstanding.{Outstanding.first-moved}
-use proofs.queues.{Tokens.same_number}
+use proofs.outstanding.Outstanding.{first-moved}
+use proofs.queues.Tokens.{same_number}
 
 -- a beat that is moved was first on its channel
 moved-first : {w : ℕ} {config : Config} {log : Log w} (h : AbstractState w) (link : Link) (ch : Channel) (o : Outcome w)
@@ -19,7 +19,7 @@ moved-first : {w : ℕ} {config : Config} {log : Log w} (h : AbstractState w) (l
     → (queue : List (Beat w)) × ((system_after config log).channels link.0 (channel_of x) ≡ x ∷ queue)
 moved-first {w} {config} {log} h link ch o x width is o_is moves delivered =
     let moving = sym (ap is_moving o_is) ∙ moves in
-    let at = first-moved config link ch (system_after config log) moving in
+    let at = first-moved config link ch _ moving in
     let on : channel_of at.0 ≡ ch = (first-of config log h link.0 at.2 ch at.0 at.1 width is at.3.1 at.3.0).on in
     let head : (b : Bool) → b ≡ true → (if b then x ∷ flow link.0 log else flow link.0 log) ≡ (if b then at.0
     ∷ flow link.0 log else flow link.0 log) → at.0 ≡ x = elim [ true ↦ λ e f. cc | false ↦ λ e f. absurd cc ] in
@@ -34,10 +34,10 @@ moved-beat : {w : ℕ} {config : Config} {log : Log w} (h : AbstractState w) (li
     → Outcome.Moved x ≡ (stepped config (Deliver link ch) (system_after config log)).outcome → (queue : List (Beat w))
     × ((system_after config log).channels link.0 (channel_of x) ≡ x ∷ queue)
 unfolding flow
-moved-beat {w} {config} {log} h link ch x width is o_is =
+moved-beat {log} h link ch x width is o_is =
     let taken_there : (d : ℕ) (b : Bool) → (if b then x ∷ [] else []) ++ flow d log
     ≡ (if b then x ∷ flow d log else flow d log) = λ d. elim [ true ↦ refl | false ↦ refl ] in
-    moved-first h link ch (Outcome.Moved x) x width is o_is refl (λ d. taken_there d (link.0 == d))
+    moved-first h link ch _ x width is o_is refl (λ d. taken_there d (link.0 == d))
 
 done-beat : {w : ℕ} {config : Config} {log : Log w} (h : AbstractState w) (link : Link) (ch : Channel) (x : Beat w)
     (source : ℕ) (f : Finish) → IsWidth w
@@ -45,10 +45,10 @@ done-beat : {w : ℕ} {config : Config} {log : Log w} (h : AbstractState w) (lin
     → Outcome.Done x source f ≡ (stepped config (Deliver link ch) (system_after config log)).outcome
     → (queue : List (Beat w)) × ((system_after config log).channels link.0 (channel_of x) ≡ x ∷ queue)
 unfolding flow
-done-beat {w} {config} {log} h link ch x source f width is o_is =
+done-beat {log} h link ch x source f width is o_is =
     let taken_there : (d : ℕ) (b : Bool) → (if b then x ∷ [] else []) ++ flow d log
     ≡ (if b then x ∷ flow d log else flow d log) = λ d. elim [ true ↦ refl | false ↦ refl ] in
-    moved-first h link ch (Outcome.Done x source f) x width is o_is refl (λ d. taken_there d (link.0 == d))
+    moved-first h link ch _ x width is o_is refl (λ d. taken_there d (link.0 == d))
 
 -- ---- all that is taken
 

@@ -1,18 +1,18 @@
 -- What is delivered, on all links at once, has no first fault.
 use Rattle.std.proofs.Common.{◌≡◌, ℕ, Bool, true, ◌&&◌, List, [], ◌∷◌, ◌++◌, refl, sym, ◌∙◌, ap, subst, Option, arith}
 use Rattle.std.proofs.Common.{Some, None, append_assoc, append-nil, ◌==◌, if◌then◌else◌, is_none, reverse, slice_get}
-use Rattle.std.{proofs.lemmas.List.reverse-reverse, proofs.lemmas.Option.slice_get-map}
+use Rattle.std.proofs.lemmas.{List.reverse-reverse, Option.slice_get-map}
 use Rattle.tl_coherence.proofs
-use proofs.Imports.{eqb-false, reverse-append, ⊤, Beat, Link, Channel, History, ClientConfig, Config, Level, Profile}
-use proofs.Imports.{Rule, broken_after, on_link, Trace, level_of, Event, Ask, Deliver, Outcome, is_moving, flow}
-use proofs.Imports.{taken_at, taken_on, IsGiven, Log, system_after}
+use proofs.Imports.{eqb-false, reverse-append, ⊤, Beat, Link, Channel, History, Config, Level, Profile, Rule}
+use proofs.Imports.{broken_after, on_link, Trace, level_of, Event, Ask, Deliver, Outcome, is_moving, flow, taken_at}
+use proofs.Imports.{taken_on, IsGiven, Log}
 use Rattle.tl_rules.specs.statement.Conformance.{broken_at_level, broken_on_link, fault_from, is_legal}
 use Rattle.tl_coherence.{specs.statement.Flow.trace_of, specs.statement.Log.IsLog}
 use Rattle.tl_coherence.specs.statement.Delivery.{Faultless, levels_of}
-use proofs.bound.{Settling.given-before}
-use proofs.flow.{Flows.flows}
-use proofs.outstanding.{Outstanding.first-moved}
-use proofs.simulation.{BeatsInFlight.level-terms}
+use proofs.bound.Settling.{given-before}
+use proofs.flow.Flows.{flows}
+use proofs.outstanding.Outstanding.{first-moved}
+use proofs.simulation.BeatsInFlight.{level-terms}
 
 -- ---- the beats of all links, and those of one
 
@@ -45,13 +45,13 @@ pub record IsLevelled (config : Config) (link : ℕ) : Type 0 where
 pub levelled : {w : ℕ} (config : Config) (log : Log w) (link : Link) (ch : Channel) (o : Outcome w)
     → IsGiven config ((Deliver link ch, o) ∷ log) → is_moving o ≡ true → IsLevelled config link.0
 unfolding IsLog
-levelled {w} config log link ch o given moving =
-    let first = first-moved config link ch (system_after config log) (ap is_moving (sym given.is_log.0) ∙ moving) in
+levelled config log link ch o given moving =
+    let first = first-moved config link ch _ (ap is_moving (sym given.is_log.0) ∙ moving) in
     let of_link : level_of config link.0 ≡ Some first.2.level = (level-terms config link.0 first.2 first.3.1).0 in
     record {
       level = first.2.level;
       of_link = of_link;
-      in_levels = slice_get-map (λ (c : ClientConfig). c.level) config.clients.items link.0 ∙ of_link;
+      in_levels = slice_get-map (λ c. c.level) config.clients.items link.0 ∙ of_link;
     }
 
 unbroken : (o : Option Rule) (b : Bool) → (is_none o && b) ≡ true → o ≡ None
@@ -64,9 +64,9 @@ pub delivered-unbroken : {w : ℕ} (config : Config) (log : Log w) (link : Link)
 unfolding is_legal
 delivered-unbroken {w} config log link ch o x given moving flowing =
     let whole : Log w = (Deliver link ch, o) ∷ log in
-    let is = levelled config log link ch o given moving in
-    ap (λ (l : Option Level). broken_at_level l config.profile x (on_link link.0 (trace_of log))) is.in_levels
-    ∙ ap (λ (t : History w). broken_after is.level config.profile x t) (trace-flows link.0 log)
+    let is = levelled _ log link ch o given moving in
+    ap (λ l. broken_at_level l config.profile x (on_link link.0 (trace_of log))) is.in_levels
+    ∙ ap (λ t. broken_after is.level config.profile x t) (trace-flows link.0 log)
     ∙ unbroken (broken_after is.level config.profile x (flow link.0 log))
     (is_legal is.level config.profile (flow link.0 log)) (rw flowing at (flows given link.0 is.level is.of_link))
 
@@ -87,8 +87,8 @@ no-fault : {w : ℕ} (levels : List Level) (p : Profile) (before trace : Trace w
     → AreGood levels p (reverse trace ++ before) → fault_from levels p before trace ≡ None
 unfolding AreGood fault_from
 no-fault levels p before [] good = refl
-no-fault {w} levels p before (x ∷ trace) good =
-    let all : AreGood levels p (reverse trace ++ (x ∷ before)) = subst (AreGood levels p) (ap (λ (t : Trace w). t
+no-fault levels p before (x ∷ trace) good =
+    let all : AreGood levels p (reverse trace ++ (x ∷ before)) = subst (AreGood levels p) (ap (λ t. t
     ++ before) (reverse-append (x ∷ []) trace) ∙ append_assoc (reverse trace) (x ∷ []) before) good in
     rw (older-good levels p (reverse trace) (x ∷ before) all).0 (no-fault levels p (x ∷ before) trace all)
 
@@ -98,10 +98,10 @@ unfolding AreGood trace_of flow
 all-good [] given = tt
 all-good {config} ((Ask client op, o) ∷ log) given = all-good log (given-before config (Ask client op, o) log given)
 all-good {config} ((Deliver link ch, Outcome.Moved x) ∷ log) given =
-    let fact = delivered-unbroken config log link ch (Outcome.Moved x) x given refl (taken link x (flow link.0 log)) in
+    let fact = delivered-unbroken _ log link ch _ x given refl (taken link x (flow link.0 log)) in
     (fact, all-good log (given-before config (Deliver link ch, Outcome.Moved x) log given))
 all-good {config} ((Deliver link ch, Outcome.Done x source f) ∷ log) given = let fact =
-    delivered-unbroken config log link ch (Outcome.Done x source f) x given refl (taken link x (flow link.0 log)) in
+    delivered-unbroken _ log link ch _ x given refl (taken link x (flow link.0 log)) in
     (fact, all-good log (given-before config (Deliver link ch, Outcome.Done x source f) log given))
 all-good {config} ((Deliver link ch, Outcome.Replied r) ∷ log) given =
     all-good log (given-before config (Deliver link ch, Outcome.Replied r) log given)
@@ -113,5 +113,5 @@ all-good {config} ((Deliver link ch, Outcome.NoSuchClient) ∷ log) given =
     all-good log (given-before config (Deliver link ch, Outcome.NoSuchClient) log given)
 
 pub faultless : {w : ℕ} → Faultless w
-faultless {w} config log given = no-fault (levels_of config) config.profile [] (reverse (trace_of log))
+faultless config log given = no-fault (levels_of config) config.profile [] (reverse (trace_of log))
     (rw (append-nil (reverse (reverse (trace_of log))) ∙ reverse-reverse (trace_of log)) (all-good log given))

@@ -1,22 +1,49 @@
+-- What excludes an access: who is recorded with no more than its cap leaves it.
 -- What the protocol does at an event to the accesses that are answered: each was answered before, or nobody is recorded
 -- any more with what excludes it, and it is answered what the block had.
-use Rattle.std.proofs.Common.{◌≡◌, ℕ, true, false, not, ◌&&◌, List, ◌∷◌, ◌⊎◌, Option, Some, None, refl, sym, ◌∙◌, ap}
-use Rattle.std.proofs.Common.{arith, inl, inr, length, ◌==◌}
+use Rattle.std.proofs.Common.{◌≡◌, ℕ, true, false, not, ◌&&◌, ◌==◌, List, ◌∷◌, Option, Some, None, refl, sym, ◌∙◌, ap}
+use Rattle.std.proofs.Common.{arith, ◌⊎◌, inl, inr, length}
 use Rattle.tl_coherence.proofs
-use proofs.Imports.{Message, MessageA, Config, Cap, Report, answer_of, block_at, is_acquire, leaves, needs, Op, Reply}
-use proofs.Imports.{access, access_answer, cap_probed, Kind, ProbeAck, Answer, Packet, set, set_at, Other}
-use proofs.Imports.{ProbeAnswered, is_unprobed, after_report, Block, Waits, GrantSent, State, SourceState, SourceFree}
-use proofs.Imports.{Asked, InService, Replied, Acquires, view, packet, on, written, performed_block, ended_block}
-use proofs.Imports.{AbstractState, asked, kind_taken, access_taken, last_taken, taken_by_client, some_below}
-use proofs.Imports.{probes_some, performs, answers, bytes_at, report_told, SimulationRelation, is_caching, IsFor, Log}
-use proofs.Imports.{System}
-use proofs.client.{AnswersKept.set_at-apart}
-use proofs.manager.{Choices.plain-past}
+use proofs.Imports.{same_Some, OpA, Message, MessageA, Config, Cap, Report, Perm, cap_right, same_perm, answer_of}
+use proofs.Imports.{block_at, is_acquire, leaves, needs, Op, Reply, access, access_answer, cap_probed, Answer, Kind}
+use proofs.Imports.{Packet, ProbeAck, set, set_at, Other, is_unprobed, after_report, is_above, Acquires, Asked, Block}
+use proofs.Imports.{GrantSent, InService, Replied, SourceFree, SourceState, State, Waits, ended_block, on, packet}
+use proofs.Imports.{performed_block, view, written, AbstractState, access_taken, answers, asked, bytes_at, kind_taken}
+use proofs.Imports.{last_taken, performs, probes_some, taken_by_client, some_below, report_told, SimulationRelation}
+use proofs.Imports.{is_caching, IsFor, Log, perm_le, System}
+use proofs.client.ProbeDelivered.{set_at-apart}
+use proofs.manager.Accounts.{plain-past}
 use proofs.queues.{Codes.low_cap, Tokens.set-same, Tokens.set_at-same}
-use proofs.protocol.{Granted.recorded_within, RequestsKept.unprobed, RequestsKept.settled_all, FirstTokens.first-report}
-use proofs.protocol.Events.{IsReady, ready-access, true-taken}
-use proofs.flow.Excluded.{above_le, leaves_within, leaves_all}
+use proofs.protocol.{Granted.recorded_within, RequestsKept.unprobed, RequestsKept.settled_all, BothParts.first-report}
+use proofs.protocol.HeadOfD.{IsReady, ready-access, true-taken}
 use proofs.memory.BesideTaken.{intent-reply, memory-reported, memory-unprobed}
+
+some_none : (k : Cap) → Some k ≡ None → ⊥
+some_none k e = cc
+
+pub above_le : (k : Cap) (p : Perm) → is_above k p ≡ false → perm_le p (cap_right k) ≡ true
+above_le k p e = grind arith
+
+at_most_branch : (p : Perm) → perm_le p (cap_right Cap.ToB) ≡ true → not (same_perm p Perm.Trunk) ≡ true
+at_most_branch p e = grind arith
+
+at_most_none : (p : Perm) → perm_le p (cap_right Cap.ToN) ≡ true → same_perm p Perm.None ≡ true
+at_most_none p e = grind arith
+
+within : (j k : Cap) (p : Perm) → Some j ≡ Some k → perm_le p (cap_right k) ≡ true → perm_le p (cap_right j) ≡ true
+within j k p e f = ap (λ i. perm_le p (cap_right i)) (same_Some j k e) ∙ f
+
+pub leaves_within : (o : OpA) (param : ℕ) (k : Cap) (p : Perm) → is_acquire o ≡ false → cap_probed o param ≡ Some k
+    → perm_le p (cap_right k) ≡ true → leaves (needs o) p ≡ true
+leaves_within OpA.Get param k p e f g = at_most_branch p (within Cap.ToB k p f g)
+leaves_within OpA.Intent param k p e f g = refl
+leaves_within OpA.AcquireBlock param k p e f g = absurd cc
+leaves_within OpA.AcquirePerm param k p e f g = absurd cc
+leaves_within o param k p e f g = at_most_none p (within Cap.ToN k p f g)
+
+pub leaves_all : (o : OpA) (param : ℕ) (p : Perm) → is_acquire o ≡ false → cap_probed o param ≡ None
+    → leaves (needs o) p ≡ true
+leaves_all o param p e f = grind (arith, some_none)
 
 -- ---- one place of two numbers
 
@@ -43,7 +70,7 @@ AreRenewed {w} h i = (c source : ℕ) → i.state.uses c source ≡ Replied → 
 
 -- each was answered before
 abbrev pub AreKept : {w : ℕ} → AbstractState w → AbstractState w → Type 0
-AreKept {w} h i = (c source : ℕ) → i.state.uses c source ≡ Replied → (h.state.uses c source ≡ Replied)
+AreKept h i = (c source : ℕ) → i.state.uses c source ≡ Replied → (h.state.uses c source ≡ Replied)
     × AreSameMessages h i c source
 
 kept-set : {w : ℕ} (c k : ℕ) (u : SourceState) (h i : AbstractState w) → (u ≡ Replied → ⊥)
@@ -130,7 +157,7 @@ renewed-kind_taken {w} {config} tracker c k i rest h is first ready =
         → AreRenewed h (access_taken c source m tracker false None rest h)
     answered source m o from plain caps none = renewed-reply c source m b.memory h
         (access_taken c source m tracker false None rest h) (λ d j. refl) (λ d j. refl) (λ d j. refl) from
-        (λ d. ap (λ (z : Block (List ℕ)). leaves (needs m.opcode) (z.pair d).recorded)
+        (λ d. ap (λ z. leaves (needs m.opcode) (z.pair d).recorded)
         (set-same n (performed_block (performs m) b) h.state.block) ∙ (found o caps none).0 d) (found o caps none).1
       where
         n : ℕ
@@ -157,10 +184,10 @@ renewed-kind_taken {w} {config} tracker c k i rest h is first ready =
         → (h.state.block n).service ≡ Waits q false source j
         → AreRenewed h (last_taken clients config.profile c n (report_told ((h.state.block n).pair c).probing)
         (Waits q false source j) rest h)
-    reported n q source j known last waits = renewed-reply q source m (written r b.truth b.memory) h
-        (last_taken clients config.profile c n r (Waits q false source j) rest h) (λ d i. refl) (λ d i. refl)
-        (λ d i. refl) (rw waits at (is.served_with n)) settled (ap (answers m) (memory-reported c q source r j
-        (is.invariant.blocks n) waits answer quiet ∙ ap (λ (i : ℕ). (h.state.block i).truth) (sym for.2)))
+    reported n q source j known last waits = renewed-reply q source m (written r b.truth b.memory) h (last_taken
+        clients config.profile c n r (Waits q false source j) rest h) (λ d i. refl) (λ d i. refl) (λ d i. refl)
+        (rw waits at (is.served_with n)) settled (ap (answers m) (memory-reported c q source r j (is.invariant.blocks n)
+        waits (first-report is.invariant known) quiet ∙ ap (λ i. (h.state.block i).truth) (sym for.2)))
       where
         b : Block (List ℕ)
         b = h.state.block n
@@ -174,21 +201,15 @@ renewed-kind_taken {w} {config} tracker c k i rest h is first ready =
         for : IsFor (Waits q false source j) n m
         for = rw waits at (is.served.requests n)
 
-        answer : (b.pair c).probing ≡ ProbeAnswered r
-        answer = first-report is.invariant known
-
         quiet : (d : ℕ) → (d ≡ c → ⊥) → is_unprobed (b.pair d).probing ≡ true
-        quiet = settled_all clients (is_caching config) c b.pair (plain-past config) (is.invariant.blocks n).outside
-            last
+        quiet = settled_all _ (is_caching config) c b.pair (plain-past config) (is.invariant.blocks n).outside last
 
         other : (d : ℕ) → view b.service d ≡ Other j
         other d = rw waits refl
 
         settled : IsSettledFor m (last_taken clients config.profile c n r (Waits q false source j) rest h).state
-        settled d = ap (λ (i : ℕ). leaves (needs m.opcode) ((set n new h.state.block i).pair d).recorded) for.2
-            ∙ ap (λ (z : Block (List ℕ)). leaves (needs m.opcode) (z.pair d).recorded) (set-same n new h.state.block)
-            ∙ leaves_within m.opcode m.param j (set c (after_report r (b.pair c)) b.pair d).recorded for.0 for.3
-            (recorded_within c r j (is.invariant.blocks n) answer quiet (other c) d (other d))
-          where
-            new : Block (List ℕ)
-            new = ended_block c r (performs m) b
+        settled d = ap (λ i. leaves (needs m.opcode) ((set n (ended_block c r (performs m) b) h.state.block i).pair
+            d).recorded) for.2 ∙ ap (λ z. leaves (needs m.opcode) (z.pair d).recorded)
+            (set-same n (ended_block c r (performs m) b) h.state.block) ∙ leaves_within m.opcode m.param
+            j (set c (after_report r (b.pair c)) b.pair d).recorded for.0 for.3 (recorded_within c r j
+            (is.invariant.blocks n) (first-report is.invariant known) quiet (other c) d (other d))

@@ -20,23 +20,20 @@ true-next {w} {config} {log} given c y queue beats with_data =
     let place : (m : Message w) (k : ℕ) → unfinished Channel.C (on_link c (system_after config log).manager.trace)
     ≡ begun m k → k ≡ length (unfinished Channel.C (flow c log)) = λ m k e. sym (ap length
     (((flowed config log given.width given.typed given.is_log) c).rest_is Channel.C ∙ e) ∙ length-begun m k) in
-    by-first_c (λ i. True) c h.mail h.state (system_after config log) (Beat.C y) queue
-    (first-token (is_caching config) Channel.C c h.mail h.state (system_after config log) (Beat.C y) queue given.width
-    is.invariant is.carried beats)
-    (λ n rest tokens next.
-    let m = report_rendered c n (h.state.block n) given.width (is.sized n).truth in
-    about n true _ _ m.0 m.2 next.k (next.beat_is ∙ ap (λ (z : Message w). beat_of z next.k) m.1)
-    (place (Message.C m.0) next.k (next.rest_is ∙ ap (λ (z : Message w). begun z next.k) m.1)))
-    (λ n rest tokens next.
-    let m = release_rendered c n (h.state.block n) given.width (is.sized n).truth in
-    about n _ _ _ m.0 m.2 next.k (next.beat_is ∙ ap (λ (z : Message w). beat_of z next.k) m.1)
-    (place (Message.C m.0) next.k (next.rest_is ∙ ap (λ (z : Message w). begun z next.k) m.1)))
+    by-first_c (λ i. True) c h.mail h.state _ _ queue (first-token (is_caching config) Channel.C c h.mail h.state
+    (system_after config log) (Beat.C y) queue given.width is.invariant is.carried beats) (λ n rest tokens next.
+    let m = report_rendered c n _ given.width (is.sized n).truth in
+    about n true _ _ m.0 m.2 next.k (next.beat_is ∙ ap (λ z. beat_of z next.k) m.1)
+    (place (Message.C m.0) next.k (next.rest_is ∙ ap (λ z. begun z next.k) m.1))) (λ n rest tokens next.
+    let m = release_rendered c n _ given.width (is.sized n).truth in
+    about n _ _ _ m.0 m.2 next.k (next.beat_is ∙ ap (λ z. beat_of z next.k) m.1)
+    (place (Message.C m.0) next.k (next.rest_is ∙ ap (λ z. begun z next.k) m.1)))
   where
     h : AbstractState w
     h = shadow config log
 
     is : SimulationRelation config log h.mail h.request h.state (system_after config log)
-    is = matched-given config log given
+    is = matched-given _ log given
 
     True : Type 0
     True = (bytes : List ℕ) × IsBlock (one_memory_after config log).memory (block_at y.address) bytes
@@ -47,7 +44,7 @@ true-next {w} {config} {log} given c y queue beats with_data =
         → k ≡ length (unfinished Channel.C (flow c log)) → True
     about n b param carries m says k beat_is at =
         let same : y ≡ c_beat_of m k = cc in
-        let of_block : block_at y.address ≡ n = ap (λ (z : BeatC w). block_at z.address) same ∙ says.block in
+        let of_block : block_at y.address ≡ n = ap (λ z. block_at z.address) same ∙ says.block in
         let data_too : c_carries_data m.opcode ≡ true = cc (same, with_data) in
         let lanes : y.lanes ≡ lanes_at true w (h.state.block n).truth (length (unfinished Channel.C (flow c log))) =
         cc (same, data_too, says.payload_is (sym says.carries_is ∙ data_too), at) in
@@ -56,7 +53,7 @@ true-next {w} {config} {log} given c y queue beats with_data =
 true-moved : {w : ℕ} (config : Config) (log : Log w) → IsGiven config log → (c : ℕ) (x : Beat w) (queue : List (Beat w))
     → (system_after config log).channels c (channel_of x) ≡ x ∷ queue
     → IsTrueReturn (one_memory_after config log).memory c x (trace_of log)
-true-moved {w} config log given c (Beat.C y) queue beats =
+true-moved config log given c (Beat.C y) queue beats =
     λ with_data. rw (trace-flows c log) (true-next given c y queue beats with_data)
 true-moved config log given c (Beat.A y) queue beats = tt
 true-moved config log given c (Beat.B y) queue beats = tt

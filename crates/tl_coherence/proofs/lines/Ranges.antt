@@ -1,24 +1,23 @@
 -- The numbers of each beat on a channel are within their types.
-use Rattle.std.proofs.Common.{◌≡◌, ℕ, zero, suc, ◌+◌, ◌-◌, ◌*◌, ◌%◌, ◌^◌, ◌<◌, ◌≤◌, Bool, true, false, List, [], ◌∷◌}
-use Rattle.std.proofs.Common.{◌++◌, Option, Some, None, length, refl, sym, lit<, arith, leb-true, IfSome, drop, nat_le}
-use Rattle.std.proofs.Common.{option_map, replicate, slice_get}
+use Rattle.std.proofs.Common.{◌≡◌, ℕ, zero, suc, ◌+◌, ◌*◌, ◌-◌, ◌^◌, ◌<◌, ◌≤◌, Bool, true, false, List, [], ◌∷◌, ◌++◌}
+use Rattle.std.proofs.Common.{Option, Some, None, refl, sym, arith, ◌%◌, length, lit<, leb-true, drop, IfSome}
+use Rattle.std.proofs.Common.{replicate, slice_get, nat_le, option_map}
 use Rattle.std.proofs.lemmas.List.Elements.{All-drop, All-from_get_or, All-replicate, All-take}
 use Rattle.tl_coherence.proofs
 use proofs.Imports.{and_parts, All-append, Channel, OpB, IsInRange, Message, MessageA, beat_of, lanes_at, ClientConfig}
 use proofs.Imports.{Config, Prune, Report, Perm, all_sources_fit, config_fault, sources_fit, is_outside, answer_of}
 use proofs.Imports.{as_payload, block_at, Op, EndConfig, probe_ack, release, sourced, one_if, access_answer}
-use proofs.Imports.{release_ack, Kind, Request, Acquire, Probe, ProbeAck, Release, Answer, Grant, ReleaseAck, GrantAck}
-use proofs.Imports.{Packet, count, is, AcquirePhase, AcquireOpen, Service, GrantSent, State, SourceState, SourceFree}
-use proofs.Imports.{Asked, Replied, Acquires, packet, packets_on, is_on, Answers, IsOpened, AccessMessages, acquire_of}
-use proofs.Imports.{grant_of, message_of_kind, prune_told, block_message, report_told, AreLanes, SimulationRelation}
-use proofs.Imports.{sources_of, Log, Requests, one_memory_after, AreBytes, System, terms_at}
-use Rattle.tl_beat.{specs.statement.Line.AreLanes as HasLanes}
+use proofs.Imports.{release_ack, Acquire, Answer, Grant, GrantAck, Kind, Packet, Probe, ProbeAck, Release, ReleaseAck}
+use proofs.Imports.{Request, is, count, AcquireOpen, AcquirePhase, Acquires, Asked, GrantSent, Replied, Service}
+use proofs.Imports.{SourceFree, SourceState, State, is_on, packet, packets_on, Answers, IsOpened, AccessMessages}
+use proofs.Imports.{acquire_of, grant_of, message_of_kind, prune_told, report_told, block_message, AreLanes}
+use proofs.Imports.{SimulationRelation, sources_of, Log, Requests, one_memory_after, AreBytes, System, terms_at}
+use Rattle.tl_beat.specs.statement.Line.{AreLanes as HasLanes}
 use Rattle.tl_rules.specs.statement.Effect as memory
-use proofs.memory.Bytes.{IsRangedMachine, IsRangedOpen, IsRangedReply}
+use proofs.memory.OneMemory.{IsRangedMachine, IsRangedOpen, IsRangedReply}
 use proofs.protocol.Capacities.{acquire_named, answer_named, grant_ack_named, grant_named, release_ack_named}
-use proofs.protocol.Capacities.{release_named, request_named}
-use proofs.protocol.TokenNames.{AreBounded, shown_there, shows_it, tracker_of_service}
-use proofs.queues.{Rendered.same_kind_again, Tokens.same_number, Limits.limits-fit}
+use proofs.protocol.Capacities.{release_named, request_named, AreBounded, shown_there, shows_it, tracker_of_service}
+use proofs.queues.{Channels.same_kind_again, Tokens.same_number, Limits.limits-fit}
 
 -- ---- messages, and their beats
 
@@ -94,7 +93,7 @@ each-fits [] k client fit e = absurd cc
 each-fits (x ∷ clients) zero client fit e = let is : x ≡ client = cc in
     rw is at (and_parts (sources_fit x) (all_sources_fit clients) fit).0
 each-fits (x ∷ clients) (suc k) client fit e =
-    each-fits clients k client (and_parts (sources_fit x) (all_sources_fit clients) fit).1 e
+    each-fits clients k _ (and_parts (sources_fit x) (all_sources_fit clients) fit).1 e
 
 pub few-sources : (config : Config) (c : ℕ) → config_fault config ≡ None → sources_of (terms_at config c) ≤ 8
 few-sources config c fits = go (slice_get config.clients.items c) refl
@@ -156,21 +155,18 @@ module _ {w : ℕ} {config : Config} {log : Log w} {mail : AccessMessages w} {re
   unfolding block_message
   kind-ranged Request n shows = request-ranged n (request_named c n matched.invariant shows)
   kind-ranged Answer n shows = answer-is-ranged n (answer_named c n matched.invariant shows)
-  kind-ranged Acquire n shows = acquire-ranged w ((s.block n).pair c).acquiring ((s.block n).source c) n
+  kind-ranged Acquire n shows = acquire-ranged w ((s.block n).pair c).acquiring _ n
       (used-small ((s.block n).source c) (Acquires n) (acquire_named c n matched.invariant shows) (λ e. absurd cc))
   kind-ranged Probe n shows = (lit< tt, zeros-bytes 64)
-  kind-ranged ProbeAck n shows = report-ranged w _ (report_told ((s.block n).pair c).probing) n (s.block n).truth
-      (truth-bytes n)
-  kind-ranged Release n shows =
-      release-ranged w (prune_told ((s.block n).pair c).letting) ((s.block n).release_source c) n (s.block n).truth
+  kind-ranged ProbeAck n shows = report-ranged w _ (report_told ((s.block n).pair c).probing) n _ (truth-bytes n)
+  kind-ranged Release n shows = release-ranged w (prune_told ((s.block n).pair c).letting) _ n _
       (let-small ((s.block n).release_source c) n (release_named c n matched.invariant shows)) (truth-bytes n)
-  kind-ranged Grant n shows = grant-ranged w (s.block n).service ((s.block n).source c) (s.block n).tracker
-      (s.block n).truth (used-small ((s.block n).source c) (Acquires n) (grant_named c n matched.invariant shows)
-      (λ e. absurd cc)) (λ q d k e. tracker-small (s.block n).tracker n
-      (tracker_of_service n matched.invariant (rw e refl))) (truth-bytes n)
-  kind-ranged ReleaseAck n shows = ack-ranged w ((s.block n).release_source c)
+  kind-ranged Grant n shows = grant-ranged w (s.block n).service _ (s.block n).tracker _
+      (used-small ((s.block n).source c) (Acquires n) (grant_named c n matched.invariant shows) (λ e. absurd cc))
+      (λ q d k e. tracker-small _ n (tracker_of_service n matched.invariant (rw e refl))) (truth-bytes n)
+  kind-ranged ReleaseAck n shows = ack-ranged w _
       (let-small ((s.block n).release_source c) n (release_ack_named c n matched.invariant shows))
-  kind-ranged GrantAck n shows = tracker-small (s.block n).tracker n (grant_ack_named c n matched.invariant shows)
+  kind-ranged GrantAck n shows = tracker-small _ n (grant_ack_named c n matched.invariant shows)
 
   pub first-ranged : (ch : Channel) (k : Kind) (n : ℕ) (rest : List Packet) → is_on ch k ≡ true
       → packets_on ch (s.link c) ≡ packet k n ∷ rest → IsRangedMessage (message_of_kind k mail s c n)

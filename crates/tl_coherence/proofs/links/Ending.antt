@@ -1,19 +1,25 @@
 -- A delivery with which an operation ends: it brings the last beat of the response that is first on channel D.
-use Rattle.std.proofs.Common.{◌≡◌, ℕ, Bool, true, false, List, [], ◌∷◌, Option, Some, None, refl, sym, ◌∙◌, ap, subst}
-use Rattle.std.proofs.Common.{if◌then◌else◌, Ok}
+-- Channels lose nothing and keep order: for histories of the two ends of each link, and what is on its channels.
+use Rattle.std.proofs.Common.{◌≡◌, ℕ, zero, suc, Bool, true, false, not, ◌&&◌, ◌==◌, if◌then◌else◌, List, [], ◌∷◌, ◌++◌}
+use Rattle.std.proofs.Common.{Option, Some, None, Ok, refl, sym, ◌∙◌, ap, subst, arith, inl, inr, append_assoc, ne_eqb}
+use Rattle.std.proofs.Common.{reverse}
 use Rattle.tl_coherence.proofs
-use proofs.Imports.{Beat, BeatD, Link, Channel, IsWidth, Message, MessageD, beat_of, d_beat_of, unfinished, completes}
-use proofs.Imports.{Config, Finish, Verdict, Endpoint, EndConfig, Deliver, Outcome, Kind, Answer, Grant, ReleaseAck}
-use proofs.Imports.{Packet, packet, is_on, AbstractState, abstract_step, kind_taken, packet_taken, message_of_kind}
-use proofs.Imports.{block_message, SimulationRelation, is_caching, is_moving, Log, system_after, Step, stepped}
-use proofs.Imports.{is_to_client, outcome_of, System, terms_at}
+use proofs.Imports.{cases_eq, reverse-append, Beat, BeatD, Link, Channel, IsWidth, Message, MessageD, beat_of, beats_of}
+use proofs.Imports.{begun, burst_of, d_beat_of, History, unfinished, completes, Config, beats_from, Finish, Verdict}
+use proofs.Imports.{EndConfig, Endpoint, is_from_client, Deliver, Outcome, Answer, Grant, Kind, Packet, ReleaseAck}
+use proofs.Imports.{is_on, packet, AbstractState, abstract_step, kind_taken, packet_taken, message_of_kind}
+use proofs.Imports.{block_message, SimulationRelation, is_caching, is_moving, Log, system_after, is_to_client}
+use proofs.Imports.{outcome_of, stepped, System, channel_of_message, same_channel, terms_at}
+use Rattle.tl_burst.specs.statement.Messages.{carried_on, on}
 use Rattle.tl_client.specs.statement.Offer as offer
+use proofs.queues.{Beats.reverse-beats_from, Steps.IsOn, Steps.stepped-empty, Tokens.same_number}
+use proofs.queues.{Channels.same_channel-is, FirstToken.IsFirst, FirstToken.first-token}
+use proofs.deliveries.{ManagersAfter.on_message, DeliverDUnmoved.followed-moving}
+use proofs.deliveries.Matching.{not_moving, stepped-nobody}
 use proofs.protocol.HeadOfD.{answer-due, grant-due, grant-rendered, ack_message}
-use proofs.queues.{FirstToken.IsFirst, FirstToken.first-token, Steps.stepped-empty}
-use proofs.deliveries.{DeliverDAfter.followed-moving, Matching.not_moving, Matching.stepped-nobody}
-use proofs.client.{ProbeDelivered.delivered-b, DeliverD.finish_at, DeliverD.acked, DeliverD.answer-last}
-use proofs.client.{DeliverD.answer-part, DeliverD.same_answers}
-use proofs.manager.UnwaitedRequests.{next_tracker}
+use proofs.client.ProbeDelivered.{delivered-b}
+use proofs.client.DeliverD.{finish_at, acked, answer-last, answer-part, same_answers}
+use proofs.manager.RequestsTaken.{next_tracker}
 use proofs.simulation.Moved.{IsTakenByClient, client-moves, manager-moves}
 
 -- the operation with this source ends so
@@ -41,10 +47,10 @@ response_of : {w : ℕ} {config : Config} {log : Log w} (h : AbstractState w) {s
     → (m : MessageD w) × (message_of_kind k h.mail h.state c i ≡ Message.D m)
 unfolding block_message
 response_of {config} h c Answer i rest is tokens own = let due =
-    answer-due (is_caching config) c i rest h.mail h.state is.invariant (is.answered c i) tokens in
+    answer-due (is_caching config) c i rest h.mail _ is.invariant (is.answered c i) tokens in
     (due.answer, due.answer_is)
 response_of {config} h c Grant n rest is tokens own = let due =
-    grant-due (is_caching config) c n rest h.state is.invariant tokens in (_, grant-rendered c n h.state due)
+    grant-due (is_caching config) c n rest _ is.invariant tokens in (_, grant-rendered c n h.state due)
 response_of h c ReleaseAck n rest is tokens own = (ack_message ((h.state.block n).release_source c), refl)
 response_of h c k i rest is tokens own = absurd cc
 
@@ -60,43 +66,35 @@ ending_d {w} {config} {log} link h terms y queue x source f width is known beats
     sys : System w
     sys = system_after config log
 
-    c : ℕ
-    c = link.0
-
     e : Endpoint w
-    e = sys.clients c
+    e = sys.clients link.0
 
-    moving : is_moving (stepped config (Deliver link Channel.D) sys).outcome ≡ true
-    moving = ap is_moving done
+    first : IsFirst Channel.D link.0 h.mail h.state sys y queue
+    first = first-token (is_caching config) Channel.D link.0 h.mail _ sys y queue width is.invariant is.carried beats
 
-    first : IsFirst Channel.D c h.mail h.state sys y queue
-    first = first-token (is_caching config) Channel.D c h.mail h.state sys y queue width is.invariant is.carried beats
+    t : IsTakenByClient terms link.0 Channel.D y queue sys (stepped config (Deliver link Channel.D) sys)
+    t = client-moves config link Channel.D sys terms y queue known beats refl (ap is_moving done)
 
-    t : IsTakenByClient terms c Channel.D y queue sys (stepped config (Deliver link Channel.D) sys)
-    t = client-moves config link Channel.D sys terms y queue known beats refl moving
-
-    m : (m : MessageD w) × (message_of_kind first.kind h.mail h.state c first.number ≡ Message.D m)
-    m = response_of h c first.kind first.number first.rest is first.tokens first.own
+    m : (m : MessageD w) × (message_of_kind first.kind h.mail h.state link.0 first.number ≡ Message.D m)
+    m = response_of h link.0 first.kind first.number _ is first.tokens first.own
 
     z : BeatD w
     z = d_beat_of m.0 first.next.k
 
     y_is : y ≡ Beat.D z
-    y_is = first.next.beat_is ∙ ap (λ (i : Message w). beat_of i first.next.k) m.1
+    y_is = first.next.beat_is ∙ ap (λ i. beat_of i first.next.k) m.1
 
     outcome_is : (v : Verdict) (n : Option (Message w)) → (offer.taken (Beat.D z) e).answer ≡ Ok (v, n)
         → Outcome.Done x source f ≡ outcome_of y v
-    outcome_is v n answer = sym done ∙ ap (λ (s : Step w). s.outcome) t.step_is
-        ∙ ap (outcome_of y) (same_answers t.verdict_is v t.message n (offer.taken y e).answer t.answer
-        (ap (λ (i : Beat w). (offer.taken i e).answer) y_is ∙ answer)).0
+    outcome_is v n answer = sym done ∙ ap (λ s. s.outcome) t.step_is ∙ ap (outcome_of y) (same_answers t.verdict_is v
+        t.message n (offer.taken y e).answer t.answer (ap (λ i. (offer.taken i e).answer) y_is ∙ answer)).0
 
     go : (b : Bool) → completes y (unfinished Channel.D e.past) ≡ b → IsEnding config log link Channel.D h x source f
     go false part = absurd (done_moved x y source f (outcome_is Verdict.Taken None (answer-part z e (cc (y_is, part)))))
     go true last =
-        let same : x ≡ y → source ≡ z.source → f ≡ finish_at z e → completes y (unfinished Channel.D e.past) ≡ true
-        → IsEnding config log link Channel.D h x source f =
-        λ x_is i j whole. subst (λ (b : Beat w). IsEnding config log link Channel.D h b source f) (sym x_is)
-        (record {
+        let same : x ≡ y → source ≡ z.source → f ≡ finish_at z e → completes y (unfinished Channel.D e.past)
+        ≡ true → IsEnding config log link Channel.D h x source f = λ x_is i j whole.
+        subst (λ b. IsEnding config log link Channel.D h b source f) (sym x_is) (record {
           on_d = refl;
           queue = queue;
           first = first;
@@ -106,15 +104,14 @@ ending_d {w} {config} {log} link h terms y queue x source f width is known beats
           beat_is = y_is;
           source_is = i;
           finish_is = j;
-          follows = followed-moving config link Channel.D sys h y queue moving beats
-              ∙ ap (λ (b : Bool). if b then packet_taken config (next_tracker sys) c (h.state.link c).d h else h) whole
-              ∙ ap (λ (l : List Packet). packet_taken config (next_tracker sys) c l h) first.tokens;
+          follows = followed-moving config link Channel.D sys h y queue (ap is_moving done) beats
+              ∙ ap (λ b. if b then packet_taken config (next_tracker sys) link.0 (h.state.link link.0).d h else h) whole
+              ∙ ap (λ l. packet_taken config (next_tracker sys) link.0 l h) first.tokens;
         }) in
         let ended : completes (Beat.D z) (unfinished Channel.D e.past) ≡ true = cc (y_is, last) in
         let o = outcome_is (Verdict.Done z.source (finish_at z e)) (acked z.opcode z.sink) (answer-last z e ended) in
         let x_is : x ≡ y = cc in
-        same x_is (cc)
-        (cc) last
+        same x_is (cc) (cc) last
 
 pub ending : {w : ℕ} (config : Config) (log : Log w) (link : Link) (ch : Channel) (h : AbstractState w) (x : Beat w)
     (source : ℕ) (f : Finish) → IsWidth w → SimulationRelation config log h.mail h.request h.state
@@ -130,7 +127,7 @@ ending {w} config log link ch h x source f width is done = found (terms_at confi
         → is_to_client at ≡ false → (stepped config (Deliver link at) sys).outcome ≡ Outcome.Done x source f → ⊥
     up at terms y queue known beats down o =
         let t = manager-moves config link at sys terms y queue known beats down (ap is_moving o) in
-        done_moved x y source f (sym o ∙ ap (λ (s : Step w). s.outcome) t.step_is)
+        done_moved x y source f (sym o ∙ ap (λ s. s.outcome) t.step_is)
 
     probe : (terms : EndConfig) (y : Beat w) (queue : List (Beat w)) → terms_at config link.0 ≡ Some terms
         → sys.channels link.0 Channel.B ≡ y ∷ queue
@@ -138,9 +135,9 @@ ending {w} config log link ch h x source f width is done = found (terms_at confi
     probe terms y queue known beats o =
         let p = delivered-b terms (next_tracker sys) link.0 y queue width is known beats in
         let t = client-moves config link Channel.B sys terms y queue known beats refl (ap is_moving o) in
-        done_moved x y source f (sym o ∙ ap (λ (s : Step w). s.outcome) t.step_is ∙ ap (outcome_of y)
+        done_moved x y source f (sym o ∙ ap (λ s. s.outcome) t.step_is ∙ ap (outcome_of y)
         (same_answers t.verdict_is Verdict.Taken t.message _ (offer.taken y (sys.clients link.0)).answer t.answer
-        (ap (λ (i : Beat w). (offer.taken i (sys.clients link.0)).answer) p.1.beat_is)).0)
+        (ap (λ i. (offer.taken i (sys.clients link.0)).answer) p.1.beat_is)).0)
 
     moves : (at : Channel) (terms : EndConfig) (beats : List (Beat w)) → terms_at config link.0 ≡ Some terms
         → sys.channels link.0 at ≡ beats → (stepped config (Deliver link at) sys).outcome ≡ Outcome.Done x source f
@@ -157,3 +154,177 @@ ending {w} config log link ch h x source f width is done = found (terms_at confi
     found None none = absurd (not_moving _ _ (stepped-nobody config (Deliver link ch) sys none) (ap is_moving done)
         refl)
     found (Some terms) known = moves ch terms (sys.channels link.0 ch) known refl done
+
+-- ---- lists
+
+-- what was sent is what was taken, and then what is under way
+abbrev IsInOrder : {X : Type 0} → List X → List X → List X → Type 0
+IsInOrder sent queue taken = sent ≡ reverse queue ++ taken
+
+push_order : {w : ℕ} (b : Bool) (m : Message w) (sent queue own taken : List (Beat w)) → (b ≡ true → own ≡ queue)
+    → IsInOrder sent queue taken
+    → IsInOrder (if b then burst_of m ++ sent else sent) (if b then own ++ beats_from m 0 (beats_of m) else queue) taken
+push_order true m sent queue own taken same is = let fact = reverse-append queue (beats_from m 0 (beats_of m)) in
+    cc (is, append_assoc (burst_of m) (reverse queue) taken, reverse-beats_from m (beats_of m), same refl)
+push_order false m sent queue own taken same is = is
+
+pop_order : {w : ℕ} (b : Bool) (x : Beat w) (rest sent queue taken : List (Beat w)) → (b ≡ true → queue ≡ x ∷ rest)
+    → IsInOrder sent queue taken → IsInOrder sent (if b then rest else queue) (if b then x ∷ taken else taken)
+pop_order true x rest sent queue taken first is =
+    cc (is, first refl, reverse-append (x ∷ []) rest, append_assoc (reverse rest) (x ∷ []) taken)
+pop_order false x rest sent queue taken first is = is
+
+-- ---- the beats of a channel
+
+carried-begun : {w : ℕ} (m : Message w) (k : ℕ) (at : Channel) (t : History w) → carried_on at (begun m k ++ t)
+    ≡ (if same_channel at (channel_of_message m) then begun m k ++ carried_on at t else carried_on at t)
+unfolding carried_on
+carried-begun m zero at t =
+    let go : (b : Bool) → carried_on at t ≡ (if b then carried_on at t else carried_on at t) =
+    elim [ true ↦ refl | false ↦ refl ] in
+    go (same_channel at (channel_of_message m))
+carried-begun {w} m (suc k) at t = go (on at (beat_of m k)) (same_channel at (channel_of_message m)) (on_message m k at)
+    (carried-begun m k at t)
+  where
+    go : (a b : Bool) → a ≡ b
+        → carried_on at (begun m k ++ t) ≡ (if b then begun m k ++ carried_on at t else carried_on at t)
+        → (if a then beat_of m k ∷ carried_on at (begun m k ++ t) else carried_on at (begun m k ++ t))
+        ≡ (if b then beat_of m k ∷ (begun m k ++ carried_on at t) else carried_on at t)
+    go a b e f = grind arith
+
+carried-beat : {w : ℕ} (x : Beat w) (ch at : Channel) (t : History w) → IsOn ch x
+    → carried_on at (x ∷ t) ≡ (if same_channel at ch then x ∷ carried_on at t else carried_on at t)
+unfolding carried_on
+carried-beat x ch at t is = ap (λ b. if b then x ∷ carried_on at t else carried_on at t) (is at)
+
+apart : (at ch : Channel) (b : Bool) → is_to_client at ≡ b → is_to_client ch ≡ not b → same_channel at ch ≡ false
+apart at ch b e f = grind (arith, same_channel-is)
+
+sends : {w : ℕ} (m : Message w) (b : Bool) → is_from_client (beat_of m 0) ≡ not b
+    → is_to_client (channel_of_message m) ≡ b
+sends m b e = grind arith
+
+-- ---- the two ends of each link
+
+-- `p` is the history of each client's end, `t` that of the manager's end of each link, `q` what is on each channel,
+-- and `f` what was delivered
+pub record ArePassing {w : ℕ} (p t : ℕ → History w) (q : ℕ → Channel → List (Beat w)) (f : ℕ → History w) : Type 0 where
+  pub down : (d : ℕ) (at : Channel) → is_to_client at ≡ true
+      → IsInOrder (carried_on at (t d)) (q d at) (carried_on at (p d)) × (carried_on at (p d) ≡ carried_on at (f d))
+  pub up : (d : ℕ) (at : Channel) → is_to_client at ≡ false
+      → IsInOrder (carried_on at (p d)) (q d at) (carried_on at (t d)) × (carried_on at (t d) ≡ carried_on at (f d))
+
+-- with a message, or a beat, at one end
+abbrev pub said_at : {w : ℕ} → ℕ → Message w → (ℕ → History w) → ℕ → History w
+said_at l m p d = if l == d then burst_of m ++ p d else p d
+
+abbrev pub heard_at : {w : ℕ} → ℕ → Beat w → (ℕ → History w) → ℕ → History w
+heard_at c x p d = if c == d then x ∷ p d else p d
+
+abbrev pub queued_at : {w : ℕ} → ℕ → Message w → (ℕ → Channel → List (Beat w)) → ℕ → Channel → List (Beat w)
+queued_at l m q d at = if (d == l) && same_channel at (channel_of_message m) then q l (channel_of_message m)
+    ++ beats_from m 0 (beats_of m) else q d at
+
+abbrev pub popped_at : {w : ℕ} → ℕ → Channel → List (Beat w) → (ℕ → Channel → List (Beat w)) → ℕ → Channel
+    → List (Beat w)
+popped_at c ch queue q d at = if (d == c) && same_channel at ch then queue else q d at
+
+-- the sending end says a message
+said_here : {w : ℕ} (l : ℕ) (m : Message w) (p : ℕ → History w) (q : ℕ → Channel → List (Beat w)) (d : ℕ) (at : Channel)
+    (taken : List (Beat w)) → IsInOrder (carried_on at (p d)) (q d at) taken
+    → IsInOrder (carried_on at (said_at l m p d)) (queued_at l m q d at) taken
+said_here l m p q d at taken is = elim (cases_eq d l) [
+  | inl same ↦ rw (same, same_number l, carried-begun m (beats_of m) at (p l))
+      (push_order (same_channel at (channel_of_message m)) m (carried_on at (p l)) (q l at) (q l (channel_of_message m))
+      taken (λ e. ap (q l) (sym (same_channel-is at (channel_of_message m) e))) (rw same at is))
+  | inr other ↦ rw (ne_eqb d l other, ne_eqb l d (λ e. other (sym e))) is
+]
+
+-- on a channel on which it doesn't send, nothing changes
+unsaid_history : {w : ℕ} (l : ℕ) (m : Message w) (p : ℕ → History w) (d : ℕ) (at : Channel)
+    → same_channel at (channel_of_message m) ≡ false → carried_on at (said_at l m p d) ≡ carried_on at (p d)
+unsaid_history {w} l m p d at differs = grind (arith, carried-begun)
+
+unsaid_queue : {w : ℕ} (l : ℕ) (m : Message w) (q : ℕ → Channel → List (Beat w)) (d : ℕ) (at : Channel)
+    → same_channel at (channel_of_message m) ≡ false → queued_at l m q d at ≡ q d at
+unsaid_queue {w} l m q d at differs = grind arith
+
+pub client-says : {w : ℕ} (l : ℕ) (m : Message w) {p t : ℕ → History w} {q : ℕ → Channel → List (Beat w)} {f : ℕ
+    → History w}
+    → is_from_client (beat_of m 0) ≡ true → ArePassing p t q f → ArePassing (said_at l m p) t (queued_at l m q) f
+client-says l m {p} {t} {q} ours is = record {
+  down = λ d at e.
+      let differs = apart at _ true e (sends m false ours) in
+      rw (unsaid_queue l m q d at differs, unsaid_history l m p d at differs) (is.down d at e);
+  up = λ d at e. (said_here l m p q d at (carried_on at (t d)) (is.up d at e).0, (is.up d at e).1);
+}
+
+pub manager-says : {w : ℕ} (l : ℕ) (m : Message w) {p t : ℕ → History w} {q : ℕ → Channel → List (Beat w)} {f : ℕ
+    → History w}
+    → is_from_client (beat_of m 0) ≡ false → ArePassing p t q f → ArePassing p (said_at l m t) (queued_at l m q) f
+manager-says l m {p} {t} {q} ours is = record {
+  up = λ d at e.
+      let differs = apart at _ false e (sends m true ours) in
+      rw (unsaid_queue l m q d at differs, unsaid_history l m t d at differs) (is.up d at e);
+  down = λ d at e. (said_here l m t q d at (carried_on at (p d)) (is.down d at e).0, (is.down d at e).1);
+}
+
+-- the taking end hears a beat
+heard_history : {w : ℕ} (c : ℕ) (ch : Channel) (x : Beat w) (p : ℕ → History w) (d : ℕ) (at : Channel) → IsOn ch x
+    → carried_on at (heard_at c x p d) ≡ (if (c == d) && same_channel at ch then x ∷ carried_on at (p d) else carried_on
+    at (p d))
+heard_history {w} c ch x p d at is = grind (arith, carried-beat)
+
+heard_here : {w : ℕ} (c : ℕ) (ch : Channel) (x : Beat w) (queue : List (Beat w)) (p : ℕ → History w) (q : ℕ → Channel
+    → List (Beat w)) (f : ℕ → History w) (d : ℕ) (at : Channel) (sent : List (Beat w)) → IsOn ch x → q c ch ≡ x ∷ queue
+    → IsInOrder sent (q d at) (carried_on at (p d)) × (carried_on at (p d) ≡ carried_on at (f d))
+    → IsInOrder sent (popped_at c ch queue q d at) (carried_on at (heard_at c x p d))
+    × (carried_on at (heard_at c x p d) ≡ carried_on at (heard_at c x f d))
+heard_here {w} c ch x queue p q f d at sent on first is =
+    let order : IsInOrder sent (popped_at c ch queue q d at) (carried_on at (heard_at c x p d)) = elim (cases_eq d c) [
+      | inl here ↦ rw (here, heard_history c ch x p c at on, same_number c) (pop_order (same_channel at ch) x queue sent
+          (q c at) (carried_on at (p c)) (λ e. ap (q c) (same_channel-is at ch e) ∙ first) (rw here at is.0))
+      | inr other ↦ rw (heard_history c ch x p d at on, ne_eqb d c other, ne_eqb c d (λ e. other (sym e))) is.0
+    ] in
+    (order, cc (heard_history c ch x p d at on, is.1, heard_history c ch x f d at on))
+
+unheard : {w : ℕ} (c : ℕ) (ch : Channel) (x : Beat w) (p : ℕ → History w) (d : ℕ) (at : Channel) → IsOn ch x
+    → same_channel at ch ≡ false → carried_on at (heard_at c x p d) ≡ carried_on at (p d)
+unheard {w} c ch x p d at on differs = heard_history c ch x p d at on ∙ go (c == d) (same_channel at ch) differs
+  where
+    go : (a b : Bool) → b ≡ false → (if a && b then x ∷ carried_on at (p d) else carried_on at (p d)) ≡ carried_on at
+        (p d)
+    go a b e = grind arith
+
+unpopped : {w : ℕ} (c : ℕ) (ch : Channel) (queue : List (Beat w)) (q : ℕ → Channel → List (Beat w)) (d : ℕ)
+    (at : Channel) → same_channel at ch ≡ false → popped_at c ch queue q d at ≡ q d at
+unpopped {w} c ch queue q d at differs = grind arith
+
+pub client-hears : {w : ℕ} (c : ℕ) (ch : Channel) (x : Beat w) (queue : List (Beat w)) {p t : ℕ → History w} {q : ℕ
+    → Channel → List (Beat w)} {f : ℕ → History w} → is_to_client ch ≡ true → IsOn ch x → q c ch ≡ x ∷ queue
+    → ArePassing p t q f → ArePassing (heard_at c x p) t (popped_at c ch queue q) (heard_at c x f)
+client-hears c ch x queue {p} {t} {q} {f} theirs on first is = record {
+  down = λ d at e. heard_here c ch x queue p q f d at _ on first (is.down d at e);
+  up = λ d at e.
+      let differs = apart at ch false e theirs in
+      rw (unheard c ch x p d at on differs, unheard c ch x f d at on differs, unpopped c ch queue q d at differs)
+      (is.up d at e);
+}
+
+pub manager-hears : {w : ℕ} (c : ℕ) (ch : Channel) (x : Beat w) (queue : List (Beat w)) {p t : ℕ → History w} {q : ℕ
+    → Channel → List (Beat w)} {f : ℕ → History w} → is_to_client ch ≡ false → IsOn ch x → q c ch ≡ x ∷ queue
+    → ArePassing p t q f → ArePassing p (heard_at c x t) (popped_at c ch queue q) (heard_at c x f)
+manager-hears c ch x queue {p} {t} {q} {f} theirs on first is = record {
+  up = λ d at e. heard_here c ch x queue t q f d at _ on first (is.up d at e);
+  down = λ d at e.
+      let differs = apart at ch true e theirs in
+      rw (unheard c ch x t d at on differs, unheard c ch x f d at on differs, unpopped c ch queue q d at differs)
+      (is.down d at e);
+}
+
+-- the same histories and channels
+pub passing-same : {w : ℕ} {p t : ℕ → History w} (p' t' : ℕ → History w) {q : ℕ → Channel → List (Beat w)} (q' : ℕ
+    → Channel → List (Beat w)) {f : ℕ → History w} (f' : ℕ → History w) → ((d : ℕ) → p' d ≡ p d)
+    → ((d : ℕ) → t' d ≡ t d) → ((d : ℕ) (at : Channel) → q' d at ≡ q d at) → ((d : ℕ) → f' d ≡ f d) → ArePassing p t q f
+    → ArePassing p' t' q' f'
+passing-same p' t' q' f' ps ts qs fs is = grind arith

@@ -1,27 +1,27 @@
 -- A beat of channel A that is delivered breaks no rule: it is taken, unless it has to wait.
-use Rattle.std.proofs.Common.{◌≡◌, ℕ, zero, suc, Bool, true, false, ◌&&◌, List, [], ◌∷◌, Option, Some, None}
-use Rattle.std.proofs.Common.{refl, sym, ◌∙◌, ap, arith, eqb-true, ◌==◌, map, is_some, All}
+use Rattle.std.proofs.Common.{◌≡◌, ℕ, zero, suc, Bool, true, false, ◌&&◌, ◌==◌, List, [], ◌∷◌, Option, Some, None, refl}
+use Rattle.std.proofs.Common.{sym, ◌∙◌, ap, arith, eqb-true, All, map, is_some}
 use Rattle.tl_coherence.proofs
 use proofs.Imports.{Beat, BeatA, Link, Channel, OpB, first_if, Message, MessageA, a_beat_of, begun, History, unfinished}
-use proofs.Imports.{Config, Key, Level, Grow, Prune, Report, Perm, Profile, H4, H5, report_left, grow_code, later-legal}
-use proofs.Imports.{is_outside, is_spoiled, Trace, on_link, broken_order, broken_in_order, same_perm, grows_from}
-use proofs.Imports.{pending, is_acquire, held, illegal, is_one_of, same_block, acquisition, probe_ack}
-use proofs.Imports.{release, judged-passes, tracker_among, IsSound, comes_of, one_if, End, Passes, level_of, must_wait}
-use proofs.Imports.{open_level, before_stall, offered_as, reaction, services, service_of_block, least_untaken}
-use proofs.Imports.{trackers_of, is_in_service, IsInvariant, is_busy, tracks_with, Kind, ProbeAck, Release, Packet}
-use proofs.Imports.{count, is, ClientBlock, View, Own, is_unprobed, ok, Idle, AcquireOpen, ReleasePhase}
-use proofs.Imports.{is_unreleased, grow_fits, Service, Free, Waits, GrantSent, GrantTaken, Asked, State, packet}
-use proofs.Imports.{view, is_releasing, is_unserved, acquire_opcode, IsCarried, ManagerRelation, is_own, client_in}
-use proofs.Imports.{service_with, AccessMessages, block_message, message_of, report_told, prune_told}
-use proofs.Imports.{SimulationRelation, AreLanes, is_served, Log, System}
+use proofs.Imports.{Config, Key, Level, Grow, Prune, Report, Perm, Profile, H4, H5, grow_code, report_left, later-legal}
+use proofs.Imports.{is_outside, is_spoiled, Trace, broken_in_order, grows_from, same_perm, broken_order, on_link}
+use proofs.Imports.{is_acquire, held, pending, is_one_of, illegal, same_block, acquisition, probe_ack, release}
+use proofs.Imports.{judged-passes, tracker_among, IsSound, comes_of, one_if, End, Passes, before_stall, level_of}
+use proofs.Imports.{must_wait, offered_as, open_level, reaction, is_in_service, service_of_block, trackers_of}
+use proofs.Imports.{least_untaken, services, IsInvariant, is_busy, tracks_with, Kind, Packet, ProbeAck, Release, is}
+use proofs.Imports.{count, AcquireOpen, ClientBlock, Idle, Own, ReleasePhase, View, grow_fits, is_unprobed}
+use proofs.Imports.{is_unreleased, ok, Asked, Free, GrantSent, GrantTaken, Service, State, Waits, packet, view}
+use proofs.Imports.{is_releasing, is_unserved, acquire_opcode, IsCarried, ManagerRelation, client_in, is_own}
+use proofs.Imports.{service_with, AccessMessages, message_of, prune_told, report_told, block_message, AreLanes}
+use proofs.Imports.{SimulationRelation, is_served, Log, System}
 use Rattle.tl_manager.{proofs.messages.Sound.leveled, proofs.words_of_clients.Free.least_free-is_free}
-use Rattle.tl_manager.{specs.code.Kept.IsTyped, specs.statement.Offer.judged, specs.statement.Offer.offered}
-use Rattle.tl_manager.{specs.statement.Offer.taken, specs.statement.Offer.judged_at}
+use Rattle.tl_manager.{specs.code.Kept.IsTyped}
+use Rattle.tl_manager.specs.statement.Offer.{judged, offered, taken, judged_at}
 use Rattle.tl_manager.specs.statement.Offer as manager
-use proofs.manager.{Arrivals.link_of, Orders.acquire-legal}
-use proofs.queues.{Facts.acquire_fits, PhaseFacts.asked_alone, Phases.and_left, Phases.and_right}
-use proofs.queues.{Rendered.same_kind_again, Tokens.same_number, Codes.acquires-so}
-use proofs.protocol.{Heads.IsWanted, FirstTokens.first-shown}
+use proofs.manager.{Probing.link_of, ManagerTakes.acquire-legal}
+use proofs.queues.{Phases.and_left, Phases.and_right, Channels.same_kind_again, Tokens.same_number, Codes.acquires-so}
+use proofs.queues.Facts.{acquire_fits, asked_alone}
+use proofs.protocol.{Room.IsWanted, BothParts.first-shown}
 
 -- ---- a Release that is unfinished at the manager is on its way
 
@@ -59,10 +59,9 @@ release-comes {w} {mail} {s} {sys} c n is kept = go (s.link c).c refl
         → comes_of n (begun (message_of mail s c x) i) ≡ false
     kinds ProbeAck x xs e f i = rw f (ack_comes w (report_left (report_told ((s.block x.number).pair c).probing))
         (report_told ((s.block x.number).pair c).probing) x.number n i (s.block x.number).truth)
-    kinds Release x xs e f i =
-        rw f (release_comes w (prune_told ((s.block x.number).pair c).letting) ((s.block x.number).release_source c)
-        x.number n i (s.block x.number).truth (λ same.
-        let shows = first-shown is.invariant c Release refl (e ∙ ap (λ (k : Kind). packet k x.number ∷ xs) f) in
+    kinds Release x xs e f i = rw f (release_comes w (prune_told ((s.block x.number).pair c).letting)
+        ((s.block x.number).release_source c) x.number n i (s.block x.number).truth (λ same.
+        let shows = first-shown is.invariant c Release refl (e ∙ ap (λ k. packet k x.number ∷ xs) f) in
         let no : true ≡ false = sym shows ∙ ap (λ j. is_releasing ((s.block j).pair c).letting) same ∙ kept in
         cc))
     kinds k x xs e f i =
@@ -70,7 +69,7 @@ release-comes {w} {mail} {s} {sys} c n is kept = go (s.link c).c refl
 
     go : (xs : List Packet) → (s.link c).c ≡ xs → comes_of n t ≡ false
     go [] e = rw (carried [] e).0 refl
-    go (x ∷ xs) e = let h = carried (x ∷ xs) e in rw h.2 (kinds x.kind x xs e refl h.0)
+    go (x ∷ xs) e = let h = carried _ e in rw h.2 (kinds x.kind x xs e refl h.0)
 
 -- ---- the order of messages
 
@@ -93,10 +92,10 @@ pub order-access : {w : ℕ} {config : Config} {log : Log w} {mail : AccessMessa
     → SimulationRelation config log mail request s sys → s.uses c source ≡ Asked → m.source ≡ source
     → is_acquire m.opcode ≡ false → unfinished Channel.A (on_link c sys.manager.trace) ≡ begun (Message.A m) k
     → broken_in_order config.profile (Beat.A (a_beat_of m k)) (on_link c sys.manager.trace) ≡ None
-order-access {config} {sys} c source m zero is used source_is access burst = access-order config.profile (a_beat_of m 0)
-    (on_link c sys.manager.trace) access burst (rw source_is (source-free c source is (rw used refl) burst))
-order-access {config} {sys} c source m (suc i) is used source_is access burst =
-    later-legal config.profile (Message.A m) i (on_link c sys.manager.trace) burst
+order-access {config} c source m zero is used source_is access burst = access-order config.profile (a_beat_of m 0)
+    _ access burst (rw source_is (source-free c source is (rw used refl) burst))
+order-access {config} c source m (suc i) is used source_is access burst =
+    later-legal config.profile (Message.A m) i _ burst
 
 none_grows : (g : Grow) → grows_from (grow_code g) Perm.None ≡ true
 none_grows g = grind arith
@@ -120,15 +119,15 @@ pub order-acquire : {w : ℕ} {config : Config} {log : Log w} {mail : AccessMess
     → broken_in_order config.profile
     (Beat.A (a_beat_of (acquisition (acquire_opcode is_it.whole) is_it.grow ((s.block n).source c) n) k))
     (on_link c sys.manager.trace) ≡ None
-order-acquire {w} {config} {log} {mail} {request} {s} {sys} {c} {n} zero is is_it free burst =
+order-acquire {config} {s} {c} {n} zero is is_it free burst =
     let p : ClientBlock = (s.block n).pair c in
     let well : ok p (view (s.block n).service c) ≡ true = (is.invariant.blocks n).phases c in
     let idle : view (s.block n).service c ≡ Idle = rw free refl in
     let settled = first_three (is_unprobed p.probing) (is_unreleased p.letting) (same_perm p.recorded p.held) _
     (asked_alone is_it.whole is_it.grow p (view (s.block n).service c) well idle is_it.wants) in
-    acquire-legal config.profile n p.recorded
+    acquire-legal config.profile n _
     (a_beat_of (acquisition (acquire_opcode is_it.whole) is_it.grow ((s.block n).source c) n) 0)
-    (on_link c sys.manager.trace) (acquires-so is_it.whole) (same_block n) burst
+    _ (acquires-so is_it.whole) (same_block n) burst
     (source-free c ((s.block n).source c) is (rw (is_it.used, idle) refl) burst)
     (is.managed.acquires c n ∙ rw idle refl)
     ((is.manager_kept.releases c).blocks n ∙ release-comes c n is
@@ -138,9 +137,8 @@ order-acquire {w} {config} {log} {mail} {request} {s} {sys} {c} {n} zero is is_i
     (grows is_it.whole p.recorded p.held is_it.grow (acquire_fits is_it.whole is_it.grow p (view (s.block n).service c)
     well is_it.wants)
     (and_right (is_unprobed p.probing && is_unreleased p.letting) (same_perm p.recorded p.held) settled))
-order-acquire {w} {config} {s} {sys} {c} {n} (suc i) is is_it free burst = later-legal config.profile
-    (Message.A (acquisition (acquire_opcode is_it.whole) is_it.grow ((s.block n).source c) n)) i
-    (on_link c sys.manager.trace) burst
+order-acquire {config} {s} {c} {n} (suc i) is is_it free burst = later-legal config.profile
+    (Message.A (acquisition (acquire_opcode is_it.whole) is_it.grow ((s.block n).source c) n)) i _ burst
 
 -- ---- what a beat that needn't wait finds
 
@@ -162,8 +160,7 @@ free-untracked {w} {request} {s} {t} inv is = go (s.tracked i) refl
     among : (n r : ℕ) → service_of_block n (services t) ≡ service_with (Some r) (s.block n).tracker (request n)
         → i ≡ (s.block n).tracker → ⊥
     among n r found same =
-        let one : is_one_of (s.block n).tracker (trackers_of (services t)) ≡ true = tracker_among n (services t)
-        (record { tracker = (s.block n).tracker; link = record { 0 = r }; request = request n }) found in
+        let one : is_one_of (s.block n).tracker (trackers_of (services t)) ≡ true = tracker_among n _ _ found in
         let none : is_one_of (s.block n).tracker (trackers_of (services t)) ≡ false =
         cc (same, least_free-is_free (trackers_of (services t))) in
         cc
@@ -207,18 +204,18 @@ pub first-beat : {w : ℕ} {config : Config} {log : Log w} {mail : AccessMessage
     {s : State (List ℕ)} {sys : System w} (c : ℕ) (x : BeatA w) (queue : List (Beat w))
     → SimulationRelation config log mail request s sys → sys.channels c Channel.A ≡ Beat.A x ∷ queue
     → IsFirstBeat config c x sys
-first-beat {w} {config} {sys} c x queue is beats =
-    let sound : IsSound config (link_of c, Beat.A x) = head_all (λ y. IsSound config (link_of c, y)) (Beat.A x) queue
-    (sys.channels c Channel.A) beats (is.sound c Channel.A) in
-    let typed = head_all AreLanes (Beat.A x) queue (sys.channels c Channel.A) beats (is.typed c Channel.A) in
-    let l = leveled (level_of config c) (Beat.A x) sound.lawful in
+first-beat {config} c x queue is beats =
+    let sound : IsSound config (link_of c, Beat.A x) = head_all (λ y. IsSound config (link_of c, y)) _ queue
+    _ beats (is.sound c Channel.A) in
+    let typed = head_all AreLanes _ queue _ beats (is.typed c Channel.A) in
+    let l = leveled _ _ sound.lawful in
     record { level = l.0; level_is = l.1; lawful = l.2; inside = sound.inside; clean = sound.clean; typed = typed }
 
 pub passes-first : {w : ℕ} {config : Config} {c : ℕ} {x : BeatA w} {sys : System w} → sys.manager.closed ≡ []
     → IsFirstBeat config c x sys → broken_in_order config.profile (Beat.A x) (on_link c sys.manager.trace) ≡ None
     → must_wait config (link_of c) (Beat.A x) sys.manager.trace ≡ false
     → judged config (link_of c) Channel.A (Beat.A x) sys.manager ≡ Passes
-passes-first {config} {c} {x} {sys} live is order moves = judged-passes config is.level (link_of c) Channel.A (Beat.A x)
+passes-first {config} {c} {x} {sys} live is order moves = judged-passes config _ (link_of c) Channel.A (Beat.A x)
     sys.manager (open-level config is.level c sys.manager live is.level_is) is.lawful order moves is.inside is.clean
 
 waits_at : {w : ℕ} (config : Config) (l : Level) (link : Link) (x : BeatA w) (t : Trace w)
@@ -256,11 +253,10 @@ pub early-acquire : {w : ℕ} {config : Config} {log : Log w} {mail : AccessMess
 early-acquire {w} {config} {log} {mail} {request} {s} {sys} {c} {n} zero is is_it burst =
     let unserved_own : (v : View) → is_unserved v ≡ true → is_own v ≡ false =
     elim [ Own ↦ λ e. absurd cc | v ↦ λ e. refl ] in
-    early_first config.profile (a_beat_of (acquisition (acquire_opcode is_it.whole) is_it.grow ((s.block n).source c) n)
-    0) (on_link c sys.manager.trace) burst
-    (source-free c ((s.block n).source c) is
+    early_first config.profile (a_beat_of (acquisition (acquire_opcode is_it.whole)
+    is_it.grow ((s.block n).source c) n) 0) _ burst (source-free c ((s.block n).source c) is
     (rw is_it.used (unserved_own (view (s.block n).service c) is_it.unserved)) burst)
-early-acquire {w} {config} {s} {sys} {c} {n} (suc i) is is_it burst = ap before_stall (later-legal config.profile
+early-acquire {config} {s} {sys} {c} {n} (suc i) is is_it burst = ap before_stall (later-legal config.profile
     (Message.A (acquisition (acquire_opcode is_it.whole) is_it.grow ((s.block n).source c) n)) i
     (on_link c sys.manager.trace) burst)
 

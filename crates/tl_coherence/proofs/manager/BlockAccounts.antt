@@ -1,14 +1,15 @@
 -- What one block's service says of the links of its clients.
-use Rattle.std.proofs.Common.{◌≡◌, ℕ, Bool, true, false, not, ◌&&◌, ◌||◌, List, [], ◌∷◌, Some, None, refl, sym, ◌∙◌, ap}
-use Rattle.std.proofs.Common.{arith, inl, inr, ne_eqb, ◌==◌, if◌then◌else◌}
+-- The values of a trace that all else follows from, as one block changes, and where nothing changes to the manager.
+use Rattle.std.proofs.Common.{◌≡◌, ℕ, Bool, true, false, not, ◌&&◌, ◌||◌, ◌==◌, if◌then◌else◌, List, [], ◌∷◌, Option}
+use Rattle.std.proofs.Common.{Some, None, refl, sym, ◌∙◌, ap, ap₂, arith, inl, inr, ne_eqb}
 use Rattle.tl_coherence.proofs
-use proofs.Imports.{or-true, cases_eq, MessageA, a_beat_of, Config, ProbeOf, Cap, Trace, on_link, pending, block_at}
-use proofs.Imports.{request_of, swapped, some_is, IsKept, AreApart, blocks_of, is_any, IsProbed, End, recorded}
-use proofs.Imports.{services, service_of_block, IsInvariant, IsAwaited, ClientBlock, View, Own, Other, Granting}
-use proofs.Imports.{Acknowledging, GrantedOther, is_unprobed, ok, Service, Free, Waits, GrantSent, GrantTaken, State}
-use proofs.Imports.{view, ManagerRelation, is_own, client_in, service_with, IsFor}
+use proofs.Imports.{or-true, cases_eq, MessageA, a_beat_of, Config, ProbeOf, Cap, Trace, on_link, block_at, pending}
+use proofs.Imports.{request_of, swapped, some_is, AreApart, IsKept, blocks_of, IsProbed, is_any, End, recorded}
+use proofs.Imports.{service_of_block, services, IsAwaited, IsInvariant, Acknowledging, ClientBlock, GrantedOther}
+use proofs.Imports.{Granting, Other, Own, View, is_unprobed, ok, Free, GrantSent, GrantTaken, Service, State, Waits}
+use proofs.Imports.{view, ManagerRelation, client_in, is_own, service_with, IsFor}
 use Rattle.tl_manager.{proofs.pending.Settled.all-settled, proofs.services.Serving.none_of_block}
-use Rattle.tl_manager.specs.laws.Pending.{is_acquiring, is_granted_to, is_awaited}
+use Rattle.tl_manager.specs.laws.Pending.{is_acquiring, is_awaited}
 use Rattle.tl_manager.specs.laws.Pending as waits
 use Rattle.tl_manager.specs.statement.Service as manager
 use proofs.queues.{Facts.is_other, Phases.each_phase, Phases.of_phase, Tokens.same_number, Tokens.if-part}
@@ -18,7 +19,7 @@ use proofs.queues.{Facts.is_other, Phases.each_phase, Phases.of_phase, Tokens.sa
 pub any-of : {w : ℕ} (n : ℕ) (test : manager.Service w → Bool) (ss : List (manager.Service w)) (v : manager.Service w)
     → service_of_block n ss ≡ Some v → test v ≡ true → is_any test ss ≡ true
 any-of n test [] v e f = absurd cc
-any-of {w} n test (s ∷ ss) v e f = go (block_at s.request.address == n) (λ g. any-of n test ss v g f) e
+any-of n test (s ∷ ss) v e f = go (block_at s.request.address == n) (λ g. any-of n test ss v g f) e
   where
     go : (b : Bool) → (service_of_block n ss ≡ Some v → is_any test ss ≡ true)
         → (if b then Some s else service_of_block n ss) ≡ Some v → (test s || is_any test ss) ≡ true
@@ -102,32 +103,30 @@ pub granted-is : {w : ℕ} {X : Type 0} {caching : ℕ → Bool} {config : Confi
     → service_of_block n (services e.trace) ≡ Some v → waits.is_granted e.trace v ≡ is_granted_in (s.block n).service
 granted-is {w} {X} {config} {s} {e} inv kept is n v found = go (s.block n).service refl
   where
-    t : Trace w
-    t = e.trace
-
-    granted : is_granted_in (s.block n).service ≡ true → waits.is_granted t v ≡ true
+    granted : is_granted_in (s.block n).service ≡ true → waits.is_granted e.trace v ≡ true
     granted f =
         let only : (b : Bool) → (b || false) ≡ true → b ≡ true = elim [ true ↦ λ g. refl | false ↦ λ g. absurd cc ] in
-        let awaited : is_awaited config n t (Some v) ≡ true = cc (found, kept.steady.awaited n) in
-        only (waits.is_granted t v)
-        (rw (all-settled config n t (λ c. is.probes c n ∙ ap not (quiet_unless ((s.block n).pair c) (view
+        let awaited : is_awaited config n e.trace (Some v) ≡ true = cc (found, kept.steady.awaited n) in
+        only (waits.is_granted e.trace v)
+        (rw (all-settled config n e.trace (λ c. is.probes c n ∙ ap not (quiet_unless ((s.block n).pair c) (view
         (s.block n).service c) ((inv.blocks n).phases c) (granted_views (s.block n).service c f)))) at awaited)
 
     waiting : (service : Service) → (s.block n).service ≡ service → IsAwaited service (s.block n).pair
-        → is_granted_in service ≡ false → (service ≡ Free → ⊥) → waits.is_granted t v ≡ false
+        → is_granted_in service ≡ false → (service ≡ Free → ⊥) → waits.is_granted e.trace v ≡ false
     waiting Free f someone g busy = absurd (busy refl)
     waiting (Waits r own source k) f someone g busy =
-        let missing : pending (ProbeOf n) (on_link someone.0 t) ≡ true = is.probes someone.0 n ∙ ap not someone.1 in
-        let probed : IsProbed someone.0 n t = (kept.steady.accounted.blocks n).probes someone.0 missing in
+        let missing : pending (ProbeOf n) (on_link someone.0 e.trace) ≡ true = is.probes someone.0 n
+        ∙ ap not someone.1 in
+        let probed : IsProbed someone.0 n e.trace = (kept.steady.accounted.blocks n).probes someone.0 missing in
         rw (some_is probed.service v (sym probed.serves ∙ found)) at probed.unanswered
     waiting service f someone g busy = absurd cc
 
-    go : (service : Service) → (s.block n).service ≡ service → waits.is_granted t v ≡ is_granted_in service
-    go Free f = absurd (let none : service_of_block n (services t) ≡ None = is.serving_is n ∙ rw f refl in
+    go : (service : Service) → (s.block n).service ≡ service → waits.is_granted e.trace v ≡ is_granted_in service
+    go Free f = absurd (let none : service_of_block n (services e.trace) ≡ None = is.serving_is n ∙ rw f refl in
         let no : Some v ≡ None = sym found ∙ none in cc)
     go (Waits r own source k) f =
         let someone : IsAwaited (Waits r own source k) (s.block n).pair = rw f at (inv.blocks n).awaited in
-        waiting (Waits r own source k) f someone refl (λ g. cc)
+        waiting _ f someone refl (λ g. cc)
     go service f = granted (rw f refl)
 
 -- what a service says of the client whose request it is, and of another
@@ -157,10 +156,98 @@ managed-traced {w} {X} {caching} {config} {request} {s} {e} inv kept is = record
   recorded_is = is.recorded_is;
   probes = is.probes;
   acquires = λ c n. (kept.steady.accounted.blocks n).acquires c ∙ ap (is_acquiring c e.trace) (is.serving_is n)
-      ∙ acquiring-is c n (s.block n).tracker (request n) e.trace (s.block n).service (is.requests n) (granted n);
+      ∙ acquiring-is c n _ _ e.trace _ (is.requests n) (granted n);
   serving_is = is.serving_is;
 }
   where
     granted : (n : ℕ) (v : manager.Service w) → service_with (client_in (s.block n).service) (s.block n).tracker
         (request n) ≡ Some v → waits.is_granted e.trace v ≡ is_granted_in (s.block n).service
     granted n v f = granted-is inv kept is n v (is.serving_is n ∙ f)
+
+-- ---- one block changes
+
+-- what an event shows of the block that it changes, and of all others
+pub record IsTracedAt {w : ℕ} {X : Type 0} (n : ℕ) (request after : ℕ → MessageA w) (s u : State X)
+    (t v : Trace w) : Type 0 where
+  pub other_blocks : (i : ℕ) → (i ≡ n → ⊥) → u.block i ≡ s.block i
+  pub other_requests : (i : ℕ) → (i ≡ n → ⊥) → after i ≡ request i
+  pub recorded_here : (c : ℕ) → recorded c n v ≡ ((u.block n).pair c).recorded
+  pub recorded_else : (c i : ℕ) → (i ≡ n → ⊥) → recorded c i v ≡ recorded c i t
+  pub probes_here : (c : ℕ) → pending (ProbeOf n) (on_link c v) ≡ not (is_unprobed ((u.block n).pair c).probing)
+  pub probes_else : (c i : ℕ) → (i ≡ n → ⊥) → pending (ProbeOf i) (on_link c v) ≡ pending (ProbeOf i) (on_link c t)
+  pub serving_here : service_of_block n (services v) ≡ service_with (client_in (u.block n).service) (u.block n).tracker
+      (after n)
+  pub serving_else : (i : ℕ) → (i ≡ n → ⊥) → service_of_block i (services v) ≡ service_of_block i (services t)
+  pub request_here : IsFor (u.block n).service n (after n)
+  pub asked_here : (r source : ℕ) (own : Bool) (k : Cap) → (u.block n).service ≡ Waits r own source k
+      → request_of source (on_link r v) ≡ Some (a_beat_of (after n) 0)
+  pub asked_else : (i r source : ℕ) (own : Bool) (k : Cap) → (i ≡ n → ⊥) → (s.block i).service ≡ Waits r own source k
+      → request_of source (on_link r v) ≡ request_of source (on_link r t)
+
+pub traced-at : {w : ℕ} {X : Type 0} {n : ℕ} {request after : ℕ → MessageA w} {s u : State X} {t v : Trace w}
+    → IsTracedAt n request after s u t v → IsTraced request s t → IsTraced after u v
+traced-at {w} {X} {n} {s} {u} at is = record {
+  recorded_is = λ c i. elim (cases_eq i n) [
+    | inl same ↦ rw same (at.recorded_here c)
+    | inr other ↦ cc (at.recorded_else c i other, is.recorded_is c i, at.other_blocks i other)
+  ];
+  probes = λ c i. elim (cases_eq i n) [
+    | inl same ↦ rw same (at.probes_here c)
+    | inr other ↦ cc (at.probes_else c i other, is.probes c i, at.other_blocks i other)
+  ];
+  serving_is = λ i. elim (cases_eq i n) [
+    | inl same ↦ rw same at.serving_here
+    | inr other ↦ cc (at.serving_else i other, is.serving_is i, at.other_blocks i other, at.other_requests i other)
+  ];
+  requests = λ i. elim (cases_eq i n) [
+    | inl same ↦ rw same at.request_here
+    | inr other ↦ rw (at.other_blocks i other, at.other_requests i other) (is.requests i)
+  ];
+  asked = λ i r source own k e. elim (cases_eq i n) [
+    | inl same ↦ let here : (u.block n).service ≡ Waits r own source k = rw same at e in
+        rw same (at.asked_here r source own k here)
+    | inr other ↦
+        let before : (s.block i).service ≡ Waits r own source k = cc (at.other_blocks i other, e) in
+        cc (at.asked_else i r source own k other before, is.asked i r source own k before, at.other_requests i other)
+  ];
+}
+
+-- ---- nothing at the manager changes
+
+-- the same service, where a Grant may have been taken
+abbrev pub SameService : Service → Service → Type 0
+SameService (GrantSent q d k) (GrantTaken r) = r ≡ q
+SameService service after = after ≡ service
+
+-- the parts of the blocks that the manager knows of are the same
+pub record IsSameToManager {X : Type 0} (s u : State X) : Type 0 where
+  pub recorded_same : (c n : ℕ) → ((u.block n).pair c).recorded ≡ ((s.block n).pair c).recorded
+  pub quiet_same : (c n : ℕ) → is_unprobed ((u.block n).pair c).probing ≡ is_unprobed ((s.block n).pair c).probing
+  pub tracker_same : (n : ℕ) → (u.block n).tracker ≡ (s.block n).tracker
+  pub service_same : (n : ℕ) → SameService (s.block n).service (u.block n).service
+
+same_client : (service after : Service) → SameService service after → client_in after ≡ client_in service
+same_client service after e = grind arith
+
+same_for : {w : ℕ} (service after : Service) (n : ℕ) (m : MessageA w) → SameService service after → IsFor service n m
+    → IsFor after n m
+same_for (GrantSent q d k) Free n m e ok = absurd cc
+same_for (GrantSent q d k) (Waits r own source j) n m e ok = absurd cc
+same_for (GrantSent q d k) after n m e ok = ok
+same_for service after n m e ok = rw e ok
+
+same_waits : (service after : Service) (r source : ℕ) (own : Bool) (k : Cap) → SameService service after
+    → after ≡ Waits r own source k → service ≡ Waits r own source k
+same_waits service after r source own k e f = grind arith
+
+pub traced-same : {w : ℕ} {X : Type 0} {request : ℕ → MessageA w} {s u : State X} {t : Trace w} → IsSameToManager s u
+    → IsTraced request s t → IsTraced request u t
+traced-same {request} {s} {u} same is = record {
+  recorded_is = λ c n. is.recorded_is c n ∙ sym (same.recorded_same c n);
+  probes = λ c n. is.probes c n ∙ ap not (sym (same.quiet_same c n));
+  serving_is = λ n. is.serving_is n ∙ ap₂ (λ (o : Option ℕ) (i : ℕ). service_with o i (request n))
+      (sym (same_client (s.block n).service (u.block n).service (same.service_same n))) (sym (same.tracker_same n));
+  requests = λ n. same_for _ _ n _ (same.service_same n) (is.requests n);
+  asked = λ n r source own k e. is.asked n r source own k (same_waits (s.block n).service (u.block n).service r source
+      own k (same.service_same n) e);
+}

@@ -1,28 +1,120 @@
+-- The service that the last report of a block settles.
 -- All that is kept of the manager's end, after the last ProbeAck that a request waited for.
-use Rattle.std.proofs.Common.{◌≡◌, ℕ, Bool, true, false, not, List, [], ◌∷◌}
-use Rattle.std.proofs.Common.{length, refl, sym, ◌∙◌, ap, ap₂, subst, arith}
+-- What the manager hands out at a beat of channel C or E: the messages of the tokens that the protocol pushes.
+use Rattle.std.proofs.Common.{◌≡◌, ℕ, Bool, true, false, not, List, [], ◌∷◌, Some, refl, sym, ◌∙◌, ap, subst, arith}
+use Rattle.std.proofs.Common.{length}
 use Rattle.tl_coherence.proofs
-use proofs.Imports.{Beat, BeatC, Message, MessageA, MessageC, MessageD, c_beat_of, Config, Cap, Grow, Report, Perm}
-use proofs.Imports.{cap_code, grow_code, Trace, same_perm, effect, Memory, block_at, is_release_ack, is_grant, capped}
-use proofs.Imports.{cap-gives, performed-access, performed-acquire, memory_with, grants_by_opcode, End, Reaction}
-use proofs.Imports.{access_answer, with_handed, cap_granted, grant, recorded, level_of, reaction, is_access_answer, set}
-use proofs.Imports.{Packet, ClientBlock, is_granted_data, after_report, GrantSent, Block, State, Acquires}
-use proofs.Imports.{report_grants, granted_block, reported_block, report_answers, ended_block, AbstractState, answers}
-use proofs.Imports.{performs, acquire_opcode, gift, is_unheld, with_state, grant_of, IsServedWith}
-use Rattle.tl_rules.specs.declared.answer.Answer.{Answer}
-use Rattle.tl_manager.specs.statement.Holders.{has_copy}
+use proofs.Imports.{Beat, BeatC, Channel, Message, MessageA, MessageC, MessageD, c_beat_of, Config, Cap, Grow, Report}
+use proofs.Imports.{Perm, cap_code, cap_right, grow_code, report_code, report_left, report_right, Trace, same_perm}
+use proofs.Imports.{Memory, effect, block_at, capped, is_grant, is_release_ack, reported-report, cap-gives, memory_with}
+use proofs.Imports.{performed-access, performed-acquire, is_taken, passed, of_served, grants_by_opcode, IsReply}
+use proofs.Imports.{IsReady, End, Reaction, access_answer, cap_granted, grant, performed, with_handed, is_settled}
+use proofs.Imports.{recorded, level_of, reaction, is_access_answer, service_of_block, services, IsWell, Grant, Packet}
+use proofs.Imports.{set, ClientBlock, after_grant_sent, after_report, is_granted_data, Acquires, Block, GrantSent}
+use proofs.Imports.{State, Waits, ended_block, granted_block, report_answers, report_grants, reported_block}
+use proofs.Imports.{AbstractState, acquire_opcode, answers, gift, is_unheld, performs, with_state, some_below, grant_of}
+use proofs.Imports.{block_message, IsServedWith, IsFor}
+use Rattle.tl_coherence.specs.protocol.Protocol as protocol
+use Rattle.tl_coherence.proofs.manager.ManagedGrants as endings
 use Rattle.tl_coherence.specs.refinement.AbstractStep.{with_answer}
+use Rattle.tl_manager.{proofs.calls.Events.reaction-settled, proofs.pending.SteadyReports.report-ready}
+use Rattle.tl_manager.{specs.code.Kept.IsPerformable, specs.statement.Holders.has_copy}
+use Rattle.tl_rules.specs.declared.answer.Answer.{Answer}
 use Rattle.tl_manager.specs.statement.Holders as holders
 use Rattle.tl_manager.specs.statement.Handing as handing
-use Rattle.tl_coherence.specs.protocol.Protocol as protocol
-use proofs.manager.{BlockAccounts.IsTraced, ManagedGrants.traced-conceded, ManagedGrants.IsConceded}
-use proofs.manager.{ManagedEndings.traced-ended, ManagedEndings.IsEnding, ManagedEndings.service_for}
-use proofs.manager.{ManagedReports.reported-records, Choices.nobody-same, ManagerAfter.IsManagerOf, ManagerAfter.left}
-use proofs.manager.{ManagerAfter.kept-left, ManagerAfter.others-left, ManagerMemory.block_in, ManagerMemory.blocks-now}
-use proofs.manager.{ManagerMemory.block-performed, ManagerMemory.answer-performed}
-use proofs.queues.{Tokens.set-each, Tokens.set-same, Tokens.set-other, Codes.data-same}
-use proofs.manager.SettlingService.{IsSettling, trace_with, settling-last, settling-ready, settling-reaction}
-use proofs.manager.SettlingService.{settling-lawful, settling-for, settling-reply, settling-memory}
+use proofs.manager.{Unseen.memory-granted, ManagerTakes.IsTakenUp, BlockAccounts.IsTraced, Accounts.nobody-same}
+use proofs.manager.ManagedGrants.{service_for, traced-conceded, IsConceded, traced-ended, IsEnding}
+use proofs.manager.Memories.{block_in, IsManagerOf, IsEnd, ends-it, last-of, memory-end, others_probed, settled-is}
+use proofs.manager.Memories.{left, kept-left, others-left, blocks-now, block-performed, answer-performed}
+use proofs.manager.Reporting.{quiet-c, IsLastOf, reported-records}
+use proofs.queues.{Tokens.set-same, Tokens.set-each, Tokens.set-other, Codes.gives-some, Codes.data-same}
+
+-- ---- the service of the block
+
+-- the last ProbeAck of a service that waits
+pub record IsSettling {w : ℕ} (config : Config) (c q n source k : ℕ) (own : Bool) (low : Cap) (r : Report)
+    (m : MessageC w) (h : AbstractState w) (e : End w) : Type 0 where
+  pub up : IsTakenUp config c Channel.C (Beat.C (c_beat_of m k)) e
+  pub end : IsEnd true c n (report_code r) (same_perm (report_left r) Perm.Trunk) (h.state.block n).truth k m e
+  pub alone : some_below (length config.clients.items) (others_probed c (h.state.block n).pair) ≡ false
+  pub waits : (h.state.block n).service ≡ Waits q own source low
+  pub is : IsManagerOf config h e
+
+abbrev pub trace_with : {w : ℕ} → ℕ → ℕ → MessageC w → End w → Trace w
+trace_with c k m e = endings.taken c (c_beat_of m k) e.trace
+
+pub settling-last : {w : ℕ} {config : Config} {c q n source k : ℕ} {own : Bool} {low : Cap} {r : Report}
+    {m : MessageC w} {h : AbstractState w} {e : End w} → IsSettling config c q n source k own low r m h e
+    → IsLastOf c n (report_right r) (c_beat_of m k) e.trace
+settling-last {r} at = last-of _ at.end (reported-report r)
+
+settling-all : {w : ℕ} {config : Config} {c q n source k : ℕ} {own : Bool} {low : Cap} {r : Report} {m : MessageC w}
+    {h : AbstractState w} {e : End w}
+    → IsSettling config c q n source k own low r m h e → is_settled config n (trace_with c k m e) ≡ true
+settling-all {config} {h} {e} at =
+    settled-is config h e (settling-last at) at.end.about.reports at.is.traced ∙ ap not at.alone
+
+settling-found : {w : ℕ} {config : Config} {c q n source k : ℕ} {own : Bool} {low : Cap} {r : Report} {m : MessageC w}
+    {h : AbstractState w} {e : End w} → IsSettling config c q n source k own low r m h e
+    → service_of_block n (services (trace_with c k m e)) ≡ Some (service_for q n h.request h.state)
+settling-found {c} {n} {k} {m} {e} at = grind (arith, quiet-c)
+
+pub settling-ready : {w : ℕ} {config : Config} {c q n source k : ℕ} {own : Bool} {low : Cap} {r : Report}
+    {m : MessageC w} {h : AbstractState w} {e : End w} → IsSettling config c q n source k own low r m h e
+    → IsReady config n (service_for q n h.request h.state) (trace_with c k m e)
+settling-ready {config} {c} {q} {n} {k} {m} {h} {e} at = rw at.end.about.block at
+    (report-ready config (record { 0 = c }) (c_beat_of m k) (service_for q n h.request h.state) e
+    (is_taken config (record { 0 = c }) (Beat.C (c_beat_of m k)) e at.end.width (passed config
+    (record { 0 = c }) Channel.C (Beat.C (c_beat_of m k)) e tt at.up.passes) at.is.manager_kept) at.end.about.reports
+    (ap (λ i. service_of_block i (services (trace_with c k m e))) at.end.about.block ∙ settling-found at)
+    (ap (λ i. is_settled config i (trace_with c k m e)) at.end.about.block ∙ settling-all at))
+
+pub settling-reaction : {w : ℕ} {config : Config} {c q n source k : ℕ} {own : Bool} {low : Cap} {r : Report}
+    {m : MessageC w} {h : AbstractState w} {e : End w} → IsSettling config c q n source k own low r m h e
+    → reaction config (record { 0 = c }) (Beat.C (c_beat_of m k)) e ≡ performed config
+    (service_for q n h.request h.state) (trace_with c k m e) (memory_with (record { 0 = c }) (c_beat_of m k) e)
+settling-reaction {config} {c} {q} {n} {k} {m} {h} {e} at = cc (reaction-settled config (record { 0 = c })
+    (c_beat_of m k) (service_for q n h.request h.state) e (ends-it at.end) at.end.about.releases at.end.about.reports
+    (ap (λ i. is_settled config i (trace_with c k m e)) at.end.about.block ∙ settling-all at)
+    (ap (λ i. service_of_block i (services (trace_with c k m e))) at.end.about.block ∙ settling-found at))
+
+-- the request is lawful
+pub settling-lawful : {w : ℕ} {config : Config} {c q n source k : ℕ} {own : Bool} {low : Cap} {r : Report}
+    {m : MessageC w} {h : AbstractState w} {e : End w} → IsSettling config c q n source k own low r m h e
+    → IsPerformable config (service_for q n h.request h.state)
+settling-lawful {config} {n} {e} at = of_served (IsPerformable config) n _
+    _ (at.is.traced.serving_is n ∙ rw at.waits refl) at.is.manager_kept.requests
+
+pub settling-for : {w : ℕ} {config : Config} {c q n source k : ℕ} {own : Bool} {low : Cap} {r : Report} {m : MessageC w}
+    {h : AbstractState w} {e : End w}
+    → IsSettling config c q n source k own low r m h e → IsFor (Waits q own source low) n (h.request n)
+settling-for {n} at = rw at.waits at (at.is.traced.requests n)
+
+-- the answer is the reply of the service
+pub settling-reply : {w : ℕ} {config : Config} {c q n source k : ℕ} {own : Bool} {low : Cap} {r : Report}
+    {m : MessageC w} (i : MessageD w) {h : AbstractState w} {e : End w}
+    → IsSettling config c q n source k own low r m h e → i.source ≡ (h.request n).source
+    → is_release_ack i.opcode ≡ false → IsReply n (service_for q n h.request h.state) i (trace_with c k m e)
+settling-reply {q} {source} i at source_is other =
+    let ready = settling-ready at in
+    record {
+      width = at.end.width;
+      serves = ready.serves;
+      unanswered = ready.unanswered;
+      source = source_is;
+      answers = other;
+      settled = ready.settled;
+      whole = (ready.whole q).1;
+      blocks_apart = ready.blocks_apart;
+      trackers_apart = ready.trackers_apart;
+    }
+
+-- the memory that the request finds
+pub settling-memory : {w : ℕ} {config : Config} {c q n source k : ℕ} {own : Bool} {low : Cap} {r : Report}
+    {m : MessageC w} {h : AbstractState w} {e : End w} → IsSettling config c q n source k own low r m h e
+    → block_in (memory_with (record { 0 = c }) (c_beat_of m k) e) n ≡ protocol.written r (h.state.block n).truth
+    (h.state.block n).memory
+settling-memory {c} {n} {k} {r} {m} {h} {e} at = cc (memory-end at.end, at.is.memory n)
 
 -- ---- an access
 
@@ -42,12 +134,10 @@ pub reaction-ended : {w : ℕ} {config : Config} {c q n source k : ℕ} {low : C
       ) ∷ [];
       memory = (effect (Message.A (h.request n)) (memory_with (record { 0 = c }) (c_beat_of m k) e)).0;
     }
-reaction-ended {w} {config} {c} {q} {n} {source} {k} {low} {r} {m} {h} {e} at =
+reaction-ended {config} {c} {q} {n} {k} {m} {h} {e} at =
     let for = settling-for at in
     let memory = memory_with (record { 0 = c }) (c_beat_of m k) e in
-    settling-reaction at ∙ performed-access config
-    (service_for q n h.request h.state) (trace_with c k m e) memory for.0
-    ∙ ap (λ (i : Message w). record {
+    settling-reaction at ∙ performed-access config _ (trace_with c k m e) memory for.0 ∙ ap (λ i. record {
       handed = (record { 0 = q }, i) ∷ [];
       memory = (effect (Message.A (h.request n)) memory).0;
     })
@@ -84,9 +174,9 @@ ended-left {w} {config} {c} {q} {n} {source} {k} {low} {r} rest {m} {h} {e} at =
     } in
     let still = set-each (λ i z. IsServedWith h.mail z.service (h.request i)) n new h.state.block tt
     (λ i ne. at.is.served_with i) in
-    subst (λ (d : Reaction w). IsManagerOf config (with_answer q source said (with_state after h))
+    subst (λ d. IsManagerOf config (with_answer q source said (with_state after h))
     (left c (Beat.C x) d e)) (sym done) (record {
-      traced = subst (λ (i : Message w). IsTraced h.request after (with_handed ((record { 0 = q }, i) ∷ [])
+      traced = subst (λ i. IsTraced h.request after (with_handed ((record { 0 = q }, i) ∷ [])
           (trace_with c k m e))) (sym reply.1) (traced-ended (performs (h.request n)) rest ending at.is.traced);
       served_with = λ i. still i;
       manager_kept = kept-left x does at.end.width at.up done at.is.manager_kept;
@@ -105,7 +195,7 @@ grant-made : {w : ℕ} (config : Config) (q n tracker : ℕ) (v : MessageA w) (t
     → block_at v.address ≡ n → holders.is_unheld config n t ≡ unheld → recorded q n t ≡ p
     → grant config (record { tracker = tracker; link = record { 0 = q }; request = v }) t memory ≡ grant_of
     (GrantSent q (is_granted_data whole g p) (gift config.profile whole g unheld)) v.source tracker (block_in memory n)
-grant-made {w} config q n tracker v t memory whole g unheld p opcode param block none held_is =
+grant-made config q n tracker v t memory whole g unheld p opcode param block none held_is =
     let go : (d : Bool) → handing.grant_with (record { tracker = tracker; link = record { 0 = q }; request = v })
     (gift config.profile whole g unheld) d memory ≡ grant_of (GrantSent q d (gift config.profile whole g unheld))
     v.source tracker (block_in memory n) = elim [ true ↦ rw block refl | false ↦ refl ] in
@@ -113,8 +203,7 @@ grant-made {w} config q n tracker v t memory whole g unheld p opcode param block
     config.profile whole g unheld = rw (opcode, param, block, none) refl in
     let data_is : handing.is_granted_data v.opcode v.param (recorded q (block_at v.address) t) ≡ is_granted_data whole g
     p = rw (opcode, param, block, held_is) (data-same whole g p) in
-    ap₂ (λ k d. handing.grant_with (record { tracker = tracker; link = record { 0 = q }; request = v }) k d memory)
-    cap_is data_is ∙ go (is_granted_data whole g p)
+    cc (cap_is, data_is, go (is_granted_data whole g p))
 
 given_is : {w : ℕ} (q : ℕ) (d : Bool) (k : Cap) (source sink : ℕ) (payload : List ℕ)
     → (m : MessageD w) × (grant_of (GrantSent q d k) source sink payload ≡ Message.D m) × (is_grant m.opcode ≡ true)
@@ -128,9 +217,9 @@ pairs_after c r pair = set c (after_report r (pair c)) pair
 settling-records : {w : ℕ} {config : Config} {c q n source k : ℕ} {own : Bool} {low : Cap} {r : Report} {m : MessageC w}
     {h : AbstractState w} {e : End w} → IsSettling config c q n source k own low r m h e
     → (d : ℕ) → recorded d n (trace_with c k m e) ≡ (pairs_after c r (h.state.block n).pair d).recorded
-settling-records {w} {config} {c} {q} {n} {source} {k} {own} {low} {r} {m} {h} {e} at d =
+settling-records {c} {n} {r} {h} at d =
     reported-records r (reported_block c r (h.state.block n)) (settling-last at) (λ j. refl) at.is.traced d n
-    ∙ ap (λ (b : Block (List ℕ)). (b.pair d).recorded) (set-same n (reported_block c r (h.state.block n)) h.state.block)
+    ∙ ap (λ b. (b.pair d).recorded) (set-same n (reported_block c r (h.state.block n)) h.state.block)
 
 has_copy-is : (p : Perm) → has_copy p ≡ not (same_perm p Perm.None)
 has_copy-is p = grind arith
@@ -172,8 +261,7 @@ reaction-conceded {w} {config} {c} {q} {n} {source} {k} {low} {r} {whole} {g} {m
     (gift config.profile whole g unheld)) (h.request n).source (h.state.block n).tracker (block_in memory n)
     ≡ grant_after config c q n source r whole g h = rw (for.1, settling-memory at) refl in
     let fact = grant-made config q n (h.state.block n).tracker (h.request n) u memory whole g unheld
-    ((h.state.block n).pair q).recorded wanted.opcode_is wanted.param_is for.2 none
-    (settling-records at q ∙ (ap (λ (p : ClientBlock). p.recorded)
+    _ wanted.opcode_is wanted.param_is for.2 none (settling-records at q ∙ (ap (λ p. p.recorded)
     (set-other c q (after_report r ((h.state.block n).pair c)) (h.state.block n).pair (λ f. wanted.apart (sym f))))) in
     cc (settling-reaction at, performed-acquire config (service_for q n h.request h.state) u memory for.0, sent)
 
@@ -217,12 +305,36 @@ conceded-left {w} {config} {c} {q} {n} {source} {k} {low} {r} {whole} {g} rest {
     } in
     let still = set-each (λ i z. IsServedWith h.mail z.service (h.request i)) n new h.state.block tt
     (λ i ne. at.is.served_with i) in
-    subst (λ (d : Reaction w). IsManagerOf config (with_state after h) (left c (Beat.C x) d e)) (sym done) (record {
-      traced = subst (λ (i : Message w). IsTraced h.request after (with_handed ((record { 0 = q }, i) ∷ [])
+    subst (λ d. IsManagerOf config (with_state after h) (left c (Beat.C x) d e)) (sym done) (record {
+      traced = subst (λ i. IsTraced h.request after (with_handed ((record { 0 = q }, i) ∷ [])
           (trace_with c k m e))) (sym reply.1) (traced-conceded data_too rest conceded at.is.traced);
       served_with = λ i. still i;
       manager_kept = kept-left x does at.end.width at.up done at.is.manager_kept;
-      memory = λ i. blocks-now e.memory does.memory n new h.state (settling-memory at)
+      memory = λ i. blocks-now e.memory _ n new h.state (settling-memory at)
           (others-left n x does at.end.width at.up done at.is.manager_kept at.end.about.block) at.is.memory i;
       all_live = at.is.all_live;
     })
+
+-- ---- the Grant
+
+-- who is granted the block is recorded with what it is given, so that nobody else has it to write: the
+-- memory is its truth
+granted-memory : {caching : ℕ → Bool} (c q : ℕ) (r : Report) (d : Bool) (k : Cap) (b : Block (List ℕ))
+    → same_perm (cap_right k) Perm.None ≡ false → IsWell caching (granted_block c q r d k b)
+    → protocol.written r b.truth b.memory ≡ b.truth
+granted-memory c q r d k b some well = memory-granted q d k well refl (ap (λ p. p.recorded)
+    (set-same q (after_grant_sent k (b.pair q)) (set c (after_report r (b.pair c)) b.pair))) some
+
+-- the Grant that is handed out is the one of the token
+pub grant-rendered : {w : ℕ} (config : Config) {caching : ℕ → Bool} (c q n source : ℕ) (r : Report) (whole : Bool)
+    (g : Grow) (h : AbstractState w) → source ≡ (h.state.block n).source q
+    → IsWell caching (granted_block c q r (is_granted_data whole g ((h.state.block n).pair q).recorded)
+    (gift_after config c n r whole g h) (h.state.block n)) → grant_after config c q n source r whole g h
+    ≡ block_message Grant q n (granted_block c q r (is_granted_data whole g ((h.state.block n).pair q).recorded)
+    (gift_after config c n r whole g h) (h.state.block n))
+unfolding block_message
+grant-rendered config c q n source r whole g h own well = rw (
+  own,
+  granted-memory c q r (is_granted_data whole g ((h.state.block n).pair q).recorded)
+      (gift_after config c n r whole g h) (h.state.block n) (gives-some config.profile whole g _) well,
+) refl

@@ -1,25 +1,61 @@
+-- A message that the values of a history allow breaks no rule of order after it: for the manager's end and for what
+-- is delivered alike.
 -- A beat that is delivered on channel C or E breaks no rule after what the manager has of the link, and is taken.
-use Rattle.std.proofs.Common.{sym, subst, ◌≡◌, ℕ, zero, suc, Bool, true, false, not, ◌&&◌, ◌||◌, List, [], ◌∷◌, Option}
-use Rattle.std.proofs.Common.{Some, None, refl, ◌∙◌, ap, arith, ◌==◌, if◌then◌else◌, map}
+use Rattle.std.proofs.Common.{◌≡◌, ℕ, zero, suc, Bool, true, false, not, ◌&&◌, ◌||◌, ◌==◌, if◌then◌else◌, List, [], ◌∷◌}
+use Rattle.std.proofs.Common.{Option, Some, None, refl, sym, ◌∙◌, ap, subst, arith, map}
 use Rattle.tl_coherence.proofs
-use proofs.Imports.{Beat, BeatE, Channel, first_if, Message, MessageA, MessageC, begun, c_beat_of, History, unfinished}
-use proofs.Imports.{channel_of, Config, Key, Level, Cap, Prune, Report, Perm, Profile, prune_code, prune_left}
-use proofs.Imports.{report_code, prune_of, report_at, later-legal, on_link, broken_in_order, broken_order, same_perm}
-use proofs.Imports.{prunes_from, held, pending, judged-passes, whole-e, IsKept, IsSound, illegal_at, one_if, End}
-use proofs.Imports.{Passes, level_of, must_wait, is_from_client, open_level, reaction, IsInvariant, AreNamed, Kind}
-use proofs.Imports.{ProbeAck, Release, GrantAck, Packet, is, count, View, Own, Acknowledging, GrantedOther, is_unprobed}
-use proofs.Imports.{ProbeAnswered, ReleaseSent, is_unreleased, same_report, Service, GrantTaken, Block, State, view}
-use proofs.Imports.{is_on, packet, is_granting, is_acknowledging, is_answered, ManagerRelation, is_own, AccessMessages}
-use proofs.Imports.{block_message, message_of, message_of_kind, ServedSourceRelation, cap_waited, is_granted, System}
-use Rattle.tl_params.{specs.declared.rule.Rule.TheVariants.H8}
-use Rattle.tl_manager.{proofs.judging.Judged.manager-takes}
+use proofs.Imports.{and-false, Beat, BeatA, BeatC, BeatE, Channel, first_if, c_carries_data, Message, MessageA}
+use proofs.Imports.{MessageC, begun, c_beat_of, History, channel_of, unfinished, Config, Key, Level, Cap, Prune, Report}
+use proofs.Imports.{Perm, Profile, H1, H4, H5, prune_code, prune_left, prune_of, report_at, report_code, later-legal}
+use proofs.Imports.{broken_in_order, grows_from, prunes_from, same_perm, broken_order, on_link, block_at, is_acquire}
+use proofs.Imports.{is_probe_ack, is_release, held, pending, probe_of, judged-passes, whole-e, IsKept, IsSound}
+use proofs.Imports.{illegal_at, one_if, End, Passes, is_from_client, level_of, must_wait, open_level, reaction}
+use proofs.Imports.{AreNamed, IsInvariant, GrantAck, Kind, Packet, ProbeAck, Release, is, count, Acknowledging}
+use proofs.Imports.{GrantedOther, Own, ProbeAnswered, ReleaseSent, View, is_unprobed, is_unreleased, same_report, Block}
+use proofs.Imports.{GrantTaken, Service, State, is_on, packet, view, is_acknowledging, is_answered, is_granting}
+use proofs.Imports.{ManagerRelation, is_own, AccessMessages, message_of, message_of_kind, probe_beat, block_message}
+use proofs.Imports.{ServedSourceRelation, cap_waited, is_granted, System}
+use Rattle.tl_rules.specs.statement.Conformance.{answers_wrong_probe, misreports}
+use Rattle.tl_params.specs.declared.rule.Rule.TheVariants.{H8}
 use Rattle.tl_manager.specs.statement.Offer.{judged, offered, taken, unlawful}
+use Rattle.tl_manager.proofs.judging.Judged.{manager-takes}
 use Rattle.tl_manager.specs.statement.Offer as manager_offer
-use proofs.protocol.{BothParts.cap-waited}
-use proofs.queues.{FirstToken.IsFirst, Carried.IsNext, Facts.is_other, Facts.release_begins, Phases.and_left}
-use proofs.queues.{Phases.and_right, PhaseSteps.on_other, Tokens.same_number, Tokens.ordered-first}
-use proofs.queues.PhaseFacts.{report_fits, own_alone}
-use proofs.manager.{Orders.report-legal, ManagedEndings.tracker-of, Reporting.IsAbout}
+use proofs.queues.{Tokens.same_number, Tokens.ordered-first, Codes.cap-again, FirstToken.IsFirst, Carried.IsNext}
+use proofs.queues.{Phases.and_left, Phases.and_right, PhaseSteps.on_other}
+use proofs.queues.Facts.{is_other, release_begins, report_fits, own_alone}
+use proofs.protocol.BothParts.{cap-waited}
+use proofs.manager.{ManagedGrants.tracker-of, Reporting.IsAbout}
+
+-- ---- a ProbeAck: H10, H11 and H12
+
+pub report-legal : {w : ℕ} (profile : Profile) (n : ℕ) (k : Cap) (r : Report) (p : Perm) (x : BeatC w) (t : History w)
+    → is_probe_ack x.opcode ≡ true → is_release x.opcode ≡ false → block_at x.address ≡ n → x.param ≡ report_code r
+    → unfinished Channel.C t ≡ [] → pending (Key.ProbeOf n) t ≡ true → pending (Key.ReleaseOf n) t ≡ false
+    → probe_of n t ≡ Some (probe_beat n k) → held n t ≡ p → r ≡ report_at k p → broken_in_order profile (Beat.C x) t
+    ≡ None
+unfolding broken_order
+report-legal profile n k r p x t acks not_release block param none probed released probe is told =
+    let found : probe_of (block_at x.address) t ≡ Some (probe_beat n k) = rw block probe in
+    let wrong : (not (pending (Key.ProbeOf (block_at x.address)) t) || answers_wrong_probe x
+    (probe_of (block_at x.address) t)) ≡ false = rw (block, probed) (rw probe (and-false (c_carries_data x.opcode))) in
+    let late : pending (Key.ReleaseOf (block_at x.address)) t ≡ false = rw block released in
+    let bad : misreports x (probe_of (block_at x.address) t) (held (block_at x.address) t) ≡ false =
+    rw (block, is) (rw (probe, cap-again k, param, told, same_number (report_code (report_at k p))) refl) in
+    rw (none, not_release, acks) (rw (wrong, late, bad) refl)
+
+-- ---- an Acquire: H1, H4 and H5
+
+requests : (taken twice low : Bool) → taken ≡ false → twice ≡ false → low ≡ true
+    → first_if taken H1 (first_if (true && twice) H4 (first_if (true && not low) H5 None)) ≡ None
+requests taken twice low e f g = rw (e, f, g) refl
+
+pub acquire-legal : {w : ℕ} (profile : Profile) (n : ℕ) (p : Perm) (x : BeatA w) (t : History w)
+    → is_acquire x.opcode ≡ true → block_at x.address ≡ n → unfinished Channel.A t ≡ []
+    → pending (Key.RequestSource x.source) t ≡ false → pending (Key.AcquireOf n) t ≡ false
+    → pending (Key.ReleaseOf n) t ≡ false → held n t ≡ p → grows_from x.param p ≡ true
+    → broken_in_order profile (Beat.A x) t ≡ None
+unfolding broken_order
+acquire-legal profile n p x t acquires block none free once released is grows = grind (arith, requests)
 
 -- ---- the first message of channel C or E
 
@@ -77,8 +113,8 @@ takes {w} {config} c ch x e sound theirs own live order free = go (level_of conf
         let opened : open_level config (record { 0 = c }) e ≡ Some l = rw (live, f) refl in
         let legal : unlawful l ch x ≡ None = rw (theirs, ← own) lawful in
         record {
-          passes = judged-passes config l (record { 0 = c }) ch x e opened legal order free sound.inside sound.clean;
-          answer = manager-takes config l (record { 0 = c }) ch x e opened legal order free sound.inside sound.clean;
+          passes = judged-passes config l _ ch x e opened legal order free sound.inside sound.clean;
+          answer = manager-takes config l _ ch x e opened legal order free sound.inside sound.clean;
         }
 
 -- ---- a ProbeAck
@@ -93,7 +129,7 @@ seen_cap test s c = grind (arith, cap-waited, and_left)
 
 -- the place of a beat in its message
 abbrev NextOrder : {w : ℕ} → Profile → MessageC w → ℕ → History w → Type 0
-NextOrder {w} profile m k t = broken_in_order profile (Beat.C (c_beat_of m k)) t ≡ None
+NextOrder profile m k t = broken_in_order profile (Beat.C (c_beat_of m k)) t ≡ None
 
 by_place : {w : ℕ} (profile : Profile) (m : MessageC w) (k : ℕ) (t : History w)
     → unfinished Channel.C t ≡ begun (Message.C m) k
@@ -108,7 +144,7 @@ pub report-order : {w : ℕ} {config : Config} {caching : ℕ → Bool} {request
     → unfinished Channel.C (on_link c e.trace) ≡ begun (Message.C m) k
     → broken_in_order config.profile (Beat.C (c_beat_of m k)) (on_link c e.trace) ≡ None
 report-order {w} {config} c {n} k r {m} {s} {e} inv managed served kept answered about rest =
-    by_place config.profile m k t rest first
+    by_place _ m k t rest first
   where
     t : History w
     t = on_link c e.trace
@@ -121,8 +157,8 @@ report-order {w} {config} c {n} k r {m} {s} {e} inv managed served kept answered
         let missing : pending (Key.ProbeOf n) t ≡ true = managed.probes c n ∙ rw answered refl in
         let released : pending (Key.ReleaseOf n) t ≡ false = (kept.releases c).blocks n ∙ rw none refl in
         let probe = served.probes c n (rw answered refl) in
-        report-legal config.profile n (cap_waited b.service) r (b.pair c).recorded
-        (c_beat_of m 0) t about.reports about.releases about.block about.param_is none missing released probe
+        report-legal config.profile n _ r _
+        _ t about.reports about.releases about.block about.param_is none missing released probe
         (managed.recorded_is c n) (cc (same_report-is r (report_at (cap_waited b.service) (b.pair c).recorded)
         (seen_cap (λ k. same_report r (report_at k (b.pair c).recorded)) b.service c
         (report_fits r (b.pair c) (view b.service c) ((inv.blocks n).phases c) answered))))
@@ -139,8 +175,7 @@ unfolding count
 unanswered caching c n rest s inv first =
     let none : (b : Bool) → one_if b ≡ 0 → b ≡ false =
     elim [ true ↦ λ e. absurd (omega (arith, e)) | false ↦ λ e. refl ] in
-    let behind = ordered-first n (s.link c).c rest (packet Release n) first (rw (same_number n) refl) (inv.ordered c n)
-    in
+    let behind = ordered-first n _ rest _ first (rw (same_number n) refl) (inv.ordered c n) in
     let all : count ProbeAck n (packet Release n ∷ rest) ≡ one_if (is_answered ((s.block n).pair c).probing) =
     rw first at (inv.transfers c ProbeAck refl n) in
     let release : one_if (is ProbeAck n (packet Release n)) ≡ 0 = refl in
@@ -164,7 +199,7 @@ release-order {w} {config} {caching} c {n} k r rest {m} {s} {e} inv managed kept
 
     not_own : (x : View) → view b.service c ≡ x → is_own x ≡ false
     not_own Own f =
-        let alone = own_alone (b.pair c) (view b.service c) ((inv.blocks n).phases c) f in
+        let alone = own_alone (b.pair c) _ ((inv.blocks n).phases c) f in
         let held_back : is_unreleased (b.pair c).letting ≡ true =
         and_left (is_unreleased (b.pair c).letting) _ (and_right (is_unprobed (b.pair c).probing) _ alone) in
         absurd (let no : false ≡ true = rw releasing at held_back in cc)

@@ -60,14 +60,14 @@ opened-still : {w : ℕ} (c source : ℕ) (mail mail' : AccessMessages w) (s s' 
     (o : Option (Open w)) → mail'.request c source ≡ mail.request c source → IsSameAnswer u (mail.answer c source)
     (mail'.answer c source) → IsSameAcquire c s s' u → IsOpened c source mail s u o → IsOpened c source mail' s' u o
 opened-still c source mail mail' s s' SourceFree o request answer acquire h = h
-opened-still {w} c source mail mail' s s' Asked o request answer acquire h = rw request h
-opened-still {w} c source mail mail' s s' (InService n) o request answer acquire h = rw request h
-opened-still {w} c source mail mail' s s' Replied o request answer acquire h = (
+opened-still c source mail mail' s s' Asked o request answer acquire h = rw request h
+opened-still c source mail mail' s s' (InService n) o request answer acquire h = rw request h
+opened-still c source mail mail' s s' Replied o request answer acquire h = (
   h.0,
-  subst (λ (m : Message w). IsAccess source m (Some h.0) o) (sym request) h.1,
-  rw request (subst (λ (x : Message w). Answers (mail.request c source) h.0 x) (sym answer) h.2),
+  subst (λ m. IsAccess source m (Some h.0) o) (sym request) h.1,
+  rw request (subst (λ x. Answers (mail.request c source) h.0 x) (sym answer) h.2),
 )
-opened-still {w} c source mail mail' s s' (Acquires n) o request answer acquire h = h ∙ rw (acquire.0, acquire.1) refl
+opened-still c source mail mail' s s' (Acquires n) o request answer acquire h = h ∙ rw (acquire.0, acquire.1) refl
 
 -- ---- events
 
@@ -97,14 +97,12 @@ moved_let u v o p e f h = rw (e, f) h
 
 pub beside-still : {w : ℕ} {mail : AccessMessages w} {s s' : State (List ℕ)} {m m' : Machine w} → IsStill mail s s' m m'
     → MemoryRelation mail s m → MemoryRelation mail s' m'
-beside-still {w} {mail} {s} {s'} {m} {m'} is h = record {
+beside-still {mail} {s} {s'} {m} is h = record {
   memory = is.memory;
-  requests = λ d i. moved_opened d i mail s' (s.uses d i) (s'.uses d i) (m.opened d Requests i) (m'.opened d Requests i)
-      (is.uses d i) (is.opened d Requests i) (opened-still d i mail mail s s' (s.uses d i) (m.opened d Requests i) refl
-      (same_answer (s.uses d i) (mail.answer d i)) (same_acquire d s s' (s.uses d i) (λ n. is.acquires d n))
-      (h.requests d i));
-  releases = λ d i. moved_let (s.lets d i) (s'.lets d i) (m.opened d Releases i) (m'.opened d Releases i) (is.lets d i)
-      (is.opened d Releases i) (h.releases d i);
+  requests = λ d i. moved_opened d i mail s' _ _ _ _ (is.uses d i) (is.opened d Requests i) (opened-still d
+      i mail mail s s' (s.uses d i) (m.opened d Requests i) refl (same_answer (s.uses d i) (mail.answer d i))
+      (same_acquire d s s' (s.uses d i) (λ n. is.acquires d n)) (h.requests d i));
+  releases = λ d i. moved_let _ _ _ _ (is.lets d i) (is.opened d Releases i) (h.releases d i);
 }
 
 -- what an event leaves that changes one A source
@@ -125,18 +123,17 @@ answer_as u x y e = grind arith
 
 pub beside-used : {w : ℕ} {c source : ℕ} {u : SourceState} {mail mail' : AccessMessages w} {s s' : State (List ℕ)}
     {m m' : Machine w} → IsUsed c source u mail mail' s s' m m' → MemoryRelation mail s m → MemoryRelation mail' s' m'
-beside-used {w} {c} {source} {u} {mail} {mail'} {s} {s'} {m} {m'} is h = record {
+beside-used {c} {source} {u} {mail} {mail'} {s} {s'} {m} {m'} is h = record {
   memory = is.memory;
   requests = λ d i. elim (place-cases c source d i) [
     | inl same ↦ rw (same.0, same.1) (moved_opened c source mail' s' u (s'.uses c source) (m'.opened c Requests source)
         (m'.opened c Requests source) (is.uses c source ∙ set_at-same c source u s.uses) refl is.here)
-    | inr else_ ↦ moved_opened d i mail' s' (s.uses d i) (s'.uses d i) (m.opened d Requests i) (m'.opened d Requests i)
+    | inr else_ ↦ moved_opened d i mail' s' _ _ _ _
         (is.uses d i ∙ set_at-there u s.uses else_) (is.there d i else_) (opened-still d i mail mail' s s' (s.uses d i)
         (m.opened d Requests i) (is.requests d i else_) (answer_as (s.uses d i) (mail.answer d i) (mail'.answer d i)
         (is.answers d i else_)) (is.acquires d i else_) (h.requests d i))
   ];
-  releases = λ d i. moved_let (s.lets d i) (s'.lets d i) (m.opened d Releases i) (m'.opened d Releases i) (is.lets d i)
-      (is.releases d i) (h.releases d i);
+  releases = λ d i. moved_let _ _ _ _ (is.lets d i) (is.releases d i) (h.releases d i);
 }
 
 -- what an event leaves that changes one C source
@@ -153,17 +150,15 @@ pub record IsLetGo {w : ℕ} (c source : ℕ) (l : Option ℕ) (mail : AccessMes
 
 pub beside-let : {w : ℕ} {c source : ℕ} {l : Option ℕ} {mail : AccessMessages w} {s s' : State (List ℕ)}
     {m m' : Machine w} → IsLetGo c source l mail s s' m m' → MemoryRelation mail s m → MemoryRelation mail s' m'
-beside-let {w} {c} {source} {l} {mail} {s} {s'} {m} {m'} is h = record {
+beside-let {c} {source} {l} {mail} {s} {s'} {m} {m'} is h = record {
   memory = is.memory;
-  requests = λ d i. moved_opened d i mail s' (s.uses d i) (s'.uses d i) (m.opened d Requests i) (m'.opened d Requests i)
-      (is.uses d i) (is.requests d i) (opened-still d i mail mail s s' (s.uses d i) (m.opened d Requests i) refl
-      (same_answer (s.uses d i) (mail.answer d i)) (same_acquire d s s' (s.uses d i) (λ n. is.acquires d n))
-      (h.requests d i));
+  requests = λ d i. moved_opened d i mail s' _ _ _ _ (is.uses d i) (is.requests d i) (opened-still d i
+      mail mail s s' (s.uses d i) (m.opened d Requests i) refl (same_answer (s.uses d i) (mail.answer d i))
+      (same_acquire d s s' (s.uses d i) (λ n. is.acquires d n)) (h.requests d i));
   releases = λ d i. elim (place-cases c source d i) [
     | inl same ↦ rw (same.0, same.1) (moved_let l (s'.lets c source) (m'.opened c Releases source)
         (m'.opened c Releases source) (is.lets c source ∙ set_at-same c source l s.lets) refl is.here)
-    | inr else_ ↦ moved_let (s.lets d i) (s'.lets d i) (m.opened d Releases i) (m'.opened d Releases i)
-        (is.lets d i ∙ set_at-there l s.lets else_) (is.there d i else_) (h.releases d i)
+    | inr else_ ↦ moved_let _ _ _ _ (is.lets d i ∙ set_at-there l s.lets else_) (is.there d i else_) (h.releases d i)
   ];
 }
 

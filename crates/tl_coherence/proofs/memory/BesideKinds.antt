@@ -47,7 +47,7 @@ beside_block {w} n new {mail} {s} s' {m} blocks uses lets truth acquiring waitin
 -- one client's pair changes, and not what it acquires
 pub same_acquiring : (c : ℕ) (p : ClientBlock) (f : ℕ → ClientBlock) → p.acquiring ≡ (f c).acquiring → (d : ℕ)
     → (set c p f d).acquiring ≡ (f d).acquiring
-same_acquiring c p f e d = set-part (λ (q : ClientBlock). q.acquiring) c p f e d
+same_acquiring c p f e d = set-part (λ q. q.acquiring) c p f e d
 
 served_acquiring : (r : ℕ) (own : Bool) (k : Cap) (pair : ℕ → ClientBlock) (d : ℕ)
     → (if own && (d == r) then pair d else after_served k (pair d)).acquiring ≡ (pair d).acquiring
@@ -62,12 +62,12 @@ granted_acquiring c q r k pair d = grind arith
 beside_served : {w : ℕ} {config : Config} {c source : ℕ} {x : MessageA w} (tracker : ℕ) (k : Cap) (rest : List Packet)
     {mail : AccessMessages w} {s : State (List ℕ)} {m : Machine w} → IsPerformed config c source x mail s m
     → MemoryRelation mail s m → MemoryRelation mail (access_served c (block_at x.address) source tracker k rest s) m
-beside_served {w} {c} {source} {x} tracker k rest {mail} {s} {m} is h =
+beside_served {c} {source} {x} tracker k rest {s} is h =
     let n : ℕ = block_at x.address in
     let new : Block (List ℕ) = served_block c false source tracker k (s.block n) in
     let s' : State (List ℕ) = access_served c n source tracker k rest s in
     beside-used (record {
-      memory = λ i. rw (set-part (λ (b : Block (List ℕ)). b.truth) n new s.block refl i) (h.memory i);
+      memory = λ i. rw (set-part (λ b. b.truth) n new s.block refl i) (h.memory i);
       uses = λ d i. refl;
       lets = λ d i. refl;
       here = is.opened;
@@ -76,9 +76,8 @@ beside_served {w} {c} {source} {x} tracker k rest {mail} {s} {m} is h =
       requests = λ d i else_. refl;
       answers = λ d i else_. refl;
       acquires = λ d i else_. same_acquire d s s' (s.uses d i) (λ j. (
-        set-part (λ (b : Block (List ℕ)). (b.pair d).acquiring) n new s.block
-            (served_acquiring c false k (s.block n).pair d) j,
-        set-part (λ (b : Block (List ℕ)). b.waiting d) n new s.block refl j,
+        set-part (λ b. (b.pair d).acquiring) n new s.block (served_acquiring c false k (s.block n).pair d) j,
+        set-part (λ b. b.waiting d) n new s.block refl j,
       ));
     }) h
 
@@ -91,16 +90,16 @@ beside_answered : {w : ℕ} {config : Config} {c source : ℕ} {x : MessageA w} 
       answer = set_at c source (answers x (s.block (block_at x.address)).memory) mail.answer;
     })
     (access_answered c (block_at x.address) source (performs x) rest s) (performing ((c, source) ∷ []) m)
-beside_answered {w} {config} {c} {source} {x} rest {mail} {s} {m} is same h =
+beside_answered {c} {source} {x} rest {s} is same h =
     let new : Block (List ℕ) = performed_block (performs x) (s.block n) in
-    beside-performed (s.block n).memory (access_answered c n source (performs x) rest s) is
+    beside-performed (s.block n).memory _ is
     (λ f block. reply_same same)
-    (λ i ne. ap (λ (b : Block (List ℕ)). b.truth) (set-other n i new s.block ne))
-    (ap (λ (b : Block (List ℕ)). b.truth) (set-same n new s.block))
+    (λ i ne. ap (λ b. b.truth) (set-other n i new s.block ne))
+    (ap (λ b. b.truth) (set-same n new s.block))
     (λ d i. refl) (λ d i. refl)
     (λ d i. (
-      set-part (λ (b : Block (List ℕ)). (b.pair d).acquiring) n new s.block refl i,
-      set-part (λ (b : Block (List ℕ)). b.waiting d) n new s.block refl i,
+      set-part (λ b. (b.pair d).acquiring) n new s.block refl i,
+      set-part (λ b. b.waiting d) n new s.block refl i,
     )) h
   where
     n : ℕ
@@ -109,7 +108,7 @@ beside_answered {w} {config} {c} {source} {x} rest {mail} {s} {m} is same h =
     reply_same : ((s.block n).memory ≡ (s.block n).truth) ⊎ (cap_probed x.opcode x.param ≡ None)
         → (effect (Message.A x) (bytes_at n (s.block n).truth)).1
         ≡ (effect (Message.A x) (bytes_at n (s.block n).memory)).1
-    reply_same (inl e) = ap (λ (b : List ℕ). (effect (Message.A x) (bytes_at n b)).1) (sym e)
+    reply_same (inl e) = ap (λ b. (effect (Message.A x) (bytes_at n b)).1) (sym e)
     reply_same (inr e) = intent-reply x (bytes_at n (s.block n).truth) (bytes_at n (s.block n).memory) e
 
 pub beside-request : {w : ℕ} {caching : ℕ → Bool} {config : Config} {c source : ℕ} (tracker : ℕ) {x : MessageA w}
@@ -120,18 +119,16 @@ pub beside-request : {w : ℕ} {caching : ℕ → Bool} {config : Config} {c sou
     (request_taken (length config.clients.items) c source (Message.A x) tracker rest h).state
     (performing (request_accesses (length config.clients.items) c source (Message.A x) h) m)
 unfolding performing
-beside-request {w} {caching} {config} {c} {source} tracker {x} rest h {m} inv plain is beside =
-    go (probes_some clients c false (cap_probed x.opcode x.param) b.pair) (cap_probed x.opcode x.param) refl refl
+beside-request {config} {c} {source} tracker {x} rest h {m} inv plain is beside = go (probes_some clients c false
+    (cap_probed x.opcode x.param) (h.state.block (block_at x.address)).pair) (cap_probed x.opcode x.param) refl refl
   where
     clients : ℕ
     clients = length config.clients.items
 
-    b : Block (List ℕ)
-    b = h.state.block (block_at x.address)
-
-    go : (p : Bool) (o : Option Cap) → probes_some clients c false (cap_probed x.opcode x.param) b.pair ≡ p
-        → cap_probed x.opcode x.param ≡ o → MemoryRelation (access_taken c source x tracker p o rest h).mail
-        (access_taken c source x tracker p o rest h).state (performing (access_list c source p o) m)
+    go : (p : Bool) (o : Option Cap) → probes_some clients c false (cap_probed x.opcode x.param)
+        (h.state.block (block_at x.address)).pair ≡ p → cap_probed x.opcode x.param ≡ o → MemoryRelation
+        (access_taken c source x tracker p o rest h).mail (access_taken c source x tracker p o rest h).state
+        (performing (access_list c source p o) m)
     go true (Some k) e f = beside_served tracker k rest is beside
     go true None e f = beside_answered rest is (inr f) beside
     go false None e f = beside_answered rest is (inr f) beside
@@ -145,7 +142,7 @@ pub beside-acquire : {w : ℕ} (clients : ℕ) (p : Profile) (c n : ℕ) (x : Ac
     → MemoryRelation (acquire_taken clients p c n x tracker rest h).mail
     (acquire_taken clients p c n x tracker rest h).state m
 beside-acquire clients p c n NoAcquire tracker rest h beside = beside
-beside-acquire {w} clients p c n (AcquireOpen whole g) tracker rest h {m} beside =
+beside-acquire clients p c n (AcquireOpen whole g) tracker rest h {m} beside =
     let either : (y : Bool) (s t : State (List ℕ)) → MemoryRelation h.mail s m → MemoryRelation h.mail t m
     → MemoryRelation h.mail (if y then s else t) m = elim [ true ↦ λ s t f g. f | false ↦ λ s t f g. g ] in
     let b : Block (List ℕ) = h.state.block n in
@@ -173,8 +170,7 @@ beside_ended : {w : ℕ} {caching : ℕ → Bool} {config : Config} (c : ℕ) {q
       answer = set_at q source (answers (h.request n) (written r (h.state.block n).truth (h.state.block n).memory))
           h.mail.answer;
     })
-    (report_answers c q n source r (performs (h.request n)) rest h.state)
-    (performing ((q, source) ∷ []) m)
+    (report_answers c q n source r (performs (h.request n)) rest h.state) (performing ((q, source) ∷ []) m)
 beside_ended {w} {caching} {config} c {q} n {source} r k rest h {m} inv waits answered settled is at beside =
     let b : Block (List ℕ) = h.state.block n in
     let x : MessageA w = h.request n in
@@ -182,14 +178,14 @@ beside_ended {w} {caching} {config} c {q} n {source} r k rest h {m} inv waits an
     let s' : State (List ℕ) = report_answers c q n source r (performs x) rest h.state in
     let told = memory-reported c q source r k (inv.blocks n) waits answered settled in
     beside-performed (written r b.truth b.memory) s' is (λ f block. cc (at, told))
-    (λ i ne. ap (λ (y : Block (List ℕ)). y.truth) (set-other n i new h.state.block (λ e. ne (e ∙ sym at))))
-    (subst (λ (j : ℕ). (set n new h.state.block j).truth ≡ performs x (h.state.block j).truth) (sym at)
-    (ap (λ (y : Block (List ℕ)). y.truth) (set-same n new h.state.block)))
+    (λ i ne. ap (λ y. y.truth) (set-other n i new h.state.block (λ e. ne (e ∙ sym at))))
+    (subst (λ j. (set n new h.state.block j).truth ≡ performs x (h.state.block j).truth) (sym at)
+    (ap (λ y. y.truth) (set-same n new h.state.block)))
     (λ d i. refl) (λ d i. refl)
     (λ d i. (
-      set-part (λ (y : Block (List ℕ)). (y.pair d).acquiring) n new h.state.block
+      set-part (λ y. (y.pair d).acquiring) n new h.state.block
           (same_acquiring c (after_report r (b.pair c)) b.pair refl d) i,
-      set-part (λ (y : Block (List ℕ)). y.waiting d) n new h.state.block refl i,
+      set-part (λ y. y.waiting d) n new h.state.block refl i,
     )) beside
 
 beside_last : {w : ℕ} {caching : ℕ → Bool} (config : Config) (clients : ℕ) (p : Profile) (c n : ℕ) (r : Report)
@@ -199,9 +195,9 @@ beside_last : {w : ℕ} {caching : ℕ → Bool} (config : Config) (clients : �
     → MemoryRelation h.mail h.state m → MemoryRelation (last_taken clients p c n r v rest h).mail
     (last_taken clients p c n r v rest h).state (performing (last_accesses v) m)
 unfolding performing
-beside_last {caching} config clients p c n r (Waits q false source k) rest h {m} inv e answered settled is beside =
+beside_last config clients p c n r (Waits q false source k) rest h inv e answered settled is beside =
     beside_ended c n r k rest h inv e answered settled is.0 is.1 beside
-beside_last {w} config clients p c n r (Waits q true source k) rest h {m} inv e answered settled is beside =
+beside_last config clients p c n r (Waits q true source k) rest h {m} inv e answered settled is beside =
     go ((h.state.block n).pair q).acquiring
   where
     go : (x : AcquirePhase) → MemoryRelation (granted_after clients p c q n r x rest h).mail
@@ -221,7 +217,7 @@ pub beside-report : {w : ℕ} {caching : ℕ → Bool} (config : Config) (c n : 
     (ack_taken (length config.clients.items) config.profile c n r rest h).state
     (performing (accesses_by config c ProbeAck n h) m)
 unfolding performing
-beside-report {w} {caching} config c n r rest h {m} inv answered settled is beside = go (some_below
+beside-report {w} config c n r rest h {m} inv answered settled is beside = go (some_below
     (length config.clients.items) (λ d. not (d == c) && not (is_unprobed ((h.state.block n).pair d).probing))) refl
   where
     reported : AbstractState w
@@ -237,5 +233,5 @@ beside-report {w} {caching} config c n r rest h {m} inv answered settled is besi
     go true e = beside_block n (reported_block c r (h.state.block n)) reported.state (λ i. refl) (λ d i. refl)
         (λ d i. refl) refl (λ d. same_acquiring c (after_report r ((h.state.block n).pair c)) (h.state.block n).pair
         refl d) (λ d. refl) beside
-    go false e = beside_last config (length config.clients.items) config.profile c n r (h.state.block n).service
+    go false e = beside_last config (length config.clients.items) config.profile c n r _
         rest h inv refl answered (settled e) is beside

@@ -1,24 +1,23 @@
 -- The one-memory machine beside the protocol after a beat of a request is taken: an access that is
 -- answered is performed.
-use Rattle.std.proofs.Common.{◌≡◌, subst, ℕ, suc, Bool, true, false, not, List, [], ◌∷◌, Option, Some, None, length}
-use Rattle.std.proofs.Common.{arith, refl, sym, ◌∙◌, ap, ◌⊎◌, inl, inr}
+use Rattle.std.proofs.Common.{◌≡◌, ℕ, suc, Bool, true, false, not, List, [], ◌∷◌, Option, Some, None, refl, sym, ◌∙◌}
+use Rattle.std.proofs.Common.{ap, subst, arith, ◌⊎◌, inl, inr, length}
 use Rattle.tl_coherence.proofs
-use proofs.Imports.{Beat, Message, MessageA, a_beat_of, beats_of, Config, Cap, Trace, Memory, effect, answer_of}
-use proofs.Imports.{block_at, same_block, performed-acquire, Handed, Reaction, probes, access_answer, grant, cap_probed}
-use proofs.Imports.{probed, reaction, cap_asked, Request, Acquire, Packet, AcquireOpen, Block, is_probed, AbstractState}
-use proofs.Imports.{bytes_at, some_below, probes_some, request_taken, kind_taken, IsAccess, MemoryRelation}
+use proofs.Imports.{Beat, Message, MessageA, a_beat_of, beats_of, Config, Cap, Trace, Memory, answer_of, effect}
+use proofs.Imports.{block_at, same_block, performed-acquire, Handed, access_answer, grant, probes, cap_probed, probed}
+use proofs.Imports.{reaction, cap_asked, Acquire, Packet, Request, AcquireOpen, Block, is_probed, AbstractState}
+use proofs.Imports.{bytes_at, kind_taken, probes_some, request_taken, some_below, IsAccess, MemoryRelation}
 use proofs.Imports.{SimulationRelation, Log, Machine, Requests, accesses_answered, performing, System}
-use Rattle.tl_rules.{specs.declared.answer.Answer.Answer}
-use Rattle.tl_manager.{specs.statement.Service.Service}
-use Rattle.tl_coherence.{specs.statement.Machine.Performs}
-use proofs.manager.{AtRequests.reaction-probing, Choices.plain-past, RequestsHanded.handed-answered}
-use proofs.manager.Arrivals.{link_of, with_beat, IsComing, service_for}
-use proofs.manager.RequestsTaken.{caps_asked, acquire_wanted}
-use proofs.manager.UnwaitedRequests.{next_tracker, probed-some, reaction-performed}
+use Rattle.tl_coherence.specs.statement.Machine.{Performs}
+use Rattle.tl_rules.specs.declared.answer.Answer.{Answer}
+use Rattle.tl_manager.specs.statement.Service.{Service}
+use proofs.manager.{Performing.reaction-probing, Accounts.plain-past, Unseen.handed-answered}
+use proofs.manager.Probing.{link_of, with_beat, IsComing, service_for}
+use proofs.manager.RequestsTaken.{caps_asked, acquire_wanted, next_tracker, probed-some, reaction-performed}
 use proofs.memory.{BesideTaken.IsPerformed, Beside.done_at, Beside.performed-open, Beside.performing-one}
 use proofs.memory.BesideKinds.{access_list, beside-request, beside-acquire}
-use proofs.protocol.Heads.{IsAsked, IsWanted}
-use proofs.queues.{Codes.acquires-so}
+use proofs.protocol.Room.{IsAsked, IsWanted}
+use proofs.queues.Codes.{acquires-so}
 
 -- ---- which accesses are answered
 
@@ -50,8 +49,8 @@ unfolding Performs performing
 once-performs l h m (inl none) = rw none refl
 once-performs l h m (inr (q, source, one, opened)) = rw one (
   done_at q source (Message.A opened.0) m,
-  performed-open q source (Message.A opened.0) m opened.2,
-  performing-one q source (Message.A opened.0) m opened.2,
+  performed-open q source _ m opened.2,
+  performing-one q source _ m opened.2,
 )
 
 request-accesses : {w : ℕ} {config : Config} {log : Log w} (h : AbstractState w) {sys : System w} {c source k : ℕ}
@@ -89,10 +88,9 @@ request-accesses {w} {config} {log} h {sys} {c} {source} {k} is asked comes last
     accesses true None f g = absurd (let no : false ≡ true = rw g at f in cc)
     accesses true (Some j) f g =
         let some : some_below clients (λ d. is_probed c false j (b.pair d).recorded d) ≡ true = rw g at f in
-        ap (λ (d : Reaction w). accesses_answered d.handed) (reaction-probing config c k n j m sys.manager comes last
-        refl g (probed-some c k n false j m is asked.access refl ∙ ap not some))
-        ∙ accesses-probes w n j (probed config (service_for c m sys.manager.trace) j
-        (with_beat c m k sys.manager.trace))
+        ap (λ d. accesses_answered d.handed) (reaction-probing config c k n j m sys.manager comes last
+        refl g (probed-some c k n false j m is asked.access refl ∙ ap not some)) ∙ accesses-probes w n j
+        (probed config (service_for c m sys.manager.trace) j (with_beat c m k sys.manager.trace))
     accesses false o f g = answered f
 
 pub request-once : {w : ℕ} {config : Config} {log : Log w} (h : AbstractState w) {sys : System w} {c source k : ℕ}
@@ -101,7 +99,7 @@ pub request-once : {w : ℕ} {config : Config} {log : Log w} (h : AbstractState 
     → beats_of (Message.A asked.request) ≡ suc k → MemoryRelation h.mail h.state machine
     → IsOnce (accesses_answered (reaction config (link_of c) (Beat.A (a_beat_of asked.request k)) sys.manager).handed) h
     machine
-request-once {w} {config} {log} h {sys} {c} {source} {k} {machine} is asked comes last beside =
+request-once {config} h {sys} {c} {source} {k} {machine} is asked comes last beside =
     go (probes_some (length config.clients.items) c false (cap_probed asked.request.opcode asked.request.param)
     (h.state.block (block_at asked.request.address)).pair) (cap_probed asked.request.opcode asked.request.param)
     (request-accesses h is asked comes last)
@@ -125,7 +123,7 @@ pub beside-request_taken : {w : ℕ} {config : Config} {log : Log w} (h : Abstra
     (kind_taken config (next_tracker sys) c Request source rest h).state
     (performing (accesses_answered (reaction config (link_of c) (Beat.A (a_beat_of asked.request k))
     sys.manager).handed) machine)
-beside-request_taken {w} {config} {log} h {sys} {c} {source} {k} rest {machine} is asked comes last beside =
+beside-request_taken {w} {config} h {sys} {c} {source} {k} rest {machine} is asked comes last beside =
     let clients = length config.clients.items in
     let m : MessageA w = asked.request in
     let n : ℕ = block_at m.address in
@@ -139,7 +137,7 @@ beside-request_taken {w} {config} {log} h {sys} {c} {source} {k} rest {machine} 
       opened = rw asked.used at (beside.requests c source);
       long = (is.sized n).truth;
     } in
-    subst (λ (i : Message w). MemoryRelation (request_taken clients c source i tracker rest h).mail
+    subst (λ i. MemoryRelation (request_taken clients c source i tracker rest h).mail
     (request_taken clients c source i tracker rest h).state (performing (accesses_answered
     (reaction config (link_of c) (Beat.A (a_beat_of m k)) sys.manager).handed) machine)) (sym asked.is_it)
     (rw (request-accesses h is asked comes last)
@@ -154,16 +152,13 @@ pub acquire-accesses : {w : ℕ} {config : Config} {log : Log w} (h : AbstractSt
     → accesses_answered (reaction config (link_of c) (Beat.A (a_beat_of (acquire_wanted c n h.state asked) k))
     sys.manager).handed ≡ []
 acquire-accesses {w} {config} {log} h {sys} {c} {n} k is asked comes last =
-    none (some_below clients (λ d. is_probed c true j (b.pair d).recorded d)) refl
+    none (some_below (length config.clients.items) (λ d. is_probed c true j (b.pair d).recorded d)) refl
   where
     b : Block (List ℕ)
     b = h.state.block n
 
     m : MessageA w
-    m = acquire_wanted c n h.state asked
-
-    clients : ℕ
-    clients = length config.clients.items
+    m = acquire_wanted c n _ asked
 
     j : Cap
     j = cap_asked (AcquireOpen asked.whole asked.grow)
@@ -171,7 +166,7 @@ acquire-accesses {w} {config} {log} h {sys} {c} {n} k is asked comes last =
     caps : cap_probed m.opcode m.param ≡ Some j
     caps = caps_asked w asked.whole asked.grow (b.source c) n
 
-    none : (x : Bool) → some_below clients (λ d. is_probed c true j (b.pair d).recorded d) ≡ x
+    none : (x : Bool) → some_below (length config.clients.items) (λ d. is_probed c true j (b.pair d).recorded d) ≡ x
         → accesses_answered (reaction config (link_of c) (Beat.A (a_beat_of m k)) sys.manager).handed ≡ []
     none true f = let fact = reaction-probing config c k n j m sys.manager comes last (same_block n) caps
         (probed-some c k n true j m is (acquires-so asked.whole) (same_block n) ∙ ap not f) in cc (accesses-probes w n j
@@ -191,6 +186,6 @@ pub beside-acquire_taken : {w : ℕ} {config : Config} {log : Log w} (h : Abstra
     (performing (accesses_answered
     (reaction config (link_of c) (Beat.A (a_beat_of (acquire_wanted c n h.state asked) k)) sys.manager).handed) machine)
 unfolding performing
-beside-acquire_taken {w} {config} {log} h {sys} {c} {n} {k} rest {machine} is asked comes last beside =
+beside-acquire_taken {config} h {sys} {c} {n} {k} rest is asked comes last beside =
     rw (acquire-accesses h k is asked comes last) (beside-acquire (length config.clients.items) config.profile c n
     ((h.state.block n).pair c).acquiring (next_tracker sys) rest h beside)

@@ -1,13 +1,13 @@
 -- What is outstanding after a log is what is open: the starts of the log are its ends and what is open after it.
-use Rattle.std.proofs.Common.{◌≡◌, ℕ, ◌+◌, Bool, [], ◌∷◌, refl, arith, ◌*◌, ◌/◌}
+use Rattle.std.proofs.Common.{◌≡◌, ℕ, ◌+◌, ◌*◌, Bool, [], ◌∷◌, refl, arith, ◌/◌}
 use Rattle.tl_coherence.proofs
-use proofs.Imports.{IsWidth, Config, one_if, open_requests, open_releases, total, Event, Outcome, State, AbstractState}
-use proofs.Imports.{abstract_step, first_state, SimulationRelation, starts_request, starts_release, outstanding}
-use proofs.Imports.{ends_request, ends_release, requests, releases, load, Log, system_after, stepped}
+use proofs.Imports.{IsWidth, Config, one_if, open_releases, open_requests, total, Event, Outcome, State, AbstractState}
+use proofs.Imports.{abstract_step, first_state, SimulationRelation, ends_release, ends_request, load, outstanding}
+use proofs.Imports.{starts_release, starts_request, releases, requests, Log, system_after, stepped}
 use Rattle.tl_coherence.specs.statement.Load.{number}
-use proofs.protocol.OpenCounts.{clients_in, sources_in, IsBalance}
+use proofs.protocol.Served.{clients_in, sources_in, IsBalance}
 use proofs.outstanding.Outstanding.{counted-followed}
-use proofs.queues.Sums.{total-zero}
+use proofs.queues.Tokens.{total-zero}
 
 -- the starts of this log are its ends and what is open in this state
 pub record AreCounted {w : ℕ} {X : Type 0} (config : Config) (log : Log w) (s : State X) : Type 0 where
@@ -54,7 +54,7 @@ pub counted-next : {w : ℕ} {config : Config} {log : Log w} (h : AbstractState 
     → AreCounted config ((event, (stepped config event (system_after config log)).outcome) ∷ log)
     (abstract_step config event (system_after config log) h).state
 counted-next {config} {log} h event width matched before = counted-balance event
-    (stepped config event (system_after config log)).outcome (counted-followed h width matched event) before
+    _ (counted-followed h width matched event) before
 
 -- what is outstanding is what is open
 pub requests-open : {w : ℕ} {X : Type 0} (config : Config) (log : Log w) (s : State X) → AreCounted config log s
@@ -69,9 +69,9 @@ releases-open config log s is = omega (arith, is.releases_are)
 
 pub outstanding-open : {w : ℕ} {X : Type 0} {config : Config} {log : Log w} {s : State X} → AreCounted config log s
     → outstanding log ≡ open_requests config s + open_releases config s
-outstanding-open {config} {log} {s} is = omega (arith, requests-open config log s is, releases-open config log s is)
+outstanding-open {config} {log} {s} is = omega (arith, requests-open _ log s is, releases-open _ log s is)
 
 -- and the load is that of what is open
 pub load-open : {w : ℕ} {X : Type 0} {config : Config} {log : Log w} {s : State X} → AreCounted config log s
     → load log ≡ (64 / w + 33) * open_requests config s + (64 / w + 1) * open_releases config s
-load-open {w} {config} {log} {s} is = cc (requests-open config log s is, releases-open config log s is)
+load-open {w} {config} {log} {s} is = cc (requests-open config log s is, releases-open _ log s is)

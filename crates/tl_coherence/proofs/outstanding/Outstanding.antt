@@ -1,30 +1,89 @@
+-- What an outcome ends of what is outstanding.
 -- What is outstanding is what is open: at every event the requests and Releases that it starts and ends are those that
 -- it
 -- opens and closes.
-use Rattle.std.proofs.Common.{◌≡◌, subst, ℕ, ◌+◌, ◌<◌, Bool, true, false, List, ◌∷◌, refl, sym, ◌∙◌, ap, Option, Some}
-use Rattle.std.proofs.Common.{arith, None, if◌then◌else◌, map, Ok}
+use Rattle.std.proofs.Common.{◌≡◌, ℕ, ◌+◌, ◌<◌, Bool, true, false, ◌==◌, if◌then◌else◌, List, ◌∷◌, Option, Some, None}
+use Rattle.std.proofs.Common.{Ok, refl, sym, ◌∙◌, ap, subst, arith, map}
 use Rattle.tl_coherence.proofs
-use proofs.Imports.{Beat, BeatD, Link, Channel, IsWidth, Message, MessageD, beat_of, beats_of, d_beat_of, unfinished}
-use proofs.Imports.{completes, Config, is_release_ack, Verdict, EndConfig, one_if, is_access_answer, open_requests}
-use proofs.Imports.{open_releases, Event, Ask, Deliver, Outcome, ReleaseAck, Packet, Kind, Answer, Grant, packet, is_on}
-use proofs.Imports.{on, AbstractState, abstract_step, abstract_step_by, kind_taken, message_of, message_of_kind}
-use proofs.Imports.{SimulationRelation, is_caching, receiver, is_moving, starts_request, starts_release, ends_request}
-use proofs.Imports.{ends_release, Log, system_after, Step, is_to_client, outcome_of, stepped, stepped_at, terms_at}
+use proofs.Imports.{Beat, BeatD, Link, Channel, OpD, IsWidth, Message, MessageD, beat_of, beats_of, d_beat_of}
+use proofs.Imports.{channel_of, unfinished, completes, Config, is_release_ack, Verdict, EndConfig, finish_of, one_if}
+use proofs.Imports.{grant_opcode, is_access_answer, open_releases, open_requests, Event, Ask, Deliver, Outcome, Answer}
+use proofs.Imports.{Grant, GrantAck, Kind, Packet, Probe, ReleaseAck, Block, is_on, on, packet, AbstractState}
+use proofs.Imports.{abstract_step, abstract_step_by, kind_taken, message_of, message_of_kind, block_message}
+use proofs.Imports.{SimulationRelation, is_caching, receiver, is_moving, ends_release, ends_request, starts_release}
+use proofs.Imports.{starts_request, Log, system_after, is_to_client, outcome_of, stepped_at, stepped, System, terms_at}
 use Rattle.tl_client.specs.statement.Endpoint as client
 use Rattle.tl_client.specs.statement.Offer as offer
-pub use Rattle.tl_coherence.proofs.outstanding.OutcomeEnds.{first-moved}
+use proofs.queues.{Carried.IsNext, QuiescentQueues.client_below, Codes.access_kind, Moves.on_same}
+use proofs.queues.FirstToken.{IsFirst, first-token}
+use proofs.outstanding.OpenKinds.{is_ending, is_letting_go, balance-kind, balance-asked}
 use proofs.simulation.{Bounded.matched-bounded, Moved.IsTakenByClient, Moved.client-moves, Owned.sources-own}
 use proofs.protocol.HeadOfD.{answer-due, grant-due, grant_message, ack_message, grant-rendered}
-use proofs.protocol.OpenCounts.{clients_in, IsBalance}
-use proofs.queues.{Carried.IsNext, QuiescentQueues.client_below, Codes.access_kind, KindMoves.on_same}
-use proofs.queues.FirstToken.{IsFirst, first-token}
+use proofs.protocol.Served.{clients_in, IsBalance}
 use proofs.client.DeliverD.{finish_at, answer-last, same_answers, acked}
-use proofs.deliveries.{DeliverDWhole.rendered_release_ack, ManagersAfter.at-manager}
-use proofs.deliveries.DeliverDAfter.{followed-moving, followed-still}
-use proofs.outstanding.{OpenAsks.balance-asked, OpenKinds.is_ending, OpenKinds.is_letting_go, OpenKinds.balance-kind}
-use proofs.outstanding.OutcomeEnds.{Ends, still-ends, is_e, moved-ends, finish-ends, manager-kind, ack_whole, one_whole}
-use proofs.outstanding.OutcomeEnds.{grant_kind, probe-ends, first-probe}
-use proofs.manager.{UnwaitedRequests.next_tracker}
+use proofs.deliveries.{ReportsAfter.rendered_release_ack, ManagersAfter.at-manager}
+use proofs.deliveries.DeliverDUnmoved.{followed-moving, followed-still}
+use proofs.manager.RequestsTaken.{next_tracker}
+
+-- ---- what an outcome ends
+
+abbrev pub Ends : {w : ℕ} → Outcome w → Bool → Bool → Type 0
+Ends o ends lets_go = (ends_request o ≡ ends) × (ends_release o ≡ lets_go)
+
+pub still-ends : {w : ℕ} (o : Outcome w) → is_moving o ≡ false → Ends o false false
+still-ends o e = grind arith
+
+abbrev pub is_e : Channel → Bool
+is_e Channel.E = true
+is_e _ = false
+
+pub moved-ends : {w : ℕ} (x : Beat w) → Ends (Outcome.Moved x) (is_e (channel_of x)) false
+moved-ends (Beat.A x) = (refl, refl)
+moved-ends x = (refl, refl)
+
+-- a response ends what its opcode says
+pub finish-ends : {w : ℕ} (x : Beat w) (source : ℕ) (o : OpD) (param size address : ℕ) (payload : List ℕ)
+    → Ends (Outcome.Done x source (finish_of w o param size address payload)) (is_access_answer o) (is_release_ack o)
+finish-ends x source OpD.AccessAck param size address payload = (refl, refl)
+finish-ends x source o param size address payload = (refl, refl)
+
+-- ---- what a message of the manager's channels ends
+
+pub manager-kind : (ch : Channel) (k : Kind) → is_to_client ch ≡ false → is_on ch k ≡ true → (is_ending k ≡ is_e ch)
+    × (is_letting_go k ≡ false)
+manager-kind ch k e f = grind arith
+
+-- a GrantAck is one beat
+pub ack_whole : (w c n : ℕ) (b : Block (List ℕ)) → beats_of (block_message {w = w} GrantAck c n b) ≡ 1
+unfolding block_message
+ack_whole w c n b = refl
+
+pub one_whole : (k n : ℕ) → n ≡ 1 → k < n → (k + 1 == n) ≡ true
+one_whole k n e f = grind arith
+
+pub grant_kind : (b : Bool) → (is_access_answer (grant_opcode b) ≡ false) × (is_release_ack (grant_opcode b) ≡ false)
+grant_kind b = grind arith
+
+probe_on_b : (w c n k : ℕ) (b : Block (List ℕ)) → channel_of (beat_of (block_message {w = w} Probe c n b) k) ≡ Channel.B
+unfolding block_message
+probe_on_b w c n k b = refl
+
+pub probe-ends : {w : ℕ} (x : Beat w) (e : client.Endpoint w) (v : Verdict) (m : Option (Message w))
+    → channel_of x ≡ Channel.B → (offer.taken x e).answer ≡ Ok (v, m) → Ends (outcome_of x v) false false
+probe-ends {w} x e v m of_b answer = grind (arith, moved-ends)
+
+-- the first beat of channel B is one of a Probe
+pub first-probe : {w : ℕ} {c : ℕ} (h : AbstractState w) {sys : System w} {x : Beat w} {queue : List (Beat w)}
+    (first : IsFirst Channel.B c h.mail h.state sys x queue)
+    → (channel_of x ≡ Channel.B) × ((is_ending first.kind ≡ false) × (is_letting_go first.kind ≡ false))
+first-probe {w} {c} h {sys} {x} {queue} first = grind (arith, probe_on_b)
+
+-- a delivery that moves a beat is one of a client's link, which has that beat
+pub first-moved : {w : ℕ} (config : Config) (link : Link) (ch : Channel) (sys : System w)
+    → is_moving (stepped config (Deliver link ch) sys).outcome ≡ true → (x : Beat w) × (queue : List (Beat w))
+    × (terms : EndConfig) × ((sys.channels link.0 ch ≡ x ∷ queue) × (terms_at config link.0 ≡ Some terms))
+unfolding stepped
+first-moved {w} config link ch sys moving = grind arith
 
 -- ---- one event
 
@@ -38,8 +97,8 @@ module _ {w : ℕ} {config : Config} {log : Log w} (h : AbstractState w) (width 
   counted-as : (link : Link) (ch : Channel) (o : Outcome w) (h' : AbstractState w) {ends lets : Bool} → Ends o ends lets
       → IsBalance config h.state h'.state false ends false lets → IsCounted (Deliver link ch) o h'
   counted-as link ch o h' e b = record {
-    requests = ap (λ (x : Bool). open_requests config h'.state + one_if x) e.0 ∙ b.requests;
-    releases = ap (λ (x : Bool). open_releases config h'.state + one_if x) e.1 ∙ b.releases;
+    requests = ap (λ x. open_requests config h'.state + one_if x) e.0 ∙ b.requests;
+    releases = ap (λ x. open_releases config h'.state + one_if x) e.1 ∙ b.releases;
   }
 
   unopened : IsBalance config h.state h.state false false false false
@@ -50,10 +109,9 @@ module _ {w : ℕ} {config : Config} {log : Log w} (h : AbstractState w) (width 
       (b : Bool) → link.0 < clients_in config → on k (h.state.link link.0) ≡ packet k i ∷ rest
       → (b ≡ true → Ends o (is_ending k) (is_letting_go k)) → (b ≡ false → Ends o false false)
       → IsCounted (Deliver link ch) o (if b then kind_taken config tracker link.0 k i rest h else h)
-  counted-either link ch o tracker k i rest true few first last part =
-      counted-as link ch o (kind_taken config tracker link.0 k i rest h) (last refl)
-      (balance-kind tracker k i rest h matched few (matched-bounded config log h.mail h.request h.state
-      (system_after config log) matched link.0 (sources-own config log link.0 width)) first)
+  counted-either link ch o tracker k i rest true few first last part = counted-as link ch o (kind_taken config tracker
+      link.0 k i rest h) (last refl) (balance-kind tracker k i rest h matched few (matched-bounded config log h.mail
+      h.request h.state (system_after config log) matched link.0 (sources-own config log link.0 width)) first)
   counted-either link ch o tracker k i rest false few first last part = counted-as link ch o h (part refl) unopened
 
   -- ---- what the manager takes
@@ -75,14 +133,13 @@ module _ {w : ℕ} {config : Config} {log : Log w} (h : AbstractState w) (width 
       let at = at-manager link ch h terms x queue width matched known down beats moving in
       let ends : Ends (Outcome.Moved x) (is_e ch) false = rw at.of_it at (moved-ends x) in
       let kinds = manager-kind ch at.first.kind down at.first.own in
-      subst (λ (o : Outcome w). IsCounted (Deliver link ch) o
-      (abstract_step config (Deliver link ch) (system_after config log) h))
-      (sym (ap (λ (y : Step w). y.outcome) at.step_is))
-      (subst (λ (z : AbstractState w). IsCounted (Deliver link ch) (Outcome.Moved x) z) (sym at.follows)
-      (counted-either link ch (Outcome.Moved x) (next_tracker (system_after config log)) at.first.kind
+      subst (λ o. IsCounted (Deliver link ch) o (abstract_step config (Deliver link ch) (system_after config log) h))
+      (sym (ap (λ y. y.outcome) at.step_is)) (subst (λ z. IsCounted (Deliver link ch) (Outcome.Moved x) z)
+      (sym at.follows) (counted-either link ch (Outcome.Moved x) (next_tracker (system_after config log)) at.first.kind
       at.first.number at.first.rest (completes x (unfinished ch (receiver ch link.0 (system_after config log))))
-      (client_below config link.0 terms known) (on_same ch at.first.kind (h.state.link link.0) at.first.own
-      ∙ at.first.tokens) (λ last. (ends.0 ∙ sym kinds.0, ends.1 ∙ sym kinds.1))
+      (client_below config link.0 terms known)
+      (on_same ch at.first.kind (h.state.link link.0) at.first.own ∙ at.first.tokens)
+      (λ last. (ends.0 ∙ sym kinds.0, ends.1 ∙ sym kinds.1))
       (λ part. (ends.0 ∙ part_apart ch link.0 x queue at.first part, ends.1))))
 
   -- ---- what a client takes
@@ -106,12 +163,10 @@ module _ {w : ℕ} {config : Config} {log : Log w} (h : AbstractState w) (width 
       let follows : abstract_step config (Deliver link ch) (system_after config log) h ≡ (if done then kind_taken config
       (next_tracker (system_after config log)) link.0 first.kind first.number first.rest h else h) =
       cc (followed-moving config link ch (system_after config log) h x queue moving beats, first.tokens) in
-      subst (λ (o : Outcome w). IsCounted (Deliver link ch) o
-      (abstract_step config (Deliver link ch) (system_after config log) h))
-      (sym (ap (λ (y : Step w). y.outcome) t.step_is))
-      (rw follows (counted-either link ch (outcome_of x t.verdict_is) (next_tracker
-      (system_after config log)) first.kind first.number first.rest done (client_below config link.0 terms known)
-      (on_same ch first.kind (h.state.link link.0) first.own ∙ first.tokens)
+      subst (λ o. IsCounted (Deliver link ch) o (abstract_step config (Deliver link ch) (system_after config log) h))
+      (sym (ap (λ y. y.outcome) t.step_is)) (rw follows (counted-either link ch (outcome_of x t.verdict_is)
+      (next_tracker (system_after config log)) first.kind first.number first.rest done
+      (client_below config link.0 terms known) (on_same ch first.kind (h.state.link link.0) first.own ∙ first.tokens)
       (ends t.verdict_is t.message t.answer).0 (ends t.verdict_is t.message t.answer).1))
 
   counted-b : (link : Link) (terms : EndConfig) (x : Beat w) (queue : List (Beat w))
@@ -120,12 +175,11 @@ module _ {w : ℕ} {config : Config} {log : Log w} (h : AbstractState w) (width 
       → IsCounted (Deliver link Channel.B) (stepped config (Deliver link Channel.B) (system_after config log)).outcome
       (abstract_step config (Deliver link Channel.B) (system_after config log) h)
   counted-b link terms x queue known beats moving =
-      let first = first-token (is_caching config) Channel.B link.0 h.mail h.state (system_after config log) x queue
+      let first = first-token (is_caching config) Channel.B link.0 h.mail _ (system_after config log) x queue
       width matched.invariant matched.carried beats in
       let probe = first-probe h first in
-      counted-client link known beats moving first
-      (client-moves config link Channel.B (system_after config log) terms x queue known beats refl moving)
-      (λ v m answer.
+      counted-client link known beats moving first (client-moves config link Channel.B (system_after config log) terms x
+      queue known beats refl moving) (λ v m answer.
       let none = probe-ends x ((system_after config log).clients link.0) v m probe.0 answer in
       (λ last. (none.0 ∙ sym probe.1.0, none.1 ∙ sym probe.1.1), λ part. none))
 
@@ -147,16 +201,14 @@ module _ {w : ℕ} {config : Config} {log : Log w} (h : AbstractState w) (width 
 
       at : (b : Bool) → completes x (unfinished Channel.D e.past) ≡ b
           → completes (Beat.D y) (unfinished Channel.D e.past) ≡ b
-      at b f = sym (ap (λ (z : Beat w). completes z (unfinished Channel.D e.past)) x_is) ∙ f
+      at b f = sym (ap (λ z. completes z (unfinished Channel.D e.past)) x_is) ∙ f
 
       last : completes x (unfinished Channel.D e.past) ≡ true → Ends (outcome_of x v) (is_ending k) (is_letting_go k)
       last f =
           let same = (same_answers v (Verdict.Done y.source (finish_at y e)) m (acked y.opcode y.sink)
-          (offer.taken x e).answer answer
-          (ap (λ (z : Beat w). (offer.taken z e).answer) x_is ∙ answer-last y e (at true f))).0 in
+          (offer.taken x e).answer answer (ap (λ z. (offer.taken z e).answer) x_is ∙ answer-last y e (at true f))).0 in
           let ends = finish-ends x y.source y.opcode y.param y.size _ _ in
-          subst (λ (u : Verdict). Ends (outcome_of x u) (is_ending k) (is_letting_go k)) (sym same)
-          (ends.0 ∙ access, ends.1 ∙ ack)
+          subst (λ u. Ends (outcome_of x u) (is_ending k) (is_letting_go k)) (sym same) (ends.0 ∙ access, ends.1 ∙ ack)
 
       part : completes x (unfinished Channel.D e.past) ≡ false → Ends (outcome_of x v) false false
       part f = grind arith
@@ -174,7 +226,7 @@ module _ {w : ℕ} {config : Config} {log : Log w} (h : AbstractState w) (width 
       c = link.0
 
       first : IsFirst Channel.D c h.mail h.state (system_after config log) x queue
-      first = first-token (is_caching config) Channel.D c h.mail h.state (system_after config log) x queue width
+      first = first-token (is_caching config) Channel.D c h.mail _ (system_after config log) x queue width
           matched.invariant matched.carried beats
 
       Here : Kind → Type 0
@@ -188,16 +240,15 @@ module _ {w : ℕ} {config : Config} {log : Log w} (h : AbstractState w) (width 
           (message_of_kind k h.mail h.state c first.number) (map (message_of h.mail h.state c) first.rest) queue
           → Here k
       kinds Answer tokens own next =
-          let due = answer-due (is_caching config) c first.number first.rest h.mail h.state matched.invariant
+          let due = answer-due (is_caching config) c first.number _ h.mail _ matched.invariant
           (matched.answered c first.number) tokens in
-          response-ends c Answer due.answer next.k x (next.beat_is ∙ ap (λ (m : Message w). beat_of m next.k)
+          response-ends c Answer due.answer next.k x (next.beat_is ∙ ap (λ m. beat_of m next.k)
           due.answer_is) due.answers_access (access_kind due.answer.opcode due.answers_access).1
       kinds Grant tokens own next =
-          let due = grant-due (is_caching config) c first.number first.rest h.state matched.invariant tokens in
-          response-ends c Grant (grant_message due.data_too due.k ((h.state.block first.number).source c)
-          (h.state.block first.number).tracker (h.state.block first.number).truth) next.k x
-          (next.beat_is ∙ ap (λ (m : Message w). beat_of m next.k) (grant-rendered c first.number h.state due))
-          (grant_kind due.data_too).0 (grant_kind due.data_too).1
+          let due = grant-due (is_caching config) c first.number _ _ matched.invariant tokens in
+          response-ends c Grant (grant_message due.data_too due.k ((h.state.block first.number).source c) (h.state.block
+          first.number).tracker (h.state.block first.number).truth) next.k x (next.beat_is ∙ ap (λ m. beat_of m next.k)
+          (grant-rendered c first.number h.state due)) (grant_kind due.data_too).0 (grant_kind due.data_too).1
       kinds ReleaseAck tokens own next =
           response-ends c ReleaseAck (ack_message ((h.state.block first.number).release_source c)) next.k x
           (cc (next.beat_is, rendered_release_ack c first.number (h.state.block first.number))) refl refl

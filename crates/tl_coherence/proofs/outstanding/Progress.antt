@@ -17,7 +17,7 @@ pub counted : {w : ℕ} (config : Config) (log : Log w) → IsWidth w → AreTyp
     → AreCounted config log (shadow config log).state
 unfolding shadow AreTyped IsLog
 counted config [] width typed is = counted-first config
-counted {w} config (x ∷ log) width typed is = rw is.0 (counted-next (shadow config log) x.0 width
+counted config (x ∷ log) width typed is = rw is.0 (counted-next (shadow config log) x.0 width
     (matched config log width typed.1 is.1) (counted config log width typed.1 is.1))
 
 -- a configuration without a fault has a tracker
@@ -31,6 +31,5 @@ tracked config e = grind (arith, some_tracker, limits-fit)
 pub moving : {w : ℕ} (config : Config) (log : Log w) → IsGiven config log
     → is_none (next_delivery config (system_after config log)) ≡ (outstanding log == 0)
 moving config log given = next-while-outstanding (matched-given config log given) (coherent config log given)
-    (tracked config given.fits) (λ c terms ch x rest at beats. first-of config log (shadow config log) c terms ch x rest
-    given.width (matched-given config log given) at beats) given.width
-    (counted config log given.width given.typed given.is_log)
+    (tracked config given.fits) (λ c terms ch x rest at beats. first-of _ log _ c terms ch x rest given.width
+    (matched-given config log given) at beats) given.width (counted config log given.width given.typed given.is_log)

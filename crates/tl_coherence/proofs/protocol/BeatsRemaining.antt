@@ -2,10 +2,10 @@
 use Rattle.std.proofs.Common.{◌≡◌, ℕ, ◌-◌, ◌<◌, ◌≤◌, Bool, true, false, List, [], ◌∷◌, ◌++◌, refl, sym, ap, subst}
 use Rattle.std.proofs.Common.{arith, ◌⊎◌, inl, inr, length}
 use Rattle.tl_coherence.proofs
-use proofs.Imports.{cases_eq, Beat, Channel, beats_of, Left, Kind, Request, Answer, Packet, count, is, State}
-use proofs.Imports.{packets_on, is_on, is_transfer, shown, Move, Pops, IsMoved, channel_for}
-use proofs.Imports.{AccessMessages, block_message, message_of_kind}
-use proofs.protocol.TokenNames.{once, shown_there, shows_it}
+use proofs.Imports.{cases_eq, Beat, Channel, beats_of, Left, Answer, Kind, Packet, Request, is, count, State, is_on}
+use proofs.Imports.{packets_on, is_transfer, shown, IsMoved, Move, Pops, channel_for, AccessMessages, message_of_kind}
+use proofs.Imports.{block_message}
+use proofs.protocol.Capacities.{once, shown_there, shows_it}
 use proofs.queues.Channels.{IsShowing}
 
 -- the token is the first of its channel
@@ -74,17 +74,17 @@ own_kind k = grind arith
 module _ {w : ℕ} {caching : ℕ → Bool} {n : ℕ} {moves : ℕ → Channel → Move} {mail mail' : AccessMessages w}
     {s s' : State (List ℕ)} (showing : IsShowing caching n moves mail mail' s s') where
   shows_before : (d : ℕ) (k : Kind) (m : ℕ) → IsHere s d k m → shows_it s d k m ≡ true
-  shows_before d k m there = shown_there d (channel_for k) k m showing.before (own_kind k) there
+  shows_before d k m there = shown_there d _ k m showing.before (own_kind k) there
 
   shows_after : (d : ℕ) (k : Kind) (m : ℕ) → IsHere s' d k m → shows_it s' d k m ≡ true
-  shows_after d k m there = shown_there d (channel_for k) k m showing.after (own_kind k) there
+  shows_after d k m there = shown_there d _ k m showing.after (own_kind k) there
 
   transfer_same : (d : ℕ) (k : Kind) (m : ℕ) → is_transfer k ≡ true → shown k d (s.block m) ≡ true
       → shown k d (s'.block m) ≡ true → block_message {w = w} k d m (s'.block m) ≡ block_message k d m (s.block m)
   transfer_same d k m t before after = go (cases_eq m n)
     where
       go : (m ≡ n) ⊎ (m ≡ n → ⊥) → block_message {w = w} k d m (s'.block m) ≡ block_message k d m (s.block m)
-      go (inl same) = subst (λ (i : ℕ). shown k d (s.block i) ≡ true → shown k d (s'.block i) ≡ true → block_message
+      go (inl same) = subst (λ i. shown k d (s.block i) ≡ true → shown k d (s'.block i) ≡ true → block_message
           {w = w} k d i (s'.block i) ≡ block_message k d i (s.block i)) (sym same) (showing.same d k t) before after
       go (inr other) = rw (showing.blocks m other) refl
 
@@ -100,14 +100,13 @@ module _ {w : ℕ} {caching : ℕ → Bool} {n : ℕ} {moves : ℕ → Channel �
   pub left-same : {c : ℕ} {ch : Channel} {rest rest' : ℕ → Channel → List (Beat w)}
       → IsPopped c ch moves rest rest' s s' → (d : ℕ) (k : Kind) (m : ℕ) → IsHere s d k m → IsHere s' d k m
       → beats_left mail' s' rest' d k m ≡ beats_left mail s rest d k m
-  left-same {c} {ch} {rest} {rest'} popped d k m before after =
-      rw (message-same d k m before after) (ap (λ (i : ℕ). beats_of (message_of_kind k mail s d m) - i)
-      (go (cases_eq d c) (same_channels (channel_for k) ch)))
+  left-same {c} {ch} {rest} {rest'} popped d k m before after = rw (message-same d k m before after)
+      (ap (λ i. beats_of (message_of_kind k mail s d m) - i) (go (cases_eq d c) (same_channels (channel_for k) ch)))
     where
       apart : (d ≡ c → channel_for k ≡ ch → ⊥)
           → taken_of (rest' d (channel_for k)) (is_front k m (packets_on (channel_for k) (s'.link d))) ≡ taken_of
           (rest d (channel_for k)) (is_front k m (packets_on (channel_for k) (s.link d)))
-      apart ne = taken-stays (moves d (channel_for k)) k m _ _ _ _ (showing.moved d (channel_for k))
+      apart ne = taken-stays _ k m _ _ _ _ (showing.moved d (channel_for k))
           (popped.unpopped d (channel_for k) ne) (popped.rests d (channel_for k) ne) before
 
       go : (d ≡ c) ⊎ (d ≡ c → ⊥) → (channel_for k ≡ ch) ⊎ (channel_for k ≡ ch → ⊥)

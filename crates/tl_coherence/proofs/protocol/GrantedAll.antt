@@ -1,16 +1,28 @@
 -- The last ProbeAck that is taken, with which the Acquire that waited is granted, keeps the invariant.
-use Rattle.std.proofs.Common.{◌≡◌, ℕ, Bool, true, false, ◌&&◌, List, [], ◌∷◌, ◌++◌, refl, sym, ◌∙◌, ap, ap₂, ◌⊎◌, inl}
-use Rattle.std.proofs.Common.{inr, ne_eqb, ◌==◌, if◌then◌else◌}
+-- Where nothing is on a channel, nothing is open; and where nothing is open and no GrantAck is on its way, nothing is
+-- on
+-- a channel.
+use Rattle.std.proofs.Common.{◌≡◌, ℕ, ◌<◌, Bool, true, false, not, ◌&&◌, ◌||◌, ◌==◌, if◌then◌else◌, List, [], ◌∷◌, ◌++◌}
+use Rattle.std.proofs.Common.{Option, Some, None, refl, sym, ◌∙◌, ap, ap₂, arith, ◌⊎◌, inl, inr, ne_eqb}
 use Rattle.tl_coherence.proofs
-use proofs.Imports.{cases_eq, beq, Channel, Cap, Grow, Report, IsInvariant, Kind, Acquire, Probe, ProbeAck, Answer}
-use proofs.Imports.{Grant, GrantAck, Packet, set, ClientBlock, Own, Other, Granting, GrantedOther, ProbeAnswered}
-use proofs.Imports.{is_unprobed, is_granted_data, after_grant_sent, after_report, Block, State, view, packet}
-use proofs.Imports.{packets_on, granted_block, granted_link, report_grants, is_transfer, is_wanting, shows, shown, Move}
-use proofs.Imports.{Stays, Pushes, Pops, IsMoved, agrees, is_own_move, channel_for}
+use proofs.Imports.{cases_eq, beq, Channel, Cap, Grow, Report, part_bit, one_if, IsInvariant, acquires_of, is_asked}
+use proofs.Imports.{is_of, is_replied, serves_of, serves_with, Acquire, Answer, Grant, GrantAck, Kind, Packet, Probe}
+use proofs.Imports.{ProbeAck, Release, ReleaseAck, Request, set, count, ClientBlock, GrantedOther, Granting, NoRelease}
+use proofs.Imports.{Other, Own, ProbeAnswered, ReleaseAcked, ReleasePhase, ReleaseSent, View, is_unprobed}
+use proofs.Imports.{is_unreleased, ok, after_grant_sent, after_report, is_granted_data, Acquires, Asked, Block, Free}
+use proofs.Imports.{GrantSent, GrantTaken, InService, Replied, Service, SourceFree, SourceState, State, Waits}
+use proofs.Imports.{granted_block, granted_link, is_on, on, packet, packets_on, report_grants, view, is_transfer}
+use proofs.Imports.{is_wanting, shown, shows, is_own, IsMoved, Move, Pops, Pushes, Stays, agrees, channel_for}
+use proofs.Imports.{is_own_move}
 use Rattle.tl_coherence.specs.protocol.Protocol.{Link}
-use proofs.queues.{Facts.own_quiet, KindMoves.spares, KindMoves.same_again, Moves.names-kept, Moves.invariant-moved}
-use proofs.queues.{Moves.moved_as, Tokens.same_number, Tokens.set-same, Tokens.set-other, Tokens.set-part}
-use proofs.protocol.Granted.{IsLast, granted-block}
+use proofs.protocol.{Served.IsSilent, Served.free-when_silent, Granted.IsLast, Granted.granted-block}
+use proofs.protocol.Capacities.{acquire_named, grant_named, release_named, release_ack_named, shown_there, kind_there}
+use proofs.protocol.Capacities.{source_of_acquire}
+use proofs.protocol.BothParts.{not-sent, not-answered, taken-unseen, granted-unseen}
+use proofs.queues.{FirstToken.IsThere, FirstToken.first-there, Facts.is_other, Facts.own_quiet}
+use proofs.queues.Tokens.{same_number, set-same, set-other, set-part}
+use proofs.queues.Phases.{each_phase, of_phase, and_left}
+use proofs.queues.Moves.{spares, same_again, names-kept, invariant-moved, moved_as}
 
 -- c's ProbeAck goes, and q's Grant comes
 abbrev pub granted_moves : ℕ → ℕ → ℕ → ℕ → Channel → Move
@@ -73,8 +85,8 @@ report_grants-kept {X} {caching} {c} {q} n {r} {whole} {g} {gift} {source} {k} r
         | inl same ↦ rw same (moved_as (granted_moves n c q c ch) (granted_moves n 1 0 1 ch) (packets_on ch (s.link c))
             (packets_on ch (links c)) (packets_on ch at_c) (moves_of_reporter n c q ch apart)
             (ap (packets_on ch) (set-other q c at_q (set c at_c s.link) apart ∙ set-same c at_c s.link)) (moved_c ch))
-        | inr o ↦ moved_as (granted_moves n c q d ch) Stays (packets_on ch (s.link d)) (packets_on ch (links d))
-            (packets_on ch (s.link d)) (moves_of_other n c q d ch o m) (ap (packets_on ch) (links_other d m o)) refl
+        | inr o ↦ moved_as _ Stays (packets_on ch (s.link d)) _
+            _ (moves_of_other n c q d ch o m) (ap (packets_on ch) (links_other d m o)) refl
       ]
     ] in
     invariant-moved {n = n} {b = new} {link = links} {moves = (granted_moves n c q)} s.lets s.tracked inv (record {
@@ -96,7 +108,7 @@ report_grants-kept {X} {caching} {c} {q} n {r} {whole} {g} {gift} {source} {k} r
     apart : c ≡ q → ⊥
     apart e =
         let own : view (s.block n).service q ≡ Own = rw (last.waits, same_number q) refl in
-        let quiet = own_quiet ((s.block n).pair q) (view (s.block n).service q) ((inv.blocks n).phases q) own in
+        let quiet = own_quiet _ _ ((inv.blocks n).phases q) own in
         let differs : is_unprobed (ProbeAnswered r) ≡ true = rw (rw e at last.answered) at quiet in
         absurd cc
 
@@ -156,15 +168,14 @@ report_grants-kept {X} {caching} {c} {q} n {r} {whole} {g} {gift} {source} {k} r
 
     acquiring_same : (d : ℕ) → (new.pair d).acquiring ≡ (old d).acquiring
     acquiring_same d =
-        let first_ = set-part (λ (p : ClientBlock). p.acquiring) c after old refl q in
-        set-part (λ (p : ClientBlock). p.acquiring) q (after_grant_sent gift (old q)) (set c after old) (sym first_)
-        d ∙ set-part (λ (p : ClientBlock). p.acquiring) c after old refl d
+        let first_ = set-part (λ p. p.acquiring) c after old refl q in
+        set-part (λ p. p.acquiring) q _ (set c after old) (sym first_)
+        d ∙ set-part (λ p. p.acquiring) c after old refl d
 
     letting_same : (d : ℕ) → (new.pair d).letting ≡ (old d).letting
     letting_same d =
-        let first_ = set-part (λ (p : ClientBlock). p.letting) c after old refl q in
-        set-part (λ (p : ClientBlock). p.letting) q (after_grant_sent gift (old q)) (set c after old) (sym first_)
-        d ∙ set-part (λ (p : ClientBlock). p.letting) c after old refl d
+        let first_ = set-part (λ p. p.letting) c after old refl q in
+        set-part (λ p. p.letting) q _ (set c after old) (sym first_) d ∙ set-part (λ p. p.letting) c after old refl d
 
     fits : (d : ℕ) (j : Kind) → is_transfer j ≡ true → (d ≡ q) ⊎ (d ≡ q → ⊥) → (d ≡ c) ⊎ (d ≡ c → ⊥)
         → agrees (granted_moves n c q d (channel_for j)) j n (shown j d (s.block n)) (shown j d new) ≡ true
@@ -178,8 +189,164 @@ report_grants-kept {X} {caching} {c} {q} n {r} {whole} {g} {gift} {source} {k} r
         (shows j after GrantedOther) (moves_of_reporter n c q (channel_for j) apart) (ap (shows j (old c))
         (view_other c apart)) (ap₂ (shows j) (set-other q c (after_grant_sent gift (old q)) (set c after old) apart
         ∙ set-same c after old) (new_other c apart)) (at_reporter n j r (old c) k t last.answered))
-    fits d j t (inr m) (inr o) = agrees_as j (granted_moves n c q d (channel_for j)) Stays (shown j d (s.block n))
-        (shown j d new) (shows j (old d) (Other k)) (shows j (old d) GrantedOther)
-        (moves_of_other n c q d (channel_for j) o m) (ap (shows j (old d)) (view_other d m)) (ap₂ (shows j)
-        (set-other q d (after_grant_sent gift (old q)) (set c after old) m ∙ set-other c d after old o) (new_other d m))
-        (at_other n j (old d) k t)
+    fits d j t (inr m) (inr o) = agrees_as j _ Stays (shown j d (s.block n)) (shown j d new)
+        (shows j (old d) (Other k)) (shows j (old d) GrantedOther) (moves_of_other n c q d (channel_for j) o m)
+        (ap (shows j (old d)) (view_other d m)) (ap₂ (shows j) (set-other q d (after_grant_sent gift (old q))
+        (set c after old) m ∙ set-other c d after old o) (new_other d m)) (at_other n j (old d) k t)
+
+-- ---- nothing is on a channel
+
+pub record IsBare {X : Type 0} (s : State X) : Type 0 where
+  pub a : (c : ℕ) → (s.link c).a ≡ []
+  pub silent : IsSilent s
+
+-- nothing is open
+pub record IsClosed {X : Type 0} (s : State X) : Type 0 where
+  pub uses : (c source : ℕ) → s.uses c source ≡ SourceFree
+  pub lets : (c source : ℕ) → s.lets c source ≡ None
+
+none_there : (n : ℕ) (b : Bool) → 0 ≡ one_if b → b ≡ true → ⊥
+none_there n b e f = grind arith
+
+probed_by_other : ClientBlock → View → Bool
+probed_by_other p v = is_unprobed p.probing || is_other v
+
+asks_for_own : ClientBlock → View → Bool
+asks_for_own p v = not (is_own v) || is_wanting p.acquiring
+
+or_second : (a b : Bool) → (a || b) ≡ true → a ≡ false → b ≡ true
+or_second a b e f = grind arith
+
+pub serves_another : (p : ClientBlock) (v : View) → ok p v ≡ true → is_unprobed p.probing ≡ false → is_other v ≡ true
+unfolding each_phase probed_by_other
+serves_another p v h = or_second (is_unprobed p.probing) (is_other v) (of_phase probed_by_other refl p v h)
+
+pub owns_ask : (p : ClientBlock) (v : View) → ok p v ≡ true → is_own v ≡ true → is_wanting p.acquiring ≡ true
+unfolding each_phase asks_for_own
+owns_ask p v h = part_bit (is_own v) (is_wanting p.acquiring) (of_phase asks_for_own refl p v h)
+
+module _ {X : Type 0} {caching : ℕ → Bool} {s : State X} (inv : IsInvariant caching s) where
+  -- a kind that is on no channel is shown nowhere
+  not_shown : (c n : ℕ) (k : Kind) → is_transfer k ≡ true → on k (s.link c) ≡ [] → shown k c (s.block n) ≡ true → ⊥
+  unfolding count
+  not_shown c n k t none is = none_there n (shown k c (s.block n)) (rw none at (inv.transfers c k t n)) is
+
+  pub closed-when_bare : IsBare s → IsClosed s
+  unfolding count
+  closed-when_bare bare = record {
+    uses = λ c source. use_is c source (s.uses c source) refl;
+    lets = λ c source. let_is c source (s.lets c source) refl;
+  }
+    where
+      free : (n : ℕ) → (s.block n).service ≡ Free
+      free n = free-when_silent n inv bare.silent
+
+      use_is : (c source : ℕ) (u : SourceState) → s.uses c source ≡ u → u ≡ SourceFree
+      use_is c source SourceFree e = refl
+      use_is c source Asked e =
+          absurd (none_there source (is_asked (s.uses c source)) (rw (bare.a c) at (inv.requests c source)) (rw e refl))
+      use_is c source Replied e = absurd (none_there source (is_replied (s.uses c source))
+          (rw (bare.silent.d c) at (inv.answers c source)) (rw e refl))
+      use_is c source (InService n) e =
+          let it : serves_of n (s.uses c source) ≡ true = rw e (same_number n) in
+          let not_it : serves_with c source (s.block n) ≡ false = rw (free n) refl in
+          absurd (let both : true ≡ false = sym it ∙ (inv.named.serves c source n) ∙ not_it in cc)
+      use_is c source (Acquires n) e =
+          let named = inv.named.acquires c source n in
+          let it : acquires_of n (s.uses c source) ≡ true = rw e (same_number n) in
+          let wants = and_left (is_wanting ((s.block n).pair c).acquiring) _ (sym named ∙ it) in
+          absurd (not_shown c n Acquire refl (bare.a c) (rw (free n, wants) refl))
+
+      let_of : (c n : ℕ) (x : ReleasePhase) → ((s.block n).pair c).letting ≡ x → not (is_unreleased x) ≡ true → ⊥
+      let_of c n NoRelease e f = absurd cc
+      let_of c n (ReleaseSent r) e f = not_shown c n Release refl (bare.silent.c c) (rw e refl)
+      let_of c n ReleaseAcked e f = not_shown c n ReleaseAck refl (bare.silent.d c) (rw e refl)
+
+      let_is : (c source : ℕ) (o : Option ℕ) → s.lets c source ≡ o → o ≡ None
+      let_is c source None e = refl
+      let_is c source (Some n) e =
+          let it : is_of n (s.lets c source) ≡ true = rw e (same_number n) in
+          absurd (let_of c n ((s.block n).pair c).letting refl (and_left
+          (not (is_unreleased ((s.block n).pair c).letting)) _ (sym (inv.named.releases c source n) ∙ it)))
+
+  -- ---- the other way round
+
+  -- a client that is probed is probed for a request that is open
+  probed-for : (c n : ℕ) → is_unprobed ((s.block n).pair c).probing ≡ false → IsClosed s → ⊥
+  probed-for c n probed closed = go _ refl
+      (serves_another ((s.block n).pair c) (view (s.block n).service c) ((inv.blocks n).phases c) probed)
+    where
+      go : (service : Service) → (s.block n).service ≡ service → is_other (view service c) ≡ true → ⊥
+      go Free e is = absurd cc
+      go (GrantSent q d k) e is = granted-unseen (c == q) d k is
+      go (GrantTaken q) e is = taken-unseen (c == q) is
+      go (Waits r true source k) e is =
+          let own : view (s.block n).service r ≡ Own = rw (e, same_number r) refl in
+          let used : s.uses r ((s.block n).source r) ≡ Acquires n = source_of_acquire r n inv
+          (owns_ask ((s.block n).pair r) (view (s.block n).service r) ((inv.blocks n).phases r) (rw own refl)) in
+          absurd (let both : Acquires n ≡ SourceFree = sym used ∙ closed.uses r ((s.block n).source r) in cc)
+      go (Waits r false source k) e is =
+          let it : serves_with r source (s.block n) ≡ true = rw (e, same_number r, same_number source) refl in
+          let none : serves_of n (s.uses r source) ≡ false = rw (closed.uses r source) refl in
+          absurd (let both : true ≡ false = sym it ∙ sym (inv.named.serves r source n) ∙ none in cc)
+
+  no_use : (c source n : ℕ) → s.uses c source ≡ Acquires n → IsClosed s → ⊥
+  no_use c source n e closed = absurd (let both : Acquires n ≡ SourceFree = sym e ∙ closed.uses c source in cc)
+
+  no_let : (c source n : ℕ) → s.lets c source ≡ Some n → IsClosed s → ⊥
+  no_let c source n e closed = absurd (let both : Some n ≡ None = sym e ∙ closed.lets c source in cc)
+
+  not_asked : (c n : ℕ) → is_asked (s.uses c n) ≡ true → IsClosed s → ⊥
+  not_asked c n e closed = absurd (let no : is_asked (s.uses c n) ≡ false = rw (closed.uses c n) refl in cc)
+
+  not_replied : (c n : ℕ) → is_replied (s.uses c n) ≡ true → IsClosed s → ⊥
+  not_replied c n e closed = absurd (let no : is_replied (s.uses c n) ≡ false = rw (closed.uses c n) refl in cc)
+
+  -- no kind but a GrantAck is shown
+  nothing_shown : (c : ℕ) (ch : Channel) (k : Kind) (n : ℕ) → IsClosed s → is_on ch k ≡ true → is_on Channel.E k ≡ false
+      → 0 < count k n (packets_on ch (s.link c)) → ⊥
+  nothing_shown c ch Request n closed on_it other there =
+      not_asked c n (shown_there c ch Request n inv on_it there) closed
+  nothing_shown c ch Answer n closed on_it other there =
+      not_replied c n (shown_there c ch Answer n inv on_it there) closed
+  nothing_shown c ch Acquire n closed on_it other there =
+      no_use c _ n (acquire_named c n inv (shown_there c ch Acquire n inv on_it there)) closed
+  nothing_shown c ch Grant n closed on_it other there =
+      no_use c _ n (grant_named c n inv (shown_there c ch Grant n inv on_it there)) closed
+  nothing_shown c ch Release n closed on_it other there =
+      no_let c _ n (release_named c n inv (shown_there c ch Release n inv on_it there)) closed
+  nothing_shown c ch ReleaseAck n closed on_it other there =
+      no_let c _ n (release_ack_named c n inv (shown_there c ch ReleaseAck n inv on_it there)) closed
+  nothing_shown c ch Probe n closed on_it other there =
+      probed-for c n (not-sent _ (shown_there c ch Probe n inv on_it there)) closed
+  nothing_shown c ch ProbeAck n closed on_it other there =
+      probed-for c n (not-answered _ (shown_there c ch ProbeAck n inv on_it there)) closed
+  nothing_shown c ch GrantAck n closed on_it other there = absurd cc
+
+  empty_list : (xs : List Packet) → ((x : Packet) → IsThere x xs → ⊥) → xs ≡ []
+  empty_list [] none = refl
+  empty_list (x ∷ xs) none = absurd (none x (first-there x xs))
+
+  nothing_on : (c : ℕ) (ch : Channel) → IsClosed s → ((k : Kind) → is_on ch k ≡ true → is_on Channel.E k ≡ false)
+      → packets_on ch (s.link c) ≡ []
+  nothing_on c ch closed apart = empty_list (packets_on ch (s.link c)) (λ x there.
+      let on_it = kind_there c ch x inv there in
+      nothing_shown c ch x.kind x.number closed on_it (apart x.kind on_it) there)
+
+  pub bare-when-closed : IsClosed s → ((c : ℕ) → (s.link c).e ≡ []) → IsBare s
+  bare-when-closed closed no_acks = record {
+    a = λ c. nothing_on c Channel.A closed (apart Channel.A refl);
+    silent = record {
+      b = λ c. nothing_on c Channel.B closed (apart Channel.B refl);
+      c = λ c. nothing_on c Channel.C closed (apart Channel.C refl);
+      d = λ c. nothing_on c Channel.D closed (apart Channel.D refl);
+      e = no_acks;
+    };
+  }
+    where
+      is_e : Channel → Bool
+      is_e Channel.E = true
+      is_e _ = false
+
+      apart : (ch : Channel) → is_e ch ≡ false → (k : Kind) → is_on ch k ≡ true → is_on Channel.E k ≡ false
+      apart ch e k f = grind arith

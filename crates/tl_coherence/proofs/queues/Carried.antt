@@ -25,7 +25,7 @@ unfolding spelled
 carried-push {w} rest [] queue m pos h =
     let all : beats_of m - 0 ≡ beats_of m = omega arith in
     (0, pos, h.0, rw (h.1, all) (sym (append-nil (beats_from m 0 (beats_of m)))))
-carried-push {w} rest (n ∷ ms) queue m pos (k, lt, r, q) = (
+carried-push rest (n ∷ ms) queue m pos (k, lt, r, q) = (
   k,
   lt,
   r,
@@ -72,8 +72,7 @@ carried-next {w} x rest m ms queue pos (k, lt, r, q) =
     let ap₂_from : (a b c d : ℕ) → a ≡ b → c ≡ d → (beats_from m a c ++ spelled ms) ≡ (beats_from m b d ++ spelled ms) =
     λ a b c d e f. rw (e, f) refl in
     let n = beats_of m in
-    let parts = tail_is x (beat_of m k) queue (beats_from m (k + 1) (n - k - 1) ++ spelled ms)
-    (q ∙ ap (λ (b : List (Beat w)). b ++ spelled ms) (from_next m k (n - k) (omega (arith, lt)))) in
+    let parts = tail_is x _ queue _ (q ∙ ap (λ b. b ++ spelled ms) (from_next m k (n - k) (omega (arith, lt)))) in
     let left : n - k - 1 ≡ n - (k + 1) = omega arith in
     record {
       k = k;
@@ -88,7 +87,7 @@ carried-next {w} x rest m ms queue pos (k, lt, r, q) =
       );
       last = λ e.
           let none : n - k - 1 ≡ 0 = omega (arith, e) in
-          let queue_is : queue ≡ spelled ms = parts.1 ∙ ap (λ (i : ℕ). beats_from m (k + 1) i ++ spelled ms)
+          let queue_is : queue ≡ spelled ms = parts.1 ∙ ap (λ i. beats_from m (k + 1) i ++ spelled ms)
           none ∙ no_beats m (k + 1) (spelled ms) in (
             rw (parts.0, r, length-begun m k, length-of_beat m k, is_last k n e) refl,
             rw (parts.0, r) (whole e),
@@ -97,7 +96,7 @@ carried-next {w} x rest m ms queue pos (k, lt, r, q) =
     }
   where
     whole : k + 1 ≡ beats_of m → begun m (suc k) ≡ burst_of m
-    whole e = let f : suc k ≡ beats_of m = omega (arith, e) in ap (λ (i : ℕ). begun m i) f
+    whole e = let f : suc k ≡ beats_of m = omega (arith, e) in ap (λ i. begun m i) f
 
 -- a channel without a beat has no message
 pub carried-none : {w : ℕ} (rest : List (Beat w)) (ms : List (Message w)) → IsCarried rest ms [] → ms ≡ []
@@ -105,4 +104,4 @@ carried-none rest [] h = refl
 carried-none {w} rest (m ∷ ms) (k, lt, r, q) =
     let nothing_is : (x : Beat w) (xs : List (Beat w)) → [] ≡ x ∷ xs → ⊥ = λ x xs e. absurd cc in
     absurd (nothing_is (beat_of m k) (beats_from m (k + 1) (beats_of m - k - 1) ++ spelled ms)
-    (q ∙ ap (λ (b : List (Beat w)). b ++ spelled ms) (from_next m k (beats_of m - k) (omega (arith, lt)))))
+    (q ∙ ap (λ b. b ++ spelled ms) (from_next m k (beats_of m - k) (omega (arith, lt)))))

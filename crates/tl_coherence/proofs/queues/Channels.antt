@@ -1,16 +1,52 @@
+-- A kind of message is the same as itself.
+-- The beats of a channel after the move of an event: one lemma for all events.
 -- The channels after any event: where the tokens that stay show the same messages, and the beats move with the tokens,
 -- the channels carry the messages of the tokens.
-use Rattle.std.proofs.Common.{◌≡◌, ℕ, Bool, true, false, ◌≤◌, List, [], ◌∷◌, ◌++◌, refl, sym, ◌∙◌, ap, ap₂, ◌⊎◌, inl}
-use Rattle.std.proofs.Common.{inr, arith, ◌&&◌, Option, Some, None, ne_eqb, ◌==◌, if◌then◌else◌, map}
+-- What an event does to the channels at which a message is taken: which tokens stay, and which move.
+use Rattle.std.proofs.Common.{◌≡◌, ℕ, ◌+◌, ◌≤◌, Bool, true, false, ◌&&◌, ◌==◌, if◌then◌else◌, List, [], ◌∷◌, ◌++◌}
+use Rattle.std.proofs.Common.{Option, Some, None, refl, sym, ◌∙◌, ap, ap₂, arith, ◌⊎◌, inl, inr, eqb-true, ne_eqb, map}
+use Rattle.std.proofs.lemmas.List.{map-append}
 use Rattle.tl_coherence.proofs
-use proofs.Imports.{cases_eq, ⊤, Beat, Channel, IsWidth, Message, beats_of, unfinished, completes, beats_from, one_if}
-use proofs.Imports.{IsInvariant, is_asked, is_replied, Kind, Request, Answer, Packet, is, count, set, State, packet}
-use proofs.Imports.{packets_on, is_on, on, shown, is_transfer, ChannelRelation, Move, Stays, Pushes, Pops, IsMoved}
-use proofs.Imports.{AreMoved, AccessMessages, message_of, block_message, message_of_kind, receiver, System}
-use proofs.Imports.{same_channel}
+use proofs.Imports.{cases_eq, ⊤, Beat, Channel, IsWidth, beats-positive, Message, beats_of, unfinished, completes}
+use proofs.Imports.{beats_from, one_if, IsInvariant, is_asked, is_replied, Answer, Kind, Packet, Request, is, same_kind}
+use proofs.Imports.{set, count, State, is_on, on, packet, packets_on, is_transfer, shown, IsCarried, ChannelRelation}
+use proofs.Imports.{AreMoved, IsMoved, Move, Pops, Pushes, Stays, AccessMessages, message_of, message_of_kind}
+use proofs.Imports.{block_message, receiver, System, same_channel}
 use Rattle.tl_coherence.specs.protocol.Protocol.{Link}
-use proofs.queues.{CarriedMoves.IsQueued, CarriedMoves.staying, CarriedMoves.carried-moved, Moves.moves_at}
-use proofs.queues.{Rendered.same_kind_again, Tokens.same_number, Tokens.set-same, Tokens.set-other, KindMoves.on_same}
+use proofs.queues.{Carried.carried-push, Carried.carried-next, Moves.moves_at, Moves.on_same}
+use proofs.queues.Tokens.{same_number, set-same, set-other}
+
+pub same_kind_again : (k : Kind) → same_kind k k ≡ true
+same_kind_again k = grind arith
+
+-- the beats of a channel before and after, and what the receiver has of the first message: as before; with all
+-- beats of a message behind; without the last beat of the first message
+abbrev pub IsQueued : {w : ℕ} → Move → (Kind → ℕ → Message w) → List (Beat w) → List (Beat w) → List (Beat w)
+    → List (Beat w) → Type 0
+IsQueued Stays m q after r rest = (after ≡ q) × (rest ≡ r)
+IsQueued (Pushes k n) m q after r rest = (after ≡ q ++ beats_from (m k n) 0 (beats_of (m k n))) × (rest ≡ r)
+IsQueued {w} (Pops k n) m q after r rest = (x : Beat w) × (q ≡ x ∷ after) × (completes x r ≡ true) × (rest ≡ [])
+
+-- the tokens that stay
+abbrev pub staying : Move → List Packet → List Packet → List Packet
+staying (Pops k n) xs ys = ys
+staying _ xs ys = xs
+
+pub carried-moved : {w : ℕ} (move : Move) (xs ys : List Packet) (f g : Packet → Message w) (m : Kind → ℕ → Message w)
+    (q after r rest : List (Beat w)) → IsWidth w → IsMoved move xs ys → IsQueued move m q after r rest
+    → ((k : Kind) (n : ℕ) → move ≡ Pushes k n → g (packet k n) ≡ m k n)
+    → map g (staying move xs ys) ≡ map f (staying move xs ys) → IsCarried r (map f xs) q
+    → IsCarried rest (map g ys) after
+carried-moved Stays xs ys f g m q after r rest width moved queued new kept h = rw (moved, kept, queued.0, queued.1) h
+carried-moved {w} (Pushes k n) xs ys f g m q after r rest width moved queued new kept h =
+    let messages : map g ys ≡ map f xs ++ m k n ∷ [] = cc (map-append g xs (packet k n ∷ []), new k n refl) in
+    rw (messages, queued.0, queued.1) (carried-push r (map f xs) q (m k n) (beats-positive (m k n) width) h)
+carried-moved {w} (Pops k n) xs ys f g m q after r rest width moved (x, beats, whole, none) new kept h =
+    let same : (ms ns : List (Message w)) → ms ≡ ns → IsCarried r ms q → IsCarried r ns (x ∷ after) =
+    λ ms ns e i. rw (← e, ← beats) i in
+    let before = same _ _ (ap (map f) moved) h in
+    let next = carried-next x r _ _ after (λ i. beats-positive i width) before in
+    rw (none, kept) (next.last (eqb-true (next.k + 1) (beats_of (f (packet k n))) (sym next.completes_is ∙ whole))).2
 
 -- ---- tokens that stay
 
@@ -87,7 +123,7 @@ messages-stay {w} {n} {moves} {mail} {mail'} {s} {s'} event d ch = map_kept (λ 
     Kept k i = (count k i stay ≡ 0) ⊎ (message_of_kind k mail' s' d i ≡ message_of_kind k mail s d i)
 
     fewer : (k : Kind) (i : ℕ) → count k i stay ≤ count k i xs
-    fewer k i = stay_before (moves d ch) k i xs ys (event.moved d ch)
+    fewer k i = stay_before _ k i xs ys (event.moved d ch)
 
     here : (k : Kind) (i : ℕ) (a b : Bool) → is_on ch k ≡ true → count k i (on k (s.link d)) ≡ one_if a
         → count k i (on k (s'.link d)) ≡ one_if b → (count k i stay ≡ 0) ⊎ ((a ≡ true) × (b ≡ true))
@@ -95,7 +131,7 @@ messages-stay {w} {n} {moves} {mail} {mail'} {s} {s'} event d ch = map_kept (λ 
         let before : count k i xs ≡ one_if a = sym (ap (count k i) (on_same ch k (s.link d) own)) ∙ e in
         let after : count k i ys ≡ one_if b = sym (ap (count k i) (on_same ch k (s'.link d) own)) ∙ f in
         not_there a b (count k i stay) (omega (arith, fewer k i, before))
-        (omega (arith, stay_after (moves d ch) k i xs ys (event.moved d ch), after))
+        (omega (arith, stay_after _ k i xs ys (event.moved d ch), after))
 
     transfer : (k : Kind) (i : ℕ) → is_on ch k ≡ true → is_transfer k ≡ true
         → (block_message {w = w} k d i (s'.block i) ≡ block_message k d i (s.block i)) ⊎ (count k i stay ≡ 0)
@@ -145,11 +181,9 @@ AreQueued moves mail s before after = (d : ℕ) (ch : Channel)
 pub carried-event : {w : ℕ} {caching : ℕ → Bool} {n : ℕ} {moves : ℕ → Channel → Move} {mail mail' : AccessMessages w}
     {s s' : State (List ℕ)} (sys sys' : System w) → IsWidth w → IsShowing caching n moves mail mail' s s'
     → AreQueued moves mail' s' sys sys' → ChannelRelation mail s sys → ChannelRelation mail' s' sys'
-carried-event {moves} {mail} {mail'} {s} {s'} sys sys' width event queued h d ch =
-    carried-moved (moves d ch) (packets_on ch (s.link d)) (packets_on ch (s'.link d)) (message_of mail s d)
-    (message_of mail' s' d) (λ k i. message_of mail' s' d (packet k i)) (sys.channels d ch) (sys'.channels d ch)
-    (unfinished ch (receiver ch d sys)) (unfinished ch (receiver ch d sys')) width (event.moved d ch) (queued d ch)
-    (λ k i e. refl) (messages-stay event d ch) (h d ch)
+carried-event {moves} {mail} {mail'} {s} {s'} sys sys' width event queued h d ch = carried-moved _ _ _
+    (message_of mail s d) (message_of mail' s' d) (λ k i. message_of mail' s' d (packet k i)) _ _ _ _ width
+    (event.moved d ch) (queued d ch) (λ k i e. refl) (messages-stay event d ch) (h d ch)
 
 -- ---- how a channel's beats move
 
@@ -189,10 +223,9 @@ pub queued-taken : {w : ℕ} {c : ℕ} {ch : Channel} {x : Beat w} {queue : List
     {sys sys' : System w} → IsTaken c ch x queue pushes sys sys'
     → ((d : ℕ) (at : Channel) → Fits ((d == c) && same_channel at ch) (pushes d at) (moves d at)
     (λ k i. message_of mail s d (packet k i))) → AreQueued moves mail s sys sys'
-queued-taken {w} {c} {ch} {x} {queue} {pushes} moves mail s {sys} {sys'} is fits d at =
-    queued-by ((d == c) && same_channel at ch) (pushes d at) (moves d at) (λ k i. message_of mail s d (packet k i)) x
-    queue (sys.channels d at) (sys'.channels d at) (unfinished at (receiver at d sys))
-    (unfinished at (receiver at d sys')) (fits d at) (is.channels d at) (is.rests d at) (λ e. here e (cases_eq d c))
+queued-taken {w} {c} {ch} {x} {queue} {pushes} moves mail s {sys} {sys'} is fits d at = queued-by
+    ((d == c) && same_channel at ch) _ _ (λ k i. message_of mail s d (packet k i)) x queue _ _ _ _ (fits d at)
+    (is.channels d at) (is.rests d at) (λ e. here e (cases_eq d c))
   where
     here : ((d == c) && same_channel at ch) ≡ true → (d ≡ c) ⊎ (d ≡ c → ⊥) → (sys.channels d at ≡ x ∷ queue)
         × (completes x (unfinished at (receiver at d sys)) ≡ true)
@@ -209,8 +242,7 @@ pub queued-handed : {w : ℕ} {pushes : ℕ → Channel → Option (Message w)} 
     (mail : AccessMessages w) (s : State (List ℕ)) {sys sys' : System w} → IsHanded pushes sys sys'
     → ((d : ℕ) (at : Channel) → Fits false (pushes d at) (moves d at) (λ k i. message_of mail s d (packet k i)))
     → AreQueued moves mail s sys sys'
-queued-handed {w} {pushes} moves mail s {sys} {sys'} is fits d at = queued-with (pushes d at) (moves d at)
-    (sys.channels d at) (sys'.channels d at) (unfinished at (receiver at d sys)) (unfinished at (receiver at d sys'))
+queued-handed {w} {pushes} moves mail s {sys} {sys'} is fits d at = queued-with _ _ _ _ _ _
     (λ k i. message_of mail s d (packet k i)) (fits d at) (is.channels d at) (is.rests d at)
   where
     queued-with : (push : Option (Message w)) (move : Move) (q after r rest : List (Beat w)) (render : Kind → ℕ
@@ -262,3 +294,21 @@ fits-handed {w} c pushes moves render h d at =
       | inl same ↦ rw same (go (c == c) (same_number c))
       | inr other ↦ never (d == c) (ne_eqb d c other)
     ]
+
+-- The tokens move, and those that stay show the same messages, as the first message on channel ch of client c is taken,
+-- and these are handed out.
+pub record IsShown {w : ℕ} (caching : ℕ → Bool) (n c : ℕ) (ch : Channel) (pushes : ℕ → Channel → Option (Message w))
+    (mail mail' : AccessMessages w) (s s' : State (List ℕ)) : Type 0 where
+  pub moves : ℕ → Channel → Move
+  pub showing : IsShowing caching n moves mail mail' s s'
+  pub fits : (d : ℕ) (at : Channel) → Fits ((d == c) && same_channel at ch) (pushes d at) (moves d at)
+      (λ k i. message_of mail' s' d (packet k i))
+
+-- the channels carry the messages of the tokens after it
+pub carried-shown : {w : ℕ} {caching : ℕ → Bool} {n c : ℕ} {ch : Channel} {pushes : ℕ → Channel → Option (Message w)}
+    {mail mail' : AccessMessages w} {s s' : State (List ℕ)} {sys sys' : System w} {x : Beat w} {queue : List (Beat w)}
+    → IsWidth w → IsShown caching n c ch pushes mail mail' s s' → IsTaken c ch x queue pushes sys sys'
+    → ChannelRelation mail s sys → ChannelRelation mail' s' sys'
+carried-shown {mail' = mail'}
+    {s' = s'} {sys = sys} {sys' = sys'} width shown taken h =
+    carried-event sys sys' width shown.showing (queued-taken shown.moves mail' s' taken shown.fits) h

@@ -1,14 +1,112 @@
+-- What a move of one token does to each kind of token on a channel.
 -- Tokens, and what they stand for, after the moves of an event: one lemma for all events.
-use Rattle.std.proofs.Common.{◌≡◌, ℕ, Bool, true, List, Option, refl, sym, ◌∙◌, ap, inl, inr, ne_eqb, ◌==◌, arith}
-use Rattle.std.proofs.Common.{if◌then◌else◌}
+use Rattle.std.proofs.Common.{◌≡◌, ℕ, Bool, true, false, not, ◌&&◌, ◌==◌, if◌then◌else◌, List, [], ◌∷◌, ◌++◌, Option}
+use Rattle.std.proofs.Common.{refl, sym, ◌∙◌, ap, arith, ◌⊎◌, inl, inr, ne_eqb, eqb-true}
 use Rattle.tl_coherence.proofs
-use proofs.Imports.{cases_eq, Channel, IsInvariant, is_asked, is_replied, IsWell, AreNamed, is_of, acquires_of}
-use proofs.Imports.{serves_of, acquires_with, serves_with, releases_with, tracks_with, Kind, Request, ProbeAck, Release}
-use proofs.Imports.{Answer, Packet, count, set, Holds, set_at, State, packets_on, Block, SourceState, shown}
-use proofs.Imports.{is_transfer, Move, Stays, Pushes, IsMoved, AreMoved, agrees, is_own_move, channel_for}
-use Rattle.tl_coherence.{specs.protocol.Invariant.Names, specs.protocol.Protocol.Link}
-use proofs.queues.Tokens.{same_number, set-same, set-other, set-each}
-use proofs.queues.KindMoves.{holds-moved, spares, holds-spared, on_is, transfers-moved, own_kinds-moved, ordered-moved}
+use proofs.Imports.{cases_eq, not-true, beq, Channel, AreNamed, IsInvariant, IsWell, acquires_of, acquires_with}
+use proofs.Imports.{is_asked, is_of, is_replied, releases_with, serves_of, serves_with, tracks_with, Answer, Holds}
+use proofs.Imports.{IsOrdered, Kind, Packet, ProbeAck, Release, Request, same_kind, set, set_at, count, Block}
+use proofs.Imports.{SourceState, State, is_on, on, packet, packets_on, is_transfer, shown, AreMoved, IsMoved, Move}
+use proofs.Imports.{Pops, Pushes, Stays, agrees, channel_for, is_own_move}
+use Rattle.tl_coherence.{specs.protocol.Protocol.Link, specs.protocol.Invariant.Names}
+use proofs.queues.Phases.{and_left, and_right}
+use proofs.queues.Tokens.{holds-set, holds-push, holds-push_other, holds-pop, holds-pop_other, none-push, none-pop}
+use proofs.queues.Tokens.{ordered-pop, ordered-push_other, ordered-push_report, same_number, set-same, set-other}
+use proofs.queues.Tokens.{set-each}
+
+pub same_again : (b : Bool) → beq b b ≡ true
+same_again b = grind arith
+
+same_bools : (a b : Bool) → beq a b ≡ true → b ≡ a
+same_bools a b e = grind arith
+
+-- the tokens of a kind after a move, where number n gets another value
+pub holds-moved : {B : Type 0} (k : Kind) (move : Move) (xs ys : List Packet) (q : B → Bool) (f : ℕ → B) (n : ℕ) (y : B)
+    → IsMoved move xs ys → agrees move k n (q (f n)) (q y) ≡ true
+    → Holds k xs (λ i. q (f i)) → Holds k ys (λ i. q (set n y f i))
+holds-moved k Stays xs ys q f n y moved fits h = rw moved (holds-set k xs q f n y (same_bools (q (f n)) (q y) fits) h)
+holds-moved {B} k (Pushes j i) xs ys q f n y moved fits h = rw moved (go (same_kind j k) refl fits)
+  where
+    both : (a b : Bool) → (not a && b) ≡ true → (a ≡ false) × (b ≡ true)
+    both a b e = grind arith
+
+    go : (own : Bool) → same_kind j k ≡ own → (if own then (i == n) && (not (q (f n)) && q y) else beq (q (f n)) (q y))
+        ≡ true → Holds k (xs ++ packet j i ∷ []) (λ m. q (set n y f m))
+    go true e g =
+        let p = both (q (f n)) (q y) (and_right (i == n) (not (q (f n)) && q y) g) in
+        holds-push k xs _ q f n y e (eqb-true i n (and_left (i == n) (not (q (f n)) && q y) g)) p.0 p.1 h
+    go false e g = holds-push_other k xs _ (λ m. q (set n y f m)) e
+        (holds-set k xs q f n y (same_bools (q (f n)) (q y) g) h)
+holds-moved k (Pops j i) xs ys q f n y moved fits h = go (same_kind j k) refl fits
+  where
+    go : (own : Bool) → same_kind j k ≡ own → (if own then (i == n) && not (q y) else beq (q (f n)) (q y)) ≡ true
+        → Holds k ys (λ m. q (set n y f m))
+    go true e g = holds-pop k xs ys _ q f n y moved e (eqb-true i n (and_left (i == n) (not (q y)) g))
+        (not-true (q y) (and_right (i == n) (not (q y)) g)) h
+    go false e g = holds-set k ys q f n y (same_bools (q (f n)) (q y) g)
+        (holds-pop_other k xs ys (packet j i) (λ m. q (f m)) moved e h)
+
+-- a kind that doesn't move
+abbrev pub spares : Move → Kind → Bool
+spares Stays k = true
+spares (Pushes j i) k = not (same_kind j k)
+spares (Pops j i) k = not (same_kind j k)
+
+pub spared-agrees : (m : Move) (k : Kind) (n : ℕ) (a : Bool) → spares m k ≡ true → agrees m k n a a ≡ true
+spared-agrees m k n a e = grind (arith, same_again, not-true)
+
+pub holds-spared : (k : Kind) (move : Move) (xs ys : List Packet) (test : ℕ → Bool) → IsMoved move xs ys
+    → spares move k ≡ true → Holds k xs test → Holds k ys test
+holds-spared k Stays xs ys test moved fits h = rw moved h
+holds-spared k (Pushes j i) xs ys test moved fits h =
+    rw moved (holds-push_other k xs (packet j i) test (not-true (same_kind j k) fits) h)
+holds-spared k (Pops j i) xs ys test moved fits h =
+    holds-pop_other k xs ys _ test moved (not-true (same_kind j k) fits) h
+
+pub on_is : (k : Kind) (l : Link) → on k l ≡ packets_on (channel_for k) l
+on_is k l = grind arith
+
+-- the kind is one of its channel alone
+pub kind_channel : (ch : Channel) (k : Kind) → is_on ch k ≡ true → channel_for k ≡ ch
+kind_channel ch k e = grind arith
+
+pub on_same : (ch : Channel) (k : Kind) (l : Link) → is_on ch k ≡ true → on k l ≡ packets_on ch l
+on_same ch k l own = on_is k l ∙ ap (λ i. packets_on i l) (kind_channel ch k own)
+
+-- all transfers of a client after the moves of its link, where one block changes
+pub transfers-moved : {X : Type 0} (moves : Channel → Move) (l m : Link) (d n : ℕ) (b : Block X) (block : ℕ → Block X)
+    → AreMoved moves l m → ((k : Kind) → is_transfer k ≡ true → agrees (moves (channel_for k)) k n (shown k d (block n))
+    (shown k d b) ≡ true) → ((k : Kind) → is_transfer k ≡ true → Holds k (on k l) (λ i. shown k d (block i)))
+    → (k : Kind) → is_transfer k ≡ true → Holds k (on k m) (λ i. shown k d (set n b block i))
+transfers-moved moves l m d n b block moved fits h k t =
+    rw (on_is k m) (holds-moved k (moves (channel_for k)) (packets_on (channel_for k) l) (packets_on (channel_for k) m)
+    (shown k d) block n b (moved (channel_for k)) (fits k t) (rw (on_is k l) at (h k t)))
+
+pub kind_is : (k j : Kind) → same_kind k j ≡ true → k ≡ j
+kind_is k j e = grind arith
+
+-- a kind that isn't one of the channel isn't one that is
+kinds_apart : (ch : Channel) (k j : Kind) → is_on ch k ≡ true → is_on ch j ≡ false → same_kind k j ≡ false
+kinds_apart ch k j e f = grind (arith, kind_is)
+
+-- a channel has tokens of its own kinds after its move
+pub own_kinds-moved : (ch : Channel) (move : Move) (xs ys : List Packet) (k : Kind) (i : ℕ) → is_own_move ch move ≡ true
+    → IsMoved move xs ys → is_on ch k ≡ false → count k i xs ≡ 0 → count k i ys ≡ 0
+own_kinds-moved ch Stays xs ys k i own moved off none = rw moved none
+own_kinds-moved ch (Pushes j n) xs ys k i own moved off none =
+    rw moved (none-push k i xs (packet j n) (kinds_apart ch j k own off) none)
+own_kinds-moved ch (Pops j n) xs ys k i own moved off none = none-pop k i xs ys _ moved none
+
+pub ordered-moved : (move : Move) (m : ℕ) (xs ys : List Packet) → IsMoved move xs ys
+    → ((n : ℕ) → move ≡ Pushes ProbeAck n → count Release n xs ≡ 0) → IsOrdered m xs → IsOrdered m ys
+ordered-moved Stays m xs ys moved order h = rw moved h
+ordered-moved (Pops j n) m xs ys moved order h = ordered-pop m xs ys _ moved h
+ordered-moved (Pushes ProbeAck n) m xs ys moved order h = rw moved (go (cases_eq m n))
+  where
+    go : (m ≡ n) ⊎ (m ≡ n → ⊥) → IsOrdered m (xs ++ packet ProbeAck n ∷ [])
+    go (inl same) = ordered-push_report m xs (packet ProbeAck n) (rw same (order n refl)) h
+    go (inr other) = ordered-push_other m xs _ (ne_eqb m n other) h
+ordered-moved (Pushes k n) m xs ys moved order h = rw moved (ordered-push_other m xs (packet k n) refl h)
 
 -- ---- the whole invariant
 
@@ -96,14 +194,12 @@ invariant-moved_with : {X : Type 0} {caching : ℕ → Bool} {n : ℕ} {b : Bloc
     → IsInvariant caching (record { block = set n b s.block; link = link; uses = uses; lets = lets; tracked = tracked })
 invariant-moved_with {caching} {n} {b} {link} {moves} uses lets tracked {s} inv event requests answers named = record {
   blocks = set-each (λ m. IsWell caching) n b s.block event.well (λ m other. inv.blocks m);
-  transfers = λ d. transfers-moved (moves d) (s.link d) (link d) d n b s.block (event.moved d) (event.fits d)
-      (inv.transfers d);
+  transfers = λ d. transfers-moved (moves d) _ (link d) d n b s.block (event.moved d) (event.fits d) (inv.transfers d);
   requests = requests;
   answers = answers;
-  own_kinds = λ d ch k i off. own_kinds-moved ch (moves d ch) (packets_on ch (s.link d)) (packets_on ch (link d)) k i
+  own_kinds = λ d ch k i off. own_kinds-moved ch _ _ _ k i
       (event.own d ch) (event.moved d ch) off (inv.own_kinds d ch k i off);
-  ordered = λ d m. ordered-moved (moves d Channel.C) m (s.link d).c (link d).c (event.moved d Channel.C)
-      (event.in_order d) (inv.ordered d m);
+  ordered = λ d m. ordered-moved _ m _ _ (event.moved d Channel.C) (event.in_order d) (inv.ordered d m);
   named = named;
 }
 
@@ -114,11 +210,10 @@ pub invariant-moved : {X : Type 0} {caching : ℕ → Bool} {n : ℕ} {b : Block
     → ((d : ℕ) → (spares (moves d Channel.A) Request ≡ true) × (spares (moves d Channel.D) Answer ≡ true))
     → AreNamed (record s { block = set n b s.block; link = link; lets = lets; tracked = tracked })
     → IsInvariant caching (record s { block = set n b s.block; link = link; lets = lets; tracked = tracked })
-invariant-moved {link} {moves} lets tracked {s} inv event bare named =
-    invariant-moved_with s.uses lets tracked inv event (λ d. holds-spared Request (moves d Channel.A) (s.link d).a
-    (link d).a (λ m. is_asked (s.uses d m)) (event.moved d Channel.A) (bare d).0 (inv.requests d))
-    (λ d. holds-spared Answer (moves d Channel.D) (s.link d).d (link d).d (λ m. is_replied (s.uses d m))
-    (event.moved d Channel.D) (bare d).1 (inv.answers d)) named
+invariant-moved {link} {moves} lets tracked {s} inv event bare named = invariant-moved_with s.uses lets tracked
+    inv event (λ d. holds-spared Request _ _ _ (λ m. is_asked (s.uses d m)) (event.moved d Channel.A) (bare d).0
+    (inv.requests d)) (λ d. holds-spared Answer _ _ _ (λ m. is_replied (s.uses d m)) (event.moved d Channel.D)
+    (bare d).1 (inv.answers d)) named
 
 -- and by every event that changes the use of a source of client c
 pub invariant-moved_use : {X : Type 0} {caching : ℕ → Bool} {n : ℕ} {b : Block X} {link : ℕ → Link} {moves : ℕ → Channel
@@ -134,12 +229,11 @@ pub invariant-moved_use : {X : Type 0} {caching : ℕ → Bool} {n : ℕ} {b : B
       uses = set_at c source u s.uses;
       tracked = tracked;
     })
-invariant-moved_use {caching} {n} {b} {link} {moves} c source u tracked {s} inv event asked replied bare named =
-    invariant-moved_with (set_at c source u s.uses) s.lets tracked inv event
-    (holds-set_at Request (λ d. moves d Channel.A) (λ d. (s.link d).a) (λ d. (link d).a) is_asked s.uses c source u
-    (λ d. event.moved d Channel.A) asked (λ d ne. (bare d ne).0) inv.requests)
-    (holds-set_at Answer (λ d. moves d Channel.D) (λ d. (s.link d).d) (λ d. (link d).d) is_replied s.uses c source u
-    (λ d. event.moved d Channel.D) replied (λ d ne. (bare d ne).1) inv.answers) named
+invariant-moved_use {link} {moves} c source u tracked {s} inv event asked replied bare named = invariant-moved_with
+    (set_at c source u s.uses) s.lets tracked inv event (holds-set_at Request (λ d. moves d Channel.A)
+    (λ d. (s.link d).a) (λ d. (link d).a) is_asked s.uses c source u (λ d. event.moved d Channel.A) asked (λ d ne.
+    (bare d ne).0) inv.requests) (holds-set_at Answer (λ d. moves d Channel.D) (λ d. (s.link d).d) (λ d. (link d).d)
+    is_replied s.uses c source u (λ d. event.moved d Channel.D) replied (λ d ne. (bare d ne).1) inv.answers) named
 
 -- ---- events at one client
 
@@ -184,19 +278,19 @@ event-at {c} {n} {b} {l} {moves} {s} event = record {
     | inl same ↦ rw same (moved_as (moves_at c moves c ch) (moves ch) (packets_on ch (s.link c))
         (packets_on ch (set c l s.link c)) (packets_on ch l)
         (moves-here c moves ch) (ap (packets_on ch) (set-same c l s.link)) (event.moved ch))
-    | inr ne ↦ moved_as (moves_at c moves d ch) Stays (packets_on ch (s.link d)) (packets_on ch (set c l s.link d))
-        (packets_on ch (s.link d)) (moves-there c d moves ch ne) (ap (packets_on ch) (set-other c d l s.link ne)) refl
+    | inr ne ↦ moved_as _ Stays (packets_on ch (s.link d)) _
+        _ (moves-there c d moves ch ne) (ap (packets_on ch) (set-other c d l s.link ne)) refl
   ];
   own = λ d ch. own ch (d == c);
   fits = λ d k t. elim (cases_eq d c) [
     | inl same ↦ rw same (agrees_as k n (moves_at c moves c (channel_for k)) (moves (channel_for k))
         (shown k c (s.block n)) (shown k c b) (moves-here c moves (channel_for k)) (event.fits k t))
-    | inr ne ↦ agrees_still k n (moves_at c moves d (channel_for k)) (shown k d (s.block n)) (shown k d b)
+    | inr ne ↦ agrees_still k n _ (shown k d (s.block n)) (shown k d b)
         (moves-there c d moves (channel_for k) ne) (event.others d ne k t)
   ];
   in_order = λ d m e. elim (cases_eq d c) [
     | inl same ↦ rw same (event.in_order m (sym (moves-here c moves Channel.C) ∙ (rw same at e)))
-    | inr ne ↦ never_pushed (moves_at c moves d Channel.C) m (moves-there c d moves Channel.C ne) e
+    | inr ne ↦ never_pushed _ m (moves-there c d moves Channel.C ne) e
   ];
 }
   where
@@ -265,12 +359,12 @@ invariant-moved_access {c} {source} {u} {l} {moves} {s} inv event = record {
   ];
   ordered = λ d m. elim (cases_eq d c) [
     | inl same ↦ rw (same, set-same c l s.link) (ordered-moved (moves Channel.C) m (s.link c).c l.c
-        (event.moved Channel.C) (λ n e. never_pushed (moves Channel.C) n event.still e) (inv.ordered c m))
+        (event.moved Channel.C) (λ n e. never_pushed _ n event.still e) (inv.ordered c m))
     | inr other ↦ rw (set-other c d l s.link other) (inv.ordered d m)
   ];
   named = record {
-    acquires = names-use acquires_of acquires_with c source u s.uses s.block event.acquires inv.named.acquires;
-    serves = names-use serves_of serves_with c source u s.uses s.block event.serves inv.named.serves;
+    acquires = names-use acquires_of acquires_with c _ u s.uses s.block event.acquires inv.named.acquires;
+    serves = names-use serves_of serves_with c _ u s.uses s.block event.serves inv.named.serves;
     releases = inv.named.releases;
     trackers = inv.named.trackers;
   };
@@ -282,6 +376,6 @@ invariant-moved_access {c} {source} {u} {l} {moves} {s} inv event = record {
       | inl same ↦ rw same (moved_as (moves_at c moves c ch) (moves ch) (packets_on ch (s.link c))
           (packets_on ch (set c l s.link c)) (packets_on ch l)
           (moves-here c moves ch) (ap (packets_on ch) (set-same c l s.link)) (event.moved ch))
-      | inr ne ↦ moved_as (moves_at c moves d ch) Stays (packets_on ch (s.link d)) (packets_on ch (set c l s.link d))
-          (packets_on ch (s.link d)) (moves-there c d moves ch ne) (ap (packets_on ch) (set-other c d l s.link ne)) refl
+      | inr ne ↦ moved_as _ Stays (packets_on ch (s.link d)) _
+          _ (moves-there c d moves ch ne) (ap (packets_on ch) (set-other c d l s.link ne)) refl
     ]

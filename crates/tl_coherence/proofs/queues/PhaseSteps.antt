@@ -144,7 +144,7 @@ serve_all = refl
 pub serve-ok : (whole : Bool) (g : Grow) (p : ClientBlock) (v : View) → ok p v ≡ true → v ≡ Idle
     → p.acquiring ≡ AcquireOpen whole g → ok p Own ≡ true
 unfolding serve_test
-serve-ok whole g p v h idle wants = wants_is p.acquiring (λ w j. ok p Own) whole g wants
+serve-ok whole g p v h idle wants = wants_is _ (λ w j. ok p Own) whole g wants
     (idle_is v (on_wants p.acquiring (λ w j. ok p Own)) idle (of_phase serve_test serve_all p v h))
 
 -- another request is taken, which probes with this cap
@@ -233,7 +233,7 @@ pub report-ok : (r : Report) (p : ClientBlock) (v : View) → ok p v ≡ true �
     × (ok (after_report r p) GrantedOther ≡ true)
 unfolding report_test
 report-ok r p v h answered =
-    let t = answered_is p.probing (λ j. ok (after_report j p) v && (ok (after_report j p) Idle && ok
+    let t = answered_is _ (λ j. ok (after_report j p) v && (ok (after_report j p) Idle && ok
     (after_report j p) GrantedOther)) r answered (of_phase report_test report_all p v h) in
     let u = and_right (ok (after_report r p) v) (ok (after_report r p) Idle && ok (after_report r p) GrantedOther) t in
     let fact =
@@ -327,6 +327,6 @@ pub ended-ok : (k : Cap) (p : ClientBlock) (v : View) → ok p v ≡ true → v 
     → (ok p Idle ≡ true) × (ok p GrantedOther ≡ true)
 unfolding ended_test
 ended-ok k p v h other quiet =
-    let t = quiet_is p.probing (ok p Idle && ok p GrantedOther) quiet (other_is v
+    let t = quiet_is _ (ok p Idle && ok p GrantedOther) quiet (other_is v
     (λ j. on_quiet p.probing (ok p Idle && ok p GrantedOther)) k other (of_phase ended_test ended_all p v h)) in
     (and_left (ok p Idle) (ok p GrantedOther) t, and_right (ok p Idle) (ok p GrantedOther) t)

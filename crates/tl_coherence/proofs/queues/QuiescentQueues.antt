@@ -46,15 +46,14 @@ pub nothing-moves : {w : ℕ} (config : Config) (s : System w) (c : ℕ) (terms 
     → terms_at config c ≡ Some terms → next_delivery config s ≡ None → is_movable config c ch s ≡ false
 unfolding next_delivery
 nothing-moves config s c terms ch is none =
-    let e = none-both (movable_on config Channel.E s) _ none in
-    let d = none-both (movable_on config Channel.D s) _ e.1 in
-    let c_and = none-both (movable_on config Channel.C s) _ d.1 in
-    let b_and = none-both (movable_on config Channel.B s) _ c_and.1 in
+    let e = none-both _ _ none in
+    let d = none-both _ _ e.1 in
+    let c_and = none-both _ _ d.1 in
+    let b_and = none-both _ _ c_and.1 in
     go ch e.0 d.0 c_and.0 b_and.0 b_and.1
   where
     on : (x : Channel) → movable_on config x s ≡ None → is_movable config c x s ≡ false
-    on x h = none-first config x 0 (length config.clients.items) s h c (omega arith) (let below =
-        client_below config c terms is in omega (arith, below))
+    on x h = none-first _ x 0 _ s h c (omega arith) (let below = client_below config c terms is in omega (arith, below))
 
     go : (x : Channel) → movable_on config Channel.E s ≡ None → movable_on config Channel.D s ≡ None
         → movable_on config Channel.C s ≡ None → movable_on config Channel.B s ≡ None

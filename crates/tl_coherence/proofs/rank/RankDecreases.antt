@@ -1,11 +1,11 @@
 -- The potential falls where what is owed falls at one client and rises nowhere.
 use Rattle.std.proofs.Common.{◌≡◌, ℕ, zero, suc, ◌+◌, ◌<◌, ◌≤◌, true, refl, arith, ◌⊎◌, inl, inr, length}
 use Rattle.tl_coherence.proofs
-use proofs.Imports.{cases_eq, Config, Left, pair_weight, probes_weight, acquire_weight, let_weight, rank, use_weight}
-use proofs.Imports.{client_weight, Request, Acquire, Answer, Grant, View, State, SourceState, SourceFree}
-use proofs.Imports.{Asked, InService, Replied, Acquires, view, is_unserved, sources_of, terms_at}
+use proofs.Imports.{cases_eq, Config, Left, acquire_weight, client_weight, let_weight, pair_weight, probes_weight, rank}
+use proofs.Imports.{use_weight, Acquire, Answer, Grant, Request, View, Acquires, Asked, InService, Replied, SourceFree}
+use proofs.Imports.{SourceState, State, view, is_unserved, sources_of, terms_at}
 use Rattle.tl_coherence.specs.bound.Rank.{total}
-use proofs.queues.Sums.{total-le}
+use proofs.queues.Tokens.{total-le}
 
 -- one summand falls by k, and the others don't rise
 pub total-falls : (n m k : ℕ) (f g : ℕ → ℕ) → m < n → ((i : ℕ) → i < n → g i ≤ f i) → g m + k ≤ f m
@@ -69,8 +69,7 @@ module _ {X : Type 0} (config : Config) (n : ℕ) (left left' : Left) (answer an
   pub use-falls : (c i : ℕ) → c < clients → i < sources_of (terms_at config c) → IsNoMore
       → owed_use' c i + 1 ≤ owed_use c i → rank config n left' answer' s' + 1 ≤ rank config n left answer s
   use-falls c i lt below is less =
-      let uses = total-falls (sources_of (terms_at config c)) i 1 (owed_use c) (owed_use' c) below (λ j h. is.uses c j)
-      less in
+      let uses = total-falls _ i 1 (owed_use c) (owed_use' c) below (λ j h. is.uses c j) less in
       let lets = total-le (sources_of (terms_at config c)) (owed_let' c) (owed_let c) (λ j h. is.lets c j) in
       falls c lt (no-more-client is) (omega (arith, uses, lets, is.acks c))
 
@@ -79,8 +78,7 @@ module _ {X : Type 0} (config : Config) (n : ℕ) (left left' : Left) (answer an
       → owed_let' c i + 1 ≤ owed_let c i → rank config n left' answer' s' + 1 ≤ rank config n left answer s
   let-falls c i lt below is less =
       let uses = total-le (sources_of (terms_at config c)) (owed_use' c) (owed_use c) (λ j h. is.uses c j) in
-      let lets = total-falls (sources_of (terms_at config c)) i 1 (owed_let c) (owed_let' c) below (λ j h. is.lets c j)
-      less in
+      let lets = total-falls _ i 1 (owed_let c) (owed_let' c) below (λ j h. is.lets c j) less in
       falls c lt (no-more-client is) (omega (arith, uses, lets, is.acks c))
 
   -- a GrantAck is taken
@@ -102,8 +100,7 @@ module _ {X : Type 0} (config : Config) (n : ℕ) (left left' : Left) (answer an
       here : client_weight clients n left' answer' s' (sources_of (terms_at config c)) c + 1 ≤ client_weight clients n
           left answer s (sources_of (terms_at config c)) c
       here =
-          let u = total-falls (sources_of (terms_at config c)) i 2 (owed_use c) (owed_use' c) below (λ j h. uses c j)
-          less in
+          let u = total-falls _ i 2 (owed_use c) (owed_use' c) below (λ j h. uses c j) less in
           omega (arith, u, total-le (sources_of (terms_at config c)) (owed_let' c) (owed_let c) (λ j h. lets c j), more)
 
       each : (d : ℕ) → (d ≡ c) ⊎ (d ≡ c → ⊥) → client_weight clients n left' answer' s' (sources_of (terms_at config d))

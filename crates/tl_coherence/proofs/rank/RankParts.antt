@@ -1,17 +1,17 @@
 -- What is owed falls with each delivery: block by block.
-use Rattle.std.proofs.Common.{◌≡◌, ℕ, ◌+◌, ◌<◌, ◌≤◌, Bool, true, false, List, refl, sym, ◌∙◌, ap, arith, ◌⊎◌, inl, inr}
-use Rattle.std.proofs.Common.{Some, length, eqb-true, if◌then◌else◌}
+use Rattle.std.proofs.Common.{◌≡◌, ℕ, ◌+◌, ◌<◌, ◌≤◌, Bool, true, false, if◌then◌else◌, List, Some, refl, sym, ◌∙◌, ap}
+use Rattle.std.proofs.Common.{arith, ◌⊎◌, inl, inr, length, eqb-true}
 use Rattle.tl_coherence.proofs
-use proofs.Imports.{cases_eq, Config, Cap, Left, pair_weight, probes_weight, letting_weight, IsInvariant, serves_of}
-use proofs.Imports.{serves_with, Release, Own, is_unprobed, State, SourceState}
-use proofs.Imports.{SourceFree, InService, Acquires, view, Service, Waits, AccessMessages}
-use proofs.rank.Frames.{Taking, Falls, AreAsBefore, AreElsewhere, AreNoMore, use-stays, let-all, IsBlockNoMore}
-use proofs.rank.Frames.{acquire-stays, let-stays, pair-stays, wants-used}
-use proofs.protocol.{TokenNames.source_of_acquire, BeatsRemaining.beats_left, QuiescentProtocol.owns_ask}
-use proofs.protocol.{QuiescentProtocol.serves_another}
-use proofs.queues.{Sums.total-le, Tokens.same_number, Facts.is_other}
+use proofs.Imports.{cases_eq, Config, Cap, Left, letting_weight, pair_weight, probes_weight, IsInvariant, serves_of}
+use proofs.Imports.{serves_with, Release, Own, is_unprobed, Acquires, InService, Service, SourceFree, SourceState}
+use proofs.Imports.{State, Waits, view, AccessMessages}
 use proofs.rank.RankDecreases.{IsNoMore, owed_use, owed_use', owed_let, owed_let', clients, use-falls, let-falls}
 use proofs.rank.RankDecreases.{ack-falls, grant-falls, total-falls}
+use proofs.rank.Frames.{Taking, Falls, AreAsBefore, AreElsewhere, AreNoMore, use-stays, let-all, IsBlockNoMore}
+use proofs.rank.Frames.{acquire-stays, let-stays, pair-stays, wants-used}
+use proofs.protocol.{Capacities.source_of_acquire, BeatsRemaining.beats_left}
+use proofs.protocol.GrantedAll.{owns_ask, serves_another}
+use proofs.queues.{Tokens.total-le, Tokens.same_number, Facts.is_other}
 
 -- the access for which a block waits
 pub serving-use : {X : Type 0} {caching : ℕ → Bool} {s : State X} (n q source : ℕ) (k : Cap) → IsInvariant caching s
@@ -29,14 +29,14 @@ pub record IsAsking {X : Type 0} (n q : ℕ) (own : Bool) (source : ℕ) (s : St
 
 pub asking : {X : Type 0} {caching : ℕ → Bool} {s : State X} (n q : ℕ) (own : Bool) (source : ℕ) (k : Cap)
     → IsInvariant caching s → (s.block n).service ≡ Waits q own source k → IsAsking n q own source s
-asking {caching} {s} n q true source k inv e =
+asking {s} n q true source k inv e =
     let viewed : view (s.block n).service q ≡ Own = rw (e, same_number q) refl in
     record {
       at = (s.block n).source q;
       used = source_of_acquire q n inv (owns_ask ((s.block n).pair q) (view (s.block n).service q)
           ((inv.blocks n).phases q) (rw viewed refl));
     }
-asking {caching} {s} n q false source k inv e = record { at = source; used = serving-use n q source k inv e }
+asking n q false source k inv e = record { at = source; used = serving-use n q source k inv e }
 
 pub open_use : (own : Bool) (n : ℕ) (u : SourceState) → u ≡ (if own then Acquires n else InService n) → u ≡ SourceFree
     → ⊥
@@ -82,7 +82,7 @@ module _ {w : ℕ} {config : Config} {mail mail' : AccessMessages w} {s s' : Sta
       block = record {
         serves = λ d i e f. no_more;
         acquires = λ d i e f. acquire-stays taking d n
-            (wants-used showing.before d i n e) (acquiring d) (ap (λ (x : Service). view x d) served) no_more;
+            (wants-used showing.before d i n e) (acquiring d) (ap (λ x. view x d) served) no_more;
         lets = λ d i e f. letting d i e;
       }
 
@@ -109,7 +109,7 @@ waited service c e = grind arith
 
 pub waited-probing : {X : Type 0} {caching : ℕ → Bool} {s : State X} (c n : ℕ) → IsInvariant caching s
     → is_unprobed ((s.block n).pair c).probing ≡ false → IsWaited (s.block n).service
-waited-probing {s} c n inv probed = waited (s.block n).service c
+waited-probing {s} c n inv probed = waited _ c
     (serves_another ((s.block n).pair c) (view (s.block n).service c) ((inv.blocks n).phases c) probed)
 
 -- ---- a Probe is taken, or a report that isn't the last one missing
@@ -131,12 +131,10 @@ module _ {w : ℕ} {config : Config} {mail mail' : AccessMessages w} {s s' : Sta
       let let_as : (d : ℕ) → (d ≡ c) ⊎ (d ≡ c → ⊥) → ((s'.block n).pair d).letting ≡ ((s.block n).pair d).letting =
       λ d. elim [ inl same ↦ rw same letting | inr differs ↦ rw (others d differs) refl ] in
       let who : IsWaited (s.block n).service = waited-probing c n showing.before probed in
-      service-falls taking who.client
-      who.own who.source who.cap who.is served uses lets acks
-      (λ d. wanted d (cases_eq d c)) (λ d i e. let-stays taking d n (let_as d (cases_eq d c)))
-      (total-falls (length config.clients.items) c 1 (λ d. pair_weight size (beats_left mail s rest) n d
-      ((s.block n).pair d)) (λ d. pair_weight size (beats_left mail' s' rest') n d ((s'.block n).pair d)) lt
-      (λ d h. each d (cases_eq d c)) less)
+      service-falls taking who.client who.own _ who.cap who.is served uses lets acks (λ d. wanted d (cases_eq d c))
+      (λ d i e. let-stays taking d n (let_as d (cases_eq d c))) (total-falls (length config.clients.items)
+      c 1 (λ d. pair_weight size (beats_left mail s rest) n d ((s.block n).pair d)) (λ d. pair_weight size
+      (beats_left mail' s' rest') n d ((s'.block n).pair d)) lt (λ d h. each d (cases_eq d c)) less)
     where
       each : (d : ℕ) → (d ≡ c) ⊎ (d ≡ c → ⊥) → pair_weight size (beats_left mail' s' rest') n d
           ((s'.block n).pair d) ≤ pair_weight size (beats_left mail s rest) n d ((s.block n).pair d)
@@ -214,9 +212,8 @@ module _ {w : ℕ} {config : Config} {mail mail' : AccessMessages w} {s s' : Sta
     pub acknowledged-falls : (q : ℕ) → q < length config.clients.items → AreAsBefore s'.uses s.uses
         → AreAsBefore s'.lets s.lets → AreNoMore s'.link s.link
         → length (s'.link q).e + 1 ≤ length (s.link q).e → Falls taking
-    acknowledged-falls q lt uses lets acks less =
-        ack-falls config size (beats_left mail s rest) (beats_left mail' s' rest') answer answer s s' q lt
-        (record { uses = uses-same uses; lets = lets-same lets; acks = acks }) less
+    acknowledged-falls q lt uses lets acks less = ack-falls config size (beats_left mail s rest) (beats_left mail' s'
+        rest') answer answer s s' q lt (record { uses = uses-same uses; lets = lets-same lets; acks = acks }) less
 
     -- a Grant is taken
     pub granted-falls : (q j : ℕ) → (s.uses q j ≡ SourceFree → ⊥) → AreElsewhere q j s'.uses s.uses

@@ -1,16 +1,16 @@
 -- What is owed for each open request is at most 33 beats and those of a block, for each Release one
 -- and those of a block.
-use Rattle.std.proofs.Common.{◌≡◌, ℕ, zero, suc, ◌+◌, ◌*◌, ◌<◌, ◌≤◌, Bool, true, false, refl, arith, ◌⊎◌, inl, inr, not}
-use Rattle.std.proofs.Common.{◌&&◌, Option, length, ne_eqb, ◌==◌, if◌then◌else◌}
+use Rattle.std.proofs.Common.{◌≡◌, ℕ, zero, suc, ◌+◌, ◌*◌, ◌<◌, ◌≤◌, Bool, true, false, not, ◌&&◌, ◌==◌, if◌then◌else◌}
+use Rattle.std.proofs.Common.{Option, refl, arith, ◌⊎◌, inl, inr, length, ne_eqb}
 use Rattle.tl_coherence.proofs
-use proofs.Imports.{cases_eq, Config, Perm, same_perm, one_if, Left, pair_weight, probes_weight, acquire_weight}
-use proofs.Imports.{letting_weight, let_weight, rank, probing_weight, use_weight, client_weight, is_used, is_let}
-use proofs.Imports.{open_requests, open_releases, IsInvariant, Request, Acquire, ProbeAck, Answer, Grant, Kind, View}
-use proofs.Imports.{ProbePhase, ReleasePhase, is_unprobed, State, SourceState, SourceFree, Asked, InService, Replied}
-use proofs.Imports.{Acquires, view, some_below, sources_of, terms_at}
-use Rattle.tl_coherence.{specs.bound.Rank.total}
+use proofs.Imports.{cases_eq, Config, Perm, same_perm, one_if, Left, acquire_weight, client_weight, is_let, is_used}
+use proofs.Imports.{let_weight, letting_weight, open_releases, open_requests, pair_weight, probes_weight}
+use proofs.Imports.{probing_weight, rank, use_weight, IsInvariant, Acquire, Answer, Grant, Kind, ProbeAck, Request}
+use proofs.Imports.{ProbePhase, ReleasePhase, View, is_unprobed, Acquires, Asked, InService, Replied, SourceFree}
+use proofs.Imports.{SourceState, State, view, some_below, sources_of, terms_at}
+use Rattle.tl_coherence.specs.bound.Rank.{total}
 use proofs.protocol.RequestsKept.{some-none, some-one}
-use proofs.queues.{Sums.total-le, Sums.total-const, Sums.probes-light, Sums.one-at-most, Tokens.same_number}
+use proofs.queues.Tokens.{total-le, total-const, probes-light, one-at-most, same_number}
 
 -- what is left of a message is no more than it has: a block has n beats, an Acquire one, a report from one who isn't
 -- recorded as the writer one, and an access and its answer one more than a block together
@@ -92,7 +92,7 @@ module _ {X : Type 0} {caching : ℕ → Bool} {s : State X} (inv : IsInvariant 
               → pair_weight n left m d ((s.block m).pair d) ≤ 2
           each d b e f = grind (arith, quiet-pair, neither)
       go true found =
-          let d = some-one clients (writes_probed m) found in
+          let d = some-one _ (writes_probed m) found in
           let parts = both _ _ d.1 in
           alone d.0 parts.1 parts.0
         where
@@ -111,7 +111,7 @@ module _ {X : Type 0} {caching : ℕ → Bool} {s : State X} (inv : IsInvariant 
               at i (inl e) = rw (e, same_number d) (heavy-pair n (left d ProbeAck m) ((s.block m).pair d).recorded
                   ((s.block m).pair d).probing (is.few d ProbeAck m) some)
               at i (inr ne) =
-                  let z = quiet-pair n (left i ProbeAck m) ((s.block m).pair i).recorded ((s.block m).pair i).probing
+                  let z = quiet-pair n (left i ProbeAck m) ((s.block m).pair i).recorded _
                   ((inv.blocks m).alone d i trunk probed ne) in
                   rw (ne_eqb i d ne) (omega (arith, z))
 
@@ -140,12 +140,11 @@ module _ {X : Type 0} {caching : ℕ → Bool} {s : State X} (inv : IsInvariant 
   use-few : (c source : ℕ) (u : SourceState) → s.uses c source ≡ u
       → use_weight clients n left answer s c source u ≤ (n + 33) * one_if (is_used u)
   use-few c source SourceFree e = omega arith
-  use-few c source Asked e = let few = is.accesses c source e in omega (arith, few)
+  use-few c source Asked e = let few = is.accesses c _ e in omega (arith, few)
   use-few c source (InService m) e = let a = is.answers c source in let p = probes-few m in omega (arith, a, p)
   use-few c source Replied e = let a = is.few c Answer source in omega (arith, a)
   use-few c source (Acquires m) e =
-      let all = acquire-few (left c Acquire m) (left c Grant m) (probes_weight clients n left m (s.block m))
-      (view (s.block m).service c) (is.acquires c m) (is.few c Grant m) (probes-few m) in
+      let all = acquire-few _ _ _ (view (s.block m).service c) (is.acquires c m) (is.few c Grant m) (probes-few m) in
       omega (arith, all)
 
   letting-few : (l : ℕ) (x : ReleasePhase) → l ≤ n → letting_weight l x ≤ n + 1

@@ -1,23 +1,35 @@
 -- Each beat on a channel is sound, and has the lanes of its width: of those that stay, and of those
 -- that are handed out.
-use Rattle.std.proofs.Common.{◌≡◌, ℕ, zero, suc, ◌+◌, ◌<◌, Bool, true, false, ◌&&◌, ◌||◌, List, [], ◌∷◌, ◌++◌, Option}
-use Rattle.std.proofs.Common.{Some, None, refl, ◌∙◌, inl, inr, arith, length, ne_eqb, ◌==◌, if◌then◌else◌, All}
-use Rattle.std.proofs.Common.{nat_le, Result, Ok, Err}
-use Rattle.tl_coherence.proofs
-use proofs.Imports.{cases_eq, All-nil, All-cons, All-append, ⊤, Beat, BeatD, Channel, OpB, OpD, IsWidth, Message}
-use proofs.Imports.{beats_of, beat_of, unfinished, channel_of, Config, Level, Prune, Report, Perm, Rule}
-use proofs.Imports.{legal_beat, is_outside, is_spoiled, payload_of, block_at, ends, request_of, beats_from}
-use proofs.Imports.{NotBusy, asked-cases, same_block, Op, Finish, Verdict, done, store, free_release, source_or_0}
-use proofs.Imports.{EndConfig, Endpoint, copy_at, held_at, with_past, Offered, taken, ended, responded, silent}
-use proofs.Imports.{report_for, release, probe_ack, IsHandable, Each, Handed, level_of, AreLanes, IsTypedOp, System}
-use proofs.Imports.{same_channel, channel_of_message, terms_at, with_channel, with_messages, with_message}
+-- Each beat on a channel is sound and has its lanes, after every event.
+use Rattle.std.proofs.Common.{◌≡◌, ℕ, zero, suc, ◌+◌, ◌<◌, Bool, true, false, ◌&&◌, ◌||◌, ◌==◌, if◌then◌else◌, List, []}
+use Rattle.std.proofs.Common.{◌∷◌, ◌++◌, Option, Some, None, Result, Ok, Err, refl, ◌∙◌, ap, subst, arith, inl, inr}
+use Rattle.std.proofs.Common.{length, ne_eqb, All, nat_le, unwrap_or, is_some}
 use Rattle.std.proofs.lemmas.List.Elements.{All-rest}
+use Rattle.tl_coherence.proofs
+use proofs.Imports.{cases_eq, All-append, All-cons, All-head, All-nil, ⊤, Beat, BeatD, Link, Channel, OpB, OpD, IsWidth}
+use proofs.Imports.{Message, MessageA, beat_of, beats_of, channel_of, unfinished, Config, Level, Prune, Report, Perm}
+use proofs.Imports.{Rule, legal_beat, is_outside, is_spoiled, payload_of, same_perm, block_at, ends, request_of}
+use proofs.Imports.{beats_from, NotBusy, asked-cases, same_block, Op, Finish, Verdict, done, free_release, source_or_0}
+use proofs.Imports.{store, EndConfig, Endpoint, copy_at, held_at, with_past, zeros, Offered, ended, report_for}
+use proofs.Imports.{responded, silent, taken, probe_ack, release, reaction_handable, IsHandable, Each, Handed, level_of}
+use proofs.Imports.{Event, Ask, Deliver, State, AccessMessages, AreLanes, SimulationRelation, IsTyped, IsTypedOp, Log}
+use proofs.Imports.{client_of, client_took, delivered, handed_by, is_to_client, judged, manager_took, stepped_at}
+use proofs.Imports.{stepped, System, channel_of_message, same_channel, terms_at, with_channel, with_client}
+use proofs.Imports.{with_manager, with_message, with_messages}
+use Rattle.tl_client.proofs.messages.Sound.{asked-sound, offered-sound}
+use Rattle.tl_client.specs.laws.Sound.{IsSoundIfAny, IsSoundAnswer, IsSound, corrupt_in}
+use Rattle.tl_client.specs.statement.Ask.{asked, load}
+use Rattle.tl_client.proofs.endpoint.Cases.{offered-cases, probe_ack-cases}
+use Rattle.tl_client.specs.statement.Ask as ask
+use Rattle.tl_client.specs.statement.Endpoint as client
+use Rattle.tl_client.specs.statement.Offer as offer
+use Rattle.tl_manager.specs.code.Kept as manager
+use Rattle.tl_manager.specs.statement.Reaction as manager_reaction
+use Rattle.tl_manager.specs.statement.End as manager_end
+use Rattle.tl_manager.specs.statement.Offer as manager_offer
 use Rattle.tl_rules.{proofs.Typed.typed-beat, specs.laws.Typed.HasBlock}
-use Rattle.tl_client.{proofs.endpoint.Cases.probe_ack-cases, specs.laws.Sound.IsSound, specs.laws.Sound.corrupt_in}
-use Rattle.tl_client.{specs.statement.Ask.asked, specs.statement.Ask.load}
 use Rattle.tl_manager.proofs.messages.Lawful.{no_bit}
 use Rattle.tl_rules.specs.laws.Typed as rules
-use Rattle.tl_manager.specs.code.Kept as manager
 use proofs.queues.Tokens.{same_number}
 
 -- ---- what holds of each beat of each channel
@@ -61,7 +73,7 @@ all-messages P (x ∷ handed) s each before d at = all-messages P handed (with_m
 pub all-popped : {w : ℕ} (P : ℕ → Beat w → Type 0) (c : ℕ) (ch : Channel) (x : Beat w) (queue : List (Beat w))
     (s : System w) → s.channels c ch ≡ x ∷ queue → ((d : ℕ) (at : Channel) → All (P d) (s.channels d at))
     → (d : ℕ) (at : Channel) → All (P d) ((with_channel c ch queue s).channels d at)
-all-popped {w} P c ch x queue s first before d at = elim (cases_eq d c) [
+all-popped P c ch x queue s first before d at = elim (cases_eq d c) [
   | inl same ↦ rw same (here (c == c) (same_number c) (same_channel at ch) refl)
   | inr other ↦ there (d == c) (ne_eqb d c other)
 ]
@@ -119,9 +131,9 @@ good-message {w} config c {l} {m} width level sound ours inside long i lt =
         lawful = rw level (cc (same_channel_of m i, legal_beat l (channel_of (beat_of m 0)) m i sound.is_legal lt));
         inside = same_outside config.blocks m i ∙ inside;
         clean = unspoiled m i ours sound.is_clean;
-        typed = typed_is (beat_of m i) typed;
+        typed = typed_is _ typed;
       };
-      lanes = lanes_are (beat_of m i) typed;
+      lanes = lanes_are _ typed;
     }
 
 -- ---- messages that the manager hands out
@@ -132,7 +144,7 @@ good-handed config [] width each = tt
 good-handed config (x ∷ handed) width each = (
   (λ i lt. record {
     sound = each.0.beats i lt;
-    lanes = lanes_are (beat_of x.1 i) (typed-beat x.1 i width each.0.filled lt);
+    lanes = lanes_are _ (typed-beat x.1 i width each.0.filled lt);
   }),
   good-handed config handed width each.1,
 )
@@ -186,11 +198,11 @@ fit_done {terms} (Op.AcquireWhole n bytes) free typed copies =
     record { long = refl; ours = tt; inside = rw (same_block n) (first_false (nat_le terms.blocks n) _ free.b5) }
 fit_done {w} {terms} (Op.Release n p) {e} free typed copies =
     let s = source_or_0 (free_release terms e.past) in
-    let one = copied_release w p s n (copy_at e n) (copies n) in
+    let one = copied_release w p s n _ (copies n) in
     record {
       long = one.0;
       ours = one.1;
-      inside = release_inside w terms.blocks p s n (copy_at e n) (first_false (nat_le terms.blocks n) _ free.b5);
+      inside = release_inside w _ p s n (copy_at e n) (first_false (nat_le terms.blocks n) _ free.b5);
     }
 fit_done {terms} (Op.Access (Message.A m)) free typed copies =
     record { long = typed; ours = tt; inside = first_false (nat_le terms.blocks (block_at m.address)) _ free.b5 }
@@ -226,14 +238,134 @@ pub fit-taken : {w : ℕ} (blocks : ℕ) (x : Beat w) (e : Endpoint w) → is_ou
     → ((n : ℕ) → length (copy_at e n) ≡ 64) → IsFitAnswer blocks (taken x e).answer
 fit-taken blocks (Beat.A x) e inside copies = tt
 fit-taken {w} blocks (Beat.B x) e inside copies = ack_fit w blocks x.opcode (held_at e (block_at x.address))
-    (report_for x (held_at e (block_at x.address)))
-    (block_at x.address) (copy_at e (block_at x.address)) (copies (block_at x.address)) inside
+    (report_for x (held_at e (block_at x.address))) _ _ (copies (block_at x.address)) inside
 fit-taken blocks (Beat.C x) e inside copies = tt
 fit-taken {w} blocks (Beat.D x) e inside copies =
     let o : Offered w = responded x (request_of x.source e.past) (payload_of (Beat.D x ∷ unfinished Channel.D e.past)) e
     in
-    let go : (y : Bool) → IsFitAnswer blocks
-    (if y then o else silent Verdict.Taken (with_past (Beat.D x ∷ e.past) e)).answer =
-    elim [ true ↦ ended_fit blocks x.opcode x _ _ | false ↦ tt ] in
+    let go : (y : Bool) → IsFitAnswer blocks (if y then o else silent Verdict.Taken
+    (with_past (Beat.D x ∷ e.past) e)).answer = elim [ true ↦ ended_fit blocks x.opcode x _ _ | false ↦ tt ] in
     go (ends (Beat.D x) e.past)
 fit-taken blocks (Beat.E x) e inside copies = tt
+
+-- ---- copies have 64 bytes
+
+copy_of : (o : Option (List ℕ)) → is_some o ≡ false → length (unwrap_or o zeros) ≡ 64
+copy_of o e = grind arith
+
+pub copy-long : {w : ℕ} {config : Config} {log : Log w} {mail : AccessMessages w} {request : ℕ → MessageA w}
+    {s : State (List ℕ)} {sys : System w}
+    → SimulationRelation config log mail request s sys → (c n : ℕ) → length (copy_at (sys.clients c) n) ≡ 64
+copy-long {w} {s} {sys} h c n = go ((s.block n).pair c).held refl
+  where
+    there : same_perm ((s.block n).pair c).held Perm.None ≡ false → length (copy_at (sys.clients c) n) ≡ 64
+    there e = cc (h.copies c n e, (h.invariant.blocks n).copies c e, (h.sized n).truth)
+
+    go : (p : Perm) → ((s.block n).pair c).held ≡ p → length (copy_at (sys.clients c) n) ≡ 64
+    go Perm.None e = copy_of ((sys.clients c).copies n) (cc ((h.kept c).copies_held n, (h.known c).held_is n))
+    go p e = there (ap (λ p. same_perm p Perm.None) e)
+
+-- ---- what is handed out
+
+abbrev AllGood : {w : ℕ} → Config → System w → Type 0
+AllGood config sys = (d : ℕ) (at : Channel) → All (IsGood config d) (sys.channels d at)
+
+one_good : {w : ℕ} (config : Config) (c : ℕ) (m : Option (Message w)) (sys : System w) (terms : client.EndConfig)
+    → IsWidth w → terms_at config c ≡ Some terms → IsSoundIfAny terms.level m → IsFitIfAny config.blocks m
+    → AllGood config sys → AllGood config (with_messages (handed_by c m) sys)
+one_good config c None sys terms width known sound fit before d at = all-messages (IsGood config) [] sys tt before d at
+one_good config c (Some m) sys terms width known sound fit before d at = all-messages (IsGood config) _ sys
+    (good-message config c width (level-terms config c terms known).0 sound fit.ours fit.inside fit.long, tt) before d
+    at
+
+judged_good : {w : ℕ} (config : Config) (c : ℕ) (ch : Channel) (x : Beat w) (queue : List (Beat w))
+    (a : Result (Verdict × Option (Message w)) Rule) (e : client.Endpoint w) (sys : System w) (terms : client.EndConfig)
+    → IsWidth w → terms_at config c ≡ Some terms → IsSoundAnswer terms.level a → IsFitAnswer config.blocks a
+    → sys.channels c ch ≡ x ∷ queue → AllGood config sys → AllGood config (judged a c ch x queue e sys).after
+judged_good config c ch x queue (Ok (Verdict.Taken, m)) e sys terms width known sound fit first before d at = one_good
+    config c m _ terms width known sound fit (all-popped (IsGood config) c ch x queue sys first before) d at
+judged_good config c ch x queue (Ok (Verdict.Done source finish, m)) e sys terms width known sound fit first before d
+    at = one_good config c m _ terms width known sound fit
+    (all-popped (IsGood config) c ch x queue sys first before) d at
+judged_good config c ch x queue a e sys terms width known sound fit first before d at = before d at
+
+manager_good : {w : ℕ} (config : Config) (link : Link) (ch : Channel) (x : Beat w) (queue : List (Beat w))
+    (j : manager_offer.Judgement) (e : manager_end.End w)
+    (sys : System w) → IsWidth w → manager.IsSound config (link, x)
+    → Each (manager.IsSound config) e.trace → sys.channels link.0 ch ≡ x ∷ queue → AllGood config sys
+    → AllGood config (manager_took link.0 ch x queue (manager_offer.offered_as j config link x e) sys).after
+manager_good config link ch x queue (manager_offer.Breaks rule) e sys width sound trace first before d at = before d at
+manager_good config link ch x queue manager_offer.Waits e sys width sound trace first before d at = before d at
+manager_good config link ch x queue manager_offer.Passes e sys width sound trace first before d at = all-messages
+    (IsGood config) _ (with_manager (manager_offer.taken link x
+    (manager_reaction.reaction config link x e) e) (with_channel link.0 ch queue sys)) (good-handed config
+    (manager_reaction.reaction config link x e).handed width (reaction_handable config link x e width sound trace))
+    (all-popped (IsGood config) link.0 ch x queue sys first before) d at
+
+-- ---- an event
+
+good-after : {w : ℕ} {config : Config} {log : Log w} {mail : AccessMessages w} {request : ℕ → MessageA w}
+    {s : State (List ℕ)} {sys : System w} → IsWidth w → SimulationRelation config log mail request s sys
+    → (event : Event w) → IsTyped event → AllGood config (stepped config event sys).after
+unfolding stepped manager_offer.offered
+good-after {w} {config} {sys} width h event typed = go (terms_at config (client_of event)) refl event refl typed
+  where
+    before : AllGood config sys
+    before d at k y lt = record { sound = h.sound d at k y lt; lanes = h.typed d at k y lt }
+
+    asked_good : (c : ℕ) (o : Op w) (terms : client.EndConfig) → terms_at config c ≡ Some terms → IsTypedOp o
+        → AllGood config (with_messages (handed_by c (ask.asked terms o (sys.clients c)).message)
+        (with_client c (ask.asked terms o (sys.clients c)).after sys))
+    asked_good c o terms known typed_op =
+        let fitted : terms.blocks ≡ config.blocks → IsFitIfAny terms.blocks (ask.asked terms o (sys.clients c)).message
+        → IsFitIfAny config.blocks (ask.asked terms o (sys.clients c)).message =
+        λ e f. subst (λ n. IsFitIfAny n (ask.asked terms o (sys.clients c)).message) e f in
+        one_good config c _ _ terms width known (asked-sound terms o (sys.clients c) width) (fitted
+        (level-terms config c terms known).1 (fit-asked terms o (sys.clients c) typed_op (copy-long h c))) before
+
+    offered_fit : (c : ℕ) (ch : Channel) (x : Beat w) (terms : client.EndConfig) → terms_at config c ≡ Some terms
+        → IsFitAnswer config.blocks (offer.offered terms ch x (sys.clients c)).answer
+    offered_fit c ch x terms known =
+        let fitted : terms.blocks ≡ config.blocks → IsFitAnswer terms.blocks (offer.offered terms ch x
+        (sys.clients c)).answer → IsFitAnswer config.blocks (offer.offered terms ch x (sys.clients c)).answer = λ e f.
+        subst (λ n. IsFitAnswer n (offer.offered terms ch x (sys.clients c)).answer) e f in
+        let same = (level-terms config c terms known).1 in
+        fitted same (offered-cases terms ch x (sys.clients c) (λ o. IsFitAnswer terms.blocks o.answer) (λ rule. tt) tt
+        (λ passed. fit-taken _ x _ passed.inside (copy-long h c)))
+
+    delivered_good : (c : ℕ) (ch : Channel) (terms : client.EndConfig) (beats : List (Beat w))
+        → sys.channels c ch ≡ beats → terms_at config c ≡ Some terms
+        → AllGood config (delivered config terms c ch beats sys).after
+    delivered_good c ch terms [] first known = before
+    delivered_good c ch terms (x ∷ queue) first known = to (is_to_client ch)
+      where
+        to : (y : Bool) → AllGood config (if y then client_took c ch x queue (offer.offered terms ch x (sys.clients c))
+            sys else manager_took c ch x queue
+            (manager_offer.offered config (record { 0 = c }) ch x sys.manager) sys).after
+        to true = judged_good config c ch x queue _ (offer.offered terms ch x (sys.clients c)).after sys terms width
+            known (offered-sound terms ch x (sys.clients c)) (offered_fit c ch x terms known) first before
+        to false =
+            let same : sys.channels c ch ≡ x ∷ queue → All (IsGood config c) (sys.channels c ch)
+            → All (IsGood config c) (x ∷ queue) = λ e f. rw e at f in
+            let head : IsGood config c x = All-head (IsGood config c) x queue (same first (before c ch)) in
+            manager_good config _ ch x queue (manager_offer.judged config (record { 0 = c }) ch x
+            sys.manager) _ sys width head.sound h.manager_kept.sound first before
+
+    go : (o : Option client.EndConfig) → terms_at config (client_of event) ≡ o → (ev : Event w) → ev ≡ event
+        → IsTyped ev → AllGood config (stepped_at config o ev sys).after
+    go None e ev f ty = before
+    go (Some terms) e (Ask c o) f ty = asked_good c o terms (rw (← f) at e) ty
+    go (Some terms) e (Deliver link ch) f ty = delivered_good link.0 ch terms (sys.channels link.0 ch) refl
+        (rw (← f) at e)
+
+pub sound-after : {w : ℕ} {config : Config} {log : Log w} {mail : AccessMessages w} {request : ℕ → MessageA w}
+    {s : State (List ℕ)} {sys : System w} → IsWidth w
+    → SimulationRelation config log mail request s sys → (event : Event w) → IsTyped event → (c : ℕ) (ch : Channel)
+    → All (λ x. manager.IsSound config (record { 0 = c }, x)) ((stepped config event sys).after.channels c ch)
+sound-after width h event typed c ch k y lt = (good-after width h event typed c ch k y lt).sound
+
+pub typed-after : {w : ℕ} {config : Config} {log : Log w} {mail : AccessMessages w} {request : ℕ → MessageA w}
+    {s : State (List ℕ)} {sys : System w} → IsWidth w
+    → SimulationRelation config log mail request s sys → (event : Event w) → IsTyped event → (c : ℕ) (ch : Channel)
+    → All AreLanes ((stepped config event sys).after.channels c ch)
+typed-after width h event typed c ch k y lt = (good-after width h event typed c ch k y lt).lanes

@@ -1,5 +1,5 @@
 -- As a world begins, it is matched by the protocol as that begins.
-use Rattle.std.proofs.Common.{◌≡◌, ℕ, zero, suc, ◌*◌, ◌+◌, true, List, [], ◌∷◌, Bool, refl, sym, ap, arith, replicate}
+use Rattle.std.proofs.Common.{◌≡◌, ℕ, zero, suc, ◌*◌, ◌+◌, true, [], ◌∷◌, Bool, refl, sym, ap, arith, replicate}
 use Rattle.tl_coherence.proofs
 use proofs.Imports.{Channel, unfinished, Config, on_link, bytes_from, IsBlock, pending, held, kept-fresh, zeros}
 use proofs.Imports.{services, IsInvariant, IsWell, Kind, count, Holds, ok, on, packets_on, shown, is_transfer}
@@ -8,8 +8,8 @@ use proofs.Imports.{MonitorRelations, receiver, flow, one_memory_after, fresh}
 use Rattle.std.proofs.lemmas.List.{get_or-replicate}
 use Rattle.tl_client.proofs.pending.Accounted.{accounted-fresh}
 use Rattle.tl_manager.proofs.calls.Keeping.{fresh-kept}
-use Rattle.tl_coherence.specs.{protocol.Packet.IsOrdered, refinement.AbstractStep.first_block}
-use Rattle.tl_coherence.specs.{refinement.AbstractStep.first_link}
+use Rattle.tl_coherence.specs.refinement.AbstractStep.{first_block, first_link}
+use Rattle.tl_coherence.specs.protocol.Packet.{IsOrdered}
 
 -- ---- the protocol
 
@@ -52,7 +52,7 @@ first-invariant caching = record {
 zeros-from : (x n : ℕ) → bytes_from (λ address. 0) x n ≡ replicate n 0
 unfolding bytes_from
 zeros-from x zero = refl
-zeros-from x (suc n) = ap (λ (bytes : List ℕ). 0 ∷ bytes) (zeros-from (x + 1) n)
+zeros-from x (suc n) = ap (λ bytes. 0 ∷ bytes) (zeros-from (x + 1) n)
 
 zeros-block : (n : ℕ) → IsBlock (λ address. 0) n zeros
 zeros-block n i lt = sym (get_or-replicate {A = ℕ} 64 i 0 0 lt)

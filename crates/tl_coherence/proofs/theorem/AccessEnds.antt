@@ -1,22 +1,21 @@
 -- What the one-memory machine allows at a delivery: how an access ends as its answer comes.
-use Rattle.std.proofs.Common.{◌≡◌, ℕ, ◌-◌, ◌*◌, ◌%◌, ◌^◌, ◌≤◌, List, ◌∷◌, ◌++◌, length, Option, Some, None, refl, sym}
-use Rattle.std.proofs.Common.{◌∙◌, ap, subst, arith, eqb-true, append_assoc, pow_pos, drop, replicate, take, drop_at}
-use Rattle.std.proofs.Common.{take_at}
+use Rattle.std.proofs.Common.{◌≡◌, ℕ, ◌*◌, ◌-◌, ◌^◌, ◌≤◌, List, ◌∷◌, ◌++◌, Option, Some, None, refl, sym, ◌∙◌, ap}
+use Rattle.std.proofs.Common.{subst, arith, ◌%◌, length, append_assoc, take, eqb-true, drop_at, take_at, drop, pow_pos}
+use Rattle.std.proofs.Common.{replicate}
 use Rattle.tl_coherence.proofs
-use proofs.Imports.{length-replicate, Beat, BeatA, Link, Channel, OpD, IsWidth, Message, MessageA, MessageD, a_beat_of}
-use proofs.Imports.{beats_of, burst_of, d_beat_of, data_beats, IsBlankAfter, History, unfinished, Config, Level}
-use proofs.Imports.{control_of_legal, control_aligned, payload-d, payload_of, as_payload, answer_of, request_of, Access}
-use proofs.Imports.{Finish, finish_of, open_beat, sourced, illegal_message_at, access_answer, no_payload, level_of}
-use proofs.Imports.{Kind, Acquire, Answer, SourceState, packet, Replied, AbstractState, Answers, IsOpened, IsReach}
-use proofs.Imports.{message_of_kind, block_message, SimulationRelation, is_caching, IsRequest, block_used, first_of}
-use proofs.Imports.{Log, system_after, Ends, Machine, pool_of, Requests, finish_with, one_memory_after, System}
-use Rattle.tl_client.{specs.statement.Offer.padded}
+use proofs.Imports.{length-replicate, Beat, BeatA, Link, Channel, OpD, IsWidth, Message, MessageA, MessageD}
+use proofs.Imports.{IsBlankAfter, a_beat_of, beats_of, burst_of, d_beat_of, data_beats, History, unfinished, Config}
+use proofs.Imports.{Level, control_aligned, control_of_legal, payload-d, payload_of, answer_of, as_payload, request_of}
+use proofs.Imports.{Access, Finish, finish_of, open_beat, sourced, illegal_message_at, access_answer, no_payload}
+use proofs.Imports.{level_of, Acquire, Answer, Replied, SourceState, packet, AbstractState, Answers, IsOpened, IsReach}
+use proofs.Imports.{message_of_kind, block_message, IsRequest, SimulationRelation, block_used, first_of, is_caching}
+use proofs.Imports.{Log, system_after, Ends, Machine, Requests, finish_with, pool_of, one_memory_after, System}
 use Rattle.tl_manager.proofs.messages.Filled.{data_room, payload-long, payload-zero, room_in_beats}
 use Rattle.tl_rules.specs.statement.Effect as memory
-use proofs.client.{AnswersKept.answer_message}
+use proofs.client.ProbeDelivered.{answer_message}
 use proofs.protocol.HeadOfD.{IsAnswerDue, answer-due}
 use proofs.links.{Ending.IsEnding, Granting.same-response}
-use proofs.flow.{Windowed.asked_replied}
+use proofs.flow.Windowed.{asked_replied}
 
 -- ---- the bytes of an answer
 
@@ -25,11 +24,9 @@ bytes_again : (first : ℕ) (bytes : List ℕ) → take (length bytes) (drop fir
 bytes_again first bytes =
     let none : ℕ = 0 in
     let more : ℕ = 64 - first - length bytes in
-    ap (λ (xs : List ℕ). take (length bytes) (drop first xs))
-    (append_assoc (replicate first none) bytes (replicate more none))
+    ap (λ xs. take (length bytes) (drop first xs)) (append_assoc (replicate first none) bytes (replicate more none))
     ∙ ap (take (length bytes)) (drop_at (replicate first none) (bytes ++ replicate more none) first
-    (length-replicate first none))
-    ∙ take_at bytes (replicate more none) (length bytes) refl
+    (length-replicate first none)) ∙ take_at bytes (replicate more none) (length bytes) refl
 
 -- the address of a lawful access is aligned
 aligned : {w : ℕ} (o : Option Level) (m : MessageA w) → IsWidth w → illegal_message_at o (Message.A m) ≡ None
@@ -66,10 +63,8 @@ ends_answered {w} o m d memory.Done beats width lawful answer reach burst =
 ends_answered {w} o m d memory.Hinted beats width lawful answer reach burst =
     cc (same-response d (answer_message OpD.HintAck no_payload m) answer)
 ends_answered {w} o m d (memory.Bytes bytes) beats width lawful answer reach burst =
-    let same = same-response d (answer_message OpD.AccessAckData (as_payload (m.address % w) bytes) m) answer in
-    ap (λ (i : MessageD w). finish_of w i.opcode i.param i.size m.address (payload_of beats)) same
-    ∙ ap (λ (b : List ℕ). Finish.Data m.size (padded b))
-    (bytes_come o m bytes beats width lawful reach (burst ∙ ap (λ (i : MessageD w). burst_of (Message.D i)) same))
+    let same = same-response d _ answer in
+    cc (same, bytes_come o m bytes beats width lawful reach (burst ∙ ap (λ i. burst_of (Message.D i)) same))
 
 -- the source makes no difference
 finish_sourced : {w : ℕ} (source : ℕ) (m : MessageA w) (r : memory.AccessResult)
@@ -106,13 +101,13 @@ record IsOver {w : ℕ} (config : Config) (log : Log w) (c source : ℕ) (h : Ab
 over : {w : ℕ} {config : Config} {log : Log w} (c source : ℕ) (h : AbstractState w)
     → SimulationRelation config log h.mail h.request h.state (system_after config log)
     → h.state.uses c source ≡ Replied → IsOver config log c source h
-over {w} {config} {log} c source h is used =
+over {config} {log} c source h is used =
     let opened_as : (u : SourceState) → u ≡ Replied → IsOpened c source h.mail h.state u
     ((one_memory_after config log).opened c Requests source) → IsOpened c source h.mail h.state Replied
     ((one_memory_after config log).opened c Requests source) = λ u e i. rw e at i in
     let open_ = opened_as (h.state.uses c source) used (is.beside.requests c source) in
     let answers : Answers (Message.A (sourced source open_.1.0)) open_.0 (h.mail.answer c source) =
-    subst (λ (i : Message w). Answers i open_.0 (h.mail.answer c source)) open_.1.1 open_.2 in
+    subst (λ i. Answers i open_.0 (h.mail.answer c source)) open_.1.1 open_.2 in
     record {
       asked = open_.1.0;
       reply = open_.0;
@@ -121,8 +116,7 @@ over {w} {config} {log} c source h is used =
       opened = open_.1.2;
       answer = answers.0;
       reach = answers.1;
-      pending_is = request_open source (a_beat_of (sourced source open_.1.0) 0)
-          ((system_after config log).clients c).past ((is.known c).opens source ∙ asked_replied (h.state.uses c source)
+      pending_is = request_open source _ _ ((is.known c).opens source ∙ asked_replied _
           (h.mail.request c source) (block_message Acquire c (block_used (h.state.uses c source))
           (h.state.block (block_used (h.state.uses c source)))) used ∙ ap first_of open_.1.1);
     }
@@ -142,32 +136,28 @@ pub ends-answer : {w : ℕ} {config : Config} {log : Log w} {link : Link} {ch : 
 ends-answer {w} {config} {log} {link} {ch} {h} {x} {source} {f} width is end e =
     let sys : System w = system_after config log in
     let m : Machine w = one_memory_after config log in
-    let it : IsOver config log c n h = over c n h is due.used in
+    let it : IsOver config log link.0 n h = over link.0 n h is due.used in
     let payload : List ℕ = payload_of (Beat.D (d_beat_of end.response end.first.next.k) ∷ unfinished Channel.D
-    (sys.clients c).past) in
+    (sys.clients link.0).past) in
     let fin : f ≡ finish_with (Message.A it.asked) it.reply = cc (
       end.finish_is,
-      ap (λ (i : ℕ). request_of i (sys.clients c).past) (sym end.source_is ∙ from) ∙ it.pending_is,
-      ends_answered (level_of config c) (sourced n it.asked) end.response it.reply _
-          width it.lawful (response_is ∙ it.answer) it.reach (whole_response end),
+      ap (λ i. request_of i (sys.clients link.0).past) (sym end.source_is ∙ from) ∙ it.pending_is,
+      ends_answered _ _ _ it.reply _ width it.lawful (response_is ∙ it.answer) it.reach (whole_response end),
       finish_sourced n it.asked it.reply,
     ) in
-    subst (λ (i : Finish). Ends (m.opened c (pool_of i) source) x i) (sym fin)
-    (subst (λ (i : ℕ). Ends (m.opened c (pool_of (finish_with (Message.A it.asked) it.reply)) i) x
-    (finish_with (Message.A it.asked) it.reply)) (sym from) (open_ends c n m it.asked it.reply x it.opened))
+    subst (λ i. Ends (m.opened link.0 (pool_of i) source) x i) (sym fin)
+    (subst (λ i. Ends (m.opened link.0 (pool_of (finish_with (Message.A it.asked) it.reply)) i) x
+    (finish_with (Message.A it.asked) it.reply)) (sym from) (open_ends link.0 n m it.asked it.reply x it.opened))
   where
-    c : ℕ
-    c = link.0
-
     n : ℕ
     n = end.first.number
 
-    due : IsAnswerDue c n h.mail h.state
-    due = answer-due (is_caching config) c n end.first.rest h.mail h.state is.invariant (is.answered c n)
-        (end.first.tokens ∙ ap (λ (i : Kind). packet i n ∷ end.first.rest) e)
+    due : IsAnswerDue link.0 n h.mail h.state
+    due = answer-due (is_caching config) link.0 n _ h.mail _ is.invariant (is.answered link.0 n)
+        (end.first.tokens ∙ ap (λ i. packet i n ∷ end.first.rest) e)
 
-    response_is : Message.D end.response ≡ h.mail.answer c n
-    response_is = sym end.response_is ∙ ap (λ (i : Kind). message_of_kind i h.mail h.state c n) e
+    response_is : Message.D end.response ≡ h.mail.answer link.0 n
+    response_is = sym end.response_is ∙ ap (λ i. message_of_kind i h.mail h.state link.0 n) e
 
     from : source ≡ n
-    from = cc (end.source_is, same-response end.response due.answer (response_is ∙ due.answer_is), due.from)
+    from = cc (end.source_is, same-response _ _ (response_is ∙ due.answer_is), due.from)

@@ -1,31 +1,32 @@
 -- An Acquire that is started alone brings what it asks for, and an AcquireWhole brings Trunk.
-use Rattle.std.proofs.Common.{◌≡◌, ℕ, zero, suc, Bool, true, false, List, ◌∷◌}
-use Rattle.std.proofs.Common.{Option, Some, None, refl, sym, ◌∙◌, ap, arith}
+use Rattle.std.proofs.Common.{◌≡◌, ℕ, zero, suc, Bool, true, false, List, ◌∷◌, Option, Some, None, refl, sym, ◌∙◌, ap}
+use Rattle.std.proofs.Common.{arith}
 use Rattle.tl_coherence.proofs
-use proofs.Imports.{Link, Channel, Config, Grow, Perm, Profile, same_perm, Op, whole_grow, held_at, Deliver, Ask}
-use proofs.Imports.{AcquirePhase, AcquireOpen, ClientBlock, after_acquire, SourceState, Block, State, SourceFree}
-use proofs.Imports.{Acquires, acquire_asked, acquiring_block, AbstractState, asked, abstract_step, IsDrained, grown_to}
-use proofs.Imports.{IsGiven, outstanding, Log, system_after, next_delivery, with_delivery}
+use proofs.Imports.{Link, Channel, Config, Grow, Perm, Profile, same_perm, Op, whole_grow, held_at, Ask, Deliver}
+use proofs.Imports.{AcquireOpen, AcquirePhase, ClientBlock, after_acquire, Acquires, SourceFree, SourceState, State}
+use proofs.Imports.{acquire_asked, acquiring_block, AbstractState, abstract_step, asked, IsDrained, grown_to, IsGiven}
+use proofs.Imports.{outstanding, Log, system_after, with_delivery, next_delivery}
+use Rattle.tl_coherence.{specs.declared.event.Outcome.TheVariants.Replied, specs.statement.Log.IsLog}
+use Rattle.tl_coherence.{specs.statement.Movable.drained}
+use Rattle.tl_coherence.specs.statement.Draining.{LoneAcquire, LoneAcquireWhole}
 use Rattle.tl_client.specs.declared.reply.Reply.TheVariants.{Started}
-use Rattle.tl_coherence.specs.{declared.event.Outcome.TheVariants.Replied, statement.Draining.LoneAcquire}
-use Rattle.tl_coherence.specs.{statement.Draining.LoneAcquireWhole, statement.Log.IsLog, statement.Movable.drained}
 use proofs.memory.Beside.{set_at-there}
 use proofs.outstanding.{Counted.outstanding-open, Movement.closed-when-counted, Progress.counted}
 use proofs.links.FromInvariant.{matched-given}
 use proofs.deliveries.Matching.{shadow}
-use proofs.manager.UnwaitedRequests.{next_tracker}
+use proofs.manager.RequestsTaken.{next_tracker}
 use proofs.bound.Settling.{given-before, given-delivering}
-use proofs.protocol.QuiescentProtocol.{IsClosed}
+use proofs.protocol.GrantedAll.{IsClosed}
 use proofs.queues.Tokens.{set-same, set_at-same}
-use proofs.simulation.FollowCases.{delivered-cases, on-first}
-use proofs.theorem.LoneAcquireSteps.{Brings, IsLone, grown, lone-kind_taken}
+use proofs.simulation.Moved.{delivered-cases, on-first}
+use proofs.theorem.Performed.{Brings, IsLone, grown, lone-kind_taken}
 
 -- ---- logs
 
 given_delivering : {w : ℕ} {config : Config} (o : Option (Link × Channel)) {log : Log w} → IsGiven config log
     → IsGiven config (with_delivery config o log)
 given_delivering None given = given
-given_delivering {config} (Some d) {log} given = given-delivering config d.0 d.1 log given
+given_delivering (Some d) {log} given = given-delivering _ d.0 d.1 log given
 
 -- nothing is open where nothing is outstanding
 nothing_open : {w : ℕ} {config : Config} {log : Log w} → IsGiven config log → outstanding log ≡ 0
@@ -44,9 +45,8 @@ lone_asked p c n source whole g bytes {s} closed =
     record {
       others = λ d i else_. set_at-there (Acquires n) s.uses else_ ∙ closed.uses d i;
       brings = wanting (s'.uses c source) ((s'.block n).pair c) (set_at-same c source (Acquires n) s.uses)
-          (ap (λ (b : Block (List ℕ)). (b.pair c).acquiring) (set-same n
-          (acquiring_block c source whole g bytes (s.block n)) s.block) ∙ ap (λ (x : ClientBlock). x.acquiring)
-          (set-same c (after_acquire whole g ((s.block n).pair c)) (s.block n).pair));
+          (ap (λ b. (b.pair c).acquiring) (set-same n (acquiring_block c source whole g bytes (s.block n)) s.block)
+          ∙ ap (λ x. x.acquiring) (set-same c (after_acquire whole g ((s.block n).pair c)) (s.block n).pair));
     }
 
 -- what is asked for wants this, and is alone
@@ -60,7 +60,7 @@ lone_started : {w : ℕ} {config : Config} {log : Log w} {c n source : ℕ} {op 
     → Begins config log c n source op a
     → IsLone config.profile c n source a (shadow config ((Ask c op, Replied (Started source)) ∷ log)).state
 unfolding shadow IsLog
-lone_started {w} {config} {log} {c} {n} {source} {op} {a} is = rw (← is.given.is_log.0)
+lone_started {config} {log} {c} {source} {op} is = rw (← is.given.is_log.0)
     (is.begins (nothing_open (given-before config (Ask c op, Replied (Started source)) log is.given) is.alone))
 
 -- ---- as it is drained
@@ -71,9 +71,8 @@ lone_delivered : {w : ℕ} {config : Config} {log : Log w} {c n source : ℕ} {a
     (shadow config log)).state
 lone_delivered {w} {config} {log} {c} {n} {source} {a} link ch given is =
     let h : AbstractState w = shadow config log in
-    let matched = matched-given config log given in
-    delivered-cases link ch
-    (λ (i : AbstractState w). IsLone config.profile c n source a i.state) given.width matched is
+    let matched = matched-given _ log given in
+    delivered-cases link ch (λ i. IsLone config.profile c n source a i.state) given.width matched is
     (λ x queue d. lone-kind_taken config.profile c n source a config (next_tracker (system_after config log)) link.0
     d.first.kind d.first.number d.first.rest h matched.invariant matched.given (on-first d) is)
 
@@ -82,7 +81,7 @@ lone_next : {w : ℕ} {config : Config} {log : Log w} {c n source : ℕ} {a : Ac
     → IsLone config.profile c n source a (shadow config (with_delivery config o log)).state
 unfolding shadow
 lone_next None given is = is
-lone_next {config} {log} {c} {n} {source} {a} (Some d) given is = lone_delivered d.0 d.1 given is
+lone_next (Some d) given is = lone_delivered d.0 d.1 given is
 
 -- what holds after n deliveries, each the next one
 record IsLoneAfter {w : ℕ} (config : Config) (log : Log w) (c n source : ℕ) (a : AcquirePhase) : Type 0 where
@@ -93,10 +92,9 @@ lone_drained : {w : ℕ} {config : Config} (k : ℕ) {log : Log w} {c n source :
     → IsLoneAfter config log c n source a → IsLoneAfter config (drained config k log) c n source a
 unfolding drained
 lone_drained zero is = is
-lone_drained {config} (suc k) {log} {c} {n} {source} {a} is =
+lone_drained {config} (suc k) {log} is =
     let o = next_delivery config (system_after config log) in
-    lone_drained k
-    (record { given = given_delivering o is.given; lone = lone_next o is.given is.lone })
+    lone_drained k (record { given = given_delivering o is.given; lone = lone_next o is.given is.lone })
 
 -- ---- what it has brought
 
@@ -113,8 +111,7 @@ alone-drained {w} {config} {log} {c} {block} {source} {n} {op} {a} is drains =
     let end : Log w = drained config n ((Ask c op, Replied (Started source)) ∷ log) in
     let lone = lone_drained n (record { given = is.given; lone = lone_started is }) in
     ap (grown config.profile a) (((matched-given config end lone.given).known c).held_is block)
-    ∙ brought config.profile block a ((shadow config end).state.uses c source)
-    (((shadow config end).state.block block).pair c)
+    ∙ brought config.profile block a _ (((shadow config end).state.block block).pair c)
     ((nothing_open lone.given drains.nothing_left).uses c source) lone.lone.brings
 
 pub alone : {w : ℕ} → LoneAcquire w
@@ -134,8 +131,7 @@ whole-brings p before held e = grind (arith, is_trunk)
 pub alone_whole : {w : ℕ} → LoneAcquireWhole w
 alone_whole config log client block source n bytes none given drains =
     let before : Perm = (((shadow config log).state.block block).pair client).held in
-    whole-brings config.profile before _
-    (alone-drained (record {
+    whole-brings _ before _ (alone-drained (record {
       given = given;
       alone = none;
       begins = λ closed. lone_asked config.profile client block source true (whole_grow before) bytes closed;

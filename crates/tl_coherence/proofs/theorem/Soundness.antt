@@ -3,7 +3,7 @@ use Rattle.std.proofs.Common.{ℕ, arith}
 use Rattle.tl_coherence.proofs
 use Rattle.tl_coherence.specs.statement.Headline.{Headline, OneMemory}
 use proofs.links.FromInvariant.{coherent, unrefused}
-use proofs.theorem.Machined.{continues, run}
+use proofs.theorem.Continuing.{continues, run}
 use proofs.outstanding.Progress.{counted, moving}
 
 pub one_memory : {w : ℕ} → OneMemory w
@@ -18,9 +18,9 @@ headline = λ config log given.
     record {
       run = run config log given.width given.typed given.is_log;
       continues = λ x typed logged. continues config log x given.width given.typed logged;
-      coherent = coherent config log given;
+      coherent = coherent _ log given;
       unrefused = unrefused given;
-      moving = moving config log given;
+      moving = moving _ log given;
       balanced = record {
         requests = let same = are.requests_are in omega (arith, same);
         releases = let same = are.releases_are in omega (arith, same);

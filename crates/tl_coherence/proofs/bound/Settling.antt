@@ -1,5 +1,5 @@
--- Deliveries move no more beats than the load before them; and the next ones, one after another, end
--- what is outstanding.
+-- Deliveries move no more beats than the load before them; and the next ones, one after another, end what is
+-- outstanding.
 use Rattle.std.proofs.Common.{◌≡◌, ℕ, zero, suc, ◌+◌, ◌≤◌, Bool, true, false, [], ◌∷◌, ◌++◌, Option, Some, None, refl}
 use Rattle.std.proofs.Common.{sym, ◌∙◌, ap, subst, arith, length, All}
 use Rattle.std.proofs.lemmas.List.Elements.{All-tail}

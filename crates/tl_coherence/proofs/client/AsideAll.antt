@@ -1,6 +1,6 @@
 -- Which clients' ends an event leaves alone: one at a client all others, one at the manager all.
--- Which clients' ends are left alone as a message is taken, and as a client is asked: all of that is
--- what `followed` does.
+-- Which clients' ends are left alone as a message is taken, and as a client is asked: all of that is what `followed`
+-- does.
 use Rattle.std.proofs.Common.{◌≡◌, ℕ, Bool, true, false, not, ◌&&◌, ◌==◌, if◌then◌else◌, List, ◌∷◌, Some, None, refl}
 use Rattle.std.proofs.Common.{sym, ◌∙◌, ap, arith, inl, inr, eqb-true}
 use Rattle.tl_coherence.proofs

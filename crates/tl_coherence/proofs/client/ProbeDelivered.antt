@@ -1,5 +1,5 @@
--- A Probe that is delivered to a client waits for its Release, or is taken, and the client's end is
--- then that of the protocol.
+-- A Probe that is delivered to a client waits for its Release, or is taken, and the client's end is then that of the
+-- protocol.
 -- Answers that are on their way answer their accesses: after every event.
 use Rattle.std.proofs.Common.{◌≡◌, ℕ, ◌<◌, Bool, true, false, not, ◌&&◌, ◌==◌, List, [], ◌∷◌, Option, Some, None, refl}
 use Rattle.std.proofs.Common.{sym, ◌∙◌, ap, subst, arith, inl, inr, ◌%◌, length, eqb-true, map}

@@ -1,6 +1,6 @@
 -- The request that is first on channel A: it is taken, or has to wait.
--- A delivery on channel A: what is first there, that it is taken unless it has to wait, and the
--- manager's end afterwards.
+-- A delivery on channel A: what is first there, that it is taken unless it has to wait, and the manager's end
+-- afterwards.
 use Rattle.std.proofs.Common.{◌≡◌, ℕ, suc, ◌+◌, ◌<◌, Bool, true, false, ◌==◌, if◌then◌else◌, List, [], ◌∷◌, Some, None}
 use Rattle.std.proofs.Common.{refl, sym, ◌∙◌, ap, subst, arith, inl, length, eqb-true, map, nat_le}
 use Rattle.tl_coherence.proofs

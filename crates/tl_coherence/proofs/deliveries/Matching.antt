@@ -13,7 +13,6 @@ use proofs.Imports.{system_after, Machine, moved, accesses_answered, one_memory_
 use proofs.Imports.{manager_took, only, stepped, System, terms_at, with_channel, with_messages}
 use Rattle.tl_coherence.{specs.statement.Headline.AreTyped, specs.statement.Log.IsLog}
 use Rattle.tl_client.specs.statement.Endpoint as client
-use Rattle.tl_manager.specs.statement.Offer as manager
 use Rattle.tl_client.specs.statement.Ask as ask
 use proofs.memory.BesideKinds.{beside_block}
 use proofs.queues.{Channels.carried-shown, Steps.stepped-to-manager, Steps.stepped-asked, Steps.stepped-empty}

@@ -1,8 +1,7 @@
 -- Tests of the simulation relation, event by event, for the worked schedules.
 -- Whether the protocol follows the world at every event of a list that is played, evaluated: the values that the ends,
 -- the manager and the flow have are those of the protocol, and its phases are well. By tests with numbers, of which
--- those
--- that fail are listed.
+-- those that fail are listed.
 use Rattle.std.proofs.Common.{◌≡◌, ℕ, zero, suc, ◌*◌, Bool, true, false, not, ◌&&◌, ◌||◌, ◌==◌, if◌then◌else◌, List, []}
 use Rattle.std.proofs.Common.{◌∷◌, ◌++◌, Option, Some, None, refl, length, lit≤, replicate, reverse, option_map}
 use Rattle.std.proofs.Common.{is_some}

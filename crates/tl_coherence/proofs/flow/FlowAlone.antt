@@ -1,7 +1,7 @@
 -- What is delivered on a link, as an event leaves each value of it as it was, though the protocol's state is another.
 -- What is delivered on a link, as an event leaves it alone: each value of it is as before.
--- What is delivered on a link, as a Probe or a GrantAck is: messages of one beat, which leave requests
--- and Releases alone.
+-- What is delivered on a link, as a Probe or a GrantAck is: messages of one beat, which leave requests and Releases
+-- alone.
 use Rattle.std.proofs.Common.{◌≡◌, ℕ, Bool, true, false, not, ◌&&◌, ◌||◌, ◌==◌, if◌then◌else◌, List, ◌∷◌, Option, Some}
 use Rattle.std.proofs.Common.{None, refl, sym, ◌∙◌, ap, arith, ◌⊎◌, inl, inr, ne_eqb, eqb-true}
 use Rattle.tl_coherence.proofs

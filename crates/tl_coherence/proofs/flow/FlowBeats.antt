@@ -1,6 +1,6 @@
 -- What of a message was delivered before and after one of its beats.
--- A beat of channel E that is delivered breaks no rule after what was delivered before it: no Grant
--- with its sink is still coming.
+-- A beat of channel E that is delivered breaks no rule after what was delivered before it: no Grant with its sink is
+-- still coming.
 -- What is delivered on a link, as a Probe is.
 -- What is delivered on a link, as the beat of a Probe is, for a whole that is that of the protocol.
 use Rattle.std.proofs.Common.{◌≡◌, ℕ, zero, suc, ◌*◌, Bool, true, false, not, ◌&&◌, ◌==◌, if◌then◌else◌, List, [], ◌∷◌}

@@ -10,8 +10,7 @@ use proofs.Imports.{SimulationRelation, IsCoherent, started, IsExact, IsFifo, ca
 use proofs.Imports.{flow, IsGiven, IsTyped, Log, system_after, Requests, is_client, one_memory_after, perm_le}
 use proofs.Imports.{handed_by, is_to_client, outcome_of, stepped, System, fresh, terms_at, with_channel, with_client}
 use proofs.Imports.{with_manager, with_message, with_messages}
-use Rattle.tl_coherence.specs.statement.Headline.{AreTyped, IsUnrefused}
-use Rattle.tl_coherence.specs.statement.Log.{IsLog}
+use Rattle.tl_coherence.specs.{statement.Headline.AreTyped, statement.Headline.IsUnrefused, statement.Log.IsLog}
 use Rattle.tl_burst.specs.statement.Messages.{carried_on}
 use Rattle.tl_rules.specs.statement.Admission.{sent_if_any}
 use Rattle.tl_client.{proofs.endpoint.AfterAsked.past-asked, proofs.endpoint.AfterOffered.past-offered}

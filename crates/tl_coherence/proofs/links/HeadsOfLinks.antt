@@ -1,5 +1,5 @@
--- The first beat of each channel of a client's link: it is one of the channel, no rule refuses it, and
--- on channel B it is a Probe.
+-- The first beat of each channel of a client's link: it is one of the channel, no rule refuses it, and on channel B it
+-- is a Probe.
 use Rattle.std.proofs.Common.{◌≡◌, ℕ, Bool, true, false, List, ◌∷◌, Option, Some, Result, refl, sym, ◌∙◌, ap, subst}
 use Rattle.std.proofs.Common.{arith, map}
 use Rattle.tl_coherence.proofs

@@ -1,13 +1,11 @@
 -- What the manager knows follows from five things: what it recorded, which ProbeAcks it misses, which service each
 -- block has, and which request that is. This is for all of its events alike.
 -- The manager's end beside the protocol: all that is kept of it in one, and what follows from one trace and one memory.
--- Clients that pass a test, as the manager finds them and as the protocol does; and which source a
--- request that waits has.
+-- Clients that pass a test, as the manager finds them and as the protocol does; and which source a request that waits
+-- has.
 use Rattle.std.proofs.Common.{◌≡◌, ℕ, zero, suc, ◌*◌, ◌<◌, ◌≤◌, Bool, true, false, not, ◌&&◌, ◌||◌, ◌==◌, if◌then◌else◌}
 use Rattle.std.proofs.Common.{List, [], ◌∷◌, Option, Some, None, refl, sym, ◌∙◌, ap, arith, length, eqb-true, lt-ltb}
-use Rattle.std.proofs.lemmas.Option.{slice_get_past}
-use Rattle.std.proofs.Math.Bool.{or_comm}
-use Rattle.std.specs.Cmp.Derive.{one_truth}
+use Rattle.std.{proofs.lemmas.Option.slice_get_past, proofs.Math.Bool.or_comm, specs.Cmp.Derive.one_truth}
 use Rattle.tl_coherence.proofs
 use proofs.Imports.{same_Some, Channel, MessageA, unfinished, Config, Cap, Trace, comes_in_request, on_link, bytes_from}
 use proofs.Imports.{probe_of, is_one_of, some_is, IsKept, IsProbed, is_any, End, cap_probed, is_nobody}

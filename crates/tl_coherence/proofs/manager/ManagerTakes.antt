@@ -1,5 +1,5 @@
--- A message that the values of a history allow breaks no rule of order after it: for the manager's end and for what
--- is delivered alike.
+-- A message that the values of a history allow breaks no rule of order after it: for the manager's end and for what is
+-- delivered alike.
 -- A beat that is delivered on channel C or E breaks no rule after what the manager has of the link, and is taken.
 use Rattle.std.proofs.Common.{◌≡◌, ℕ, zero, suc, Bool, true, false, not, ◌&&◌, ◌||◌, ◌==◌, if◌then◌else◌, List, [], ◌∷◌}
 use Rattle.std.proofs.Common.{Option, Some, None, refl, sym, ◌∙◌, ap, subst, arith, map}

@@ -1,8 +1,7 @@
 -- The manager's memory, block by block, after an access was performed.
 -- The manager's memory, block by block, after what it takes from channel C and after an access is performed.
 -- All that is kept of the manager's end, after a beat of channel C or E that it takes: a beat that isn't the last of
--- its
--- message, a ProbeAck that isn't the last one missing, a Release, and a GrantAck.
+-- its message, a ProbeAck that isn't the last one missing, a Release, and a GrantAck.
 use Rattle.std.proofs.Common.{◌≡◌, ℕ, zero, suc, ◌+◌, ◌*◌, ◌-◌, ◌^◌, ◌<◌, ◌≤◌, Bool, true, false, not, ◌&&◌, ◌||◌, ◌==◌}
 use Rattle.std.proofs.Common.{if◌then◌else◌, List, [], ◌∷◌, Option, Some, None, refl, sym, ◌∙◌, ap, subst, arith, inl}
 use Rattle.std.proofs.Common.{inr, ◌%◌, length, eqb-true, ne_eqb, slice_index}

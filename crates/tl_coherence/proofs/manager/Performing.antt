@@ -1,5 +1,5 @@
--- What the manager knows after a request that is performed at once: an access that is answered, an
--- Acquire that is granted.
+-- What the manager knows after a request that is performed at once: an access that is answered, an Acquire that is
+-- granted.
 -- The manager's end after a beat of a request: one that isn't the last, and the last one, where others are probed, the
 -- access is answered, or the Acquire is granted.
 use Rattle.std.proofs.Common.{◌≡◌, ℕ, suc, ◌+◌, ◌*◌, ◌<◌, Bool, true, false, not, ◌&&◌, ◌==◌, if◌then◌else◌, List, []}
@@ -276,7 +276,7 @@ pub reaction-probing : {w : ℕ} (config : Config) (c k n : ℕ) (j : Cap) (m : 
     }
 reaction-probing {w} config c k n j m e is last block caps someone =
     let probing_of : ℕ → List ℕ → Reaction w = λ i ds. record { handed = probes i j ds; memory = e.memory } in
-    let one = some-clients _ someone in
+    let one = some-clients (probed config (service_for c m e.trace) j (with_beat c m k e.trace)) someone in
     cc (reaction-probes config _ _ _ j one.0 one.1 e (served-last is last) caps one.2, block, one.2)
 
 pub at_manager-probing : {w : ℕ} {config : Config} {mail : AccessMessages w} {request : ℕ

@@ -1,9 +1,8 @@
 -- What the messages of channel C say that a client has in flight, and what the manager takes of them.
--- Beats and answers after which the manager's end says the same of all but what is recorded and which
--- ProbeAcks are missing.
+-- Beats and answers after which the manager's end says the same of all but what is recorded and which ProbeAcks are
+-- missing.
 -- What the manager knows after a ProbeAck that isn't the last one missing, after a Release, and after a beat of channel
--- C
--- that isn't the last of its message.
+-- C that isn't the last of its message.
 use Rattle.std.proofs.Common.{◌≡◌, ℕ, ◌*◌, Bool, true, false, not, ◌&&◌, ◌||◌, ◌==◌, if◌then◌else◌, List, [], ◌∷◌, Some}
 use Rattle.std.proofs.Common.{None, refl, sym, ◌∙◌, ap, arith, inl, inr, length, eqb-true, ne_eqb, pow_pos, unwrap_or}
 use Rattle.tl_coherence.proofs

@@ -1,5 +1,5 @@
--- The one-memory machine beside the protocol after a beat of a request is taken: an access that is
--- answered is performed.
+-- The one-memory machine beside the protocol after a beat of a request is taken: an access that is answered is
+-- performed.
 use Rattle.std.proofs.Common.{◌≡◌, ℕ, suc, Bool, true, false, not, List, [], ◌∷◌, Option, Some, None, refl, sym, ◌∙◌}
 use Rattle.std.proofs.Common.{ap, subst, arith, ◌⊎◌, inl, inr, length}
 use Rattle.tl_coherence.proofs

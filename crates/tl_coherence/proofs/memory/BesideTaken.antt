@@ -1,5 +1,5 @@
--- The one-memory machine beside the protocol, after a message that is taken: which accesses are
--- performed, and which operation ends.
+-- The one-memory machine beside the protocol, after a message that is taken: which accesses are performed, and which
+-- operation ends.
 -- Copies are coherent with the one memory, and the open operations are those that were started.
 -- Runs of the one-memory machine, and exact stalls.
 use Rattle.std.proofs.Common.{◌≡◌, ℕ, ◌^◌, ◌≤◌, Bool, true, false, not, ◌&&◌, ◌==◌, if◌then◌else◌, List, [], ◌∷◌}
@@ -16,8 +16,7 @@ use proofs.Imports.{report_told, IsRequest, SimulationRelation, IsCoherent, star
 use proofs.Imports.{system_after, Machine, Open, Pool, Releases, Requests, after_end, after_reply, moved, performed_op}
 use proofs.Imports.{performed_open, same_pool, with_memory, with_open, stalls, accesses_answered, one_memory_after}
 use proofs.Imports.{performing, delivered, is_to_client, judged, manager_took, stepped, System}
-use Rattle.tl_coherence.specs.statement.Machine.{Run, performed}
-use Rattle.tl_coherence.specs.statement.Coherent.{started_at}
+use Rattle.tl_coherence.specs.{statement.Machine.Run, statement.Machine.performed, statement.Coherent.started_at}
 use Rattle.tl_client.proofs.endpoint.Stalls.{stalls-offered}
 use Rattle.tl_manager.proofs.judging.Stalls.{stalls-answered}
 use Rattle.tl_client.specs.statement.Endpoint as client

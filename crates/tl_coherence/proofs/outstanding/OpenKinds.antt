@@ -1,8 +1,7 @@
 -- What is open after the first token of a channel is taken: an answer ends a request, a Grant turns one into a
--- GrantAck,
--- a GrantAck ends it, a ReleaseAck ends a Release, and all else leaves what is open.
--- What is open after a client is asked: an operation that starts opens a request or a Release, with a
--- source that was free.
+-- GrantAck, a GrantAck ends it, a ReleaseAck ends a Release, and all else leaves what is open.
+-- What is open after a client is asked: an operation that starts opens a request or a Release, with a source that was
+-- free.
 use Rattle.std.proofs.Common.{◌≡◌, ℕ, suc, ◌+◌, ◌<◌, Bool, true, false, ◌==◌, if◌then◌else◌, List, [], ◌∷◌, Some, None}
 use Rattle.std.proofs.Common.{refl, sym, ◌∙◌, ap, arith, length, length-append}
 use Rattle.tl_coherence.proofs

@@ -1,7 +1,6 @@
 -- What an outcome ends of what is outstanding.
 -- What is outstanding is what is open: at every event the requests and Releases that it starts and ends are those that
--- it
--- opens and closes.
+-- it opens and closes.
 use Rattle.std.proofs.Common.{◌≡◌, ℕ, ◌+◌, ◌<◌, Bool, true, false, ◌==◌, if◌then◌else◌, List, ◌∷◌, Option, Some, None}
 use Rattle.std.proofs.Common.{Ok, refl, sym, ◌∙◌, ap, subst, arith, map}
 use Rattle.tl_coherence.proofs

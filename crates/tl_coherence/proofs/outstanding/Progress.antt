@@ -1,10 +1,9 @@
 -- Whatever happens to a manager and its clients, what is outstanding is what is open, and a delivery is next exactly
--- while
--- something is outstanding.
+-- while something is outstanding.
 use Rattle.std.proofs.Common.{◌≡◌, ℕ, ◌<◌, true, [], ◌∷◌, None, arith, ◌==◌, is_none}
 use Rattle.tl_coherence.proofs
-use proofs.Imports.{nat_tests, IsWidth, Config, config_fault, trackers_fit}
-use proofs.Imports.{IsGiven, outstanding, Log, system_after, next_delivery}
+use proofs.Imports.{nat_tests, IsWidth, Config, config_fault, trackers_fit, IsGiven, outstanding, Log, system_after}
+use proofs.Imports.{next_delivery}
 use Rattle.tl_coherence.specs.{statement.Headline.AreTyped, statement.Log.IsLog}
 use proofs.outstanding.{Counted.AreCounted, Counted.counted-first, Counted.counted-next}
 use proofs.outstanding.{Movement.next-while-outstanding}

@@ -14,8 +14,7 @@ use proofs.Imports.{access_asked, acquire_asked, acquiring_block, block_stored, 
 use proofs.Imports.{probed_link, release_asked, releasing_block, stored_block, view, with_a, with_c, is_granting}
 use proofs.Imports.{is_transfer, is_unserved, shown, shows, AreMoved, Move, Pops, Pushes, Stays, agrees, channel_for}
 use proofs.Imports.{is_own_move}
-use Rattle.tl_coherence.specs.protocol.Invariant.{IsAlone, IsOwned}
-use Rattle.tl_coherence.specs.protocol.Protocol.{Link}
+use Rattle.tl_coherence.specs.{protocol.Invariant.IsAlone, protocol.Invariant.IsOwned, protocol.Protocol.Link}
 use proofs.queues.{PhaseSteps.probe-ok, PhaseSteps.acquire-ok, PhaseSteps.release-ok, Phases.and_left}
 use proofs.queues.{Phases.nothing_below, Facts.own_wants, Facts.held_at_most, Facts.held_out, Facts.unserved_calm}
 use proofs.queues.Moves.{same_again, event-at, bare-at, names-kept, invariant-moved, spares, bare-elsewhere}

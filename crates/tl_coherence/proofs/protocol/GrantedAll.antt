@@ -1,7 +1,6 @@
 -- The last ProbeAck that is taken, with which the Acquire that waited is granted, keeps the invariant.
 -- Where nothing is on a channel, nothing is open; and where nothing is open and no GrantAck is on its way, nothing is
--- on
--- a channel.
+-- on a channel.
 use Rattle.std.proofs.Common.{◌≡◌, ℕ, ◌<◌, Bool, true, false, not, ◌&&◌, ◌||◌, ◌==◌, if◌then◌else◌, List, [], ◌∷◌, ◌++◌}
 use Rattle.std.proofs.Common.{Option, Some, None, refl, sym, ◌∙◌, ap, ap₂, arith, ◌⊎◌, inl, inr, ne_eqb}
 use Rattle.tl_coherence.proofs

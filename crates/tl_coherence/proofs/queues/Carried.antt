@@ -1,6 +1,6 @@
 -- A message that is pushed, and a beat that is taken.
-use Rattle.std.proofs.Common.{◌≡◌, ℕ, suc, ◌<◌, ◌+◌, ◌-◌, List, [], ◌∷◌, ◌++◌, refl, sym, ◌∙◌, ap, arith}
-use Rattle.std.proofs.Common.{append_assoc, append-nil, ◌==◌}
+use Rattle.std.proofs.Common.{◌≡◌, ℕ, suc, ◌<◌, ◌+◌, ◌-◌, List, [], ◌∷◌, ◌++◌, refl, sym, ◌∙◌, ap, arith, append_assoc}
+use Rattle.std.proofs.Common.{append-nil, ◌==◌}
 use Rattle.tl_coherence.proofs
 use proofs.Imports.{Beat, length-begun, Message, beats_of, beat_of, begun, burst_of, grown, completes, not_last}
 use proofs.Imports.{is_last, beats_from, IsCarried}

@@ -1,6 +1,6 @@
 -- Where no delivery is movable, nothing is on a channel; and where nothing is on a channel, none is movable.
-use Rattle.std.proofs.Common.{◌≡◌, ℕ, zero, suc, ◌+◌, ◌<◌, ◌≤◌, Bool, true, false, [], refl, arith, length}
-use Rattle.std.proofs.Common.{Option, Some, None, if◌then◌else◌, option_map, slice_get}
+use Rattle.std.proofs.Common.{◌≡◌, ℕ, zero, suc, ◌+◌, ◌<◌, ◌≤◌, Bool, true, false, [], refl, arith, length, Option}
+use Rattle.std.proofs.Common.{Some, None, if◌then◌else◌, option_map, slice_get}
 use Rattle.tl_coherence.proofs
 use proofs.Imports.{cases_eq, same_Some, Link, Channel, ClientConfig, Config, EndConfig, is_movable, first_movable}
 use proofs.Imports.{next_delivery, System, terms_at}

@@ -1,7 +1,6 @@
 -- What is owed for what an event leaves alone.
 -- How many beats are left of what is on the channels: no more than a block has, of a report one unless it is the
--- writer's,
--- and of an access and its answer one more than a block has.
+-- writer's, and of an access and its answer one more than a block has.
 use Rattle.std.proofs.Common.{◌≡◌, ℕ, ◌+◌, ◌<◌, ◌≤◌, Bool, true, false, not, if◌then◌else◌, List, [], ◌∷◌, Option, Some}
 use Rattle.std.proofs.Common.{None, refl, sym, ◌∙◌, arith, ◌⊎◌, inl, inr, length, ◌/◌}
 use Rattle.tl_coherence.proofs

@@ -1,5 +1,5 @@
--- What is owed for each open request is at most 33 beats and those of a block, for each Release one
--- and those of a block.
+-- What is owed for each open request is at most 33 beats and those of a block, for each Release one and those of a
+-- block.
 use Rattle.std.proofs.Common.{◌≡◌, ℕ, zero, suc, ◌+◌, ◌*◌, ◌<◌, ◌≤◌, Bool, true, false, not, ◌&&◌, ◌==◌, if◌then◌else◌}
 use Rattle.std.proofs.Common.{Option, refl, arith, ◌⊎◌, inl, inr, length, ne_eqb}
 use Rattle.tl_coherence.proofs

@@ -1,5 +1,5 @@
--- Each beat on a channel is sound, and has the lanes of its width: of those that stay, and of those
--- that are handed out.
+-- Each beat on a channel is sound, and has the lanes of its width: of those that stay, and of those that are handed
+-- out.
 -- Each beat on a channel is sound and has its lanes, after every event.
 use Rattle.std.proofs.Common.{◌≡◌, ℕ, zero, suc, ◌+◌, ◌<◌, Bool, true, false, ◌&&◌, ◌||◌, ◌==◌, if◌then◌else◌, List, []}
 use Rattle.std.proofs.Common.{◌∷◌, ◌++◌, Option, Some, None, Result, Ok, Err, refl, ◌∙◌, ap, subst, arith, inl, inr}

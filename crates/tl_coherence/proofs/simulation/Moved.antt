@@ -1,6 +1,6 @@
 -- A delivery that moves a beat: the beat was taken, and what was handed out for it is on the channels.
--- What the protocol does at an event of the world: nothing, what a client is asked for, or the first
--- token of a channel.
+-- What the protocol does at an event of the world: nothing, what a client is asked for, or the first token of a
+-- channel.
 -- The protocol keeps its invariant as a client is asked, and as a client takes a message.
 use Rattle.std.proofs.Common.{◌≡◌, ℕ, ◌+◌, ◌<◌, Bool, true, false, not, ◌&&◌, ◌==◌, if◌then◌else◌, List, [], ◌∷◌}
 use Rattle.std.proofs.Common.{Option, Some, None, Result, Ok, refl, sym, ◌∙◌, ap, arith, ◌⊎◌, inl, inr, ne_eqb, map}

@@ -57,7 +57,7 @@ class Explained:
 
     def draw(self, tool, seed, lines):
         """The chart of the block that the fault speaks of, up to its line."""
-        place = re.search(r"(?:address=|a Load of |operation at )([0-9a-f]{8})", f"{seed.text}\n{self.text}")
+        place = re.search(r"(?:address=|a Load of |operation at |byte |block )([0-9a-f]{8})", f"{seed.text}\n{self.text}")
         if not place or len(lines) < 2:
             return
         block = int(place[1], 16) // 64

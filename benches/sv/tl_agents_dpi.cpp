@@ -101,6 +101,22 @@ extern "C" int tl_dpi_client_ask(void *client, int kind, int address, int param,
   return answer.code + 256 * outcome.kind;
 }
 
+// An access of 2^size bytes: byte i of `mask` and `bytes` is that of lane i modulo the width. The answer is that of an ask.
+extern "C" int tl_dpi_client_access(void *client, int opcode, int param, int size, int address, long long mask,
+                                    const svBitVecVal *bytes) {
+  tl_operation operation = {};
+  operation.kind = TL_ACCESS;
+  operation.opcode = static_cast<std::uint8_t>(opcode);
+  operation.param = static_cast<std::uint8_t>(param);
+  operation.size = static_cast<std::uint8_t>(size);
+  operation.address = static_cast<std::uint32_t>(address);
+  operation.mask = static_cast<std::uint64_t>(mask);
+  for (int i = 0; i < 64; i++) operation.bytes[i] = static_cast<std::uint8_t>(bytes[i / 4] >> (8 * (i % 4)));
+  tl_outcome outcome = {};
+  tl_answer answer = client_at(client).ask(operation, outcome);
+  return answer.code + 256 * outcome.kind;
+}
+
 // The answer is the code, 256 times the number of the rule, and 65,536 times the kind of the reception
 // (enum tl_reception_kind).
 extern "C" int tl_dpi_client_offer(void *client, long long fields, int address, int mask, const svBitVecVal *lanes) {

@@ -1,12 +1,18 @@
-"""Verilator's -Wall finds nothing in recorders and checkers, nor in the proved client, whatever it is told of a bench."""
+"""Verilator's -Wall finds nothing in recorders and checkers, nor in the proved client and what tl-conform has around a design,
+whatever it is told of a bench."""
 
-from harness import CHECKERS, INCLUDES, SV, WATCH, files, run, test, want
+import os
+
+from harness import CHECKERS, HERE, INCLUDES, SV, WATCH, files, run, test, want
+
+OF_CONFORMANCE = ["tl_random_client", "tl_random_processor", "tl_delay", "tl_never_taken", "tl_memory_only", "tl_probe_source", "tl_take_turns"]
 
 LINTED = [
     ("tl_link_recorder", SV, []), ("tl_manager_recorder", SV, ["-GN=3", "-GTIMEOUT=5"]),
     ("tl_manager_recorder", SV, ["-GN=1", "-GW=16", "-GPENDING=1'b1", "-GCLIENTS=2", "-GFIRST_SOURCES=128'h0400", "-GLAST_SOURCES=128'h0703"]),
     ("tl_link_checker", WATCH + CHECKERS, []), ("tl_manager_checker", WATCH + CHECKERS, ["-GN=3", "-GW=4", "-GTIMEOUT=5"]),
     ("tl_proved_client", ["sv/tl_pkg.sv", "sv/tl_proved_client.sv"], []),
+    *((it, ["sv/tl_pkg.sv", f"conformance/sv/{it}.sv"], ["-I" + os.path.join(HERE, "conformance/sv")]) for it in OF_CONFORMANCE),
 ]
 
 

@@ -1,0 +1,1 @@
+"""What tl-conform is made of."""

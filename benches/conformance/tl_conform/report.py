@@ -1,0 +1,104 @@
+"""The report of a run: a page in HTML that stands alone, and JUnit's XML."""
+
+import base64
+import html
+from xml.sax.saxutils import escape, quoteattr
+
+STYLE = """
+:root { color-scheme: light dark; --ink: #0f172a; --dim: #526077; --paper: #ffffff; --card: #f4f6fa; --line: #d5dbe5; --bad: #b91c1c;
+  --good: #15803d; }
+@media (prefers-color-scheme: dark) {
+  :root { --ink: #e2e8f0; --dim: #9aa8bd; --paper: #0f172a; --card: #1b2740; --line: #34435e; --bad: #f87171; --good: #86efac; }
+}
+body { margin: 0 auto; max-width: 62rem; padding: 1.5rem 1rem 4rem; font: 16px/1.5 system-ui, sans-serif; color: var(--ink);
+  background: var(--paper); }
+h1 { font-size: 1.5rem; margin: 0; }
+h2 { font-size: 1.15rem; margin: 2.2rem 0 .6rem; }
+p { margin: .4rem 0; }
+.dim { color: var(--dim); }
+.bad { color: var(--bad); font-weight: 600; }
+.good { color: var(--good); font-weight: 600; }
+pre { background: var(--card); border: 1px solid var(--line); border-radius: 6px; padding: .7rem .9rem; overflow-x: auto;
+  font-size: .85rem; line-height: 1.4; }
+.wide { overflow-x: auto; }
+table { border-collapse: collapse; width: 100%; font-size: .92rem; }
+th, td { text-align: left; padding: .3rem .9rem .3rem 0; border-bottom: 1px solid var(--line); vertical-align: top; }
+th { color: var(--dim); font-weight: 600; white-space: nowrap; }
+td.number, th.number { text-align: right; font-variant-numeric: tabular-nums; }
+td code { display: inline-block; min-width: 18rem; overflow-wrap: anywhere; }
+img { display: block; box-sizing: border-box; border: 1px solid var(--line); border-radius: 6px; }
+"""
+
+
+class Fault:
+    """Seeds with the same fault: the first of them is explained."""
+
+    def __init__(self, name, seeds, explained, command):
+        self.name, self.seeds, self.explained, self.command = name, seeds, explained, command
+
+
+def page(title, command, about, seeds, faults, sections):
+    """The page. `sections` are further pairs of a heading and HTML, as of what was covered."""
+    at_fault = sum(1 for seed in seeds if seed.fault)
+    verdict = (f'<p class="bad">{at_fault} of {len(seeds)} seeds at fault</p>' if at_fault
+               else f'<p class="good">No fault in {len(seeds)} seeds</p>')
+    parts = [f"<h1>{html.escape(title)}</h1>", verdict, f'<p class="dim">{html.escape(about)}</p>', f"<pre>{html.escape(command)}</pre>"]
+    parts += [of_fault(fault) for fault in faults]
+    parts += [f"<h2>{html.escape(heading)}</h2>\n{body}" for heading, body in sections]
+    parts.append(f"<h2>Seeds</h2>\n{table(seeds)}")
+    head = ['<!DOCTYPE html>', '<html lang="en">', "<head>", '<meta charset="utf-8">',
+            '<meta name="viewport" content="width=device-width, initial-scale=1">', f"<title>{html.escape(title)}</title>",
+            f"<style>{STYLE}</style>", "</head>", "<body>"]
+    return "\n".join([*head, *parts, "</body>", "</html>", ""])
+
+
+def of_fault(fault):
+    first = fault.seeds[0]
+    others = ", ".join(str(seed.number) for seed in fault.seeds[1:])
+    parts = [f"<h2>{html.escape(heading(fault))}</h2>",
+             f"<p>Seed {first.number}, cycle {first.cycles}, found by the {first.by}: <code>{html.escape(first.text)}</code></p>",
+             f'<p class="dim">Seeds with the same: {others}</p>' if others else "",
+             f"<pre>{html.escape(fault.explained.text)}</pre>" if fault.explained.text else ""]
+    if fault.explained.chart:
+        data = base64.b64encode(fault.explained.chart.encode()).decode()
+        parts.append(f'<div class="wide"><img alt="The block\'s messages before the fault" src="data:image/svg+xml;base64,{data}"></div>')
+    parts.append(f"<p>This seed again, with waves:</p>\n<pre>{html.escape(fault.command)}</pre>")
+    return "\n".join(it for it in parts if it)
+
+
+def heading(fault):
+    count = f"{len(fault.seeds)} seed{'s' if len(fault.seeds) > 1 else ''}"
+    return f"{fault.name}: {count}"
+
+
+def table(seeds):
+    rows = "\n".join(
+        f'<tr><td class="number">{seed.number}</td><td class="{"bad" if seed.fault else "good"}">{html.escape(seed.fault or "clean")}</td>'
+        f'<td class="number">{shown(seed.cycles)}</td><td class="number">{shown(seed.beats)}</td><td class="number">{seed.seconds:.1f}</td>'
+        f"<td><code>{html.escape(seed.text)}</code></td></tr>" for seed in seeds)
+    return ('<div class="wide"><table>\n<thead><tr><th class="number">Seed</th><th>Verdict</th><th class="number">Cycles</th>'
+            '<th class="number">Beats</th><th class="number">Seconds</th><th>What was found</th></tr></thead>\n'
+            f"<tbody>\n{rows}\n</tbody>\n</table></div>")
+
+
+def shown(number):
+    return "" if number is None else f"{number:,}"
+
+
+def junit(title, seeds):
+    """A test case for each seed."""
+    at_fault = sum(1 for seed in seeds if seed.fault)
+    lines = ['<?xml version="1.0" encoding="UTF-8"?>', f'<testsuite name={quoteattr(title)} tests="{len(seeds)}" failures="{at_fault}">']
+    for seed in seeds:
+        case = f'  <testcase classname={quoteattr(title)} name="seed {seed.number}" time="{seed.seconds:.2f}"'
+        if seed.fault:
+            text = escape(plain(f"cycle {seed.cycles}: {seed.text}"))
+            lines += [f"{case}>", f"    <failure message={quoteattr(seed.fault)}>{text}</failure>", "  </testcase>"]
+        else:
+            lines.append(f"{case}/>")
+    return "\n".join([*lines, "</testsuite>", ""])
+
+
+def plain(text):
+    """Without what XML can't have."""
+    return "".join(it if it in "\t\n" or it >= " " else "?" for it in text)

@@ -1,7 +1,7 @@
 #!/usr/bin/env python3
 """managers.py TLTOOL [--traces N] [--events N]: random traces of managers that aren't this project's, judged by `TLTOOL
-coherent`. A right manager, and a memory that serves each beat of a Get by itself, must be coherent. Each of twelve wrong managers
-must break a rule in some trace; how many of its traces do is printed, by rule.
+coherent`. A right manager, and memories that serve each beat of a Get by itself, or of a Put too, must be coherent. Each of
+thirteen wrong ones must break a rule in some trace; how many of its traces do is printed, by rule.
 
 Three caches and a device contend for two blocks at 16 bytes a beat. The manager serves one request of a block at a time."""
 
@@ -216,35 +216,94 @@ def managed(seed, bug, events):
     return "\n".join(world.lines) + "\n"
 
 
-def served_by_beats(seed, events):
-    """A trace of a memory without caches, on three links at 8 bytes a beat: each beat of a Get brings what memory has then, and a
-    Put is performed at once."""
-    rng, memory, lines = random.Random(seed), bytearray(2 * BLOCK), ["tltrace 1 UH UH UH"]
-    open_requests = [None] * 3
+class Request:
+    """What a memory without caches has to serve: a Get, or a Put with its bytes, and how far each has come."""
+
+    def __init__(self, size, at, written):
+        self.size, self.at, self.written = size, at, written
+        self.come = self.done = 0  # bytes of a Put that were brought, and that were written; of a Get that were answered
+
+
+class Plain:
+    """A memory without caches, on three links at 8 bytes a beat. Each beat of a Get brings what memory has then. A Put is performed
+    at once, or, `by_beats`, each beat by itself some time after it came. With the bug a Put is answered before its last beat is
+    written."""
+
+    BEAT = 8
+
+    def __init__(self, seed, by_beats, bug=False):
+        self.rng, self.by_beats, self.bug = random.Random(seed), by_beats, bug
+        self.memory, self.late = bytearray(2 * BLOCK), []
+        self.open = [None] * 3
+        self.lines = ["tltrace 1 UH UH UH"]
+
+    def ask(self, link):
+        size = self.rng.choice([3, 4, 5, 6])
+        at = self.rng.randrange(0, len(self.memory), 1 << size)
+        if self.rng.random() < 0.5:
+            self.lines.append(f"{link:02x} A 4 0 {size} 00 {at:08x} ff - 0")
+            self.open[link] = Request(size, at, None)
+            return
+        self.open[link] = Request(size, at, bytes(self.rng.randrange(256) for _ in range(1 << size)))
+        self.bring(link)
+        while not self.by_beats and self.open[link].come < 1 << size:
+            self.bring(link)
+
+    def bring(self, link):
+        """The next beat of a Put."""
+        it = self.open[link]
+        bytes_of_beat = it.written[it.come:it.come + self.BEAT]
+        self.lines.append(f"{link:02x} A 0 0 {it.size} 00 {it.at:08x} ff {int.from_bytes(bytes_of_beat, 'little'):016x} 0")
+        it.come += self.BEAT
+
+    def write(self, it):
+        """Writes the next beat of a Put that has come."""
+        at = it.at + it.done
+        self.memory[at:at + self.BEAT] = it.written[it.done:it.done + self.BEAT]
+        it.done += self.BEAT
+
+    def put(self, link, it):
+        if it.come < len(it.written) and (it.done == it.come or self.rng.random() < 0.5):
+            self.bring(link)
+            return
+        left = len(it.written) - it.done
+        if self.by_beats and left > (self.BEAT if self.bug else 0):
+            self.write(it)
+            return
+        if self.bug:
+            self.late.append(it)
+        while not self.bug and it.done < len(it.written):
+            self.write(it)
+        self.lines.append(f"{link:02x} D 0 0 {it.size} 00 00 0 - 0")
+        self.open[link] = None
+
+    def get(self, link, it):
+        at = it.at + it.done
+        found = int.from_bytes(self.memory[at:at + self.BEAT], "little")
+        self.lines.append(f"{link:02x} D 1 0 {it.size} 00 00 0 {found:016x} 0")
+        it.done += self.BEAT
+        if it.done >= 1 << it.size:
+            self.open[link] = None
+
+    def step(self):
+        if self.late and self.rng.random() < 0.2:
+            self.write(self.late.pop())
+        link = self.rng.randrange(3)
+        it = self.open[link]
+        if it is None:
+            self.ask(link)
+        elif it.written is None:
+            self.get(link, it)
+        else:
+            self.put(link, it)
+
+
+def served(seed, events, by_beats, bug=False):
+    """A trace of such a memory."""
+    memory = Plain(seed, by_beats, bug)
     for _ in range(events):
-        link = rng.randrange(3)
-        if open_requests[link] is None:
-            size = rng.choice([3, 4, 5, 6])
-            at = rng.randrange(0, len(memory), 1 << size)
-            if rng.random() < 0.5:
-                lines.append(f"{link:02x} A 4 0 {size} 00 {at:08x} ff - 0")
-                open_requests[link] = [size, at, None, 0]
-            else:
-                written = bytes(rng.randrange(256) for _ in range(1 << size))
-                for beat in range(0, len(written), 8):
-                    lines.append(f"{link:02x} A 0 0 {size} 00 {at:08x} ff {int.from_bytes(written[beat:beat + 8], 'little'):016x} 0")
-                open_requests[link] = [size, at, written, 0]
-            continue
-        size, at, written, served = open_requests[link]
-        if written:
-            memory[at:at + len(written)] = written
-            lines.append(f"{link:02x} D 0 0 {size} 00 00 0 - 0")
-            open_requests[link] = None
-            continue
-        found = int.from_bytes(memory[at + served:at + served + 8], "little")
-        lines.append(f"{link:02x} D 1 0 {size} 00 00 0 {found:016x} 0")
-        open_requests[link] = [size, at, None, served + 8] if served + 8 < 1 << size else None
-    return "\n".join(lines) + "\n"
+        memory.step()
+    return "\n".join(memory.lines) + "\n"
 
 
 def judged(tool, traces):
@@ -264,8 +323,10 @@ def main():
     asked = words.parse_args()
     coherent, passed, failed = f"coherent {asked.traces}", 0, 0
     right = {"right": lambda seed: managed(seed, None, asked.events),
-             "a memory that serves Gets beat by beat": lambda seed: served_by_beats(seed, asked.events)}
+             "a memory that serves Gets beat by beat": lambda seed: served(seed, asked.events, False),
+             "a memory that serves Gets and Puts beat by beat": lambda seed: served(seed, asked.events, True)}
     wrong = {name: lambda seed, bug=bug: managed(seed, bug, asked.events) for name, bug in BUGS.items()}
+    wrong["answers a Put before its last beat is written"] = lambda seed: served(seed, asked.events, True, True)
     for name, trace in [*right.items(), *wrong.items()]:
         said = judged(asked.tool, map(trace, range(asked.traces)))
         print(f"{name}: {said}", flush=True)

@@ -83,6 +83,8 @@ WRONG_MEMORY = [
     ("data that are given back say nothing", STEPS, "(it.opcode == C_ProbeAckData || it.opcode == C_ReleaseData)", "1'b0"),
     ("a GrantData says nothing", STEPS, "grant && it.last && (it.opcode == D_GrantData || unread)", "1'b0"),
     ("a Put writes all lanes", STEPS, "has_byte && mask[lane]", "has_byte"),
+    ("a Put is pending from its last beat on", STEPS, "(is_put || it.last)", "it.last"),
+    ("the windows of a Put count from its last beat on", STEPS, "{SLOTS{it.first || !is_put}}", "{SLOTS{it.last}}"),
     ("what is pending can't be granted", STEPS, "was.may || |(was.pending & was.writes & was.could & was.window)", "was.may"),
     ("what is pending can't be read", STEPS, "(it.may || |(it.pending & it.writes & it.could & ~reader))", "it.may"),
     ("a read looks at the last window alone", STEPS, "wire read = it.read || (window", "wire read = (window"),
@@ -119,6 +121,23 @@ DIRECTED_MEMORY = [
 00 A 0 0 0 00 00000008 01 0000000000000007 0
 00 D 0 0 0 00 00 0 - 0
 01 D 1 0 4 00 00 0 0000000000000007 0
+"""),
+    ("a Get brings the first beat of a Put whose second has not come", """tltrace 2 8 UH UL UL
+00 A 0 0 3 00 00000000 ff 0505050505050505 0
+00 D 0 0 3 00 00 0 - 0
+00 A 0 0 4 00 00000000 ff 0707070707070707 0
+01 A 4 0 0 00 00000000 01 - 0
+01 D 1 0 0 00 00 0 0000000000000007 0
+"""),
+    ("a Put of 9 is written between the beats of a Put of 7, and found behind both", """tltrace 2 8 UH UH UL
+00 A 0 0 4 00 00000000 ff 0707070707070707 0
+01 A 0 0 4 00 00000000 ff 0909090909090909 0
+01 A 0 0 4 00 00000000 ff 0909090909090909 0
+01 D 0 0 4 00 00 0 - 0
+00 A 0 0 4 00 00000000 ff 0707070707070707 0
+00 D 0 0 4 00 00 0 - 0
+01 A 4 0 0 00 00000000 01 - 0
+01 D 1 0 0 00 00 0 0000000000000009 0
 """),
     ("a Get brings what a Put writes that is pending", """tltrace 2 8 UL UL UL
 00 A 0 0 0 00 00000000 01 0000000000000005 0

@@ -154,6 +154,9 @@ a_get_after_an_answer = refl
 abbrev sevens : List ℕ
 sevens = replicate 4 7
 
+abbrev nines : List ℕ
+nines = replicate 4 9
+
 -- a Get is served beat by beat: its second beat may bring what was written after the first
 a_get_served_beat_by_beat : untrue {w = 4} (put 0 0 3 fives 15 ∷ put 0 0 3 fives 15 ∷ done 0 0 3 ∷ get 1 0 3 15 ∷ found
     1 0 3 fives ∷ put 0 0 3 sevens 15 ∷ put 0 0 3 sevens 15 ∷ done 0 0 3 ∷ found 1 0 3 sevens ∷ []) ≡ None
@@ -169,6 +172,49 @@ unfolding untrue_from may_be may_read pending_accesses carried_byte bytes_carrie
     window_began last_window last_told each_from before_last effect unfinished on_link request_of release_of probe_of
     grant_sink pending held_under all_but_early is_free
 a_beat_from_nowhere = refl
+
+-- eight bytes are 5, and the first beat of a Put to them has come
+abbrev begun : Trace 4 → Trace 4
+begun rest = put 0 0 3 fives 15 ∷ put 0 0 3 fives 15 ∷ done 0 0 3 ∷ put 0 0 3 sevens 15 ∷ rest
+
+-- a Put is written beat by beat: a Get may bring what its first beat brought before the second has come
+a_put_written_beat_by_beat : untrue
+    (begun (get 1 0 2 15 ∷ found 1 0 2 sevens ∷ put 0 0 3 sevens 15 ∷ done 0 0 3 ∷ [])) ≡ None
+unfolding untrue_from may_be may_read pending_accesses carried_byte bytes_carried carried_mask windows_since
+    window_began last_window last_told each_from before_last effect unfinished on_link request_of release_of probe_of
+    grant_sink pending held_under all_but_early is_free
+a_put_written_beat_by_beat = refl
+
+-- or what was there before
+a_put_written_at_its_end : untrue
+    (begun (get 1 0 2 15 ∷ found 1 0 2 fives ∷ put 0 0 3 sevens 15 ∷ done 0 0 3 ∷ [])) ≡ None
+unfolding untrue_from may_be may_read pending_accesses carried_byte bytes_carried carried_mask windows_since
+    window_began last_window last_told each_from before_last effect unfinished on_link request_of release_of probe_of
+    grant_sink pending held_under all_but_early is_free
+a_put_written_at_its_end = refl
+
+-- but not what is still to come
+a_byte_before_its_beat : untrue (begun (get 1 0 3 15 ∷ found 1 0 3 sevens ∷ found 1 0 3 sevens ∷ put 0 0 3 sevens
+    15 ∷ done 0 0 3 ∷ [])) ≡ Some 6
+unfolding untrue_from may_be may_read pending_accesses carried_byte bytes_carried carried_mask windows_since
+    window_began last_window last_told each_from before_last effect unfinished on_link request_of release_of probe_of
+    grant_sink pending held_under all_but_early is_free
+a_byte_before_its_beat = refl
+
+-- when it is answered it is written
+a_put_answered : untrue (begun (put 0 0 3 sevens 15 ∷ done 0 0 3 ∷ get 1 0 2 15 ∷ found 1 0 2 fives ∷ [])) ≡ Some 7
+unfolding untrue_from may_be may_read pending_accesses carried_byte bytes_carried carried_mask windows_since
+    window_began last_window last_told each_from before_last effect unfinished on_link request_of release_of probe_of
+    grant_sink pending held_under all_but_early is_free
+a_put_answered = refl
+
+-- a Put that comes and is answered between the beats of another one may be written behind the first beat of that
+a_put_between_beats : untrue (begun (put 1 0 3 nines 15 ∷ put 1 0 3 nines 15 ∷ done 1 0 3 ∷ put 0 0 3 sevens 15 ∷ done
+    0 0 3 ∷ get 1 0 3 15 ∷ found 1 0 3 nines ∷ found 1 0 3 sevens ∷ [])) ≡ None
+unfolding untrue_from may_be may_read pending_accesses carried_byte bytes_carried carried_mask windows_since
+    window_began last_window last_told each_from before_last effect unfinished on_link request_of release_of probe_of
+    grant_sink pending held_under all_but_early is_free
+a_put_between_beats = refl
 
 -- an atomic is performed before its answer begins
 a_write_after_an_answer_began : untrue (adding (found 0 0 3 fives ∷ put 1 0 3 sevens 15 ∷ put 1 0 3 sevens 15 ∷ done 1 0

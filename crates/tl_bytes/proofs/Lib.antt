@@ -9,5 +9,6 @@ pub mod Reading
 pub mod Since
 pub mod Told
 pub mod ToldLines
+pub mod Whole
 pub mod WorkedBeats
 pub mod Imports

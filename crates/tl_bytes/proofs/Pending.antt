@@ -1,28 +1,32 @@
 -- The accesses that are pending with one more beat.
 use Rattle.tl_bytes.proofs.Imports.{Beat, Link, unfinished, Trace, on_link, Access, pending_accesses}
-use Rattle.std.proofs.Common.{◌≡◌, ℕ, suc, Bool, true, false, not, ◌&&◌, ◌<◌, ◌≤◌, List, [], ◌∷◌, ◌⊎◌, inl, inr, length}
+use Rattle.std.proofs.Common.{◌≡◌, ℕ, suc, Bool, true, false, ◌&&◌, ◌<◌, ◌≤◌, List, [], ◌∷◌, ◌⊎◌, inl, inr, length}
 use Rattle.std.proofs.Common.{refl, sym, ap, ◌∙◌, arith}
-use Rattle.std.specs.Prelude.{if◌then◌else◌, find, filter, Some, None, ◌==◌}
-use Rattle.std.proofs.lemmas.Bool.{cases_eq, eqb-true, and_parts}
+use Rattle.std.specs.Prelude.{if◌then◌else◌, find, Option, Some, None, ◌==◌}
+use Rattle.std.proofs.lemmas.Bool.{cases_eq, eq-eqb, eqb-true, and_parts}
 use Rattle.tl_beat.{specs.declared.beat.BeatA.BeatA, specs.declared.beat.BeatD.BeatD}
 use Rattle.tl_beat.{specs.declared.channel.Channel.Channel}
 use Rattle.tl_burst.specs.statement.Messages.{History}
-use Rattle.tl_rules.specs.statement.History.{ends}
-use Rattle.tl_bytes.specs.statement.Bytes.{asked_by, ends_request, is_access, is_of, pending_with}
+use Rattle.tl_bytes.specs.statement.Bytes.{all_but, asked_by, asked_since, asks, ends_request, is_of, pending_with}
 use Rattle.tl_bytes.proofs.Finding.{find-left, find-left_out, same-some}
 
 -- the access with this source of the link is pending
 abbrev pub IsPending : {w : ℕ} → ℕ → ℕ → Access w → Trace w → Type 0
 IsPending c s p t = find (is_of c s) (pending_accesses t) ≡ Some p
 
--- the beat completes its request
+-- it is asked for with the beat: with one of a Put's beats, or the last of another request
 pub record IsAskedNow {w : ℕ} (c s : ℕ) (p : Access w) (y : Link × Beat w) (t : Trace w) : Type 0 where
-  pub first : BeatA w
-  pub beat_is : y.1 ≡ Beat.A first
-  pub completes : is_access first.opcode && ends (Beat.A first) (on_link y.0.0 t) ≡ true
+  pub beat : BeatA w
+  pub beat_is : y.1 ≡ Beat.A beat
+  pub asks_it : asks beat (on_link y.0.0 t) ≡ true
   pub link_is : c ≡ y.0.0
-  pub source_is : s ≡ first.source
-  pub access_is : p ≡ asked_by y.0.0 first (Beat.A first ∷ unfinished Channel.A (on_link y.0.0 t)) (suc (length t))
+  pub source_is : s ≡ beat.source
+  pub access_is : p ≡ asked_by y.0.0 beat (Beat.A beat ∷ unfinished Channel.A (on_link y.0.0 t))
+      (asked_since (find (is_of y.0.0 beat.source) (pending_accesses t)) (suc (length t)))
+
+-- none is asked for with this source
+abbrev pub AsksNot : {w : ℕ} → ℕ → ℕ → Link × Beat w → Trace w → Type 0
+AsksNot {w} c s y t = (z : BeatA w) → y.1 ≡ Beat.A z → asks z (on_link y.0.0 t) ≡ true → c ≡ y.0.0 → s ≡ z.source → ⊥
 
 -- the beat completes its answer
 pub record IsAnsweredNow {w : ℕ} (c s : ℕ) (y : Link × Beat w) (t : Trace w) : Type 0 where
@@ -47,9 +51,36 @@ apart c s link source x ne e = go (is_of link source x) refl
           sym (eqb-true x.request.source s one.1) ∙ eqb-true x.request.source source other.1,
         ))
 
--- an access that is pending was so before, or is asked for now
+-- what is found among those that are left, where one is gone
+pub found-but : {w : ℕ} (c s link source : ℕ) (accesses : List (Access w)) → ((c ≡ link) × (s ≡ source) → ⊥)
+    → find (is_of c s) (all_but link source accesses) ≡ find (is_of c s) accesses
+found-but c s link source accesses ne =
+    find-left (is_of link source) (is_of c s) accesses (λ x. apart c s link source x ne)
+
+pub gone-but : {w : ℕ} (c s link source : ℕ) (accesses : List (Access w)) → c ≡ link → s ≡ source
+    → find (is_of c s) (all_but link source accesses) ≡ None
+gone-but c s link source accesses e f =
+    find-left_out (is_of link source) (is_of c s) accesses (λ x g. rw (← e, ← f) g)
+
+-- what is found where one is asked for with this source
+pub found-asked : {w : ℕ} (c s link source : ℕ) (new : Access w) (accesses : List (Access w)) → new.link ≡ link
+    → new.request.source ≡ source → find (is_of c s) (new ∷ all_but link source accesses)
+    ≡ (if (link == c) && (source == s) then Some new else find (is_of c s) accesses)
+found-asked {w} c s link source new accesses e f = go ((link == c) && (source == s)) refl
+  where
+    go : (b : Bool) → (link == c) && (source == s) ≡ b
+        → find (is_of c s) (new ∷ all_but link source accesses) ≡ (if b then Some new else find (is_of c s) accesses)
+    go true g = rw (e, f, g) refl
+    go false g = rw (e, f, g) (found-but c s link source accesses
+        (λ same. absurd (let no : true ≡ false =
+        sym (both_true (eq-eqb link c (sym same.0)) (eq-eqb source s (sym same.1))) ∙ g in cc)))
+      where
+        both_true : {a b : Bool} → a ≡ true → b ≡ true → a && b ≡ true
+        both_true h k = rw (h, k) refl
+
+-- an access that is pending was so before, and isn't asked for now, or is asked for now
 pub pending-before : {w : ℕ} (c s : ℕ) (p : Access w) (y : Link × Beat w) (t : Trace w) → IsPending c s p (y ∷ t)
-    → IsPending c s p t ⊎ IsAskedNow c s p y t
+    → (IsPending c s p t × AsksNot c s y t) ⊎ IsAskedNow c s p y t
 unfolding pending_accesses
 pending-before {w} c s p y t is = go y.1 refl is
   where
@@ -60,55 +91,71 @@ pending-before {w} c s p y t is = go y.1 refl is
     past = on_link y.0.0 t
 
     Result : Type 0
-    Result = IsPending c s p t ⊎ IsAskedNow c s p y t
+    Result = (IsPending c s p t × AsksNot c s y t) ⊎ IsAskedNow c s p y t
 
-    asks : (z : BeatA w) → y.1 ≡ Beat.A z → (b : Bool) → is_access z.opcode && ends (Beat.A z) past ≡ b
-        → find (is_of c s) (if b then asked_by y.0.0 z (Beat.A z ∷ unfinished Channel.A past) (suc (length t)) ∷ before
-        else before) ≡ Some p → Result
-    asks z e false f is = inl is
-    asks z e true f is =
-        new (asked_by y.0.0 z (Beat.A z ∷ unfinished Channel.A past) (suc (length t))) refl refl
-        (is_of c s (asked_by y.0.0 z (Beat.A z ∷ unfinished Channel.A past) (suc (length t)))) refl is
+    same_a : {x z : BeatA w} → Beat.A x ≡ Beat.A z → x ≡ z
+    same_a e = cc
+
+    asks_now : (z : BeatA w) → y.1 ≡ Beat.A z → (b : Bool) → asks z past ≡ b → (new : Access w)
+        → new ≡ asked_by y.0.0 z (Beat.A z ∷ unfinished Channel.A past)
+        (asked_since (find (is_of y.0.0 z.source) before) (suc (length t)))
+        → find (is_of c s) (if b then new ∷ all_but y.0.0 z.source before else before) ≡ Some p → Result
+    asks_now z e false f new g is = inl (
+      is,
+      λ x h over link source. absurd (let no : true ≡ false =
+          sym over ∙ ap (λ v. asks v past) (same_a (sym h ∙ e)) ∙ f in cc),
+    )
+    asks_now z e true f new g is = own ((y.0.0 == c) && (z.source == s)) refl
+        (sym (found-asked c s y.0.0 z.source new before (ap (λ (q : Access w). q.link) g)
+        (ap (λ (q : Access w). q.request.source) g)) ∙ is)
       where
-        new : (q : Access w) → asked_by y.0.0 z (Beat.A z ∷ unfinished Channel.A past) (suc (length t)) ≡ q
-            → (y.0.0 == c) && (z.source == s) ≡ is_of c s q → (b : Bool) → is_of c s q ≡ b
-            → (if b then Some q else find (is_of c s) before) ≡ Some p → Result
-        new q g same false other is = inl is
-        new q g same true both_are is =
-            let both = and_parts (y.0.0 == c) (z.source == s) (same ∙ both_are) in
+        own : (b : Bool) → (y.0.0 == c) && (z.source == s) ≡ b
+            → (if b then Some new else find (is_of c s) before) ≡ Some p → Result
+        own false other is = inl (
+          is,
+          λ x h over link source. absurd (let same = same_a (sym h ∙ e) in
+              let no : true ≡ false = sym (both_true (eq-eqb y.0.0 c (sym link))
+              (eq-eqb z.source s (ap (λ (v : BeatA w). v.source) (sym same) ∙ sym source))) ∙ other in cc),
+        )
+          where
+            both_true : {a b : Bool} → a ≡ true → b ≡ true → a && b ≡ true
+            both_true h k = rw (h, k) refl
+        own true both_are is =
+            let both = and_parts (y.0.0 == c) (z.source == s) both_are in
             inr (record {
-              first = z;
+              beat = z;
               beat_is = e;
-              completes = f;
+              asks_it = f;
               link_is = sym (eqb-true y.0.0 c both.0);
               source_is = sym (eqb-true z.source s both.1);
-              access_is = same-some q p is ∙ sym g;
+              access_is = same-some new p is ∙ g;
             })
 
-    answers : (z : BeatD w) → (b : Bool) → ends_request z past ≡ b
-        → find (is_of c s) (if b then filter (λ access. not (is_of y.0.0 z.source access)) before else before) ≡ Some p
-        → Result
-    answers z false f is = inl is
-    answers z true f is = elim (cases_eq c y.0.0) [
-      | inr ne ↦ inl (sym (find-left (is_of y.0.0 z.source) (is_of c s) before
-          (λ x. apart c s y.0.0 z.source x (λ same. ne same.0))) ∙ is)
+    answers : (z : BeatD w) → y.1 ≡ Beat.D z → (b : Bool) → ends_request z past ≡ b
+        → find (is_of c s) (if b then all_but y.0.0 z.source before else before) ≡ Some p → Result
+    answers z e false f is = inl (is, λ x h. absurd (let no : Beat.A x ≡ Beat.D z = sym h ∙ e in cc))
+    answers z e true f is = elim (cases_eq c y.0.0) [
+      | inr ne ↦ inl (sym (found-but c s y.0.0 z.source before (λ same. ne same.0)) ∙ is, never)
       | inl link ↦ elim (cases_eq s z.source) [
-        | inr ne ↦ inl (sym (find-left (is_of y.0.0 z.source) (is_of c s) before
-            (λ x. apart c s y.0.0 z.source x (λ same. ne same.1))) ∙ is)
-        | inl source ↦ absurd (let none : None ≡ Some p = sym (find-left_out (is_of y.0.0 z.source) (is_of c s) before
-            (λ x g. rw (← link, ← source) g)) ∙ is in cc)
+        | inr ne ↦ inl (sym (found-but c s y.0.0 z.source before (λ same. ne same.1)) ∙ is, never)
+        | inl source ↦ absurd (let none : None ≡ Some p = sym (gone-but c s y.0.0 z.source before link source) ∙ is in
+            cc)
       ]
     ]
+      where
+        never : AsksNot c s y t
+        never x h = absurd (let no : Beat.A x ≡ Beat.D z = sym h ∙ e in cc)
 
     go : (b : Beat w) → y.1 ≡ b → find (is_of c s) (pending_with y.0.0 b past (suc (length t)) before) ≡ Some p → Result
-    go (Beat.A z) e is = asks z e (is_access z.opcode && ends (Beat.A z) past) refl is
-    go (Beat.D z) e is = answers z (ends_request z past) refl is
-    go v e is = inl is
+    go (Beat.A z) e is = asks_now z e (asks z past) refl _ refl is
+    go (Beat.D z) e is = answers z e (ends_request z past) refl is
+    go (Beat.B z) e is = inl (is, λ x h. absurd (let no : Beat.A x ≡ Beat.B z = sym h ∙ e in cc))
+    go (Beat.C z) e is = inl (is, λ x h. absurd (let no : Beat.A x ≡ Beat.C z = sym h ∙ e in cc))
+    go (Beat.E z) e is = inl (is, λ x h. absurd (let no : Beat.A x ≡ Beat.E z = sym h ∙ e in cc))
 
--- one that is pending stays so, where its answer isn't complete now, and no other with its source is asked for
+-- one that is pending stays so, where its answer isn't complete now, and none is asked for with its source
 pub pending-after : {w : ℕ} (c s : ℕ) (p : Access w) (y : Link × Beat w) (t : Trace w) → IsPending c s p t
-    → ((z : BeatA w) → y.1 ≡ Beat.A z → is_access z.opcode && ends (Beat.A z) (on_link y.0.0 t) ≡ true → c ≡ y.0.0
-    → s ≡ z.source → ⊥) → IsPending c s p (y ∷ t) ⊎ IsAnsweredNow c s y t
+    → AsksNot c s y t → IsPending c s p (y ∷ t) ⊎ IsAnsweredNow c s y t
 unfolding pending_accesses
 pending-after {w} c s p y t is never = go y.1 refl
   where
@@ -121,40 +168,37 @@ pending-after {w} c s p y t is never = go y.1 refl
     Result : Beat w → Type 0
     Result b = (find (is_of c s) (pending_with y.0.0 b past (suc (length t)) before) ≡ Some p) ⊎ IsAnsweredNow c s y t
 
-    asks : (z : BeatA w) → y.1 ≡ Beat.A z → (b : Bool) → is_access z.opcode && ends (Beat.A z) past ≡ b
-        → find (is_of c s) (if b then asked_by y.0.0 z (Beat.A z ∷ unfinished Channel.A past) (suc (length t)) ∷ before
-        else before) ≡ Some p
-    asks z e false f = is
-    asks z e true f = new ((y.0.0 == c) && (z.source == s)) refl
+    asks_now : (z : BeatA w) → y.1 ≡ Beat.A z → (b : Bool) → asks z past ≡ b → (new : Access w) → new.link ≡ y.0.0
+        → new.request.source ≡ z.source
+        → find (is_of c s) (if b then new ∷ all_but y.0.0 z.source before else before) ≡ Some p
+    asks_now z e false f new g h = is
+    asks_now z e true f new g h =
+        found-asked c s y.0.0 z.source new before g h ∙ own ((y.0.0 == c) && (z.source == s)) refl
       where
-        new : (b : Bool) → (y.0.0 == c) && (z.source == s) ≡ b
-            → (if b then Some (asked_by y.0.0 z (Beat.A z ∷ unfinished Channel.A past) (suc (length t)))
-            else find (is_of c s) before) ≡ Some p
-        new false other = is
-        new true both_are =
+        own : (b : Bool) → (y.0.0 == c) && (z.source == s) ≡ b
+            → (if b then Some new else find (is_of c s) before) ≡ Some p
+        own false other = is
+        own true both_are =
             let both = and_parts (y.0.0 == c) (z.source == s) both_are in
             absurd (never z e f (sym (eqb-true y.0.0 c both.0)) (sym (eqb-true z.source s both.1)))
 
     answers : (z : BeatD w) → y.1 ≡ Beat.D z → (b : Bool) → ends_request z past ≡ b
-        → (find (is_of c s) (if b then filter (λ access. not (is_of y.0.0 z.source access)) before else before)
-        ≡ Some p) ⊎ IsAnsweredNow c s y t
+        → (find (is_of c s) (if b then all_but y.0.0 z.source before else before) ≡ Some p) ⊎ IsAnsweredNow c s y t
     answers z e false f = inl is
     answers z e true f = elim (cases_eq c y.0.0) [
-      | inr ne ↦ inl (find-left (is_of y.0.0 z.source) (is_of c s) before
-          (λ x. apart c s y.0.0 z.source x (λ same. ne same.0)) ∙ is)
+      | inr ne ↦ inl (found-but c s y.0.0 z.source before (λ same. ne same.0) ∙ is)
       | inl link ↦ elim (cases_eq s z.source) [
-        | inr ne ↦ inl (find-left (is_of y.0.0 z.source) (is_of c s) before
-            (λ x. apart c s y.0.0 z.source x (λ same. ne same.1)) ∙ is)
+        | inr ne ↦ inl (found-but c s y.0.0 z.source before (λ same. ne same.1) ∙ is)
         | inl source ↦ inr (record { last = z; beat_is = e; completes = f; link_is = link; source_is = source })
       ]
     ]
 
     go : (b : Beat w) → y.1 ≡ b → Result b
-    go (Beat.A z) e = inl (asks z e (is_access z.opcode && ends (Beat.A z) past) refl)
+    go (Beat.A z) e = inl (asks_now z e (asks z past) refl _ refl refl)
     go (Beat.D z) e = answers z e (ends_request z past) refl
     go v e = inl is
 
--- when the request of a pending access was complete
+-- when a pending access was first asked for
 pub record IsAsked {w : ℕ} (p : Access w) (t : Trace w) : Type 0 where
   pub some : 0 < p.asked
   pub by_now : p.asked ≤ length t
@@ -163,12 +207,18 @@ pub asked-by_now : {w : ℕ} (c s : ℕ) (p : Access w) (t : Trace w) → IsPend
 unfolding pending_accesses
 asked-by_now c s p [] is = absurd cc
 asked-by_now {w} c s p (y ∷ t) is = elim (pending-before c s p y t is) [
-  | inl old ↦ let was = asked-by_now c s p t old in record {
-    some = was.some;
-    by_now = omega (arith, was.by_now);
-  }
-  | inr new ↦ let now : p.asked ≡ suc (length t) = ap (λ (q : Access w). q.asked) new.access_is in record {
-    some = omega (arith, now);
-    by_now = omega (arith, now);
-  }
+  | inl old ↦ later (asked-by_now c s p t old.0)
+  | inr new ↦ first new.beat.source (find (is_of y.0.0 new.beat.source) (pending_accesses t)) refl
+      (ap (λ (q : Access w). q.asked) new.access_is) (λ q e. asked-by_now y.0.0 new.beat.source q t e)
 ]
+  where
+    later : {q : Access w} → IsAsked q t → IsAsked q (y ∷ t)
+    later was = record { some = was.some; by_now = omega (arith, was.by_now) }
+
+    first : (source : ℕ) (o : Option (Access w)) → find (is_of y.0.0 source) (pending_accesses t) ≡ o
+        → p.asked ≡ asked_since o (suc (length t))
+        → ((q : Access w) → find (is_of y.0.0 source) (pending_accesses t) ≡ Some q → IsAsked q t) → IsAsked p (y ∷ t)
+    first source None e now before = record { some = omega (arith, now); by_now = omega (arith, now) }
+    first source (Some q) e since before =
+        let was = before q e in
+        record { some = omega (arith, since, was.some); by_now = omega (arith, since, was.by_now) }

@@ -10,6 +10,7 @@ use Rattle.std.{proofs.Math.Numerals.add-one}
 use Rattle.std.proofs.lemmas.Bool.{cases_Bool, cases_eq, eq-eqb, ne_eqb}
 use Rattle.tl_beat.{specs.declared.beat.BeatD.BeatD, specs.declared.channel.Channel.Channel}
 use Rattle.tl_params.specs.declared.perm.Perm.{Perm}
+use Rattle.tl_bytes.specs.declared.latest.Latest.{Latest}
 use Rattle.tl_bytes.specs.code.Tellings.{displaced, is_displaced, is_written, outlived, stays, telling_at, value_at}
 use Rattle.tl_bytes.specs.code.Tellings.{written_at}
 use Rattle.tl_bytes.specs.declared.standing.Standing.{Standing}
@@ -64,7 +65,7 @@ module _ (write : Write) (since : ℕ) where
     ]
   ]
 
-  module _ (latest : List Telling) where
+  module _ (latest : Latest) where
     abbrev last_at : ℕ → Told
     last_at p = record { place = p; telling = telling_at latest p }
 
@@ -156,7 +157,7 @@ place-of block p lt = omega arith
 
 -- a block that was told of
 pub told-is : {w : ℕ} (values : List (Option ℕ)) (moment n block : ℕ) (b : BlockBytes) (x : Link × Beat w) (t : Trace w)
-    → ((p : ℕ) → p < 64 → telling_at b.latest.items p ≡ record { value = get_or values p None; moment = moment })
+    → ((p : ℕ) → p < 64 → telling_at b.latest p ≡ record { value = get_or values p None; moment = moment })
     → b.earlier.items ≡ [] → b.last ≡ Some moment → tells block x.1 (on_link x.0.0 t) ≡ true → moment ≡ length t
     → AreCarried values x t → KnowsBlock b n block (x ∷ t)
 unfolding may_be last_told tellings_at
@@ -167,19 +168,21 @@ told-is values moment n block b x t last none when told now carried = record {
 }
 
 -- a block of which nothing was
-pub untold-is : {w : ℕ} (n block : ℕ) (b : BlockBytes) → b.latest.items ≡ [] → b.earlier.items ≡ [] → b.last ≡ None
+pub untold-is : {w : ℕ} (n block : ℕ) (b : BlockBytes)
+    → ((p : ℕ) → telling_at b.latest p ≡ record { value = None; moment = 0 }) → b.earlier.items ≡ [] → b.last ≡ None
     → KnowsBlock {w = w} b n block []
 unfolding may_be last_told tellings_at
 untold-is n block b latest none last = record {
-  bytes_are = λ p lt. ap₂ (λ e l. telling_at e p ∷ tellings_at p l) latest none;
+  bytes_are = λ p lt. ap₂ (λ e l. e ∷ tellings_at p l) (latest p) none;
   last_is = rw last refl;
 }
 
 -- the same bytes
-pub copy-known : {w : ℕ} (a b : BlockBytes) (n block : ℕ) (t : Trace w) → b.latest.items ≡ a.latest.items
+pub copy-known : {w : ℕ} (a b : BlockBytes) (n block : ℕ) (t : Trace w)
+    → ((p : ℕ) → telling_at b.latest p ≡ telling_at a.latest p)
     → b.earlier.items ≡ a.earlier.items → b.last ≡ a.last → KnowsBlock a n block t → KnowsBlock b n block t
 copy-known a b n block t latest earlier last k = record {
-  bytes_are = λ p lt. ap₂ (λ l m. telling_at l p ∷ tellings_at p m) latest earlier ∙ k.bytes_are p lt;
+  bytes_are = λ p lt. ap₂ (λ e m. e ∷ tellings_at p m) (latest p) earlier ∙ k.bytes_are p lt;
   last_is = rw last k.last_is;
 }
 
@@ -267,17 +270,17 @@ written-is write moment n block s old new link y access t last items k quiet end
 
 -- what is kept of a place with what is written in the one window that has been open since a moment
 pub written-within : (write : Write) (moment since p : ℕ) (old new : BlockBytes) → p < 64
-    → telling_at new.latest.items p ≡ written_at old.latest.items write moment p
-    → new.earlier.items ≡ outlived old.latest.items old.earlier.items write since
+    → telling_at new.latest p ≡ written_at old.latest write moment p
+    → new.earlier.items ≡ outlived old.latest old.earlier.items write since
     → tellings_of new p ≡ (if is_written write p then by_standing (Standing.Within since)
     (record { value = value_at write p; moment = moment }) (tellings_of old p) else tellings_of old p)
 written-within write moment since p old new lt latest earlier =
     ap₂ (λ e l. e ∷ tellings_at p l) latest earlier ∙ elim (cases_Bool (is_written write p)) [
-      | inr off ↦ rw off (ap (λ l. telling_at old.latest.items p ∷ l)
-          (outlived-off write since old.latest.items old.earlier.items p off))
+      | inr off ↦ rw off (ap (λ l. telling_at old.latest p ∷ l)
+          (outlived-off write since old.latest old.earlier.items p off))
       | inl on ↦ rw on (ap (λ l. record { value = value_at write p; moment = moment } ∷ l)
-          (outlived-on write since old.latest.items old.earlier.items p lt on ∙ once since (value_at write p)
-          (telling_at old.latest.items p ∷ tellings_at p old.earlier.items)))
+          (outlived-on write since old.latest old.earlier.items p lt on ∙ once since (value_at write p)
+          (telling_at old.latest p ∷ tellings_at p old.earlier.items)))
     ]
 
 all-later : (before : List Telling) → filter (λ e. nat_le 0 e.moment) before ≡ before
@@ -286,8 +289,8 @@ all-later (e ∷ before) = rw (leb-zero e.moment) (ap (λ l. e ∷ l) (all-later
 
 -- and at any moment
 pub written-anywhere : (write : Write) (moment p : ℕ) (old new : BlockBytes) → p < 64
-    → telling_at new.latest.items p ≡ written_at old.latest.items write moment p
-    → new.earlier.items ≡ outlived old.latest.items old.earlier.items write 0
+    → telling_at new.latest p ≡ written_at old.latest write moment p
+    → new.earlier.items ≡ outlived old.latest old.earlier.items write 0
     → tellings_of new p ≡ (if is_written write p then by_standing Standing.Anywhere
     (record { value = value_at write p; moment = moment }) (tellings_of old p) else tellings_of old p)
 written-anywhere write moment p old new lt latest earlier =

@@ -54,13 +54,13 @@ pub line-behind : (v : ℕ) (e : Telling) (l : List Telling) → same_value e.va
 unfolding told_moment
 line-behind v e l told = rw told refl
 
-pub told-last : (b : BlockBytes) (place v : ℕ) (e : Telling) → e ≡ telling_at b.latest.items place
+pub told-last : (b : BlockBytes) (place v : ℕ) (e : Telling) → e ≡ telling_at b.latest place
     → same_value e.value (Some v) ≡ true → Some e.moment ≡ told_moment v (tellings_of b place)
 told-last b place v e is told =
     line-last v e (tellings_at place b.earlier.items) told
     ∙ ap (λ (x : Telling). told_moment v (x ∷ tellings_at place b.earlier.items)) is
 
-pub told-earlier : (b : BlockBytes) (place v : ℕ) (e : Telling) → e ≡ telling_at b.latest.items place
+pub told-earlier : (b : BlockBytes) (place v : ℕ) (e : Telling) → e ≡ telling_at b.latest place
     → same_value e.value (Some v) ≡ false
     → told_moment v (tellings_at place b.earlier.items) ≡ told_moment v (tellings_of b place)
 told-earlier b place v e is told =

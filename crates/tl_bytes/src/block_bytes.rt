@@ -12,9 +12,10 @@ ghost use Rattle.tl_rules.specs.statement.Conformance.{Trace, on_link};
 ghost use Rattle.tl_bytes.specs.statement.Bytes as bytes;
 ghost use Rattle.tl_bytes.specs.statement.Bytes.{Access, ends_request, is_of, pending_accesses, tells, told_as};
 
+use crate::latest::Latest;
 use crate::standing::Standing;
-use crate::telling::{Telling, Told, could_be};
-use crate::tellings::{is_told_as, last_at, latest_told, latest_with, outlived};
+use crate::telling::{Told, could_be};
+use crate::tellings::{is_told_as, outlived};
 use crate::windows::{WindowCount, WritingWindows};
 use crate::write::{Write, is_left_as};
 use std::alloc::{AllocError, Global};
@@ -22,8 +23,8 @@ use std::alloc::{AllocError, Global};
 /// What the bytes of one block may be, and when they were last told.
 #[derive(Drop)]
 pub struct BlockBytes {
-    /// What each byte was told to be last; none before that.
-    pub(crate) latest: Vec<Telling>,
+    /// What each byte was told to be last.
+    pub(crate) latest: Latest,
     /// What it may be beside that, the last told first.
     pub(crate) earlier: Vec<Told>,
     /// How many beats had been taken before the one with which a Grant, or data given back, last told of
@@ -40,7 +41,7 @@ impl BlockBytes {
         ensures { (w n block : ℕ) → KnowsBlock {w = w} result n block [] }
     {
         BlockBytes {
-            latest: Vec::new(alloc),
+            latest: Latest::new(alloc),
             earlier: Vec::new(alloc),
             last: None,
         }
@@ -51,7 +52,7 @@ impl BlockBytes {
         ensures { IfOk result (λ b. (w n block : ℕ) (t : Trace w) → KnowsBlock self.now n block t →
             KnowsBlock b n block t) }
     {
-        let latest = Vec::from_slice(alloc, self.latest.as_slice())?;
+        let latest = self.latest.copy(alloc)?;
         let earlier = Vec::from_slice(alloc, self.earlier.as_slice())?;
         Ok(BlockBytes {
             latest,
@@ -65,7 +66,7 @@ impl BlockBytes {
         ensures { (w n block : ℕ) (t : Trace w) → KnowsBlock self.now n block t → place < 64 →
             result ≡ told_as byte (bytes.may_be n (64 * block + place) t) }
     {
-        let last = last_at(self.latest.as_slice(), place);
+        let last = self.latest.at(place);
         could_be(byte, last.value) || is_told_as(self.earlier.as_slice(), place, byte)
     }
 
@@ -104,9 +105,8 @@ impl BlockBytes {
             tells block x.1 (on_link x.0.0 t) ≡ true → moment ≡ length t → AreCarried values.now x t →
             KnowsBlock b n block (x ∷ t)) }
     {
-        let latest = latest_told(values, moment);
         Ok(BlockBytes {
-            latest: Vec::from_slice(alloc, &latest)?,
+            latest: Latest::told(alloc, values, moment)?,
             earlier: Vec::new(alloc),
             last: Some(moment),
         })
@@ -135,11 +135,10 @@ impl BlockBytes {
             Standing::Within(began) => began,
             Standing::Anywhere => 0,
         };
-        let latest = latest_with(self.latest.as_slice(), write, moment);
         let earlier = self.earlier.as_slice();
         Ok(BlockBytes {
-            latest: Vec::from_slice(alloc, &latest)?,
-            earlier: outlived(alloc, self.latest.as_slice(), earlier, write, since)?,
+            latest: self.latest.with(alloc, write, moment)?,
+            earlier: outlived(alloc, &self.latest, earlier, write, since)?,
             last: self.last,
         })
     }

@@ -3,6 +3,7 @@
 
 pub mod block_bytes;
 pub mod carried;
+pub mod latest;
 pub mod lines;
 pub mod read_bytes;
 pub mod standing;

@@ -8,7 +8,6 @@ ghost use Rattle.tl_rules.specs.statement.Conformance.{Trace};
 
 use crate::block_bytes::BlockBytes;
 use crate::telling::{Told, same_value};
-use crate::tellings::last_at;
 
 /// The number of beats before the one that told this value of the byte at a place, by these.
 fn moment_in(told: &[Told], place: u8, byte: u8) -> Option<u64>
@@ -29,7 +28,7 @@ impl BlockBytes {
         ensures told { (w n block : ℕ) (t : Trace w) → KnowsBlock self.now n block t → place < 64 →
             result ≡ told_moment byte (bytes.may_be n (64 * block + place) t) }
     {
-        let last = last_at(self.latest.as_slice(), place);
+        let last = self.latest.at(place);
         if same_value(last.value, Some(byte)) {
             return Some(last.moment);
         }

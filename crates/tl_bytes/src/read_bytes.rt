@@ -10,13 +10,10 @@ ghost use Rattle.tl_bytes.specs.statement.Known as known;
 ghost use Rattle.tl_bytes.specs.statement.Known.{tellings_at, tellings_of};
 
 use crate::block_bytes::BlockBytes;
-use crate::telling::{Possible, Telling, Told, could_be, covers};
-use crate::tellings::{last_at, values_of};
+use crate::latest::{BLOCK_BYTES, Latest};
+use crate::telling::{Possible, Told, could_be, covers};
 use crate::write::Write;
 use std::alloc::{AllocError, Global};
-
-/// The bytes of a block.
-const BLOCK_BYTES: u8 = 64;
 
 /// The value at a place: anything where there is none.
 fn value_at(values: &[Option<u8>], place: u8) -> Option<u8>
@@ -104,12 +101,12 @@ impl ReadBytes {
     }
 
     /// Adds what was told last.
-    fn offer_latest(&mut self, latest: &[Telling]) -> Result<(), AllocError>
+    fn offer_latest(&mut self, latest: &Latest) -> Result<(), AllocError>
         ensures { OnOk result ((at byte : ℕ) → at < 64 → may_bring self.new at byte
             ≡ (may_bring self.old at byte || could_be byte (telling_at latest.now at).value)) }
     {
         for place in 0..BLOCK_BYTES {
-            self.offer(place, last_at(latest, place).value)?;
+            self.offer(place, latest.at(place).value)?;
         }
         Ok(())
     }
@@ -137,14 +134,14 @@ impl ReadBytes {
     }
 
     /// Adds what was told last, in the first window or a later one.
-    fn find_latest(&mut self, alloc: Global, latest: &[Telling]) -> Result<(), AllocError>
+    fn find_latest(&mut self, alloc: Global, latest: &Latest) -> Result<(), AllocError>
         ensures { OnOk result ((at byte : ℕ) → at < 64 → may_bring self.new at byte
             ≡ (may_bring self.old at byte || could_be byte (telling_at latest.now at).value)) }
     {
         if self.first.is_some() {
             return self.offer_latest(latest);
         }
-        self.first = Some(values_of(alloc, latest)?);
+        self.first = Some(Vec::from_slice(alloc, latest.values.as_slice())?);
         Ok(())
     }
 
@@ -160,7 +157,7 @@ impl ReadBytes {
             ≡ (may_bring self.old at byte
             || (told_as byte (tellings_of block.now at) || left_as at byte writes.now))) }
     {
-        self.find_latest(alloc, block.latest.as_slice())?;
+        self.find_latest(alloc, &block.latest)?;
         self.offer_earlier(block.earlier.as_slice())?;
         self.offer_writes(writes)?;
         Ok(())

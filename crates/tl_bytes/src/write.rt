@@ -1,15 +1,25 @@
 //! What an access writes in a block.
 
-ghost use Rattle.std.specs.Prelude.{◌≡◌};
+ghost use Rattle.std.specs.Prelude.{ℕ, true, None, ◌&&◌, ◌<◌, ◌≡◌, nat_lt, slice_index_or};
+ghost use Rattle.tl_burst.specs.statement.Burst as burst;
 ghost use Rattle.tl_bytes.specs.code.Tellings.{is_written, leaves, left_as, value_at};
 
 use crate::telling::could_be;
 
-/// The places of a block that an access writes, and what it writes there: a value, or anything.
+/// The places of a block that an access writes, and what it writes there: a value, or anything. The lowest bit of the mask,
+/// and the first of the values, belong to one place, and the others to those behind it.
 #[derive(Clone, Copy)]
 pub struct Write {
-    pub places: [bool; 64],
+    pub first: usize,
+    pub mask: u64,
     pub values: [Option<u8>; 64],
+}
+
+/// Whether a bit of a mask is set.
+fn is_set(mask: u64, bit: usize) -> bool
+    ensures { result ≡ (nat_lt bit 64 && burst.bit mask bit) }
+{
+    bit < 64 && (mask >> bit) % 2 == 1
 }
 
 impl Write {
@@ -17,18 +27,29 @@ impl Write {
     pub fn writes(&self, place: u8) -> bool
         ensures { result ≡ is_written self.now place }
     {
-        let n = usize::from(place);
-        n < self.places.len() && self.places[n]
+        match usize::from(place).checked_sub(self.first) {
+            None => false,
+            Some(at) => is_set(self.mask, at),
+        }
     }
 
     /// What it writes there.
     pub fn value(&self, place: u8) -> Option<u8>
         ensures { result ≡ value_at self.now place }
     {
-        match self.values.get(usize::from(place)) {
+        let at = usize::from(place).saturating_sub(self.first);
+        match self.values.get(at) {
             Some(value) => *value,
             None => None,
         }
+    }
+
+    /// Whether it writes each place of a block, the first with its first value.
+    pub(crate) fn is_whole(&self) -> bool
+        ensures { result ≡ true → (place : ℕ) → place < 64 →
+            (is_written self.now place ≡ true) × (value_at self.now place ≡ slice_index_or self.now.values place None) }
+    {
+        self.first == 0 && self.mask == u64::MAX
     }
 
     /// Whether it may leave this byte at a place.

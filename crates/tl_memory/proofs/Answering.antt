@@ -1,6 +1,6 @@
 -- What responses answer on a link where no beat broke a rule, and what its complete requests ask for.
 use Rattle.tl_memory.proofs.Imports.{Beat, BeatA, BeatD, History, breaks_burst, burst_length, same_control, unfinished}
-use Rattle.tl_memory.proofs.Imports.{is_empty, control_a, Level, open_request, request_fields, Request}
+use Rattle.tl_memory.proofs.Imports.{is_empty, control_a, Level, request_fields, Request}
 use Rattle.tl_memory.proofs.Imports.{all_but_early, broken_after_under, is_legal_under, block_at, ends, is_release_ack}
 use Rattle.std.proofs.Common.{◌≡◌, ℕ, Bool, true, false, not, ◌&&◌, List, [], ◌∷◌, length, Some, None, refl, sym, ap}
 use Rattle.std.proofs.Common.{◌∙◌, ◌⊎◌, inl, inr, subst}
@@ -10,8 +10,8 @@ use Rattle.tl_beat.specs.declared.channel.Channel.{Channel}
 use Rattle.tl_rules.{specs.code.Tables.kept_request, specs.statement.Conformance.comes_in_request}
 use Rattle.tl_rules.{proofs.Tables.request-next}
 use Rattle.tl_memory.proofs.Lawful.{goes_on, legal-parts}
-use Rattle.tl_memory.proofs.Open.{IsAnswering, ack-whole, as_before, begun-answering, completes_answer, open-still}
-use Rattle.tl_memory.proofs.Open.{open-whole}
+use Rattle.tl_memory.proofs.Open.{IsAnswering, ack-whole, as_before, begun-answering, completes_answer, kept-still}
+use Rattle.tl_memory.proofs.Open.{open-still}
 
 -- ---- responses
 
@@ -201,12 +201,18 @@ coming l (x ∷ t) y older legal is =
 abbrev pub fields_of : {w : ℕ} → BeatA w → Request
 fields_of x = record { opcode = x.opcode; param = x.param; size = x.size; block = block_at x.address }
 
--- one that is complete with a beat is open
-pub open-now : {w : ℕ} (l : Level) (x : BeatA w) (t : History w) → is_legal_under all_but_early l t ≡ true
-    → broken_after_under all_but_early l (Beat.A x) t ≡ None → ends (Beat.A x) t ≡ true
-    → open_request x.source (Beat.A x ∷ t) ≡ Some (fields_of x)
-unfolding unfinished
-open-now l x t legal fine last = open-whole x.source (fields_of x) (Beat.A x ∷ t) (record {
-  kept = with_request l x t fine (λ y older e. coming l t y older legal e);
-  complete = rw last refl;
-})
+-- that of a beat is kept with it
+pub kept-now : {w : ℕ} (l : Level) (x : BeatA w) (t : History w) → is_legal_under all_but_early l t ≡ true
+    → broken_after_under all_but_early l (Beat.A x) t ≡ None
+    → kept_request x.source (Beat.A x ∷ t) ≡ Some (fields_of x)
+kept-now l x t legal fine = with_request l x t fine (λ y older e. coming l t y older legal e)
+
+-- so it was where one with its source was kept before
+pub kept-same : {w : ℕ} (l : Level) (x : BeatA w) (asked : Request) (t : History w)
+    → is_legal_under all_but_early l t ≡ true → broken_after_under all_but_early l (Beat.A x) t ≡ None
+    → kept_request x.source t ≡ Some asked → asked ≡ fields_of x
+kept-same l x asked t legal fine kept =
+    same_request (sym (kept-still l x.source asked (Beat.A x) t fine kept refl) ∙ kept-now l x t legal fine)
+  where
+    same_request : {a b : Request} → Some a ≡ Some b → a ≡ b
+    same_request e = cc

@@ -1,7 +1,8 @@
 -- What an atomic leaves in its block.
 use Rattle.tl_memory.proofs.Imports.{Beat, OpA, a_carries_data, IsWidth, MessageA, bit, data_beats, reaches, first_if}
 use Rattle.tl_memory.proofs.Imports.{L1, L2, L3, a_has_param, a_has_size, a_of_level, base_of, base_in_memory, Access}
-use Rattle.tl_memory.proofs.Imports.{access_writes, writes, is_put, Level}
+use Rattle.tl_memory.proofs.Imports.{access_writes, writes, Level}
+use Rattle.tl_bytes.specs.statement.Bytes.{is_put}
 use Rattle.std.proofs.Common.{◌≡◌, ℕ, Bool, true, false, not, ◌&&◌, ◌+◌, ◌-◌, ◌*◌, ◌/◌, ◌%◌, ◌^◌, ◌<◌, ◌≤◌, List}
 use Rattle.std.proofs.Common.{length, refl, sym, ap, ◌∙◌, ◌⊎◌, [], ◌∷◌, arith, inl, inr, pow_pos}
 use Rattle.std.specs.Prelude.{if◌then◌else◌, nat_le, nat_lt, None, Option, slice_index, unwrap_or, ◌==◌}
@@ -280,7 +281,7 @@ full_mask w size address i (inr (inr w16)) (inr s) e lt = rw (w16, s)
     zero_at : i < 1 → i ≡ 0
     zero_at less = omega (arith, less)
 
-atomic_carries : (op : OpA) → is_atomic op ≡ true → a_carries_data op ≡ true
+pub atomic_carries : (op : OpA) → is_atomic op ≡ true → a_carries_data op ≡ true
 atomic_carries OpA.ArithmeticData e = refl
 atomic_carries OpA.LogicalData e = refl
 atomic_carries v e = absurd cc
@@ -291,6 +292,25 @@ own_legal w op size address mask is full = rw (atomic_mask w op size address mas
 
 no_bit : (n i : ℕ) → n ≡ 0 → bit n i ≡ false
 no_bit n i e = rw (e, div-eq_of_lt (pow_pos i)) refl
+
+-- an atomic that breaks no rule has one of these sizes
+pub performable-sized : (w : ℕ) (op : OpA) (param size address : ℕ) → is_atomic op ≡ true
+    → IsPerformable w op param size address → (size ≡ 2) ⊎ (size ≡ 3)
+performable-sized w op param size address atomic lawful =
+    let one = rule_broken (not (a_of_level Level.UH op)) L1 _ lawful in
+    let two = rule_broken (not (a_has_param op param)) L2 _ one.1 in
+    let three = rule_broken (not (a_has_size w Level.UH op size)) L3 _ two.1 in
+    atomic_sized w op size atomic (denied (a_has_size w Level.UH op size) three.0)
+
+-- and lies in its block
+pub performable-room : (w : ℕ) (op : OpA) (param size address : ℕ) → is_atomic op ≡ true
+    → IsPerformable w op param size address → address % 64 + 2 ^ size ≤ 64
+performable-room w op param size address atomic lawful = room_in_block size address (elim
+    (performable-sized w op param size address atomic lawful) [
+      | inl two ↦ omega (arith, two)
+      | inr three ↦ omega (arith, three)
+    ])
+    (eqb-true (address % 2 ^ size) 0 (control_aligned w Level.UH op param size address lawful))
 
 pub atomic-legal : {w : ℕ} (m : MessageA w) → IsWidth w → is_atomic m.opcode ≡ true
     → IsPerformable w m.opcode m.param m.size m.address → m.mask ≡ whole_mask m.size (m.address % w) → m.corrupt ≡ 0
@@ -303,11 +323,7 @@ atomic-legal {w} m is atomic lawful mask corrupt = legal_from_beats Level.UH Cha
     (full_mask w m.size m.address i is sized aligned (beats i lt))))
   where
     sized : (m.size ≡ 2) ⊎ (m.size ≡ 3)
-    sized =
-        let one = rule_broken (not (a_of_level Level.UH m.opcode)) L1 _ lawful in
-        let two = rule_broken (not (a_has_param m.opcode m.param)) L2 _ one.1 in
-        let three = rule_broken (not (a_has_size w Level.UH m.opcode m.size)) L3 _ two.1 in
-        atomic_sized w m.opcode m.size atomic (denied (a_has_size w Level.UH m.opcode m.size) three.0)
+    sized = performable-sized w m.opcode m.param m.size m.address atomic lawful
 
     aligned : m.address % 2 ^ m.size ≡ 0
     aligned = eqb-true (m.address % 2 ^ m.size) 0 (control_aligned w Level.UH m.opcode m.param m.size m.address lawful)

@@ -1,18 +1,18 @@
 -- Beats that bear on another block leave what is kept of this one.
-use Rattle.tl_memory.proofs.Imports.{Beat, BeatA, BeatC, BeatD, Link, c_carries_data, unfinished, Trace, on_link}
-use Rattle.tl_memory.proofs.Imports.{block_at, ends, Access, asked_by, ends_request, is_access, is_of, pending_accesses}
+use Rattle.tl_memory.proofs.Imports.{Beat, BeatA, BeatC, BeatD, Link, c_carries_data, Trace, on_link}
+use Rattle.tl_memory.proofs.Imports.{block_at, ends, Access, ends_request, is_access, is_of, pending_accesses}
 use Rattle.tl_memory.proofs.Imports.{tells, IsElsewhere, LeavesHeld, PassesBy, WritesNot, AllWriteInside}
 use Rattle.tl_memory.proofs.Imports.{all_but_early, is_to, OpA, begins}
-use Rattle.std.proofs.Common.{◌≡◌, ℕ, suc, Bool, true, false, not, ◌&&◌, ◌||◌, ◌+◌, ◌*◌, ◌/◌, ◌<◌, List, [], ◌∷◌}
-use Rattle.std.proofs.Common.{length, refl, sym, ap, ◌∙◌, inl, inr}
+use Rattle.std.proofs.Common.{◌≡◌, ℕ, Bool, true, false, not, ◌&&◌, ◌||◌, ◌+◌, ◌*◌, ◌/◌, ◌<◌, List, [], ◌∷◌}
+use Rattle.std.proofs.Common.{refl, sym, ap, ◌∙◌, inl, inr}
 use Rattle.std.specs.Prelude.{if◌then◌else◌, filter, find, ◌==◌, Option, Some, None}
-use Rattle.std.proofs.lemmas.Bool.{cases_Bool, eq-eqb}
+use Rattle.std.proofs.lemmas.Bool.{and_parts, cases_Bool, eq-eqb}
 use Rattle.tl_beat.{specs.declared.beat.BeatB.BeatB, specs.declared.beat.BeatE.BeatE}
-use Rattle.tl_beat.{specs.declared.channel.Channel.Channel}
 use Rattle.tl_params.specs.declared.perm.Perm.{Perm}
 use Rattle.tl_rules.specs.statement.History.{grants, is_acquire, is_probe_ack, is_release}
 use Rattle.tl_rules.specs.statement.Liberties.{grows_from_none}
-use Rattle.tl_memory.specs.code.Passing.{acquires_from_none}
+use Rattle.tl_bytes.specs.statement.Bytes.{all_but, asks, is_put}
+use Rattle.tl_memory.specs.code.{Passing.acquires_from_none, Taking.AreContinued, Taking.asked_now}
 use Rattle.tl_memory.{specs.code.Elsewhere.NoneIsTo, proofs.Keeping.inside-kept, proofs.Writing.apart}
 use Rattle.tl_memory.proofs.Elsewhere.{held-kept}
 
@@ -33,45 +33,71 @@ request-leaves block link y t other = held-kept block (Beat.A y) (on_link link.0
     silent true false none other = refl
     silent false acquire none other = refl
 
--- a request that is complete is among those that are pending
-asked-elsewhere : {w : ℕ} (c : Bool) (block : ℕ) (access : Access w) (before : List (Access w))
-    → (c ≡ true → is_to block access ≡ false)
-    → filter (is_to block) (if c then access ∷ before else before) ≡ filter (is_to block) before
-asked-elsewhere true block access before other = rw (other refl) refl
-asked-elsewhere false block access before other = refl
+-- those that are gone are to another block
+none-gone : {w : ℕ} (link source block : ℕ) (accesses : List (Access w)) → NoneIsTo link source block accesses
+    → filter (is_to block) (all_but link source accesses) ≡ filter (is_to block) accesses
+none-gone link source block [] none = refl
+none-gone link source block (access ∷ accesses) none =
+    let more = none-gone link source block accesses none.1 in
+    elim (cases_Bool (is_of link source access)) [
+      | inl own ↦ rw (own, none.0 own) more
+      | inr other ↦ elim (cases_Bool (is_to block access)) [
+        | inl here ↦ rw (other, here) (ap (λ l. access ∷ l) more)
+        | inr there ↦ rw (other, there) more
+      ]
+    ]
 
--- a beat of channel A that completes no access to the block
+-- an access that is asked for is among those that are pending
+asked-elsewhere : {w : ℕ} (c : Bool) (link source block : ℕ) (access : Access w) (before : List (Access w))
+    → (c ≡ true → is_to block access ≡ false) → (c ≡ true → NoneIsTo link source block before)
+    → filter (is_to block) (if c then access ∷ all_but link source before else before) ≡ filter (is_to block) before
+asked-elsewhere true link source block access before other none =
+    rw (other refl) (none-gone link source block before (none refl))
+asked-elsewhere false link source block access before other none = refl
+
+-- a beat of channel A that asks for no access to the block
 request-elsewhere : {w : ℕ} (block : ℕ) (link : Link) (y : BeatA w) (t : Trace w)
     → AllWriteInside (pending_accesses ((link, Beat.A y) ∷ t))
-    → (is_access y.opcode && ends (Beat.A y) (on_link link.0 t) ≡ true → (block_at y.address == block) ≡ false)
+    → (asks y (on_link link.0 t) ≡ true → (block_at y.address == block) ≡ false)
+    → (asks y (on_link link.0 t) ≡ true → NoneIsTo link.0 y.source block (pending_accesses t))
     → IsElsewhere block (link, Beat.A y) t
 unfolding pending_accesses
-request-elsewhere block link y t inside other = record {
+request-elsewhere block link y t inside other none = record {
   quiet = refl;
   keeps = λ place lt. tt;
-  pending_stay = asked-elsewhere (is_access y.opcode && ends (Beat.A y) (on_link link.0 t)) block _
-      (pending_accesses t) other;
+  pending_stay = asked-elsewhere (asks y (on_link link.0 t)) link.0 y.source block _ (pending_accesses t) other none;
   inside = inside;
 }
 
+-- where an access is asked for in another block none with its source is to this one
+continued-apart : {w : ℕ} (link block : ℕ) (y : BeatA w) (accesses : List (Access w)) → AreContinued link y accesses
+    → (block_at y.address == block) ≡ false → NoneIsTo link y.source block accesses
+continued-apart link block y [] are other = tt
+continued-apart link block y (access ∷ accesses) are other = (
+  λ own. ap (λ k. k == block) (are.0 own).1 ∙ other,
+  continued-apart link block y accesses are.1 other,
+)
+
 -- one for another block
 pub request-passes : {w : ℕ} (block : ℕ) (link : Link) (y : BeatA w) (t : Trace w)
-    → AllWriteInside (pending_accesses ((link, Beat.A y) ∷ t)) → (block_at y.address == block) ≡ false
-    → PassesBy block (link, Beat.A y) t
-request-passes block link y t inside other = record {
-  elsewhere = request-elsewhere block link y t inside (λ complete. other);
+    → AllWriteInside (pending_accesses ((link, Beat.A y) ∷ t)) → AreContinued link.0 y (pending_accesses t)
+    → (block_at y.address == block) ≡ false → PassesBy block (link, Beat.A y) t
+request-passes block link y t inside continued other = record {
+  elsewhere = request-elsewhere block link y t inside (λ asked. other)
+      (λ asked. continued-apart link.0 block y (pending_accesses t) continued other);
   held_is = request-leaves block link y t (λ acquires. other);
   unshown = refl;
 }
 
--- one with which no access is complete
+-- one with which no access is asked for
 pub unasked-elsewhere : {w : ℕ} (block : ℕ) (link : Link) (y : BeatA w) (t : Trace w)
-    → AllWriteInside (pending_accesses t) → is_access y.opcode && ends (Beat.A y) (on_link link.0 t) ≡ false
-    → IsElsewhere block (link, Beat.A y) t
+    → AllWriteInside (pending_accesses t) → asks y (on_link link.0 t) ≡ false → IsElsewhere block (link, Beat.A y) t
 unfolding pending_accesses
 unasked-elsewhere block link y t inside none =
-    request-elsewhere block link y t (rw none inside)
-    (λ complete. absurd (let e : true ≡ false = sym complete ∙ none in cc))
+    request-elsewhere block link y t (rw none inside) (λ asked. never asked) (λ asked. never asked)
+  where
+    never : {X : Type 0} → asks y (on_link link.0 t) ≡ true → X
+    never asked = absurd (let e : true ≡ false = sym asked ∙ none in cc)
 
 -- an access is no Acquire
 pub access-bare : {w : ℕ} (y : BeatA w) → is_access y.opcode ≡ true → acquires_from_none y ≡ false
@@ -82,22 +108,28 @@ access-bare {w} y e = go y.opcode e
     go OpA.AcquirePerm e = absurd cc
     go v e = refl
 
--- so one with an Acquire from nothing held completes none
+pub asks-bare : {w : ℕ} {X : Type 0} (link : Link) (y : BeatA w) (t : Trace w) → asks y (on_link link.0 t) ≡ true
+    → acquires_from_none y ≡ true → X
+asks-bare link y t asked acquires =
+    let both = and_parts (is_access y.opcode) (is_put y.opcode || ends (Beat.A y) (on_link link.0 t)) asked in
+    absurd (let no : true ≡ false = sym acquires ∙ access-bare y both.0 in cc)
+
+-- so with an Acquire from nothing held none is asked for
 pub acquire-elsewhere : {w : ℕ} (block : ℕ) (link : Link) (y : BeatA w) (t : Trace w)
     → AllWriteInside (pending_accesses t) → acquires_from_none y ≡ true → IsElsewhere block (link, Beat.A y) t
 acquire-elsewhere block link y t inside acquires =
     unasked-elsewhere block link y t inside (go (is_access y.opcode) refl)
   where
-    go : (access : Bool) → is_access y.opcode ≡ access → access && ends (Beat.A y) (on_link link.0 t) ≡ false
+    go : (access : Bool) → is_access y.opcode ≡ access
+        → access && (is_put y.opcode || ends (Beat.A y) (on_link link.0 t)) ≡ false
     go true e = absurd (let no : true ≡ false = sym acquires ∙ access-bare y e in cc)
     go false e = refl
 
 pub pending-asked : {w : ℕ} (link : Link) (y : BeatA w) (t : Trace w)
-    → is_access y.opcode && ends (Beat.A y) (on_link link.0 t) ≡ true
-    → pending_accesses ((link, Beat.A y) ∷ t)
-    ≡ asked_by link.0 y (Beat.A y ∷ unfinished Channel.A (on_link link.0 t)) (suc (length t)) ∷ pending_accesses t
+    → asks y (on_link link.0 t) ≡ true → pending_accesses ((link, Beat.A y) ∷ t)
+    ≡ asked_now link.0 y t ∷ all_but link.0 y.source (pending_accesses t)
 unfolding pending_accesses
-pending-asked link y t complete = rw complete refl
+pending-asked link y t asked = rw asked refl
 
 -- ---- beats that neither ask nor answer
 
@@ -185,19 +217,6 @@ found-not link source block place (access ∷ accesses) lt inside none = elim (c
   | inr other ↦ rw other (found-not link source block place accesses lt inside.1 none.1)
 ]
 
-none-gone : {w : ℕ} (link source block : ℕ) (accesses : List (Access w)) → NoneIsTo link source block accesses
-    → filter (is_to block) (filter (λ access. not (is_of link source access)) accesses) ≡ filter (is_to block) accesses
-none-gone link source block [] none = refl
-none-gone link source block (access ∷ accesses) none =
-    let more = none-gone link source block accesses none.1 in
-    elim (cases_Bool (is_of link source access)) [
-      | inl own ↦ rw (own, none.0 own) more
-      | inr other ↦ elim (cases_Bool (is_to block access)) [
-        | inl here ↦ rw (other, here) (ap (λ l. access ∷ l) more)
-        | inr there ↦ rw (other, there) more
-      ]
-    ]
-
 -- the accesses that are pending with a beat of channel D are so without it
 response-inside : {w : ℕ} (c : Bool) (keep : Access w → Bool) (accesses : List (Access w)) → AllWriteInside accesses
     → AllWriteInside (if c then filter keep accesses else accesses)
@@ -206,8 +225,7 @@ response-inside false keep accesses inside = inside
 
 response-stays : {w : ℕ} (c : Bool) (link source block : ℕ) (accesses : List (Access w))
     → (c ≡ true → NoneIsTo link source block accesses)
-    → filter (is_to block) (if c then filter (λ access. not (is_of link source access)) accesses else accesses)
-    ≡ filter (is_to block) accesses
+    → filter (is_to block) (if c then all_but link source accesses else accesses) ≡ filter (is_to block) accesses
 response-stays true link source block accesses none = none-gone link source block accesses (none refl)
 response-stays false link source block accesses none = refl
 

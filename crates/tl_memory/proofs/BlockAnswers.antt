@@ -9,7 +9,8 @@ use Rattle.std.specs.Prelude.{find, None, Option, Some, ◌==◌}
 use Rattle.std.proofs.lemmas.Bool.{and_parts, cases_Bool, eq-eqb}
 use Rattle.tl_rules.{specs.statement.History.asks_for, specs.statement.History.grants, proofs.Open.request-fields}
 use Rattle.tl_memory.{specs.code.Elsewhere.NoneIsTo, specs.code.Taking.AreAsked, specs.code.Taking.tells_block}
-use Rattle.tl_memory.{specs.code.Taking.tells_response}
+use Rattle.tl_memory.{specs.code.Taking.tells_response, specs.statement.Known.IsNoPut}
+use Rattle.tl_bytes.specs.statement.Bytes.{is_put}
 use Rattle.tl_memory.proofs.Responses.{grants_no_access, none-answered, response-tells}
 use Rattle.tl_memory.proofs.Bearing.{none_of_both, none_of_three, response-elsewhere, response-passes}
 
@@ -82,6 +83,22 @@ answered-there link source block asked (access ∷ accesses) are here = elim (ca
   | inl own ↦ rw own (eq-eqb (access.request.address / 64) block ((are.0 own).2 ∙ here))
   | inr other ↦ rw other (answered-there link source block asked accesses are.1 here)
 ]
+
+-- what is answered with data is no Put
+pub answered-no_put : {w : ℕ} (link : ℕ) (y : BeatD w) (asked : Request) (accesses : List (Access w))
+    → AreAsked link y.source asked accesses → answers y.opcode asked.opcode ≡ true → y.opcode ≡ OpD.AccessAckData
+    → IsNoPut (find (is_of link y.source) accesses)
+answered-no_put link y asked [] are admitted brings = tt
+answered-no_put {w} link y asked (access ∷ accesses) are admitted brings =
+    elim (cases_Bool (is_of link y.source access)) [
+      | inl own ↦ rw own (ap is_put (are.0 own).1 ∙ go asked.opcode (rw brings at admitted))
+      | inr other ↦ rw other (answered-no_put link y asked accesses are.1 admitted brings)
+    ]
+  where
+    go : (opcode : OpA) → answers OpD.AccessAckData opcode ≡ true → is_put opcode ≡ false
+    go OpA.PutFullData e = absurd cc
+    go OpA.PutPartialData e = absurd cc
+    go v e = refl
 
 -- ---- opcodes
 

@@ -1,20 +1,22 @@
--- What is known of an access whose request is complete, where no beat of its link broke a rule.
+-- What is known of an access that is asked for, where no beat of its link broke a rule.
 use Rattle.tl_memory.proofs.Imports.{Beat, BeatA, OpA, first_if, a_carries_data, IsWidth, MessageA, bit, data_beats}
 use Rattle.tl_memory.proofs.Imports.{reaches, History, burst_length, unfinished, Level, L1, L2, L3, base_of}
 use Rattle.tl_memory.proofs.Imports.{AreTyped, all_but_early, broken_after_under, is_legal_under, block_at, ends, a_has_param, a_has_size}
 use Rattle.tl_memory.proofs.Imports.{a_of_level, base_in_memory, asked_by, is_access, writes, AreWide, WritesInside}
-use Rattle.tl_memory.proofs.Imports.{is_put}
-use Rattle.std.proofs.Common.{◌≡◌, ℕ, zero, suc, Bool, true, false, not, ◌+◌, ◌*◌, ◌/◌, ◌%◌, ◌^◌, ◌<◌, ◌≤◌, List, ◌∷◌}
+use Rattle.tl_bytes.specs.statement.Bytes.{asks, is_put}
+use Rattle.std.proofs.Common.{◌≡◌, ℕ, zero, suc, Bool, true, false, not, ◌||◌, ◌+◌, ◌*◌, ◌/◌, ◌%◌, ◌^◌, ◌<◌, ◌≤◌, List, ◌∷◌}
 use Rattle.std.proofs.Common.{length, Option, None, refl, ap, ◌∙◌, arith, inl, inr}
 use Rattle.std.specs.Prelude.{min, if◌then◌else◌, nat_le, nat_lt}
 use Rattle.std.proofs.lemmas.Bool.{eqb-true, le-leb, ltb-true, and_parts, leb-true}
+use Rattle.std.proofs.Math.Nat.{mul-suc}
 use Rattle.tl_beat.specs.declared.channel.Channel.{Channel}
-use Rattle.tl_burst.specs.statement.Burst.{place_of}
+use Rattle.tl_burst.{specs.statement.Burst.place_of, proofs.Bits.earlier_place}
 use Rattle.tl_params.{specs.declared.rule.Rule.Rule, specs.declared.rule.Rule.TheVariants.L4}
 use Rattle.tl_rules.{specs.statement.Admission.bytes_carried, specs.statement.Legality.is_aligned}
 use Rattle.tl_rules.{proofs.Rooms.room_in_block}
-use Rattle.tl_memory.{specs.statement.Known.IsLawful, specs.statement.Known.IsPerformable, proofs.Atomics.atomic-writes}
-use Rattle.tl_memory.{proofs.Payloads.wide-length, proofs.Unfinished.are-begun, proofs.Unfinished.are-wide}
+use Rattle.tl_memory.{specs.statement.Known.IsLawful, specs.statement.Known.IsPerformable, specs.statement.Known.is_atomic}
+use Rattle.tl_memory.proofs.{Atomics.atomic-writes, Atomics.atomic_carries}
+use Rattle.tl_memory.proofs.{Payloads.wide-length, Unfinished.are-begun, Unfinished.are-wide, Unfinished.fewer-before}
 use Rattle.tl_memory.proofs.Lawful.{IsRequest, by_itself, goes_on, is-request}
 use Rattle.tl_memory.proofs.Puts.{has_byte, placed, put-carries, put_is}
 
@@ -44,6 +46,12 @@ performable w l opcode param size address mask access r =
     (passed (a_has_param opcode param) L2 _ r.has_param
     (passed (a_has_size w Level.UH opcode size) L3 _ (size_of_uh w l opcode size r.has_size r.small)
     (passed (is_aligned address size) L4 None r.aligned refl)))
+
+-- an atomic is asked for with its last beat
+atomic_ends : (opcode : OpA) (last : Bool) → is_atomic opcode ≡ true → (is_put opcode || last) ≡ true → last ≡ true
+atomic_ends OpA.ArithmeticData last atomic e = e
+atomic_ends OpA.LogicalData last atomic e = e
+atomic_ends v last atomic e = absurd cc
 
 -- ---- where its bytes lie
 
@@ -139,11 +147,11 @@ reached_inside address size x le aligned reached =
     let to = ltb-true x (address + 2 ^ size) both.1 in
     omega (arith, room, from, to)
 
--- ---- a request that is complete
+-- ---- an access that is asked for
 
 module _ {w : ℕ} (l : Level) (link : ℕ) (x : BeatA w) (t : History w) (moment : ℕ) (is : IsWidth w)
     (typed : AreTyped (Beat.A x ∷ unfinished Channel.A t)) (legal : is_legal_under all_but_early l t ≡ true)
-    (fine : broken_after_under all_but_early l (Beat.A x) t ≡ None) (last : ends (Beat.A x) t ≡ true) where
+    (fine : broken_after_under all_but_early l (Beat.A x) t ≡ None) where
   abbrev burst : List (Beat w)
   burst = Beat.A x ∷ unfinished Channel.A t
 
@@ -154,16 +162,27 @@ module _ {w : ℕ} (l : Level) (link : ℕ) (x : BeatA w) (t : History w) (momen
   wide-burst carries = are-wide l x (unfinished Channel.A t) typed (goes_on l (Beat.A x) t fine)
       (are-begun l Channel.A t is legal) carries
 
-  long : a_carries_data x.opcode ≡ true → length (bytes_carried burst) ≡ w * data_beats w x.size
-  long carries =
+  whole : (b : Bool) → b ≡ true → (if b then data_beats w x.size else 1) ≡ data_beats w x.size
+  whole b e = rw e refl
+
+  -- the beats have brought no more bytes than a request has
+  short : a_carries_data x.opcode ≡ true → length (bytes_carried burst) ≤ w * data_beats w x.size
+  short carries =
+      let fewer = fewer-before l (Beat.A x) t is legal fine in
+      let one = whole (a_carries_data x.opcode) carries in
+      let place = earlier_place w (data_beats w x.size) (length (unfinished Channel.A t)) (omega (arith, fewer, one)) in
+      let bytes = wide-length burst (wide-burst carries) ∙ mul-suc w (length (unfinished Channel.A t)) in
+      omega (arith, bytes, place)
+
+  -- where they are complete they have brought all
+  long : a_carries_data x.opcode ≡ true → ends (Beat.A x) t ≡ true
+      → length (bytes_carried burst) ≡ w * data_beats w x.size
+  long carries last =
       wide-length burst (wide-burst carries) ∙ ap (λ n. w * n) (count ∙ whole (a_carries_data x.opcode) carries)
     where
       count : suc (length (unfinished Channel.A t)) ≡ burst_length (Beat.A x)
       count =
           let e = eqb-true (length (unfinished Channel.A t) + 1) (burst_length (Beat.A x)) last in omega (arith, e)
-
-      whole : (b : Bool) → b ≡ true → (if b then data_beats w x.size else 1) ≡ data_beats w x.size
-      whole b e = rw e refl
 
   same_size : min x.size 6 ≡ x.size
   same_size = let le = request.small in omega (arith, le)
@@ -171,13 +190,15 @@ module _ {w : ℕ} (l : Level) (link : ℕ) (x : BeatA w) (t : History w) (momen
   aligned : x.address % 2 ^ x.size ≡ 0
   aligned = eqb-true (x.address % 2 ^ x.size) 0 request.aligned
 
-  pub lawful-asked : is_access x.opcode ≡ true → IsLawful (asked_by link x burst moment)
-  lawful-asked access = (
-    rw same_size (performable w l x.opcode x.param x.size x.address x.mask access request),
-    λ carries.
-        let reach = reach_carried w x.size x.address is request.small aligned in
-        rw (same_size, long carries) reach,
-  )
+  pub lawful-asked : asks x t ≡ true → IsLawful (asked_by link x burst moment)
+  lawful-asked asked =
+      let both = and_parts (is_access x.opcode) (is_put x.opcode || ends (Beat.A x) t) asked in (
+        rw same_size (performable w l x.opcode x.param x.size x.address x.mask both.0 request),
+        λ atomic.
+            let reach = reach_carried w x.size x.address is request.small aligned in
+            rw (same_size, long (atomic_carries x.opcode atomic) (atomic_ends x.opcode (ends (Beat.A x) t) atomic both.1))
+            reach,
+      )
 
   pub writes-inside : WritesInside (asked_by link x burst moment)
   writes-inside y written = go (is_put x.opcode) refl
@@ -188,8 +209,8 @@ module _ {w : ℕ} (l : Level) (link : ℕ) (x : BeatA w) (t : History w) (momen
       go : (b : Bool) → is_put x.opcode ≡ b → block_at y ≡ block_at x.address
       go true put =
           let inside = carried_inside w x.size x.address is request.small aligned in
-          let carries = put-carries x.opcode put in
-          put_inside m y is put written (rw (long carries) inside)
+          let few = short (put-carries x.opcode put) in
+          put_inside m y is put written (omega (arith, inside, few))
       go false other =
           let atomic = atomic-writes x.opcode m y other written in
           reached_inside x.address x.size y request.small request.aligned (rw same_size at atomic.1)

@@ -131,9 +131,9 @@ module _ {w : ℕ} (s : BlockState w) (n block : ℕ) (x : Link × Beat w) (t : 
       before = omega (arith, are.0.before);
       windows_are = same_after one.windows n block access.asked x t are.0.windows_are are.0.before
           (free-kept n Perm.Trunk block x t passes.held_is);
-      found_is = found-passed n block one.read (open_for s.free (needs access.request.opcode)) access x t
+      found_is = λ other. found-passed n block one.read (open_for s.free (needs access.request.opcode)) access x t
           (within (needs access.request.opcode)) are.0.before
-          (find-kept n block access x t passes.elsewhere inside) are.0.found_is;
+          (find-kept n block access x t passes.elsewhere inside) (are.0.found_is other);
     },
     stays-each pending accesses passes inside free are.1,
   )

@@ -8,7 +8,7 @@ use Rattle.tl_params.specs.declared.perm.Perm.{Perm}
 use Rattle.tl_rules.specs.statement.{Conformance.same_perm, Windows.needs}
 use Rattle.tl_bytes.{specs.declared.block_bytes.BlockBytes.BlockBytes, specs.declared.read_bytes.ReadBytes.ReadBytes}
 use Rattle.tl_bytes.{specs.code.Tellings.left_as, specs.statement.Known.tellings_of}
-use Rattle.tl_bytes.specs.statement.{Bytes.told_as, Shown.is_window, Shown.shows}
+use Rattle.tl_bytes.specs.statement.{Bytes.is_put, Bytes.told_as, Shown.is_window, Shown.shows}
 use Rattle.tl_bytes.proofs.Reading.{find-is, nothing-yet, read-next}
 use Rattle.tl_memory.{specs.code.Taking.none_shown, specs.code.Writers.writes_but, proofs.Writing.others-may-write}
 
@@ -67,9 +67,10 @@ freedom-is n block Perm.None x t = sym (none-free n block (x ∷ t))
 pub found-kept : {w : ℕ} (n block : ℕ) (free : Freedom) (bytes : BlockBytes) (pending : List (PendingAccess w))
     (old new : PendingAccess w) (access : Access w) (t : Trace w) → IsRenewed (found_by free bytes pending) old new
     → KnowsBlock bytes n block t → KnowsAccesses pending (open_for free) n block t t → IsAsked old.writer.asked access
+    → is_put access.request.opcode ≡ false
     → KeepsFound old.read (open_for free (needs access.request.opcode)) n block access t
     → KeepsFound new.read false n block access t
-found-kept n block free bytes pending old new access t r known all asked found p v lt =
+found-kept n block free bytes pending old new access t r known all asked other found p v lt =
     let a = 64 * block + p in
     let admitted = open_for free (needs access.request.opcode) in
     let writes = writes_but old.writer.asked.link.0 old.writer.asked.request.source pending in
@@ -78,7 +79,7 @@ found-kept n block free bytes pending old new access t r known all asked found p
     (others-may-write n block old.writer.asked access t pending asked all) lt))
     ∙ ap (λ o. may_bring old.read p v || (open_for free (needs o)
     && (told_as v (tellings_of bytes p) || left_as p v writes))) (sym asked.opcode_is)
-    ∙ sym (r.read_is p v lt)
+    ∙ sym (r.read_is (ap is_put asked.opcode_is ∙ other) p v lt)
   where
     turned : (a b : Bool) → (a || b) ≡ (b || a)
     turned true true = refl

@@ -33,7 +33,7 @@ pub use Rattle.tl_memory.specs.statement.Expecting.{ExpectsAgain, ExpectsBeat, E
 pub use Rattle.tl_memory.specs.statement.Expecting.{ExpectsResponse}
 pub use Rattle.tl_memory.specs.statement.Known.{AllWriteInside, AnyIsTo, AreKnown, AreWide, Expects, IsAsked}
 pub use Rattle.tl_memory.specs.statement.Known.{KeepsFound, KnowsAccess, KnowsAccesses, KnowsState, KnowsUnseen, WritesInside}
-pub use Rattle.tl_memory.specs.statement.Known.{closed, free_for, freedom, is_put, is_to, open_for}
+pub use Rattle.tl_memory.specs.statement.Known.{closed, free_for, freedom, is_to, open_for}
 pub use Rattle.tl_memory.specs.statement.Links.{AreLegal, IsLegal, KnowsLink}
 pub use Rattle.tl_params.specs.declared.level.Level.{Level}
 pub use Rattle.tl_params.specs.declared.rule.Rule.TheVariants.{L1, L2, L3}

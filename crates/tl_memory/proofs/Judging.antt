@@ -58,7 +58,7 @@ module _ {w : ℕ} (levels : List Level) (n : ℕ) (link : Link) (x : BeatD w) (
       let answer = answering (ap is_release_ack op) in
       let opened = open-whole x.source answer.asked (on_link link.0 t) answer.is_open in
       let q = pending-open levels link.0 x.source access t is legal pending in
-      let same = same_asked x.source answer.asked q.asked (on_link link.0 t) opened q.is_open in
+      let same = same_asked x.source answer.asked q.asked (on_link link.0 t) opened q.is_kept in
       let size : x.size ≡ access.request.size = answer.sized ∙ ap (λ (r : Request). r.size) (sym same) ∙ q.size_is in
       let inside = carried_inside w access.request.size access.request.address is q.small q.aligned in
       let whole : burst_length (Beat.D x) ≡ data_beats w access.request.size = rw op (ap (data_beats w) size) in

@@ -2,7 +2,7 @@
 use Rattle.tl_memory.proofs.Imports.{Beat, Link, Trace, is_free, Access, is_of, pending_accesses, KnowsBlock}
 use Rattle.tl_memory.proofs.Imports.{AreRenewed, IsRenewed, found_by, keeps, staying, Freedom, PendingAccess}
 use Rattle.tl_memory.proofs.Imports.{AllWriteInside, AreKnown, IsAsked, is_to, AnyIsTo, KnowsAccess, KnowsAccesses}
-use Rattle.tl_memory.proofs.Imports.{WritesInside, closed, open_for}
+use Rattle.tl_memory.proofs.Imports.{closed, open_for}
 use Rattle.std.proofs.Common.{◌≡◌, ℕ, zero, suc, Bool, true, false, not, ◌+◌, ◌<◌, ◌≤◌, List, [], ◌∷◌, ◌++◌}
 use Rattle.std.proofs.Common.{length, refl, sym, ap, ◌∙◌, arith, inl, inr, drop, get_or, set, take}
 use Rattle.std.specs.Prelude.{if◌then◌else◌, filter, find, None, Option, Some, ⊤}
@@ -162,7 +162,8 @@ module _ {w : ℕ} (n block : ℕ) (free : Freedom) (bytes : BlockBytes) (all : 
     write_is = rw r.writer_is one.write_is;
     before = one.before;
     windows_are = rw r.windows_are one.windows_are;
-    found_is = found-kept n block free bytes all old new access t r known k one.asked_is one.found_is;
+    found_is = λ other. found-kept n block free bytes all old new access t r known k one.asked_is other
+        (one.found_is other);
   }
 
   copied-step : (b c : Bool) (z : PendingAccess w) (rest new : List (PendingAccess w))
@@ -225,19 +226,6 @@ module _ {w : ℕ} (link source : ℕ) (admits : Perm → Bool) (n block : ℕ) 
       go (Some access) e to = rw (← find-keeps (is_of link source) (is_to block) (pending_accesses t) access e to)
           (finds-known pending (filter (is_to block) (pending_accesses t)) k.accesses_are)
 
--- ---- one access more
-
-pub asked-more : {w : ℕ} (admits : Perm → Bool) (n block : ℕ) (first : PendingAccess w) (more : List (PendingAccess w))
-    (access : Access w) (x : Link × Beat w) (t : Trace w)
-    → pending_accesses (x ∷ t) ≡ access ∷ pending_accesses t → is_to block access ≡ true
-    → WritesInside access → AllWriteInside (pending_accesses t) → KnowsAccess first admits n block access (x ∷ t)
-    → AreKnown more admits n block (filter (is_to block) (pending_accesses t)) (x ∷ t)
-    → KnowsAccesses (first ∷ more) admits n block (x ∷ t) (x ∷ t)
-asked-more admits n block first more access x t pending to inside all k are = record {
-  accesses_are = rw (pending, to) (k, are);
-  inside = rw pending (inside, all);
-}
-
 -- ---- seen for whom the block is free
 
 module _ {w : ℕ} (n block : ℕ) (x : Link × Beat w) (t : Trace w) where
@@ -256,8 +244,8 @@ module _ {w : ℕ} (n block : ℕ) (x : Link × Beat w) (t : Trace w) where
       write_is = rw watched.0.writer_is are.0.write_is;
       before = omega (arith, are.0.before);
       windows_are = watched.0.windows_are n block y.asked x t are.0.windows_are are.0.before is now;
-      found_is = rw watched.0.read_is (found-settled n block z.read (admits (needs y.request.opcode)) y x t
-          (window (needs y.request.opcode)) are.0.before are.0.found_is);
+      found_is = λ other. rw watched.0.read_is (found-settled n block z.read (admits (needs y.request.opcode)) y x t
+          (window (needs y.request.opcode)) are.0.before (are.0.found_is other));
     },
     watched-each admits free moment old new accesses window are.1 watched.1 is now,
   )
@@ -276,8 +264,8 @@ module _ {w : ℕ} (n block : ℕ) (x : Link × Beat w) (t : Trace w) where
       write_is = are.0.write_is;
       before = omega (arith, are.0.before);
       windows_are = same_after z.windows n block y.asked x t are.0.windows_are are.0.before same;
-      found_is = found-settled n block z.read (admits (needs y.request.opcode)) y x t (window (needs y.request.opcode))
-          are.0.before are.0.found_is;
+      found_is = λ other. found-settled n block z.read (admits (needs y.request.opcode)) y x t
+          (window (needs y.request.opcode)) are.0.before (are.0.found_is other);
     },
     settled-each admits pending accesses window same are.1,
   )

@@ -1,11 +1,12 @@
 -- What is known of a beat that breaks no rule of its link, where none before it did.
 use Rattle.tl_memory.proofs.Imports.{Beat, BeatA, BeatD, Link, IsWidth, channel_of, unfinished, Level, Request}
-use Rattle.tl_memory.proofs.Imports.{AreTyped, Trace, IsLegal, on_link, ends, is_release_ack, is_access}
+use Rattle.tl_memory.proofs.Imports.{AreTyped, Trace, IsLegal, on_link, is_release_ack}
 use Rattle.tl_memory.proofs.Imports.{IsLegalBeat, IsResponse, AreLegal}
-use Rattle.std.proofs.Common.{◌≡◌, ◌<◌, ℕ, suc, false, List, ◌∷◌, length, refl, arith}
-use Rattle.std.proofs.lemmas.Bool.{and_parts}
+use Rattle.std.proofs.Common.{◌≡◌, ◌<◌, ℕ, suc, false, List, ◌∷◌, length, find, refl, arith}
 use Rattle.tl_beat.specs.declared.channel.Channel.{Channel}
+use Rattle.tl_bytes.specs.statement.Bytes.{asked_since, is_of, pending_accesses}
 use Rattle.tl_memory.{specs.code.Taking.IsRequested, proofs.Answering.is-answering, proofs.Apart.are-asked}
+use Rattle.tl_memory.proofs.Apart.{are-continued}
 use Rattle.tl_memory.{proofs.Masks.few, proofs.Masks.positive, proofs.Open.open-whole, proofs.OpenAccesses.is-fine}
 use Rattle.tl_memory.{proofs.OpenAccesses.legal-on, proofs.Unfinished.has-room, proofs.Unfinished.room}
 use Rattle.tl_memory.proofs.Complete.{lawful-asked, wide-burst, writes-inside}
@@ -17,15 +18,13 @@ module _ {w : ℕ} (levels : List Level) (link : Link) (t : Trace w) (is : IsWid
   request-legal y typed fine =
       let f = is-fine _ levels (link, Beat.A y) t fine in
       let past = legal-on _ levels link.0 f.level t f.has_level legal in
+      let since = asked_since (find (is_of link.0 y.source) (pending_accesses t)) (suc (length t)) in
       record {
         room = has-room f.level (Beat.A y) (on_link link.0 t) is typed.0 past f.fine;
-        wide = λ over carries. wide-burst f.level link.0 y (on_link link.0 t) 0 is typed past f.fine over carries;
-        lawful = λ complete.
-            let both = and_parts (is_access y.opcode) (ends (Beat.A y) (on_link link.0 t)) complete in
-            lawful-asked f.level link.0 y (on_link link.0 t) (suc (length t)) is typed past f.fine both.1 both.0;
-        inside = λ complete.
-            let both = and_parts (is_access y.opcode) (ends (Beat.A y) (on_link link.0 t)) complete in
-            writes-inside f.level link.0 y (on_link link.0 t) (suc (length t)) is typed past f.fine both.1;
+        wide = λ carries. wide-burst f.level link.0 y (on_link link.0 t) 0 is typed past f.fine carries;
+        lawful = λ asked. lawful-asked f.level link.0 y (on_link link.0 t) since is typed past f.fine asked;
+        inside = λ asked. writes-inside f.level link.0 y (on_link link.0 t) since is typed past f.fine;
+        continued = are-continued levels is link y t legal fine;
       }
 
   pub response-legal : (y : BeatD w) → IsLegal levels (link, Beat.D y) t

@@ -1,5 +1,6 @@
 pub mod Answering
 pub mod Apart
+pub mod Asked
 pub mod Atomics
 pub mod Bearing
 pub mod Beginning
@@ -18,6 +19,7 @@ pub mod LegalBeats
 pub mod LinkBeats
 pub mod LinkStates
 pub mod LinkTables
+pub mod Masked
 pub mod Masks
 pub mod Memories
 pub mod Open

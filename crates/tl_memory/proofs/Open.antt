@@ -74,9 +74,28 @@ fresh {w} l s asked y t fine o =
           ∙ ap (λ n. pending (RequestSource n) t) (sym same) ∙ free refl))
     ]
 
-unopened : (first own : Bool) (o k : Option Request) → own ≡ false → (if first && own then o else k) ≡ k
-unopened true own o k e = rw e refl
-unopened false own o k e = refl
+-- a request is kept until its answer is complete
+pub kept-still : {w : ℕ} (l : Level) (s : ℕ) (asked : Request) (x : Beat w) (t : History w)
+    → broken_after_under all_but_early l x t ≡ None → kept_request s t ≡ Some asked → completes_answer s x t ≡ false
+    → kept_request s (x ∷ t) ≡ Some asked
+unfolding broken_order_under all_but_early
+kept-still {w} l s asked (Beat.A y) t fine kept unended =
+    request-next s (Beat.A y) t ∙ go (begins (Beat.A y) t) (y.source == s) refl refl
+  where
+    no : true ≡ false → ⊥
+    no e = cc
+
+    go : (first own : Bool) → begins (Beat.A y) t ≡ first → (y.source == s) ≡ own
+        → (if first && own then request_fields (Some y) else kept_request s t) ≡ Some asked
+    go true true first own = absurd (no (sym (ap is_some kept) ∙ sym (pending-request s t)
+        ∙ ap (λ n. pending (RequestSource n) t) (sym (eqb-true y.source s own))
+        ∙ (next_rule (pending (RequestSource y.source) t) H1 _ (begun_in_order l (Beat.A y) t fine first)).0))
+    go true false first own = kept
+    go false own first is = kept
+kept-still l s asked (Beat.D y) t fine kept unended = request-next s (Beat.D y) t ∙ rw unended kept
+kept-still l s asked (Beat.B y) t fine kept unended = request-next s (Beat.B y) t ∙ kept
+kept-still l s asked (Beat.C y) t fine kept unended = request-next s (Beat.C y) t ∙ kept
+kept-still l s asked (Beat.E y) t fine kept unended = request-next s (Beat.E y) t ∙ kept
 
 grown_other : {w : ℕ} (s : ℕ) (y : BeatA w) (burst : List (Beat w)) → (y.source == s) ≡ false
     → comes_in_request s (grown (Beat.A y) burst) ≡ false
@@ -90,23 +109,12 @@ grown_other {w} s y burst e = go (length burst + 1 == burst_length (Beat.A y))
 pub open-still : {w : ℕ} (l : Level) (s : ℕ) (asked : Request) (x : Beat w) (t : History w)
     → broken_after_under all_but_early l x t ≡ None → IsOpen s asked t → completes_answer s x t ≡ false → IsOpen s asked (x ∷ t)
 unfolding unfinished
-open-still l s asked (Beat.A y) t fine o unended =
-    let other = fresh l s asked y t fine o in
-    record {
-      kept = request-next s (Beat.A y) t
-          ∙ unopened (begins (Beat.A y) t) (y.source == s) (request_fields (Some y)) (kept_request s t) other ∙ o.kept;
-      complete = grown_other s y (unfinished Channel.A t) other;
-    }
-open-still l s asked (Beat.D y) t fine o unended = record {
-  kept = request-next s (Beat.D y) t ∙ rw unended o.kept;
-  complete = o.complete;
+open-still l s asked (Beat.A y) t fine o unended = record {
+  kept = kept-still l s asked (Beat.A y) t fine o.kept unended;
+  complete = grown_other s y (unfinished Channel.A t) (fresh l s asked y t fine o);
 }
-open-still l s asked (Beat.B y) t fine o unended =
-    record { kept = request-next s (Beat.B y) t ∙ o.kept; complete = o.complete }
-open-still l s asked (Beat.C y) t fine o unended =
-    record { kept = request-next s (Beat.C y) t ∙ o.kept; complete = o.complete }
-open-still l s asked (Beat.E y) t fine o unended =
-    record { kept = request-next s (Beat.E y) t ∙ o.kept; complete = o.complete }
+open-still l s asked v t fine o unended =
+    record { kept = kept-still l s asked v t fine o.kept unended; complete = o.complete }
 
 -- ---- responses
 

@@ -1,19 +1,21 @@
--- Accesses that are pending on links where no beat broke a rule: each is the open request with its source.
+-- Accesses that are pending on links where no beat broke a rule: each is the request with its source.
 use Rattle.tl_memory.proofs.Imports.{Beat, BeatA, Link, IsWidth, History, Level, open_request, Request, Trace}
 use Rattle.tl_memory.proofs.Imports.{all_but_early, broken_after_under, IsLegal, is_legal_under, on_link, block_at, ends, is_release_ack}
-use Rattle.tl_memory.proofs.Imports.{Access, ends_request, is_access, is_of, pending_accesses, AnyIsTo, AreLegal}
-use Rattle.std.proofs.Common.{◌≡◌, ℕ, suc, Bool, true, false, not, ◌%◌, ◌^◌, ◌≤◌, List, [], ◌∷◌, length, Option, Some}
+use Rattle.tl_memory.proofs.Imports.{Access, ends_request, is_access, is_of, pending_accesses, AreLegal}
+use Rattle.std.proofs.Common.{◌≡◌, ℕ, suc, Bool, true, false, not, ◌||◌, ◌%◌, ◌^◌, ◌≤◌, List, [], ◌∷◌, length, Option, Some}
 use Rattle.std.proofs.Common.{None, refl, sym, ap, ◌∙◌, inl, inr, arith}
 use Rattle.std.specs.Prelude.{◌==◌, find, min, slice_get}
 use Rattle.std.proofs.lemmas.Bool.{and_parts, cases_eq, eq-eqb, eqb-true, ne_eqb}
 use Rattle.tl_params.specs.declared.liberties.Liberties.{Liberties}
 use Rattle.tl_rules.specs.statement.Liberties.{broken_at_level_under}
 use Rattle.tl_memory.specs.statement.Links.{KeepRules, KeepsRules}
-use Rattle.tl_bytes.{specs.statement.Bytes.pending_with, proofs.Finding.find-left_out, proofs.Finding.same-some}
+use Rattle.tl_rules.specs.code.Tables.{kept_request}
+use Rattle.tl_bytes.specs.statement.Bytes.{is_put, pending_with}
+use Rattle.tl_bytes.proofs.Finding.{find-left_out, same-some}
 use Rattle.tl_bytes.proofs.Pending.{IsAnsweredNow, IsAskedNow, IsPending, pending-after, pending-before}
-use Rattle.tl_memory.proofs.Answering.{fields_of, open-now}
+use Rattle.tl_memory.proofs.Answering.{fields_of, kept-now}
 use Rattle.tl_memory.proofs.Lawful.{by_itself, is-request}
-use Rattle.tl_memory.proofs.Open.{IsOpen, completes_answer, fresh, open-parts, open-still, open-whole}
+use Rattle.tl_memory.proofs.Open.{IsOpen, completes_answer, fresh, kept-still, open-parts, open-still}
 
 -- ---- the history of a link
 
@@ -78,11 +80,11 @@ legal-link {w} levels c t legal = go (slice_get levels c) refl
     go (Some l) has = (l, legal-on _ levels c l t has legal)
     go None none = (Level.UL, nothing (on_link c t) (no_beats t none legal))
 
--- ---- the access is the open request
+-- ---- the access is the request
 
 pub record IsRequestOf {w : ℕ} (c s : ℕ) (access : Access w) (t : Trace w) : Type 0 where
   pub asked : Request
-  pub is_open : IsOpen s asked (on_link c t)
+  pub is_kept : kept_request s (on_link c t) ≡ Some asked
   pub opcode_is : asked.opcode ≡ access.request.opcode
   pub block_is : asked.block ≡ block_at access.request.address
   pub size_is : asked.size ≡ access.request.size
@@ -126,12 +128,24 @@ open-after levels c s asked x t fine o unended = elim (cases_eq x.0.0 c) [
       (ap (λ n. broken_after_under all_but_early f.level x.1 (on_link n t)) (sym own) ∙ f.fine) o (unended own))
 ]
 
+-- and is kept since its first beat
+kept-after : {w : ℕ} (levels : List Level) (c s : ℕ) (asked : Request) (x : Link × Beat w) (t : Trace w)
+    → IsLegal levels x t → kept_request s (on_link c t) ≡ Some asked
+    → (x.0.0 ≡ c → completes_answer s x.1 (on_link c t) ≡ false) → kept_request s (on_link c (x ∷ t)) ≡ Some asked
+kept-after levels c s asked x t fine kept unended = elim (cases_eq x.0.0 c) [
+  | inr other ↦ rw (other-link c x t other) kept
+  | inl own ↦
+      let f = is-fine _ levels x t fine in
+      rw (own-link c x t own) (kept-still f.level s asked x.1 (on_link c t)
+      (ap (λ n. broken_after_under all_but_early f.level x.1 (on_link n t)) (sym own) ∙ f.fine) kept (unended own))
+]
+
 pub pending-open : {w : ℕ} (levels : List Level) (c s : ℕ) (access : Access w) (t : Trace w) → IsWidth w
     → AreLegal levels t → IsPending c s access t → IsRequestOf c s access t
 unfolding pending_accesses
 pending-open levels c s access [] is legal pending = absurd cc
 pending-open {w} levels c s access (x ∷ t) is legal pending = elim (pending-before c s access x t pending) [
-  | inl old ↦ still (pending-open levels c s access t is legal.1 old)
+  | inl old ↦ still (pending-open levels c s access t is legal.1 old.0)
   | inr now ↦ new now
 ]
   where
@@ -149,7 +163,7 @@ pending-open {w} levels c s access (x ∷ t) is legal pending = elim (pending-be
     still : IsRequestOf c s access t → IsRequestOf c s access (x ∷ t)
     still k = record {
       asked = k.asked;
-      is_open = open-after levels c s k.asked x t legal.0 k.is_open unended;
+      is_kept = kept-after levels c s k.asked x t legal.0 k.is_kept unended;
       opcode_is = k.opcode_is;
       block_is = k.block_is;
       size_is = k.size_is;
@@ -160,12 +174,12 @@ pending-open {w} levels c s access (x ∷ t) is legal pending = elim (pending-be
 
     new : IsAskedNow c s access x t → IsRequestOf c s access (x ∷ t)
     new now =
-        let z = now.first in
+        let z = now.beat in
         let past = on_link x.0.0 t in
-        let both = and_parts (is_access z.opcode) (ends (Beat.A z) past) now.completes in
+        let both = and_parts (is_access z.opcode) (is_put z.opcode || ends (Beat.A z) past) now.asks_it in
         let fine : broken_after_under all_but_early f.level (Beat.A z) past ≡ None =
         ap (λ b. broken_after_under all_but_early f.level b past) (sym now.beat_is) ∙ f.fine in
-        let opened = open-now f.level z past (legal-on _ levels x.0.0 f.level t f.has_level legal.1) fine both.1 in
+        let kept = kept-now f.level z past (legal-on _ levels x.0.0 f.level t f.has_level legal.1) fine in
         let history : on_link c (x ∷ t) ≡ Beat.A z ∷ past =
         ap (λ n. on_link n (x ∷ t)) now.link_is ∙ own-link x.0.0 x t refl ∙ ap (λ b. b ∷ past) now.beat_is in
         let r = is-request f.level z is (by_itself f.level (Beat.A z) past fine) in
@@ -176,7 +190,7 @@ pending-open {w} levels c s access (x ∷ t) is legal pending = elim (pending-be
         let address : access.request.address ≡ z.address = ap (λ (q : Access w). q.request.address) now.access_is in
         record {
           asked = fields_of z;
-          is_open = open-parts s (fields_of z) (on_link c (x ∷ t)) (rw (history, now.source_is) opened);
+          is_kept = rw (history, now.source_is) kept;
           opcode_is = ap (λ (q : Access w). q.request.opcode) (sym now.access_is);
           block_is = ap (λ (q : Access w). block_at q.request.address) (sym now.access_is);
           size_is = sym request_size;
@@ -187,35 +201,9 @@ pending-open {w} levels c s access (x ∷ t) is legal pending = elim (pending-be
 
 -- ---- what the answer to an open request is an answer to
 
-pub same_asked : {w : ℕ} (s : ℕ) (one other : Request) (t : History w) → open_request s t ≡ Some one → IsOpen s other t
-    → other ≡ one
-same_asked s one other t e o = same-some one other (sym e ∙ open-whole s other t o)
-
-module _ {w : ℕ} (levels : List Level) (c s : ℕ) (asked : Request) (t : Trace w) (width : IsWidth w)
-    (legal : AreLegal levels t) (opened : open_request s (on_link c t) ≡ Some asked) where
-  -- the access that is pending with its source, where one is, is to its block
-  pub any-to : AnyIsTo asked.block (find (is_of c s) (pending_accesses t))
-  any-to = go (find (is_of c s) (pending_accesses t)) refl
-    where
-      go : (o : Option (Access w)) → find (is_of c s) (pending_accesses t) ≡ o → AnyIsTo asked.block o
-      go None is = tt
-      go (Some access) is =
-          let k = pending-open levels c s access t width legal is in
-          let same = same_asked s asked k.asked (on_link c t) opened k.is_open in
-          eq-eqb (block_at access.request.address) asked.block
-          (sym k.block_is ∙ ap (λ (r : Request). r.block) same)
-
-  -- none is where it isn't an access
-  pub no-access : is_access asked.opcode ≡ false → find (is_of c s) (pending_accesses t) ≡ None
-  no-access other = go (find (is_of c s) (pending_accesses t)) refl
-    where
-      go : (o : Option (Access w)) → find (is_of c s) (pending_accesses t) ≡ o → o ≡ None
-      go None is = refl
-      go (Some access) is =
-          let k = pending-open levels c s access t width legal is in
-          let same = same_asked s asked k.asked (on_link c t) opened k.is_open in
-          absurd (let no : true ≡ false =
-          sym k.accesses ∙ ap (λ (r : Request). is_access r.opcode) same ∙ other in cc)
+pub same_asked : {w : ℕ} (s : ℕ) (one other : Request) (t : History w) → open_request s t ≡ Some one
+    → kept_request s t ≡ Some other → other ≡ one
+same_asked s one other t e kept = same-some one other (sym (open-parts s one t e).kept ∙ kept)
 
 -- ---- the access that a request asks for stays until its answer is complete
 
@@ -242,12 +230,12 @@ found-still {w} levels c s asked x t legal o unended =
         → find (is_of c s) (pending_accesses t) ≡ before
         → find (is_of c s) (pending_accesses (x ∷ t)) ≡ find (is_of c s) (pending_accesses t)
     go (Some access) before e f = elim (pending-before c s access x t e) [
-      | inl old ↦ e ∙ sym old
-      | inr now ↦ absurd (apart now.first now.beat_is now.link_is now.source_is)
+      | inl old ↦ e ∙ sym old.0
+      | inr now ↦ absurd (apart now.beat now.beat_is now.link_is now.source_is)
     ]
     go None None e f = e ∙ sym f
     go None (Some access) e f =
-        elim (pending-after c s access x t f (λ z is complete link source. apart z is link source)) [
+        elim (pending-after c s access x t f (λ z is asked link source. apart z is link source)) [
           | inl still ↦ absurd (let no : None ≡ Some access = sym e ∙ still in cc)
           | inr answered ↦ absurd (ended answered)
         ]

@@ -1,10 +1,10 @@
 -- Beats that pass each block by, and those that change what their link holds.
 use Rattle.tl_memory.proofs.Imports.{Beat, BeatA, BeatC, BeatD, Link, History, is_empty, Trace, on_link, begins, ends}
-use Rattle.tl_memory.proofs.Imports.{is_grant, is_release_ack, is_access, pending_accesses, LeavesHeld, PassesBy}
+use Rattle.tl_memory.proofs.Imports.{is_grant, is_release_ack, pending_accesses, LeavesHeld, PassesBy}
 use Rattle.tl_memory.proofs.Imports.{all_but_early, AllWriteInside, ExpectsLater, OpD}
 use Rattle.std.proofs.Common.{◌≡◌, ℕ, Bool, true, false, not, ◌&&◌, ◌||◌, List, [], ◌∷◌, length, refl, sym, ap, ◌∙◌, arith}
 use Rattle.std.{specs.Prelude.None, specs.Prelude.◌==◌, proofs.lemmas.Bool.and_parts, proofs.lemmas.Bool.ne_eqb}
-use Rattle.tl_bytes.specs.statement.Shown.{shows}
+use Rattle.tl_bytes.specs.statement.{Bytes.asks, Shown.shows}
 use Rattle.tl_memory.specs.code.Changing.{ExpectsAlong, ExpectsBegun}
 use Rattle.tl_memory.specs.code.Passing.{acquires_from_none, changes_held, is_answer_data, passes_by}
 use Rattle.tl_memory.{proofs.Elsewhere.held-kept}
@@ -13,10 +13,6 @@ use Rattle.tl_memory.proofs.Bearing.{response-elsewhere, response-leaves, unaske
 
 true_false : {X : Type 0} → true ≡ false → X
 true_false e = absurd cc
-
-not_both : (a b : Bool) → (not a || not b) ≡ true → (a && b) ≡ false
-not_both true true e = absurd cc
-not_both v u e = refl
 
 is_false : (b : Bool) → not b ≡ true → b ≡ false
 is_false true e = absurd cc
@@ -59,7 +55,7 @@ passed-by block link (Beat.A y) t inside passing =
     let both = and_parts (not (acquires_from_none y)) _ passing in
     record {
       elsewhere = unasked-elsewhere block link y t inside
-          (not_both (is_access y.opcode) (ends (Beat.A y) (on_link link.0 t)) both.1);
+          (is_false (asks y (on_link link.0 t)) both.1);
       held_is = request-leaves block link y t
           (λ acquires. true_false (sym acquires ∙ is_false (acquires_from_none y) both.0));
       unshown = refl;

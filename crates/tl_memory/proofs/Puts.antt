@@ -1,14 +1,14 @@
 -- What a Put leaves in its block.
 use Rattle.tl_memory.proofs.Imports.{OpA, a_carries_data, IsWidth, MessageA, bit, base_of, base_in_memory, Access}
-use Rattle.tl_memory.proofs.Imports.{access_writes, writes, is_put}
-use Rattle.std.proofs.Common.{◌≡◌, ℕ, Bool, true, false, ◌+◌, ◌-◌, ◌*◌, ◌/◌, ◌<◌, ◌≤◌, List, length, refl, sym, ap, ◌∙◌}
+use Rattle.tl_memory.proofs.Imports.{access_writes, writes}
+use Rattle.tl_bytes.specs.statement.Bytes.{is_put}
+use Rattle.std.proofs.Common.{◌≡◌, ℕ, Bool, true, false, ◌&&◌, ◌+◌, ◌-◌, ◌*◌, ◌/◌, ◌<◌, ◌≤◌, List, length, refl, sym, ap, ◌∙◌}
 use Rattle.std.proofs.Common.{arith, inl, inr}
-use Rattle.std.specs.Prelude.{if◌then◌else◌, is_some, None, Option, Some, nat_le, slice_get, slice_index, unwrap_or}
-use Rattle.std.proofs.lemmas.Bool.{cases_lt, lt-leb}
+use Rattle.std.specs.Prelude.{if◌then◌else◌, is_some, None, Option, Some, nat_le, nat_lt, slice_get, slice_index, unwrap_or}
+use Rattle.std.proofs.lemmas.Bool.{cases_lt, le-leb, lt-leb, lt-ltb}
 use Rattle.std.proofs.lemmas.Option.{slice_get-get_or, slice_get_within}
 use Rattle.tl_burst.specs.declared.message.Message.{Message}
 use Rattle.tl_burst.specs.statement.Burst.{byte_at, byte_if, place_of}
-use Rattle.tl_rules.{specs.code.Place.moved_up, proofs.Blocks.moved_byte}
 use Rattle.tl_rules.specs.statement.Effect.{Memory, after, effect}
 
 -- the byte that a message has at an address, where it has one
@@ -57,14 +57,15 @@ put_is OpA.PutFullData m memory x e written = (written, refl)
 put_is OpA.PutPartialData m memory x e written = (written, refl)
 put_is v m memory x e written = absurd cc
 
--- a Put's payload, moved to its place in the block, has what it writes there
-pub put-leaves : {w : ℕ} (access : Access w) (payload moved : List ℕ) (base p : ℕ) (memory : Memory) → IsWidth w
-    → is_put access.request.opcode ≡ true → base ≡ base_of w access.request.address → moved ≡ moved_up base payload
-    → ((q : ℕ) → q < length access.request.payload → slice_index payload q ≡ slice_index access.request.payload q)
-    → p < 64 → access_writes (64 * (access.request.address / 64) + p) access ≡ true
-    → slice_index moved p ≡ (effect (Message.A access.request) memory).0 (64 * (access.request.address / 64) + p)
+-- what a Put writes at a place of its block is the byte of its payload, behind the place of that
+pub put-leaves : {w : ℕ} (access : Access w) (base p : ℕ) (memory : Memory) → IsWidth w
+    → is_put access.request.opcode ≡ true → base ≡ base_of w access.request.address
+    → access_writes (64 * (access.request.address / 64) + p) access ≡ true
+    → (p - base < length access.request.payload)
+    × ((effect (Message.A access.request) memory).0 (64 * (access.request.address / 64) + p)
+    ≡ slice_index access.request.payload (p - base))
 unfolding effect
-put-leaves {w} access payload moved base p memory is put base_is moved_is same lt written =
+put-leaves {w} access base p memory is put base_is written =
     let m = access.request in
     let x = 64 * (m.address / 64) + p in
     let start : w * (m.address / w) ≡ 64 * (m.address / 64) + base =
@@ -72,12 +73,46 @@ put-leaves {w} access payload moved base p memory is put base_is moved_is same l
     let is_put_of = put_is m.opcode m memory x put written in
     let has = has_byte (a_carries_data m.opcode) (λ q. bit m.mask q) m.payload (place_of w m.address x) is_put_of.0 in
     let at = placed (w * (m.address / w)) x has.place has.is_there in
-    let place : p - base ≡ has.place = omega (arith, start, at.0, at.1) in
-    let from : base ≤ p = omega (arith, start, at.0) in
-    ap (λ xs. slice_index xs p) moved_is ∙ moved_byte base payload p from lt ∙ ap (slice_index payload) place
-    ∙ same has.place has.inside ∙ sym (is_put_of.1 ∙ ap (λ o. unwrap_or o (memory x)) has.value)
+    let place : p - base ≡ has.place = omega (arith, start, at.0, at.1) in (
+      omega (arith, place, has.inside),
+      is_put_of.1 ∙ ap (λ o. unwrap_or o (memory x)) has.value ∙ ap (slice_index m.payload) (sym place),
+    )
 
 pub put-carries : (op : OpA) → is_put op ≡ true → a_carries_data op ≡ true
 put-carries OpA.PutFullData e = refl
 put-carries OpA.PutPartialData e = refl
 put-carries v e = absurd cc
+
+put-writes : {w : ℕ} (op : OpA) (m : MessageA w) (x : ℕ) → is_put op ≡ true
+    → writes op m x ≡ is_some (byte_at 0 (Message.A m) x)
+put-writes OpA.PutFullData m x e = refl
+put-writes OpA.PutPartialData m x e = refl
+put-writes v m x e = absurd cc
+
+-- it writes the places of its mask's bits
+pub put-places : {w : ℕ} (m : MessageA w) (base p : ℕ) → IsWidth w → is_put m.opcode ≡ true
+    → base ≡ base_of w m.address → ((q : ℕ) → bit m.mask q ≡ true → q < length m.payload) → p < 64
+    → (nat_le base p && (nat_lt (p - base) 64 && bit m.mask (p - base)))
+    ≡ writes m.opcode m (64 * (m.address / 64) + p)
+put-places {w} m base p is put base_is masked lt =
+    sym (put-writes m.opcode m (64 * (m.address / 64) + p) put ∙ rw (put-carries m.opcode put) (elim (cases_lt p base) [
+      | inl below ↦
+          let before : 64 * (m.address / 64) + p < w * (m.address / w) = omega (arith, below, start) in
+          rw (lt-leb (w * (m.address / w)) (64 * (m.address / 64) + p) before, lt-leb base p below) refl
+      | inr from ↦
+          let after : w * (m.address / w) ≤ 64 * (m.address / 64) + p = omega (arith, from, start) in
+          let same : 64 * (m.address / 64) + p - w * (m.address / w) ≡ p - base = omega (arith, from, start) in
+          rw (
+            le-leb (w * (m.address / w)) (64 * (m.address / 64) + p) after,
+            le-leb base p from,
+            same,
+            lt-ltb (p - base) 64 (omega (arith, lt)),
+          ) (set (bit m.mask (p - base)) refl)
+    ]))
+  where
+    start : w * (m.address / w) ≡ 64 * (m.address / 64) + base
+    start = base_in_memory w m.address is ∙ ap (λ n. 64 * (m.address / 64) + n) (sym base_is)
+
+    set : (b : Bool) → bit m.mask (p - base) ≡ b → is_some (if b then slice_get m.payload (p - base) else None) ≡ b
+    set false e = refl
+    set true e = rw (slice_get-get_or m.payload (p - base) 0 (masked (p - base) e)) refl

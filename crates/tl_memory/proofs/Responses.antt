@@ -92,15 +92,6 @@ none-answered link y t none = go (ends_request y (on_link link.0 t))
     go true = all-left (is_of link.0 y.source) (pending_accesses t) none
     go false = refl
 
--- and where no request of an access is complete
-pub none-asked : {w : ℕ} (link : Link) (x : BeatA w) (t : Trace w)
-    → is_access x.opcode && ends (Beat.A x) (on_link link.0 t) ≡ false
-    → pending_accesses ((link, Beat.A x) ∷ t) ≡ pending_accesses t
-unfolding pending_accesses
-none-asked link x t e = rw e refl
-
--- ---- data that are given back
-
 -- ---- beats that bear on another block
 
 -- the access, where there is one, writes in its own block alone

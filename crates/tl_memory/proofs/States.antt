@@ -1,29 +1,27 @@
 -- What is known of the state of a block, from what is known of its parts.
-use Rattle.tl_memory.proofs.Imports.{Beat, BeatA, BeatD, Link, a_carries_data, Trace, on_link, block_at, is_free}
-use Rattle.tl_memory.proofs.Imports.{Access, asked_by, ends_request, pending_accesses, KnowsBlock, may_bring, WritesNot}
-use Rattle.tl_memory.proofs.Imports.{AreRenewed, found_by, keeps, staying, BlockState, Expected, PendingAccess, Writer}
-use Rattle.tl_memory.proofs.Imports.{AllWriteInside, AnyIsTo, AreKnown, Expects, ExpectsAgain, IsAsked, is_to, KeepsFound}
-use Rattle.tl_memory.proofs.Imports.{KnowsAccess, KnowsState, KnowsUnseen, WritesInside, Freedom, LeavesHeld, closed}
+use Rattle.tl_memory.proofs.Imports.{Beat, BeatD, Link, a_carries_data, Trace, on_link, is_free}
+use Rattle.tl_memory.proofs.Imports.{Access, ends_request, pending_accesses, KnowsBlock, may_bring, WritesNot}
+use Rattle.tl_memory.proofs.Imports.{AreRenewed, found_by, keeps, staying, BlockState, Expected, PendingAccess}
+use Rattle.tl_memory.proofs.Imports.{AllWriteInside, AnyIsTo, AreKnown, Expects, ExpectsAgain, is_to}
+use Rattle.tl_memory.proofs.Imports.{KnowsAccess, KnowsState, KnowsUnseen, Freedom, closed}
 use Rattle.tl_memory.proofs.Imports.{free_for, freedom, open_for}
-use Rattle.std.proofs.Common.{◌≡◌, ℕ, suc, Bool, true, false, not, ◌&&◌, ◌+◌, ◌-◌, ◌*◌, ◌/◌, ◌≤◌, List, [], ◌∷◌, length}
+use Rattle.std.proofs.Common.{◌≡◌, ℕ, Bool, true, false, not, ◌&&◌, ◌-◌, ◌/◌, List, [], ◌∷◌, length}
 use Rattle.std.proofs.Common.{refl, sym, ap, subst, ◌∙◌, arith, inl, inr}
 use Rattle.std.specs.Prelude.{filter, if◌then◌else◌, None, Option, Some, unwrap_or}
 use Rattle.std.proofs.lemmas.Bool.{cases_Bool, eqb-true}
-use Rattle.std.proofs.Math.Nat.{mul-suc}
 use Rattle.tl_params.specs.declared.perm.Perm.{Perm}
-use Rattle.tl_rules.specs.statement.Windows.{needs}
-use Rattle.tl_bytes.{specs.declared.windows.WritingWindows.WritingWindows, specs.declared.write.Write.Write}
+use Rattle.tl_bytes.{specs.declared.write.Write.Write}
 use Rattle.tl_bytes.{proofs.Since.closed_after}
-use Rattle.tl_bytes.specs.statement.Bytes.{is_get, last_window, window_began, windows_since}
-use Rattle.tl_bytes.specs.statement.Known.{count_of, IsWrite, KnowsWindows}
-use Rattle.tl_bytes.specs.statement.Shown.{is_window, shows}
-use Rattle.tl_memory.specs.{code.Taking.none_shown, code.Taking.with_next, code.Writers.AreWatched, declared.block.NextState.NextState}
-use Rattle.tl_memory.{specs.declared.access.Asked.Asked, specs.statement.Known.IsLawful}
-use Rattle.tl_memory.{specs.statement.Known.IsPendingWrite, proofs.Writing.no_data}
-use Rattle.tl_memory.proofs.Elsewhere.{free-first, free-kept, last-kept}
-use Rattle.tl_memory.proofs.Found.{freedom-is, hidden, hidden-open, unshown-window, window-is}
-use Rattle.tl_memory.proofs.Keeping.{asked-more, copied-each, filters-swap, inside-kept, IsFound, keeps-all}
-use Rattle.tl_memory.proofs.Keeping.{settled-each, watched-each}
+use Rattle.tl_memory.proofs.Imports.{OpA}
+use Rattle.tl_bytes.specs.statement.Bytes.{is_get, is_put, last_window, window_began, windows_since}
+use Rattle.tl_bytes.specs.statement.Known.{count_of, IsWrite}
+use Rattle.tl_memory.specs.statement.Known.{IsNoPut}
+use Rattle.tl_memory.specs.{code.Taking.with_next, code.Writers.AreWatched, declared.block.NextState.NextState}
+use Rattle.tl_memory.{proofs.Writing.no_data}
+use Rattle.tl_memory.proofs.Elsewhere.{free-first}
+use Rattle.tl_memory.proofs.Found.{freedom-is, hidden, window-is}
+use Rattle.tl_memory.proofs.Keeping.{copied-each, filters-swap, inside-kept, IsFound}
+use Rattle.tl_memory.proofs.Keeping.{watched-each}
 
 -- a block of which nothing was carried
 pub state-first : {w : ℕ} (s : BlockState w) (n block : ℕ) → KnowsBlock {w = w} s.bytes n block []
@@ -72,12 +70,21 @@ expects-none n block o t none = rw none tt
 pub expects-some : {w : ℕ} (expected : Expected) (p : PendingAccess w) (n block : ℕ) (access : Access w)
     (o : Option (Access w)) (t : Trace w) → o ≡ Some access → KnowsAccess p closed n block access t
     → expected.address ≡ p.writer.asked.request.address → expected.size ≡ p.writer.asked.request.size
-    → expected.bytes ≡ p.read → Expects (Some expected) n block o t
-expects-some expected p n block access o t found k address size same = rw found (
+    → expected.bytes ≡ p.read → IsNoPut o → Expects (Some expected) n block o t
+expects-some expected p n block access o t found k address size same other = rw found (
   address ∙ k.asked_is.address_is,
   size ∙ k.asked_is.size_is,
-  λ place byte lt. ap (λ r. may_bring r place byte) same ∙ sym (k.found_is place byte lt),
+  λ place byte lt. ap (λ r. may_bring r place byte) same ∙ sym (k.found_is (rw found at other) place byte lt),
 )
+
+-- a Get is no Put
+pub get-no_put : {w : ℕ} (access : Access w) (o : Option (Access w)) → o ≡ Some access
+    → is_get access.request.opcode ≡ true → IsNoPut o
+get-no_put access o found get = rw found (go access.request.opcode get)
+  where
+    go : (opcode : OpA) → is_get opcode ≡ true → is_put opcode ≡ false
+    go OpA.Get e = refl
+    go v e = absurd cc
 
 pub again-none : {w : ℕ} (expected : Option Expected) (n : ℕ) (o : Option (Access w)) (t : Trace w) → o ≡ None
     → expected ≡ None → ExpectsAgain expected n o t
@@ -194,75 +201,3 @@ watched-state s old n block moment x t k bytes watched free now ended = record {
   last_is = λ off. ended ∙ last-watched old n block moment s.free.writing x t k
       (ap (λ (f : Freedom). f.writing) free) now off;
 }
-
--- ---- one access more
-
-pub asked-write : {w : ℕ} (write : Write) (block : ℕ) (access : Access w) → block_at access.request.address ≡ block
-    → IsPendingWrite write (block_at access.request.address) access → IsPendingWrite write block access
-asked-write write block access e k = rw e at k
-
--- what is kept of an access whose request is complete
-pub asked-access : {w : ℕ} (first : PendingAccess w) (admits : Perm → Bool) (writer : Writer w)
-    (windows : WritingWindows) (n block : ℕ) (access : Access w) (x : Link × Beat w) (t : Trace w)
-    → first.writer ≡ writer → first.windows ≡ windows → IsAsked writer.asked access → IsLawful access
-    → IsPendingWrite writer.write block access → access.asked ≡ suc (length t)
-    → KnowsWindows windows n block writer.asked.moment (x ∷ t)
-    → KeepsFound first.read (admits (needs access.request.opcode)) n block access (x ∷ t)
-    → KnowsAccess first admits n block access (x ∷ t)
-asked-access first admits writer windows n block access x t same same_windows asked lawful write now known found =
-    record {
-      asked_is = rw same asked;
-      lawful = lawful;
-      write_is = rw same write;
-      before = omega (arith, now);
-      windows_are = rw (same_windows, ← asked.moment_is) known;
-      found_is = found;
-    }
-
--- with it one may access the block for whom it is free
-pub asked-window : {w : ℕ} (old : BlockState w) (n block : ℕ) (given : Perm) (x : Link × Beat w) (t : Trace w)
-    → KnowsState old n block t → LeavesHeld block x t → shows block x.1 (on_link x.0.0 t) ≡ false
-    → is_window n given block x t
-    ≡ open_for (none_shown old.free) given
-asked-window old n block given x t k same unshown =
-    unshown-window n block given x t unshown ∙ free-kept n given block x t same
-    ∙ sym (hidden-open (none_shown old.free) given refl
-    ∙ hidden old.free given ∙ k.free_is given)
-
--- with the request of an access, with which the block stays as free as it was
-pub asked-state : {w : ℕ} (old : BlockState w) (next : NextState w) (n block : ℕ) (first : PendingAccess w)
-    (more : List (PendingAccess w)) (access : Access w) (x : Link × Beat w) (t : Trace w)
-    → KnowsState old n block t → next.bytes ≡ None → next.accesses.items ≡ first ∷ more
-    → pending_accesses (x ∷ t) ≡ access ∷ pending_accesses t
-    → is_to block access ≡ true → WritesInside access → LeavesHeld block x t
-    → shows block x.1 (on_link x.0.0 t) ≡ false → KnowsBlock old.bytes n block (x ∷ t)
-    → KnowsAccess first (open_for (none_shown old.free)) n block access (x ∷ t)
-    → AreRenewed (found_by old.free old.bytes old.accesses.items) (staying None old.accesses.items) more
-    → KnowsState (with_next old next) n block (x ∷ t)
-asked-state {w} old next n block first more access x t k none items pending to inside same unshown bytes one renewed =
-    record {
-      bytes_are = rw none bytes;
-      accesses_are = rw items (asked-more admits n block first more access x t pending to inside k.accesses_are.inside
-          one (settled-each n block x t admits more (filter (is_to block) (pending_accesses t)) window
-          (free-kept n Perm.Trunk block x t same)
-          (subst (λ l. AreKnown more closed n block l t) (sym (keeps-all (filter (is_to block) (pending_accesses t))))
-          (copied-each n block old.free old.bytes old.accesses.items t k.bytes_are k.accesses_are None
-          old.accesses.items more (filter (is_to block) (pending_accesses t)) k.accesses_are.accesses_are renewed))));
-      free_is = λ given. hidden old.free given ∙ k.free_is given ∙ sym (free-kept n given block x t same);
-      last_is = λ off. k.last_is off ∙ sym (last-kept n block x t (free-kept n Perm.Trunk block x t same)
-          (sym (k.free_is Perm.Trunk) ∙ off));
-    }
-  where
-    admits : Perm → Bool
-    admits = open_for (none_shown old.free)
-
-    window : (given : Perm) → is_window n given block x t ≡ admits given
-    window given = asked-window old n block given x t k same unshown
-
--- the access that was asked for at a moment
-pub at-moment : {w : ℕ} (asked : Asked w) (link : ℕ) (y : BeatA w) (burst : List (Beat w)) (m k : ℕ) → m ≡ k
-    → IsAsked asked (asked_by link y burst m) → IsAsked asked (asked_by link y burst k)
-at-moment asked link y burst m k e is = rw e at is
-
-pub whole_room : (w n : ℕ) → w * n + w ≤ 64 → w * suc n ≤ 64
-whole_room w n le = rw (mul-suc w n) le

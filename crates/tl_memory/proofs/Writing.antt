@@ -1,7 +1,7 @@
 -- What accesses write, and what those may write that are pending.
 use Rattle.tl_memory.proofs.Imports.{Beat, OpA, a_carries_data, MessageA, Access, access_writes, is_of, writes}
 use Rattle.tl_memory.proofs.Imports.{others, PendingAccess, Writer, Trace, pending_accesses, written_as, AllWriteInside}
-use Rattle.tl_memory.proofs.Imports.{IsAsked, is_put, is_to, WritesInside, AreKnown, KnowsAccesses}
+use Rattle.tl_memory.proofs.Imports.{IsAsked, is_to, WritesInside, AreKnown, KnowsAccesses}
 use Rattle.std.proofs.Common.{◌≡◌, ℕ, zero, suc, Bool, true, false, not, ◌&&◌, ◌||◌, ◌+◌, ◌*◌, ◌/◌, ◌<◌, List, [], ◌∷◌}
 use Rattle.std.proofs.Common.{◌++◌, length, refl, sym, ap, ◌∙◌, arith, inl, inr, get_or, take, append-nil}
 use Rattle.std.proofs.lemmas.List.{take_more}
@@ -9,7 +9,7 @@ use Rattle.std.specs.Prelude.{if◌then◌else◌, filter, is_some, nat_lt, None
 use Rattle.std.proofs.lemmas.Bool.{cases_Bool, eq-eqb, lt-ltb}
 use Rattle.tl_params.specs.declared.perm.Perm.{Perm}
 use Rattle.tl_bytes.specs.code.Tellings.{is_written, leaves, value_at, left_as}
-use Rattle.tl_bytes.specs.statement.Bytes.{could_be, pending_value, value_left, value_written, windows_since}
+use Rattle.tl_bytes.specs.statement.Bytes.{could_be, is_put, pending_value, value_left, value_written, windows_since}
 use Rattle.tl_bytes.specs.statement.Known.{count_of, MayWrite, windowed}
 use Rattle.tl_memory.specs.code.Writers.{names, picked, some_window, writes_but, writes_windowed}
 use Rattle.tl_memory.specs.declared.access.Asked.{Asked}

@@ -1,28 +1,25 @@
-//! Accesses whose requests are complete.
+//! Accesses that are asked for.
 
-ghost use Rattle.std.specs.Prelude.{ℕ, true, false, ◌∷◌, ◌+◌, ◌*◌, ◌<◌, ◌≤◌, ◌≡◌, ◌&&◌, List, None};
-ghost use Rattle.std.specs.Prelude.{is_some, length, nat_lt, slice_index, slice_index_or, unwrap_or};
+ghost use Rattle.std.specs.Prelude.{ℕ, true, ◌∷◌, ◌+◌, ◌*◌, ◌<◌, ◌≤◌, ◌≡◌, List, None};
+ghost use Rattle.std.specs.Prelude.{length, slice_index, slice_index_or, unwrap_or};
 ghost use Rattle.tl_beat.specs.declared.beat.Beat.{Beat};
 ghost use Rattle.tl_beat.specs.declared.beat.Beat.TheVariants as beat;
 ghost use Rattle.tl_beat.specs.statement.Opcode.{a_carries_data};
 ghost use Rattle.tl_beat.specs.statement.Width.{IsWidth};
-ghost use Rattle.tl_burst.specs.declared.message.Message.TheVariants as message;
 ghost use Rattle.tl_burst.specs.statement.Burst as burst;
-ghost use Rattle.tl_burst.specs.statement.Burst.{byte_at};
 ghost use Rattle.tl_rules.specs.statement.History.{block_at};
 ghost use Rattle.tl_memory.specs.code.Writers.{names};
-ghost use Rattle.tl_memory.specs.statement.Known.{IsAsked};
+ghost use Rattle.tl_memory.specs.statement.Known.{IsAsked, is_atomic};
 ghost use Rattle.tl_bytes.specs.statement.Bytes as bytes;
-ghost use Rattle.tl_bytes.specs.statement.Bytes.{Access, access_writes, asked_by};
+ghost use Rattle.tl_bytes.specs.statement.Bytes.{asked_by};
 
 use crate::message::CarriedMessage;
 use tl_beat::beat::{BeatA, Link};
 use tl_beat::opcode::OpA;
 use tl_burst::message::MessageA;
-use tl_rules::place::base;
 
-/// An access whose request is complete: its link, its request, whether a beat of that was corrupt, and how
-/// many beats had been taken when it was complete.
+/// An access that is asked for: its link, its request, whether a beat of that was corrupt, and how many beats had been
+/// taken when it was first asked for. Of a Put the request has what its beats have brought so far.
 #[derive(Clone, Copy)]
 pub struct Asked<const W: usize> {
     pub link: Link,
@@ -60,23 +57,15 @@ pub fn payload_of(bytes: &[Option<u8>; 64]) -> [u8; 64]
     payload
 }
 
-/// The payload of a request that brought these bytes: of one that carries data, those that are known, and zeros.
+/// The payload of a request that brought these bytes: of an atomic those that are known, and zeros.
 fn payload_asked(opcode: OpA, bytes: &[Option<u8>; 64]) -> [u8; 64]
-    ensures { a_carries_data opcode ≡ true → (place : ℕ) → place < 64 →
+    ensures { is_atomic opcode ≡ true → (place : ℕ) → place < 64 →
         slice_index result place ≡ unwrap_or (slice_index_or bytes.now place None) 0 }
 {
-    if opcode.carries_data() {
-        payload_of(bytes)
-    } else {
-        [0; 64]
+    match opcode {
+        OpA::ArithmeticData | OpA::LogicalData => payload_of(bytes),
+        _ => [0; 64],
     }
-}
-
-/// Whether a bit of a mask is set.
-fn is_set(mask: u64, bit: usize) -> bool
-    ensures { result ≡ (nat_lt bit 64 && burst.bit mask bit) }
-{
-    bit < 64 && (mask >> bit) % 2 == 1
 }
 
 /// Whether a request of this address and size reaches the byte at a place of its block.
@@ -93,7 +82,8 @@ pub fn reaches(address: u32, size: u8, place: usize) -> bool
 impl<const W: usize> Asked<W> {
     ghost use Rattle.tl_memory.specs.statement.Known.{AreWide, KnowsMessage};
 
-    /// The access that a request asks for which is complete with this beat: this is what its beats brought.
+    /// The access that is asked for with this beat, and was first at a moment: this is what the beats of its request
+    /// brought.
     pub fn new(link: Link, x: &BeatA<W>, brought: &CarriedMessage, moment: u64) -> Self
         requires width { IsWidth W }
         requires small { x.now.size ≤ 6 }
@@ -125,55 +115,4 @@ impl<const W: usize> Asked<W> {
     {
         self.link == link && self.request.source == source
     }
-
-    /// Whether a Put writes the byte at a place of its block.
-    fn puts(&self, place: usize) -> bool
-        requires { IsWidth W }
-        ensures { (access : Access W) → IsAsked self.now access → place < 64 →
-            a_carries_data access.request.opcode ≡ true →
-            result ≡ is_some (byte_at 0 (message.A access.request) (64 * block_at access.request.address + place)) }
-    {
-        match place.checked_sub(base::<W>(self.request.address)) {
-            None => false,
-            Some(at) => is_set(self.request.mask, at),
-        }
-    }
-
-    /// Whether an atomic reaches the byte at a place of its block.
-    fn reaches(&self, place: usize) -> bool
-        ensures { (access : Access W) → IsAsked self.now access → place < 64 →
-            result ≡ burst.reaches access.request.address access.request.size
-            (64 * block_at access.request.address + place) }
-    {
-        reaches(self.request.address, self.request.size, place)
-    }
-
-    /// Whether it writes the byte at a place of its block.
-    pub fn writes(&self, place: usize) -> bool
-        requires { IsWidth W }
-        ensures { (access : Access W) → IsAsked self.now access → place < 64 →
-            result ≡ access_writes (64 * block_at access.request.address + place) access }
-    {
-        match self.request.opcode {
-            OpA::PutFullData | OpA::PutPartialData => self.puts(place),
-            OpA::ArithmeticData | OpA::LogicalData => self.reaches(place),
-            _ => false,
-        }
-    }
-}
-
-/// The places of its block that an access writes.
-pub fn places_of<const W: usize>(asked: &Asked<W>) -> [bool; 64]
-    requires { IsWidth W }
-    ensures { (access : Access W) → IsAsked asked.now access → (place : ℕ) → place < 64 →
-        slice_index_or result place false ≡ access_writes (64 * block_at access.request.address + place) access }
-{
-    let mut places = [false; 64];
-    if !asked.request.opcode.carries_data() {
-        return places;
-    }
-    for place in 0..64usize {
-        places[place] = asked.writes(place);
-    }
-    places
 }

@@ -1,10 +1,9 @@
 //! What is kept of a block.
 
-ghost use Rattle.std.specs.Prelude.{ℕ, suc, true, false, not, None, [], ◌∷◌, ◌≡◌, ◌&&◌, ◌-◌, length, find, IfOk};
+ghost use Rattle.std.specs.Prelude.{ℕ, suc, true, false, not, None, [], ◌∷◌, ◌≡◌, ◌≤◌, ◌&&◌, ◌-◌, length, find, IfOk};
 ghost use Rattle.std.specs.Prelude.{if◌then◌else◌, filter, unwrap_or};
 ghost use Rattle.tl_beat.specs.declared.beat.Beat.{Beat};
 ghost use Rattle.tl_beat.specs.declared.beat.Beat.TheVariants as beat;
-ghost use Rattle.tl_beat.specs.declared.beat.BeatA.{BeatA};
 ghost use Rattle.tl_beat.specs.declared.beat.BeatD.{BeatD};
 ghost use Rattle.tl_beat.specs.declared.beat.Link.{Link};
 ghost use Rattle.tl_beat.specs.declared.channel.Channel.TheVariants as channel;
@@ -12,23 +11,22 @@ ghost use Rattle.tl_beat.specs.statement.Width.{IsWidth};
 ghost use Rattle.tl_burst.specs.statement.Messages.{unfinished};
 ghost use Rattle.tl_rules.specs.statement.Conformance.{Trace, on_link};
 ghost use Rattle.tl_rules.specs.statement.History.{block_at};
-ghost use Rattle.tl_bytes.specs.statement.Bytes.{Access, ends_request, is_access, is_of, pending_accesses, tells};
+ghost use Rattle.tl_bytes.specs.statement.Bytes.{asks, ends_request, is_of, pending_accesses, tells};
 ghost use Rattle.tl_bytes.specs.statement.Known.{AreCarried, KnowsBlock, KnowsGrant};
 ghost use Rattle.tl_memory.specs.code.Elsewhere.{IsElsewhere};
 ghost use Rattle.tl_memory.specs.code.Writers.{AreRenewed, found_by, keeps, staying};
 ghost use Rattle.tl_bytes.specs.statement.Known.{tellings_of};
 ghost use Rattle.tl_bytes.specs.statement.Lines.{told_moment};
 
-use crate::access::Asked;
 use crate::accesses::{append_renewed, find, watch};
 use crate::expected::Expected;
 use crate::free::Freedom;
 use crate::granted::granted;
 use crate::message::CarriedMessage;
 use crate::pending::PendingAccess;
-use crate::writer::{Writer, pending_write, written};
+use crate::writer::{Writer, written};
 use std::alloc::{AllocError, Global};
-use tl_beat::beat::{Beat, BeatD, Link};
+use tl_beat::beat::{Beat, BeatA, BeatD, Link};
 use tl_beat::opcode::OpA;
 use tl_bytes::block_bytes::BlockBytes;
 use tl_bytes::read_bytes::ReadBytes;
@@ -64,10 +62,10 @@ fn last_free(was: bool, free: bool, last: u64, moment: u64) -> u64
 }
 
 impl<const W: usize> BlockState<W> {
-    ghost use Rattle.tl_memory.specs.code.Taking.{IsNext, put_next, with_next};
-    ghost use Rattle.tl_memory.specs.statement.Known.{AnyIsTo, Expects, HasRoom, IsAsked, IsLawful, KnowsMessage};
+    ghost use Rattle.tl_memory.specs.code.Taking.{IsNext, IsRequested, asked_now, none_shown, put_next, with_next};
+    ghost use Rattle.tl_memory.specs.statement.Known.{AnyIsTo, Expects, HasRoom, IsNoPut, KnowsAccess, KnowsMessage};
     ghost use Rattle.tl_memory.specs.statement.Expecting.{ExpectsAgain};
-    ghost use Rattle.tl_memory.specs.statement.Known.{AllWriteInside, KnowsState, KnowsUnseen, WritesInside, freedom};
+    ghost use Rattle.tl_memory.specs.statement.Known.{AllWriteInside, KnowsState, KnowsUnseen, freedom, open_for};
     ghost use Rattle.tl_memory.specs.statement.Known.{is_to};
 
     /// A block of which nothing was told, and to which no access is pending: it is free.
@@ -101,7 +99,7 @@ impl<const W: usize> BlockState<W> {
         granted(alloc, &self.bytes, self.accesses.as_slice())
     }
 
-    /// What the answer may bring now to the access that is pending with this source on a link.
+    /// What the answer may bring now to the access that is pending with this source on a link, which is no Put.
     pub fn read(
         &self,
         alloc: Global,
@@ -110,6 +108,7 @@ impl<const W: usize> BlockState<W> {
     ) -> Result<Option<Expected>, AllocError>
         ensures { IfOk result (λ expected. (n block : ℕ) (t : Trace W) → KnowsState self.now n block t →
             AnyIsTo block (find (is_of link.0 source) (pending_accesses t)) →
+            IsNoPut (find (is_of link.0 source) (pending_accesses t)) →
             Expects expected n block (find (is_of link.0 source) (pending_accesses t)) t) }
     {
         let accesses = self.accesses.as_slice();
@@ -275,25 +274,59 @@ impl<const W: usize> BlockState<W> {
         watch(&mut self.accesses, free.writing, moment);
     }
 
-    /// What a beat makes of it that completes the request of an access to it.
-    pub fn asked(&self, alloc: Global, asked: Asked<W>) -> Result<NextState<W>, AllocError>
-        requires { IsWidth W }
-        ensures { IfOk result (λ next. (n block : ℕ) (link : Link) (y : BeatA W) (access : Access W) (t : Trace W) →
-            is_access y.opcode ≡ true → KnowsState self.now n block t →
-            pending_accesses ((link, beat.A y) ∷ t) ≡ access ∷ pending_accesses t →
-            IsAsked asked.entry access → IsLawful access → WritesInside access →
-            block_at access.request.address ≡ block → access.asked ≡ suc (length t) →
-            KnowsState (with_next self.now next) n block ((link, beat.A y) ∷ t)) }
+    /// What is kept of the access to it that is asked for with a beat, at this moment, or of which more is asked for: this
+    /// is what the beats of its request brought.
+    fn asked_access(
+        &self,
+        alloc: Global,
+        link: Link,
+        y: &BeatA<W>,
+        brought: &CarriedMessage,
+        moment: u64,
+    ) -> Result<PendingAccess<W>, AllocError>
+        requires width { IsWidth W }
+        requires small { y.now.size ≤ 6 }
+        ensures { IfOk result (λ own. (n block : ℕ) (t : Trace W) → KnowsState self.now n block t →
+            KnowsMessage brought.now (beat.A y.now ∷ unfinished channel.A (on_link link.0 t)) →
+            IsRequested link.0 y.now t → asks y.now (on_link link.0 t) ≡ true → block_at y.now.address ≡ block →
+            moment ≡ suc (length t) →
+            KnowsAccess own (open_for (none_shown self.now.free)) n block (asked_now link.0 y.now t)
+            ((link, beat.A y.now) ∷ t)) }
     {
-        let writer = Writer {
-            asked,
-            write: pending_write(&asked),
+        let accesses = self.accesses.as_slice();
+        let Some(first) = find(accesses, link, y.source) else {
+            let writer = Writer::new(link, y, brought, moment);
+            let windows = WritingWindows::new(self.free.writing, moment, self.last_free);
+            return Ok(PendingAccess::new(alloc, &writer, windows));
         };
-        let windows = WritingWindows::new(self.free.writing, asked.moment, self.last_free);
+        let writer = Writer::new(link, y, brought, first.writer.asked.moment);
+        first.grown(alloc, &writer, self.free, &self.bytes, accesses)
+    }
+
+    /// What a beat makes of it, at this moment, with which an access to it is asked for, or more of one: this is what the
+    /// beats of its request brought.
+    pub fn asked(
+        &self,
+        alloc: Global,
+        link: Link,
+        y: &BeatA<W>,
+        brought: &CarriedMessage,
+        moment: u64,
+    ) -> Result<NextState<W>, AllocError>
+        requires width { IsWidth W }
+        requires small { y.now.size ≤ 6 }
+        ensures { IfOk result (λ next. (n block : ℕ) (t : Trace W) → KnowsState self.now n block t →
+            KnowsMessage brought.now (beat.A y.now ∷ unfinished channel.A (on_link link.0 t)) →
+            IsRequested link.0 y.now t → asks y.now (on_link link.0 t) ≡ true → block_at y.now.address ≡ block →
+            moment ≡ suc (length t) →
+            KnowsState (with_next self.now next) n block ((link, beat.A y.now) ∷ t)) }
+    {
+        let own = self.asked_access(alloc, link, y, brought, moment)?;
         let before = self.accesses.as_slice();
+        let gone = Some((link, y.source));
         let mut accesses = Vec::with_capacity(alloc, before.len().saturating_add(1))?;
-        accesses.push(PendingAccess::new(alloc, &writer, windows))?;
-        append_renewed(alloc, &mut accesses, before, None, self.free, &self.bytes)?;
+        accesses.push(own)?;
+        append_renewed(alloc, &mut accesses, before, gone, self.free, &self.bytes)?;
         Ok(NextState {
             bytes: None,
             accesses,

@@ -9,7 +9,7 @@ ghost use Rattle.tl_beat.specs.statement.Width.{IsWidth};
 ghost use Rattle.tl_burst.specs.statement.Messages.{History, unfinished};
 ghost use Rattle.tl_burst.specs.statement.Part;
 ghost use Rattle.tl_rules.specs.statement.Conformance.{Trace, on_link};
-ghost use Rattle.tl_rules.specs.statement.History.{block_at, ends};
+ghost use Rattle.tl_rules.specs.statement.History.{block_at};
 ghost use Rattle.tl_memory.specs.declared.free.Freedom.{Freedom};
 ghost use Rattle.tl_bytes.specs.statement.Bytes as bytes;
 ghost use Rattle.tl_memory.specs.code.Elsewhere.{block_borne};
@@ -20,36 +20,17 @@ ghost use Rattle.tl_memory.specs.code.Taking as taking;
 ghost use Rattle.tl_memory.specs.statement.Known.{HasRoom, KnowsMessage, KnowsState};
 ghost use Rattle.tl_memory.specs.statement.Links.{KnowsMessages};
 
-use crate::access::{Asked, is_access};
+use crate::access::is_access;
 use crate::block::{BlockState, NextState};
 use crate::link::LinkMessages;
-use crate::message::CarriedMessage;
-use crate::passing::acquires_from_none;
+use crate::message::{CarriedMessage, both};
+use crate::passing::{acquires_from_none, asks};
 use std::alloc::{AllocError, Global};
 use tl_beat::beat::{Beat, BeatA, BeatC, BeatD, Link};
 use tl_beat::opcode::{OpA, OpD};
 use tl_rules::past::Request;
 
-/// Whether both are true.
-fn both(one: bool, other: bool) -> bool
-    ensures { result ≡ (one && other) }
-{
-    one && other
-}
-
-/// Whether an access is complete with a beat of channel A: this is what the beats before it of its message
-/// brought.
-fn completes_access<const W: usize>(y: &BeatA<W>, brought: &CarriedMessage) -> bool
-    requires width { IsWidth W }
-    requires small { y.now.size ≤ 6 }
-    ensures { (t : History W) → KnowsMessage brought.now (unfinished channel.A t) →
-        HasRoom (beat.A y.now) (unfinished channel.A t) →
-        result ≡ (bytes.is_access y.now.opcode && ends (beat.A y.now) t) }
-{
-    both(is_access(y.opcode), brought.completes(&Beat::A(*y)))
-}
-
-/// What a beat of channel A makes of the state, at this moment, where an access is complete with it: this is what the
+/// What a beat of channel A makes of the state, at this moment, where an access is asked for with it: this is what the
 /// beats before it of its message brought.
 pub fn after_request<const W: usize>(
     alloc: Global,
@@ -66,11 +47,11 @@ pub fn after_request<const W: usize>(
         block_at y.now.address ≡ block → moment ≡ suc (length t) →
         IsNextAsked next state.now n block (link, beat.A y.now) t) }
 {
-    if !completes_access(y, brought) {
+    if !asks(y, brought) {
         return Ok(None);
     }
-    let asked = Asked::new(link, y, &brought.with(&Beat::A(*y)), moment);
-    Ok(Some(state.asked(alloc, asked)?))
+    let all = brought.with(&Beat::A(*y));
+    Ok(Some(state.asked(alloc, link, y, &all, moment)?))
 }
 
 /// What a beat of channel C makes of the state, before which so many were taken, where a report is complete with it.

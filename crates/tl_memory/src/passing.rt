@@ -1,15 +1,19 @@
 //! Beats that pass each block by, and those that change what their link holds.
 
-ghost use Rattle.std.specs.Prelude.{◌<◌, ◌≡◌, IsTrue, length};
+ghost use Rattle.std.specs.Prelude.{◌<◌, ◌≤◌, ◌≡◌, IsTrue, length};
+ghost use Rattle.tl_beat.specs.declared.channel.Channel.TheVariants as channel;
 ghost use Rattle.tl_beat.specs.statement.Width.{IsWidth};
 ghost use Rattle.tl_burst.specs.statement.Messages.{History, channel_of, unfinished};
 ghost use Rattle.tl_burst.specs.statement.Part;
+ghost use Rattle.tl_bytes.specs.statement.Bytes as bytes;
 ghost use Rattle.tl_memory.specs.code.Passing as passing;
+ghost use Rattle.tl_memory.specs.statement.Known.{KnowsMessage};
 ghost use Rattle.tl_memory.specs.statement.Links.{KnowsMessages};
 
 use crate::access::is_access;
 use crate::link::LinkMessages;
-use crate::message::either;
+use crate::message::{CarriedMessage, both, either};
+use crate::performed::is_put;
 use tl_beat::beat::{Beat, BeatA};
 use tl_beat::opcode::OpD;
 use tl_rules::kind::{grows_from_none, is_acquire, is_grant};
@@ -19,6 +23,19 @@ pub fn acquires_from_none<const W: usize>(y: &BeatA<W>) -> bool
     ensures { result ≡ passing.acquires_from_none y.now }
 {
     is_acquire(y.opcode) && grows_from_none(y.param)
+}
+
+/// Whether an access is asked for with a beat of channel A: this is what the beats before it of its message brought.
+pub fn asks<const W: usize>(y: &BeatA<W>, brought: &CarriedMessage) -> bool
+    requires width { IsWidth W }
+    requires small { y.now.size ≤ 6 }
+    ensures { (t : History W) → KnowsMessage brought.now (unfinished channel.A t) →
+        length (unfinished channel.A t) < 64 → result ≡ bytes.asks y.now t }
+{
+    both(
+        is_access(y.opcode),
+        either(is_put(y.opcode), brought.completes(&Beat::A(*y))),
+    )
 }
 
 /// Whether a response brings what an access finds.
@@ -41,7 +58,7 @@ pub fn passes_by<const W: usize>(x: &Beat<W>, messages: &LinkMessages) -> bool
             if acquires_from_none(y) {
                 return false;
             }
-            either(!is_access(y.opcode), !messages.a.completes(x))
+            !asks(y, &messages.a)
         }
         Beat::C(_) => !messages.c.completes(x),
         Beat::D(y) => {

@@ -5,6 +5,8 @@ ghost use Rattle.tl_bytes.specs.statement.Known.{may_bring};
 ghost use Rattle.tl_memory.specs.code.Writers.{writes_but};
 
 use crate::free::{Freedom, needs};
+use crate::message::both;
+use crate::performed::is_put;
 use crate::writer::Writer;
 use std::alloc::{AllocError, Global};
 use tl_beat::beat::Link;
@@ -40,9 +42,9 @@ fn writes_of_others<const W: usize>(
 }
 
 impl<const W: usize> PendingAccess<W> {
-    ghost use Rattle.tl_memory.specs.code.Writers.{IsRenewed, IsWatched, found_by};
+    ghost use Rattle.tl_memory.specs.code.Writers.{IsGrown, IsRenewed, IsWatched, found_by};
 
-    /// One whose request is complete with this beat, which had these windows.
+    /// One that is asked for first with this beat, which had these windows.
     pub fn new(alloc: Global, writer: &Writer<W>, windows: WritingWindows) -> Self
         ensures writer { result.writer ≡ writer.now }
         ensures windows { result.windows ≡ windows }
@@ -55,7 +57,7 @@ impl<const W: usize> PendingAccess<W> {
         }
     }
 
-    /// A copy that has what it may find now, where it may be performed now: its block is free for these, and has these
+    /// A copy that has what it may find now, where it may be performed now, and is no Put: its block is free for these, and has these
     /// bytes, and these are the accesses to it that are pending.
     pub fn renewed(
         &self,
@@ -67,8 +69,9 @@ impl<const W: usize> PendingAccess<W> {
         ensures { IfOk result (λ pending. IsRenewed (found_by free bytes.now accesses.now) self.now pending) }
     {
         let asked = &self.writer.asked;
+        let opcode = asked.request.opcode;
         let mut read = self.read.copy(alloc)?;
-        if free.is_open_for(needs(asked.request.opcode)) {
+        if both(!is_put(opcode), free.is_open_for(needs(opcode))) {
             let writes = writes_of_others(alloc, accesses, asked.link, asked.request.source)?;
             read.find(alloc, bytes, writes.as_slice())?;
         }
@@ -77,6 +80,23 @@ impl<const W: usize> PendingAccess<W> {
             windows: self.windows,
             read,
         })
+    }
+
+    /// The same of which more is asked for with this beat, so that this is its writer, and which has what it may find now, as
+    /// in `renewed`.
+    pub fn grown(
+        &self,
+        alloc: Global,
+        writer: &Writer<W>,
+        free: Freedom,
+        bytes: &BlockBytes,
+        accesses: &[PendingAccess<W>],
+    ) -> Result<Self, AllocError>
+        ensures { IfOk result (λ grown. IsGrown writer.now (found_by free bytes.now accesses.now) self.now grown) }
+    {
+        let mut grown = self.renewed(alloc, free, bytes, accesses)?;
+        grown.writer = *writer;
+        Ok(grown)
     }
 
     /// Sees whether its block is free for writing with one more beat, at this moment.

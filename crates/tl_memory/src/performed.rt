@@ -7,9 +7,9 @@ ghost use Rattle.tl_beat.specs.statement.Width.{IsWidth};
 ghost use Rattle.tl_burst.specs.declared.message.Message.TheVariants as message;
 ghost use Rattle.tl_rules.specs.statement.Effect.{Memory, IsBlock, after, effect};
 ghost use Rattle.tl_rules.specs.statement.History.{block_at};
-ghost use Rattle.tl_bytes.specs.statement.Bytes.{Access, access_writes, found_memory};
+ghost use Rattle.tl_bytes.specs.statement.Bytes.{Access, access_writes, found_memory, is_put};
 ghost use Rattle.tl_bytes.specs.statement.Known.{HasBytes};
-ghost use Rattle.tl_memory.specs.statement.Known.{IsAsked, IsPerformable, IsWhole, is_atomic, is_put};
+ghost use Rattle.tl_memory.specs.statement.Known.{IsAsked, IsPerformable, IsWhole, is_atomic};
 
 use crate::access::{Asked, payload_of};
 use tl_beat::channel::Channel;
@@ -59,11 +59,11 @@ pub fn is_put(opcode: OpA) -> bool
     matches!(opcode, OpA::PutFullData | OpA::PutPartialData)
 }
 
-/// The bytes of its block that an access leaves which writes, where its answer brought these.
+/// The bytes of its block that an atomic leaves, where its answer brought these.
 pub fn performed<const W: usize>(asked: &Asked<W>, found: &[Option<u8>; 64]) -> [u8; 64]
     requires { IsWidth W }
     ensures { (access : Access W) (answer : List (Beat W)) → IsAsked asked.now access →
-        HasBytes found.now answer →
+        is_put access.request.opcode ≡ false → HasBytes found.now answer →
         access.spoiled ≡ false →
         IsPerformable W access.request.opcode access.request.param access.request.size access.request.address →
         IsWhole access → (place : ℕ) → place < 64 →
@@ -72,9 +72,6 @@ pub fn performed<const W: usize>(asked: &Asked<W>, found: &[Option<u8>; 64]) -> 
         (64 * block_at access.request.address + place) }
 {
     let base = base::<W>(asked.request.address);
-    if is_put(asked.request.opcode) {
-        return move_up(&asked.request.payload, base);
-    }
     let mut block = move_up(&payload_of(found), base);
     perform_atomic(&asked.request, &mut block);
     block

@@ -1,18 +1,25 @@
 //! What accesses write in their blocks.
 
-ghost use Rattle.std.specs.Prelude.{ℕ, true, ◌+◌, ◌*◌, ◌<◌, ◌≡◌, List, None, Some};
-ghost use Rattle.std.specs.Prelude.{slice_index, slice_index_or};
+ghost use Rattle.std.specs.Prelude.{ℕ, true, false, ◌∷◌, ◌+◌, ◌*◌, ◌%◌, ◌^◌, ◌<◌, ◌≤◌, ◌≡◌, ◌==◌, List, None, Some};
+ghost use Rattle.std.specs.Prelude.{find, if◌then◌else◌, is_some, length, slice_index, slice_index_or};
 ghost use Rattle.tl_beat.specs.declared.beat.Beat.{Beat};
+ghost use Rattle.tl_beat.specs.declared.beat.Beat.TheVariants as beat;
+ghost use Rattle.tl_beat.specs.statement.Opcode.{a_carries_data};
 ghost use Rattle.tl_beat.specs.statement.Width.{IsWidth};
 ghost use Rattle.tl_rules.specs.statement.History.{block_at};
-ghost use Rattle.tl_bytes.specs.statement.Bytes.{Access, access_writes, pending_value, value_written};
+ghost use Rattle.tl_rules.specs.statement.Admission.{is_spoiled};
+ghost use Rattle.tl_bytes.specs.statement.Bytes.{Access, access_writes, asked_by, carried_byte, is_put, value_written};
 ghost use Rattle.tl_bytes.specs.statement.Known.{IsWrite};
-ghost use Rattle.tl_memory.specs.statement.Known.{IsAsked, IsLawful, IsPendingWrite, KnowsMessage};
+ghost use Rattle.tl_memory.specs.statement.Known.{AreWide, IsAsked, IsLawful, IsPendingWrite, KnowsMessage};
+ghost use Rattle.tl_memory.specs.statement.Known.{is_atomic};
 
-use crate::access::{Asked, places_of};
+use crate::access::Asked;
 use crate::message::{CarriedMessage, either};
 use crate::performed::{is_put, performed};
+use tl_beat::beat::{BeatA, Link};
+use tl_beat::opcode::OpA;
 use tl_bytes::write::Write;
+use tl_rules::place::base;
 
 /// Bytes that are known.
 fn known(bytes: &[u8; 64]) -> [Option<u8>; 64]
@@ -32,12 +39,13 @@ fn nothing_known() -> [Option<u8>; 64]
     [None; 64]
 }
 
-/// The bytes of its block that an access leaves which writes, where this is its answer: none is known where
-/// a beat of one of them is corrupt.
+/// The bytes of its block that an atomic leaves, where this is its answer: none is known where a beat of one of them is
+/// corrupt.
 fn values_written<const W: usize>(asked: &Asked<W>, answer: &CarriedMessage) -> [Option<u8>; 64]
     requires { IsWidth W }
     ensures { (access : Access W) (burst : List (Beat W)) → IsAsked asked.now access →
-        KnowsMessage answer.now burst → IsLawful access → (place : ℕ) → place < 64 →
+        is_put access.request.opcode ≡ false → KnowsMessage answer.now burst → IsLawful access →
+        (place : ℕ) → place < 64 →
         access_writes (64 * block_at access.request.address + place) access ≡ true →
         slice_index_or result place None
         ≡ value_written access burst (64 * block_at access.request.address + place) }
@@ -48,29 +56,51 @@ fn values_written<const W: usize>(asked: &Asked<W>, answer: &CarriedMessage) -> 
     known(&performed(asked, answer.bytes.bytes()))
 }
 
-/// The bytes of its block that an access which writes may leave while it is pending: of an atomic none is known.
-fn pending_values<const W: usize>(asked: &Asked<W>) -> [Option<u8>; 64]
-    requires { IsWidth W }
-    ensures { (access : Access W) → IsAsked asked.now access → IsLawful access → (place : ℕ) → place < 64 →
-        access_writes (64 * block_at access.request.address + place) access ≡ true →
-        slice_index_or result place None
-        ≡ pending_value access.request.opcode access (64 * block_at access.request.address + place) }
+/// The mask of what an access reaches in its block that isn't a Put: of an atomic all its bytes, of a Get none.
+fn mask_reached(opcode: OpA, size: u8, address: u32) -> u64
+    ensures { result ≡ (if is_atomic opcode then (if size == 2 then 15 else 255) * 2 ^ (address % 64) % 2 ^ 64 else 0) }
 {
-    if is_put(asked.request.opcode) {
-        return values_written(asked, &CarriedMessage::new());
+    let lanes: u64 = if size == 2 { 0x0f } else { 0xff };
+    match opcode {
+        OpA::ArithmeticData | OpA::LogicalData => lanes << (address % 64),
+        _ => 0,
     }
-    nothing_known()
 }
 
-/// What an access may write while it is pending: of an atomic, anything.
-pub fn pending_write<const W: usize>(asked: &Asked<W>) -> Write
-    requires { IsWidth W }
-    ensures { (access : Access W) → IsAsked asked.now access → IsLawful access →
-        IsPendingWrite result (block_at access.request.address) access }
+/// The values of a Put whose beats brought these bytes: none is known where one of them was corrupt.
+fn values_brought(brought: &CarriedMessage) -> [Option<u8>; 64]
+    ensures { (w : ℕ) (burst : List (Beat w)) → KnowsMessage brought.now burst → (place : ℕ) → place < 64 →
+        slice_index_or result place None
+        ≡ (if is_some (find is_spoiled burst) then None else carried_byte burst place) }
 {
+    if brought.spoiled {
+        return nothing_known();
+    }
+    *brought.bytes.bytes()
+}
+
+/// What an access may write while it is pending, the beats of whose request brought this: of a Put the bytes of its mask,
+/// of an atomic anything.
+fn pending_write<const W: usize>(asked: &Asked<W>, brought: &CarriedMessage) -> Write
+    requires { IsWidth W }
+    ensures { (link : ℕ) (x : BeatA W) (older : List (Beat W)) (moment : ℕ) →
+        IsAsked asked.now (asked_by link x (beat.A x ∷ older) moment) →
+        IsLawful (asked_by link x (beat.A x ∷ older) moment) → KnowsMessage brought.now (beat.A x ∷ older) →
+        (a_carries_data x.opcode ≡ true → AreWide (beat.A x ∷ older)) →
+        IsPendingWrite result (block_at x.address) (asked_by link x (beat.A x ∷ older) moment) }
+{
+    let request = &asked.request;
+    if is_put(request.opcode) {
+        return Write {
+            first: base::<W>(request.address),
+            mask: request.mask,
+            values: values_brought(brought),
+        };
+    }
     Write {
-        places: places_of(asked),
-        values: pending_values(asked),
+        first: 0,
+        mask: mask_reached(request.opcode, request.size, request.address),
+        values: nothing_known(),
     }
 }
 
@@ -79,6 +109,28 @@ pub fn pending_write<const W: usize>(asked: &Asked<W>) -> Write
 pub struct Writer<const W: usize> {
     pub asked: Asked<W>,
     pub write: Write,
+}
+
+impl<const W: usize> Writer<W> {
+    ghost use Rattle.tl_memory.specs.code.Writers.{IsWriter};
+
+    /// That of an access that is asked for with this beat, and was first at a moment: this is what the beats of its
+    /// request brought.
+    pub fn new(link: Link, y: &BeatA<W>, brought: &CarriedMessage, moment: u64) -> Self
+        requires width { IsWidth W }
+        requires small { y.now.size ≤ 6 }
+        ensures { (older : List (Beat W)) → KnowsMessage brought.now (beat.A y.now ∷ older) →
+            (a_carries_data y.now.opcode ≡ true → AreWide (beat.A y.now ∷ older)) →
+            W * length (beat.A y.now ∷ older) ≤ 64 →
+            IsLawful (asked_by link.0 y.now (beat.A y.now ∷ older) moment) →
+            IsWriter result (asked_by link.0 y.now (beat.A y.now ∷ older) moment) }
+    {
+        let asked = Asked::new(link, y, brought, moment);
+        Writer {
+            asked,
+            write: pending_write(&asked, brought),
+        }
+    }
 }
 
 /// What an access leaves, where this is its answer: a Put what it may write while it is pending, an atomic what follows
@@ -90,11 +142,13 @@ pub fn written<const W: usize>(writer: &Writer<W>, answer: &CarriedMessage) -> W
         KnowsMessage answer.now burst → IsLawful access →
         IsWrite result (block_at access.request.address) access burst }
 {
-    if is_put(writer.asked.request.opcode) {
+    let request = &writer.asked.request;
+    if is_put(request.opcode) {
         return writer.write;
     }
     Write {
-        places: writer.write.places,
+        first: 0,
+        mask: mask_reached(request.opcode, request.size, request.address),
         values: values_written(&writer.asked, answer),
     }
 }

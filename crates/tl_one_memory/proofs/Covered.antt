@@ -9,9 +9,8 @@ use Rattle.std.proofs.lemmas.Bool.{le-leb, eqb-true, not-false}
 use Rattle.tl_beat.{specs.declared.beat.BeatA.BeatA, specs.declared.channel.Channel.Channel}
 use Rattle.tl_burst.specs.statement.Messages.{History, channel_of}
 use Rattle.tl_params.specs.declared.perm.Perm.{Perm}
-use Rattle.tl_rules.specs.statement.History.{ends}
 use Rattle.tl_bytes.specs.declared.telling.Telling.{Telling}
-use Rattle.tl_bytes.specs.statement.Bytes.{after_answer, after_beat, after_write, ends_request, is_access, last_told}
+use Rattle.tl_bytes.specs.statement.Bytes.{after_answer, after_beat, after_write, asks, ends_request, last_told}
 use Rattle.tl_bytes.specs.statement.Bytes.{last_window, same_value, tells, told_too, value_left, window_began}
 use Rattle.tl_bytes.proofs.Finding.{Among, among-map, among-or}
 use Rattle.tl_bytes.proofs.Pending.{IsAnsweredNow, pending-after, pending-before}
@@ -61,7 +60,7 @@ pub record IsOrderly {w : ℕ} (n address v : ℕ) (done : ℕ → ℕ → Type 
     (Answers : ℕ → ℕ → Access w → List (Beat w) → Type 0)
     (y : Link × Beat w) (t : Trace w) : Type 0 where
   -- an access that is asked for isn't performed
-  pub asks_new : (z : BeatA w) → y.1 ≡ Beat.A z → is_access z.opcode && ends (Beat.A z) (on_link y.0.0 t) ≡ true
+  pub asks_new : (z : BeatA w) → y.1 ≡ Beat.A z → asks z (on_link y.0.0 t) ≡ true
       → done y.0.0 z.source → ⊥
   -- one that is answered was, with this answer
   pub answers_done : (z : BeatD w) (p : Access w) → y.1 ≡ Beat.D z → ends_request z (on_link y.0.0 t) ≡ true
@@ -140,8 +139,8 @@ module _ {w : ℕ} (n address v : ℕ) (done : ℕ → ℕ → Type 0) (Answers 
 
     pending-was : (c s : ℕ) (p : Access w) → done c s → IsPending c s p (y ∷ t) → IsPending c s p t
     pending-was c s p performed pending = elim (pending-before c s p y t pending) [
-      | inl old ↦ old
-      | inr new ↦ absurd (orderly.asks_new new.first new.beat_is new.completes
+      | inl old ↦ old.0
+      | inr new ↦ absurd (orderly.asks_new new.beat new.beat_is new.asks_it
           (rw (← new.link_is, ← new.source_is) performed))
     ]
 

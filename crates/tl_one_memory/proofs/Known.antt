@@ -77,7 +77,7 @@ module _ {w : ℕ} (n : ℕ) (first : Memory) (address : ℕ) where
       → IsOrderly n address (memory_in first run address) (IsDone first run) (Answers first run) (link, x)
       (trace_in run)
   orderly link x run taken = record {
-    asks_new = λ z e completes done. none-some done.0 (sym (taken.asks z e completes) ∙ done.1);
+    asks_new = λ z e asked done. none-some done.0 (sym (taken.asks_new z e asked) ∙ done.1);
     answers_done = λ z p e completes pending.
         let both = and_parts (not (is_release_ack z.opcode)) (ends (Beat.D z) (on_link link.0 (trace_in run)))
         completes in

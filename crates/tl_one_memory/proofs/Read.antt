@@ -107,9 +107,9 @@ module _ {w : ℕ} (n : ℕ) (first : Memory) where
   unfolding trace_in
   read-taken link x run taken before c s p found performed pending back address reached =
       elim (pending-before c s p (link, x) (trace_in run) pending) [
-        | inl old ↦ read-more n c s p (link, x) (trace_in run) address (found address) old
-            (before c s p found (found-taken first c s link x run found performed).1 old back address reached)
-        | inr new ↦ absurd (none-some found (sym (taken.asks new.first new.beat_is new.completes)
+        | inl old ↦ read-more n c s p (link, x) (trace_in run) address (found address) old.0
+            (before c s p found (found-taken first c s link x run found performed).1 old.0 back address reached)
+        | inr new ↦ absurd (none-some found (sym (taken.asks_new new.beat new.beat_is new.asks_it)
             ∙ rw (← new.link_is, ← new.source_is) (found-taken first c s link x run found performed).1))
       ]
 
@@ -278,8 +278,8 @@ module _ {w : ℕ} (n : ℕ) (first : Memory) where
       apart : unfinished Channel.D (on_link c t) ≡ Beat.D z ∷ older
           → before_last c (suc (length older)) ((link, x) ∷ t) ≡ before_last c (suc (length older)) t → Result
       apart f same = elim (pending-before c z.source p (link, x) t pending) [
-        | inl old ↦ still (suc (length older)) same (begun c z older p f no_ack old)
-        | inr new ↦ absurd (taken.asks_first new.first z older new.beat_is new.completes
+        | inl old ↦ still (suc (length older)) same (begun c z older p f no_ack old.0)
+        | inr new ↦ absurd (taken.asks_first new.beat z older new.beat_is new.asks_it
             (ap (λ (d : ℕ). unfinished Channel.D (on_link d t)) (sym new.link_is) ∙ f) no_ack new.source_is)
       ]
 
@@ -293,8 +293,8 @@ module _ {w : ℕ} (n : ℕ) (first : Memory) where
           still (length older) same
           (begun-here link y run (rw (← f) taken) is begun c z older p own parts.0 parts.1 no_ack
           (elim (pending-before c z.source p (link, x) t pending) [
-            | inl old ↦ old
-            | inr new ↦ absurd (let no : Beat.D y ≡ Beat.A new.first = sym f ∙ new.beat_is in cc)
+            | inl old ↦ old.0
+            | inr new ↦ absurd (let no : Beat.D y ≡ Beat.A new.beat = sym f ∙ new.beat_is in cc)
           ]))
 
       on_link_c : (b : Beat w) → x ≡ b → (link.0 == c) ≡ true

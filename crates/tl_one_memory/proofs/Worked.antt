@@ -71,8 +71,8 @@ pub single : (link : Link) (x : Beat 8) (run : Run 8) → unfinished Channel.D (
     → (tells (block_at address) x (on_link link.0 (trace_in run)) ≡ true) ⊎ IsClean 2 zeros address run)
     → IsTaken 2 zeros link x run
 single link x run fresh asks answers no_grant tells_so closes gives = record {
-  asks = λ z e both. asks z e;
-  asks_first = λ z y older e both begun no_ack same. nil-cons (Beat.D y) older (sym fresh ∙ begun);
+  asks_new = λ z e asked. asks z e;
+  asks_first = λ z y older e asked begun no_ack same. nil-cons (Beat.D y) older (sym fresh ∙ begun);
   continues = λ z y older e begun. absurd (nil-cons (Beat.D y) older (sym fresh ∙ begun));
   answers_rightly = λ z access e no_ack pending. answers z access e pending;
   grants_rightly = λ z asked e grant open_so. absurd (no_grant z e grant);

@@ -1,17 +1,17 @@
 -- The accesses that are pending after a renamed trace.
 use Rattle.tl_renaming.proofs.Imports.{Beat, A, B, C, D, E, BeatA, BeatD, Channel, History, unfinished}
-use Rattle.tl_renaming.proofs.Imports.{Renaming, ends, renamed, renamed_a, renamed_address, renamed_d}
+use Rattle.tl_renaming.proofs.Imports.{Renaming, renamed, renamed_a, renamed_address, renamed_d}
 use Rattle.tl_renaming.proofs.Imports.{renamed_history}
 use Rattle.tl_renaming.proofs.Carried.{bytes-carried-kept, carried-mask-kept, some-spoiled-kept}
 use Rattle.tl_renaming.{proofs.Bursts.ends-kept, proofs.Bursts.unfinished-kept, proofs.Numbers.same-test}
 use Rattle.tl_renaming.{proofs.Traces.beats-kept, proofs.Traces.link-kept}
 use Rattle.tl_renaming.specs.statement.Renamed.{AreFaithful, Renamings, of_link, renamed_trace}
 use Rattle.std.proofs.Common.{◌≡◌, ℕ, suc, Bool, true, false, not, ◌&&◌, List, [], ◌∷◌, length, map, refl, ap, ◌∙◌}
-use Rattle.std.specs.Prelude.{filter, find, if◌then◌else◌, Some, option_map, ◌==◌}
+use Rattle.std.specs.Prelude.{filter, find, if◌then◌else◌, None, Option, Some, option_map, ◌==◌}
 use Rattle.std.proofs.lemmas.Bool.{eqb-true}
 use Rattle.tl_burst.specs.declared.message.MessageA.{MessageA}
-use Rattle.tl_bytes.specs.statement.Bytes.{Access, asked_by, ends_request, is_access, is_of, pending_accesses}
-use Rattle.tl_bytes.specs.statement.Bytes.{pending_with}
+use Rattle.tl_bytes.specs.statement.Bytes.{Access, all_but, asked_by, asked_since, asks, ends_request, is_of}
+use Rattle.tl_bytes.specs.statement.Bytes.{pending_accesses, pending_with}
 use Rattle.tl_params.specs.declared.liberties.Liberties.{Liberties}
 use Rattle.tl_rules.specs.statement.Conformance.{Trace, on_link}
 
@@ -76,6 +76,24 @@ module _ {w : ℕ} (l : Liberties) (r : Renamings) (faithful : AreFaithful l r) 
       → ends_request (renamed_d (of_link r link) x) (renamed_history (of_link r link) t) ≡ ends_request x t
   ends-request-kept link x t = rw (ends-kept (of_link r link) (D x) t) refl
 
+  but-kept : (link s : ℕ) (before : List (Access w)) → all_but link (r.sources link s) (map (renamed_access r) before)
+      ≡ map (renamed_access r) (all_but link s before)
+  but-kept link s before =
+      filter-kept (renamed_access r) (λ a. not (is_of link s a)) (λ a. not (is_of link (r.sources link s) a))
+      (not-of-kept link s) before
+
+  since-kept : (link s moment : ℕ) (before : List (Access w))
+      → asked_since (find (is_of link (r.sources link s)) (map (renamed_access r) before)) moment
+      ≡ asked_since (find (is_of link s) before) moment
+  since-kept link s moment before =
+      ap (λ o. asked_since o moment) (find-kept (renamed_access r) (is_of link s) (is_of link (r.sources link s))
+      (is-of-kept link s) before)
+      ∙ same (find (is_of link s) before)
+    where
+      same : (o : Option (Access w)) → asked_since (option_map (renamed_access r) o) moment ≡ asked_since o moment
+      same None = refl
+      same (Some access) = refl
+
   step-kept : (link : ℕ) (x : Beat w) (t : History w) (moment : ℕ) (before : List (Access w))
       → pending_with link (renamed (of_link r link) x) (renamed_history (of_link r link) t) moment
       (map (renamed_access r) before) ≡ map (renamed_access r) (pending_with link x t moment before)
@@ -83,27 +101,26 @@ module _ {w : ℕ} (l : Liberties) (r : Renamings) (faithful : AreFaithful l r) 
       rw (
         ends-kept (of_link r link) (A x) t,
         unfinished-kept (of_link r link) Channel.A t,
-        asked-kept link x (A x ∷ unfinished Channel.A t) moment,
-      ) (go (is_access x.opcode && ends (A x) t))
+        since-kept link x.source moment before,
+        but-kept link x.source before,
+        asked-kept link x (A x ∷ unfinished Channel.A t) (asked_since (find (is_of link x.source) before) moment),
+      ) (go (asks x t))
     where
+      new : Access w
+      new = asked_by link x (A x ∷ unfinished Channel.A t) (asked_since (find (is_of link x.source) before) moment)
+
       go : (b : Bool)
-          → (if b then renamed_access r (asked_by link x (A x ∷ unfinished Channel.A t) moment)
-          ∷ map (renamed_access r) before else map (renamed_access r) before)
-          ≡ map (renamed_access r)
-          (if b then asked_by link x (A x ∷ unfinished Channel.A t) moment ∷ before else before)
+          → (if b then renamed_access r new ∷ map (renamed_access r) (all_but link x.source before)
+          else map (renamed_access r) before)
+          ≡ map (renamed_access r) (if b then new ∷ all_but link x.source before else before)
       go true = refl
       go false = refl
   step-kept link (D x) t moment before =
-      rw (
-        ends-request-kept link x t,
-        filter-kept (renamed_access r) (λ a. not (is_of link x.source a))
-            (λ a. not (is_of link (r.sources link x.source) a)) (not-of-kept link x.source) before,
-      ) (go (ends_request x t))
+      rw (ends-request-kept link x t, but-kept link x.source before) (go (ends_request x t))
     where
       go : (b : Bool)
-          → (if b then map (renamed_access r) (filter (λ a. not (is_of link x.source a)) before)
-          else map (renamed_access r) before)
-          ≡ map (renamed_access r) (if b then filter (λ a. not (is_of link x.source a)) before else before)
+          → (if b then map (renamed_access r) (all_but link x.source before) else map (renamed_access r) before)
+          ≡ map (renamed_access r) (if b then all_but link x.source before else before)
       go true = refl
       go false = refl
   step-kept link (B x) t moment before = refl

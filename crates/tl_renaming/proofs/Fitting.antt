@@ -1,19 +1,22 @@
 -- The accesses of a lawful trace lie in one block each.
-use Rattle.tl_renaming.proofs.Imports.{Beat, A, B, C, D, E, BeatA, Channel, History, channel_of, unfinished, ends}
+use Rattle.tl_renaming.proofs.Imports.{Beat, A, B, C, D, E, BeatA, Channel, History, channel_of, unfinished}
 use Rattle.tl_renaming.proofs.Values.{Fits}
 use Rattle.tl_renaming.specs.statement.Together.{AreTypedOn}
-use Rattle.std.proofs.Common.{◌≡◌, ℕ, suc, Bool, true, false, ◌+◌, ◌*◌, ◌/◌, ◌%◌, ◌^◌, ◌≤◌, List, [], ◌∷◌, length}
-use Rattle.std.proofs.Common.{refl, ap, arith, inl, inr}
-use Rattle.std.specs.Prelude.{All, ◌&&◌, eqb, filter, if◌then◌else◌, IfSome, min, None, not, Option, Some, unwrap_or}
+use Rattle.std.proofs.Common.{◌≡◌, ℕ, suc, Bool, true, false, ◌+◌, ◌*◌, ◌/◌, ◌%◌, ◌^◌, ◌<◌, ◌≤◌, List, [], ◌∷◌, length}
+use Rattle.std.proofs.Common.{arith, inl, inr}
+use Rattle.std.specs.Prelude.{All, eqb, find, if◌then◌else◌, IfSome, min, None, not, Option, Some, unwrap_or}
 use Rattle.std.proofs.lemmas.Bool.{cases_lt, eqb-true, le-ltb, lt-ltb}
 use Rattle.std.proofs.lemmas.List.{length-append}
 use Rattle.std.proofs.lemmas.List.Elements.{All-cons, All-filter, All-nil}
 use Rattle.tl_beat.{specs.statement.Opcode.a_carries_data, specs.statement.Width.IsWidth}
 use Rattle.tl_burst.{specs.statement.Burst.data_beats, specs.statement.Messages.burst_length, specs.statement.Messages.on}
+use Rattle.tl_burst.proofs.Bits.{earlier_place}
+use Rattle.std.proofs.Math.Nat.{mul-suc}
 use Rattle.tl_burst.specs.statement.Part.{completes}
-use Rattle.tl_bytes.specs.statement.Bytes.{Access, asked_by, ends_request, is_access, is_of, pending_accesses}
-use Rattle.tl_bytes.specs.statement.Bytes.{pending_with}
-use Rattle.tl_memory.{proofs.Lawful.by_itself, proofs.Lawful.is-request, proofs.OpenAccesses.is-fine}
+use Rattle.tl_bytes.specs.statement.Bytes.{Access, all_but, asked_by, asked_since, asks, ends_request, is_of}
+use Rattle.tl_bytes.specs.statement.Bytes.{pending_accesses, pending_with}
+use Rattle.tl_memory.proofs.{Lawful.by_itself, Lawful.is-request, OpenAccesses.is-fine, OpenAccesses.legal-on}
+use Rattle.tl_memory.proofs.Unfinished.{fewer-before}
 use Rattle.tl_memory.specs.statement.Links.{AreLegal}
 use Rattle.tl_params.specs.declared.level.Level.{Level}
 use Rattle.tl_rules.{proofs.Rooms.room_in_block, proofs.Rooms.room_of_base}
@@ -99,45 +102,45 @@ module _ (w : ℕ) (width : IsWidth w) where
 
 module _ {w : ℕ} (width : IsWidth w) where
   asked-fits : (level : Level) (link : ℕ) (x : BeatA w) (burst : List (Beat w)) (moment : ℕ)
-      → illegal_under all_but_early level Channel.A (A x) ≡ None → AreTyped (A x ∷ burst) → length (A x ∷ burst) ≡ burst_length (A x)
+      → illegal_under all_but_early level Channel.A (A x) ≡ None → AreTyped (A x ∷ burst) → length burst < burst_length (A x)
       → Fits (asked_by link x (A x ∷ burst) moment)
-  asked-fits level link x burst moment legal typed whole =
+  asked-fits level link x burst moment legal typed some =
       let asked = is-request level x width legal in
       let aligned = eqb-true (x.address % 2 ^ x.size) 0 asked.aligned in
       let room = room_in_block x.size x.address asked.small aligned in
       let same : min x.size 6 ≡ x.size = omega (arith, asked.small) in
       let few = few-bytes (A x ∷ burst) typed in
       let count = burst-room w width (a_carries_data x.opcode) x.size x.address room in
+      let place = earlier_place w (burst_length (A x)) (length burst) some in
       record {
-        in_payload = omega (arith, few, ap (λ n. w * n) whole, count);
+        in_payload = omega (arith, few, mul-suc w (length burst), place, count);
         in_block = rw same room;
       }
 
   step-fits : (level : Level) (link : ℕ) (x : Beat w) (t : History w) (moment : ℕ) (before : List (Access w))
-      → illegal_under all_but_early level (channel_of x) x ≡ None → IsTyped x → AreTyped t → All Fits before
+      → illegal_under all_but_early level (channel_of x) x ≡ None
+      → length (unfinished (channel_of x) t) < burst_length x → IsTyped x → AreTyped t → All Fits before
       → All Fits (pending_with link x t moment before)
-  step-fits level link (A x) t moment before legal typed rest fits =
-      go (is_access x.opcode) (ends (A x) t) refl
+  step-fits level link (A x) t moment before legal some typed rest fits = go (asks x t)
     where
-      whole : (burst : List (Beat w)) → completes (A x) burst ≡ true → length (A x ∷ burst) ≡ burst_length (A x)
-      whole burst e = let counted = eqb-true (length burst + 1) (burst_length (A x)) e in omega (arith, counted)
+      since : ℕ
+      since = asked_since (find (is_of link x.source) before) moment
 
-      go : (access last : Bool) → ends (A x) t ≡ last
-          → All Fits (if access && last then asked_by link x (A x ∷ unfinished Channel.A t) moment ∷ before else before)
-      go true true e =
-          All-cons Fits (asked_by link x (A x ∷ unfinished Channel.A t) moment) before
-          (asked-fits level link x (unfinished Channel.A t) moment legal (typed, typed-burst Channel.A t rest)
-          (whole (unfinished Channel.A t) e)) fits
-      go true false e = fits
-      go false last e = fits
-  step-fits level link (D x) t moment before legal typed rest fits = go (ends_request x t)
+      go : (b : Bool)
+          → All Fits (if b then asked_by link x (A x ∷ unfinished Channel.A t) since ∷ all_but link x.source before
+          else before)
+      go true = All-cons Fits (asked_by link x (A x ∷ unfinished Channel.A t) since) (all_but link x.source before)
+          (asked-fits level link x (unfinished Channel.A t) since legal (typed, typed-burst Channel.A t rest) some)
+          (All-filter (λ access. not (is_of link x.source access)) Fits before fits)
+      go false = fits
+  step-fits level link (D x) t moment before legal some typed rest fits = go (ends_request x t)
     where
-      go : (b : Bool) → All Fits (if b then filter (λ access. not (is_of link x.source access)) before else before)
+      go : (b : Bool) → All Fits (if b then all_but link x.source before else before)
       go true = All-filter (λ access. not (is_of link x.source access)) Fits before fits
       go false = fits
-  step-fits level link (B x) t moment before legal typed rest fits = fits
-  step-fits level link (C x) t moment before legal typed rest fits = fits
-  step-fits level link (E x) t moment before legal typed rest fits = fits
+  step-fits level link (B x) t moment before legal some typed rest fits = fits
+  step-fits level link (C x) t moment before legal some typed rest fits = fits
+  step-fits level link (E x) t moment before legal some typed rest fits = fits
 
   -- ---- a trace
 
@@ -147,5 +150,7 @@ module _ {w : ℕ} (width : IsWidth w) where
   all-fit levels (x ∷ t) legal typed =
       let fine = is-fine _ levels x t legal.0 in
       step-fits fine.level x.0.0 x.1 (on_link x.0.0 t) (suc (length t)) (pending_accesses t)
-      (by_itself fine.level x.1 (on_link x.0.0 t) fine.fine) typed.0 (typed-link x.0.0 t typed.1)
+      (by_itself fine.level x.1 (on_link x.0.0 t) fine.fine)
+      (fewer-before fine.level x.1 (on_link x.0.0 t) width
+      (legal-on _ levels x.0.0 fine.level t fine.has_level legal.1) fine.fine) typed.0 (typed-link x.0.0 t typed.1)
       (all-fit levels t legal.1 typed.1)

@@ -127,10 +127,6 @@ module _ (f : ℕ → ℕ) (apart : IsOneToOne f) where
     place-kept base address same = shifted-place address (w * (base / w)) (moved f address) (w * (moved f base / w))
         (from-start base address same)
 
-    pub offset-kept : (base address : ℕ) → block_at address ≡ block_at base
-        → moved f address - w * (moved f base / w) ≡ address - w * (base / w)
-    offset-kept base address same = let e = from-start base address same in omega (arith, e)
-
     pub byte-kept : (base address : ℕ) (counts : ℕ → Bool) (payload : List ℕ) → base_of w base + length payload ≤ 64
         → byte_if counts payload (place_of w (moved f base) (moved f address))
         ≡ byte_if counts payload (place_of w base address)

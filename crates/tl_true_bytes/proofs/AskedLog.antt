@@ -1,5 +1,5 @@
 -- An access that is in service or answered is pending by what all links have carried.
-use Rattle.tl_true_bytes.proofs.Imports.{Beat, BeatA, a_beat_of, channel_of, unfinished, Config, on_link, pending, Ask}
+use Rattle.tl_true_bytes.proofs.Imports.{Beat, BeatA, Link, a_beat_of, channel_of, unfinished, Config, on_link, pending, Ask}
 use Rattle.tl_true_bytes.proofs.Imports.{Deliver, AbstractState, MonitorRelations, SimulationRelation, EachTaken}
 use Rattle.tl_true_bytes.proofs.Imports.{trace_of, IsGiven, Log, system_after, shadow, trace-flows, flowed}
 use Rattle.tl_true_bytes.proofs.Imports.{matched-given, Channel, Outcome}
@@ -74,3 +74,11 @@ pub pending-open : {w : ℕ} (config : Config) (log : Log w) → IsGiven config 
 pending-open config log given c s is =
     open-pending c s log
     (each-taken config (λ earlier link x. GoesOn x (on_link link (trace_of earlier))) (goes-on config) log given) is
+
+-- a beat that moves goes on with the request that has begun
+pub moved-on : {w : ℕ} (config : Config) (log : Log w) (link : Link) (ch : Channel) (y : Beat w)
+    → IsGiven config ((Deliver link ch, Outcome.Moved y) ∷ log) → GoesOn y (on_link link.0 (trace_of log))
+unfolding EachTaken
+moved-on config log link ch y given =
+    (each-taken config (λ earlier link x. GoesOn x (on_link link (trace_of earlier))) (goes-on config)
+    ((Deliver link ch, Outcome.Moved y) ∷ log) given).0

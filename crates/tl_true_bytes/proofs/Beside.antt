@@ -15,7 +15,8 @@ use Rattle.tl_concord.proofs.WritesBeside.{same_access}
 use Rattle.tl_one_memory.proofs.Known.{answered-gone}
 use Rattle.tl_bytes.proofs.Pending.{IsAskedNow, IsPending, pending-before}
 use Rattle.tl_one_memory.specs.statement.Run.{Stores, is_answered_by, with_performed}
-use Rattle.tl_true_bytes.specs.code.Beside.{IsFoundAs}
+use Rattle.tl_true_bytes.specs.code.Beside.{IsFoundAs, comes}
+use Rattle.tl_true_bytes.proofs.{Asked.comes-before, Asked.comes-other, Opened.GoesOn}
 
 -- ---- what is open
 
@@ -29,8 +30,19 @@ found-as : {w : ℕ} (f g : Option Memory) (q r : Option (MessageA w × AccessRe
     → IsFoundAs g r
 found-as f g q r e h is = rw (e, h) is
 
-open-as : {w : ℕ} (p : Access w) (o i : Option (Open w)) → i ≡ o → IsOpenAs p o → IsOpenAs p i
+open-as : {w : ℕ} {more : Bool} (p : Access w) (o i : Option (Open w)) → i ≡ o → IsOpenAs more p o → IsOpenAs more p i
 open-as p o i e is = rw e is
+
+-- so it is where no less is to come of its request
+open-on : {w : ℕ} (more less : Bool) (p : Access w) (o : Option (Open w)) → (less ≡ false → more ≡ false)
+    → IsOpenAs more p o → IsOpenAs less p o
+open-on more less p o whole is = record {
+  asked = is.asked;
+  answer = is.answer;
+  opened = is.opened;
+  accesses = is.accesses;
+  like = λ none. is.like (whole none);
+}
 
 elsewhere : (c s d i : ℕ) → IsElsewhere c s d i → (c == d) && (s == i) ≡ false
 elsewhere c s d i other = go (c == d) refl (s == i) refl
@@ -50,12 +62,13 @@ module _ {w : ℕ} (run : Run w) (m : Machine w) (t : Trace w) (is : IsBeside ru
 
   pub beside-performed : (c s : ℕ) (a : MessageA w) (p : Access w)
       → m.opened c Requests s ≡ Some (record { asked = Op.Access (Message.A a); answer = None })
-      → is_access a.opcode ≡ true → IsPending c s p t → IsBeside (Performs c s ∷ run) (done_at c s (Message.A a) m) t
+      → is_access a.opcode ≡ true → IsPending c s p t → comes c s t ≡ false
+      → IsBeside (Performs c s ∷ run) (done_at c s (Message.A a) m) t
   unfolding trace_in memory_in found_in
-  beside-performed c s a p opened accesses pending = record {
+  beside-performed c s a p opened accesses pending whole = record {
     trace_is = is.trace_is;
     memory_is = ap (λ (u : Trace w). with_performed (find (is_of c s) (pending_accesses u)) now) is.trace_is ∙ ap
-        (λ (o : Option (Access w)). with_performed o now) pending ∙ ap (λ r. r.0) (like.like.effect_is now) ∙ ap
+        (λ (o : Option (Access w)). with_performed o now) pending ∙ ap (λ r. r.0) ((like.like whole).effect_is now) ∙ ap
         (λ (n : MessageA w). (effect (Message.A n) now).0) asked ∙ ap (λ (g : Memory). (effect (Message.A a) g).0)
         is.memory_is;
     found_are = λ d i. elim (place-cases c s d i) [
@@ -65,7 +78,7 @@ module _ {w : ℕ} (run : Run w) (m : Machine w) (t : Trace w) (is : IsBeside ru
     ];
     pending_are = λ d i q. elim (place-cases c s d i) [
       | inl same ↦ at-place (λ e j. IsPending e j q t
-          → IsOpenAs q ((done_at c s (Message.A a) m).opened e Requests j)) c s d i same (mine q)
+          → IsOpenAs (comes e j t) q ((done_at c s (Message.A a) m).opened e Requests j)) c s d i same (mine q)
       | inr apart ↦ λ other. open-as q (m.opened d Requests i) ((done_at c s (Message.A a) m).opened d Requests i)
           (open-there c Requests s after (with_memory (effect (Message.A a) m.memory).0 m) d i apart)
           (is.pending_are d i q other)
@@ -75,7 +88,7 @@ module _ {w : ℕ} (run : Run w) (m : Machine w) (t : Trace w) (is : IsBeside ru
       after : Option (Open w)
       after = Some (record { asked = Op.Access (Message.A a); answer = Some (effect (Message.A a) m.memory).1 })
 
-      like : IsOpenAs p (m.opened c Requests s)
+      like : IsOpenAs (comes c s t) p (m.opened c Requests s)
       like = is.pending_are c s p pending
 
       asked : like.asked ≡ a
@@ -102,7 +115,7 @@ module _ {w : ℕ} (run : Run w) (m : Machine w) (t : Trace w) (is : IsBeside ru
           (ap result_in (open-there c Requests s after (with_memory (effect (Message.A a) m.memory).0 m) d i other))
           (is.found_are d i)
 
-      mine : (q : Access w) → IsPending c s q t → IsOpenAs q ((done_at c s (Message.A a) m).opened c Requests s)
+      mine : (q : Access w) → IsPending c s q t → IsOpenAs (comes c s t) q ((done_at c s (Message.A a) m).opened c Requests s)
       mine q other = let was = is.pending_are c s q other in
           let same : was.asked ≡ a = same_asked was.asked a was.answer None (sym was.opened ∙ opened) in
           record {
@@ -110,7 +123,7 @@ module _ {w : ℕ} (run : Run w) (m : Machine w) (t : Trace w) (is : IsBeside ru
             answer = Some (effect (Message.A a) m.memory).1;
             opened = opened_after;
             accesses = accesses;
-            like = rw same at was.like;
+            like = λ none. rw same at (was.like none);
           }
 
   -- ---- a client stores
@@ -134,17 +147,20 @@ module _ {w : ℕ} (run : Run w) (m : Machine w) (t : Trace w) (is : IsBeside ru
   -- one that completes no response
   pub beside-moved : (link : Link) (x : Beat w)
       → ((z : BeatD w) → x ≡ Beat.D z → ends (Beat.D z) (on_link link.0 t) ≡ false)
-      → ((c s : ℕ) (p : Access w) → IsAskedNow c s p (link, x) t → IsOpenAs p (m.opened c Requests s))
+      → GoesOn x (on_link link.0 t)
+      → ((c s : ℕ) (p : Access w) → IsAskedNow c s p (link, x) t
+      → IsOpenAs (comes c s ((link, x) ∷ t)) p (m.opened c Requests s))
       → IsBeside (Takes link x ∷ run) m ((link, x) ∷ t)
   unfolding trace_in memory_in found_in
-  beside-moved link x part asks = record {
+  beside-moved link x part goes_on asks = record {
     trace_is = ap (λ (u : Trace w). (link, x) ∷ u) is.trace_is;
     memory_is = is.memory_is;
     found_are = λ c s. found-as (found_in (λ address. 0) c s run) (found_in (λ address. 0) c s (Takes link x ∷ run))
         (result_in (m.opened c Requests s))
         (result_in (m.opened c Requests s)) (rw (is.trace_is, unanswered c s x part) refl) refl (is.found_are c s);
     pending_are = λ c s p pending. elim (pending-before c s p (link, x) t pending) [
-      | inl old ↦ is.pending_are c s p old
+      | inl old ↦ open-on (comes c s t) (comes c s ((link, x) ∷ t)) p (m.opened c Requests s)
+          (comes-before c s link x t goes_on old.1) (is.pending_are c s p old.0)
       | inr new ↦ asks c s p new
     ];
   }
@@ -171,8 +187,10 @@ module _ {w : ℕ} (run : Run w) (m : Machine w) (t : Trace w) (is : IsBeside ru
         (found_in (λ address. 0) c s (Takes link (Beat.D z) ∷ run)) (result_in (after.opened c Requests s))
         (result_in (after.opened c Requests s)) (rw is.trace_is refl) refl (found c s (is_release_ack z.opcode) refl);
     pending_are = λ c s p pending. elim (pending-before c s p (link, Beat.D z) t pending) [
-      | inl old ↦ still c s p pending old (is_release_ack z.opcode) refl
-      | inr new ↦ absurd (let no : Beat.D z ≡ Beat.A new.first = new.beat_is in cc)
+      | inl old ↦ open-on (comes c s t) (comes c s ((link, Beat.D z) ∷ t)) p (after.opened c Requests s)
+          (λ whole. sym (comes-other c s link (Beat.D z) t refl) ∙ whole)
+          (still c s p pending old.0 (is_release_ack z.opcode) refl)
+      | inr new ↦ absurd (let no : Beat.D z ≡ Beat.A new.beat = new.beat_is in cc)
     ];
   }
     where
@@ -236,7 +254,7 @@ module _ {w : ℕ} (run : Run w) (m : Machine w) (t : Trace w) (is : IsBeside ru
       ]
 
       still : (c s : ℕ) (p : Access w) → IsPending c s p ((link, Beat.D z) ∷ t) → IsPending c s p t → (b : Bool)
-          → is_release_ack z.opcode ≡ b → IsOpenAs p (after.opened c Requests s)
+          → is_release_ack z.opcode ≡ b → IsOpenAs (comes c s t) p (after.opened c Requests s)
       still c s p pending old true e = open-as p (m.opened c Requests s) (after.opened c Requests s) (let_go c s e).0
           (is.pending_are c s p old)
       still c s p pending old false e = elim (place-cases link.0 z.source c s) [
@@ -290,7 +308,7 @@ module _ {w : ℕ} (run : Run w) (m : Machine w) (t : Trace w) (is : IsBeside ru
     ];
     pending_are = λ d i p. elim (place-cases c s d i) [
       | inl same ↦ at-place (λ e j. IsPending e j p t
-          → IsOpenAs p ((with_open c Requests s after m).opened e Requests j)) c s d i same
+          → IsOpenAs (comes e j t) p ((with_open c Requests s after m).opened e Requests j)) c s d i same
           (λ pending. absurd (unopened p (is.pending_are c s p pending)))
       | inr other ↦ λ pending. open-as p (m.opened d Requests i) ((with_open c Requests s after m).opened d Requests i)
           (open-there c Requests s after m d i other) (is.pending_are d i p pending)
@@ -300,7 +318,7 @@ module _ {w : ℕ} (run : Run w) (m : Machine w) (t : Trace w) (is : IsBeside ru
       after : Option (Open w)
       after = Some (record { asked = o; answer = None })
 
-      unopened : (p : Access w) → IsOpenAs p (m.opened c Requests s) → ⊥
+      unopened : (p : Access w) → IsOpenAs (comes c s t) p (m.opened c Requests s) → ⊥
       unopened p is_open = let no = sym none ∙ is_open.opened in cc
 
   -- ---- an access that neither reads nor writes is performed
@@ -334,8 +352,8 @@ module _ {w : ℕ} (run : Run w) (m : Machine w) (t : Trace w) (is : IsBeside ru
           (is.found_are d i)
     ];
     pending_are = λ d i p. elim (place-cases c s d i) [
-      | inl same ↦ at-place (λ e j. IsPending e j p t → IsOpenAs p ((done_at c s (Message.A a) m).opened e Requests j))
-          c s d i same (λ pending. absurd (unopened p (is.pending_are c s p pending)))
+      | inl same ↦ at-place (λ e j. IsPending e j p t
+          → IsOpenAs (comes e j t) p ((done_at c s (Message.A a) m).opened e Requests j)) c s d i same (λ pending. absurd (unopened p (is.pending_are c s p pending)))
       | inr other ↦ λ pending. open-as p (m.opened d Requests i) ((done_at c s (Message.A a) m).opened d Requests i)
           (open-there c Requests s done (with_memory (effect (Message.A a) m.memory).0 m) d i other)
           (is.pending_are d i p pending)
@@ -348,7 +366,7 @@ module _ {w : ℕ} (run : Run w) (m : Machine w) (t : Trace w) (is : IsBeside ru
       unheard : result_in done ≡ None
       unheard = rw none refl
 
-      unopened : (p : Access w) → IsOpenAs p (m.opened c Requests s) → ⊥
+      unopened : (p : Access w) → IsOpenAs (comes c s t) p (m.opened c Requests s) → ⊥
       unopened p was =
           let same : was.asked ≡ a = same_asked was.asked a was.answer None (sym was.opened ∙ opened) in
           let no : true ≡ false = sym was.accesses ∙ ap (λ (n : MessageA w). is_access n.opcode) same ∙ none in cc

@@ -2,7 +2,7 @@
 use Rattle.tl_true_bytes.proofs.Imports.{Beat, BeatA, OpA, MessageA, IsBlankAfter, a_beat_of, begun, reaches}
 use Rattle.tl_true_bytes.proofs.Imports.{length-begun, AccessResult, Memory, after, bytes_from, effect, asked_by}
 use Rattle.tl_true_bytes.proofs.Imports.{writes, tail_is}
-use Rattle.std.proofs.Common.{◌≡◌, ℕ, zero, suc, ◌+◌, ◌-◌, ◌*◌, ◌/◌, ◌%◌, ◌^◌, ◌<◌, Bool, true, false, List, [], ◌∷◌}
+use Rattle.std.proofs.Common.{◌≡◌, ℕ, zero, suc, ◌+◌, ◌-◌, ◌*◌, ◌/◌, ◌%◌, ◌^◌, ◌<◌, Bool, true, false, List, ◌∷◌}
 use Rattle.std.proofs.Common.{take, drop, refl, sym, ap, ◌∙◌, arith, eqb, inl, inr}
 use Rattle.std.specs.Prelude.{if◌then◌else◌, is_some, min, Option, Some, None, replicate, slice_get, slice_index}
 use Rattle.std.specs.Prelude.{unwrap_or}
@@ -133,6 +133,13 @@ module _ {w : ℕ} (p m : MessageA w) (opcode_is : p.opcode ≡ m.opcode) (param
 
 -- ---- the access that is gathered
 
+-- the beats of a request have its opcode
+pub asked-opcode : {w : ℕ} (x : BeatA w) (older : List (Beat w)) (m : MessageA w) (n : ℕ)
+    → Beat.A x ∷ older ≡ begun (Message.A m) n → x.opcode ≡ m.opcode
+asked-opcode x older m zero e = absurd cc
+asked-opcode {w} x older m (suc k) e = ap (λ (z : BeatA w). z.opcode)
+    (same_a x (a_beat_of m k) (tail_is (Beat.A x) (Beat.A (a_beat_of m k)) older (begun (Message.A m) k) e).0)
+
 -- where all beats of the request have come, it is such an access
 pub like-asked : {w : ℕ} (link : ℕ) (x : BeatA w) (older : List (Beat w)) (moment : ℕ) (m : MessageA w) (n : ℕ)
     → IsBlankAfter n (Message.A m) → Beat.A x ∷ older ≡ begun (Message.A m) n
@@ -155,7 +162,7 @@ like-asked {w} link x older moment m (suc k) blank e =
     x_is = same_a x (a_beat_of m k) (tail_is (Beat.A x) (Beat.A (a_beat_of m k)) older (begun (Message.A m) k) e).0
 
     opcode_is : x.opcode ≡ m.opcode
-    opcode_is = ap (λ (z : BeatA w). z.opcode) x_is
+    opcode_is = asked-opcode x older m (suc k) e
 
     address_is : x.address ≡ m.address
     address_is = ap (λ (z : BeatA w). z.address) x_is

@@ -1,11 +1,12 @@
 -- A request that is pending and complete was completed by a beat since which no answer to it was.
 use Rattle.tl_true_bytes.proofs.Imports.{Beat, BeatA, BeatD, OpA, data_beats, History, unfinished, ends, is_release_ack}
 use Rattle.tl_true_bytes.proofs.Imports.{pending, request_of, ends_request, is_access, same_d, Channel}
-use Rattle.std.proofs.Common.{◌≡◌, ℕ, suc, Bool, true, false, not, ◌&&◌, ◌+◌, List, [], ◌∷◌, length, ◌⊎◌, inl, inr}
+use Rattle.std.proofs.Common.{◌≡◌, ℕ, suc, Bool, true, false, not, ◌&&◌, ◌||◌, ◌+◌, List, [], ◌∷◌, length, ◌⊎◌, inl, inr}
 use Rattle.std.proofs.Common.{refl, sym, ◌∙◌, ap, arith}
 use Rattle.std.specs.Prelude.{if◌then◌else◌, ◌==◌, Option, Some, None}
 use Rattle.std.proofs.lemmas.Bool.{and_from, and_parts, eq-eqb, eqb-true}
 use Rattle.tl_beat.specs.statement.Opcode.{a_carries_data}
+use Rattle.tl_bytes.specs.statement.Bytes.{asks, is_put}
 use Rattle.tl_burst.specs.statement.Part.{is_empty}
 use Rattle.tl_params.specs.declared.key.Key.TheVariants.{RequestSource}
 use Rattle.tl_rules.{specs.statement.Conformance.comes_in_request, specs.statement.History.begins}
@@ -55,6 +56,37 @@ only_beat [] n one e = refl
 only_beat (x ∷ u) n one e =
     let long : suc (length u) + 1 ≡ n = eqb-true (suc (length u) + 1) n e in
     absurd (omega (arith, long, one))
+
+-- a beat of channel A behind which no more of a request is to come, of which more was to come before it, asks for an
+-- access with its source
+pub last-asks : {w : ℕ} (s : ℕ) (z : BeatA w) (h : History w) → GoesOn (Beat.A z) h
+    → comes_in_request s (unfinished Channel.A h) ≡ true → comes_in_request s (unfinished Channel.A (Beat.A z ∷ h)) ≡ false
+    → (asks z h ≡ true) × (z.source ≡ s)
+unfolding unfinished
+last-asks {w} s z h goes_on before after = go (unfinished Channel.A h) refl before
+  where
+    go : (u : List (Beat w)) → unfinished Channel.A h ≡ u → comes_in_request s u ≡ true
+        → (asks z h ≡ true) × (z.source ≡ s)
+    go (Beat.A v ∷ older) is come = (last (ends (Beat.A z) h) refl after, source)
+      where
+        source : z.source ≡ s
+        source = goes_on z v older refl is ∙ eqb-true v.source s come
+
+        access : (b : Bool) → is_access z.opcode ≡ b → ends (Beat.A z) h ≡ true → b ≡ true
+        access true e l = refl
+        access false e l = absurd (let no : false ≡ true = sym (ap is_empty is)
+            ∙ only_beat (unfinished Channel.A h) _ (one_beat w z.opcode z.size e) l in cc)
+
+        last : (b : Bool) → ends (Beat.A z) h ≡ b
+            → comes_in_request s (if b then [] else Beat.A z ∷ unfinished Channel.A h) ≡ false → asks z h ≡ true
+        last true e whole = and_from (is_access z.opcode) (is_put z.opcode || ends (Beat.A z) h)
+            (access (is_access z.opcode) refl e) (either (is_put z.opcode) e)
+          where
+            either : (b : Bool) → ends (Beat.A z) h ≡ true → b || ends (Beat.A z) h ≡ true
+            either true l = refl
+            either false l = l
+        last false e whole = absurd (let no : true ≡ false = sym (eq-eqb z.source s source) ∙ whole in cc)
+    go v is come = absurd cc
 
 module _ {w : ℕ} (s : ℕ) (h : History w) where
   -- with a beat of channel D

@@ -21,7 +21,8 @@ use Rattle.tl_coherence.proofs.{manager.Memories.access-room, theorem.Performed.
 use Rattle.tl_one_memory.specs.statement.Run.{IsPerformed}
 use Rattle.tl_true_bytes.{proofs.Asked.IsSomePending, proofs.Beside.same_asked, proofs.Quiet.other-memory}
 use Rattle.tl_true_bytes.{proofs.Runs.answered-after, proofs.Taken.none-found}
-use Rattle.tl_true_bytes.proofs.Requests.{answered-pending, request-asked, request-known, writes_sourced}
+use Rattle.tl_true_bytes.specs.code.{Beside.comes, Like.IsLike}
+use Rattle.tl_true_bytes.proofs.Requests.{answered-open, answered-pending, request-asked, request-known, writes_sourced}
 
 -- ---- who may write may read
 
@@ -131,8 +132,12 @@ performs-well {w} config log link ch o given n le q source a one still opened ac
     p : IsSomePending q source t
     p = answered-pending config ((Deliver link ch, o) ∷ log) given q source a result after_it accesses
 
-    open_as : IsOpenAs p.0 ((one_memory_after config log).opened q Requests source)
+    open_as : IsOpenAs (comes q source t) p.0 ((one_memory_after config log).opened q Requests source)
     open_as = is.pending_are q source p.0 p.1
+
+    alike : IsLike p.0.request open_as.asked
+    alike = open_as.like
+        (answered-open config ((Deliver link ch, o) ∷ log) given q source a result after_it accesses).whole
 
     same : open_as.asked ≡ a
     same = same_asked open_as.asked a open_as.answer None (sym open_as.opened ∙ opened)
@@ -151,8 +156,8 @@ performs-well {w} config log link ch o given n le q source a one still opened ac
 
     reaching : (x : ℕ) → reaches p.0.request.address p.0.request.size x ≡ reaches a.address a.size x
     reaching x = ap (λ (k : ℕ). reaches k p.0.request.size x)
-        (open_as.like.address_is ∙ ap (λ (i : MessageA w). i.address) same)
-        ∙ ap (λ (k : ℕ). reaches a.address k x) (open_as.like.size_is ∙ ap (λ (i : MessageA w). i.size) same)
+        (alike.address_is ∙ ap (λ (i : MessageA w). i.address) same)
+        ∙ ap (λ (k : ℕ). reaches a.address k x) (alike.size_is ∙ ap (λ (i : MessageA w). i.size) same)
 
     writing_is : (x : ℕ) → access_writes x p.0 ≡ writes a.opcode a x
-    writing_is x = open_as.like.writes_is x ∙ ap (λ (i : MessageA w). writes i.opcode i x) same
+    writing_is x = alike.writes_is x ∙ ap (λ (i : MessageA w). writes i.opcode i x) same

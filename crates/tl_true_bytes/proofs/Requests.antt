@@ -1,13 +1,14 @@
 -- The requests of accesses that clients have open, as their links carry them.
-use Rattle.tl_true_bytes.proofs.Imports.{Beat, BeatA, Link, OpA, MessageA, IsBlankAfter, a_beat_of, beats_of, History}
+use Rattle.tl_true_bytes.proofs.Imports.{Beat, BeatA, Link, OpA, MessageA, IsBlankAfter, a_beat_of, beats_of}
 use Rattle.tl_true_bytes.proofs.Imports.{unfinished, Config, Request, Trace, on_link, AccessResult, ends, pending}
-use Rattle.tl_true_bytes.proofs.Imports.{request_of, Access, asked_by, is_access, writes, sourced, AbstractState}
+use Rattle.tl_true_bytes.proofs.Imports.{request_of, Access, is_access, writes, sourced, AbstractState}
 use Rattle.tl_true_bytes.proofs.Imports.{IsRequest, MonitorRelations, SimulationRelation, trace_of, IsGiven, Log}
 use Rattle.tl_true_bytes.proofs.Imports.{system_after, Machine, Requests, one_memory_after, shadow, trace-flows, flowed}
 use Rattle.tl_true_bytes.proofs.Imports.{matched-given, effect-sourced, IsOfAccess, IsOpenAs, Channel, Op}
-use Rattle.std.proofs.Common.{◌≡◌, ℕ, suc, Bool, true, false, not, ◌&&◌, ◌∷◌, length, Some, None, refl, sym, ◌∙◌, ap}
+use Rattle.std.proofs.Common.{◌≡◌, ℕ, suc, Bool, true, false, not, ◌&&◌, ◌||◌, List, ◌∷◌, length, Some, None, refl, sym, ◌∙◌, ap}
 use Rattle.std.proofs.Common.{subst}
 use Rattle.std.{specs.Prelude.if◌then◌else◌, specs.Prelude.Option, specs.Prelude.is_some, proofs.lemmas.Bool.and_parts}
+use Rattle.std.{specs.Prelude.find, proofs.lemmas.Bool.not-false}
 use Rattle.tl_burst.specs.declared.message.Message.{Message}
 use Rattle.tl_params.specs.declared.key.Key.TheVariants.{RequestSource}
 use Rattle.tl_rules.{specs.code.Open.request_fields, specs.statement.Conformance.comes_in_request}
@@ -16,7 +17,10 @@ use Rattle.tl_coherence.proofs.flow.Windowed.{asked_flow, opened-now}
 use Rattle.tl_concord.{proofs.WritesBeside.replied_with, specs.statement.Accesses.IsAsked}
 use Rattle.tl_bytes.proofs.Pending.{IsAskedNow}
 use Rattle.tl_true_bytes.{specs.code.Like.IsLike, proofs.Asked.IsSomePending, proofs.AskedLog.pending-open}
-use Rattle.tl_true_bytes.{proofs.Like.like-asked, proofs.Opened.IsOpen, proofs.Opened.asks_access}
+use Rattle.tl_true_bytes.proofs.Asked.{comes-own}
+use Rattle.tl_true_bytes.specs.code.Beside.{comes}
+use Rattle.tl_bytes.specs.statement.Bytes.{asked_since, is_of, is_put, pending_accesses}
+use Rattle.tl_true_bytes.{proofs.Like.asked-opcode, proofs.Like.like-asked, proofs.Opened.IsOpen, proofs.Opened.asks_access}
 use Rattle.tl_true_bytes.{proofs.Sources.open-request}
 
 -- ---- a request that comes
@@ -35,32 +39,35 @@ like_sourced source p m like = record {
   writes_is = λ x. like.writes_is x ∙ writes_sourced source m m.opcode x;
 }
 
--- what is asked for whole is open so
+-- what is asked for is open so
 pub asked-open : {w : ℕ} (m : Machine w) (t : Trace w) (c s : ℕ) (p : Access w) (link : Link) (x : Beat w)
     → ((i : ℕ) (z : MessageA w) → m.opened link.0 Requests i
     ≡ Some (record { asked = Op.Access (Message.A z); answer = None })
     → IsBlankAfter (beats_of (Message.A (sourced i z))) (Message.A (sourced i z)))
-    → IsOfAccess m link.0 x t → IsAskedNow c s p (link, x) t → IsOpenAs p (m.opened c Requests s)
+    → IsOfAccess m link.0 x t → IsAskedNow c s p (link, x) t
+    → IsOpenAs (comes c s ((link, x) ∷ t)) p (m.opened c Requests s)
 asked-open {w} m t c s p link x blank of_access now = record {
   asked = z;
   answer = None;
   opened = ap (λ (d : ℕ). m.opened d Requests s) now.link_is ∙ ap (m.opened link.0 Requests) now.source_is
       ∙ asked.opened;
-  accesses = sym (ap is_access like.opcode_is) ∙ ap (λ (q : Access w). is_access q.request.opcode) now.access_is
-      ∙ both.0;
-  like = like;
+  accesses = sym (ap is_access (asked-opcode beat older (sourced beat.source z) n asked.has_come.burst_is)) ∙ both.0;
+  like = λ whole. like (last whole);
 }
   where
-    first : BeatA w
-    first = now.first
+    beat : BeatA w
+    beat = now.beat
 
-    past : History w
-    past = on_link link.0 t
+    older : List (Beat w)
+    older = unfinished Channel.A (on_link link.0 t)
 
-    both : (is_access first.opcode ≡ true) × (ends (Beat.A first) past ≡ true)
-    both = and_parts (is_access first.opcode) (ends (Beat.A first) past) now.completes
+    since : ℕ
+    since = asked_since (find (is_of link.0 beat.source) (pending_accesses t)) (suc (length t))
 
-    asked : IsAsked m link.0 first t
+    both : (is_access beat.opcode ≡ true) × (is_put beat.opcode || ends (Beat.A beat) (on_link link.0 t) ≡ true)
+    both = and_parts (is_access beat.opcode) (is_put beat.opcode || ends (Beat.A beat) (on_link link.0 t)) now.asks_it
+
+    asked : IsAsked m link.0 beat t
     asked = subst (λ (b : Beat w). IsOfAccess m link.0 b t) now.beat_is of_access both.0
 
     z : MessageA w
@@ -69,15 +76,18 @@ asked-open {w} m t c s p link x blank of_access now = record {
     n : ℕ
     n = asked.has_come.count
 
-    gathered : IsLike (asked_by link.0 first (Beat.A first ∷ unfinished Channel.A past) (suc (length t))).request
-        (sourced first.source z)
-    gathered = like-asked link.0 first (unfinished Channel.A past) (suc (length t)) (sourced first.source z) n
-        (subst (λ (k : ℕ). IsBlankAfter k (Message.A (sourced first.source z))) (sym (asked.has_come.whole both.1))
-        (blank first.source z asked.opened)) asked.has_come.burst_is
+    last : comes c s ((link, x) ∷ t) ≡ false → ends (Beat.A beat) (on_link link.0 t) ≡ true
+    last whole = not-false (ends (Beat.A beat) (on_link link.0 t)) (sym (comes-own link beat t)
+        ∙ ap (λ b. comes link.0 beat.source ((link, b) ∷ t)) (sym now.beat_is)
+        ∙ ap (λ i. comes link.0 i ((link, x) ∷ t)) (sym now.source_is)
+        ∙ ap (λ d. comes d s ((link, x) ∷ t)) (sym now.link_is) ∙ whole)
 
-    like : IsLike p.request z
-    like = like_sourced first.source p.request z
-        (subst (λ (q : Access w). IsLike q.request (sourced first.source z)) (sym now.access_is) gathered)
+    like : ends (Beat.A beat) (on_link link.0 t) ≡ true → IsLike p.request z
+    like complete = like_sourced beat.source p.request z
+        (subst (λ (q : Access w). IsLike q.request (sourced beat.source z)) (sym now.access_is)
+        (like-asked link.0 beat older since (sourced beat.source z) n
+        (subst (λ (k : ℕ). IsBlankAfter k (Message.A (sourced beat.source z))) (sym (asked.has_come.whole complete))
+        (blank beat.source z asked.opened)) asked.has_come.burst_is))
 
 -- ---- an access that was answered
 
@@ -119,7 +129,7 @@ module _ {w : ℕ} (config : Config) (log : Log w) (given : IsGiven config log) 
       ap (request_of s) (trace-flows c log)
       ∙ asked_flow config log h (system_after config log) is values c s (sourced s a) used.0 used.1
 
-  answered-open : (c s : ℕ) (a : MessageA w) (r : AccessResult) → (one_memory_after config log).opened c Requests s
+  pub answered-open : (c s : ℕ) (a : MessageA w) (r : AccessResult) → (one_memory_after config log).opened c Requests s
       ≡ Some (record { asked = Op.Access (Message.A a); answer = Some r })
       → is_access a.opcode ≡ true → IsOpen s (on_link c (trace_of log))
   answered-open c s a r e accesses = record {

@@ -22,7 +22,8 @@ use Rattle.tl_concord.{proofs.Accesses.carries_accesses, proofs.WholeStores.allo
 use Rattle.tl_true_bytes.{proofs.Asked.IsSomePending, proofs.Ends.done-last, proofs.Ends.moved-part}
 use Rattle.tl_true_bytes.proofs.Beside.{beside-ended, beside-moved, beside-performed, beside-unread}
 use Rattle.tl_true_bytes.proofs.Events.{IsAlignedStore, ended-open, replied}
-use Rattle.tl_true_bytes.proofs.Requests.{answered-pending, asked-open, request-known}
+use Rattle.tl_true_bytes.proofs.Requests.{answered-open, answered-pending, asked-open, request-known}
+use Rattle.tl_true_bytes.{specs.code.Beside.comes, proofs.AskedLog.moved-on}
 
 -- ---- an event
 
@@ -89,7 +90,7 @@ happened-beside config log (Ask c i) Outcome.NoSuchClient given is = is
 happened-beside config log (Deliver link ch) (Outcome.Moved y) given is =
     let before = given-before config (Deliver link ch, Outcome.Moved y) log given in
     beside-moved (run_of config log) (one_memory_after config log) (trace_of log) is link y
-    (λ z e. moved-part config log before link ch y z (sym given.is_log.0) e)
+    (λ z e. moved-part config log before link ch y z (sym given.is_log.0) e) (moved-on config log link ch y given)
     (λ c s p now. asked-open (one_memory_after config log) (trace_of log) c s p link y
     (λ i z e. (request-known config log before link.0 i z None e).2)
     (carries_accesses config ((Deliver link ch, Outcome.Moved y) ∷ log) given).0 now)
@@ -123,7 +124,7 @@ none-performed {w} run m m' t l none is =
 one-performed : {w : ℕ} (run : Run w) (m m' : Machine w) (t : Trace w) (l : List (ℕ × ℕ)) (q source : ℕ)
     (a : MessageA w) → l ≡ (q, source) ∷ [] → m' ≡ m
     → m.opened q Requests source ≡ Some (record { asked = Op.Access (Message.A a); answer = None })
-    → (is_access a.opcode ≡ true → IsSomePending q source t) → IsBeside run m' t
+    → (is_access a.opcode ≡ true → IsSomePending q source t × (comes q source t ≡ false)) → IsBeside run m' t
     → IsBeside (performed_all l m run) (performing l m') t
 one-performed {w} run m m' t l q source a one still opened pending is =
     subst (λ (k : List (ℕ × ℕ)). IsBeside (performed_all k m run) (performing k m') t) (sym one)
@@ -139,7 +140,7 @@ one-performed {w} run m m' t l q source a one still opened pending is =
         → IsBeside (if b then Performs q source ∷ run else run) (done_at q source (Message.A a) m) t
     go true accesses =
         let p = pending accesses in
-        beside-performed run m t here q source a p.0 opened accesses p.1
+        beside-performed run m t here q source a p.0.0 opened accesses p.0.1 p.1
     go false none = beside-unread run m t here q source a opened none
 
 -- a client's message answers nothing
@@ -207,9 +208,12 @@ performed-beside {w} config log (Deliver link ch) o given run is =
       | inl none ↦ none-performed run m (moved (Deliver link ch) o m) t l none is
       | inr one ↦ one-performed run m (moved (Deliver link ch) o m) t l one.0 one.1 one.3.0 one.2
           (ap (λ (r : Outcome w). moved (Deliver link ch) r m) given.is_log.0 ∙ one.4) one.3.2
-          (λ accesses. answered-pending config ((Deliver link ch, o) ∷ log) given one.0 one.1 one.3.0
-          (effect (Message.A one.3.0) m.memory).1
-          (answered-after config log link ch o given one.0 one.1 one.3.0 one.2 one.4 one.3.2) accesses) is
+          (λ accesses.
+          let r = (effect (Message.A one.3.0) m.memory).1 in
+          let after = answered-after config log link ch o given one.0 one.1 one.3.0 one.2 one.4 one.3.2 in (
+            answered-pending config ((Deliver link ch, o) ∷ log) given one.0 one.1 one.3.0 r after accesses,
+            (answered-open config ((Deliver link ch, o) ∷ log) given one.0 one.1 one.3.0 r after accesses).whole,
+          )) is
     ]
   where
     m : Machine w

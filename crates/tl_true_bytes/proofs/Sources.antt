@@ -1,10 +1,10 @@
 -- What is known of the request of an access that a client has open.
 use Rattle.tl_true_bytes.proofs.Imports.{MessageA, Config, AccessResult, sourced, IsRequest, Open, same_open, Op}
-use Rattle.std.proofs.Common.{◌≡◌, ℕ, true, false, List, Some, None, sym, ◌∙◌, ap, subst}
+use Rattle.std.proofs.Common.{◌≡◌, ℕ, true, List, Some, None, sym, ◌∙◌, ap, subst}
 use Rattle.std.specs.Prelude.{Option}
 use Rattle.tl_burst.specs.declared.message.Message.{Message}
-use Rattle.tl_coherence.specs.protocol.Phase.{AcquireOpen, AcquirePhase, NoAcquire}
-use Rattle.tl_coherence.specs.protocol.Protocol.{Acquires, Asked, InService, Replied, SourceFree, SourceState, State}
+use Rattle.tl_coherence.specs.protocol.Phase.{AcquireOpen, AcquirePhase}
+use Rattle.tl_coherence.specs.protocol.Protocol.{Acquires, Replied, SourceFree, SourceState, State}
 use Rattle.tl_coherence.specs.refinement.MemoryRelation.{IsAccess, IsOpened, op_of}
 use Rattle.tl_coherence.specs.{refinement.PacketMessages.AccessMessages, refinement.SimulationRelation.IsSourced}
 use Rattle.tl_true_bytes.proofs.Beside.{same_asked}

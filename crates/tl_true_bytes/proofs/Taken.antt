@@ -4,13 +4,13 @@ use Rattle.tl_true_bytes.proofs.Imports.{Request, on_link, AccessResult, Memory,
 use Rattle.tl_true_bytes.proofs.Imports.{Access, carried_byte, is_access, is_of, pending_accesses, sourced, Machine}
 use Rattle.tl_true_bytes.proofs.Imports.{Requests, effect-sourced, IsOfAccess, IsResponse, IsRightBeat, Run, found_in}
 use Rattle.tl_true_bytes.proofs.Imports.{trace_in, IsBeside, IsOpenAs, result_in, Channel, Op}
-use Rattle.std.proofs.Common.{◌≡◌, ℕ, ◌-◌, ◌*◌, ◌/◌, ◌%◌, ◌^◌, ◌≤◌, true, false, ◌∷◌, length, Some, None, refl, sym}
+use Rattle.std.proofs.Common.{◌≡◌, ℕ, ◌||◌, ◌-◌, ◌*◌, ◌/◌, ◌%◌, ◌^◌, ◌≤◌, true, false, ◌∷◌, length, Some, None, refl, sym}
 use Rattle.std.proofs.Common.{◌∙◌, ap, subst, inl, inr}
 use Rattle.std.{specs.Prelude.find, specs.Prelude.Option, proofs.lemmas.Bool.and_parts}
 use Rattle.tl_burst.specs.declared.message.Message.{Message}
 use Rattle.tl_rules.{specs.code.Open.open_request, specs.statement.Conformance.answers}
 use Rattle.tl_rules.{specs.statement.Effect.answer_of}
-use Rattle.tl_bytes.specs.statement.Bytes.{could_be}
+use Rattle.tl_bytes.specs.statement.Bytes.{could_be, is_put}
 use Rattle.tl_bytes.specs.statement.Free as bytes
 use Rattle.tl_params.specs.declared.perm.Perm.{Perm}
 use Rattle.tl_rules.specs.statement.Windows.{is_free}
@@ -19,7 +19,8 @@ use Rattle.tl_manager.{specs.statement.Handing.access_answer, specs.statement.Se
 use Rattle.tl_concord.specs.statement.Accesses.{HasCome, IsAnswered, IsAsked}
 use Rattle.tl_concord.specs.statement.Told.{IsToldOf}
 use Rattle.tl_one_memory.specs.statement.Run.{IsAnswer, IsGranted, IsTaken, place_in, returns}
-use Rattle.tl_true_bytes.{specs.code.Beside.IsFoundAs, proofs.Answers.IsBeatOfReply, proofs.Answers.beat-of-reply}
+use Rattle.tl_true_bytes.specs.code.{Beside.IsFoundAs, Beside.comes, Like.IsLike}
+use Rattle.tl_true_bytes.{proofs.Answers.IsBeatOfReply, proofs.Answers.beat-of-reply}
 use Rattle.tl_true_bytes.{proofs.Beside.same_asked}
 
 -- ---- what was found
@@ -52,6 +53,10 @@ pub record IsTakenWell {w : ℕ} (n : ℕ) (m : Machine w) (link : Link) (x : Be
   pub alike : (given : Perm) (block : ℕ)
       → (bytes.is_free n given block (trace_in run) ≡ is_free n None given block (trace_in run))
       × (bytes.is_free n given block ((link, x) ∷ trace_in run) ≡ is_free n None given block ((link, x) ∷ trace_in run))
+  -- the request of an access that was performed is complete
+  pub whole : (s : ℕ) (a : MessageA w) (r : AccessResult)
+      → m.opened link.0 Requests s ≡ Some (record { asked = Op.Access (Message.A a); answer = Some r })
+      → is_access a.opcode ≡ true → comes link.0 s (trace_in run) ≡ false
   -- an access is aligned
   pub aligned : (s : ℕ) (a : MessageA w) (r : Option AccessResult)
       → m.opened link.0 Requests s ≡ Some (record { asked = Op.Access (Message.A a); answer = r })
@@ -69,12 +74,14 @@ module _ {w : ℕ} (n : ℕ) (run : Run w) (m : Machine w) (width : IsWidth w) (
 
   answer : (link : Link) (z : BeatD w) (p : Access w) → ((s : ℕ) (a : MessageA w) (r : Option AccessResult)
       → m.opened link.0 Requests s ≡ Some (record { asked = Op.Access (Message.A a); answer = r })
-      → a.address % 2 ^ a.size ≡ 0) → IsAnswered m link.0 z (trace_in run)
+      → a.address % 2 ^ a.size ≡ 0) → ((s : ℕ) (a : MessageA w) (r : AccessResult)
+      → m.opened link.0 Requests s ≡ Some (record { asked = Op.Access (Message.A a); answer = Some r })
+      → is_access a.opcode ≡ true → comes link.0 s (trace_in run) ≡ false) → IsAnswered m link.0 z (trace_in run)
       → find (is_of link.0 z.source) (pending_accesses (trace_in run)) ≡ Some p → IsAnswer (λ address. 0) link.0 z p run
-  answer link z p aligned answered pending = record {
+  answer link z p aligned whole answered pending = record {
     found = found.0;
     performed = found.1;
-    admitted = ap (answers z.opcode) (like.like.opcode_is ∙ ap (λ (i : MessageA w). i.opcode) same) ∙ reply.admitted;
+    admitted = ap (answers z.opcode) (alike.opcode_is ∙ ap (λ (i : MessageA w). i.opcode) same) ∙ reply.admitted;
     lanes_fit = reply.lanes_fit;
     brings = λ reads address reached come.
         ap (carried_byte (Beat.D z ∷ unfinished Channel.D (on_link link.0 (trace_in run)))) (place address)
@@ -88,7 +95,7 @@ module _ {w : ℕ} (n : ℕ) (run : Run w) (m : Machine w) (width : IsWidth w) (
       a : MessageA w
       a = answered.asked
 
-      like : IsOpenAs p (m.opened link.0 Requests z.source)
+      like : IsOpenAs (comes link.0 z.source (trace_in run)) p (m.opened link.0 Requests z.source)
       like = is.pending_are link.0 z.source p pending
 
       same : like.asked ≡ a
@@ -97,14 +104,17 @@ module _ {w : ℕ} (n : ℕ) (run : Run w) (m : Machine w) (width : IsWidth w) (
       accesses : is_access a.opcode ≡ true
       accesses = ap (λ (i : MessageA w). is_access i.opcode) (sym same) ∙ like.accesses
 
+      alike : IsLike p.request like.asked
+      alike = like.like (whole z.source a answered.result answered.opened accesses)
+
       opcode : p.request.opcode ≡ a.opcode
-      opcode = like.like.opcode_is ∙ ap (λ (i : MessageA w). i.opcode) same
+      opcode = alike.opcode_is ∙ ap (λ (i : MessageA w). i.opcode) same
 
       address_is : p.request.address ≡ a.address
-      address_is = like.like.address_is ∙ ap (λ (i : MessageA w). i.address) same
+      address_is = alike.address_is ∙ ap (λ (i : MessageA w). i.address) same
 
       size_is : p.request.size ≡ a.size
-      size_is = like.like.size_is ∙ ap (λ (i : MessageA w). i.size) same
+      size_is = alike.size_is ∙ ap (λ (i : MessageA w). i.size) same
 
       place : (address : ℕ) → place_in p address ≡ address - w * (a.address / w)
       place address = ap (λ (k : ℕ). address - w * (k / w)) address_is
@@ -135,11 +145,11 @@ module _ {w : ℕ} (n : ℕ) (run : Run w) (m : Machine w) (width : IsWidth w) (
       of_access : IsOfAccess m link.0 (Beat.D z) (trace_in run)
       of_access = subst (λ (b : Beat w). IsOfAccess m link.0 b (trace_in run)) x_is well.of_access
 
-      opened : IsOpenAs p (m.opened link.0 Requests z.source)
+      opened : IsOpenAs (comes link.0 z.source (trace_in run)) p (m.opened link.0 Requests z.source)
       opened = is.pending_are link.0 z.source p pending
 
       given : is_access_answer z.opcode ≡ true → IsAnswer (λ address. 0) link.0 z p run
-      given e = answer link z p well.aligned (of_access e) pending
+      given e = answer link z p well.aligned well.whole (of_access e) pending
 
       grant : is_grant z.opcode ≡ true → IsAnswer (λ address. 0) link.0 z p run
       grant e = absurd (well.grants_other z x_is e opened.asked opened.answer opened.opened)
@@ -152,12 +162,13 @@ module _ {w : ℕ} (n : ℕ) (run : Run w) (m : Machine w) (width : IsWidth w) (
 
   pub taken : (link : Link) (x : Beat w) → IsTakenWell n m link x run → IsTaken n (λ address. 0) link x run
   taken link x well = record {
-    asks = λ z x_is both.
+    asks_new = λ z x_is asked_so.
         let asked : IsAsked m link.0 z (trace_in run) =
         (subst (λ (b : Beat w). IsOfAccess m link.0 b (trace_in run)) x_is well.of_access)
-        (and_parts (is_access z.opcode) (ends (Beat.A z) (on_link link.0 (trace_in run))) both).0 in
+        (and_parts (is_access z.opcode) (is_put z.opcode || ends (Beat.A z) (on_link link.0 (trace_in run))) asked_so).0
+        in
         unfound link.0 z.source asked.asked asked.opened;
-    asks_first = λ z y older x_is both begun_so no_ack same.
+    asks_first = λ z y older x_is asked_so begun_so no_ack same.
         (subst (λ (b : Beat w). IsRightBeat link.0 b (trace_in run)) x_is well.right) y older begun_so no_ack same;
     continues = λ z y older x_is begun_so.
         let response : IsResponse link.0 z (trace_in run) =

@@ -22,13 +22,13 @@ use Rattle.tl_coherence.proofs.{protocol.Room.positive, queues.Codes.access_kind
 use Rattle.tl_concord.specs.statement.Told.{IsToldOf}
 use Rattle.tl_one_memory.specs.statement.Run.{IsGranted}
 use Rattle.tl_true_bytes.{proofs.Continued.grants-same, proofs.Granted.IsBefore, proofs.Granted.granted-before}
-use Rattle.tl_true_bytes.{proofs.Requests.request-known, proofs.Runs.beside-log, proofs.Sources.not_acquire}
+use Rattle.tl_true_bytes.{proofs.Requests.answered-open, proofs.Requests.request-known, proofs.Runs.beside-log, proofs.Sources.not_acquire}
 use Rattle.tl_bytes.specs.statement.Free as bytes
 use Rattle.tl_coherence.specs.statement.Delivery.{levels_of}
 use Rattle.tl_concord.proofs.Alike.{free-world}
 use Rattle.tl_params.specs.declared.perm.Perm.{Perm}
 use Rattle.tl_rules.specs.statement.Windows.{is_free}
-use Rattle.tl_true_bytes.{proofs.Taken.IsTakenWell}
+use Rattle.tl_true_bytes.{specs.code.Beside.comes, proofs.Taken.IsTakenWell}
 
 -- ---- a beat that is next on channel D
 
@@ -233,6 +233,8 @@ taken-well {w} config log given n link y le alike told right of_access other blo
       (run_of config log)) (sym same)
       (granted-truly config log given n le link.0 z (subst (λ (b : Beat w). IsRightBeat link.0 b (trace_of log)) y_is
       right) (subst (λ (b : Beat w). GrantsBlock m.memory link.0 b (trace_of log)) y_is block) with_data asked);
+  whole = λ s a r opened accesses. subst (λ (t : Trace w). comes link.0 s t ≡ false) (sym same)
+      (answered-open config log given link.0 s a r opened accesses).whole;
   aligned = λ s a r opened. aligned-open config log given link.0 s a r opened;
 }
   where

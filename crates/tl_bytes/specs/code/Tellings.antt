@@ -1,7 +1,9 @@
 -- How what is told of the bytes of a block is kept: each byte's last telling by its place, and in one list what
 -- was told before that.
-use Rattle.std.specs.Prelude.{ℕ, zero, suc, Bool, true, false, not, [], ◌∷◌, ◌++◌, ◌&&◌, if◌then◌else◌, List}
-use Rattle.std.specs.Prelude.{filter, find, is_some, nat_le, Option, Some, None, slice_index_or}
+use Rattle.std.specs.Prelude.{ℕ, zero, suc, Bool, true, false, not, [], ◌∷◌, ◌++◌, ◌&&◌, ◌-◌, if◌then◌else◌, List}
+use Rattle.std.specs.Prelude.{filter, find, is_some, nat_le, nat_lt, Option, Some, None, slice_index_or}
+use Rattle.tl_burst.specs.statement.Burst.{bit}
+use Rattle.tl_bytes.specs.declared.latest.Latest.{Latest}
 use Rattle.tl_bytes.specs.declared.telling.Telling.{Telling}
 use Rattle.tl_bytes.specs.declared.telling.Told.{Told}
 use Rattle.tl_bytes.specs.declared.write.Write.{Write}
@@ -9,15 +11,19 @@ use Rattle.tl_bytes.specs.statement.Bytes.{could_be, same_value}
 
 -- the place is written
 abbrev pub is_written : Write → ℕ → Bool
-is_written write place = slice_index_or write.places place false
+is_written write place =
+    nat_le write.first place && (nat_lt (place - write.first) 64 && bit write.mask (place - write.first))
 
 -- what is written there
 abbrev pub value_at : Write → ℕ → Option ℕ
-value_at write place = slice_index_or write.values place None
+value_at write place = slice_index_or write.values (place - write.first) None
 
 -- what was told last of a place: anything where there is nothing
-abbrev pub telling_at : List Telling → ℕ → Telling
-telling_at latest place = slice_index_or latest place (record { value = None; moment = 0 })
+abbrev pub telling_at : Latest → ℕ → Telling
+telling_at latest place = record {
+  value = slice_index_or latest.values.items place None;
+  moment = slice_index_or latest.moments.items place latest.moment;
+}
 
 -- what was told of a place that is written stays beside that, if it is another value and was told no sooner
 -- than this moment
@@ -33,7 +39,7 @@ abbrev pub is_displaced : Write → ℕ → Told → Bool
 is_displaced write since x = if is_written write x.place then outlives write since x else false
 
 -- what was told last of those of the first so many places
-unfoldable pub displaced : ℕ → List Telling → Write → ℕ → List Told
+unfoldable pub displaced : ℕ → Latest → Write → ℕ → List Told
 displaced zero latest write since = []
 displaced (suc k) latest write since =
     if is_displaced write since (record { place = k; telling = telling_at latest k })
@@ -41,11 +47,11 @@ displaced (suc k) latest write since =
     else displaced k latest write since
 
 -- what the bytes may be beside what is told last of them with what is written
-abbrev pub outlived : List Telling → List Told → Write → ℕ → List Told
+abbrev pub outlived : Latest → List Told → Write → ℕ → List Told
 outlived latest earlier write since = displaced 64 latest write since ++ filter (stays write since) earlier
 
 -- what is told last of a place with what is written at this moment
-abbrev pub written_at : List Telling → Write → ℕ → ℕ → Telling
+abbrev pub written_at : Latest → Write → ℕ → ℕ → Telling
 written_at latest write moment place =
     if is_written write place then record { value = value_at write place; moment = moment } else telling_at latest place
 

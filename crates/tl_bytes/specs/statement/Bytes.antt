@@ -56,11 +56,22 @@ is_access a.AcquirePerm = false
 is_access a.Intent = false
 is_access _ = true
 
+-- a request that writes what it brings: it may be performed beat by beat
+abbrev pub is_put : OpA → Bool
+is_put a.PutFullData = true
+is_put a.PutPartialData = true
+is_put _ = false
+
+-- With the beat an access may be performed: with each beat of a Put, of what it has brought by then, and with the last
+-- beat of another request.
+abbrev pub asks : {w : ℕ} → BeatA w → History w → Bool
+asks x past = is_access x.opcode && (is_put x.opcode || ends (beat.A x) past)
+
 pub min_small : (n : ℕ) → min n 6 ≤ 6
 min_small n = omega arith
 
--- an access whose request is complete: its link, its request, whether a beat of that was corrupt, and
--- the moment at which it was complete
+-- An access that is pending: its link, its request, whether a beat of that was corrupt, and the moment since which it may
+-- be performed. Of a Put whose request isn't complete the request is that of the beats so far.
 pub record Access (w : ℕ) : Type 0 where
   pub link : ℕ
   pub request : MessageA w
@@ -90,6 +101,15 @@ asked_by link x burst moment = record {
 abbrev pub is_of : {w : ℕ} → ℕ → ℕ → Access w → Bool
 is_of link source access = (access.link == link) && (access.request.source == source)
 
+-- since when an access may be performed that is asked for at this moment: if it is pending already, since it was first
+abbrev pub asked_since : {w : ℕ} → Option (Access w) → ℕ → ℕ
+asked_since None moment = moment
+asked_since (Some access) moment = access.asked
+
+-- these accesses but the one with this source on the link
+abbrev pub all_but : {w : ℕ} → ℕ → ℕ → List (Access w) → List (Access w)
+all_but link source accesses = filter (λ access. not (is_of link source access)) accesses
+
 -- a beat of channel D completes an answer to a request of channel A
 abbrev pub ends_request : {w : ℕ} → BeatD w → History w → Bool
 ends_request x past = not (is_release_ack x.opcode) && ends (beat.D x) past
@@ -97,14 +117,14 @@ ends_request x past = not (is_release_ack x.opcode) && ends (beat.D x) past
 -- the accesses that are pending with one more beat
 abbrev pub pending_with : {w : ℕ} → ℕ → Beat w → History w → ℕ → List (Access w) → List (Access w)
 pending_with link (beat.A x) past moment before =
-    if is_access x.opcode && ends (beat.A x) past
-    then asked_by link x (beat.A x ∷ unfinished channel.A past) moment ∷ before
+    if asks x past
+    then asked_by link x (beat.A x ∷ unfinished channel.A past) (asked_since (find (is_of link x.source) before) moment)
+    ∷ all_but link x.source before
     else before
-pending_with link (beat.D x) past moment before =
-    if ends_request x past then filter (λ access. not (is_of link x.source access)) before else before
+pending_with link (beat.D x) past moment before = if ends_request x past then all_but link x.source before else before
 pending_with link _ past moment before = before
 
--- the accesses whose requests are complete and whose answers aren't
+-- the accesses that may be performed, and whose answers aren't complete
 unfoldable pub pending_accesses : {w : ℕ} → Trace w → List (Access w)
 pending_accesses [] = []
 pending_accesses (x ∷ t) = pending_with x.0.0 x.1 (on_link x.0.0 t) (suc (length t)) (pending_accesses t)
@@ -287,13 +307,13 @@ may_grant n t address v =
 
 -- the accesses that are pending beside this one
 abbrev pub others : {w : ℕ} → Access w → Trace w → List (Access w)
-others access t = filter (λ other. not (is_of access.link access.request.source other)) (pending_accesses t)
+others access t = all_but access.link access.request.source (pending_accesses t)
 
 -- an access may find the byte v: it may be so, or is being written so by another
 abbrev pub may_find : {w : ℕ} → ℕ → Access w → Trace w → ℕ → ℕ → Bool
 may_find n access t address v = told_as v (may_be n address t) || written_as address v (others access t)
 
--- in one of its windows since its request is complete an access may have found the byte v
+-- in one of its windows since it was asked for an access may have found the byte v
 unfoldable pub may_read : {w : ℕ} → ℕ → Access w → Trace w → ℕ → ℕ → Bool
 may_read n access [] address v = false
 may_read n access (x ∷ t) address v =

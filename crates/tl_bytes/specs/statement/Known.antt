@@ -33,7 +33,7 @@ tellings_at place (x ∷ told) = if x.place == place then x.telling ∷ tellings
 
 -- what is kept of the byte at a place
 abbrev pub tellings_of : BlockBytes → ℕ → List Telling
-tellings_of b place = telling_at b.latest.items place ∷ tellings_at place b.earlier.items
+tellings_of b place = telling_at b.latest place ∷ tellings_at place b.earlier.items
 
 -- of each byte of the block what it may be after t
 abbrev pub KnowsBytes : {w : ℕ} → BlockBytes → ℕ → ℕ → Trace w → Type 0

@@ -8,7 +8,7 @@ use Rattle.tl_beat.specs.declared.opcode.OpD.TheVariants as d
 use Rattle.tl_burst.specs.statement.Messages.{History}
 use Rattle.tl_rules.specs.statement.History.{begins, ends, is_acquire, is_grant}
 use Rattle.tl_rules.specs.statement.Liberties.{grows_from_none}
-use Rattle.tl_bytes.specs.statement.Bytes.{is_access}
+use Rattle.tl_bytes.specs.statement.Bytes.{asks}
 
 -- an Acquire from nothing held: with it all that its link held of the block may have been given up before
 abbrev pub acquires_from_none : {w : ℕ} → BeatA w → Bool
@@ -22,7 +22,7 @@ is_answer_data _ = false
 -- With the beat no access is asked for, nothing acquired from nothing held, no report complete, and no response begun
 -- or complete, nor does it bring what an access finds: so it is with those in the middle of a message.
 abbrev pub passes_by : {w : ℕ} → Beat w → History w → Bool
-passes_by (beat.A y) past = not (acquires_from_none y) && (not (is_access y.opcode) || not (ends (beat.A y) past))
+passes_by (beat.A y) past = not (acquires_from_none y) && not (asks y past)
 passes_by (beat.C y) past = not (ends (beat.C y) past)
 passes_by (beat.D y) past = not ((begins (beat.D y) past || ends (beat.D y) past) || is_answer_data y.opcode)
 passes_by _ past = true

@@ -1,6 +1,6 @@
 -- What beats make of the states of blocks.
 use Rattle.std.specs.Prelude.{ℕ, suc, Bool, true, false, not, [], ◌∷◌, ◌&&◌, ◌≡◌, length, List, Option, Some, None}
-use Rattle.std.specs.Prelude.{unwrap_or, ⊤}
+use Rattle.std.specs.Prelude.{find, unwrap_or, ⊤}
 use Rattle.tl_beat.specs.declared.beat.Beat.{Beat}
 use Rattle.tl_beat.specs.declared.beat.Beat.TheVariants as beat
 use Rattle.tl_beat.specs.declared.beat.BeatA.{BeatA}
@@ -15,8 +15,9 @@ use Rattle.tl_burst.specs.statement.Messages.{History, unfinished}
 use Rattle.tl_rules.specs.code.Open.{open_request}
 use Rattle.tl_rules.specs.declared.past.Request.{Request}
 use Rattle.tl_rules.specs.statement.Conformance.{Trace, answers, on_link}
-use Rattle.tl_rules.specs.statement.History.{block_at, ends, is_release_ack}
-use Rattle.tl_bytes.specs.statement.Bytes.{Access, asked_by, is_access, is_of, is_perm_only, pending_accesses}
+use Rattle.tl_rules.specs.statement.History.{block_at, is_release_ack}
+use Rattle.tl_bytes.specs.statement.Bytes.{Access, asked_by, asked_since, asks, is_access, is_of, is_perm_only}
+use Rattle.tl_bytes.specs.statement.Bytes.{pending_accesses}
 use Rattle.tl_memory.specs.code.Elsewhere.{IsElsewhere, PassesBy}
 use Rattle.tl_memory.specs.code.Passing.{changes_held}
 use Rattle.tl_memory.specs.declared.block.BlockState.{BlockState}
@@ -68,7 +69,7 @@ abbrev pub IsNextUnseen : {w : ℕ} → Option (NextState w) → BlockState w �
 IsNextUnseen None s n block x t = IsElsewhere block x t × (changes_held x.1 (on_link x.0.0 t) ≡ false)
 IsNextUnseen (Some next) s n block x t = KnowsUnseen (with_next s next) n block x t
 
--- This is what a beat of the request of an access makes of the state of its block: something only where it completes it.
+-- This is what a beat of the request of an access makes of the state of its block: something only where it asks for one.
 abbrev pub IsNextAsked : {w : ℕ} → Option (NextState w) → BlockState w → ℕ → ℕ → Link × Beat w → Trace w → Type 0
 IsNextAsked None s n block x t = IsElsewhere block x t
 IsNextAsked (Some next) s n block x t = KnowsState (with_next s next) n block (x ∷ t)
@@ -80,15 +81,26 @@ request_answered _ past = None
 
 -- ---- beats that break no rule
 
--- what is known of a beat of channel A, and of the access whose request it completes
+-- the access that is asked for with a beat of channel A
+abbrev pub asked_now : {w : ℕ} → ℕ → BeatA w → Trace w → Access w
+asked_now link y t = asked_by link y (beat.A y ∷ unfinished channel.A (on_link link t))
+    (asked_since (find (is_of link y.source) (pending_accesses t)) (suc (length t)))
+
+-- each of these accesses with the beat's source on the link is that which the beat goes on to ask for
+abbrev pub AreContinued : {w : ℕ} → ℕ → BeatA w → List (Access w) → Type 0
+AreContinued link y [] = ⊤
+AreContinued link y (access ∷ accesses) =
+    (is_of link y.source access ≡ true
+    → (access.request.opcode ≡ y.opcode) × (block_at access.request.address ≡ block_at y.address))
+    × AreContinued link y accesses
+
+-- what is known of a beat of channel A, and of the access that it asks for
 pub record IsRequested {w : ℕ} (link : ℕ) (y : BeatA w) (t : Trace w) : Type 0 where
   pub room : HasRoom (beat.A y) (unfinished channel.A (on_link link t))
-  pub wide : ends (beat.A y) (on_link link t) ≡ true → a_carries_data y.opcode ≡ true
-      → AreWide (beat.A y ∷ unfinished channel.A (on_link link t))
-  pub lawful : is_access y.opcode && ends (beat.A y) (on_link link t) ≡ true
-      → IsLawful (asked_by link y (beat.A y ∷ unfinished channel.A (on_link link t)) (suc (length t)))
-  pub inside : is_access y.opcode && ends (beat.A y) (on_link link t) ≡ true
-      → WritesInside (asked_by link y (beat.A y ∷ unfinished channel.A (on_link link t)) (suc (length t)))
+  pub wide : a_carries_data y.opcode ≡ true → AreWide (beat.A y ∷ unfinished channel.A (on_link link t))
+  pub lawful : asks y (on_link link t) ≡ true → IsLawful (asked_now link y t)
+  pub inside : asks y (on_link link t) ≡ true → WritesInside (asked_now link y t)
+  pub continued : AreContinued link y (pending_accesses t)
 
 -- each of these accesses with this source on the link is the request
 abbrev pub AreAsked : {w : ℕ} → ℕ → ℕ → Request → List (Access w) → Type 0

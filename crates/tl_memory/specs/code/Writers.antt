@@ -6,6 +6,7 @@ use Rattle.tl_beat.specs.declared.beat.Beat.{Beat}
 use Rattle.tl_beat.specs.declared.beat.Link.{Link}
 use Rattle.tl_params.specs.declared.perm.Perm.TheVariants as perm
 use Rattle.tl_rules.specs.statement.Conformance.{Trace}
+use Rattle.tl_rules.specs.statement.History.{block_at}
 use Rattle.tl_rules.specs.statement.Windows.{needs}
 use Rattle.tl_bytes.specs.statement.Free.{is_free}
 use Rattle.tl_bytes.specs.code.Tellings.{left_as}
@@ -13,12 +14,13 @@ use Rattle.tl_bytes.specs.declared.block_bytes.BlockBytes.{BlockBytes}
 use Rattle.tl_bytes.specs.declared.windows.WindowCount.{WindowCount}
 use Rattle.tl_bytes.specs.declared.windows.WindowCount.TheVariants as count
 use Rattle.tl_bytes.specs.declared.write.Write.{Write}
-use Rattle.tl_bytes.specs.statement.Bytes.{Access, is_of, told_as}
+use Rattle.tl_bytes.specs.statement.Bytes.{Access, is_of, is_put, told_as}
 use Rattle.tl_bytes.specs.statement.Known.{KnowsWindows, may_bring, tellings_of}
 use Rattle.tl_memory.specs.declared.access.Asked.{Asked}
 use Rattle.tl_memory.specs.declared.free.Freedom.{Freedom}
 use Rattle.tl_memory.specs.declared.pending.PendingAccess.{PendingAccess}
-use Rattle.tl_memory.specs.statement.Known.{open_for}
+use Rattle.tl_memory.specs.declared.writer.Writer.{Writer}
+use Rattle.tl_memory.specs.statement.Known.{IsAsked, IsPendingWrite, open_for}
 
 -- what is picked of those of a list that are kept
 unfoldable pub picked : {X Y : Type 0} → (X → Bool) → (X → Y) → List X → List Y
@@ -62,12 +64,25 @@ abbrev pub keeps : {w : ℕ} → Option (Link × ℕ) → Access w → Bool
 keeps None access = true
 keeps (Some gone) access = not (is_of gone.0.0 gone.1 access)
 
--- what is kept of an access that may bring more
+-- what is kept of an access that may bring more, unless it is a Put
 pub record IsRenewed {w : ℕ} (more : PendingAccess w → ℕ → ℕ → Bool) (old new : PendingAccess w) : Type 0 where
   pub writer_is : new.writer ≡ old.writer
   pub windows_are : new.windows ≡ old.windows
-  pub read_is : (place byte : ℕ) → place < 64
+  pub read_is : is_put old.writer.asked.request.opcode ≡ false → (place byte : ℕ) → place < 64
       → may_bring new.read place byte ≡ (may_bring old.read place byte || more old place byte)
+
+-- what is kept of one that asks for more
+pub record IsGrown {w : ℕ} (writer : Writer w) (more : PendingAccess w → ℕ → ℕ → Bool) (old new : PendingAccess w)
+    : Type 0 where
+  pub writer_is : new.writer ≡ writer
+  pub windows_are : new.windows ≡ old.windows
+  pub read_is : is_put old.writer.asked.request.opcode ≡ false → (place byte : ℕ) → place < 64
+      → may_bring new.read place byte ≡ (may_bring old.read place byte || more old place byte)
+
+-- this is the access, and what it may write in its block
+abbrev pub IsWriter : {w : ℕ} → Writer w → Access w → Type 0
+IsWriter writer access =
+    IsAsked writer.asked access × IsPendingWrite writer.write (block_at access.request.address) access
 
 -- of each of them
 abbrev pub AreRenewed : {w : ℕ} → (PendingAccess w → ℕ → ℕ → Bool) → List (PendingAccess w) → List (PendingAccess w)

@@ -14,7 +14,7 @@ use Rattle.tl_params.specs.declared.perm.Perm.TheVariants as perm
 use Rattle.tl_rules.specs.code.Control.{a_control}
 use Rattle.tl_rules.specs.statement.Admission.{is_spoiled, lanes_of}
 use Rattle.tl_bytes.specs.statement.Bytes.{Access, access_writes, carried_mask, last_window, pending_accesses}
-use Rattle.tl_bytes.specs.statement.Bytes.{may_find, may_read, pending_value}
+use Rattle.tl_bytes.specs.statement.Bytes.{is_put, may_find, may_read, pending_value}
 use Rattle.tl_rules.specs.statement.Conformance.{Trace, on_link, same_perm}
 use Rattle.tl_rules.specs.statement.History.{block_at}
 use Rattle.tl_rules.specs.statement.Windows.{needs}
@@ -56,12 +56,6 @@ AreWide {w} (x ∷ beats) = (length (lanes_of x) ≡ w) × AreWide beats
 
 -- ---- accesses
 
--- the operation is a Put
-abbrev pub is_put : OpA → Bool
-is_put a.PutFullData = true
-is_put a.PutPartialData = true
-is_put _ = false
-
 -- the operation is an atomic
 abbrev pub is_atomic : OpA → Bool
 is_atomic a.ArithmeticData = true
@@ -72,8 +66,8 @@ is_atomic _ = false
 abbrev pub IsPerformable : ℕ → OpA → ℕ → ℕ → ℕ → Type 0
 IsPerformable w opcode param size address = a_control w level.UH opcode param size address ≡ None
 
--- This is the access that was asked for. Where it carries data, these are the bytes that none of its beats
--- has as corrupt, and its mask names no other.
+-- This is the access that was asked for. The mask of one that carries data names none but the bytes that have come, and
+-- of an atomic these are the bytes, if none of its beats has them as corrupt.
 pub record IsAsked {w : ℕ} (asked : Asked w) (access : Access w) : Type 0 where
   pub link_is : asked.link.0 ≡ access.link
   pub opcode_is : asked.request.opcode ≡ access.request.opcode
@@ -84,17 +78,16 @@ pub record IsAsked {w : ℕ} (asked : Asked w) (access : Access w) : Type 0 wher
   pub mask_is : asked.request.mask ≡ access.request.mask
   pub spoiled_is : asked.spoiled ≡ access.spoiled
   pub moment_is : asked.moment ≡ access.asked
-  pub few : a_carries_data access.request.opcode ≡ true → length access.request.payload ≤ 64
-  pub payload_is : a_carries_data access.request.opcode ≡ true → access.spoiled ≡ false → (place : ℕ)
+  pub payload_is : is_atomic access.request.opcode ≡ true → access.spoiled ≡ false → (place : ℕ)
       → place < length access.request.payload
       → slice_index asked.request.payload place ≡ slice_index access.request.payload place
   pub masked : a_carries_data access.request.opcode ≡ true → (place : ℕ) → bit access.request.mask place ≡ true
       → place < length access.request.payload
 
--- the beats of its request carried all bytes that it reaches
+-- the beats of its request, where that is an atomic, carried all bytes that it reaches
 abbrev pub IsWhole : {w : ℕ} → Access w → Type 0
 IsWhole {w} access =
-    a_carries_data access.request.opcode ≡ true
+    is_atomic access.request.opcode ≡ true
     → access.request.address % w + 2 ^ access.request.size ≤ length access.request.payload
 
 -- it breaks no rule by itself, and its beats have all come
@@ -132,7 +125,7 @@ KeepsFound read admitted n block access t = (place byte : ℕ) → place < 64
     ≡ ((admitted && may_find n access t (64 * block + place) byte) || may_bring read place byte)
 
 -- This is kept of an access to the block that is pending, as it was seen to be after a trace, when these could access the
--- block.
+-- block. What a Put may have found isn't kept, since its answer brings nothing.
 pub record KnowsAccess {w : ℕ} (pending : PendingAccess w) (admits : Perm → Bool) (n block : ℕ) (access : Access w)
     (seen : Trace w) : Type 0 where
   pub asked_is : IsAsked pending.writer.asked access
@@ -140,7 +133,8 @@ pub record KnowsAccess {w : ℕ} (pending : PendingAccess w) (admits : Perm → 
   pub write_is : IsPendingWrite pending.writer.write block access
   pub before : access.asked ≤ length seen
   pub windows_are : KnowsWindows pending.windows n block access.asked seen
-  pub found_is : KeepsFound pending.read (admits (needs access.request.opcode)) n block access seen
+  pub found_is : is_put access.request.opcode ≡ false
+      → KeepsFound pending.read (admits (needs access.request.opcode)) n block access seen
 
 -- of these accesses, one by one
 abbrev pub AreKnown : {w : ℕ} → List (PendingAccess w) → (Perm → Bool) → ℕ → ℕ → List (Access w) → Trace w → Type 0
@@ -200,6 +194,11 @@ KnowsUnseen s n block x t = KnowsParts s closed n block t (x ∷ t)
 abbrev pub AnyIsTo : {w : ℕ} → ℕ → Option (Access w) → Type 0
 AnyIsTo block None = ⊤
 AnyIsTo block (Some access) = is_to block access ≡ true
+
+-- the access, where there is one, is no Put
+abbrev pub IsNoPut : {w : ℕ} → Option (Access w) → Type 0
+IsNoPut None = ⊤
+IsNoPut (Some access) = is_put access.request.opcode ≡ false
 
 -- this is what the answer may bring to an access to the block, where one is pending
 abbrev pub Expects : {w : ℕ} → Option Expected → ℕ → ℕ → Option (Access w) → Trace w → Type 0

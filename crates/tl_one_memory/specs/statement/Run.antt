@@ -20,9 +20,9 @@ use Rattle.tl_rules.specs.declared.past.Request.{Request}
 use Rattle.tl_rules.specs.statement.Admission.{lanes_of}
 use Rattle.tl_rules.specs.statement.Conformance.{Trace, answers, on_link}
 use Rattle.tl_rules.specs.statement.Effect.{Memory, bytes_from, effect}
-use Rattle.tl_rules.specs.statement.History.{block_at, ends, is_release_ack}
+use Rattle.tl_rules.specs.statement.History.{block_at, is_release_ack}
 use Rattle.tl_bytes.specs.statement.Free.{is_free}
-use Rattle.tl_bytes.specs.statement.Bytes.{Access, access_writes, carried_byte, could_be, ends_request, is_access}
+use Rattle.tl_bytes.specs.statement.Bytes.{Access, access_writes, asks, carried_byte, could_be, ends_request}
 use Rattle.tl_bytes.specs.statement.Bytes.{is_of, pending_accesses, tells}
 use Rattle.tl_bytes.specs.statement.Shown.{shows}
 
@@ -169,10 +169,10 @@ pub record IsGranted {w : ℕ} (n : ℕ) (first : Memory) (link : ℕ) (z : Beat
 -- What is taken after a run.
 pub record IsTaken {w : ℕ} (n : ℕ) (first : Memory) (link : Link) (x : Beat w) (run : Run w) : Type 0 where
   -- an access is neither performed nor answered before its request is complete
-  pub asks : (z : BeatA w) → x ≡ beat.A z → is_access z.opcode && ends (beat.A z) (on_link link.0 (trace_in run)) ≡ true
+  pub asks_new : (z : BeatA w) → x ≡ beat.A z → asks z (on_link link.0 (trace_in run)) ≡ true
       → found_in first link.0 z.source run ≡ None
   pub asks_first : (z : BeatA w) (y : BeatD w) (older : List (Beat w)) → x ≡ beat.A z
-      → is_access z.opcode && ends (beat.A z) (on_link link.0 (trace_in run)) ≡ true
+      → asks z (on_link link.0 (trace_in run)) ≡ true
       → unfinished channel.D (on_link link.0 (trace_in run)) ≡ beat.D y ∷ older → is_release_ack y.opcode ≡ false
       → y.source ≡ z.source → ⊥
   -- a beat that continues a response has its opcode and its source

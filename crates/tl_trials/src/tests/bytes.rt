@@ -14,12 +14,9 @@ use tl_bytes::write::Write;
 
 /// What a Put of eight bytes, at the start of the block, writes.
 fn eight(byte: u8) -> Write {
-    let mut places = [false; 64];
-    for place in 0..8usize {
-        places[place] = true;
-    }
     Write {
-        places,
+        first: 0,
+        mask: 0xff,
         values: [Some(byte); 64],
     }
 }

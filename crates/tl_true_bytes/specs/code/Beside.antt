@@ -1,9 +1,11 @@
 -- The run of one memory that goes on beside what happens to a world, and what the two have in common.
 use Rattle.std.specs.Prelude.{ℕ, Bool, true, false, List, [], ◌∷◌, ◌≡◌, if◌then◌else◌, find, Option, Some, None, ⊤}
+use Rattle.tl_beat.specs.declared.channel.Channel.TheVariants as channel
 use Rattle.tl_burst.specs.declared.message.Message.TheVariants as message
 use Rattle.tl_burst.specs.declared.message.MessageA.{MessageA}
+use Rattle.tl_burst.specs.statement.Messages.{unfinished}
 use Rattle.tl_params.specs.declared.config.Config.{Config}
-use Rattle.tl_rules.specs.statement.Conformance.{Trace}
+use Rattle.tl_rules.specs.statement.Conformance.{Trace, comes_in_request, on_link}
 use Rattle.tl_rules.specs.statement.Effect.{AccessResult, Memory, effect}
 use Rattle.tl_rules.specs.statement.History.{block_at}
 use Rattle.tl_bytes.specs.statement.Bytes.{Access, is_access, is_of, pending_accesses}
@@ -77,13 +79,17 @@ run_of config (x ∷ log) =
 
 -- ---- what a run and the one-memory machine have in common
 
--- an access that is pending is one that the machine has open
-pub record IsOpenAs {w : ℕ} (p : Access w) (o : Option (Open w)) : Type 0 where
+-- more is to come of the request with this source of the link
+abbrev pub comes : {w : ℕ} → ℕ → ℕ → Trace w → Bool
+comes c s t = comes_in_request s (unfinished channel.A (on_link c t))
+
+-- An access that is pending is one that the machine has open, and does the same where no more of its request is to come.
+pub record IsOpenAs {w : ℕ} (more : Bool) (p : Access w) (o : Option (Open w)) : Type 0 where
   pub asked : MessageA w
   pub answer : Option AccessResult
   pub opened : o ≡ Some (record { asked = op.Access (message.A asked); answer = answer })
   pub accesses : is_access asked.opcode ≡ true
-  pub like : IsLike p.request asked
+  pub like : more ≡ false → IsLike p.request asked
 
 -- the access that was performed, with its result
 abbrev pub result_for : {w : ℕ} → Op w → Option AccessResult → Option (MessageA w × AccessResult)
@@ -105,4 +111,4 @@ pub record IsBeside {w : ℕ} (run : Run w) (m : Machine w) (t : Trace w) : Type
   pub memory_is : memory_in (λ address. 0) run ≡ m.memory
   pub found_are : (c s : ℕ) → IsFoundAs (found_in (λ address. 0) c s run) (result_in (m.opened c Requests s))
   pub pending_are : (c s : ℕ) (p : Access w) → find (is_of c s) (pending_accesses t) ≡ Some p
-      → IsOpenAs p (m.opened c Requests s)
+      → IsOpenAs (comes c s t) p (m.opened c Requests s)

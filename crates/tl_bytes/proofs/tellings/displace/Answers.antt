@@ -9,11 +9,11 @@ loop-place-init c = sym (append-nil c.args.told.now.items)
 
 pub loop-place-preserved : goal.loop-place-preserved
 loop-place-preserved c = elim c.if-is_displaced.branch [
-  | then-is_displaced+in_ok-push w ↦ ap (λ v. v.items) w.told-is ∙ w.in_ok-push.ensures.items ∙ rw c.last_at.ensures
+  | then-is_displaced+in_ok-push w ↦ ap (λ v. v.items) w.told-is ∙ w.in_ok-push.ensures.items ∙ rw c.at.ensures
       (one-displaced c.args.write.now c.args.since c.args.latest.now c.loop-place.place c.loop-place.told.items
       c.args.told.now.items c.loop-place.invariant
-      (rw c.last_at.ensures at (sym c.is_displaced.ensures ∙ w.if-is_displaced.true)))
+      (rw c.at.ensures at (sym c.is_displaced.ensures ∙ w.if-is_displaced.true)))
   | else-is_displaced w ↦ ap (λ v. v.items) w.told-is ∙ one-stays c.args.write.now c.args.since c.args.latest.now
       c.loop-place.place c.loop-place.told.items c.args.told.now.items c.loop-place.invariant
-      (rw c.last_at.ensures at (sym c.is_displaced.ensures ∙ w.if-is_displaced.false))
+      (rw c.at.ensures at (sym c.is_displaced.ensures ∙ w.if-is_displaced.false))
 ]

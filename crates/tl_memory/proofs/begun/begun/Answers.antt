@@ -2,7 +2,7 @@ use Rattle.std.proofs.Common.{arith, refl, ◌≡◌, ◌*◌}
 use Rattle.std.specs.Prelude.{find}
 use Rattle.tl_rules.{specs.code.Open.open_request, specs.statement.Conformance.on_link}
 use Rattle.tl_bytes.specs.statement.Bytes.{is_of, pending_accesses}
-use Rattle.tl_memory.{specs.declared.expected.Expected.Expected, proofs.BlockAnswers.answered-there}
+use Rattle.tl_memory.{specs.declared.expected.Expected.Expected, proofs.BlockAnswers.answered-no_put, proofs.BlockAnswers.answered-there}
 use Rattle.tl_memory.proofs.Beginning.{grant-begun, none-begun, read-begun}
 use Rattle.tl_memory.proofs.begun.begun.Goals as goal
 
@@ -23,7 +23,9 @@ returns-in_ok-read-in-AccessAckData g c = λ n asked t k is here small.
     in
     rw c.in-AccessAckData.is (read-begun c.in_ok-read-in-AccessAckData.read n c.args.block
     (find (is_of c.args.link.0 c.args.y.now.source) (pending_accesses t)) t to
-    (c.in_ok-read-in-AccessAckData.ensures n c.args.block t k to))
+    (c.in_ok-read-in-AccessAckData.ensures n c.args.block t k to
+    (answered-no_put c.args.link.0 c.args.y.now asked (pending_accesses t) is.are_asked is.answers_it
+    c.in-AccessAckData.is)))
 
 pub returns-in_default : goal.returns-in_default
 returns-in_default g c = λ n asked t k is here small. none-begun c.args.y.now.opcode n c.args.link.0 c.args.y.now.source

@@ -16,13 +16,12 @@ pub returns-else-acquires_from_none : goal.returns-else-acquires_from_none
 returns-else-acquires_from_none g c = λ t k few.
     let is = c.in-A.is in
     let no : acquires_from_none c.in-A.y ≡ false = sym c.acquires_from_none.ensures ∙ c.if-acquires_from_none.false in
-    let last = c.completes.ensures (unfinished Channel.A t) k.a_is (rw is at few) in
-    rw (is, no) (c.either.ensures ∙ ap₂ (λ a b. not a || not b) c.is_access.ensures (rw is at last))
+    rw (is, no) (ap not (c.asks.ensures t k.a_is (rw is at few)))
 
 pub returns-in-C : goal.returns-in-C
 returns-in-C g c = λ t k few.
     let is = c.in-C.is in
-    let last = c.completes-in-C.ensures (unfinished Channel.C t) k.c_is (rw is at few) in
+    let last = c.completes.ensures (unfinished Channel.C t) k.c_is (rw is at few) in
     rw is (ap not (rw is at last))
 
 pub returns-in-D : goal.returns-in-D
@@ -31,7 +30,7 @@ returns-in-D g c = λ t k few.
     let burst = unfinished Channel.D t in
     let last = c.completes-in-D.ensures burst k.d_is (rw is at few) in
     let first = none-before c.count.result burst (c.count.ensures g.row.W burst k.d_is.bytes_are) in
-    rw is (ap not (c.either-in-D.ensures ∙ ap₂ (λ a b. a || b)
+    rw is (ap not (c.either.ensures ∙ ap₂ (λ a b. a || b)
     (c.either-bounds.ensures ∙ ap₂ (λ a b. a || b) first (rw is at last)) c.is_answer_data.ensures))
 
 pub returns-in_default : goal.returns-in_default

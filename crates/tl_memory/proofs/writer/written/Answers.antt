@@ -1,6 +1,9 @@
-use Rattle.std.proofs.Common.{ap, sym, ◌∙◌, ◌+◌, ◌*◌}
+use Rattle.std.proofs.Common.{arith, ap, sym, ◌∙◌, ◌≡◌, ◌-◌, ◌+◌, ◌*◌}
+use Rattle.std.specs.Prelude.{None, slice_index_or}
 use Rattle.tl_rules.specs.statement.History.{block_at}
-use Rattle.tl_memory.{specs.statement.Known.is_put, proofs.Writing.other_left, proofs.Writing.put_left}
+use Rattle.tl_bytes.specs.statement.Bytes.{is_put}
+use Rattle.tl_memory.{proofs.Writing.other_left, proofs.Writing.put_left}
+use Rattle.tl_memory.proofs.{Atomics.performable-room, Atomics.performable-sized, Masked.reach-places}
 use Rattle.tl_memory.proofs.writer.written.Goals as goal
 
 pub returns-then-is_put : goal.returns-then-is_put
@@ -13,9 +16,15 @@ returns-then-is_put g c = λ access burst k write message lawful place lt.
 
 pub returns : goal.returns
 returns g c = λ access burst k write message lawful place lt.
-    let here = (write place lt).0 in
-    let other = ap is_put (sym k.opcode_is) ∙ sym c.is_put.ensures ∙ c.if-is_put.false in (
+    let m = access.request in
+    let same : place - 0 ≡ place = omega arith in
+    let other = ap is_put (sym k.opcode_is) ∙ sym c.is_put.ensures ∙ c.if-is_put.false in
+    let here = reach-places m.opcode m c.mask_reached.result place other (λ atomic. (
+      performable-sized g.row.W m.opcode m.param m.size m.address atomic lawful.0,
+      performable-room g.row.W m.opcode m.param m.size m.address atomic lawful.0,
+    )) (rw (k.opcode_is, k.size_is, k.address_is) at c.mask_reached.ensures) lt in (
       here,
-      λ w. c.values_written.ensures access burst k message lawful place lt (sym here ∙ w)
-          ∙ other_left access.request.opcode access burst (64 * block_at access.request.address + place) other,
+      λ w. ap (λ i. slice_index_or c.values_written.result i None) same
+          ∙ c.values_written.ensures access burst k other message lawful place lt (sym here ∙ w)
+          ∙ other_left m.opcode access burst (64 * block_at m.address + place) other,
     )

@@ -1,4 +1,4 @@
-use Rattle.std.proofs.Common.{ap, ap₂, refl, ◌∙◌, ◌≡◌, ◌<◌, ℕ}
+use Rattle.std.proofs.Common.{ap, refl, ◌∙◌, ◌≡◌, ◌<◌, ℕ}
 use Rattle.std.proofs.lemmas.Result.{IfOk-weaker}
 use Rattle.tl_bytes.specs.code.Tellings.{is_written, outlived, telling_at, written_at}
 use Rattle.tl_bytes.{specs.declared.block_bytes.BlockBytes.BlockBytes, specs.statement.Known.tellings_of}
@@ -17,15 +17,14 @@ pub returns : goal.returns
 returns c = λ w n block link y access t k quiet ended found stands now written.
     let old = c.args.self.now in
     let new : BlockBytes =
-    record { latest = c.in_ok-from_slice.field-0; earlier = c.in_ok-outlived.field-0; last = old.last } in
+    record { latest = c.in_ok-with.field-0; earlier = c.in_ok-outlived.field-0; last = old.last } in
     let latest : (p : ℕ) → p < 64
-    → telling_at new.latest.items p ≡ written_at old.latest.items c.args.write.now c.args.moment p =
-    λ p lt. ap (λ l. telling_at l p) c.in_ok-from_slice.ensures.items ∙ c.latest_with-latest.ensures p lt
-    ∙ ap (λ l. written_at l c.args.write.now c.args.moment p) c.as_slice.ensures.value in
-    let earlier : new.earlier.items ≡ outlived old.latest.items old.earlier.items c.args.write.now
+    → telling_at new.latest p ≡ written_at old.latest c.args.write.now c.args.moment p =
+    c.in_ok-with.ensures in
+    let earlier : new.earlier.items ≡ outlived old.latest old.earlier.items c.args.write.now
     c.match-standing.since =
-    c.in_ok-outlived.ensures ∙ ap₂ (λ l m. outlived l m c.args.write.now c.match-standing.since)
-    c.as_slice-2.ensures.value c.as_slice-earlier.ensures.value in
+    c.in_ok-outlived.ensures ∙ ap (λ m. outlived old.latest m c.args.write.now c.match-standing.since)
+    c.as_slice-earlier.ensures.value in
     written-is c.args.write.now c.args.moment n block c.args.standing old new link y access t refl
     (λ p lt. elim c.match-standing.branch [
       | in-Within w ↦ rw w.in-Within.is (written-within c.args.write.now c.args.moment w.in-Within.began p old new lt

@@ -11,7 +11,7 @@ pub loop-place-preserved : goal.loop-place-preserved
 loop-place-preserved c = λ at v lt. one-offered (may_bring c.args.self.now at v)
     (λ q. could_be v (telling_at c.args.latest.now q).value) c.loop-place.place at
     (may_bring c.loop-place.self at v) (may_bring c.offer.new.self at v) (c.loop-place.invariant at v lt)
-    (rw c.last_at.ensures at (c.in_ok-offer.ensures at v))
+    (rw c.at.ensures at (c.in_ok-offer.ensures at v))
 
 pub returns : goal.returns
 returns c = λ at v lt. c.loop-place.invariant at v lt ∙ all-first (may_bring c.args.self.now at v)

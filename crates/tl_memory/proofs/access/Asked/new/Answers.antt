@@ -3,7 +3,7 @@ use Rattle.std.specs.Prelude.{unwrap_or, ◌∷◌, length, ◌*◌}
 use Rattle.tl_beat.specs.declared.beat.Beat.{Beat}
 use Rattle.tl_burst.specs.statement.Burst.{bit}
 use Rattle.tl_bytes.{specs.statement.Bytes.carried_byte, proofs.Brought.width_positive}
-use Rattle.tl_memory.proofs.Payloads.{bit_below, known, wide-bytes, wide-length}
+use Rattle.tl_memory.proofs.{Atomics.atomic_carries, Payloads.bit_below, Payloads.known, Payloads.wide-bytes, Payloads.wide-length}
 use Rattle.tl_memory.proofs.access.Asked.new.Goals as goal
 
 pub returns : goal.returns
@@ -19,10 +19,10 @@ returns g c = λ older k wide room.
       mask_is = k.mask_is;
       spoiled_is = k.spoiled_is;
       moment_is = refl;
-      few = λ carries. omega (arith, wide-length burst (wide carries), room);
-      payload_is = λ carries sound p lt.
+      payload_is = λ atomic sound p lt.
+          let carries = atomic_carries c.args.x.now.opcode atomic in
           let inside : p < 64 = omega (arith, wide-length burst (wide carries), room, lt) in
-          c.payload_asked.ensures carries p inside
+          c.payload_asked.ensures atomic p inside
           ∙ ap (λ o. unwrap_or o 0) (c.bytes.ensures g.row.W burst k.bytes_are p inside)
           ∙ known (carried_byte burst p) _
           (wide-bytes burst (width_positive g.row.W c.requires.width) (wide carries) sound p lt);

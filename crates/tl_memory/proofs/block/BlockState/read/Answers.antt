@@ -6,14 +6,14 @@ use Rattle.tl_memory.proofs.States.{expects-none, expects-some, is-found, none-f
 use Rattle.tl_memory.proofs.block.BlockState.read.Goals as goal
 
 pub returns-in_default : goal.returns-in_default
-returns-in_default g c = λ n block t k to.
+returns-in_default g c = λ n block t k to other.
     let s = c.args.self.now in
     let found = finds c.args.link.0 c.args.source (open_for s.free) n block t s.accesses.items k.accesses_are to in
     let none : None ≡ find (is_named c.args.link.0 c.args.source) s.accesses.items = search rules in
     expects-none n block _ t (none-found _ (open_for s.free) n block _ t none found)
 
 pub returns : goal.returns
-returns g c = λ n block t k to.
+returns g c = λ n block t k to other.
     let s = c.args.self.now in
     let found = finds c.args.link.0 c.args.source (open_for s.free) n block t s.accesses.items k.accesses_are to in
     let there : Some c.in-Some.access.now
@@ -25,4 +25,4 @@ returns g c = λ n block t k to.
       address = c.in_ok-renewed.renewed.writer.asked.request.address;
       size = c.in_ok-renewed.renewed.writer.asked.request.size;
       bytes = c.in_ok-renewed.renewed.read;
-    }) c.in_ok-renewed.renewed n block one.0 _ t one.1 kept refl refl refl
+    }) c.in_ok-renewed.renewed n block one.0 _ t one.1 kept refl refl refl other

@@ -1,8 +1,9 @@
-use Rattle.std.proofs.Common.{rules, refl, ◌≡◌, find}
+use Rattle.std.proofs.Common.{rules, refl, true, ◌≡◌, find}
+use Rattle.tl_bytes.specs.statement.Bytes.{is_get}
 use Rattle.std.specs.Prelude.{None, Some}
 use Rattle.std.proofs.lemmas.Result.{IfOk-weaker}
 use Rattle.tl_memory.{specs.code.Writers.is_named, specs.statement.Known.open_for, proofs.Keeping.finds}
-use Rattle.tl_memory.proofs.States.{again-get, again-none, again-other, is-found, none-found}
+use Rattle.tl_memory.proofs.States.{again-get, again-none, again-other, get-no_put, is-found, none-found}
 use Rattle.tl_memory.proofs.block.BlockState.read_again.Goals as goal
 
 pub returns-in_default : goal.returns-in_default
@@ -28,4 +29,6 @@ returns g c = IfOk-weaker c.read.result _ _ (λ expected h n block t k to.
     let there : Some c.in-Some.access.now
     ≡ find (is_named c.args.link.0 c.args.source) s.accesses.items = search rules in
     let one = is-found c.in-Some.access.now _ (open_for s.free) n block _ t there found to in
-    again-get expected n block one.0 _ t one.1 one.3 (search rules) (h n block t k to)) c.read.ensures
+    let get : is_get one.0.request.opcode ≡ true = search rules in
+    again-get expected n block one.0 _ t one.1 one.3 get (h n block t k to (get-no_put one.0 _ one.1 get)))
+    c.read.ensures

@@ -1,11 +1,11 @@
 use Rattle.std.proofs.Common.{◌≡◌, ◌<◌, ℕ, length}
 use Rattle.std.specs.Prelude.{None, slice_index_or}
-use Rattle.tl_bytes.specs.code.Tellings.{telling_at}
-use Rattle.tl_bytes.proofs.tellings.latest_told.Given as goal
+use Rattle.tl_bytes.specs.code.Tellings.{written_at}
+use Rattle.tl_bytes.proofs.latest.Latest.values_with.Given as goal
 
 abbrev pub invariant-loop-place : goal.invariant-loop-place
 invariant-loop-place l = record {
-  long : length l.all ≡ 64;
+  long : length l.values ≡ 64;
   filled : (p : ℕ) → p < l.place
-      → telling_at l.all p ≡ record { value = slice_index_or l.values p None; moment = l.moment };
+      → slice_index_or l.values p None ≡ (written_at l.self l.write l.moment p).value;
 }

@@ -14,21 +14,21 @@ use Rattle.tl_beat.specs.declared.opcode.OpC.{OpC}
 use Rattle.tl_beat.specs.declared.opcode.OpC.TheVariants as c
 use Rattle.tl_beat.specs.statement.Control.{control_of}
 use Rattle.tl_chart.specs.code.Gathered.{Gathers}
-use Rattle.tl_chart.specs.code.Lasting.{AreLasting, asks, is_lasting, lets_go}
+use Rattle.tl_chart.specs.code.Lasting.{AreLasting, asks, lets_go}
 use Rattle.tl_chart.specs.code.Moment.{IsMoment}
 use Rattle.tl_chart.specs.declared.arrow.Arrow.{Arrow}
 use Rattle.tl_chart.specs.declared.arrow.Moment.{Moment}
 use Rattle.tl_chart.specs.declared.gatherer.Gatherer.{Gatherer}
 use Rattle.tl_chart.specs.declared.window.Window.{Window}
-use Rattle.tl_chart.specs.statement.Drawn.{Drawn, answers, closes, drawn, drawn_more, is_open, skipped}
-use Rattle.tl_chart.specs.statement.Drawn.{starts, wants_answer, with_beat, within}
+use Rattle.tl_chart.specs.statement.Drawn.{Drawn, Holding, answers, closes, drawn, drawn_more, is_open, noted}
+use Rattle.tl_chart.specs.statement.Drawn.{noted_by, skipped, starts, wants_answer, with_beat, within}
 use Rattle.tl_chart.specs.statement.Messages.{continued, is_of, message_block, message_from}
 use Rattle.tl_explain.specs.statement.Evidence.{next_line}
 use Rattle.tl_rules.specs.statement.Conformance.{Trace, on_link}
 use Rattle.tl_rules.specs.statement.History.{begins, ends, is_probe_ack, is_release}
 
 abbrev Last : List Arrow → Type 0
-Last arrows = All (λ m. is_lasting m ≡ true) arrows
+Last arrows = All (λ m. is_open m ≡ true) arrows
 
 -- a list of which each passes a test
 filter_all : {X : Type 0} (p : X → Bool) (xs : List X) → All (λ x. p x ≡ true) xs → filter p xs ≡ xs
@@ -76,15 +76,15 @@ none_answered true true x block m of e = asks_only x block m of (not-false (asks
 none_answered false true x block m of e = absurd cc
 
 begun_lasts : {w : ℕ} (last : Bool) (x : Beat w) → (last && not (asks x)) ≡ false
-    → (not last || wants_answer (control_of x)) ≡ true
+    → (not last || (wants_answer (control_of x) && true)) ≡ true
 begun_lasts false x e = refl
-begun_lasts true x e = asks_wants x (not-false (asks x) e)
+begun_lasts true x e = rw (asks_wants x (not-false (asks x) e)) refl
 
 continued_lasts : {w : ℕ} (x : Link × Beat w) (t : Trace w) (m : Arrow) → ends x.1 (on_link x.0.0 t) ≡ false
-    → is_lasting m ≡ true → is_lasting (continued x t m) ≡ true
+    → is_open m ≡ true → is_open (continued x t m) ≡ true
 continued_lasts x t m over lasts =
     cond_both (is_of x m) (record m { last = next_line t; complete = ends x.1 (on_link x.0.0 t) }) m
-    (λ n. is_lasting n ≡ true) (λ is. rw over refl) (λ is. lasts)
+    (λ n. is_open n ≡ true) (λ is. rw over refl) (λ is. lasts)
 
 -- what is drawn lasts behind it
 all_with : {w : ℕ} (win : Window) (x : Link × Beat w) (t : Trace w) (arrows : List Arrow)
@@ -98,21 +98,28 @@ all_with win x t arrows none lasting =
         → Last (if first then (if shown then arrows ++ message_from x t ∷ [] else arrows) else
         map (continued x t) arrows)
     go true last true is e =
-        let begun : is_lasting (message_from x t) ≡ true = rw is (begun_lasts last x.1 e) in
-        All-push (λ m. is_lasting m ≡ true) arrows (message_from x t) lasting begun
+        let begun : is_open (message_from x t) ≡ true = rw is (begun_lasts last x.1 e) in
+        All-push (λ m. is_open m ≡ true) arrows (message_from x t) lasting begun
     go true last false is e = lasting
     go false false shown is e =
-        All-map (λ m. is_lasting m ≡ true) (continued x t) arrows
-        (All-weaker (λ m. is_lasting m ≡ true) (λ m. is_lasting (continued x t m) ≡ true)
+        All-map (λ m. is_open m ≡ true) (continued x t) arrows
+        (All-weaker (λ m. is_open m ≡ true) (λ m. is_open (continued x t m) ≡ true)
         (λ m lasts. continued_lasts x t m is lasts) arrows lasting)
     go false true shown is e = absurd cc
 
-open_still : (complete wants same answered : Bool) → answered ≡ false → (not complete || wants) ≡ true
-    → (not complete || (wants && not (same && answered))) ≡ true
-open_still false wants same answered none lasts = refl
-open_still true true true answered none lasts = rw none refl
-open_still true true false answered none lasts = refl
-open_still true false same answered none lasts = absurd cc
+unanswered : (before same : Bool) → (before || (same && false)) ≡ before
+unanswered true same = refl
+unanswered false true = refl
+unanswered false false = refl
+
+-- a message that a beat doesn't answer is as it was
+noted_not : {w : ℕ} (link : Link) (last : Bool) (x : Beat w) (block : Option ℕ) (m : Arrow)
+    → (last && answers x block m.control m.block) ≡ false → noted_by link last x block m ≡ m
+noted_not link last x block m none = rw (none, unanswered m.answered (m.link.0 == link.0)) refl
+
+map_none : {X : Type 0} (f : X → X) (xs : List X) → ((x : X) → f x ≡ x) → map f xs ≡ xs
+map_none f [] same = refl
+map_none f (x ∷ xs) same = ap₂ (λ y ys. y ∷ ys) (same x) (map_none f xs same)
 
 -- so all of it stays
 pub all_stays : {w : ℕ} (win : Window) (m : Moment) (x : Link × Beat w) (t : Trace w) (arrows : List Arrow)
@@ -122,13 +129,13 @@ all_stays win m x t arrows is nothing before lasting =
     let none : (ends x.1 (on_link x.0.0 t) && not (begins x.1 (on_link x.0.0 t) && asks x.1)) ≡ false =
     sym (ap₂ (λ (first last : Bool). last && not (first && asks x.1)) is.first_is is.last_is) ∙ nothing in
     let early : nat_lt (next_line t) win.first ≡ true = rw (← is.line_is) (lt-ltb m.line win.first before) in
-    let still : All (λ n. is_open x t n ≡ true) (with_beat win x t arrows) =
-    All-weaker (λ n. is_lasting n ≡ true) (λ n. is_open x t n ≡ true)
-    (λ n lasts. open_still n.complete (wants_answer n.control) (n.link.0 == x.0.0) _
+    let as_were : map (noted x t) (with_beat win x t arrows) ≡ with_beat win x t arrows =
+    map_none (noted x t) (with_beat win x t arrows)
+    (λ n. noted_not x.0 (ends x.1 (on_link x.0.0 t)) x.1 (message_block x.1 (on_link x.0.0 t)) n
     (none_answered (begins x.1 (on_link x.0.0 t)) (ends x.1 (on_link x.0.0 t)) x.1
-    (message_block x.1 (on_link x.0.0 t)) n.control n.block none) lasts)
-    (with_beat win x t arrows) (all_with win x t arrows none (lasting before)) in
-    rw early (sym (filter_all (is_open x t) (with_beat win x t arrows) still))
+    (message_block x.1 (on_link x.0.0 t)) n.control n.block none)) in
+    rw (early, as_were)
+    (sym (filter_all is_open (with_beat win x t arrows) (all_with win x t arrows none (lasting before))))
 
 -- from the window's first line on all of it stays
 pub all_inside : {w : ℕ} (win : Window) (m : Moment) (x : Link × Beat w) (t : Trace w) (arrows : List Arrow)
@@ -139,33 +146,25 @@ all_inside win m x t arrows is inside =
 
 -- ---- what is drawn before the window
 
-open_lasts : (complete wants other : Bool) → (not complete || (wants && other)) ≡ true
-    → (not complete || wants) ≡ true
-open_lasts false wants other e = refl
-open_lasts true true other e = refl
-open_lasts true false other e = absurd cc
-
 all_within : {w : ℕ} (win : Window) (x : Link × Beat w) (t : Trace w) (arrows : List Arrow)
     → next_line t < win.first → Last (within win x t arrows)
 all_within win x t arrows before =
-    rw (lt-ltb (next_line t) win.first before)
-    (All-weaker (λ m. is_open x t m ≡ true) (λ m. is_lasting m ≡ true)
-    (λ m still. open_lasts m.complete (wants_answer m.control) _ still)
-    (filter (is_open x t) arrows) (filter_passes (is_open x t) arrows))
+    rw (lt-ltb (next_line t) win.first before) (filter_passes is_open (map (noted x t) arrows))
 
-all_last : {w : ℕ} (win : Window) (t : Trace w) → next_line t ≤ win.first → Last (drawn win t).arrows
+all_last : {w : ℕ} (held : Holding w) (win : Window) (t : Trace w) → next_line t ≤ win.first
+    → Last (drawn held win t).arrows
 unfolding drawn
-all_last win [] le = All-nil (λ m. is_lasting m ≡ true)
-all_last win (x ∷ t) le =
+all_last held win [] le = All-nil (λ m. is_open m ≡ true)
+all_last held win (x ∷ t) le =
     let before : next_line t < win.first = omega (arith, le) in
-    cond_both (closes win (drawn win t) (next_line t) (starts win x t)) (skipped (starts win x t) (drawn win t))
-    (drawn_more win x t (drawn win t)) (λ (d : Drawn). Last d.arrows)
-    (λ closed. all_last win t (omega (arith, le)))
-    (λ on. all_within win x t (with_beat win x t (drawn win t).arrows) before)
+    cond_both (closes win (drawn held win t) (next_line t) (starts win x t))
+    (skipped (starts win x t) (drawn held win t)) (drawn_more held win x t (drawn held win t))
+    (λ (d : Drawn). Last d.arrows) (λ closed. all_last held win t (omega (arith, le)))
+    (λ on. all_within win x t (with_beat win x t (drawn held win t).arrows) before)
 
-pub gathered_last : {w : ℕ} (g : Gatherer) (t : Trace w) (line : ℕ) → line ≡ next_line t → Gathers g t
-    → AreLasting g.window line g.arrows.items
-gathered_last g t line is had = λ before.
-    let same : g.arrows.items ≡ (drawn g.window t).arrows = ap (λ (d : Drawn). d.arrows) had.drawn_is in
-    All-same (λ m. is_lasting m ≡ true) g.arrows.items (drawn g.window t).arrows same
-    (all_last g.window t (omega (arith, is, before)))
+pub gathered_last : {w : ℕ} (held : Holding w) (g : Gatherer) (t : Trace w) (line : ℕ) → line ≡ next_line t
+    → Gathers held g t → AreLasting g.window line g.arrows.items
+gathered_last held g t line is had = λ before.
+    let same : g.arrows.items ≡ (drawn held g.window t).arrows = ap (λ (d : Drawn). d.arrows) had.drawn_is in
+    All-same (λ m. is_open m ≡ true) g.arrows.items (drawn held g.window t).arrows same
+    (all_last held g.window t (omega (arith, is, before)))

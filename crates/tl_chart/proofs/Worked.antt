@@ -83,27 +83,32 @@ abbrev lines : ℕ → ℕ → Option ℕ → Window
 lines first last block = record { first = first; last = last; most = 200; block = block }
 
 -- the request whose answer is on its way, and the answer
-before_a_window : map told (drawn (lines 5 6 None) acquired).arrows ≡ (1, 2, 2, true) ∷ (4, 3, 6, true) ∷ []
+before_a_window : map told (drawn held (lines 5 6 None) acquired).arrows ≡ (1, 2, 2, true) ∷ (4, 3, 6, true) ∷ []
 unfolding drawn block_granted on_link unfinished request_of release_of
 before_a_window = refl
 
 -- the GrantAck is behind it
-behind_a_window : (drawn (lines 5 6 None) acquired).more ≡ 1
+behind_a_window : (drawn held (lines 5 6 None) acquired).more ≡ 1
 unfolding drawn block_granted on_link unfinished request_of release_of
 behind_a_window = refl
 
 -- the request has been answered, the Grant hasn't been acknowledged
-answered_before_a_window : map told (drawn (lines 7 9 None) acquired).arrows ≡ (4, 3, 6, true) ∷ (1, 7, 7, true) ∷ []
+answered_before_a_window : map told (drawn held (lines 7 9 None) acquired).arrows ≡ (4, 3, 6, true) ∷ (1, 7, 7, true) ∷ []
 unfolding drawn block_granted on_link unfinished request_of release_of
 answered_before_a_window = refl
 
 -- what is held of a block at the beginning of a window, since the last beat of its Grant
-held_before_a_window : (drawn (lines 7 9 (Some 0)) acquired).marks
+held_before_a_window : (drawn held (lines 7 9 (Some 0)) acquired).marks
     ≡ record { link = record { 0 = 0 }; line = 6; held = perm.Trunk } ∷ []
 unfolding drawn block_granted on_link unfinished request_of release_of probe_of grant_sink pending held
 held_before_a_window = refl
 
+-- the GrantAck of a Grant that hasn't ended: behind its last beat nothing of it is left to come
+answered_early : (drawn held (lines 8 9 None) (grant ∷ grant_ack ∷ grant ∷ grant ∷ grant ∷ acquire ∷ [])).arrows ≡ []
+unfolding drawn block_granted on_link unfinished request_of release_of
+answered_early = refl
+
 -- nothing is drawn that speaks of another block
-another_block : (drawn (lines 2 9 (Some 1)) acquired).arrows ≡ []
+another_block : (drawn held (lines 2 9 (Some 1)) acquired).arrows ≡ []
 unfolding drawn block_granted on_link unfinished request_of release_of
 another_block = refl

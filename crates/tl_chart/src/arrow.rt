@@ -27,6 +27,8 @@ pub struct Arrow {
     pub first: u64,
     pub last: u64,
     pub complete: bool,
+    /// Whether its answer came before the lines that are drawn.
+    pub answered: bool,
 }
 
 /// A beat of a trace: its link, the number of its line, whether it begins a message, and whether one is
@@ -134,19 +136,23 @@ impl Arrow {
         }
     }
 
-    /// Whether a beat of the message is missing behind this one, whose message is of this block, or its
-    /// answer.
-    pub fn is_open<const W: usize>(
-        &self,
-        moment: &Moment,
-        beat: &Beat<W>,
-        block: Option<u32>,
-    ) -> bool
-        ensures { result ≡ Drawn.open_by moment.now.link moment.now.last beat.now block self.now }
+    /// The message, which a beat may answer, whose message is of this block.
+    pub fn noted<const W: usize>(self, moment: &Moment, beat: &Beat<W>, block: Option<u32>) -> Arrow
+        ensures { result ≡ Drawn.noted_by moment.now.link moment.now.last beat.now block self }
     {
         let answered = self.link.0 == moment.link.0
             && moment.last
             && answers(beat, block, &self.control, self.block);
-        !self.complete || !answered && wants_answer(&self.control)
+        Arrow {
+            answered: self.answered || answered,
+            ..self
+        }
+    }
+
+    /// Whether a beat of the message is missing, or its answer.
+    pub fn is_open(&self) -> bool
+        ensures { result ≡ Drawn.is_open self.now }
+    {
+        !self.complete || wants_answer(&self.control) && !self.answered
     }
 }

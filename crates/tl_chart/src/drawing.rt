@@ -6,7 +6,7 @@ ghost use Rattle.tl_beat.specs.statement.Width.{IsWidth};
 ghost use Rattle.tl_chart.specs.code.Gathered.{marked};
 ghost use Rattle.tl_chart.specs.code.Lasting.{AreLasting};
 ghost use Rattle.tl_chart.specs.code.Moment.{IsMoment, change_of};
-ghost use Rattle.tl_chart.specs.statement.Drawn.{is_open, marks_with, open_by, with_beat, within};
+ghost use Rattle.tl_chart.specs.statement.Drawn.{Holding, is_open, marks_with, noted, noted_by, with_beat, within};
 ghost use Rattle.tl_chart.specs.statement.Messages.{beats_in, continued, fault_from, message_block, message_from};
 ghost use Rattle.tl_explain.specs.statement.Evidence.{next_line};
 ghost use Rattle.tl_rules.specs.statement.Conformance.{Trace, on_link};
@@ -47,6 +47,7 @@ fn arrow_from<const W: usize>(moment: &Moment, beat: &Beat<W>, block: Option<u32
         first: moment.line,
         last: moment.line,
         complete: moment.last,
+        answered: false,
     }
 }
 
@@ -69,6 +70,7 @@ pub fn fault_from<const W: usize>(
         first: line,
         last: line,
         complete: true,
+        answered: false,
     }
 }
 
@@ -91,12 +93,17 @@ fn keep_open<const W: usize>(
     block: Option<u32>,
 )
     ensures { arrows.new.items
-        ≡ filter (open_by moment.now.link moment.now.last beat.now block) arrows.old.items }
+        ≡ filter is_open (map (noted_by moment.now.link moment.now.last beat.now block) arrows.old.items) }
 {
-    arrows.retain(
+    arrows.retain_mut(
         |earlier|
-            ensures { result ≡ open_by moment.entry.now.link moment.entry.now.last beat.entry.now block earlier.now }
-        { earlier.is_open(moment, beat, block) },
+            ensures noted { earlier.new ≡ noted_by moment.entry.now.link moment.entry.now.last beat.entry.now block
+                earlier.old }
+            ensures kept { result ≡ is_open earlier.new }
+        {
+            *earlier = earlier.noted(moment, beat, block);
+            earlier.is_open()
+        },
     );
 }
 
@@ -160,9 +167,9 @@ fn draw_open<const W: usize>(
     requires { IsWidth W }
     ensures { OnOk result ((t : Trace W) → IsMoment moment.now (moment.now.link, beat.now) t →
         block ≡ message_block beat.now (on_link moment.now.link.0 t) →
-        filter (is_open (moment.now.link, beat.now) t) arrows.new.items
-        ≡ filter (is_open (moment.now.link, beat.now) t)
-        (with_beat window (moment.now.link, beat.now) t arrows.old.items)) }
+        filter is_open (map (noted (moment.now.link, beat.now) t) arrows.new.items)
+        ≡ filter is_open (map (noted (moment.now.link, beat.now) t)
+        (with_beat window (moment.now.link, beat.now) t arrows.old.items))) }
 {
     if moment.first && moment.last && !wants_answer(&beat.control()) {
         return Ok(());
@@ -220,9 +227,9 @@ pub fn draw_change(
     moment: &Moment,
     change: Option<Perm>,
 ) -> Result<(), AllocError>
-    ensures { OnOk result ((w : ℕ) (beat : Beat w) (t : Trace w) → IsMoment moment.now (moment.now.link, beat) t →
-        change ≡ change_of window.block (moment.now.link, beat) t →
-        marks.new.items ≡ marks_with window (moment.now.link, beat) t marks.old.items) }
+    ensures { OnOk result ((w : ℕ) (held : Holding w) (beat : Beat w) (t : Trace w) →
+        IsMoment moment.now (moment.now.link, beat) t → change ≡ change_of held window.block (moment.now.link, beat) t →
+        marks.new.items ≡ marks_with held window (moment.now.link, beat) t marks.old.items) }
 {
     match change {
         None => Ok(()),

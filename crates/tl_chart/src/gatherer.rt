@@ -7,7 +7,7 @@ ghost use Rattle.tl_beat.specs.statement.Width.{IsWidth};
 ghost use Rattle.tl_chart.specs.code.Gathered.{CarryAll, Gathers, KnowLinks, drawn_of, is_over, watched};
 ghost use Rattle.tl_chart.specs.code.Lasting.{AreLasting};
 ghost use Rattle.tl_chart.specs.code.Moment.{IsMoment, change_of};
-ghost use Rattle.tl_chart.specs.statement.Drawn.{closes, drawn_more, fault_drawn, shows, skipped};
+ghost use Rattle.tl_chart.specs.statement.Drawn.{Holding, closes, drawn_more, fault_drawn, shows, skipped};
 ghost use Rattle.tl_chart.specs.statement.Messages.{message_block};
 ghost use Rattle.tl_explain.specs.statement.Evidence.{next_line};
 ghost use Rattle.tl_rules.specs.statement.Conformance.{Trace, on_link};
@@ -78,7 +78,7 @@ fn is_start(window: Window, moment: &Moment, block: Option<u32>) -> bool
 impl Gatherer {
     /// Nothing has been read but the header of a trace with so many links.
     pub fn new(alloc: Global, count: usize, window: Window) -> Result<Self, AllocError>
-        ensures gathers { IfOk result (λ g. (w : ℕ) → Gathers {w = w} g []) }
+        ensures gathers { IfOk result (λ g. (w : ℕ) (held : Holding w) → Gathers held g []) }
         ensures window { IfOk result (λ g. g.window ≡ window) }
         ensures many { IfOk result (λ g. length g.links.items ≡ count) }
     {
@@ -148,11 +148,12 @@ impl Gatherer {
         change: Option<Perm>,
     ) -> Result<(), AllocError>
         requires { IsWidth W }
-        ensures drawn { OnOk result ((t : Trace W) → IsMoment moment.now (moment.now.link, beat.now) t →
+        ensures drawn { OnOk result ((held : Holding W) (t : Trace W) →
+            IsMoment moment.now (moment.now.link, beat.now) t →
             block ≡ message_block beat.now (on_link moment.now.link.0 t) →
-            change ≡ change_of self.old.window.block (moment.now.link, beat.now) t →
+            change ≡ change_of held self.old.window.block (moment.now.link, beat.now) t →
             self.old.closed ≡ false → AreLasting self.old.window moment.now.line self.old.arrows.items →
-            drawn_of self.new ≡ drawn_more self.old.window (moment.now.link, beat.now) t (drawn_of self.old)) }
+            drawn_of self.new ≡ drawn_more held self.old.window (moment.now.link, beat.now) t (drawn_of self.old)) }
         ensures window { self.new.window ≡ self.old.window }
         ensures links { self.new.links ≡ self.old.links }
     {
@@ -165,8 +166,9 @@ impl Gatherer {
     /// Takes the next beat of the trace, which breaks no rule, where nothing is drawn any more: whether it
     /// begins a message of its link.
     pub fn count(&mut self, first: bool) -> Result<(), AllocError>
-        ensures gathers { OnOk result ((w : ℕ) (x : Link × Beat w) (t : Trace w) → is_over self.old ≡ true →
-            first ≡ begins x.1 (on_link x.0.0 t) → Gathers self.old t → Gathers self.new (x ∷ t)) }
+        ensures gathers { OnOk result ((w : ℕ) (held : Holding w) (x : Link × Beat w) (t : Trace w) →
+            is_over self.old ≡ true → first ≡ begins x.1 (on_link x.0.0 t) → Gathers held self.old t →
+            Gathers held self.new (x ∷ t)) }
         ensures window { self.new.window ≡ self.old.window }
         ensures links { self.new.links ≡ self.old.links }
     {
@@ -184,10 +186,10 @@ impl Gatherer {
         change: Option<Perm>,
     ) -> Result<(), AllocError>
         requires { IsWidth W }
-        ensures gathers { OnOk result ((t : Trace W) → IsMoment moment.now (moment.now.link, beat.now) t →
-            moment.now.link.0 < length self.old.links.items →
-            change ≡ change_of (watched self.old) (moment.now.link, beat.now) t →
-            Gathers self.old t → Gathers self.new ((moment.now.link, beat.now) ∷ t)) }
+        ensures gathers { OnOk result ((held : Holding W) (t : Trace W) →
+            IsMoment moment.now (moment.now.link, beat.now) t → moment.now.link.0 < length self.old.links.items →
+            change ≡ change_of held (watched self.old) (moment.now.link, beat.now) t →
+            Gathers held self.old t → Gathers held self.new ((moment.now.link, beat.now) ∷ t)) }
         ensures window { OnOk result (self.new.window ≡ self.old.window) }
         ensures many { OnOk result (length self.new.links.items ≡ length self.old.links.items) }
     {
@@ -206,8 +208,8 @@ impl Gatherer {
     /// The beat of the next line, which is at fault, where it is drawn.
     pub fn fault_of<const W: usize>(&self, link: Link, line: u64, beat: &Beat<W>) -> Option<Arrow>
         requires { IsWidth W }
-        ensures { (t : Trace W) → line ≡ next_line t → Gathers self.now t →
-            result ≡ fault_drawn self.now.window (link, beat.now) t }
+        ensures { (held : Holding W) (t : Trace W) → line ≡ next_line t → Gathers held self.now t →
+            result ≡ fault_drawn held self.now.window (link, beat.now) t }
     {
         if self.closes(line, false) || line < self.window.first {
             return None;

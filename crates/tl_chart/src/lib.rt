@@ -7,6 +7,7 @@ pub mod chart;
 mod draw;
 mod drawing;
 pub mod gatherer;
+pub mod law;
 pub mod layout;
 pub mod mark;
 mod style;

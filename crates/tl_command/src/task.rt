@@ -29,9 +29,16 @@ pub enum Task {
         report: Option<String>,
         junit: Option<String>,
     },
-    /// A chart of the trace in the file of this name, or on standard input.
+    /// A chart of the trace in the file of this name, or on standard input, whose links may do this besides what the header
+    /// names.
     Chart {
         range: Range,
+        allow: Liberties,
+        file: Option<String>,
+    },
+    /// The situations that the trace in the file of this name, or on standard input, has been in, as text or in JSON.
+    Cover {
+        json: bool,
         file: Option<String>,
     },
     /// A random schedule.

@@ -1,20 +1,17 @@
 -- What a trace is judged, line by line.
 use Rattle.std.proofs.Common.{◌≡◌, ◌≤◌, ℕ, ◌+◌, ◌*◌, ◌-◌, List, [], ◌∷◌, ◌++◌, length, true, false, refl, ap, ◌∙◌, arith}
-use Rattle.std.proofs.Common.{append_assoc, length-append, inl, inr}
+use Rattle.std.proofs.Common.{length-append, inl, inr}
 use Rattle.std.specs.declared.alloc.Global.{Global}
-use Rattle.std.specs.Prelude.{◌⊎◌, Bool, IfOk, IsTrue, Option, Some, None, Result, Ok, Err}
-use Rattle.std.proofs.lemmas.List.{append-nil}
+use Rattle.std.specs.Prelude.{Bool, IfOk, IsTrue, Option, Some, None, Result, Ok, Err}
 use Rattle.std.specs.Io.BufRead.{ends_with_byte}
 use Rattle.tl_beat.specs.declared.beat.Link.{Link}
 use Rattle.tl_beat.specs.declared.beat.Beat.{Beat}
-use Rattle.tl_beat.specs.declared.fault.LineFault.{LineFault}
 use Rattle.tl_beat.specs.declared.fault.LineFault.TheVariants.{F1}
-use Rattle.tl_beat.specs.statement.Line.{Spells, line_fault}
+use Rattle.tl_beat.specs.statement.Line.{Spells}
 use Rattle.tl_params.specs.declared.header.Version.{Version}
 use Rattle.tl_params.specs.declared.level.Level.{Level}
 use Rattle.tl_params.specs.declared.profile.Profile.{Profile}
 use Rattle.tl_params.specs.declared.width.Width.{Width}
-use Rattle.tl_params.specs.declared.width.Width.TheVariants as width
 use Rattle.tl_params.specs.statement.Header.{level_text, version_text}
 use Rattle.tl_params.proofs.Headers.{level-short, version-short}
 use Rattle.tl_rules.specs.statement.Conformance.{Trace}
@@ -28,14 +25,13 @@ use Rattle.tl_engine.specs.declared.monitor_lines.MonitorLines.TheVariants.{Wait
 use Rattle.tl_engine.specs.statement.Coherent.{coherent_text}
 use Rattle.tl_engine.specs.statement.Decoded.{is_width}
 use Rattle.tl_engine.specs.statement.Fault.{fault_text}
-use Rattle.tl_engine.specs.statement.Judged.{Faults, IsAtFault, JudgedAfter, JudgedBy, clean_text}
+use Rattle.tl_engine.specs.statement.Judged.{clean_text}
 use Rattle.tl_engine.specs.code.Judging.{IsTotal, Judges, Stops, Finishes}
 use Rattle.tl_engine.specs.code.Lines.{IsOpen}
 use Rattle.tl_engine.specs.statement.Trace.{levels_text, header_line, trace_word, SpellsHeader}
 use Rattle.tl_engine.specs.code.Watching.{JudgedSo, JudgesBeat, KnowsBeats, KnowsLines, KnowsTrace, Watches}
 use Rattle.tl_engine.specs.code.Watching.{end_by, faults_by, is_together, said_by}
-use Rattle.tl_engine.specs.statement.Width.{bytes_of}
-use Rattle.tl_engine.proofs.Decoded.{judged_line, open_fault}
+use Rattle.tl_engine.proofs.Decoded.{open_fault}
 use Rattle.tl_engine.proofs.Headers.{header_or_none}
 use Rattle.tl_engine.proofs.JudgedTraces.{all_judged, bad_line, good_beat, header_unread, header_unseen, judged_behind}
 use Rattle.tl_engine.proofs.JudgedTraces.{judged_whole}
@@ -65,7 +61,7 @@ said_at_end false n = refl
 said_at_end true n = refl
 
 -- the end of the input
-pub beats_end : {w : ℕ} (together : Bool) (judge : BeatJudge w) (count : ℕ) (lines : List (List ℕ)) (before was is : List ℕ)
+beats_end : {w : ℕ} (together : Bool) (judge : BeatJudge w) (count : ℕ) (lines : List (List ℕ)) (before was is : List ℕ)
     → is ≡ was ++ end_by together (count - 1) → KnowsTrace together judge lines (before ++ was)
     → count ≡ length lines → JudgedSo together lines (before ++ is) Clean
 beats_end together judge count lines before was is says k counted =
@@ -114,7 +110,7 @@ module _ {w : ℕ} (n : ℕ) (wrap : BeatJudge w → MonitorLines n)
 -- ---- where a header has been read
 
 -- a line with no LF at its end or of more than 256 bytes is no beat's
-pub unread : {w : ℕ} (together : Bool) (judge : BeatJudge w) (lines : List (List ℕ))
+unread : {w : ℕ} (together : Bool) (judge : BeatJudge w) (lines : List (List ℕ))
     (before said line : List ℕ) (k : KnowsTrace together judge lines (before ++ said)) → IsOpen line
     → (more : List (List ℕ))
     → JudgedSo together (lines ++ line ∷ more) (before ++ (said ++ fault_text (length lines + 1) (Line F1))) Broken

@@ -102,7 +102,8 @@ module _ {w : ℕ} (together : Bool) (allow : Liberties) (wrap : TraceJudge w �
 
 -- ---- where a header has been read
 
-open_so : {w : ℕ} (together : Bool) (allow : Liberties) (m : TraceJudge w) (lines : List (List ℕ)) (before said line : List ℕ)
+-- the next line has no LF, or is too long
+pub open_so : {w : ℕ} (together : Bool) (allow : Liberties) (m : TraceJudge w) (lines : List (List ℕ)) (before said line : List ℕ)
     (k : KnowsTrace together allow m lines (before ++ said)) → IsOpen line → (more : List (List ℕ))
     → JudgedLinks together allow (lines ++ line ∷ more) (before ++ (said ++ fault_text (length lines + 1) (Line F1))) Broken
 open_so {w} together allow m lines before said line k is =
@@ -122,7 +123,8 @@ pub open_beat : (h : LinkLines) → ((alloc : Global) → h.judge ≡ Waiting al
     → (line said : List ℕ) → IsOpen line → Stops KnowsLines (JudgedLinks h.together h.allow) h line said said (Line F1)
 open_beat h read line said is = λ lines before k. open_after h.together h.allow h.judge read lines before said line k is
 
-end_so : {w : ℕ} (together : Bool) (allow : Liberties) (m : TraceJudge w) (count : ℕ) (lines : List (List ℕ)) (before was is : List ℕ)
+-- the lines end
+pub end_so : {w : ℕ} (together : Bool) (allow : Liberties) (m : TraceJudge w) (count : ℕ) (lines : List (List ℕ)) (before was is : List ℕ)
     → is ≡ was ++ end_by together (count - 1) → KnowsTrace together allow m lines (before ++ was) → count ≡ length lines
     → JudgedLinks together allow lines (before ++ is) Clean
 end_so together allow m count lines before was is says k counted =

@@ -24,7 +24,6 @@ mod PlayedOnce
 pub mod Playing
 pub mod SaidLines
 pub mod SoFar
-pub mod Within
 pub mod Writable
 pub mod Hearing
 pub mod Testifying

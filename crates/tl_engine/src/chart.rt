@@ -1,12 +1,12 @@
 //! Draws a recorded trace, which is read once.
 
-ghost use Rattle.std.specs.Prelude.{◌≡◌, ◌≢◌, ◌++◌, ◌-◌, [], ℕ, List, IfErr, IfOk, codes, length, take};
+ghost use Rattle.std.specs.Prelude.{◌≡◌, ◌≢◌, ◌++◌, ◌-◌, [], ℕ, List, IfErr, IfOk, codes, false, length, take};
 ghost use Rattle.std.specs.Io.KnownBytes.{Appends, Consumes};
 ghost use Rattle.tl_engine.specs.code.Charting.{EndsChart};
 ghost use Rattle.tl_engine.specs.code.Lines.{lines_of};
 ghost use Rattle.tl_engine.specs.code.Run.{EndsAs};
 ghost use Rattle.tl_engine.specs.statement.Charted.{Charts, GivesUpCharting, IsCharted, is_broken};
-ghost use Rattle.tl_engine.specs.statement.Judged.{Judged};
+ghost use Rattle.tl_engine.specs.statement.JudgedLinks.{JudgedLinks};
 ghost use Rattle.tl_engine.specs.declared.status.ToolFault.{ToolFault};
 
 use crate::charting::ChartLines;
@@ -19,6 +19,7 @@ use std::io::{Read, Write};
 use tl_chart::chart::{Verdict, append_chart};
 pub use tl_chart::window::Window;
 use tl_command::chart::Range;
+use tl_params::liberties::Liberties;
 
 /// What is drawn of a trace: the first 200 messages where no lines are given, at most 2,000 else.
 pub fn window_of(range: Range) -> Window {
@@ -38,20 +39,24 @@ pub fn window_of(range: Range) -> Window {
     }
 }
 
-/// Judges what a reader gives. Answers what judged it, and what was gathered, beside its verdict.
+/// Judges what a reader gives, where links may do this besides what the header names. Answers what judged it, and what was
+/// gathered, beside its verdict.
 fn gather<R: Read>(
     alloc: Global,
+    allow: Liberties,
     window: Window,
     reader: &mut R,
     verdict: &mut Vec<u8>,
 ) -> Result<(ChartLines, Status), ToolFault>
     requires { verdict.old.items ≡ [] }
     ensures ok { IfOk result (λ both. (read : List ℕ) × Consumes (R.remaining reader.old) (R.remaining reader.new) read
-        × Judged (lines_of read) verdict.new.items both.1
-        × EndsAs Judged (R.remaining reader.new) read verdict.new.items both.1 × EndsChart both.0 (lines_of read)) }
+        × JudgedLinks false allow (lines_of read) verdict.new.items both.1
+        × EndsAs (JudgedLinks false allow) (R.remaining reader.new) read verdict.new.items both.1
+        × EndsChart both.0 (lines_of read)) }
+    ensures allow { IfOk result (λ both. both.0.allow ≡ allow) }
     ensures fault { IfErr result (λ fault. fault ≢ ToolFault.Write) }
 {
-    let mut lines = Lines::new(ChartLines::new(alloc, window)?);
+    let mut lines = Lines::new(ChartLines::new(alloc, allow, window)?);
     let status = judge_input(alloc, &mut lines, reader, verdict)?;
     Ok((lines.into_handler(), status))
 }
@@ -82,7 +87,8 @@ fn drawn(
     verdict: &[u8],
 ) -> Result<Vec<u8>, AllocError>
     ensures { IfOk result (λ chart. (trace : List (List ℕ)) → EndsChart lines.now trace →
-        (said : List ℕ) → verdict.now ≡ said ++ codes "\n" → IsCharted window trace verdict.now status chart.items) }
+        (said : List ℕ) → verdict.now ≡ said ++ codes "\n" →
+        IsCharted lines.now.allow window trace verdict.now status chart.items) }
 {
     let gatherer = lines.gatherer();
     if !gatherer.window.is(&window) {
@@ -98,25 +104,26 @@ fn drawn(
     Ok(chart)
 }
 
-/// Writes a chart of a trace, of the lines and the block of a window. The status is that of `monitor`; so
-/// is the verdict that stands in the chart.
+/// Writes a chart of a trace, of the lines and the block of a window, where links may do this besides what the header
+/// names. The status is that of `monitor`; so is the verdict that stands in the chart.
 ///
 /// Nothing is written before the reader has come to its end or to the line at fault: `Write` alone comes
 /// behind that, where some of the text is left.
 pub fn chart_input<R: Read, W: Write>(
     alloc: Global,
+    allow: Liberties,
     window: Window,
     reader: &mut R,
     writer: &mut W,
 ) -> Result<Status, ToolFault>
     ensures ok { IfOk result (λ status. (chart : List ℕ)
-        × Charts window (R.remaining reader.old) (R.remaining reader.new) status chart
+        × Charts allow window (R.remaining reader.old) (R.remaining reader.new) status chart
         × Appends (W.contents writer.old) (W.contents writer.new) chart) }
-    ensures fault { IfErr result (GivesUpCharting window (R.remaining reader.old) (R.remaining reader.new)
+    ensures fault { IfErr result (GivesUpCharting allow window (R.remaining reader.old) (R.remaining reader.new)
         (W.contents writer.old) (W.contents writer.new)) }
 {
     let mut verdict = Vec::new(alloc);
-    let (lines, status) = gather(alloc, window, reader, &mut verdict)?;
+    let (lines, status) = gather(alloc, allow, window, reader, &mut verdict)?;
     let chart = drawn(alloc, window, &lines, status, &verdict)?;
     write_all(writer, &chart)?;
     Ok(status)

@@ -1,36 +1,39 @@
 //! Judges a recorded trace, and gathers what is drawn of it.
 
-ghost use Rattle.std.specs.Prelude.{◌≡◌, ◌<◌, [], ◌∷◌, List, ℕ, None, IfOk, OnOk, false, length};
+ghost use Rattle.std.specs.Prelude.{◌≡◌, ◌<◌, [], ◌∷◌, List, ℕ, IfOk, OnOk, false, length};
 ghost use Rattle.tl_beat.specs.declared.beat.Beat.{Beat};
 ghost use Rattle.tl_beat.specs.statement.Line.{Spells};
 ghost use Rattle.tl_beat.specs.statement.Width.{IsWidth};
 ghost use Rattle.tl_chart.specs.code.Gathered.{Gathers, watched};
 ghost use Rattle.tl_chart.specs.code.Moment.{change_of};
-ghost use Rattle.tl_chart.specs.statement.Drawn.{fault_drawn, holds};
-ghost use Rattle.tl_engine.specs.code.Charting.{BeginsChart, EndsChart, IsBegun, KnowsChart, GathersLine, SaysBefore};
+ghost use Rattle.tl_chart.specs.statement.Drawn.{Holding, fault_drawn, holds};
+ghost use Rattle.tl_engine.specs.code.Charting.{BeginsChart, EndsChart, IsBegun, KnowsChart, GathersLine};
 ghost use Rattle.tl_engine.specs.code.Charting.{fault_of_chart, gatherer_in};
 ghost use Rattle.tl_engine.specs.declared.fault.Fault.TheVariants.{Rule as Breaks};
-ghost use Rattle.tl_engine.specs.statement.Judged.{Judged};
+ghost use Rattle.tl_engine.specs.statement.JudgedLinks.{JudgedLinks};
 ghost use Rattle.tl_explain.specs.statement.Evidence.{next_line};
-ghost use Rattle.tl_monitor.specs.statement.Knows.{Knows};
+ghost use Rattle.tl_monitor.specs.statement.Knows.{KnowsUnder};
 ghost use Rattle.tl_params.specs.declared.level.Level.{Level};
-ghost use Rattle.tl_params.specs.declared.profile.Profile.{Profile};
-ghost use Rattle.tl_rules.specs.statement.Conformance.{Trace, broken_on_link, on_link, same_perm};
+ghost use Rattle.tl_params.specs.declared.liberties.Liberties.{Liberties};
+ghost use Rattle.tl_rules.specs.statement.Conformance.{Trace, on_link, same_perm};
 ghost use Rattle.tl_rules.specs.statement.History.{begins};
+ghost use Rattle.tl_rules.specs.statement.Liberties.{held_under};
 
 use crate::fault::Fault;
-use crate::header::{Header, read_header};
 use crate::line_handler::LineHandler;
+use crate::links_header::LinksHeader;
 use crate::monitor_lines::append_end;
+use crate::trace_judge::read_for;
 use std::alloc::{AllocError, Global};
 use tl_beat::beat::{Beat, Link};
 use tl_beat::fault::LineFault;
 use tl_beat::read::read_line;
 use tl_chart::arrow::{Arrow, Moment};
 use tl_chart::gatherer::Gatherer;
-use tl_chart::window::{Window, is_same_block};
+use tl_chart::window::Window;
 use tl_monitor::fault::MonitorFault;
 use tl_monitor::monitor::Monitor;
+use tl_params::liberties::Liberties;
 use tl_params::perm::Perm;
 use tl_params::width::Width;
 use tl_rules::rule::Rule;
@@ -48,33 +51,13 @@ pub struct Charting<const W: usize> {
 
 /// What a link holds of a block.
 fn held_on<const W: usize>(monitor: &Monitor<W>, link: Link, block: Option<u32>) -> Perm
-    ensures { (levels : List Level) (p : Profile) (t : Trace W) → Knows monitor.now levels p t false →
-        link.0 < length levels → result ≡ holds block link t }
+    ensures { (levels : List Level) (may : Liberties) (t : Trace W) → KnowsUnder monitor.now levels may t false →
+        link.0 < length levels → result ≡ holds (held_under may) block link t }
 {
     match block {
         None => Perm::None,
-        Some(block) => monitor.held(link, block),
+        Some(block) => monitor.held_under(link, block),
     }
-}
-
-/// What the link of a beat holds before it of a block; nothing where the beat leaves that as it is.
-fn held_before<const W: usize>(
-    monitor: &Monitor<W>,
-    link: Link,
-    beat: &Beat<W>,
-    block: Option<u32>,
-) -> Option<Perm>
-    ensures { (levels : List Level) (p : Profile) (t : Trace W) → Knows monitor.now levels p t false →
-        link.0 < length levels → broken_on_link levels p (link, beat.now) t ≡ None →
-        SaysBefore block (link, beat.now) t result }
-{
-    if block.is_none() {
-        return None;
-    }
-    if is_same_block(block, monitor.block_of(link, beat)) {
-        return Some(held_on(monitor, link, block));
-    }
-    None
 }
 
 /// Whether these are the same permission.
@@ -92,9 +75,9 @@ fn changed_from<const W: usize>(
     block: Option<u32>,
     before: Perm,
 ) -> Option<Perm>
-    ensures { (levels : List Level) (p : Profile) (beat : Beat W) (t : Trace W) →
-        Knows monitor.now levels p ((link, beat) ∷ t) false → link.0 < length levels →
-        before ≡ holds block link t → result ≡ change_of block (link, beat) t }
+    ensures { (levels : List Level) (may : Liberties) (beat : Beat W) (t : Trace W) →
+        KnowsUnder monitor.now levels may ((link, beat) ∷ t) false → link.0 < length levels →
+        before ≡ holds (held_under may) block link t → result ≡ change_of (held_under may) block (link, beat) t }
 {
     let held = held_on(monitor, link, block);
     if is_same(before, held) {
@@ -103,32 +86,14 @@ fn changed_from<const W: usize>(
     Some(held)
 }
 
-/// What a link holds of a block with a beat that the monitor has taken, where that is another permission
-/// than before it.
-fn held_change<const W: usize>(
-    monitor: &Monitor<W>,
-    link: Link,
-    block: Option<u32>,
-    before: Option<Perm>,
-) -> Option<Perm>
-    ensures { (levels : List Level) (p : Profile) (beat : Beat W) (t : Trace W) →
-        Knows monitor.now levels p ((link, beat) ∷ t) false → link.0 < length levels →
-        SaysBefore block (link, beat) t before → result ≡ change_of block (link, beat) t }
-{
-    match before {
-        None => None,
-        Some(before) => changed_from(monitor, link, block, before),
-    }
-}
-
 impl<const W: usize> Charting<W> {
     /// Begins behind a header.
-    fn new(alloc: Global, header: &Header, window: Window) -> Result<Self, AllocError>
+    fn new(alloc: Global, header: &LinksHeader, window: Window) -> Result<Self, AllocError>
         requires { IsWidth W }
-        ensures { IfOk result (λ charting. IsBegun charting header.now.levels.items header.now.profile) }
+        ensures { IfOk result (λ charting. IsBegun charting header.now.levels.items header.now.may) }
     {
         let levels = header.levels.as_slice();
-        let monitor = Monitor::new(alloc, levels, header.profile).map_err(|_| AllocError)?;
+        let monitor = Monitor::with_liberties(alloc, levels, header.may).map_err(|_| AllocError)?;
         Ok(Charting {
             monitor,
             gatherer: Gatherer::new(alloc, levels.len(), window)?,
@@ -145,15 +110,16 @@ impl<const W: usize> Charting<W> {
         line: u64,
         beat: &Beat<W>,
         first: bool,
-        before: Option<Perm>,
+        before: Perm,
     ) -> Result<(), AllocError>
         requires { IsWidth W }
-        ensures gathers { OnOk result ((levels : List Level) (p : Profile) (t : Trace W) →
-            Knows self.old.monitor levels p ((link, beat.now) ∷ t) false → link.0 < length levels →
+        ensures gathers { OnOk result ((levels : List Level) (may : Liberties) (t : Trace W) →
+            KnowsUnder self.old.monitor levels may ((link, beat.now) ∷ t) false → link.0 < length levels →
             length self.old.gatherer.links.items ≡ length levels → line ≡ next_line t →
             first ≡ begins beat.now (on_link link.0 t) →
-            SaysBefore (watched self.old.gatherer) (link, beat.now) t before →
-            Gathers self.old.gatherer t → Gathers self.new.gatherer ((link, beat.now) ∷ t)) }
+            before ≡ holds (held_under may) (watched self.old.gatherer) link t →
+            Gathers (held_under may) self.old.gatherer t →
+            Gathers (held_under may) self.new.gatherer ((link, beat.now) ∷ t)) }
         ensures window { OnOk result (self.new.gatherer.window ≡ self.old.gatherer.window) }
         ensures many { OnOk result (length self.new.gatherer.links.items ≡ length self.old.gatherer.links.items) }
         ensures count { self.new.count ≡ line }
@@ -170,7 +136,7 @@ impl<const W: usize> Charting<W> {
             first,
             last: self.monitor.begins(link, beat),
         };
-        let change = held_change(&self.monitor, link, self.gatherer.watched(), before);
+        let change = changed_from(&self.monitor, link, self.gatherer.watched(), before);
         self.gatherer.take(&moment, beat, change)
     }
 
@@ -179,8 +145,8 @@ impl<const W: usize> Charting<W> {
     fn take_fault(&mut self, link: Link, line: u64, beat: &Beat<W>, rule: Rule) -> Fault
         requires { IsWidth W }
         ensures fault { result ≡ Breaks rule }
-        ensures drawn { (t : Trace W) → line ≡ next_line t → Gathers self.old.gatherer t →
-            self.new.fault ≡ fault_drawn self.old.gatherer.window (link, beat.now) t }
+        ensures drawn { (held : Holding W) (t : Trace W) → line ≡ next_line t → Gathers held self.old.gatherer t →
+            self.new.fault ≡ fault_drawn held self.old.gatherer.window (link, beat.now) t }
         ensures gatherer { self.new.gatherer ≡ self.old.gatherer }
     {
         self.fault = self.gatherer.fault_of(link, line, beat);
@@ -190,12 +156,12 @@ impl<const W: usize> Charting<W> {
     /// Judges a beat, and gathers it. A beat at fault is drawn as it is.
     fn take(&mut self, link: Link, beat: &Beat<W>) -> Result<Option<Fault>, AllocError>
         requires { IsWidth W }
-        ensures { IfOk result (λ fault. (line : List ℕ) → Spells line link beat.now →
-            GathersLine self.old self.new line fault) }
+        ensures { IfOk result (λ fault. (allow : Liberties) (line : List ℕ) → Spells line link beat.now →
+            GathersLine allow self.old self.new line fault) }
     {
         let line = self.count.checked_add(1).ok_or(AllocError)?;
         let first = self.monitor.begins(link, beat);
-        let before = held_before(&self.monitor, link, beat, self.gatherer.watched());
+        let before = held_on(&self.monitor, link, self.gatherer.watched());
         match self.monitor.push(link, beat) {
             Ok(()) => {
                 self.gather(link, line, beat, first, before)?;
@@ -210,7 +176,7 @@ impl<const W: usize> Charting<W> {
     #[inline(never)]
     fn read(&mut self, line: &[u8]) -> Result<Option<Fault>, AllocError>
         requires { IsWidth W }
-        ensures { IfOk result (GathersLine self.old self.new line.now) }
+        ensures { IfOk result (λ fault. (allow : Liberties) → GathersLine allow self.old self.new line.now fault) }
     {
         match read_line(line) {
             Ok((link, beat)) => self.take(link, &beat),
@@ -219,9 +185,9 @@ impl<const W: usize> Charting<W> {
     }
 }
 
-/// Judges the lines of a trace, and gathers what is drawn of it.
+/// A judge of the links of a trace, which gathers what is drawn of it, by the bytes of a beat.
 #[derive(Drop)]
-pub enum ChartLines {
+pub enum ChartJudge {
     /// The header hasn't been read, and nothing was gathered.
     Waiting(Global, Gatherer),
     Four(Charting<4>),
@@ -229,51 +195,68 @@ pub enum ChartLines {
     Sixteen(Charting<16>),
 }
 
-/// Begins with the links that a header names. A line of another form names none.
+/// Judges the lines of a trace, and gathers what is drawn of it.
+#[derive(Drop)]
+pub struct ChartLines {
+    /// What the links may do besides what the header names.
+    allow: Liberties,
+    judge: ChartJudge,
+}
+
+/// Begins with the links that a header names, which may do this besides. A line of another form names none.
 #[inline(never)]
-fn begin(alloc: Global, line: &[u8], window: Window) -> Result<Option<ChartLines>, AllocError>
-    ensures { IfOk result (BeginsChart line.now) }
+fn begin(
+    alloc: Global,
+    allow: Liberties,
+    line: &[u8],
+    window: Window,
+) -> Result<Option<ChartJudge>, AllocError>
+    ensures { IfOk result (BeginsChart allow line.now) }
 {
-    let Some(header) = read_header(line) else {
+    let Some(header) = read_for(false, allow, line) else {
         return Ok(None);
     };
-    let lines = match header.width {
-        Width::Four => ChartLines::Four(Charting::new(alloc, &header, window)?),
-        Width::Eight => ChartLines::Eight(Charting::new(alloc, &header, window)?),
-        Width::Sixteen => ChartLines::Sixteen(Charting::new(alloc, &header, window)?),
+    let judge = match header.width {
+        Width::Four => ChartJudge::Four(Charting::new(alloc, &header, window)?),
+        Width::Eight => ChartJudge::Eight(Charting::new(alloc, &header, window)?),
+        Width::Sixteen => ChartJudge::Sixteen(Charting::new(alloc, &header, window)?),
     };
-    Ok(Some(lines))
+    Ok(Some(judge))
 }
 
 impl ChartLines {
-    /// No line has been read.
-    pub fn new(alloc: Global, window: Window) -> Result<Self, AllocError>
-        ensures { IfOk result (λ lines. KnowsChart lines [] []) }
+    /// No line has been read. The links may do this besides what the header names.
+    pub fn new(alloc: Global, allow: Liberties, window: Window) -> Result<Self, AllocError>
+        ensures knows { IfOk result (λ lines. KnowsChart lines [] []) }
+        ensures allow { IfOk result (λ lines. lines.allow ≡ allow) }
     {
-        Ok(ChartLines::Waiting(alloc, Gatherer::new(alloc, 0, window)?))
+        Ok(ChartLines {
+            allow,
+            judge: ChartJudge::Waiting(alloc, Gatherer::new(alloc, 0, window)?),
+        })
     }
 
     /// What was gathered.
     pub fn gatherer(&self) -> &Gatherer
-        ensures { result.now ≡ gatherer_in self.now }
+        ensures { result.now ≡ gatherer_in self.now.judge }
     {
-        match self {
-            ChartLines::Waiting(_, gatherer) => gatherer,
-            ChartLines::Four(charting) => &charting.gatherer,
-            ChartLines::Eight(charting) => &charting.gatherer,
-            ChartLines::Sixteen(charting) => &charting.gatherer,
+        match &self.judge {
+            ChartJudge::Waiting(_, gatherer) => gatherer,
+            ChartJudge::Four(charting) => &charting.gatherer,
+            ChartJudge::Eight(charting) => &charting.gatherer,
+            ChartJudge::Sixteen(charting) => &charting.gatherer,
         }
     }
 
     /// The beat at fault, where it is drawn.
     pub fn fault(&self) -> Option<Arrow>
-        ensures { result ≡ fault_of_chart self.now }
+        ensures { result ≡ fault_of_chart self.now.judge }
     {
-        match self {
-            ChartLines::Waiting(..) => None,
-            ChartLines::Four(charting) => charting.fault,
-            ChartLines::Eight(charting) => charting.fault,
-            ChartLines::Sixteen(charting) => charting.fault,
+        match &self.judge {
+            ChartJudge::Waiting(..) => None,
+            ChartJudge::Four(charting) => charting.fault,
+            ChartJudge::Eight(charting) => charting.fault,
+            ChartJudge::Sixteen(charting) => charting.fault,
         }
     }
 }
@@ -281,9 +264,11 @@ impl ChartLines {
 impl LineHandler for ChartLines {
     ghost knows = { KnowsChart };
 
-    ghost purpose = { λ _. tt };
+    ghost Purpose = { Liberties };
 
-    ghost tells = { λ _. Judged };
+    ghost purpose = { λ lines. lines.allow };
+
+    ghost tells = { JudgedLinks false };
 
     ghost ends = { EndsChart };
 
@@ -292,30 +277,32 @@ impl LineHandler for ChartLines {
         line: &[u8],
         _out: &mut Vec<u8>,
     ) -> Result<Option<Fault>, AllocError> {
-        match self {
-            ChartLines::Waiting(alloc, gatherer) => match begin(*alloc, line, gatherer.window)? {
-                None => Ok(Some(Fault::Header)),
-                Some(lines) => {
-                    *self = lines;
-                    Ok(None)
+        match &mut self.judge {
+            ChartJudge::Waiting(alloc, gatherer) => {
+                match begin(*alloc, self.allow, line, gatherer.window)? {
+                    None => Ok(Some(Fault::Header)),
+                    Some(judge) => {
+                        self.judge = judge;
+                        Ok(None)
+                    }
                 }
-            },
-            ChartLines::Four(charting) => charting.read(line),
-            ChartLines::Eight(charting) => charting.read(line),
-            ChartLines::Sixteen(charting) => charting.read(line),
+            }
+            ChartJudge::Four(charting) => charting.read(line),
+            ChartJudge::Eight(charting) => charting.read(line),
+            ChartJudge::Sixteen(charting) => charting.read(line),
         }
     }
 
     fn open_fault(&self) -> Fault {
-        match self {
-            ChartLines::Waiting(..) => Fault::Header,
+        match self.judge {
+            ChartJudge::Waiting(..) => Fault::Header,
             _ => Fault::Line(LineFault::F1),
         }
     }
 
     fn finish(&self, count: u64, out: &mut Vec<u8>) -> Result<Option<Fault>, AllocError> {
-        match self {
-            ChartLines::Waiting(..) => Ok(Some(Fault::Header)),
+        match self.judge {
+            ChartJudge::Waiting(..) => Ok(Some(Fault::Header)),
             _ => {
                 append_end(false, count.saturating_sub(1), out)?;
                 Ok(None)

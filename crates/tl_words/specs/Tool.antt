@@ -1,5 +1,6 @@
 -- The command line as `clap` sees it, and what its matches mean.
-use Rattle.std.specs.Prelude.{◌≡◌, ◌&&◌, ◌||◌, Bool, List, Option, Some, None, codes, true, false, if◌then◌else◌, is_some}
+use Rattle.std.specs.Prelude.{◌≡◌, ◌&&◌, ◌||◌, Bool, List, Option, Some, None}
+use Rattle.std.specs.Prelude.{codes, true, false, if◌then◌else◌, is_some}
 use Rattle.std.specs.Prelude.{option_map}
 use Rattle.std.specs.Str.{bytes_eq}
 use Rattle.std.specs.String.{string_bytes}
@@ -10,7 +11,7 @@ use Rattle.tl_command.specs.declared.command.Command.TheVariants.{Coherent, Deco
 use Rattle.tl_command.specs.declared.search.Aim.{Aim}
 use Rattle.tl_command.specs.declared.search.Inquiry.{Inquiry}
 use Rattle.tl_command.specs.declared.task.Task.{Task}
-use Rattle.tl_command.specs.declared.task.Task.TheVariants.{Chart, Draw, Read, Report, Search}
+use Rattle.tl_command.specs.declared.task.Task.TheVariants.{Chart, Cover, Draw, Read, Report, Search}
 use Rattle.tl_command.specs.statement.ChartWords.{IsRange}
 use Rattle.tl_command.specs.statement.LibertyWords.{AreAllowed}
 use Rattle.tl_command.specs.statement.RandomWords.{AreOptions, Words}
@@ -56,10 +57,18 @@ abbrev pub explain_of : App
 explain_of = with_rule (with_rule (with_rule (new_app (codes "explain")) (flag_rule (codes "coherent")))
     (valued_rule (codes "allow"))) (new_rule (codes "FILE"))
 
--- `chart [--lines A-B] [--block BBB] [FILE]`
+-- `[--lines A-B] [--block BBB]`
+abbrev pub with_range : App → App
+with_range a = with_rule (with_rule a (valued_rule (codes "lines"))) (valued_rule (codes "block"))
+
+-- `chart [--lines A-B] [--block BBB] [--allow LIBERTIES] [FILE]`
 abbrev pub chart_of : App
-chart_of = with_rule (with_rule (with_rule (new_app (codes "chart")) (valued_rule (codes "lines")))
-    (valued_rule (codes "block"))) (new_rule (codes "FILE"))
+chart_of = with_rule (with_rule (with_range (new_app (codes "chart"))) (valued_rule (codes "allow")))
+    (new_rule (codes "FILE"))
+
+-- `cover [--json] [FILE]`
+abbrev pub cover_of : App
+cover_of = with_rule (with_rule (new_app (codes "cover")) (flag_rule (codes "json"))) (new_rule (codes "FILE"))
 
 -- `run [--trace] [FILE]`
 abbrev pub run_of : App
@@ -106,9 +115,13 @@ explaining_of = with_subcommand judging_of explain_of.top
 abbrev pub charting_of : App
 charting_of = with_subcommand explaining_of chart_of.top
 
+-- and with the one that covers
+abbrev pub covering_of : App
+covering_of = with_subcommand charting_of cover_of.top
+
 -- and with the one that plays
 abbrev pub playing_of : App
-playing_of = with_subcommand charting_of run_of.top
+playing_of = with_subcommand covering_of run_of.top
 
 -- and with the one that draws
 abbrev pub tool_of : App
@@ -180,8 +193,9 @@ abbrev pub AreAllowedIn : Text → List Row → Liberties → Type 0
 AreAllowedIn name rows =
     AreTaken (judges_together name (first_of (codes "coherent") rows)) (first_of (codes "allow") rows)
 
--- What a subcommand's name and entries ask for: a command over FILE, a search of it, a judgement of it that is reported, a
--- chart of it, or a random schedule.
+-- What a subcommand's name and entries ask for: a command over FILE, a search of it, a judgement of it that is
+-- reported, a
+-- chart of it, its situations, or a random schedule.
 abbrev pub IsTaskOf : Text → List Row → Task → Type 0
 IsTaskOf name rows (Read command allow file) =
     (command_in name rows ≡ Some command) × (first_of (codes "all") rows ≡ None)
@@ -194,8 +208,11 @@ IsTaskOf name rows (Report inquiry file report junit) =
     × (option_map string_bytes file ≡ file_in rows)
     × (option_map string_bytes report ≡ first_of (codes "report") rows)
     × (option_map string_bytes junit ≡ first_of (codes "junit") rows) × AreAllowedIn name rows inquiry.aim.allow
-IsTaskOf name rows (Chart range file) =
+IsTaskOf name rows (Chart range allow file) =
     (bytes_eq name (codes "chart") ≡ true)
     × IsRange (first_of (codes "lines") rows) (first_of (codes "block") rows) range
+    × AreAllowed (first_of (codes "allow") rows) allow × (option_map string_bytes file ≡ file_in rows)
+IsTaskOf name rows (Cover json file) =
+    (bytes_eq name (codes "cover") ≡ true) × (json ≡ flag_named (first_of (codes "json") rows))
     × (option_map string_bytes file ≡ file_in rows)
 IsTaskOf name rows (Draw options) = (bytes_eq name (codes "random") ≡ true) × AreOptions (words_in rows) options

@@ -3,9 +3,10 @@
 ghost use Rattle.std.specs.Prelude.{◌≡◌, IfOk, true, false};
 ghost use Rattle.clap.specs.Words.{app_of, rule_of};
 ghost use Rattle.clap.specs.declared.builder.command.Command.TheViews.{out-Command};
-ghost use Rattle.tl_words.specs.Tool.{chart_of, charting_of, coherent_of, decode_of, drawing_of, explain_of};
+ghost use Rattle.tl_words.specs.Tool.{chart_of, charting_of, coherent_of, cover_of};
+ghost use Rattle.tl_words.specs.Tool.{covering_of, decode_of, drawing_of, explain_of};
 ghost use Rattle.tl_words.specs.Tool.{explaining_of, judging_of, monitor_of, playing_of, random_of, reading_of, run_of};
-ghost use Rattle.tl_words.specs.Tool.{flag_rule, sizing_of, tool_of, valued_rule, with_reports};
+ghost use Rattle.tl_words.specs.Tool.{flag_rule, sizing_of, tool_of, valued_rule, with_range, with_reports};
 
 use crate::help;
 use clap::{Arg, ArgAction};
@@ -95,19 +96,44 @@ pub fn explain<'a>(alloc: Global) -> Result<clap::Command<'a>, AllocError>
         .arg(file)
 }
 
+/// A command with what says which lines are drawn, and which block.
+fn with_range<'a>(
+    alloc: Global,
+    command: clap::Command<'a>,
+) -> Result<clap::Command<'a>, AllocError>
+    requires { (out-Command command).has_globals ≡ false }
+    ensures app { IfOk result (λ c. app_of c ≡ with_range (app_of command.entry)) }
+    ensures local { IfOk result (λ c. (out-Command c).has_globals ≡ false) }
+{
+    let lines = valued(alloc, "lines", "A-B", help::LINES);
+    let block = valued(alloc, "block", "BBB", help::BLOCK);
+    command.arg(lines)?.arg(block)
+}
+
 /// `tltool chart`.
 pub fn chart<'a>(alloc: Global) -> Result<clap::Command<'a>, AllocError>
     ensures app { IfOk result (λ c. app_of c ≡ chart_of) }
     ensures local { IfOk result (λ c. (out-Command c).has_globals ≡ false) }
 {
-    let lines = valued(alloc, "lines", "A-B", help::LINES);
-    let block = valued(alloc, "block", "BBB", help::BLOCK);
-    let file = Arg::new(alloc, "FILE").help(FILE_HELP);
-    clap::Command::new(alloc, "chart")
+    let chart = clap::Command::new(alloc, "chart")
         .about("Draws the messages of a recorded trace: a sequence chart, in SVG")
-        .after_help(help::CHART)
-        .arg(lines)?
-        .arg(block)?
+        .after_help(help::CHART);
+    let allow = valued(alloc, "allow", "LIBERTIES", help::ALLOW);
+    let file = Arg::new(alloc, "FILE").help(FILE_HELP);
+    with_range(alloc, chart)?.arg(allow)?.arg(file)
+}
+
+/// `tltool cover`.
+fn cover<'a>(alloc: Global) -> Result<clap::Command<'a>, AllocError>
+    ensures app { IfOk result (λ c. app_of c ≡ cover_of) }
+    ensures local { IfOk result (λ c. (out-Command c).has_globals ≡ false) }
+{
+    let json = flag(alloc, "json", "Write one object, in JSON");
+    let file = Arg::new(alloc, "FILE").help(FILE_HELP);
+    clap::Command::new(alloc, "cover")
+        .about("Judges a recorded trace, and tells which situations its messages begin in")
+        .after_help(help::COVER)
+        .arg(json)?
         .arg(file)
 }
 
@@ -167,12 +193,20 @@ fn charting<'a>(alloc: Global) -> Result<clap::Command<'a>, AllocError>
     explaining(alloc)?.subcommand(chart)
 }
 
+/// The program with its commands that read traces, explain them, draw them and cover them.
+fn covering<'a>(alloc: Global) -> Result<clap::Command<'a>, AllocError>
+    ensures { IfOk result (λ c. app_of c ≡ covering_of) }
+{
+    let cover = cover(alloc)?;
+    charting(alloc)?.subcommand(cover)
+}
+
 /// The program with its commands that read.
 fn playing<'a>(alloc: Global) -> Result<clap::Command<'a>, AllocError>
     ensures { IfOk result (λ c. app_of c ≡ playing_of) }
 {
     let run = run(alloc)?;
-    charting(alloc)?.subcommand(run)
+    covering(alloc)?.subcommand(run)
 }
 
 /// An option with a value.

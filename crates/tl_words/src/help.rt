@@ -237,6 +237,15 @@ pub const CHART: &str = outcomes_of_a_trace!(
     "\n  tltool run --trace schedules/a_release_races_with_a_probe.schedule | tltool chart >race.svg",
 );
 
+/// Behind the options of `cover`.
+pub const COVER: &str = outcomes_of_a_trace!(
+    "The situations of the beats before it are told. `tltool explain FILE` says why it is at fault.\n",
+    ;
+    ;
+    "\n  tltool cover two_caches.trace",
+    "\n  tltool random --seed 1 | tltool run --trace | tltool cover --json",
+);
+
 /// Behind the options of `run`.
 pub const RUN: &str = outcomes!(
     "`tltool explain X` says what X is.\n",

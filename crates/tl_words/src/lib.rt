@@ -1,7 +1,9 @@
 //! The words of the command line.
 #![tactic(auto)]
 
+mod chart_words;
 mod commands;
+mod cover_words;
 mod help;
 mod report;
 pub mod words;

@@ -40,6 +40,7 @@ fn reported(
         AreAllowedIn name.now rows allow → IsTaskOf name.now rows task) }
     ensures wrong { IfErr result (λ fault. (rows : List Row) → AreGiven rows words.now → is_reported rows ≡ true →
         bytes_eq name.now (codes "random") ≡ false → bytes_eq name.now (codes "chart") ≡ false →
+        bytes_eq name.now (codes "cover") ≡ false →
         IsFaultOf name.now rows fault) }
 {
     let Some(together) = together_named(name) else {
@@ -69,6 +70,7 @@ pub(crate) fn report(
 ) -> Result<Task, WordsFault>
     requires random { bytes_eq name.now (codes "random") ≡ false }
     requires chart { bytes_eq name.now (codes "chart") ≡ false }
+    requires cover { bytes_eq name.now (codes "cover") ≡ false }
     requires reported { is_reported (rows_of (found_of found.now)) ≡ true }
     requires allowed { AreAllowedIn name.now (rows_of (found_of found.now)) allow }
     ensures read { IfOk result (IsTaskOf name.now (rows_of (found_of found.now))) }

@@ -1,9 +1,12 @@
 //! Reads the program's words: `tltool decode [--width 4|8|16] [FILE]`, `tltool monitor [--allow LIBERTIES] [--all N]
 //! [--report FILE] [--junit FILE] [FILE]`, `tltool coherent` with the same options, `tltool explain [--coherent]
-//! [--allow LIBERTIES] FILE`, `tltool chart [--lines A-B] [--block BBB] [FILE]`, `tltool run [--trace] [FILE]`, `tltool random --seed N` with its
-//! options, and those that ask for help or the version.
+//! [--allow LIBERTIES] FILE`, `tltool chart [--lines A-B] [--block BBB] [--allow LIBERTIES]
+//! [FILE]`, `tltool cover [--json] [FILE]`, `tltool run [--trace] [FILE]`, `tltool random --seed N` with its options,
+//! and
+//! those that ask for help or the version.
 
-ghost use Rattle.std.specs.Prelude.{◌≡◌, IfOk, IfErr, MatchOption, true, false, List, Some, bytes_eq, codes, map, option_map};
+ghost use Rattle.std.specs.Prelude.{◌≡◌, IfOk, IfErr, MatchOption, true, false};
+ghost use Rattle.std.specs.Prelude.{List, Some, bytes_eq, codes, map, option_map};
 ghost use Rattle.std.specs.String.{string_bytes};
 ghost use Rattle.clap.specs.Words.{Row, Text, first_of, found_of, is_simple_and_free};
 ghost use Rattle.clap.specs.Words.{kind_of, rows_of, subcommand_of};
@@ -13,13 +16,14 @@ ghost use Rattle.tl_words.specs.Tool.{AreAllowedIn, AreTaken, IsTaskOf, command_
 ghost use Rattle.tl_words.specs.Tool.{judges_together, together_named, tool_of};
 ghost use Rattle.tl_words.specs.Tool.{words_in};
 
+use crate::chart_words::draw_chart;
 use crate::commands::{chart, coherent, decode, explain, monitor, random, tool};
+use crate::cover_words::tell_covered;
 use crate::help;
 use crate::report::{is_reported, report};
 use clap::ArgMatches;
 use clap::error::ErrorKind;
 use std::alloc::{AllocError, Global};
-use tl_command::chart::{ChartOption, range_named};
 use tl_command::command::Command;
 use tl_command::liberties::{LIBERTIES_WANTED, allowed_named};
 use tl_command::random_words::{RandomOption, RandomWords, options_named};
@@ -68,7 +72,7 @@ pub fn usage_status(error: &clap::Error) -> u8
 }
 
 /// Whether a flag is given, by its word.
-fn flag_named(word: Option<&str>) -> bool
+pub(crate) fn flag_named(word: Option<&str>) -> bool
     ensures { result ≡ flag_named (option_map (λ s. s.now) word.entry) }
 {
     match word {
@@ -207,52 +211,6 @@ fn draw(alloc: Global, found: &ArgMatches) -> Result<Task, WordsFault>
     }
 }
 
-/// The error of an option of `chart` whose word stands for nothing.
-fn wrong_range(
-    alloc: Global,
-    option: ChartOption,
-    word: Option<&str>,
-) -> Result<clap::Error, AllocError>
-    ensures { IfOk result (λ error. status_of_usage error ≡ 2) }
-{
-    let (word, name, wanted) = (word.unwrap_or(""), option.name(), option.wanted());
-    let message = format!(in alloc; "invalid value '{word}' for '{name}': {wanted}")?;
-    let mut chart = chart(alloc)?.bin_name("tltool chart")?;
-    chart.error(ErrorKind::InvalidValue, message.as_str())
-}
-
-/// The word of an option of `chart`.
-fn word_of<'a>(
-    option: ChartOption,
-    lines: Option<&'a str>,
-    block: Option<&'a str>,
-) -> Option<&'a str> {
-    match option {
-        ChartOption::Lines => lines,
-        ChartOption::Block => block,
-    }
-}
-
-/// The chart that the entries of `chart` ask for.
-fn draw_chart(alloc: Global, found: &ArgMatches) -> Result<Task, WordsFault>
-    ensures drawn { IfOk result (IsTaskOf (codes "chart") (rows_of (found_of found.now))) }
-    ensures wrong { IfErr result (IsFaultOf (codes "chart") (rows_of (found_of found.now))) }
-{
-    let lines = found.get_str("lines");
-    let block = found.get_str("block");
-    let name_of_file = found.get_str("FILE");
-    match range_named(lines, block) {
-        Ok(range) => {
-            let file = copied(alloc, name_of_file)?;
-            Ok(Task::Chart { range, file })
-        }
-        Err(option) => {
-            let error = wrong_range(alloc, option, word_of(option, lines, block))?;
-            Err(WordsFault::Usage(error))
-        }
-    }
-}
-
 /// The command that searches: all links together, or each by itself.
 fn searching<'a>(alloc: Global, together: bool) -> Result<clap::Command<'a>, AllocError> {
     if together {
@@ -279,13 +237,14 @@ pub(crate) fn wrong_number(
 fn allowing<'a>(alloc: Global, name: &str) -> Result<clap::Command<'a>, AllocError> {
     match name {
         "explain" => explain(alloc)?.bin_name("tltool explain"),
+        "chart" => chart(alloc)?.bin_name("tltool chart"),
         "coherent" => searching(alloc, true),
         _ => searching(alloc, false),
     }
 }
 
 /// The error of a word of `--allow` that names no liberties.
-fn wrong_liberties(
+pub(crate) fn wrong_liberties(
     alloc: Global,
     name: &str,
     together: bool,
@@ -328,6 +287,7 @@ fn search(
         AreAllowedIn name.now rows allow → IsTaskOf name.now rows task) }
     ensures wrong { IfErr result (λ fault. (rows : List Row) → first_of (codes "all") rows ≡ Some word.now →
         bytes_eq name.now (codes "random") ≡ false → bytes_eq name.now (codes "chart") ≡ false →
+        bytes_eq name.now (codes "cover") ≡ false →
         is_reported rows ≡ false → IsFaultOf name.now rows fault) }
 {
     let Some(together) = together_named(name) else {
@@ -351,6 +311,7 @@ fn search(
 fn read(alloc: Global, name: &str, allow: Liberties, found: &ArgMatches) -> Result<Task, WordsFault>
     requires random { bytes_eq name.now (codes "random") ≡ false }
     requires chart { bytes_eq name.now (codes "chart") ≡ false }
+    requires cover { bytes_eq name.now (codes "cover") ≡ false }
     requires unreported { is_reported (rows_of (found_of found.now)) ≡ false }
     requires allowed { AreAllowedIn name.now (rows_of (found_of found.now)) allow }
     ensures read { IfOk result (IsTaskOf name.now (rows_of (found_of found.now))) }
@@ -398,6 +359,7 @@ fn allowed_for(together: bool, word: Option<&str>) -> Option<Liberties>
 fn asked(alloc: Global, name: &str, found: &ArgMatches) -> Result<Task, WordsFault>
     requires random { bytes_eq name.now (codes "random") ≡ false }
     requires chart { bytes_eq name.now (codes "chart") ≡ false }
+    requires cover { bytes_eq name.now (codes "cover") ≡ false }
     ensures read { IfOk result (IsTaskOf name.now (rows_of (found_of found.now))) }
     ensures wrong { IfErr result (IsFaultOf name.now (rows_of (found_of found.now))) }
 {
@@ -432,6 +394,8 @@ pub fn invocation(alloc: Global, words: &[String]) -> Result<Task, WordsFault>
         draw(alloc, found)
     } else if name == "chart" {
         draw_chart(alloc, found)
+    } else if name == "cover" {
+        tell_covered(alloc, found)
     } else {
         asked(alloc, name, found)
     }

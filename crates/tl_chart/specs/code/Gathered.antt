@@ -8,7 +8,7 @@ use Rattle.tl_burst.specs.statement.Messages.{History}
 use Rattle.tl_chart.specs.declared.blocks.LinkBlocks.{LinkBlocks}
 use Rattle.tl_chart.specs.declared.gatherer.Gatherer.{Gatherer}
 use Rattle.tl_chart.specs.declared.mark.Mark.{Mark}
-use Rattle.tl_chart.specs.statement.Drawn.{Drawn, drawn}
+use Rattle.tl_chart.specs.statement.Drawn.{Drawn, Holding, drawn}
 use Rattle.tl_chart.specs.statement.Messages.{block_granted}
 use Rattle.tl_explain.specs.code.Recorded.{AreBlocks}
 use Rattle.tl_monitor.specs.code.Count.{at}
@@ -58,8 +58,9 @@ is_over g = g.closed && is_none g.window.block
 abbrev pub watched : Gatherer → Option ℕ
 watched g = if g.closed then None else g.window.block
 
--- What is drawn of the trace has been gathered. The blocks of its messages are known as long as they bear on that.
-pub record Gathers {w : ℕ} (g : Gatherer) (t : Trace w) : Type 0 where
-  pub drawn_is : drawn_of g ≡ drawn g.window t
+-- What is drawn of the trace, whose links hold so much, has been gathered. The blocks of its messages are known as long as
+-- they bear on that.
+pub record Gathers {w : ℕ} (held : Holding w) (g : Gatherer) (t : Trace w) : Type 0 where
+  pub drawn_is : drawn_of g ≡ drawn held g.window t
   pub links_are : is_over g ≡ false → KnowLinks g.links.items t
   pub carry_all : is_over g ≡ false → CarryAll g.links.items t

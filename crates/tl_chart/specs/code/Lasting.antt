@@ -1,11 +1,11 @@
 -- Which messages stay among those that are drawn before the window.
-use Rattle.std.specs.Prelude.{ℕ, Bool, true, false, not, List, ◌≡◌, ◌<◌, ◌&&◌, ◌||◌, All}
+use Rattle.std.specs.Prelude.{ℕ, Bool, true, false, not, List, ◌≡◌, ◌<◌, ◌&&◌, All}
 use Rattle.tl_beat.specs.declared.beat.Beat.{Beat}
 use Rattle.tl_beat.specs.declared.beat.Beat.TheVariants as beat
 use Rattle.tl_chart.specs.declared.arrow.Arrow.{Arrow}
 use Rattle.tl_chart.specs.declared.arrow.Moment.{Moment}
 use Rattle.tl_chart.specs.declared.window.Window.{Window}
-use Rattle.tl_chart.specs.statement.Drawn.{wants_answer}
+use Rattle.tl_chart.specs.statement.Drawn.{is_open}
 use Rattle.tl_rules.specs.statement.History.{is_probe, is_release}
 
 -- the beat is of a message that wants an answer, and answers nothing
@@ -20,10 +20,6 @@ asks (beat.E x) = false
 abbrev pub lets_go : {w : ℕ} → Moment → Beat w → Bool
 lets_go m x = m.last && not (m.first && asks x)
 
--- a beat of the message is missing, or it wants an answer
-abbrev pub is_lasting : Arrow → Bool
-is_lasting m = not m.complete || wants_answer m.control
-
--- before the window each of these messages is so
+-- before the window each of these messages is open
 abbrev pub AreLasting : Window → ℕ → List Arrow → Type 0
-AreLasting win line arrows = line < win.first → All (λ m. is_lasting m ≡ true) arrows
+AreLasting win line arrows = line < win.first → All (λ m. is_open m ≡ true) arrows

@@ -6,6 +6,7 @@ use Rattle.tl_beat.specs.declared.beat.Beat.TheVariants as beat
 use Rattle.tl_beat.specs.declared.beat.Link.{Link}
 use Rattle.tl_beat.specs.declared.control.Control.{Control}
 use Rattle.tl_beat.specs.declared.control.Control.TheVariants as control
+use Rattle.tl_burst.specs.statement.Messages.{History}
 use Rattle.tl_chart.specs.declared.arrow.Arrow.{Arrow}
 use Rattle.tl_chart.specs.declared.mark.Mark.{Mark}
 use Rattle.tl_chart.specs.declared.window.Window.{Window}
@@ -14,7 +15,7 @@ use Rattle.tl_explain.specs.statement.Evidence.{next_line}
 use Rattle.tl_params.specs.declared.perm.Perm.{Perm}
 use Rattle.tl_params.specs.declared.perm.Perm.TheVariants as perm
 use Rattle.tl_rules.specs.statement.Conformance.{Trace, on_link, same_perm}
-use Rattle.tl_rules.specs.statement.History.{begins, ends, held, is_grant, is_probe, is_probe_ack, is_release}
+use Rattle.tl_rules.specs.statement.History.{begins, ends, is_grant, is_probe, is_probe_ack, is_release}
 use Rattle.tl_rules.specs.statement.History.{is_release_ack}
 
 -- ---- what is still open before the window
@@ -40,17 +41,20 @@ answers (beat.E x) block (control.D y) of = is_grant y.opcode && (x.sink == y.si
 answers (beat.C x) block (control.B y) of = is_probe_ack x.opcode && (is_probe y.opcode && same_block block of)
 answers _ block _ of = false
 
--- a beat of the message is missing behind a beat of this link, with which a message of this block is complete or isn't;
--- or its answer is
-abbrev pub open_by : {w : ℕ} → Link → Bool → Beat w → Option ℕ → Arrow → Bool
-open_by link last x block m =
-    not m.complete
-    || (wants_answer m.control
-    && not ((m.link.0 == link.0) && (last && answers x block m.control m.block)))
+-- The message, and whether it has been answered: before a beat of this link, or with it. A message of this block is
+-- complete with the beat, or none is. An answer may come before the last beat of what it answers.
+abbrev pub noted_by : {w : ℕ} → Link → Bool → Beat w → Option ℕ → Arrow → Arrow
+noted_by link last x block m = record m {
+  answered = m.answered || ((m.link.0 == link.0) && (last && answers x block m.control m.block));
+}
 
--- the same behind the beat x
-abbrev pub is_open : {w : ℕ} → Link × Beat w → Trace w → Arrow → Bool
-is_open x t m = open_by x.0 (ends x.1 (on_link x.0.0 t)) x.1 (message_block x.1 (on_link x.0.0 t)) m
+-- the same with the beat x behind t
+abbrev pub noted : {w : ℕ} → Link × Beat w → Trace w → Arrow → Arrow
+noted x t m = noted_by x.0 (ends x.1 (on_link x.0.0 t)) x.1 (message_block x.1 (on_link x.0.0 t)) m
+
+-- a beat of the message is missing, or its answer
+abbrev pub is_open : Arrow → Bool
+is_open m = not m.complete || (wants_answer m.control && not m.answered)
 
 -- ---- what is drawn
 
@@ -86,20 +90,24 @@ with_beat win x t arrows =
 
 -- before the window those alone that are open
 abbrev pub within : {w : ℕ} → Window → Link × Beat w → Trace w → List Arrow → List Arrow
-within win x t arrows = if nat_lt (next_line t) win.first then filter (is_open x t) arrows else arrows
+within win x t arrows = if nat_lt (next_line t) win.first then filter is_open (map (noted x t) arrows) else arrows
+
+-- What a link holds of a block after what it has carried: `held`, or `held_under` what the link may do.
+abbrev pub Holding : ℕ → Type 0
+Holding w = ℕ → History w → Perm
 
 -- what a link holds of the block that is asked for
-abbrev pub holds : {w : ℕ} → Option ℕ → Link → Trace w → Perm
-holds None link t = perm.None
-holds (Some k) link t = held k (on_link link.0 t)
+abbrev pub holds : {w : ℕ} → Holding w → Option ℕ → Link → Trace w → Perm
+holds held None link t = perm.None
+holds held (Some k) link t = held k (on_link link.0 t)
 
 -- what is held with one more beat: from its line on, where it is another permission. Before the window only the last of
 -- each link.
-abbrev pub marks_with : {w : ℕ} → Window → Link × Beat w → Trace w → List Mark → List Mark
-marks_with win x t marks =
-    if same_perm (holds win.block x.0 t) (holds win.block x.0 (x ∷ t)) then marks else
+abbrev pub marks_with : {w : ℕ} → Holding w → Window → Link × Beat w → Trace w → List Mark → List Mark
+marks_with held win x t marks =
+    if same_perm (holds held win.block x.0 t) (holds held win.block x.0 (x ∷ t)) then marks else
     (if nat_lt (next_line t) win.first then filter (λ m. not (m.link.0 == x.0.0)) marks else marks)
-    ++ record { link = x.0; line = next_line t; held = holds win.block x.0 (x ∷ t) } ∷ []
+    ++ record { link = x.0; line = next_line t; held = holds held win.block x.0 (x ∷ t) } ∷ []
 
 -- draws no more, and counts a message that begins
 abbrev pub skipped : Bool → Drawn → Drawn
@@ -112,27 +120,27 @@ skipped begins d = record {
 }
 
 -- draws the beat x behind t
-abbrev pub drawn_more : {w : ℕ} → Window → Link × Beat w → Trace w → Drawn → Drawn
-drawn_more win x t d = record {
+abbrev pub drawn_more : {w : ℕ} → Holding w → Window → Link × Beat w → Trace w → Drawn → Drawn
+drawn_more held win x t d = record {
   arrows = within win x t (with_beat win x t d.arrows);
-  marks = marks_with win x t d.marks;
+  marks = marks_with held win x t d.marks;
   more = d.more;
   end = next_line t;
   closed = false;
 }
 
 -- what is drawn with the beat x behind t
-abbrev pub drawn_next : {w : ℕ} → Window → Link × Beat w → Trace w → Drawn → Drawn
-drawn_next win x t d =
-    if closes win d (next_line t) (starts win x t) then skipped (starts win x t) d else drawn_more win x t d
+abbrev pub drawn_next : {w : ℕ} → Holding w → Window → Link × Beat w → Trace w → Drawn → Drawn
+drawn_next held win x t d =
+    if closes win d (next_line t) (starts win x t) then skipped (starts win x t) d else drawn_more held win x t d
 
--- What is drawn of a trace. Line 1 is the header's.
-unfoldable pub drawn : {w : ℕ} → Window → Trace w → Drawn
-drawn win [] = record { arrows = []; marks = []; more = 0; end = 1; closed = false }
-drawn win (x ∷ t) = drawn_next win x t (drawn win t)
+-- What is drawn of a trace, whose links hold so much. Line 1 is the header's.
+unfoldable pub drawn : {w : ℕ} → Holding w → Window → Trace w → Drawn
+drawn held win [] = record { arrows = []; marks = []; more = 0; end = 1; closed = false }
+drawn held win (x ∷ t) = drawn_next held win x t (drawn held win t)
 
 -- the beat x behind t, which is at fault, where its line is in the window and none too many stands before it
-abbrev pub fault_drawn : {w : ℕ} → Window → Link × Beat w → Trace w → Option Arrow
-fault_drawn win x t =
-    if closes win (drawn win t) (next_line t) false || nat_lt (next_line t) win.first then None else
+abbrev pub fault_drawn : {w : ℕ} → Holding w → Window → Link × Beat w → Trace w → Option Arrow
+fault_drawn held win x t =
+    if closes win (drawn held win t) (next_line t) false || nat_lt (next_line t) win.first then None else
     Some (fault_from x t)

@@ -1,5 +1,5 @@
 -- The messages of a trace. Traces have the newest beat first, lists of messages the oldest.
-use Rattle.std.specs.Prelude.{ℕ, Bool, true, not, List, [], ◌∷◌, ◌++◌, ◌==◌, ◌&&◌, if◌then◌else◌, map, Option, None}
+use Rattle.std.specs.Prelude.{ℕ, Bool, true, false, not, List, [], ◌∷◌, ◌++◌, ◌==◌, ◌&&◌, if◌then◌else◌, map, Option, None}
 use Rattle.tl_beat.specs.declared.beat.Beat.{Beat}
 use Rattle.tl_beat.specs.declared.beat.Beat.TheVariants as beat
 use Rattle.tl_beat.specs.declared.beat.Link.{Link}
@@ -41,6 +41,7 @@ message_from x t = record {
   first = next_line t;
   last = next_line t;
   complete = ends x.1 (on_link x.0.0 t);
+  answered = false;
 }
 
 -- the beat x behind t by itself, as it is drawn where it is at fault: a message of which nothing is missed
@@ -53,6 +54,7 @@ fault_from x t = record {
   first = next_line t;
   last = next_line t;
   complete = true;
+  answered = false;
 }
 
 -- the beat x is of this message: of its link and channel, where beats of it are missing

@@ -6,9 +6,11 @@ use Rattle.tl_beat.specs.declared.beat.Link.{Link}
 use Rattle.tl_beat.specs.declared.fault.LineFault.{LineFault}
 use Rattle.tl_beat.specs.statement.Line.{Spells, line_fault}
 use Rattle.tl_params.specs.declared.level.Level.{Level}
-use Rattle.tl_params.specs.declared.profile.Profile.{Profile}
+use Rattle.tl_params.specs.declared.liberties.Liberties.{Liberties}
 use Rattle.tl_params.specs.declared.width.Width.{Width}
 use Rattle.tl_rules.specs.statement.Conformance.{Trace}
+use Rattle.tl_rules.specs.statement.History.{held}
+use Rattle.tl_rules.specs.statement.Liberties.{held_under}
 use Rattle.tl_chart.specs.declared.arrow.Arrow.{Arrow}
 use Rattle.tl_chart.specs.declared.window.Window.{Window}
 use Rattle.tl_chart.specs.statement.Chart.{IsChart}
@@ -21,38 +23,40 @@ use Rattle.tl_engine.specs.declared.status.Status.{Status}
 use Rattle.tl_engine.specs.declared.status.Status.TheVariants.{Clean, Broken}
 use Rattle.tl_engine.specs.declared.status.ToolFault.{ToolFault}
 use Rattle.tl_engine.specs.declared.status.ToolFault.TheVariants.{Write}
-use Rattle.tl_engine.specs.statement.Judged.{Judged, faults_of_links}
-use Rattle.tl_engine.specs.statement.Trace.{SpellsHeader}
+use Rattle.tl_engine.specs.statement.JudgedLinks.{JudgedLinks, faults_under}
+use Rattle.tl_engine.specs.statement.LinksHeader.{NamesAllowed}
 use Rattle.tl_engine.specs.statement.Width.{bytes_of}
 
 -- The beat of a line at fault behind those of t as it is drawn: of one that spells none nothing is.
-abbrev pub DrawsFault : {w : ℕ} → Window → List Level → Profile → Trace w → List ℕ → Option Arrow → Type 0
-DrawsFault {w} win levels p t line arrow =
+abbrev pub DrawsFault : {w : ℕ} → Window → List Level → Liberties → Trace w → List ℕ → Option Arrow → Type 0
+DrawsFault {w} win levels may t line arrow =
     ((of_line : LineFault) × (line_fault w line ≡ Some of_line) × (arrow ≡ None))
     ⊎ ((link : Link) × (beat : Beat w) × (fault : Fault) × Spells line link beat
-    × (faults_of_links w levels p (link, beat) t ≡ Some fault) × (arrow ≡ fault_drawn win (link, beat) t))
+    × (faults_under w levels may (link, beat) t ≡ Some fault)
+    × (arrow ≡ fault_drawn (held_under may) win (link, beat) t))
 
--- This is drawn of these lines, behind a header and the beats of t, in a window: what is of all beats up to the first
--- line at fault, and the beat of that line.
-unfoldable pub DrawsAfter : {w : ℕ} → Window → List Level → Profile → Trace w → List (List ℕ) → Drawn → Option Arrow
+-- This is drawn of these lines, behind a header and the beats of t, whose links may do this, in a window: what is of all
+-- beats up to the first line at fault, and the beat of that line.
+unfoldable pub DrawsAfter : {w : ℕ} → Window → List Level → Liberties → Trace w → List (List ℕ) → Drawn → Option Arrow
     → Type 0
-DrawsAfter win levels p t [] d arrow = (d ≡ drawn win t) × (arrow ≡ None)
-DrawsAfter {w} win levels p t (line ∷ lines) d arrow =
-    ((link : Link) × (beat : Beat w) × Spells line link beat × (faults_of_links w levels p (link, beat) t ≡ None)
-    × DrawsAfter win levels p ((link, beat) ∷ t) lines d arrow)
-    ⊎ ((d ≡ drawn win t) × DrawsFault win levels p t line arrow)
+DrawsAfter win levels may t [] d arrow = (d ≡ drawn (held_under may) win t) × (arrow ≡ None)
+DrawsAfter {w} win levels may t (line ∷ lines) d arrow =
+    ((link : Link) × (beat : Beat w) × Spells line link beat × (faults_under w levels may (link, beat) t ≡ None)
+    × DrawsAfter win levels may ((link, beat) ∷ t) lines d arrow)
+    ⊎ ((d ≡ drawn (held_under may) win t) × DrawsFault win levels may t line arrow)
 
 -- nothing is drawn
 abbrev pub DrawsNothing : Window → Drawn → Option Arrow → Type 0
-DrawsNothing win d arrow = (d ≡ drawn {w = 4} win []) × (arrow ≡ None)
+DrawsNothing win d arrow = (d ≡ drawn {w = 4} held win []) × (arrow ≡ None)
 
--- This is drawn of the lines of a whole trace. Where the first isn't there or spells no header nothing is.
-unfoldable pub Draws : Window → List (List ℕ) → Drawn → Option Arrow → Type 0
-Draws win [] d arrow = DrawsNothing win d arrow
-Draws win (line ∷ lines) d arrow =
-    ((width : Width) × (p : Profile) × (levels : List Level) × SpellsHeader line width p levels
-    × DrawsAfter {w = bytes_of width} win levels p [] lines d arrow)
-    ⊎ (((width : Width) (p : Profile) (levels : List Level) → ¬ SpellsHeader line width p levels)
+-- This is drawn of the lines of a whole trace, where its links may do what the header names and what is allowed besides.
+-- Where the first line isn't there or is no header nothing is.
+unfoldable pub Draws : Liberties → Window → List (List ℕ) → Drawn → Option Arrow → Type 0
+Draws allow win [] d arrow = DrawsNothing win d arrow
+Draws allow win (line ∷ lines) d arrow =
+    ((width : Width) × (may : Liberties) × (levels : List Level) × NamesAllowed allow line width may levels
+    × DrawsAfter {w = bytes_of width} win levels may [] lines d arrow)
+    ⊎ (((width : Width) (may : Liberties) (levels : List Level) → ¬ NamesAllowed allow line width may levels)
     × DrawsNothing win d arrow)
 
 -- a line is at fault
@@ -61,22 +65,24 @@ is_broken Clean = false
 is_broken Broken = true
 
 -- the text is the chart of these lines in a window, with this verdict below it
-abbrev pub IsCharted : Window → List (List ℕ) → List ℕ → Status → List ℕ → Type 0
-IsCharted win lines verdict status chart =
-    (d : Drawn) × (arrow : Option Arrow) × (said : List ℕ) × Draws win lines d arrow × (verdict ≡ said ++ codes "\n")
+abbrev pub IsCharted : Liberties → Window → List (List ℕ) → List ℕ → Status → List ℕ → Type 0
+IsCharted allow win lines verdict status chart =
+    (d : Drawn) × (arrow : Option Arrow) × (said : List ℕ) × Draws allow win lines d arrow
+    × (verdict ≡ said ++ codes "\n")
     × IsChart win d arrow said (is_broken status) [] chart
 
--- What was read, to its end or to a line at fault that no continuation can mend, has this verdict, that of `monitor`, and
--- this chart with it.
-abbrev pub Charts : Window → Option (List ℕ) → Option (List ℕ) → Status → List ℕ → Type 0
-Charts win had left status chart =
-    (read verdict : List ℕ) × Consumes had left read × Judged (lines_of read) verdict status
-    × EndsAs Judged left read verdict status × IsCharted win (lines_of read) verdict status chart
+-- What was read, to its end or to a line at fault that no continuation can mend, has this verdict, that of `monitor` with
+-- the same `--allow`, and this chart with it.
+abbrev pub Charts : Liberties → Window → Option (List ℕ) → Option (List ℕ) → Status → List ℕ → Type 0
+Charts allow win had left status chart =
+    (read verdict : List ℕ) × Consumes had left read × JudgedLinks false allow (lines_of read) verdict status
+    × EndsAs (JudgedLinks false allow) left read verdict status
+    × IsCharted allow win (lines_of read) verdict status chart
 
 -- A chart was given up for this. But for `Write` nothing was written. `Write`: the trace was judged, and some of the
 -- chart is left to be written.
-abbrev pub GivesUpCharting : Window → Option (List ℕ) → Option (List ℕ) → Option (List ℕ) → Option (List ℕ) → ToolFault
-    → Type 0
-GivesUpCharting win had left held holds Write =
-    (chart : List ℕ) × (status : Status) × Charts win had left status chart × AppendsShort held holds chart
-GivesUpCharting win had left held holds fault = holds ≡ held
+abbrev pub GivesUpCharting : Liberties → Window → Option (List ℕ) → Option (List ℕ) → Option (List ℕ) → Option (List ℕ)
+    → ToolFault → Type 0
+GivesUpCharting allow win had left before after Write =
+    (chart : List ℕ) × (status : Status) × Charts allow win had left status chart × AppendsShort before after chart
+GivesUpCharting allow win had left before after fault = after ≡ before

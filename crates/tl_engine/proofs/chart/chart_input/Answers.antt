@@ -5,8 +5,9 @@ use Rattle.tl_engine.proofs.chart.chart_input.Goals as goal
 pub returns-clause-ok : goal.returns-clause-ok
 returns-clause-ok g c = (
   c.in_ok-chart.chart.items,
-  charts c.args.window _ _ c.in_ok-lines.lines c.gather.new.verdict.items _ c.in_ok-lines.status
-      c.in_ok-chart.chart.items c.in_ok-lines.ensures.ok c.deref.ensures.value c.in_ok-chart.ensures,
+  charts c.args.allow c.args.window _ _ c.in_ok-lines.lines c.gather.new.verdict.items _ c.in_ok-lines.status
+      c.in_ok-chart.chart.items c.in_ok-lines.ensures.ok
+      c.in_ok-lines.ensures.allow c.deref.ensures.value c.in_ok-chart.ensures,
   rw c.deref-2.ensures.value at c.in_ok-write_all.ensures.ok,
 )
 
@@ -16,7 +17,8 @@ returns-in_err-write_all-clause-fault g c =
     rw (p.1, p.2, c.in_err-write_all.ensures.fault) (
       c.in_ok-chart.chart.items,
       c.in_ok-lines.status,
-      charts c.args.window _ _ c.in_ok-lines.lines c.gather.new.verdict.items _ c.in_ok-lines.status
-          c.in_ok-chart.chart.items c.in_ok-lines.ensures.ok c.deref.ensures.value c.in_ok-chart.ensures,
+      charts c.args.allow c.args.window _ _ c.in_ok-lines.lines c.gather.new.verdict.items _ c.in_ok-lines.status
+          c.in_ok-chart.chart.items c.in_ok-lines.ensures.ok
+          c.in_ok-lines.ensures.allow c.deref.ensures.value c.in_ok-chart.ensures,
       rw c.deref-2.ensures.value at c.in_err-write_all.ensures.err,
     )

@@ -119,6 +119,28 @@ returns-then-eq-2-clause-refused c =
     (unasked_so c.in-Some.name.now (codes "chart") rows c.draw_chart.result
     (named_so c.in-Some.name.now (codes "chart") (search rules)) c.draw_chart.ensures.wrong)
 
+pub returns-then-eq-3-clause-given : goal.returns-then-eq-3-clause-given
+returns-then-eq-3-clause-given c =
+    let texts = map string_bytes c.args.words.now in
+    let rows = rows_of (found_of c.in-Some.found.now) in
+    let is = chosen texts _ c.in_ok-matches.matches c.in-Some.name.now rows c.in_ok-tool.ensures
+    (c.in_ok-matches.ensures.ok.2 (ap is_simple c.in_ok-tool.ensures ∙ simple)).1 c.in-Some.ensures.name
+    c.in-Some.ensures.rows in
+    task_given texts c.in-Some.name.now rows is c.tell_covered.result
+    (asked_so c.in-Some.name.now (codes "cover") rows c.tell_covered.result
+    (named_so c.in-Some.name.now (codes "cover") (search rules)) c.tell_covered.ensures.told)
+
+pub returns-then-eq-3-clause-refused : goal.returns-then-eq-3-clause-refused
+returns-then-eq-3-clause-refused c =
+    let texts = map string_bytes c.args.words.now in
+    let rows = rows_of (found_of c.in-Some.found.now) in
+    let is = chosen texts _ c.in_ok-matches.matches c.in-Some.name.now rows c.in_ok-tool.ensures
+    (c.in_ok-matches.ensures.ok.2 (ap is_simple c.in_ok-tool.ensures ∙ simple)).1 c.in-Some.ensures.name
+    c.in-Some.ensures.rows in
+    task_refused texts c.in-Some.name.now rows is c.tell_covered.result
+    (unasked_so c.in-Some.name.now (codes "cover") rows c.tell_covered.result
+    (named_so c.in-Some.name.now (codes "cover") (search rules)) c.tell_covered.ensures.wrong)
+
 pub returns-clause-given : goal.returns-clause-given
 returns-clause-given c =
     let texts = map string_bytes c.args.words.now in

@@ -8,13 +8,14 @@ use Rattle.tl_words.proofs.words.read.Goals as goal
 pub returns-in-Some-clause-read : goal.returns-in-Some-clause-read
 returns-in-Some-clause-read c = IfOk-weaker c.search.result _ _ (λ task h. h (rows_of (found_of c.args.found.now))
     (sym (c.in-Some.ensures ∙ first_value-rows (found_of c.args.found.now) (codes "all")))
-    (sym (c.get_str-name_of_file.ensures ∙ first_value-rows (found_of c.args.found.now) (codes "FILE"))) c.requires.unreported
+    (sym (c.get_str-name_of_file.ensures ∙ first_value-rows (found_of c.args.found.now) (codes "FILE")))
+    c.requires.unreported
     c.requires.allowed) c.search.ensures.read
 
 pub returns-in-Some-clause-wrong : goal.returns-in-Some-clause-wrong
 returns-in-Some-clause-wrong c = IfErr-weaker c.search.result _ _ (λ fault h. h (rows_of (found_of c.args.found.now))
     (sym (c.in-Some.ensures ∙ first_value-rows (found_of c.args.found.now) (codes "all")))
-    c.requires.random c.requires.chart c.requires.unreported) c.search.ensures.wrong
+    c.requires.random c.requires.chart c.requires.cover c.requires.unreported) c.search.ensures.wrong
 
 pub returns-in_default-command_named-clause-wrong : goal.returns-in_default-command_named-clause-wrong
 returns-in_default-command_named-clause-wrong c = (
@@ -28,6 +29,7 @@ returns-in_default-command_named-clause-wrong c = (
       (sym (c.in_default.ensures ∙ first_value-rows (found_of c.args.found.now) (codes "all")))
       c.requires.random
       c.requires.chart
+      c.requires.cover
       c.requires.unreported,
   c.in_ok-wrong_words.ensures,
 )

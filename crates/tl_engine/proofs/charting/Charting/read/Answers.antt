@@ -7,4 +7,5 @@ returns-in-Ok g c = at_line c.args.self.now c.take.new.self c.args.line.now c.in
     c.take.ensures c.in-Ok.ensures.spelled
 
 pub returns-in-Err : goal.returns-in-Err
-returns-in-Err g c = reads_none c.args.self.now c.args.line.now c.in-Err.fault (sym c.in-Err.ensures.fault)
+returns-in-Err g c = λ allow.
+    reads_none allow c.args.self.now c.args.line.now c.in-Err.fault (sym c.in-Err.ensures.fault)

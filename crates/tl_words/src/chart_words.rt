@@ -1,0 +1,66 @@
+//! Reads the words of a chart.
+
+ghost use Rattle.std.specs.Prelude.{◌≡◌, IfOk, IfErr, codes};
+ghost use Rattle.clap.specs.Words.{found_of, rows_of};
+ghost use Rattle.tl_words.specs.Refused.{IsFaultOf, status_of_usage};
+ghost use Rattle.tl_words.specs.Tool.{IsTaskOf};
+
+use crate::commands::chart;
+use crate::words::{WordsFault, copied, wrong_liberties};
+use clap::ArgMatches;
+use clap::error::ErrorKind;
+use std::alloc::{AllocError, Global};
+use tl_command::chart::{ChartOption, range_named};
+use tl_command::liberties::allowed_named;
+use tl_command::task::Task;
+
+/// The error of an option of `chart` whose word stands for nothing.
+fn wrong_range(
+    alloc: Global,
+    option: ChartOption,
+    word: Option<&str>,
+) -> Result<clap::Error, AllocError>
+    ensures { IfOk result (λ error. status_of_usage error ≡ 2) }
+{
+    let (word, name, wanted) = (word.unwrap_or(""), option.name(), option.wanted());
+    let message = format!(in alloc; "invalid value '{word}' for '{name}': {wanted}")?;
+    let mut chart = chart(alloc)?.bin_name("tltool chart")?;
+    chart.error(ErrorKind::InvalidValue, message.as_str())
+}
+
+/// The word of an option of `chart`.
+fn word_of<'a>(
+    option: ChartOption,
+    lines: Option<&'a str>,
+    block: Option<&'a str>,
+) -> Option<&'a str> {
+    match option {
+        ChartOption::Lines => lines,
+        ChartOption::Block => block,
+    }
+}
+
+/// The chart that the entries of `chart` ask for.
+pub(crate) fn draw_chart(alloc: Global, found: &ArgMatches) -> Result<Task, WordsFault>
+    ensures drawn { IfOk result (IsTaskOf (codes "chart") (rows_of (found_of found.now))) }
+    ensures wrong { IfErr result (IsFaultOf (codes "chart") (rows_of (found_of found.now))) }
+{
+    let lines = found.get_str("lines");
+    let block = found.get_str("block");
+    let word = found.get_str("allow");
+    let name_of_file = found.get_str("FILE");
+    let Some(allow) = allowed_named(word) else {
+        let error = wrong_liberties(alloc, "chart", false, word)?;
+        return Err(WordsFault::Usage(error));
+    };
+    match range_named(lines, block) {
+        Ok(range) => {
+            let file = copied(alloc, name_of_file)?;
+            Ok(Task::Chart { range, allow, file })
+        }
+        Err(option) => {
+            let error = wrong_range(alloc, option, word_of(option, lines, block))?;
+            Err(WordsFault::Usage(error))
+        }
+    }
+}

@@ -34,6 +34,24 @@ LIBERTIES_TOGETHER = "none, or names of ids, sinks, writer, drops, reports, deni
 
 # The beats of what follows.
 PERM, GRANT, PROBE = "A 7 1 6 00 00000000 ff - 0", "D 4 0 6 00 00 0 - 0", "B 6 2 6 00 00000000 ff - 0"
+DENIED = "D 4 0 6 00 00 1 - 0"
+# A Put of two beats, answered behind the first, and a Get.
+PUT = "A 0 0 4 00 00000000 ff 0000000000000000 0"
+ANSWERED_EARLY = [PUT, "D 0 0 4 00 00 0 - 0", PUT, "A 4 0 3 00 00000000 ff - 0", "D 1 0 3 00 00 0 0000000000000000 0"]
+# What charts tell of these: a copy that is dropped, and one that isn't; nothing that a denied Grant gives; of the Put
+# nothing behind its last beat.
+GRANTED_TOLD = """Line 2: 00 A AcquirePerm NtoT block 000 source 00.
+Line 3: 00 D Grant toT block 000 source 00 sink 00.
+Line 4: 00 E GrantAck block 000 sink 00.
+"""
+ASKED_TOLD = f"{GRANTED_TOLD}Line 5: 00 A AcquirePerm NtoT block 000 source 00.\nWith line 3 00 is a writer.\n"
+DROPPED_TOLD = f"{ASKED_TOLD}With line 5 00 holds nothing.\nThe monitor says: clean 4</desc>\n"
+KEPT_TOLD = f"{ASKED_TOLD}The monitor says: line 5 H5</desc>\n"
+DENIED_TOLD = f"{GRANTED_TOLD}The monitor says: clean 3</desc>\n"
+ANSWERED_TOLD = """Line 5: 00 A Get block 000 source 00.
+Line 6: 00 D AccessAckData block 000 source 00.
+The monitor says: clean 5</desc>
+"""
 NAMES = ("ids", "sinks", "writer", "early", "drops", "reports", "denied", "uncorrupt")
 
 
@@ -69,6 +87,11 @@ def together(liberties, lines):
     held = ["00 A 7 1 6 00 00000000 ff - 0", "00 D 4 0 6 00 00 0 - 0", "00 E 00", "01 A 7 1 6 00 00000000 ff - 0"]
     words = " ".join(f"'{it}'" for it in (f"tltrace 4 8 {liberties} C C", *held, *lines))
     return f"printf '%s\\n' {words} | tltool coherent"
+
+
+def charted(liberties, beats, options=""):
+    """A chart of one link with these liberties, as its readers are told it that don't see the picture."""
+    return judged(liberties, beats, f"chart {options}") + " | sed -n '/^Line/,/<.desc>/p'"
 
 
 def explained(beats, header="tltrace 1 C", options="", line="tail -n 1"):
@@ -126,7 +149,7 @@ ROWS = [
     ("tltool monitor --allow late --report r.json two_caches.trace; ls r.json", 2, "", f"error: invalid value 'late' for '--allow <LIBERTIES>': {LIBERTIES}\n.."),
     ("tltool monitor --allow", 2, "", "error: .."),
     ("tltool monitor --allow early --allow drops two_caches.trace", 2, "", "error: .."),
-    *((f"tltool {it} --allow early two_caches.trace", 2, "", "error: unexpected argument '--allow' found..") for it in ("chart", "decode", "run")),
+    *((f"tltool {it} --allow early two_caches.trace", 2, "", "error: unexpected argument '--allow' found..") for it in ("decode", "run")),
     *((f"tltool explain --allow {it} two_caches.trace", 2, "", f"error: invalid value '{it}' for '--allow <LIBERTIES>': {LIBERTIES}\n..") for it in ("all", "drops,early")),
     *((f"tltool explain --coherent --allow {it} two_caches.trace", 2, "", f"error: invalid value '{it}' for '--allow <LIBERTIES>': {LIBERTIES_TOGETHER}\n..") for it in ("early", "standard", "all")),
     ("tltool explain --allow early H12", 0, "H12 (ProbeAck, ProbeAckData): ..", ""),
@@ -145,8 +168,20 @@ ROWS = [
         (f"tltool chart --block {word} two_caches.trace", 2, "", f"error: invalid value '{word}' for '--block <BBB>': {BLOCK}\n..")
         for word in ("0", "00", "0000", "00F", "00g", "00000000")
     ),
+    *(
+        (f"tltool chart --allow {word} two_caches.trace", 2, "", f"error: invalid value '{word}' for '--allow <LIBERTIES>': {LIBERTIES}\n..")
+        for word in ("all", "Early", "early,", "drops,early", "none,early", "early,late")
+    ),
+    ("tltool chart --allow '' two_caches.trace", 2, "", f"error: invalid value '' for '--allow <LIBERTIES>': {LIBERTIES}\n.."),
+    ("tltool chart --allow", 2, "", "error: .."),
+    ("tltool chart --allow early --allow drops two_caches.trace", 2, "", "error: .."),
     ("tltool chart --block", 2, "", "error: .."),
     ("tltool chart a b", 2, "", "error: unexpected argument 'b' found.."),
+    # words of the situations
+    ("tltool cover --help", 0, "..", ""),
+    ("tltool cover a b", 2, "", "error: unexpected argument 'b' found.."),
+    ("tltool cover --json=x", 2, "", "error: .."),
+    ("tltool cover --all 2 two_caches.trace", 2, "", "error: unexpected argument '--all' found.."),
     # words of a random schedule
     ("tltool random", 2, "", "error: the following required arguments were not provided:\n  --seed <N>.."),
     ("tltool random 1", 2, "", "error: unexpected argument '1' found.."),
@@ -258,9 +293,29 @@ ROWS = [
     ("tltool chart --block 001 two_caches.trace | grep -c '<circle'", 1, "0\n", ""),
     ("(cat two_caches.trace; echo '<x>&') | tltool chart | tail -n 3 | head -n 1", 0, "<text class='v' x='70' y='268'>line 31 F1</text>\n", ""),
     ("tltool chart </dev/null | grep -c 'line 1 F7'", 0, "2\n", ""),
+    # the verdict in a chart is that of `monitor` under the liberties of the header and those of --allow
+    *((judged(it, beats, "chart") + f" | grep -c '>clean {len(beats)}<'", 0, "1\n", "") for it, _, beats in UNDER),
+    *((judged(it, beats, "chart") + f" | grep -c '>line {len(beats) + 1} {rule}<'", 0, "1\n", "") for it, rule, beats in STILL),
+    *((allowed("tltrace 1 C", it, beats, command="chart") + f" | grep -c '>clean {len(beats)}<'", 0, "1\n", "") for it, _, beats in UNDER),
+    *((allowed("tltrace 1 C", "none", beats, command="chart") + f" | grep -c '>line {len(beats) + 1} {rule}<'", 0, "1\n", "") for _, rule, beats in UNDER),
+    ("tltool chart --allow standard two_caches.trace | cmp - <(tltool chart two_caches.trace)", 0, "", ""),
+    (charted("drops", [PERM, GRANT, "E 00", PERM], "--block 000"), 0, DROPPED_TOLD, ""),
+    (charted("none", [PERM, GRANT, "E 00", PERM], "--block 000"), 0, KEPT_TOLD, ""),
+    (charted("denied", [PERM, DENIED, "E 00"], "--block 000"), 0, DENIED_TOLD, ""),
+    (charted("early", ANSWERED_EARLY, "--lines 5-6"), 0, ANSWERED_TOLD, ""),
     ("tltool chart nope.trace", 3, "", "tltool: cannot open nope.trace\n"),
     ("tltool chart rules", 3, "", "tltool: read failed\n"),
     ("tltool chart two_caches.trace >/dev/full", 3, "", "tltool: write failed\n"),
+    # situations
+    ("tltool cover two_caches.trace | head -4 | tail -3 | cut -d: -f1", 0, "report-TtoB 1, line 14\nresponse-at-once 2, line 3\n2 of 38 situations seen\n", ""),
+    ("tltool cover <two_caches.trace | wc -l", 0, "40\n", ""),
+    ("tltool cover wrong_report.trace", 1, "line 13 H12\n..", ""),
+    ("tltool cover --json wrong_report.trace", 1, "{\"verdict\": \"line 13 H12\", \"seen\": ..", ""),
+    ("tltool cover </dev/null", 1, "line 1 F7\n0 of 38 situations seen\n", ""),
+    ("tltool cover --json </dev/null", 1, "{\"verdict\": \"line 1 F7\", \"seen\": 0, \"of\": 38, \"situations\": []}\n", ""),
+    ("tltool cover nope.trace", 3, "", "tltool: cannot open nope.trace\n"),
+    ("tltool cover rules", 3, "", "tltool: read failed\n"),
+    ("tltool cover two_caches.trace >/dev/full", 3, "", "tltool: write failed\n"),
     # files and devices
     ("tltool monitor nope.trace", 3, "", "tltool: cannot open nope.trace\n"),
     ("tltool coherent nope.trace", 3, "", "tltool: cannot open nope.trace\n"),

@@ -3,7 +3,7 @@ _tltool() {
     local current=${COMP_WORDS[COMP_CWORD]} previous=${COMP_WORDS[COMP_CWORD-1]} options=
     COMPREPLY=()
     if ((COMP_CWORD == 1)); then
-        COMPREPLY=($(compgen -W 'decode monitor coherent explain chart run random help --help --version -h -V' -- "$current"))
+        COMPREPLY=($(compgen -W 'decode monitor coherent explain chart cover run random help --help --version -h -V' -- "$current"))
         return
     fi
     if [[ $previous == --width ]]; then
@@ -27,10 +27,11 @@ _tltool() {
     monitor) options='--allow --all --report --junit --help -h' ;;
     coherent) options='--allow --all --report --junit --help -h' ;;
     explain) options='--coherent --allow --help -h' ;;
-    chart) options='--lines --block --help -h' ;;
+    chart) options='--lines --block --allow --help -h' ;;
+    cover) options='--json --help -h' ;;
     run) options='--trace --help -h' ;;
     random) options='--seed --events --contend --clients --blocks --trackers --width --profile --help -h' ;;
-    help) COMPREPLY=($(compgen -W 'decode monitor coherent explain chart run random' -- "$current")); return ;;
+    help) COMPREPLY=($(compgen -W 'decode monitor coherent explain chart cover run random' -- "$current")); return ;;
     esac
     if [[ $current == -* || ${COMP_WORDS[1]} == random ]]; then
         COMPREPLY=($(compgen -W "$options" -- "$current"))

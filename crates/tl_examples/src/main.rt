@@ -68,7 +68,7 @@ const TRACES: [&str; 45] = [
 ];
 
 /// The traces whose links are judged together.
-const TOGETHER: [&str; 25] = [
+const TOGETHER: [&str; 27] = [
     "two_caches.trace",
     "wrong_report.trace",
     "rules/M1.trace",
@@ -88,6 +88,8 @@ const TOGETHER: [&str; 25] = [
     "rules/M3_window_right.trace",
     "rules/M3_served.trace",
     "rules/M3_served_right.trace",
+    "rules/M3_written.trace",
+    "rules/M3_written_right.trace",
     "rules/M4.trace",
     "rules/M4_right.trace",
     "rules/M4_shown.trace",

@@ -104,12 +104,14 @@ EndsAllowed explained allow had left held holds status =
     × (status ≡ explained))
     ⊎ ((fault : ToolFault) × GivesUpAllowing allow had left held holds fault × (status ≡ exit_status (Err fault)))
 
--- The status is that of an outcome which a chart of a window has over what was read and written.
-abbrev pub EndsCharted : Window → Option (List ℕ) → Option (List ℕ) → Option (List ℕ) → Option (List ℕ) → ℕ → Type 0
-EndsCharted win had left held holds status =
+-- The status is that of an outcome which a chart of a window, whose links may do this besides what the header names, has
+-- over what was read and written.
+abbrev pub EndsCharted : Liberties → Window → Option (List ℕ) → Option (List ℕ) → Option (List ℕ) → Option (List ℕ) → ℕ
+    → Type 0
+EndsCharted allow win had left held holds status =
     (outcome : Result Status ToolFault) × (status ≡ exit_status outcome)
-    × IfOk outcome (λ judged. (chart : List ℕ) × Charts win had left judged chart × Appends held holds chart)
-    × IfErr outcome (GivesUpCharting win had left held holds)
+    × IfOk outcome (λ judged. (chart : List ℕ) × Charts allow win had left judged chart × Appends held holds chart)
+    × IfErr outcome (GivesUpCharting allow win had left held holds)
 
 -- The status is that of an outcome which a search has over what was read and written.
 abbrev pub EndsFound : Aim → Option (List ℕ) → Option (List ℕ) → Option (List ℕ) → Option (List ℕ) → ℕ → Type 0

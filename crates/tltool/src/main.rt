@@ -6,9 +6,11 @@ ghost use Rattle.tl_engine.specs.statement.Exit.{exit_status};
 ghost use Rattle.tltool.specs.Ended.{EndsAllowed, EndsAs, EndsCharted, EndsDrawn, EndsExplained, EndsFound, EndsOver, IsRefused};
 ghost use Rattle.tltool.specs.Ended.{explain_status};
 
+mod cover;
 mod early;
 mod report;
 
+use cover::cover;
 use early::{front_of, tell_early, tell_early_in};
 use report::report;
 use std::fs::File;
@@ -255,27 +257,29 @@ fn draw<W: Write>(rt: &HostRuntime, options: &Options, output: &mut W) -> u8
     told(rt, written.map(|_| Status::Clean))
 }
 
-/// Draws what a reader gives.
+/// Draws what a reader gives, where links may do this besides what the header names.
 fn chart_over<R: Read, W: Write>(
     rt: &HostRuntime,
+    allow: Liberties,
     window: Window,
     input: &mut R,
     output: &mut W,
 ) -> u8
-    ensures { EndsCharted window (R.remaining input.old) (R.remaining input.new) (W.contents output.old)
+    ensures { EndsCharted allow window (R.remaining input.old) (R.remaining input.new) (W.contents output.old)
         (W.contents output.new) result }
 {
-    told(rt, chart_input(rt.alloc(), window, input, output))
+    told(rt, chart_input(rt.alloc(), allow, window, input, output))
 }
 
-/// Draws a chart of the trace on standard input, or in the file of this name.
-fn chart(rt: &HostRuntime, range: Range, name: Option<String>) -> u8 {
+/// Draws a chart of the trace on standard input, or in the file of this name. Links may do this besides what its header
+/// names.
+fn chart(rt: &HostRuntime, range: Range, allow: Liberties, name: Option<String>) -> u8 {
     let window = window_of(range);
     let mut output = io::writer(rt);
     match name {
-        None => chart_over(rt, window, &mut rt.reader(), &mut output),
+        None => chart_over(rt, allow, window, &mut rt.reader(), &mut output),
         Some(name) => match fs::open(rt, name.as_str()) {
-            Ok(mut file) => chart_over(rt, window, &mut file, &mut output),
+            Ok(mut file) => chart_over(rt, allow, window, &mut file, &mut output),
             Err(_) => unopened(rt, name.as_str()),
         },
     }
@@ -326,7 +330,8 @@ fn run(rt: &HostRuntime, task: Task) -> u8 {
             report: json,
             junit,
         } => report(rt, inquiry, file, json, junit),
-        Task::Chart { range, file } => chart(rt, range, file),
+        Task::Chart { range, allow, file } => chart(rt, range, allow, file),
+        Task::Cover { json, file } => cover(rt, json, file),
         Task::Draw { options } => draw(rt, &options, &mut io::writer(rt)),
     }
 }

@@ -1,0 +1,68 @@
+-- What a covering knows after its monitor's answer.
+use Rattle.std.proofs.Common.{◌≡◌, ◌≤◌, ℕ, Bool, true, false, List, length, refl, sym, subst}
+use Rattle.std.specs.Prelude.{None, Result, Ok, Err, ⊤, slice_get}
+use Rattle.std.proofs.lemmas.Option.{slice_get_past}
+use Rattle.tl_beat.specs.declared.beat.Beat.{Beat}
+use Rattle.tl_beat.specs.declared.beat.Link.{Link}
+use Rattle.tl_cover.specs.declared.covering.Covering.{Covering}
+use Rattle.tl_cover.specs.statement.Covers.{Covers, CoversAfter, Follows}
+use Rattle.tl_monitor.specs.declared.fault.MonitorFault.{MonitorFault}
+use Rattle.tl_monitor.specs.declared.fault.MonitorFault.TheVariants as monitor
+use Rattle.tl_monitor.specs.declared.monitor.Monitor.{Monitor}
+use Rattle.tl_monitor.specs.statement.Knows.{Answers, KnowsUnder, closed_after, fault_under, recorded_after}
+use Rattle.tl_params.specs.declared.level.Level.{Level}
+use Rattle.tl_params.specs.declared.liberties.Liberties.{Liberties}
+use Rattle.tl_rules.specs.statement.Conformance.{Trace}
+
+module _ {w : ℕ} (c : Covering w) (m : Monitor w) (levels : List Level) (l : Liberties) (x : Link × Beat w)
+    (t : Trace w)
+    (closed : Bool) (had : Covers c levels l t closed) where
+  abbrev with_monitor : Covering w
+  with_monitor = record c { monitor = m }
+
+  pub follows_on : Follows with_monitor (length levels) l t
+  follows_on = record {
+    pasts_are = had.follows.pasts_are;
+    many = had.follows.many;
+    count_is = had.follows.count_is;
+    rows_are = had.follows.rows_are;
+    line_is = had.follows.line_is;
+  }
+
+  kept : (after : Bool) → KnowsUnder m levels l t after → Covers with_monitor levels l t after
+  kept after knows = record {
+    knows = knows;
+    follows = follows_on;
+  }
+
+  -- the beat is refused
+  pub refused : (fault : MonitorFault) (r : Result ⊤ MonitorFault) → r ≡ Err fault
+      → KnowsUnder m levels l (recorded_after r x t) (closed_after r) → CoversAfter r with_monitor levels l x t
+  refused fault (Ok u) e knows = absurd cc
+  refused fault (Err monitor.Levels) e knows = kept true knows
+  refused fault (Err (monitor.Broken rule)) e knows = kept true knows
+  refused fault (Err monitor.Memory) e knows = tt
+  refused fault (Err monitor.Closed) e knows = kept true knows
+
+  -- a beat of a link without a level is not taken
+  faulty : length levels ≤ x.0.0 → fault_under levels l t closed x ≡ None → ⊥
+  faulty beyond none = go closed none
+    where
+      go : (b : Bool) → fault_under levels l t b x ≡ None → ⊥
+      go true e = absurd cc
+      go false e = let out : slice_get levels x.0.0 ≡ None = slice_get_past levels x.0.0 beyond in
+          let e' = rw out at e in absurd cc
+
+  pub beyond_all : (r : Result ⊤ MonitorFault) → length levels ≤ x.0.0 → Answers (fault_under levels l t closed x) r
+      → KnowsUnder m levels l (recorded_after r x t) (closed_after r) → CoversAfter r with_monitor levels l x t
+  beyond_all (Ok u) beyond answer knows = absurd (faulty beyond answer)
+  beyond_all (Err fault) beyond answer knows = refused fault (Err fault) refl knows
+
+-- the beat is taken
+pub covers_more : {w : ℕ} (d : Covering w) (m : Monitor w) (levels : List Level) (l : Liberties) (t : Trace w)
+    → d.monitor ≡ m
+    → KnowsUnder m levels l t false → Follows d (length levels) l t → Covers d levels l t false
+covers_more d m levels l t is knows follows = record {
+  knows = subst (λ (k : Monitor _). KnowsUnder k levels l t false) (sym is) knows;
+  follows = follows;
+}

@@ -1,0 +1,10 @@
+pub mod Lists
+pub mod Pasts
+pub mod Rows
+pub mod Links
+pub mod Changed
+pub mod Counted
+pub mod Within
+pub mod Awaited
+pub mod Scenes
+pub mod Answered

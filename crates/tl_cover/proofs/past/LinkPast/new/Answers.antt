@@ -1,0 +1,7 @@
+use Rattle.std.proofs.Common.{refl, rules}
+use Rattle.tl_cover.proofs.Pasts.{past_none}
+use Rattle.tl_cover.proofs.past.LinkPast.new.Goals as goal
+
+pub returns : goal.returns
+returns c = λ w. past_none w _ (search rules) (search rules) (search rules) (search rules) (search rules) (search rules)
+    (search rules) refl

@@ -1,0 +1,101 @@
+//! Whether a message begins in a situation.
+
+ghost use Rattle.std.specs.Prelude.{◌≡◌};
+ghost use Rattle.tl_beat.specs.statement.Width.{IsWidth};
+ghost use Rattle.tl_cover.specs.statement.Situations;
+
+use crate::kind::{
+    has_arithmetic, has_lanes, has_logical, has_report, is_access_beat, is_acquire_beat, is_atomic,
+    is_get, is_grant_ack_beat, is_grant_beat, is_grant_with, is_probe_beat, is_put,
+    is_release_beat,
+};
+use crate::scene::{Scene, is_same};
+use crate::situation::Situation;
+use tl_beat::beat::Beat;
+use tl_beat::control::Control;
+use tl_params::param::Grow;
+use tl_rules::kind::{is_acquire, is_release, is_release_ack};
+use tl_rules::past::Request;
+use tl_rules::perm::Perm;
+
+/// Whether the link holds so much of the block.
+fn holds(held: Perm, scene: &Scene) -> bool
+    ensures { result ≡ Situations.holds held scene.now }
+{
+    is_same(scene.block.held, held)
+}
+
+/// Whether a request is an Acquire BtoT.
+fn is_upgrade(request: Option<Request>) -> bool
+    ensures { result ≡ Situations.is_upgrade request }
+{
+    match request {
+        None => false,
+        Some(request) => is_acquire(request.opcode) && request.param == Grow::BtoT.param(),
+    }
+}
+
+/// Whether the copy was lost with which an Acquire BtoT began.
+fn has_lost_copy(scene: &Scene) -> bool
+    ensures { result ≡ Situations.has_lost_copy scene.now }
+{
+    is_upgrade(scene.request) && holds(Perm::None, scene)
+}
+
+/// Whether the beat before a response is one of its request, or of its Release.
+fn follows<const W: usize>(beat: &Beat<W>, previous: Option<Control>) -> bool
+    ensures { result ≡ Situations.follows beat.now previous }
+{
+    match (beat, previous) {
+        (Beat::D(x), Some(Control::A(y))) => !is_release_ack(x.opcode) && y.source == x.source,
+        (Beat::D(x), Some(Control::C(y))) => {
+            is_release_ack(x.opcode) && is_release(y.opcode) && y.source == x.source
+        }
+        _ => false,
+    }
+}
+
+/// Whether the beat before is of channel D.
+fn is_response(previous: Option<Control>) -> bool
+    ensures { result ≡ Situations.is_response previous }
+{
+    matches!(previous, Some(Control::D(_)))
+}
+
+/// Whether a message that begins with a beat begins in a situation. The scene is what is known of it.
+pub fn meets<const W: usize>(situation: Situation, beat: &Beat<W>, scene: &Scene) -> bool
+    requires { IsWidth W }
+    ensures { result ≡ Situations.meets situation beat.now scene.now }
+{
+    let block = &scene.block;
+    match situation {
+        Situation::ProbeBesideRelease => is_probe_beat(beat) && block.release,
+        Situation::ReleaseBesideProbe => is_release_beat(beat) && block.probe,
+        Situation::ProbeBesideAcquire => is_probe_beat(beat)
+            && block.acquire
+            && holds(Perm::None, scene),
+        Situation::ProbeBesideUpgrade => is_probe_beat(beat)
+            && block.acquire
+            && holds(Perm::Branch, scene),
+        Situation::ProbeOfNothing => is_probe_beat(beat) && holds(Perm::None, scene),
+        Situation::UpgradeLostWithData => is_grant_with(true, beat) && has_lost_copy(scene),
+        Situation::UpgradeLostWithoutData => is_grant_with(false, beat) && has_lost_copy(scene),
+        Situation::ReleaseBeforeGrantAck => is_release_beat(beat) && block.grant_ack,
+        Situation::TwoGrants => is_grant_beat(beat) && scene.waiting >= 1,
+        Situation::FourGrants => is_grant_beat(beat) && scene.waiting >= 3,
+        Situation::Reported(report) => has_report(report, beat),
+        Situation::AccessBesideTransfer => is_access_beat(beat) && (block.acquire || block.release),
+        Situation::AccessOfHeldBlock => is_access_beat(beat) && !holds(Perm::None, scene),
+        Situation::Masked(lanes) => has_lanes(lanes, beat),
+        Situation::Arithmetic(operation) => has_arithmetic(operation, beat),
+        Situation::Logical(operation) => has_logical(operation, beat),
+        Situation::ResponseAtOnce => follows(beat, scene.previous),
+        Situation::GrantAckLater => is_grant_ack_beat(beat) && !is_response(scene.previous),
+        Situation::Contention => is_acquire_beat(beat) && block.acquiring >= 1,
+        Situation::ThreeContend => is_acquire_beat(beat) && block.acquiring >= 2,
+        Situation::ReadOfOwned => is_get(beat) && block.owners >= 1,
+        Situation::WriteToOwned => is_put(beat) && block.owners >= 1,
+        Situation::AtomicOnOwned => is_atomic(beat) && block.owners >= 1,
+        Situation::WriteToShared => is_put(beat) && block.readers >= 2,
+    }
+}

@@ -1,0 +1,118 @@
+//! The names of situations as users see them, and what they say.
+
+ghost use Rattle.std.specs.Prelude.{◌≡◌, ◌++◌, OnOk, option_map};
+ghost use Rattle.tl_cover.specs.statement.Names;
+
+use crate::situation::{Lanes, Situation};
+use std::alloc::AllocError;
+
+impl Lanes {
+    /// The name, in the name of a situation.
+    pub fn name(self) -> &'static str
+        ensures { result.now ≡ Names.lanes_name self }
+    {
+        match self {
+            Self::Empty => "empty",
+            Self::Partial => "partial",
+            Self::Full => "full",
+        }
+    }
+}
+
+impl Situation {
+    /// What the name begins with.
+    fn word(self) -> &'static str
+        ensures { result.now ≡ Names.word self }
+    {
+        match self {
+            Self::ProbeBesideRelease => "probe-beside-release",
+            Self::ReleaseBesideProbe => "release-beside-probe",
+            Self::ProbeBesideAcquire => "probe-beside-acquire",
+            Self::ProbeBesideUpgrade => "probe-beside-upgrade",
+            Self::ProbeOfNothing => "probe-of-nothing",
+            Self::UpgradeLostWithData => "upgrade-lost-data",
+            Self::UpgradeLostWithoutData => "upgrade-lost-no-data",
+            Self::ReleaseBeforeGrantAck => "release-before-grant-ack",
+            Self::TwoGrants => "two-grants",
+            Self::FourGrants => "four-grants",
+            Self::Reported(_) => "report",
+            Self::AccessBesideTransfer => "access-beside-transfer",
+            Self::AccessOfHeldBlock => "access-of-held-block",
+            Self::Masked(_) => "mask",
+            Self::Arithmetic(_) => "arithmetic",
+            Self::Logical(_) => "logical",
+            Self::ResponseAtOnce => "response-at-once",
+            Self::GrantAckLater => "grant-ack-later",
+            Self::Contention => "contention",
+            Self::ThreeContend => "three-contend",
+            Self::ReadOfOwned => "read-of-owned",
+            Self::WriteToOwned => "write-to-owned",
+            Self::AtomicOnOwned => "atomic-on-owned",
+            Self::WriteToShared => "write-to-shared",
+        }
+    }
+
+    /// Which it is of several situations that have one word.
+    fn detail(self) -> Option<&'static str>
+        ensures { option_map (λ s. s.now) result ≡ Names.detail self }
+    {
+        match self {
+            Self::Reported(report) => Some(report.name()),
+            Self::Masked(lanes) => Some(lanes.name()),
+            Self::Arithmetic(operation) => Some(operation.name()),
+            Self::Logical(operation) => Some(operation.name()),
+            _ => None,
+        }
+    }
+
+    /// Appends the name, as `report-TtoN`.
+    pub fn append_name(self, out: &mut Vec<u8>) -> Result<(), AllocError>
+        ensures { OnOk result (out.new.items ≡ out.old.items ++ Names.name self) }
+    {
+        out.extend_from_slice(self.word().as_bytes())?;
+        if let Some(detail) = self.detail() {
+            out.push(b'-')?;
+            out.extend_from_slice(detail.as_bytes())?;
+        }
+        Ok(())
+    }
+
+    /// What it is, in a sentence.
+    pub fn sentence(self) -> &'static str
+        ensures { result.now ≡ Names.sentence self }
+    {
+        match self {
+            Self::ProbeBesideRelease => "a Probe while a Release of its block is pending",
+            Self::ReleaseBesideProbe => "a Release while a Probe of its block is pending",
+            Self::ProbeBesideAcquire =>
+                "a Probe of a block that the link asks for and doesn't hold",
+            Self::ProbeBesideUpgrade =>
+                "a Probe of a block that the link asks for and holds as Branch",
+            Self::ProbeOfNothing => "a Probe of a block that the link doesn't hold",
+            Self::UpgradeLostWithData =>
+                "a GrantData for an Acquire BtoT whose copy was lost meanwhile",
+            Self::UpgradeLostWithoutData =>
+                "a Grant for an Acquire BtoT whose copy was lost meanwhile",
+            Self::ReleaseBeforeGrantAck => "a Release while the GrantAck of its block is pending",
+            Self::TwoGrants => "a Grant while another waits for its GrantAck on the link",
+            Self::FourGrants => "a Grant while three others wait for their GrantAcks on the link",
+            Self::Reported(_) => "a ProbeAck with this report",
+            Self::AccessBesideTransfer =>
+                "an access while an Acquire or a Release of its block is pending on the link",
+            Self::AccessOfHeldBlock => "an access to a block that its own link holds",
+            Self::Masked(_) => "a PutPartialData whose first mask names this many lanes",
+            Self::Arithmetic(_) => "an ArithmeticData of this operation",
+            Self::Logical(_) => "a LogicalData of this operation",
+            Self::ResponseAtOnce => "a response right after a beat of its request or Release",
+            Self::GrantAckLater => "a GrantAck right after a beat that isn't of channel D",
+            Self::Contention =>
+                "an Acquire while an Acquire of its block is pending on another link",
+            Self::ThreeContend =>
+                "an Acquire while Acquires of its block are pending on two other links",
+            Self::ReadOfOwned => "a Get from a block that another link holds as Trunk",
+            Self::WriteToOwned => "a Put to a block that another link holds as Trunk",
+            Self::AtomicOnOwned => "an atomic on a block that another link holds as Trunk",
+            Self::WriteToShared => "a Put to a block that two other links hold as Branch",
+        }
+    }
+}

@@ -1,0 +1,49 @@
+//! How often a situation came, and where first.
+
+ghost use Rattle.std.specs.Prelude.{◌≡◌, ◌+◌, IfOk, OnOk};
+ghost use Rattle.tl_cover.specs.code.Covering.{noted_if, unseen};
+
+use crate::situation::Situation;
+use std::alloc::AllocError;
+
+/// How often a situation came, and in which line first, where it came.
+#[derive(Clone, Copy, Debug, PartialEq, Eq)]
+pub struct Row {
+    pub situation: Situation,
+    pub count: u64,
+    pub first: Option<u64>,
+}
+
+/// One more. There is no number behind 2^64 - 1.
+pub fn one_more(number: u64) -> Result<u64, AllocError>
+    ensures { IfOk result (λ more. more ≡ number + 1) }
+{
+    number.checked_add(1).ok_or(AllocError)
+}
+
+impl Row {
+    /// The situation hasn't come.
+    pub fn new(situation: Situation) -> Self
+        ensures { result ≡ unseen situation }
+    {
+        Row {
+            situation,
+            count: 0,
+            first: None,
+        }
+    }
+
+    /// Notes whether the situation came in a line.
+    pub fn note(&mut self, came: bool, line: u64) -> Result<(), AllocError>
+        ensures { OnOk result (self.new ≡ noted_if came line self.old) }
+    {
+        if !came {
+            return Ok(());
+        }
+        self.count = one_more(self.count)?;
+        if self.first.is_none() {
+            self.first = Some(line);
+        }
+        Ok(())
+    }
+}

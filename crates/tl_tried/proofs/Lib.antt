@@ -1,0 +1,3 @@
+pub mod Covered
+pub mod Joined
+pub mod Telling

@@ -1,0 +1,10 @@
+use Rattle.std.proofs.Common.{sym}
+use Rattle.tl_tried.proofs.Covered.{line_taken, line_unread}
+use Rattle.tl_tried.proofs.cover_lines.read.Goals as goal
+
+pub returns-in-Ok : goal.returns-in-Ok
+returns-in-Ok g c = line_taken c.args.covering.now c.take.new.covering c.args.line.now c.in-Ok.link c.in-Ok.beat
+    c.take.result c.in-Ok.ensures.spelled c.take.ensures
+
+pub returns-in-Err : goal.returns-in-Err
+returns-in-Err g c = line_unread c.args.covering.now c.args.line.now c.in-Err.fault (sym c.in-Err.ensures.fault)

@@ -1,0 +1,172 @@
+//! Judges the lines of a trace, and counts the situations that its messages begin in.
+
+ghost use Rattle.std.specs.Prelude.{◌≡◌, [], false, IfOk};
+ghost use Rattle.tl_beat.specs.statement.Width.{IsWidth};
+ghost use Rattle.tl_cover.specs.statement.Covers.{Covers};
+ghost use Rattle.tl_tried.specs.code.Following.{Begins, EndsLines, KnowsLines, TakesBeat, ReadsLine, rows_of};
+
+use std::alloc::{AllocError, Global};
+use tl_beat::beat::{Beat, Link};
+use tl_beat::fault::LineFault;
+use tl_beat::read::read_line;
+use tl_cover::covering::Covering;
+use tl_cover::row::Row;
+use tl_engine::fault::Fault;
+use tl_engine::line_handler::LineHandler;
+use tl_engine::links_header::LinksHeader;
+use tl_engine::monitor_lines::append_end;
+use tl_engine::trace_judge::read_for;
+use tl_monitor::fault::MonitorFault;
+use tl_params::liberties::Liberties;
+use tl_params::width::Width;
+
+/// What follows the beats of a trace, by the bytes of a beat.
+#[derive(Drop)]
+pub enum Following {
+    /// The header hasn't been read.
+    Waiting(Global),
+    Four(Covering<4>),
+    Eight(Covering<8>),
+    Sixteen(Covering<16>),
+}
+
+/// Judges the lines of a trace up to its first fault.
+#[derive(Drop)]
+pub struct CoverLines {
+    /// What the links may do besides what the header names.
+    pub allow: Liberties,
+    pub following: Following,
+}
+
+/// Follows the links that a header names.
+fn follow<const W: usize>(alloc: Global, header: &LinksHeader) -> Result<Covering<W>, AllocError>
+    requires { IsWidth W }
+    ensures { IfOk result (λ c. Covers c header.now.levels.items header.now.may [] false) }
+{
+    match Covering::new(alloc, header.levels.as_slice(), header.may) {
+        Ok(covering) => Ok(covering),
+        Err(_) => Err(AllocError),
+    }
+}
+
+/// Judges a beat, and takes it where it isn't at fault.
+fn take<const W: usize>(
+    covering: &mut Covering<W>,
+    link: Link,
+    beat: &Beat<W>,
+) -> Result<Option<Fault>, AllocError>
+    requires { IsWidth W }
+    ensures { IfOk result (TakesBeat covering.old covering.new link beat.now) }
+{
+    match covering.push(link, beat) {
+        Ok(()) => Ok(None),
+        Err(MonitorFault::Broken(rule)) => Ok(Some(Fault::Rule(rule))),
+        Err(_) => Err(AllocError),
+    }
+}
+
+/// Judges the line of the next beat.
+fn read<const W: usize>(
+    covering: &mut Covering<W>,
+    line: &[u8],
+) -> Result<Option<Fault>, AllocError>
+    requires { IsWidth W }
+    ensures { IfOk result (ReadsLine covering.old covering.new line.now) }
+{
+    match read_line(line) {
+        Ok((link, beat)) => take(covering, link, &beat),
+        Err(fault) => Ok(Some(Fault::Line(fault))),
+    }
+}
+
+/// Follows the links that a header names, which may do this besides. A line of another form names none.
+fn begin(alloc: Global, allow: Liberties, line: &[u8]) -> Result<Option<Following>, AllocError>
+    ensures { IfOk result (Begins allow line.now) }
+{
+    let Some(header) = read_for(false, allow, line) else {
+        return Ok(None);
+    };
+    let following = match header.width {
+        Width::Four => Following::Four(follow(alloc, &header)?),
+        Width::Eight => Following::Eight(follow(alloc, &header)?),
+        Width::Sixteen => Following::Sixteen(follow(alloc, &header)?),
+    };
+    Ok(Some(following))
+}
+
+impl CoverLines {
+    /// No line has been read. The links may do this besides what the header names.
+    pub fn new(alloc: Global, allow: Liberties) -> CoverLines
+        ensures knows { KnowsLines result [] [] }
+        ensures allowed { result.allow ≡ allow }
+    {
+        CoverLines {
+            allow,
+            following: Following::Waiting(alloc),
+        }
+    }
+
+    /// The situations with how often they came; none where no header was read.
+    pub fn rows(&self) -> &[Row]
+        ensures { result.now ≡ rows_of self.now }
+    {
+        match &self.following {
+            Following::Waiting(_) => &[],
+            Following::Four(covering) => covering.rows(),
+            Following::Eight(covering) => covering.rows(),
+            Following::Sixteen(covering) => covering.rows(),
+        }
+    }
+}
+
+impl LineHandler for CoverLines {
+    ghost use Rattle.std.specs.Prelude.{false};
+    ghost use Rattle.tl_engine.specs.statement.JudgedLinks.{JudgedLinks};
+    ghost use Rattle.tl_params.specs.declared.liberties.Liberties.{Liberties};
+
+    ghost knows = { KnowsLines };
+
+    ghost Purpose = { Liberties };
+
+    ghost purpose = { λ h. h.allow };
+
+    ghost tells = { JudgedLinks false };
+
+    ghost ends = { EndsLines };
+
+    fn handle_line(
+        &mut self,
+        line: &[u8],
+        _out: &mut Vec<u8>,
+    ) -> Result<Option<Fault>, AllocError> {
+        match &mut self.following {
+            Following::Waiting(alloc) => match begin(*alloc, self.allow, line)? {
+                None => Ok(Some(Fault::Header)),
+                Some(following) => {
+                    self.following = following;
+                    Ok(None)
+                }
+            },
+            Following::Four(covering) => read(covering, line),
+            Following::Eight(covering) => read(covering, line),
+            Following::Sixteen(covering) => read(covering, line),
+        }
+    }
+
+    fn open_fault(&self) -> Fault {
+        match self.following {
+            Following::Waiting(_) => Fault::Header,
+            _ => Fault::Line(LineFault::F1),
+        }
+    }
+
+    fn finish(&self, count: u64, out: &mut Vec<u8>) -> Result<Option<Fault>, AllocError> {
+        match self.following {
+            Following::Waiting(_) => Ok(Some(Fault::Header)),
+            _ => {
+                append_end(false, count.saturating_sub(1), out)?;
+                Ok(None)
+            }
+        }
+    }
+}

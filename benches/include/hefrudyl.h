@@ -207,7 +207,9 @@ typedef struct tl_client {
 tl_answer tl_client_new(tl_client *client, uint8_t level, uint16_t blocks, uint8_t sources, uint8_t width,
                         uint8_t profile);
 
-/* Asks for an operation. What the client hands out waits to be sent. */
+/* Asks for an operation. What the client hands out waits to be sent. An Acquire goes out after the beats that
+   wait on channel C already: on the link a block is held until the answer to its Probe is sent, while
+   the client has given it up. */
 tl_answer tl_client_ask(tl_client *client, const tl_operation *operation, tl_outcome *outcome);
 
 /* Offers a beat of channel B or D. Where it breaks a rule the answer is TL_BROKEN with that rule, and

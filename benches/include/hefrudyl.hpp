@@ -146,7 +146,7 @@ public:
   Client &operator=(const Client &) = delete;
   ~Client() { tl_client_free(&handle); }
 
-  /// Asks for an operation.
+  /// Asks for an operation. An Acquire goes out after the beats that wait on channel C already (hefrudyl.h).
   tl_answer ask(const tl_operation &operation, tl_outcome &outcome) {
     return tl_client_ask(&handle, &operation, &outcome);
   }

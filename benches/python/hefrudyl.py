@@ -436,7 +436,9 @@ class Client(_Agent):
                                       _field(profile, "profile", 256)), "level, blocks, sources, width or profile")
 
     def ask(self, kind, data=b"", **fields):
-        """Asks for an operation, with its fields by name (value, mask, address, block, opcode, param, size)."""
+        """Asks for an operation, with its fields by name (value, mask, address, block, opcode, param, size). An Acquire
+        goes out after the beats that wait on channel C already: on the link a block is held until the answer to its
+        Probe is sent, while the client has given it up."""
         operation, outcome = _Operation(kind=_field(kind, "kind", 256)), _Outcome()
         operation.bytes[: len(data)] = data
         kinds = dict(_Operation._fields_)

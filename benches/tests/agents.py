@@ -65,6 +65,15 @@ def an_address_outside_of_the_map_is_told_as_such():
 
 
 @test
+def the_proved_client_asks_for_a_block_after_its_answer_to_a_probe():
+    top = "test_early_acquire"
+    built = verilator("early_client", top, SV + ["sv/tl_proved_client.sv", f"tests/{top}.sv"], "-DPROVED_CLIENT",
+                      *over_library(["sv/tl_checker_dpi.cpp", "sv/tl_agents_dpi.cpp"]))
+    run([built, f"+trace={path('early_client.trace')}"])
+    want(judged(path("early_client.trace")) == "clean 29", judged(path("early_client.trace")))
+
+
+@test
 def each_bug_is_found_under_the_proved_manager():
     for bug, (rule, own) in BUGS.items():
         told = run([proved(), "+seed=1", "+cycles=20000", f"+bug={bug}"], status=None)

@@ -9,7 +9,8 @@ import sys
 import xml.etree.ElementTree as ElementTree
 from pathlib import Path
 
-from harness import BUGS, HERE, HOME_BUGS, OUT, ROOT, TLTOOL, path, test, want
+from harness import BUGS, HERE, HOME_BUGS, OUT, TLTOOL, path, test, want
+from shown import save, walk_page
 
 FOLDER = os.path.join(HERE, "conformance")
 sys.path.insert(0, FOLDER)
@@ -216,15 +217,5 @@ def a_report_explains_a_fault_and_has_the_command_that_shows_it_again():
 
 
 @test
-def the_first_design_of_the_page_and_its_map_fit():
-    with open(os.path.join(ROOT, "docs/CONFORMANCE.md")) as file:
-        page = file.read()
-    blocks = [re.sub(r"^    ", "", it, flags=re.M).strip("\n") + "\n" for it in re.findall(r"(?:^    .*\n|^\n(?=    ))+", page, re.M)]
-    ram = next(it for it in blocks if it.startswith("module ram"))
-    written("ram.sv", ram)
-    map_file = written("ram.toml", next(it for it in blocks if it.startswith('top = "ram"')))
-    folder = Path(path("conform_page"))
-    folder.mkdir(exist_ok=True)
-    Design(Map(map_file, "device"), [], "", folder)
-    wrong = re.search(r"^With `.*` in place of `(.*)` the same command", page, re.M)[1]
-    want(wrong in ram, f"{wrong} isn't in the page's module")
+def the_first_design_of_the_page_is_at_fault_and_then_mended():
+    walk_page("CONFORMANCE.md", save("CONFORMANCE.md", "conform_page"))

@@ -144,7 +144,8 @@ class Processor:
         if reply.kind is Outcome.MISS:
             held = client.held(address // 64)
             grow = READ if kind is Operation.LOAD else UPGRADE if held is Perm.BRANCH else WRITE
-            client.ask(Operation.ACQUIRE, block=address // 64, param=grow)
+            if client.next(Channel.C) is None:  # an Acquire waits until the answers to Probes are sent
+                client.ask(Operation.ACQUIRE, block=address // 64, param=grow)
             return
         if kind is Operation.LOAD:
             wanted = self.memory[address]

@@ -4,29 +4,17 @@ import os
 import re
 import subprocess
 
-from harness import ROOT, SV, TLTOOL, icarus, judged, path, run, test, verilator, want
+from harness import SV, TLTOOL, icarus, judged, path, run, test, verilator, want
+from shown import save, text_of, without_indent
 
+PAGE = "YOUR_CACHE.md"
 FILES = SV + ["example/tl_cache.sv", "example/tl_home.sv"]
-
-
-def page():
-    with open(os.path.join(ROOT, "docs/YOUR_CACHE.md")) as text:
-        return text.read()
-
-
-def bench():
-    """The file that the page has its reader save: the longest block of indented lines."""
-    blocks = re.findall(r"(?:^    .*\n|^\n(?=\n*    ))+", page(), re.M)
-    built = path("your_bench.sv")
-    with open(built, "w") as file:
-        file.write(re.sub(r"^    ", "", max(blocks, key=len), flags=re.M))
-    return built
 
 
 def shown(command):
     """What the page shows behind each time that it runs a command."""
-    found = re.findall(rf"^    \$ {re.escape(command)}\n((?:    (?!\$ ).*\n)*)", page(), re.M)
-    return [re.sub(r"^    ", "", text, flags=re.M) for text in found]
+    found = re.findall(rf"^    \$ {re.escape(command)}\n((?:    (?!\$ ).*\n)*)", text_of(PAGE), re.M)
+    return [without_indent(text) for text in found]
 
 
 def recorded(simulation, *words):
@@ -38,7 +26,7 @@ def recorded(simulation, *words):
 
 @test
 def the_bench_of_your_cache_records_what_the_page_shows():
-    file = bench()
+    file = os.path.join(save(PAGE, "your_cache"), "bench.sv")
     simulations = [["vvp", "-n", icarus("your_bench.vvp", "bench", FILES + [file])], [verilator("your_bench", "bench", FILES + [file])]]
     for words, verdict in zip([[], ["+bug=1"]], shown("tltool monitor link.trace"), strict=True):
         traces = [recorded(simulation, *words) for simulation in simulations]

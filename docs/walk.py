@@ -2,8 +2,9 @@
 """walk.py TOOL: runs the commands that README.md and docs/*.md show, and compares what they write with what the pages show.
 
 A block of lines that are indented by four spaces is a session where one of them begins with '$ '. What follows a command,
-up to the next '$ ', is what it writes; a line '...' stands for any lines. A block without '$ ' isn't run. Each page's sessions
-run in one shell after another, in a copy of the folder of examples, with TOOL on the path. Ends with 'walk: N passed, M failed'."""
+up to the next '$ ', is what it writes; a line '...' stands for any lines. A backslash at the end of a command's line continues it.
+A block without '$ ' isn't run. Each page's sessions run in one shell after another, in a copy of the folder of examples, with TOOL
+on the path. Ends with 'walk: N passed, M failed'."""
 import os
 import pathlib
 import re
@@ -24,11 +25,15 @@ def sessions(text):
         lines = [line[4:] for line in block.splitlines() if line.strip() or line.startswith("    ")]
         if not any(line.startswith("$ ") for line in lines):
             continue
-        commands, here = [], None
+        commands, here, goes_on = [], None, False
         for line in lines:
             if line.startswith("$ "):
                 commands.append([line[2:], []])
                 here = re.search(r"<<'(\w+)'", line)
+                goes_on = line.endswith("\\")
+            elif goes_on:
+                commands[-1][0] += "\n" + line
+                goes_on = line.endswith("\\")
             elif here:
                 commands[-1][0] += "\n" + line
                 here = None if line == here[1] else here

@@ -1,9 +1,8 @@
 #!/usr/bin/env python3
 """words.py: that the pages keep to plain words. Run at the top of the repository.
 
-Each pattern below is one that a reader stumbles over. docs/words.txt has the exceptions: for a page how many hits it may have
-until it is written anew, and phrases that may stand anywhere. More hits are a fault, and so are fewer, so that the number only falls.
-Code, sessions and what stands in backquotes isn't looked at. --show PAGE prints a page's hits."""
+Each pattern below is one that a reader stumbles over. docs/words.txt has the phrases that may be in any page. Code, sessions and
+words in backquotes aren't looked at."""
 import pathlib
 import re
 import sys
@@ -42,11 +41,9 @@ def hits(page, phrases):
     return found
 
 
-def exceptions():
-    """The number of hits that each page may have, and the phrases that any may."""
-    lines = [line for line in (ROOT / "docs/words.txt").read_text().splitlines() if line and not line.startswith("#")]
-    numbers = dict(line.rsplit(" ", 1) for line in lines if line[-1].isdigit())
-    return {page: int(number) for page, number in numbers.items()}, [line for line in lines if not line[-1].isdigit()]
+def allowed():
+    """The phrases that any page may have."""
+    return [line for line in (ROOT / "docs/words.txt").read_text().splitlines() if line and not line.startswith("#")]
 
 
 def pages():
@@ -54,20 +51,8 @@ def pages():
 
 
 def main():
-    allowed, phrases = exceptions()
-    if sys.argv[1:2] == ["--show"]:
-        print(*hits(sys.argv[2], phrases), sep="\n")
-        return 0
-    if sys.argv[1:] == ["--count"]:
-        print(*(f"{page} {len(hits(page, phrases))}" for page in pages()), sep="\n")
-        return 0
-    faults = [f"docs/words.txt: no page {page}" for page in allowed if page not in pages()]
-    for page in pages():
-        found = hits(page, phrases)
-        if len(found) > allowed.get(page, 0):
-            faults += [f"{page}: {len(found)} hits, where docs/words.txt allows {allowed.get(page, 0)}:", *found]
-        elif len(found) < allowed.get(page, 0):
-            faults.append(f"{page}: only {len(found)} hits are left: lower its number in docs/words.txt")
+    phrases = allowed()
+    faults = [fault for page in pages() for fault in hits(page, phrases)]
     print(*faults, sep="\n", end="\n" if faults else "")
     print(f"words: {len(faults)} faults")
     return 1 if faults else 0

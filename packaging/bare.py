@@ -47,8 +47,8 @@ def make_room(fresh):
     on_host("cp", TARBALL, WHEEL, *DEBS, *tests, ROOM / "root")
 
 
-def run(command, path="", quiet=False):
-    """Runs a command in the bare system, without a network, and returns what it wrote, with its status if that isn't 0."""
+def ran_bare(command, path="", quiet=False):
+    """Runs a command in the bare system, without a network."""
     shell = ["env", "-i", f"PATH={path}/usr/sbin:/usr/bin:/sbin:/bin", "HOME=/root", "LANG=C.UTF-8", "bash", "-c", f"cd /root; {command}"]
     apart = ["unshare", "--mount", "--net", "--pid", "--fork", f"--mount-proc={ROOM}/proc", "chroot", ROOM]
     ran = subprocess.run([*AS_ROOT, *apart, *shell], stdout=subprocess.PIPE, stderr=subprocess.STDOUT, text=True, timeout=600)
@@ -56,6 +56,12 @@ def run(command, path="", quiet=False):
         lines = ran.stdout.splitlines()
         left = [f"... ({len(lines) - 12} lines)"] if len(lines) > 13 else []
         print(f"# {command}", *(lines if not left else [*lines[:6], *left, *lines[-6:]]), sep="\n", flush=True)
+    return ran
+
+
+def run(command, path="", quiet=False):
+    """The same, and returns what the command wrote, with its status if that isn't 0."""
+    ran = ran_bare(command, path, quiet)
     return ran.stdout + (f"status {ran.returncode}\n" if ran.returncode else "")
 
 
@@ -80,7 +86,7 @@ def each(number, things, holds, lost):
 def pages(prefix, path):
     """That the pages' commands write what the installed pages show, and that what these link to is there."""
     documents = ROOM / f"{prefix}/share/doc/hefrudyl"[1:]
-    there = lambda command: re.sub(r"status \d+\n\Z", "", run(f"cd walk; {command}", path, quiet=True))
+    there = lambda command: ran_bare(f"cd walk; {command}", path, quiet=True).stdout
     walked = []
     for page in PAGES:
         run(f"rm -rf walk; cp -R {prefix}/{EXAMPLES} walk", quiet=True)

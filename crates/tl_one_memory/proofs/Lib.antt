@@ -6,5 +6,7 @@ pub mod Read
 pub mod Spans
 pub mod Values
 pub mod Wider
+pub mod Windowed
 pub mod Worked
+pub mod WorkedWindows
 pub mod Imports

@@ -24,7 +24,7 @@ use Rattle.tl_one_memory.proofs.Worked.{answers-one, pending_of, plain, response
 
 -- ---- beats of block 0
 
-abbrev probed : ℕ → Link × Beat 8
+abbrev pub probed : ℕ → Link × Beat 8
 probed cap = (
   record { 0 = 0 },
   Beat.B (record {
@@ -40,7 +40,7 @@ probed cap = (
   }),
 )
 
-abbrev reported : ℕ → Link × Beat 8
+abbrev pub reported : ℕ → Link × Beat 8
 reported report = (
   record { 0 = 0 },
   Beat.C (record {

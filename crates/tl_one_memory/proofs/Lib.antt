@@ -4,6 +4,7 @@ pub mod Granted
 pub mod Known
 pub mod Read
 pub mod Spans
+pub mod Unwritten
 pub mod Values
 pub mod Wider
 pub mod Windowed

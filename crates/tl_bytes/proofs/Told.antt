@@ -10,7 +10,8 @@ use Rattle.std.{proofs.Math.Numerals.add-one}
 use Rattle.std.proofs.lemmas.Bool.{cases_Bool, cases_eq, eq-eqb, ne_eqb}
 use Rattle.tl_beat.{specs.declared.beat.BeatD.BeatD, specs.declared.channel.Channel.Channel}
 use Rattle.tl_params.specs.declared.perm.Perm.{Perm}
-use Rattle.tl_bytes.specs.declared.latest.Latest.{Latest}
+use Rattle.tl_bytes.specs.declared.{known_bytes.KnownBytes.KnownBytes, latest.Latest.Latest}
+use Rattle.tl_bytes.specs.statement.KnownBytes.{known_at}
 use Rattle.tl_bytes.specs.code.Tellings.{displaced, is_displaced, is_written, outlived, stays, telling_at, value_at}
 use Rattle.tl_bytes.specs.code.Tellings.{written_at}
 use Rattle.tl_bytes.specs.declared.standing.Standing.{Standing}
@@ -156,8 +157,8 @@ place-of : (block p : ℕ) → p < 64 → (64 * block + p) % 64 ≡ p
 place-of block p lt = omega arith
 
 -- a block that was told of
-pub told-is : {w : ℕ} (values : List (Option ℕ)) (moment n block : ℕ) (b : BlockBytes) (x : Link × Beat w) (t : Trace w)
-    → ((p : ℕ) → p < 64 → telling_at b.latest p ≡ record { value = get_or values p None; moment = moment })
+pub told-is : {w : ℕ} (values : KnownBytes) (moment n block : ℕ) (b : BlockBytes) (x : Link × Beat w) (t : Trace w)
+    → ((p : ℕ) → p < 64 → telling_at b.latest p ≡ record { value = known_at values p; moment = moment })
     → b.earlier.items ≡ [] → b.last ≡ Some moment → tells block x.1 (on_link x.0.0 t) ≡ true → moment ≡ length t
     → AreCarried values x t → KnowsBlock b n block (x ∷ t)
 unfolding may_be last_told tellings_at

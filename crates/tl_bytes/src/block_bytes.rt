@@ -12,6 +12,7 @@ ghost use Rattle.tl_rules.specs.statement.Conformance.{Trace, on_link};
 ghost use Rattle.tl_bytes.specs.statement.Bytes as bytes;
 ghost use Rattle.tl_bytes.specs.statement.Bytes.{Access, ends_request, is_of, pending_accesses, tells, told_as};
 
+use crate::known_bytes::KnownBytes;
 use crate::latest::Latest;
 use crate::standing::Standing;
 use crate::telling::{Told, could_be};
@@ -100,7 +101,7 @@ impl BlockBytes {
 
     /// What is told by the bytes that are granted or given back with a beat before which so many were taken;
     /// none is for one that may be anything.
-    pub fn told(alloc: Global, values: &[Option<u8>; 64], moment: u64) -> Result<Self, AllocError>
+    pub fn told(alloc: Global, values: &KnownBytes, moment: u64) -> Result<Self, AllocError>
         ensures { IfOk result (λ b. (w n block : ℕ) (x : Link × Beat w) (t : Trace w) →
             tells block x.1 (on_link x.0.0 t) ≡ true → moment ≡ length t → AreCarried values.now x t →
             KnowsBlock b n block (x ∷ t)) }

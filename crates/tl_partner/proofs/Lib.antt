@@ -1,8 +1,13 @@
 pub mod Afterward
 pub mod Alike
+pub mod Beside
+pub mod Besides
 pub mod Carried
 pub mod Carrying
+pub mod Cleaned
 pub mod Drops
+pub mod Handings
+pub mod Keeping
 pub mod Leniently
 pub mod Offering
 pub mod Passing
@@ -10,5 +15,6 @@ pub mod Said
 pub mod Same
 pub mod Stepping
 pub mod Taking
+pub mod Underway
 pub mod Without
 pub mod Worked

@@ -19,8 +19,7 @@ ghost use Rattle.tl_partner.specs.declared.terms.Terms.{Terms};
 ghost use Rattle.tl_partner.specs.laws.Carried.{IsCarried, carried_after};
 ghost use Rattle.tl_partner.specs.laws.Without.{GrantsNone};
 ghost use Rattle.tl_partner.specs.statement.Granting.{granted};
-ghost use Rattle.tl_partner.specs.statement.Lenient.{offered_lenient};
-ghost use Rattle.tl_partner.specs.statement.Cleaning.{PartnerEnd, cleaning_on};
+ghost use Rattle.tl_partner.specs.statement.Cleaning.{PartnerEnd, cleaning_on, fresh_partner};
 ghost use Rattle.tl_partner.specs.statement.Partner.{beside, offered_under, stalls_under};
 ghost use Rattle.tl_partner.specs.statement.Dropping.{after_drop, block_of, is_drop, is_reporting, release_beat};
 
@@ -35,16 +34,20 @@ pub fn is_the_manager<const W: usize>()
 {}
 
 /// What is recorded of a client and a block is what the beats leave held, under the terms' liberties, that the link
-/// carried: so it is at first, and after any beat that is offered to a manager whose clients have `drops` and `ids`.
+/// carried: so it is at first, and after any beat that is offered.
 pub fn records_what_links_carried<const W: usize>()
     requires { IsWidth W }
-    ensures fresh { (terms : Terms) → IsCarried {w = W} terms [] [] }
-    ensures step { (terms : Terms) (config : Config) (link : Link) (ch : Channel) (x : Beat W) (t : Trace W) (e : End W) →
-        IsTyped x → IsKept config e → IsCarried terms t e.trace →
-        IsCarried terms (carried_after link x (offered_lenient terms config link ch x e).0 t)
-        (offered_lenient terms config link ch x e).1.trace }
-    ensures held { (terms : Terms) (t : Trace W) (e : End W) (client block : ℕ) → IsCarried terms t e.trace →
-        held_under (granted terms) block (on_link client t) ≡ recorded client block e.trace }
+    ensures fresh { (terms : Terms) (config : Config) → IsCarried {w = W} terms config [] (fresh_partner config) }
+    ensures step { (terms : Terms) (config : Config) (link : Link) (ch : Channel) (x : Beat W) (t : Trace W)
+        (e : PartnerEnd W) →
+        IsTyped x → IsKept config e.manager → IsCarried terms config t e →
+        IsCarried terms config (carried_after link x (offered_under terms config link ch x e).0 t)
+        (offered_under terms config link ch x e).1 }
+    ensures kept { (terms : Terms) (config : Config) (link : Link) (ch : Channel) (x : Beat W) (e : PartnerEnd W) →
+        IsTyped x → IsKept config e.manager → IsKept config (offered_under terms config link ch x e).1.manager }
+    ensures held { (terms : Terms) (config : Config) (t : Trace W) (e : PartnerEnd W) (client block : ℕ) →
+        IsCarried terms config t e →
+        held_under (granted terms) block (on_link client t) ≡ recorded client block e.manager.trace }
 {}
 
 /// Where a beat says that its client dropped a copy, and no message of channel C is unfinished on the link, the

@@ -5,4 +5,4 @@ use Rattle.tl_bytes.proofs.block_bytes.BlockBytes.told.Goals as goal
 pub returns : goal.returns
 returns c = λ w n block x t told now carried. told-is c.args.values.now c.args.moment n block
     (record { latest = c.in_ok-told.field-0; earlier = c.new.result; last = Some c.args.moment }) x t
-    (λ p lt. c.in_ok-told.ensures p) c.new.ensures.items refl told now carried
+    c.in_ok-told.ensures c.new.ensures.items refl told now carried

@@ -1,13 +1,13 @@
--- What a monitor says of one of its links.
-use Rattle.std.proofs.Common.{◌≡◌, ◌<◌, ℕ, Bool, true, false, List, ◌∷◌, length, refl, ap, ◌∙◌}
-use Rattle.std.specs.Prelude.{if◌then◌else◌, []}
+-- What a monitor says of a link that has a level.
+use Rattle.std.proofs.Common.{◌≡◌, ◌<◌, ℕ, Bool, true, false, List, [], ◌∷◌, length, refl, ap, ◌∙◌}
+use Rattle.std.specs.Prelude.{if◌then◌else◌}
 use Rattle.std.proofs.lemmas.Bool.{lt-ltb}
 use Rattle.tl_beat.specs.declared.beat.Beat.{Beat}
 use Rattle.tl_beat.specs.declared.beat.Beat.TheVariants as beat
 use Rattle.tl_beat.specs.declared.beat.Link.{Link}
 use Rattle.tl_burst.specs.statement.Messages.{History, channel_of, grown, on, unfinished}
 use Rattle.tl_burst.specs.statement.Part.{completes, is_empty}
-use Rattle.tl_cover.proofs.Links.{on_own}
+use Rattle.tl_monitor.proofs.OnLink.{own_link}
 use Rattle.tl_monitor.specs.statement.Knows.{begins_on, held_on_under}
 use Rattle.tl_params.specs.declared.level.Level.{Level}
 use Rattle.tl_params.specs.declared.liberties.Liberties.{Liberties}
@@ -46,5 +46,5 @@ module _ {w : ℕ} (levels : List Level) (link : Link) (within : link.0 < length
   pub ends_within : (x : Beat w) (t : Trace w) → begins_on levels link x ((link, x) ∷ t) ≡ ends x (on_link link.0 t)
   ends_within x t =
       begins_within x ((link, x) ∷ t)
-      ∙ ap (λ (h : History w). begins x h) (on_own link.0 (link, x) t refl)
+      ∙ ap (λ (h : History w). begins x h) (own_link link.0 (link, x) t refl)
       ∙ begins_behind x (on_link link.0 t)

@@ -1,8 +1,8 @@
--- What the links carried is beside the manager's end, after any beat that is offered.
-use Rattle.std.proofs.Common.{◌≡◌, ℕ, zero, suc, ◌<◌, ◌==◌, Bool, true, false, List, [], ◌∷◌, Option, Some, None, refl}
-use Rattle.std.proofs.Common.{sym, subst, ◌∙◌, length, replicate}
+-- What the links carried is beside the manager's end, after a beat of a cleaning.
+use Rattle.std.proofs.Common.{◌≡◌, ℕ, ◌<◌, ◌==◌, Bool, true, false, List, [], ◌∷◌, Option, Some, None, refl}
+use Rattle.std.proofs.Common.{ap, sym, subst, ◌∙◌, length}
 use Rattle.std.proofs.lemmas.Bool.{eq-eqb, eqb-true}
-use Rattle.std.proofs.lemmas.List.{get_or-set_other, get_or-set_same, length-replicate, length-set}
+use Rattle.std.proofs.lemmas.List.{get_or-set_other, get_or-set_same, length-set}
 use Rattle.std.proofs.lemmas.Option.{slice_get_within}
 use Rattle.std.specs.Prelude.{if◌then◌else◌, option_map, slice_get, slice_index_or, slice_set}
 use Rattle.tl_beat.specs.declared.beat.Beat.{Beat}
@@ -18,38 +18,46 @@ use Rattle.tl_params.specs.declared.level.Level.{Level}
 use Rattle.tl_rules.specs.statement.Conformance.{Trace}
 unfoldable use Rattle.tl_rules.specs.statement.Conformance.{on_link}
 use Rattle.tl_rules.specs.statement.History.{block_at, is_release, reported}
-unfoldable use Rattle.tl_rules.specs.statement.History.{held, request_of}
 use Rattle.tl_rules.specs.statement.Legality.{is_one_of}
 use Rattle.tl_rules.specs.statement.Liberties.{reports_none}
-unfoldable use Rattle.tl_rules.specs.statement.Liberties.{held_under}
 use Rattle.tl_manager.proofs.calls.Keeping.{kept-offered}
 use Rattle.tl_manager.proofs.messages.Sound.{holder_level}
 use Rattle.tl_manager.proofs.pending.Handed.{other_link, own_link}
 use Rattle.tl_manager.proofs.pending.LinkHistories.{other_beat, own_beat}
-use Rattle.tl_manager.specs.code.Kept.{IsKept, IsTyped}
+use Rattle.tl_manager.specs.code.Kept.{IsKept}
 use Rattle.tl_manager.specs.statement.End.{End, with_memory}
 use Rattle.tl_manager.specs.statement.Handing.{release_ack}
 unfoldable use Rattle.tl_manager.specs.statement.Handing.{with_handed}
 use Rattle.tl_manager.specs.statement.Holders.{has_copy, recorded}
-use Rattle.tl_manager.specs.statement.Offer.{Breaks, Judgement, Passes, Waits, judged, level_of, open_level}
+use Rattle.tl_manager.specs.statement.Offer.{Passes, level_of, open_level}
 use Rattle.tl_manager.specs.statement.Reaction.{written}
 use Rattle.tl_partner.specs.declared.terms.Terms.{Terms}
 use Rattle.tl_partner.specs.laws.Carried.{AreAlike, IsCarried, IsUnderway, IsUnderwayIfAny, carried_after}
 use Rattle.tl_partner.specs.statement.Cleaning.{PartnerEnd, cleaned_by, cleaning_as, cleaning_on}
-use Rattle.tl_partner.specs.statement.Cleaning.{cleaning_order, offered_cleaning}
-use Rattle.tl_partner.specs.statement.Cleaning.{forgotten, fresh_partner, is_of_cleaning, judged_cleaning, with_cleaning}
+use Rattle.tl_partner.specs.statement.Cleaning.{cleaning_order}
+use Rattle.tl_partner.specs.statement.Cleaning.{forgotten, is_of_cleaning, judged_cleaning, with_cleaning}
 use Rattle.tl_partner.specs.statement.Dropping.{after_drop, is_reporting, release_beat}
 use Rattle.tl_partner.specs.statement.Granting.{granted}
-use Rattle.tl_partner.specs.statement.Partner.{asks_for_cleaned, held_back, held_back_as, offered_under}
 use Rattle.tl_partner.proofs.Afterward.{reports-drop}
-use Rattle.tl_partner.proofs.Besides.{beside}
 use Rattle.tl_partner.proofs.Carried.{AreAlikeBut, others-drop, own-but}
 use Rattle.tl_partner.proofs.Cleaned.{but-same, leaves-none, leaves-same, live-clean, no_copy, part-alike, released}
 use Rattle.tl_partner.proofs.Cleaned.{underway-now, whole-alike}
 use Rattle.tl_partner.proofs.Drops.{IsDropped, level-open}
-use Rattle.tl_partner.proofs.Offering.{under-cleaning, under-held, under-lenient}
-use Rattle.tl_partner.proofs.Stepping.{carried-lenient}
-use Rattle.tl_partner.proofs.Underway.{underway-lenient}
+use Rattle.tl_partner.proofs.Lenience.{pending-drops}
+use Rattle.tl_partner.proofs.Nexts.{begun-c, grows, newest-named}
+use Rattle.tl_partner.proofs.Taken.{answered-all}
+use Rattle.tl_rules.specs.statement.Admission.{sent}
+use Rattle.tl_rules.proofs.Open.{never}
+use Rattle.tl_burst.specs.statement.Messages.{History, breaks_burst}
+use Rattle.tl_manager.proofs.pending.Handed.{after_sent}
+use Rattle.tl_manager.proofs.pending.Releases.{not_last, released as answered-release}
+use Rattle.tl_manager.proofs.pending.SteadyReports.{release_kind}
+use Rattle.tl_manager.specs.code.Releases.{IsAnswered}
+use Rattle.tl_partner.specs.laws.Carried.{ArePendingAlike}
+use Rattle.tl_partner.specs.statement.Naming.{is_misnamed}
+use Rattle.tl_partner.proofs.Afterward.{ack_of}
+use Rattle.tl_partner.proofs.Cleaned.{ends-clean, goes-on}
+use Rattle.tl_partner.proofs.Pendings.{pending-ack, pending-cleaning}
 
 -- ---- the cleanings of all links
 
@@ -84,12 +92,21 @@ linked {w} config link e level live = go (is_one_of link.0 e.closed) (slice_get 
 
 -- ---- a beat with which a cleaning isn't complete
 
+right-name : {w : ℕ} (terms : Terms) (link : Link) (x : BeatC w) → is_release x.opcode ≡ true
+    → is_misnamed terms link (Beat.C x) ≡ false
+right-name terms link x release = rw (release_kind x.opcode release) (never terms.ids)
+
+silent_c : {w : ℕ} (x : BeatC w) (t : History w) → unfinished Channel.D (Beat.C x ∷ t) ≡ unfinished Channel.D t
+unfolding unfinished
+silent_c x t = refl
+
 clean-part : {w : ℕ} (terms : Terms) (config : Config) (link : Link) (x : BeatC w) (t : Trace w) (e : PartnerEnd w)
     → link.0 < length e.cleanings → IsUnderway terms x (on_link link.0 e.manager.trace)
-    → completes (Beat.C x) (cleaning_on link e) ≡ false → IsCarried terms config t e
+    → completes (Beat.C x) (cleaning_on link e) ≡ false
+    → breaks_burst (Beat.C x) (unfinished Channel.C (on_link link.0 t)) ≡ false → IsCarried terms config t e
     → IsCarried terms config ((link, Beat.C x) ∷ t)
     (with_cleaning link (Beat.C x ∷ cleaning_on link e) e.manager e)
-clean-part {w} terms config link x t e inside is part c = record {
+clean-part {w} terms config link x t e inside is part goes c = record {
   links = length-set e.cleanings link.0 (Beat.C x ∷ cleaning_on link e) ∙ c.links;
   alike = at_each (λ client cleaning. AreAlike terms cleaning (on_link client ((link, Beat.C x) ∷ t))
       (on_link client e.manager.trace)) e.cleanings link (Beat.C x ∷ cleaning_on link e) inside
@@ -99,7 +116,26 @@ clean-part {w} terms config link x t e inside is part c = record {
       (λ client at. rw (other_beat client link (Beat.C x) t at) (c.alike client));
   underway = at_each (λ client cleaning. IsUnderwayIfAny terms cleaning (on_link client e.manager.trace)) e.cleanings
       link (Beat.C x ∷ cleaning_on link e) inside is (λ client at. c.underway client);
+  pendings = λ client. pend client (link.0 == client) refl;
+  answered = answered-all link (Beat.C x) t
+      (not_last x own (begun-c x own (c.answered link.0) goes) (grows x own false (ends-clean terms x (cleaning_on link e) own
+      (on_link link.0 e.manager.trace) false part (c.alike link.0) is.alone))) c.answered;
 }
+  where
+    own : History w
+    own = on_link link.0 t
+
+    release : is_release x.opcode ≡ true
+    release = (released terms x is.cleans).1
+
+    pend : (client : ℕ) (b : Bool) → (link.0 == client) ≡ b
+        → ArePendingAlike terms client (on_link client ((link, Beat.C x) ∷ t)) (on_link client e.manager.trace)
+    pend client true at = subst (λ (n : ℕ). ArePendingAlike terms n (on_link n ((link, Beat.C x) ∷ t))
+        (on_link n e.manager.trace)) (eqb-true link.0 client at)
+        (rw (own_beat link.0 link (Beat.C x) t (eq-eqb link.0 link.0 refl))
+        (pending-cleaning terms link.0 x own (on_link link.0 e.manager.trace) release
+        (newest-named terms link x own (right-name terms link x release)) (c.pendings link.0)))
+    pend client false at = rw (other_beat client link (Beat.C x) t at) (c.pendings client)
 
 -- ---- a beat with which it is
 
@@ -111,31 +147,64 @@ record IsLeft {w : ℕ} (terms : Terms) (link : Link) (x : BeatC w) (t : Trace w
   alone : unfinished Channel.C (on_link link.0 after.trace) ≡ []
   none : unfinished Channel.D (on_link link.0 after.trace) ≡ []
   others : (client : ℕ) → (link.0 == client) ≡ false → on_link client after.trace ≡ on_link client e.manager.trace
+  pendings : ArePendingAlike terms link.0 (on_link link.0 t) (on_link link.0 after.trace)
 
 clean-whole : {w : ℕ} (terms : Terms) (config : Config) (link : Link) (x : BeatC w) (t : Trace w) (e : PartnerEnd w)
-    (after : End w) → link.0 < length e.cleanings → is_release x.opcode ≡ true
-    → completes (Beat.C x) (cleaning_on link e) ≡ true → IsLeft terms link x t e after → IsCarried terms config t e
+    (after : End w) → IsWidth w → link.0 < length e.cleanings → is_release x.opcode ≡ true
+    → completes (Beat.C x) (cleaning_on link e) ≡ true → unfinished Channel.C (on_link link.0 e.manager.trace) ≡ []
+    → breaks_burst (Beat.C x) (unfinished Channel.C (on_link link.0 t)) ≡ false
+    → IsLeft terms link x t e after → IsCarried terms config t e
     → IsCarried terms config (with_handed ((link, release_ack x.source) ∷ []) ((link, Beat.C x) ∷ t))
     (with_cleaning link [] after e)
 unfolding with_handed
-clean-whole {w} terms config link x t e after inside release last is c = record {
+clean-whole {w} terms config link x t e after width inside release last alone goes is c = record {
   links = length-set e.cleanings link.0 [] ∙ c.links;
-  alike = at_each (λ client cleaning. AreAlike terms cleaning
-      (on_link client (with_handed ((link, release_ack x.source) ∷ []) ((link, Beat.C x) ∷ t)))
+  alike = at_each (λ client cleaning. AreAlike terms cleaning (on_link client after_it)
       (on_link client after.trace)) e.cleanings link [] inside
-      (rw (
-        own_link link.0 link (release_ack x.source) ((link, Beat.C x) ∷ t) (eq-eqb link.0 link.0 refl),
-        own_beat link.0 link (Beat.C x) t (eq-eqb link.0 link.0 refl),
-      ) (whole-alike terms x (cleaning_on link e) (on_link link.0 t) (on_link link.0 after.trace) release last is.alone
+      (rw own_is (whole-alike terms x (cleaning_on link e) own (on_link link.0 after.trace) release last is.alone
       is.none is.own))
-      (λ client at. rw (
-        other_link client link (release_ack x.source) ((link, Beat.C x) ∷ t) at,
-        other_beat client link (Beat.C x) t at,
-        is.others client at,
-      ) (c.alike client));
+      (λ client at. rw (other_is client at, is.others client at) (c.alike client));
   underway = at_each (λ client cleaning. IsUnderwayIfAny terms cleaning (on_link client after.trace)) e.cleanings link []
       inside tt (λ client at. rw (is.others client at) (c.underway client));
+  pendings = λ client. pend client (link.0 == client) refl;
+  answered = λ client. answer client (link.0 == client) refl;
 }
+  where
+    own : History w
+    own = on_link link.0 t
+
+    after_it : Trace w
+    after_it = after_sent link (release_ack x.source) ((link, Beat.C x) ∷ t)
+
+    own_is : on_link link.0 after_it ≡ sent (release_ack x.source) (Beat.C x ∷ own)
+    own_is = own_link link.0 link (release_ack x.source) ((link, Beat.C x) ∷ t) (eq-eqb link.0 link.0 refl)
+        ∙ ap (sent (release_ack x.source)) (own_beat link.0 link (Beat.C x) t (eq-eqb link.0 link.0 refl))
+
+    other_is : (client : ℕ) → (link.0 == client) ≡ false → on_link client after_it ≡ on_link client t
+    other_is client at = other_link client link (release_ack x.source) ((link, Beat.C x) ∷ t) at
+        ∙ other_beat client link (Beat.C x) t at
+
+    silent : unfinished Channel.D (Beat.C x ∷ own) ≡ []
+    silent = silent_c x own ∙ is.own.answers ∙ is.none
+
+    pend : (client : ℕ) (b : Bool) → (link.0 == client) ≡ b
+        → ArePendingAlike terms client (on_link client after_it) (on_link client after.trace)
+    pend client true at = subst (λ (n : ℕ). ArePendingAlike terms n (on_link n after_it) (on_link n after.trace))
+        (eqb-true link.0 client at)
+        (rw own_is (pending-ack terms link.0 x.source (Beat.C x ∷ own) (on_link link.0 after.trace) width silent
+        (pending-cleaning terms link.0 x own (on_link link.0 after.trace) release
+        (newest-named terms link x own (right-name terms link x release)) is.pendings)))
+    pend client false at = rw (other_is client at, is.others client at) (c.pendings client)
+
+    here : IsAnswered (sent (release_ack x.source) (Beat.C x ∷ own))
+    here = answered-release x (ack_of x.source) own width (begun-c x own (c.answered link.0) goes) release
+        (grows x own true (ends-clean terms x (cleaning_on link e) own (on_link link.0 e.manager.trace) true last
+        (c.alike link.0) alone)) silent refl refl
+
+    answer : (client : ℕ) (b : Bool) → (link.0 == client) ≡ b → IsAnswered (on_link client after_it)
+    answer client true at = subst (λ (n : ℕ). IsAnswered (on_link n after_it)) (eqb-true link.0 client at)
+        (rw own_is here)
+    answer client false at = rw (other_is client at) (c.answered client)
 
 -- what a cleaning leaves whose report isn't NtoN
 left-kept : {w : ℕ} (terms : Terms) (config : Config) (link : Link) (x : BeatC w) (beats : List (Beat w)) (t : Trace w)
@@ -148,6 +217,7 @@ left-kept {w} terms config link x beats t e kept is some c = record {
   alone = is.alone;
   none = (kept.whole link.0).1;
   others = λ client at. refl;
+  pendings = c.pendings link.0;
 }
 
 -- and one with NtoN, by whether there was a copy
@@ -183,6 +253,8 @@ left-none {w} terms config link x t e level width kept is none live c =
           alone = reports-drop config link k e.manager kept dropped free;
           none = (after.whole link.0).1;
           others = λ client at. others-drop config link k e.manager client kept dropped free at;
+          pendings = pending-drops terms config link k (on_link link.0 t) e.manager width kept dropped free
+              (c.pendings link.0);
         }
 
     go : (b : Bool) → has_copy (recorded link.0 k e.manager.trace) ≡ b
@@ -195,6 +267,7 @@ left-none {w} terms config link x t e level width kept is none live c =
       alone = is.alone;
       none = (kept.whole link.0).1;
       others = λ client at. refl;
+      pendings = c.pendings link.0;
     }
 
 left : {w : ℕ} (terms : Terms) (config : Config) (link : Link) (x : BeatC w) (beats : List (Beat w)) (t : Trace w)
@@ -211,7 +284,7 @@ left {w} terms config link x beats t e level width kept is live c = go (reports_
 
 -- ---- any beat of a cleaning
 
-clean-passed : {w : ℕ} (terms : Terms) (config : Config) (link : Link) (ch : Channel) (x : BeatC w) (t : Trace w)
+pub clean-passed : {w : ℕ} (terms : Terms) (config : Config) (link : Link) (ch : Channel) (x : BeatC w) (t : Trace w)
     (e : PartnerEnd w) → IsWidth w → IsKept config e.manager
     → is_of_cleaning (granted terms) (Beat.C x) (cleaning_on link e) ≡ true
     → judged_cleaning (granted terms) config (open_level config link e.manager) link ch (Beat.C x) (cleaning_on link e)
@@ -234,84 +307,15 @@ clean-passed {w} terms config link ch x t e width kept of passes c =
     is : IsUnderway terms x (on_link link.0 e.manager.trace)
     is = underway-now terms link x (cleaning_on link e) e.manager of live.2 (c.underway link.0)
 
+    goes : breaks_burst (Beat.C x) (unfinished Channel.C (on_link link.0 t)) ≡ false
+    goes = goes-on terms link x (cleaning_on link e) (on_link link.0 t) e.manager live.2 (c.alike link.0) is
+        (c.underway link.0)
+
     go : (b : Bool) → completes (Beat.C x) (cleaning_on link e) ≡ b
         → IsCarried terms config (carried_after link (Beat.C x) (cleaning_as Passes config link (Beat.C x) e).0 t)
         (cleaning_as Passes config link (Beat.C x) e).1
     go true last = rw last (clean-whole terms config link x t e
-        (cleaned_by config link x (Beat.C x ∷ cleaning_on link e) e.manager) inside
-        (released terms x is.cleans).1 last
+        (cleaned_by config link x (Beat.C x ∷ cleaning_on link e) e.manager) width inside
+        (released terms x is.cleans).1 last is.alone goes
         (left terms config link x (Beat.C x ∷ cleaning_on link e) t e live.0 width kept is live.1 c) c)
-    go false part = rw part (clean-part terms config link x t e inside is part c)
-
-clean-offered : {w : ℕ} (terms : Terms) (config : Config) (link : Link) (ch : Channel) (x : Beat w) (t : Trace w)
-    (e : PartnerEnd w) → IsWidth w → IsKept config e.manager
-    → is_of_cleaning (granted terms) x (cleaning_on link e) ≡ true → IsCarried terms config t e
-    → IsCarried terms config (carried_after link x (offered_cleaning (granted terms) config link ch x e).0 t)
-    (offered_cleaning (granted terms) config link ch x e).1
-clean-offered terms config link ch (Beat.A x) t e width kept of c = absurd cc
-clean-offered terms config link ch (Beat.B x) t e width kept of c = absurd cc
-clean-offered {w} terms config link ch (Beat.C x) t e width kept of c =
-    go (judged_cleaning (granted terms) config (open_level config link e.manager) link ch (Beat.C x)
-    (cleaning_on link e) e.manager.trace) refl
-  where
-    go : (j : Judgement) → judged_cleaning (granted terms) config (open_level config link e.manager) link ch (Beat.C x)
-        (cleaning_on link e) e.manager.trace ≡ j
-        → IsCarried terms config (carried_after link (Beat.C x) (cleaning_as j config link (Beat.C x) e).0 t)
-        (cleaning_as j config link (Beat.C x) e).1
-    go (Breaks r) is = record { links = c.links; alike = c.alike; underway = c.underway }
-    go Waits is = c
-    go Passes is = clean-passed terms config link ch x t e width kept of is c
-clean-offered terms config link ch (Beat.D x) t e width kept of c = absurd cc
-clean-offered terms config link ch (Beat.E x) t e width kept of c = absurd cc
-
--- ---- any beat
-
-pub carried-under : {w : ℕ} (terms : Terms) (config : Config) (link : Link) (ch : Channel) (x : Beat w) (t : Trace w)
-    (e : PartnerEnd w) → IsWidth w → IsTyped x → IsKept config e.manager → IsCarried terms config t e
-    → IsCarried terms config (carried_after link x (offered_under terms config link ch x e).0 t)
-    (offered_under terms config link ch x e).1
-carried-under {w} terms config link ch x t e width typed kept c =
-    cleans_or (is_of_cleaning (granted terms) x (cleaning_on link e)) refl
-  where
-    Goal : Type 0
-    Goal = IsCarried terms config (carried_after link x (offered_under terms config link ch x e).0 t)
-        (offered_under terms config link ch x e).1
-
-    held_or : (j : Judgement)
-        → IsCarried terms config (carried_after link x (held_back_as j link e).0 t) (held_back_as j link e).1
-    held_or (Breaks r) = record { links = c.links; alike = c.alike; underway = c.underway }
-    held_or Waits = c
-    held_or Passes = c
-
-    asks_or : (b : Bool) → asks_for_cleaned x (cleaning_on link e) ≡ b
-        → is_of_cleaning (granted terms) x (cleaning_on link e) ≡ false → Goal
-    asks_or true asks other = rw (under-held terms config link ch x e other asks)
-        (held_or (held_back (judged config link ch x e.manager)))
-    asks_or false free other =
-        let apart = beside terms x (cleaning_on link e) other free in
-        rw (under-lenient terms config link ch x e other free) (record {
-          links = c.links;
-          alike = carried-lenient e.cleanings terms config link ch x t e.manager width typed kept apart c.alike;
-          underway = underway-lenient terms config e.cleanings link ch x e.manager width typed kept apart c.underway;
-        })
-
-    cleans_or : (b : Bool) → is_of_cleaning (granted terms) x (cleaning_on link e) ≡ b → Goal
-    cleans_or true of = rw (under-cleaning terms config link ch x e of)
-        (clean-offered terms config link ch x t e width kept of c)
-    cleans_or false other = asks_or (asks_for_cleaned x (cleaning_on link e)) refl other
-
--- at first nothing was carried
-
-none_cleaned : {w : ℕ} (n client : ℕ) → slice_index_or (replicate {A = List (Beat w)} n []) client [] ≡ []
-none_cleaned zero client = refl
-none_cleaned (suc n) zero = refl
-none_cleaned (suc n) (suc client) = none_cleaned n client
-
-pub fresh-carried : {w : ℕ} (terms : Terms) (config : Config) → IsCarried {w = w} terms config [] (fresh_partner config)
-unfolding unfinished request_of held held_under on_link
-fresh-carried {w} terms config = record {
-  links = length-replicate (length config.clients.items) [];
-  alike = λ client. rw (none_cleaned {w = w} (length config.clients.items) client)
-      (record { requests = refl; named = λ s. refl; reports = refl; answers = refl; held = λ k. refl });
-  underway = λ client. rw (none_cleaned {w = w} (length config.clients.items) client) tt;
-}
+    go false part = rw part (clean-part terms config link x t e inside is part goes c)

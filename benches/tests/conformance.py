@@ -201,9 +201,9 @@ def situations_are_counted_over_the_seeds_and_holes_are_listed():
     for seed in (1, 2):
         rows = json.loads(run([TLTOOL, "cover", "--json", path(f"tl_cache/seed-{seed}.trace")]))["situations"]
         sums.update({row["name"]: row["count"] for row in rows})
-    want(counts == dict(sums) and len(counts) == 38, f"{counts} aren't {sums}")
+    want(counts == dict(sums) and len(counts) == 66, f"{counts} aren't {sums}")
     holes = [name for name, count in counts.items() if not count and name not in NEVER_OF_CACHE]
-    want(summary == f"{35 - len(holes)} of 35 situations seen", summary)
+    want(summary == f"{61 - len(holes)} of 61 situations seen", summary)
     want(f"{summary}; not seen: {', '.join(holes)}\n" in told if holes else f"{summary}\n" in told, told)
     with open(path("tl_cache/report.html")) as file:
         page = file.read()
@@ -213,13 +213,13 @@ def situations_are_counted_over_the_seeds_and_holes_are_listed():
 
 
 # What traffic of the cache's bench can't bring.
-NEVER_OF_CACHE = ["report-TtoT", "access-beside-transfer", "access-of-held-block"]
+NEVER_OF_CACHE = ["probe-toT", "report-TtoT", "access-beside-transfer", "access-of-held-block", "three-contend"]
 
 
 @test
 def a_run_ends_when_all_situations_have_come():
     told = conform("client", "tl_cache.toml", "--seeds", "40", "--jobs", "2", "--until-covered", out="tl_cache", status=0)
-    want(int(re.search(r"^clean: (\d+) seeds", told, re.M)[1]) < 40 and "\n35 of 35 situations seen\n" in told, told)
+    want(int(re.search(r"^clean: (\d+) seeds", told, re.M)[1]) < 40 and "\n61 of 61 situations seen\n" in told, told)
 
 
 @test

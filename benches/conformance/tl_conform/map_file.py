@@ -174,9 +174,19 @@ class Map:
             self.want(name in names, "never", f"{name} is no situation; there are {', '.join(names)}")
 
     @property
+    def is_cache(self):
+        """Whether a client of level C is under test."""
+        return self.side == "client" and self.level == "C"
+
+    @property
     def caches(self):
         """How many links acquire blocks."""
         return self.links.count("C") if {"AcquireBlock", "AcquirePerm"} & set(self.requests) else 0
+
+    @property
+    def most_bytes(self):
+        """The bytes of the largest access: a link of level UL has none of several beats."""
+        return min(1 << self.largest, self.width if set(self.links) == {"UL"} else 64)
 
     @property
     def sources_of_client(self):

@@ -27,6 +27,7 @@ th, td { text-align: left; padding: .3rem .9rem .3rem 0; border-bottom: 1px soli
 th { color: var(--dim); font-weight: 600; white-space: nowrap; }
 td.number, th.number { text-align: right; font-variant-numeric: tabular-nums; white-space: nowrap; }
 td.name { white-space: nowrap; }
+td.text { min-width: 18rem; }
 td code { display: inline-block; min-width: 18rem; overflow-wrap: anywhere; }
 td.seeds { white-space: nowrap; line-height: 1; padding-top: .55rem; }
 td.seeds i { display: inline-block; width: .5rem; height: .75rem; margin-right: 1px; background: var(--line); }
@@ -104,7 +105,8 @@ def of_situations(covered, seeds):
 
 
 def of_names(heads, rows):
-    return rows_under(heads, [f'<td class="name">{name}</td>' + "".join(f"<td>{html.escape(it)}</td>" for it in rest) for name, *rest in rows])
+    return rows_under(heads, [f'<td class="name">{name}</td>' + "".join(f'<td class="text">{html.escape(it)}</td>' for it in rest)
+                              for name, *rest in rows])
 
 
 def of_seen(covered, seeds):
@@ -115,7 +117,7 @@ def of_seen(covered, seeds):
                         for seed in seeds[:CELLS])
         rows.append(f'<td class="name">{name}</td><td class="number">{covered.messages[name]:,}</td>'
                     f'<td class="number">{len(covered.seeds[name])} of {len(seeds)}</td><td class="seeds">{cells}</td>'
-                    f"<td>{html.escape(covered.table.sentences[name])}</td>")
+                    f'<td class="text">{html.escape(covered.table.sentences[name])}</td>')
     return rows_under(["Situation", "Messages", "Seeds", "By seed", "The message that begins"], rows)
 
 

@@ -8,8 +8,9 @@ from .map_file import Unusable
 
 ATOMICS = {"ArithmeticData", "LogicalData"}
 PUTS = {"PutFullData", "PutPartialData"}
-# The access of a situation, by the first word of its name.
-ACCESSES = {"mask": "PutPartialData", "arithmetic": "ArithmeticData", "logical": "LogicalData"}
+# The accesses of a situation, by the first word of its name.
+ACCESSES = {"get": {"Get"}, "put": PUTS, "atomic": ATOMICS, "mask": {"PutPartialData"}, "arithmetic": {"ArithmeticData"},
+            "logical": {"LogicalData"}}
 # What a situation between links needs: so many links that acquire blocks, and one of these accesses from another one.
 OF_SEVERAL = {
     "contention": (2, set()), "three-contend": (3, set()), "read-of-owned": (1, {"Get"}), "write-to-owned": (1, PUTS),
@@ -45,10 +46,10 @@ class Table:
 
 def why_never(name, map):
     """Why no traffic of a bench brings a situation; nothing if it can come."""
-    of_access = ACCESSES.get(name.partition("-")[0])
-    if of_access:
-        can = of_access in map.requests and (of_access not in ATOMICS or map.largest >= 2)
-        return "" if can else f"no link sends a {of_access}"
+    word, _, detail = name.partition("-")
+    if name not in OF_SEVERAL and word in ACCESSES:
+        bytes = int(detail) if detail.isdigit() else 4 if ACCESSES[word] & ATOMICS else 1
+        return why_no_access(ACCESSES[word], bytes, map)
     if name == "response-at-once":
         return ""
     if map.caches == 0:
@@ -56,15 +57,25 @@ def why_never(name, map):
     return why_not_beside(name, map) if name in OF_SEVERAL else why_not_of_a_link(name, map)
 
 
+def why_no_access(accesses, bytes, map):
+    """The same of accesses of so many bytes."""
+    if not accesses & set(map.requests):
+        return no_link_sends(accesses)
+    return "" if bytes <= map.most_bytes else f"accesses have up to {map.most_bytes} bytes"
+
+
+def no_link_sends(accesses):
+    return f"no link sends a {' or a '.join(sorted(accesses))}"
+
+
 def why_not_of_a_link(name, map):
     """The same of a situation of one link that acquires blocks."""
-    is_cache = map.side == "client" and map.level == "C"
-    if not is_cache and name in OF_PROVED_CLIENTS:
+    if not map.is_cache and name in OF_PROVED_CLIENTS:
         return OF_PROVED_CLIENTS[name]
-    if map.side == "client" and name == "report-TtoT":
+    if map.side == "client" and name in ("probe-toT", "report-TtoT"):
         return "the proved manager sends no Probe toT"
     least = {"two-grants": 2, "four-grants": 4}.get(name, 1)
-    return f"no link has {least} sources" if not is_cache and map.sources_of_client < least else ""
+    return f"no link has {least} sources" if not map.is_cache and map.sources_of_client < least else ""
 
 
 def why_not_beside(name, map):
@@ -73,12 +84,17 @@ def why_not_beside(name, map):
     if map.caches < caches:
         return f"fewer than {caches} links acquire blocks"
     if accesses and not accesses & set(map.requests):
-        return f"no link sends a {' or a '.join(sorted(accesses))}"
+        return no_link_sends(accesses)
     if accesses and len(map.links) <= caches:
         return f"there are no more than {caches} links"
-    writers = [link for link, level in enumerate(map.links) if level == "C"]
-    shared = map.side == "client" or any((other - link) % 2 == 0 for link in writers for other in writers if link < other)
-    return "" if name != "write-to-shared" or shared else "no two links acquire a block to which another sends a Put"
+    return "" if name != "write-to-shared" or shares_a_block(map) else "no two links acquire a block to which another sends a Put"
+
+
+def shares_a_block(map):
+    """Whether two links acquire a block of those to which accesses go: proved clients of odd and of even numbers never do
+    (tl_random_client.sv)."""
+    proved = [link for link, level in enumerate(map.links) if level == "C" and not (map.is_cache and link == 0)]
+    return map.is_cache or any((later - link) % 2 == 0 for link in proved for later in proved if link < later)
 
 
 def count(tool, trace):

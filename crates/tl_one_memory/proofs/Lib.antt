@@ -2,6 +2,8 @@ pub mod Brought
 pub mod Covered
 pub mod Granted
 pub mod Known
+pub mod OpenPending
+pub mod OpenWindows
 pub mod Read
 pub mod Spans
 pub mod Unwritten

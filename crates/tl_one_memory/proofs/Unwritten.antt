@@ -9,6 +9,7 @@ use Rattle.std.proofs.lemmas.Nat.Bits.{bit_at-zero}
 use Rattle.tl_beat.{specs.declared.beat.BeatD.BeatD}
 use Rattle.tl_burst.specs.statement.Burst.{bit, byte_if, place_of}
 use Rattle.tl_params.specs.declared.perm.Perm.{Perm}
+use Rattle.tl_rules.specs.code.Open.{open_request}
 use Rattle.tl_rules.specs.statement.Admission.{bytes_carried}
 use Rattle.tl_rules.specs.statement.Effect.{bytes_from, number_from}
 use Rattle.tl_rules.specs.statement.History.{pending, probe_of, request_of}
@@ -131,3 +132,7 @@ is_a_run = (
 and_has_no_window : had_window 2 1 0 Perm.Trunk 0 (trace_in performed) ≡ false
 unfolding had_window trace_in on_link unfinished pending_accesses held_under all_but_early request_of is_free pending probe_of
 and_has_no_window = refl
+
+its_request_is_open : is_some (open_request 0 (on_link 1 (trace_in performed))) ≡ true
+unfolding trace_in on_link unfinished pending request_of
+its_request_is_open = refl

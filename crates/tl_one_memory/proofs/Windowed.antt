@@ -86,6 +86,31 @@ module _ {w : ℕ} (n : ℕ) (first : Memory) where
             ∙ rw (← new.link_is, ← new.source_is) was))
       ]
 
+  -- an access that is performed has a window of each byte that it touches
+  pub performing-window : (d i : ℕ) (run : Run w) (p : Access w) → IsPerformed n first d i run
+      → IsPending d i p (trace_in run) → (address : ℕ) → touches address p ≡ true
+      → in-window n p address (trace_in run) ≡ true
+  performing-window d i run p is pending address touched =
+      by (access_writes address p) refl (returns p.request.opcode && reaches p.request.address p.request.size address) refl
+    where
+      this : is.access ≡ p
+      this = same-some p is.access (sym pending ∙ is.pending)
+
+      writes_free : access_writes address p ≡ true → is_free n Perm.Trunk (block_at address) (trace_in run) ≡ true
+      writes_free writes =
+          is.writes_free address (ap (λ (q : Access w). access_writes address q) this ∙ writes)
+
+      by : (b : Bool) → access_writes address p ≡ b → (r : Bool)
+          → (returns p.request.opcode && reaches p.request.address p.request.size address) ≡ r
+          → in-window n p address (trace_in run) ≡ true
+      by true writes r reads = writing-window n d i p address (trace_in run) pending writes (writes_free writes)
+      by false unwritten true reads =
+          let parts = and_parts (returns p.request.opcode) (reaches p.request.address p.request.size address) reads in
+          performed-window n first d i p run address pending parts.0 parts.1
+          (is.reads_free address
+          (ap (λ (q : Access w). reaches q.request.address q.request.size address) this ∙ parts.1)) writes_free
+      by false unwritten false unread = absurd (let no = rw (unread, unwritten) at touched in cc)
+
   windowed-performed : (d i : ℕ) (run : Run w) → IsPerformed n first d i run → AreWindowed n first run
       → AreWindowed n first (Performs d i ∷ run)
   unfolding trace_in found_in
@@ -95,26 +120,8 @@ module _ {w : ℕ} (n : ℕ) (first : Memory) where
       now : (c ≡ d) × (s ≡ i)
           → had_window_since n c s (needs p.request.opcode) (block_at address) (trace_in run) ≡ true
       now same =
-          now-windowed n c s p address (trace_in run) (by (access_writes address p) refl
-          (returns p.request.opcode && reaches p.request.address p.request.size address) refl)
-        where
-          this : is.access ≡ p
-          this = same-some p is.access (sym pending ∙ rw (same.0, same.1) is.pending)
-
-          writes_free : access_writes address p ≡ true → is_free n Perm.Trunk (block_at address) (trace_in run) ≡ true
-          writes_free writes =
-              is.writes_free address (ap (λ (q : Access w). access_writes address q) this ∙ writes)
-
-          by : (b : Bool) → access_writes address p ≡ b → (r : Bool)
-              → (returns p.request.opcode && reaches p.request.address p.request.size address) ≡ r
-              → in-window n p address (trace_in run) ≡ true
-          by true writes r reads = writing-window n c s p address (trace_in run) pending writes (writes_free writes)
-          by false unwritten true reads =
-              let parts = and_parts (returns p.request.opcode) (reaches p.request.address p.request.size address) reads in
-              performed-window n first c s p run address pending parts.0 parts.1
-              (is.reads_free address
-              (ap (λ (q : Access w). reaches q.request.address q.request.size address) this ∙ parts.1)) writes_free
-          by false unwritten false unread = absurd (let no = rw (unread, unwritten) at touched in cc)
+          now-windowed n c s p address (trace_in run)
+          (performing-window d i run p is (rw (← same.0, ← same.1) pending) address touched)
 
       go : (b : Bool) → (d == c) && (i == s) ≡ b → (if b then Some (memory_in first run) else found_in first c s run) ≡ Some found
           → had_window_since n c s (needs p.request.opcode) (block_at address) (trace_in run) ≡ true

@@ -1,5 +1,6 @@
 //! That what one memory brings is true, as a law.
 
+ghost use Rattle.tl_one_memory.specs.statement.OpenWindows.{AnswersInWindows};
 ghost use Rattle.tl_one_memory.specs.statement.TrueBytes.{TrueBytes};
 ghost use Rattle.tl_one_memory.specs.statement.Windowed.{AnswersAfterWindows};
 
@@ -13,4 +14,10 @@ pub fn brings_true_bytes<const W: usize>()
 /// a window, since the last beat of its request.
 pub fn answers_after_windows<const W: usize>()
     ensures { AnswersAfterWindows W }
+{}
+
+/// Where all that links carry comes of one memory, and no beat breaks a rule of its link, no answer breaks M4 to an access
+/// that reads or writes a byte of its block.
+pub fn answers_in_windows<const W: usize>()
+    ensures { AnswersInWindows W }
 {}

@@ -1,2 +1,4 @@
+pub mod FromLeft
 pub mod Numbers
+pub mod Reading
 pub mod Writing

@@ -3,6 +3,7 @@
 
 pub mod beat;
 pub mod numbers;
+pub mod read;
 #[cfg(test)]
 mod tests;
 pub(crate) mod text;

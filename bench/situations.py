@@ -14,6 +14,7 @@ WORLDS = [
     ["--width", "16", "--profile", "2"],
     ["--clients", "C:4,C:4,C:4,UH:2", "--blocks", "6"],
 ]
+GROWS, CAPS = ["NtoB", "NtoT", "BtoT"], ["toT", "toB", "toN"]
 REPORTS = ["TtoB", "TtoN", "BtoN", "TtoT", "BtoB", "NtoN"]
 ARITHMETIC, LOGICAL = ["MIN", "MAX", "MINU", "MAXU", "ADD"], ["XOR", "OR", "AND", "SWAP"]
 # What a link holds after a report, a prune or a cap, by its number.
@@ -115,6 +116,7 @@ def on_channel_a(beat, link, others, width):
     block = beat.block
     holding = [other.held[block] for other in others]
     if beat.acquire:
+        yield f"acquire-{GROWS[beat.param]}"
         contending = sum(block in other.acquiring for other in others)
         yield from ["contention"][: contending > 0]
         yield from ["three-contend"][: contending > 1]
@@ -123,6 +125,8 @@ def on_channel_a(beat, link, others, width):
         yield "access-beside-transfer"
     if link.held[block] != "N":
         yield "access-of-held-block"
+    if beat.opcode != 5:
+        yield f"{['put', 'put', 'atomic', 'atomic', 'get'][beat.opcode]}-{2**beat.size}"
     if beat.opcode == 1:
         yield "mask-" + ("empty" if beat.mask == 0 else "full" if beat.mask == 2**width - 1 else "partial")
     if beat.opcode == 2:
@@ -137,6 +141,7 @@ def on_channel_a(beat, link, others, width):
 
 def on_channel_b(beat, link):
     held, block = link.held[beat.block], beat.block
+    yield f"probe-{CAPS[beat.param]}"
     if block in link.releasing:
         yield "probe-beside-release"
     if block in link.acquiring and held in "NB":
@@ -148,6 +153,8 @@ def on_channel_b(beat, link):
 def on_channel_c(beat, link):
     if beat.probe_ack:
         yield f"report-{REPORTS[beat.param]}"
+    if beat.release and beat.param < 3:
+        yield f"release-{REPORTS[beat.param]}"
     if beat.release and beat.block in link.probed:
         yield "release-beside-probe"
     if beat.release and beat.block in link.granted:
@@ -161,6 +168,9 @@ def on_channel_d(beat, link):
             yield "response-at-once"
     if beat.grant:
         request = link.requests[beat.source]
+        change = f"{link.held[request.block]}to{GIVEN[beat.param]}"
+        if change in GROWS:
+            yield f"grant-{change}"
         if request.param == 2 and link.held[request.block] == "N":
             yield "upgrade-lost-data" if beat.opcode == 5 else "upgrade-lost-no-data"
         if link.sinks:

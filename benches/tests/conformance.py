@@ -1,7 +1,9 @@
 """tl-conform: what it says of maps and designs that it can't use, and what it finds in the example's manager, caches, device and
 memory, with their bugs."""
 
+import collections
 import html
+import json
 import os
 import re
 import subprocess
@@ -9,7 +11,7 @@ import sys
 import xml.etree.ElementTree as ElementTree
 from pathlib import Path
 
-from harness import BUGS, HERE, HOME_BUGS, OUT, TLTOOL, path, test, want
+from harness import BUGS, HERE, HOME_BUGS, OUT, TLTOOL, path, run, test, want
 from shown import save, walk_page
 
 FOLDER = os.path.join(HERE, "conformance")
@@ -52,20 +54,21 @@ def found(told):
 # What a wrong map is told: what is changed in it, and what stands in the message.
 WRONG_MAPS = [
     ('a_corrupt = "none"\n', "", ["[fields]", "no port a_corrupt", 'a_corrupt = "none"', "input a_valid (3 bits)", "output d_sink (24 bits)"]),
-    ("b_size = 6", 'b_size = "b_siz"', ['line 21: b_size = "b_siz"', "no port b_siz (it has d_size)", "output b_param (9 bits)"]),
-    ("b_size = 6", 'b_size = "a_size"', ["line 21", "a_size is an input, but a manager sends b_size"]),
-    ("b_size = 6", "b_sise = 6", ["line 21: b_sise = 6", "no such entry"]),
+    ("b_size = 6", 'b_size = "b_siz"', ['line 23: b_size = "b_siz"', "no port b_siz (it has d_size)", "output b_param (9 bits)"]),
+    ("b_size = 6", 'b_size = "a_size"', ["line 23", "a_size is an input, but a manager sends b_size"]),
+    ("b_size = 6", "b_sise = 6", ["line 23: b_sise = 6", "no such entry"]),
     ("width = 8", "width = 7", ["line 5: width = 7", "4, 8 or 16"]),
     ("width = 8", "width = ", ["line 5"]),
     ("width = 8", 'width = "8"', ["line 5", "width is a number"]),
     ("bug = 0", "", ["nothing drives bug", "[inputs] gives a value"]),
-    ("bug = 0", "bog = 0", ["line 17: bog = 0", "no input bog"]),
+    ("bug = 0", "bog = 0", ["line 19: bog = 0", "no input bog"]),
     ('links = ["C", "C", "UL"]', 'links = ["C", "D"]', ["line 4", "UL, UH, C"]),
     ('links = ["C", "C", "UL"]', 'links = ["C", "C"]\nport_of = [1, 0]', ["line 5", "port_of has the port of each of 2 links"]),
     ('links = ["C", "C", "UL"]', 'links = ["C", "C"]\nport_of = [0, 0]\nfirst_sources = [0, 3]', ["line 6", "no two are the same"]),
     ('links = ["C", "C", "UL"]', 'links = ["C", "C", "C", "C", "UL"]', ["a_valid has 3 bits", "5 links"]),
     ('"Get"', '"Grab"', ["line 7", "takes are of PutFullData"]),
     ('width = 8', 'clock = "clock"\nwidth = 8', ['line 5: clock = "clock"', "no input clock"]),
+    ("never = [", 'never = ["five-grants", ', ["line 10", "five-grants is no situation; there are probe-beside-release, "]),
     ('width = 8', 'ports = "{chanel}_{field}"\nwidth = 8', ["line 5", "a pattern has {channel}, {field}, {bits} and {link}"]),
 ]
 
@@ -181,6 +184,49 @@ def right_and_wrong(side, map_file, bugs, seeds="6", cycles="10000"):
     for bug, fault in bugs.items():
         told = conform(side, map_file, "--seeds", seeds, "--cycles", cycles, "--set", f"bug={bug}", out=out, status=1)
         want(fault in found(told), f"{map_file}, bug {bug}: {fault} isn't in\n{told}")
+
+
+def situations(out):
+    """How often each situation came, by a report as JUnit has it; and what it says of them all."""
+    suite = ElementTree.parse(path(f"{out}/junit.xml")).getroot()
+    found = {it.get("name"): it.get("value") for it in suite.findall("properties/property")}
+    return {name.removeprefix("situation "): int(value) for name, value in found.items() if name != "situations"}, found["situations"]
+
+
+@test
+def situations_are_counted_over_the_seeds_and_holes_are_listed():
+    told = conform("client", "tl_cache.toml", "--seeds", "2", "--cycles", "2000", "--keep", out="tl_cache", status=0)
+    counts, summary = situations("tl_cache")
+    sums = collections.Counter()
+    for seed in (1, 2):
+        rows = json.loads(run([TLTOOL, "cover", "--json", path(f"tl_cache/seed-{seed}.trace")]))["situations"]
+        sums.update({row["name"]: row["count"] for row in rows})
+    want(counts == dict(sums) and len(counts) == 66, f"{counts} aren't {sums}")
+    holes = [name for name, count in counts.items() if not count and name not in NEVER_OF_CACHE]
+    want(summary == f"{61 - len(holes)} of 61 situations seen", summary)
+    want(f"{summary}; not seen: {', '.join(holes)}\n" in told if holes else f"{summary}\n" in told, told)
+    with open(path("tl_cache/report.html")) as file:
+        page = file.read()
+    for name in [*holes, *NEVER_OF_CACHE]:
+        want(f'<td class="name">{name}</td>' in page, f"{name} isn't in the report")
+    want("the proved manager sends no Probe toT" in page, "why report-TtoT can't come")
+
+
+# What traffic of the cache's bench can't bring.
+NEVER_OF_CACHE = ["probe-toT", "report-TtoT", "access-beside-transfer", "access-of-held-block", "three-contend"]
+
+
+@test
+def a_run_ends_when_all_situations_have_come():
+    told = conform("client", "tl_cache.toml", "--seeds", "40", "--jobs", "2", "--until-covered", out="tl_cache", status=0)
+    want(int(re.search(r"^clean: (\d+) seeds", told, re.M)[1]) < 40 and "\n61 of 61 situations seen\n" in told, told)
+
+
+@test
+def a_situation_that_the_map_says_never_comes_is_told_where_it_comes():
+    of_map = changed("tl_ram.toml", ("blocks = 16", 'blocks = 16\nnever = ["mask-full"]'))
+    told = conform("device", of_map, "--seeds", "2", "--cycles", "2000", out="tl_ram", status=0)
+    want(re.search(r"^mask-full came \d+ times; the map says never$", told, re.M), told)
 
 
 @test

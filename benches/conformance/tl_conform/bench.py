@@ -27,7 +27,7 @@ def parameters(map):
     values = {
         "int N": len(map.links), "int LEVELS": sum(LEVELS.index(level) << 2 * link for link, level in enumerate(map.links)),
         "int FIRST_CLIENT": first, "int W": map.width, "int SOURCE_BITS": map.source_bits,
-        "int SOURCES": map.sources or min(8, 1 << map.source_bits), "int LIBERTIES": map.liberty_set, "int BLOCKS": map.blocks,
+        "int SOURCES": map.sources_of_client, "int LIBERTIES": map.liberty_set, "int BLOCKS": map.blocks,
         "bit [31:0] BASE": f"32'h{map.base:08x}", "bit [7:0] TAKES": f"8'd{sum(1 << REQUESTS.index(it) for it in map.requests)}",
         "int LARGEST": map.largest, "bit OWNED": int(map.side != "device"), "int WRITERS": max(1, len(writers)),
         "int SMALL": 0 if map.side == "client" and map.processor["bytes"] == 4 else -1, "int REGISTERS": len(map.ranges),

@@ -67,4 +67,6 @@ class Explained:
 
 
 def width_of(lines):
-    return lines[0].split()[2] if lines and lines[0].startswith("tltrace") else "8"
+    """The bytes of a beat, by the header of a trace: the first form names none."""
+    words = lines[0].split() if lines else []
+    return words[2] if words[:1] == ["tltrace"] and words[1] != "1" else "8"

@@ -10,7 +10,7 @@ from .fields import FIELDS, LEVELS, LIBERTIES, OF_LEVEL, REQUESTS, every_field, 
 ENTRIES = {
     "files": [], "top": "", "include": [], "clock": "clk", "reset": "rst_n", "reset_high": False, "width": 8, "level": "C", "links": [],
     "port_of": [], "first_sources": [], "source_bits": 2, "sources": 0, "base": 0, "blocks": 16, "ports": "{channel}_{field}", "liberties": [], "takes": [], "largest": 6,
-    "others": ["C", "UH"], "probe_source": 0, "registers": [], "largest_of_registers": 2, "timeout": 2000,
+    "others": ["C", "UH"], "probe_source": 0, "registers": [], "largest_of_registers": 2, "timeout": 2000, "never": [],
     "parameters": {}, "inputs": {}, "fields": {}, "processor": {},
 }
 PROCESSOR = {
@@ -167,6 +167,31 @@ class Map:
                                " processor's port is")
         if self.processor["bytes"] not in (4, 8):
             self.refuse("processor", "bytes", "a Load or a Store has 4 or 8 bytes")
+
+    def check_never(self, names):
+        """The situations that a design never brings are of those that there are."""
+        for name in self.never:
+            self.want(name in names, "never", f"{name} is no situation; there are {', '.join(names)}")
+
+    @property
+    def is_cache(self):
+        """Whether a client of level C is under test."""
+        return self.side == "client" and self.level == "C"
+
+    @property
+    def caches(self):
+        """How many links acquire blocks."""
+        return self.links.count("C") if {"AcquireBlock", "AcquirePerm"} & set(self.requests) else 0
+
+    @property
+    def most_bytes(self):
+        """The bytes of the largest access: a link of level UL has none of several beats."""
+        return min(1 << self.largest, self.width if set(self.links) == {"UL"} else 64)
+
+    @property
+    def sources_of_client(self):
+        """The sources of each proved client."""
+        return self.sources or min(8, 1 << self.source_bits)
 
     @property
     def requests(self):

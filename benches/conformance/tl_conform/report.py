@@ -14,6 +14,7 @@ body { margin: 0 auto; max-width: 62rem; padding: 1.5rem 1rem 4rem; font: 16px/1
   background: var(--paper); }
 h1 { font-size: 1.5rem; margin: 0; }
 h2 { font-size: 1.15rem; margin: 2.2rem 0 .6rem; }
+h3 { font-size: 1rem; margin: 1.4rem 0 .3rem; }
 p { margin: .4rem 0; }
 .dim { color: var(--dim); }
 .bad { color: var(--bad); font-weight: 600; }
@@ -24,8 +25,13 @@ pre { background: var(--card); border: 1px solid var(--line); border-radius: 6px
 table { border-collapse: collapse; width: 100%; font-size: .92rem; }
 th, td { text-align: left; padding: .3rem .9rem .3rem 0; border-bottom: 1px solid var(--line); vertical-align: top; }
 th { color: var(--dim); font-weight: 600; white-space: nowrap; }
-td.number, th.number { text-align: right; font-variant-numeric: tabular-nums; }
+td.number, th.number { text-align: right; font-variant-numeric: tabular-nums; white-space: nowrap; }
+td.name { white-space: nowrap; }
+td.text { min-width: 18rem; }
 td code { display: inline-block; min-width: 18rem; overflow-wrap: anywhere; }
+td.seeds { white-space: nowrap; line-height: 1; padding-top: .55rem; }
+td.seeds i { display: inline-block; width: .5rem; height: .75rem; margin-right: 1px; background: var(--line); }
+td.seeds i.on { background: var(--good); }
 img { display: block; box-sizing: border-box; border: 1px solid var(--line); border-radius: 6px; }
 """
 
@@ -81,14 +87,59 @@ def table(seeds):
             f"<tbody>\n{rows}\n</tbody>\n</table></div>")
 
 
+CELLS = 40  # of so many seeds each has a cell in the rows of situations
+
+
+def of_situations(covered, seeds):
+    """How often each situation came, in how many seeds, and which didn't come."""
+    sentences = covered.table.sentences
+    holes = [(name, sentences[name]) for name in covered.holes]
+    never = [(name, sentences[name], reason) for name, reason in covered.never.items()]
+    parts = ["<p>Each situation is counted at the first beats of the messages that begin in it.</p>"]
+    if holes:
+        parts += ['<h3 class="bad">Not seen</h3>', of_names(["Situation", "The message that begins"], holes)]
+    parts += ["<h3>Seen</h3>", of_seen(covered, seeds)]
+    if never:
+        parts += ["<h3>Can't come here</h3>", of_names(["Situation", "The message that begins", "Why not"], never)]
+    return "\n".join(parts)
+
+
+def of_names(heads, rows):
+    return rows_under(heads, [f'<td class="name">{name}</td>' + "".join(f'<td class="text">{html.escape(it)}</td>' for it in rest)
+                              for name, *rest in rows])
+
+
+def of_seen(covered, seeds):
+    """A row for each situation that came, with a cell for each seed if these are few."""
+    rows = []
+    for name in covered.seen:
+        cells = "".join(f'<i{" class=on" if name in seed.situations else ""} title="seed {seed.number}: {seed.situations.get(name, 0):,}"></i>'
+                        for seed in seeds[:CELLS])
+        rows.append(f'<td class="name">{name}</td><td class="number">{covered.messages[name]:,}</td>'
+                    f'<td class="number">{len(covered.seeds[name])} of {len(seeds)}</td><td class="seeds">{cells}</td>'
+                    f'<td class="text">{html.escape(covered.table.sentences[name])}</td>')
+    return rows_under(["Situation", "Messages", "Seeds", "By seed", "The message that begins"], rows)
+
+
+def rows_under(heads, rows):
+    """A table of rows whose cells are HTML."""
+    numbers = ("Messages", "Seeds")
+    head = "".join(f"<th{' class=number' if it in numbers else ''}>{it}</th>" for it in heads)
+    body = "\n".join(f"<tr>{row}</tr>" for row in rows)
+    return f'<div class="wide"><table>\n<thead><tr>{head}</tr></thead>\n<tbody>\n{body}\n</tbody>\n</table></div>'
+
+
 def shown(number):
     return "" if number is None else f"{number:,}"
 
 
-def junit(title, seeds):
-    """A test case for each seed."""
+def junit(title, seeds, covered):
+    """A test case for each seed, and as properties how often each situation came."""
     at_fault = sum(1 for seed in seeds if seed.fault)
-    lines = ['<?xml version="1.0" encoding="UTF-8"?>', f'<testsuite name={quoteattr(title)} tests="{len(seeds)}" failures="{at_fault}">']
+    lines = ['<?xml version="1.0" encoding="UTF-8"?>', f'<testsuite name={quoteattr(title)} tests="{len(seeds)}" failures="{at_fault}">',
+             "  <properties>", f'    <property name="situations" value={quoteattr(covered.summary)}/>']
+    lines += [f'    <property name="situation {name}" value="{covered.messages[name]}"/>' for name in covered.table.sentences]
+    lines.append("  </properties>")
     for seed in seeds:
         case = f'  <testcase classname={quoteattr(title)} name="seed {seed.number}" time="{seed.seconds:.2f}"'
         if seed.fault:

@@ -1,10 +1,12 @@
-"""Seeds, each run by a process of its own, and what is found of each."""
+"""Seeds, each run by a process of its own, what is found of each, and the situations that its messages have been in."""
 
 import concurrent.futures
 import re
 import subprocess
 import sys
 import time
+
+from .situations import count
 
 # What a bench says when it stops: the checkers, the proved agents, and what watches beside them.
 BREAKS = re.compile(r"^\s*(?P<time>\d+): (?P<by>tl_\w+): link \d+ breaks (?P<fault>\w+): (?P<text>.*)$", re.M)
@@ -21,10 +23,10 @@ PERIOD = 10  # of the bench's clock, whose first rising edge is at 5
 
 
 class Seed:
-    """What is found of a seed: no fault, or a name for it, where it came, what was said and by whom."""
+    """What is found of a seed: no fault, or a name for it, where it came, what was said and by whom. And how often each situation came."""
 
-    def __init__(self, number, said, status, seconds, trace):
-        self.number, self.seconds, self.trace = number, seconds, trace
+    def __init__(self, number, said, status, seconds, trace, situations):
+        self.number, self.seconds, self.trace, self.situations = number, seconds, trace, situations
         self.fault, self.text, self.by = None, "", ""
         done = DONE.search(said)
         self.cycles, self.beats = (int(it) for it in done.groups()) if done else (None, None)
@@ -44,39 +46,54 @@ class Seed:
         self.by = FOUND_BY.get(self.fault) or FOUND_BY.get(match["by"], "checker")
 
 
-def run_seed(program, number, words, folder, patience):
-    """Runs one seed. Its trace stays where a fault was found."""
-    trace = folder / f"seed-{number}.trace"
-    start = time.monotonic()
-    try:
-        done = subprocess.run([str(program), f"+verilator+seed+{number}", "+verilator+rand+reset+2", f"+seed={number}", f"+trace={trace}", *words],
-                              stdout=subprocess.PIPE, stderr=subprocess.STDOUT, text=True, errors="replace", timeout=patience, cwd=folder)
-        said, status = done.stdout, done.returncode
-    except subprocess.TimeoutExpired as late:
-        said = (late.stdout or b"").decode(errors="replace") + f"\ntl-conform: not ended after {patience} seconds\n"
-        status = 1
-    (folder / f"seed-{number}.log").write_text(said)
-    return Seed(number, said, status, time.monotonic() - start, trace)
+class Runs:
+    """How seeds are run: by the simulation with its words, and by tltool, which counts situations. A trace stays where a fault was
+    found, or where all are kept."""
+
+    def __init__(self, program, words, folder, tool, patience, keep):
+        self.program, self.words, self.folder = program, words, folder
+        self.tool, self.patience, self.keep = tool, patience, keep
+
+    def run(self, number):
+        trace = self.folder / f"seed-{number}.trace"
+        start = time.monotonic()
+        said, status = self.simulate(number, trace)
+        (self.folder / f"seed-{number}.log").write_text(said)
+        seed = Seed(number, said, status, time.monotonic() - start, trace, count(self.tool, trace))
+        if seed.fault is None and not self.keep:
+            trace.unlink(missing_ok=True)
+        return seed
+
+    def simulate(self, number, trace):
+        """What the simulation of a seed says, and its status."""
+        words = [f"+verilator+seed+{number}", "+verilator+rand+reset+2", f"+seed={number}", f"+trace={trace}", *self.words]
+        try:
+            done = subprocess.run([str(self.program), *words], stdout=subprocess.PIPE, stderr=subprocess.STDOUT, text=True, errors="replace",
+                                  timeout=self.patience, cwd=self.folder)
+        except subprocess.TimeoutExpired as late:
+            return (late.stdout or b"").decode(errors="replace") + f"\ntl-conform: not ended after {self.patience} seconds\n", 1
+        return done.stdout, done.returncode
+
+    def run_all(self, numbers, jobs, take):
+        """Runs the seeds, so many side by side. Each goes to `take` with the number of all; once that says it is enough none begins."""
+        found = []
+        with concurrent.futures.ThreadPoolExecutor(jobs) as pool:
+            waiting = [pool.submit(self.run, number) for number in numbers]
+            for future in concurrent.futures.as_completed(waiting):
+                if future.cancelled():
+                    continue
+                found.append(future.result())
+                if take(found, sum(1 for it in waiting if not it.cancelled())):
+                    for later in waiting:
+                        later.cancel()
+        return sorted(found, key=lambda seed: seed.number)
 
 
-def run_all(program, numbers, words, folder, jobs, patience, keep, show):
-    """Runs the seeds, so many side by side, and shows a line of progress."""
-    found = []
-    with concurrent.futures.ThreadPoolExecutor(jobs) as pool:
-        waiting = [pool.submit(run_seed, program, number, words, folder, patience) for number in numbers]
-        for future in concurrent.futures.as_completed(waiting):
-            seed = future.result()
-            found.append(seed)
-            if seed.fault is None and not keep:
-                seed.trace.unlink(missing_ok=True)
-            show(found, len(numbers))
-    return sorted(found, key=lambda seed: seed.number)
-
-
-def progress(found, count):
+def progress(found, count, summary):
     """One line, written over where the output is a terminal."""
     faults = sum(1 for seed in found if seed.fault)
-    line = f"{len(found)} of {count} seeds, {faults} at fault"
+    cycles = sum(seed.cycles or 0 for seed in found)
+    line = f"{len(found)} of {count} seeds, {cycles:,} cycles, {faults} at fault, {summary}"
     if sys.stderr.isatty():
         print(f"\r{line}", end="\n" if len(found) == count else "", file=sys.stderr, flush=True)
     elif len(found) == count or len(found) % 10 == 0:

@@ -1,7 +1,7 @@
 -- The bytes that one more beat brings.
 use Rattle.std.proofs.Common.{◌≡◌, ℕ, Bool, true, false, ◌&&◌, ◌+◌, ◌-◌, ◌*◌, ◌/◌, ◌%◌, ◌<◌, ◌≤◌, List, ◌∷◌, [], length}
 use Rattle.std.proofs.Common.{refl, sym, ap, ◌∙◌, arith, inl, inr}
-use Rattle.std.specs.Prelude.{if◌then◌else◌, ◌==◌, Option, None, nat_lt, slice_get, slice_index_or}
+use Rattle.std.specs.Prelude.{if◌then◌else◌, ◌==◌, Option, None, nat_lt, slice_get}
 use Rattle.std.proofs.Math.Nat.{div-lt_iff_lt-mul, le-div_iff_mul-le, mod-lt}
 use Rattle.std.proofs.lemmas.Bool.{cases_eq, cases_lt, eq-eqb, lt-ltb, le-ltb, ne_eqb}
 use Rattle.std.{proofs.lemmas.Nat.div-add-mod', proofs.lemmas.Option.slice_get_past}
@@ -9,6 +9,7 @@ use Rattle.tl_beat.{specs.declared.beat.Beat.Beat, specs.statement.Width.IsWidth
 use Rattle.tl_rules.specs.statement.Admission.{is_spoiled, lanes_of}
 use Rattle.tl_bytes.{specs.code.Carried.with_lanes, specs.declared.carried.CarriedBytes.CarriedBytes}
 use Rattle.tl_bytes.{specs.statement.Bytes.carried_byte, specs.statement.Known.HasBytes}
+use Rattle.tl_bytes.{specs.declared.known_bytes.KnownBytes.KnownBytes, specs.statement.KnownBytes.known_at}
 use Rattle.tl_bytes.{specs.statement.Known.KnowsCarried}
 
 -- ---- the places of a beat's lanes
@@ -80,9 +81,9 @@ none-brought {w} carried x burst k none p lt = elim (cases_eq (p / w) (length bu
     nothing v u i e = refl
 
 -- with one that isn't corrupt its lanes are put at their places
-pub lanes-brought : {w : ℕ} (old : CarriedBytes) (new : List (Option ℕ)) (x : Beat w) (burst : List (Beat w))
+pub lanes-brought : {w : ℕ} (old : CarriedBytes) (new : KnownBytes) (x : Beat w) (burst : List (Beat w))
     (lanes : List ℕ) → KnowsCarried old burst → is_spoiled x ≡ false → lanes ≡ lanes_of x
-    → ((p : ℕ) → p < 64 → slice_index_or new p None ≡ with_lanes w old.beats lanes old.bytes p)
+    → ((p : ℕ) → p < 64 → known_at new p ≡ with_lanes w old.beats lanes old.bytes p)
     → HasBytes new (x ∷ burst)
 unfolding carried_byte
 lanes-brought {w} old new x burst lanes k sound same put p lt =

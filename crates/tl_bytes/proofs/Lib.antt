@@ -3,6 +3,7 @@ pub mod BytesGranted
 pub mod BytesRead
 pub mod Filled
 pub mod Finding
+pub mod KnownAt
 pub mod Offered
 pub mod Pending
 pub mod Reading

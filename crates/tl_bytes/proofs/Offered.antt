@@ -2,14 +2,16 @@
 use Rattle.tl_bytes.proofs.Imports.{Telling, Told, Write, told_as, tellings_at}
 use Rattle.std.proofs.Common.{◌≡◌, ℕ, Bool, true, false, ◌&&◌, ◌||◌, ◌+◌, ◌<◌, ◌≤◌, List, [], ◌∷◌, ◌++◌, refl, sym, ap}
 use Rattle.std.proofs.Common.{ap₂, ◌∙◌, arith, inl, inr, drop, get_or, length}
-use Rattle.std.specs.Prelude.{if◌then◌else◌, Option, Some, None, is_some, find, nat_lt, slice_index_or, ◌==◌}
+use Rattle.std.specs.Prelude.{if◌then◌else◌, Option, Some, None, is_some, find, nat_lt, ◌==◌}
 use Rattle.std.proofs.lemmas.Bool.{and_parts, cases_Bool, cases_eq, cases_lt, eq-eqb, eqb-true, le-ltb, lt-ltb, ne_eqb}
 use Rattle.std.proofs.lemmas.Bool.{or_cases, or_left, or_right}
 use Rattle.std.proofs.lemmas.List.{at_drop_more, at_drop_all}
 use Rattle.std.specs.Global.{Vec}
 use Rattle.tl_bytes.specs.code.Possible.{covers_first, has, is_covered}
 use Rattle.tl_bytes.{specs.declared.read_bytes.ReadBytes.ReadBytes, specs.declared.telling.Possible.Possible}
+use Rattle.tl_bytes.specs.declared.known_bytes.KnownBytes.{KnownBytes}
 use Rattle.tl_bytes.specs.statement.Bytes.{could_be}
+use Rattle.tl_bytes.specs.statement.KnownBytes.{known_at}
 use Rattle.tl_bytes.specs.statement.Known.{is_among, is_listed, may_bring}
 use Rattle.tl_bytes.specs.code.Tellings.{covers_value, is_written, leaves, left_as, value_at}
 
@@ -65,10 +67,10 @@ covered-listed place v value (x ∷ more) e could = elim (cases_Bool ((x.place =
 ]
 
 -- what it has may be brought
-covers-among : (first : Option (Vec (Option ℕ))) (place v : ℕ) (value : Option ℕ) → covers_first first place value ≡ true
+covers-among : (first : Option KnownBytes) (place v : ℕ) (value : Option ℕ) → covers_first first place value ≡ true
     → could_be v value ≡ true → is_among first place v ≡ true
 covers-among None place v value e could = absurd cc
-covers-among (Some values) place v value e could = covers-could v (slice_index_or values.items place None) value e could
+covers-among (Some values) place v value e could = covers-could v (known_at values place) value e could
 
 has-brought : (read : ReadBytes) (place v : ℕ) (value : Option ℕ) → has read place value ≡ true
     → could_be v value ≡ true → may_bring read place v ≡ true
@@ -185,8 +187,8 @@ pub told-either : (v : ℕ) (e : Telling) (l : List Telling) → (could_be v e.v
 told-either v e l = sym (either-some (could_be v e.value) e (find (λ x. could_be v x.value) l))
 
 -- in the first window what was told last
-pub first-found : (old new : ReadBytes) (values : Vec (Option ℕ)) (at v : ℕ) (value : Option ℕ)
-    → is_some old.first ≡ false → new.first ≡ Some values → new.more ≡ old.more → slice_index_or values.items at None ≡ value
+pub first-found : (old new : ReadBytes) (values : KnownBytes) (at v : ℕ) (value : Option ℕ)
+    → is_some old.first ≡ false → new.first ≡ Some values → new.more ≡ old.more → known_at values at ≡ value
     → may_bring new at v ≡ (may_bring old at v || could_be v value)
 first-found old new values at v value none first same last =
     ap₂ (λ f m. is_among f at v || is_listed at v m) first (ap (λ (m : Vec Possible). m.items) same)
@@ -194,7 +196,7 @@ first-found old new values at v value none first same last =
     ∙ swapped (could_be v value) (is_listed at v old.more.items)
     ∙ ap (λ b. (b || is_listed at v old.more.items) || could_be v value) (sym (unmet old.first none))
   where
-    unmet : (o : Option (Vec (Option ℕ))) → is_some o ≡ false → is_among o at v ≡ false
+    unmet : (o : Option KnownBytes) → is_some o ≡ false → is_among o at v ≡ false
     unmet None e = refl
     unmet (Some values) e = absurd cc
 

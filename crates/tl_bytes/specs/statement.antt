@@ -1,5 +1,6 @@
 pub mod Bytes
 pub mod Free
 pub mod Known
+pub mod KnownBytes
 pub mod Lines
 pub mod Shown

@@ -1,10 +1,12 @@
 //! The bytes that the beats of a message bring.
 
-ghost use Rattle.std.specs.Prelude.{ℕ, [], ◌∷◌, ◌<◌, ◌≡◌, List, None, length, slice_index_or, unwrap_or};
+ghost use Rattle.std.specs.Prelude.{ℕ, [], ◌∷◌, ◌<◌, ◌≡◌, List, length, unwrap_or};
 ghost use Rattle.tl_beat.specs.declared.beat.Beat.{Beat};
 ghost use Rattle.tl_beat.specs.statement.Width.{IsWidth};
 ghost use Rattle.tl_bytes.specs.code.Carried.{with_lanes};
+ghost use Rattle.tl_bytes.specs.statement.KnownBytes.{known_at};
 
+use crate::known_bytes::KnownBytes;
 use tl_beat::beat::Beat;
 use tl_rules::admission::is_spoiled;
 
@@ -12,7 +14,7 @@ use tl_rules::admission::is_spoiled;
 /// its beat is to come, or was corrupt.
 #[derive(Clone, Copy)]
 pub struct CarriedBytes {
-    bytes: [Option<u8>; 64],
+    bytes: KnownBytes,
     beats: usize,
 }
 
@@ -24,7 +26,7 @@ impl CarriedBytes {
         ensures { (w : ℕ) → KnowsCarried {w = w} result [] }
     {
         CarriedBytes {
-            bytes: [None; 64],
+            bytes: KnownBytes::none(),
             beats: 0,
         }
     }
@@ -33,7 +35,7 @@ impl CarriedBytes {
     fn put<const W: usize>(&mut self, lanes: &[u8; W])
         requires { IsWidth W }
         ensures beats { self.new.beats ≡ self.old.beats }
-        ensures bytes { (place : ℕ) → place < 64 → slice_index_or self.new.bytes place None
+        ensures bytes { (place : ℕ) → place < 64 → known_at self.new.bytes place
             ≡ with_lanes W self.old.beats lanes.now self.old.bytes place }
     {
         let first = W.saturating_mul(self.beats);
@@ -42,7 +44,7 @@ impl CarriedBytes {
             return;
         }
         for lane in 0..W {
-            self.bytes[first + lane] = Some(lanes[lane]);
+            self.bytes.set(first + lane, lanes[lane]);
         }
     }
 
@@ -50,7 +52,7 @@ impl CarriedBytes {
     fn put_data<const W: usize>(&mut self, lanes: &Option<[u8; W]>)
         requires { IsWidth W }
         ensures beats { self.new.beats ≡ self.old.beats }
-        ensures bytes { (place : ℕ) → place < 64 → slice_index_or self.new.bytes place None
+        ensures bytes { (place : ℕ) → place < 64 → known_at self.new.bytes place
             ≡ with_lanes W self.old.beats (unwrap_or lanes.now []) self.old.bytes place }
     {
         if let Some(lanes) = lanes {
@@ -95,7 +97,7 @@ impl CarriedBytes {
     }
 
     /// The bytes by their places.
-    pub fn bytes(&self) -> &[Option<u8>; 64]
+    pub fn bytes(&self) -> &KnownBytes
         ensures { (w : ℕ) (burst : List (Beat w)) → KnowsCarried self.now burst → HasBytes result.now burst }
     {
         &self.bytes

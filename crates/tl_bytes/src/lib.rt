@@ -3,6 +3,7 @@
 
 pub mod block_bytes;
 pub mod carried;
+pub mod known_bytes;
 pub mod latest;
 pub mod lines;
 pub mod read_bytes;

@@ -1,7 +1,7 @@
 //! What a read may bring.
 
-ghost use Rattle.std.specs.Prelude.{ℕ, true, false, ◌+◌, ◌*◌, ◌<◌, ◌≡◌, ◌==◌, ◌&&◌, ◌||◌, None};
-ghost use Rattle.std.specs.Prelude.{IfOk, OnOk, slice_index_or};
+ghost use Rattle.std.specs.Prelude.{ℕ, true, false, ◌+◌, ◌*◌, ◌<◌, ◌≡◌, ◌==◌, ◌&&◌, ◌||◌};
+ghost use Rattle.std.specs.Prelude.{IfOk, OnOk};
 ghost use Rattle.tl_rules.specs.statement.Conformance.{Trace};
 ghost use Rattle.tl_bytes.specs.code.Tellings.{leaves, left_as, telling_at};
 ghost use Rattle.tl_bytes.specs.code.Possible as code;
@@ -10,20 +10,11 @@ ghost use Rattle.tl_bytes.specs.statement.Known as known;
 ghost use Rattle.tl_bytes.specs.statement.Known.{tellings_at, tellings_of};
 
 use crate::block_bytes::BlockBytes;
-use crate::latest::{BLOCK_BYTES, Latest};
+use crate::known_bytes::{BLOCK_BYTES, KnownBytes};
+use crate::latest::Latest;
 use crate::telling::{Possible, Told, could_be, covers};
 use crate::write::Write;
 use std::alloc::{AllocError, Global};
-
-/// The value at a place: anything where there is none.
-fn value_at(values: &[Option<u8>], place: u8) -> Option<u8>
-    ensures { result ≡ slice_index_or values.now place None }
-{
-    match values.get(usize::from(place)) {
-        Some(value) => *value,
-        None => None,
-    }
-}
 
 /// Whether one of these lets the byte at a place be all that this value may.
 fn is_covered(possible: &[Possible], place: u8, value: Option<u8>) -> bool
@@ -53,7 +44,7 @@ fn is_listed(possible: &[Possible], place: u8, byte: u8) -> bool
 #[derive(Drop)]
 pub struct ReadBytes {
     /// What each byte might be in the first window; none where there was none.
-    first: Option<Vec<Option<u8>>>,
+    first: Option<KnownBytes>,
     /// What else.
     more: Vec<Possible>,
 }
@@ -77,7 +68,7 @@ impl ReadBytes {
     {
         match &self.first {
             None => false,
-            Some(values) => covers(value_at(values.as_slice(), place), value),
+            Some(values) => covers(values.at(usize::from(place)), value),
         }
     }
 
@@ -134,30 +125,25 @@ impl ReadBytes {
     }
 
     /// Adds what was told last, in the first window or a later one.
-    fn find_latest(&mut self, alloc: Global, latest: &Latest) -> Result<(), AllocError>
+    fn find_latest(&mut self, latest: &Latest) -> Result<(), AllocError>
         ensures { OnOk result ((at byte : ℕ) → at < 64 → may_bring self.new at byte
             ≡ (may_bring self.old at byte || could_be byte (telling_at latest.now at).value)) }
     {
         if self.first.is_some() {
             return self.offer_latest(latest);
         }
-        self.first = Some(Vec::from_slice(alloc, latest.values.as_slice())?);
+        self.first = Some(latest.values);
         Ok(())
     }
 
     /// Adds what it may find in a window: what the block's bytes may be, and what these write. Without memory it may have
     /// some of that.
-    pub fn find(
-        &mut self,
-        alloc: Global,
-        block: &BlockBytes,
-        writes: &[Write],
-    ) -> Result<(), AllocError>
+    pub fn find(&mut self, block: &BlockBytes, writes: &[Write]) -> Result<(), AllocError>
         ensures { OnOk result ((at byte : ℕ) → at < 64 → may_bring self.new at byte
             ≡ (may_bring self.old at byte
             || (told_as byte (tellings_of block.now at) || left_as at byte writes.now))) }
     {
-        self.find_latest(alloc, &block.latest)?;
+        self.find_latest(&block.latest)?;
         self.offer_earlier(block.earlier.as_slice())?;
         self.offer_writes(writes)?;
         Ok(())
@@ -169,7 +155,7 @@ impl ReadBytes {
             MayWrite writes.now number (windowed n number t) → KnowsGrant read n number t) }
     {
         let mut read = ReadBytes::none(alloc);
-        read.find(alloc, block, writes)?;
+        read.find(block, writes)?;
         Ok(read)
     }
 
@@ -178,12 +164,11 @@ impl ReadBytes {
         ensures { IfOk result (λ read. (place byte : ℕ) →
             may_bring read place byte ≡ may_bring self.now place byte) }
     {
-        let first = match &self.first {
-            None => None,
-            Some(values) => Some(Vec::from_slice(alloc, values.as_slice())?),
-        };
         let more = Vec::from_slice(alloc, self.more.as_slice())?;
-        Ok(ReadBytes { first, more })
+        Ok(ReadBytes {
+            first: self.first,
+            more,
+        })
     }
 
     /// Adds what is written.
@@ -205,7 +190,7 @@ impl ReadBytes {
     {
         match &self.first {
             None => false,
-            Some(values) => values.is_empty(),
+            Some(values) => values.is_none(),
         }
     }
 
@@ -215,7 +200,7 @@ impl ReadBytes {
     {
         match &self.first {
             None => false,
-            Some(values) => could_be(byte, value_at(values.as_slice(), place)),
+            Some(values) => could_be(byte, values.at(usize::from(place))),
         }
     }
 

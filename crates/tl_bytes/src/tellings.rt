@@ -5,7 +5,8 @@ ghost use Rattle.tl_bytes.specs.code.Tellings.{displaced, is_displaced, outlived
 ghost use Rattle.tl_bytes.specs.statement.Bytes.{told_as};
 ghost use Rattle.tl_bytes.specs.statement.Known.{tellings_at};
 
-use crate::latest::{BLOCK_BYTES, Latest};
+use crate::known_bytes::BLOCK_BYTES;
+use crate::latest::Latest;
 use crate::telling::{Told, could_be, same_value};
 use crate::write::Write;
 use std::alloc::{AllocError, Global};
@@ -83,7 +84,9 @@ pub fn outlived(
     ensures { IfOk result (λ told. told.items ≡ outlived latest.now earlier.now write.now since) }
 {
     let mut told = Vec::new(alloc);
-    displace(&mut told, latest, write, since)?;
+    if !latest.is_before(since) {
+        displace(&mut told, latest, write, since)?;
+    }
     keep(&mut told, write, since, earlier)?;
     Ok(told)
 }

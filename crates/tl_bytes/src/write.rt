@@ -1,9 +1,11 @@
 //! What an access writes in a block.
 
-ghost use Rattle.std.specs.Prelude.{ℕ, true, None, ◌&&◌, ◌<◌, ◌≡◌, nat_lt, slice_index_or};
+ghost use Rattle.std.specs.Prelude.{ℕ, true, ◌&&◌, ◌<◌, ◌≡◌, nat_lt};
 ghost use Rattle.tl_burst.specs.statement.Burst as burst;
 ghost use Rattle.tl_bytes.specs.code.Tellings.{is_written, leaves, left_as, value_at};
+ghost use Rattle.tl_bytes.specs.statement.KnownBytes.{known_at};
 
+use crate::known_bytes::KnownBytes;
 use crate::telling::could_be;
 
 /// The places of a block that an access writes, and what it writes there: a value, or anything. The lowest bit of the mask,
@@ -12,7 +14,7 @@ use crate::telling::could_be;
 pub struct Write {
     pub first: usize,
     pub mask: u64,
-    pub values: [Option<u8>; 64],
+    pub values: KnownBytes,
 }
 
 /// Whether a bit of a mask is set.
@@ -37,17 +39,14 @@ impl Write {
     pub fn value(&self, place: u8) -> Option<u8>
         ensures { result ≡ value_at self.now place }
     {
-        let at = usize::from(place).saturating_sub(self.first);
-        match self.values.get(at) {
-            Some(value) => *value,
-            None => None,
-        }
+        self.values
+            .at(usize::from(place).saturating_sub(self.first))
     }
 
     /// Whether it writes each place of a block, the first with its first value.
     pub(crate) fn is_whole(&self) -> bool
         ensures { result ≡ true → (place : ℕ) → place < 64 →
-            (is_written self.now place ≡ true) × (value_at self.now place ≡ slice_index_or self.now.values place None) }
+            (is_written self.now place ≡ true) × (value_at self.now place ≡ known_at self.now.values place) }
     {
         self.first == 0 && self.mask == u64::MAX
     }

@@ -1,27 +1,18 @@
 -- The blocks of all links, with one more beat.
-use Rattle.std.proofs.Common.{◌≡◌, ◌≢◌, ◌<◌, ◌≤◌, ℕ, zero, suc, ◌==◌, Bool, true, List, [], ◌∷◌, ◌++◌, length}
-use Rattle.std.proofs.Common.{refl, sym, ap, ◌∙◌, arith, inl, inr, subst}
+use Rattle.std.proofs.Common.{◌≡◌, ◌≢◌, ◌<◌, ◌≤◌, ℕ, Bool, List, [], ◌∷◌, ◌++◌, length}
+use Rattle.std.proofs.Common.{sym, ap, ◌∙◌, arith, inl, inr, subst}
 use Rattle.std.specs.Prelude.{slice_index_or, slice_set, Option}
-use Rattle.std.proofs.lemmas.Bool.{cases_eq, ne_eqb}
+use Rattle.std.proofs.lemmas.Bool.{cases_eq}
 use Rattle.std.proofs.lemmas.List.{get_or-set_other, get_or-set_same, length-set}
 use Rattle.tl_beat.specs.declared.beat.Beat.{Beat}
 use Rattle.tl_beat.specs.declared.beat.Link.{Link}
 use Rattle.tl_chart.specs.code.Gathered.{CarryAll, KnowLinks, KnowsBlocks}
 use Rattle.tl_chart.specs.declared.blocks.LinkBlocks.{LinkBlocks}
 use Rattle.tl_chart.specs.statement.Messages.{message_block}
-use Rattle.tl_explain.proofs.follows.Links.{on_own_link}
+use Rattle.tl_monitor.proofs.OnLink.{all_more, other_link, own_link}
 use Rattle.tl_burst.specs.statement.Messages.{History}
 use Rattle.tl_rules.specs.statement.Conformance.{Trace, on_link}
 use Rattle.tl_rules.specs.statement.History.{begins}
-
-all_more : {X : Type 0} (P : X → Type 0) (xs : List X) (x : X)
-    → ((n : ℕ) (d : X) → n < length xs → P (slice_index_or xs n d)) → P x
-    → (n : ℕ) (d : X) → n < length (xs ++ x ∷ []) → P (slice_index_or (xs ++ x ∷ []) n d)
-all_more P [] x all one zero d lt = one
-all_more P [] x all one (suc n) d lt = absurd (omega (arith, lt))
-all_more P (y ∷ ys) x all one zero d lt = all 0 d (omega arith)
-all_more P (y ∷ ys) x all one (suc n) d lt =
-    all_more P ys x (λ m e less. all (suc m) e (omega (arith, less))) one n d (omega (arith, lt))
 
 -- one more link on which there was no message
 pub links_more : (w : ℕ) (links more : List LinkBlocks) (b : LinkBlocks) → more ≡ links ++ b ∷ []
@@ -30,13 +21,6 @@ unfolding on_link
 links_more w links more b is know one =
     subst (λ (ls : List LinkBlocks). KnowLinks {w = w} ls []) (sym is)
     (λ n d lt. all_more (λ y. KnowsBlocks {w = w} y []) links b (λ m e less. know m e less) one n d lt)
-
-on_other : {w : ℕ} (n : ℕ) (x : Link × Beat w) (t : Trace w) → x.0.0 ≢ n → on_link n (x ∷ t) ≡ on_link n t
-unfolding on_link
-on_other n x t other = rw (ne_eqb x.0.0 n other) refl
-
-same_is : (a n : ℕ) → a ≡ n → (a == n) ≡ true
-same_is a n e = grind arith
 
 -- one more beat of a link, whose blocks are noted
 pub links_taken : {w : ℕ} (links : List LinkBlocks) (i : ℕ) (old b : LinkBlocks) (x : Link × Beat w) (t : Trace w)
@@ -50,13 +34,12 @@ links_taken links i old b x t first own within was is next know = λ n d lt. eli
       subst (λ (y : LinkBlocks). KnowsBlocks y (on_link i t)) (sym was) (know i old within) in
       let begun : first ≡ begins x.1 (on_link i t) = is ∙ ap (λ (k : ℕ). begins x.1 (on_link k t)) (sym own) in
       let inside : i < length links = within in
-      let here : (x.0.0 == i) ≡ true = same_is x.0.0 i (sym own) in
-      rw (same, get_or-set_same, on_own_link i x t here) (next (on_link i t) before begun)
+      rw (same, get_or-set_same, own_link i x t (sym own)) (next (on_link i t) before begun)
   | inr other ↦
       let long : length (slice_set links i b) ≡ length links = length-set links i b in
       let short : n < length links = omega (arith, lt, long) in
       let elsewhere : x.0.0 ≢ n = λ e. other (sym e ∙ sym own) in
-      rw (get_or-set_other, on_other n x t elsewhere) (know n d short)
+      rw (get_or-set_other, other_link n x t elsewhere) (know n d short)
 ]
 
 -- the block of a beat's message
@@ -74,7 +57,7 @@ pub links_kept : {w : ℕ} (links : List LinkBlocks) (x : Link × Beat w) (t : T
     → KnowLinks links t → KnowLinks links (x ∷ t)
 links_kept links x t beyond know = λ n d lt.
     let elsewhere : x.0.0 ≢ n = λ e. absurd (omega (arith, e, lt, beyond)) in
-    rw (on_other n x t elsewhere) (know n d lt)
+    rw (other_link n x t elsewhere) (know n d lt)
 
 -- one more beat of one of them
 pub carry_more : {w : ℕ} (links more : List LinkBlocks) (x : Link × Beat w) (t : Trace w) → x.0.0 < length links
@@ -82,4 +65,4 @@ pub carry_more : {w : ℕ} (links more : List LinkBlocks) (x : Link × Beat w) (
 carry_more links more x t within same all = λ n le.
     let elsewhere : x.0.0 ≢ n = λ e. absurd (omega (arith, e, le, within, same)) in
     let beyond : length links ≤ n = omega (arith, le, same) in
-    rw (on_other n x t elsewhere) (all n beyond)
+    rw (other_link n x t elsewhere) (all n beyond)

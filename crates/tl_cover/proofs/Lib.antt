@@ -4,7 +4,6 @@ pub mod Rows
 pub mod Links
 pub mod Changed
 pub mod Counted
-pub mod Within
 pub mod Awaited
 pub mod Scenes
 pub mod Answered

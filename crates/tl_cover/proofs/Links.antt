@@ -1,8 +1,8 @@
 -- What is kept of all links, with one more beat.
-use Rattle.std.proofs.Common.{◌≡◌, ◌≢◌, ◌<◌, ℕ, zero, suc, ◌==◌, true, List, [], ◌∷◌, ◌++◌, length}
+use Rattle.std.proofs.Common.{◌≡◌, ◌≢◌, ◌<◌, ℕ, List, [], ◌∷◌, ◌++◌, length}
 use Rattle.std.proofs.Common.{refl, sym, ◌∙◌, arith, inl, inr, subst}
 use Rattle.std.specs.Prelude.{slice_index_or, slice_set}
-use Rattle.std.proofs.lemmas.Bool.{cases_eq, ne_eqb}
+use Rattle.std.proofs.lemmas.Bool.{cases_eq}
 use Rattle.std.proofs.lemmas.List.{get_or-set_other, get_or-set_same, length-set}
 use Rattle.tl_beat.specs.declared.beat.Beat.{Beat}
 use Rattle.tl_beat.specs.declared.beat.Link.{Link}
@@ -10,16 +10,8 @@ use Rattle.tl_burst.specs.statement.Messages.{History}
 use Rattle.tl_cover.specs.code.Covering.{KnowPasts}
 use Rattle.tl_cover.specs.code.Past.{KnowsPast}
 use Rattle.tl_cover.specs.declared.past.LinkPast.{LinkPast}
+use Rattle.tl_monitor.proofs.OnLink.{all_more, other_link, own_link}
 use Rattle.tl_rules.specs.statement.Conformance.{Trace, on_link}
-
-all_more : {X : Type 0} (P : X → Type 0) (xs : List X) (x : X)
-    → ((n : ℕ) (d : X) → n < length xs → P (slice_index_or xs n d)) → P x
-    → (n : ℕ) (d : X) → n < length (xs ++ x ∷ []) → P (slice_index_or (xs ++ x ∷ []) n d)
-all_more P [] x all one zero d lt = one
-all_more P [] x all one (suc n) d lt = absurd (omega (arith, lt))
-all_more P (y ∷ ys) x all one zero d lt = all 0 d (omega arith)
-all_more P (y ∷ ys) x all one (suc n) d lt =
-    all_more P ys x (λ m e less. all (suc m) e (omega (arith, less))) one n d (omega (arith, lt))
 
 -- one more link that has carried nothing
 pub pasts_more : (w : ℕ) (pasts more : List LinkPast) (p : LinkPast) → more ≡ pasts ++ p ∷ []
@@ -28,17 +20,6 @@ unfolding on_link
 pasts_more w pasts more p is know one =
     subst (λ (ps : List LinkPast). KnowPasts {w = w} ps []) (sym is)
     (λ n d lt. all_more (λ y. KnowsPast {w = w} y []) pasts p (λ m e less. know m e less) one n d lt)
-
-on_other : {w : ℕ} (n : ℕ) (x : Link × Beat w) (t : Trace w) → x.0.0 ≢ n → on_link n (x ∷ t) ≡ on_link n t
-unfolding on_link
-on_other n x t elsewhere = rw (ne_eqb x.0.0 n elsewhere) refl
-
-same_is : (a n : ℕ) → a ≡ n → (a == n) ≡ true
-same_is a n e = grind arith
-
-pub on_own : {w : ℕ} (n : ℕ) (x : Link × Beat w) (t : Trace w) → x.0.0 ≡ n → on_link n (x ∷ t) ≡ x.1 ∷ on_link n t
-unfolding on_link
-on_own n x t here = rw (same_is x.0.0 n here) refl
 
 -- what is kept of a link
 pub past_at : {w : ℕ} (pasts : List LinkPast) (i : ℕ) (p : LinkPast) (link : Link) (t : Trace w) → i ≡ link.0
@@ -57,7 +38,7 @@ pasts_taken {w = w} pasts i old new x t own within was next know = λ n d lt. el
       let place : n ≡ x.0.0 = same ∙ own in
       let here : KnowsPast old (on_link x.0.0 t) = past_at pasts i old x.0 t own within was know in
       let after : KnowsPast new (on_link x.0.0 (x ∷ t)) =
-      subst (λ (h : History w). KnowsPast new h) (sym (on_own x.0.0 x t refl)) (next here) in
+      subst (λ (h : History w). KnowsPast new h) (sym (own_link x.0.0 x t refl)) (next here) in
       let there : KnowsPast new (on_link n (x ∷ t)) =
       subst (λ (k : ℕ). KnowsPast new (on_link k (x ∷ t))) (sym place) after in
       rw (same, get_or-set_same) (subst (λ (k : ℕ). KnowsPast new (on_link k (x ∷ t))) same there)
@@ -65,5 +46,5 @@ pasts_taken {w = w} pasts i old new x t own within was next know = λ n d lt. el
       let long : length (slice_set pasts i new) ≡ length pasts = length-set pasts i new in
       let short : n < length pasts = omega (arith, lt, long) in
       let elsewhere : x.0.0 ≢ n = λ e. other (sym e ∙ sym own) in
-      rw (get_or-set_other, on_other n x t elsewhere) (know n d short)
+      rw (get_or-set_other, other_link n x t elsewhere) (know n d short)
 ]

@@ -4,10 +4,10 @@ ghost use Rattle.std.specs.Prelude.{◌≡◌};
 ghost use Rattle.tl_beat.specs.statement.Width.{IsWidth};
 ghost use Rattle.tl_cover.specs.statement.Kinds;
 
-use crate::situation::Lanes;
+use crate::situation::{Bytes, Lanes};
 use tl_beat::beat::{Beat, BeatA};
 use tl_beat::opcode::OpA;
-use tl_params::param::{Arithmetic, Logical, Report};
+use tl_params::param::{Arithmetic, Cap, Grow, Logical, Prune, Report};
 use tl_rules::kind::{is_acquire, is_grant, is_probe, is_probe_ack, is_release};
 
 /// Whether a beat is of a Probe.
@@ -107,6 +107,56 @@ pub fn is_atomic<const W: usize>(beat: &Beat<W>) -> bool
     }
 }
 
+/// Whether a beat is of an Acquire that asks for this growth.
+pub fn has_grow<const W: usize>(grow: Grow, beat: &Beat<W>) -> bool
+    ensures { result ≡ Kinds.has_grow grow beat.now }
+{
+    match beat {
+        Beat::A(x) => is_acquire(x.opcode) && x.param == grow.param(),
+        _ => false,
+    }
+}
+
+/// What a Grant gives that lets a link grow so.
+fn cap_for(grow: Grow) -> Cap
+    ensures { result ≡ Kinds.cap_for grow }
+{
+    match grow {
+        Grow::NtoB => Cap::ToB,
+        Grow::NtoT | Grow::BtoT => Cap::ToT,
+    }
+}
+
+/// Whether a beat is of a Grant that gives what this growth ends with.
+pub fn gives<const W: usize>(grow: Grow, beat: &Beat<W>) -> bool
+    ensures { result ≡ Kinds.gives grow beat.now }
+{
+    match beat {
+        Beat::D(x) => is_grant(x.opcode) && x.param == cap_for(grow).param(),
+        _ => false,
+    }
+}
+
+/// Whether a beat is of a Probe with this cap.
+pub fn has_cap<const W: usize>(cap: Cap, beat: &Beat<W>) -> bool
+    ensures { result ≡ Kinds.has_cap cap beat.now }
+{
+    match beat {
+        Beat::B(x) => is_probe(x.opcode) && x.param == cap.param(),
+        _ => false,
+    }
+}
+
+/// Whether a beat is of a Release that gives this up.
+pub fn has_prune<const W: usize>(prune: Prune, beat: &Beat<W>) -> bool
+    ensures { result ≡ Kinds.has_prune prune beat.now }
+{
+    match beat {
+        Beat::C(x) => is_release(x.opcode) && x.param == prune.param(),
+        _ => false,
+    }
+}
+
 /// Whether a beat is of a ProbeAck with this report.
 pub fn has_report<const W: usize>(report: Report, beat: &Beat<W>) -> bool
     ensures { result ≡ Kinds.has_report report beat.now }
@@ -133,6 +183,31 @@ pub fn has_logical<const W: usize>(operation: Logical, beat: &Beat<W>) -> bool
 {
     match beat {
         Beat::A(x) => matches!(x.opcode, OpA::LogicalData) && x.param == operation.param(),
+        _ => false,
+    }
+}
+
+/// The size that a beat carries for so many bytes.
+fn size_of(bytes: Bytes) -> u8
+    ensures { result ≡ Kinds.size_of bytes }
+{
+    match bytes {
+        Bytes::One => 0,
+        Bytes::Two => 1,
+        Bytes::Four => 2,
+        Bytes::Eight => 3,
+        Bytes::Sixteen => 4,
+        Bytes::ThirtyTwo => 5,
+        Bytes::SixtyFour => 6,
+    }
+}
+
+/// Whether a beat is of a request of so many bytes.
+pub fn asks_for<const W: usize>(bytes: Bytes, beat: &Beat<W>) -> bool
+    ensures { result ≡ Kinds.asks_for bytes beat.now }
+{
+    match beat {
+        Beat::A(x) => x.size == size_of(bytes),
         _ => false,
     }
 }

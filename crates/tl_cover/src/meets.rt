@@ -5,9 +5,9 @@ ghost use Rattle.tl_beat.specs.statement.Width.{IsWidth};
 ghost use Rattle.tl_cover.specs.statement.Situations;
 
 use crate::kind::{
-    has_arithmetic, has_lanes, has_logical, has_report, is_access_beat, is_acquire_beat, is_atomic,
-    is_get, is_grant_ack_beat, is_grant_beat, is_grant_with, is_probe_beat, is_put,
-    is_release_beat,
+    asks_for, gives, has_arithmetic, has_cap, has_grow, has_lanes, has_logical, has_prune,
+    has_report, is_access_beat, is_acquire_beat, is_atomic, is_get, is_grant_ack_beat,
+    is_grant_beat, is_grant_with, is_probe_beat, is_put, is_release_beat,
 };
 use crate::scene::{Scene, is_same};
 use crate::situation::Situation;
@@ -83,10 +83,17 @@ pub fn meets<const W: usize>(situation: Situation, beat: &Beat<W>, scene: &Scene
         Situation::ReleaseBeforeGrantAck => is_release_beat(beat) && block.grant_ack,
         Situation::TwoGrants => is_grant_beat(beat) && scene.waiting >= 1,
         Situation::FourGrants => is_grant_beat(beat) && scene.waiting >= 3,
+        Situation::Acquired(grow) => has_grow(grow, beat),
+        Situation::Granted(grow) => gives(grow, beat) && holds(grow.left(), scene),
+        Situation::Probed(cap) => has_cap(cap, beat),
         Situation::Reported(report) => has_report(report, beat),
+        Situation::Released(prune) => has_prune(prune, beat),
         Situation::AccessBesideTransfer => is_access_beat(beat) && (block.acquire || block.release),
         Situation::AccessOfHeldBlock => is_access_beat(beat) && !holds(Perm::None, scene),
         Situation::Masked(lanes) => has_lanes(lanes, beat),
+        Situation::GetOf(bytes) => is_get(beat) && asks_for(bytes, beat),
+        Situation::PutOf(bytes) => is_put(beat) && asks_for(bytes, beat),
+        Situation::AtomicOf(bytes) => is_atomic(beat) && asks_for(bytes, beat),
         Situation::Arithmetic(operation) => has_arithmetic(operation, beat),
         Situation::Logical(operation) => has_logical(operation, beat),
         Situation::ResponseAtOnce => follows(beat, scene.previous),

@@ -3,7 +3,7 @@
 ghost use Rattle.std.specs.Prelude.{◌≡◌, ◌++◌, OnOk, option_map};
 ghost use Rattle.tl_cover.specs.statement.Names;
 
-use crate::situation::{Lanes, Situation};
+use crate::situation::{Bytes, Lanes, Situation};
 use std::alloc::AllocError;
 
 impl Lanes {
@@ -15,6 +15,23 @@ impl Lanes {
             Self::Empty => "empty",
             Self::Partial => "partial",
             Self::Full => "full",
+        }
+    }
+}
+
+impl Bytes {
+    /// The number, in the name of a situation.
+    pub fn name(self) -> &'static str
+        ensures { result.now ≡ Names.bytes_name self }
+    {
+        match self {
+            Self::One => "1",
+            Self::Two => "2",
+            Self::Four => "4",
+            Self::Eight => "8",
+            Self::Sixteen => "16",
+            Self::ThirtyTwo => "32",
+            Self::SixtyFour => "64",
         }
     }
 }
@@ -35,10 +52,17 @@ impl Situation {
             Self::ReleaseBeforeGrantAck => "release-before-grant-ack",
             Self::TwoGrants => "two-grants",
             Self::FourGrants => "four-grants",
+            Self::Acquired(_) => "acquire",
+            Self::Granted(_) => "grant",
+            Self::Probed(_) => "probe",
             Self::Reported(_) => "report",
+            Self::Released(_) => "release",
             Self::AccessBesideTransfer => "access-beside-transfer",
             Self::AccessOfHeldBlock => "access-of-held-block",
             Self::Masked(_) => "mask",
+            Self::GetOf(_) => "get",
+            Self::PutOf(_) => "put",
+            Self::AtomicOf(_) => "atomic",
             Self::Arithmetic(_) => "arithmetic",
             Self::Logical(_) => "logical",
             Self::ResponseAtOnce => "response-at-once",
@@ -57,8 +81,12 @@ impl Situation {
         ensures { option_map (λ s. s.now) result ≡ Names.detail self }
     {
         match self {
+            Self::Acquired(grow) | Self::Granted(grow) => Some(grow.name()),
+            Self::Probed(cap) => Some(cap.name()),
             Self::Reported(report) => Some(report.name()),
+            Self::Released(prune) => Some(prune.name()),
             Self::Masked(lanes) => Some(lanes.name()),
+            Self::GetOf(bytes) | Self::PutOf(bytes) | Self::AtomicOf(bytes) => Some(bytes.name()),
             Self::Arithmetic(operation) => Some(operation.name()),
             Self::Logical(operation) => Some(operation.name()),
             _ => None,
@@ -96,11 +124,18 @@ impl Situation {
             Self::ReleaseBeforeGrantAck => "a Release while the GrantAck of its block is pending",
             Self::TwoGrants => "a Grant while another waits for its GrantAck on the link",
             Self::FourGrants => "a Grant while three others wait for their GrantAcks on the link",
+            Self::Acquired(_) => "an Acquire that asks for this growth",
+            Self::Granted(_) => "a Grant that lets what the link holds grow so",
+            Self::Probed(_) => "a Probe with this cap",
             Self::Reported(_) => "a ProbeAck with this report",
+            Self::Released(_) => "a Release that gives this up",
             Self::AccessBesideTransfer =>
                 "an access while an Acquire or a Release of its block is pending on the link",
             Self::AccessOfHeldBlock => "an access to a block that its own link holds",
             Self::Masked(_) => "a PutPartialData whose first mask names this many lanes",
+            Self::GetOf(_) => "a Get of this many bytes",
+            Self::PutOf(_) => "a Put of this many bytes",
+            Self::AtomicOf(_) => "an atomic of this many bytes",
             Self::Arithmetic(_) => "an ArithmeticData of this operation",
             Self::Logical(_) => "a LogicalData of this operation",
             Self::ResponseAtOnce => "a response right after a beat of its request or Release",

@@ -1,6 +1,6 @@
 //! The situations that a trace is looked through for.
 
-use tl_params::param::{Arithmetic, Logical, Report};
+use tl_params::param::{Arithmetic, Cap, Grow, Logical, Prune, Report};
 
 /// How many of the lanes of a beat a mask names.
 #[derive(Clone, Copy, Debug, PartialEq, Eq)]
@@ -8,6 +8,18 @@ pub enum Lanes {
     Empty,
     Partial,
     Full,
+}
+
+/// The bytes of an access.
+#[derive(Clone, Copy, Debug, PartialEq, Eq)]
+pub enum Bytes {
+    One,
+    Two,
+    Four,
+    Eight,
+    Sixteen,
+    ThirtyTwo,
+    SixtyFour,
 }
 
 /// A situation in which a message begins. What each means is a predicate on the beats before it, in the definitions.
@@ -33,14 +45,28 @@ pub enum Situation {
     TwoGrants,
     /// A Grant beside three that wait for their GrantAcks.
     FourGrants,
+    /// An Acquire that asks for this growth.
+    Acquired(Grow),
+    /// A Grant that lets what the link holds of the block grow so.
+    Granted(Grow),
+    /// A Probe with this cap.
+    Probed(Cap),
     /// A ProbeAck with this report.
     Reported(Report),
+    /// A Release that gives this up.
+    Released(Prune),
     /// An access to a block whose Acquire or Release is pending.
     AccessBesideTransfer,
     /// An access to a block that its own link holds.
     AccessOfHeldBlock,
     /// A PutPartialData whose first mask names so many lanes.
     Masked(Lanes),
+    /// A Get of so many bytes.
+    GetOf(Bytes),
+    /// A Put of so many bytes.
+    PutOf(Bytes),
+    /// An atomic of so many bytes.
+    AtomicOf(Bytes),
     /// An ArithmeticData of this operation.
     Arithmetic(Arithmetic),
     /// A LogicalData of this operation.
@@ -65,7 +91,7 @@ pub enum Situation {
 
 impl Situation {
     /// All situations, in the order in which they are told.
-    pub const ALL: [Situation; 38] = [
+    pub const ALL: [Situation; 66] = [
         Situation::ProbeBesideRelease,
         Situation::ReleaseBesideProbe,
         Situation::ProbeBesideAcquire,
@@ -76,17 +102,45 @@ impl Situation {
         Situation::ReleaseBeforeGrantAck,
         Situation::TwoGrants,
         Situation::FourGrants,
+        Situation::Acquired(Grow::NtoB),
+        Situation::Acquired(Grow::NtoT),
+        Situation::Acquired(Grow::BtoT),
+        Situation::Granted(Grow::NtoB),
+        Situation::Granted(Grow::NtoT),
+        Situation::Granted(Grow::BtoT),
+        Situation::Probed(Cap::ToT),
+        Situation::Probed(Cap::ToB),
+        Situation::Probed(Cap::ToN),
         Situation::Reported(Report::TtoB),
         Situation::Reported(Report::TtoN),
         Situation::Reported(Report::BtoN),
         Situation::Reported(Report::TtoT),
         Situation::Reported(Report::BtoB),
         Situation::Reported(Report::NtoN),
+        Situation::Released(Prune::TtoB),
+        Situation::Released(Prune::TtoN),
+        Situation::Released(Prune::BtoN),
         Situation::AccessBesideTransfer,
         Situation::AccessOfHeldBlock,
         Situation::Masked(Lanes::Empty),
         Situation::Masked(Lanes::Partial),
         Situation::Masked(Lanes::Full),
+        Situation::GetOf(Bytes::One),
+        Situation::GetOf(Bytes::Two),
+        Situation::GetOf(Bytes::Four),
+        Situation::GetOf(Bytes::Eight),
+        Situation::GetOf(Bytes::Sixteen),
+        Situation::GetOf(Bytes::ThirtyTwo),
+        Situation::GetOf(Bytes::SixtyFour),
+        Situation::PutOf(Bytes::One),
+        Situation::PutOf(Bytes::Two),
+        Situation::PutOf(Bytes::Four),
+        Situation::PutOf(Bytes::Eight),
+        Situation::PutOf(Bytes::Sixteen),
+        Situation::PutOf(Bytes::ThirtyTwo),
+        Situation::PutOf(Bytes::SixtyFour),
+        Situation::AtomicOf(Bytes::Four),
+        Situation::AtomicOf(Bytes::Eight),
         Situation::Arithmetic(Arithmetic::Min),
         Situation::Arithmetic(Arithmetic::Max),
         Situation::Arithmetic(Arithmetic::MinU),

@@ -59,7 +59,7 @@ use Rattle.tl_engine.specs.statement.Width.{bytes_of}
 use Rattle.tl_engine.proofs.Decoded.{open_fault}
 use Rattle.tl_engine.proofs.JudgedLines.{end_so, open_so}
 use Rattle.tl_engine.proofs.JudgedTraces.{bad_line, header_unread, header_unseen}
-use Rattle.tl_engine.proofs.ChartedBeats.{begins_within}
+use Rattle.tl_monitor.proofs.Within.{begins_within}
 
 -- ---- a line that is read
 

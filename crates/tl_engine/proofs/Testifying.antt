@@ -168,7 +168,7 @@ told-at : {w : ℕ} (allow : Liberties) (old mid new : TraceJudge w) (i j k : In
     → IsSameInquiry j k → k.reasons ≡ j.reasons → fault ≡ BreaksTogether j.rule
     → HasTold allow k (lines ++ line ∷ more)
 told-at {w} allow old mid new i j k number line fault lines more h still heard counted watches same reasons is =
-    go (watches s.levels s.may s.trace (still s.levels s.may s.trace s.known))
+    go (watches s.levels s.may s.trace (still s.levels s.may s.trace s.known)).0
   where
     s : KnowsSpelled true allow old lines
     s = h.traced

@@ -1,7 +1,7 @@
 //! Accesses that are asked for.
 
-ghost use Rattle.std.specs.Prelude.{ℕ, true, ◌∷◌, ◌+◌, ◌*◌, ◌<◌, ◌≤◌, ◌≡◌, List, None};
-ghost use Rattle.std.specs.Prelude.{length, slice_index, slice_index_or, unwrap_or};
+ghost use Rattle.std.specs.Prelude.{ℕ, true, ◌∷◌, ◌+◌, ◌*◌, ◌<◌, ◌≤◌, ◌≡◌, List};
+ghost use Rattle.std.specs.Prelude.{length, slice_index, unwrap_or};
 ghost use Rattle.tl_beat.specs.declared.beat.Beat.{Beat};
 ghost use Rattle.tl_beat.specs.declared.beat.Beat.TheVariants as beat;
 ghost use Rattle.tl_beat.specs.statement.Opcode.{a_carries_data};
@@ -12,11 +12,13 @@ ghost use Rattle.tl_memory.specs.code.Writers.{names};
 ghost use Rattle.tl_memory.specs.statement.Known.{IsAsked, is_atomic};
 ghost use Rattle.tl_bytes.specs.statement.Bytes as bytes;
 ghost use Rattle.tl_bytes.specs.statement.Bytes.{asked_by};
+ghost use Rattle.tl_bytes.specs.statement.KnownBytes.{known_at};
 
 use crate::message::CarriedMessage;
 use tl_beat::beat::{BeatA, Link};
 use tl_beat::opcode::OpA;
 use tl_burst::message::MessageA;
+use tl_bytes::known_bytes::KnownBytes;
 
 /// An access that is asked for: its link, its request, whether a beat of that was corrupt, and how many beats had been
 /// taken when it was first asked for. Of a Put the request has what its beats have brought so far.
@@ -36,19 +38,19 @@ pub fn is_access(opcode: OpA) -> bool
 }
 
 /// The byte that is known at a place, or zero.
-fn byte_or_zero(bytes: &[Option<u8>; 64], place: usize) -> u8
-    ensures { result ≡ unwrap_or (slice_index_or bytes.now place None) 0 }
+fn byte_or_zero(bytes: &KnownBytes, place: usize) -> u8
+    ensures { result ≡ unwrap_or (known_at bytes.now place) 0 }
 {
-    match bytes.get(place) {
-        Some(Some(byte)) => *byte,
-        _ => 0,
+    match bytes.at(place) {
+        Some(byte) => byte,
+        None => 0,
     }
 }
 
 /// The bytes that are known, and zeros.
-pub fn payload_of(bytes: &[Option<u8>; 64]) -> [u8; 64]
+pub fn payload_of(bytes: &KnownBytes) -> [u8; 64]
     ensures { (place : ℕ) → place < 64 →
-        slice_index result place ≡ unwrap_or (slice_index_or bytes.now place None) 0 }
+        slice_index result place ≡ unwrap_or (known_at bytes.now place) 0 }
 {
     let mut payload = [0; 64];
     for place in 0..64usize {
@@ -58,9 +60,9 @@ pub fn payload_of(bytes: &[Option<u8>; 64]) -> [u8; 64]
 }
 
 /// The payload of a request that brought these bytes: of an atomic those that are known, and zeros.
-fn payload_asked(opcode: OpA, bytes: &[Option<u8>; 64]) -> [u8; 64]
+fn payload_asked(opcode: OpA, bytes: &KnownBytes) -> [u8; 64]
     ensures { is_atomic opcode ≡ true → (place : ℕ) → place < 64 →
-        slice_index result place ≡ unwrap_or (slice_index_or bytes.now place None) 0 }
+        slice_index result place ≡ unwrap_or (known_at bytes.now place) 0 }
 {
     match opcode {
         OpA::ArithmeticData | OpA::LogicalData => payload_of(bytes),

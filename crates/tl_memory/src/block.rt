@@ -29,6 +29,7 @@ use std::alloc::{AllocError, Global};
 use tl_beat::beat::{Beat, BeatA, BeatD, Link};
 use tl_beat::opcode::OpA;
 use tl_bytes::block_bytes::BlockBytes;
+use tl_bytes::known_bytes::KnownBytes;
 use tl_bytes::read_bytes::ReadBytes;
 use tl_bytes::windows::WritingWindows;
 
@@ -197,7 +198,7 @@ impl<const W: usize> BlockState<W> {
     pub fn told(
         &self,
         alloc: Global,
-        values: &[Option<u8>; 64],
+        values: &KnownBytes,
         moment: u64,
     ) -> Result<NextState<W>, AllocError>
         ensures { IfOk result (λ next. (n block : ℕ) (x : Link × Beat W) (t : Trace W) →

@@ -73,7 +73,7 @@ impl<const W: usize> PendingAccess<W> {
         let mut read = self.read.copy(alloc)?;
         if both(!is_put(opcode), free.is_open_for(needs(opcode))) {
             let writes = writes_of_others(alloc, accesses, asked.link, asked.request.source)?;
-            read.find(alloc, bytes, writes.as_slice())?;
+            read.find(bytes, writes.as_slice())?;
         }
         Ok(PendingAccess {
             writer: self.writer,

@@ -15,6 +15,7 @@ use crate::access::{Asked, payload_of};
 use tl_beat::channel::Channel;
 use tl_beat::opcode::OpA;
 use tl_burst::message::{Message, MessageA};
+use tl_bytes::known_bytes::KnownBytes;
 use tl_rules::legality::message::check;
 use tl_rules::level::Level;
 use tl_rules::perform::perform;
@@ -60,7 +61,7 @@ pub fn is_put(opcode: OpA) -> bool
 }
 
 /// The bytes of its block that an atomic leaves, where its answer brought these.
-pub fn performed<const W: usize>(asked: &Asked<W>, found: &[Option<u8>; 64]) -> [u8; 64]
+pub fn performed<const W: usize>(asked: &Asked<W>, found: &KnownBytes) -> [u8; 64]
     requires { IsWidth W }
     ensures { (access : Access W) (answer : List (Beat W)) → IsAsked asked.now access →
         is_put access.request.opcode ≡ false → HasBytes found.now answer →

@@ -1,7 +1,7 @@
 //! What accesses write in their blocks.
 
 ghost use Rattle.std.specs.Prelude.{ℕ, true, false, ◌∷◌, ◌+◌, ◌*◌, ◌%◌, ◌^◌, ◌<◌, ◌≤◌, ◌≡◌, ◌==◌, List, None, Some};
-ghost use Rattle.std.specs.Prelude.{find, if◌then◌else◌, is_some, length, slice_index, slice_index_or};
+ghost use Rattle.std.specs.Prelude.{find, if◌then◌else◌, is_some, length};
 ghost use Rattle.tl_beat.specs.declared.beat.Beat.{Beat};
 ghost use Rattle.tl_beat.specs.declared.beat.Beat.TheVariants as beat;
 ghost use Rattle.tl_beat.specs.statement.Opcode.{a_carries_data};
@@ -10,6 +10,7 @@ ghost use Rattle.tl_rules.specs.statement.History.{block_at};
 ghost use Rattle.tl_rules.specs.statement.Admission.{is_spoiled};
 ghost use Rattle.tl_bytes.specs.statement.Bytes.{Access, access_writes, asked_by, carried_byte, is_put, value_written};
 ghost use Rattle.tl_bytes.specs.statement.Known.{IsWrite};
+ghost use Rattle.tl_bytes.specs.statement.KnownBytes.{known_at};
 ghost use Rattle.tl_memory.specs.statement.Known.{AreWide, IsAsked, IsLawful, IsPendingWrite, KnowsMessage};
 ghost use Rattle.tl_memory.specs.statement.Known.{is_atomic};
 
@@ -18,42 +19,25 @@ use crate::message::{CarriedMessage, either};
 use crate::performed::{is_put, performed};
 use tl_beat::beat::{BeatA, Link};
 use tl_beat::opcode::OpA;
+use tl_bytes::known_bytes::KnownBytes;
 use tl_bytes::write::Write;
 use tl_rules::place::base;
 
-/// Bytes that are known.
-fn known(bytes: &[u8; 64]) -> [Option<u8>; 64]
-    ensures { (place : ℕ) → place < 64 → slice_index_or result place None ≡ Some (slice_index bytes.now place) }
-{
-    let mut values = [None; 64];
-    for place in 0..64usize {
-        values[place] = Some(bytes[place]);
-    }
-    values
-}
-
-/// No bytes that are known.
-fn nothing_known() -> [Option<u8>; 64]
-    ensures { (place : ℕ) → place < 64 → slice_index_or result place None ≡ None }
-{
-    [None; 64]
-}
-
 /// The bytes of its block that an atomic leaves, where this is its answer: none is known where a beat of one of them is
 /// corrupt.
-fn values_written<const W: usize>(asked: &Asked<W>, answer: &CarriedMessage) -> [Option<u8>; 64]
+fn values_written<const W: usize>(asked: &Asked<W>, answer: &CarriedMessage) -> KnownBytes
     requires { IsWidth W }
     ensures { (access : Access W) (burst : List (Beat W)) → IsAsked asked.now access →
         is_put access.request.opcode ≡ false → KnowsMessage answer.now burst → IsLawful access →
         (place : ℕ) → place < 64 →
         access_writes (64 * block_at access.request.address + place) access ≡ true →
-        slice_index_or result place None
+        known_at result place
         ≡ value_written access burst (64 * block_at access.request.address + place) }
 {
     if either(asked.spoiled, answer.spoiled) {
-        return nothing_known();
+        return KnownBytes::none();
     }
-    known(&performed(asked, answer.bytes.bytes()))
+    KnownBytes::all(&performed(asked, answer.bytes.bytes()))
 }
 
 /// The mask of what an access reaches in its block that isn't a Put: of an atomic all its bytes, of a Get none.
@@ -68,13 +52,13 @@ fn mask_reached(opcode: OpA, size: u8, address: u32) -> u64
 }
 
 /// The values of a Put whose beats brought these bytes: none is known where one of them was corrupt.
-fn values_brought(brought: &CarriedMessage) -> [Option<u8>; 64]
+fn values_brought(brought: &CarriedMessage) -> KnownBytes
     ensures { (w : ℕ) (burst : List (Beat w)) → KnowsMessage brought.now burst → (place : ℕ) → place < 64 →
-        slice_index_or result place None
+        known_at result place
         ≡ (if is_some (find is_spoiled burst) then None else carried_byte burst place) }
 {
     if brought.spoiled {
-        return nothing_known();
+        return KnownBytes::none();
     }
     *brought.bytes.bytes()
 }
@@ -100,7 +84,7 @@ fn pending_write<const W: usize>(asked: &Asked<W>, brought: &CarriedMessage) -> 
     Write {
         first: 0,
         mask: mask_reached(request.opcode, request.size, request.address),
-        values: nothing_known(),
+        values: KnownBytes::none(),
     }
 }
 

@@ -2,7 +2,7 @@
 use Rattle.std.proofs.Common.{◌≡◌, ℕ, Bool, false, List, [], ◌∷◌, ◌++◌, length, ◌<◌, ◌≤◌, ◌≢◌, refl, sym, ap}
 use Rattle.std.proofs.Common.{◌∙◌, arith, inl, inr, ◌+◌, take, drop, reverse, length-append}
 use Rattle.std.specs.Prelude.{slice_index_or, slice_get, slice_set, option_map, Option, Some, None, Err, nat_lt, true}
-use Rattle.std.proofs.lemmas.Bool.{cases_eq, eq-eqb, le-ltb, lt-ltb, ne_eqb}
+use Rattle.std.proofs.lemmas.Bool.{cases_eq, le-ltb, lt-ltb}
 use Rattle.std.proofs.lemmas.List.{get_or-set_same, get_or-set_other, drop_more, take_more, drop_all, reverse-append}
 use Rattle.std.proofs.lemmas.List.{length-map, length-reverse, length-take-le, map-append}
 use Rattle.std.proofs.lemmas.Option.{slice_get-map, slice_get_read}
@@ -20,6 +20,7 @@ use Rattle.tl_rules.specs.statement.Liberties.{broken_after_under, broken_on_lin
 use Rattle.tl_monitor.specs.code.Keeps.{Keeps}
 use Rattle.tl_monitor.specs.code.LinkState.{IsEmpty}
 use Rattle.tl_monitor.proofs.Keepings.{keeps-none}
+use Rattle.tl_monitor.proofs.OnLink.{other_link, own_link}
 use Rattle.tl_monitor.specs.declared.monitor.Monitor.{Monitor}
 use Rattle.tl_monitor.specs.declared.monitor.MonitoredLink.{MonitoredLink}
 use Rattle.tl_params.specs.statement.Config.{IsCount}
@@ -27,16 +28,6 @@ use Rattle.tl_monitor.specs.statement.Knows.{Knows, KnowsUnder, AreEmpty, levels
 use Rattle.tl_monitor.specs.statement.Knows.{AnswersTraceUnder, fault_under, broken, trace_fault_of}
 use Rattle.tl_monitor.specs.declared.fault.MonitorFault.{MonitorFault}
 use Rattle.tl_monitor.specs.declared.fault.MonitorFault.TheVariants as monitor
-
-on_link-own : {w : ℕ} (n : ℕ) (link : Link) (x : Beat w) (t : Trace w) → link.0 ≡ n
-    → on_link n ((link, x) ∷ t) ≡ x ∷ on_link n t
-unfolding on_link
-on_link-own n link x t e = rw (eq-eqb link.0 n e) refl
-
-on_link-other : {w : ℕ} (n : ℕ) (link : Link) (x : Beat w) (t : Trace w) → link.0 ≢ n
-    → on_link n ((link, x) ∷ t) ≡ on_link n t
-unfolding on_link
-on_link-other n link x t apart = rw (ne_eqb link.0 n apart) refl
 
 -- a monitor of a profile has the liberties of the profile
 pub to-liberties : {w : ℕ} (m : Monitor w) (levels : List Level) (p : Profile) (t : Trace w) (closed : Bool)
@@ -82,8 +73,8 @@ pub knows-more : {w : ℕ} (m m' : Monitor w) (levels : List Level) (lib : Liber
     → Keeps m.liberties new.state (x ∷ on_link i t) → KnowsUnder m' levels lib ((link, x) ∷ t) closed
 knows-more m m' levels lib t closed i link x old new k liberties_same closed_same links i_is lt was level own =
     knows-at m m' levels lib t ((link, x) ∷ t) closed i old new k liberties_same closed_same links lt was level
-    (rw (on_link-own i link x t (sym i_is)) (rw k.liberties_are at own))
-    (λ n apart. on_link-other n link x t (λ e. apart (sym e ∙ sym i_is)))
+    (rw (own_link i (link, x) t (sym i_is)) (rw k.liberties_are at own))
+    (λ n apart. other_link n (link, x) t (λ e. apart (sym e ∙ sym i_is)))
 
 -- whether the monitor is closed was put anew
 pub closed-anew : {w : ℕ} (m m' : Monitor w) (levels : List Level) (lib : Liberties) (t : Trace w) (closed after : Bool)

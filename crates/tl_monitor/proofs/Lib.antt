@@ -13,4 +13,5 @@ pub mod LooksUp
 pub mod Middle
 pub mod Knowing
 pub mod Numbered
-pub mod Touching
+pub mod OnLink
+pub mod Within

@@ -44,7 +44,7 @@ impl<const W: usize> Monitor<W> {
     ghost use Rattle.tl_monitor.specs.statement.Numbers.{IsMoreUnder, IsMoreWhereRefused, entry_count, entry_count_under};
     ghost use Rattle.tl_monitor.specs.statement.Knows.{Knows, KnowsUnder, IsNew, IsNewUnder, Answers};
     ghost use Rattle.tl_monitor.specs.statement.Knows.{fault_of, fault_under, recorded_after, closed_after, held_on_under};
-    ghost use Rattle.tl_monitor.specs.statement.Knows.{request_on, probe_on, held_on, begins_on, LeavesOthers, AreEmpty};
+    ghost use Rattle.tl_monitor.specs.statement.Knows.{request_on, probe_on, held_on, begins_on, AreEmpty};
 
     /// Links of these levels that have carried nothing.
     fn empty_links(alloc: Global, levels: &[Level]) -> Result<Vec<MonitoredLink>, AllocError>
@@ -302,21 +302,6 @@ impl<const W: usize> Monitor<W> {
             return false;
         }
         self.links[n].state.bursts.begins(beat)
-    }
-
-    /// The block of which a beat may change what is held on its link, if it breaks no rule there; none if it changes
-    /// what is held of no block. The clause holds for a monitor of a profile.
-    pub fn block_of(&self, link: Link, beat: &Beat<W>) -> Option<u32>
-        ensures { (levels : List Level) (p : Profile) (t : Trace W) (closed : Bool) →
-            Knows self.now levels p t closed →
-            broken_on_link levels p (link, beat.now) t ≡ None →
-            LeavesOthers result beat.now (on_link link.0 t) }
-    {
-        let n = usize::from(link.0);
-        if n >= self.links.len() {
-            return None;
-        }
-        self.links[n].state.touched(true, true, beat)
     }
 
     /// How many keys are pending on a link, and how many blocks aren't held as None; 0 for a link

@@ -4,7 +4,10 @@ pub mod Granted
 pub mod Known
 pub mod Read
 pub mod Spans
+pub mod Unwritten
 pub mod Values
 pub mod Wider
+pub mod Windowed
 pub mod Worked
+pub mod WorkedWindows
 pub mod Imports

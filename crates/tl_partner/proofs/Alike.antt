@@ -24,12 +24,12 @@ use Rattle.tl_partner.specs.statement.Naming.{from_zero, plain}
 
 -- ---- channels B and E
 
-keeps : (b : Bool) (p : Perm) → (if b then unwrap_or None p else p) ≡ p
+pub keeps : (b : Bool) (p : Perm) → (if b then unwrap_or None p else p) ≡ p
 keeps true p = refl
 keeps false p = refl
 
-pub alike-b : {w : ℕ} (terms : Terms) (x y : BeatB w) (t e : History w) → AreAlike terms t e
-    → AreAlike terms (Beat.B x ∷ t) (Beat.B y ∷ e)
+pub alike-b : {w : ℕ} {cleaning : List (Beat w)} (terms : Terms) (x y : BeatB w) (t e : History w) → AreAlike terms cleaning t e
+    → AreAlike terms cleaning (Beat.B x ∷ t) (Beat.B y ∷ e)
 unfolding unfinished request_of held held_under
 alike-b terms x y t e a = record {
   requests = a.requests;
@@ -39,8 +39,8 @@ alike-b terms x y t e a = record {
   held = λ k. keeps (ends (Beat.B x) t) _ ∙ a.held k ∙ sym (keeps (ends (Beat.B y) e) _);
 }
 
-pub alike-e : {w : ℕ} (terms : Terms) (x : BeatE) (t e : History w) → AreAlike terms t e
-    → AreAlike terms (Beat.E x ∷ t) (Beat.E x ∷ e)
+pub alike-e : {w : ℕ} {cleaning : List (Beat w)} (terms : Terms) (x : BeatE) (t e : History w) → AreAlike terms cleaning t e
+    → AreAlike terms cleaning (Beat.E x ∷ t) (Beat.E x ∷ e)
 unfolding unfinished request_of held held_under
 alike-e {w} terms x t e a = record {
   requests = a.requests;
@@ -60,10 +60,10 @@ says_a true false true p q e f = e
 says_a false here true p q e f = e
 says_a c here false p q e f = e
 
-pub alike-a : {w : ℕ} (terms : Terms) (x : BeatA w) (t e : History w) → AreAlike terms t e
+pub alike-a : {w : ℕ} {cleaning : List (Beat w)} (terms : Terms) (x : BeatA w) (t e : History w) → AreAlike terms cleaning t e
     → ((begins (Beat.A x) e && (is_acquire x.opcode && grows_from_none x.param)) ≡ true
     → held (block_at x.address) e ≡ Perm.None)
-    → AreAlike terms (Beat.A x ∷ t) (Beat.A x ∷ e)
+    → AreAlike terms cleaning (Beat.A x ∷ t) (Beat.A x ∷ e)
 unfolding unfinished request_of held held_under
 alike-a {w} terms x t e a none = record {
   requests = rw a.requests refl;
@@ -94,9 +94,9 @@ grown-map terms x y burst is long = rw (length-map burst (plain terms), ← long
     go false = ap (λ z. z ∷ map (plain terms) burst) is
 
 -- the beat in the manager's history has the fields that count
-pub alike_as : {w : ℕ} (terms : Terms) (x y : BeatC w) (t e : History w) → AreAlike terms t e
+pub alike_as : {w : ℕ} (terms : Terms) (x y : BeatC w) (t e : History w) → AreAlike terms [] t e
     → plain terms (Beat.C x) ≡ Beat.C y → y.opcode ≡ x.opcode → y.param ≡ x.param → y.address ≡ x.address
-    → y.size ≡ x.size → AreAlike terms (Beat.C x ∷ t) (Beat.C y ∷ e)
+    → y.size ≡ x.size → AreAlike terms [] (Beat.C x ∷ t) (Beat.C y ∷ e)
 unfolding unfinished request_of held held_under
 alike_as {w} terms x y t e a is opcode param address size =
     let long : burst_length (Beat.C x) ≡ burst_length (Beat.C y) = rw (opcode, size) refl in
@@ -111,19 +111,19 @@ alike_as {w} terms x y t e a is opcode param address size =
       held = λ k. rw (last, a.held k, opcode, param, address) refl;
     }
 
-pub alike-c : {w : ℕ} (terms : Terms) (x : BeatC w) (t e : History w) → AreAlike terms t e
-    → AreAlike terms (Beat.C x ∷ t) (plain terms (Beat.C x) ∷ e)
+pub alike-c : {w : ℕ} (terms : Terms) (x : BeatC w) (t e : History w) → AreAlike terms [] t e
+    → AreAlike terms [] (Beat.C x ∷ t) (plain terms (Beat.C x) ∷ e)
 alike-c {w} terms x t e a = go (terms.ids && is_probe_ack x.opcode) refl
   where
     go : (b : Bool) → (terms.ids && is_probe_ack x.opcode) ≡ b
-        → AreAlike terms (Beat.C x ∷ t) (plain terms (Beat.C x) ∷ e)
+        → AreAlike terms [] (Beat.C x ∷ t) (plain terms (Beat.C x) ∷ e)
     go true is = rw is (alike_as terms x (from_zero x) t e a (rw is refl) refl refl refl refl)
     go false is = rw is (alike_as terms x x t e a (rw is refl) refl refl refl refl)
 
 -- ---- channel D
 
-pub alike-d : {w : ℕ} (terms : Terms) (x : BeatD w) (t e : History w) → AreAlike terms t e
-    → AreAlike terms (Beat.D x ∷ t) (Beat.D x ∷ e)
+pub alike-d : {w : ℕ} {cleaning : List (Beat w)} (terms : Terms) (x : BeatD w) (t e : History w) → AreAlike terms cleaning t e
+    → AreAlike terms cleaning (Beat.D x ∷ t) (Beat.D x ∷ e)
 unfolding unfinished request_of held held_under
 alike-d {w} terms x t e a = record {
   requests = a.requests;

@@ -1,5 +1,5 @@
 -- What the links carried, and the manager's histories, after any beat that is offered.
-use Rattle.std.proofs.Common.{◌≡◌, ℕ, Bool, true, false, ◌&&◌, ◌==◌, List, [], ◌∷◌, Some, None, refl, ap, sym}
+use Rattle.std.proofs.Common.{◌≡◌, ℕ, Bool, true, false, ◌&&◌, ◌==◌, List, ◌∷◌, ◌++◌, Some, None, refl, ap, sym}
 use Rattle.std.proofs.Common.{◌∙◌, map}
 use Rattle.std.proofs.lemmas.Bool.{and_parts, eq-eqb, eqb-true}
 use Rattle.std.specs.Prelude.{if◌then◌else◌, unwrap_or}
@@ -7,13 +7,10 @@ use Rattle.tl_beat.specs.declared.beat.Beat.{Beat}
 use Rattle.tl_beat.specs.declared.beat.BeatA.{BeatA}
 use Rattle.tl_beat.specs.declared.beat.Link.{Link}
 use Rattle.tl_beat.specs.declared.channel.Channel.{Channel}
-use Rattle.tl_beat.specs.declared.opcode.OpA.{OpA}
-use Rattle.tl_beat.specs.statement.Opcode.{a_carries_data}
 use Rattle.tl_beat.specs.statement.Width.{IsWidth}
 use Rattle.tl_burst.specs.statement.Burst.{beats_of}
 use Rattle.tl_burst.specs.statement.Messages.{History}
 unfoldable use Rattle.tl_burst.specs.statement.Messages.{unfinished}
-use Rattle.tl_burst.specs.statement.Part.{is_empty}
 use Rattle.tl_params.specs.declared.config.Config.{Config}
 use Rattle.tl_params.specs.declared.perm.Perm.{Perm}
 use Rattle.tl_rules.proofs.Sent.{request_of-other}
@@ -42,14 +39,15 @@ use Rattle.tl_partner.proofs.Said.{empty, idle, recorded-drop}
 
 -- ---- after what was dropped is said, and before the beat is taken that says so
 
--- alike but for this block, of which the manager records nothing
-pub record AreAlikeBut {w : ℕ} (terms : Terms) (k : ℕ) (t e : History w) : Type 0 where
+-- alike but for this block, of which the manager records this
+pub record AreAlikeBut {w : ℕ} (terms : Terms) (cleaning : List (Beat w)) (k : ℕ) (p : Perm) (t e : History w)
+    : Type 0 where
   pub requests : unfinished Channel.A t ≡ unfinished Channel.A e
   pub named : (s : ℕ) → request_of s t ≡ request_of s e
-  pub reports : map (plain terms) (unfinished Channel.C t) ≡ unfinished Channel.C e
+  pub reports : map (plain terms) (unfinished Channel.C t) ≡ cleaning ++ unfinished Channel.C e
   pub answers : unfinished Channel.D t ≡ unfinished Channel.D e
   pub rest : (j : ℕ) → (k == j) ≡ false → held_under (granted terms) j t ≡ held j e
-  pub none : held k e ≡ Perm.None
+  pub now : held k e ≡ p
 
 named-drop : {w : ℕ} (config : Config) (link : Link) (k : ℕ) (e : End w) (s : ℕ) → IsKept config e
     → IsDropped config link k e → is_reporting link e.trace ≡ false
@@ -60,20 +58,21 @@ named-drop {w} config link k e s kept is free =
     ∙ request_of-c s (release_of k (recorded link.0 k e.trace)) (on_link link.0 e.trace)
 
 -- of the link itself
-pub own-but : {w : ℕ} (terms : Terms) (config : Config) (link : Link) (k : ℕ) (t : History w) (e : End w) → IsWidth w
+pub own-but : {w : ℕ} {cleaning : List (Beat w)} (terms : Terms) (config : Config) (link : Link) (k : ℕ) (t : History w) (e : End w) → IsWidth w
     → IsKept config e → IsDropped config link k e → is_reporting link e.trace ≡ false
-    → AreAlike terms t (on_link link.0 e.trace)
-    → AreAlikeBut terms k t (on_link link.0 (after_drop config link k e).trace)
-own-but {w} terms config link k t e width kept is free a =
+    → AreAlike terms cleaning t (on_link link.0 e.trace)
+    → AreAlikeBut terms cleaning k Perm.None t (on_link link.0 (after_drop config link k e).trace)
+own-but {w} {cleaning} terms config link k t e width kept is free a =
     let after = kept-offered config link Channel.C (release_beat k (recorded link.0 k e.trace)) e width tt kept in
     record {
       requests = a.requests ∙ sym (requests-drop config link k e kept is free);
       named = λ s. a.named s ∙ sym (named-drop config link k e s kept is free);
-      reports = a.reports ∙ idle link e free ∙ sym (reports-drop config link k e kept is free);
+      reports = a.reports
+          ∙ ap (λ (c : List (Beat w)). cleaning ++ c) (idle link e free ∙ sym (reports-drop config link k e kept is free));
       answers = a.answers ∙ (kept.whole link.0).1 ∙ sym ((after.whole link.0).1);
       rest = λ j other. a.held j ∙ sym (recorded-drop config link k e link.0 j width kept is free
           ∙ rw (eq-eqb link.0 link.0 refl, other) refl);
-      none = recorded-drop config link k e link.0 k width kept is free
+      now = recorded-drop config link k e link.0 k width kept is free
           ∙ rw (eq-eqb link.0 link.0 refl, eq-eqb k k refl) refl;
     }
 
@@ -88,9 +87,10 @@ others-drop config link k e client kept is free other =
 
 -- ---- the beat that says so
 
-pub but-a : {w : ℕ} (terms : Terms) (x : BeatA w) (t e : History w) → terms.drops ≡ true
+pub but-a : {w : ℕ} {cleaning : List (Beat w)} (terms : Terms) (x : BeatA w) (t e : History w) → terms.drops ≡ true
     → (is_acquire x.opcode && grows_from_none x.param) ≡ true → begins (Beat.A x) e ≡ true
-    → AreAlikeBut terms (block_at x.address) t e → AreAlike terms (Beat.A x ∷ t) (Beat.A x ∷ e)
+    → AreAlikeBut terms cleaning (block_at x.address) Perm.None t e
+    → AreAlike terms cleaning (Beat.A x ∷ t) (Beat.A x ∷ e)
 unfolding unfinished request_of held held_under
 but-a {w} terms x t e drops says begun a =
     let idle-e = empty (unfinished Channel.A e) begun in
@@ -106,5 +106,5 @@ but-a {w} terms x t e drops says begun a =
   where
     go : (j : ℕ) (b : Bool) → (block_at x.address == j) ≡ b
         → unwrap_or (if b then Some Perm.None else None) (held_under (granted terms) j t) ≡ held j e
-    go j true at = sym (ap (λ n. held n e) (sym (eqb-true (block_at x.address) j at)) ∙ a.none)
+    go j true at = sym (ap (λ n. held n e) (sym (eqb-true (block_at x.address) j at)) ∙ a.now)
     go j false at = a.rest j at

@@ -8,7 +8,6 @@ use Rattle.tl_beat.specs.declared.beat.BeatB.{BeatB}
 use Rattle.tl_beat.specs.declared.beat.BeatC.{BeatC}
 use Rattle.tl_beat.specs.declared.beat.Link.{Link}
 use Rattle.tl_beat.specs.declared.channel.Channel.{Channel}
-use Rattle.tl_beat.specs.declared.opcode.OpC.{OpC}
 use Rattle.tl_beat.specs.statement.First.{first_if}
 use Rattle.tl_burst.specs.statement.Messages.{History, breaks_burst, channel_of, unfinished}
 use Rattle.tl_params.specs.declared.config.Config.{Config}
@@ -25,7 +24,7 @@ use Rattle.tl_rules.specs.statement.Admission.{is_outside, is_spoiled}
 use Rattle.tl_rules.specs.statement.Conformance.{answers_wrong_probe, broken_in_order, grows_from, misreports, on_link}
 use Rattle.tl_rules.specs.statement.Conformance.{same_perm}
 unfoldable use Rattle.tl_rules.specs.statement.Conformance.{broken_order}
-use Rattle.tl_rules.specs.statement.History.{begins, block_at, held, is_acquire, is_probe_ack, is_release, pending}
+use Rattle.tl_rules.specs.statement.History.{begins, block_at, held, is_acquire, is_probe_ack, pending}
 use Rattle.tl_rules.specs.statement.History.{probe_of}
 use Rattle.tl_rules.specs.statement.Legality.{breaks_l1, breaks_l2, breaks_l3, breaks_l4, breaks_l5, breaks_l6, breaks_l7}
 use Rattle.tl_rules.specs.statement.Legality.{is_one_of}
@@ -44,7 +43,7 @@ use Rattle.tl_partner.specs.statement.Dropping.{block_of, is_by_record, says_non
 
 -- ---- a judgement by what is recorded
 
-abbrev has_record : Option Rule → Bool
+abbrev pub has_record : Option Rule → Bool
 has_record None = false
 has_record (Some r) = is_by_record (Breaks r)
 
@@ -174,7 +173,7 @@ pub record IsDropped {w : ℕ} (config : Config) (link : Link) (block : ℕ) (e 
   pub copy : has_copy (recorded link.0 block e.trace) ≡ true
   pub free : pending (AcquireOf block) (on_link link.0 e.trace) ≡ false
 
-level-open : (closed : Bool) (o : Option Level) (l : Level) → (if closed then None else o) ≡ Some l → o ≡ Some Level.C
+pub level-open : (closed : Bool) (o : Option Level) (l : Level) → (if closed then None else o) ≡ Some l → o ≡ Some Level.C
     → (if closed then None else o) ≡ Some Level.C
 level-open true o l e f = absurd cc
 level-open false o l e f = f

@@ -43,7 +43,7 @@ passes-by (Breaks s) e = absurd cc
 passes-by Waits e = absurd cc
 passes-by Passes e = refl
 
-past : (o : Option Rule) (rest : Judgement) → breaks_or o rest ≡ Passes → (o ≡ None) × (rest ≡ Passes)
+pub past : (o : Option Rule) (rest : Judgement) → breaks_or o rest ≡ Passes → (o ≡ None) × (rest ≡ Passes)
 past None rest e = (refl, e)
 past (Some r) rest e = absurd cc
 

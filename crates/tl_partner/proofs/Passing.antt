@@ -23,7 +23,7 @@ use Rattle.tl_params.specs.statement.Param.{grow_code}
 use Rattle.tl_rules.proofs.Bursts.{next_rule}
 use Rattle.tl_rules.specs.statement.Conformance.{answers_wrong_probe, broken_in_order, misreports, on_link}
 unfoldable use Rattle.tl_rules.specs.statement.Conformance.{broken_order}
-use Rattle.tl_rules.specs.statement.History.{block_at, is_acquire, is_probe_ack, is_release}
+use Rattle.tl_rules.specs.statement.History.{block_at, is_acquire, is_probe_ack}
 use Rattle.tl_rules.specs.statement.History.{pending, probe_of}
 use Rattle.tl_rules.specs.statement.Legality.{breaks_l1, breaks_l2, breaks_l3, breaks_l4, breaks_l5, breaks_l6, breaks_l7}
 use Rattle.tl_rules.specs.statement.Legality.{c_has_param, c_has_source, is_one_of}
@@ -156,7 +156,7 @@ order_c {w} config link ch x e width kept says is drop free =
       probe_ack_kind x.opcode none.0,
       none.0,
       probes,
-      probe-drop config link k e kept drop free,
+      probe-drop config link k e k kept drop free,
       wrong,
       released-drop config link k e width kept drop free,
       held-drop config link k e width kept drop free,

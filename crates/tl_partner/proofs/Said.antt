@@ -1,6 +1,6 @@
 -- The Release by which a manager is told what a client dropped.
 use Rattle.std.proofs.Common.{◌≡◌, ℕ, Bool, true, false, ◌&&◌, ◌==◌, ◌*◌, ◌/◌, ◌%◌, ◌^◌, [], ◌∷◌, List, Some, None, refl}
-use Rattle.std.proofs.Common.{ap, sym, ◌∙◌, arith, inl, inr, not}
+use Rattle.std.proofs.Common.{ap, sym, ◌∙◌, arith, inl, inr}
 use Rattle.std.specs.Prelude.{nat_le}
 use Rattle.std.proofs.lemmas.Bool.{cases_lt, eq-eqb, eqb-true, lt-leb, not-false}
 use Rattle.std.specs.Prelude.{if◌then◌else◌, unwrap_or}

@@ -39,7 +39,7 @@ use Rattle.tl_together.specs.code.Windows.{asked_in}
 use Rattle.tl_together.specs.code.Windows.{KnowsAsked, LeavesOthers, NotesRequest}
 use Rattle.tl_together.specs.code.Following.{Follows}
 use Rattle.tl_together.proofs.Following.{one_more}
-use Rattle.tl_together.proofs.Windowed.{own_link, other_link}
+use Rattle.tl_monitor.proofs.OnLink.{other_link, own_link}
 use Rattle.tl_together.proofs.Windowed.{asked_now, asked_still}
 
 -- ---- requests
@@ -152,7 +152,7 @@ pub asked_more : {w : ℕ} (n : ℕ) (levels : List Level) (tables : List (List 
 asked_more n levels tables link x t still fine noted l s lt now = elim (cases_eq link.0 l) [
   | inr other ↦
       let before : is_some (open_request s (on_link l t)) ≡ true =
-      ap (λ h. is_some (open_request s h)) (sym (other_link l link x t other)) ∙ now in
+      ap (λ h. is_some (open_request s h)) (sym (other_link l (link, x) t other)) ∙ now in
       still l s lt before ∙ ap Some (sym (asked_still l s (link, x) t before))
   | inl own ↦ elim (cases_Bool (is_some (open_request s (on_link l t)))) [
     | inl before ↦ still l s lt before ∙ ap Some (sym (asked_still l s (link, x) t before))
@@ -160,7 +160,7 @@ asked_more n levels tables link x t still fine noted l s lt now = elim (cases_eq
         let f = is-fine _ levels (link, x) t fine in
         let none_here : is_some (open_request s (on_link link.0 t)) ≡ false = rw own none in
         let now_here : is_some (open_request s (x ∷ on_link link.0 t)) ≡ true =
-        ap (λ h. is_some (open_request s h)) (sym (own_link link.0 link x t refl)) ∙ ap
+        ap (λ h. is_some (open_request s h)) (sym (own_link link.0 (link, x) t refl)) ∙ ap
         (λ m. is_some (open_request s (on_link m ((link, x) ∷ t)))) own ∙ now in
         let by = opened_by f.level s x (on_link link.0 t) f.fine none_here now_here in
         let table : asked_in tables link.0 by.0.source ≡ Some (suc (length t)) =

@@ -20,7 +20,8 @@ use Rattle.tl_together.specs.declared.windows.Window.{Window}
 use Rattle.tl_together.specs.code.Windows.{is_noted, last_in, window_at, window_in, HasNoted, IsShown}
 use Rattle.tl_together.specs.code.Windows.{KnowsWindows, LeavesOthers, NotesWindow}
 use Rattle.tl_bytes.specs.statement.Shown.{shows}
-use Rattle.tl_together.proofs.Windowed.{own_link, other_link, as_free, none_free, free_last, last_shown}
+use Rattle.tl_monitor.proofs.OnLink.{other_link, own_link}
+use Rattle.tl_together.proofs.Windowed.{as_free, none_free, free_last, last_shown}
 use Rattle.tl_together.proofs.Windowed.{last_still}
 use Rattle.tl_together.proofs.Noted.{true_false}
 
@@ -28,9 +29,9 @@ same_after : {w : ℕ} (block : Option ℕ) (link : Link) (x : Beat w) (t : Trac
     → LeavesOthers block x (on_link link.0 t) → is_block b block ≡ false
     → (l : ℕ) → may_hold b (on_link l ((link, x) ∷ t)) ≡ may_hold b (on_link l t)
 same_after block link x t b leaves' apart l = elim (cases_eq link.0 l) [
-  | inl own ↦ ap (may_hold b) (own_link l link x t own) ∙ ap (λ m. may_hold b (x ∷ on_link m t)) (sym own) ∙ leaves' b
+  | inl own ↦ ap (may_hold b) (own_link l (link, x) t own) ∙ ap (λ m. may_hold b (x ∷ on_link m t)) (sym own) ∙ leaves' b
       apart ∙ ap (λ m. may_hold b (on_link m t)) own
-  | inr other ↦ ap (may_hold b) (other_link l link x t other)
+  | inr other ↦ ap (may_hold b) (other_link l (link, x) t other)
 ]
 
 -- the table of windows with one more beat, and its moment where that shows the bytes of a block

@@ -1,16 +1,15 @@
 -- Beats that show the bytes of a block, and what is noted of them.
-use Rattle.std.proofs.Common.{◌≡◌, ℕ, Bool, true, false, ◌&&◌, ◌||◌, ◌<◌, List, [], ◌∷◌, length, refl, sym, ◌∙◌}
-use Rattle.std.proofs.Common.{inl, inr, ap, ◌+◌}
+use Rattle.std.proofs.Common.{◌≡◌, ℕ, Bool, true, false, ◌&&◌, ◌||◌, ◌<◌, List, ◌∷◌, length, refl, sym, ◌∙◌}
+use Rattle.std.proofs.Common.{inl, inr, ap}
 use Rattle.std.specs.Prelude.{if◌then◌else◌, ◌==◌, Option, Some, None}
 use Rattle.std.specs.Option.{option_or}
 use Rattle.std.proofs.Math.Bool.{and-false}
-use Rattle.std.proofs.lemmas.Bool.{cases_eq, eq-eqb, lt-ltb, ne_eqb}
+use Rattle.std.proofs.lemmas.Bool.{cases_eq, eq-eqb, ne_eqb}
 use Rattle.tl_beat.specs.declared.beat.Beat.{Beat}
-use Rattle.tl_beat.specs.declared.beat.Beat.TheVariants.{A, B, C, D, E}
+use Rattle.tl_beat.specs.declared.beat.Beat.TheVariants.{C}
 use Rattle.tl_beat.specs.declared.beat.BeatC.{BeatC}
 use Rattle.tl_beat.specs.declared.beat.Link.{Link}
-use Rattle.tl_burst.specs.statement.Messages.{History, burst_length, channel_of, on, unfinished}
-use Rattle.tl_burst.specs.statement.Part.{is_empty}
+use Rattle.tl_burst.specs.statement.Messages.{History}
 use Rattle.tl_bytes.specs.statement.Free.{all_but_early, is_free}
 use Rattle.tl_bytes.specs.statement.Shown.{shows}
 use Rattle.tl_memory.specs.{declared.free.Freedom.Freedom, statement.Known.freedom}
@@ -21,10 +20,10 @@ use Rattle.tl_memory.proofs.Elsewhere.{held-kept}
 use Rattle.tl_monitor.specs.statement.Knows.{begins_on}
 use Rattle.tl_params.specs.declared.level.Level.{Level}
 use Rattle.tl_rules.specs.statement.Conformance.{Trace, on_link}
-use Rattle.tl_rules.specs.statement.History.{begins, block_at, ends, is_probe_ack, is_release}
+use Rattle.tl_rules.specs.statement.History.{block_at, ends, is_probe_ack, is_release}
 use Rattle.tl_together.specs.code.Windows.{is_noted, shown_window, window_in, HasNoted, IsShown, LeavesOthers, MayShow}
 use Rattle.tl_together.specs.declared.windows.Window.{Window}
-use Rattle.tl_together.proofs.Windowed.{own_link}
+use Rattle.tl_monitor.proofs.Within.{ends_within}
 
 -- ---- the beat
 
@@ -56,27 +55,10 @@ first_noted (Some k) held entries noted b here = noted b here
 
 -- ---- what is noted
 
-on_own : {w : ℕ} (x : Beat w) → on (channel_of x) x ≡ true
-on_own (A y) = refl
-on_own (B y) = refl
-on_own (C y) = refl
-on_own (D y) = refl
-on_own (E y) = refl
-
--- where a beat's message is complete, another begins behind it
-begins_behind : {w : ℕ} (x : Beat w) (past : History w) → begins x (x ∷ past) ≡ ends x past
-unfolding unfinished
-begins_behind {w} x past =
-    rw (on_own x) (go (length (unfinished (channel_of x) past) + 1 == burst_length x))
-  where
-    go : (b : Bool) → is_empty (if b then [] else x ∷ unfinished (channel_of x) past) ≡ b
-    go true = refl
-    go false = refl
-
 pub complete_is : {w : ℕ} (levels : List Level) (link : Link) (x : Beat w) (t : Trace w) (b : Bool)
     → link.0 < length levels → b ≡ begins_on levels link x ((link, x) ∷ t) → b ≡ ends x (on_link link.0 t)
 complete_is levels link x t b lt b_is =
-    b_is ∙ rw (lt-ltb link.0 (length levels) lt, own_link link.0 link x t refl) (begins_behind x (on_link link.0 t))
+    b_is ∙ ends_within levels link lt x t
 
 -- no block is shown
 pub shown_none : {w : ℕ} (moment : ℕ) (x : Beat w) (past : History w) (entries : List (ℕ × Window))

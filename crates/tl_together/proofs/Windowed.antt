@@ -1,8 +1,8 @@
 -- When blocks could last be accessed, and requests were complete: what the tables say of a trace, and with one more beat.
-use Rattle.std.proofs.Common.{◌≡◌, ℕ, zero, suc, Bool, true, false, ◌&&◌, ◌||◌, ◌<◌, ◌≤◌, ◌≢◌, [], ◌∷◌, length}
+use Rattle.std.proofs.Common.{◌≡◌, ℕ, zero, suc, Bool, true, false, ◌&&◌, ◌||◌, ◌<◌, ◌≤◌, [], ◌∷◌, length}
 use Rattle.std.proofs.Common.{refl, sym, ◌∙◌, arith}
 use Rattle.std.specs.Prelude.{if◌then◌else◌, not, Option, Some, None, is_some, is_none, nat_le}
-use Rattle.std.proofs.lemmas.Bool.{both_ways, eq-eqb, ne_eqb}
+use Rattle.std.proofs.lemmas.Bool.{both_ways}
 use Rattle.tl_beat.specs.declared.beat.Beat.{Beat}
 use Rattle.tl_beat.specs.declared.beat.Link.{Link}
 use Rattle.tl_params.specs.declared.perm.Perm.{Perm}
@@ -95,16 +95,6 @@ free_window n link source given block t asked free =
     (le_true (asked_at link source t) (length t) (asked_le link source t))
 
 -- ---- one more beat
-
-pub own_link : {w : ℕ} (n : ℕ) (link : Link) (x : Beat w) (t : Trace w) → link.0 ≡ n
-    → on_link n ((link, x) ∷ t) ≡ x ∷ on_link n t
-unfolding on_link
-own_link n link x t e = rw (eq-eqb link.0 n e) refl
-
-pub other_link : {w : ℕ} (n : ℕ) (link : Link) (x : Beat w) (t : Trace w) → link.0 ≢ n
-    → on_link n ((link, x) ∷ t) ≡ on_link n t
-unfolding on_link
-other_link n link x t apart = rw (ne_eqb link.0 n apart) refl
 
 -- where as much is held of a block, it is as free
 pub as_free : {w : ℕ} (n : ℕ) (given : Perm) (block : ℕ) (s t : Trace w)

@@ -1,8 +1,6 @@
 -- What is known of the bytes of a block, after what all links of a manager have carried.
 use Rattle.std.specs.Prelude.{ℕ, zero, suc, Bool, true, false, not, [], ◌∷◌, ◌==◌, ◌&&◌, ◌||◌, ◌+◌, ◌*◌, ◌<◌, ◌≡◌}
 use Rattle.std.specs.Prelude.{if◌then◌else◌, List, filter, find, is_some, length, nat_lt, Option, Some, None}
-use Rattle.std.specs.Prelude.{slice_index_or}
-use Rattle.std.specs.Global.{Vec}
 use Rattle.tl_beat.specs.declared.beat.Beat.{Beat}
 use Rattle.tl_beat.specs.declared.beat.Link.{Link}
 use Rattle.tl_burst.specs.statement.Messages.{channel_of, unfinished}
@@ -12,6 +10,8 @@ use Rattle.tl_bytes.specs.statement.Free.{is_free}
 use Rattle.tl_bytes.specs.declared.block_bytes.BlockBytes.{BlockBytes}
 use Rattle.tl_bytes.specs.code.Tellings.{is_written, left_as, telling_at, value_at}
 use Rattle.tl_bytes.specs.declared.carried.CarriedBytes.{CarriedBytes}
+use Rattle.tl_bytes.specs.declared.known_bytes.KnownBytes.{KnownBytes}
+use Rattle.tl_bytes.specs.statement.KnownBytes.{known_at}
 use Rattle.tl_bytes.specs.declared.read_bytes.ReadBytes.{ReadBytes}
 use Rattle.tl_bytes.specs.declared.standing.Standing.{Standing}
 use Rattle.tl_bytes.specs.declared.write.Write.{Write}
@@ -39,20 +39,15 @@ tellings_of b place = telling_at b.latest place ∷ tellings_at place b.earlier.
 abbrev pub KnowsBytes : {w : ℕ} → BlockBytes → ℕ → ℕ → Trace w → Type 0
 KnowsBytes b n block t = (place : ℕ) → place < 64 → tellings_of b place ≡ may_be n (64 * block + place) t
 
--- the number of beats with the one before which there were so many; 0 where there is none
-abbrev pub moment_of : Option ℕ → ℕ
-moment_of None = 0
-moment_of (Some before) = suc before
-
 -- and when they were last granted, or given back
 pub record KnowsBlock {w : ℕ} (b : BlockBytes) (n block : ℕ) (t : Trace w) : Type 0 where
   pub bytes_are : KnowsBytes b n block t
-  pub last_is : moment_of b.last ≡ last_told block t
+  pub last_is : b.last ≡ last_told block t
 
 -- these are the bytes that the beats have brought, the newest of which is first, by their places; none
 -- where a beat is to come, or was corrupt
-abbrev pub HasBytes : {w : ℕ} → List (Option ℕ) → List (Beat w) → Type 0
-HasBytes values burst = (place : ℕ) → place < 64 → slice_index_or values place None ≡ carried_byte burst place
+abbrev pub HasBytes : {w : ℕ} → KnownBytes → List (Beat w) → Type 0
+HasBytes values burst = (place : ℕ) → place < 64 → known_at values place ≡ carried_byte burst place
 
 -- they are kept, and how many beats brought them
 pub record KnowsCarried {w : ℕ} (carried : CarriedBytes) (burst : List (Beat w)) : Type 0 where
@@ -60,7 +55,7 @@ pub record KnowsCarried {w : ℕ} (carried : CarriedBytes) (burst : List (Beat w
   pub beats_are : carried.beats ≡ length burst
 
 -- these are the bytes of the message that is complete with a beat
-abbrev pub AreCarried : {w : ℕ} → List (Option ℕ) → Link × Beat w → Trace w → Type 0
+abbrev pub AreCarried : {w : ℕ} → KnownBytes → Link × Beat w → Trace w → Type 0
 AreCarried values x t = HasBytes values (x.1 ∷ unfinished (channel_of x.1) (on_link x.0.0 t))
 
 -- this is what an access with this answer leaves in the block
@@ -83,9 +78,9 @@ abbrev pub is_listed : ℕ → ℕ → List Possible → Bool
 is_listed place byte possible = is_some (find (λ x. (x.place == place) && could_be byte x.value) possible)
 
 -- so does what the bytes might be in a first window, where there was one
-abbrev pub is_among : Option (Vec (Option ℕ)) → ℕ → ℕ → Bool
+abbrev pub is_among : Option KnownBytes → ℕ → ℕ → Bool
 is_among None place byte = false
-is_among (Some values) place byte = could_be byte (slice_index_or values.items place None)
+is_among (Some values) place byte = could_be byte (known_at values place)
 
 -- so does what is kept of what a read may bring
 abbrev pub may_bring : ReadBytes → ℕ → ℕ → Bool

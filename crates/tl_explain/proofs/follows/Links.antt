@@ -36,6 +36,7 @@ use Rattle.tl_monitor.specs.declared.bursts.Unfinished.{Unfinished}
 use Rattle.tl_monitor.specs.code.Bursts.{IsOf, beside_first, burst_next, burst_on, burst_with, continues_burst, is_last}
 use Rattle.tl_monitor.specs.code.Bursts.{left_after}
 use Rattle.tl_monitor.proofs.Continued.{bursts-next, first-is, last-is}
+use Rattle.tl_monitor.proofs.OnLink.{own_link}
 use Rattle.std.proofs.lemmas.Bool.{cases_Bool}
 use Rattle.std.proofs.Common.{inl, inr, not, ◌-◌, suc, ◌<◌}
 use Rattle.tl_beat.specs.statement.Width.{IsWidth}
@@ -219,11 +220,6 @@ blocks_taken b c y h first is asked released are = record {
   released_are = λ s. released s ∙ rw (is, are.released_are s) (released_step y h s);
 }
 
-pub on_own_link : {w : ℕ} (n : ℕ) (x : Link × Beat w) (t : Trace w) → (x.0.0 == n) ≡ true
-    → on_link n (x ∷ t) ≡ x.1 ∷ on_link n t
-unfolding on_link
-on_own_link n x t own = rw own refl
-
 pub by_channel : {w : ℕ} (new old : Bursts Moment) (x : Beat w) (m : Moment) → new.a ≡ burst_with channel.A x m old.a
     → new.b ≡ burst_with channel.B x m old.b → new.c ≡ burst_with channel.C x m old.c
     → new.d ≡ burst_with channel.D x m old.d → new.e ≡ burst_with channel.E x m old.e
@@ -267,7 +263,7 @@ pub record_taken : {w : ℕ} (l : Liberties) (r q : Recorder) (m : Moment) (x : 
 record_taken {w} l r q m x t width is same allowed goes turns held asked released bursts rec =
     let n = r.subject.link.0 in
     let here : (x.0.0 == n) ≡ true = same_true x.0.0 n is.of_link in
-    let own : on_link n (x ∷ t) ≡ x.1 ∷ on_link n t = on_own_link n x t here in
+    let own : on_link n (x ∷ t) ≡ x.1 ∷ on_link n t = own_link n x t is.of_link in
     let goes_on = continues x.1 (burst_on r.bursts (channel_of x.1)) (unfinished (channel_of x.1) (on_link n t))
     (rec.bursts_are (channel_of x.1)) goes in
     let next : (ch : Channel) → IsOf (burst_with ch x.1 m (burst_on r.bursts ch)) (unfinished ch (on_link n (x ∷ t))) =

@@ -14,11 +14,10 @@ use Rattle.tl_params.specs.statement.Liberties.{liberties_of}
 use Rattle.tl_rules.specs.statement.Liberties.{broken_on_link_under, first_fault_under, held_under}
 use Rattle.tl_rules.specs.statement.Conformance.{Trace, on_link, broken_on_link, first_fault}
 use Rattle.tl_rules.specs.statement.History.{begins, held}
-use Rattle.tl_burst.specs.statement.Messages.{History}
 use Rattle.tl_rules.specs.code.Open.{open_probe, open_request}
 use Rattle.tl_rules.specs.declared.past.Probe.{Probe}
 use Rattle.tl_rules.specs.declared.past.Request.{Request}
-use Rattle.tl_monitor.specs.code.LinkState.{is_block, IsEmpty}
+use Rattle.tl_monitor.specs.code.LinkState.{IsEmpty}
 use Rattle.tl_monitor.specs.code.Keeps.{Keeps}
 use Rattle.tl_monitor.specs.declared.monitor.Monitor.{Monitor}
 use Rattle.tl_monitor.specs.declared.monitor.MonitoredLink.{MonitoredLink}
@@ -64,10 +63,6 @@ held_on_under l levels link block t =
 -- the beat begins a message on its link; none on a link without a level
 abbrev pub begins_on : {w : ℕ} → List Level → Link → Beat w → Trace w → Bool
 begins_on levels link x t = if nat_lt link.0 (length levels) then begins x (on_link link.0 t) else false
-
--- of each block but this one as much is held with the beat as before it
-abbrev pub LeavesOthers : {w : ℕ} → Option ℕ → Beat w → History w → Type 0
-LeavesOthers block x t = (b : ℕ) → is_block b block ≡ false → held b (x ∷ t) ≡ held b t
 
 -- links of these levels, of which nothing is kept
 pub record AreEmpty (levels : List Level) (links : List MonitoredLink) : Type 0 where

@@ -7,6 +7,7 @@ use tl_beat::beat::{Beat, BeatC};
 use tl_beat::opcode::OpC;
 use tl_bytes::block_bytes::BlockBytes;
 use tl_bytes::carried::CarriedBytes;
+use tl_bytes::known_bytes::KnownBytes;
 use tl_bytes::read_bytes::ReadBytes;
 use tl_bytes::standing::Standing;
 use tl_bytes::windows::WritingWindows;
@@ -17,7 +18,7 @@ fn eight(byte: u8) -> Write {
     Write {
         first: 0,
         mask: 0xff,
-        values: [Some(byte); 64],
+        values: KnownBytes::all(&[byte; 64]),
     }
 }
 

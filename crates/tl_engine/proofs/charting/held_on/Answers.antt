@@ -1,4 +1,4 @@
-use Rattle.tl_engine.proofs.ChartedBeats.{held_within}
+use Rattle.tl_monitor.proofs.Within.{held_within}
 use Rattle.std.proofs.Common.{false, ◌∙◌}
 use Rattle.tl_engine.proofs.charting.held_on.Goals as goal
 

@@ -34,5 +34,5 @@ returns g c = λ link x older moment k lawful message wide place lt.
         performable-sized g.row.W x.opcode x.param m.size x.address atomic lawful.0,
         performable-room g.row.W x.opcode x.param m.size x.address atomic lawful.0,
       )) (rw (k.opcode_is, k.size_is, k.address_is) at c.mask_reached.ensures) lt,
-      λ w. c.nothing_known.ensures (place - 0) (omega (arith, lt)) ∙ other_pending x.opcode access (64 * (x.address / 64) + place) other,
+      λ w. c.none.ensures (place - 0) ∙ other_pending x.opcode access (64 * (x.address / 64) + place) other,
     )

@@ -6,7 +6,7 @@ use Rattle.tl_memory.proofs.writer.values_brought.Goals as goal
 pub returns-then-brought : goal.returns-then-brought
 returns-then-brought c = λ w burst k place lt.
     let spoiled : is_some (find is_spoiled burst) ≡ true = sym k.spoiled_is ∙ c.if-brought.true in
-    rw spoiled (c.nothing_known.ensures place lt)
+    rw spoiled (c.none.ensures place)
 
 pub returns : goal.returns
 returns c = λ w burst k place lt.

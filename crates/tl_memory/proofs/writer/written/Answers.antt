@@ -1,5 +1,5 @@
 use Rattle.std.proofs.Common.{arith, ap, sym, ◌∙◌, ◌≡◌, ◌-◌, ◌+◌, ◌*◌}
-use Rattle.std.specs.Prelude.{None, slice_index_or}
+use Rattle.tl_bytes.specs.statement.KnownBytes.{known_at}
 use Rattle.tl_rules.specs.statement.History.{block_at}
 use Rattle.tl_bytes.specs.statement.Bytes.{is_put}
 use Rattle.tl_memory.{proofs.Writing.other_left, proofs.Writing.put_left}
@@ -24,7 +24,7 @@ returns g c = λ access burst k write message lawful place lt.
       performable-room g.row.W m.opcode m.param m.size m.address atomic lawful.0,
     )) (rw (k.opcode_is, k.size_is, k.address_is) at c.mask_reached.ensures) lt in (
       here,
-      λ w. ap (λ i. slice_index_or c.values_written.result i None) same
+      λ w. ap (known_at c.values_written.result) same
           ∙ c.values_written.ensures access burst k other message lawful place lt (sym here ∙ w)
           ∙ other_left m.opcode access burst (64 * block_at m.address + place) other,
     )

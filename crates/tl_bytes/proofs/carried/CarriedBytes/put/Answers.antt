@@ -1,6 +1,7 @@
-use Rattle.std.proofs.Common.{rules, arith, ap, refl, sym, ◌∙◌, ◌≡◌, ◌+◌, ◌*◌, ◌%◌, ◌<◌, ℕ, length, get_or, set}
-use Rattle.std.{proofs.lemmas.List.length-set, proofs.lemmas.Option.slice_get-get_or}
-use Rattle.std.specs.Prelude.{None, Some, slice_get, slice_index_or}
+use Rattle.std.proofs.Common.{arith, ap, refl, sym, ◌∙◌, ◌≡◌, ◌+◌, ◌*◌, ◌%◌, ◌<◌, ℕ, length, get_or}
+use Rattle.std.proofs.lemmas.Option.{slice_get-get_or}
+use Rattle.std.specs.Prelude.{if◌then◌else◌, ◌==◌, Some, slice_get}
+use Rattle.tl_bytes.specs.statement.KnownBytes.{known_at}
 use Rattle.tl_bytes.proofs.Brought.{is_lane, lane-off, lane-on, whole_beat, width_positive}
 use Rattle.tl_bytes.proofs.Filled.{after, all-done, none-done, one-done}
 use Rattle.tl_bytes.proofs.carried.CarriedBytes.put.Goals as goal
@@ -11,10 +12,10 @@ returns-then-end-gt64-clause-bytes g c = λ p lt.
     let n = c.args.self.now.beats in
     let many = length c.args.lanes.now in
     let pos = width_positive w c.requires in
-    let old = c.args.self.now.bytes in
-    none-done (is_lane w n many) (λ q. slice_get c.args.lanes.now (q % w)) old None 0 p
+    let old = known_at c.args.self.now.bytes in
+    none-done (is_lane w n many) (λ q. slice_get c.args.lanes.now (q % w)) old 0 p
     (λ less. absurd (omega (arith, less)))
-    ∙ all-done (is_lane w n many) (λ q. slice_get c.args.lanes.now (q % w)) old None 0 p
+    ∙ all-done (is_lane w n many) (λ q. slice_get c.args.lanes.now (q % w)) old 0 p
     (λ least. lane-off w n many p pos
     (λ from to. omega (
       arith,
@@ -34,9 +35,8 @@ loop-lane-init g c =
     omega (arith, c.saturating_mul-first.ensures, c.saturating_add-end.ensures, c.if-end-gt64.false) in
     record {
       same = refl;
-      long = search rules;
-      bytes = λ p lt. none-done (is_lane w n many) (λ q. slice_get c.args.lanes.now (q % w)) c.args.self.now.bytes None
-          (c.saturating_mul-first.result + 0) p
+      bytes = λ p lt. none-done (is_lane w n many) (λ q. slice_get c.args.lanes.now (q % w))
+          (known_at c.args.self.now.bytes) (c.saturating_mul-first.result + 0) p
           (λ less. lane-off w n many p pos (λ from to. omega (arith, first, less, from)));
     }
 
@@ -49,28 +49,22 @@ loop-lane-preserved g c =
     let lane = c.loop-lane.lane in
     let pos = width_positive w c.requires in
     let place = c.saturating_mul-first.result + lane in
-    let now = c.loop-lane.self.bytes in
+    let now = known_at c.loop-lane.self.bytes in
     let first : c.saturating_mul-first.result ≡ w * n =
     omega (arith, c.saturating_mul-first.ensures, c.saturating_add-end.ensures, c.if-end-gt64.false) in
-    let within : place < length now =
-    omega (
-      arith,
-      c.loop-lane.invariant.long,
-      c.saturating_add-end.ensures,
-      c.if-end-gt64.false,
-      c.loop-lane-test.true,
-    ) in
+    let within : place < 64 =
+    omega (arith, c.saturating_add-end.ensures, c.if-end-gt64.false, c.loop-lane-test.true) in
     let inside : lane < many = omega (arith, c.told-lanes, c.loop-lane-test.true) in
     let on = lane-on w n many lane place pos (omega (arith, first)) c.loop-lane-test.true inside in
     let value : slice_get lanes (place % w) ≡ Some (get_or lanes lane 0) =
     ap (slice_get lanes) on.1 ∙ slice_get-get_or lanes lane 0 inside in
     record {
       same = c.loop-lane.invariant.same;
-      long = length-set now place (Some (get_or lanes lane 0)) ∙ c.loop-lane.invariant.long;
-      bytes = λ p lt. ap (λ v. slice_index_or (set now place v) p None) (sym value) ∙ one-done (is_lane w n many)
-          (λ q. slice_get lanes (q % w)) c.args.self.now.bytes None place now within on.0 c.loop-lane.invariant.bytes p
-          lt ∙ ap (λ k. after (is_lane w n many) (λ q. slice_get lanes (q % w)) c.args.self.now.bytes None k p)
-          (next c.saturating_mul-first.result lane);
+      bytes = λ p lt. one-done (is_lane w n many) (λ q. slice_get lanes (q % w)) (known_at c.args.self.now.bytes) place
+          now (known_at c.set.new.self) on.0
+          (λ q. c.set.ensures within q ∙ ap (λ v. if q == place then v else now q) (sym value))
+          c.loop-lane.invariant.bytes p lt ∙ ap (λ k. after (is_lane w n many) (λ q. slice_get lanes (q % w))
+          (known_at c.args.self.now.bytes) k p) (next c.saturating_mul-first.result lane);
     }
   where
     next : (a b : ℕ) → a + b + 1 ≡ a + (b + 1)
@@ -85,6 +79,6 @@ returns-clause-bytes g c = λ p lt.
     let first : c.saturating_mul-first.result ≡ w * n =
     omega (arith, c.saturating_mul-first.ensures, c.saturating_add-end.ensures, c.if-end-gt64.false) in
     c.loop-lane.invariant.bytes p lt
-    ∙ all-done (is_lane w n many) (λ q. slice_get c.args.lanes.now (q % w)) c.args.self.now.bytes None
+    ∙ all-done (is_lane w n many) (λ q. slice_get c.args.lanes.now (q % w)) (known_at c.args.self.now.bytes)
     (c.saturating_mul-first.result + c.loop-lane.lane) p
     (λ least. lane-off w n many p pos (λ from to. omega (arith, first, least, to, c.loop-lane-test.false)))

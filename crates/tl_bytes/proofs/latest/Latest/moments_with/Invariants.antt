@@ -7,5 +7,5 @@ abbrev pub invariant-loop-place : goal.invariant-loop-place
 invariant-loop-place l = record {
   long : length l.moments ≡ 64;
   filled : (p : ℕ) → p < l.place
-      → slice_index_or l.moments p l.moment ≡ (written_at l.self l.write l.moment p).moment;
+      → slice_index_or l.moments p 0 ≡ (written_at l.self l.write l.moment p).moment;
 }

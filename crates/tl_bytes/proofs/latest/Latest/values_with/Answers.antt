@@ -1,19 +1,25 @@
-use Rattle.std.proofs.Common.{arith, ap, ◌∙◌, set}
-use Rattle.std.{proofs.lemmas.List.length-set, specs.Prelude.None, specs.Prelude.slice_index_or}
-use Rattle.tl_bytes.{specs.code.Tellings.written_at, proofs.Filled.one_filled}
+use Rattle.std.proofs.Common.{ℕ, arith, ◌∙◌, ◌≡◌}
+use Rattle.std.specs.Prelude.{Option, None}
+use Rattle.tl_bytes.{specs.code.Tellings.written_at, specs.statement.KnownBytes.known_at}
+use Rattle.tl_bytes.proofs.Filled.{all-filled, next-filled, none-filled, not-yet}
 use Rattle.tl_bytes.proofs.latest.Latest.values_with.Goals as goal
 
+pub loop-place-init : goal.loop-place-init
+loop-place-init c = λ p. c.none-values.ensures p
+    ∙ none-filled (λ q. (written_at c.args.self.now c.args.write.now c.args.moment q).value) (λ q. None) p
+
 pub loop-place-preserved : goal.loop-place-preserved
-loop-place-preserved c = record {
-  long = length-set c.loop-place.values c.from.result c.with_at.result.value ∙ c.loop-place.invariant.long;
-  filled = λ p lt. ap (λ e. slice_index_or (set c.loop-place.values c.from.result e.value) p None) c.with_at.ensures
-      ∙ ap (λ k. slice_index_or (set c.loop-place.values k
-      (written_at c.args.self.now c.args.write.now c.args.moment c.loop-place.place).value) p None) c.from.ensures
-      ∙ one_filled (λ q. (written_at c.args.self.now c.args.write.now c.args.moment q).value) c.loop-place.place
-      c.loop-place.values None (omega (arith, c.loop-place.invariant.long, c.loop-place-test.true))
-      c.loop-place.invariant.filled p lt;
-}
+loop-place-preserved c =
+    let fill : ℕ → Option ℕ = λ q. (written_at c.args.self.now c.args.write.now c.args.moment q).value in
+    let place = c.loop-place.place in
+    let unknown : known_at c.loop-place.values place ≡ None =
+    c.loop-place.invariant place ∙ not-yet fill (λ q. None) place in
+    next-filled fill (λ q. None) place (known_at c.loop-place.values) (known_at c.set_known.new.self)
+    c.loop-place.invariant
+    (rw (c.from.ensures, c.with_at-telling.ensures) at c.set_known.ensures
+    (omega (arith, c.loop-place-test.true, c.loop-place.auto.place-end)) unknown)
 
 pub returns : goal.returns
-returns c = λ place lt. c.loop-place.invariant.filled place
+returns c = λ p lt. c.loop-place.invariant p
+    ∙ all-filled (λ q. (written_at c.args.self.now c.args.write.now c.args.moment q).value) (λ q. None) c.loop-place.place p
     (omega (arith, lt, c.loop-place-test.false, c.loop-place.auto.place-end))

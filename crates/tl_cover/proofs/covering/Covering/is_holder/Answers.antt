@@ -3,7 +3,7 @@ use Rattle.std.specs.Prelude.{◌==◌}
 use Rattle.std.proofs.lemmas.Bool.{ne_eqb}
 use Rattle.tl_params.specs.declared.perm.Perm.{Perm}
 use Rattle.tl_rules.specs.statement.Conformance.{same_perm}
-use Rattle.tl_cover.proofs.Within.{held_within}
+use Rattle.tl_monitor.proofs.Within.{held_within}
 use Rattle.tl_cover.proofs.covering.Covering.is_holder.Goals as goal
 
 pub returns-then-m-link : goal.returns-then-m-link

@@ -1,7 +1,7 @@
 use Rattle.std.proofs.Common.{ap, sym, ◌∙◌}
 use Rattle.std.specs.Prelude.{Option, ℕ, length}
 use Rattle.tl_cover.proofs.Scenes.{opening_none, opening_some}
-use Rattle.tl_cover.proofs.Within.{begins_within}
+use Rattle.tl_monitor.proofs.Within.{begins_within}
 use Rattle.tl_cover.specs.statement.Scene.{standing_of}
 use Rattle.tl_monitor.proofs.Counts.{sum-same}
 use Rattle.tl_monitor.specs.code.Count.{one_if}

@@ -1,7 +1,7 @@
 use Rattle.std.proofs.Common.{◌∙◌}
 use Rattle.tl_cover.proofs.Awaited.{awaited_any}
 use Rattle.tl_cover.proofs.Scenes.{standing_is}
-use Rattle.tl_cover.proofs.Within.{held_within}
+use Rattle.tl_monitor.proofs.Within.{held_within}
 use Rattle.tl_rules.specs.statement.Conformance.{on_link}
 use Rattle.tl_cover.proofs.covering.Covering.standing.Goals as goal
 

@@ -5,7 +5,7 @@ use Rattle.std.proofs.lemmas.Result.{on_ok_weaker}
 use Rattle.tl_cover.proofs.Links.{pasts_taken}
 use Rattle.tl_cover.proofs.Rows.{rows_counted}
 use Rattle.tl_cover.proofs.Scenes.{opening_begins}
-use Rattle.tl_cover.proofs.Within.{ends_within}
+use Rattle.tl_monitor.proofs.Within.{ends_within}
 use Rattle.tl_rules.specs.statement.Conformance.{on_link}
 use Rattle.tl_cover.proofs.covering.Covering.take.Goals as goal
 

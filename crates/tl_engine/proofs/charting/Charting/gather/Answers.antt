@@ -3,7 +3,7 @@ use Rattle.std.specs.Prelude.{Option}
 use Rattle.tl_chart.proofs.Gathering.{on_ok}
 use Rattle.tl_chart.specs.code.Moment.{change_of}
 use Rattle.tl_chart.specs.statement.Drawn.{holds}
-use Rattle.tl_engine.proofs.ChartedBeats.{ends_within}
+use Rattle.tl_monitor.proofs.Within.{ends_within}
 use Rattle.tl_rules.specs.statement.Liberties.{held_under}
 use Rattle.tl_engine.proofs.charting.Charting.gather.Goals as goal
 

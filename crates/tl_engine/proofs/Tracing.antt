@@ -23,7 +23,7 @@ use Rattle.tl_rules.specs.statement.Conformance.{Trace, on_link}
 use Rattle.tl_monitor.specs.statement.Knows.{request_on}
 use Rattle.tl_memory.proofs.LinkTables.{link-there}
 use Rattle.tl_together.specs.declared.breach.Breach.TheVariants.{OfMemory}
-use Rattle.tl_together.specs.declared.breach.MemoryRule.{MemoryRule}
+use Rattle.tl_params.specs.declared.memory_rule.MemoryRule.{MemoryRule}
 use Rattle.tl_together.specs.statement.Coherence.{broken_memory, first_broken}
 use Rattle.tl_engine.specs.code.Tracing.{AnswersBy, AnswersIn, FindsBlock, IsBlockAnswered, KnowsSpelled, TracedBy}
 use Rattle.tl_engine.specs.code.Tracing.{WatchesBy, needs_block}

@@ -13,12 +13,17 @@ use tl_bytes::standing::Standing;
 use tl_bytes::windows::WritingWindows;
 use tl_bytes::write::Write;
 
+/// A block each of whose bytes is this.
+fn each(byte: u8) -> KnownBytes {
+    KnownBytes::all(&[byte; 64])
+}
+
 /// What a Put of eight bytes, at the start of the block, writes.
 fn eight(byte: u8) -> Write {
     Write {
         first: 0,
         mask: 0xff,
-        values: KnownBytes::all(&[byte; 64]),
+        values: each(byte),
     }
 }
 
@@ -54,10 +59,10 @@ fn may_be(rt: &impl Abort, block: &BlockBytes, place: u8, possible: [bool; 3]) {
 fn bytes_that_are_told(rt: HostRuntime) -> Result<(), Fail> {
     let mut block = BlockBytes::new(rt.alloc());
     may_be(&rt, &block, 0, [true, true, true]);
-    block = BlockBytes::told(rt.alloc(), &[Some(9); 64], 4)?;
+    block = BlockBytes::told(rt.alloc(), &each(9), 4)?;
     may_be(&rt, &block, 0, [false, false, true]);
     may_be(&rt, &block, 63, [false, false, true]);
-    block = BlockBytes::told(rt.alloc(), &[None; 64], 8)?;
+    block = BlockBytes::told(rt.alloc(), &KnownBytes::none(), 8)?;
     may_be(&rt, &block, 63, [true, true, true]);
     Ok(())
 }
@@ -91,12 +96,12 @@ fn of_two_puts_one_after_the_other_the_second_came_last(rt: HostRuntime) -> Resu
 
 #[test]
 fn a_put_beside_a_copy(rt: HostRuntime) -> Result<(), Fail> {
-    let mut block = BlockBytes::told(rt.alloc(), &[Some(9); 64], 1)?;
+    let mut block = BlockBytes::told(rt.alloc(), &each(9), 1)?;
     let windows = opened(3).after(false, 4);
     assert_eq!(rt; block.standing(&windows, false), Standing::Anywhere);
     put(rt.alloc(), &mut block, 7, windows, 5)?;
     may_be(&rt, &block, 0, [false, true, true]);
-    block = BlockBytes::told(rt.alloc(), &[Some(5); 64], 7)?;
+    block = BlockBytes::told(rt.alloc(), &each(5), 7)?;
     assert_eq!(rt; block.standing(&windows, false), Standing::Told);
     put(rt.alloc(), &mut block, 7, windows, 8)?;
     may_be(&rt, &block, 0, [true, false, false]);
@@ -119,28 +124,28 @@ fn may_bring(rt: &impl Abort, read: &ReadBytes, place: u8, possible: [bool; 3]) 
 
 #[test]
 fn a_read_beside_a_put(rt: HostRuntime) -> Result<(), Fail> {
-    let mut block = BlockBytes::told(rt.alloc(), &[Some(5); 64], 1)?;
+    let mut block = BlockBytes::told(rt.alloc(), &each(5), 1)?;
     let mut read = ReadBytes::none(rt.alloc());
     may_bring(&rt, &read, 0, [false, false, false]);
-    read.find(rt.alloc(), &block, &[])?;
+    read.find(&block, &[])?;
     may_bring(&rt, &read, 0, [true, false, false]);
-    read.find(rt.alloc(), &block, &[eight(7)])?;
+    read.find(&block, &[eight(7)])?;
     may_bring(&rt, &read, 0, [true, true, false]);
     may_bring(&rt, &read, 8, [true, false, false]);
     put(rt.alloc(), &mut block, 7, opened(2), 5)?;
-    block = BlockBytes::told(rt.alloc(), &[Some(9); 64], 9)?;
-    read.find(rt.alloc(), &block, &[])?;
+    block = BlockBytes::told(rt.alloc(), &each(9), 9)?;
+    read.find(&block, &[])?;
     may_bring(&rt, &read, 0, [true, true, true]);
     may_bring(&rt, &read, 8, [true, false, true]);
     let mut after = ReadBytes::none(rt.alloc());
-    after.find(rt.alloc(), &block, &[])?;
+    after.find(&block, &[])?;
     may_bring(&rt, &after, 0, [false, false, true]);
     Ok(())
 }
 
 #[test]
 fn a_grant_beside_a_put(rt: HostRuntime) -> Result<(), Fail> {
-    let block = BlockBytes::told(rt.alloc(), &[Some(9); 64], 1)?;
+    let block = BlockBytes::told(rt.alloc(), &each(9), 1)?;
     assert!(rt; block.may_grant(0, 9, &[eight(7)]));
     assert!(rt; block.may_grant(0, 7, &[eight(7)]));
     assert!(rt; !block.may_grant(0, 5, &[eight(7)]));

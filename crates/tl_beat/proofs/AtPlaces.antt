@@ -1,5 +1,6 @@
 -- Fields of digits at their places are read from left to right.
-use Rattle.std.proofs.Common.{◌≡◌, ℕ, suc, ◌+◌, ◌-◌, ◌*◌, ◌<◌, ◌≤◌, Bool, true, false, cond, List, [], ◌∷◌, ◌++◌, length}
+use Rattle.std.proofs.Common.{◌≡◌, ℕ, suc, ◌+◌, ◌-◌, ◌*◌, ◌<◌, ◌≤◌, Bool}
+use Rattle.std.proofs.Common.{true, false, cond, List, [], ◌∷◌, ◌++◌, length}
 use Rattle.std.proofs.Common.{take, drop, refl, sym, arith}
 use Rattle.std.proofs.lemmas.List.{take_rest}
 use Rattle.std.proofs.lemmas.Bool.{ltb-true, and_parts}
@@ -31,10 +32,10 @@ no_digit number cs = refl
 behind_zero : (v : ℕ) → 0 + v ≡ v
 behind_zero v = omega arith
 
-field_of_one : (c v : ℕ) (cs : List ℕ) → IsDigit c v → field_at 1 (c ∷ 32 ∷ cs) ≡ Ok (v, cs)
+pub field_of_one : (c v : ℕ) (cs : List ℕ) → IsDigit c v → field_at 1 (c ∷ 32 ∷ cs) ≡ Ok (v, cs)
 field_of_one c v cs d = rw (digit_at-is 0 0 c v (32 ∷ cs) d, no_digit (16 * 0 + v) (32 ∷ cs), behind_zero) refl
 
-field_of_two : (c1 c0 v1 v0 : ℕ) (cs : List ℕ) → IsDigit c1 v1 → IsDigit c0 v0
+pub field_of_two : (c1 c0 v1 v0 : ℕ) (cs : List ℕ) → IsDigit c1 v1 → IsDigit c0 v0
     → field_at 2 (c1 ∷ c0 ∷ 32 ∷ cs) ≡ Ok (16 * v1 + v0, cs)
 field_of_two c1 c0 v1 v0 cs d1 d0 =
     rw (
@@ -50,7 +51,7 @@ abbrev head_digits : ℕ → ℕ → ℕ → ℕ → ℕ → ℕ → ℕ → Boo
 head_digits l1 l0 o p z s1 s0 =
     ((nat_lt l1 16 && nat_lt l0 16) && (nat_lt s1 16 && nat_lt s0 16)) && ((nat_lt o 16 && nat_lt p 16) && nat_lt z 16)
 
-are_pairs : (a b c d : ℕ) → ((nat_lt a 16 && nat_lt b 16) && (nat_lt c 16 && nat_lt d 16)) ≡ true
+pub are_pairs : (a b c d : ℕ) → ((nat_lt a 16 && nat_lt b 16) && (nat_lt c 16 && nat_lt d 16)) ≡ true
     → (a < 16) × (b < 16) × (c < 16) × (d < 16)
 are_pairs a b c d e =
     let (ab, cd) = and_parts (nat_lt a 16 && nat_lt b 16) (nat_lt c 16 && nat_lt d 16) e in

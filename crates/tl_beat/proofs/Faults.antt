@@ -27,11 +27,11 @@ use Rattle.tl_beat.specs.code.Reading.{◌>>=◌, at_most, agreement, made_a, ma
 use Rattle.tl_beat.specs.code.Reading.{reading_b, reading_c, reading_d, reading_e, reading_on, reading_fields, reading}
 use Rattle.tl_beat.specs.statement.First.{first_if}
 
-abbrev built : {A : Type 0} → A → Result A LineFault
+abbrev pub built : {A : Type 0} → A → Result A LineFault
 built x = Ok x
 
 -- one field's form, and then the others
-checked : {A B : Type 0} (b : Bool) (v : A) (more : A → Result B LineFault) (rest : Bool) (last : Option LineFault)
+pub checked : {A B : Type 0} (b : Bool) (v : A) (more : A → Result B LineFault) (rest : Bool) (last : Option LineFault)
     → result_err (more v) ≡ first_if (not rest) F3 last
     → result_err (cond b (Ok v) (Err F3) >>= more) ≡ first_if (not (b && rest)) F3 last
 checked true v more rest last e = e
@@ -59,7 +59,7 @@ misplaced false true lanes field e = rw e refl
 misplaced false false lanes field e = rw e refl
 
 -- opcode, param and data, in this order
-opcode-fault : {Op A : Type 0} (found : Option Op) (carries : Op → Bool) (greatest param : ℕ) (field : List ℕ)
+pub opcode-fault : {Op A : Type 0} (found : Option Op) (carries : Op → Bool) (greatest param : ℕ) (field : List ℕ)
     (build : (o : Op) → ℕ → is_some (data_of field) ≡ carries o → A)
     → result_err (ok_or found F4 >>= λ o. at_most greatest param >>= λ p. agreement (is_some (data_of field))
     (carries o) >>= λ h. built (build o p h))
@@ -76,12 +76,13 @@ opcode-fault {Op} {A} (Some o) carries greatest param field build = go (nat_lt g
     go false = agreement-fault (is_some (data_of field)) (carries o) (build o param) ∙ misplaced (is_dash field)
         (carries o) (lanes_before [] field) field refl
 
-result_err-map : {A B : Type 0} (m : Result A LineFault) (f : A → B) → result_err (m >>= λ x. built (f x)) ≡ result_err
+pub result_err-map : {A B : Type 0} (m : Result A LineFault) (f : A → B)
+    → result_err (m >>= λ x. built (f x)) ≡ result_err
     m
 result_err-map (Ok x) f = refl
 result_err-map (Err e) f = refl
 
-unless_equal : (n k : ℕ) (fault : LineFault) (last : Option LineFault) → (n ≡ k → ⊥)
+pub unless_equal : (n k : ℕ) (fault : LineFault) (last : Option LineFault) → (n ≡ k → ⊥)
     → first_if (not (n == k)) fault last ≡ Some fault
 unless_equal n k fault last apart = rw (ne_eqb n k apart) refl
 

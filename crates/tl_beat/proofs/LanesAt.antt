@@ -1,6 +1,6 @@
 -- Reading lanes, the last of them first.
 use Rattle.std.proofs.Common.{◌≡◌, ℕ, suc, ◌+◌, ◌-◌, ◌*◌, ◌/◌, ◌<◌, ◌≤◌, List, [], ◌∷◌, ◌++◌, length, take, drop, refl}
-use Rattle.std.proofs.Common.{sym, ap, ◌∙◌, arith, set, replicate, inl, inr}
+use Rattle.std.proofs.Common.{sym, ap, ◌∙◌, arith, set, replicate}
 use Rattle.std.proofs.lemmas.List.{drop-set, drop_all, length-replicate, drop_at, drop-drop, length-take-le}
 use Rattle.std.proofs.lemmas.List.{take-append-drop}
 use Rattle.std.proofs.Math.Nat.{sub-zero}
@@ -8,7 +8,6 @@ use Rattle.std.proofs.lemmas.Bool.Decides.{nat_tests}
 use Rattle.std.specs.Prelude.{Result, Ok, Err, ◌==◌, true, false}
 use Rattle.tl_beat.specs.declared.fault.LineFault.{LineFault}
 use Rattle.tl_beat.specs.declared.fault.LineFault.TheVariants.{F3}
-use Rattle.tl_beat.specs.statement.Width.{IsWidth}
 use Rattle.tl_beat.specs.code.FromLeft.{pair_at, lanes_at}
 
 -- before the first lane
@@ -86,8 +85,3 @@ lanes-all w i lanes field r e size so_far =
     let none : w - 8 * i ≡ 0 = omega arith in
     let end : drop (16 * i) field ≡ [] = drop_all (16 * i) field (omega arith) in
     sym so_far ∙ rw (none, end) (lanes-nothing lanes)
-
-pub eights : (w i : ℕ) → IsWidth w → 8 ≤ w → i ≡ w / 8 → w ≡ 8 * i
-eights w i (inl four) some e = absurd (omega arith)
-eights w i (inr (inl eight)) some e = omega arith
-eights w i (inr (inr sixteen)) some e = omega arith

@@ -19,10 +19,10 @@ use Rattle.tl_beat.proofs.Pieces.{NoSpace, NoSpaces, NoSpaces-pieces, length-pie
 use Rattle.tl_beat.proofs.FieldsAt.{then_head, then_number, then_bit, then_tail, digits_at-end}
 
 -- what follows a test that fails
-unless_equal : {A : Type 0} (n k : ℕ) (x y : A) → (n ≡ k → ⊥) → cond (n == k) x y ≡ y
+pub unless_equal : {A : Type 0} (n k : ℕ) (x y : A) → (n ≡ k → ⊥) → cond (n == k) x y ≡ y
 unless_equal n k x y apart = rw (ne_eqb n k apart) refl
 
-bind-assoc : {A B C : Type 0} (m : Result A LineFault) (f : A → Result B LineFault) (g : B → Result C LineFault)
+pub bind-assoc : {A B C : Type 0} (m : Result A LineFault) (f : A → Result B LineFault) (g : B → Result C LineFault)
     → ((m >>= f) >>= g) ≡ (m >>= λ x. f x >>= g)
 bind-assoc (Ok x) f g = refl
 bind-assoc (Err e) f g = refl
@@ -152,7 +152,7 @@ second_field n link (c ∷ []) (f ∷ fs) same nl nc ns = with_letter n link c (
 second_field n link (c ∷ d ∷ cs) [] same nl nc ns = rw nc.1.0 refl
 second_field n link (c ∷ d ∷ cs) (f ∷ fs) same nl nc ns = rw nc.1.0 refl
 
-behind : (p q : List ℕ) (fs : List (List ℕ)) → NoSpace p → after_first (λ b. b == 32) (spaced (p ∷ q ∷ fs)) ≡ spaced
+pub behind : (p q : List ℕ) (fs : List (List ℕ)) → NoSpace p → after_first (λ b. b == 32) (spaced (p ∷ q ∷ fs)) ≡ spaced
     (q ∷ fs)
 unfolding spaced
 behind p q fs none = after_first-piece p (spaced (q ∷ fs)) none

@@ -23,13 +23,13 @@ agreed : {a b : Bool} {h k : a ≡ b} → h ≡ k → ok_of h ≡ ok_of k
 agreed e = ap ok_of e
 
 -- there is one proof at most that two answers agree
-agreement-ok : (a b : Bool) (h : a ≡ b) → agreement a b ≡ Ok h
+pub agreement-ok : (a b : Bool) (h : a ≡ b) → agreement a b ≡ Ok h
 agreement-ok true true h = agreed (Bool-set true true refl h)
 agreement-ok true false h = absurd cc
 agreement-ok false true h = absurd cc
 agreement-ok false false h = agreed (Bool-set false false refl h)
 
-agreement-apart : (a b : Bool) → not (beq a b) ≡ true → agreement a b ≡ Err F6
+pub agreement-apart : (a b : Bool) → not (beq a b) ≡ true → agreement a b ≡ Err F6
 agreement-apart true true e = absurd cc
 agreement-apart true false e = refl
 agreement-apart false true e = refl

@@ -35,7 +35,7 @@ ok_step (Err f) more r P e then = absurd cc
 abbrev some_channel : Channel → Option Channel
 some_channel c = Some c
 
-ok_or-ok : {A : Type 0} (o : Option A) (x : A) → ok_or o F4 ≡ Ok x → o ≡ Some x
+pub ok_or-ok : {A : Type 0} (o : Option A) (x : A) → ok_or o F4 ≡ Ok x → o ≡ Some x
 ok_or-ok None x e = absurd cc
 ok_or-ok (Some y) x e = let same : y ≡ x = cc in rw same refl
 
@@ -44,7 +44,7 @@ pub record IsAtMost (greatest given param : ℕ) : Type 0 where
   pub same : param ≡ given
   pub small : param ≤ greatest
 
-at_most-is : (greatest given param : ℕ) → at_most greatest given ≡ Ok param → IsAtMost greatest given param
+pub at_most-is : (greatest given param : ℕ) → at_most greatest given ≡ Ok param → IsAtMost greatest given param
 at_most-is greatest given param e = go (nat_lt greatest given) refl e
   where
     go : (b : Bool) → nat_lt greatest given ≡ b → cond b (Err F5) (Ok given) ≡ ok_of param
@@ -155,7 +155,8 @@ pub record IsMadeC {w : ℕ} (y : BeatC w) (code given : ℕ) (size_given source
   pub lanes : y.lanes ≡ lanes_given
   pub corrupt : y.corrupt ≡ corrupt_given
 
-pub made_c-is : {w : ℕ} (y : BeatC w) (code given : ℕ) (size source address : ℕ) (lanes : Option (List ℕ)) (corrupt : Bool)
+pub made_c-is : {w : ℕ} (y : BeatC w) (code given : ℕ) (size source address : ℕ) (lanes : Option (List ℕ))
+    (corrupt : Bool)
     → made_c {w = w} code given size source address lanes corrupt ≡ Ok y
     → IsMadeC y code given size source address lanes corrupt
 made_c-is {w} y code given size source address lanes corrupt e =

@@ -33,7 +33,7 @@ record AreFields {w : ℕ} (fs : List (List ℕ)) (link : Link) (x : Beat w) : T
   writable : IsWritable x
   in_range : IsInRange x
 
-cons_same : {p q : List ℕ} {ps qs : List (List ℕ)} → p ≡ q → ps ≡ qs → p ∷ ps ≡ q ∷ qs
+pub cons_same : {p q : List ℕ} {ps qs : List (List ℕ)} → p ≡ q → ps ≡ qs → p ∷ ps ≡ q ∷ qs
 cons_same e f = cc
 
 reading_a-fields : {w : ℕ} (fs : List (List ℕ)) (link : Link) (x : Beat w) → IsWidth w
@@ -298,7 +298,7 @@ reading_fields-are {w} fs link x width e = go (nat_lt (length fs) 2) e
     go false f = reading_on-fields fs link x (channel_named (field fs 1)) width refl f
 
 -- a line with its line feed
-line-whole : (line : List ℕ) → ends_with_byte 10 line ≡ true → line ≡ without_last line ++ 10 ∷ []
+pub line-whole : (line : List ℕ) → ends_with_byte 10 line ≡ true → line ≡ without_last line ++ 10 ∷ []
 line-whole line e =
     let both = and_parts (nat_lt 0 (length line)) (get_or line (length line - 1) 0 == 10) e in
     let some : 0 < length line = ltb-true 0 (length line) both.0 in

@@ -21,9 +21,10 @@ use Rattle.tl_beat.proofs.Pieces.{NoSpace, NoSpaces, pieces-spaced}
 use Rattle.tl_beat.proofs.SpelledDigits.{digit_char-no_space, length-digits, number_in-digits, bit_in-text}
 use Rattle.tl_beat.proofs.SpelledDigits.{length-lane_digits, data_in-text}
 use Rattle.tl_beat.proofs.Made.{made_a-ok, made_b-ok, made_c-ok, made_d-ok}
-use Rattle.tl_beat.proofs.OpcodeCodes.{a_with-code, a_code-digit, b_with-code, b_code-digit, c_with-code, c_code-digit, d_with-code, d_code-digit}
+use Rattle.tl_beat.proofs.OpcodeCodes.{a_with-code, a_code-digit, b_with-code, b_code-digit}
+use Rattle.tl_beat.proofs.OpcodeCodes.{c_with-code, c_code-digit, d_with-code, d_code-digit}
 
-at_most-ok : (greatest param : ℕ) → param < suc greatest → at_most greatest param ≡ Ok param
+pub at_most-ok : (greatest param : ℕ) → param < suc greatest → at_most greatest param ≡ Ok param
 at_most-ok greatest param lt = rw (le-ltb greatest param (omega arith)) refl
 
 mask-fits : (w mask : ℕ) → IsWidth w → mask < 2 ^ w → 0 ≡ mask / 2 ^ (4 * (w / 4))
@@ -43,7 +44,7 @@ width-small w (inr (inr e)) = omega arith
 
 -- ---- the spelling has no space within a field, and fits a line
 
-NoSpace-digits : (w n : ℕ) → NoSpace (digits w n)
+pub NoSpace-digits : (w n : ℕ) → NoSpace (digits w n)
 unfolding digits
 NoSpace-digits zero n = tt
 NoSpace-digits (suc w) n = (digit_char-no_space (n / 2 ^ (4 * w) % 16) (omega arith), NoSpace-digits w n)
@@ -58,24 +59,24 @@ NoSpace-lane_digits [] = tt
 NoSpace-lane_digits (x ∷ xs) = NoSpace-append (lane_digits xs) (digits 2 x) (NoSpace-lane_digits xs)
     (NoSpace-digits 2 x)
 
-NoSpace-lanes : (lanes : Option (List ℕ)) → NoSpace (lanes_text lanes)
+pub NoSpace-lanes : (lanes : Option (List ℕ)) → NoSpace (lanes_text lanes)
 NoSpace-lanes None = (refl, tt)
 NoSpace-lanes (Some lanes) = NoSpace-lane_digits lanes
 
-NoSpace-bit : (b : Bool) → NoSpace (bit_text b)
+pub NoSpace-bit : (b : Bool) → NoSpace (bit_text b)
 NoSpace-bit false = (refl, tt)
 NoSpace-bit true = (refl, tt)
 
-length-lanes : (w : ℕ) (lanes : Option (List ℕ)) → w ≤ 16 → AreLanes w lanes → length (lanes_text lanes) ≤ 32
-length-lanes w None small all = omega arith
-length-lanes w (Some lanes) small all = omega (arith, length-lane_digits lanes, all.0)
+pub length-lanes : (w : ℕ) (lanes : Option (List ℕ)) → AreLanes w lanes → length (lanes_text lanes) ≤ 2 * w + 1
+length-lanes w None all = omega arith
+length-lanes w (Some lanes) all = omega (arith, length-lane_digits lanes, all.0)
 
 pub length-bit : (b : Bool) → length (bit_text b) ≡ 1
 length-bit false = refl
 length-bit true = refl
 
 -- the bytes of fields, and one more for each
-abbrev total : List (List ℕ) → ℕ
+abbrev pub total : List (List ℕ) → ℕ
 total [] = 0
 total (f ∷ fs) = length f + 1 + total fs
 
@@ -181,7 +182,7 @@ fields-short {w} link (beat.A x) small within =
       length-digits 2 x.source,
       length-digits 8 x.address,
       length-digits (w / 4) x.mask,
-      length-lanes w x.lanes small within.2,
+      length-lanes w x.lanes within.2,
       length-bit x.corrupt,
     )
 fields-short {w} link (beat.B x) small within =
@@ -194,7 +195,7 @@ fields-short {w} link (beat.B x) small within =
       length-digits 2 x.source,
       length-digits 8 x.address,
       length-digits (w / 4) x.mask,
-      length-lanes w x.lanes small within.2,
+      length-lanes w x.lanes within.2,
       length-bit x.corrupt,
     )
 fields-short {w} link (beat.C x) small within =
@@ -206,7 +207,7 @@ fields-short {w} link (beat.C x) small within =
       length-digits 1 x.size,
       length-digits 2 x.source,
       length-digits 8 x.address,
-      length-lanes w x.lanes small within.2,
+      length-lanes w x.lanes within.2,
       length-bit x.corrupt,
     )
 fields-short {w} link (beat.D x) small within =
@@ -219,7 +220,7 @@ fields-short {w} link (beat.D x) small within =
       length-digits 2 x.source,
       length-digits 2 x.sink,
       length-bit x.denied,
-      length-lanes w x.lanes small within.2,
+      length-lanes w x.lanes within.2,
       length-bit x.corrupt,
     )
 fields-short {w} link (beat.E x) small within = omega (arith, length-digits 2 link.0, length-digits 2 x.sink)

@@ -28,7 +28,7 @@ use Rattle.tl_beat.proofs.ReadFields.{ok_of, ok_is, ok_step}
 cons-spaces : (c : ℕ) (cs : List ℕ) → spaces_in (c ∷ cs) ≡ cond (c == 32) 1 0 + spaces_in cs
 cons-spaces c cs = sum_by-cons (λ x. cond (x == 32) 1 0) c cs
 
-no-spaces : (p rest : List ℕ) → NoSpace p → spaces_in (p ++ rest) ≡ spaces_in rest
+pub no-spaces : (p rest : List ℕ) → NoSpace p → spaces_in (p ++ rest) ≡ spaces_in rest
 no-spaces [] rest none = refl
 no-spaces (c ∷ cs) rest none = cons-spaces c (cs ++ rest) ∙ rw none.0 (omega (arith, no-spaces cs rest none.1))
 
@@ -41,13 +41,14 @@ digit-no_space c e = grind (arith, nat_tests)
 -- ---- fields
 
 -- n bytes without a space stand before the rest
-record Begins (n : ℕ) (bytes rest : List ℕ) : Type 0 where
-  piece : List ℕ
-  none : NoSpace piece
-  count : length piece ≡ n
-  is : bytes ≡ piece ++ rest
+pub record Begins (n : ℕ) (bytes rest : List ℕ) : Type 0 where
+  pub piece : List ℕ
+  pub none : NoSpace piece
+  pub count : length piece ≡ n
+  pub is : bytes ≡ piece ++ rest
 
-digits-begin : (n number v : ℕ) (bytes rest : List ℕ) → digits_at number n bytes ≡ Ok (v, rest) → Begins n bytes rest
+pub digits-begin : (n number v : ℕ) (bytes rest : List ℕ) → digits_at number n bytes ≡ Ok (v, rest)
+    → Begins n bytes rest
 unfolding digits_at
 digits-begin zero number v bytes rest e = record {
   piece = [];
@@ -98,7 +99,8 @@ field-begins n v bytes rest e =
           t.is ∙ ap (λ (xs : List ℕ). t.piece ++ xs) (space-begins x.1 left k ∙ ap (λ (xs : List ℕ). 32 ∷ xs) same);
     }))
 
-field-spaces : (n v : ℕ) (bytes rest : List ℕ) → field_at n bytes ≡ Ok (v, rest) → spaces_in bytes ≡ spaces_in rest + 1
+pub field-spaces : (n v : ℕ) (bytes rest : List ℕ) → field_at n bytes ≡ Ok (v, rest)
+    → spaces_in bytes ≡ spaces_in rest + 1
 field-spaces n v bytes rest e =
     let t = field-begins n v bytes rest e in
     ap spaces_in t.is ∙ no-spaces t.piece (32 ∷ rest) t.none ∙ one-space rest
@@ -112,7 +114,7 @@ bit-no_space c b e = go (c == 48) refl (c == 49) refl e
     go false h true k f = rw (eqb-true c 49 k) refl
     go false h false k f = absurd cc
 
-bit_field-spaces : (b : Bool) (bytes rest : List ℕ) → bit_field_at bytes ≡ Ok (b, rest)
+pub bit_field-spaces : (b : Bool) (bytes rest : List ℕ) → bit_field_at bytes ≡ Ok (b, rest)
     → spaces_in bytes ≡ spaces_in rest + 1
 bit_field-spaces b [] rest e = absurd cc
 bit_field-spaces b (c ∷ cs) rest e =
@@ -158,7 +160,8 @@ data-no_space w field lanes e = go (is_dash field) refl e
     go true is f = rw (is_dash-true field is) (refl, tt)
     go false is f = some (lanes_at [] w field) refl f
 
-tail-spaces : (w : ℕ) (bytes : List ℕ) (read : Option (List ℕ) × Bool) → tail_at w bytes ≡ Ok read → spaces_in bytes ≡ 1
+pub tail-spaces : (w : ℕ) (bytes : List ℕ) (read : Option (List ℕ) × Bool) → tail_at w bytes ≡ Ok read
+    → spaces_in bytes ≡ 1
 unfolding tail_at
 tail-spaces w bytes read e = go (nat_le 2 (length bytes) && (slice_index bytes (length bytes - 2) == 32)) refl e
   where
@@ -193,9 +196,9 @@ tail-spaces w bytes read e = go (nat_le 2 (length bytes) && (slice_index bytes (
 -- ---- the first fields
 
 -- the letter is the second field, and this many spaces stand before the rest
-record IsFront (c n : ℕ) (bytes rest : List ℕ) : Type 0 where
-  named : letter_in (after_first (λ b. b == 32) bytes) ≡ Some c
-  spaces : spaces_in bytes ≡ spaces_in rest + n
+pub record IsFront (c n : ℕ) (bytes rest : List ℕ) : Type 0 where
+  pub named : letter_in (after_first (λ b. b == 32) bytes) ≡ Some c
+  pub spaces : spaces_in bytes ≡ spaces_in rest + n
 
 letter-behind : (c : ℕ) (p rest : List ℕ) → NoSpace p → length p ≡ 2 → 0 < c → (c == 32) ≡ false
     → slice_index (p ++ 32 ∷ rest) 3 ≡ c → slice_index (p ++ 32 ∷ rest) 4 ≡ 32
@@ -211,7 +214,7 @@ letter-behind c (x ∷ y ∷ []) (a ∷ b ∷ cs) none two some apart h3 h4 = re
       (cons-spaces a (b ∷ cs), cons-spaces b cs, h3, h4, apart) (omega arith);
 }
 
-letter-front : (c v : ℕ) (bytes rest : List ℕ) → 0 < c → (c == 32) ≡ false → slice_index bytes 3 ≡ c
+pub letter-front : (c v : ℕ) (bytes rest : List ℕ) → 0 < c → (c == 32) ≡ false → slice_index bytes 3 ≡ c
     → slice_index bytes 4 ≡ 32 → field_at 2 bytes ≡ Ok (v, rest) → IsFront c 2 bytes (drop 2 rest)
 letter-front c v bytes rest some apart h3 h4 e =
     let t = field-begins 2 v bytes rest e in
@@ -219,7 +222,7 @@ letter-front c v bytes rest some apart h3 h4 e =
     (letter-behind c t.piece rest t.none t.count some apart (ap (λ (b : List ℕ). slice_index b 3) (sym t.is) ∙ h3)
     (ap (λ (b : List ℕ). slice_index b 4) (sym t.is) ∙ h4))
 
-more-front : (c n m : ℕ) (bytes rest left : List ℕ) → IsFront c n bytes rest → spaces_in rest ≡ spaces_in left + m
+pub more-front : (c n m : ℕ) (bytes rest left : List ℕ) → IsFront c n bytes rest → spaces_in rest ≡ spaces_in left + m
     → IsFront c (m + n) bytes left
 more-front c n m bytes rest left front e = record { named = front.named; spaces = omega (arith, front.spaces, e) }
 
@@ -301,7 +304,7 @@ line_d-has {w} bytes x h3 h4 e =
     let s4 = tail-spaces w denied.1 tail k4 in
     (front.named, omega (arith, front.spaces, s2, s3, s4))))))
 
-end-nothing : (n : ℕ) (x : ℕ × List ℕ) → at_end x ≡ Ok n → x.1 ≡ []
+pub end-nothing : (n : ℕ) (x : ℕ × List ℕ) → at_end x ≡ Ok n → x.1 ≡ []
 end-nothing n (m, []) e = refl
 end-nothing n (m, c ∷ cs) e = absurd cc
 

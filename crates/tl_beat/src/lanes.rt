@@ -21,7 +21,7 @@ fn values<const N: usize>(bytes: Simd<u8, N>) -> Simd<u8, N>
 
 /// The number that eight digits spell.
 #[inline(always)]
-pub(crate) fn eight_digit_number(field: &[u8; 8]) -> Option<u32>
+pub fn eight_digit_number(field: &[u8; 8]) -> Option<u32>
     ensures { IfSome result (λ number. (rest : List ℕ) → digits_at 0 8 (field.now ++ rest) ≡ Ok (number, rest)) }
 {
     let values = values(u8x8::from_array(*field));

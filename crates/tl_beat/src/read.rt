@@ -1,6 +1,6 @@
 //! Reading a line of text as a beat.
 
-mod field;
+pub mod field;
 mod line;
 
 ghost use Rattle.std.specs.Prelude.{◌≡◌, ◌==◌, ◌^◌, ◌<◌, ℕ, List, Some, Ok, IfErr, IfOk, MatchOption, position};
@@ -17,7 +17,7 @@ use crate::fault::LineFault;
 use crate::read::line::{any_head, line_a, line_b, line_c, line_d, line_e, spelled_head};
 
 /// The byte after the first space, if it is a field of its own.
-fn letter(bytes: &[u8]) -> Option<u8>
+pub fn letter(bytes: &[u8]) -> Option<u8>
     ensures { result ≡ letter_in bytes.now }
 {
     match bytes {
@@ -34,7 +34,8 @@ fn first_space(bytes: &[u8]) -> Option<usize>
     bytes.iter().position(|b| *b == b' ')
 }
 
-fn after_space(bytes: &[u8]) -> &[u8]
+/// What stands behind the first space.
+pub fn after_space(bytes: &[u8]) -> &[u8]
     ensures { result.now ≡ after_first (λ b. b == 32) bytes.now }
 {
     match first_space(bytes) {
@@ -43,7 +44,8 @@ fn after_space(bytes: &[u8]) -> &[u8]
     }
 }
 
-fn spaces(bytes: &[u8]) -> usize
+/// The number of spaces.
+pub fn spaces(bytes: &[u8]) -> usize
     ensures { result ≡ spaces_in bytes.now }
 {
     bytes.iter().filter(|b| **b == b' ').count()

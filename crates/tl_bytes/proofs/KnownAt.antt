@@ -1,6 +1,6 @@
 -- Bytes by their places, of which some are known.
 use Rattle.std.proofs.Common.{◌≡◌, ℕ, true, ◌&&◌, ◌<◌, ◌^◌, ◌*◌, ◌%◌, ◌-◌, ◌/◌, ◌≤◌, ◌≢◌, get_or, set, length, refl, ap, ◌∙◌, arith, inl, inr}
-use Rattle.std.specs.Prelude.{if◌then◌else◌, ◌==◌, is_some, nat_lt, None, Some}
+use Rattle.std.specs.Prelude.{if◌then◌else◌, ◌==◌, nat_lt, None, Some}
 use Rattle.std.specs.Int.{w64}
 use Rattle.std.specs.Int.Bits.{bit_or}
 use Rattle.std.proofs.lemmas.Bool.{cases_eq, cases_lt, eq-eqb, le-ltb, lt-ltb, ne_eqb}
@@ -8,7 +8,7 @@ use Rattle.std.proofs.lemmas.List.{get_or-set_same, get_or-set_other}
 use Rattle.std.proofs.lemmas.Nat.Bits.{bit_at_ones, bit_at_set_other, bit_at_set_same, bit_at-zero}
 use Rattle.tl_burst.specs.statement.Burst.{bit}
 use Rattle.tl_bytes.specs.declared.known_bytes.KnownBytes.{KnownBytes}
-use Rattle.tl_bytes.{specs.code.Tellings.moment_implied, specs.statement.KnownBytes.known_at}
+use Rattle.tl_bytes.specs.statement.KnownBytes.{known_at}
 
 -- a place whose bit is set, one whose bit isn't, and one past the block
 pub known-here : (b : KnownBytes) (p : ℕ) → p < 64 → b.known / 2 ^ p % 2 ≡ 1 → Some (get_or b.bytes p 0) ≡ known_at b p
@@ -62,9 +62,3 @@ known-unset b place p none = elim (cases_eq p place) [
   | inl same ↦ rw (eq-eqb p place same) (ap (known_at b) same ∙ none)
   | inr ne ↦ rw (ne_eqb p place ne) refl
 ]
-
--- ---- when what is known was told
-
-pub told-then : (values : KnownBytes) (moment p : ℕ) → is_some (known_at values p) ≡ true
-    → moment_implied values moment p ≡ moment
-told-then values moment p some = rw some refl

@@ -7,7 +7,7 @@ use Rattle.std.proofs.Common.{◌∷◌, ◌++◌, length, refl, sym, ap, ap₂,
 use Rattle.std.specs.Prelude.{if◌then◌else◌, Option, Some, None, nat_lt, nat_le, filter, find, ◌==◌}
 use Rattle.std.{proofs.Math.ListN.drop_of_length-le, proofs.lemmas.List.at_drop_more, proofs.Math.Dec.leb-zero}
 use Rattle.std.{proofs.Math.Numerals.add-one}
-use Rattle.std.proofs.lemmas.Bool.{cases_Bool, cases_eq, eq-eqb, ne_eqb}
+use Rattle.std.proofs.lemmas.Bool.{cases_Bool, cases_eq, eq-eqb, lt-leb, ne_eqb}
 use Rattle.tl_beat.{specs.declared.beat.BeatD.BeatD, specs.declared.channel.Channel.Channel}
 use Rattle.tl_params.specs.declared.perm.Perm.{Perm}
 use Rattle.tl_bytes.specs.declared.{known_bytes.KnownBytes.KnownBytes, latest.Latest.Latest}
@@ -131,6 +131,19 @@ module _ (write : Write) (since : ℕ) where
     unfolding displaced
     one-stays k items before is stays = rw (add-one k, stays) is
 
+    -- nor is one where all were told before this moment
+    pub none-displaced : (k : ℕ) → ((p : ℕ) → p < k → (telling_at latest p).moment < since)
+        → displaced k latest write since ≡ []
+    unfolding displaced
+    none-displaced zero old = refl
+    none-displaced (suc k) old = rw (goes, none-displaced k (λ p lt. old p (omega (arith, lt)))) refl
+      where
+        goes : is_displaced write since (last_at k) ≡ false
+        goes = elim (cases_Bool (is_written write k)) [
+          | inl on ↦ rw (on, lt-leb since (telling_at latest k).moment (old k (omega arith))) refl
+          | inr off ↦ rw off refl
+        ]
+
     -- beside what is written what was told before stays as far as it outlives that
     outlived-on : (earlier : List Told) (p : ℕ) → p < 64 → is_written write p ≡ true
         → tellings_at p (outlived latest earlier write since)
@@ -159,18 +172,18 @@ place-of block p lt = omega arith
 -- a block that was told of
 pub told-is : {w : ℕ} (values : KnownBytes) (moment n block : ℕ) (b : BlockBytes) (x : Link × Beat w) (t : Trace w)
     → ((p : ℕ) → p < 64 → telling_at b.latest p ≡ record { value = known_at values p; moment = moment })
-    → b.earlier.items ≡ [] → b.last ≡ Some moment → tells block x.1 (on_link x.0.0 t) ≡ true → moment ≡ length t
+    → b.earlier.items ≡ [] → b.last ≡ moment + 1 → tells block x.1 (on_link x.0.0 t) ≡ true → moment ≡ length t
     → AreCarried values x t → KnowsBlock b n block (x ∷ t)
 unfolding may_be last_told tellings_at
 told-is values moment n block b x t last none when told now carried = record {
   bytes_are = λ p lt. ap₂ (λ e l. e ∷ tellings_at p l) (last p lt) none
       ∙ rw (block-of block p lt, place-of block p lt, told, carried p lt, now) refl;
-  last_is = rw (when, told) (ap suc now);
+  last_is = rw told (omega (arith, when, now));
 }
 
 -- a block of which nothing was
 pub untold-is : {w : ℕ} (n block : ℕ) (b : BlockBytes)
-    → ((p : ℕ) → telling_at b.latest p ≡ record { value = None; moment = 0 }) → b.earlier.items ≡ [] → b.last ≡ None
+    → ((p : ℕ) → telling_at b.latest p ≡ record { value = None; moment = 0 }) → b.earlier.items ≡ [] → b.last ≡ 0
     → KnowsBlock {w = w} b n block []
 unfolding may_be last_told tellings_at
 untold-is n block b latest none last = record {

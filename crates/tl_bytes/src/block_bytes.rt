@@ -28,9 +28,8 @@ pub struct BlockBytes {
     pub(crate) latest: Latest,
     /// What it may be beside that, the last told first.
     pub(crate) earlier: Vec<Told>,
-    /// How many beats had been taken before the one with which a Grant, or data given back, last told of
-    /// the block; none where that never was.
-    last: Option<u64>,
+    /// The moment at which a Grant, or data given back, last told of the block; 0 where that never was.
+    last: u64,
 }
 
 impl BlockBytes {
@@ -42,9 +41,9 @@ impl BlockBytes {
         ensures { (w n block : ℕ) → KnowsBlock {w = w} result n block [] }
     {
         BlockBytes {
-            latest: Latest::new(alloc),
+            latest: Latest::new(),
             earlier: Vec::new(alloc),
-            last: None,
+            last: 0,
         }
     }
 
@@ -93,9 +92,10 @@ impl BlockBytes {
                 _ => Standing::Anywhere,
             };
         }
-        match self.last {
-            Some(last) if windows.last <= last => Standing::Told,
-            _ => Standing::Anywhere,
+        if windows.last < self.last {
+            Standing::Told
+        } else {
+            Standing::Anywhere
         }
     }
 
@@ -106,10 +106,13 @@ impl BlockBytes {
             tells block x.1 (on_link x.0.0 t) ≡ true → moment ≡ length t → AreCarried values.now x t →
             KnowsBlock b n block (x ∷ t)) }
     {
+        let Some(last) = moment.checked_add(1) else {
+            return Err(AllocError);
+        };
         Ok(BlockBytes {
-            latest: Latest::told(alloc, values, moment)?,
+            latest: Latest::told(values, moment),
             earlier: Vec::new(alloc),
-            last: Some(moment),
+            last,
         })
     }
 

@@ -1,6 +1,6 @@
 //! Bytes of a block by their places, of which some are known.
 
-ghost use Rattle.std.specs.Prelude.{ℕ, None, Some, true, ◌==◌, ◌<◌, ◌≡◌, if◌then◌else◌, is_some, slice_index};
+ghost use Rattle.std.specs.Prelude.{ℕ, None, Some, true, ◌==◌, ◌<◌, ◌≡◌, if◌then◌else◌, slice_index};
 ghost use Rattle.tl_bytes.specs.statement.KnownBytes.{known_at};
 
 /// How many bytes a block has.
@@ -51,13 +51,6 @@ impl KnownBytes {
         ensures { result ≡ true → (place : ℕ) → known_at self.now place ≡ None }
     {
         self.known == 0
-    }
-
-    /// Whether each is known.
-    pub(crate) fn is_whole(&self) -> bool
-        ensures { result ≡ true → (place : ℕ) → place < 64 → is_some (known_at self.now place) ≡ true }
-    {
-        self.known == u64::MAX
     }
 
     /// Makes the byte at a place of the block known.

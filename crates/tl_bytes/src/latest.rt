@@ -1,7 +1,7 @@
 //! What was told last of the bytes of a block.
 
 ghost use Rattle.std.specs.Prelude.{ℕ, true, ◌<◌, ◌≡◌, None, IfOk, slice_index_or};
-ghost use Rattle.tl_bytes.specs.code.Tellings.{moment_implied, telling_at, written_at};
+ghost use Rattle.tl_bytes.specs.code.Tellings.{moment_at, moment_of_known, telling_at, written_at};
 ghost use Rattle.tl_bytes.specs.statement.KnownBytes.{known_at};
 
 use crate::known_bytes::{BLOCK_BYTES, KnownBytes};
@@ -14,16 +14,23 @@ use std::alloc::{AllocError, Global};
 pub struct Latest {
     /// The values by their places.
     pub(crate) values: KnownBytes,
-    /// The moments at which they were told, by their places; none where that was one moment for all that are known, and
-    /// nothing was told of the others.
-    moments: Vec<u64>,
-    /// That moment.
-    moment: u64,
+    moments: Moments,
 }
 
-/// The moment of a value, where all that are known were told at this one, and nothing of the others.
-fn moment_implied(values: &KnownBytes, moment: u64, place: u8) -> u64
-    ensures { result ≡ moment_implied values.now moment place }
+/// When the bytes of a block were told last.
+#[derive(Drop)]
+pub enum Moments {
+    /// Those that are known at this moment; nothing was told of the others.
+    OfKnown(u64),
+    /// All at this moment.
+    OfAll(u64),
+    /// Each at its own, by their places.
+    OfEach(Vec<u64>),
+}
+
+/// When the byte at a place was told, where those that are known were at this moment, and nothing of the others.
+fn moment_of_known(values: &KnownBytes, moment: u64, place: u8) -> u64
+    ensures { result ≡ moment_of_known values.now moment place }
 {
     match values.at(usize::from(place)) {
         None => 0,
@@ -31,13 +38,13 @@ fn moment_implied(values: &KnownBytes, moment: u64, place: u8) -> u64
     }
 }
 
-/// Whether these are the moments of all places, where all that are known were told at this one, and nothing of the others.
-fn are_implied(values: &KnownBytes, moments: &[u64; 64], moment: u64) -> bool
+/// Whether these are the moments of all places, where those that are known were told at this one, and nothing of the others.
+fn are_of_known(values: &KnownBytes, moments: &[u64; 64], moment: u64) -> bool
     ensures { result ≡ true → (place : ℕ) → place < 64 →
-        slice_index_or moments.now place 0 ≡ moment_implied values.now moment place }
+        slice_index_or moments.now place 0 ≡ moment_of_known values.now moment place }
 {
     for place in 0..BLOCK_BYTES {
-        if moments[usize::from(place)] != moment_implied(values, moment, place) {
+        if moments[usize::from(place)] != moment_of_known(values, moment, place) {
             return false;
         }
     }
@@ -46,13 +53,12 @@ fn are_implied(values: &KnownBytes, moments: &[u64; 64], moment: u64) -> bool
 
 impl Latest {
     /// Nothing is told.
-    pub fn new(alloc: Global) -> Self
+    pub fn new() -> Self
         ensures { (place : ℕ) → telling_at result place ≡ record { value = None; moment = 0 } }
     {
         Latest {
             values: KnownBytes::none(),
-            moments: Vec::new(alloc),
-            moment: 0,
+            moments: Moments::OfKnown(0),
         }
     }
 
@@ -66,33 +72,51 @@ impl Latest {
         ensures { IfOk result (λ latest. (place : ℕ) → place < 64 → telling_at latest place
             ≡ record { value = known_at values place; moment = slice_index_or moments.now place 0 }) }
     {
-        let moments = if are_implied(&values, moments, moment) {
-            Vec::new(alloc)
-        } else {
-            Vec::from_slice(alloc, moments)?
-        };
+        if are_of_known(&values, moments, moment) {
+            return Ok(Latest {
+                values,
+                moments: Moments::OfKnown(moment),
+            });
+        }
         Ok(Latest {
             values,
-            moments,
-            moment,
+            moments: Moments::OfEach(Vec::from_slice(alloc, moments)?),
         })
     }
 
     /// These values are told at one moment.
-    pub fn told(alloc: Global, values: &KnownBytes, moment: u64) -> Result<Self, AllocError>
-        ensures { IfOk result (λ latest. (place : ℕ) → place < 64 → telling_at latest place
-            ≡ record { value = known_at values.now place; moment = moment }) }
+    pub fn told(values: &KnownBytes, moment: u64) -> Self
+        ensures { (place : ℕ) → telling_at result place
+            ≡ record { value = known_at values.now place; moment = moment } }
     {
-        let moments = if values.is_whole() {
-            Vec::new(alloc)
-        } else {
-            Vec::from_slice(alloc, &[moment; 64])?
-        };
-        Ok(Latest {
+        Latest {
             values: *values,
-            moments,
-            moment,
-        })
+            moments: Moments::OfAll(moment),
+        }
+    }
+
+    /// When what was told last of a place was told.
+    fn moment(&self, place: u8) -> u64
+        ensures { result ≡ moment_at self.now.moments self.now.values place }
+    {
+        match &self.moments {
+            Moments::OfKnown(moment) => moment_of_known(&self.values, *moment, place),
+            Moments::OfAll(moment) => *moment,
+            Moments::OfEach(moments) => match moments.get(usize::from(place)) {
+                Some(moment) => *moment,
+                None => 0,
+            },
+        }
+    }
+
+    /// Whether each byte was told before this moment; where they were told at several moments that isn't looked for.
+    pub(crate) fn is_before(&self, moment: u64) -> bool
+        ensures { result ≡ true → (place : ℕ) → (telling_at self.now place).moment < moment }
+    {
+        match &self.moments {
+            Moments::OfKnown(told) | Moments::OfAll(told) => *told < moment,
+            Moments::OfEach(_) => false,
+        }
     }
 
     /// What was told last of a place.
@@ -101,10 +125,7 @@ impl Latest {
     {
         Telling {
             value: self.values.at(usize::from(place)),
-            moment: match self.moments.get(usize::from(place)) {
-                Some(moment) => *moment,
-                None => moment_implied(&self.values, self.moment, place),
-            },
+            moment: self.moment(place),
         }
     }
 
@@ -112,11 +133,17 @@ impl Latest {
     pub fn copy(&self, alloc: Global) -> Result<Self, AllocError>
         ensures { IfOk result (λ latest. (place : ℕ) → telling_at latest place ≡ telling_at self.now place) }
     {
-        let moments = Vec::from_slice(alloc, self.moments.as_slice())?;
+        let moments = match &self.moments {
+            Moments::OfKnown(moment) => Moments::OfKnown(*moment),
+            Moments::OfAll(moment) => Moments::OfAll(*moment),
+            Moments::OfEach(moments) => Moments::OfEach(Vec::from_slice(
+                alloc,
+                moments.as_slice(),
+            )?),
+        };
         Ok(Latest {
             values: self.values,
             moments,
-            moment: self.moment,
         })
     }
 
@@ -165,7 +192,7 @@ impl Latest {
             telling_at latest place ≡ written_at self.now write.now moment place) }
     {
         if write.is_whole() {
-            return Latest::told(alloc, &write.values, moment);
+            return Ok(Latest::told(&write.values, moment));
         }
         let values = self.values_with(write, moment);
         let moments = self.moments_with(write, moment);

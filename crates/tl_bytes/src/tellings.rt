@@ -84,7 +84,9 @@ pub fn outlived(
     ensures { IfOk result (λ told. told.items ≡ outlived latest.now earlier.now write.now since) }
 {
     let mut told = Vec::new(alloc);
-    displace(&mut told, latest, write, since)?;
+    if !latest.is_before(since) {
+        displace(&mut told, latest, write, since)?;
+    }
     keep(&mut told, write, since, earlier)?;
     Ok(told)
 }

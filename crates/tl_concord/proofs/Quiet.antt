@@ -29,7 +29,7 @@ use Rattle.tl_coherence.specs.statement.Flow.{IsTaken, taken_at}
 use Rattle.tl_coherence.specs.{declared.event.Outcome.Outcome, statement.AnsweredInTime.IsAnsweredInTime}
 use Rattle.tl_coherence.specs.{statement.Flow.EachTaken, statement.OneWriter.IsGivenAlone}
 use Rattle.tl_coherence.proofs.{flow.GivenAlone.apart, flow.Windowed.in_time}
-use Rattle.tl_together.specs.declared.breach.MemoryRule.TheVariants.{M1, M4}
+use Rattle.tl_params.specs.declared.memory_rule.MemoryRule.TheVariants.{M1, M4}
 use Rattle.tl_together.specs.statement.Coherence.{broken_access, broken_grant, broken_response, is_access_ack}
 use Rattle.tl_together.specs.statement.Coherence.{is_grantable}
 use Rattle.tl_concord.proofs.Responses.{responses}

@@ -1,5 +1,5 @@
 -- What an examiner knows with one line more, and has where a line is at fault.
-use Rattle.std.proofs.Common.{◌≡◌, ◌∙◌, ℕ, List, [], ◌∷◌, ◌++◌, true, refl, sym, ap, subst}
+use Rattle.std.proofs.Common.{◌≡◌, ◌∙◌, ℕ, List, [], ◌∷◌, ◌++◌, sym, subst}
 use Rattle.std.specs.Prelude.{Bool, Option, Some, None, Result, Ok}
 use Rattle.tl_engine.specs.code.Examining.{EndsExaminer, KnowsExaminer}
 use Rattle.tl_engine.specs.code.Judging.{Ends, Finishes, IsTotal, Judges, Stops}
@@ -42,7 +42,7 @@ module _ (old new : Examiner) (line : List ℕ) (same : judged_for new.link_line
 
   pub examined-end : (fault : Fault) (block : Option ℕ)
       → WatchesLine old.link_lines new.link_lines line (Some fault)
-      → AnswersBy old.link_lines.together old.link_lines.judge line block
+      → AnswersBy old.link_lines.together new.link_lines.judge line block
       → NotesLine old.found.now new.found.now (Some fault) block
       → Ends KnowsExaminer EndsExaminer old new line
   examined-end fault block watches answers notes = λ lines text k more.

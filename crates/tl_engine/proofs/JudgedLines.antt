@@ -68,7 +68,8 @@ watched_beat old new line link beat (Ok None) spells judged = λ together levels
     let (good, knows) = judged together levels may t known in
     (link, beat, spells, good, knows)
 watched_beat old new line link beat (Ok (Some fault)) spells judged = λ together levels may t known.
-    inr (link, beat, spells, (judged together levels may t known).0)
+    let (broken, knows) = judged together levels may t known in
+    (inr (link, beat, spells, broken), knows)
 watched_beat old new line link beat (Err e) spells judged = tt
 
 -- what a judge says of a line is what the handler says
@@ -92,7 +93,7 @@ module _ {w : ℕ} (together : Bool) (allow : Liberties) (wrap : TraceJudge w �
   judges old new line was (Some fault) watches = λ lines before known.
       let k = into old lines (before ++ was) known in
       bad_line (heads_by together allow) (faults_by together) (said_by together) (KnowsBeats together old) lines before was line fault k
-      (watches k.levels k.may k.trace k.known)
+      (watches k.levels k.may k.trace k.known).0
 
   pub watched : {E : Type 0} (old new : TraceJudge w) (line was : List ℕ) (r : Result (Option Fault) E)
       → IfOk r (λ answer. (together : Bool) → Watches together old new line answer)

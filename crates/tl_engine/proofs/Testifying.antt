@@ -25,8 +25,8 @@ use Rattle.tl_explain.specs.declared.told.Spelling.{Spelling}
 use Rattle.tl_explain.specs.statement.Evidence.{next_line}
 use Rattle.tl_memory.proofs.LinkTables.{link-there}
 use Rattle.tl_together.specs.declared.breach.Breach.TheVariants.{OfMemory}
-use Rattle.tl_together.specs.declared.breach.MemoryRule.{MemoryRule}
-use Rattle.tl_together.specs.declared.breach.MemoryRule.TheVariants.{M1, M2, M3, M4}
+use Rattle.tl_params.specs.declared.memory_rule.MemoryRule.{MemoryRule}
+use Rattle.tl_params.specs.declared.memory_rule.MemoryRule.TheVariants.{M1, M2, M3, M4}
 use Rattle.tl_together.specs.declared.judge.Judge.{Judge}
 use Rattle.tl_together.specs.statement.Coherence.{broken_memory, broken_together}
 use Rattle.tl_together.specs.statement.Knows as of_all
@@ -168,7 +168,7 @@ told-at : {w : ℕ} (allow : Liberties) (old mid new : TraceJudge w) (i j k : In
     → IsSameInquiry j k → k.reasons ≡ j.reasons → fault ≡ BreaksTogether j.rule
     → HasTold allow k (lines ++ line ∷ more)
 told-at {w} allow old mid new i j k number line fault lines more h still heard counted watches same reasons is =
-    go (watches s.levels s.may s.trace (still s.levels s.may s.trace s.known))
+    go (watches s.levels s.may s.trace (still s.levels s.may s.trace s.known)).0
   where
     s : KnowsSpelled true allow old lines
     s = h.traced

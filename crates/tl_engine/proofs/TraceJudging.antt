@@ -10,14 +10,13 @@ use Rattle.tl_engine.specs.statement.Coherent.{fault_of_breach}
 use Rattle.tl_monitor.proofs.Knowing.{broken_by, unbroken}
 use Rattle.tl_monitor.specs.declared.fault.MonitorFault.TheVariants as monitor
 use Rattle.tl_monitor.specs.declared.monitor.Monitor.{Monitor}
-use Rattle.tl_monitor.specs.statement.Knows.{KnowsUnder, fault_under, request_on}
+use Rattle.tl_monitor.specs.statement.Knows.{KnowsUnder, fault_under}
 use Rattle.tl_params.specs.declared.level.Level.{Level}
 use Rattle.tl_params.specs.declared.liberties.Liberties.{Liberties}
 use Rattle.tl_params.specs.declared.rule.Rule.{Rule}
 use Rattle.tl_engine.specs.code.TraceJudging.{JudgesBeat, KnowsBeats}
 use Rattle.tl_engine.specs.declared.trace_judge.TraceJudge.{TraceJudge}
 use Rattle.tl_engine.specs.declared.trace_judge.TraceJudge.TheVariants.{OfAll, OfLinks}
-use Rattle.tl_rules.specs.declared.past.Request.{Request}
 use Rattle.tl_rules.specs.statement.Conformance.{Trace}
 use Rattle.tl_rules.specs.statement.Liberties.{broken_on_link_under}
 use Rattle.tl_together.specs.declared.breach.Breach.{Breach}
@@ -76,22 +75,21 @@ module _ {w : ℕ} (x : Link × Beat w) where
     knows levels may t known,
   )
 
--- the request with a source, by a monitor of links
-pub alone_request : {w : ℕ} (old : TraceJudge w) (m : Monitor w) (is : old ≡ OfLinks m) (o : Option Request)
-    (link : Link) (source : ℕ)
+-- what a monitor of links answers of all that it knows, its judge does
+pub alone_answers : {w : ℕ} {X : Type 0} (old : TraceJudge w) (m : Monitor w) (is : old ≡ OfLinks m) (answer : X)
+    (so : List Level → Trace w → X)
     → ((levels : List Level) (may : Liberties) (t : Trace w) (closed : Bool) → KnowsUnder m levels may t closed
-    → o ≡ request_on levels link source t)
+    → answer ≡ so levels t)
     → (together : Bool) (levels : List Level) (may : Liberties) (t : Trace w) → KnowsBeats together old levels may t
-    → o ≡ request_on levels link source t
-alone_request old m is o link source says true levels may t known = absurd (rw is at known)
-alone_request old m is o link source says false levels may t known = says levels may t false (rw is at known)
+    → answer ≡ so levels t
+alone_answers old m is answer so says true levels may t known = absurd (rw is at known)
+alone_answers old m is answer so says false levels may t known = says levels may t false (rw is at known)
 
--- and by a judge of all
-pub together_request : {w : ℕ} (old : TraceJudge w) (j : Judge w) (is : old ≡ OfAll j) (o : Option Request)
-    (link : Link) (source : ℕ)
-    → ((levels : List Level) (may : Liberties) (t : Trace w) → Knows j levels may t false
-    → o ≡ request_on levels link source t)
+-- and what a judge of all answers
+pub together_answers : {w : ℕ} {X : Type 0} (old : TraceJudge w) (j : Judge w) (is : old ≡ OfAll j) (answer : X)
+    (so : List Level → Trace w → X)
+    → ((levels : List Level) (may : Liberties) (t : Trace w) → Knows j levels may t false → answer ≡ so levels t)
     → (together : Bool) (levels : List Level) (may : Liberties) (t : Trace w) → KnowsBeats together old levels may t
-    → o ≡ request_on levels link source t
-together_request old j is o link source says false levels may t known = absurd (rw is at known)
-together_request old j is o link source says true levels may t known = says levels may t (rw is at known)
+    → answer ≡ so levels t
+together_answers old j is answer so says false levels may t known = absurd (rw is at known)
+together_answers old j is answer so says true levels may t known = says levels may t (rw is at known)

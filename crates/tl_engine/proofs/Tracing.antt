@@ -1,15 +1,13 @@
 -- The lines that were judged spell the trace that a judge knows.
-use Rattle.std.proofs.Common.{◌≡◌, ◌<◌, ℕ, suc, ◌+◌, Bool, true, false, List, [], ◌∷◌, ◌++◌, length, refl, sym, ap, ◌∙◌}
+use Rattle.std.proofs.Common.{◌≡◌, ◌<◌, ℕ, ◌+◌, Bool, true, false, List, [], ◌∷◌, ◌++◌, length, refl, sym, ap, ◌∙◌}
 use Rattle.std.proofs.Common.{arith, inl, inr, subst}
 use Rattle.std.specs.Prelude.{Option, Some, None, option_map, slice_get}
 use Rattle.std.proofs.lemmas.Bool.{cases_lt, lt-ltb}
 use Rattle.std.proofs.lemmas.Option.{same_Some, slice_get_past}
 use Rattle.tl_beat.specs.declared.beat.Beat.{Beat}
-use Rattle.tl_beat.specs.declared.beat.BeatD.{BeatD}
 use Rattle.tl_beat.specs.declared.beat.Link.{Link}
-use Rattle.tl_beat.specs.statement.Digits.{digits}
 use Rattle.tl_beat.specs.declared.fault.LineFault.{LineFault}
-use Rattle.tl_beat.specs.statement.Line.{Spells, line_fault, spaced}
+use Rattle.tl_beat.specs.statement.Line.{Spells, line_fault}
 use Rattle.tl_beat.specs.statement.Width.{IsWidth}
 use Rattle.tl_memory.specs.code.Elsewhere.{block_asked}
 use Rattle.tl_memory.specs.code.Taking.{request_answered}
@@ -25,10 +23,10 @@ use Rattle.tl_rules.specs.statement.Conformance.{Trace, on_link}
 use Rattle.tl_monitor.specs.statement.Knows.{request_on}
 use Rattle.tl_memory.proofs.LinkTables.{link-there}
 use Rattle.tl_together.specs.declared.breach.Breach.TheVariants.{OfMemory}
-use Rattle.tl_together.specs.declared.breach.MemoryRule.{MemoryRule}
+use Rattle.tl_params.specs.declared.memory_rule.MemoryRule.{MemoryRule}
 use Rattle.tl_together.specs.statement.Coherence.{broken_memory, first_broken}
 use Rattle.tl_engine.specs.code.Tracing.{AnswersBy, AnswersIn, FindsBlock, IsBlockAnswered, KnowsSpelled, TracedBy}
-use Rattle.tl_engine.specs.code.Tracing.{WatchesBy, has_letter_d, needs_block}
+use Rattle.tl_engine.specs.code.Tracing.{WatchesBy, needs_block}
 use Rattle.tl_engine.specs.code.LinkWatching.{Watches}
 use Rattle.tl_engine.specs.code.TraceJudging.{KnowsBeats}
 use Rattle.tl_engine.specs.declared.examiner.Found.{Found}
@@ -193,28 +191,6 @@ within-levels together levels may link x t fault is needs = absurd cc
 
 -- ---- the block of the request that a beat answers
 
--- a response's line has the letter of its channel
-pub letter-there : {w : ℕ} (line : List ℕ) (link : Link) (x : BeatD w) → Spells line link (Beat.D x)
-    → has_letter_d line ≡ true
-unfolding spaced digits
-letter-there line link x spells = rw spells.is_line refl
-
--- of a beat of another channel there is none
-answers-none : {w : ℕ} (together : Bool) (judge : TraceJudge w) (line : List ℕ) → has_letter_d line ≡ false
-    → AnswersIn together judge line None
-answers-none {w} together judge line never levels may t link x known spells lt = go x spells
-  where
-    go : (x : Beat w) → Spells line link x → None ≡ block_asked (request_answered x (on_link link.0 t))
-    go (Beat.D y) spells = let came = letter-there line link y spells in absurd cc
-    go v spells = refl
-
-pub answers-unlettered : (judge : LinkJudge) (line : List ℕ) → has_letter_d line ≡ false
-    → (together : Bool) → AnswersBy together judge line None
-answers-unlettered (Waiting alloc) line other together = tt
-answers-unlettered (Four judge) line other together = answers-none together judge line other
-answers-unlettered (Eight judge) line other together = answers-none together judge line other
-answers-unlettered (Sixteen judge) line other together = answers-none together judge line other
-
 -- where the judge says so of the beat that the line spells
 pub answers-here : {w : ℕ} (judge : TraceJudge w) (line : List ℕ) (k : Link) (b : Beat w) (asked : Option Request)
     (block : Option ℕ) → IsWidth w → Spells line k b → block ≡ block_asked asked
@@ -245,10 +221,10 @@ request-same judge link source o says together levels may t known lt =
 -- what was noted of the line at fault
 found-in : {w : ℕ} (together : Bool) (allow : Liberties) (old new : TraceJudge w) (lines more : List (List ℕ))
     (line : List ℕ) (block : Option ℕ) (fault : Fault) → KnowsSpelled together allow old lines
-    → Watches together old new line (Some fault) → AnswersIn together old line block → needs_block fault ≡ true
+    → Watches together old new line (Some fault) → AnswersIn together new line block → needs_block fault ≡ true
     → IsBlockAnswered allow block (lines ++ line ∷ more)
 found-in {w} together allow old new lines more line block fault k watches answers needs =
-    go (watches k.levels k.may k.trace k.known)
+    go (watches k.levels k.may k.trace k.known).0
   where
     go : IsAtFault (faults_by together) k.levels k.may k.trace line fault
         → IsBlockAnswered allow block (lines ++ line ∷ more)
@@ -266,13 +242,13 @@ found-in {w} together allow old new lines more line block fault k watches answer
       link = link;
       beat = x;
       spells = spells;
-      block_is = answers k.levels k.may k.trace link x k.known spells
+      block_is = answers k.levels k.may k.trace link x (watches k.levels k.may k.trace k.known).1 spells
           (within-levels together k.levels k.may link x k.trace fault is needs);
     }
 
 pub found-block : (together : Bool) (allow : Liberties) (old new : LinkJudge) (lines more : List (List ℕ))
     (line : List ℕ) (block : Option ℕ) (fault : Fault) → TracedBy together allow old lines
-    → WatchesBy together allow old new line (Some fault) → AnswersBy together old line block
+    → WatchesBy together allow old new line (Some fault) → AnswersBy together new line block
     → needs_block fault ≡ true → IsBlockAnswered allow block (lines ++ line ∷ more)
 found-block together allow (Waiting alloc) new lines more line block fault k header answers needs =
     absurd (let never : needs_block Header ≡ true = rw header at needs in cc)

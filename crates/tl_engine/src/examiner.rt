@@ -1,11 +1,11 @@
 //! Judges a recorded trace, and notes what an explanation of its first fault starts from.
 
-ghost use Rattle.std.specs.Prelude.{◌≡◌, ◌<◌, [], Bool, IfErr, IfOk, List, None, Some, length, option_map, true};
+ghost use Rattle.std.specs.Prelude.{◌≡◌, ◌<◌, [], Bool, IfErr, IfOk, List, None, OnOk, Some, length, option_map, true};
 ghost use Rattle.tl_beat.specs.statement.Width.{IsWidth};
 ghost use Rattle.tl_engine.specs.code.Explaining.{IsVerdict, fault_of};
 ghost use Rattle.tl_engine.specs.code.Examining.{EndsExaminer, KnowsExaminer};
 ghost use Rattle.tl_engine.specs.code.Tracing as tracing;
-ghost use Rattle.tl_engine.specs.code.Tracing.{AnswersBy, AnswersIn, NotesLine, has_letter_d};
+ghost use Rattle.tl_engine.specs.code.Tracing.{AnswersBy, AnswersIn, NotesLine};
 ghost use Rattle.tl_engine.specs.code.LinkWatching.{judged_for};
 ghost use Rattle.tl_engine.specs.code.TraceJudging.{KnowsBeats};
 ghost use Rattle.tl_engine.specs.statement.JudgedLinks.{JudgedLinks};
@@ -30,6 +30,7 @@ use std::io::Read;
 use tl_beat::beat::{Beat, Link};
 use tl_beat::fault::LineFault;
 use tl_beat::read::read_line;
+use tl_explain::ledger::Ledger;
 use tl_explain::told::Spelling;
 use tl_params::liberties::Liberties;
 use tl_rules::past::Request;
@@ -74,25 +75,25 @@ fn block_answered_in<const W: usize>(judge: &TraceJudge<W>, line: &[u8]) -> Opti
     }
 }
 
-/// Whether the letter of a line's channel is that of channel D.
-fn is_response(line: &[u8]) -> bool
-    ensures { result ≡ has_letter_d line.now }
-{
-    matches!(line, [_, _, _, b'D', ..])
-}
-
-/// The block of the request that the next line's beat answers.
+/// The block of the request that a line's beat answers.
 fn block_answered(judge: &LinkJudge, line: &[u8]) -> Option<u32>
     ensures { (together : Bool) → AnswersBy together judge.now line.now result }
 {
-    if !is_response(line) {
-        return None;
-    }
     match judge {
         LinkJudge::Waiting(_) => None,
         LinkJudge::Four(judge) => block_answered_in(judge, line),
         LinkJudge::Eight(judge) => block_answered_in(judge, line),
         LinkJudge::Sixteen(judge) => block_answered_in(judge, line),
+    }
+}
+
+/// The block of the request that the beat of a line at fault answers.
+fn block_at_fault(judge: &LinkJudge, line: &[u8], fault: Option<Fault>) -> Option<u32>
+    ensures { (together : Bool) (broken : Fault) → fault ≡ Some broken → AnswersBy together judge.now line.now result }
+{
+    match fault {
+        None => None,
+        Some(_) => block_answered(judge, line),
     }
 }
 
@@ -150,14 +151,23 @@ impl Found {
         Ok(text.as_slice() == verdict)
     }
 
-    /// Notes a line without a fault, of links that are judged so.
-    fn note_good(&mut self, link_lines: &LinkLines, line: &[u8])
+    /// Notes a line without a fault, of links that are judged so. Behind the header begins what lists the beats.
+    fn note_good(
+        &mut self,
+        link_lines: &LinkLines,
+        ledger: &mut Ledger,
+        line: &[u8],
+    ) -> Result<(), AllocError>
         ensures { self.new.fault ≡ self.old.fault }
     {
         if self.good == 0 {
             self.header = link_lines.header(line);
+            if let Some(header) = &self.header {
+                ledger.begin(header.levels.len())?;
+            }
         }
         self.good = self.good.saturating_add(1);
+        Ok(())
     }
 
     /// Notes the line at fault, whose beat answers a request of this block.
@@ -176,23 +186,28 @@ impl Found {
     fn note(
         &mut self,
         link_lines: &LinkLines,
+        ledger: &mut Ledger,
         line: &[u8],
         fault: Option<Fault>,
         block: Option<u32>,
-    )
-        ensures { NotesLine self.old self.new fault block }
+    ) -> Result<(), AllocError>
+        ensures { OnOk result (NotesLine self.old self.new fault block) }
     {
         match fault {
-            None => self.note_good(link_lines, line),
-            Some(fault) => self.note_fault(line, fault, block),
+            None => self.note_good(link_lines, ledger, line),
+            Some(fault) => {
+                self.note_fault(line, fault, block);
+                Ok(())
+            }
         }
     }
 }
 
-/// Judges the lines of a trace, and notes what it finds.
+/// Judges the lines of a trace, lists what is pending, and notes what it finds.
 #[derive(Drop)]
 pub struct Examiner<'a> {
     pub link_lines: LinkLines,
+    pub ledger: &'a mut Ledger,
     pub found: &'a mut Found,
 }
 
@@ -215,9 +230,10 @@ impl LineHandler for Examiner<'_> {
         line: &[u8],
         _out: &mut Vec<u8>,
     ) -> Result<Option<Fault>, AllocError> {
-        let block = block_answered(&self.link_lines.judge, line);
-        let fault = self.link_lines.judge_line(line)?;
-        self.found.note(&self.link_lines, line, fault, block);
+        let fault = self.link_lines.judge_line(line, self.ledger)?;
+        let block = block_at_fault(&self.link_lines.judge, line, fault);
+        self.found
+            .note(&self.link_lines, self.ledger, line, fault, block)?;
         Ok(fault)
     }
 
@@ -231,12 +247,13 @@ impl LineHandler for Examiner<'_> {
 }
 
 /// Judges what a reader gives, each link by itself or all together, where links may do this besides what the header
-/// names. Answers what is found, beside its verdict.
+/// names. Answers what is found, beside its verdict, and lists what is pending.
 pub fn examine<R: Read>(
     alloc: Global,
     together: bool,
     allow: Liberties,
     reader: &mut R,
+    ledger: &mut Ledger,
     verdict: &mut Vec<u8>,
 ) -> Result<(Found, Status), ExplainFault>
     requires { verdict.old.items ≡ [] }
@@ -251,6 +268,7 @@ pub fn examine<R: Read>(
             allow,
             judge: LinkJudge::Waiting(alloc),
         },
+        ledger,
         found: &mut found,
     };
     let status = in_memory(handle_input(alloc, examiner, reader, verdict))?;

@@ -16,7 +16,6 @@ ghost use Rattle.tl_engine.specs.statement.Explained.{broken_alone, front_text, 
 ghost use Rattle.tl_engine.specs.statement.Unexplained.{GivesUpExplaining, Reaches};
 ghost use Rattle.tl_engine.specs.declared.status.Status.{Status};
 
-use crate::engine::handle_input;
 use crate::examiner::{Found, examine};
 use crate::explain_fault::{ExplainFault, number_behind};
 use crate::explain_memory::explain_memory;
@@ -24,7 +23,7 @@ use crate::fault::Fault;
 use crate::links_header::LinksHeader;
 use crate::malformed::{explain_header, explain_spelling};
 use crate::output::write_all;
-use crate::replay::{Listing, Replay};
+use crate::replay::Replay;
 use crate::reread::read_again;
 use crate::status::{Status, ToolFault};
 use std::alloc::{AllocError, Global};
@@ -261,29 +260,15 @@ fn unsaid(coherent: bool) -> &'static str {
     }
 }
 
-/// Tells what is pending at the end of a trace of so many links without a fault.
-pub fn explain_clean<const W: usize, R: Read>(
-    alloc: Global,
+/// Tells what is pending at the end of a trace without a fault.
+fn explain_clean<const W: usize>(
     coherent: bool,
-    reader: &mut R,
-    links: usize,
-    good: u64,
+    ledger: &mut Ledger,
     out: &mut Vec<u8>,
 ) -> Result<(), ExplainFault>
     requires { IsWidth W }
     ensures fault { IfErr result (λ fault. fault ≢ ExplainFault.Tool ToolFault.Write) }
 {
-    let mut ledger = Ledger::new(alloc, links)?;
-    let mut count = 0u64;
-    let mut unread = Vec::new(alloc);
-    let listing = Listing::<W> {
-        ledger: &mut ledger,
-        count: &mut count,
-    };
-    let status = in_memory(handle_input(alloc, listing, reader, &mut unread))?;
-    if status != Status::Clean || count != good {
-        return Err(ExplainFault::Changed);
-    }
     ledger.tell::<W>(out)?;
     io::Write::write_all(out, unsaid(coherent).as_bytes())?;
     Ok(())
@@ -298,6 +283,7 @@ fn explain_found<const W: usize, R: Read>(
     reader: &mut R,
     header: &LinksHeader,
     found: &Found,
+    ledger: &mut Ledger,
     status: Status,
     out: &mut Vec<u8>,
 ) -> Result<(), ExplainFault>
@@ -309,10 +295,7 @@ fn explain_found<const W: usize, R: Read>(
 {
     let number = number_behind(found.good)?;
     match (status, &found.fault) {
-        (Status::Clean, _) => {
-            let links = header.levels.len();
-            explain_clean::<W, R>(alloc, coherent, reader, links, found.good, out)
-        }
+        (Status::Clean, _) => { explain_clean::<W>(coherent, ledger, out) }
         (Status::Broken, None) => {
             explain_spelling::<W, R>(alloc, reader, number, LineFault::F1, out)
         }
@@ -333,13 +316,14 @@ fn explain_found<const W: usize, R: Read>(
     }
 }
 
-/// Reads a trace again, and appends why it is judged so.
+/// Appends why a trace is judged so. Where it is at fault it is read again.
 fn reasons<R: Read>(
     alloc: Global,
     coherent: bool,
     allow: Liberties,
     reader: &mut R,
     found: &Found,
+    ledger: &mut Ledger,
     status: Status,
     out: &mut Vec<u8>,
 ) -> Result<(), ExplainFault>
@@ -352,13 +336,19 @@ fn reasons<R: Read>(
         None => explain_header(alloc, coherent, allow, reader, out),
         Some(header) => match header.width {
             Width::Four => {
-                explain_found::<4, R>(alloc, coherent, allow, reader, header, found, status, out)
+                explain_found::<4, R>(
+                    alloc, coherent, allow, reader, header, found, ledger, status, out,
+                )
             }
             Width::Eight => {
-                explain_found::<8, R>(alloc, coherent, allow, reader, header, found, status, out)
+                explain_found::<8, R>(
+                    alloc, coherent, allow, reader, header, found, ledger, status, out,
+                )
             }
             Width::Sixteen => {
-                explain_found::<16, R>(alloc, coherent, allow, reader, header, found, status, out)
+                explain_found::<16, R>(
+                    alloc, coherent, allow, reader, header, found, ledger, status, out,
+                )
             }
         },
     }
@@ -401,9 +391,19 @@ pub fn explain_input<R: Read, S: Read, W: Write>(
         (S.remaining second.old) (S.remaining second.new) (W.contents writer.old) (W.contents writer.new)) }
 {
     let mut verdict = Vec::new(alloc);
-    let (found, status) = examine(alloc, coherent, allow, first, &mut verdict)?;
+    let mut ledger = Ledger::new(alloc);
+    let (found, status) = examine(alloc, coherent, allow, first, &mut ledger, &mut verdict)?;
     let mut why = Vec::new(alloc);
-    reasons(alloc, coherent, allow, second, &found, status, &mut why)?;
+    reasons(
+        alloc,
+        coherent,
+        allow,
+        second,
+        &found,
+        &mut ledger,
+        status,
+        &mut why,
+    )?;
     write_both(&verdict, &why, writer)?;
     Ok(status)
 }

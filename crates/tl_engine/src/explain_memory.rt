@@ -20,7 +20,7 @@ use std::alloc::{AllocError, Global};
 use std::io::Read;
 use tl_explain::told::Spelling;
 use tl_params::liberties::Liberties;
-use tl_together::breach::MemoryRule;
+use tl_rules::memory_rule::MemoryRule;
 
 /// Begins to inquire of the lines up to the one at fault, where the block is known that it speaks of.
 fn inquiry_of(alloc: Global, found: &Found, rule: MemoryRule, line: &Spelling) -> Option<Inquiry>

@@ -7,9 +7,10 @@ ghost use Rattle.tl_engine.specs.statement.Fault.{fault_name, fault_text};
 use itoa::Buffer;
 use std::alloc::AllocError;
 use tl_beat::fault::LineFault;
+use tl_rules::memory_rule::MemoryRule;
 use tl_rules::rule::Rule;
 use tl_schedule::line::EventFault;
-use tl_together::breach::{Breach, MemoryRule};
+use tl_together::breach::Breach;
 
 /// What a line is at fault for.
 #[derive(Clone, Copy, Debug, PartialEq, Eq)]

@@ -11,6 +11,7 @@ pub mod explain;
 pub mod explain_fault;
 mod explain_memory;
 pub mod fault;
+pub mod follow;
 pub mod header;
 mod heading;
 pub mod law;

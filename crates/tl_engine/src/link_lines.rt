@@ -9,6 +9,7 @@ ghost use Rattle.tl_engine.specs.declared.link_lines.LinkJudge.{LinkJudge};
 ghost use Rattle.tl_engine.specs.statement.JudgedLinks.{JudgedLinks};
 
 use crate::fault::Fault;
+use crate::follow::{Alone, Follow};
 use crate::line_handler::LineHandler;
 use crate::links_header::LinksHeader;
 use crate::monitor_lines::append_end;
@@ -39,18 +40,19 @@ pub struct LinkLines {
     pub judge: LinkJudge,
 }
 
-/// Judges the line of the next beat.
+/// Judges the line of the next beat. What goes with the judge may note it, where it isn't at fault.
 #[inline(always)]
-fn watch<const W: usize>(
+fn watch<const W: usize, F: Follow<W>>(
     judge: &mut TraceJudge<W>,
     line: &[u8],
+    follower: &mut F,
 ) -> Result<Option<Fault>, AllocError>
     requires { IsWidth W }
     ensures { IfOk result (λ fault. (together : Bool) → Watches together judge.old judge.new line.now fault) }
 {
     let mut beat = Beat::E(BeatE { sink: 0 });
     match read_into(line, &mut beat) {
-        Ok(link) => judge.push(link, &beat),
+        Ok(link) => follower.push(judge, line, link, &beat),
         Err(fault) => Ok(Some(Fault::Line(fault))),
     }
 }
@@ -118,9 +120,13 @@ impl LinkLines {
     }
 
     /// Judges the next line, as `handle_line` does, and appends nothing. Where it is at fault, it is so behind the trace
-    /// that the lines before it spell.
+    /// that the lines before it spell. What goes with the judge may note the beats that aren't.
     #[inline(always)]
-    pub fn judge_line(&mut self, line: &[u8]) -> Result<Option<Fault>, AllocError>
+    pub fn judge_line<F: Follow<4> + Follow<8> + Follow<16>>(
+        &mut self,
+        line: &[u8],
+        follower: &mut F,
+    ) -> Result<Option<Fault>, AllocError>
         ensures judges { (said : List ℕ) → IfOk result (Judges KnowsLines (JudgedLinks self.old.together self.old.allow)
             self.old self.new line.now said said) }
         ensures purpose { IfOk result (λ _. judged_for self.new ≡ judged_for self.old) }
@@ -131,9 +137,9 @@ impl LinkLines {
                 let alloc = *alloc;
                 start(self, alloc, line)
             }
-            LinkJudge::Four(judge) => watch(judge, line),
-            LinkJudge::Eight(judge) => watch(judge, line),
-            LinkJudge::Sixteen(judge) => watch(judge, line),
+            LinkJudge::Four(judge) => watch(judge, line, follower),
+            LinkJudge::Eight(judge) => watch(judge, line, follower),
+            LinkJudge::Sixteen(judge) => watch(judge, line, follower),
         }
     }
 }
@@ -158,7 +164,7 @@ impl LineHandler for LinkLines {
         line: &[u8],
         _out: &mut Vec<u8>,
     ) -> Result<Option<Fault>, AllocError> {
-        self.judge_line(line)
+        self.judge_line(line, &mut Alone)
     }
 
     fn open_fault(&self) -> Fault {

@@ -17,6 +17,7 @@ ghost use Rattle.tl_rules.specs.statement.Conformance.{Trace};
 ghost use Rattle.tl_together.specs.statement.Knows.{Knows};
 
 use crate::fault::Fault;
+use crate::follow::Alone;
 use crate::line_handler::LineHandler;
 use crate::link_lines::{LinkJudge, LinkLines};
 use crate::links_header::read_links;
@@ -27,8 +28,8 @@ use tl_beat::read::read_line;
 use tl_explain::named::append_memory_sentence;
 use tl_explain::told::Spelling;
 use tl_explain::words::append_beat_line;
+use tl_rules::memory_rule::MemoryRule;
 use tl_rules::past::Request;
-use tl_together::breach::MemoryRule;
 use tl_together::judge::Judge;
 use tl_witness::grounds::tell;
 use tl_witness::witness::Witness;
@@ -325,7 +326,7 @@ impl LineHandler for Testimony {
     ) -> Result<Option<Fault>, AllocError> {
         let number = self.inquiry.count.checked_add(1).ok_or(AllocError)?;
         let told = self.inquiry.hear(&mut self.link_lines.judge, line, number)?;
-        let fault = self.link_lines.judge_line(line)?;
+        let fault = self.link_lines.judge_line(line, &mut Alone)?;
         self.inquiry.conclude(number, told, fault);
         Ok(fault)
     }

@@ -2,7 +2,7 @@
 
 ghost use Rattle.std.specs.Prelude.{◌≡◌, Bool, false, true, [], List, IfOk, IfSome};
 ghost use Rattle.tl_beat.specs.statement.Width.{IsWidth};
-ghost use Rattle.tl_monitor.specs.statement.Knows.{request_on};
+ghost use Rattle.tl_monitor.specs.statement.Knows.{begins_on, request_on};
 ghost use Rattle.tl_params.specs.declared.level.Level.{Level};
 ghost use Rattle.tl_params.specs.declared.liberties.Liberties.{Liberties};
 ghost use Rattle.tl_rules.specs.statement.Conformance.{Trace};
@@ -93,6 +93,18 @@ impl<const W: usize> TraceJudge<W> {
                 Err(JudgeFault::Broken(breach)) => Ok(Some(Fault::of_breach(breach))),
                 Err(_) => Err(AllocError),
             },
+        }
+    }
+
+    /// Whether a beat begins a message on its link; on a link without a level none does.
+    #[inline(always)]
+    pub fn begins(&self, link: Link, beat: &Beat<W>) -> bool
+        ensures { (together : Bool) (levels : List Level) (may : Liberties) (t : Trace W) →
+            KnowsBeats together self.now levels may t → result ≡ begins_on levels link beat.now t }
+    {
+        match self {
+            TraceJudge::OfLinks(monitor) => monitor.begins(link, beat),
+            TraceJudge::OfAll(judge) => judge.begins(link, beat),
         }
     }
 

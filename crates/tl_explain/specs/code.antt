@@ -1,6 +1,5 @@
 pub mod Chosen
 pub mod Cuts
-pub mod Ledger
 pub mod Recorded
 pub mod Said
 pub mod Saying

@@ -1,20 +1,18 @@
 //! What is pending at the end of a trace, with the lines that opened it.
 
-ghost use Rattle.std.specs.Prelude.{◌≡◌, ◌++◌, ◌∷◌, [], List, true, false, length, None, OnOk};
+ghost use Rattle.std.specs.Prelude.{◌≡◌, ◌<◌, ◌++◌, ◌∷◌, [], List, length, None, OnOk};
 ghost use Rattle.tl_beat.specs.statement.Width.{IsWidth};
-ghost use Rattle.tl_explain.specs.code.Ledger.{is_stray, is_stray_in, is_unrecorded};
 ghost use Rattle.tl_explain.specs.statement.Pending as order;
 ghost use Rattle.tl_explain.specs.declared.ledger.Pending.{Pending};
 ghost use Rattle.tl_explain.specs.statement.Pending.{IsNext, TellsOldest, TellsOne, TellsPending};
 
-use crate::bursts::is_small;
 use crate::told::Spelling;
 use crate::words::append_beat_line;
 use itoa::Buffer;
 use std::alloc::{AllocError, Global};
 use std::collections::BTreeMap;
 use tl_beat::beat::{Beat, Link};
-use tl_monitor::bursts::Bursts;
+use tl_beat::channel::Channel;
 use tl_monitor::byte_table::ByteTable;
 use tl_params::key::block_at;
 use tl_rules::kind::{is_grant, is_probe, is_probe_ack, is_release, is_release_ack};
@@ -44,10 +42,10 @@ struct Pending {
 }
 
 /// What is pending on a link: requests and Releases by their source, Grants by their sink, Probes by
-/// their block, and the bursts that aren't complete.
+/// their block, and the bursts that aren't complete, by their channel.
 #[derive(Drop)]
 struct LinkLedger {
-    bursts: Bursts<Opening>,
+    bursts: [Option<Opening>; 5],
     requests: ByteTable<Opening>,
     releases: ByteTable<Opening>,
     grants: ByteTable<Opening>,
@@ -57,21 +55,11 @@ struct LinkLedger {
 /// The messages of a trace that are pending, each with its line.
 #[derive(Drop)]
 pub struct Ledger {
+    alloc: Global,
     links: Vec<LinkLedger>,
+    /// How many lines have come, the header among them.
+    lines: u64,
     pending: Vec<Pending>,
-}
-
-/// Why a ledger can't go on.
-#[derive(Clone, Copy, Debug, PartialEq, Eq)]
-pub enum LedgerFault {
-    Memory,
-    Unrecorded,
-}
-
-impl From<AllocError> for LedgerFault {
-    fn from(_error: AllocError) -> LedgerFault {
-        LedgerFault::Memory
-    }
 }
 
 /// The most messages that are told of.
@@ -181,11 +169,24 @@ fn append_rest(count: u64, out: &mut Vec<u8>) -> Result<(), AllocError>
     out.extend_from_slice(b" more\n")
 }
 
+/// The place of a channel.
+fn place(channel: Channel) -> usize
+    ensures { result < 5 }
+{
+    match channel {
+        Channel::A => 0,
+        Channel::B => 1,
+        Channel::C => 2,
+        Channel::D => 3,
+        Channel::E => 4,
+    }
+}
+
 impl LinkLedger {
     /// Nothing is pending.
     fn new(alloc: Global) -> Self {
         LinkLedger {
-            bursts: Bursts::new(),
+            bursts: [None; 5],
             requests: ByteTable::new(),
             releases: ByteTable::new(),
             grants: ByteTable::new(),
@@ -194,21 +195,20 @@ impl LinkLedger {
     }
 
     /// Notes what a message opens that begins with this beat.
-    fn open<const W: usize>(&mut self, beat: &Beat<W>, opening: Opening) -> Result<(), LedgerFault>
-        ensures { is_unrecorded result ≡ false }
-    {
+    fn open<const W: usize>(&mut self, beat: &Beat<W>, opening: Opening) -> Result<(), AllocError> {
         match beat {
             Beat::A(x) => self.requests.set(x.source, Some(opening)),
             Beat::B(x) if is_probe(x.opcode) => {
                 let block = block_at(x.address);
                 if self.probes.insert(block, opening).is_err() {
-                    return Err(LedgerFault::Memory);
+                    return Err(AllocError);
                 }
             }
             Beat::C(x) if is_release(x.opcode) => self.releases.set(x.source, Some(opening)),
             Beat::D(x) if is_grant(x.opcode) => self.grants.set(x.sink, Some(opening)),
             _ => {}
         }
+        self.bursts[place(beat.channel())] = Some(opening);
         Ok(())
     }
 
@@ -223,31 +223,24 @@ impl LinkLedger {
             Beat::E(x) => self.grants.set(x.sink, None),
             _ => {}
         }
+        self.bursts[place(beat.channel())] = None;
     }
 
-    /// Takes the next beat of the link. It is unrecorded exactly where it has no message's size or doesn't continue
-    /// the burst on its channel. Then nothing changes.
+    /// Takes the next beat of the link, which stands in the line of this number: whether it begins a message, and
+    /// whether one is complete with it.
     fn take<const W: usize>(
         &mut self,
         number: u64,
         line: &[u8],
         beat: &Beat<W>,
-    ) -> Result<(), LedgerFault>
-        requires { IsWidth W }
-        ensures unrecorded { is_unrecorded result ≡ is_stray self.old beat.now }
-        ensures left { is_unrecorded result ≡ true → self.new ≡ self.old }
-    {
-        if !is_small(beat) || !self.bursts.continues(beat) {
-            return Err(LedgerFault::Unrecorded);
-        }
-        let first = self.bursts.begins(beat);
-        let last = self.bursts.completes(beat);
-        let opening = Opening {
-            line: number,
-            spelling: Spelling::of(line),
-        };
-        self.bursts.take(last, beat, &opening);
+        first: bool,
+        last: bool,
+    ) -> Result<(), AllocError> {
         if first {
+            let opening = Opening {
+                line: number,
+                spelling: Spelling::of(line),
+            };
             self.open(beat, opening)?;
         }
         if last {
@@ -267,12 +260,11 @@ impl LinkLedger {
                 opening: *opening,
             })?;
         }
-        let bursts = [self.bursts.a, self.bursts.b, self.bursts.c, self.bursts.d];
-        for burst in bursts {
-            if let Some(unfinished) = burst {
+        for burst in self.bursts {
+            if let Some(opening) = burst {
                 pending.push(Pending {
                     kind: Kind::Burst,
-                    opening: unfinished.beside,
+                    opening,
                 })?;
             }
         }
@@ -295,33 +287,40 @@ fn append_openings(
 }
 
 impl Ledger {
-    /// Nothing is pending on so many links.
-    pub fn new(alloc: Global, count: usize) -> Result<Self, AllocError> {
-        let mut links = Vec::new(alloc);
-        for _ in 0..count {
-            links.push(LinkLedger::new(alloc))?;
-        }
-        Ok(Ledger {
-            links,
+    /// The ledger of a trace of which nothing has been read.
+    pub fn new(alloc: Global) -> Self {
+        Ledger {
+            alloc,
+            links: Vec::new(alloc),
+            lines: 0,
             pending: Vec::new(alloc),
-        })
+        }
     }
 
-    /// Takes the next beat of a trace, which stands in the line of this number. It is unrecorded exactly where it is of
-    /// none of the links, has no message's size, or doesn't continue the burst on its channel.
+    /// Begins behind the header of a trace with so many links.
+    pub fn begin(&mut self, count: usize) -> Result<(), AllocError> {
+        self.lines = 1;
+        self.links.clear();
+        for _ in 0..count {
+            self.links.push(LinkLedger::new(self.alloc))?;
+        }
+        Ok(())
+    }
+
+    /// Takes the beat of the next line, which breaks no rule: whether it begins a message of its link, and whether one
+    /// is complete with it. On a link that the header doesn't name nothing is pending.
     pub fn take<const W: usize>(
         &mut self,
-        number: u64,
         line: &[u8],
         link: Link,
         beat: &Beat<W>,
-    ) -> Result<(), LedgerFault>
-        requires { IsWidth W }
-        ensures { is_unrecorded result ≡ is_stray_in self.old link.0 beat.now }
-    {
+        first: bool,
+        last: bool,
+    ) -> Result<(), AllocError> {
+        self.lines = self.lines.saturating_add(1);
         match self.links.get_mut(usize::from(link.0)) {
-            None => Err(LedgerFault::Unrecorded),
-            Some(ledger) => ledger.take(number, line, beat),
+            None => Ok(()),
+            Some(ledger) => ledger.take(self.lines, line, beat, first, last),
         }
     }
 

@@ -4,7 +4,7 @@
 ghost use Rattle.tl_explain.specs.code.Said.{Says};
 
 use crate::example::Example;
-use tl_together::breach::MemoryRule;
+use tl_rules::memory_rule::MemoryRule;
 
 /// The rules of memory that traces are judged by.
 const RULES: [MemoryRule; 4] = [

@@ -10,7 +10,7 @@ use std::alloc::AllocError;
 use std::io;
 use std::io::Write;
 use tl_params::rule::Rule;
-use tl_together::breach::MemoryRule;
+use tl_rules::memory_rule::MemoryRule;
 
 /// The rules that traces are judged by, in the order in which they are judged.
 const RULES: [Rule; 21] = [

@@ -18,7 +18,7 @@ pub struct Blocks<const W: usize> {
     /// Their states, in the order in which beats came to bear on them.
     states: Vec<BlockState<W>>,
     /// The place of each among these.
-    places: BTreeMap<u32, usize>,
+    places: BTreeMap<u32, u32>,
     /// The block that was met last, and its place.
     last: Option<(u32, usize)>,
 }
@@ -45,7 +45,7 @@ impl<const W: usize> Blocks<W> {
     {
         match self.places.get(&block) {
             None => None,
-            Some(place) => self.at(*place),
+            Some(place) => self.at(*place as usize),
         }
     }
 
@@ -62,11 +62,14 @@ impl<const W: usize> Blocks<W> {
         ensures found { IfOk result (λ place. place_in self.new block ≡ Some place) }
     {
         if let Some(place) = self.places.get(&block) {
-            return Ok(*place);
+            return Ok(*place as usize);
         }
         let place = self.states.len();
+        let Ok(number) = u32::try_from(place) else {
+            return Err(AllocError);
+        };
         self.states.push(BlockState::new(alloc))?;
-        match self.places.insert(block, place) {
+        match self.places.insert(block, number) {
             Ok(_) => Ok(place),
             Err(_) => {
                 self.states.truncate(place);

@@ -2,9 +2,14 @@ pub mod Brought
 pub mod Covered
 pub mod Granted
 pub mod Known
+pub mod OpenPending
+pub mod OpenWindows
 pub mod Read
 pub mod Spans
+pub mod Unwritten
 pub mod Values
 pub mod Wider
+pub mod Windowed
 pub mod Worked
+pub mod WorkedWindows
 pub mod Imports

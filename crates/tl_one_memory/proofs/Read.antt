@@ -25,7 +25,7 @@ use Rattle.tl_bytes.proofs.Pending.{pending-before}
 -- ---- what a pending access may bring
 
 -- with the last beat that was taken the access has a window
-in-window : {w : ℕ} → ℕ → Access w → ℕ → Trace w → Bool
+unfoldable pub in-window : {w : ℕ} → ℕ → Access w → ℕ → Trace w → Bool
 in-window n p address [] = false
 in-window n p address (x ∷ t) = is_window n (needs p.request.opcode) (block_at address) x t
 
@@ -52,7 +52,7 @@ read-more n c s p x t address v pending is =
     (or_right _ _ is)
 
 -- where an access that reads may be performed, it has a window
-performed-window : {w : ℕ} (n : ℕ) (first : Memory) (c s : ℕ) (p : Access w) (run : Run w) (address : ℕ)
+pub performed-window : {w : ℕ} (n : ℕ) (first : Memory) (c s : ℕ) (p : Access w) (run : Run w) (address : ℕ)
     → IsPending c s p (trace_in run) → returns p.request.opcode ≡ true
     → reaches p.request.address p.request.size address ≡ true → MayBeRead n first address run
     → (access_writes address p ≡ true → is_free n Perm.Trunk (block_at address) (trace_in run) ≡ true)

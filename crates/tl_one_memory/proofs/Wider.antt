@@ -24,7 +24,7 @@ use Rattle.tl_one_memory.proofs.Worked.{answers-one, pending_of, plain, response
 
 -- ---- beats of block 0
 
-abbrev probed : ℕ → Link × Beat 8
+abbrev pub probed : ℕ → Link × Beat 8
 probed cap = (
   record { 0 = 0 },
   Beat.B (record {
@@ -40,7 +40,7 @@ probed cap = (
   }),
 )
 
-abbrev reported : ℕ → Link × Beat 8
+abbrev pub reported : ℕ → Link × Beat 8
 reported report = (
   record { 0 = 0 },
   Beat.C (record {
@@ -57,10 +57,10 @@ reported report = (
 
 -- ---- the run, from its first beat on
 
-abbrev asked : Run 8
+abbrev pub asked : Run 8
 asked = takes (acquire_unread 0 0 255) ∷ []
 
-abbrev owned : Run 8
+abbrev pub owned : Run 8
 owned = takes (grant_unread 0 0 0) ∷ asked
 
 abbrev wanted : Run 8
@@ -77,15 +77,15 @@ given_up = takes (reported 1) ∷ takes (probed 2) ∷ read
 
 -- ---- what is taken
 
-abbrev at-link : ℕ → Link
+abbrev pub at-link : ℕ → Link
 at-link n = record { 0 = n }
 
 -- Trunk, where a test is passed, or else what was held before
-abbrev trunk_if : Bool → Perm → Perm
+abbrev pub trunk_if : Bool → Perm → Perm
 trunk_if b before = unwrap_or (if b then Some Perm.Trunk else None) before
 
 -- nothing, which an Acquire from nothing held says where a test is passed, and which was held before
-abbrev none_if : Bool → Perm
+abbrev pub none_if : Bool → Perm
 none_if b = unwrap_or (if b then Some Perm.None else None) Perm.None
 
 -- with it a block that no link holds stays free
@@ -94,13 +94,13 @@ free_if true = (refl, refl)
 free_if false = (refl, refl)
 
 -- where as much is held of a block it is as free
-free-as : (given : Perm) (block : ℕ) (s t : Trace 8) → may_hold block (on_link 0 s) ≡ may_hold block (on_link 0 t)
+pub free-as : (given : Perm) (block : ℕ) (s t : Trace 8) → may_hold block (on_link 0 s) ≡ may_hold block (on_link 0 t)
     → may_hold block (on_link 1 s) ≡ may_hold block (on_link 1 t) → is_free 2 given block s ≡ is_free 2 given block t
 unfolding is_free
 free-as given block s t e f = rw (e, f) refl
 
 -- a beat that tells nothing, is no Grant, and leaves each block as free as it was
-still : (link : Link) (x : Beat 8) (run : Run 8) → unfinished Channel.D (on_link link.0 (trace_in run)) ≡ []
+pub still : (link : Link) (x : Beat 8) (run : Run 8) → unfinished Channel.D (on_link link.0 (trace_in run)) ≡ []
     → ((z : BeatA 8) → x ≡ Beat.A z → found_in zeros link.0 z.source run ≡ None)
     → ((z : BeatD 8) (access : Access 8) → x ≡ Beat.D z → find (is_of link.0 z.source) (pending_accesses (trace_in run))
     ≡ Some access → IsAnswer zeros link.0 z access run) → ((z : BeatD 8) → x ≡ Beat.D z → z.opcode ≡ OpD.GrantData → ⊥)
@@ -114,13 +114,13 @@ still link x run fresh asks answers no_grant untold same =
     (λ block free closed. absurd (unequal (sym free ∙ sym (same Perm.Trunk block) ∙ closed)))
     (λ address held_so free. absurd (unequal (sym free ∙ same Perm.Branch (block_at address) ∙ held_so)))
 
-asked-taken : IsTaken {w = 8} 2 zeros (at-link 0) (acquire_unread 0 0 255).1 []
+pub asked-taken : IsTaken {w = 8} 2 zeros (at-link 0) (acquire_unread 0 0 255).1 []
 unfolding trace_in found_in memory_in on_link unfinished pending_accesses held_under all_but_early request_of is_free carried_byte
     carried_mask bytes_carried effect bytes_from number_from
 asked-taken = plain (at-link 0) (acquire_unread 0 0 255).1 [] refl (λ z e. refl) (λ z access e. absurd cc)
     (λ z e. absurd cc) (λ block. refl) (λ block. refl) (λ block. (free_if (0 == block)).1)
 
-granted-taken : IsTaken 2 zeros (at-link 0) (grant_unread 0 0 0).1 asked
+pub granted-taken : IsTaken 2 zeros (at-link 0) (grant_unread 0 0 0).1 asked
 unfolding trace_in found_in memory_in on_link unfinished pending_accesses held_under all_but_early request_of is_free carried_byte
     carried_mask bytes_carried effect bytes_from number_from
 granted-taken = single (at-link 0) (grant_unread 0 0 0).1 asked refl (λ z e. absurd cc)
@@ -188,7 +188,7 @@ tells-anything address = go (address % 64 / 8 == 0) (address % 64 % 8)
     go true (suc n) = refl
     go false n = refl
 
-clean-owned : (address : ℕ) → IsClean 2 zeros address owned
+pub clean-owned : (address : ℕ) → IsClean 2 zeros address owned
 unfolding IsClean trace_in on_link held_under all_but_early is_free unfinished
 clean-owned address = inr (either (tells (block_at address) (grant_unread 0 0 0).1 (on_link 0 (trace_in asked)))
     (tells-anything address) (inl (free_if (0 == block_at address)).0))
@@ -203,7 +203,7 @@ clean-read address = inr (inr (clean-shown address))
 
 -- ---- the Get
 
-first-eight : (address : ℕ) → reaches 0 3 address ≡ true → address < 8
+pub first-eight : (address : ℕ) → reaches 0 3 address ≡ true → address < 8
 first-eight address reached = ltb-true address 8 (and_parts (nat_le 0 address) (nat_lt address 8) reached).1
 
 may-be-read : (address : ℕ) → reaches 0 3 address ≡ true → MayBeRead 2 zeros address shown

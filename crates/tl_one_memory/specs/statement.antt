@@ -1,2 +1,4 @@
+pub mod OpenWindows
 pub mod Run
 pub mod TrueBytes
+pub mod Windowed

@@ -7,6 +7,7 @@ pub mod header;
 pub mod key;
 pub mod level;
 pub mod liberties;
+pub mod memory_rule;
 pub mod param;
 pub mod perm;
 pub mod profile;

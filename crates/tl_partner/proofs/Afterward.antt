@@ -42,13 +42,13 @@ use Rattle.tl_partner.proofs.Said.{idle, reaction-is, recorded-drop, taken_whole
 abbrev pub said : {w : ℕ} → Link → ℕ → End w → Trace w
 said link k e = (link, release_beat k (recorded link.0 k e.trace)) ∷ e.trace
 
--- its answer, as a message of channel D
-abbrev ack : {w : ℕ} → MessageD w
-ack = record {
+-- the answer to a Release with this source, as a message of channel D
+abbrev pub ack_of : {w : ℕ} → ℕ → MessageD w
+ack_of source = record {
   opcode = OpD.ReleaseAck;
   param = 0;
   size = 6;
-  source = 0;
+  source = source;
   sink = 0;
   denied = false;
   payload = no_payload;
@@ -85,7 +85,7 @@ pub services-drop : {w : ℕ} (config : Config) (link : Link) (k : ℕ) (e : End
     → services (after_drop config link k e).trace ≡ services e.trace
 services-drop config link k e width kept is free =
     ap services (trace-drop config link k e kept is free)
-    ∙ services-release_ack link ack (said link k e) width
+    ∙ services-release_ack link (ack_of 0) (said link k e) width
     (whole-taken link.0 link (release_beat k (recorded link.0 k e.trace)) e.trace refl (kept.whole link.0)).1 refl
     ∙ services-c link (release_of k (recorded link.0 k e.trace)) e.trace
 
@@ -121,7 +121,7 @@ pending-drop {w} config link k e j width kept is free c d =
     let h = on_link link.0 e.trace in
     let said-quiet = c (release_of k (recorded link.0 k e.trace)) h refl in
     ap (λ t. pending j (on_link link.0 t)) (trace-drop config link k e kept is free)
-    ∙ reply-quiet j link ack (said link k e) link.0 width before (λ same. d _ (on_link link.0 (said link k e)) refl refl)
+    ∙ reply-quiet j link (ack_of 0) (said link k e) link.0 width before (λ same. d _ (on_link link.0 (said link k e)) refl refl)
     ∙ ap (pending j) (own_beat link.0 link (release_beat k (recorded link.0 k e.trace)) e.trace
     (eq-eqb link.0 link.0 refl))
     ∙ pending-quiet j (release_beat k (recorded link.0 k e.trace)) h said-quiet.0 said-quiet.1
@@ -133,13 +133,13 @@ released-drop config link k e width kept is free =
     let after = kept-offered config link Channel.C (release_beat k (recorded link.0 k e.trace)) e width tt kept in
     rw (reports-drop config link k e kept is free) at ((after.releases link.0).blocks k)
 
-pub probe-drop : {w : ℕ} (config : Config) (link : Link) (k : ℕ) (e : End w) → IsKept config e
+pub probe-drop : {w : ℕ} (config : Config) (link : Link) (k : ℕ) (e : End w) (j : ℕ) → IsKept config e
     → IsDropped config link k e → is_reporting link e.trace ≡ false
-    → probe_of k (on_link link.0 (after_drop config link k e).trace) ≡ probe_of k (on_link link.0 e.trace)
-probe-drop {w} config link k e kept is free =
-    ap (probe_of k) (history-drop config link k e kept is free)
-    ∙ probe_of-other k (release_ack {w = w} 0) (heard link k e) (beats_of (release_ack {w = w} 0)) refl
-    ∙ probe_of-c k (release_of k (recorded link.0 k e.trace)) (on_link link.0 e.trace)
+    → probe_of j (on_link link.0 (after_drop config link k e).trace) ≡ probe_of j (on_link link.0 e.trace)
+probe-drop {w} config link k e j kept is free =
+    ap (probe_of j) (history-drop config link k e kept is free)
+    ∙ probe_of-other j (release_ack {w = w} 0) (heard link k e) (beats_of (release_ack {w = w} 0)) refl
+    ∙ probe_of-c j (release_of k (recorded link.0 k e.trace)) (on_link link.0 e.trace)
 
 pub held-drop : {w : ℕ} (config : Config) (link : Link) (k : ℕ) (e : End w) → IsWidth w → IsKept config e
     → IsDropped config link k e → is_reporting link e.trace ≡ false

@@ -41,7 +41,7 @@ use Rattle.tl_manager.specs.statement.Reaction.{reaction}
 use Rattle.tl_partner.specs.declared.terms.Terms.{Terms}
 use Rattle.tl_partner.specs.laws.Carried.{AreAlike, AreAllAlike}
 use Rattle.tl_partner.specs.statement.Naming.{all_named, named, plain, probe_source, with_source}
-use Rattle.tl_partner.proofs.Besides.{IsBeside}
+use Rattle.tl_partner.proofs.Apart.{IsBeside}
 use Rattle.tl_partner.proofs.Alike.{alike-a, alike-b, alike-c, alike-d, alike-e}
 
 -- ---- messages that are handed out
@@ -70,7 +70,7 @@ sent-alike {w} {cleaning} terms link (Message.B m) t e ours a = go terms.ids
 sent-alike terms link (Message.D m) t e ours a = begun_d terms m (beats_of (Message.D m)) t e a
 sent-alike terms link v t e ours a = absurd cc
 
-one-sent : {w : ℕ} (cleanings : List (List (Beat w))) (terms : Terms) (link : Link) (m : Message w) (t e : Trace w)
+pub one-sent : {w : ℕ} (cleanings : List (List (Beat w))) (terms : Terms) (link : Link) (m : Message w) (t e : Trace w)
     → is_from_client (beat_of m 0) ≡ false → AreAllAlike terms cleanings t e
     → AreAllAlike terms cleanings (after_sent link (named terms link m) t) (after_sent link m e)
 one-sent {w} cleanings terms link m t e ours carried = λ client. go client (link.0 == client) refl
@@ -83,7 +83,7 @@ one-sent {w} cleanings terms link m t e ours carried = λ client. go client (lin
     go client false at = rw (other_link client link (named terms link m) t at, other_link client link m e at)
         (carried client)
 
-handed-alike : {w : ℕ} (cleanings : List (List (Beat w))) (terms : Terms) (config : Config) (handed : Handed w)
+pub handed-alike : {w : ℕ} (cleanings : List (List (Beat w))) (terms : Terms) (config : Config) (handed : Handed w)
     (t e : Trace w) → Each (IsHandable config) handed → AreAllAlike terms cleanings t e
     → AreAllAlike terms cleanings (with_handed (all_named terms handed) t) (with_handed handed e)
 unfolding with_handed

@@ -8,6 +8,7 @@ use Rattle.tl_beat.specs.declared.beat.Beat.{Beat}
 use Rattle.tl_beat.specs.declared.beat.BeatC.{BeatC}
 use Rattle.tl_beat.specs.declared.beat.Link.{Link}
 use Rattle.tl_beat.specs.declared.channel.Channel.{Channel}
+use Rattle.tl_beat.specs.declared.opcode.OpC.{OpC}
 use Rattle.tl_burst.proofs.ControlFields.{control_c}
 use Rattle.tl_burst.specs.statement.Burst.{beat_of}
 use Rattle.tl_burst.specs.statement.Messages.{History, breaks_burst, burst_length, grown, same_control}
@@ -25,7 +26,7 @@ use Rattle.tl_rules.proofs.Bursts.{next_rule}
 use Rattle.tl_rules.proofs.Open.{never}
 use Rattle.tl_rules.specs.statement.Admission.{sent}
 use Rattle.tl_rules.specs.statement.Conformance.{Trace, on_link, same_perm}
-use Rattle.tl_rules.specs.statement.History.{block_at, ends, is_release, pending, reported}
+use Rattle.tl_rules.specs.statement.History.{block_at, ends, is_probe_ack, is_release, pending, reported}
 unfoldable use Rattle.tl_rules.specs.statement.History.{held, request_of}
 use Rattle.tl_rules.specs.statement.Liberties.{releases_from, reports_from, reports_none}
 unfoldable use Rattle.tl_rules.specs.statement.Liberties.{held_under}
@@ -40,7 +41,7 @@ use Rattle.tl_partner.specs.laws.Carried.{AreAlike, IsUnderway, IsUnderwayIfAny}
 use Rattle.tl_partner.specs.statement.Cleaning.{cleaning_order, is_cleaning, is_of_cleaning, judged_cleaning, keeps_held}
 use Rattle.tl_partner.specs.statement.Dropping.{is_reporting}
 use Rattle.tl_partner.specs.statement.Granting.{granted}
-use Rattle.tl_partner.specs.statement.Naming.{plain}
+use Rattle.tl_partner.specs.statement.Naming.{from_zero, plain}
 use Rattle.tl_partner.proofs.Alike.{grown-map, keeps}
 use Rattle.tl_partner.proofs.Carried.{AreAlikeBut}
 use Rattle.tl_partner.proofs.Offering.{past}
@@ -99,9 +100,6 @@ underway-now terms link x v e of order is = absurd is
 
 -- ---- what such a beat is
 
-abbrev pub IsRelease : {w : ℕ} → BeatC w → Type 0
-IsRelease x = is_release x.opcode ≡ true
-
 pub released : {w : ℕ} (terms : Terms) (x : BeatC w) → is_cleaning (granted terms) (Beat.C x) ≡ true
     → (terms.reports ≡ true) × (is_release x.opcode ≡ true) × (keeps_held (report_named x.param) ≡ true)
 released terms x e =
@@ -109,12 +107,56 @@ released terms x e =
     let two = and_parts (is_release x.opcode) (keeps_held (report_named x.param)) one.1 in
     (one.0, two.0, two.1)
 
-plain_release : {w : ℕ} (terms : Terms) (x : BeatC w) → is_release x.opcode ≡ true
+pub plain_release : {w : ℕ} (terms : Terms) (x : BeatC w) → is_release x.opcode ≡ true
     → plain terms (Beat.C x) ≡ Beat.C x
 plain_release terms x release = rw (release_kind x.opcode release, never terms.ids) refl
 
 counted : {w : ℕ} (terms : Terms) (burst u : List (Beat w)) → map (plain terms) u ≡ burst → length u ≡ length burst
 counted terms burst u e = sym (length-map u (plain terms)) ∙ ap length e
+
+-- ---- the burst that a link carried of a cleaning
+
+-- a beat that is in the manager's history as this Release is this Release
+same_release : {w : ℕ} (terms : Terms) (z : Beat w) (x : BeatC w) → is_release x.opcode ≡ true
+    → plain terms z ≡ Beat.C x → z ≡ Beat.C x
+same_release terms (Beat.A z) x release e = absurd cc
+same_release terms (Beat.B z) x release e = absurd cc
+same_release {w} terms (Beat.C z) x release e = go (terms.ids && is_probe_ack z.opcode) refl e
+  where
+    opcode_of : Beat w → OpC
+    opcode_of (Beat.C y) = y.opcode
+    opcode_of v = OpC.Release
+
+    go : (b : Bool) → (terms.ids && is_probe_ack z.opcode) ≡ b
+        → (if b then Beat.C (from_zero z) else Beat.C z) ≡ Beat.C x → Beat.C z ≡ Beat.C x
+    go true is f =
+        let opcode : z.opcode ≡ x.opcode = ap opcode_of f in
+        let acks = (and_parts terms.ids (is_probe_ack z.opcode) is).1 in
+        absurd (let no-such = rw (release_kind x.opcode release) at (rw opcode at acks) in cc)
+    go false is f = f
+same_release terms (Beat.D z) x release e = absurd cc
+same_release terms (Beat.E z) x release e = absurd cc
+
+-- the newest beat that the link carried of it
+pub carried-cleaning : {w : ℕ} (terms : Terms) (z : BeatC w) (burst : List (Beat w)) (t e : History w)
+    → AreAlike terms (Beat.C z ∷ burst) t e → IsUnderway terms z e
+    → (u : List (Beat w)) × (unfinished Channel.C t ≡ Beat.C z ∷ u)
+carried-cleaning {w} terms z burst t e a is = go (unfinished Channel.C t) refl
+  where
+    head_of : Beat w → List (Beat w) → Beat w
+    head_of default [] = default
+    head_of default (y ∷ ys) = y
+
+    go : (u : List (Beat w)) → unfinished Channel.C t ≡ u
+        → (v : List (Beat w)) × (unfinished Channel.C t ≡ Beat.C z ∷ v)
+    go [] same = absurd (let none : [] ≡ Beat.C z ∷ (burst ++ unfinished Channel.C e) =
+        sym (ap (map (plain terms)) same) ∙ a.reports in cc)
+    go (y ∷ u) same =
+        let all : plain terms y ∷ map (plain terms) u ≡ Beat.C z ∷ (burst ++ unfinished Channel.C e) =
+        sym (ap (map (plain terms)) same) ∙ a.reports in
+        let newest : y ≡ Beat.C z = same_release terms y z (released terms z is.cleans).1
+        (ap (head_of (Beat.C z)) all) in
+        (u, same ∙ ap (λ (b : Beat w). b ∷ u) newest)
 
 -- ---- one link after a beat with which a cleaning isn't complete
 
@@ -214,3 +256,26 @@ but-same terms burst k p t e a now = record {
   rest = λ j other. a.held j;
   now = now;
 }
+
+-- the beat goes on with what the link carried of its cleaning
+pub goes-on : {w : ℕ} (terms : Terms) (link : Link) (x : BeatC w) (burst : List (Beat w)) (t : History w) (e : End w)
+    → cleaning_order (granted terms) link (Beat.C x) burst e.trace ≡ None
+    → AreAlike terms burst t (on_link link.0 e.trace) → IsUnderway terms x (on_link link.0 e.trace)
+    → IsUnderwayIfAny terms burst (on_link link.0 e.trace)
+    → breaks_burst (Beat.C x) (unfinished Channel.C t) ≡ false
+goes-on {w} terms link x [] t e order a is all = none (unfinished Channel.C t) (a.reports ∙ is.alone)
+  where
+    none : (u : List (Beat w)) → map (plain terms) u ≡ [] → breaks_burst (Beat.C x) u ≡ false
+    none [] same = refl
+    none (y ∷ u) same = absurd cc
+goes-on terms link x (Beat.C z ∷ burst) t e order a is all =
+    rw (carried-cleaning terms z burst t (on_link link.0 e.trace) a all).1
+    (next_rule (breaks_burst (Beat.C x) (Beat.C z ∷ burst)) S1 None order).0
+goes-on terms link x v t e order a is all = absurd all
+
+-- whether it ends the message, by what the link carried
+pub ends-clean : {w : ℕ} (terms : Terms) (x : BeatC w) (burst : List (Beat w)) (t e : History w) (b : Bool)
+    → completes (Beat.C x) burst ≡ b → AreAlike terms burst t e → unfinished Channel.C e ≡ [] → ends (Beat.C x) t ≡ b
+ends-clean terms x burst t e b last a alone =
+    let whole = a.reports ∙ ap (λ (c : List (Beat _)). burst ++ c) alone ∙ append-nil burst in
+    ap (λ n. n + 1 == burst_length (Beat.C x)) (counted terms burst (unfinished Channel.C t) whole) ∙ last

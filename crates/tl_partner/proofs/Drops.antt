@@ -43,7 +43,7 @@ use Rattle.tl_partner.specs.statement.Dropping.{block_of, is_by_record, says_non
 
 -- ---- a judgement by what is recorded
 
-abbrev has_record : Option Rule → Bool
+abbrev pub has_record : Option Rule → Bool
 has_record None = false
 has_record (Some r) = is_by_record (Breaks r)
 

@@ -23,7 +23,7 @@ use Rattle.tl_partner.specs.statement.Granting.{granted}
 use Rattle.tl_partner.specs.statement.Lenient.{offered_lenient, offered_plain}
 use Rattle.tl_partner.specs.statement.Naming.{is_misnamed, plain}
 use Rattle.tl_partner.specs.statement.Partner.{asks_for_cleaned, held_back, held_back_as, offered_under}
-use Rattle.tl_partner.proofs.Besides.{typed_plain}
+use Rattle.tl_partner.proofs.Apart.{typed_plain}
 use Rattle.tl_partner.proofs.Leniently.{offered-misnamed, offered-named, plain-dropped, plain-kept, plain-waits}
 use Rattle.tl_partner.proofs.Offering.{under-cleaning, under-held, under-lenient}
 

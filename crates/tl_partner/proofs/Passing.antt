@@ -156,7 +156,7 @@ order_c {w} config link ch x e width kept says is drop free =
       probe_ack_kind x.opcode none.0,
       none.0,
       probes,
-      probe-drop config link k e kept drop free,
+      probe-drop config link k e k kept drop free,
       wrong,
       released-drop config link k e width kept drop free,
       held-drop config link k e width kept drop free,

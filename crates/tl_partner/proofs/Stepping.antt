@@ -41,7 +41,7 @@ use Rattle.tl_partner.proofs.Carried.{AreAlikeBut, but-a, others-drop, own-but}
 use Rattle.tl_partner.proofs.Carrying.{passed-alike, taken-alike}
 use Rattle.tl_partner.proofs.Drops.{by_record, in_order}
 use Rattle.tl_partner.proofs.Leniently.{offered-misnamed, offered-named, plain-dropped, plain-kept, plain-waits}
-use Rattle.tl_partner.proofs.Besides.{IsBeside, typed_plain}
+use Rattle.tl_partner.proofs.Apart.{IsBeside, typed_plain}
 use Rattle.tl_partner.proofs.Passing.{bare_c, drop-parts, is_dropped, legal-parts, passes-drop}
 
 -- ---- a ProbeAck that says so
@@ -145,7 +145,7 @@ own terms config link ch (Beat.D x) t e width kept is free apart a =
 own terms config link ch (Beat.E x) t e width kept is free apart a =
     absurd (let no-such = (drop-parts terms config link ch (Beat.E x) e is).0 in cc)
 
-dropped-alike : {w : ℕ} (cleanings : List (List (Beat w))) (terms : Terms) (config : Config) (link : Link)
+pub dropped-alike : {w : ℕ} (cleanings : List (List (Beat w))) (terms : Terms) (config : Config) (link : Link)
     (ch : Channel) (x : Beat w) (t : Trace w) (e : End w) → IsWidth w → IsKept config e
     → is_drop terms config link ch (plain terms x) e ≡ true → is_reporting link e.trace ≡ false
     → IsBeside x (slice_index_or cleanings link.0 []) → AreAllAlike terms cleanings t e.trace

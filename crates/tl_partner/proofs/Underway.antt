@@ -33,7 +33,7 @@ use Rattle.tl_partner.specs.statement.Granting.{granted}
 use Rattle.tl_partner.specs.statement.Lenient.{offered_lenient, offered_plain}
 use Rattle.tl_partner.specs.statement.Naming.{is_misnamed, plain}
 use Rattle.tl_partner.specs.statement.Partner.{cleans}
-use Rattle.tl_partner.proofs.Besides.{IsBeside, beside_plain, typed_plain}
+use Rattle.tl_partner.proofs.Apart.{IsBeside, beside_plain, typed_plain}
 use Rattle.tl_partner.proofs.Afterward.{pending-drop, reports-drop}
 use Rattle.tl_partner.proofs.Carried.{others-drop}
 use Rattle.tl_partner.proofs.Drops.{IsDropped}

@@ -49,10 +49,10 @@ offer_all terms config (x ∷ xs) e =
     and_then (offered_under terms config (link_of x.link) x.channel x.beat e) (offer_all terms config xs)
 
 -- two caches, whose Probes have the sources 3 and 4, and one block
-abbrev caches : Config
+abbrev pub caches : Config
 caches = with_links Profile.One 1 1 (Level.C ∷ Level.C ∷ [])
 
-abbrev terms_of : Liberties → Terms
+abbrev pub terms_of : Liberties → Terms
 terms_of l = record { ids = l.ids; drops = l.drops; reports = l.reports; sources = 3 ∷ 4 ∷ replicate 14 0 }
 
 abbrev played : {w : ℕ} → Liberties → List (Offer w) → List (Reception w) × PartnerEnd w
@@ -66,20 +66,20 @@ answers l offers = (played l offers).0
 abbrev held_after : {w : ℕ} → Liberties → List (Offer w) → Perm
 held_after l offers = recorded 0 0 (played l offers).1.manager.trace
 
-abbrev dropping : Liberties
+abbrev pub dropping : Liberties
 dropping = with_liberty Drops no_liberties
 
-abbrev naming : Liberties
+abbrev pub naming : Liberties
 naming = with_liberty Ids no_liberties
 
-abbrev reporting : Liberties
+abbrev pub reporting : Liberties
 reporting = with_liberty Reports no_liberties
 
 abbrev taken : {w : ℕ} → Reception w
 taken = Sent []
 
 -- a ProbeAck of block 0 with this source and report
-abbrev probe_ack : {w : ℕ} → ℕ → ℕ → Beat w
+abbrev pub probe_ack : {w : ℕ} → ℕ → ℕ → Beat w
 probe_ack source param = C (record {
   opcode = OpC.ProbeAck;
   param = param;
@@ -106,7 +106,7 @@ probe_from {w} source cap = Message.B (record {
 })
 
 -- a block of ones over channel C with this report
-abbrev written_back : ℕ → List (Offer 8)
+abbrev pub written_back : ℕ → List (Offer 8)
 written_back param = replicate 8 (on 0 (report_with OpC.ReleaseData refl param 0 (replicate 8 1)))
 
 -- ---- a copy that was dropped

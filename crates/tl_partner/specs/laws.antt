@@ -1,2 +1,4 @@
 pub mod Carried
+pub mod Judged
+pub mod Offers
 pub mod Without

@@ -1,6 +1,6 @@
 //! What the definition of a partner amounts to, as laws.
 
-ghost use Rattle.std.specs.Prelude.{ℕ, ◌≡◌, ◌∷◌, [], ◌==◌, ◌&&◌, if◌then◌else◌, true, false};
+ghost use Rattle.std.specs.Prelude.{ℕ, ◌≡◌, List, ◌∷◌, [], ◌==◌, ◌&&◌, if◌then◌else◌, true, false};
 ghost use Rattle.tl_beat.specs.declared.beat.Beat.{Beat};
 ghost use Rattle.tl_beat.specs.declared.beat.Link.{Link};
 ghost use Rattle.tl_beat.specs.declared.channel.Channel.{Channel};
@@ -13,10 +13,12 @@ ghost use Rattle.tl_manager.specs.code.Kept.{IsKept, IsTyped};
 ghost use Rattle.tl_manager.specs.statement.End.{End};
 ghost use Rattle.tl_manager.specs.statement.Handing.{release_ack};
 ghost use Rattle.tl_manager.specs.statement.Holders.{recorded};
-ghost use Rattle.tl_manager.specs.statement.Offer.{Passes, Sent, judged, offered, stalls};
+ghost use Rattle.tl_manager.specs.statement.Offer.{Passes, Sent, judged, offered, open_level, stalls};
 ghost use Rattle.tl_manager.specs.statement.Service.{services};
 ghost use Rattle.tl_partner.specs.declared.terms.Terms.{Terms};
 ghost use Rattle.tl_partner.specs.laws.Carried.{IsCarried, carried_after};
+ghost use Rattle.tl_partner.specs.laws.Judged.{NamesRule, early_rule, first_rule};
+ghost use Rattle.tl_partner.specs.laws.Offers.{AreTyped, Offer, after_offers};
 ghost use Rattle.tl_partner.specs.laws.Without.{GrantsNone};
 ghost use Rattle.tl_partner.specs.statement.Granting.{granted};
 ghost use Rattle.tl_partner.specs.statement.Cleaning.{PartnerEnd, cleaning_on, fresh_partner};
@@ -34,7 +36,8 @@ pub fn is_the_manager<const W: usize>()
 {}
 
 /// What is recorded of a client and a block is what the beats leave held, under the terms' liberties, that the link
-/// carried: so it is at first, and after any beat that is offered.
+/// carried, after whatever beats were offered. So it is wherever what the links carried is beside a manager's end, as it
+/// is at first and after any beat.
 pub fn records_what_links_carried<const W: usize>()
     requires { IsWidth W }
     ensures fresh { (terms : Terms) (config : Config) → IsCarried {w = W} terms config [] (fresh_partner config) }
@@ -48,6 +51,30 @@ pub fn records_what_links_carried<const W: usize>()
     ensures held { (terms : Terms) (config : Config) (t : Trace W) (e : PartnerEnd W) (client block : ℕ) →
         IsCarried terms config t e →
         held_under (granted terms) block (on_link client t) ≡ recorded client block e.manager.trace }
+    ensures history { (terms : Terms) (config : Config) (offers : List (Offer W)) (client block : ℕ) →
+        AreTyped offers →
+        held_under (granted terms) block (on_link client (after_offers terms config offers).0)
+        ≡ recorded client block (after_offers terms config offers).1.manager.trace }
+{}
+
+/// A refusal names the first rule that the beat breaks, by the rules of links with the terms' liberties, after the beats
+/// that its link carried. A beat that is taken breaks none of them, and one that is stalled none of those that are judged
+/// before a stall.
+pub fn names_the_first_rule<const W: usize>()
+    requires { IsWidth W }
+    ensures step { (terms : Terms) (config : Config) (link : Link) (ch : Channel) (x : Beat W) (t : Trace W)
+        (e : PartnerEnd W) →
+        IsTyped x → IsKept config e.manager → IsCarried terms config t e →
+        NamesRule (offered_under terms config link ch x e).0
+        (first_rule (granted terms) config (open_level config link e.manager) link ch x t)
+        (early_rule (granted terms) (open_level config link e.manager) link ch x t) }
+    ensures history { (terms : Terms) (config : Config) (offers : List (Offer W)) (x : Offer W) →
+        AreTyped offers → IsTyped x.beat →
+        NamesRule (offered_under terms config x.link x.channel x.beat (after_offers terms config offers).1).0
+        (first_rule (granted terms) config (open_level config x.link (after_offers terms config offers).1.manager)
+        x.link x.channel x.beat (after_offers terms config offers).0)
+        (early_rule (granted terms) (open_level config x.link (after_offers terms config offers).1.manager)
+        x.link x.channel x.beat (after_offers terms config offers).0) }
 {}
 
 /// Where a beat says that its client dropped a copy, and no message of channel C is unfinished on the link, the

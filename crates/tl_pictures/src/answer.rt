@@ -5,8 +5,9 @@ ghost use Rattle.tl_pictures.specs.statement.Answer.{rule_number, memory_rule_nu
 ghost use Rattle.tl_pictures.specs.statement.Answer.{answer_of, judge_answer};
 
 use tl_monitor::fault::MonitorFault;
+use tl_rules::memory_rule::MemoryRule;
 use tl_rules::rule::Rule;
-use tl_together::breach::{Breach, MemoryRule};
+use tl_together::breach::Breach;
 use tl_together::fault::JudgeFault;
 
 /// A code, and the number of the rule that a beat breaks; 0 for none.

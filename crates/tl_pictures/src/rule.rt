@@ -3,8 +3,8 @@
 ghost use Rattle.std.specs.Prelude.{◌≡◌};
 ghost use Rattle.tl_pictures.specs.statement.Named.{rule_with, memory_rule_with, name_with};
 
+use tl_rules::memory_rule::MemoryRule;
 use tl_rules::rule::Rule;
-use tl_together::breach::MemoryRule;
 
 /// The rule with a number, from 1 on.
 fn rule_with(number: u8) -> Option<Rule>

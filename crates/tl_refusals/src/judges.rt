@@ -5,8 +5,9 @@ use std::alloc::Global;
 use tl_beat::beat::{Beat, BeatA, BeatD, Link};
 use tl_beat::opcode::{OpA, OpD};
 use tl_rules::level::Level;
+use tl_rules::memory_rule::MemoryRule;
 use tl_rules::profile::Profile;
-use tl_together::breach::{Breach, MemoryRule};
+use tl_together::breach::Breach;
 use tl_together::fault::JudgeFault;
 use tl_together::judge::Judge;
 

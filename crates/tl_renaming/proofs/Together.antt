@@ -19,7 +19,7 @@ use Rattle.tl_rules.specs.statement.Conformance.{Trace, on_link}
 use Rattle.tl_rules.specs.statement.Liberties.{broken_on_link_under}
 use Rattle.tl_together.proofs.Following.{widened}
 use Rattle.tl_together.specs.declared.breach.Breach.{Breach}
-use Rattle.tl_together.specs.declared.breach.MemoryRule.{MemoryRule}
+use Rattle.tl_params.specs.declared.memory_rule.MemoryRule.{MemoryRule}
 use Rattle.tl_together.specs.statement.Coherence.{breach_from, breach_or, broken_memory, broken_together, first_breach}
 use Rattle.tl_together.specs.statement.Coherence.{first_broken, memory_rule_or}
 

@@ -20,4 +20,6 @@ pub mod perform;
 pub mod place;
 pub mod table;
 
-pub use tl_params::{config, key, level, liberties, param, perm, profile, report, rule};
+pub use tl_params::{
+    config, key, level, liberties, memory_rule, param, perm, profile, report, rule,
+};

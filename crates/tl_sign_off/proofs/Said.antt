@@ -4,7 +4,7 @@ use Rattle.std.specs.Prelude.{OnOk, Result, Ok, Err}
 use Rattle.tl_explain.specs.statement.Sentences.{memory_rule_line, rule_line}
 use Rattle.tl_engine.specs.declared.fault.Fault.TheVariants.{MemoryRule, Rule}
 use Rattle.tl_params.specs.declared.rule.Rule as of_link
-use Rattle.tl_together.specs.declared.breach.MemoryRule as of_memory
+use Rattle.tl_params.specs.declared.memory_rule.MemoryRule as of_memory
 use Rattle.tl_sign_off.specs.statement.Sentence.{sentence_of}
 
 pub rule_said : {A E : Type 0} (r : Result A E) (old new : List ℕ) (rule : of_link.Rule) → OnOk r (new ≡ old ++ rule_line rule)

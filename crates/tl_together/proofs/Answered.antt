@@ -29,8 +29,8 @@ use Rattle.tl_together.specs.statement.Coherence.{is_access_ack, is_grantable}
 use Rattle.tl_together.specs.statement.Coherence.{broken_grant, broken_access, broken_response, broken_memory}
 use Rattle.tl_together.specs.statement.Coherence.{broken_beginning, broken_bytes, memory_rule_or}
 use Rattle.tl_memory.specs.code.Taking.{request_answered}
-use Rattle.tl_together.specs.declared.breach.MemoryRule.{MemoryRule}
-use Rattle.tl_together.specs.declared.breach.MemoryRule.TheVariants.{M1, M4}
+use Rattle.tl_params.specs.declared.memory_rule.MemoryRule.{MemoryRule}
+use Rattle.tl_params.specs.declared.memory_rule.MemoryRule.TheVariants.{M1, M4}
 use Rattle.tl_together.specs.declared.windows.Window.{Window}
 use Rattle.tl_together.specs.code.Windows.{asked_at, window_at, last_in, window_in, KnowsWindows}
 use Rattle.tl_together.proofs.Windowed.{free_window, window-is}

@@ -19,7 +19,7 @@ use Rattle.tl_rules.specs.statement.Liberties.{broken_after_under, broken_order_
 use Rattle.tl_rules.specs.statement.History.{request_of, release_of, probe_of, grant_sink, pending}
 use Rattle.tl_rules.specs.statement.Legality.{each_below}
 use Rattle.tl_together.specs.declared.breach.Breach.TheVariants.{OfLink, OfMemory}
-use Rattle.tl_together.specs.declared.breach.MemoryRule.TheVariants.{M1, M4}
+use Rattle.tl_params.specs.declared.memory_rule.MemoryRule.TheVariants.{M1, M4}
 use Rattle.tl_bytes.specs.statement.Free.{all_but_early, is_free}
 use Rattle.tl_bytes.specs.statement.Shown.{had_window}
 use Rattle.tl_bytes.specs.statement.Bytes.{before_last, carried_byte, each_from, may_be, may_read, pending_accesses}

@@ -19,7 +19,7 @@ use Rattle.tl_monitor.specs.declared.fault.MonitorFault.{MonitorFault}
 use Rattle.tl_monitor.specs.declared.fault.MonitorFault.TheVariants as monitor
 use Rattle.tl_together.specs.declared.breach.Breach.{Breach}
 use Rattle.tl_together.specs.declared.breach.Breach.TheVariants.{OfLink}
-use Rattle.tl_together.specs.declared.breach.MemoryRule.{MemoryRule}
+use Rattle.tl_params.specs.declared.memory_rule.MemoryRule.{MemoryRule}
 use Rattle.tl_together.specs.declared.fault.JudgeFault.{JudgeFault}
 use Rattle.tl_together.specs.declared.fault.JudgeFault.TheVariants as judge
 use Rattle.tl_together.specs.declared.judge.Judge.{Judge}

@@ -20,7 +20,7 @@ use Rattle.tl_bytes.specs.statement.Bytes.{before_last, carried_byte, carried_ma
 use Rattle.tl_bytes.specs.statement.Bytes.{may_be, may_read, pending_accesses, window_began, windows_since}
 use Rattle.tl_bytes.proofs.WorkedBeats.{acquire, done, eight, found, get, grant_ack, grant_beat, put}
 use Rattle.tl_together.specs.declared.breach.Breach.TheVariants.{OfMemory}
-use Rattle.tl_together.specs.declared.breach.MemoryRule.TheVariants.{M1, M2, M3, M4}
+use Rattle.tl_params.specs.declared.memory_rule.MemoryRule.TheVariants.{M1, M2, M3, M4}
 use Rattle.tl_together.specs.statement.Coherence.{breach_from, first_breach, is_grantable}
 
 abbrev two_caches : List Level

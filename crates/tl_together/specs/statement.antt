@@ -1,3 +1,2 @@
 pub mod Coherence
 pub mod Knows
-pub mod Names

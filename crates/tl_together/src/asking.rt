@@ -19,7 +19,7 @@ ghost use Rattle.tl_params.specs.declared.liberties.Liberties.{Liberties};
 ghost use Rattle.tl_rules.specs.code.Open.{open_request};
 ghost use Rattle.tl_rules.specs.statement.Conformance.{Trace, on_link};
 ghost use Rattle.tl_monitor.specs.statement.Granting.{coming_on};
-ghost use Rattle.tl_monitor.specs.statement.Knows.{request_on};
+ghost use Rattle.tl_monitor.specs.statement.Knows.{begins_on, request_on};
 ghost use Rattle.tl_together.specs.code.Windows.{asked_at};
 
 use crate::fault::JudgeFault;
@@ -39,6 +39,14 @@ impl<const W: usize> Judge<W> {
             result ≡ request_on levels link source t }
     {
         self.monitor.request(link, source)
+    }
+
+    /// Whether a beat begins a message on its link; on a link without a level none does.
+    pub fn begins(&self, link: Link, beat: &Beat<W>) -> bool
+        ensures { (levels : List Level) (l : Liberties) (t : Trace W) → Knows self.now levels l t false →
+            result ≡ begins_on levels link beat.now t }
+    {
+        self.monitor.begins(link, beat)
     }
 
     /// The permission that the unfinished Grant of a block gives on a link, where one has begun that isn't denied;

@@ -21,7 +21,7 @@ ghost use Rattle.tl_together.specs.statement.Knows.{closed_after};
 ghost use Rattle.tl_together.specs.code.Following.{Follows};
 ghost use Rattle.tl_together.specs.code.Windows.{asked_in, last_in, fault_of_monitor};
 
-use crate::breach::{Breach, MemoryRule};
+use crate::breach::Breach;
 use crate::fault::JudgeFault;
 use crate::free::{is_free, is_grantable};
 use crate::notes::{note_request, note_shown, note_window};
@@ -38,6 +38,7 @@ use tl_monitor::monitor::Monitor;
 use tl_rules::kind::{capped, is_grant};
 use tl_rules::level::Level;
 use tl_rules::liberties::Liberties;
+use tl_rules::memory_rule::MemoryRule;
 use tl_rules::past::Request;
 use tl_rules::perm::Perm;
 use tl_rules::profile::Profile;

@@ -1,10 +1,13 @@
 -- Names in a list, and one more behind them.
-use Rattle.std.proofs.Common.{◌≡◌, ℕ, suc, Bool, true, false, ◌||◌, List, [], ◌∷◌, ◌++◌, length, refl, sym, ap, ◌∙◌, arith}
-use Rattle.std.specs.Prelude.{◌+◌, ◌==◌, if◌then◌else◌, Option, Some, None}
-use Rattle.std.proofs.lemmas.Bool.{eq-eqb, eqb-true}
+use Rattle.std.proofs.Common.{◌≡◌, ℕ, suc, Bool, true, false, not, cond, ◌||◌}
+use Rattle.std.proofs.Common.{◌<◌, ◌≤◌, ◌-◌, ◌^◌, List, [], ◌∷◌, ◌++◌, length}
+use Rattle.std.proofs.Common.{refl, sym, ap, ◌∙◌, arith}
+use Rattle.std.specs.Prelude.{◌+◌, ◌==◌, ◌&&◌, if◌then◌else◌, is_some, nat_lt, Option, Some, None}
+use Rattle.std.proofs.lemmas.Bool.{eq-eqb, eqb-true, le-ltb, ltb-true}
+use Rattle.std.proofs.lemmas.Bool.Decides.{nat_tests}
 use Rattle.std.proofs.lemmas.List.{length-append}
 use Rattle.tl_rules.specs.statement.Legality.{is_one_of}
-use Rattle.tl_wide.specs.code.Numbers.{KnowsNumbers, place_among, place_found}
+use Rattle.tl_wide.specs.code.Numbers.{KnowsNumbers, found_in, is_past, place_among, place_found}
 use Rattle.tl_wide.specs.declared.numbers.Numbers.{Numbers}
 use Rattle.tl_wide.specs.statement.Naming.{place_in}
 
@@ -57,9 +60,21 @@ places-more names n k new = rw (among-more names n k) (go (k == n) refl (is_one_
 
 -- ---- a table of them
 
--- of no names
-pub none-known : (numbers : Numbers) → numbers.places.entries ≡ [] → numbers.count ≡ 0 → KnowsNumbers numbers []
-none-known numbers empty zero_is = record { count_is = zero_is; places_are = λ k. rw empty refl }
+-- of names of which 0 is the first
+pub zero-known : (numbers : Numbers) → numbers.places.entries ≡ [] → numbers.count ≡ 1 → numbers.has_zero ≡ true
+    → KnowsNumbers numbers (0 ∷ [])
+unfolding place_in
+zero-known numbers empty one zero_is = record {
+  count_is = one;
+  places_are = λ k. rw (empty, zero_is) (go (k == 0));
+}
+  where
+    some_zero : Option ℕ
+    some_zero = Some 0
+
+    go : (b : Bool) → cond b some_zero None ≡ cond (b || false) (Some (cond {A = ℕ} b 0 1)) None
+    go true = refl
+    go false = refl
 
 -- what is found is the place of the name
 pub found-place : (o : Option ℕ) (names : List ℕ) (name n : ℕ) → o ≡ place_among names name → o ≡ Some n
@@ -84,13 +99,71 @@ found-none o names name is none = go (is_one_of name names) refl (sym none ∙ i
     go true e f = absurd cc
     go false e f = e
 
+-- what is found once one name more has a number
+found-more : (old new : Numbers) (name : ℕ) → found_in old name ≡ None → new.has_zero ≡ old.has_zero
+    → ((k : ℕ) → place_found new.places.entries k
+    ≡ (if k == name then Some old.count else place_found old.places.entries k))
+    → (k : ℕ) → found_in new k ≡ (if k == name then Some old.count else found_in old k)
+found-more old new name none same changed k = rw same (go (old.has_zero && (k == 0)) refl (k == name) refl)
+  where
+    go : (zero_is : Bool) → (old.has_zero && (k == 0)) ≡ zero_is → (own : Bool) → (k == name) ≡ own
+        → (if zero_is then Some 0 else place_found new.places.entries k)
+        ≡ (if own then Some old.count else (if zero_is then Some 0 else place_found old.places.entries k))
+    go true e true f =
+        let is : k ≡ name = eqb-true k name f in
+        let some : found_in old k ≡ Some 0 = rw e refl in
+        let gone : found_in old k ≡ None = rw is none in
+        absurd cc
+    go true e false f = refl
+    go false e own f = changed k ∙ ap (λ b. if b then Some old.count else place_found old.places.entries k) f
+
 -- one more
 pub one-known : (old new : Numbers) (names : List ℕ) (name : ℕ) → KnowsNumbers old names → is_one_of name names ≡ false
-    → new.count ≡ old.count + 1
+    → found_in old name ≡ None → new.has_zero ≡ old.has_zero → new.count ≡ old.count + 1
     → ((k : ℕ) → place_found new.places.entries k
     ≡ (if k == name then Some old.count else place_found old.places.entries k))
     → KnowsNumbers new (names ++ name ∷ [])
-one-known old new names name knows fresh counted changed = record {
+one-known old new names name knows fresh none same counted changed = record {
   count_is = omega (arith, counted, knows.count_is, length-append names (name ∷ []));
-  places_are = λ k. changed k ∙ rw (knows.count_is, knows.places_are k) (sym (places-more names name k fresh));
+  places_are = λ k. found-more old new name none same changed k
+      ∙ rw (knows.count_is, knows.places_are k) (sym (places-more names name k fresh));
 }
+
+-- what is found is as it was
+pub still-known : (old new : Numbers) (names : List ℕ) → KnowsNumbers old names
+    → ((k : ℕ) → found_in new k ≡ found_in old k) → new.count ≡ old.count → KnowsNumbers new names
+still-known old new names knows same counted = record {
+  count_is = counted ∙ knows.count_is;
+  places_are = λ k. same k ∙ knows.places_are k;
+}
+
+-- ---- limits
+
+abbrev pub is_within : Numbers → ℕ → ℕ → Bool
+is_within numbers limit name = nat_lt numbers.count limit || is_some (found_in numbers name)
+
+pub within-limit : (numbers : Numbers) (names : List ℕ) (limit name : ℕ) → KnowsNumbers numbers names
+    → length names ≤ limit → is_past limit names name ≡ not (is_within numbers limit name)
+within-limit numbers names limit name knows le =
+    rw (knows.count_is, knows.places_are name) (go (is_one_of name names))
+  where
+    or_true : (a : Bool) → (a || true) ≡ true
+    or_true true = refl
+    or_true false = refl
+
+    go : (b : Bool) → nat_lt limit (length (if b then names else names ++ name ∷ []))
+        ≡ not (nat_lt (length names) limit || is_some (if b then Some (place_in names name) else None))
+    go true = rw (or_true (nat_lt (length names) limit)) (le-ltb limit (length names) le)
+    go false = rw (length-append names (name ∷ [])) (grind (arith, nat_tests))
+
+-- a name that gets a number where fewer than so many have one leaves room for it
+pub room-left : (numbers : Numbers) (names : List ℕ) (limit name : ℕ) → KnowsNumbers numbers names
+    → is_within numbers limit name ≡ true → limit < 2 ^ 32 → is_one_of name names ≡ false → length names < 2 ^ 32 - 1
+room-left numbers names limit name knows within lt fresh =
+    let none : found_in numbers name ≡ None = knows.places_are name ∙ rw fresh refl in
+    let few : (nat_lt (length names) limit || false) ≡ true = rw (knows.count_is, none) at within in
+    go (nat_lt (length names) limit) refl few
+  where
+    go : (b : Bool) → nat_lt (length names) limit ≡ b → (b || false) ≡ true → length names < 2 ^ 32 - 1
+    go true e f = let fewer : length names < limit = ltb-true (length names) limit e in omega arith
+    go false e f = absurd cc

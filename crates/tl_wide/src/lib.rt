@@ -2,7 +2,10 @@
 #![tactic(auto)]
 
 pub mod beat;
+pub mod narrow;
 pub mod numbers;
+pub mod parts;
+pub mod read;
 #[cfg(test)]
 mod tests;
 pub(crate) mod text;

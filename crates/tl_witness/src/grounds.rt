@@ -25,7 +25,7 @@ use tl_beat::beat::{Beat, BeatD, Link};
 use tl_memory::free::needs;
 use tl_memory::memory::Change;
 use tl_rules::kind::capped;
-use tl_together::breach::MemoryRule;
+use tl_rules::memory_rule::MemoryRule;
 use tl_together::judge::Judge;
 
 /// Appends in which line the request of an access was complete, and each link that holds a permission which

@@ -5,6 +5,7 @@ ghost use Rattle.std.specs.Prelude.{IfSome, Ok, ◌+◌, ◌++◌, length, take,
 ghost use Rattle.tl_beat.specs.code.FromLeft.{digit_of, digit_at, digits_at, space_at, field_at};
 ghost use Rattle.tl_beat.specs.code.FromLeft.{bit_of_byte, bit_field_at, pair_at, lanes_at};
 ghost use Rattle.tl_beat.specs.code.FromLeft.{value_or_16, data_at, tail_at, Gives, GivesRest};
+ghost use Rattle.tl_beat.specs.code.Reading.{at_most};
 ghost use Rattle.tl_beat.specs.statement.Width.{IsWidth};
 
 use crate::fault::LineFault;
@@ -28,7 +29,7 @@ const VALUES: [u8; 256] = [
 
 /// The value of a digit, or 16.
 #[inline(always)]
-pub(crate) fn value(byte: u8) -> u8
+pub fn value(byte: u8) -> u8
     ensures { result ≡ value_or_16 byte }
 {
     VALUES[usize::from(byte)]
@@ -58,7 +59,7 @@ fn digit_front(bytes: &[u8]) -> Result<(u8, &[u8]), LineFault>
 
 /// A number of `count` digits at the front, and what stands behind it.
 #[inline(always)]
-pub(crate) fn digits(bytes: &[u8], count: u8) -> Result<(u32, &[u8]), LineFault>
+pub fn digits(bytes: &[u8], count: u8) -> Result<(u32, &[u8]), LineFault>
     requires { count ≤ 8 }
     ensures gives { Gives result (digits_at 0 count bytes.now) }
     ensures below { IfOk result (λ x. x.0 < 16 ^ count) }
@@ -73,8 +74,9 @@ pub(crate) fn digits(bytes: &[u8], count: u8) -> Result<(u32, &[u8]), LineFault>
     Ok((number, rest))
 }
 
+/// A space at the front, taken away.
 #[inline(always)]
-fn space(bytes: &[u8]) -> Result<&[u8], LineFault>
+pub fn space(bytes: &[u8]) -> Result<&[u8], LineFault>
     ensures { GivesRest result (space_at bytes.now) }
 {
     match bytes {
@@ -85,7 +87,7 @@ fn space(bytes: &[u8]) -> Result<&[u8], LineFault>
 
 /// A number of `count` digits and a space at the front.
 #[inline(always)]
-fn number(bytes: &[u8], count: u8) -> Result<(u32, &[u8]), LineFault>
+pub fn number(bytes: &[u8], count: u8) -> Result<(u32, &[u8]), LineFault>
     requires { count ≤ 8 }
     ensures gives { Gives result (field_at count bytes.now) }
     ensures below { IfOk result (λ x. x.0 < 16 ^ count) }
@@ -96,7 +98,7 @@ fn number(bytes: &[u8], count: u8) -> Result<(u32, &[u8]), LineFault>
 }
 
 /// A number of one digit and a space.
-pub(crate) fn nibble(bytes: &[u8]) -> Result<(u8, &[u8]), LineFault>
+pub fn nibble(bytes: &[u8]) -> Result<(u8, &[u8]), LineFault>
     ensures gives { Gives result (field_at 1 bytes.now) }
     ensures below { IfOk result (λ x. x.0 < 16) }
 {
@@ -106,7 +108,7 @@ pub(crate) fn nibble(bytes: &[u8]) -> Result<(u8, &[u8]), LineFault>
 
 /// A number of two digits and a space.
 #[inline(always)]
-pub(crate) fn byte(bytes: &[u8]) -> Result<(u8, &[u8]), LineFault>
+pub fn byte(bytes: &[u8]) -> Result<(u8, &[u8]), LineFault>
     ensures { Gives result (field_at 2 bytes.now) }
 {
     let (number, rest) = number(bytes, 2)?;
@@ -137,7 +139,7 @@ fn any_eight_digits(bytes: &[u8]) -> Result<(u32, &[u8]), LineFault>
 
 /// An address of eight digits and a space.
 #[inline(always)]
-pub(crate) fn address(bytes: &[u8]) -> Result<(u32, &[u8]), LineFault>
+pub fn address(bytes: &[u8]) -> Result<(u32, &[u8]), LineFault>
     ensures { Gives result (field_at 8 bytes.now) }
 {
     match eight_digits(bytes) {
@@ -157,6 +159,23 @@ pub(crate) fn mask<const W: usize>(bytes: &[u8]) -> Result<(u16, &[u8]), LineFau
     Ok((number as u16, rest))
 }
 
+/// What stands behind the channel's letter and a space.
+pub fn without_letter(bytes: &[u8]) -> &[u8]
+    ensures { result.now ≡ drop 2 bytes.now }
+{
+    if bytes.len() < 2 { &[] } else { &bytes[2..] }
+}
+
+/// A param that its channel's field holds.
+pub fn at_most(param: u8, greatest: u8) -> Result<u8, LineFault>
+    ensures { result ≡ at_most greatest param }
+{
+    if param > greatest {
+        return Err(LineFault::F5);
+    }
+    Ok(param)
+}
+
 fn bit(byte: u8) -> Result<bool, LineFault>
     ensures { result ≡ bit_of_byte byte }
 {
@@ -169,7 +188,7 @@ fn bit(byte: u8) -> Result<bool, LineFault>
 
 /// A bit and a space.
 #[inline(always)]
-pub(crate) fn bit_field(bytes: &[u8]) -> Result<(bool, &[u8]), LineFault>
+pub fn bit_field(bytes: &[u8]) -> Result<(bool, &[u8]), LineFault>
     ensures { Gives result (bit_field_at bytes.now) }
 {
     match bytes {
@@ -227,10 +246,9 @@ fn copy_eight(lanes: &mut [u8], at: usize, eight: &[u8; 8])
 /// Eight lanes at a time.
 #[inline(always)]
 fn spelled_lanes<const W: usize>(field: &[u8]) -> Option<[u8; W]>
-    requires { IsWidth W }
     ensures { IfSome result (λ lanes. lanes_at [] W field.now ≡ Ok lanes) }
 {
-    if W < 8 || field.len() != 2 * W {
+    if W % 8 != 0 || field.len() % 2 != 0 || field.len() / 2 != W {
         return None;
     }
     let mut lanes = [0u8; W];
@@ -243,7 +261,6 @@ fn spelled_lanes<const W: usize>(field: &[u8]) -> Option<[u8; W]>
 
 #[inline(always)]
 fn lanes<const W: usize>(field: &[u8]) -> Result<[u8; W], LineFault>
-    requires { IsWidth W }
     ensures { result ≡ lanes_at [] W field.now }
 {
     match spelled_lanes(field) {
@@ -254,7 +271,6 @@ fn lanes<const W: usize>(field: &[u8]) -> Result<[u8; W], LineFault>
 
 #[inline(always)]
 fn data<const W: usize>(field: &[u8]) -> Result<Option<[u8; W]>, LineFault>
-    requires { IsWidth W }
     ensures { result ≡ data_at W field.now }
 {
     match field {
@@ -266,8 +282,7 @@ fn data<const W: usize>(field: &[u8]) -> Result<Option<[u8; W]>, LineFault>
 /// Data and the corrupt bit, the last two fields of a line.
 #[tactic(auto, unfolding(crate::specs::code::FromLeft::tail_at))]
 #[inline(always)]
-pub(crate) fn tail<const W: usize>(bytes: &[u8]) -> Result<(Option<[u8; W]>, bool), LineFault>
-    requires { IsWidth W }
+pub fn tail<const W: usize>(bytes: &[u8]) -> Result<(Option<[u8; W]>, bool), LineFault>
     ensures { result ≡ tail_at W bytes.now }
 {
     match bytes {

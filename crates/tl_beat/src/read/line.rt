@@ -1,15 +1,17 @@
 //! Reading the line of each channel.
 
-ghost use Rattle.std.specs.Prelude.{◌≡◌, ◌<◌, ◌/◌, ◌^◌, ℕ, List, IfErr, IfOk, IfSome, Ok, drop};
+ghost use Rattle.std.specs.Prelude.{◌≡◌, ◌<◌, ◌/◌, ◌^◌, ℕ, List, IfErr, IfOk, IfSome, Ok};
 ghost use Rattle.tl_beat.specs.code.FromLeft.{head_at, line_a_at, line_b_at, line_c_at, line_d_at, line_e_at, Gives};
 ghost use Rattle.tl_beat.specs.code.FromLeft.{on_a, on_b, on_c, on_d, placed};
-ghost use Rattle.tl_beat.specs.code.Reading.{made_a, made_b, made_c, made_d, at_most};
+ghost use Rattle.tl_beat.specs.code.Reading.{made_a, made_b, made_c, made_d};
 ghost use Rattle.tl_beat.specs.statement.Width.{IsWidth};
 
 use crate::beat::{Beat, BeatA, BeatB, BeatC, BeatD, BeatE, Link};
 use crate::fault::LineFault;
 use crate::opcode::{OpA, OpB, OpC, OpD};
-use crate::read::field::{address, bit_field, byte, digits, mask, nibble, tail, value};
+use crate::read::field::{
+    address, at_most, bit_field, byte, digits, mask, nibble, tail, value, without_letter,
+};
 
 /// The fields that lines of channels A to D begin with, but for the letter.
 #[derive(Clone, Copy)]
@@ -19,13 +21,6 @@ pub(crate) struct Head {
     param: u8,
     size: u8,
     source: u8,
-}
-
-/// What stands behind the channel's letter and a space.
-fn without_letter(bytes: &[u8]) -> &[u8]
-    ensures { result.now ≡ drop 2 bytes.now }
-{
-    if bytes.len() < 2 { &[] } else { &bytes[2..] }
 }
 
 /// The first fields of a line, each at its place.
@@ -92,15 +87,6 @@ pub(crate) fn any_head(bytes: &[u8]) -> Result<(Head, &[u8]), LineFault>
         source,
     };
     Ok((head, rest))
-}
-
-fn at_most(param: u8, greatest: u8) -> Result<u8, LineFault>
-    ensures { result ≡ at_most greatest param }
-{
-    if param > greatest {
-        return Err(LineFault::F5);
-    }
-    Ok(param)
 }
 
 #[inline(always)]

@@ -39,15 +39,10 @@ tellings_of b place = telling_at b.latest place ∷ tellings_at place b.earlier.
 abbrev pub KnowsBytes : {w : ℕ} → BlockBytes → ℕ → ℕ → Trace w → Type 0
 KnowsBytes b n block t = (place : ℕ) → place < 64 → tellings_of b place ≡ may_be n (64 * block + place) t
 
--- the number of beats with the one before which there were so many; 0 where there is none
-abbrev pub moment_of : Option ℕ → ℕ
-moment_of None = 0
-moment_of (Some before) = suc before
-
 -- and when they were last granted, or given back
 pub record KnowsBlock {w : ℕ} (b : BlockBytes) (n block : ℕ) (t : Trace w) : Type 0 where
   pub bytes_are : KnowsBytes b n block t
-  pub last_is : moment_of b.last ≡ last_told block t
+  pub last_is : b.last ≡ last_told block t
 
 -- these are the bytes that the beats have brought, the newest of which is first, by their places; none
 -- where a beat is to come, or was corrupt

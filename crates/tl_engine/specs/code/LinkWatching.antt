@@ -18,7 +18,7 @@ use Rattle.tl_params.specs.declared.width.Width.{Width}
 use Rattle.tl_rules.specs.statement.Conformance.{Trace}
 
 -- what a judge that knows a trace says of the next line: the line spells a beat that isn't at fault, and the judge knows
--- the longer trace, or the line is at fault
+-- the longer trace, or the line is at fault, and the judge knows the trace as before
 abbrev pub Watches : {w : ℕ} → Bool → TraceJudge w → TraceJudge w → List ℕ → Option Fault → Type 0
 Watches {w} together old new line None =
     (levels : List Level) (may : Liberties) (t : Trace w) → KnowsBeats together old levels may t
@@ -27,7 +27,7 @@ Watches {w} together old new line None =
     × KnowsBeats together new levels may ((link, beat) ∷ t)
 Watches {w} together old new line (Some fault) =
     (levels : List Level) (may : Liberties) (t : Trace w) → KnowsBeats together old levels may t
-    → IsAtFault (faults_by together) levels may t line fault
+    → IsAtFault (faults_by together) levels may t line fault × KnowsBeats together new levels may t
 
 -- these lines, a header and beats that aren't at fault, are judged with this text so far; this is allowed besides
 abbrev pub KnowsTrace : {w : ℕ} → Bool → Liberties → TraceJudge w → List (List ℕ) → List ℕ → Type 0

@@ -1,5 +1,5 @@
 -- What trace the lines spell that were judged, and what is said of the next line behind it.
-use Rattle.std.specs.Prelude.{◌≡◌, ◌<◌, ℕ, Bool, true, false, List, [], ◌∷◌, ◌++◌, ◌==◌, length, Option}
+use Rattle.std.specs.Prelude.{◌≡◌, ◌<◌, ℕ, Bool, true, false, List, [], ◌∷◌, ◌++◌, length, Option}
 use Rattle.std.specs.Prelude.{Some, None, option_map, ⊤}
 use Rattle.tl_beat.specs.declared.beat.Beat.{Beat}
 use Rattle.tl_beat.specs.declared.beat.Link.{Link}
@@ -56,11 +56,6 @@ abbrev pub WatchesLine : LinkLines → LinkLines → List ℕ → Option Fault �
 WatchesLine old new line fault = WatchesBy old.together old.allow old.judge new.judge line fault
 
 -- ---- the block of the request that a beat answers
-
--- the letter of the channel, where it stands in the line of a beat, is D
-abbrev pub has_letter_d : List ℕ → Bool
-has_letter_d (a ∷ b ∷ c ∷ letter ∷ more) = letter == 68
-has_letter_d _ = false
 
 -- the block is that of the request which the beat of a line answers, behind the trace that a judge knows
 abbrev pub AnswersIn : {w : ℕ} → Bool → TraceJudge w → List ℕ → Option ℕ → Type 0

@@ -18,7 +18,7 @@ use Rattle.tl_explain.specs.declared.reason.Reason.{Reason}
 use Rattle.tl_explain.specs.statement.Reasons.{IsEvidenceUnder, convicted_under}
 use Rattle.tl_explain.specs.statement.Sentences.{beat_line, memory_rule_line, rule_line}
 use Rattle.tl_together.specs.declared.breach.Breach.TheVariants.{OfMemory}
-use Rattle.tl_together.specs.declared.breach.MemoryRule.{MemoryRule}
+use Rattle.tl_params.specs.declared.memory_rule.MemoryRule.{MemoryRule}
 use Rattle.tl_together.specs.statement.Coherence.{broken_together}
 use Rattle.tl_witness.specs.statement.Grounds.{grounds_text}
 use Rattle.tl_engine.specs.code.Lines.{lines_of}

@@ -4,7 +4,7 @@ use Rattle.std.specs.Fmt.{decimal}
 use Rattle.tl_beat.specs.statement.Names.{line_fault_name}
 use Rattle.tl_schedule.specs.declared.line.EventFault.TheVariants as event
 use Rattle.tl_params.specs.statement.Names.{rule_name}
-use Rattle.tl_together.specs.statement.Names.{memory_rule_name}
+use Rattle.tl_params.specs.statement.Names.{memory_rule_name}
 use Rattle.tl_engine.specs.declared.fault.Fault.{Fault}
 use Rattle.tl_engine.specs.declared.fault.Fault.TheVariants.{Header, Line, Rule, MemoryRule, Event}
 

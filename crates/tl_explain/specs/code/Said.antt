@@ -1,6 +1,6 @@
 -- What is said of a rule of memory.
 use Rattle.std.specs.Prelude.{◌≡◌}
-use Rattle.tl_together.specs.declared.breach.MemoryRule.{MemoryRule}
+use Rattle.tl_params.specs.declared.memory_rule.MemoryRule.{MemoryRule}
 use Rattle.tl_explain.specs.declared.memory.Explanation.{Explanation}
 use Rattle.tl_explain.specs.statement.Sentences.{memory_sentence, messages_judged_together}
 

@@ -9,9 +9,9 @@ use Rattle.tl_params.specs.declared.rule.Rule.{Rule}
 use Rattle.tl_params.specs.declared.rule.Rule.TheVariants.{L1, L2, L3, L4, L5, L6, L7, S1, A1, A2, A3}
 use Rattle.tl_params.specs.declared.rule.Rule.TheVariants.{H1, H2, H3, H4, H5, H6, H7, H8, H9, H10, H11, H12, H13}
 use Rattle.tl_params.specs.statement.Names.{rule_name}
-use Rattle.tl_together.specs.declared.breach.MemoryRule.{MemoryRule}
-use Rattle.tl_together.specs.declared.breach.MemoryRule.TheVariants.{M1, M2, M3, M4}
-use Rattle.tl_together.specs.statement.Names.{memory_rule_name}
+use Rattle.tl_params.specs.declared.memory_rule.MemoryRule.{MemoryRule}
+use Rattle.tl_params.specs.declared.memory_rule.MemoryRule.TheVariants.{M1, M2, M3, M4}
+use Rattle.tl_params.specs.statement.Names.{memory_rule_name}
 use Rattle.tl_explain.specs.statement.Text.{text_of}
 
 -- the messages that a rule of the order of messages judges, and nothing for another rule

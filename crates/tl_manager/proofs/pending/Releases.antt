@@ -76,7 +76,7 @@ later : (mine last before : Bool) → (if false && mine then true else if last &
 later mine true before = refl
 later mine false before = refl
 
-first_carried : {w : ℕ} (x : BeatC w) (t : History w) → IsAnswered t → unfinished Channel.C t ≡ [] → IsCarried x t
+pub first_carried : {w : ℕ} (x : BeatC w) (t : History w) → IsAnswered t → unfinished Channel.C t ≡ [] → IsCarried x t
 unfolding pending release_of
 first_carried x t ok none = record {
   sources = λ s. rw (none, ok.sources s ∙ ap (comes_in_release s) none)
@@ -86,7 +86,7 @@ first_carried x t ok none = record {
   named = λ k e. rw (none, e, eq-eqb x.source x.source refl) refl;
 }
 
-next_carried : {w : ℕ} (x y : BeatC w) (burst : List (Beat w)) (t : History w) → IsAnswered t
+pub next_carried : {w : ℕ} (x y : BeatC w) (burst : List (Beat w)) (t : History w) → IsAnswered t
     → unfinished Channel.C t ≡ Beat.C y ∷ burst → same_control (Beat.C x) (Beat.C y) ≡ true → IsCarried x t
 unfolding pending release_of
 next_carried x y burst t ok is same =

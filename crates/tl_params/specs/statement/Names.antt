@@ -14,6 +14,8 @@ use Rattle.tl_params.specs.declared.param.Logical.{Logical}
 use Rattle.tl_params.specs.declared.param.Logical.TheVariants as logical
 use Rattle.tl_params.specs.declared.param.Intent.{Intent}
 use Rattle.tl_params.specs.declared.param.Intent.TheVariants as intent
+use Rattle.tl_params.specs.declared.memory_rule.MemoryRule.{MemoryRule}
+use Rattle.tl_params.specs.declared.memory_rule.MemoryRule.TheVariants as memory_rule
 use Rattle.tl_params.specs.declared.rule.Rule.{Rule}
 use Rattle.tl_params.specs.declared.rule.Rule.TheVariants as rule
 
@@ -90,3 +92,10 @@ rule_name rule.H13 = codes "H13"
 rule_name rule.A1 = codes "A1"
 rule_name rule.A2 = codes "A2"
 rule_name rule.A3 = codes "A3"
+
+-- the names of the rules of memory
+abbrev pub memory_rule_name : MemoryRule → List ℕ
+memory_rule_name memory_rule.M1 = codes "M1"
+memory_rule_name memory_rule.M2 = codes "M2"
+memory_rule_name memory_rule.M3 = codes "M3"
+memory_rule_name memory_rule.M4 = codes "M4"

@@ -1,22 +1,25 @@
 -- What the links of a manager carried whose clients have liberties, beside its end.
-use Rattle.std.specs.Prelude.{ℕ, true, false, List, [], ◌≡◌, ◌∷◌, ◌++◌, map, length, slice_index_or, ⊤}
+use Rattle.std.specs.Prelude.{ℕ, Bool, true, false, List, [], ◌≡◌, ◌∷◌, ◌++◌, map, length, slice_index_or, ⊤, Option}
+use Rattle.std.specs.Prelude.{Some, None}
 use Rattle.tl_beat.specs.declared.beat.Beat.{Beat}
 use Rattle.tl_beat.specs.declared.beat.Beat.TheVariants as beat
+use Rattle.tl_beat.specs.declared.beat.BeatB.{BeatB}
 use Rattle.tl_beat.specs.declared.beat.BeatC.{BeatC}
 use Rattle.tl_beat.specs.declared.beat.Link.{Link}
 use Rattle.tl_beat.specs.declared.channel.Channel.TheVariants as channel
 use Rattle.tl_burst.specs.statement.Messages.{History, unfinished}
 use Rattle.tl_params.specs.declared.config.Config.{Config}
-use Rattle.tl_params.specs.declared.key.Key.TheVariants.{AcquireOf}
+use Rattle.tl_params.specs.declared.key.Key.TheVariants.{AcquireOf, GrantSink, ProbeOf, RequestSource}
 use Rattle.tl_rules.specs.statement.Conformance.{Trace, on_link}
-use Rattle.tl_rules.specs.statement.History.{block_at, held, pending, request_of}
+use Rattle.tl_rules.specs.statement.History.{block_at, held, pending, probe_of, request_of}
 use Rattle.tl_rules.specs.statement.Liberties.{held_under, releases_from}
+use Rattle.tl_manager.specs.code.Releases.{IsAnswered}
 use Rattle.tl_manager.specs.statement.Handing.{with_handed}
 use Rattle.tl_manager.specs.statement.Offer.{Reception, Refused, Stalled, Sent}
 use Rattle.tl_partner.specs.declared.terms.Terms.{Terms}
 use Rattle.tl_partner.specs.statement.Cleaning.{PartnerEnd, is_cleaning}
 use Rattle.tl_partner.specs.statement.Granting.{granted}
-use Rattle.tl_partner.specs.statement.Naming.{plain}
+use Rattle.tl_partner.specs.statement.Naming.{is_misnamed, plain, probe_source}
 
 -- what the links carried after a beat was answered so: the beat that is taken, and what is handed out
 abbrev pub carried_after : {w : ℕ} → Link → Beat w → Reception w → Trace w → Trace w
@@ -49,6 +52,30 @@ IsUnderwayIfAny terms [] e = ⊤
 IsUnderwayIfAny terms (beat.C x ∷ burst) e = IsUnderway terms x e
 IsUnderwayIfAny terms (x ∷ burst) e = ⊥
 
+-- the Probes have the same opcode and cap; with `ids` the first has the source of its link
+abbrev pub AreSameProbe : {w : ℕ} → Terms → ℕ → Option (BeatB w) → Option (BeatB w) → Type 0
+AreSameProbe terms client None None = ⊤
+AreSameProbe terms client (Some x) (Some y) =
+    (x.opcode ≡ y.opcode) × (x.param ≡ y.param) × (terms.ids ≡ true → x.source ≡ probe_source terms client)
+AreSameProbe terms client _ _ = ⊥
+
+-- the newest beat is a ProbeAck with another source than the link's Probes
+abbrev pub is_newest_misnamed : {w : ℕ} → Terms → ℕ → List (Beat w) → Bool
+is_newest_misnamed terms client [] = false
+is_newest_misnamed terms client (x ∷ burst) = is_misnamed terms (record { 0 = client }) x
+
+-- What is pending by the beats that a link carried is pending by the manager's history of it, but for Releases. The
+-- last Probe of each block is the same, but for its source. A ProbeAck that isn't complete has the source of the link's
+-- Probes.
+pub record ArePendingAlike {w : ℕ} (terms : Terms) (client : ℕ) (t e : History w) : Type 0 where
+  pub sources : (s : ℕ) → pending (RequestSource s) t ≡ pending (RequestSource s) e
+  pub acquires : (k : ℕ) → pending (AcquireOf k) t ≡ pending (AcquireOf k) e
+  pub sinks : (s : ℕ) → pending (GrantSink s) t ≡ pending (GrantSink s) e
+  pub probes : (k : ℕ) → pending (ProbeOf k) t ≡ pending (ProbeOf k) e
+  pub probe : (k : ℕ) → AreSameProbe terms client (probe_of k t) (probe_of k e)
+  pub quiet : unfinished channel.B t ≡ []
+  pub named : is_newest_misnamed terms client (unfinished channel.C t) ≡ false
+
 -- ---- all links
 
 -- so it is on each link, with these cleanings
@@ -60,8 +87,13 @@ abbrev pub AreAllUnderway : {w : ℕ} → Terms → List (List (Beat w)) → Tra
 AreAllUnderway terms cleanings e =
     (client : ℕ) → IsUnderwayIfAny terms (slice_index_or cleanings client []) (on_link client e)
 
+abbrev pub AreAllPendingAlike : {w : ℕ} → Terms → Trace w → Trace w → Type 0
+AreAllPendingAlike terms t e = (client : ℕ) → ArePendingAlike terms client (on_link client t) (on_link client e)
+
 -- what the links carried is beside this end of a manager, which has a cleaning, or none, for each of its clients
 pub record IsCarried {w : ℕ} (terms : Terms) (config : Config) (t : Trace w) (e : PartnerEnd w) : Type 0 where
   pub links : length e.cleanings ≡ length config.clients.items
   pub alike : AreAllAlike terms e.cleanings t e.manager.trace
   pub underway : AreAllUnderway terms e.cleanings e.manager.trace
+  pub pendings : AreAllPendingAlike terms t e.manager.trace
+  pub answered : (client : ℕ) → IsAnswered (on_link client t)

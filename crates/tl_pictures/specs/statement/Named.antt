@@ -6,9 +6,9 @@ use Rattle.tl_params.specs.declared.rule.Rule.{Rule}
 use Rattle.tl_params.specs.declared.rule.Rule.TheVariants.{L1, L2, L3, L4, L5, L6, L7, S1, H1, H2, H3, H4, H5, H6, H7}
 use Rattle.tl_params.specs.declared.rule.Rule.TheVariants.{H8, H9, H10, H11, H12, H13, A1, A2, A3}
 use Rattle.tl_params.specs.statement.Names.{rule_name}
-use Rattle.tl_together.specs.declared.breach.MemoryRule.{MemoryRule}
-use Rattle.tl_together.specs.declared.breach.MemoryRule.TheVariants.{M1, M2, M3, M4}
-use Rattle.tl_together.specs.statement.Names.{memory_rule_name}
+use Rattle.tl_params.specs.declared.memory_rule.MemoryRule.{MemoryRule}
+use Rattle.tl_params.specs.declared.memory_rule.MemoryRule.TheVariants.{M1, M2, M3, M4}
+use Rattle.tl_params.specs.statement.Names.{memory_rule_name}
 use Rattle.tl_pictures.specs.statement.Answer.{rule_number, memory_rule_number}
 
 abbrev pub rules : List Rule

@@ -2,7 +2,7 @@
 use Rattle.std.specs.Prelude.{ℕ, List, ◌++◌, codes}
 use Rattle.tl_beat.specs.declared.fault.LineFault.TheVariants.{F1, F2, F3, F4, F5, F6}
 use Rattle.tl_params.specs.statement.Names.{rule_name}
-use Rattle.tl_together.specs.statement.Names.{memory_rule_name}
+use Rattle.tl_params.specs.statement.Names.{memory_rule_name}
 use Rattle.tl_explain.specs.statement.Sentences.{in_brackets, memory_sentence, messages_judged, messages_judged_together}
 use Rattle.tl_explain.specs.statement.Sentences.{rule_sentence}
 use Rattle.tl_engine.specs.declared.fault.Fault.{Fault}

@@ -21,8 +21,8 @@ use Rattle.tl_monitor.specs.statement.Granting.{granted_under}
 use Rattle.tl_bytes.specs.statement.Bytes.{is_true}
 use Rattle.tl_bytes.specs.statement.Free.{all_but_early}
 use Rattle.tl_bytes.specs.statement.Shown.{had_window}
-use Rattle.tl_together.specs.declared.breach.MemoryRule.{MemoryRule}
-use Rattle.tl_together.specs.declared.breach.MemoryRule.TheVariants.{M1, M2, M3, M4}
+use Rattle.tl_params.specs.declared.memory_rule.MemoryRule.{MemoryRule}
+use Rattle.tl_params.specs.declared.memory_rule.MemoryRule.TheVariants.{M1, M2, M3, M4}
 use Rattle.tl_together.specs.declared.breach.Breach.{Breach}
 use Rattle.tl_together.specs.declared.breach.Breach.TheVariants.{OfLink, OfMemory}
 

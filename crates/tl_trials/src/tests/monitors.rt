@@ -14,7 +14,8 @@ use tl_monitor::trace::check_trace;
 use tl_params::level::Level;
 use tl_params::profile::Profile;
 use tl_params::rule::Rule;
-use tl_together::breach::{Breach, MemoryRule};
+use tl_rules::memory_rule::MemoryRule;
+use tl_together::breach::Breach;
 use tl_together::fault as together;
 use tl_together::trace::check_together;
 

@@ -1,5 +1,5 @@
 use Rattle.std.proofs.Common.{rules, arith, ap, ◌≡◌, ◌*◌, ◌+◌, ◌-◌, ◌/◌, ℕ, take, drop}
-use Rattle.tl_beat.proofs.LanesAt.{lanes-eight, lanes-all, eights}
+use Rattle.tl_beat.proofs.LanesAt.{lanes-eight, lanes-all}
 use Rattle.tl_beat.proofs.read.field.spelled_lanes.Goals as goal
 
 pub loop-i-preserved : goal.loop-i-preserved
@@ -16,5 +16,5 @@ loop-i-preserved g c =
 pub returns : goal.returns
 returns g c =
     let end : c.loop-i.i ≡ g.row.W / 8 = search rules in
-    lanes-all g.row.W c.loop-i.i c.loop-i.lanes c.args.field.now _ (eights g.row.W c.loop-i.i c.requires (search rules)
-    end) (search rules) c.loop-i.invariant.same
+    let whole : g.row.W ≡ 8 * c.loop-i.i = search rules in
+    lanes-all g.row.W c.loop-i.i c.loop-i.lanes c.args.field.now _ whole (search rules) c.loop-i.invariant.same

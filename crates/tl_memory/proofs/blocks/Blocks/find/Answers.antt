@@ -4,11 +4,11 @@ use Rattle.std.{specs.Map.lookup, specs.Ordering.nat_cmp}
 use Rattle.tl_memory.{specs.statement.Blocks.place_in, proofs.Tables.blocks-more, proofs.Tables.blocks-same}
 use Rattle.tl_memory.proofs.blocks.Blocks.find.Goals as goal
 
-pub returns-in-Ok-clause-known : goal.returns-in-Ok-clause-known
-returns-in-Ok-clause-known g c = λ n t k.
+pub returns-in-Ok-insert-clause-known : goal.returns-in-Ok-insert-clause-known
+returns-in-Ok-insert-clause-known g c = λ n t k.
     let unmet : place_in c.args.self.now c.args.block ≡ None = search rules in
     blocks-more c.args.self.now _ c.new.result n c.args.block t c.in_ok-push.ensures.items
-    (λ other. grind (arith, common_steps, c.in-Ok.ensures.updates.0 other)) refl unmet
+    (λ other. grind (arith, common_steps, c.in-Ok-insert.ensures.updates.0 other)) refl unmet
     (c.new.ensures n c.args.block) k
 
 pub returns-in-Err-clause-known : goal.returns-in-Err-clause-known

@@ -1,24 +1,25 @@
-use Rattle.std.proofs.Common.{◌≡◌, ◌∙◌, None, Some, arith, refl, rules, sym}
-use Rattle.std.proofs.lemmas.Grind.{common_steps}
-use Rattle.tl_wide.proofs.Naming.{found-none, found-place, one-known, place-last}
-use Rattle.tl_wide.specs.code.Numbers.{place_found}
+use Rattle.std.proofs.Common.{◌≡◌, ◌∙◌, ap, not, true, rules, sym}
+use Rattle.std.proofs.lemmas.Result.{err_from_is_err_and}
+use Rattle.tl_wide.proofs.Naming.{is_within, room-left, still-known, within-limit}
 use Rattle.tl_wide.proofs.numbers.Numbers.number.Goals as goal
 
-pub returns : goal.returns
-returns c = λ names knows.
-    let none : place_found c.args.self.now.places.entries c.args.name ≡ None =
-    first_of (search rules, grind (arith, common_steps, c.get.ensures.value, c.in_default.is)) in
-    let fresh = found-none (place_found c.args.self.now.places.entries c.args.name) names c.args.name
-    (knows.places_are c.args.name) none in
-    rw fresh (
-      knows.count_is ∙ sym (place-last names c.args.name fresh),
-      (λ new. omega (arith, knows.count_is, c.if-self-limit.false)),
-      one-known c.args.self.now _ names c.args.name knows fresh refl c.in_ok-insert_place.ensures.changed,
-    )
+pub returns-then-not-is_within : goal.returns-then-not-is_within
+returns-then-not-is_within c = λ names knows le. (
+  within-limit c.args.self.now names c.args.limit c.args.name knows le
+      ∙ ap not (sym c.is_within.ensures ∙ c.if-not-is_within.true),
+  knows,
+)
 
-pub returns-in-Some : goal.returns-in-Some
-returns-in-Some c = λ names knows.
-    let found : place_found c.args.self.now.places.entries c.args.name ≡ Some c.in-Some.place = search rules in
-    let old = found-place (place_found c.args.self.now.places.entries c.args.name) names c.args.name c.in-Some.place
-    (knows.places_are c.args.name) found in
-    rw old.0 (old.1, (λ new. absurd cc), knows)
+pub returns-in_err-make_room : goal.returns-in_err-make_room
+returns-in_err-make_room c = λ names knows le.
+    let p = err_from_is_err_and c.from_residual.result c.from_residual.ensures.1 in
+    rw p.1 (still-known c.args.self.now c.make_room.new.self names knows c.make_room.ensures.same
+    c.make_room.ensures.count)
+
+pub returns : goal.returns
+returns c = λ names knows le.
+    let within : is_within c.args.self.now c.args.limit c.args.name ≡ true = search rules in
+    let given = c.give.ensures names
+    (still-known c.args.self.now c.make_room.new.self names knows c.make_room.ensures.same c.make_room.ensures.count)
+    (room-left c.args.self.now names c.args.limit c.args.name knows within c.ranges.limit.fits) in
+    (within-limit c.args.self.now names c.args.limit c.args.name knows le ∙ ap not within, given.0, given.1)

@@ -1,0 +1,300 @@
+//! What the beats of a wide trace become, one after another.
+
+ghost use Rattle.std.specs.Prelude.{ℕ, List, Some, None, [], ◌∷◌, ◌≡◌, ◌<◌, ◌/◌, ◌^◌, ◌==◌, true, if◌then◌else◌};
+ghost use Rattle.std.specs.Prelude.{◌≤◌, ◌≢◌, length, slice_index_or, IfOk, OnOk, OnErr};
+ghost use Rattle.tl_wide.specs.code.Numbers.{AreNumbered, KnowsNumbers};
+ghost use Rattle.tl_wide.specs.declared.numbers.Numbers.{Numbers};
+ghost use Rattle.tl_beat.specs.declared.beat.Link.{Link};
+ghost use Rattle.tl_wide.specs.code.Narrowing.{Follows, IsNamed, IsNarrowed, IsNumberedBeat, KnowsNames, MessageNamed};
+ghost use Rattle.tl_wide.specs.code.Narrowing.{ResponseNamed, SinkNamed, asked_found, asked_room, key_of};
+ghost use Rattle.tl_wide.specs.declared.beat.WideBeat.{WideBeat};
+ghost use Rattle.tl_wide.specs.declared.beat.WideBeat.TheVariants as wide;
+ghost use Rattle.tl_wide.specs.declared.beat.WideBeatA.{WideBeatA};
+ghost use Rattle.tl_wide.specs.statement.Naming.{WideTrace, block_named, in_block, sink_named, source_of};
+ghost use Rattle.tl_wide.specs.statement.Width.{IsWideWidth, part_width};
+
+use crate::beat::{WideBeat, WideBeatA};
+use crate::numbers::{Numbers, number_both};
+use crate::parts::{Named, Parts};
+use std::alloc::{AllocError, Global};
+use std::array;
+use std::collections::BTreeMap;
+use tl_beat::beat::Link;
+
+/// How many blocks have numbers at most.
+const MOST_BLOCKS: u32 = 1 << 26;
+
+/// How many sources of a link, and how many sinks, have numbers at most.
+const MOST_IDS: u32 = 256;
+
+/// The address in the block of this number.
+fn address_in(block: u32, address: u64) -> u32
+    ensures { block < 2 ^ 26 → result ≡ in_block block address }
+{
+    block.wrapping_mul(64).wrapping_add((address % 64) as u32)
+}
+
+/// The number of a source or a sink, as a beat of the rules has it.
+fn id_of(number: u32) -> u8
+    ensures { number < 2 ^ 8 → result ≡ number }
+{
+    (number % 256) as u8
+}
+
+/// A table for each link, of which 0 is the first source.
+fn no_sources(alloc: Global) -> [Numbers; 256]
+    ensures known { (i : ℕ) (d : Numbers) → i < 256 → KnowsNumbers (slice_index_or result i d) (0 ∷ []) }
+    ensures long { length result ≡ 256 }
+{
+    array::from_fn(
+        |_|
+            ensures { KnowsNumbers result (0 ∷ []) }
+        { Numbers::from_zero(alloc) },
+    )
+}
+
+/// The numbers of a block and of a source of a link.
+fn number_message(
+    blocks: &mut Numbers,
+    sources: &mut [Numbers; 256],
+    link: Link,
+    block: u64,
+    source: u16,
+) -> Result<Option<(u32, u32)>, AllocError>
+    ensures numbered { (names others : List ℕ) (d : Numbers) → KnowsNumbers blocks.old names →
+        KnowsNumbers (slice_index_or sources.old link.0 d) others → length names ≤ 2 ^ 26 → length others ≤ 256 →
+        AreNumbered (2 ^ 26) names block 256 others source result blocks.new (slice_index_or sources.new link.0 d) }
+    ensures others { (i : ℕ) (d : Numbers) → i ≢ link.0 → slice_index_or sources.new i d
+        ≡ slice_index_or sources.old i d }
+    ensures long { length sources.new ≡ 256 }
+{
+    number_both(
+        blocks,
+        block,
+        MOST_BLOCKS,
+        &mut sources[usize::from(link.0)],
+        u64::from(source),
+        MOST_IDS,
+    )
+}
+
+/// The numbers of a source of a link and of a sink.
+fn number_response(
+    sources: &mut [Numbers; 256],
+    link: Link,
+    source: u16,
+    sinks: &mut Numbers,
+    sink: u16,
+) -> Result<Option<(u32, u32)>, AllocError>
+    ensures numbered { (names others : List ℕ) (d : Numbers) →
+        KnowsNumbers (slice_index_or sources.old link.0 d) names →
+        KnowsNumbers sinks.old others → length names ≤ 256 → length others ≤ 256 →
+        AreNumbered 256 names source 256 others sink result (slice_index_or sources.new link.0 d) sinks.new }
+    ensures others { (i : ℕ) (d : Numbers) → i ≢ link.0 → slice_index_or sources.new i d
+        ≡ slice_index_or sources.old i d }
+    ensures long { length sources.new ≡ 256 }
+{
+    number_both(
+        &mut sources[usize::from(link.0)],
+        u64::from(source),
+        MOST_IDS,
+        sinks,
+        u64::from(sink),
+        MOST_IDS,
+    )
+}
+
+/// What the names of a trace have become so far.
+#[derive(Drop)]
+struct Names {
+    blocks: Numbers,
+    sources: [Numbers; 256],
+    sinks: Numbers,
+}
+
+impl Names {
+    /// The numbers that the block and the source of a beat of channel A, B or C become.
+    fn message(
+        &mut self,
+        link: Link,
+        address: u64,
+        source: u16,
+    ) -> Result<Option<Named>, AllocError>
+        ensures { (w : ℕ) (x : WideBeat w) (t : WideTrace w) → block_named (link, x) ≡ Some (address / 64) →
+            source_of x ≡ Some source → sink_named (link, x) ≡ None → KnowsNames self.old t →
+            IsNamed link x t (MessageNamed link address source ((link, x) ∷ t)) result self.new }
+    {
+        let numbers = number_message(
+            &mut self.blocks,
+            &mut self.sources,
+            link,
+            address / 64,
+            source,
+        )?;
+        let Some((block, source)) = numbers else {
+            return Ok(None);
+        };
+        Ok(Some(Named {
+            source: id_of(source),
+            sink: 0,
+            address: address_in(block, address),
+            asked: 0,
+        }))
+    }
+
+    /// The numbers that the source and the sink of a beat of channel D become.
+    fn response(&mut self, link: Link, source: u16, sink: u16) -> Result<Option<Named>, AllocError>
+        ensures { (w : ℕ) (x : WideBeat w) (t : WideTrace w) → block_named (link, x) ≡ None →
+            source_of x ≡ Some source → sink_named (link, x) ≡ Some sink → KnowsNames self.old t →
+            IsNamed link x t (ResponseNamed link source sink ((link, x) ∷ t)) result self.new }
+    {
+        let numbers = number_response(&mut self.sources, link, source, &mut self.sinks, sink)?;
+        let Some((source, sink)) = numbers else {
+            return Ok(None);
+        };
+        Ok(Some(Named {
+            source: id_of(source),
+            sink: id_of(sink),
+            address: 0,
+            asked: 0,
+        }))
+    }
+
+    /// The number that the sink of a beat of channel E becomes.
+    fn acknowledgement(&mut self, link: Link, sink: u16) -> Result<Option<Named>, AllocError>
+        ensures { (w : ℕ) (x : WideBeat w) (t : WideTrace w) → block_named (link, x) ≡ None →
+            source_of x ≡ None → sink_named (link, x) ≡ Some sink → KnowsNames self.old t →
+            IsNamed link x t (SinkNamed sink ((link, x) ∷ t)) result self.new }
+    {
+        let Some(sink) = self.sinks.number(u64::from(sink), MOST_IDS)? else {
+            return Ok(None);
+        };
+        Ok(Some(Named {
+            source: 0,
+            sink: id_of(sink),
+            address: 0,
+            asked: 0,
+        }))
+    }
+}
+
+/// The place of a link's source among all.
+fn key_of(link: Link, source: u16) -> u32
+    ensures { result ≡ key_of link source }
+{
+    65536 * u32::from(link.0) + u32::from(source)
+}
+
+/// The address that stands under a key, 0 if none does.
+fn asked_at(asked: &BTreeMap<u32, u64>, key: u32) -> u64
+    ensures { result ≡ asked_found asked.now.entries key }
+{
+    match asked.get(&key) {
+        None => 0,
+        Some(address) => *address,
+    }
+}
+
+/// Makes room under a key. The addresses stay as they were.
+fn make_room(asked: &mut BTreeMap<u32, u64>, key: u32) -> Result<(), AllocError>
+    ensures same { (k : ℕ) → asked_found asked.new.entries k ≡ asked_found asked.old.entries k }
+    ensures room { OnOk result (asked_room asked.new.entries key ≡ true) }
+{
+    if asked.contains_key(&key) {
+        return Ok(());
+    }
+    match asked.insert(key, 0) {
+        Ok(_) => Ok(()),
+        Err(_) => Err(AllocError),
+    }
+}
+
+/// Keeps an address under a key that has room.
+fn keep(asked: &mut BTreeMap<u32, u64>, key: u32, address: u64)
+    requires { asked_room asked.old.entries key ≡ true }
+    ensures { (k : ℕ) → asked_found asked.new.entries k
+        ≡ (if k == key then address else asked_found asked.old.entries k) }
+{
+    let _ = asked.insert(key, address);
+}
+
+/// What a wide trace has named so far. From it each next beat becomes beats of at most 16 bytes.
+#[derive(Drop)]
+pub struct Narrower {
+    names: Names,
+    asked: BTreeMap<u32, u64>,
+}
+
+impl Narrower {
+    /// What the trace of no beats has named.
+    pub fn new(alloc: Global) -> Self
+        ensures { (w : ℕ) → Follows {w = w} result [] }
+    {
+        Narrower {
+            names: Names {
+                blocks: Numbers::new(alloc),
+                sources: no_sources(alloc),
+                sinks: Numbers::from_zero(alloc),
+            },
+            asked: BTreeMap::new(alloc),
+        }
+    }
+
+    /// The numbers that the names of a beat of channel A become. Its address is kept for the beats that answer it.
+    fn request<const W: usize>(
+        &mut self,
+        link: Link,
+        beat: &WideBeatA<W>,
+    ) -> Result<Option<Named>, AllocError>
+        ensures { (t : WideTrace W) → Follows self.old t → IsNumberedBeat link (wide.A beat.now) t result self.new }
+    {
+        let key = key_of(link, beat.source);
+        make_room(&mut self.asked, key)?;
+        let Some(named) = self.names.message(link, beat.address, beat.source)? else {
+            return Ok(None);
+        };
+        keep(&mut self.asked, key, beat.address);
+        Ok(Some(named))
+    }
+
+    /// The numbers that the names of a beat become, and the address of the request that a beat of channel D answers.
+    fn name<const W: usize>(
+        &mut self,
+        link: Link,
+        beat: &WideBeat<W>,
+    ) -> Result<Option<Named>, AllocError>
+        ensures { (t : WideTrace W) → Follows self.old t → IsNumberedBeat link beat.now t result self.new }
+    {
+        match beat {
+            WideBeat::A(x) => self.request(link, x),
+            WideBeat::B(x) => self.names.message(link, x.address, x.source),
+            WideBeat::C(x) => self.names.message(link, x.address, x.source),
+            WideBeat::D(x) => {
+                let asked = asked_at(&self.asked, key_of(link, x.source));
+                let Some(named) = self.names.response(link, x.source, x.sink)? else {
+                    return Ok(None);
+                };
+                Ok(Some(Named { asked, ..named }))
+            }
+            WideBeat::E(x) => self.names.acknowledgement(link, x.sink),
+        }
+    }
+
+    /// The beats that the next beat of the trace becomes, or `None` where it names a block, a source or a sink for
+    /// which
+    /// no number is left. Then, and where there is no memory, nothing changes. `P` is 16, or `W` where that is less.
+    pub fn narrow<const W: usize, const P: usize>(
+        &mut self,
+        link: Link,
+        beat: &WideBeat<W>,
+    ) -> Result<Option<Parts>, AllocError>
+        requires width { IsWideWidth W }
+        requires parts { P ≡ part_width W }
+        ensures { (t : WideTrace W) → Follows self.old t → IsNarrowed link beat.now t result self.new }
+    {
+        let Some(named) = self.name(link, beat)? else {
+            return Ok(None);
+        };
+        Ok(Some(Parts::new::<W, P>(beat, named)))
+    }
+}

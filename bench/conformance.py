@@ -1,8 +1,8 @@
 #!/usr/bin/env python3
 """conformance.py MAP..: tries the example's designs, each without a bug and with each of its bugs, by `tl-conform` with 20 seeds, and
-writes rows for docs/CONFORMANCE.md: in how many seeds a bug is found, by what, in which cycle (median and last), and the
-situations. MAP is one of the maps in benches/conformance,
-as tl_cache. Words of the form --NAME=VALUE go to tl-conform. What is built lies in benches/out."""
+writes rows for docs/CONFORMANCE.md: in how many seeds a bug is found, by what, in which cycle (median and last), and the situations.
+MAP is one of the maps in benches/conformance, as tl_cache. Words of the form --NAME=VALUE go to tl-conform. What is built lies in
+benches/out."""
 import collections
 import pathlib
 import re

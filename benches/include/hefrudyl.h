@@ -1,4 +1,4 @@
-/* Hefrudyl for C and C++: the proved link monitor, judge of all links, clients and manager. docs/BENCHES.md says what is proved, and what a
+/* Hefrudyl for C and C++: the proved link monitor, judge of all links, cover, clients and manager. docs/BENCHES.md says what is proved, and what a
    program that calls it must see to: a handle is used by one call at a time. */
 #ifndef HEFRUDYL_H
 #define HEFRUDYL_H
@@ -142,6 +142,38 @@ tl_answer tl_judge_push_line(tl_judge *judge, const uint8_t *line, size_t length
 
 /* Frees what the handle holds. It holds nothing then. */
 void tl_judge_free(tl_judge *judge);
+
+/* A handle, as that of a monitor: a cover counts how often messages begin in each situation (docs/FORMATS.md, "The
+   text of cover"). */
+typedef struct tl_cover {
+  void *at;
+  uint8_t full;
+} tl_cover;
+
+/* How often a situation came, and in which line of a trace first: the first beat is line 2, behind the header. The
+   line is 0 where the situation didn't come. */
+typedef struct tl_tally {
+  uint64_t count;
+  uint64_t line;
+} tl_tally;
+
+/* Situations have numbers from 0 on, in the order in which `tltool cover` writes them. */
+enum { TL_SITUATIONS = 66 };
+
+/* Makes a cover of 1 to 16 links of these levels (enum tl_level), of beats of 4, 8 or 16 bytes, that have these
+   liberties (the sum of enum tl_liberty), behind a handle that holds nothing. */
+tl_answer tl_cover_new(tl_cover *cover, const uint8_t *levels, size_t links, uint8_t width, uint8_t liberties);
+
+/* Judges a beat of a link, 0 to 15, as a monitor does, and counts the situations of the message that begins with it.
+   Behind a beat that breaks a rule the cover is closed, and its counts are those of the beats before. After
+   TL_NO_MEMORY nothing is known of them. */
+tl_answer tl_cover_push(tl_cover *cover, uint8_t link, const tl_beat *beat);
+
+/* Tells how often the situation of a number came. A number that is none's is TL_BAD_ARGUMENT. */
+tl_answer tl_cover_count(tl_cover *cover, uint8_t situation, tl_tally *tally);
+
+/* Frees what the handle holds. It holds nothing then. */
+void tl_cover_free(tl_cover *cover);
 
 enum tl_operation_kind {
   TL_LOAD = 0, TL_STORE = 1, TL_ACQUIRE = 2, TL_ACQUIRE_WHOLE = 3, TL_RELEASE = 4, TL_ACCESS = 5
@@ -287,6 +319,14 @@ size_t tl_rule_name(uint8_t rule, uint8_t *into, size_t room);
 /* Writes as much of the text of a code (enum tl_code) as there is room for, and returns how many bytes
    that is. 128 are enough for each. */
 size_t tl_error_text(uint8_t code, uint8_t *into, size_t room);
+
+/* Writes as much of the name of a situation as there is room for, as "report-TtoN", and returns how many letters that
+   is: 0 if there is no such situation, or no memory. 32 are enough for each. */
+size_t tl_situation_name(uint8_t situation, uint8_t *into, size_t room);
+
+/* Writes as much of the sentence of a situation as there is room for, and returns how many bytes that is: 0 if there
+   is no such situation. 128 are enough for each. */
+size_t tl_situation_text(uint8_t situation, uint8_t *into, size_t room);
 
 #ifdef __cplusplus
 }

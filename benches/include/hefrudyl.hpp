@@ -82,6 +82,51 @@ private:
   tl_monitor handle = {};
 };
 
+/// The name of a situation, as "report-TtoN"; empty for none.
+inline std::string situation_name(std::uint8_t situation) {
+  std::uint8_t letters[32];
+  std::size_t count = tl_situation_name(situation, letters, sizeof letters);
+  return std::string(reinterpret_cast<char *>(letters), count);
+}
+
+/// The sentence of a situation; empty for none.
+inline std::string situation_text(std::uint8_t situation) {
+  std::uint8_t text[128];
+  std::size_t count = tl_situation_text(situation, text, sizeof text);
+  return std::string(reinterpret_cast<char *>(text), count);
+}
+
+/// What counts the situations of links. It may be moved, and not copied.
+class Cover {
+public:
+  explicit Cover(const std::vector<std::uint8_t> &levels, std::uint8_t width = 8, std::uint8_t liberties = 0) {
+    tl_answer answer = tl_cover_new(&handle, levels.data(), levels.size(), width, liberties);
+    require_made(answer, "hefrudyl: levels or width");
+  }
+
+  Cover(Cover &&other) noexcept : handle(other.handle) { other.handle = {}; }
+  Cover &operator=(Cover &&other) noexcept {
+    std::swap(handle, other.handle);
+    return *this;
+  }
+  Cover(const Cover &) = delete;
+  Cover &operator=(const Cover &) = delete;
+  ~Cover() { tl_cover_free(&handle); }
+
+  /// Judges a beat of a link, and counts the situations of the message that begins with it.
+  tl_answer push(std::uint8_t link, const tl_beat &beat) { return tl_cover_push(&handle, link, &beat); }
+
+  /// How often the situation of a number below TL_SITUATIONS came, and in which line of a trace first.
+  tl_tally count(std::uint8_t situation) {
+    tl_tally tally = {};
+    require_made(tl_cover_count(&handle, situation, &tally), "hefrudyl: situation");
+    return tally;
+  }
+
+private:
+  tl_cover handle = {};
+};
+
 /// A judge of all links of one manager. It may be moved, and not copied.
 class Judge {
 public:

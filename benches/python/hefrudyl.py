@@ -1,4 +1,4 @@
-"""Hefrudyl for Python: the proved link monitor, judge of all links, clients and manager over ctypes, for cocotb and for notebooks.
+"""Hefrudyl for Python: the proved link monitor, judge of all links, cover, clients and manager over ctypes, for cocotb and for notebooks.
 
     from hefrudyl import Beat, Channel, Level, Monitor
 
@@ -192,6 +192,14 @@ class _Judge(_Handle):
     """A handle of `tl_judge`."""
 
 
+class _Cover(_Handle):
+    """A handle of `tl_cover`."""
+
+
+class _Tally(ctypes.Structure):
+    _fields_ = [("count", ctypes.c_uint64), ("line", ctypes.c_uint64)]
+
+
 class _Operation(ctypes.Structure):
     _fields_ = [
         ("bytes", ctypes.c_uint8 * 64),
@@ -256,6 +264,15 @@ def _load():
         under.restype, under.argtypes = _Answer, getattr(library, f"tl_{name}_new").argtypes
     library.tl_monitor_entries.restype = _Answer
     library.tl_monitor_entries.argtypes = [ctypes.POINTER(_Monitor), ctypes.c_uint8, ctypes.POINTER(ctypes.c_uint64)]
+    cover = ctypes.POINTER(_Cover)
+    for ending, arguments in (
+        ("new", [ctypes.c_char_p, ctypes.c_size_t, ctypes.c_uint8, ctypes.c_uint8]),
+        ("push", [ctypes.c_uint8, ctypes.POINTER(_Beat)]),
+        ("count", [ctypes.c_uint8, ctypes.POINTER(_Tally)]),
+    ):
+        call = getattr(library, f"tl_cover_{ending}")
+        call.restype, call.argtypes = _Answer, [cover, *arguments]
+    library.tl_cover_free.restype, library.tl_cover_free.argtypes = None, [cover]
     client, flag = ctypes.POINTER(_Client), ctypes.POINTER(ctypes.c_uint8)
     beat = ctypes.POINTER(_Beat)
     for name, arguments in (
@@ -290,7 +307,7 @@ def _load():
     under.argtypes = [*library.tl_manager_new.argtypes, ctypes.c_char_p, ctypes.c_size_t]
     library.tl_manager_free.restype = None
     library.tl_manager_free.argtypes = [manager]
-    for call in (library.tl_rule_name, library.tl_error_text):
+    for call in (library.tl_rule_name, library.tl_error_text, library.tl_situation_name, library.tl_situation_text):
         call.restype, call.argtypes = ctypes.c_size_t, [ctypes.c_uint8, ctypes.c_char_p, ctypes.c_size_t]
     return library
 
@@ -424,6 +441,40 @@ class Monitor(_Judging):
         told = ctypes.c_uint64()
         _taken(_library.tl_monitor_entries(self._handle, _field(link, "link", 256), told), "the link")
         return told.value
+
+
+@dataclasses.dataclass(frozen=True)
+class Situation:
+    """How often messages began in a situation, and in which line of a trace first: None where none did."""
+
+    name: str
+    text: str
+    count: int
+    line: "int | None"
+
+
+class Cover(_Agent):
+    """Counts how often messages of 1 to 16 links of these levels, of beats of `width` bytes, begin in each situation, where
+    the links have these liberties."""
+
+    def __init__(self, levels, width=8, liberties=0):
+        super().__init__(_Cover(), _library.tl_cover_free, width)
+        codes = bytes(_field(level, "a level", 256) for level in levels)
+        _taken(_library.tl_cover_new(self._handle, codes, len(codes), _field(width, "width", 256),
+                                     _field(int(liberties), "liberties", 256)), "levels or width")
+
+    def push(self, link, beat):
+        """Judges a beat of a link as a monitor does, and counts the situations of the message that begins with it."""
+        answer = _library.tl_cover_push(self._handle, _field(link, "link", 256), _struct(beat))
+        return Verdict(Code(answer.code), rule_name(answer.rule))
+
+    def situations(self):
+        """All situations, in the order in which `tltool cover` writes them."""
+        found, tally = [], _Tally()
+        while name := _written(_library.tl_situation_name, len(found)):
+            _taken(_library.tl_cover_count(self._handle, len(found), tally), "a situation")
+            found.append(Situation(name, _written(_library.tl_situation_text, len(found)), tally.count, tally.line or None))
+        return found
 
 
 class Client(_Agent):

@@ -35,6 +35,16 @@ def a_judge_of_all_links_from_c_under_the_sanitizers():
 
 
 @test
+def a_cover_from_c():
+    c_test("test_cover")
+
+
+@test
+def a_cover_from_c_under_the_sanitizers():
+    c_test("test_cover", *SANITIZERS)
+
+
+@test
 def a_client_from_c():
     c_test("test_client")
 

@@ -3,12 +3,13 @@
 import ctypes
 import dataclasses
 import functools
+import json
 import operator
 import os
 import re
 import sys
 
-from harness import HERE, ROOT, LIBRARY, test, want, run, path, judged, enumerators, python_module
+from harness import HERE, ROOT, LIBRARY, TLTOOL, test, want, run, path, judged, enumerators, python_module
 
 
 @test
@@ -62,7 +63,7 @@ def a_client_from_python():
 def the_headers_structs_are_pythons():
     module = python_module()
     structs = [("tl_" + name.lower(), getattr(module, "_" + name))
-               for name in ("Beat", "Answer", "Monitor", "Judge", "Client", "Operation", "Outcome", "Reception", "Manager")]
+               for name in ("Beat", "Answer", "Monitor", "Judge", "Client", "Operation", "Outcome", "Reception", "Manager", "Cover", "Tally")]
     structs.append(("tl_link_config", module._LinkConfig))
     source = path("layout.c")
     with open(source, "w") as text:
@@ -142,6 +143,23 @@ def python_judges_traces_as_the_command_does():
         for kind, command, right in ((module.Monitor, "monitor", "clean"), (module.Judge, "coherent", "coherent")):
             told, wanted = told_of(module, kind, name), judged(name, command)
             want(wanted == told or wanted.startswith(right) and not told, f"{name}: {told}, and {command} says {wanted}")
+
+
+@test
+def python_counts_situations_as_the_command_does():
+    """Every example trace of the situations: names, sentences, counts and first lines."""
+    module = python_module()
+    folder = os.path.join(ROOT, "crates/tl_examples/data/situations")
+    names = sorted(os.listdir(folder))
+    want(len(names) == int(dict(enumerators("include/hefrudyl.h", r"\bTL_(SITUATIONS) = (\d+)"))["SITUATIONS"]), f"{len(names)} traces")
+    for name in (os.path.join(folder, it) for it in names):
+        (levels, width, _, liberties), lines = read_trace(module, name)
+        with module.Cover(levels, width, liberties or 0) as cover:
+            for line in lines:
+                want(cover.push(*beat_of(module, line)), f"{name}: {line}")
+            told = [dataclasses.asdict(it) for it in cover.situations()]
+        wanted = json.loads(run([TLTOOL, "cover", "--json", name]))["situations"]
+        want(told == wanted, f"{name}: {told}, and cover says {wanted}")
 
 
 @test

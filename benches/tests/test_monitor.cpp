@@ -67,6 +67,18 @@ int main() {
   right = right && reader.push_line("00 A 4 0 3 00 00000000 ff - 0\n").code == TL_OK;
   right = right && reader.entries(0, entries).code == TL_OK && entries == 1;
   right = right && hefrudyl::error_text(reader.push_line("00 A\n").code).find("out of range") != std::string::npos;
+  hefrudyl::Cover cover({TL_C});
+  tl_beat asked = {};
+  asked.channel = TL_CHANNEL_A;
+  asked.opcode = TL_A_AcquirePerm;
+  asked.param = TL_NtoT;
+  asked.size = 6;
+  asked.mask = 0xff;
+  right = right && cover.push(0, asked).code == TL_OK;
+  for (std::uint8_t i = 0; i < TL_SITUATIONS; i++) {
+    bool came = hefrudyl::situation_name(i) == "acquire-NtoT";
+    right = right && cover.count(i).count == came && cover.count(i).line == (came ? 2u : 0u) && !hefrudyl::situation_text(i).empty();
+  }
   std::printf("%d failures\n", right ? 0 : 1);
   return right ? 0 : 1;
 }

@@ -46,6 +46,7 @@ opened-alone links blocks trackers width profile (Some (session.Manager (manager
 opened-alone links blocks trackers width profile (Some (session.Monitor m)) answer may told = absurd told.2
 opened-alone links blocks trackers width profile (Some (session.Judge j)) answer may told = absurd told.2
 opened-alone links blocks trackers width profile (Some (session.Client p)) answer may told = absurd told.2
+opened-alone links blocks trackers width profile (Some (session.Covering c)) answer may told = absurd told.2
 
 -- ---- under liberties
 

@@ -1,5 +1,6 @@
 pub mod Client
 pub mod ClientOpened
+pub mod Covering
 pub mod Handled
 pub mod Judged
 pub mod Manager

@@ -35,6 +35,7 @@ macro_rules! answered {
 }
 
 mod client;
+mod cover;
 mod judge;
 mod manager;
 mod monitor;

@@ -1,14 +1,16 @@
-//! What monitors, judges, clients and managers are made from, as C names it.
+//! What monitors, judges, coverings, clients and managers are made from, as C names it.
 
 ghost use Rattle.std.specs.Prelude.{◌≡◌, ◌≤◌, ◌++◌, false, drop, map, length, replicate, IfOk};
 ghost use Rattle.tl_beat.specs.statement.Width.{IsWidth};
 ghost use Rattle.hefrudyl.specs.statement.Opened.{may_open, may_open_under, new_answer, Makes, MakesUnder};
 ghost use Rattle.tl_pictures.specs.statement.Codes.{level_at};
+ghost use Rattle.hefrudyl.specs.statement.Covering.{MakesCovering};
 ghost use Rattle.hefrudyl.specs.statement.ClientOpened.{may_open_client, MakesClient};
 ghost use Rattle.hefrudyl.specs.statement.ManagerOpened.{may_open_manager, profile_code, MakesManager};
 ghost use Rattle.hefrudyl.specs.statement.TogetherOpened.{MakesJudge, may_judge_under};
 
 use std::alloc::{AllocError, Global};
+use tl_cover::covering::Covering;
 use tl_monitor::monitor::Monitor;
 use tl_partner::terms::Terms;
 use tl_pictures::answer::Answer;
@@ -58,6 +60,24 @@ pub fn may_open_under(codes: &[u8], width: u8) -> bool
     ensures { result ≡ may_open_under codes.now width }
 {
     1 <= codes.len() && codes.len() <= MOST_CLIENTS && are_levels(codes) && is_width(width)
+}
+
+/// A covering of links with liberties that has seen no beat.
+pub fn make_covering<const W: usize>(
+    alloc: Global,
+    codes: &[u8],
+    liberties: u8,
+) -> Result<Covering<W>, Answer>
+    requires width { IsWidth W }
+    ensures { MakesCovering codes.now liberties result }
+{
+    let Ok(levels) = levels_of(alloc, codes) else {
+        return Err(Answer::NO_MEMORY);
+    };
+    match Covering::new(alloc, levels.as_slice(), liberties_of(liberties)) {
+        Ok(covering) => Ok(covering),
+        Err(fault) => Err(Answer::of(Err(fault))),
+    }
 }
 
 /// A monitor of links with liberties that has seen no beat.

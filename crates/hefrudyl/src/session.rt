@@ -13,6 +13,7 @@ ghost use Rattle.hefrudyl.specs.statement.Sessions.{AdmitsSession, StallsAtSessi
 ghost use Rattle.hefrudyl.specs.statement.Sessions.{PopAtSession, ClosedAtSession};
 
 use crate::client::AnyPort;
+use crate::cover::AnyCovering;
 use crate::judge::AnyJudge;
 use crate::manager::AnyManager;
 use crate::monitor::AnyMonitor;
@@ -31,12 +32,13 @@ use tl_pictures::outcome::{Outcome, Reception};
 use tl_pictures::picture::Picture;
 use tl_rules::liberties::Liberties;
 
-/// What a handle holds: a monitor, a judge of all links, or a client or manager with the beats that it has
-/// still to send.
+/// What a handle holds: a monitor, a judge of all links, a covering, or a client or manager with the beats that it
+/// has still to send.
 #[derive(Drop)]
 pub enum Session {
     Monitor(AnyMonitor),
     Judge(AnyJudge),
+    Covering(AnyCovering),
     Client(AnyPort),
     Manager(AnyManager),
 }

@@ -1,4 +1,4 @@
--- What C is told of a monitor, a judge, a client and a manager by its handle.
+-- What C is told of a monitor, a judge, a cover, a client and a manager by its handle.
 use Rattle.std.specs.Prelude.{ℕ, List, ◌≡◌, Option, Some, None}
 use Rattle.tl_pictures.specs.declared.answer.Answer.{Answer}
 use Rattle.tl_pictures.specs.declared.config.LinkConfig.{LinkConfig}
@@ -6,8 +6,10 @@ use Rattle.tl_pictures.specs.declared.operation.Operation.{Operation}
 use Rattle.tl_pictures.specs.declared.outcome.Outcome.{Outcome}
 use Rattle.tl_pictures.specs.declared.outcome.Reception.{Reception}
 use Rattle.tl_pictures.specs.declared.picture.Picture.{Picture}
+use Rattle.hefrudyl.specs.declared.cover.Tally.{Tally}
 use Rattle.hefrudyl.specs.declared.session.Session.{Session}
 use Rattle.tl_pictures.specs.statement.Answer.{bad, IsBad}
+use Rattle.hefrudyl.specs.statement.Covering.{CountsSession, OpensCovering, TallySession}
 use Rattle.hefrudyl.specs.statement.Opened.{OpensTo, OpensUnder}
 use Rattle.hefrudyl.specs.statement.Sessions
 
@@ -30,6 +32,10 @@ JudgeOpenTold old new levels width profile answer =
 abbrev pub JudgeOpenUnderTold : Option Session → Option Session → List ℕ → ℕ → ℕ → Answer → Type 0
 JudgeOpenUnderTold old new levels width liberties answer =
     OpensHandle (Sessions.JudgeOpensUnder levels width liberties) old new answer
+
+abbrev pub CoverOpenTold : Option Session → Option Session → List ℕ → ℕ → ℕ → Answer → Type 0
+CoverOpenTold old new levels width liberties answer =
+    OpensHandle (OpensCovering levels width liberties) old new answer
 
 abbrev pub ClientOpenTold : Option Session → Option Session → ℕ → ℕ → ℕ → ℕ → ℕ → Answer → Type 0
 ClientOpenTold old new level blocks sources width profile answer =
@@ -75,6 +81,15 @@ JudgeTryTold link x answer old new = OnHandle (Sessions.TriesSession link x answ
 
 abbrev pub JudgeLineTold : List ℕ → Answer → Option Session → Option Session → Type 0
 JudgeLineTold line answer old new = OnHandle (Sessions.JudgesLineSession line answer) (answer ≡ bad) old new
+
+-- ---- covers
+
+abbrev pub CountTold : ℕ → Picture → Answer → Option Session → Option Session → Type 0
+CountTold link x answer old new = OnHandle (CountsSession link x answer) (answer ≡ bad) old new
+
+abbrev pub TallyTold : ℕ → Tally → Tally → Answer → Option Session → Option Session → Type 0
+TallyTold situation was tally answer old new = OnHandle (λ s u. TallySession situation was tally answer s × (u ≡ s))
+    (IsBad answer was tally) old new
 
 -- ---- clients
 

@@ -44,6 +44,7 @@ OnMonitor P refused (session.Monitor (monitor.Sixteen old)) (session.Monitor (mo
 OnMonitor P refused (session.Client old) new = refused × (new ≡ session.Client old)
 OnMonitor P refused (session.Manager old) new = refused × (new ≡ session.Manager old)
 OnMonitor P refused (session.Judge old) new = refused × (new ≡ session.Judge old)
+OnMonitor P refused (session.Covering old) new = refused × (new ≡ session.Covering old)
 OnMonitor _ _ _ _ = ⊥
 
 abbrev pub PushSession : ℕ → Picture → Answer → Session → Session → Type 0
@@ -90,6 +91,7 @@ OnJudge P refused (session.Judge (judge.Sixteen old)) (session.Judge (judge.Sixt
 OnJudge P refused (session.Monitor old) new = refused × (new ≡ session.Monitor old)
 OnJudge P refused (session.Client old) new = refused × (new ≡ session.Client old)
 OnJudge P refused (session.Manager old) new = refused × (new ≡ session.Manager old)
+OnJudge P refused (session.Covering old) new = refused × (new ≡ session.Covering old)
 OnJudge _ _ _ _ = ⊥
 
 abbrev pub JudgesSession : ℕ → Picture → Answer → Session → Session → Type 0
@@ -131,6 +133,7 @@ OnClient P refused (session.Client (port.Sixteen old)) (session.Client (port.Six
 OnClient P refused (session.Monitor old) new = refused × (new ≡ session.Monitor old)
 OnClient P refused (session.Manager old) new = refused × (new ≡ session.Manager old)
 OnClient P refused (session.Judge old) new = refused × (new ≡ session.Judge old)
+OnClient P refused (session.Covering old) new = refused × (new ≡ session.Covering old)
 OnClient _ _ _ _ = ⊥
 
 abbrev pub AsksSession : Operation → Outcome → Outcome → Answer → Session → Session → Type 0
@@ -213,6 +216,7 @@ OnManager P refused (session.Manager (manager.Sixteen old)) (session.Manager (ma
 OnManager P refused (session.Monitor old) new = refused × (new ≡ session.Monitor old)
 OnManager P refused (session.Client old) new = refused × (new ≡ session.Client old)
 OnManager P refused (session.Judge old) new = refused × (new ≡ session.Judge old)
+OnManager P refused (session.Covering old) new = refused × (new ≡ session.Covering old)
 OnManager _ _ _ _ = ⊥
 
 abbrev pub AdmitsSession : ℕ → Picture → ℕ → ℕ → Answer → Session → Session → Type 0

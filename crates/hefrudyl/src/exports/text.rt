@@ -1,8 +1,13 @@
 //! Texts for C.
 
+ghost use Rattle.std.specs.Prelude.{◌≡◌, ◌++◌, OnOk, slice_get};
+ghost use Rattle.hefrudyl.specs.statement.Covering.{IsNamed, name_of, sentence_at, sentence_of};
+ghost use Rattle.tl_cover.specs.statement.Covered.{all_situations};
 ghost use Rattle.tl_pictures.specs.statement.Named.{name_with};
 ghost use Rattle.tl_pictures.specs.statement.Written.{IsWritten, code_text};
 
+use std::alloc::{AllocError, Global};
+use tl_cover::situation::Situation;
 use tl_pictures::rule::name_of;
 use tl_pictures::text::{text_of, write_text};
 
@@ -20,4 +25,59 @@ pub extern "C" fn tl_error_text(code: u8, into: &mut [u8]) -> usize
     ensures { IsWritten (code_text code) into.old into.new result }
 {
     write_text(text_of(code).as_bytes(), into)
+}
+
+/// The situation of a number among these.
+fn numbered(all: &[Situation], number: u8) -> Option<Situation>
+    ensures { result ≡ slice_get all.now number }
+{
+    all.get(usize::from(number)).copied()
+}
+
+/// The situation of a number, from 0 on.
+fn situation_at(number: u8) -> Option<Situation>
+    ensures { result ≡ slice_get all_situations number }
+{
+    numbered(&Situation::ALL, number)
+}
+
+/// Appends a situation's name, where there is one.
+fn append_name(situation: Option<Situation>, out: &mut Vec<u8>) -> Result<(), AllocError>
+    ensures { OnOk result (out.new.items ≡ out.old.items ++ name_of situation) }
+{
+    match situation {
+        None => Ok(()),
+        Some(situation) => situation.append_name(out),
+    }
+}
+
+/// A situation's sentence; nothing where there is none.
+fn sentence_of(situation: Option<Situation>) -> &'static str
+    ensures { result.now ≡ sentence_of situation }
+{
+    match situation {
+        None => "",
+        Some(situation) => situation.sentence(),
+    }
+}
+
+/// Writes as much of a situation's name as there is room for, and answers how many letters that is: 0 if there is no
+/// such situation, or no memory.
+#[unsafe(no_mangle)]
+pub extern "C" fn tl_situation_name(alloc: Global, situation: u8, into: &mut [u8]) -> usize
+    ensures { IsNamed situation into.old into.new result }
+{
+    let mut name = Vec::new(alloc);
+    match append_name(situation_at(situation), &mut name) {
+        Err(_) => 0,
+        Ok(()) => write_text(name.as_slice(), into),
+    }
+}
+
+/// Writes as much of a situation's sentence as there is room for, and answers how many bytes that is.
+#[unsafe(no_mangle)]
+pub extern "C" fn tl_situation_text(situation: u8, into: &mut [u8]) -> usize
+    ensures { IsWritten (sentence_at situation) into.old into.new result }
+{
+    write_text(sentence_of(situation_at(situation)).as_bytes(), into)
 }

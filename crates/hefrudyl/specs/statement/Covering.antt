@@ -1,0 +1,126 @@
+-- What C is told of the situations of links.
+use Rattle.std.specs.Prelude.{ℕ, Bool, ◌≡◌, ◌⊎◌, true, false, List, [], map, length, slice_get, unwrap_or, ⊤}
+use Rattle.std.specs.Prelude.{Option, Some, None, Result, Ok, Err}
+use Rattle.tl_beat.specs.declared.beat.Beat.{Beat}
+use Rattle.tl_beat.specs.declared.beat.Link.{Link}
+use Rattle.tl_cover.specs.declared.covering.Covering.{Covering}
+use Rattle.tl_cover.specs.declared.row.Row.{Row}
+use Rattle.tl_cover.specs.declared.situation.Situation.{Situation}
+use Rattle.tl_cover.specs.statement.Covered.{all_situations}
+use Rattle.tl_cover.specs.statement.Covers.{Covers, CoversAfter, rows_in}
+use Rattle.tl_cover.specs.statement.Names.{name, sentence}
+use Rattle.tl_monitor.specs.declared.fault.MonitorFault.{MonitorFault}
+use Rattle.tl_monitor.specs.statement.Knows.{Answers, fault_under}
+use Rattle.tl_params.specs.declared.level.Level.{Level}
+use Rattle.tl_params.specs.declared.liberties.Liberties.{Liberties}
+use Rattle.tl_params.specs.statement.Config.{IsCount}
+use Rattle.tl_pictures.specs.declared.answer.Answer.{Answer}
+use Rattle.tl_pictures.specs.declared.picture.Picture.{Picture}
+use Rattle.tl_pictures.specs.statement.Answer.{answer_of, bad, ok, IsBad}
+use Rattle.tl_pictures.specs.statement.Codes.{level_at, liberties_at, link_at}
+use Rattle.tl_pictures.specs.statement.Picture.{shown}
+use Rattle.tl_pictures.specs.statement.Written.{IsWritten}
+use Rattle.tl_rules.specs.statement.Conformance.{Trace}
+use Rattle.hefrudyl.specs.declared.cover.AnyCovering.TheVariants as covering
+use Rattle.hefrudyl.specs.declared.cover.Tally.{Tally}
+use Rattle.hefrudyl.specs.declared.session.Session.{Session}
+use Rattle.hefrudyl.specs.declared.session.Session.TheVariants as session
+use Rattle.hefrudyl.specs.statement.Opened.{IsRefusal, may_open_under, refusal}
+
+-- ---- one that is opened
+
+-- a new covering has the levels and the liberties, and has seen no beat
+abbrev pub IsFreshCovering : {w : ℕ} → List ℕ → ℕ → Covering w → Type 0
+IsFreshCovering codes liberties c = Covers c (map level_at codes) (liberties_at liberties) [] false
+
+abbrev pub MakesCovering : {w : ℕ} → List ℕ → ℕ → Result (Covering w) Answer → Type 0
+MakesCovering codes liberties (Ok c) = IsFreshCovering codes liberties c
+MakesCovering codes liberties (Err answer) = IsRefusal (IsCount (length codes)) answer
+
+abbrev pub IsOpenedCovering : List ℕ → ℕ → ℕ → Session → Type 0
+IsOpenedCovering codes width liberties (session.Covering (covering.Four c)) =
+    (width ≡ 4) × IsFreshCovering codes liberties c
+IsOpenedCovering codes width liberties (session.Covering (covering.Eight c)) =
+    (width ≡ 8) × IsFreshCovering codes liberties c
+IsOpenedCovering codes width liberties (session.Covering (covering.Sixteen c)) =
+    (width ≡ 16) × IsFreshCovering codes liberties c
+IsOpenedCovering codes width liberties _ = ⊥
+
+-- what a handle that held nothing opens
+abbrev pub OpensCovering : List ℕ → ℕ → ℕ → Option Session → Answer → Type 0
+OpensCovering codes width liberties (Some s) answer = (answer ≡ ok) × (may_open_under codes width ≡ true)
+    × IsOpenedCovering codes width liberties s
+OpensCovering codes width liberties None answer = answer ≡ refusal (may_open_under codes width)
+
+-- ---- beats
+
+-- a beat was judged as a monitor judges it, and the covering covers the longer trace where the beat was taken
+pub record Counted {w : ℕ} (old new : Covering w) (x : Link × Beat w) (answer : Answer) : Type 0 where
+  pub judged : Result ⊤ MonitorFault
+  pub told : answer ≡ answer_of judged
+  pub lawful : (levels : List Level) (l : Liberties) (t : Trace w) (closed : Bool) → Covers old levels l t closed
+      → Answers (fault_under levels l t closed x) judged
+  pub covers : (levels : List Level) (l : Liberties) (t : Trace w) (closed : Bool) → Covers old levels l t closed
+      → CoversAfter judged new levels l x t
+
+abbrev pub CountsBeat : {w : ℕ} → Covering w → Covering w → Option Link → Option (Beat w) → Answer → Type 0
+CountsBeat old new (Some link) (Some beat) answer = Counted old new (link, beat) answer
+CountsBeat old new _ _ answer = IsBad answer old new
+
+-- what is told of a picture on a link, 0 to 15
+abbrev pub CountsOf : {w : ℕ} → Covering w → Covering w → ℕ → Picture → Answer → Type 0
+CountsOf {w} old new link x answer = CountsBeat old new (link_at link) (shown w x) answer
+
+-- ---- counts
+
+-- how often a situation came, and in which line first, where it came
+abbrev pub tally_of : Row → Tally
+tally_of r = record { count = r.count; line = unwrap_or r.first 0 }
+
+abbrev pub TallyIn : Option Row → Tally → Tally → Answer → Type 0
+TallyIn None was tally answer = IsBad answer was tally
+TallyIn (Some r) was tally answer = (answer ≡ ok) × (tally ≡ tally_of r)
+
+-- the situations have numbers from 0 on, in the order in which they are told
+abbrev pub TallyOf : {w : ℕ} → Covering w → ℕ → Tally → Tally → Answer → Type 0
+TallyOf c number was tally answer = TallyIn (slice_get (rows_in c) number) was tally answer
+
+-- ---- sessions
+
+-- this holds of the covering before and after, whose width stays; a session that holds none is bad input, by which
+-- nothing changes
+abbrev pub OnCovering : ((w : ℕ) → Covering w → Covering w → Type 0) → Type 0 → Session → Session → Type 0
+OnCovering P refused (session.Covering (covering.Four old)) (session.Covering (covering.Four new)) = P 4 old new
+OnCovering P refused (session.Covering (covering.Eight old)) (session.Covering (covering.Eight new)) = P 8 old new
+OnCovering P refused (session.Covering (covering.Sixteen old)) (session.Covering (covering.Sixteen new)) = P 16 old new
+OnCovering P refused (session.Monitor old) new = refused × (new ≡ session.Monitor old)
+OnCovering P refused (session.Judge old) new = refused × (new ≡ session.Judge old)
+OnCovering P refused (session.Client old) new = refused × (new ≡ session.Client old)
+OnCovering P refused (session.Manager old) new = refused × (new ≡ session.Manager old)
+OnCovering _ _ _ _ = ⊥
+
+abbrev pub CountsSession : ℕ → Picture → Answer → Session → Session → Type 0
+CountsSession link x answer old new = OnCovering (λ w c d. CountsOf c d link x answer) (answer ≡ bad) old new
+
+abbrev pub TallySession : ℕ → Tally → Tally → Answer → Session → Type 0
+TallySession number was tally answer s =
+    OnCovering (λ w c d. TallyOf c number was tally answer) (IsBad answer was tally) s s
+
+-- ---- names
+
+abbrev pub sentence_of : Option Situation → List ℕ
+sentence_of None = []
+sentence_of (Some s) = sentence s
+
+-- the sentence of the situation with a number; nothing where there is none
+abbrev pub sentence_at : ℕ → List ℕ
+sentence_at number = sentence_of (slice_get all_situations number)
+
+abbrev pub name_of : Option Situation → List ℕ
+name_of None = []
+name_of (Some s) = name s
+
+-- the name of the situation with a number is written; nothing where there is none, or no memory
+abbrev pub IsNamed : ℕ → List ℕ → List ℕ → ℕ → Type 0
+IsNamed number old new count =
+    IsWritten (name_of (slice_get all_situations number)) old new count ⊎ ((count ≡ 0) × (new ≡ old))

@@ -1,0 +1,65 @@
+//! What follows the situations of links of any width.
+
+ghost use Rattle.std.specs.Prelude.{◌≡◌};
+ghost use Rattle.tl_beat.specs.statement.Width.{IsWidth};
+ghost use Rattle.hefrudyl.specs.statement.Covering.{CountsOf, TallyOf, tally_of};
+
+use tl_cover::covering::Covering;
+use tl_cover::row::Row;
+use tl_pictures::answer::Answer;
+use tl_pictures::codes::link_at;
+use tl_pictures::picture::Picture;
+
+/// A covering of links whose beats have 4, 8 or 16 bytes.
+#[derive(Drop)]
+pub enum AnyCovering {
+    Four(Covering<4>),
+    Eight(Covering<8>),
+    Sixteen(Covering<16>),
+}
+
+/// How often a situation came, and in which line of a trace first; 0 where it didn't come.
+#[repr(C)]
+#[derive(Clone, Copy, Debug, PartialEq, Eq)]
+pub struct Tally {
+    pub count: u64,
+    pub line: u64,
+}
+
+impl Tally {
+    fn of(row: &Row) -> Tally
+        ensures { result ≡ tally_of row.now }
+    {
+        Tally {
+            count: row.count,
+            line: row.first.unwrap_or(0),
+        }
+    }
+}
+
+/// Judges a beat of a link, and counts the situations of the message that begins with it.
+pub fn push<const W: usize>(covering: &mut Covering<W>, link: u8, picture: &Picture) -> Answer
+    requires { IsWidth W }
+    ensures { CountsOf covering.old covering.new link picture.now result }
+{
+    let Some(link) = link_at(link) else {
+        return Answer::BAD;
+    };
+    let Some(beat) = picture.beat::<W>() else {
+        return Answer::BAD;
+    };
+    Answer::of(covering.push(link, &beat))
+}
+
+/// How often the situation of this number came.
+pub fn tell<const W: usize>(covering: &Covering<W>, situation: u8, tally: &mut Tally) -> Answer
+    ensures { TallyOf covering.now situation tally.old tally.new result }
+{
+    match covering.rows().get(usize::from(situation)) {
+        None => Answer::BAD,
+        Some(row) => {
+            *tally = Tally::of(row);
+            Answer::OK
+        }
+    }
+}

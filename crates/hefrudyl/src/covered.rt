@@ -1,0 +1,51 @@
+//! What a handle that holds a covering is asked.
+
+ghost use Rattle.hefrudyl.specs.statement.Covering.{OpensCovering, CountsSession, TallySession};
+ghost use Rattle.hefrudyl.specs.statement.Opened.{ok_of, answer_in};
+
+use crate::cover::{self, AnyCovering, Tally};
+use crate::opening::{make_covering, may_open_under};
+use crate::session::Session;
+use std::alloc::Global;
+use tl_pictures::answer::Answer;
+use tl_pictures::picture::Picture;
+
+/// A new covering of the width, of links with liberties.
+pub fn open(alloc: Global, codes: &[u8], width: u8, liberties: u8) -> Result<Session, Answer>
+    ensures told { OpensCovering codes.now width liberties (ok_of result) (answer_in result) }
+{
+    if !may_open_under(codes, width) {
+        return Err(Answer::BAD);
+    }
+    let covering = match width {
+        4 => AnyCovering::Four(make_covering(alloc, codes, liberties)?),
+        8 => AnyCovering::Eight(make_covering(alloc, codes, liberties)?),
+        16 => AnyCovering::Sixteen(make_covering(alloc, codes, liberties)?),
+        _ => return Err(Answer::BAD),
+    };
+    Ok(Session::Covering(covering))
+}
+
+/// Judges a beat of a link and counts it, where a covering is held.
+pub fn push(session: &mut Session, link: u8, beat: &Picture) -> Answer
+    ensures { CountsSession link beat.now result session.old session.new }
+{
+    match session {
+        Session::Covering(AnyCovering::Four(held)) => cover::push(held, link, beat),
+        Session::Covering(AnyCovering::Eight(held)) => cover::push(held, link, beat),
+        Session::Covering(AnyCovering::Sixteen(held)) => cover::push(held, link, beat),
+        _ => Answer::BAD,
+    }
+}
+
+/// How often the situation of this number came, where a covering is held.
+pub fn tell(session: &Session, situation: u8, tally: &mut Tally) -> Answer
+    ensures { TallySession situation tally.old tally.new result session.now }
+{
+    match session {
+        Session::Covering(AnyCovering::Four(held)) => cover::tell(held, situation, tally),
+        Session::Covering(AnyCovering::Eight(held)) => cover::tell(held, situation, tally),
+        Session::Covering(AnyCovering::Sixteen(held)) => cover::tell(held, situation, tally),
+        _ => Answer::BAD,
+    }
+}

@@ -1,0 +1,60 @@
+//! What C may do with a cover.
+
+ghost use Rattle.std.specs.Prelude.{◌≡◌, None};
+ghost use Rattle.hefrudyl.specs.statement.Handled.{CoverOpenTold, CountTold, TallyTold};
+
+use crate::cover::Tally;
+use crate::covered;
+use crate::handle::Handle;
+use std::alloc::Global;
+use std::mem;
+use tl_pictures::answer::Answer;
+use tl_pictures::picture::Picture;
+
+/// Makes a cover of links of these levels that have these liberties, behind a handle that holds nothing.
+#[unsafe(no_mangle)]
+pub extern "C" fn tl_cover_new(
+    alloc: Global,
+    cover: &mut Handle,
+    levels: &[u8],
+    width: u8,
+    liberties: u8,
+) -> Answer
+    ensures { CoverOpenTold cover.old.place.value cover.new.place.value levels.now width liberties result }
+{
+    opened!(alloc, cover, covered::open(alloc, levels, width, liberties))
+}
+
+/// Judges a beat of a link, and counts the situations of the message that begins with it.
+#[unsafe(no_mangle)]
+pub extern "C" fn tl_cover_push(
+    alloc: Global,
+    cover: &mut Handle,
+    link: u8,
+    beat: &Picture,
+) -> Answer
+    ensures { CountTold link beat.now result cover.old.place.value cover.new.place.value }
+{
+    answered!(alloc, cover, session => covered::push(&mut session, link, beat))
+}
+
+/// Tells how often the situation of this number came, and in which line of a trace first.
+#[unsafe(no_mangle)]
+pub extern "C" fn tl_cover_count(
+    alloc: Global,
+    cover: &mut Handle,
+    situation: u8,
+    tally: &mut Tally,
+) -> Answer
+    ensures { TallyTold situation tally.old tally.new result cover.old.place.value cover.new.place.value }
+{
+    answered!(alloc, cover, session => covered::tell(&session, situation, tally))
+}
+
+/// Frees what a handle holds, which then holds nothing.
+#[unsafe(no_mangle)]
+pub extern "C" fn tl_cover_free(alloc: Global, cover: &mut Handle)
+    ensures { cover.new.place.value ≡ None }
+{
+    let _session = mem::replace(cover, Handle::empty(alloc)).into_box();
+}

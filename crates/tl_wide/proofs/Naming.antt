@@ -9,7 +9,7 @@ use Rattle.std.proofs.lemmas.List.{length-append}
 use Rattle.tl_rules.specs.statement.Legality.{is_one_of}
 use Rattle.tl_wide.specs.code.Numbers.{KnowsNumbers, found_in, is_past, place_among, place_found}
 use Rattle.tl_wide.specs.declared.numbers.Numbers.{Numbers}
-use Rattle.tl_wide.specs.statement.Naming.{place_in}
+use Rattle.tl_wide.specs.statement.Naming.{place_in, with_number}
 
 pub place-last : (names : List ℕ) (n : ℕ) → is_one_of n names ≡ false → place_in (names ++ n ∷ []) n ≡ length names
 unfolding place_in
@@ -167,3 +167,12 @@ room-left numbers names limit name knows within lt fresh =
     go : (b : Bool) → nat_lt (length names) limit ≡ b → (b || false) ≡ true → length names < 2 ^ 32 - 1
     go true e f = let fewer : length names < limit = ltb-true (length names) limit e in omega arith
     go false e f = absurd cc
+
+-- a name that has a number is within its limit
+pub has-number : (numbers : Numbers) (names : List ℕ) (limit name place : ℕ) → KnowsNumbers numbers names
+    → length names ≤ limit → found_in numbers name ≡ Some place
+    → (is_past limit names name ≡ false) × (place ≡ place_in (with_number (Some name) names) name)
+    × KnowsNumbers numbers (with_number (Some name) names)
+has-number numbers names limit name place knows le found =
+    let old = found-place (found_in numbers name) names name place (knows.places_are name) found in
+    rw old.0 (le-ltb limit (length names) le, old.1, knows)

@@ -1,7 +1,7 @@
 //! Numbers that names have by their first appearance.
 
 ghost use Rattle.std.specs.Prelude.{ℕ, List, Option, [], ◌∷◌, ◌≡◌, ◌≤◌, ◌<◌, ◌==◌, ◌&&◌, ◌||◌, ◌-◌, ◌^◌};
-ghost use Rattle.std.specs.Prelude.{true, false, if◌then◌else◌, is_some, length, nat_lt, Some, OnOk, OnErr};
+ghost use Rattle.std.specs.Prelude.{true, false, if◌then◌else◌, is_some, length, nat_lt, Some, IfSome, OnOk, OnErr};
 ghost use Rattle.tl_wide.specs.code.Numbers.{AreNumbered, HasRoom, IsNumbered, KnowsNumbers, found_in, place_found};
 ghost use Rattle.tl_wide.specs.code.Numbers.{room_found};
 ghost use Rattle.tl_rules.specs.statement.Legality.{is_one_of};
@@ -126,6 +126,16 @@ impl Numbers {
     }
 }
 
+/// The numbers of two names in two tables, where both have one.
+fn known_both(first: &Numbers, name: u64, second: &Numbers, second_name: u64) -> Option<(u32, u32)>
+    ensures { IfSome result (λ known. (found_in first.now name ≡ Some known.0)
+        × (found_in second.now second_name ≡ Some known.1)) }
+{
+    let place = first.place(name)?;
+    let other = second.place(second_name)?;
+    Some((place, other))
+}
+
 /// The numbers of two names in two tables. Where one of them has none and too many names have one, the answer is
 /// `None`; then, and where there is no memory, no number changes.
 pub(crate) fn number_both(
@@ -140,6 +150,9 @@ pub(crate) fn number_both(
         length names ≤ limit → length others ≤ second_limit →
         AreNumbered limit names name second_limit others second_name result first.new second.new }
 {
+    if let Some(known) = known_both(first, name, second, second_name) {
+        return Ok(Some(known));
+    }
     if !first.is_within(name, limit) || !second.is_within(second_name, second_limit) {
         return Ok(None);
     }

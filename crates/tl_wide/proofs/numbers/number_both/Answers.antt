@@ -1,5 +1,5 @@
 use Rattle.std.proofs.Common.{◌≡◌, ◌∙◌, ap, not, rules, true}
-use Rattle.tl_wide.proofs.Naming.{is_within, room-left, still-known, within-limit}
+use Rattle.tl_wide.proofs.Naming.{has-number, is_within, room-left, still-known, within-limit}
 use Rattle.tl_wide.proofs.numbers.number_both.Goals as goal
 
 pub returns : goal.returns
@@ -21,3 +21,10 @@ returns c = λ names others knows also le more.
       given.1,
       other.1,
     )
+
+pub returns-in-Some : goal.returns-in-Some
+returns-in-Some c = λ names others knows also le more.
+    let one = has-number c.args.first.now names c.args.limit c.args.name c.in-Some.known.0 knows le c.in-Some.ensures.0 in
+    let two = has-number c.args.second.now others c.args.second_limit c.args.second_name c.in-Some.known.1 also more
+    c.in-Some.ensures.1 in
+    (one.0, two.0, one.1, two.1, one.2, two.2)

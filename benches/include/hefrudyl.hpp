@@ -12,19 +12,38 @@
 
 namespace hefrudyl {
 
-/// The name of a rule, as "H12"; empty for none.
-inline std::string rule_name(std::uint8_t rule) {
-  std::uint8_t letters[3];
-  std::size_t count = tl_rule_name(rule, letters, sizeof letters);
-  return std::string(reinterpret_cast<char *>(letters), count);
-}
-
-/// The text of a code.
-inline std::string error_text(std::uint8_t code) {
-  std::uint8_t text[128];
-  std::size_t count = tl_error_text(code, text, sizeof text);
+/// What a call of the library writes of a code.
+template <std::size_t Room>
+std::string text_of(std::size_t (*write)(std::uint8_t, std::uint8_t *, std::size_t), std::uint8_t code) {
+  std::uint8_t text[Room];
+  std::size_t count = write(code, text, Room);
   return std::string(reinterpret_cast<char *>(text), count);
 }
+
+/// What the library has made, freed with its owner. It may be moved, and not copied.
+template <typename Made, void (*Free)(Made *)>
+class Handle {
+public:
+  Handle(Handle &&other) noexcept : handle(other.handle) { other.handle = {}; }
+  Handle &operator=(Handle &&other) noexcept {
+    std::swap(handle, other.handle);
+    return *this;
+  }
+  Handle(const Handle &) = delete;
+  Handle &operator=(const Handle &) = delete;
+  ~Handle() { Free(&handle); }
+
+protected:
+  Handle() = default;
+  explicit Handle(Made made) : handle(made) {}
+  Made handle = {};
+};
+
+/// The name of a rule, as "H12"; empty for none.
+inline std::string rule_name(std::uint8_t rule) { return text_of<3>(tl_rule_name, rule); }
+
+/// The text of a code.
+inline std::string error_text(std::uint8_t code) { return text_of<128>(tl_error_text, code); }
 
 /// Throws where a call made nothing: for want of memory, or since an argument is out of its range.
 inline void require_made(tl_answer answer, const char *arguments) {
@@ -32,8 +51,8 @@ inline void require_made(tl_answer answer, const char *arguments) {
   if (answer.code != TL_OK) throw std::invalid_argument(arguments);
 }
 
-/// A monitor of links. It may be moved, and not copied.
-class Monitor {
+/// A monitor of links.
+class Monitor : public Handle<tl_monitor, tl_monitor_free> {
 public:
   explicit Monitor(const std::vector<std::uint8_t> &levels, std::uint8_t width = 8,
                    std::uint8_t profile = 1) {
@@ -48,15 +67,6 @@ public:
     require_made(answer, "hefrudyl: levels or width");
     return Monitor(made, Made());
   }
-
-  Monitor(Monitor &&other) noexcept : handle(other.handle) { other.handle = {}; }
-  Monitor &operator=(Monitor &&other) noexcept {
-    std::swap(handle, other.handle);
-    return *this;
-  }
-  Monitor(const Monitor &) = delete;
-  Monitor &operator=(const Monitor &) = delete;
-  ~Monitor() { tl_monitor_free(&handle); }
 
   /// Judges a beat of a link.
   tl_answer push(std::uint8_t link, const tl_beat &beat) {
@@ -78,40 +88,22 @@ public:
 
 private:
   struct Made {};
-  Monitor(tl_monitor made, Made) : handle(made) {}
-  tl_monitor handle = {};
+  Monitor(tl_monitor made, Made) : Handle(made) {}
 };
 
 /// The name of a situation, as "report-TtoN"; empty for none.
-inline std::string situation_name(std::uint8_t situation) {
-  std::uint8_t letters[32];
-  std::size_t count = tl_situation_name(situation, letters, sizeof letters);
-  return std::string(reinterpret_cast<char *>(letters), count);
-}
+inline std::string situation_name(std::uint8_t situation) { return text_of<32>(tl_situation_name, situation); }
 
 /// The sentence of a situation; empty for none.
-inline std::string situation_text(std::uint8_t situation) {
-  std::uint8_t text[128];
-  std::size_t count = tl_situation_text(situation, text, sizeof text);
-  return std::string(reinterpret_cast<char *>(text), count);
-}
+inline std::string situation_text(std::uint8_t situation) { return text_of<128>(tl_situation_text, situation); }
 
-/// What counts the situations of links. It may be moved, and not copied.
-class Cover {
+/// What counts the situations of links.
+class Cover : public Handle<tl_cover, tl_cover_free> {
 public:
   explicit Cover(const std::vector<std::uint8_t> &levels, std::uint8_t width = 8, std::uint8_t liberties = 0) {
     tl_answer answer = tl_cover_new(&handle, levels.data(), levels.size(), width, liberties);
     require_made(answer, "hefrudyl: levels or width");
   }
-
-  Cover(Cover &&other) noexcept : handle(other.handle) { other.handle = {}; }
-  Cover &operator=(Cover &&other) noexcept {
-    std::swap(handle, other.handle);
-    return *this;
-  }
-  Cover(const Cover &) = delete;
-  Cover &operator=(const Cover &) = delete;
-  ~Cover() { tl_cover_free(&handle); }
 
   /// Judges a beat of a link, and counts the situations of the message that begins with it.
   tl_answer push(std::uint8_t link, const tl_beat &beat) { return tl_cover_push(&handle, link, &beat); }
@@ -122,13 +114,10 @@ public:
     require_made(tl_cover_count(&handle, situation, &tally), "hefrudyl: situation");
     return tally;
   }
-
-private:
-  tl_cover handle = {};
 };
 
-/// A judge of all links of one manager. It may be moved, and not copied.
-class Judge {
+/// A judge of all links of one manager.
+class Judge : public Handle<tl_judge, tl_judge_free> {
 public:
   explicit Judge(const std::vector<std::uint8_t> &levels, std::uint8_t width = 8,
                    std::uint8_t profile = 1) {
@@ -143,15 +132,6 @@ public:
     require_made(answer, "hefrudyl: levels, width or liberties");
     return Judge(made, Made());
   }
-
-  Judge(Judge &&other) noexcept : handle(other.handle) { other.handle = {}; }
-  Judge &operator=(Judge &&other) noexcept {
-    std::swap(handle, other.handle);
-    return *this;
-  }
-  Judge(const Judge &) = delete;
-  Judge &operator=(const Judge &) = delete;
-  ~Judge() { tl_judge_free(&handle); }
 
   /// Judges a beat of a link, after the earlier beats of all links (hefrudyl.h has the order).
   tl_answer push(std::uint8_t link, const tl_beat &beat) {
@@ -170,27 +150,17 @@ public:
 
 private:
   struct Made {};
-  Judge(tl_judge made, Made) : handle(made) {}
-  tl_judge handle = {};
+  Judge(tl_judge made, Made) : Handle(made) {}
 };
 
-/// A client of a link, with the beats that it has still to send. It may be moved, and not copied.
-class Client {
+/// A client of a link, with the beats that it has still to send.
+class Client : public Handle<tl_client, tl_client_free> {
 public:
   explicit Client(std::uint8_t level, std::uint16_t blocks, std::uint8_t sources = 1, std::uint8_t width = 8,
                   std::uint8_t profile = 1) {
     tl_answer answer = tl_client_new(&handle, level, blocks, sources, width, profile);
     require_made(answer, "hefrudyl: level, blocks, sources, width or profile");
   }
-  Client(Client &&other) noexcept : handle(other.handle) { other.handle = {}; }
-  Client &operator=(Client &&other) noexcept {
-    std::swap(handle, other.handle);
-    return *this;
-  }
-  Client(const Client &) = delete;
-  Client &operator=(const Client &) = delete;
-  ~Client() { tl_client_free(&handle); }
-
   /// Asks for an operation. An Acquire goes out after the beats that wait on channel C already (hefrudyl.h).
   tl_answer ask(const tl_operation &operation, tl_outcome &outcome) {
     return tl_client_ask(&handle, &operation, &outcome);
@@ -214,13 +184,10 @@ public:
 
   /// Whether a beat was refused.
   tl_answer closed(std::uint8_t &is_closed) { return tl_client_closed(&handle, &is_closed); }
-
-private:
-  tl_client handle = {};
 };
 
-/// A manager of links, with the beats that it has still to send. It may be moved, and not copied.
-class Manager {
+/// A manager of links, with the beats that it has still to send.
+class Manager : public Handle<tl_manager, tl_manager_free> {
 public:
   explicit Manager(const std::vector<tl_link_config> &links, std::uint16_t blocks, std::uint8_t trackers = 8,
                    std::uint8_t width = 8, std::uint8_t profile = 1) {
@@ -239,15 +206,6 @@ public:
     require_made(answer, "hefrudyl: links, blocks, trackers, width, liberties or sources of Probes");
     return Manager(made, Made());
   }
-
-  Manager(Manager &&other) noexcept : handle(other.handle) { other.handle = {}; }
-  Manager &operator=(Manager &&other) noexcept {
-    std::swap(handle, other.handle);
-    return *this;
-  }
-  Manager(const Manager &) = delete;
-  Manager &operator=(const Manager &) = delete;
-  ~Manager() { tl_manager_free(&handle); }
 
   /// Offers a beat of channel A, C or E of a link.
   tl_answer offer(std::uint8_t link, const tl_beat &beat, std::uint8_t &taken) {
@@ -272,8 +230,7 @@ public:
 
 private:
   struct Made {};
-  Manager(tl_manager made, Made) : handle(made) {}
-  tl_manager handle = {};
+  Manager(tl_manager made, Made) : Handle(made) {}
 };
 
 }  // namespace hefrudyl

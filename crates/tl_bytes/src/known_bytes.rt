@@ -47,14 +47,14 @@ impl KnownBytes {
     }
 
     /// Whether none is known.
-    pub fn is_none(&self) -> bool
+    pub(crate) fn is_none(&self) -> bool
         ensures { result ≡ true → (place : ℕ) → known_at self.now place ≡ None }
     {
         self.known == 0
     }
 
     /// Makes the byte at a place of the block known.
-    pub fn set(&mut self, place: usize, byte: u8)
+    pub(crate) fn set(&mut self, place: usize, byte: u8)
         ensures { place < 64 → (at : ℕ) →
             known_at self.new at ≡ (if at == place then Some byte else known_at self.old at) }
     {
@@ -65,7 +65,7 @@ impl KnownBytes {
     }
 
     /// Makes the byte at a place of the block this one, or leaves it as it is where this is none.
-    pub fn set_known(&mut self, place: usize, byte: Option<u8>)
+    pub(crate) fn set_known(&mut self, place: usize, byte: Option<u8>)
         ensures { place < 64 → known_at self.old place ≡ None → (at : ℕ) →
             known_at self.new at ≡ (if at == place then byte else known_at self.old at) }
     {

@@ -1,5 +1,5 @@
 -- Reading lanes, the last of them first.
-use Rattle.std.proofs.Common.{◌≡◌, ℕ, suc, ◌+◌, ◌-◌, ◌*◌, ◌/◌, ◌<◌, ◌≤◌, List, [], ◌∷◌, ◌++◌, length, take, drop, refl}
+use Rattle.std.proofs.Common.{◌≡◌, ℕ, suc, ◌+◌, ◌-◌, ◌*◌, ◌<◌, ◌≤◌, List, [], ◌∷◌, ◌++◌, length, take, drop, refl}
 use Rattle.std.proofs.Common.{sym, ap, ◌∙◌, arith, set, replicate}
 use Rattle.std.proofs.lemmas.List.{drop-set, drop_all, length-replicate, drop_at, drop-drop, length-take-le}
 use Rattle.std.proofs.lemmas.List.{take-append-drop}
@@ -75,7 +75,7 @@ lanes-eight w i lanes field piece eight new r le len cut read is so_far =
     ∙ ap (λ (k : ℕ). lanes_at (drop (w - 8 * i) lanes) k (piece ++ drop 16 (drop (16 * i) field))) (sym left)
     ∙ ap (λ (p : List ℕ). lanes_at (drop (w - 8 * i) lanes) (w - 8 * i) p) (sym whole) ∙ so_far
 
-lanes-nothing : (lanes : List ℕ) → lanes_at lanes 0 [] ≡ Ok lanes
+pub lanes-nothing : (lanes : List ℕ) → lanes_at lanes 0 [] ≡ Ok lanes
 unfolding lanes_at
 lanes-nothing lanes = refl
 

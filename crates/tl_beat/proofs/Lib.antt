@@ -11,7 +11,14 @@ pub mod Faults
 pub mod SpelledDigits
 pub mod DigitTable
 pub mod AtPlaces
+pub mod VectorDigits
 pub mod VectorLanes
+pub mod VectorForms
+pub mod Places
+pub mod MaskedLines
+pub mod ReportLines
+pub mod ResponseLines
+pub mod WholeLines
 pub mod LaneDigits
 pub mod SpelledLines
 pub mod ReadLines

@@ -1,3 +1,4 @@
+pub mod Form
 pub mod FromLeft
 pub mod Reading
 pub mod Writing

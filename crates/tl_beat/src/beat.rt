@@ -1,18 +1,18 @@
-//! Beats: what one channel carries at once, `W` bytes of data at most (SiFive TileLink Specification
-//! 1.8, "Signal Descriptions").
+//! Beats: the content of one channel at one edge of the clock, with at most `W` bytes of data (SiFive TileLink
+//! Specification 1.8, "Signal Descriptions").
 
 ghost use Rattle.std.specs.Prelude.{◌≡◌, is_some};
 ghost use Rattle.tl_beat.specs.statement.Opcode.{a_carries_data, b_carries_data, c_carries_data, d_carries_data};
 
 use crate::opcode::{OpA, OpB, OpC, OpD};
 
-/// The number of a link, which counts from 0.
+/// The number of a link, counted from 0.
 #[derive(Clone, Copy, Debug, Default, PartialEq, Eq)]
 pub struct Link(pub u8);
 
-/// A beat of channel A. `param` is 0 to 7, by opcode; `size`, 0 to 15, is the base-2 logarithm of the
-/// number of bytes; `address` counts bytes. Lane `i` of `lanes` holds the byte whose address is `i`
-/// modulo `W`, and bit `i` of `mask` says whether it counts.
+/// A beat of channel A. `param` is 0 to 7, by opcode; `size`, 0 to 15, is the base-2 logarithm of the number of bytes;
+/// `address` counts bytes. Lane `i` of `lanes` has the byte whose address is `i` modulo `W`, and bit `i` of `mask` says
+/// whether it counts.
 #[derive(Clone, Copy, Debug, PartialEq, Eq)]
 pub struct BeatA<const W: usize> {
     pub opcode: OpA,
@@ -53,9 +53,8 @@ pub struct BeatC<const W: usize> {
     pub ghost carries: { is_some lanes ≡ c_carries_data opcode },
 }
 
-/// A beat of channel D. `param` is 0 to 3, `size` as on channel A; `source` is the number of the
-/// request, `sink` the number that a GrantAck repeats, and `denied` says that the request wasn't
-/// served.
+/// A beat of channel D. `param` is 0 to 3, `size` as on channel A; `source` is the number of the request, `sink` the
+/// number that a GrantAck repeats, and `denied` says that the request wasn't served.
 #[derive(Clone, Copy, Debug, PartialEq, Eq)]
 pub struct BeatD<const W: usize> {
     pub opcode: OpD,
@@ -69,13 +68,13 @@ pub struct BeatD<const W: usize> {
     pub ghost carries: { is_some lanes ≡ d_carries_data opcode },
 }
 
-/// A beat of channel E, which has the one message GrantAck.
+/// A beat of channel E: a GrantAck.
 #[derive(Clone, Copy, Debug, PartialEq, Eq)]
 pub struct BeatE {
     pub sink: u8,
 }
 
-/// A beat of any channel. `lanes` is `Some` exactly where the opcode carries data.
+/// A beat of any channel. `lanes` is `Some` exactly if the opcode carries data.
 #[derive(Clone, Copy, Debug, PartialEq, Eq)]
 pub enum Beat<const W: usize> {
     A(BeatA<W>),

@@ -1,4 +1,4 @@
-//! The control fields of a beat, which the beats of a burst share (SiFive TileLink Specification 1.8,
+//! The control fields of a beat, which all beats of a burst have in common (SiFive TileLink Specification 1.8,
 //! "Serialization").
 
 ghost use Rattle.std.specs.Prelude.{◌≡◌};
@@ -8,7 +8,7 @@ use crate::beat::Beat;
 use crate::channel::Channel;
 use crate::opcode::{OpA, OpB, OpC, OpD};
 
-/// The control fields of channel A, in the units and ranges of a beat's.
+/// The control fields of channel A, with the units and ranges of a beat's.
 #[derive(Clone, Copy, Debug, PartialEq, Eq)]
 pub struct ControlA {
     pub opcode: OpA,
@@ -49,7 +49,7 @@ pub struct ControlD {
     pub denied: bool,
 }
 
-/// The control fields of a beat or a message, by channel. Channel E has a sink alone.
+/// The control fields of a beat or a message, by channel. Channel E has only a sink.
 #[derive(Clone, Copy, Debug, PartialEq, Eq)]
 pub enum Control {
     A(ControlA),

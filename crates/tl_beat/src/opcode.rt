@@ -55,14 +55,14 @@ impl OpA {
     ghost use Rattle.tl_beat.specs.statement.Opcode.{a_code, a_carries_data, a_with};
     ghost use Rattle.tl_beat.specs.statement.Names.{a_name};
 
-    /// The number that stands for the opcode on the wires.
+    /// The code of the opcode on the wires.
     pub fn code(self) -> u8
         ensures { result ≡ a_code self }
     {
         self as u8
     }
 
-    /// The opcode with this code, where one is in use.
+    /// The opcode with this code, if one is in use.
     pub fn with_code(code: u8) -> Option<OpA>
         ensures { result ≡ a_with code }
     {
@@ -89,7 +89,7 @@ impl OpA {
         )
     }
 
-    /// The opcode's name, as the specification has it.
+    /// The opcode's name in the specification.
     pub fn name(self) -> &'static str
         ensures { result.now ≡ a_name self }
     {
@@ -110,14 +110,14 @@ impl OpB {
     ghost use Rattle.tl_beat.specs.statement.Opcode.{b_code, b_carries_data, b_with};
     ghost use Rattle.tl_beat.specs.statement.Names.{b_name};
 
-    /// The number that stands for the opcode on the wires.
+    /// The code of the opcode on the wires.
     pub fn code(self) -> u8
         ensures { result ≡ b_code self }
     {
         self as u8
     }
 
-    /// The opcode with this code, where one is in use.
+    /// The opcode with this code, if one is in use.
     pub fn with_code(code: u8) -> Option<OpB>
         ensures { result ≡ b_with code }
     {
@@ -144,7 +144,7 @@ impl OpB {
         )
     }
 
-    /// The opcode's name, as the specification has it.
+    /// The opcode's name in the specification.
     pub fn name(self) -> &'static str
         ensures { result.now ≡ b_name self }
     {
@@ -165,14 +165,14 @@ impl OpC {
     ghost use Rattle.tl_beat.specs.statement.Opcode.{c_code, c_carries_data, c_with};
     ghost use Rattle.tl_beat.specs.statement.Names.{c_name};
 
-    /// The number that stands for the opcode on the wires.
+    /// The code of the opcode on the wires.
     pub fn code(self) -> u8
         ensures { result ≡ c_code self }
     {
         self as u8
     }
 
-    /// The opcode with this code, where one is in use.
+    /// The opcode with this code, if one is in use.
     pub fn with_code(code: u8) -> Option<OpC>
         ensures { result ≡ c_with code }
     {
@@ -198,7 +198,7 @@ impl OpC {
         )
     }
 
-    /// The opcode's name, as the specification has it.
+    /// The opcode's name in the specification.
     pub fn name(self) -> &'static str
         ensures { result.now ≡ c_name self }
     {
@@ -218,14 +218,14 @@ impl OpD {
     ghost use Rattle.tl_beat.specs.statement.Opcode.{d_code, d_carries_data, d_with};
     ghost use Rattle.tl_beat.specs.statement.Names.{d_name};
 
-    /// The number that stands for the opcode on the wires.
+    /// The code of the opcode on the wires.
     pub fn code(self) -> u8
         ensures { result ≡ d_code self }
     {
         self as u8
     }
 
-    /// The opcode with this code, where one is in use.
+    /// The opcode with this code, if one is in use.
     pub fn with_code(code: u8) -> Option<OpD>
         ensures { result ≡ d_with code }
     {
@@ -247,7 +247,7 @@ impl OpD {
         matches!(self, OpD::AccessAckData | OpD::GrantData)
     }
 
-    /// The opcode's name, as the specification has it.
+    /// The opcode's name in the specification.
     pub fn name(self) -> &'static str
         ensures { result.now ≡ d_name self }
     {

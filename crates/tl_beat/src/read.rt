@@ -1,7 +1,8 @@
-//! Reading a line of text as a beat.
+//! Reads a line of text as a beat.
 
 pub mod field;
 mod line;
+mod whole;
 
 ghost use Rattle.std.specs.Prelude.{◌≡◌, ◌==◌, ◌^◌, ◌<◌, ℕ, List, Some, Ok, IfErr, IfOk, MatchOption, position};
 ghost use Rattle.std.specs.List.{after_first};
@@ -15,6 +16,7 @@ ghost use Rattle.tl_beat.specs.statement.Width.{IsWidth};
 use crate::beat::{Beat, BeatE, Link};
 use crate::fault::LineFault;
 use crate::read::line::{any_head, line_a, line_b, line_c, line_d, line_e, spelled_head};
+use crate::read::whole::spelled_line;
 
 /// The byte after the first space, if it is a field of its own.
 pub fn letter(bytes: &[u8]) -> Option<u8>
@@ -34,7 +36,7 @@ fn first_space(bytes: &[u8]) -> Option<usize>
     bytes.iter().position(|b| *b == b' ')
 }
 
-/// What stands behind the first space.
+/// The rest after the first space.
 pub fn after_space(bytes: &[u8]) -> &[u8]
     ensures { result.now ≡ after_first (λ b. b == 32) bytes.now }
 {
@@ -51,7 +53,7 @@ pub fn spaces(bytes: &[u8]) -> usize
     bytes.iter().filter(|b| **b == b' ').count()
 }
 
-/// The line of a channel with this letter, which has this many spaces, read over a beat: its link.
+/// Reads the line of a channel with this letter, which has this many spaces, into `beat`, and returns its link.
 #[tactic(auto, unfolding(crate::specs::code::FromLeft::line_a_at, crate::specs::code::FromLeft::line_b_at, crate::specs::code::FromLeft::line_c_at, crate::specs::code::FromLeft::line_d_at))]
 fn line_with<const W: usize>(
     letter: Option<u8>,
@@ -123,7 +125,7 @@ fn spelled_body<const W: usize>(bytes: &[u8], beat: &mut Beat<W>) -> Option<Link
     }
 }
 
-/// A line without its line feed. Where it spells no beat, its first fault is looked for.
+/// A line without its line feed. If it spells no beat, its first fault is looked for.
 #[inline(always)]
 fn body<const W: usize>(bytes: &[u8], beat: &mut Beat<W>) -> Result<Link, LineFault>
     requires { IsWidth W }
@@ -138,7 +140,7 @@ fn body<const W: usize>(bytes: &[u8], beat: &mut Beat<W>) -> Result<Link, LineFa
 
 /// A line, by its length and its line feed first.
 #[inline(never)]
-fn place_line<const W: usize>(line: &[u8], beat: &mut Beat<W>) -> Result<Link, LineFault>
+fn any_line<const W: usize>(line: &[u8], beat: &mut Beat<W>) -> Result<Link, LineFault>
     requires { IsWidth W }
     ensures read { placed result beat.new ≡ line_at line.now }
     ensures unchanged { IfErr result (λ _. beat.new ≡ beat.old) }
@@ -149,6 +151,19 @@ fn place_line<const W: usize>(line: &[u8], beat: &mut Beat<W>) -> Result<Link, L
     match line {
         [bytes @ .., b'\n'] => body(bytes, beat),
         _ => Err(LineFault::F1),
+    }
+}
+
+/// A line. It is read from left to right unless each byte is at its place.
+#[inline(always)]
+fn place_line<const W: usize>(line: &[u8], beat: &mut Beat<W>) -> Result<Link, LineFault>
+    requires { IsWidth W }
+    ensures read { placed result beat.new ≡ line_at line.now }
+    ensures unchanged { IfErr result (λ _. beat.new ≡ beat.old) }
+{
+    match spelled_line(line, beat) {
+        Some(link) => Ok(link),
+        None => any_line(line, beat),
     }
 }
 
@@ -163,9 +178,9 @@ fn whole_line<const W: usize>(line: &[u8]) -> Result<(Link, Beat<W>), LineFault>
     Ok((link, beat))
 }
 
-/// Reads a line of text, its line feed included, over a beat of `W` bytes (4, 8 or 16), and answers its
-/// link. A line that spells no beat is refused by its first fault, and leaves the beat as it was. It reads
-/// any bytes and takes no memory, and a line of more than 256 bytes is refused unread.
+/// Reads a line of text, with its line feed, into a beat of `W` bytes (4, 8 or 16), and returns its link. The error for
+/// a line that spells no beat is its first fault, and the beat stays as it was. It takes any bytes and allocates no
+/// memory. A line of more than 256 bytes is refused by its length alone.
 #[inline(always)]
 pub fn read_into<const W: usize>(line: &[u8], beat: &mut Beat<W>) -> Result<Link, LineFault>
     requires { IsWidth W }
@@ -181,9 +196,9 @@ pub fn read_into<const W: usize>(line: &[u8], beat: &mut Beat<W>) -> Result<Link
     place_line(line, beat)
 }
 
-/// Reads a line of text, its line feed included, as a link and a beat of `W` bytes (4, 8 or 16).
-/// A line that spells no beat is refused by its first fault. It reads any bytes and takes no
-/// memory, and a line of more than 256 bytes is refused unread.
+/// Reads a line of text, with its line feed, as a link and a beat of `W` bytes (4, 8 or 16). The error for a line that
+/// spells no beat is its first fault. It takes any bytes and allocates no memory. A line of more than 256 bytes is
+/// refused by its length alone.
 #[inline(always)]
 pub fn read_line<const W: usize>(line: &[u8]) -> Result<(Link, Beat<W>), LineFault>
     requires { IsWidth W }

@@ -1,4 +1,4 @@
-//! Text of up to 64 bytes, put together from digits, lanes and bits.
+//! Text of up to 64 bytes, built from digits, lanes and bits.
 
 ghost use Rattle.std.specs.Prelude.{◌≡◌, ◌<◌, ◌≤◌, ◌+◌, ◌*◌, ◌++◌, ◌∷◌, [], length};
 ghost use Rattle.tl_beat.specs.statement.Digits.{digit_char, digits, lane_digits, lanes_text, bit_text};
@@ -17,7 +17,7 @@ fn digit_byte(digit: u8) -> u8
     DIGITS[usize::from(digit)]
 }
 
-/// Appends the lowest `count` hexadecimal digits of a number, the highest of them first.
+/// Appends the lowest `count` hexadecimal digits of a number, from the highest on.
 #[inline(always)]
 pub fn append_digits(text: &mut ArrayVec<u8, 64>, number: u32, count: u8)
     requires count { count ≤ 8 }

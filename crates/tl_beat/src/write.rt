@@ -1,4 +1,4 @@
-//! Writing a beat as a line of text.
+//! Writes a beat as a line of text.
 
 ghost use Rattle.std.specs.Prelude.{◌≡◌, ◌<◌, ◌≤◌, ◌+◌, ◌/◌, ◌^◌, ◌++◌, ◌∷◌, [], length, OnOk, OnErr};
 ghost use Rattle.tl_beat.specs.declared.beat.Beat.{Beat};
@@ -171,9 +171,9 @@ fn append_e<const W: usize>(text: &mut ArrayVec<u8, 64>, link: Link, beat: BeatE
     append_number(text, u32::from(beat.sink), 2);
 }
 
-/// Appends the line of a beat on a link, its line feed included. Its param must have room in the
-/// channel's field (3 bits on channels A to C, 2 on D), its size in 4 bits and its mask in `W` bits.
-/// Where there is no memory the vector stays as it was.
+/// Appends the line of a beat on a link, with its line feed. Its param must fit into the channel's field (3 bits on
+/// channels A to C, 2 on D), its size into 4 bits and its mask into `W` bits. The error means that there is no memory
+/// left; then the vector stays as it was.
 pub fn write_line<const W: usize>(
     link: Link,
     beat: &Beat<W>,

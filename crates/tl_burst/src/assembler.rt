@@ -19,13 +19,13 @@ use crate::part::{Broken, Part};
 use std::marker::Model;
 use tl_beat::beat::Beat;
 
-/// Assembles the messages of one channel. A contract sees the beats of the burst that has begun and
-/// isn't complete, the newest first.
+/// Assembles the messages of one channel. A contract sees an assembler as the beats of its unfinished burst, the newest
+/// first.
 #[derive(Drop)]
 pub struct Assembler<const W: usize> {
-    /// What the unfinished burst has said so far, and zero where its further beats will write.
+    /// The message with the beats that were taken. The parts of its other beats are zero.
     message: Message<W>,
-    /// How many beats of the message were taken; none where no burst is unfinished.
+    /// The number of beats of the message that were taken; 0 if no burst is unfinished.
     taken: u8,
 }
 
@@ -37,8 +37,8 @@ impl<const W: usize> Model for Assembler<W> {
     ghost invariant = { λ a. (a.taken < Burst.beats_of a.message) × (0 < a.taken → IsBlankAfter a.taken a.message) };
 }
 
-/// Whether a beat can follow the first `taken` beats of a message. Where there are none yet, the
-/// message becomes the blank one that the beat begins.
+/// Whether a beat can follow the first `taken` beats of a message. If there are none yet, the message becomes an empty
+/// one with the beat's control fields.
 fn prepare<const W: usize>(message: &mut Message<W>, taken: u8, beat: &Beat<W>) -> bool
     requires width { IsWidth W }
     requires takeable { IsTakeable beat.now }
@@ -59,8 +59,8 @@ fn prepare<const W: usize>(message: &mut Message<W>, taken: u8, beat: &Beat<W>) 
     }
 }
 
-/// Writes the message of a beat that is the only one of its burst where it is to stand: whether it is one. Otherwise
-/// nothing changes.
+/// Writes the message of a beat that is the only one of its burst, and returns whether it is. Otherwise nothing
+/// changes.
 fn take_only<const W: usize>(message: &mut Message<W>, beat: &Beat<W>) -> bool
     requires width { IsWidth W }
     requires takeable { IsTakeable beat.now }
@@ -87,14 +87,14 @@ impl<const W: usize> Assembler<W> {
         }
     }
 
-    /// Whether a burst has begun and isn't complete.
+    /// Whether a burst is unfinished.
     pub fn has_begun(&self) -> bool
         ensures { result ≡ not (is_empty self.now) }
     {
         self.taken > 0
     }
 
-    /// The newest beat of the burst that has begun and isn't complete.
+    /// The newest beat of the unfinished burst.
     pub fn newest(&self) -> Option<Beat<W>>
         requires { IsWidth W }
         ensures { result ≡ slice_get self.now 0 }
@@ -105,8 +105,8 @@ impl<const W: usize> Assembler<W> {
         Some(beat_at(&self.message, self.taken - 1))
     }
 
-    /// What the beat would be to its burst, or S1 where it differs in a control field from the
-    /// burst that it would continue.
+    /// The place of the beat in its burst. The error is S1 if a control field differs from that of the unfinished
+    /// burst.
     pub fn peek(&self, beat: &Beat<W>) -> Result<Part, Broken>
         requires width { IsWidth W }
         requires takeable { IsTakeable beat.now }
@@ -122,8 +122,8 @@ impl<const W: usize> Assembler<W> {
         Ok(if last { Part::Last } else { Part::Middle })
     }
 
-    /// Takes a beat that goes on with the burst that has begun and doesn't complete it: whether it is one.
-    /// Where it isn't, nothing changes.
+    /// Takes a beat that continues the unfinished burst and doesn't complete it, and returns whether it does. Otherwise
+    /// nothing changes.
     pub fn goes_on(&mut self, beat: &Beat<W>) -> bool
         requires width { IsWidth W }
         requires takeable { IsTakeable beat.now }
@@ -145,8 +145,8 @@ impl<const W: usize> Assembler<W> {
         true
     }
 
-    /// Takes a beat, and answers the message that it completes. Where it differs in a control field
-    /// from the burst that it would continue it is refused by S1, and nothing changes.
+    /// Takes a beat and returns the message that it completes, if it completes one. The error is S1 if a control field
+    /// differs from that of the unfinished burst; then nothing changes.
     pub fn take(&mut self, beat: &Beat<W>) -> Result<Option<Message<W>>, Broken>
         requires width { IsWidth W }
         requires takeable { IsTakeable beat.now }
@@ -155,7 +155,7 @@ impl<const W: usize> Assembler<W> {
         ensures grows { OnOk result (self.new ≡ grown beat.now self.old) }
         ensures message { IfOk result (λ m. (is_some m ≡ completes beat.now self.old)
             × IfSome m (λ m. IsBurst m (beat.now ∷ self.old))) }
-        // the next beat of any message that is zero where no beat carries anything
+        // the next beat of any message whose unused parts are zero
         ensures whole { (m : Message W) (i : ℕ) → self.old ≡ begun m i → beat.now ≡ beat_of m i →
             i < Burst.beats_of m → IsBlankAfter (Burst.beats_of m) m →
             result ≡ Ok (if i + 1 == Burst.beats_of m then Some m else None) }
@@ -172,7 +172,8 @@ impl<const W: usize> Assembler<W> {
         }
     }
 
-    /// Takes a beat as `take` does: whether it completes a message, which is written where it is to stand.
+    /// Takes a beat as `take` does, with the same error, but writes the message into `message` and returns whether the
+    /// beat completes one.
     pub fn take_into(&mut self, beat: &Beat<W>, message: &mut Message<W>) -> Result<bool, Broken>
         requires width { IsWidth W }
         requires takeable { IsTakeable beat.now }
@@ -181,7 +182,7 @@ impl<const W: usize> Assembler<W> {
         ensures grows { OnOk (written message.new result) (self.new ≡ grown beat.now self.old) }
         ensures message { IfOk (written message.new result) (λ m. (is_some m ≡ completes beat.now self.old)
             × IfSome m (λ m. IsBurst m (beat.now ∷ self.old))) }
-        // the next beat of any message that is zero where no beat carries anything
+        // the next beat of any message whose unused parts are zero
         ensures whole { (m : Message W) (i : ℕ) → self.old ≡ begun m i → beat.now ≡ beat_of m i →
             i < Burst.beats_of m → IsBlankAfter (Burst.beats_of m) m →
             written message.new result ≡ Ok (if i + 1 == Burst.beats_of m then Some m else None) }

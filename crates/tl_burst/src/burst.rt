@@ -13,7 +13,7 @@ ghost use Rattle.tl_burst.specs.statement.Burst.{a_beat_of, b_beat_of, c_beat_of
 use crate::message::{Message, MessageA, MessageB, MessageC, MessageD};
 use tl_beat::beat::{Beat, BeatA, BeatB, BeatC, BeatD, BeatE};
 
-/// How many beats of `W` bytes a burst of this size has.
+/// The number of beats of `W` bytes in a burst of this size.
 #[inline(always)]
 fn beats_for<const W: usize>(carries_data: bool, size: u8) -> u8
     requires width { IsWidth W }
@@ -28,8 +28,7 @@ fn beats_for<const W: usize>(carries_data: bool, size: u8) -> u8
     }
 }
 
-/// How many beats carry the message: `2^size / W` where it carries data and these are more than
-/// `W` bytes, else one.
+/// The number of beats of a message: `2^size / W` if it carries data of more than `W` bytes, otherwise one.
 pub fn beats_of<const W: usize>(message: &Message<W>) -> u8
     requires { IsWidth W }
     ensures { result ≡ Burst.beats_of message.now }
@@ -43,7 +42,7 @@ pub fn beats_of<const W: usize>(message: &Message<W>) -> u8
     }
 }
 
-/// How many beats the burst of this beat has.
+/// The number of beats in the burst of this beat.
 #[inline(always)]
 pub fn burst_length<const W: usize>(beat: &Beat<W>) -> u8
     requires width { IsWidth W }
@@ -68,7 +67,7 @@ fn copy_lanes<const W: usize>(lanes: &mut [u8; W], payload: &[u8; 64], i: u8)
     lanes.copy_from_slice(&payload[from..from + W]);
 }
 
-/// The lanes of beat `i`, where its message carries data.
+/// The lanes of beat `i`, if its message carries data.
 fn lanes_of<const W: usize>(carries_data: bool, payload: &[u8; 64], i: u8) -> Option<[u8; W]>
     requires { W * i + W ≤ 64 }
     ensures { result ≡ lanes_at carries_data W payload.now i }
@@ -81,7 +80,7 @@ fn lanes_of<const W: usize>(carries_data: bool, payload: &[u8; 64], i: u8) -> Op
     Some(lanes)
 }
 
-/// Makes those of beat `i` of the lanes of another beat, where there are lanes.
+/// Replaces the lanes of a beat, if it has any, by those of beat `i`.
 fn change_lanes<const W: usize>(lanes: &mut Option<[u8; W]>, payload: &[u8; 64], i: u8)
     requires { W * i + W ≤ 64 }
     ensures here { lanes_at (is_some lanes.new) W payload.now i ≡ lanes.new }
@@ -92,7 +91,7 @@ fn change_lanes<const W: usize>(lanes: &mut Option<[u8; W]>, payload: &[u8; 64],
     }
 }
 
-/// The mask of beat `i`, in a message's mask.
+/// The part of a message's mask for beat `i`.
 pub fn mask_of<const W: usize>(mask: u64, i: u8) -> u16
     requires width { IsWidth W }
     requires inside { W * i + W ≤ 64 }
@@ -102,7 +101,7 @@ pub fn mask_of<const W: usize>(mask: u64, i: u8) -> u16
     lanes as u16
 }
 
-/// The corrupt bit of beat `i`, in those of a message.
+/// Bit `i` of a message's corrupt bits.
 pub fn bit_of(bits: u16, i: u8) -> bool
     requires { i < 16 }
     ensures { result ≡ bit bits i }
@@ -177,7 +176,7 @@ fn beat_of_d<const W: usize>(m: &MessageD<W>, i: u8) -> BeatD<W>
     }
 }
 
-/// Beat `i` of the message: the control fields, its part of payload and mask, its corrupt bit.
+/// Beat `i` of the message: its control fields, its part of payload and mask, and its corrupt bit.
 #[inline(always)]
 pub fn beat_at<const W: usize>(message: &Message<W>, i: u8) -> Beat<W>
     requires width { IsWidth W }
@@ -236,7 +235,7 @@ fn change_d<const W: usize>(x: &mut BeatD<W>, m: &MessageD<W>, i: u8)
     x.corrupt = bit_of(m.corrupt, i);
 }
 
-/// Makes beat `i` of a message of another one: lanes, mask and corrupt bit are all that differ.
+/// Makes another beat of the same message its beat `i`: only lanes, mask and corrupt bit change.
 pub fn change<const W: usize>(beat: &mut Beat<W>, message: &Message<W>, i: u8)
     requires width { IsWidth W }
     requires inside { W * i + W ≤ 64 }

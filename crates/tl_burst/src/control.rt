@@ -1,5 +1,4 @@
-//! The control fields of messages, which the beats of its burst share (SiFive TileLink Specification
-//! 1.8, "Serialization").
+//! The control fields of a message, which its beats share (SiFive TileLink Specification 1.8, "Serialization").
 
 ghost use Rattle.std.specs.Prelude.{◌≡◌};
 ghost use Rattle.tl_beat.specs.statement.Control.{control_of};

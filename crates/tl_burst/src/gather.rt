@@ -1,4 +1,4 @@
-//! Beats written into the message that they carry.
+//! Writes beats into the message that they carry.
 
 ghost use Rattle.std.specs.Prelude.{ℕ, Bool, IsTrue, ◌≡◌, ◌<◌, ◌≤◌, ◌+◌, ◌*◌, ◌^◌, is_some, if◌then◌else◌, length};
 ghost use Rattle.tl_beat.specs.statement.Width.{IsWidth};
@@ -13,7 +13,7 @@ use crate::message::{Message, MessageA, MessageB, MessageC, MessageD, MessageE};
 use std::simd::Simd;
 use tl_beat::beat::{Beat, BeatA, BeatB, BeatC, BeatD};
 
-/// Copies the lanes of a beat, all at once.
+/// Copies the lanes of a beat.
 fn copy_lanes<const W: usize>(lanes: &[u8; W], place: &mut [u8])
     requires { length place.old ≡ W }
     ensures { place.new ≡ lanes.now }
@@ -36,7 +36,7 @@ fn write_lanes<const W: usize>(payload: &mut [u8; 64], i: u8, lanes: &Option<[u8
     }
 }
 
-/// A mask with the bits of beat `i`.
+/// The mask with the bits of beat `i` too.
 fn with_mask<const W: usize>(mask: u64, i: u8, bits: u16) -> u64
     requires width { IsWidth W }
     requires inside { W * i + W ≤ 64 }
@@ -49,7 +49,7 @@ fn with_mask<const W: usize>(mask: u64, i: u8, bits: u16) -> u64
     mask + (u64::from(bits) << (W * i as usize))
 }
 
-/// Corrupt bits with that of beat `i`.
+/// The corrupt bits with that of beat `i` too.
 fn with_corrupt(bits: u16, i: u8, set: bool) -> u16
     requires inside { i < 16 }
     requires blank { bits < 2 ^ i }
@@ -120,7 +120,7 @@ fn write_d<const W: usize>(m: &mut MessageD<W>, i: u8, x: &BeatD<W>)
     m.corrupt = with_corrupt(m.corrupt, i, x.corrupt);
 }
 
-/// Writes a beat into the message that it belongs to, as its beat `i`.
+/// Writes a beat into its message, as beat `i`.
 pub fn write_beat<const W: usize>(message: &mut Message<W>, i: u8, beat: &Beat<W>)
     requires width { IsWidth W }
     requires inside { W * i + W ≤ 64 }
@@ -141,7 +141,7 @@ pub fn write_beat<const W: usize>(message: &mut Message<W>, i: u8, beat: &Beat<W
     }
 }
 
-/// The message that begins with a beat, before any of its beats is written.
+/// The message of a beat, with its control fields and without any beat's data.
 pub fn blank_for<const W: usize>(beat: &Beat<W>) -> Message<W>
     requires { IsTakeable beat.now }
     ensures same { IsTrue (same_control beat.now (beat_of result 0)) }
@@ -191,7 +191,7 @@ pub fn blank_for<const W: usize>(beat: &Beat<W>) -> Message<W>
     }
 }
 
-/// Whether a beat has the control fields of a message, one after another.
+/// Whether a beat has the control fields of a message.
 pub fn continues<const W: usize>(message: &Message<W>, beat: &Beat<W>) -> bool
     ensures { result ≡ same_control beat.now (beat_of message.now 0) }
 {

@@ -1,4 +1,4 @@
-//! How the beats of a channel split into messages, as laws.
+//! Laws: how the beats of a channel split into messages.
 
 ghost use Rattle.std.specs.Prelude.{List, ◌≡◌};
 ghost use Rattle.tl_beat.specs.declared.beat.Beat.{Beat};
@@ -8,8 +8,8 @@ ghost use Rattle.tl_burst.specs.declared.message.Message.{Message};
 ghost use Rattle.tl_burst.specs.statement.Messages;
 ghost use Rattle.tl_burst.specs.statement.Messages.{History, Splits, carried_on};
 
-/// Two splits of one list of beats into messages and a rest are the same, and the rest of a
-/// channel's beats is what is unfinished there.
+/// A list of beats splits in only one way into messages and a rest. For the beats of a channel the rest is its
+/// unfinished burst.
 pub fn split_once<const W: usize>()
     requires { IsWidth W }
     ensures once { (beats : List (Beat W)) (messages others : List (Message W)) (rest other : List (Beat W)) →

@@ -1,6 +1,6 @@
-//! Messages: the control fields of their channel, and the data of all of their beats (SiFive TileLink
-//! Specification 1.8, "Operations and Messages"). Fields have the units and ranges of a beat's; at
-//! most a block is carried, so `size` is at most 6.
+//! Messages: the control fields of their channel, and the data of all of their beats (SiFive TileLink Specification
+//! 1.8, "Operations and Messages"). Fields have the units and ranges of a beat's. A message carries at most a block, so
+//! `size` is at most 6.
 
 ghost use Rattle.std.specs.Prelude.{◌≤◌};
 
@@ -67,8 +67,8 @@ pub struct MessageE {
     pub sink: u8,
 }
 
-/// A message of any channel. Payload byte `W * i + j` is lane `j` of beat `i`, mask bit `W * i + j`
-/// likewise (channels A and B), and corrupt bit `i` is that of beat `i`.
+/// A message of any channel. Payload byte `W * i + j` is lane `j` of beat `i`. Mask bit `W * i + j` is that of the same
+/// lane (channels A and B). Corrupt bit `i` is that of beat `i`.
 #[derive(Clone, Copy, Debug, PartialEq, Eq)]
 pub enum Message<const W: usize> {
     A(MessageA<W>),

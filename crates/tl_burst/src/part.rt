@@ -1,4 +1,4 @@
-//! What a beat is to its burst (SiFive TileLink Specification 1.8, "Serialization" on bursts).
+//! The place of a beat in its burst (SiFive TileLink Specification 1.8, "Serialization" on bursts).
 
 /// The place of a beat in its burst.
 #[derive(Clone, Copy, Debug, PartialEq, Eq)]
@@ -9,8 +9,7 @@ pub enum Part {
     Only,
 }
 
-/// The rule that a beat breaks where it differs in a control field from the burst that it is to
-/// continue.
+/// The rule that a beat breaks if a control field differs from that of the unfinished burst.
 #[derive(Clone, Copy, Debug, PartialEq, Eq)]
 pub enum Broken {
     S1,

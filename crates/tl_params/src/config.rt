@@ -1,4 +1,4 @@
-//! What a manager and its clients are made from, and its limits.
+//! The configuration of a manager and its clients, and its limits.
 
 ghost use Rattle.std.specs.Prelude.{◌≡◌};
 ghost use Rattle.tl_params.specs.statement.Range.{is_from_to};
@@ -9,11 +9,10 @@ use crate::sources::sources_fit;
 use arrayvec::ArrayVec;
 use std::alloc::AllocError;
 
-/// The most clients that a manager may have, and so the most links of a trace.
+/// The most clients that a manager may have. A trace has at most as many links.
 pub const MOST_CLIENTS: usize = 16;
 
-/// The level of a client's link, and how many source numbers it has: from 1 to 8, in each of its two
-/// pools.
+/// The level of a client's link, and its number of sources: 1 to 8 for requests, and as many for Releases.
 #[derive(Clone, Copy, Debug, Default, PartialEq, Eq)]
 pub struct ClientConfig {
     pub level: Level,
@@ -30,7 +29,7 @@ pub struct Config {
     pub profile: Profile,
 }
 
-/// Why nothing was made.
+/// The reason why a constructor failed.
 #[derive(Clone, Copy, Debug, PartialEq, Eq)]
 pub enum NewFault {
     /// The number of clients is out of its limits.
@@ -41,7 +40,7 @@ pub enum NewFault {
     N3,
     /// A client's number of sources is out of its limits.
     N4,
-    /// There is no memory for it.
+    /// There is no memory left.
     Memory,
 }
 
@@ -73,7 +72,7 @@ impl ClientConfig {
     ghost use Rattle.tl_params.specs.statement.Config.{client_fault};
     ghost use Rattle.tl_params.specs.statement.Refusal.{ok_unless};
 
-    /// The first limit that a client on this many blocks breaks, in the order N2, N4.
+    /// Checks a client on this many blocks. The error is the first limit that it breaks, in the order N2, N4.
     pub fn check(&self, blocks: u16) -> Result<(), NewFault>
         ensures { result ≡ ok_unless (client_fault self.now blocks) }
     {
@@ -92,7 +91,7 @@ impl Config {
     ghost use Rattle.tl_params.specs.statement.Config.{config_fault};
     ghost use Rattle.tl_params.specs.statement.Refusal.{ok_unless};
 
-    /// The first limit that the configuration breaks, in the order N1 to N4.
+    /// Checks the configuration. The error is the first limit that it breaks, in the order N1 to N4.
     pub fn check(&self) -> Result<(), NewFault>
         ensures { result ≡ ok_unless (config_fault self.now) }
     {

@@ -1,4 +1,4 @@
-//! Reads what the headers of traces and of schedules name alike: a version, and levels.
+//! Reads the parts that the headers of traces and of schedules share: a version, and levels.
 
 ghost use Rattle.std.specs.Prelude.{◌≡◌, ◌≢◌, ◌++◌, ◌∷◌, List, ℕ, MatchOption};
 ghost use Rattle.tl_params.specs.declared.header.Version.{Version};
@@ -10,8 +10,8 @@ use crate::level::Level;
 use crate::profile::Profile;
 use crate::width::Width;
 
-/// The version of a header. The first names neither the bytes of a beat nor the profile, which are
-/// 8 and the first then, and the second doesn't name the profile.
+/// The version of a header. The first has beats of 8 bytes and the first profile. The second names the bytes of a beat,
+/// the third the profile too.
 #[derive(Clone, Copy, Debug, PartialEq, Eq)]
 pub enum Version {
     First,
@@ -20,7 +20,7 @@ pub enum Version {
 }
 
 impl Version {
-    /// The number of bytes that a beat holds.
+    /// The number of bytes of a beat.
     pub fn width(self) -> Width
         ensures { result ≡ width_of self }
     {
@@ -41,7 +41,7 @@ impl Version {
     }
 }
 
-/// The width at the front, and what follows it.
+/// The width at the front, and the bytes after it.
 fn width(bytes: &[u8]) -> Option<(Width, &[u8])>
     ensures { Gives result (width_at bytes.now) }
 {
@@ -53,7 +53,7 @@ fn width(bytes: &[u8]) -> Option<(Width, &[u8])>
     }
 }
 
-/// The profile at the front, behind a space, and what follows it.
+/// The profile at the front, after a space, and the bytes after it.
 fn profile(bytes: &[u8]) -> Option<(Profile, &[u8])>
     ensures { Gives result (profile_at bytes.now) }
 {
@@ -64,7 +64,7 @@ fn profile(bytes: &[u8]) -> Option<(Profile, &[u8])>
     }
 }
 
-/// The version at the front, and what follows it, from left to right.
+/// The version at the front, and the bytes after it, read from left to right.
 fn read_version(bytes: &[u8]) -> Option<(Version, &[u8])>
     ensures { Gives result (version_at bytes.now) }
 {
@@ -83,7 +83,7 @@ fn read_version(bytes: &[u8]) -> Option<(Version, &[u8])>
     }
 }
 
-/// The version at the front with what it names, and what follows it.
+/// The version at the front with the width and profile that it names, and the bytes after it.
 pub fn front_version(bytes: &[u8]) -> Option<(Version, &[u8])>
     ensures { MatchOption result ((version : Version) (rest : List ℕ) → bytes.now ≢ version_text version ++ rest)
         (λ x. bytes.now ≡ version_text x.0 ++ x.1.now) }
@@ -91,7 +91,7 @@ pub fn front_version(bytes: &[u8]) -> Option<(Version, &[u8])>
     read_version(bytes)
 }
 
-/// The level at the front, behind a space, and what follows it, from left to right.
+/// The level at the front, after a space, and the bytes after it, read from left to right.
 fn read_level(bytes: &[u8]) -> Option<(Level, &[u8])>
     ensures { Gives result (level_at bytes.now) }
 {
@@ -103,7 +103,7 @@ fn read_level(bytes: &[u8]) -> Option<(Level, &[u8])>
     }
 }
 
-/// The level at the front, behind a space, and what follows it.
+/// The level at the front, after a space, and the bytes after it.
 pub fn front_level(bytes: &[u8]) -> Option<(Level, &[u8])>
     ensures { MatchOption result ((level : Level) (rest : List ℕ) → bytes.now ≢ 32 ∷ (level_text level ++ rest))
         (λ x. bytes.now ≡ 32 ∷ (level_text x.0 ++ x.1.now)) }
@@ -111,7 +111,7 @@ pub fn front_level(bytes: &[u8]) -> Option<(Level, &[u8])>
     read_level(bytes)
 }
 
-/// Whether nothing but the LF that ends a line is left.
+/// Whether the bytes are the LF that ends a line, and nothing else.
 pub fn is_end(bytes: &[u8]) -> bool
     ensures { result ≡ is_end bytes.now }
 {

@@ -1,10 +1,9 @@
-//! What can be pending on a link (SiFive TileLink Specification 1.8, "Operations and Messages" on
-//! source and sink identifiers, and the chapter on TL-C on concurrent transfers).
+//! The keys that can be pending on a link (SiFive TileLink Specification 1.8, "Operations and Messages" on source and
+//! sink identifiers, and the chapter on TL-C on concurrent transfers).
 
 ghost use Rattle.std.specs.Prelude.{◌≡◌, ◌/◌};
 
-/// A thing of which one at a time can be pending on a link. Blocks go by their number, which is the
-/// address over 64.
+/// A key is pending on a link at most once at a time. The number of a block is its address divided by 64.
 #[derive(Clone, Copy, Debug, PartialEq, Eq)]
 pub enum Key {
     /// A request of channel A with this source.

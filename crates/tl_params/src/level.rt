@@ -1,7 +1,7 @@
 //! Levels of conformance (SiFive TileLink Specification 1.8, "Protocol Conformance Levels").
 
-/// The level of a link: TL-UL (single reads and writes), TL-UH (bursts, atomics and hints as well),
-/// TL-C (transfers of permissions as well).
+/// The level of a link: TL-UL has single reads and writes, TL-UH also bursts, atomics and hints, TL-C also transfers of
+/// permissions.
 #[derive(Clone, Copy, Debug, Default, PartialEq, Eq)]
 pub enum Level {
     #[default]

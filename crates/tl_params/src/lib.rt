@@ -1,5 +1,5 @@
-//! What rules and messages are named by: levels, permissions, params, rules, what can be pending, and
-//! what a manager and its clients are made from.
+//! The names that rules and messages use (levels, permissions, params, rules, keys), and the configuration of a manager
+//! and its clients.
 #![tactic(auto)]
 
 pub mod config;

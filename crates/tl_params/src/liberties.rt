@@ -1,4 +1,4 @@
-//! What a link may do beyond the first profile.
+//! Liberties, which allow a link more than the first profile does.
 
 ghost use Rattle.std.specs.Prelude.{true, false, ◌≡◌};
 ghost use Rattle.tl_params.specs.statement.Liberties.{allows, liberties_of, no_liberties, standard_liberties};
@@ -6,28 +6,28 @@ ghost use Rattle.tl_params.specs.statement.Liberties.{liberty_name, united, with
 
 use crate::profile::Profile;
 
-/// One thing that a link may do beyond the first profile.
+/// One thing that a link may do and the first profile forbids.
 #[derive(Clone, Copy, Debug, PartialEq, Eq)]
 pub enum Liberty {
     /// Any source on channel B, and a ProbeAck has the source of its Probe.
     Ids,
-    /// Any sink on channel D without a Grant.
+    /// Any sink on D messages that are no Grant.
     Sinks,
     /// An AcquireBlock NtoB may be granted toT.
     Writer,
-    /// A response may begin once its request has begun, and a GrantAck once its Grant has.
+    /// A response may begin after the first beat of its request, and a GrantAck after the first beat of its Grant.
     Early,
     /// A client may give up a block without a message.
     Drops,
-    /// A Release may have any of the six reports.
+    /// A Release may have any of the six reports, a ReleaseData those from Trunk.
     Reports,
-    /// A Grant may be denied.
+    /// A Grant may be denied, and is corrupt then if it carries data.
     Denied,
     /// A denied AccessAckData needn't be corrupt.
     Uncorrupt,
 }
 
-/// The liberties that a link has: those that are set.
+/// The liberties of a link: those that are set.
 #[derive(Clone, Copy, Debug, PartialEq, Eq)]
 pub struct Liberties {
     pub ids: bool,
@@ -73,7 +73,7 @@ impl Liberty {
 }
 
 impl Liberties {
-    /// None: the first profile.
+    /// No liberty: the first profile.
     pub fn none() -> Self
         ensures { result ≡ no_liberties }
     {
@@ -89,7 +89,7 @@ impl Liberties {
         }
     }
 
-    /// What the standard allows: all but `Uncorrupt`.
+    /// The liberties that the specification allows: all but `Uncorrupt`.
     pub fn standard() -> Self
         ensures { result ≡ standard_liberties }
     {
@@ -105,7 +105,7 @@ impl Liberties {
         }
     }
 
-    /// The liberties of a profile: none of the first, and of the second that a reader may be granted toT.
+    /// The liberties of a profile: none of the first, `writer` of the second.
     pub fn of(profile: Profile) -> Self
         ensures { result ≡ liberties_of profile }
     {
@@ -115,7 +115,7 @@ impl Liberties {
         }
     }
 
-    /// Whether a liberty is among them.
+    /// Whether this liberty is set.
     pub fn allows(self, liberty: Liberty) -> bool
         ensures { result ≡ allows self liberty }
     {
@@ -168,7 +168,7 @@ impl Liberties {
         }
     }
 
-    /// Those that are in one of two sets.
+    /// The liberties that are in one of two sets, or in both.
     pub fn union(self, other: Self) -> Self
         ensures { result ≡ united self other }
     {

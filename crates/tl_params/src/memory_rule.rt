@@ -1,18 +1,18 @@
-//! The rules that the links of a manager owe each other.
+//! The rules between the links of one manager.
 
 ghost use Rattle.std.specs.Prelude.{◌≡◌};
 ghost use Rattle.tl_params.specs.statement.Names.{memory_rule_name};
 
-/// A rule of memory: what the links of a manager owe each other.
+/// A rule between the links of one manager.
 #[derive(Clone, Copy, Debug, PartialEq, Eq)]
 pub enum MemoryRule {
-    /// A Grant toT while another link holds something of the block, or toB while another holds Trunk.
+    /// A Grant conflicts with the permission that another link holds or is being granted.
     M1,
-    /// A GrantData with a byte that memory can't have had then.
+    /// A GrantData has a byte that memory can't have had then.
     M2,
-    /// An AccessAckData with a byte that the access can't have found.
+    /// An AccessAckData has a byte that the access can't have found.
     M3,
-    /// An answer to an access that had no moment, since it was asked, at which it could be performed.
+    /// An access is answered, and at no moment since its request was complete could it be performed.
     M4,
 }
 

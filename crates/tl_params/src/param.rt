@@ -1,6 +1,5 @@
-//! The params of TileLink's messages by name (SiFive TileLink Specification 1.8, chapters on TL-UH
-//! and TL-C): each with the number that a beat carries, and with the permissions at the two ends of
-//! a transition.
+//! The params of TileLink's messages by name (SiFive TileLink Specification 1.8, chapters on TL-UH and TL-C): the
+//! number that a beat carries, and the permissions before and after a transition.
 
 ghost use Rattle.std.specs.Prelude.{◌≡◌, IfSome, slice_get};
 ghost use Rattle.tl_params.specs.statement.Names.{grow_name, cap_name, prune_name, report_name};
@@ -14,7 +13,7 @@ ghost use Rattle.tl_params.specs.statement.Param.{logical_code, intent_of, inten
 
 use crate::perm::Perm;
 
-/// What an Acquire asks for.
+/// The grow that an Acquire asks for.
 #[derive(Clone, Copy, Debug, PartialEq, Eq)]
 pub enum Grow {
     NtoB,
@@ -22,7 +21,7 @@ pub enum Grow {
     BtoT,
 }
 
-/// What a Probe leaves, and what a Grant gives.
+/// The cap of a Probe, which leaves at most this permission, or of a Grant, which gives it.
 #[derive(Clone, Copy, Debug, PartialEq, Eq)]
 pub enum Cap {
     ToT,
@@ -30,7 +29,7 @@ pub enum Cap {
     ToN,
 }
 
-/// What a Release gives up.
+/// The prune of a Release: the permission that it gives up and the one that it keeps.
 #[derive(Clone, Copy, Debug, PartialEq, Eq)]
 pub enum Prune {
     TtoB,
@@ -38,7 +37,7 @@ pub enum Prune {
     BtoN,
 }
 
-/// What a ProbeAck gives up or keeps.
+/// The report of a ProbeAck: the permission before the Probe and the one after it.
 #[derive(Clone, Copy, Debug, PartialEq, Eq)]
 pub enum Report {
     TtoB,
@@ -68,14 +67,14 @@ pub enum Logical {
     Swap,
 }
 
-/// What an Intent announces.
+/// The access that an Intent announces.
 #[derive(Clone, Copy, Debug, PartialEq, Eq)]
 pub enum Intent {
     PrefetchRead,
     PrefetchWrite,
 }
 
-/// The value with this number, where all values of a kind stand in the order of their numbers.
+/// The value with this number. The list has all values in the order of their numbers.
 fn numbered<P: Copy>(all: &[P], number: u8) -> Option<P>
     ensures { result ≡ slice_get all.now number }
 {
@@ -85,7 +84,7 @@ fn numbered<P: Copy>(all: &[P], number: u8) -> Option<P>
 impl Grow {
     const NAMES: [&'static str; 3] = ["NtoB", "NtoT", "BtoT"];
 
-    /// The grow of this number, if there is one.
+    /// The grow with this param, if there is one.
     pub fn from_param(param: u8) -> Option<Self>
         ensures value { result ≡ grow_of param }
         ensures again { IfSome result (λ grow. grow_code grow ≡ param) }
@@ -93,7 +92,7 @@ impl Grow {
         numbered(&[Self::NtoB, Self::NtoT, Self::BtoT], param)
     }
 
-    /// The number that a beat carries.
+    /// The param of a beat with this grow.
     pub fn param(self) -> u8
         ensures value { result ≡ grow_code self }
         ensures again { grow_of result ≡ Some self }
@@ -108,7 +107,7 @@ impl Grow {
         Self::NAMES[self as usize]
     }
 
-    /// The permission from which it grows.
+    /// The permission from which it starts.
     pub fn left(self) -> Perm
         ensures { result ≡ grow_left self }
     {
@@ -118,7 +117,7 @@ impl Grow {
         }
     }
 
-    /// The permission to which it grows.
+    /// The permission for which it asks.
     pub fn right(self) -> Perm
         ensures { result ≡ grow_right self }
     {
@@ -132,7 +131,7 @@ impl Grow {
 impl Cap {
     const NAMES: [&'static str; 3] = ["toT", "toB", "toN"];
 
-    /// The cap of this number, if there is one.
+    /// The cap with this param, if there is one.
     pub fn from_param(param: u8) -> Option<Self>
         ensures value { result ≡ cap_of param }
         ensures again { IfSome result (λ cap. cap_code cap ≡ param) }
@@ -140,7 +139,7 @@ impl Cap {
         numbered(&[Self::ToT, Self::ToB, Self::ToN], param)
     }
 
-    /// The number that a beat carries.
+    /// The param of a beat with this cap.
     pub fn param(self) -> u8
         ensures value { result ≡ cap_code self }
         ensures again { cap_of result ≡ Some self }
@@ -155,7 +154,7 @@ impl Cap {
         Self::NAMES[self as usize]
     }
 
-    /// The most that may be held under it.
+    /// The highest permission under this cap.
     pub fn right(self) -> Perm
         ensures { result ≡ cap_right self }
     {
@@ -170,7 +169,7 @@ impl Cap {
 impl Prune {
     const NAMES: [&'static str; 3] = ["TtoB", "TtoN", "BtoN"];
 
-    /// The prune of this number, if there is one.
+    /// The prune with this param, if there is one.
     pub fn from_param(param: u8) -> Option<Self>
         ensures value { result ≡ prune_of param }
         ensures again { IfSome result (λ prune. prune_code prune ≡ param) }
@@ -178,7 +177,7 @@ impl Prune {
         numbered(&[Self::TtoB, Self::TtoN, Self::BtoN], param)
     }
 
-    /// The number that a beat carries.
+    /// The param of a beat with this prune.
     pub fn param(self) -> u8
         ensures value { result ≡ prune_code self }
         ensures again { prune_of result ≡ Some self }
@@ -193,7 +192,7 @@ impl Prune {
         Self::NAMES[self as usize]
     }
 
-    /// The permission that is given up.
+    /// The permission held before it.
     pub fn left(self) -> Perm
         ensures { result ≡ prune_left self }
     {
@@ -203,7 +202,7 @@ impl Prune {
         }
     }
 
-    /// The permission that is left.
+    /// The permission that it leaves.
     pub fn right(self) -> Perm
         ensures { result ≡ prune_right self }
     {
@@ -217,7 +216,7 @@ impl Prune {
 impl Report {
     const NAMES: [&'static str; 6] = ["TtoB", "TtoN", "BtoN", "TtoT", "BtoB", "NtoN"];
 
-    /// The report of this number, if there is one.
+    /// The report with this param, if there is one.
     pub fn from_param(param: u8) -> Option<Self>
         ensures value { result ≡ report_named param }
         ensures again { IfSome result (λ report. report_code report ≡ param) }
@@ -235,7 +234,7 @@ impl Report {
         )
     }
 
-    /// The number that a beat carries.
+    /// The param of a beat with this report.
     pub fn param(self) -> u8
         ensures value { result ≡ report_code self }
         ensures again { report_named result ≡ Some self }
@@ -250,7 +249,7 @@ impl Report {
         Self::NAMES[self as usize]
     }
 
-    /// The permission that was held.
+    /// The permission held before it.
     pub fn left(self) -> Perm
         ensures { result ≡ report_left self }
     {
@@ -261,7 +260,7 @@ impl Report {
         }
     }
 
-    /// The permission that is left.
+    /// The permission that it leaves.
     pub fn right(self) -> Perm
         ensures { result ≡ report_right self }
     {
@@ -276,7 +275,7 @@ impl Report {
 impl Arithmetic {
     const NAMES: [&'static str; 5] = ["MIN", "MAX", "MINU", "MAXU", "ADD"];
 
-    /// The operation of this number, if there is one.
+    /// The operation with this param, if there is one.
     pub fn from_param(param: u8) -> Option<Self>
         ensures value { result ≡ arithmetic_of param }
         ensures again { IfSome result (λ operation. arithmetic_code operation ≡ param) }
@@ -287,7 +286,7 @@ impl Arithmetic {
         )
     }
 
-    /// The number that a beat carries.
+    /// The param of a beat with this operation.
     pub fn param(self) -> u8
         ensures value { result ≡ arithmetic_code self }
         ensures again { arithmetic_of result ≡ Some self }
@@ -306,7 +305,7 @@ impl Arithmetic {
 impl Logical {
     const NAMES: [&'static str; 4] = ["XOR", "OR", "AND", "SWAP"];
 
-    /// The operation of this number, if there is one.
+    /// The operation with this param, if there is one.
     pub fn from_param(param: u8) -> Option<Self>
         ensures value { result ≡ logical_of param }
         ensures again { IfSome result (λ operation. logical_code operation ≡ param) }
@@ -314,7 +313,7 @@ impl Logical {
         numbered(&[Self::Xor, Self::Or, Self::And, Self::Swap], param)
     }
 
-    /// The number that a beat carries.
+    /// The param of a beat with this operation.
     pub fn param(self) -> u8
         ensures value { result ≡ logical_code self }
         ensures again { logical_of result ≡ Some self }
@@ -333,7 +332,7 @@ impl Logical {
 impl Intent {
     const NAMES: [&'static str; 2] = ["PrefetchRead", "PrefetchWrite"];
 
-    /// The intent of this number, if there is one.
+    /// The intent with this param, if there is one.
     pub fn from_param(param: u8) -> Option<Self>
         ensures value { result ≡ intent_of param }
         ensures again { IfSome result (λ intent. intent_code intent ≡ param) }
@@ -341,7 +340,7 @@ impl Intent {
         numbered(&[Self::PrefetchRead, Self::PrefetchWrite], param)
     }
 
-    /// The number that a beat carries.
+    /// The param of a beat with this intent.
     pub fn param(self) -> u8
         ensures value { result ≡ intent_code self }
         ensures again { intent_of result ≡ Some self }

@@ -1,6 +1,6 @@
 //! Permissions on a block (SiFive TileLink Specification 1.8, chapter on TL-C).
 
-/// What a client holds of a block.
+/// The permission that a client holds of a block.
 #[derive(Clone, Copy, Debug, PartialEq, Eq)]
 pub enum Perm {
     /// No copy.

@@ -1,7 +1,7 @@
-//! The profile: what the standard leaves open and a project chooses.
+//! The profile: a choice that the specification leaves open.
 
-/// How an AcquireBlock NtoB is granted: under `One` toB, under `Two` toT where no client is recorded
-/// with a copy.
+/// The cap that answers an AcquireBlock NtoB: toB under `One`. Under `Two` toT may answer it too, and the manager
+/// grants toT if it has recorded no client with a copy.
 #[derive(Clone, Copy, Debug, PartialEq, Eq)]
 pub enum Profile {
     One,

@@ -1,61 +1,60 @@
-//! The rules by which a beat is refused, each with the chapter of the SiFive TileLink Specification
-//! 1.8 that it comes from.
+//! The rules that convict a beat, each with its chapter of the SiFive TileLink Specification 1.8.
 
 ghost use Rattle.std.specs.Prelude.{◌≡◌};
 ghost use Rattle.tl_params.specs.statement.Names.{rule_name};
 
-/// A rule that a beat breaks. L rules judge a beat by level and channel alone, S1 a beat against its
-/// burst, H rules a message at its first beat against the history of its link; A rules are those
-/// that an agent adds. Where no chapter is named, the rule is this project's own choice.
+/// A rule that a beat breaks. L rules judge a beat by level and channel alone, S1 judges it against its burst, and H
+/// rules judge the first beat of a message against the history of its link. Agents add the A rules. A rule without a
+/// chapter is this project's own choice.
 #[derive(Clone, Copy, Debug, PartialEq, Eq)]
 pub enum Rule {
-    /// The beat isn't of the channel named, its opcode isn't of the level, or the link has no level
-    /// ("Protocol Conformance Levels").
+    /// The beat isn't of the channel named, its opcode isn't of the level, or the link has no level ("Protocol
+    /// Conformance Levels").
     L1,
-    /// Param, or source or sink where these are fixed, isn't one that the opcode may have (the
-    /// messages in the chapters on TL-UL, TL-UH and TL-C; sources and sinks: this project).
+    /// The opcode may not have this param, source or sink (the messages in the chapters on TL-UL, TL-UH and TL-C;
+    /// sources and sinks: this project).
     L2,
-    /// The size isn't one that the opcode may have at the level (the messages in the chapters on
-    /// TL-UL, TL-UH and TL-C; at most a block: this project).
+    /// The opcode may not have this size at the level (the messages in the chapters on TL-UL, TL-UH and TL-C; at most a
+    /// block: this project).
     L3,
     /// The address isn't a multiple of the size in bytes ("Operations and Messages", on addresses).
     L4,
-    /// The mask isn't that of address and size ("Serialization", on byte lanes).
+    /// The mask doesn't fit address and size ("Serialization", on byte lanes).
     L5,
-    /// Corrupt or denied stands where it may not ("Serialization", on errors).
+    /// Corrupt or denied is set and may not be ("Serialization", on errors).
     L6,
-    /// An access forwarded on channel B, or an answer to one on channel C.
+    /// An access forwarded on channel B, or the answer to one on channel C.
     L7,
-    /// A beat that continues a burst differs from its first beat in a control field
-    /// ("Serialization", on bursts).
+    /// A beat differs from the first beat of its burst in a control field ("Serialization", on bursts).
     S1,
     /// The source is pending ("Operations and Messages", on source and sink identifiers).
     H1,
-    /// No complete pending request with this source has this answer ("Operations and Messages", on
-    /// operations and on source and sink identifiers).
+    /// The response answers no complete pending request ("Operations and Messages", on operations and on source and
+    /// sink identifiers).
     H2,
     /// The size isn't that of the request (the responses in the chapters on TL-UL, TL-UH and TL-C).
     H3,
     /// An Acquire while an Acquire or a Release of the block is pending (chapter on TL-C, on
     /// concurrent transfers; from here to H13 likewise).
     H4,
-    /// An Acquire whose grow doesn't begin at what is held.
+    /// An Acquire whose grow doesn't fit the permission held.
     H5,
-    /// A Grant with a cap or of a kind that its Acquire doesn't have, or while a Probe is pending.
+    /// A Grant whose cap or lack of data doesn't fit its Acquire, or a Grant while a Probe of the block is pending.
     H6,
     /// The sink of a Grant is pending ("Operations and Messages", on source and sink identifiers).
     H7,
-    /// A GrantAck whose sink isn't pending.
+    /// A GrantAck of no complete pending Grant.
     H8,
     /// A Probe while a Probe or a GrantAck of the block is pending.
     H9,
-    /// A ProbeAck without its Probe, or with data for a ProbePerm.
+    /// A ProbeAck of no pending Probe, or with data for a ProbePerm.
     H10,
     /// A ProbeAck while a Release of the block is pending.
     H11,
-    /// A ProbeAck that isn't the report of the Probe's cap and of what is held.
+    /// A ProbeAck whose param isn't the report of the Probe's cap and the permission held.
     H12,
-    /// A Release while an Acquire or a Release of the block is pending, or of what isn't held.
+    /// A Release while an Acquire or a Release of the block is pending, or one that doesn't start from the permission
+    /// held.
     H13,
     /// The address is outside the map ("Architecture", on the address space).
     A1,

@@ -1,6 +1,6 @@
 //! The width of a link.
 
-/// How many bytes of data a beat carries.
+/// The number of bytes of data in a beat.
 #[derive(Clone, Copy, Debug, PartialEq, Eq)]
 pub enum Width {
     Four,

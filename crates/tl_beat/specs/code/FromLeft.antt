@@ -34,7 +34,7 @@ abbrev pub digit_at : List ℕ → Result (ℕ × List ℕ) LineFault
 digit_at [] = Err F3
 digit_at (c ∷ cs) = value_or_fault (digit_of c) cs
 
--- n digits behind a number
+-- n digits after a number
 unfoldable pub digits_at : ℕ → ℕ → List ℕ → Result (ℕ × List ℕ) LineFault
 digits_at number zero bytes = Ok (number, bytes)
 digits_at number (suc n) bytes = do
@@ -58,7 +58,7 @@ pair_at [] = Err F3
 pair_at (c ∷ []) = Err F3
 pair_at (c ∷ d ∷ cs) = if is_digit c && is_digit d then Ok (16 * digit_value c + digit_value d, cs) else Err F3
 
--- n lanes before others, the last lane first, behind which nothing is left
+-- n lanes before others, the last lane first, after which nothing is left
 unfoldable pub lanes_at : List ℕ → ℕ → List ℕ → Result (List ℕ) LineFault
 lanes_at lanes zero [] = Ok lanes
 lanes_at lanes zero (c ∷ cs) = Err F3
@@ -113,7 +113,7 @@ tail_at w bytes =
 
 -- ---- a line that is read over a beat
 
--- the link and the beat that stand there then, or the fault
+-- the link and the beat that are read there, or the fault
 abbrev pub placed : {w : ℕ} → Result Link LineFault → Beat w → Result (Link × Beat w) LineFault
 placed (Ok link) beat = Ok (link, beat)
 placed (Err fault) beat = Err fault
@@ -172,7 +172,7 @@ line_e_at bytes = do
 
 -- ---- a line of any channel
 
--- the letter behind the first space, if it is a field of its own
+-- the letter after the first space, if it is a field of its own
 abbrev pub letter_in : List ℕ → Option ℕ
 letter_in [] = None
 letter_in (c ∷ []) = Some c
@@ -200,7 +200,7 @@ abbrev pub line_at : {w : ℕ} → List ℕ → Result (Link × Beat w) LineFaul
 line_at line = if nat_lt 256 (length line) || not (ends_with_byte 10 line) then Err F1 else body_at
     (take (length line - 1) line)
 
--- ---- what a function returned is what reading gives
+-- ---- the result of a function is the result of reading
 
 abbrev pub Gives : {X R : Type 0} → Result (X × Bor R) LineFault → Result (X × R) LineFault → Type 0
 Gives (Ok x) read = read ≡ Ok (x.0, x.1.now)

@@ -1,4 +1,4 @@
--- What a line is read as, by the pieces between its spaces.
+-- How a line is read, by the pieces between its spaces.
 use Rattle.std.specs.Prelude.{◌≡◌, refl, ℕ, ◌/◌, Bool, true, false, not, ◌||◌, List, [], ◌∷◌, length, Option, Some}
 use Rattle.std.specs.Prelude.{None, is_some, Result, Ok, Err, nat_lt, ok_or, if◌then◌else◌}
 use Rattle.std.specs.Io.BufRead.{ends_with_byte}
@@ -34,7 +34,7 @@ data_in w field = if is_data w field then Ok (data_of field) else Err F3
 abbrev pub bit_in : List ℕ → Result Bool LineFault
 bit_in field = if is_bit field then Ok (bit_of field) else Err F3
 
--- ---- a beat of numbers: opcode in use, param at most the channel's greatest, data where the opcode has it
+-- ---- a beat of numbers: opcode in use, param at most the channel's greatest, data if the opcode has it
 
 abbrev pub at_most : ℕ → ℕ → Result ℕ LineFault
 at_most greatest param = if nat_lt greatest param then Err F5 else Ok param
@@ -201,7 +201,7 @@ reading_on (Some channel.E) fields = reading_e fields
 unfoldable pub reading_fields : {w : ℕ} → List (List ℕ) → Result (Link × Beat w) LineFault
 reading_fields fields = if nat_lt (length fields) 2 then Err F1 else reading_on (channel_named (field fields 1)) fields
 
--- what a line with its line feed is read as, where beats have w bytes
+-- how a line with its line feed is read, if beats have w bytes
 unfoldable pub reading : (w : ℕ) → List ℕ → Result (Link × Beat w) LineFault
 reading w line =
     if nat_lt 256 (length line) || not (ends_with_byte 10 line) then Err F1 else reading_fields

@@ -1,4 +1,4 @@
--- The channel of a beat, and its control fields, which the beats of a burst share.
+-- The channel of a beat, and its control fields, which all beats of a burst have in common.
 use Rattle.std.specs.Prelude.{ℕ, Bool, false, ◌==◌, ◌&&◌}
 use Rattle.std.specs.Bool.{beq}
 use Rattle.tl_beat.specs.declared.beat.Beat.{Beat}

@@ -18,7 +18,7 @@ unfoldable pub lane_digits : List ℕ → List ℕ
 lane_digits [] = []
 lane_digits (lane ∷ lanes) = lane_digits lanes ++ digits 2 lane
 
--- the data of a beat: a dash where it has none
+-- the data of a beat: the digits of its lanes, or a dash if it has none
 abbrev pub lanes_text : Option (List ℕ) → List ℕ
 lanes_text None = 45 ∷ []
 lanes_text (Some lanes) = lane_digits lanes
@@ -30,11 +30,11 @@ bit_text true = 49 ∷ []
 
 -- ---- from text to numbers
 
--- the character is a digit in base 16, written small
+-- the character is a lower-case hexadecimal digit
 abbrev pub is_digit : ℕ → Bool
 is_digit c = (nat_le 48 c && nat_le c 57) || (nat_le 97 c && nat_le c 102)
 
--- the number that a digit stands for
+-- the value of a digit
 abbrev pub digit_value : ℕ → ℕ
 digit_value c = if nat_le c 57 then c - 48 else c - 87
 
@@ -45,7 +45,7 @@ is_digits zero (c ∷ cs) = false
 is_digits (suc n) [] = false
 is_digits (suc n) (c ∷ cs) = is_digit c && is_digits n cs
 
--- the number that digits stand for, behind a number that stands for those before
+-- the number that digits spell after the digits that spell `number`
 unfoldable pub value_from : ℕ → List ℕ → ℕ
 value_from number [] = number
 value_from number (c ∷ cs) = value_from (16 * number + digit_value c) cs
@@ -62,13 +62,13 @@ is_pairs (suc n) [] = false
 is_pairs (suc n) (c ∷ []) = false
 is_pairs (suc n) (c ∷ d ∷ cs) = (is_digit c && is_digit d) && is_pairs n cs
 
--- the lanes that pairs of digits stand for, the last lane first, before lanes that stand already
+-- the lanes that pairs of digits spell, the last lane first, before these lanes
 unfoldable pub lanes_before : List ℕ → List ℕ → List ℕ
 lanes_before lanes [] = lanes
 lanes_before lanes (c ∷ []) = lanes
 lanes_before lanes (c ∷ d ∷ cs) = lanes_before ((16 * digit_value c + digit_value d) ∷ lanes) cs
 
--- the field is the one character -, which stands where no data are carried
+-- the field is the one character -, for a beat without data
 abbrev pub is_dash : List ℕ → Bool
 is_dash [] = false
 is_dash (c ∷ []) = c == 45
@@ -88,7 +88,7 @@ is_bit [] = false
 is_bit (c ∷ []) = (c == 48) || (c == 49)
 is_bit (c ∷ d ∷ cs) = false
 
--- the bit that a field spells: set where it begins with 1
+-- the bit that a field spells: set if the field begins with 1
 abbrev pub bit_of : List ℕ → Bool
 bit_of [] = false
 bit_of (c ∷ cs) = c == 49

@@ -1,4 +1,4 @@
--- The one line of text that spells a beat, and what is wrong with a line that spells none.
+-- The one line of text that spells a beat, and the fault of a line that spells none.
 use Rattle.std.specs.Prelude.{◌≡◌, ◌<◌, ◌^◌, ◌-◌, ◌/◌, ℕ, Bool, true, false, not, ◌&&◌, ◌||◌, List, [], ◌∷◌, ◌++◌}
 use Rattle.std.specs.Prelude.{length, take, All, Option, Some, None}
 use Rattle.std.specs.Prelude.{is_none, option_map, nat_lt, ◌==◌, if◌then◌else◌, slice_index_or, ⊤}
@@ -53,7 +53,7 @@ spaced (field ∷ next ∷ fields) = field ++ 32 ∷ spaced (next ∷ fields)
 abbrev pub line_of : {w : ℕ} → Link → Beat w → List ℕ
 line_of link beat = spaced (fields_of link beat) ++ 10 ∷ []
 
--- param, size and mask have room in their fields
+-- param, size and mask fit into their fields
 abbrev pub IsWritable : {w : ℕ} → Beat w → Type 0
 IsWritable {w} (beat.A x) = (x.param < 8) × (x.size < 16) × (x.mask < 2 ^ w)
 IsWritable {w} (beat.B x) = (x.param < 8) × (x.size < 16) × (x.mask < 2 ^ w)
@@ -61,12 +61,12 @@ IsWritable {w} (beat.C x) = (x.param < 8) × (x.size < 16)
 IsWritable {w} (beat.D x) = (x.param < 4) × (x.size < 16)
 IsWritable {w} (beat.E x) = ⊤
 
--- w lanes of a byte each, where there are lanes
+-- w lanes of a byte each, if there are lanes
 abbrev pub AreLanes : ℕ → Option (List ℕ) → Type 0
 AreLanes w None = ⊤
 AreLanes w (Some lanes) = (length lanes ≡ w) × All (λ lane. lane < 2 ^ 8) lanes
 
--- each number is within its type, as those of a program's values are
+-- each number is within its type, as a program's values are
 abbrev pub IsInRange : {w : ℕ} → Beat w → Type 0
 IsInRange {w} (beat.A x) = (x.source < 2 ^ 8) × (x.address < 2 ^ 32) × AreLanes w x.lanes
 IsInRange {w} (beat.B x) = (x.source < 2 ^ 8) × (x.address < 2 ^ 32) × AreLanes w x.lanes
@@ -81,9 +81,9 @@ pub record Spells {w : ℕ} (line : List ℕ) (link : Link) (beat : Beat w) : Ty
   pub writable : IsWritable beat
   pub in_range : IsInRange beat
 
--- ---- what is wrong with a line
+-- ---- the fault of a line
 
--- the character stands before the first piece
+-- the character before the first piece
 abbrev pub onto_first : ℕ → List (List ℕ) → List (List ℕ)
 onto_first c [] = (c ∷ []) ∷ []
 onto_first c (piece ∷ pieces) = (c ∷ piece) ∷ pieces
@@ -93,7 +93,7 @@ unfoldable pub pieces : List ℕ → List (List ℕ)
 pieces [] = [] ∷ []
 pieces (c ∷ cs) = if c == 32 then [] ∷ pieces cs else onto_first c (pieces cs)
 
--- the field at this place, from 0 on; an empty one behind the last
+-- the field at this place, counted from 0; an empty one after the last
 abbrev pub field : List (List ℕ) → ℕ → List ℕ
 field fields i = slice_index_or fields i []
 
@@ -101,7 +101,7 @@ field fields i = slice_index_or fields i []
 abbrev pub channels : List Channel
 channels = channel.A ∷ channel.B ∷ channel.C ∷ channel.D ∷ channel.E ∷ []
 
--- the channel whose letter the field is
+-- the channel whose letter this field is
 abbrev pub channel_named : List ℕ → Option Channel
 channel_named [] = None
 channel_named (c ∷ []) = find (λ channel. c == letter_of channel) channels
@@ -111,7 +111,7 @@ channel_named (c ∷ d ∷ cs) = None
 abbrev pub is_any : List ℕ → Bool
 is_any field = true
 
--- the forms of a channel's fields, where beats have w bytes
+-- the forms of a channel's fields, for beats of w bytes
 abbrev pub forms : ℕ → Channel → List (List ℕ → Bool)
 forms w channel.A = is_digits 2 ∷ is_any ∷ is_digits 1 ∷ is_digits 1 ∷ is_digits 1 ∷ is_digits 2 ∷ is_digits
     8 ∷ is_digits (w / 4) ∷ is_data w ∷ is_bit ∷ []
@@ -123,13 +123,13 @@ forms w channel.D = is_digits 2 ∷ is_any ∷ is_digits 1 ∷ is_digits 1 ∷ i
     2 ∷ is_bit ∷ is_data w ∷ is_bit ∷ []
 forms w channel.E = is_digits 2 ∷ is_any ∷ is_digits 2 ∷ []
 
--- each field is of its form
+-- each form has a field, which is of it
 abbrev pub are_of_form : List (List ℕ → Bool) → List (List ℕ) → Bool
 are_of_form [] fields = true
 are_of_form (is_form ∷ forms) [] = false
 are_of_form (is_form ∷ forms) (field ∷ fields) = is_form field && are_of_form forms fields
 
--- whether the opcode carries data, where a channel has an opcode with this code
+-- whether the opcode carries data, if a channel has an opcode with this code
 abbrev pub carries_with : Channel → ℕ → Option Bool
 carries_with channel.A code = option_map a_carries_data (a_with code)
 carries_with channel.B code = option_map b_carries_data (b_with code)
@@ -137,7 +137,7 @@ carries_with channel.C code = option_map c_carries_data (c_with code)
 carries_with channel.D code = option_map d_carries_data (d_with code)
 carries_with channel.E code = None
 
--- the greatest param that a channel's field holds
+-- the greatest param that fits into a channel's field
 abbrev pub greatest_param : Channel → ℕ
 greatest_param channel.D = 3
 greatest_param _ = 7
@@ -147,14 +147,14 @@ abbrev pub data_place : Channel → ℕ
 data_place channel.C = 7
 data_place _ = 8
 
--- digits where the opcode carries no data, or a dash where it does
+-- digits for an opcode that carries no data, or a dash for one that does
 abbrev pub is_misplaced : Option Bool → List ℕ → Bool
 is_misplaced None field = false
 is_misplaced (Some true) field = is_dash field
 is_misplaced (Some false) field = not (is_dash field)
 
--- the first fault of the values of a line that has its channel's form: an opcode that isn't in use,
--- a param beyond the channel's width, data where the opcode carries none or none where it does
+-- the first fault of the values of a line that has its channel's form: an opcode that isn't in use, a param beyond the
+-- channel's width, data for an opcode that carries none, or no data for one that does
 abbrev pub opcode_fault : Channel → List (List ℕ) → Option LineFault
 opcode_fault channel fields =
     first_if (is_none (carries_with channel (value_of (field fields 2)))) F4
@@ -174,7 +174,7 @@ channel_fault w (Some channel) fields =
     first_if (not (length fields == length (forms w channel))) F1
     (first_if (not (are_of_form (forms w channel) fields)) F3 (value_fault channel fields))
 
--- the first fault of a line of these fields
+-- the first fault of a line with these fields
 abbrev pub fields_fault : ℕ → List (List ℕ) → Option LineFault
 fields_fault w fields = first_if (nat_lt (length fields) 2) F1 (channel_fault w (channel_named (field fields 1)) fields)
 
@@ -182,7 +182,7 @@ fields_fault w fields = first_if (nat_lt (length fields) 2) F1 (channel_fault w 
 abbrev pub without_last : List ℕ → List ℕ
 without_last line = take (length line - 1) line
 
--- the first fault of a line, where beats have w bytes; None where it spells a beat
+-- the first fault of a line, for beats of w bytes; None if it spells a beat
 abbrev pub line_fault : ℕ → List ℕ → Option LineFault
 line_fault w line = first_if (nat_lt 256 (length line) || not (ends_with_byte 10 line)) F1
     (fields_fault w (pieces (without_last line)))

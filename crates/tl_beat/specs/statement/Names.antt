@@ -21,7 +21,7 @@ letter_of channel.C = 67
 letter_of channel.D = 68
 letter_of channel.E = 69
 
--- the standard's names of the opcodes on channel A
+-- the specification's names of the opcodes on channel A
 abbrev pub a_name : OpA → List ℕ
 a_name a.PutFullData = codes "PutFullData"
 a_name a.PutPartialData = codes "PutPartialData"
@@ -32,7 +32,7 @@ a_name a.Intent = codes "Intent"
 a_name a.AcquireBlock = codes "AcquireBlock"
 a_name a.AcquirePerm = codes "AcquirePerm"
 
--- the standard's names of the opcodes on channel B
+-- the specification's names of the opcodes on channel B
 abbrev pub b_name : OpB → List ℕ
 b_name b.PutFullData = codes "PutFullData"
 b_name b.PutPartialData = codes "PutPartialData"
@@ -43,7 +43,7 @@ b_name b.Intent = codes "Intent"
 b_name b.ProbeBlock = codes "ProbeBlock"
 b_name b.ProbePerm = codes "ProbePerm"
 
--- the standard's names of the opcodes on channel C
+-- the specification's names of the opcodes on channel C
 abbrev pub c_name : OpC → List ℕ
 c_name c.AccessAck = codes "AccessAck"
 c_name c.AccessAckData = codes "AccessAckData"
@@ -53,7 +53,7 @@ c_name c.ProbeAckData = codes "ProbeAckData"
 c_name c.Release = codes "Release"
 c_name c.ReleaseData = codes "ReleaseData"
 
--- the standard's names of the opcodes on channel D
+-- the specification's names of the opcodes on channel D
 abbrev pub d_name : OpD → List ℕ
 d_name d.AccessAck = codes "AccessAck"
 d_name d.AccessAckData = codes "AccessAckData"

@@ -10,7 +10,7 @@ use Rattle.tl_beat.specs.declared.opcode.OpC.TheVariants as c
 use Rattle.tl_beat.specs.declared.opcode.OpD.{OpD}
 use Rattle.tl_beat.specs.declared.opcode.OpD.TheVariants as d
 
--- the opcodes of channel A, by the standard's message table
+-- the codes of the opcodes of channel A, by the specification's message table
 abbrev pub a_code : OpA → ℕ
 a_code a.PutFullData = 0
 a_code a.PutPartialData = 1
@@ -29,7 +29,7 @@ a_carries_data a.ArithmeticData = true
 a_carries_data a.LogicalData = true
 a_carries_data _ = false
 
--- the opcodes of channel B, by the standard's message table
+-- the codes of the opcodes of channel B, by the specification's message table
 abbrev pub b_code : OpB → ℕ
 b_code b.PutFullData = 0
 b_code b.PutPartialData = 1
@@ -48,7 +48,7 @@ b_carries_data b.ArithmeticData = true
 b_carries_data b.LogicalData = true
 b_carries_data _ = false
 
--- the opcodes of channel C, by the standard's message table
+-- the codes of the opcodes of channel C, by the specification's message table
 abbrev pub c_code : OpC → ℕ
 c_code c.AccessAck = 0
 c_code c.AccessAckData = 1
@@ -65,7 +65,7 @@ c_carries_data c.ProbeAckData = true
 c_carries_data c.ReleaseData = true
 c_carries_data _ = false
 
--- the opcodes of channel D, by the standard's message table
+-- the codes of the opcodes of channel D, by the specification's message table
 abbrev pub d_code : OpD → ℕ
 d_code d.AccessAck = 0
 d_code d.AccessAckData = 1
@@ -87,7 +87,7 @@ abbrev pub a_opcodes : List OpA
 a_opcodes = a.PutFullData ∷ a.PutPartialData ∷ a.ArithmeticData ∷ a.LogicalData ∷ a.Get ∷ a.Intent ∷ a.AcquireBlock
     ∷ a.AcquirePerm ∷ []
 
--- the opcode of this code on channel A, where one is in use
+-- the opcode with this code on channel A, if one is in use
 abbrev pub a_with : ℕ → Option OpA
 a_with code = find (λ opcode. a_code opcode == code) a_opcodes
 
@@ -96,7 +96,7 @@ abbrev pub b_opcodes : List OpB
 b_opcodes = b.PutFullData ∷ b.PutPartialData ∷ b.ArithmeticData ∷ b.LogicalData ∷ b.Get ∷ b.Intent ∷ b.ProbeBlock
     ∷ b.ProbePerm ∷ []
 
--- the opcode of this code on channel B, where one is in use
+-- the opcode with this code on channel B, if one is in use
 abbrev pub b_with : ℕ → Option OpB
 b_with code = find (λ opcode. b_code opcode == code) b_opcodes
 
@@ -104,7 +104,7 @@ b_with code = find (λ opcode. b_code opcode == code) b_opcodes
 abbrev pub c_opcodes : List OpC
 c_opcodes = c.AccessAck ∷ c.AccessAckData ∷ c.HintAck ∷ c.ProbeAck ∷ c.ProbeAckData ∷ c.Release ∷ c.ReleaseData ∷ []
 
--- the opcode of this code on channel C, where one is in use
+-- the opcode with this code on channel C, if one is in use
 abbrev pub c_with : ℕ → Option OpC
 c_with code = find (λ opcode. c_code opcode == code) c_opcodes
 
@@ -112,6 +112,6 @@ c_with code = find (λ opcode. c_code opcode == code) c_opcodes
 abbrev pub d_opcodes : List OpD
 d_opcodes = d.AccessAck ∷ d.AccessAckData ∷ d.HintAck ∷ d.Grant ∷ d.GrantData ∷ d.ReleaseAck ∷ []
 
--- the opcode of this code on channel D, where one is in use
+-- the opcode with this code on channel D, if one is in use
 abbrev pub d_with : ℕ → Option OpD
 d_with code = find (λ opcode. d_code opcode == code) d_opcodes

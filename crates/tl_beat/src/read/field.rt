@@ -1,4 +1,4 @@
-//! Reading the fields of a line from left to right.
+//! Reads the fields of a line from left to right. A field of the wrong form is `F3`.
 
 ghost use Rattle.std.specs.Prelude.{◌≡◌, ◌≤◌, ◌<◌, ◌^◌, ◌*◌, ◌/◌, ℕ, [], IfOk};
 ghost use Rattle.std.specs.Prelude.{IfSome, Ok, ◌+◌, ◌++◌, length, take, drop};
@@ -12,7 +12,7 @@ use crate::fault::LineFault;
 use crate::lanes::{eight_digit_number, eight_lanes};
 use std::simd::u8x8;
 
-/// The value of each byte as a digit, or 16 where it is none.
+/// The value of each byte as a digit, or 16 if it isn't one.
 const VALUES: [u8; 256] = [
     16, 16, 16, 16, 16, 16, 16, 16, 16, 16, 16, 16, 16, 16, 16, 16, 16, 16, 16, 16, 16, 16, 16, 16,
     16, 16, 16, 16, 16, 16, 16, 16, 16, 16, 16, 16, 16, 16, 16, 16, 16, 16, 16, 16, 16, 16, 16, 16,
@@ -57,7 +57,7 @@ fn digit_front(bytes: &[u8]) -> Result<(u8, &[u8]), LineFault>
     }
 }
 
-/// A number of `count` digits at the front, and what stands behind it.
+/// A number of `count` digits at the front, and the rest.
 #[inline(always)]
 pub fn digits(bytes: &[u8], count: u8) -> Result<(u32, &[u8]), LineFault>
     requires { count ≤ 8 }
@@ -74,7 +74,7 @@ pub fn digits(bytes: &[u8], count: u8) -> Result<(u32, &[u8]), LineFault>
     Ok((number, rest))
 }
 
-/// A space at the front, taken away.
+/// The rest after a space at the front.
 #[inline(always)]
 pub fn space(bytes: &[u8]) -> Result<&[u8], LineFault>
     ensures { GivesRest result (space_at bytes.now) }
@@ -115,7 +115,7 @@ pub fn byte(bytes: &[u8]) -> Result<(u8, &[u8]), LineFault>
     Ok((number as u8, rest))
 }
 
-/// Eight digits and a space, each at its place.
+/// Eight digits and a space, each byte at its place.
 #[inline(always)]
 fn eight_digits(bytes: &[u8]) -> Option<(u32, &[u8])>
     ensures { IfSome result (λ read. field_at 8 bytes.now ≡ Ok (read.0, read.1.now)) }
@@ -159,14 +159,14 @@ pub(crate) fn mask<const W: usize>(bytes: &[u8]) -> Result<(u16, &[u8]), LineFau
     Ok((number as u16, rest))
 }
 
-/// What stands behind the channel's letter and a space.
+/// The rest after the channel's letter and a space.
 pub fn without_letter(bytes: &[u8]) -> &[u8]
     ensures { result.now ≡ drop 2 bytes.now }
 {
     if bytes.len() < 2 { &[] } else { &bytes[2..] }
 }
 
-/// A param that its channel's field holds.
+/// A param that fits into its channel's field, or else `F5`.
 pub fn at_most(param: u8, greatest: u8) -> Result<u8, LineFault>
     ensures { result ≡ at_most greatest param }
 {
@@ -217,7 +217,7 @@ fn pair(bytes: &[u8]) -> Result<(u8, &[u8]), LineFault>
     }
 }
 
-/// Lanes by pairs of digits.
+/// Lanes from pairs of digits.
 #[inline(never)]
 fn any_lanes<const W: usize>(field: &[u8]) -> Result<[u8; W], LineFault>
     ensures { result ≡ lanes_at [] W field.now }
@@ -235,15 +235,16 @@ fn any_lanes<const W: usize>(field: &[u8]) -> Result<[u8; W], LineFault>
     Ok(lanes)
 }
 
+/// Copies eight lanes to a place.
 #[inline(always)]
-fn copy_eight(lanes: &mut [u8], at: usize, eight: &[u8; 8])
+pub(crate) fn copy_eight(lanes: &mut [u8], at: usize, eight: &[u8; 8])
     requires { at + 8 ≤ length lanes.old }
     ensures { lanes.new ≡ take at lanes.old ++ (eight.now ++ drop (at + 8) lanes.old) }
 {
     u8x8::from_array(*eight).copy_to_slice(&mut lanes[at..at + 8]);
 }
 
-/// Eight lanes at a time.
+/// Lanes, eight at a time.
 #[inline(always)]
 fn spelled_lanes<const W: usize>(field: &[u8]) -> Option<[u8; W]>
     ensures { IfSome result (λ lanes. lanes_at [] W field.now ≡ Ok lanes) }

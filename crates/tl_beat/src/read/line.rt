@@ -1,4 +1,4 @@
-//! Reading the line of each channel.
+//! Reads the line of each channel.
 
 ghost use Rattle.std.specs.Prelude.{◌≡◌, ◌<◌, ◌/◌, ◌^◌, ℕ, List, IfErr, IfOk, IfSome, Ok};
 ghost use Rattle.tl_beat.specs.code.FromLeft.{head_at, line_a_at, line_b_at, line_c_at, line_d_at, line_e_at, Gives};
@@ -16,14 +16,14 @@ use crate::read::field::{
 /// The fields that lines of channels A to D begin with, but for the letter.
 #[derive(Clone, Copy)]
 pub(crate) struct Head {
-    link: u8,
-    opcode: u8,
-    param: u8,
-    size: u8,
-    source: u8,
+    pub(crate) link: u8,
+    pub(crate) opcode: u8,
+    pub(crate) param: u8,
+    pub(crate) size: u8,
+    pub(crate) source: u8,
 }
 
-/// The first fields of a line, each at its place.
+/// The first fields of a line, each byte at its place.
 #[inline(always)]
 pub(crate) fn spelled_head(bytes: &[u8]) -> Option<(Head, &[u8])>
     ensures { IfSome result (λ head. head_at bytes.now ≡ Ok (head.0, head.1.now)) }
@@ -89,8 +89,9 @@ pub(crate) fn any_head(bytes: &[u8]) -> Result<(Head, &[u8]), LineFault>
     Ok((head, rest))
 }
 
+/// Places a beat of channel A with these fields, and returns its link.
 #[inline(always)]
-fn place_a<const W: usize>(
+pub(crate) fn place_a<const W: usize>(
     head: Head,
     address: u32,
     mask: u16,
@@ -120,8 +121,9 @@ fn place_a<const W: usize>(
     Ok(Link(head.link))
 }
 
+/// Places a beat of channel B with these fields, and returns its link.
 #[inline(always)]
-fn place_b<const W: usize>(
+pub(crate) fn place_b<const W: usize>(
     head: Head,
     address: u32,
     mask: u16,
@@ -151,8 +153,9 @@ fn place_b<const W: usize>(
     Ok(Link(head.link))
 }
 
+/// Places a beat of channel C with these fields, and returns its link.
 #[inline(always)]
-fn place_c<const W: usize>(
+pub(crate) fn place_c<const W: usize>(
     head: Head,
     address: u32,
     tail: (Option<[u8; W]>, bool),
@@ -180,8 +183,9 @@ fn place_c<const W: usize>(
     Ok(Link(head.link))
 }
 
+/// Places a beat of channel D with these fields, and returns its link.
 #[inline(always)]
-fn place_d<const W: usize>(
+pub(crate) fn place_d<const W: usize>(
     head: Head,
     sink: u8,
     denied: bool,
@@ -211,7 +215,7 @@ fn place_d<const W: usize>(
     Ok(Link(head.link))
 }
 
-/// The line of a beat of channel A, without its line feed, read over a beat: its link.
+/// Reads the line of a beat of channel A, without its line feed, into `beat`, and returns its link.
 #[tactic(auto, unfolding(crate::specs::code::FromLeft::line_a_at))]
 #[inline(always)]
 pub(crate) fn line_a<const W: usize>(
@@ -229,7 +233,7 @@ pub(crate) fn line_a<const W: usize>(
     place_a(head, address, mask, tail, beat)
 }
 
-/// The line of a beat of channel B, without its line feed, read over a beat: its link.
+/// Reads the line of a beat of channel B, without its line feed, into `beat`, and returns its link.
 #[tactic(auto, unfolding(crate::specs::code::FromLeft::line_b_at))]
 #[inline(always)]
 pub(crate) fn line_b<const W: usize>(
@@ -247,7 +251,7 @@ pub(crate) fn line_b<const W: usize>(
     place_b(head, address, mask, tail, beat)
 }
 
-/// The line of a beat of channel C, without its line feed, read over a beat: its link.
+/// Reads the line of a beat of channel C, without its line feed, into `beat`, and returns its link.
 #[tactic(auto, unfolding(crate::specs::code::FromLeft::line_c_at))]
 #[inline(always)]
 pub(crate) fn line_c<const W: usize>(
@@ -264,7 +268,7 @@ pub(crate) fn line_c<const W: usize>(
     place_c(head, address, tail, beat)
 }
 
-/// The line of a beat of channel D, without its line feed, read over a beat: its link.
+/// Reads the line of a beat of channel D, without its line feed, into `beat`, and returns its link.
 #[tactic(auto, unfolding(crate::specs::code::FromLeft::line_d_at))]
 #[inline(always)]
 pub(crate) fn line_d<const W: usize>(
@@ -282,7 +286,7 @@ pub(crate) fn line_d<const W: usize>(
     place_d(head, sink, denied, tail, beat)
 }
 
-/// The line of a beat of channel E, without its line feed, read over a beat: its link.
+/// Reads the line of a beat of channel E, without its line feed, into `beat`, and returns its link.
 #[tactic(auto, unfolding(crate::specs::code::FromLeft::line_e_at))]
 #[inline(always)]
 pub(crate) fn line_e<const W: usize>(bytes: &[u8], beat: &mut Beat<W>) -> Result<Link, LineFault>

@@ -1,4 +1,4 @@
--- The beats of a message: how many they are, and what each carries of it.
+-- The beats of a message: their number, and the part of the message in each.
 use Rattle.std.specs.Prelude.{ℕ, zero, suc, Bool, true, false, List, [], ◌∷◌, ◌==◌, ◌&&◌, ◌+◌, ◌*◌, ◌-◌, ◌/◌, ◌%◌, ◌^◌}
 use Rattle.std.specs.Prelude.{◌<◌, ◌≡◌, refl, if◌then◌else◌, drop}
 use Rattle.std.specs.Prelude.{replicate, slice_range, slice_get, nat_lt, nat_le, Option, Some, None, is_some, ⊤}
@@ -16,7 +16,7 @@ use Rattle.tl_burst.specs.declared.message.MessageB.{MessageB}
 use Rattle.tl_burst.specs.declared.message.MessageC.{MessageC}
 use Rattle.tl_burst.specs.declared.message.MessageD.{MessageD}
 
--- how many beats of w bytes carry a message of this size, where it carries data
+-- the number of beats of w bytes for a message with data of this size
 abbrev pub data_beats : ℕ → ℕ → ℕ
 data_beats w size = if nat_lt w (2 ^ size) then 2 ^ size / w else 1
 
@@ -28,7 +28,7 @@ carries_data (message.C m) = c_carries_data m.opcode
 carries_data (message.D m) = d_carries_data m.opcode
 carries_data (message.E m) = false
 
--- how many beats carry the message
+-- the number of beats of the message
 abbrev pub beats_of : {w : ℕ} → Message w → ℕ
 beats_of {w} (message.A m) = if a_carries_data m.opcode then data_beats w m.size else 1
 beats_of {w} (message.B m) = if b_carries_data m.opcode then data_beats w m.size else 1
@@ -40,23 +40,23 @@ beats_of {w} (message.E m) = 1
 abbrev pub bit : ℕ → ℕ → Bool
 bit n i = n / 2 ^ i % 2 == 1
 
--- the lanes of beat i, where its message carries data
+-- the lanes of beat i, if its message carries data
 abbrev pub lanes_at : Bool → ℕ → List ℕ → ℕ → Option (List ℕ)
 lanes_at true w payload i = Some (slice_range payload (w * i) (w * i + w))
 lanes_at false w payload i = None
 
--- the mask of beat i: as many bits of the message's mask as the beat has lanes
+-- the mask of beat i: the w bits of the message's mask from bit w * i on
 abbrev pub mask_at : ℕ → ℕ → ℕ → ℕ
 mask_at w mask i = mask / 2 ^ (w * i) % 2 ^ w
 
--- a beat has lanes exactly where its message carries data
+-- a beat has lanes exactly if its message carries data
 unfoldable pub some_lanes : (carries : Bool) (w : ℕ) (payload : List ℕ) (i : ℕ)
     → is_some (lanes_at carries w payload i) ≡ carries
 some_lanes true w payload i = refl
 some_lanes false w payload i = refl
 
--- Beat i of a message: its control fields, the bytes w * i to w * i + w - 1 of its payload, the same
--- bits of its mask, and bit i of corrupt.
+-- Beat i of a message on channel A: its control fields, bytes w * i to w * i + w - 1 of its payload, the same bits of
+-- its mask, and bit i of corrupt.
 abbrev pub a_beat_of : {w : ℕ} → MessageA w → ℕ → BeatA w
 a_beat_of {w} m i = record {
   opcode = m.opcode;
@@ -128,15 +128,15 @@ begun m (suc i) = beat_of m i ∷ begun m i
 abbrev pub burst_of : {w : ℕ} → Message w → List (Beat w)
 burst_of m = begun m (beats_of m)
 
--- how many bytes of the payload its beats carry
+-- the number of bytes of the payload that the beats carry
 abbrev pub carried : {w : ℕ} → Message w → ℕ
 carried {w} m = if carries_data m then w * beats_of m else 0
 
--- all bytes of a payload are zero from this one on
+-- each byte of the payload from byte n on is zero
 abbrev pub IsZeroFrom : ℕ → List ℕ → Type 0
 IsZeroFrom n payload = drop n payload ≡ replicate (64 - n) 0
 
--- all that none of the first n beats carries is zero
+-- the parts of the message that its first n beats don't carry are zero
 abbrev pub IsBlankAfter : {w : ℕ} → ℕ → Message w → Type 0
 IsBlankAfter {w} n (message.A m) = IsZeroFrom (if a_carries_data m.opcode then w * n else 0) m.payload
     × (m.mask < 2 ^ (w * n)) × (m.corrupt < 2 ^ n)
@@ -148,25 +148,25 @@ IsBlankAfter {w} n (message.D m) = IsZeroFrom (if d_carries_data m.opcode then w
     × (m.corrupt < 2 ^ n)
 IsBlankAfter n (message.E m) = ⊤
 
--- these are the beats of the message, the newest first, and all that no beat carries is zero
+-- these are the beats of the message, the newest first, and the parts that no beat carries are zero
 abbrev pub IsBurst : {w : ℕ} → Message w → List (Beat w) → Type 0
 IsBurst m beats = (beats ≡ burst_of m) × IsBlankAfter (beats_of m) m
 
--- the place in the payload of the byte at an address, for a message at `base`
+-- the place in the payload of the byte at an address, for a message at address `base`
 abbrev pub place_of : ℕ → ℕ → ℕ → Option ℕ
 place_of w base address = if nat_le (w * (base / w)) address then Some (address - w * (base / w)) else None
 
--- the payload's byte at a place, where a test says that it counts
+-- the payload's byte at a place, if the test is true of that place
 abbrev pub byte_if : (ℕ → Bool) → List ℕ → Option ℕ → Option ℕ
 byte_if counts payload None = None
 byte_if counts payload (Some p) = if counts p then slice_get payload p else None
 
--- the address is one of the 2^size from this base on
+-- the address is one of the 2^size from `base` on
 abbrev pub reaches : ℕ → ℕ → ℕ → Bool
 reaches base size address = nat_le base address && nat_lt address (base + 2 ^ size)
 
--- the byte that the payload gives for an address, where it gives one. `asked` is the address of the
--- request that a message of channel D answers.
+-- the byte that the message carries for an address, if it carries one. `asked` is the address of the request that a
+-- message of channel D answers.
 abbrev pub byte_at : {w : ℕ} → ℕ → Message w → ℕ → Option ℕ
 byte_at {w} asked (message.A m) address = if a_carries_data m.opcode then byte_if (λ p. bit m.mask p) m.payload
     (place_of w m.address address) else None

@@ -1,4 +1,4 @@
--- What a beat is to the unfinished burst of its channel.
+-- The place of a beat in the unfinished burst of its channel.
 use Rattle.std.specs.Prelude.{ℕ, Bool, true, false, List, [], ◌∷◌, ◌==◌, ◌+◌, ◌<◌, ◌≤◌, ◌^◌, if◌then◌else◌, length}
 use Rattle.std.specs.Prelude.{nat_le, Result, Ok, Err, ⊤}
 use Rattle.tl_beat.specs.declared.beat.Beat.{Beat}
@@ -17,7 +17,7 @@ is_small (beat.C x) = nat_le x.size 6
 is_small (beat.D x) = nat_le x.size 6
 is_small (beat.E x) = true
 
--- an assembler takes beats of a size that fits a message, and of a mask that fits the beat
+-- An assembler can take the beat: its size fits a message, and its mask fits the beat.
 abbrev pub IsTakeable : {w : ℕ} → Beat w → Type 0
 IsTakeable {w} (beat.A x) = (x.size ≤ 6) × (x.mask < 2 ^ w)
 IsTakeable {w} (beat.B x) = (x.size ≤ 6) × (x.mask < 2 ^ w)
@@ -25,14 +25,14 @@ IsTakeable {w} (beat.C x) = x.size ≤ 6
 IsTakeable {w} (beat.D x) = x.size ≤ 6
 IsTakeable {w} (beat.E x) = ⊤
 
--- the place of a beat in its burst, by whether it is the first and whether it is the last
+-- the place of a beat in its burst, if it is the first or not, and the last or not
 abbrev pub place : Bool → Bool → Part
 place true true = Only
 place true false = First
 place false true = Last
 place false false = Middle
 
--- no beat has come of the burst
+-- there is no unfinished burst
 abbrev pub is_empty : {w : ℕ} → List (Beat w) → Bool
 is_empty [] = true
 is_empty (x ∷ xs) = false
@@ -41,11 +41,11 @@ is_empty (x ∷ xs) = false
 abbrev pub completes : {w : ℕ} → Beat w → List (Beat w) → Bool
 completes x burst = length burst + 1 == burst_length x
 
--- what a beat is to the unfinished burst, whose newest beat is first
+-- the place of a beat after the unfinished burst, whose newest beat is first, or S1
 abbrev pub part_of : {w : ℕ} → Beat w → List (Beat w) → Result Part Broken
 part_of x burst = if breaks_burst x burst then Err S1 else Ok (place (is_empty burst) (completes x burst))
 
--- the beat goes on with a burst that has begun, and doesn't complete it
+-- the beat continues a burst and doesn't complete it
 abbrev pub is_middle : Result Part Broken → Bool
 is_middle (Ok Middle) = true
 is_middle _ = false

@@ -13,7 +13,7 @@ use Rattle.tl_params.specs.declared.width.Width.{Width}
 use Rattle.tl_params.specs.declared.width.Width.TheVariants.{Four, Eight, Sixteen}
 use Rattle.tl_params.specs.statement.Header.{is_end}
 
--- what was returned is what reading gives
+-- the result is that of reading
 abbrev pub Gives : {X : Type 0} → Option (X × Bor (List ℕ)) → Option (X × List ℕ) → Type 0
 Gives None read = read ≡ None
 Gives (Some x) read = read ≡ Some (x.0, x.1.now)
@@ -26,7 +26,7 @@ width_at (a ∷ b ∷ rest) =
     if a == 52 then Some (Four, b ∷ rest) else if a == 56 then Some (Eight, b ∷ rest) else if (a == 49) && (b == 54)
     then Some (Sixteen, rest) else None
 
--- a profile at the front, behind a space
+-- a profile at the front, after a space
 abbrev pub profile_at : List ℕ → Option (Profile × List ℕ)
 profile_at [] = None
 profile_at (a ∷ []) = None
@@ -45,7 +45,7 @@ abbrev pub of_third : Option (Width × List ℕ) → Option (Version × List ℕ
 of_third None = None
 of_third (Some (width, rest)) = with_profile width (profile_at rest)
 
--- a version at the front, with what it names
+-- a version at the front, with the values that it names
 abbrev pub version_at : List ℕ → Option (Version × List ℕ)
 version_at [] = None
 version_at (a ∷ []) = if a == 49 then Some (First, []) else None
@@ -54,7 +54,7 @@ version_at (a ∷ b ∷ rest) =
     if (a == 50) && (b == 32) then of_second (width_at rest) else
     if (a == 51) && (b == 32) then of_third (width_at rest) else None
 
--- a level at the front, behind a space
+-- a level at the front, after a space
 abbrev pub level_at : List ℕ → Option (Level × List ℕ)
 level_at [] = None
 level_at (a ∷ []) = None
@@ -64,7 +64,7 @@ level_at (a ∷ b ∷ c ∷ rest) =
     if (a == 32) && (b == 85) && (c == 72) then Some (level.UH, rest) else
     if (a == 32) && (b == 67) then Some (level.C, c ∷ rest) else None
 
--- what stands behind a word at the front
+-- what follows a word at the front
 abbrev pub after_word : List ℕ → List ℕ → Option (List ℕ)
 after_word [] bytes = Some bytes
 after_word (c ∷ word) [] = None
@@ -76,7 +76,7 @@ abbrev pub onto : {A : Type 0} → A → Option (List A) → Option (List A)
 onto x None = None
 onto x (Some xs) = Some (x ∷ xs)
 
--- at most n of what a reader finds at the front, up to a line feed at the end
+-- at most n values that a reader finds at the front, up to a line feed at the end
 unfoldable pub up_to : {A : Type 0} → (List ℕ → Option (A × List ℕ)) → ℕ → List ℕ → Option (List A)
 up_to read zero bytes = if is_end bytes then Some [] else None
 up_to read (suc n) bytes = if is_end bytes then Some [] else option_and_then (λ x. onto x.0 (up_to read n x.1))

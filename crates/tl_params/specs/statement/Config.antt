@@ -1,4 +1,4 @@
--- The limits of a configuration, and the first that one breaks.
+-- The limits of a configuration, and the first limit that a configuration breaks.
 use Rattle.std.specs.Prelude.{ℕ, Bool, true, not, List, [], ◌∷◌, ◌≤◌, ◌&&◌, if◌then◌else◌, length, Option, Some, None}
 use Rattle.tl_params.specs.declared.config.ClientConfig.{ClientConfig}
 use Rattle.tl_params.specs.declared.config.Config.{Config}
@@ -6,7 +6,7 @@ use Rattle.tl_params.specs.declared.config.NewFault.{NewFault}
 use Rattle.tl_params.specs.declared.config.NewFault.TheVariants as fault
 use Rattle.tl_params.specs.statement.Range.{is_from_to}
 
--- how many links a manager may have
+-- a manager has 1 to 16 links
 abbrev pub IsCount : ℕ → Type 0
 IsCount n = (1 ≤ n) × (n ≤ 16)
 

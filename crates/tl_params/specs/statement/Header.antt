@@ -1,4 +1,4 @@
--- What the headers of traces and of schedules name alike.
+-- The parts that the headers of traces and of schedules share.
 use Rattle.std.specs.Prelude.{ℕ, List, [], ◌∷◌, ◌++◌, ◌==◌, Bool, false, codes}
 use Rattle.tl_params.specs.declared.header.Version.{Version}
 use Rattle.tl_params.specs.declared.header.Version.TheVariants.{First, Second, Third}
@@ -9,13 +9,13 @@ use Rattle.tl_params.specs.declared.profile.Profile.TheVariants as profile
 use Rattle.tl_params.specs.declared.width.Width.{Width}
 use Rattle.tl_params.specs.declared.width.Width.TheVariants.{Four, Eight, Sixteen}
 
--- what a version doesn't name is 8 bytes and the first profile
+-- the width that a version names; 8 bytes if it names none
 abbrev pub width_of : Version → Width
 width_of First = Eight
 width_of (Second width) = width
 width_of (Third width profile) = width
 
--- the profile that the version of a header names: the first where it names none
+-- the profile that a version names; the first if it names none
 abbrev pub profile_of : Version → Profile
 profile_of First = profile.One
 profile_of (Second width) = profile.One
@@ -44,7 +44,7 @@ level_text level.UL = codes "UL"
 level_text level.UH = codes "UH"
 level_text level.C = codes "C"
 
--- a line feed and nothing behind it
+-- the bytes are one line feed
 abbrev pub is_end : List ℕ → Bool
 is_end [] = false
 is_end (c ∷ []) = c == 10

@@ -1,4 +1,4 @@
--- What a link may do beyond the first profile: liberties, and sets of them.
+-- Liberties, which allow a link more than the first profile does, and sets of them.
 use Rattle.std.specs.Prelude.{ℕ, Bool, true, false, ◌||◌, List, codes}
 use Rattle.tl_params.specs.declared.liberties.Liberties.{Liberties}
 use Rattle.tl_params.specs.declared.liberties.Liberty.{Liberty}
@@ -29,7 +29,7 @@ allows l Reports = l.reports
 allows l Denied = l.denied
 allows l Uncorrupt = l.uncorrupt
 
--- none
+-- no liberty
 abbrev pub no_liberties : Liberties
 no_liberties = record {
   ids = false;
@@ -42,7 +42,7 @@ no_liberties = record {
   uncorrupt = false;
 }
 
--- what the standard allows: all but that a denied AccessAckData isn't corrupt
+-- the liberties that the specification allows: all but Uncorrupt
 abbrev pub standard_liberties : Liberties
 standard_liberties = record {
   ids = true;
@@ -55,7 +55,7 @@ standard_liberties = record {
   uncorrupt = false;
 }
 
--- the second profile allows that a reader is granted toT
+-- the second profile, under which an AcquireBlock NtoB may be granted toT
 abbrev pub is_second : Profile → Bool
 is_second profile.One = false
 is_second profile.Two = true
@@ -84,7 +84,7 @@ with_liberty Reports l = record { ids = l.ids; sinks = l.sinks; writer = l.write
 with_liberty Denied l = record { ids = l.ids; sinks = l.sinks; writer = l.writer; early = l.early; drops = l.drops; reports = l.reports; denied = true; uncorrupt = l.uncorrupt }
 with_liberty Uncorrupt l = record { ids = l.ids; sinks = l.sinks; writer = l.writer; early = l.early; drops = l.drops; reports = l.reports; denied = l.denied; uncorrupt = true }
 
--- those that are in one of two sets
+-- the liberties that are in one of two sets, or in both
 abbrev pub united : Liberties → Liberties → Liberties
 united l m = record {
   ids = l.ids || m.ids;

@@ -1,4 +1,4 @@
--- The names of params, as the specification has them, and of rules.
+-- The names of params, as the specification has them, and the names of rules.
 use Rattle.std.specs.Prelude.{ℕ, List, codes}
 use Rattle.tl_params.specs.declared.param.Grow.{Grow}
 use Rattle.tl_params.specs.declared.param.Grow.TheVariants as grow
@@ -19,25 +19,25 @@ use Rattle.tl_params.specs.declared.memory_rule.MemoryRule.TheVariants as memory
 use Rattle.tl_params.specs.declared.rule.Rule.{Rule}
 use Rattle.tl_params.specs.declared.rule.Rule.TheVariants as rule
 
--- the standard's names of the grows
+-- the specification's names of the grows
 abbrev pub grow_name : Grow → List ℕ
 grow_name grow.NtoB = codes "NtoB"
 grow_name grow.NtoT = codes "NtoT"
 grow_name grow.BtoT = codes "BtoT"
 
--- the standard's names of the caps
+-- the specification's names of the caps
 abbrev pub cap_name : Cap → List ℕ
 cap_name cap.ToT = codes "toT"
 cap_name cap.ToB = codes "toB"
 cap_name cap.ToN = codes "toN"
 
--- the standard's names of the prunes
+-- the specification's names of the prunes
 abbrev pub prune_name : Prune → List ℕ
 prune_name prune.TtoB = codes "TtoB"
 prune_name prune.TtoN = codes "TtoN"
 prune_name prune.BtoN = codes "BtoN"
 
--- the standard's names of the reports
+-- the specification's names of the reports
 abbrev pub report_name : Report → List ℕ
 report_name report.TtoB = codes "TtoB"
 report_name report.TtoN = codes "TtoN"
@@ -46,7 +46,7 @@ report_name report.TtoT = codes "TtoT"
 report_name report.BtoB = codes "BtoB"
 report_name report.NtoN = codes "NtoN"
 
--- the standard's names of the arithmetic operations
+-- the specification's names of the arithmetic operations
 abbrev pub arithmetic_name : Arithmetic → List ℕ
 arithmetic_name arithmetic.Min = codes "MIN"
 arithmetic_name arithmetic.Max = codes "MAX"
@@ -54,14 +54,14 @@ arithmetic_name arithmetic.MinU = codes "MINU"
 arithmetic_name arithmetic.MaxU = codes "MAXU"
 arithmetic_name arithmetic.Add = codes "ADD"
 
--- the standard's names of the logical operations
+-- the specification's names of the logical operations
 abbrev pub logical_name : Logical → List ℕ
 logical_name logical.Xor = codes "XOR"
 logical_name logical.Or = codes "OR"
 logical_name logical.And = codes "AND"
 logical_name logical.Swap = codes "SWAP"
 
--- the standard's names of the intents
+-- the specification's names of the intents
 abbrev pub intent_name : Intent → List ℕ
 intent_name intent.PrefetchRead = codes "PrefetchRead"
 intent_name intent.PrefetchWrite = codes "PrefetchWrite"
@@ -93,7 +93,7 @@ rule_name rule.A1 = codes "A1"
 rule_name rule.A2 = codes "A2"
 rule_name rule.A3 = codes "A3"
 
--- the names of the rules of memory
+-- the names of the rules between links
 abbrev pub memory_rule_name : MemoryRule → List ℕ
 memory_rule_name memory_rule.M1 = codes "M1"
 memory_rule_name memory_rule.M2 = codes "M2"

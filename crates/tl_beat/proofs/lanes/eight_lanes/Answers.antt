@@ -1,7 +1,9 @@
-use Rattle.std.proofs.Common.{rules}
-use Rattle.tl_beat.proofs.VectorLanes.{eight-spelled}
+use Rattle.std.proofs.Common.{rules, ◌≡◌, length}
+use Rattle.tl_beat.proofs.VectorDigits.{follow_pass}
 use Rattle.tl_beat.proofs.lanes.eight_lanes.Goals as goal
 
 pub returns : goal.returns
-returns c = λ before rest n. eight-spelled c.args.field.now c.values-values.result before rest n (search rules)
-    c.values-values.ensures c.if-not-values.false
+returns c =
+    let same : c.in_ok-field.field.now ≡ c.args.field.now = search rules in
+    let long : length c.in_ok-field.field.now ≡ 16 = search rules in
+    rw (← same) (c.lanes_of_digits.ensures (follow_pass 16 c.in_ok-field.field.now long (search rules)))

@@ -1,9 +1,9 @@
-//! Why more liberties convict nothing that fewer allow, as a law.
+//! A law: more liberties convict nothing that fewer allow.
 
 ghost use Rattle.tl_forgiving.specs.statement.Forgiving.{ForgivesHistories, ForgivesTraces, HoldsAlike};
 
-/// What breaks no rule under some liberties breaks none under more: a link's history, and a recorded trace of
-/// several links. After such a history the same is held of each block.
+/// A link's history, or a recorded trace of several links, that breaks no rule under some liberties breaks none under
+/// more. After such a history the permissions held are the same.
 pub fn forgives_more<const W: usize>()
     ensures histories { ForgivesHistories W }
     ensures traces { ForgivesTraces W }

@@ -1,4 +1,4 @@
-//! That liberties only forgive: what breaks no rule under some breaks none under more.
+//! More liberties only forgive: a trace that breaks no rule under some liberties breaks none under more.
 #![tactic(auto)]
 
 pub mod law;

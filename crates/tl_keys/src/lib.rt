@@ -1,4 +1,4 @@
-//! That each rule of order speaks of one source, one sink or one block.
+//! Each rule of order depends on one source, one sink or one block.
 #![tactic(auto)]
 
 pub mod law;

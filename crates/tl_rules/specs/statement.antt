@@ -5,3 +5,4 @@ pub mod History
 pub mod Legality
 pub mod Liberties
 pub mod Windows
+pub mod OpenMessages

@@ -1,4 +1,4 @@
-//! What an agent judges of a beat that breaks no rule of its link.
+//! The A rules: an agent judges by them a beat that breaks no rule of its link.
 
 ghost use Rattle.std.specs.Prelude.{◌≡◌};
 ghost use Rattle.tl_rules.specs.statement.Admission;
@@ -6,7 +6,7 @@ ghost use Rattle.tl_rules.specs.statement.Admission;
 use tl_beat::beat::Beat;
 use tl_params::key::block_at;
 
-/// Whether the address of a beat is outside a map of this many blocks.
+/// Whether the address of a beat is outside a map of this many blocks. D and E have no address.
 pub fn is_outside<const W: usize>(blocks: usize, beat: &Beat<W>) -> bool
     ensures { result ≡ Admission.is_outside blocks beat.now }
 {

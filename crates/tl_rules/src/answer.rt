@@ -1,7 +1,6 @@
 //! Answers to accesses.
 
-/// What an access is answered: AccessAck, HintAck, or AccessAckData with the data laid out as a
-/// payload.
+/// The answer to an access: AccessAck, HintAck, or AccessAckData with the data laid out as a payload.
 #[derive(Clone, Copy, Debug, PartialEq, Eq)]
 pub enum Answer {
     Ack,

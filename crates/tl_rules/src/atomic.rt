@@ -7,7 +7,7 @@ ghost use Rattle.tl_rules.specs.statement.Effect.{arithmetic_result, logical_res
 use std::simd::Simd;
 use tl_params::param::{Arithmetic, Logical};
 
-/// Whether a number of `count` bytes is less than another, both with sign.
+/// Whether one number of `count` bytes is less than another, both with sign.
 fn less_with_sign(count: usize, left: u64, right: u64) -> bool
     requires some { 0 < count }
     requires count { count ≤ 8 }
@@ -23,8 +23,7 @@ fn less_with_sign(count: usize, left: u64, right: u64) -> bool
     }
 }
 
-/// What an operation of ArithmeticData makes of two numbers of `count` bytes, in its lowest `count`
-/// bytes.
+/// The result of an ArithmeticData operation on two numbers of `count` bytes, in its lowest `count` bytes.
 pub fn arithmetic(operation: Arithmetic, count: usize, old: u64, operand: u64) -> u64
     requires some { 0 < count }
     requires count { count ≤ 8 }
@@ -53,7 +52,7 @@ pub fn arithmetic(operation: Arithmetic, count: usize, old: u64, operand: u64) -
     }
 }
 
-/// Performs an operation of LogicalData on bytes, all at once.
+/// Performs an operation of LogicalData on N bytes.
 fn logical_lanes<const N: usize>(operation: Logical, bytes: &mut [u8], operand: &[u8])
     requires count { length bytes.old ≡ N }
     requires same { length operand.now ≡ N }

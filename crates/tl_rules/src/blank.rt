@@ -1,4 +1,4 @@
-//! Messages that say nothing where no beat carries it.
+//! Messages whose unused parts are zero.
 
 ghost use Rattle.std.specs.Prelude.{◌≡◌, ◌<◌, ◌≤◌, ◌*◌, ◌^◌, ◌↔◌, IsTrue, if◌then◌else◌, replicate, take, drop, ◌++◌};
 ghost use Rattle.tl_beat.specs.statement.Width.{IsWidth};
@@ -9,8 +9,8 @@ use std::simd::u8x64;
 use tl_burst::burst::beats_of;
 use tl_burst::message::Message;
 
-/// Whether all of a message that none of its beats carries is zero: the payload's bytes past its
-/// data, the bits of the mask past its beats, and those of corrupt.
+/// Whether the parts of a message that no beat carries are zero: the payload's bytes after its data, and the bits of
+/// mask and corrupt after its beats.
 pub fn is_blank<const W: usize>(message: &Message<W>) -> bool
     requires { IsWidth W }
     ensures { IsTrue result ↔ IsBlankAfter (Burst.beats_of message.now) message.now }
@@ -39,7 +39,7 @@ pub fn is_blank<const W: usize>(message: &Message<W>) -> bool
     }
 }
 
-/// The number of beats, which fill the payload at most.
+/// The number of beats. They fill at most the payload.
 fn beats_within<const W: usize>(message: &Message<W>) -> u8
     requires { IsWidth W }
     ensures value { result ≡ Burst.beats_of message.now }
@@ -49,7 +49,7 @@ fn beats_within<const W: usize>(message: &Message<W>) -> u8
     beats_of(message)
 }
 
-/// How many bytes of data these beats carry.
+/// The number of bytes of data that these beats carry.
 fn data_of<const W: usize>(carries_data: bool, beats: u8) -> usize
     requires { W * beats ≤ 64 }
     ensures value { result ≡ (if carries_data then W * beats else 0) }
@@ -58,7 +58,7 @@ fn data_of<const W: usize>(carries_data: bool, beats: u8) -> usize
     if carries_data { W * beats as usize } else { 0 }
 }
 
-/// No byte from this one on is set.
+/// Whether each byte from this one on is zero.
 fn is_zero_from(payload: &[u8; 64], from: usize) -> bool
     requires { from ≤ 64 }
     ensures { IsTrue result ↔ IsZeroFrom from payload.now }
@@ -82,7 +82,7 @@ fn is_zero(bytes: &[u8; 64]) -> bool
     u8x64::from_array(*bytes).reduce_or() == 0
 }
 
-/// The mask has no bit from this one on.
+/// Whether the mask has no bit from this one on.
 fn has_bits(mask: u64, bits: usize) -> bool
     requires { bits ≤ 64 }
     ensures { IsTrue result ↔ (mask < 2 ^ bits) }
@@ -90,7 +90,7 @@ fn has_bits(mask: u64, bits: usize) -> bool
     bits == 64 || mask >> bits == 0
 }
 
-/// No beat from this one on is corrupt.
+/// Whether no beat from this one on is corrupt.
 fn has_beats(corrupt: u16, beats: u8) -> bool
     requires { beats ≤ 16 }
     ensures { IsTrue result ↔ (corrupt < 2 ^ beats) }

@@ -1,5 +1,5 @@
-//! The L rules of each channel over single fields: first the rules of the control fields, which the
-//! beats of a burst share, then those of what each beat has of its own.
+//! The L rules of each channel over single fields: first those of the control fields, which the beats of a burst share,
+//! then those of the fields that each beat has of its own.
 
 ghost use Rattle.std.specs.Prelude.{◌≡◌, ◌<◌, ◌≤◌, ◌^◌, IsTrue, OnOk};
 ghost use Rattle.tl_params.specs.statement.Refusal.{ok_unless};
@@ -14,7 +14,7 @@ use tl_params::level::Level;
 use tl_params::param::Cap;
 use tl_params::rule::Rule;
 
-/// L1 to L4 of channel A.
+/// Checks L1 to L4 of channel A. The error is the first of them that the fields break, here and below.
 pub fn control_of_a<const W: usize>(
     level: Level,
     opcode: OpA,
@@ -42,7 +42,7 @@ pub fn control_of_a<const W: usize>(
     Ok(())
 }
 
-/// L5 and L6 of channel A.
+/// Checks L5 and L6 of channel A.
 pub fn own_of_a<const W: usize>(
     opcode: OpA,
     size: u8,
@@ -68,7 +68,7 @@ pub fn own_of_a<const W: usize>(
     Ok(())
 }
 
-/// L1, L7, L2, L3 and L4 of channel B.
+/// Checks L1, L7, L2, L3 and L4 of channel B.
 pub fn control_of_b(
     level: Level,
     opcode: OpB,
@@ -99,7 +99,7 @@ pub fn control_of_b(
     Ok(())
 }
 
-/// L5 and L6 of channel B.
+/// Checks L5 and L6 of channel B.
 pub fn own_of_b<const W: usize>(
     opcode: OpB,
     size: u8,
@@ -121,7 +121,7 @@ pub fn own_of_b<const W: usize>(
     Ok(())
 }
 
-/// L1, L7, L2, L3 and L4 of channel C.
+/// Checks L1, L7, L2, L3 and L4 of channel C.
 pub fn control_of_c(
     level: Level,
     opcode: OpC,
@@ -151,7 +151,7 @@ pub fn control_of_c(
     Ok(())
 }
 
-/// L6 of channel C.
+/// Checks L6 of channel C.
 pub fn own_of_c(opcode: OpC, corrupt: bool) -> Result<(), Rule>
     ensures { result ≡ ok_unless (c_own opcode corrupt) }
 {
@@ -161,7 +161,7 @@ pub fn own_of_c(opcode: OpC, corrupt: bool) -> Result<(), Rule>
     Ok(())
 }
 
-/// L1 to L3 of channel D.
+/// Checks L1 to L3 of channel D.
 pub fn control_of_d<const W: usize>(
     level: Level,
     opcode: OpD,
@@ -185,7 +185,7 @@ pub fn control_of_d<const W: usize>(
     Ok(())
 }
 
-/// L6 of channel D.
+/// Checks L6 of channel D.
 pub fn own_of_d(opcode: OpD, denied: bool, corrupt: bool) -> Result<(), Rule>
     ensures { result ≡ ok_unless (d_own opcode denied corrupt) }
 {

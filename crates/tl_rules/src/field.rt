@@ -1,4 +1,4 @@
-//! What each field of a beat may hold by its opcode and by the level of its link.
+//! The values that each field of a beat may have, by its opcode and the level of its link.
 
 ghost use Rattle.std.specs.Prelude.{◌≡◌, ◌≤◌, IsTrue};
 ghost use Rattle.tl_beat.specs.statement.Width.{IsWidth};
@@ -10,7 +10,7 @@ use tl_beat::opcode::{OpA, OpC, OpD};
 use tl_params::level::Level;
 use tl_params::param::{Arithmetic, Cap, Grow, Intent, Logical, Prune, Report};
 
-/// Whether a request of this opcode is of the level.
+/// Whether the level has requests of this opcode.
 pub fn a_opcode_fits(level: Level, opcode: OpA) -> bool
     ensures { result ≡ a_of_level level opcode }
 {
@@ -21,7 +21,7 @@ pub fn a_opcode_fits(level: Level, opcode: OpA) -> bool
     }
 }
 
-/// Whether a response of this opcode is of the level.
+/// Whether the level has responses of this opcode.
 pub fn d_opcode_fits(level: Level, opcode: OpD) -> bool
     ensures { result ≡ d_of_level level opcode }
 {
@@ -32,7 +32,7 @@ pub fn d_opcode_fits(level: Level, opcode: OpD) -> bool
     }
 }
 
-/// The channels B, C and E are those of level C.
+/// Whether the level has the channels B, C and E. Only level C does.
 pub fn transfers(level: Level) -> bool
     ensures { result ≡ has_transfers level }
 {
@@ -52,7 +52,7 @@ pub fn a_param_fits(opcode: OpA, param: u8) -> bool
     }
 }
 
-/// Whether a message of channel C may have this param: with data, one that gives up or keeps Trunk.
+/// Whether a message of channel C may have this param. A message with data starts from Trunk.
 pub fn c_param_fits(opcode: OpC, param: u8) -> bool
     ensures { result ≡ c_has_param opcode param }
 {
@@ -78,21 +78,21 @@ pub fn d_param_fits(opcode: OpD, param: u8) -> bool
     }
 }
 
-/// A ProbeAck has source 0.
+/// Whether a message of channel C may have this source. A ProbeAck has source 0.
 pub fn c_source_fits(opcode: OpC, source: u8) -> bool
     ensures { result ≡ c_has_source opcode source }
 {
     !matches!(opcode, OpC::ProbeAck | OpC::ProbeAckData) || source == 0
 }
 
-/// Only a Grant has a sink.
+/// Whether a message of channel D may have this sink. Only a Grant has another than 0.
 pub fn d_sink_fits(opcode: OpD, sink: u8) -> bool
     ensures { result ≡ d_has_sink opcode sink }
 {
     matches!(opcode, OpD::Grant | OpD::GrantData) || sink == 0
 }
 
-/// An access has at most the bytes of a beat at TL-UL, and of a block above it.
+/// Whether an access may have this size: at most a beat at TL-UL, at most a block above it.
 fn access_size_fits<const W: usize>(level: Level, size: u8) -> bool
     requires { IsWidth W }
     ensures value { result ≡ access_has_size W level size }
@@ -139,7 +139,7 @@ pub fn address_fits(address: u32, size: u8) -> bool
     address % (1 << size) == 0
 }
 
-/// An answer to an access may be denied, and is corrupt then where it carries data.
+/// Whether a response may be denied. An answer to an access may, and with data it must be corrupt then.
 pub fn may_be_denied(opcode: OpD, corrupt: bool) -> bool
     ensures { result ≡ may_be_denied opcode corrupt }
 {

@@ -1,4 +1,4 @@
-//! Kinds of messages, and what the ones that tell of permissions say.
+//! Kinds of messages, and the permissions that they give and leave.
 
 ghost use Rattle.std.specs.Prelude.{◌≡◌};
 ghost use Rattle.tl_rules.specs.statement.Conformance;
@@ -9,21 +9,21 @@ use tl_beat::opcode::{OpA, OpB, OpC, OpD};
 use tl_params::param::{Cap, Grow, Report};
 use tl_params::perm::Perm;
 
-/// Whether a message asks for permissions.
+/// Whether a message asks for a permission.
 pub fn is_acquire(opcode: OpA) -> bool
     ensures { result ≡ History.is_acquire opcode }
 {
     matches!(opcode, OpA::AcquireBlock | OpA::AcquirePerm)
 }
 
-/// Whether an Acquire with this param grows from nothing held: NtoB or NtoT.
+/// Whether the grow of an Acquire is NtoB or NtoT.
 pub fn grows_from_none(param: u8) -> bool
     ensures { result ≡ Liberties.grows_from_none param }
 {
     param != Grow::BtoT.param()
 }
 
-/// Whether a message takes permissions back.
+/// Whether a message asks a client to give up a permission.
 pub fn is_probe(opcode: OpB) -> bool
     ensures { result ≡ History.is_probe opcode }
 {
@@ -37,14 +37,14 @@ pub fn is_probe_ack(opcode: OpC) -> bool
     matches!(opcode, OpC::ProbeAck | OpC::ProbeAckData)
 }
 
-/// Whether a message gives permissions up of itself.
+/// Whether a message gives up a permission without a Probe.
 pub fn is_release(opcode: OpC) -> bool
     ensures { result ≡ History.is_release opcode }
 {
     matches!(opcode, OpC::Release | OpC::ReleaseData)
 }
 
-/// Whether a message gives permissions.
+/// Whether a message gives a permission.
 pub fn is_grant(opcode: OpD) -> bool
     ensures { result ≡ History.is_grant opcode }
 {
@@ -58,7 +58,7 @@ pub fn is_release_ack(opcode: OpD) -> bool
     opcode == OpD::ReleaseAck
 }
 
-/// Whether a request may be answered so.
+/// Whether a response with this opcode may answer a request with that one.
 pub fn answers(answer: OpD, request: OpA) -> bool
     ensures { result ≡ Conformance.answers answer request }
 {
@@ -75,7 +75,7 @@ pub fn answers(answer: OpD, request: OpA) -> bool
     )
 }
 
-/// What a prune or report of this number leaves.
+/// The permission that a prune or report with this param leaves; None if the param is no report.
 pub fn reported(param: u8) -> Perm
     ensures { result ≡ History.reported param }
 {
@@ -85,7 +85,7 @@ pub fn reported(param: u8) -> Perm
     }
 }
 
-/// What a cap of this number gives.
+/// The permission that a cap with this param gives; None if the param is no cap.
 pub fn capped(param: u8) -> Perm
     ensures { result ≡ History.capped param }
 {

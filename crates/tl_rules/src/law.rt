@@ -1,4 +1,4 @@
-//! What a history says after a message, and what a message does, as laws.
+//! Laws of the history after a message, and of the effect of a message.
 
 ghost use Rattle.std.specs.Prelude.{ℕ, suc, true, [], ◌++◌, None, is_some, length};
 ghost use Rattle.std.specs.Prelude.{◌≡◌, ◌<◌, ◌≤◌, ◌+◌, ◌*◌, ◌/◌, ◌%◌, ◌^◌, List};
@@ -23,8 +23,8 @@ ghost use Rattle.tl_rules.specs.laws.Handed.{release_with, probe_with, sink_with
 ghost use Rattle.tl_rules.specs.statement.History;
 ghost use Rattle.tl_rules.specs.laws.Typed.{IsTyped, AreTyped, HasBlock};
 
-/// After a message was handed out on a channel where none was unfinished, a history says of
-/// everything what the first beat of the message says alone.
+/// If a message is handed out on a channel without an unfinished message, the history shows the effect of its first
+/// beat alone.
 pub fn hands_out_whole<const W: usize>()
     requires { IsWidth W }
     ensures unfinished { (m : Message W) (ch : Channel) (t : History W) → Messages.unfinished (channel_in m) t ≡ [] →
@@ -43,7 +43,7 @@ pub fn hands_out_whole<const W: usize>()
         History.grant_sink block (sent m t) ≡ sink_with block m t }
 {}
 
-/// Where a request, a Release or a Probe is pending, there is one.
+/// If a request, a Release or a Probe is pending, the history has that message.
 pub fn names_what_is_pending<const W: usize>()
     ensures request { (source : ℕ) (t : History W) →
         History.pending (Key.RequestSource source) t ≡ true → is_some (History.request_of source t) ≡ true }
@@ -53,8 +53,8 @@ pub fn names_what_is_pending<const W: usize>()
         History.pending (Key.ProbeOf block) t ≡ true → is_some (History.probe_of block t) ≡ true }
 {}
 
-/// A beat that goes on with its message breaks no rule of order, and a message that breaks no rule by
-/// itself breaks none after a history where its first beat breaks none of order.
+/// A beat that continues its message breaks no rule of order. If a message breaks no L rule and its first beat breaks
+/// no rule of order, none of its beats breaks a rule.
 pub fn goes_on_lawfully<const W: usize>()
     ensures later { (profile : Profile) (m : Message W) (i : ℕ) (t : History W) →
         Messages.unfinished (channel_in m) t ≡ begun m (suc i) → broken_in_order profile (beat_of m (suc i)) t ≡ None }
@@ -64,8 +64,8 @@ pub fn goes_on_lawfully<const W: usize>()
         broken_after level profile (beat_of m i) (begun m i ++ t) ≡ None }
 {}
 
-/// Messages of 64 bytes have beats of the types, and beats of the types, no more than fit, a payload
-/// of 64 bytes.
+/// If a message's payload has 64 bytes, its beats are typed. If beats are typed and fit into a block, their payload has
+/// 64 bytes.
 pub fn keeps_types<const W: usize>()
     requires { IsWidth W }
     ensures beats { (m : Message W) (i : ℕ) → HasBlock m → i < beats_of m → IsTyped (beat_of m i) }
@@ -73,7 +73,7 @@ pub fn keeps_types<const W: usize>()
         length (payload_of beats) ≡ 64 }
 {}
 
-/// What an access does to its block, and what it is answered, depends on its block alone.
+/// The effect of an access on its block, and its answer, depend on that block alone.
 pub fn acts_on_its_block<const W: usize>()
     ensures after { (m : MessageA W) (f g : Memory) → m.address % 64 + 2 ^ m.size ≤ 64 →
         SameBlock (m.address / 64) f g →

@@ -1,5 +1,4 @@
-//! What TileLink's messages may say and what they do: levels, permissions, rules, and memory
-//! operations.
+//! TileLink's messages, their rules and their effect: levels, permissions, legality, order, and memory operations.
 #![tactic(auto)]
 
 pub mod admission;

@@ -7,7 +7,7 @@ ghost use Rattle.tl_beat.specs.statement.Width.{IsWidth};
 ghost use Rattle.tl_burst.specs.statement.Burst.{bit};
 ghost use Rattle.tl_rules.specs.statement.Legality.{is_aligned, is_lane, is_full_mask, is_part_mask};
 
-/// The lanes that carry a byte of a message of this size and address.
+/// The lanes that carry a byte of a message of this size and address, as the bits of a mask.
 fn lanes<const W: usize>(size: u8, address: u32) -> u16
     requires width { IsWidth W }
     requires small { size ≤ 6 }
@@ -22,7 +22,7 @@ fn lanes<const W: usize>(size: u8, address: u32) -> u16
     (u16::MAX >> (16 - count)) << first
 }
 
-/// Of these lanes the mask has each, and no other.
+/// Whether the mask has all of these lanes and no others.
 pub fn is_full<const W: usize>(size: u8, address: u32, mask: u16) -> bool
     requires width { IsWidth W }
     requires small { size ≤ 6 }
@@ -32,7 +32,7 @@ pub fn is_full<const W: usize>(size: u8, address: u32, mask: u16) -> bool
     mask == lanes::<W>(size, address)
 }
 
-/// The mask has no other lane than these.
+/// Whether the mask has only lanes that carry a byte of the message.
 pub fn is_part<const W: usize>(size: u8, address: u32, mask: u16) -> bool
     requires width { IsWidth W }
     requires small { size ≤ 6 }

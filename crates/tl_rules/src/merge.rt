@@ -7,7 +7,7 @@ use std::simd::u8x8;
 
 const BITS: [u8; 8] = [1, 2, 4, 8, 16, 32, 64, 128];
 
-/// Eight bytes, replaced where their bit of the mask is set.
+/// Replaces each of eight bytes whose bit of the mask is set.
 fn merge_eight(old: &mut [u8; 8], new: &[u8; 8], mask: u8)
     ensures { old.new ≡ merged mask 0 old.old new.now }
 {
@@ -17,7 +17,7 @@ fn merge_eight(old: &mut [u8; 8], new: &[u8; 8], mask: u8)
     *old = lanes.to_array();
 }
 
-/// Eight bytes of 64 from a place on.
+/// The eight bytes from this place on.
 fn eight_at(bytes: &[u8; 64], at: usize) -> [u8; 8]
     requires { at + 8 ≤ 64 }
     ensures { result ≡ take 8 (drop at bytes.now) }
@@ -34,7 +34,7 @@ fn write_eight(bytes: &mut [u8; 64], at: usize, eight: &[u8; 8])
     bytes[at..at + 8].copy_from_slice(eight);
 }
 
-/// Replaces byte `i` of `old` by that of `new` exactly where bit `i` of the mask is set.
+/// Replaces byte `i` of `old` by that of `new` if bit `i` of the mask is set, for each `i`.
 pub fn merge_masked(old: &mut [u8; 64], new: &[u8; 64], mask: u64)
     ensures { old.new ≡ merged mask 0 old.old new.now }
 {

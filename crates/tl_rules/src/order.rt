@@ -34,7 +34,7 @@ fn either_pending<const W: usize, P: PastUnder<W>>(one: Key, other: Key, past: &
     past.is_pending(one) || past.is_pending(other)
 }
 
-/// Whether an Acquire with this param grows from what is held.
+/// Whether the grow of an Acquire fits the permission held.
 fn grows_from(liberties: Liberties, param: u8, perm: Perm) -> bool
     ensures { result ≡ under.grows_from_under liberties param perm }
 {
@@ -84,7 +84,7 @@ fn broken_b<const W: usize, P: PastUnder<W>>(x: &BeatB<W>, past: &P) -> Option<R
     None
 }
 
-/// Whether a Release with this param gives up what is held.
+/// Whether the prune of a Release starts from the permission held.
 fn prunes_from(param: u8, perm: Perm) -> bool
     ensures { result ≡ Conformance.prunes_from (prune_of param) perm }
 {
@@ -94,7 +94,7 @@ fn prunes_from(param: u8, perm: Perm) -> bool
     }
 }
 
-/// Whether a Release with this param, which may be any report, starts from what is held.
+/// Whether the report of a Release starts from the permission held.
 fn reports_from(param: u8, perm: Perm) -> bool
     ensures { result ≡ under.reports_from (report_named param) perm }
 {
@@ -104,14 +104,15 @@ fn reports_from(param: u8, perm: Perm) -> bool
     }
 }
 
-/// Whether a param says that nothing is held.
+/// Whether a param is the report NtoN.
 pub fn reports_none(param: u8) -> bool
     ensures { result ≡ under.reports_none param }
 {
     param == Report::NtoN.param()
 }
 
-/// Whether a Release with this param starts from what is held.
+/// Whether the prune of a Release, or under `reports` its report, starts from the permission held. With `drops` too the
+/// report NtoN always fits.
 pub fn releases_from(liberties: Liberties, param: u8, perm: Perm) -> bool
     ensures { result ≡ under.releases_from liberties param perm }
 {
@@ -143,7 +144,7 @@ fn broken_release<const W: usize, P: PastUnder<W>>(
     None
 }
 
-/// Whether a param is the report of a Probe's cap and of what is held.
+/// Whether a param is the report of a Probe's cap and the permission held.
 fn is_report(param: u8, cap: u8, perm: Perm) -> bool
     ensures { result ≡ Conformance.is_report_at param (cap_of cap) perm }
 {
@@ -153,14 +154,14 @@ fn is_report(param: u8, cap: u8, perm: Perm) -> bool
     }
 }
 
-/// Whether an answer with data answers a Probe that asks for none.
+/// Whether an answer with data answers a ProbePerm.
 fn answers_wrong_probe(answer: OpC, probe: OpB) -> bool
     ensures { result ≡ (c_carries_data answer && not (Conformance.is_probe_block probe)) }
 {
     answer.carries_data() && probe != OpB::ProbeBlock
 }
 
-/// Whether a report isn't the one that follows from a Probe's cap and from what is held.
+/// Whether a param isn't the report of a Probe's cap and the permission held, nor one that `drops` allows.
 fn misreports(liberties: Liberties, param: u8, cap: u8, perm: Perm) -> bool
     ensures { result ≡ (not (liberties.drops && under.reports_none param)
         && not (Conformance.is_report_at param (cap_of cap) perm)) }
@@ -168,7 +169,7 @@ fn misreports(liberties: Liberties, param: u8, cap: u8, perm: Perm) -> bool
     !(liberties.drops && reports_none(param)) && !is_report(param, cap, perm)
 }
 
-/// Whether a ProbeAck with this source has another than its Probe, where the liberties have it judged.
+/// Under `ids`, whether the source isn't that of the Probe of the block.
 fn has_other_source<const W: usize, P: PastUnder<W>>(
     liberties: Liberties,
     source: u8,
@@ -226,7 +227,7 @@ fn broken_c<const W: usize, P: PastUnder<W>>(
     }
 }
 
-/// Whether a Grant with the param `given` answers an Acquire with this param.
+/// Whether a Grant with the cap `given` answers an Acquire with this param.
 fn fits_grow(liberties: Liberties, opcode: OpA, param: u8, given: u8) -> bool
     ensures { result ≡ Conformance.fits_grow (under.profile_under liberties) opcode param given }
 {
@@ -239,7 +240,7 @@ fn fits_grow(liberties: Liberties, opcode: OpA, param: u8, given: u8) -> bool
     given == Cap::ToB.param()
 }
 
-/// Whether a Grant isn't one for the request that it answers.
+/// Whether a Grant doesn't fit the request that it answers.
 fn misgrants<const W: usize, P: PastUnder<W>>(
     liberties: Liberties,
     x: &BeatD<W>,
@@ -332,8 +333,7 @@ fn broken_e<const W: usize, P: PastUnder<W>>(x: &BeatE, past: &P) -> Option<Rule
     }
 }
 
-/// The first rule of the order of messages that a message which begins with this beat breaks, on a link
-/// with these liberties.
+/// The first H rule that a message breaks at its first beat, on a link with these liberties.
 #[tactic(auto, unfolding(crate::specs::statement::Liberties::broken_order_under))]
 #[inline(always)]
 pub fn broken_order_under<const W: usize, P: PastUnder<W>>(
@@ -353,7 +353,7 @@ pub fn broken_order_under<const W: usize, P: PastUnder<W>>(
     }
 }
 
-/// The same on a link of this profile.
+/// `broken_order_under` on a link of this profile.
 #[inline(always)]
 pub fn broken_order<const W: usize, P: Past<W>>(
     profile: Profile,

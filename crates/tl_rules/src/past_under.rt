@@ -1,4 +1,4 @@
-//! What the order of messages asks of the history of a link that may have liberties.
+//! The questions of the H rules to the history of a link with liberties.
 
 ghost use Rattle.std.specs.Prelude.{true, ◌≡◌};
 ghost use Rattle.tl_burst.specs.statement.Messages.{History};
@@ -12,44 +12,42 @@ use crate::past::{Past, Probe, Request};
 use tl_params::key::Key;
 use tl_params::perm::Perm;
 
-/// One end of a link by what it knows of the link's history, without the history itself: what is
-/// pending, with the messages that are open, and what is held.
+/// One end of a link, with a summary of the link's history: the pending keys, the open messages, and the permissions
+/// held.
 pub trait PastUnder<const W: usize> {
-    /// All that is kept is what this history leaves under these liberties.
+    /// The summary is that of this history under these liberties.
     ghost knows: { Self → Liberties → History W → Type 0 };
 
     /// Whether the key is pending.
     fn is_pending(&self, key: Key) -> bool
         ensures { (l : Liberties) (t : History W) → knows self.now l t → result ≡ history.pending key t };
 
-    /// What the client holds of the block.
+    /// The permission that the client holds of the block.
     fn held(&self, block: u32) -> Perm
         ensures { (l : Liberties) (t : History W) → knows self.now l t → result ≡ held_under l block t };
 
-    /// The request with this source, where one is pending that may be answered: a complete one, or with
-    /// `early` any.
+    /// The request with this source, if one is pending and complete. With `early` it needn't be complete.
     fn request(&self, source: u8) -> Option<Request>
         ensures { (l : Liberties) (t : History W) → knows self.now l t → result ≡ open_request_under l source t };
 
-    /// The size of the Release with this source, where one is pending that may be answered.
+    /// The size of the Release with this source, if one is pending and complete; see `request`.
     fn release(&self, source: u8) -> Option<u8>
         ensures { (l : Liberties) (t : History W) → knows self.now l t → result ≡ open_release_under l source t };
 
-    /// The Probe of the block, where one is pending.
+    /// The Probe of the block, if one is pending.
     fn probe(&self, block: u32) -> Option<Probe>
         ensures { (l : Liberties) (t : History W) → knows self.now l t → result ≡ open_probe block t };
 
-    /// The source of the Probe of the block, where one is pending. It is asked only with the liberty `ids`.
+    /// The source of the Probe of the block, if one is pending. Called only under the liberty `ids`.
     fn probe_source(&self, block: u32) -> Option<u8>
         ensures { (l : Liberties) (t : History W) → knows self.now l t → l.ids ≡ true → result ≡ probe_source block t };
 
-    /// Whether a Grant with this sink is pending that may be acknowledged: a complete one, or with `early`
-    /// any.
+    /// Whether a Grant with this sink is pending and complete. With `early` it needn't be complete.
     fn has_grant(&self, sink: u8) -> bool
         ensures { (l : Liberties) (t : History W) → knows self.now l t → result ≡ has_open_grant_under l sink t };
 }
 
-/// One end of a link without liberties but those of a profile.
+/// One end of a link that has the liberties of a profile and no others.
 #[derive(Drop)]
 pub struct AtProfile<'a, P> {
     pub past: &'a P,

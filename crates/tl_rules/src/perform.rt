@@ -1,5 +1,4 @@
-//! What an access does to the block that it reaches (SiFive TileLink Specification 1.8, chapters on
-//! TL-UL and TL-UH).
+//! The effect of an access on its block (SiFive TileLink Specification 1.8, chapters on TL-UL and TL-UH).
 
 ghost use Rattle.std.specs.Prelude.{◌≡◌, ◌≤◌, ◌%◌, ◌*◌, ◌/◌, ◌^◌, ℕ, IsTrue, is_some, ◌≢◌, ◌<◌, slice_index};
 ghost use Rattle.tl_beat.specs.statement.Width.{IsWidth};
@@ -21,7 +20,7 @@ use tl_burst::message::{Message, MessageA};
 use tl_params::level::Level;
 use tl_params::param::{Arithmetic, Logical};
 
-/// The old bytes that a request reaches, as a payload.
+/// The bytes that a request reads, as a payload.
 fn read<const W: usize>(block: &[u8; 64], request: &MessageA<W>) -> [u8; 64]
     requires width { IsWidth W }
     requires aligned { IsTrue (is_aligned request.now.address request.now.size) }
@@ -32,7 +31,7 @@ fn read<const W: usize>(block: &[u8; 64], request: &MessageA<W>) -> [u8; 64]
     place::payload_at(block, Span::new::<W>(request.address, request.size))
 }
 
-/// Writes the bytes of a Put that its mask has.
+/// Writes the bytes of a Put that its mask selects.
 fn put<const W: usize>(block: &mut [u8; 64], request: &MessageA<W>)
     requires width { IsWidth W }
     requires carries { IsTrue (a_carries_data request.now.opcode) }
@@ -44,7 +43,7 @@ fn put<const W: usize>(block: &mut [u8; 64], request: &MessageA<W>)
     merge_masked(block, &payload, request.mask << base);
 }
 
-/// The number that an atomic brings.
+/// The operand of an atomic.
 fn operand<const W: usize>(request: &MessageA<W>, span: Span) -> u64
     requires { span.count ≤ 8 }
     ensures value { result ≡ number_from (λ i. slice_index request.now.payload i) span.in_payload span.count }
@@ -90,7 +89,7 @@ fn logical<const W: usize>(block: &mut [u8; 64], request: &MessageA<W>)
     atomic::logical(operation, request.size, bytes, operand);
 }
 
-/// Performs an access on its block.
+/// Performs an access on its block and answers it.
 fn access<const W: usize>(block: &mut [u8; 64], request: &MessageA<W>) -> Answer
     requires width { IsWidth W }
     requires legal { a_control W Level.UH request.now.opcode request.now.param request.now.size request.now.address
@@ -121,8 +120,8 @@ fn access<const W: usize>(block: &mut [u8; 64], request: &MessageA<W>) -> Answer
     }
 }
 
-/// Performs an access, which `check` passes at TL-UH, on its block, and answers it: the Puts with
-/// `Ack`, an Intent with `Hint`, the others with the old bytes.
+/// Performs an access on its block and answers it: a Put with `Ack`, an Intent with `Hint`, the others with the old
+/// bytes. The message must be legal at TL-UH.
 pub fn perform<const W: usize>(block: &mut [u8; 64], message: &Message<W>) -> Answer
     requires width { IsWidth W }
     requires legal { illegal_message Level.UH Channel.A message.now ≡ None }

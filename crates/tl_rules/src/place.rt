@@ -1,4 +1,4 @@
-//! The bytes of a message and of a number at their places in a block.
+//! The places of a message's bytes in a block and in a payload.
 
 ghost use Rattle.std.specs.Prelude.{◌≡◌, ◌<◌, ◌≤◌, ◌+◌, ◌*◌, ◌%◌, ◌^◌, ◌++◌, ℕ, IsTrue};
 ghost use Rattle.std.specs.Prelude.{length, take, drop, slice_index, ◌&&◌, nat_le, nat_lt};
@@ -8,7 +8,7 @@ ghost use Rattle.tl_burst.specs.statement.Burst.{bit};
 ghost use Rattle.tl_rules.specs.statement.Effect.{as_payload, number_from};
 ghost use Rattle.tl_rules.specs.code.Place.{base_of, moved_up};
 
-/// Where the bytes of a request lie in its block and in its payload, and how many they are.
+/// The place of a request's bytes in its block and in its payload, and their number.
 #[derive(Clone, Copy)]
 pub struct Span {
     pub in_block: usize,
@@ -22,7 +22,7 @@ pub struct Span {
 impl Span {
     ghost use Rattle.tl_rules.specs.statement.Legality.{is_aligned};
 
-    /// Where the `2^size` bytes from an address on lie.
+    /// The place of the `2^size` bytes from an address on.
     pub fn new<const W: usize>(address: u32, size: u8) -> Self
         requires width { IsWidth W }
         requires small { size ≤ 6 }
@@ -40,7 +40,7 @@ impl Span {
     }
 }
 
-/// The place in its block of payload byte 0 of a message at this address.
+/// The place, in its block, of payload byte 0 of a message at this address.
 pub fn base<const W: usize>(address: u32) -> usize
     requires { IsWidth W }
     ensures value { result ≡ base_of W address }
@@ -57,7 +57,7 @@ fn write_at(bytes: &mut [u8; 64], at: usize, new: &[u8])
     bytes[at..at + new.len()].copy_from_slice(new);
 }
 
-/// The bytes moved up, with zeros below them.
+/// The bytes moved up by this many places, with zeros below them.
 pub fn move_up(bytes: &[u8; 64], by: usize) -> [u8; 64]
     requires { by ≤ 64 }
     ensures value { result ≡ moved_up by bytes.now }
@@ -80,7 +80,7 @@ pub fn payload_at(block: &[u8; 64], span: Span) -> [u8; 64]
     payload
 }
 
-/// Writes over the first of eight bytes.
+/// Replaces the first of eight bytes.
 fn write_low(eight: &mut [u8; 8], low: &[u8])
     requires { length low.now ≤ 8 }
     ensures { eight.new ≡ low.now ++ drop (length low.now) eight.old }

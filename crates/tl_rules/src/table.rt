@@ -1,23 +1,23 @@
-//! What is kept of a link's history, key by key.
+//! The summary of a link's history, by keys.
 
 use crate::past::Probe;
 use tl_params::perm::Perm;
 
-/// What later messages depend on of a Release.
+/// The fields of a Release on which later messages depend.
 #[derive(Clone, Copy, Debug, PartialEq, Eq)]
 pub struct Release {
     pub size: u8,
     pub block: u32,
 }
 
-/// What later messages depend on of a Probe, with its source.
+/// The fields of a pending Probe on which later messages depend, with its source.
 #[derive(Clone, Copy, Debug, PartialEq, Eq)]
 pub struct PendingProbe {
     pub probe: Probe,
     pub source: u8,
 }
 
-/// What is open of a block, and what the client holds of it.
+/// The state of a block: the permission that the client holds, and the pending transfers.
 #[derive(Clone, Copy, Debug, PartialEq, Eq)]
 pub struct Block {
     pub held: Perm,
@@ -27,6 +27,6 @@ pub struct Block {
     pub release: bool,
     /// The Probe of the block that is pending.
     pub probe: Option<PendingProbe>,
-    /// The sink of its last Grant, where the GrantAck is pending.
+    /// The sink of the last Grant of the block, if its GrantAck is pending.
     pub grant: Option<u8>,
 }

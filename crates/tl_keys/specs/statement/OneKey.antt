@@ -1,5 +1,4 @@
--- That each rule of order is judged alike after the messages alone that name the source, sink or block of which it
--- speaks.
+-- Each rule of order depends only on the messages with one source, one sink or one block.
 use Rattle.std.specs.Prelude.{ℕ, true, ◌≡◌, List, [], ◌∷◌, ⊤}
 use Rattle.tl_beat.specs.declared.beat.Beat.{Beat}
 use Rattle.tl_burst.specs.statement.Messages.{History}
@@ -9,18 +8,18 @@ use Rattle.tl_rules.specs.statement.Conformance.{broken_order, is_legal}
 use Rattle.tl_keys.specs.statement.Restricted.{restricted}
 use Rattle.tl_keys.specs.statement.Rules.{Test, first_of, tests}
 
--- each of these tests holds after t exactly if it does after what names the source, sink or block of which it speaks
+-- each of these tests has the same result after t and after the part of t with its source, sink or block
 abbrev pub AreAlike : {w : ℕ} → List (Test w) → History w → Type 0
 AreAlike [] t = ⊤
 AreAlike (test ∷ rest) t = (test.breaks t ≡ test.breaks (restricted test.name t)) × AreAlike rest t
 
--- of a message that begins with this beat after t
+-- for a message that begins with this beat after t
 pub record IsOfOneKey {w : ℕ} (p : Profile) (x : Beat w) (t : History w) : Type 0 where
-  -- the first rule of order that it breaks is the first of the rules taken one by one
+  -- the first rule of order that it breaks is the first of these tests that it fails
   pub first : broken_order p x t ≡ first_of (tests p x t) t
-  -- and each of them is judged alike after what names the one source, sink or block
+  -- and each test has the same result after the part of t with its source, sink or block
   pub each : AreAlike (tests p x t) t
 
--- so it is after each lawful history
+-- this is true after each history that breaks no rule
 abbrev pub OneKey : ℕ → Type 0
 OneKey w = (l : Level) (p : Profile) (t : History w) (x : Beat w) → is_legal l p t ≡ true → IsOfOneKey p x t

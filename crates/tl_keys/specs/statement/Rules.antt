@@ -1,4 +1,5 @@
--- The rules of order one by one: of which source, sink or block each speaks, and after which histories a beat breaks it.
+-- The rules of order one by one: the source, sink or block on which each depends, and the histories after which a beat
+-- breaks it.
 use Rattle.std.specs.Prelude.{ℕ, Bool, not, ◌==◌, ◌&&◌, ◌||◌, List, [], ◌∷◌, Option, Some, None}
 use Rattle.tl_beat.specs.declared.beat.Beat.{Beat}
 use Rattle.tl_beat.specs.declared.beat.Beat.TheVariants as beat
@@ -19,19 +20,19 @@ use Rattle.tl_rules.specs.statement.History.{pending, probe_of, request_of}
 use Rattle.tl_keys.specs.statement.Restricted.{Name}
 use Rattle.tl_keys.specs.statement.Restricted.Name.{OfBlock, OfSink, OfSource}
 
--- a rule, the source, sink or block of which it speaks, and the histories after which a certain beat breaks it
+-- a rule, the source, sink or block on which it depends, and the histories after which a certain beat breaks it
 pub record Test (w : ℕ) : Type 0 where
   pub rule : Rule
   pub name : Name
   pub breaks : History w → Bool
 
--- the block of a request, where there is one
+-- the block of a request, 0 if there is none
 abbrev pub block_of : {w : ℕ} → Option (BeatA w) → ℕ
 block_of None = 0
 block_of (Some x) = block_at x.address
 
--- The rules of order that judge a message which begins with this beat after t, in their order. The block of a Grant is
--- that of its request.
+-- The rules of order that judge a message at its first beat x after t, in their order. The block of a Grant is that of
+-- its request.
 abbrev pub tests : {w : ℕ} → Profile → Beat w → History w → List (Test w)
 tests p (beat.A x) t =
     record { rule = H1; name = OfSource x.source; breaks = λ s. pending (RequestSource x.source) s }
@@ -108,7 +109,7 @@ tests p (beat.E x) t =
     }
     ∷ []
 
--- the first of the rules that is broken after t
+-- the first of these rules that is broken after t
 abbrev pub first_of : {w : ℕ} → List (Test w) → History w → Option Rule
 first_of [] t = None
 first_of (test ∷ rest) t = first_if (test.breaks t) test.rule (first_of rest t)

@@ -1,6 +1,5 @@
 -- The messages that are open at an end of a link: what later messages depend on of them.
 use Rattle.std.specs.Prelude.{◌≡◌, ℕ, Bool, false, not, ◌&&◌, ◌==◌, if◌then◌else◌, Option, Some, None}
-use Rattle.tl_beat.specs.declared.beat.BeatA.{BeatA}
 use Rattle.tl_beat.specs.declared.beat.BeatB.{BeatB}
 use Rattle.tl_beat.specs.declared.beat.BeatC.{BeatC}
 use Rattle.tl_beat.specs.declared.channel.Channel.TheVariants as channel
@@ -11,35 +10,18 @@ use Rattle.tl_params.specs.statement.Liberties.{liberties_of}
 use Rattle.tl_params.specs.declared.key.Key.TheVariants.{RequestSource, ReleaseSource, GrantSink, ProbeOf}
 use Rattle.tl_rules.specs.declared.past.Request.{Request}
 use Rattle.tl_rules.specs.declared.past.Probe.{Probe}
-use Rattle.tl_rules.specs.statement.History.{block_at, request_of, release_of, probe_of, pending}
+use Rattle.tl_rules.specs.statement.History.{request_of, release_of, probe_of, pending}
 use Rattle.tl_rules.specs.statement.Conformance.{comes_in_request, comes_in_release, comes_in_grant}
-
-abbrev pub request_fields : {w : ℕ} → Option (BeatA w) → Option Request
-request_fields None = None
-request_fields (Some x) =
-    Some (record { opcode = x.opcode; param = x.param; size = x.size; block = block_at x.address })
+pub use Rattle.tl_rules.specs.statement.OpenMessages.{request_fields, probe_fields, open_request, open_probe}
 
 abbrev pub release_size : {w : ℕ} → Option (BeatC w) → Option ℕ
 release_size None = None
 release_size (Some x) = Some x.size
 
-abbrev pub probe_fields : {w : ℕ} → Option (BeatB w) → Option Probe
-probe_fields None = None
-probe_fields (Some x) = Some (record { opcode = x.opcode; param = x.param })
-
--- the request with this source that is pending and complete
-abbrev pub open_request : {w : ℕ} → ℕ → History w → Option Request
-open_request s t = if pending (RequestSource s) t && not (comes_in_request s (unfinished channel.A t)) then
-    request_fields (request_of s t) else None
-
 -- the size of the Release with this source that is pending and complete
 abbrev pub open_release : {w : ℕ} → ℕ → History w → Option ℕ
 open_release s t = if pending (ReleaseSource s) t && not (comes_in_release s (unfinished channel.C t)) then release_size
     (release_of s t) else None
-
--- the Probe of the block that is pending
-abbrev pub open_probe : {w : ℕ} → ℕ → History w → Option Probe
-open_probe k t = if pending (ProbeOf k) t then probe_fields (probe_of k t) else None
 
 -- a Grant with this sink is pending and complete
 abbrev pub has_open_grant : {w : ℕ} → ℕ → History w → Bool
@@ -73,7 +55,7 @@ source_of (Some x) = Some x.source
 abbrev pub probe_source : {w : ℕ} → ℕ → History w → Option ℕ
 probe_source k t = if pending (ProbeOf k) t then source_of (probe_of k t) else None
 
--- the number, where there is one, is this
+-- the number, if there is one, is this
 abbrev pub is_number : ℕ → Option ℕ → Bool
 is_number n None = false
 is_number n (Some m) = n == m

@@ -1,4 +1,4 @@
--- What is kept of a history, key by key, and what it becomes with one more beat.
+-- The state that is kept of a history, key by key, and its change with one more beat.
 use Rattle.std.specs.Prelude.{ℕ, Bool, true, false, not, ◌==◌, ◌&&◌, ◌||◌, if◌then◌else◌, Option, Some, None, is_some}
 use Rattle.std.specs.Prelude.{unwrap_or}
 use Rattle.tl_beat.specs.declared.beat.Beat.{Beat}
@@ -26,15 +26,15 @@ abbrev pub release_fields : {w : ℕ} → Option (BeatC w) → Option Release
 release_fields None = None
 release_fields (Some x) = Some (record { size = x.size; block = block_at x.address })
 
--- the request with this source, where it is pending
+-- the request with this source, if it is pending
 abbrev pub kept_request : {w : ℕ} → ℕ → History w → Option Request
 kept_request s t = if pending (RequestSource s) t then request_fields (request_of s t) else None
 
--- the Release with this source, where it is pending
+-- the Release with this source, if it is pending
 abbrev pub kept_release : {w : ℕ} → ℕ → History w → Option Release
 kept_release s t = if pending (ReleaseSource s) t then release_fields (release_of s t) else None
 
--- the sink of the last Grant of the block, where its GrantAck is pending
+-- the sink of the last Grant of the block, if its GrantAck is pending
 abbrev pub kept_grant : {w : ℕ} → ℕ → History w → Option ℕ
 kept_grant k t = if pending (GrantAckOf k) t then grant_sink k t else None
 
@@ -42,7 +42,7 @@ abbrev pub probe_kept : {w : ℕ} → Option (BeatB w) → Option PendingProbe
 probe_kept None = None
 probe_kept (Some x) = Some (record { probe = record { opcode = x.opcode; param = x.param }; source = x.source })
 
--- the Probe of the block, where it is pending
+-- the Probe of the block, if it is pending
 abbrev pub kept_probe : {w : ℕ} → ℕ → History w → Option PendingProbe
 kept_probe k t = if pending (ProbeOf k) t then probe_kept (probe_of k t) else None
 
@@ -55,7 +55,7 @@ kept_block l k t = record {
   grant = kept_grant k t;
 }
 
--- a block of which nothing is open or held
+-- a block that has nothing open or held
 abbrev pub empty_block : Block
 empty_block = record {
   held = perm.None;
@@ -100,7 +100,7 @@ held_with l first last came x b =
     if l.early && is_release_ack x.opcode then (if last then unwrap_or came b.held else b.held) else
     if last && is_grant x.opcode then capped x.param else b.held
 
--- the block that a beat bears on, where this came before the end of the message that it answers
+-- the block that a beat bears on, if this came before the end of the message that it answers
 abbrev pub block_next : {w : ℕ} → Liberties → Bool → Bool → Option Perm → Beat w → Block → Block
 block_next l first last came (beat.A x) b = record b {
   held = if l.drops && (first && (is_acquire x.opcode && grows_from_none x.param)) then (if last then perm.None else

@@ -1,4 +1,4 @@
--- What the types of a beat's and a message's fields say.
+-- The facts that the types of a beat's and a message's fields give.
 use Rattle.std.specs.Prelude.{ℕ, List, [], ◌∷◌, ◌≡◌, ◌<◌, ◌^◌, length, IfSome, ⊤}
 use Rattle.tl_beat.specs.declared.beat.Beat.{Beat}
 use Rattle.tl_beat.specs.declared.beat.Beat.TheVariants as beat
@@ -13,11 +13,12 @@ IsTyped {w} (beat.C x) = IfSome x.lanes (λ lanes. length lanes ≡ w)
 IsTyped {w} (beat.D x) = IfSome x.lanes (λ lanes. length lanes ≡ w)
 IsTyped (beat.E x) = ⊤
 
+-- each beat is typed
 abbrev pub AreTyped : {w : ℕ} → List (Beat w) → Type 0
 AreTyped [] = ⊤
 AreTyped (x ∷ beats) = IsTyped x × AreTyped beats
 
--- the payload, which a GrantAck lacks, has 64 bytes
+-- the payload has 64 bytes; a GrantAck has none
 abbrev pub HasBlock : {w : ℕ} → Message w → Type 0
 HasBlock (message.A m) = length m.payload ≡ 64
 HasBlock (message.B m) = length m.payload ≡ 64

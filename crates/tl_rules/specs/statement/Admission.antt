@@ -1,4 +1,4 @@
--- What the two ends of a link share: what was handed out, the A rules, and the data of a message.
+-- The history of one end of a link, the A rules, and the data of a message.
 use Rattle.std.specs.Prelude.{ℕ, Bool, false, List, [], ◌∷◌, ◌++◌, ◌||◌, ◌-◌, length, nat_le, replicate, unwrap_or}
 use Rattle.std.specs.Prelude.{Option, Some, None}
 use Rattle.tl_beat.specs.declared.beat.Beat.{Beat}
@@ -8,19 +8,19 @@ use Rattle.tl_burst.specs.statement.Burst.{burst_of}
 use Rattle.tl_burst.specs.statement.Messages.{History}
 use Rattle.tl_rules.specs.statement.History.{block_at}
 
--- What the two ends of a link share. The history of an agent's end is the beats that it took, and the
--- messages that it handed out, each with all of its beats at that moment.
+-- The history of an agent's end has the beats that it took and the messages that it handed out. A message is there with
+-- all of its beats from the moment at which it was handed out.
 
 -- the history after a message was handed out
 abbrev pub sent : {w : ℕ} → Message w → History w → History w
 sent m t = burst_of m ++ t
 
--- the history after a message was handed out, where one was
+-- the history after a message was handed out, if there was one
 abbrev pub sent_if_any : {w : ℕ} → Option (Message w) → History w → History w
 sent_if_any None t = t
 sent_if_any (Some m) t = sent m t
 
--- ---- what an agent judges of a beat that breaks no L, S or H rule
+-- ---- the A rules: an agent judges by them a beat that breaks no L, S or H rule
 
 -- A1: the address is outside a map of this many blocks
 abbrev pub is_outside : {w : ℕ} → ℕ → Beat w → Bool
@@ -39,7 +39,7 @@ is_spoiled (beat.E x) = false
 
 -- ---- the data of a message, from its beats
 
--- the data lanes of a beat: none where it carries no data
+-- the data lanes of a beat; none if it carries no data
 abbrev pub lanes_of : {w : ℕ} → Beat w → List ℕ
 lanes_of (beat.A x) = unwrap_or x.lanes []
 lanes_of (beat.B x) = unwrap_or x.lanes []
@@ -47,11 +47,11 @@ lanes_of (beat.C x) = unwrap_or x.lanes []
 lanes_of (beat.D x) = unwrap_or x.lanes []
 lanes_of (beat.E x) = []
 
--- the bytes that these beats carry, the newest of which is first
+-- the bytes that these beats carry, for a list with the newest beat first
 unfoldable pub bytes_carried : {w : ℕ} → List (Beat w) → List ℕ
 bytes_carried [] = []
 bytes_carried (x ∷ beats) = bytes_carried beats ++ lanes_of x
 
--- the payload of the message that has these beats
+-- the payload of the message with these beats: their bytes, then zeros up to 64
 abbrev pub payload_of : {w : ℕ} → List (Beat w) → List ℕ
 payload_of beats = bytes_carried beats ++ replicate (64 - length (bytes_carried beats)) 0

@@ -1,5 +1,5 @@
--- The order of messages on a link: the H rules, which judge a message at its first beat against the
--- history of its link, and all rules together over a link and over a recorded trace.
+-- The order of messages on a link. The H rules judge the first beat of a message against the history of its link. Then
+-- all rules together, over a link and over a recorded trace.
 use Rattle.std.specs.Prelude.{ℕ, Bool, true, false, not, List, [], ◌∷◌, ◌==◌, ◌&&◌, ◌||◌, if◌then◌else◌, length, Option}
 use Rattle.std.specs.Prelude.{Some, None, is_none, slice_get}
 use Rattle.tl_beat.specs.declared.beat.Beat.{Beat}
@@ -48,7 +48,7 @@ same_perm _ _ = false
 
 -- ---- answers to requests
 
--- may a request of this opcode be answered so?
+-- a response with this opcode may answer a request with that one
 abbrev pub answers : OpD → OpA → Bool
 answers d.AccessAck a.PutFullData = true
 answers d.AccessAck a.PutPartialData = true
@@ -61,29 +61,27 @@ answers d.GrantData a.AcquireBlock = true
 answers d.Grant a.AcquirePerm = true
 answers _ _ = false
 
--- the unfinished burst, of channel A, C or D, is a request with this source, a Release with it, or a
--- Grant with this sink, whose message so isn't complete
+-- the unfinished burst is of a request with this source, so that request isn't complete
 abbrev pub comes_in_request : {w : ℕ} → ℕ → List (Beat w) → Bool
 comes_in_request s (beat.A x ∷ burst) = x.source == s
 comes_in_request s _ = false
 
--- the unfinished burst of channel C is of a Release with this source
+-- the unfinished burst is of a Release with this source
 abbrev pub comes_in_release : {w : ℕ} → ℕ → List (Beat w) → Bool
 comes_in_release s (beat.C x ∷ burst) = is_release x.opcode && (x.source == s)
 comes_in_release s _ = false
 
--- the unfinished burst of channel D is of a Grant with this sink
+-- the unfinished burst is of a Grant with this sink
 abbrev pub comes_in_grant : {w : ℕ} → ℕ → List (Beat w) → Bool
 comes_in_grant s (beat.D x ∷ burst) = is_grant x.opcode && (x.sink == s)
 comes_in_grant s _ = false
 
--- the request, if there is one, may be answered so
+-- there is a request, and a response with this opcode may answer it
 abbrev pub admits : {w : ℕ} → OpD → Option (BeatA w) → Bool
 admits answer None = false
 admits answer (Some x) = answers answer x.opcode
 
--- a complete request with the source of x is pending that may be answered by x, for a ReleaseAck a
--- complete Release
+-- x answers a complete pending request with its source, or as a ReleaseAck a complete pending Release
 abbrev pub has_request : {w : ℕ} → BeatD w → History w → Bool
 has_request x t =
     if is_release_ack x.opcode
@@ -91,29 +89,29 @@ has_request x t =
     else pending (RequestSource x.source) t && (not (comes_in_request x.source (unfinished channel.A t)) && admits
     x.opcode (request_of x.source t))
 
--- the size of a request that is pending
+-- the size of a request, 0 if there is none
 abbrev pub size_of_request : {w : ℕ} → Option (BeatA w) → ℕ
 size_of_request None = 0
 size_of_request (Some x) = x.size
 
--- the size of a Release that is pending
+-- the size of a Release, 0 if there is none
 abbrev pub size_of_release : {w : ℕ} → Option (BeatC w) → ℕ
 size_of_release None = 0
 size_of_release (Some x) = x.size
 
--- the size of the request that x answers
+-- the size of the request or Release that x answers
 abbrev pub size_asked : {w : ℕ} → BeatD w → History w → ℕ
 size_asked x t = if is_release_ack x.opcode then size_of_release (release_of x.source t) else size_of_request
     (request_of x.source t)
 
 -- ---- permissions
 
--- BtoT grows from all but Trunk, NtoB and NtoT grow from nothing held
+-- the grow fits the permission held: BtoT grows from None and Branch, NtoB and NtoT from None
 abbrev pub grows_from : ℕ → Perm → Bool
 grows_from param p = if param == grow_code grow.BtoT then not (same_perm p perm.Trunk) else same_perm p perm.None
 
--- the cap answers the grow: toB for NtoB, otherwise toT; under the second profile an AcquireBlock
--- NtoB may have toT as well
+-- the cap answers the grow: toB answers NtoB, toT the others. Under the second profile toT may also answer an
+-- AcquireBlock NtoB.
 abbrev pub fits_grow : Profile → OpA → ℕ → ℕ → Bool
 fits_grow profile.Two a.AcquireBlock param given =
     if param == grow_code grow.NtoB
@@ -122,7 +120,7 @@ fits_grow profile.Two a.AcquireBlock param given =
 fits_grow _ opcode param given = if param == grow_code grow.NtoB then given == cap_code cap.ToB else given == cap_code
     cap.ToT
 
--- the opcode is Grant, which gives a permission without data
+-- the opcode is Grant, which carries no data
 abbrev pub is_grant_without_data : OpD → Bool
 is_grant_without_data d.Grant = true
 is_grant_without_data _ = false
@@ -132,8 +130,8 @@ abbrev pub is_acquire_block : OpA → Bool
 is_acquire_block a.AcquireBlock = true
 is_acquire_block _ = false
 
--- the Grant x isn't one for the request that it answers: its cap, or no data for a client that has
--- no copy, or a Probe of the block is pending
+-- the Grant x doesn't fit its request r: its cap doesn't answer the grow, or it has no data for an AcquireBlock and
+-- Branch isn't held, or a Probe of the block is pending
 abbrev pub misgrants : {w : ℕ} → Profile → BeatD w → Option (BeatA w) → History w → Bool
 misgrants p x None t = false
 misgrants p x (Some r) t =
@@ -142,22 +140,22 @@ misgrants p x (Some r) t =
     x.opcode && (is_acquire_block r.opcode && not (same_perm (held (block_at r.address) t) perm.Branch)))
     || pending (ProbeOf (block_at r.address)) t)
 
--- the opcode is ProbeBlock, which wants the data of a dirty copy
+-- the opcode is ProbeBlock, which asks for the data of a dirty copy
 abbrev pub is_probe_block : OpB → Bool
 is_probe_block b.ProbeBlock = true
 is_probe_block _ = false
 
--- ProbeAckData answers a ProbePerm
+-- x carries data, and its Probe is a ProbePerm
 abbrev pub answers_wrong_probe : {w : ℕ} → BeatC w → Option (BeatB w) → Bool
 answers_wrong_probe x None = false
 answers_wrong_probe x (Some probe) = c_carries_data x.opcode && not (is_probe_block probe.opcode)
 
--- the param is the report that follows from the Probe's cap and the permission held
+-- the param is the report of this cap and the permission held
 abbrev pub is_report_at : ℕ → Option Cap → Perm → Bool
 is_report_at param None p = false
 is_report_at param (Some cap) p = param == report_code (report_at cap p)
 
--- the param isn't the report of the Probe's cap and of what is held
+-- the param isn't the report of the Probe's cap and the permission held
 abbrev pub misreports : {w : ℕ} → BeatC w → Option (BeatB w) → Perm → Bool
 misreports x None p = false
 misreports x (Some probe) p = not (is_report_at x.param (cap_of probe.param) p)
@@ -167,11 +165,10 @@ abbrev pub prunes_from : Option Prune → Perm → Bool
 prunes_from None p = false
 prunes_from (Some prune) p = same_perm (prune_left prune) p
 
--- ---- the order of messages: the first H rule that a message beginning with this beat breaks
+-- ---- the order of messages: the first H rule that a message breaks at its first beat
 
--- the first of H1, H4 and H5 that a message on channel A breaks: its source isn't free; an Acquire
--- of a block on which an Acquire or Release is pending; a grow that doesn't start from the
--- permission held
+-- The first of H1, H4 and H5 that a message on A breaks. H1: its source is pending. H4: an Acquire or a Release of the
+-- block of an Acquire is pending. H5: the grow of an Acquire doesn't fit the permission held.
 abbrev pub broken_a : {w : ℕ} → BeatA w → History w → Option Rule
 broken_a x t =
     first_if (pending (RequestSource x.source) t) H1
@@ -179,14 +176,14 @@ broken_a x t =
     (ReleaseOf (block_at x.address)) t)) H4
     (first_if (is_acquire x.opcode && not (grows_from x.param (held (block_at x.address) t))) H5 None))
 
--- H9: a Probe of a block of which a Probe or a GrantAck is pending
+-- H9: a Probe or a GrantAck of the Probe's block is pending
 abbrev pub broken_b : {w : ℕ} → BeatB w → History w → Option Rule
 broken_b x t =
     first_if (is_probe x.opcode && (pending (ProbeOf (block_at x.address)) t || pending
     (GrantAckOf (block_at x.address)) t)) H9 None
 
--- the first of H1 and H13 that a Release breaks: its source isn't free; an Acquire or Release of
--- its block is pending, or the prune doesn't start from the permission held
+-- The first of H1 and H13 that a Release breaks. H1: its source is pending. H13: an Acquire or a Release of its block
+-- is pending, or the prune doesn't start from the permission held.
 abbrev pub broken_release : {w : ℕ} → BeatC w → History w → Option Rule
 broken_release x t =
     first_if (pending (ReleaseSource x.source) t) H1
@@ -194,8 +191,8 @@ broken_release x t =
     || (pending (ReleaseOf (block_at x.address)) t || not
     (prunes_from (prune_of x.param) (held (block_at x.address) t)))) H13 None)
 
--- the first of H10, H11 and H12 that a ProbeAck breaks: it answers no Probe of the block that is
--- pending; a Release of the block is pending; its report doesn't follow from cap and permission
+-- The first of H10, H11 and H12 that a ProbeAck breaks. H10: no Probe of the block is pending, or data answer a
+-- ProbePerm. H11: a Release of the block is pending. H12: the param isn't the report of cap and permission.
 abbrev pub broken_probe_ack : {w : ℕ} → BeatC w → History w → Option Rule
 broken_probe_ack x t =
     first_if (not (pending (ProbeOf (block_at x.address)) t) || answers_wrong_probe x (probe_of (block_at x.address) t))
@@ -203,14 +200,14 @@ broken_probe_ack x t =
     (first_if (pending (ReleaseOf (block_at x.address)) t) H11
     (first_if (misreports x (probe_of (block_at x.address) t) (held (block_at x.address) t)) H12 None))
 
--- the first rule of the order of messages that a message on channel C breaks
+-- the first H rule that a message on C breaks
 abbrev pub broken_c : {w : ℕ} → BeatC w → History w → Option Rule
 broken_c x t =
     if is_release x.opcode then broken_release x t else
     if is_probe_ack x.opcode then broken_probe_ack x t else None
 
--- the first of H2, H3, H6 and H7 that a response breaks: it answers no request that is pending; its
--- size isn't the request's; it grants what isn't due; its sink isn't free
+-- The first of H2, H3, H6 and H7 that a response breaks. H2: it answers no complete pending request. H3: its size isn't
+-- the request's. H6: the Grant doesn't fit its request. H7: its sink is pending.
 abbrev pub broken_d : {w : ℕ} → Profile → BeatD w → History w → Option Rule
 broken_d p x t =
     first_if (not (has_request x t)) H2
@@ -218,11 +215,11 @@ broken_d p x t =
     (first_if (is_grant x.opcode && misgrants p x (request_of x.source t) t) H6
     (first_if (is_grant x.opcode && pending (GrantSink x.sink) t) H7 None)))
 
--- H8: a GrantAck whose sink is that of no Grant that is complete and pending
+-- H8: no complete Grant with the sink of the GrantAck is pending
 abbrev pub broken_e : {w : ℕ} → BeatE → History w → Option Rule
 broken_e x t = first_if (not (pending (GrantSink x.sink) t) || comes_in_grant x.sink (unfinished channel.D t)) H8 None
 
--- the first rule of the order of messages that a message breaks after this history of its link
+-- the first H rule that a message breaks at its first beat, after this history of its link
 unfoldable pub broken_order : {w : ℕ} → Profile → Beat w → History w → Option Rule
 broken_order p (beat.A x) t = broken_a x t
 broken_order p (beat.B x) t = broken_b x t
@@ -232,13 +229,13 @@ broken_order p (beat.E x) t = broken_e x t
 
 -- ---- legality of a beat after a history
 
--- the S or H rule that a beat which breaks no L rule breaks after t
+-- the S or H rule that a beat breaks after t, for a beat that breaks no L rule
 abbrev pub broken_in_order : {w : ℕ} → Profile → Beat w → History w → Option Rule
 broken_in_order p x t =
     if begins x t then broken_order p x t
     else first_if (breaks_burst x (unfinished (channel_of x) t)) S1 None
 
--- the first rule that the beat breaks after t, given the L rule that it breaks by itself
+-- the first rule that the beat breaks after t, given the L rule that it breaks by itself, if any
 abbrev pub broken_given : {w : ℕ} → Profile → Option Rule → Beat w → History w → Option Rule
 broken_given p (Some r) x t = Some r
 broken_given p None x t = broken_in_order p x t
@@ -247,41 +244,38 @@ broken_given p None x t = broken_in_order p x t
 unfoldable pub broken_after : {w : ℕ} → Level → Profile → Beat w → History w → Option Rule
 broken_after l p x t = broken_given p (illegal l (channel_of x) x) x t
 
--- each beat breaks no rule after those before it
+-- no beat breaks a rule after the beats before it
 unfoldable pub is_legal : {w : ℕ} → Level → Profile → History w → Bool
 is_legal l p [] = true
 is_legal l p (x ∷ t) = is_none (broken_after l p x t) && is_legal l p t
 
 -- ---- traces over links
 
--- what was recorded: beats with their links
+-- a recorded trace: beats, each with its link
 abbrev pub Trace : ℕ → Type 0
 Trace w = List (Link × Beat w)
 
--- the beats of a link, the newest first where they are so in the trace
+-- the beats of link n, in the order of the trace
 unfoldable pub on_link : {w : ℕ} → ℕ → Trace w → History w
 on_link n [] = []
 on_link n (x ∷ t) = if x.0.0 == n then x.1 ∷ on_link n t else on_link n t
 
--- the first rule that a beat breaks after this history of its link; a link without a level has no
--- beats
+-- the first rule that a beat breaks after this history of its link; L1 if the link has no level
 abbrev pub broken_at_level : {w : ℕ} → Option Level → Profile → Beat w → History w → Option Rule
 broken_at_level None p x t = Some L1
 broken_at_level (Some l) p x t = broken_after l p x t
 
--- the first rule that a beat of a link breaks after the beats that were recorded before it, the
--- newest of which is first
+-- the first rule that a beat of a link breaks after the trace t, which has its newest beat first
 abbrev pub broken_on_link : {w : ℕ} → List Level → Profile → Link × Beat w → Trace w → Option Rule
 broken_on_link levels p x t = broken_at_level (slice_get levels x.0.0) p x.1 (on_link x.0.0 t)
 
--- this fault at place i, where there is one, or the first of the rest
+-- this fault at place i, if it is one, otherwise the first of the rest
 abbrev pub fault_or : Option Rule → ℕ → Option (ℕ × Rule) → Option (ℕ × Rule)
 fault_or None i rest = rest
 fault_or (Some rule) i rest = Some (i, rule)
 
--- The least place, and its rule, of a beat of the trace that breaks a rule after the earlier beats
--- of its own link: `before` has the beats so far, the newest first, and the trace those to come, the
--- next first.
+-- The first beat of the trace that breaks a rule after the earlier beats of its own link: its place and the rule.
+-- `before` has the earlier beats, the newest first. The trace has the later ones, the next first.
 unfoldable pub fault_from : {w : ℕ} → List Level → Profile → Trace w → Trace w → Option (ℕ × Rule)
 fault_from levels p before [] = None
 fault_from levels p before (x ∷ trace) =

@@ -1,4 +1,5 @@
--- What the history of a link says: what began and is complete, what is pending, and what is held.
+-- The history of a link: the messages that began and are complete, the pending keys, and the permission that the client
+-- holds.
 use Rattle.std.specs.Prelude.{ℕ, Bool, true, false, not, [], ◌∷◌, ◌==◌, ◌&&◌, ◌||◌, ◌/◌, if◌then◌else◌, Option, Some}
 use Rattle.std.specs.Prelude.{None, unwrap_or, option_map}
 use Rattle.tl_beat.specs.declared.beat.Beat.{Beat}
@@ -24,8 +25,8 @@ use Rattle.tl_params.specs.declared.perm.Perm.{Perm}
 use Rattle.tl_params.specs.declared.perm.Perm.TheVariants as perm
 use Rattle.tl_params.specs.statement.Param.{cap_of, cap_right, report_named, report_right}
 
--- Histories of one end of one link: lists of beats, the newest first. A message has begun at its
--- first beat and is complete at its last.
+-- A history is that of one end of one link: a list of its beats, the newest first. A message begins at its first beat
+-- and is complete at its last.
 
 -- the beat begins a message after t
 abbrev pub begins : {w : ℕ} → Beat w → History w → Bool
@@ -41,13 +42,13 @@ ends x t = completes x (unfinished (channel_of x) t)
 abbrev pub block_at : ℕ → ℕ
 block_at address = address / 64
 
--- a request for a permission
+-- an Acquire asks for a permission
 abbrev pub is_acquire : OpA → Bool
 is_acquire a.AcquireBlock = true
 is_acquire a.AcquirePerm = true
 is_acquire _ = false
 
--- a request of the manager that a client give up a permission
+-- a Probe asks a client to give up a permission
 abbrev pub is_probe : OpB → Bool
 is_probe b.ProbeBlock = true
 is_probe b.ProbePerm = true
@@ -59,7 +60,7 @@ is_probe_ack c.ProbeAck = true
 is_probe_ack c.ProbeAckData = true
 is_probe_ack _ = false
 
--- a client gives up a permission unasked
+-- a Release gives up a permission without a Probe
 abbrev pub is_release : OpC → Bool
 is_release c.Release = true
 is_release c.ReleaseData = true
@@ -76,7 +77,7 @@ abbrev pub is_release_ack : OpD → Bool
 is_release_ack d.ReleaseAck = true
 is_release_ack _ = false
 
--- ---- the message that another one names
+-- ---- the message that another message refers to
 
 -- the last request of channel A that began in t with this source
 unfoldable pub request_of : {w : ℕ} → ℕ → History w → Option (BeatA w)
@@ -98,17 +99,17 @@ probe_of k (beat.B x ∷ t) = if begins (beat.B x) t && (is_probe x.opcode && (b
     probe_of k t
 probe_of k (_ ∷ t) = probe_of k t
 
--- the request, where there is one, is for an address of this block
+-- there is a request, and its address is in this block
 abbrev pub asks_for : {w : ℕ} → ℕ → Option (BeatA w) → Bool
 asks_for k None = false
 asks_for k (Some x) = block_at x.address == k
 
--- the Release, where there is one, is of this block
+-- there is a Release, and it is of this block
 abbrev pub releases : {w : ℕ} → ℕ → Option (BeatC w) → Bool
 releases k None = false
 releases k (Some x) = block_at x.address == k
 
--- the message is a Grant of the block, which is that of its request
+-- x is a Grant, and its request is for this block
 abbrev pub grants : {w : ℕ} → ℕ → BeatD w → History w → Bool
 grants k x t = is_grant x.opcode && asks_for k (request_of x.source t)
 
@@ -118,12 +119,12 @@ grant_sink k [] = None
 grant_sink k (beat.D x ∷ t) = if begins (beat.D x) t && grants k x t then Some x.sink else grant_sink k t
 grant_sink k (_ ∷ t) = grant_sink k t
 
--- the sink, where there is one, is this one
+-- there is a sink, and it is this one
 abbrev pub is_sink : ℕ → Option ℕ → Bool
 is_sink s None = false
 is_sink s (Some n) = n == s
 
--- ---- what is pending
+-- ---- pending keys
 
 -- a message that begins with this beat after t opens the key
 abbrev pub opens : {w : ℕ} → Key → Beat w → History w → Bool
@@ -136,7 +137,7 @@ opens (GrantAckOf k) (beat.D x) t = grants k x t
 opens (ProbeOf k) (beat.B x) t = is_probe x.opcode && (block_at x.address == k)
 opens _ _ t = false
 
--- a message that is complete with this beat after t closes the key
+-- a message that this beat completes after t closes the key
 abbrev pub closes : {w : ℕ} → Key → Beat w → History w → Bool
 closes (RequestSource s) (beat.D x) t = not (is_release_ack x.opcode) && (x.source == s)
 closes (ReleaseSource s) (beat.D x) t = is_release_ack x.opcode && (x.source == s)
@@ -147,31 +148,31 @@ closes (GrantAckOf k) (beat.E x) t = is_sink x.sink (grant_sink k t)
 closes (ProbeOf k) (beat.C x) t = is_probe_ack x.opcode && (block_at x.address == k)
 closes _ _ t = false
 
--- of all openings and closings of the key in t, the last is an opening
+-- the key is open after t: the last beat that opened or closed it opened it
 unfoldable pub pending : {w : ℕ} → Key → History w → Bool
 pending k [] = false
 pending k (x ∷ t) =
     if begins x t && opens k x t then true else
     if ends x t && closes k x t then false else pending k t
 
--- ---- what is held
+-- ---- the permission held
 
--- what a prune or report leaves
+-- the permission that a prune or report leaves; None if the param is no report
 abbrev pub reported : ℕ → Perm
 reported param = unwrap_or (option_map report_right (report_named param)) perm.None
 
--- what a cap gives
+-- the permission that a cap gives; None if the param is no cap
 abbrev pub capped : ℕ → Perm
 capped param = unwrap_or (option_map cap_right (cap_of param)) perm.None
 
--- a message that is complete with this beat after t says so of the block
+-- the permission of the block that this beat sets after t, if it completes a message that sets one
 abbrev pub says_held : {w : ℕ} → ℕ → Beat w → History w → Option Perm
 says_held k (beat.C x) t = if (is_probe_ack x.opcode || is_release x.opcode) && (block_at x.address == k) then Some
     (reported x.param) else None
 says_held k (beat.D x) t = if grants k x t then Some (capped x.param) else None
 says_held k _ t = None
 
--- what the last complete Grant, ProbeAck or Release of the block leaves of it
+-- the permission held of the block: the one that its last complete Grant, ProbeAck or Release left
 unfoldable pub held : {w : ℕ} → ℕ → History w → Perm
 held k [] = perm.None
 held k (x ∷ t) = if ends x t then unwrap_or (says_held k x t) (held k t) else held k t

@@ -1,4 +1,4 @@
--- Legality: the L rules, which judge a beat by the level of its link and its channel alone.
+-- Legality: the L rules judge a beat by the level of its link and by its channel alone.
 use Rattle.std.specs.Prelude.{ℕ, zero, suc, Bool, true, false, not, List, [], ◌∷◌, ◌==◌, ◌&&◌, ◌||◌, ◌+◌, ◌%◌, ◌^◌}
 use Rattle.std.specs.Prelude.{nat_lt, nat_le, if◌then◌else◌, Option, None, is_some}
 use Rattle.std.specs.Bool.{beq}
@@ -30,12 +30,12 @@ use Rattle.tl_params.specs.statement.Param.{arithmetic_of, logical_of, intent_of
 
 -- ---- L1: the opcodes of a level
 
--- the number stands in the list
+-- the number is in the list
 abbrev pub is_one_of : ℕ → List ℕ → Bool
 is_one_of n [] = false
 is_one_of n (k ∷ ks) = (n == k) || is_one_of n ks
 
--- TL-UL has Get and the Puts, TL-UH the atomics and Intent as well, TL-C the Acquires as well
+-- TL-UL has Get and the Puts. TL-UH has the atomics and Intent too, TL-C also the Acquires.
 abbrev pub a_of_level : Level → OpA → Bool
 a_of_level level.UL a.Get = true
 a_of_level level.UL a.PutFullData = true
@@ -46,7 +46,7 @@ a_of_level level.UH a.AcquirePerm = false
 a_of_level level.UH _ = true
 a_of_level level.C _ = true
 
--- and their answers
+-- the answers to these, and at TL-C the ReleaseAck
 abbrev pub d_of_level : Level → OpD → Bool
 d_of_level level.UL d.AccessAck = true
 d_of_level level.UL d.AccessAckData = true
@@ -87,7 +87,7 @@ answers_forwarded c.AccessAckData = true
 answers_forwarded c.HintAck = true
 answers_forwarded _ = false
 
--- L7: a forwarded access or the answer to one, which this profile leaves out
+-- L7: a forwarded access, or the answer to one
 abbrev pub breaks_l7 : {w : ℕ} → Beat w → Bool
 breaks_l7 (beat.B x) = is_forwarded x.opcode
 breaks_l7 (beat.C x) = answers_forwarded x.opcode
@@ -95,7 +95,7 @@ breaks_l7 _ = false
 
 -- ---- L2: params, and the sources and sinks that are fixed
 
--- the standard's params of an opcode on channel A
+-- the params of an opcode on channel A
 abbrev pub a_has_param : OpA → ℕ → Bool
 a_has_param a.PutFullData param = param == 0
 a_has_param a.PutPartialData param = param == 0
@@ -106,8 +106,8 @@ a_has_param a.Intent param = is_some (intent_of param)
 a_has_param a.AcquireBlock param = is_some (grow_of param)
 a_has_param a.AcquirePerm param = is_some (grow_of param)
 
--- the params of an opcode on channel C: a ProbeAck reports, a Release prunes, and data come only
--- from Trunk
+-- the params of an opcode on channel C: a ProbeAck has a report, a Release a prune, and those with data start from
+-- Trunk
 abbrev pub c_has_param : OpC → ℕ → Bool
 c_has_param c.ProbeAck param = is_some (report_named param)
 c_has_param c.ProbeAckData param =
@@ -116,25 +116,25 @@ c_has_param c.Release param = is_some (prune_of param)
 c_has_param c.ReleaseData param = is_one_of param (prune_code prune.TtoB ∷ prune_code prune.TtoN ∷ [])
 c_has_param _ param = param == 0
 
--- the params of an opcode on channel D: a Grant has a cap, the others 0
+-- the params of an opcode on channel D: a Grant has a cap, the others have 0
 abbrev pub d_has_param : OpD → ℕ → Bool
 d_has_param d.Grant param = is_some (cap_of param)
 d_has_param d.GrantData param = is_some (cap_of param)
 d_has_param _ param = param == 0
 
--- a ProbeAck has source 0, as its Probe has
+-- a ProbeAck has source 0, as its Probe does
 abbrev pub c_has_source : OpC → ℕ → Bool
 c_has_source c.ProbeAck source = source == 0
 c_has_source c.ProbeAckData source = source == 0
 c_has_source _ source = true
 
--- a Grant names a sink of the manager's, the others have 0
+-- a Grant has any sink, the others have 0
 abbrev pub d_has_sink : OpD → ℕ → Bool
 d_has_sink d.Grant sink = true
 d_has_sink d.GrantData sink = true
 d_has_sink _ sink = sink == 0
 
--- L2: a param, source or sink that the opcode doesn't have
+-- L2: the opcode doesn't have this param, source or sink
 abbrev pub breaks_l2 : {w : ℕ} → Beat w → Bool
 breaks_l2 (beat.A x) = not (a_has_param x.opcode x.param)
 breaks_l2 (beat.B x) = not (is_some (cap_of x.param) && (x.source == 0))
@@ -142,8 +142,8 @@ breaks_l2 (beat.C x) = not (c_has_param x.opcode x.param && c_has_source x.opcod
 breaks_l2 (beat.D x) = not (d_has_param x.opcode x.param && d_has_sink x.opcode x.sink)
 breaks_l2 (beat.E x) = false
 
--- ---- L3: sizes. An access has at most a beat's bytes at UL and at most a block's above it; a
--- transfer has a block
+-- ---- L3: sizes. An access has at most the bytes of a beat at UL, and at most those of a block at UH and C. A transfer
+-- has a block.
 
 -- the sizes of an access at a level: at UL those within a beat, at UH and C those within a block
 abbrev pub access_has_size : ℕ → Level → ℕ → Bool
@@ -166,7 +166,7 @@ d_has_size w l d.GrantData size = size == 6
 d_has_size w l d.ReleaseAck size = size == 6
 d_has_size w l _ size = access_has_size w l size
 
--- L3: a size that the opcode doesn't have at the level
+-- L3: the opcode doesn't have this size at the level
 abbrev pub breaks_l3 : {w : ℕ} → Level → Beat w → Bool
 breaks_l3 {w} l (beat.A x) = not (a_has_size w l x.opcode x.size)
 breaks_l3 l (beat.B x) = not (x.size == 6)
@@ -180,7 +180,7 @@ breaks_l3 l (beat.E x) = false
 abbrev pub is_aligned : ℕ → ℕ → Bool
 is_aligned address size = address % 2 ^ size == 0
 
--- L4: an address that isn't aligned to the size
+-- L4: the address isn't aligned to the size
 abbrev pub breaks_l4 : {w : ℕ} → Beat w → Bool
 breaks_l4 (beat.A x) = not (is_aligned x.address x.size)
 breaks_l4 (beat.B x) = not (is_aligned x.address x.size)
@@ -189,33 +189,32 @@ breaks_l4 _ = false
 
 -- ---- L5: masks
 
--- the lane carries a byte of the message: each lane where the message has at least as many bytes as
--- a beat, and otherwise the lanes of its addresses
+-- The lane carries a byte of the message. A message with at least the bytes of a beat has all lanes, a smaller one
+-- those of its addresses.
 abbrev pub is_lane : ℕ → ℕ → ℕ → ℕ → Bool
 is_lane w size address lane =
     if nat_le w (2 ^ size) then nat_lt lane w
     else nat_le (address % w) lane && nat_lt lane (address % w + 2 ^ size)
 
--- the test holds of each number below n
+-- the test is true of each number below n
 unfoldable pub each_below : ℕ → (ℕ → Bool) → Bool
 each_below zero test = true
 each_below (suc n) test = test n && each_below n test
 
--- of the 16 bits of the mask, those of the lanes are set and no others
+-- each of the 16 bits of the mask is set exactly if its lane carries a byte
 abbrev pub is_full_mask : ℕ → ℕ → ℕ → ℕ → Bool
 is_full_mask w size address mask = each_below 16 (λ lane. beq (bit mask lane) (is_lane w size address lane))
 
--- of the 16 bits of the mask, none but those of the lanes is set
+-- each bit that is set, of the 16 bits of the mask, is that of a lane that carries a byte
 abbrev pub is_part_mask : ℕ → ℕ → ℕ → ℕ → Bool
 is_part_mask w size address mask = each_below 16 (λ lane. not (bit mask lane) || is_lane w size address lane)
 
--- the masks of an opcode on channel A: PutPartialData may leave lanes out, the others name all that
--- the size covers
+-- the masks of an opcode on channel A: PutPartialData may leave lanes out, the others have all lanes
 abbrev pub a_has_mask : ℕ → OpA → ℕ → ℕ → ℕ → Bool
 a_has_mask w a.PutPartialData size address mask = is_part_mask w size address mask
 a_has_mask w _ size address mask = is_full_mask w size address mask
 
--- L5: a mask that doesn't fit size and address
+-- L5: the mask doesn't fit size and address
 abbrev pub breaks_l5 : {w : ℕ} → Beat w → Bool
 breaks_l5 {w} (beat.A x) = not (a_has_mask w x.opcode x.size x.address x.mask)
 breaks_l5 {w} (beat.B x) = not (is_full_mask w x.size x.address x.mask)
@@ -223,14 +222,14 @@ breaks_l5 _ = false
 
 -- ---- L6: corrupt and denied
 
--- an answer to an access may be denied, and is corrupt then where it carries data
+-- an answer to an access may be denied; with data it must be corrupt then
 abbrev pub may_be_denied : OpD → Bool → Bool
 may_be_denied d.AccessAck corrupt = true
 may_be_denied d.AccessAckData corrupt = corrupt
 may_be_denied d.HintAck corrupt = true
 may_be_denied _ corrupt = false
 
--- L6: corrupt where no data are carried, or denied where the opcode can't be denied
+-- L6: corrupt without data, or denied on an opcode that may not be denied
 abbrev pub breaks_l6 : {w : ℕ} → Beat w → Bool
 breaks_l6 (beat.A x) = x.corrupt && not (a_carries_data x.opcode)
 breaks_l6 (beat.B x) = x.corrupt && not (b_carries_data x.opcode)
@@ -241,7 +240,7 @@ breaks_l6 (beat.E x) = false
 
 -- ---- the first rule
 
--- the first L rule that the beat breaks, in the order in which they are judged
+-- the first L rule that the beat breaks, in the order L1, L7, L2, L3, L4, L5, L6
 unfoldable pub illegal : {w : ℕ} → Level → Channel → Beat w → Option Rule
 illegal l ch x =
     first_if (breaks_l1 l ch x) L1
@@ -252,7 +251,7 @@ illegal l ch x =
     (first_if (breaks_l5 x) L5
     (first_if (breaks_l6 x) L6 None))))))
 
--- the rule of the first of these beats that breaks one
+-- the first L rule that one of these beats breaks, in the order of the beats
 unfoldable pub first_illegal : {w : ℕ} → Level → Channel → List (Beat w) → Option Rule
 first_illegal l ch [] = None
 first_illegal l ch (x ∷ xs) = option_or (illegal l ch x) (first_illegal l ch xs)
@@ -262,6 +261,6 @@ unfoldable pub beats_from : {w : ℕ} → Message w → ℕ → ℕ → List (Be
 beats_from m i zero = []
 beats_from m i (suc n) = beat_of m i ∷ beats_from m (i + 1) n
 
--- the rule of the first of the message's beats that breaks one
+-- the first L rule that a beat of the message breaks, in the order of its beats
 abbrev pub illegal_message : {w : ℕ} → Level → Channel → Message w → Option Rule
 illegal_message l ch m = first_illegal l ch (beats_from m 0 (beats_of m))

@@ -1,5 +1,5 @@
--- The rules of a link under liberties: what each liberty changes of legality, of what is held, and of
--- the order of messages. Without liberties each definition here is the one of its name without `_under`.
+-- The rules of a link under liberties: their changes to legality, to the permission held and to the order of messages.
+-- Without liberties a definition here equals the one of its name without `_under`.
 use Rattle.std.specs.Prelude.{ℕ, Bool, true, false, not, List, [], ◌∷◌, ◌==◌, ◌&&◌, ◌||◌, if◌then◌else◌, length, Option}
 use Rattle.std.specs.Prelude.{Some, None, is_none, is_some, slice_get, unwrap_or}
 use Rattle.tl_beat.specs.declared.beat.Beat.{Beat}
@@ -49,14 +49,14 @@ use Rattle.tl_rules.specs.statement.Legality.{may_be_denied}
 
 -- ---- legality: L2 and L6
 
--- `reports`: a Release may have each of the six reports, a ReleaseData those from Trunk
+-- `reports`: a Release may have any of the six reports, a ReleaseData those from Trunk
 abbrev pub c_has_param_under : Liberties → OpC → ℕ → Bool
 c_has_param_under l c.Release param = if l.reports then is_some (report_named param) else c_has_param c.Release param
 c_has_param_under l c.ReleaseData param =
     (l.reports && (param == report_code report.TtoT)) || c_has_param c.ReleaseData param
 c_has_param_under l opcode param = c_has_param opcode param
 
--- `ids`: any source on channel B, and on ProbeAcks; `sinks`: any sink on channel D
+-- `ids` allows any source on B, ProbeAck and ProbeAckData; `sinks` allows any sink on D
 abbrev pub breaks_l2_under : {w : ℕ} → Liberties → Beat w → Bool
 breaks_l2_under l (beat.A x) = breaks_l2 (beat.A x)
 breaks_l2_under l (beat.B x) = not (is_some (cap_of x.param) && (l.ids || (x.source == 0)))
@@ -64,14 +64,15 @@ breaks_l2_under l (beat.C x) = not (c_has_param_under l x.opcode x.param && (l.i
 breaks_l2_under l (beat.D x) = not (d_has_param x.opcode x.param && (l.sinks || d_has_sink x.opcode x.sink))
 breaks_l2_under l (beat.E x) = false
 
--- `denied`: a Grant may be denied, and is corrupt then where it carries data; `uncorrupt`: a denied
--- AccessAckData needn't be corrupt
+-- `denied`: a Grant may be denied; with data it must be corrupt then. `uncorrupt`: a denied AccessAckData needn't be
+-- corrupt.
 abbrev pub may_be_denied_under : Liberties → OpD → Bool → Bool
 may_be_denied_under l d.AccessAckData corrupt = l.uncorrupt || corrupt
 may_be_denied_under l d.Grant corrupt = l.denied
 may_be_denied_under l d.GrantData corrupt = l.denied && corrupt
 may_be_denied_under l opcode corrupt = may_be_denied opcode corrupt
 
+-- L6: corrupt without data, or denied on an opcode that may not be denied
 abbrev pub breaks_l6_under : {w : ℕ} → Liberties → Beat w → Bool
 breaks_l6_under l (beat.A x) = breaks_l6 (beat.A x)
 breaks_l6_under l (beat.B x) = breaks_l6 (beat.B x)
@@ -80,7 +81,7 @@ breaks_l6_under l (beat.D x) = (x.corrupt && not (d_carries_data x.opcode))
     || (x.denied && not (may_be_denied_under l x.opcode x.corrupt))
 breaks_l6_under l (beat.E x) = false
 
--- the first L rule that the beat breaks, in the order in which they are judged
+-- the first L rule that the beat breaks, in the order L1, L7, L2, L3, L4, L5, L6
 unfoldable pub illegal_under : {w : ℕ} → Liberties → Level → Channel → Beat w → Option Rule
 illegal_under l level ch x =
     first_if (breaks_l1 level ch x) L1
@@ -91,37 +92,36 @@ illegal_under l level ch x =
     (first_if (breaks_l5 x) L5
     (first_if (breaks_l6_under l x) L6 None))))))
 
--- ---- what is held
+-- ---- the permission held
 
--- an Acquire that grows from nothing held: NtoB or NtoT
+-- the grow is NtoB or NtoT
 abbrev pub grows_from_none : ℕ → Bool
 grows_from_none param = not (param == grow_code grow.BtoT)
 
--- the beat is a later one of a message of this key, which is closed already: the message was answered
--- before its end
+-- the beat continues a message of this key that is closed already: the answer came before its last beat
 abbrev pub is_answered : {w : ℕ} → Key → Beat w → History w → Bool
 is_answered key x t = not (begins x t) && not (pending key t)
 
--- what the Release with this source leaves whose beats these are, the newest first
+-- the permission that the Release with this source leaves, if these beats, the newest first, are its
 abbrev pub left_by_release : {w : ℕ} → ℕ → List (Beat w) → Option Perm
 left_by_release source (beat.C x ∷ burst) = if is_release x.opcode && (x.source == source) then Some (reported x.param)
     else None
 left_by_release source _ = None
 
--- what the Grant with this sink gives whose beats these are, the newest first; a denied one gives nothing
+-- the permission that the Grant with this sink gives, if these beats, the newest first, are its and it isn't denied
 abbrev pub given_by_grant : {w : ℕ} → ℕ → List (Beat w) → Option Perm
 given_by_grant sink (beat.D x ∷ burst) =
     if is_grant x.opcode && ((x.sink == sink) && not x.denied) then Some (capped x.param) else None
 given_by_grant sink _ = None
 
--- the GrantAck with this sink is the one that the block waits for
+-- the block waits for a GrantAck, and this is its sink
 abbrev pub acknowledges : {w : ℕ} → ℕ → ℕ → History w → Bool
 acknowledges k sink t = pending (GrantAckOf k) t && is_sink sink (grant_sink k t)
 
--- A message that is complete with this beat after t says so of the block.
--- `drops`: an Acquire from nothing held says that nothing is held. `early`: what a Grant or a Release
--- leaves is said by its last beat or, if that comes first, by the last beat of its answer. `denied`: a
--- denied Grant says nothing.
+-- The permission of the block that this beat sets after t, if it completes a message that sets one.
+-- - `drops`: an Acquire NtoB or NtoT sets None.
+-- - `early`: a Grant or a Release sets it with its last beat or, if that comes first, with the last beat of its answer.
+-- - `denied`: a denied Grant sets none.
 abbrev pub says_held_under : {w : ℕ} → Liberties → ℕ → Beat w → History w → Option Perm
 says_held_under l k (beat.A x) t =
     if l.drops && (begins (beat.A x) t && (is_acquire x.opcode && grows_from_none x.param))
@@ -142,7 +142,7 @@ says_held_under l k (beat.E x) t =
     if l.early && acknowledges k x.sink t then given_by_grant x.sink (unfinished channel.D t) else says_held k
     (beat.E x) t
 
--- what the last message that is complete and speaks of the block leaves of it
+-- the permission held of the block: the last one that was set
 unfoldable pub held_under : {w : ℕ} → Liberties → ℕ → History w → Perm
 held_under l k [] = perm.None
 held_under l k (x ∷ t) =
@@ -150,7 +150,7 @@ held_under l k (x ∷ t) =
 
 -- ---- the order of messages
 
--- `early`: a response may begin once its request has begun
+-- x answers a pending request with its source, or as a ReleaseAck a pending Release, complete unless `early`
 abbrev pub has_request_under : {w : ℕ} → Liberties → BeatD w → History w → Bool
 has_request_under l x t =
     if is_release_ack x.opcode
@@ -158,7 +158,7 @@ has_request_under l x t =
     else pending (RequestSource x.source) t && (not (not l.early && comes_in_request x.source (unfinished channel.A t))
     && admits x.opcode (request_of x.source t))
 
--- `drops`: an Acquire NtoB or NtoT may come whatever was held
+-- the grow fits the permission held; under `drops` NtoB and NtoT fit any
 abbrev pub grows_from_under : Liberties → ℕ → Perm → Bool
 grows_from_under l param p = (l.drops && grows_from_none param) || grows_from param p
 
@@ -170,7 +170,7 @@ broken_a_under l x t =
     (ReleaseOf (block_at x.address)) t)) H4
     (first_if (is_acquire x.opcode && not (grows_from_under l x.param (held_under l (block_at x.address) t))) H5 None))
 
--- the report NtoN, which says that nothing is held
+-- the report is NtoN: None is held
 abbrev pub reports_none : ℕ → Bool
 reports_none param = param == report_code report.NtoN
 
@@ -179,8 +179,7 @@ abbrev pub reports_from : Option Report → Perm → Bool
 reports_from None p = false
 reports_from (Some report) p = same_perm (report_left report) p
 
--- `reports`: a Release may have a report, which starts from what is held; with `drops` also NtoN,
--- whatever was held
+-- The prune of a Release starts from the permission held. `reports`: its report does, or with `drops` is NtoN.
 abbrev pub releases_from : Liberties → ℕ → Perm → Bool
 releases_from l param p =
     if l.reports then (l.drops && reports_none param) || reports_from (report_named param) p else
@@ -198,11 +197,11 @@ abbrev pub has_other_source : {w : ℕ} → BeatC w → Option (BeatB w) → Boo
 has_other_source x None = false
 has_other_source x (Some probe) = not (x.source == probe.source)
 
--- `drops`: a ProbeAck may report that nothing is held, whatever was
+-- the param isn't the report of the Probe's cap and the permission held; under `drops` NtoN is right for any
 abbrev pub misreports_under : {w : ℕ} → Liberties → BeatC w → Option (BeatB w) → Perm → Bool
 misreports_under l x probe p = not (l.drops && reports_none x.param) && misreports x probe p
 
--- H10, for which a ProbeAck has the source of its Probe (`ids`), H11 and H12
+-- H10, H11 and H12. `ids`: under H10 a ProbeAck has the source of its Probe.
 abbrev pub broken_probe_ack_under : {w : ℕ} → Liberties → BeatC w → History w → Option Rule
 broken_probe_ack_under l x t =
     first_if (not (pending (ProbeOf (block_at x.address)) t)
@@ -211,6 +210,7 @@ broken_probe_ack_under l x t =
     (first_if (pending (ReleaseOf (block_at x.address)) t) H11
     (first_if (misreports_under l x (probe_of (block_at x.address) t) (held_under l (block_at x.address) t)) H12 None))
 
+-- the first H rule that a message on C breaks
 abbrev pub broken_c_under : {w : ℕ} → Liberties → BeatC w → History w → Option Rule
 broken_c_under l x t =
     if is_release x.opcode then broken_release_under l x t else
@@ -220,8 +220,8 @@ broken_c_under l x t =
 abbrev pub profile_under : Liberties → Profile
 profile_under l = if l.writer then profile.Two else profile.One
 
--- The Grant x isn't one for the request that it answers. `denied`: neither the cap of a denied Grant is
--- judged, nor that it has no data.
+-- The Grant x doesn't fit its request. `denied`: a denied Grant fits with any cap and without data, unless a Probe of
+-- the block is pending.
 abbrev pub misgrants_under : {w : ℕ} → Liberties → BeatD w → Option (BeatA w) → History w → Bool
 misgrants_under l x None t = false
 misgrants_under l x (Some r) t =
@@ -239,13 +239,13 @@ broken_d_under l x t =
     (first_if (is_grant x.opcode && misgrants_under l x (request_of x.source t) t) H6
     (first_if (is_grant x.opcode && pending (GrantSink x.sink) t) H7 None)))
 
--- H8. `early`: a GrantAck may come once its Grant has begun
+-- H8. `early`: the Grant needn't be complete.
 abbrev pub broken_e_under : {w : ℕ} → Liberties → BeatE → History w → Option Rule
 broken_e_under l x t =
     first_if (not (pending (GrantSink x.sink) t) || (not l.early && comes_in_grant x.sink (unfinished channel.D t))) H8
     None
 
--- the first rule of the order of messages that a message breaks after this history of its link
+-- the first H rule that a message breaks at its first beat, after this history of its link
 unfoldable pub broken_order_under : {w : ℕ} → Liberties → Beat w → History w → Option Rule
 broken_order_under l (beat.A x) t = broken_a_under l x t
 broken_order_under l (beat.B x) t = broken_b x t
@@ -255,13 +255,13 @@ broken_order_under l (beat.E x) t = broken_e_under l x t
 
 -- ---- legality of a beat after a history, and of traces
 
--- the S or H rule that a beat which breaks no L rule breaks after t
+-- the S or H rule that a beat breaks after t, for a beat that breaks no L rule
 abbrev pub broken_in_order_under : {w : ℕ} → Liberties → Beat w → History w → Option Rule
 broken_in_order_under l x t =
     if begins x t then broken_order_under l x t
     else first_if (breaks_burst x (unfinished (channel_of x) t)) S1 None
 
--- the first rule that the beat breaks after t, given the L rule that it breaks by itself
+-- the first rule that the beat breaks after t, given the L rule that it breaks by itself, if any
 abbrev pub broken_given_under : {w : ℕ} → Liberties → Option Rule → Beat w → History w → Option Rule
 broken_given_under l (Some r) x t = Some r
 broken_given_under l None x t = broken_in_order_under l x t
@@ -270,24 +270,22 @@ broken_given_under l None x t = broken_in_order_under l x t
 unfoldable pub broken_after_under : {w : ℕ} → Liberties → Level → Beat w → History w → Option Rule
 broken_after_under l level x t = broken_given_under l (illegal_under l level (channel_of x) x) x t
 
--- each beat breaks no rule after those before it
+-- no beat breaks a rule after the beats before it
 unfoldable pub is_legal_under : {w : ℕ} → Liberties → Level → History w → Bool
 is_legal_under l level [] = true
 is_legal_under l level (x ∷ t) = is_none (broken_after_under l level x t) && is_legal_under l level t
 
--- the first rule that a beat breaks after this history of its link; a link without a level has no
--- beats
+-- the first rule that a beat breaks after this history of its link; L1 if the link has no level
 abbrev pub broken_at_level_under : {w : ℕ} → Liberties → Option Level → Beat w → History w → Option Rule
 broken_at_level_under l None x t = Some L1
 broken_at_level_under l (Some level) x t = broken_after_under l level x t
 
--- the first rule that a beat of a link breaks after the beats that were recorded before it, the
--- newest of which is first
+-- the first rule that a beat of a link breaks after the trace t, which has its newest beat first
 abbrev pub broken_on_link_under : {w : ℕ} → Liberties → List Level → Link × Beat w → Trace w → Option Rule
 broken_on_link_under l levels x t = broken_at_level_under l (slice_get levels x.0.0) x.1 (on_link x.0.0 t)
 
--- The least place, and its rule, of a beat of the trace that breaks a rule after the earlier beats of its
--- own link: `before` has the beats so far, the newest first, and the trace those to come, the next first.
+-- The first beat of the trace that breaks a rule after the earlier beats of its own link: its place and the rule.
+-- `before` has the earlier beats, the newest first. The trace has the later ones, the next first.
 unfoldable pub fault_from_under : {w : ℕ} → Liberties → List Level → Trace w → Trace w → Option (ℕ × Rule)
 fault_from_under l levels before [] = None
 fault_from_under l levels before (x ∷ trace) =

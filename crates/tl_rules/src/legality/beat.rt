@@ -18,8 +18,8 @@ use tl_params::level::Level;
 use tl_params::liberties::Liberties;
 use tl_params::rule::Rule;
 
-/// The first L rule that a beat on this channel of a link of this level breaks, in the order L1,
-/// L7, L2, L3, L4, L5, L6. A beat that breaks none can be given to an assembler.
+/// Checks a beat on this channel of a link of this level. The error is the first L rule that it breaks, in the order
+/// L1, L7, L2, L3, L4, L5, L6. An assembler can take a beat that breaks none.
 pub fn check_beat<const W: usize>(
     level: Level,
     channel: Channel,
@@ -32,7 +32,8 @@ pub fn check_beat<const W: usize>(
     check_beat_under(Liberties::none(), level, channel, beat)
 }
 
-/// The same on a link with these liberties.
+/// `check_beat` on a link with these liberties.
+#[inline(always)]
 #[tactic(auto, unfolding(crate::specs::statement::Liberties::illegal_under, crate::specs::statement::Legality::illegal))]
 pub fn check_beat_under<const W: usize>(
     liberties: Liberties,

@@ -16,8 +16,8 @@ use tl_burst::message::{Message, MessageA, MessageB, MessageC, MessageD};
 use tl_params::level::Level;
 use tl_params::rule::Rule;
 
-/// The rule of the first beat of a message that breaks one, as `check_beat` has it, on this channel
-/// of a link of this level.
+/// Checks each beat of a message, as `check_beat` does, on this channel of a link of this level. The error is that of
+/// the first beat that breaks a rule.
 pub fn check<const W: usize>(
     level: Level,
     channel: Channel,
@@ -86,7 +86,7 @@ fn check_b<const W: usize>(level: Level, message: &MessageB<W>) -> Result<(), Ru
     channel::own_of_b::<W>(opcode, size, address, mask, bit_of(message.corrupt, 0))
 }
 
-/// Only a message without data, which has one beat, may not be corrupt.
+/// Only a message without data may not be corrupt, and it has one beat.
 fn check_c<const W: usize>(level: Level, message: &MessageC<W>) -> Result<(), Rule>
     requires { IsWidth W }
     ensures { result ≡ ok_unless (illegal_message level Channel.C (Message.C message.now)) }

@@ -1,4 +1,4 @@
-//! Which single liberties would allow a beat.
+//! The single liberties that would allow a beat.
 
 ghost use Rattle.std.specs.Prelude.{◌≡◌, ◌∷◌, List, None, IfErr, IfOk, OnOk, reverse};
 ghost use Rattle.tl_beat.specs.statement.Width.{IsWidth};
@@ -14,14 +14,14 @@ use tl_monitor::monitor::Monitor;
 use tl_params::level::Level;
 use tl_params::liberties::{Liberties, Liberty};
 
-/// A monitor of links that have this liberty beside those of a trace.
+/// A monitor of links that have this liberty and those of a trace.
 #[derive(Drop)]
 pub struct Wider<const W: usize> {
     liberty: Liberty,
     monitor: Monitor<W>,
 }
 
-/// Monitors of the links of a trace, each with one liberty more, in the order in which a header names them.
+/// Monitors of the links of a trace, each with one more liberty, in the order in which a header names them.
 #[derive(Drop)]
 pub struct Allowances<const W: usize> {
     liberties: Liberties,
@@ -46,7 +46,8 @@ impl<const W: usize> Allowances<W> {
     ghost use Rattle.tl_allowed.specs.code.Known.{IsNewAllowances, Knows};
     ghost use Rattle.tl_allowed.specs.statement.Allowed.{allowed_under};
 
-    /// Of links of these levels that have these liberties, and have carried nothing. There are to be 1 to 16 levels.
+    /// For links of these levels and liberties, before any beat. There must be 1 to 16 levels. The error is that of a
+    /// monitor.
     pub fn new(alloc: Global, levels: &[Level], liberties: Liberties) -> Result<Self, MonitorFault>
         requires { IsWidth W }
         ensures { IsNewAllowances levels.now liberties result }
@@ -61,8 +62,8 @@ impl<const W: usize> Allowances<W> {
         Ok(Allowances { liberties, wider })
     }
 
-    /// Takes the next beat of a trace. Of a trace that has no fault with the beat, `Memory` alone is answered. Where
-    /// a beat isn't taken some of the monitors may have taken it.
+    /// Takes the next beat of a trace. If the trace with the beat has no fault, the only error is `Memory`. After an
+    /// error some of the monitors may have taken the beat.
     pub fn take(&mut self, link: Link, beat: &Beat<W>) -> Result<(), MonitorFault>
         requires { IsWidth W }
         ensures taken { OnOk result ((levels : List Level) (l : Liberties) (t : Trace W) →
@@ -78,7 +79,8 @@ impl<const W: usize> Allowances<W> {
         Ok(())
     }
 
-    /// The liberties, in the order in which a header names them, each of which alone would allow a beat.
+    /// The liberties of which each alone would allow a beat, in the order in which a header names them. The error means
+    /// that there is no memory left.
     pub fn allowing(
         &self,
         alloc: Global,

@@ -1,4 +1,4 @@
-//! Under which single liberties a beat at fault would be allowed.
+//! The single liberties under which a beat at fault would be allowed.
 #![tactic(auto)]
 
 pub mod allowances;

@@ -1,4 +1,4 @@
-//! Which liberties would allow a beat, in words.
+//! The liberties that would allow a beat, in words.
 
 ghost use Rattle.std.specs.Prelude.{◌≡◌, ◌++◌, OnOk};
 ghost use Rattle.tl_allowed.specs.statement.Allowed.{allowance_text};
@@ -6,8 +6,8 @@ ghost use Rattle.tl_allowed.specs.statement.Allowed.{allowance_text};
 use std::alloc::AllocError;
 use tl_params::liberties::Liberty;
 
-/// Appends what the sentence of a fault ends with that these liberties would allow, each alone: their names in
-/// brackets, joined by `or`, behind a space; nothing where there are none. Without memory a part of it is appended.
+/// Appends the end of the sentence of a fault that each of these liberties alone would allow: after a space their names
+/// in brackets, joined by `or`; empty if there are none. With the error a part of it may be appended.
 pub fn append_allowance(liberties: &[Liberty], out: &mut Vec<u8>) -> Result<(), AllocError>
     ensures { OnOk result (out.new.items ≡ out.old.items ++ allowance_text liberties.now) }
 {

@@ -1,7 +1,8 @@
-//! A table of what is open of blocks, and of what is held of them.
+//! A table of blocks: the pending transfers and the permission held of each.
 
 ghost use Rattle.std.specs.Prelude.{ℕ, List, [], Some, None, length, slice_index_or, IfOk, OnOk};
 ghost use Rattle.std.specs.Prelude.{OnErr, if◌then◌else◌, ◌==◌, ◌≡◌, ◌<◌, ◌≤◌, ◌^◌, ◌*◌};
+ghost use Rattle.std.specs.Option.{option_copied};
 ghost use Rattle.tl_rules.specs.declared.table.Block.{Block};
 ghost use Rattle.tl_rules.specs.code.Tables.{empty_block};
 ghost use Rattle.tl_monitor.specs.code.Count.{sum_below};
@@ -15,10 +16,10 @@ use std::marker::Model;
 use tl_rules::perm::Perm;
 use tl_rules::table::Block;
 
-/// How many trees the blocks stand in, by the low bits of their numbers.
+/// The number of trees that keep the blocks, by the low bits of their numbers.
 const TREES: usize = 256;
 
-/// A block of which nothing is open or held.
+/// An empty block: None is held, and no transfer is pending.
 pub const EMPTY: Block = Block {
     held: Perm::None,
     acquire: false,
@@ -27,13 +28,16 @@ pub const EMPTY: Block = Block {
     grant: None,
 };
 
+/// An empty block, to refer to.
+static NOTHING: Block = EMPTY;
+
 fn is_held(perm: Perm) -> bool
     ensures { result ≡ is_held perm }
 {
     perm != Perm::None
 }
 
-/// How many keys of a block are pending, and one more where it is held.
+/// The number of pending keys of a block, and one more unless None is held.
 pub fn open_of(block: &Block) -> usize
     ensures counted { result ≡ open_of block.now }
     ensures few { result ≤ 5 }
@@ -45,17 +49,18 @@ pub fn open_of(block: &Block) -> usize
         + usize::from(block.grant.is_some())
 }
 
-/// What a look-up found, or an empty block.
-fn or_empty(found: Option<Block>) -> Block
-    ensures { result ≡ block_or_empty found }
+/// The block that a look-up found, or an empty one.
+#[inline(always)]
+fn or_empty(found: Option<&Block>) -> &Block
+    ensures { result.now ≡ block_or_empty (option_copied found.entry) }
 {
     match found {
-        None => EMPTY,
+        None => &NOTHING,
         Some(block) => block,
     }
 }
 
-/// Trees in which no block stands.
+/// Trees without blocks.
 fn new_trees(alloc: Global) -> [BTreeMap<u32, Block>; TREES]
     ensures empty { (i : ℕ) → slice_index_or (entries_of result) i [] ≡ [] }
     ensures long { length result ≡ 256 }
@@ -67,7 +72,7 @@ fn new_trees(alloc: Global) -> [BTreeMap<u32, Block>; TREES]
     )
 }
 
-/// The tree that a block stands in.
+/// The tree of a block.
 fn tree_of(block: u32) -> usize
     ensures own { result ≡ tree_of block }
     ensures below { result < 256 }
@@ -75,7 +80,7 @@ fn tree_of(block: u32) -> usize
     block as usize % TREES
 }
 
-/// Writes what is seen of a block into its tree, where it stands there.
+/// Writes the state of a block, if there is one, to its entry in the tree, if there is one.
 fn store(tree: &mut BTreeMap<u32, Block>, block: u32, seen: Option<Block>)
     ensures { tree.new.entries ≡ with_value tree.old.entries block seen }
 {
@@ -86,7 +91,7 @@ fn store(tree: &mut BTreeMap<u32, Block>, block: u32, seen: Option<Block>)
     }
 }
 
-/// Writes what is seen of the block `last`, and looks up another.
+/// Writes the state of the block `last`, and looks up another.
 fn seek(
     trees: &mut [BTreeMap<u32, Block>; TREES],
     last: u32,
@@ -104,7 +109,7 @@ fn seek(
     trees[tree_of(block)].get(&block).copied()
 }
 
-/// What is seen of a block, where the block `last` was seen before: a search only where it is another.
+/// The state of a block. It searches only if this isn't the block `last`, whose state is `seen`.
 fn turn(
     trees: &mut [BTreeMap<u32, Block>; TREES],
     last: u32,
@@ -125,8 +130,8 @@ fn turn(
     }
 }
 
-/// Makes room in its tree for a block of which something is open or held now, and takes the room of one
-/// of which nothing is away. Answers what is seen of it then.
+/// Makes an entry for a block that isn't empty now, and removes the entry of one that is. Returns its state then. The
+/// error means that there is no memory left.
 fn make_room_in(
     tree: &mut BTreeMap<u32, Block>,
     block: u32,
@@ -155,7 +160,7 @@ fn make_room_in(
     }
 }
 
-/// The same in all trees.
+/// The same for all trees.
 fn make_room(
     trees: &mut [BTreeMap<u32, Block>; TREES],
     block: u32,
@@ -175,7 +180,7 @@ fn make_room(
     make_room_in(&mut trees[tree_of(block)], block, seen, value)
 }
 
-/// Stores a block in its tree.
+/// Stores a block in its tree. The error means that there is no memory left; then nothing changes.
 fn insert_in(tree: &mut BTreeMap<u32, Block>, block: u32, value: Block) -> Result<(), AllocError>
     requires some { 0 < open_of value }
     requires open { AllOpen tree.old.entries }
@@ -190,7 +195,7 @@ fn insert_in(tree: &mut BTreeMap<u32, Block>, block: u32, value: Block) -> Resul
     }
 }
 
-/// The same in all trees, where the block `last` was seen before. Answers what is seen of it then.
+/// The same for all trees. `seen` is the state of the block `last`. Returns the state of `block` then.
 fn insert(
     trees: &mut [BTreeMap<u32, Block>; TREES],
     last: u32,
@@ -215,17 +220,16 @@ fn insert(
     Ok(seen)
 }
 
-/// What is open or held of blocks. A block of which nothing is isn't kept. A contract sees the trees,
-/// in each the blocks that are, in rising order, with their numbers. The block of a beat is looked up once, however
-/// often the rules ask for it, and written once, when the next one is looked up.
+/// The states of blocks. Empty blocks aren't kept. A contract sees the trees, each with the blocks that aren't empty,
+/// in rising order, and with their numbers. The block of a beat is looked up once, however often the rules ask for it,
+/// and written once, when the next one is looked up.
 #[derive(Drop)]
 pub struct Blocks {
     trees: [BTreeMap<u32, Block>; TREES],
     len: usize,
     /// The block that was looked up or changed last.
     last: u32,
-    /// What is open and held of it, where something is. The map has an entry of it then, which may say
-    /// what was before.
+    /// Its state, unless it is empty. The map then has an entry for it, perhaps with an earlier state.
     seen: Option<Block>,
 }
 
@@ -242,7 +246,7 @@ impl Model for Blocks {
 }
 
 impl Blocks {
-    /// A table of blocks of which nothing is open or held.
+    /// A table of empty blocks.
     pub fn new(alloc: Global) -> Self
         ensures { (k : ℕ) → block_in result k ≡ empty_block }
     {
@@ -254,18 +258,18 @@ impl Blocks {
         }
     }
 
-    /// What is open and held of a block.
-    pub fn get(&self, block: u32) -> Block
-        ensures { result ≡ block_in self.now block }
+    /// The state of a block.
+    pub fn get(&self, block: u32) -> &Block
+        ensures { result.now ≡ block_in self.now block }
     {
         if block == self.last {
-            or_empty(self.seen)
+            or_empty(self.seen.as_ref())
         } else {
-            or_empty(self.trees[tree_of(block)].get(&block).copied())
+            or_empty(self.trees[tree_of(block)].get(&block))
         }
     }
 
-    /// Has `get` of this block search no more.
+    /// Looks a block up, so that `get` of it doesn't search.
     pub fn cache_block(&mut self, block: u32)
         ensures { self.new ≡ self.old }
     {
@@ -273,8 +277,8 @@ impl Blocks {
         self.last = block;
     }
 
-    /// Writes what is open and held of a block. Without memory nothing changes; that can only be
-    /// where nothing was open or held of the block, and now something is.
+    /// Sets the state of a block. The error means that there is no memory left. Then nothing changes; the block was
+    /// empty, and would not be empty any more.
     pub fn set(&mut self, block: u32, value: Block) -> Result<(), AllocError>
         ensures changed { OnOk result ((k : ℕ) →
             block_in self.new k ≡ (if k == block then value else block_in self.old k)) }
@@ -285,11 +289,11 @@ impl Blocks {
         self.last = block;
         self.seen = old;
         self.seen = make_room(&mut self.trees, block, old, value)?;
-        self.len = self.len - open_of(&or_empty(old)) + open_of(&value);
+        self.len = self.len - open_of(or_empty(old.as_ref())) + open_of(&value);
         Ok(())
     }
 
-    /// Writes what is open and held of a block of which nothing is, without a search for it. Without memory
+    /// Sets the state of an empty block, without a search for it. The error means that there is no memory left; then
     /// nothing changes.
     pub fn add(&mut self, block: u32, value: Block) -> Result<(), AllocError>
         requires { block_in self.old block ≡ empty_block }
@@ -306,7 +310,7 @@ impl Blocks {
         Ok(())
     }
 
-    /// How many keys of blocks are pending, and blocks held.
+    /// The number of pending keys of blocks, and of blocks held.
     pub fn len(&self) -> usize
         ensures counted { result ≡ sum_below (2 ^ 32) (λ k. open_of (block_in self.now k)) }
         ensures few { result ≤ 5 * 2 ^ 32 }

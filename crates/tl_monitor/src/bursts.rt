@@ -1,4 +1,4 @@
-//! The bursts of a link that have begun and aren't complete.
+//! The unfinished bursts of a link.
 
 ghost use Rattle.std.specs.Prelude.{IsTrue, None, is_none, ◌≡◌};
 ghost use Rattle.tl_beat.specs.statement.Width.{IsWidth};
@@ -11,8 +11,8 @@ use tl_beat::beat::Beat;
 use tl_beat::control::Control;
 use tl_burst::burst::burst_length;
 
-/// A burst that has begun and isn't complete: the control fields of its beats, how many of them are
-/// still to come, and what stands beside the first.
+/// An unfinished burst: the control fields of its beats, the number of beats to come, and a value that was given with
+/// the first beat.
 #[derive(Clone, Copy)]
 pub struct Unfinished<P> {
     pub control: Control,
@@ -20,7 +20,7 @@ pub struct Unfinished<P> {
     pub beside: P,
 }
 
-/// What is unfinished on each channel.
+/// The unfinished burst of each channel.
 #[derive(Clone, Copy)]
 pub struct Bursts<P> {
     pub a: Option<Unfinished<P>>,
@@ -30,8 +30,7 @@ pub struct Bursts<P> {
     pub e: Option<Unfinished<P>>,
 }
 
-/// Takes the next beat of a burst, which completes the message or doesn't. What is to stand beside it is kept of
-/// the first.
+/// Takes the next beat of a burst, which completes the message or doesn't. `beside` is kept if the beat is the first.
 #[inline(always)]
 fn advance<const W: usize, P: Copy>(
     last: bool,
@@ -59,7 +58,7 @@ fn advance<const W: usize, P: Copy>(
     });
 }
 
-/// Counts a beat in the middle of a burst, which has the control fields of those before it.
+/// Counts a beat in the middle of a burst, which has the control fields of the earlier ones.
 #[inline(always)]
 fn count_in<const W: usize, P: Copy>(beat: &Beat<W>, burst: &mut Option<Unfinished<P>>)
     requires { IsMiddle beat.now burst.old }
@@ -88,7 +87,7 @@ impl<P: Copy> Bursts<P> {
         }
     }
 
-    /// What is unfinished on the channel of a beat.
+    /// The unfinished burst on the channel of a beat.
     #[inline(always)]
     pub fn of<const W: usize>(&self, beat: &Beat<W>) -> &Option<Unfinished<P>>
         ensures { result.now ≡ burst_on self.now (Messages.channel_of beat.now) }
@@ -110,7 +109,7 @@ impl<P: Copy> Bursts<P> {
         self.of(beat).is_none()
     }
 
-    /// Whether a beat has the control fields of the burst that is unfinished on its channel, where one is.
+    /// Whether a beat has the control fields of the unfinished burst on its channel, if there is one.
     pub fn continues<const W: usize>(&self, beat: &Beat<W>) -> bool
         ensures { result ≡ continues_burst beat.now (burst_on self.now (Messages.channel_of beat.now)) }
     {
@@ -120,7 +119,7 @@ impl<P: Copy> Bursts<P> {
         }
     }
 
-    /// Whether a beat completes its message, where it continues the burst on its channel.
+    /// Whether a beat completes its message, if it continues the burst on its channel.
     pub fn completes<const W: usize>(&self, beat: &Beat<W>) -> bool
         requires width { IsWidth W }
         requires small { IsTrue (is_small beat.now) }
@@ -132,7 +131,7 @@ impl<P: Copy> Bursts<P> {
         }
     }
 
-    /// Takes a beat with what is to stand beside it, which completes its message or doesn't.
+    /// Takes a beat, which completes its message or doesn't. `beside` is kept if the beat is the first.
     #[inline(always)]
     pub fn take<const W: usize>(&mut self, last: bool, beat: &Beat<W>, beside: &P)
         requires width { IsWidth W }

@@ -5,7 +5,7 @@ ghost use Rattle.tl_monitor.specs.code.Count.{at, count_below};
 
 use std::marker::Model;
 
-/// A value for some of the numbers of a byte. A contract sees the list of the 256.
+/// Values for some of the 256 bytes. A contract sees the list of the 256.
 #[derive(Drop)]
 pub struct ByteTable<T> {
     values: [Option<T>; 256],
@@ -21,7 +21,7 @@ impl<T> Model for ByteTable<T> {
 }
 
 impl<T: Copy> ByteTable<T> {
-    /// A table of no values.
+    /// A table without values.
     pub fn new() -> Self
         ensures { (i : ℕ) → at result i ≡ None }
     {
@@ -31,14 +31,14 @@ impl<T: Copy> ByteTable<T> {
         }
     }
 
-    /// The value of a number, where it has one.
+    /// The value of a byte, if it has one.
     pub fn get(&self, key: u8) -> Option<T>
         ensures { result ≡ at self.now key }
     {
         self.values[usize::from(key)]
     }
 
-    /// Gives a number a value, or takes it away.
+    /// Gives a byte a value, or removes its value.
     pub fn set(&mut self, key: u8, value: Option<T>)
         ensures { (i : ℕ) → at self.new i ≡ (if i == key then value else at self.old i) }
     {
@@ -49,7 +49,7 @@ impl<T: Copy> ByteTable<T> {
         self.values[slot] = value;
     }
 
-    /// How many numbers have a value.
+    /// The number of bytes with a value.
     pub fn len(&self) -> usize
         ensures counted { result ≡ count_below 256 (λ i. is_some (at self.now i)) }
         ensures few { result ≤ 256 }

@@ -1,4 +1,4 @@
-//! What a beat makes of the block that it bears on.
+//! The change that a beat makes to the block that it concerns.
 
 ghost use Rattle.std.specs.Prelude.{Option, Some, ◌≡◌};
 ghost use Rattle.tl_beat.specs.declared.beat.Beat.TheVariants as beat;
@@ -80,8 +80,8 @@ fn change_c<const W: usize>(
     }
 }
 
-/// What is held of a block after a response that completes its message or doesn't, where `came` is what the
-/// Release leaves that the response answers before its end.
+/// The permission held of a block after a beat of a response, which completes its message or doesn't. `came` is the
+/// permission left by an unfinished Release that it answers.
 fn held_with<const W: usize>(
     liberties: Liberties,
     first: bool,
@@ -153,8 +153,8 @@ fn change_e(
     }
 }
 
-/// Makes of a block what a beat does that bears on it, where it begins a message or doesn't, and
-/// completes it or doesn't. `came` is what the message gives that this one answers before its end.
+/// The change to a block by a beat that concerns it, which begins a message or doesn't, and completes it or doesn't.
+/// `came` is the permission given by an unfinished message that it answers.
 pub fn change_block<const W: usize>(
     liberties: Liberties,
     first: bool,

@@ -1,35 +1,35 @@
-//! Why a monitor refuses a beat, and a trace.
+//! Reasons why a monitor refuses a beat or a trace.
 
 ghost use Rattle.std.specs.Prelude.{◌≡◌};
 ghost use Rattle.tl_monitor.specs.statement.Knows.{closed_after};
 
 use tl_rules::rule::Rule;
 
-/// Why a monitor can't be made or refuses a beat.
+/// The reason why a monitor can't be made or refuses a beat.
 #[derive(Clone, Copy, Debug, PartialEq, Eq)]
 pub enum MonitorFault {
     /// There aren't 1 to 16 levels.
     Levels,
     /// The beat breaks a rule.
     Broken(Rule),
-    /// There is no memory, and the monitor is as before.
+    /// There is no memory left. The monitor is as before.
     Memory,
     /// An earlier beat broke a rule.
     Closed,
 }
 
-/// Why a trace is refused.
+/// The reason why a trace is refused.
 #[derive(Clone, Copy, Debug, PartialEq, Eq)]
 pub enum TraceFault {
-    /// The first beat that breaks a rule, from 0 on, and the rule.
+    /// The first beat that breaks a rule, counted from 0, and the rule.
     At(usize, Rule),
     /// There aren't 1 to 16 levels.
     Levels,
-    /// There is no memory.
+    /// There is no memory left.
     Memory,
 }
 
-/// Whether a monitor is closed after an answer of `push`.
+/// Whether a monitor is closed after this answer of `push`.
 #[inline(always)]
 pub(crate) fn is_closed_after(answer: &Result<(), MonitorFault>) -> bool
     ensures { result ≡ closed_after answer.now }

@@ -1,4 +1,4 @@
-//! What an unfinished Grant gives of a block.
+//! The permission that an unfinished Grant gives of a block.
 
 ghost use Rattle.std.specs.Prelude.{◌≡◌, ◌&&◌, not, if◌then◌else◌, None, Some};
 ghost use Rattle.tl_monitor.specs.code.Coming.{coming_in, given_by_control, is_for};
@@ -35,7 +35,7 @@ fn given_by(state: &LinkState, block: u32, x: &ControlD) -> Option<Perm>
 }
 
 impl LinkState {
-    /// The permission that the unfinished Grant of a block gives, where one has begun that isn't denied.
+    /// The permission that the unfinished Grant of a block gives, if one has begun that isn't denied.
     pub fn coming(&self, block: u32) -> Option<Perm>
         ensures { result ≡ coming_in block self.now }
     {

@@ -1,4 +1,4 @@
-//! Judges a beat after what its link has carried, and takes it.
+//! Judges a beat by the state of its link, and takes it.
 
 ghost use Rattle.std.specs.Prelude.{IsTrue, None, Some, true, false, ◌≡◌};
 ghost use Rattle.std.specs.Bool.{OnTrue, OnFalse};
@@ -28,8 +28,8 @@ use tl_rules::order::broken_order_under;
 use tl_rules::rule::Rule;
 
 impl LinkState {
-    /// Judges the first beat of a request that bears on no block, and takes it where it breaks no rule of the order
-    /// of messages.
+    /// Judges the first beat of a request that concerns no block, and takes it if it breaks no rule of the order of
+    /// messages.
     #[inline(always)]
     fn begin_request<const W: usize>(&mut self, x: &BeatA<W>, beat: &Beat<W>) -> Option<Rule>
         requires width { IsWidth W }
@@ -48,7 +48,7 @@ impl LinkState {
         None
     }
 
-    /// The same of an answer that bears on no block.
+    /// The same for an answer that concerns no block.
     #[inline(always)]
     fn begin_answer<const W: usize>(
         &mut self,
@@ -78,8 +78,7 @@ impl LinkState {
         None
     }
 
-    /// The rule of the order of messages that the first beat of a message breaks, or none, and then
-    /// takes it.
+    /// The rule of the order of messages that the first beat of a message breaks. Takes the beat if it breaks none.
     fn begin<const W: usize>(
         &mut self,
         liberties: Liberties,
@@ -103,7 +102,7 @@ impl LinkState {
         }
     }
 
-    /// Has questions of a block search no more.
+    /// Looks a block up, so that questions about it don't search.
     #[inline(always)]
     fn cache(&mut self, block: Option<u32>)
         ensures { self.new ≡ self.old }
@@ -113,7 +112,7 @@ impl LinkState {
         }
     }
 
-    /// The same of the messages that bear on a block.
+    /// The same for messages that concern a block.
     #[inline(always)]
     fn begin_transfer<const W: usize>(
         &mut self,
@@ -141,9 +140,9 @@ impl LinkState {
         Ok(None)
     }
 
-    /// The rule of bursts that a later beat of a message breaks, or none, and then takes it.
+    /// The rule of bursts that a later beat of a message breaks. Takes the beat if it breaks none.
     #[inline(always)]
-    fn go_on_in_arm<const W: usize>(
+    fn go_on<const W: usize>(
         &mut self,
         liberties: Liberties,
         beat: &Beat<W>,
@@ -170,30 +169,9 @@ impl LinkState {
         Ok(None)
     }
 
-    /// The same, put into an arm for each channel, so that the ways of the other channels drop out there.
-    fn go_on<const W: usize>(
-        &mut self,
-        liberties: Liberties,
-        beat: &Beat<W>,
-    ) -> Result<Option<Rule>, AllocError>
-        requires width { IsWidth W }
-        requires small { IsTrue (is_small beat.now) }
-        requires later { is_first beat.now self.old ≡ false }
-        ensures rule { (t : History W) → Keeps liberties self.old t →
-            answered result ≡ broken_in_order_under liberties beat.now t }
-        ensures takes { TakesBeat liberties self.old beat.now self.new result }
-    {
-        match beat {
-            Beat::A(_) => self.go_on_in_arm(liberties, beat),
-            Beat::B(_) => self.go_on_in_arm(liberties, beat),
-            Beat::C(_) => self.go_on_in_arm(liberties, beat),
-            Beat::D(_) => self.go_on_in_arm(liberties, beat),
-            Beat::E(_) => self.go_on_in_arm(liberties, beat),
-        }
-    }
-
-    /// Takes a beat in the middle of a response that has the control fields of those before it, where neither corrupt
-    /// nor denied is set: whether it was taken. Otherwise nothing changes. It breaks no rule, as those before it break none.
+    /// Takes a beat in the middle of a response with the control fields of the earlier ones, if neither corrupt nor
+    /// denied is set, and returns whether it did. Otherwise nothing changes. Such a beat breaks no rule, as the earlier
+    /// ones don't.
     fn goes_on<const W: usize>(&mut self, beat: &Beat<W>) -> bool
         requires { IsWidth W }
         ensures rule { OnTrue result ((l : Liberties) (level : Level) (t : History W) →
@@ -220,7 +198,7 @@ impl LinkState {
         true
     }
 
-    /// The rule of bursts or of the order of messages that a beat breaks which breaks none by itself, or none.
+    /// The rule of bursts or of the order of messages that a beat breaks, if it breaks no L rule.
     fn broken_in_order<const W: usize>(&self, liberties: Liberties, beat: &Beat<W>) -> Option<Rule>
         ensures { (t : History W) → Keeps liberties self.now t →
             result ≡ broken_in_order_under liberties beat.now t }
@@ -238,7 +216,7 @@ impl LinkState {
         }
     }
 
-    /// The first rule that a beat breaks on a link of this level, or none.
+    /// The first rule that a beat breaks on a link of this level.
     #[tactic(auto, unfolding(tl_rules::specs::statement::Liberties::broken_after_under))]
     pub fn broken<const W: usize>(
         &self,
@@ -256,8 +234,37 @@ impl LinkState {
         }
     }
 
-    /// The first rule that a beat breaks on a link of this level, or none, and then takes it. Without memory
-    /// nothing changes.
+    /// `push` for a beat that `goes_on` doesn't take.
+    #[inline(always)]
+    #[tactic(auto, unfolding(tl_rules::specs::statement::Liberties::broken_after_under))]
+    fn push_in_arm<const W: usize>(
+        &mut self,
+        liberties: Liberties,
+        level: Level,
+        beat: &Beat<W>,
+    ) -> Result<Option<Rule>, AllocError>
+        requires { IsWidth W }
+        ensures rule { (t : History W) → Keeps liberties self.old t →
+            answered result ≡ broken_after_under liberties level beat.now t }
+        ensures takes { TakesBeat liberties self.old beat.now self.new result }
+        ensures lawful { IsLawful W liberties level self.old.bursts.d → IsLawful W liberties level self.new.bursts.d }
+    {
+        match check_beat_under(liberties, level, beat.channel(), beat) {
+            Err(rule) => Ok(Some(rule)),
+            Ok(()) => {
+                if self.bursts.begins(beat) {
+                    self.begin(liberties, beat)
+                } else {
+                    self.go_on(liberties, beat)
+                }
+            }
+        }
+    }
+
+    /// The first rule that a beat breaks on a link of this level. Takes the beat if it breaks none. The error means
+    /// that there is no memory left; then nothing changes. It is compiled for each channel by itself, so that the code
+    /// for the others drops out.
+    #[inline(always)]
     #[tactic(auto, unfolding(tl_rules::specs::statement::Liberties::broken_after_under))]
     pub fn push<const W: usize>(
         &mut self,
@@ -274,15 +281,12 @@ impl LinkState {
         if self.goes_on(beat) {
             return Ok(None);
         }
-        match check_beat_under(liberties, level, beat.channel(), beat) {
-            Err(rule) => Ok(Some(rule)),
-            Ok(()) => {
-                if self.bursts.begins(beat) {
-                    self.begin(liberties, beat)
-                } else {
-                    self.go_on(liberties, beat)
-                }
-            }
+        match beat {
+            Beat::A(_) => self.push_in_arm(liberties, level, beat),
+            Beat::B(_) => self.push_in_arm(liberties, level, beat),
+            Beat::C(_) => self.push_in_arm(liberties, level, beat),
+            Beat::D(_) => self.push_in_arm(liberties, level, beat),
+            Beat::E(_) => self.push_in_arm(liberties, level, beat),
         }
     }
 }

@@ -1,4 +1,4 @@
-//! What is open of blocks and held of them, where the block that came last is kept by itself.
+//! A table of blocks that keeps the newest one by itself.
 
 ghost use Rattle.std.specs.Prelude.{ℕ, OnOk, OnErr, if◌then◌else◌, ◌==◌, ◌≡◌, ◌≢◌, ◌<◌, ◌≤◌, ◌^◌, ◌*◌};
 ghost use Rattle.tl_rules.specs.code.Tables.{block_next, empty_block};
@@ -15,14 +15,13 @@ use tl_rules::liberties::Liberties;
 use tl_rules::perm::Perm;
 use tl_rules::table::Block;
 
-/// What is open or held of blocks. Of these the one that came last is stored only when another comes: many
-/// go before.
+/// The states of blocks. The newest block is stored only when another one comes: many are empty again before that.
 #[derive(Drop)]
 pub struct KnownBlocks {
     stored: Blocks,
-    /// The block that came last. Nothing is stored of it.
+    /// The newest block. It isn't stored.
     newest: u32,
-    /// What is open and held of it.
+    /// Its state.
     value: Block,
 }
 
@@ -35,7 +34,7 @@ impl Model for KnownBlocks {
 }
 
 impl KnownBlocks {
-    /// A table of blocks of which nothing is open or held.
+    /// A table of empty blocks.
     pub fn new(alloc: Global) -> Self
         ensures { (k : ℕ) → known_in result k ≡ empty_block }
     {
@@ -46,18 +45,18 @@ impl KnownBlocks {
         }
     }
 
-    /// What is open and held of a block.
-    pub fn get(&self, block: u32) -> Block
-        ensures { result ≡ known_in self.now block }
+    /// The state of a block.
+    pub fn get(&self, block: u32) -> &Block
+        ensures { result.now ≡ known_in self.now block }
     {
         if block == self.newest {
-            self.value
+            &self.value
         } else {
             self.stored.get(block)
         }
     }
 
-    /// Has `get` of this block search no more.
+    /// Looks a block up, so that `get` of it doesn't search.
     pub fn cache_block(&mut self, block: u32)
         ensures { self.new ≡ self.old }
     {
@@ -66,7 +65,7 @@ impl KnownBlocks {
         }
     }
 
-    /// Makes of a block that isn't the one that came last what a beat does that bears on it, as `change`.
+    /// Makes the change by a beat to a block other than the newest, as `change` does.
     #[inline(never)]
     fn change_other<const W: usize>(
         &mut self,
@@ -84,7 +83,7 @@ impl KnownBlocks {
         ensures new { OnErr result ((known_in self.old block ≡ empty_block)
             × (0 < open_of (block_next liberties first last came beat.now (known_in self.old block)))) }
     {
-        let old = self.stored.get(block);
+        let old = *self.stored.get(block);
         let mut value = old;
         change_block(liberties, first, last, came, beat, &mut value);
         if open_of(&value) == 0 || open_of(&old) > 0 {
@@ -96,8 +95,8 @@ impl KnownBlocks {
         Ok(())
     }
 
-    /// Makes of a block what a beat does that bears on it. Without memory nothing changes; that can only be
-    /// where nothing was open or held of the block, and now something is.
+    /// Makes the change by a beat to the block that it concerns. The error means that there is no memory left. Then
+    /// nothing changes; the block was empty, and would not be empty any more.
     #[inline(always)]
     pub fn change<const W: usize>(
         &mut self,
@@ -121,7 +120,7 @@ impl KnownBlocks {
         self.change_other(liberties, block, first, last, came, beat)
     }
 
-    /// How many keys of blocks are pending, and blocks held.
+    /// The number of pending keys of blocks, and of blocks held.
     pub fn len(&self) -> usize
         ensures counted { result ≡ sum_below (2 ^ 32) (λ k. open_of (known_in self.now k)) }
         ensures few { result ≤ 5 * 2 ^ 32 }

@@ -1,4 +1,4 @@
-//! What is kept of the beats that one link has carried.
+//! The state of a link after the beats that it has carried.
 
 ghost use Rattle.std.specs.Prelude.{ℕ, true, Some, None, is_some, IsTrue, IfSome, OnOk, OnErr, if◌then◌else◌, ◌≡◌, ◌<◌};
 ghost use Rattle.tl_beat.specs.statement.Width.{IsWidth};
@@ -32,8 +32,8 @@ use tl_rules::past::Request;
 use tl_rules::perm::Perm;
 use tl_rules::table::Release;
 
-/// What is kept of a link: the bursts that are unfinished, and what is pending with the control fields
-/// of the message that opened it, by source, by sink and by block.
+/// The state of a link: its unfinished bursts, and the pending messages by source, sink and block, with the control
+/// fields of the message that opened each.
 #[derive(Drop)]
 pub struct LinkState {
     pub bursts: Bursts<()>,
@@ -64,7 +64,7 @@ fn release_of<const W: usize>(x: &BeatC<W>) -> Release
     }
 }
 
-/// Updates what is open and held of the block that a beat bears on, where there is one.
+/// Updates the block that a beat concerns, if there is one.
 #[inline(always)]
 fn update_block<const W: usize>(
     blocks: &mut KnownBlocks,
@@ -89,7 +89,7 @@ fn update_block<const W: usize>(
     }
 }
 
-/// Whether an answer bears on no block.
+/// Whether an answer concerns no block.
 pub fn is_access(opcode: OpD) -> bool
     ensures { result ≡ is_access opcode }
 {
@@ -97,7 +97,7 @@ pub fn is_access(opcode: OpD) -> bool
 }
 
 impl LinkState {
-    /// What is kept of a link that has carried nothing.
+    /// The state of a link that has carried nothing.
     pub fn new(alloc: Global) -> Self
         ensures { IsEmpty result }
     {
@@ -110,7 +110,7 @@ impl LinkState {
         }
     }
 
-    /// The block of the message that a beat answers, where it changes something of one.
+    /// The block of the message that a beat answers, if the answer may change a block.
     #[inline(always)]
     fn answered<const W: usize>(&self, x: &BeatD<W>) -> Option<u32>
         ensures { result ≡ (if is_release_ack x.now.opcode then block_of_release (at self.now.releases x.now.source)
@@ -125,7 +125,7 @@ impl LinkState {
         }
     }
 
-    /// The block that a beat changes something of.
+    /// The block that a beat changes.
     #[inline(always)]
     pub fn touched<const W: usize>(&self, first: bool, last: bool, beat: &Beat<W>) -> Option<u32>
         ensures { result ≡ touched first last beat.now self.now }
@@ -140,7 +140,7 @@ impl LinkState {
         }
     }
 
-    /// What the message gives that a beat answers before its end, on a link that may have that.
+    /// The permission given by the unfinished message that a beat answers, on a link with the liberty `early`.
     #[inline(always)]
     fn came<const W: usize>(&self, liberties: Liberties, beat: &Beat<W>) -> Option<Perm>
         ensures { result ≡ came_in liberties beat.now self.now }
@@ -155,7 +155,7 @@ impl LinkState {
         }
     }
 
-    /// What the Release with this source leaves that is unfinished.
+    /// The permission that the unfinished Release with this source leaves.
     fn left_early(&self, source: u8) -> Option<Perm>
         ensures { result ≡ of_burst (left_by_control source) self.now.bursts.c }
     {
@@ -170,7 +170,7 @@ impl LinkState {
         }
     }
 
-    /// What the Grant with this sink gives that is unfinished.
+    /// The permission that the unfinished Grant with this sink gives.
     fn given_early(&self, sink: u8) -> Option<Perm>
         ensures { result ≡ of_burst (given_by_control sink) self.now.bursts.d }
     {
@@ -185,7 +185,7 @@ impl LinkState {
         }
     }
 
-    /// Updates what is pending by its source and by its sink.
+    /// Updates the pending keys of sources and sinks.
     #[inline(always)]
     fn update_keys<const W: usize>(
         &mut self,
@@ -211,7 +211,7 @@ impl LinkState {
         }
     }
 
-    /// Updates what is pending of the request that a beat answers, and of its sink.
+    /// Updates the pending keys of the request that a beat answers, and of its sink.
     #[inline(always)]
     fn update_answered<const W: usize>(
         &mut self,
@@ -238,7 +238,7 @@ impl LinkState {
         }
     }
 
-    /// Takes a beat that breaks no rule and changes nothing of a block.
+    /// Takes a beat that breaks no rule and changes no block.
     #[inline(always)]
     pub fn take_access<const W: usize>(&mut self, first: bool, last: bool, beat: &Beat<W>)
         requires width { IsWidth W }
@@ -255,9 +255,9 @@ impl LinkState {
         self.bursts.take(last, beat, &());
     }
 
-    /// Takes a beat that breaks no rule, which begins a message or doesn't, and completes it or doesn't.
-    /// Without memory nothing changes; that can only be where nothing was open or held of a block, and
-    /// now something is.
+    /// Takes a beat that breaks no rule, which begins a message or doesn't, and completes it or doesn't. The error
+    /// means that there is no memory left. Then nothing changes; the beat's block was empty, and would not be empty any
+    /// more.
     #[inline(always)]
     pub fn take<const W: usize>(
         &mut self,
@@ -286,7 +286,7 @@ impl LinkState {
         Ok(())
     }
 
-    /// How many keys are pending, and blocks held.
+    /// The number of pending keys, and of blocks held.
     pub fn entries(&self) -> usize
         ensures { result ≡ entries_in self.now }
     {

@@ -1,4 +1,4 @@
-//! A monitor of links: what it answers to each beat.
+//! A monitor of links, and its answer to each beat.
 
 ghost use Rattle.std.specs.Prelude.{Bool, None, List, IfOk, ◌≡◌};
 ghost use Rattle.tl_beat.specs.declared.beat.Beat.{Beat};
@@ -22,8 +22,8 @@ use tl_rules::perm::Perm;
 use tl_rules::profile::Profile;
 use tl_rules::rule::Rule;
 
-/// Judges the beats of up to 16 links, each after those of its own link. It keeps what is unfinished,
-/// pending and held on each link, and no beat.
+/// Judges the beats of up to 16 links, each after the earlier beats of its link. It keeps the unfinished and pending
+/// messages of each link, the permissions held, and no beat.
 #[derive(Drop)]
 pub struct Monitor<const W: usize> {
     links: Vec<MonitoredLink>,
@@ -32,7 +32,7 @@ pub struct Monitor<const W: usize> {
     ghost lawful: { AreLawful W liberties links.items },
 }
 
-/// A link of a monitor: its level, and what is kept of the beats that it has carried.
+/// A link of a monitor: its level, and its state after the beats that it has carried.
 #[derive(Drop)]
 pub struct MonitoredLink {
     level: Level,
@@ -60,7 +60,8 @@ impl<const W: usize> Monitor<W> {
         Ok(links)
     }
 
-    /// A monitor of links of these levels, which has seen no beat. There are to be 1 to 16 levels.
+    /// A monitor of links of these levels, which has seen no beat. The error is `Levels` unless there are 1 to 16
+    /// levels, or `Memory`.
     pub fn new(alloc: Global, levels: &[Level], profile: Profile) -> Result<Self, MonitorFault>
         requires { IsWidth W }
         ensures { IsNew levels.now profile result }
@@ -68,7 +69,7 @@ impl<const W: usize> Monitor<W> {
         Self::with_liberties(alloc, levels, Liberties::of(profile))
     }
 
-    /// The same of links with these liberties.
+    /// The same for links with these liberties. The errors are the same.
     pub fn with_liberties(
         alloc: Global,
         levels: &[Level],
@@ -90,7 +91,7 @@ impl<const W: usize> Monitor<W> {
         })
     }
 
-    /// The first rule that a beat breaks on its link, or none. It isn't taken.
+    /// The first rule that a beat breaks on its link, if it breaks one. The beat isn't taken.
     pub fn broken(&self, link: Link, beat: &Beat<W>) -> Option<Rule>
         requires { IsWidth W }
         ensures { (levels : List Level) (p : Profile) (t : Trace W) (closed : Bool) →
@@ -100,7 +101,7 @@ impl<const W: usize> Monitor<W> {
         self.broken_under(link, beat)
     }
 
-    /// The same on links with liberties.
+    /// The same under liberties.
     #[inline(always)]
     pub fn broken_under(&self, link: Link, beat: &Beat<W>) -> Option<Rule>
         requires { IsWidth W }
@@ -118,8 +119,8 @@ impl<const W: usize> Monitor<W> {
             .broken(self.liberties, monitored.level, beat)
     }
 
-    /// Judges a beat of a link, and takes it where it breaks no rule. Where it breaks one, the monitor knows what it
-    /// knew before, and goes on. `Closed` and `Memory` are answered as by `push`.
+    /// Judges a beat of a link, and takes it if it breaks no rule. After a broken rule the monitor is as before, and
+    /// goes on. It answers `Closed` and `Memory` as `push` does.
     #[inline(always)]
     pub fn try_push(&mut self, link: Link, beat: &Beat<W>) -> Result<(), MonitorFault>
         requires { IsWidth W }
@@ -145,7 +146,7 @@ impl<const W: usize> Monitor<W> {
         self.judge(link, beat)
     }
 
-    /// `try_push`, by what it says under liberties.
+    /// `try_push` under liberties.
     #[inline(always)]
     fn judge(&mut self, link: Link, beat: &Beat<W>) -> Result<(), MonitorFault>
         requires { IsWidth W }
@@ -174,9 +175,9 @@ impl<const W: usize> Monitor<W> {
         }
     }
 
-    /// Judges a beat of a link, and takes it where it breaks no rule. After a broken rule every call is
-    /// answered `Closed`. `Memory` is answered only where more keys of one kind are pending than
-    /// before, or more blocks held; then the monitor knows what it knew before.
+    /// Judges a beat of a link, and takes it if it breaks no rule. After a broken rule it answers every call with
+    /// `Closed`. `Memory` comes only for a beat with which more keys of one kind would be pending, or more blocks held;
+    /// then the monitor is as before.
     pub fn push(&mut self, link: Link, beat: &Beat<W>) -> Result<(), MonitorFault>
         requires { IsWidth W }
         ensures answer { (levels : List Level) (p : Profile) (t : Trace W) (closed : Bool) →
@@ -203,7 +204,7 @@ impl<const W: usize> Monitor<W> {
         answer
     }
 
-    /// The request with this source that is pending and complete on a link; none on a link without a level.
+    /// The request with this source that is pending and complete on a link. None on a link without a level.
     pub fn request(&self, link: Link, source: u8) -> Option<Request>
         ensures known { (levels : List Level) (p : Profile) (t : Trace W) (closed : Bool) →
             Knows self.now levels p t closed →
@@ -219,7 +220,7 @@ impl<const W: usize> Monitor<W> {
         self.links[n].state.open_request::<W>(false, source)
     }
 
-    /// The Probe of a block that is pending on a link; none on a link without a level.
+    /// The pending Probe of a block on a link. None on a link without a level.
     pub fn probe(&self, link: Link, block: u32) -> Option<Probe>
         ensures known { (levels : List Level) (p : Profile) (t : Trace W) (closed : Bool) →
             Knows self.now levels p t closed →
@@ -235,7 +236,7 @@ impl<const W: usize> Monitor<W> {
         self.links[n].state.probe::<W>(block)
     }
 
-    /// What is held of a block on a link; nothing on a link without a level.
+    /// The permission held of a block on a link. None on a link without a level.
     pub fn held(&self, link: Link, block: u32) -> Perm
         ensures { (levels : List Level) (p : Profile) (t : Trace W) (closed : Bool) →
             Knows self.now levels p t closed →
@@ -244,7 +245,7 @@ impl<const W: usize> Monitor<W> {
         self.held_under(link, block)
     }
 
-    /// The same on links with liberties.
+    /// The same under liberties.
     #[inline(always)]
     pub fn held_under(&self, link: Link, block: u32) -> Perm
         ensures { (levels : List Level) (l : Liberties) (t : Trace W) (closed : Bool) →
@@ -258,8 +259,8 @@ impl<const W: usize> Monitor<W> {
         self.links[n].state.blocks.get(block).held
     }
 
-    /// The permission that the unfinished Grant of a block gives on a link, where one has begun that isn't denied;
-    /// nothing on a link without a level.
+    /// The permission that the unfinished Grant of a block gives on a link, if one has begun that isn't denied. None on
+    /// a link without a level.
     pub fn coming(&self, link: Link, block: u32) -> Option<Perm>
         ensures known { (levels : List Level) (p : Profile) (t : Trace W) (closed : Bool) →
             Knows self.now levels p t closed →
@@ -275,7 +276,7 @@ impl<const W: usize> Monitor<W> {
         self.links[n].state.coming(block)
     }
 
-    /// What is held of a block on a link, a Grant counted from its first beat on; nothing on a link without a
+    /// The permission held of a block on a link, with a Grant counted from its first beat on. None on a link without a
     /// level.
     pub fn granted_under(&self, link: Link, block: u32) -> Perm
         ensures { (levels : List Level) (l : Liberties) (t : Trace W) (closed : Bool) →
@@ -288,7 +289,7 @@ impl<const W: usize> Monitor<W> {
         }
     }
 
-    /// Whether a beat begins a message on its link; on a link without a level none does.
+    /// Whether a beat begins a message on its link. On a link without a level none does.
     pub fn begins(&self, link: Link, beat: &Beat<W>) -> bool
         ensures known { (levels : List Level) (p : Profile) (t : Trace W) (closed : Bool) →
             Knows self.now levels p t closed →
@@ -304,8 +305,7 @@ impl<const W: usize> Monitor<W> {
         self.links[n].state.bursts.begins(beat)
     }
 
-    /// How many keys are pending on a link, and how many blocks aren't held as None; 0 for a link
-    /// without a level.
+    /// The number of pending keys on a link, and of blocks not held as None. 0 on a link without a level.
     pub fn entries(&self, link: Link) -> usize
         ensures known { (levels : List Level) (p : Profile) (t : Trace W) (closed : Bool) →
             Knows self.now levels p t closed →

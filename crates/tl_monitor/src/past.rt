@@ -1,4 +1,4 @@
-//! What the order of messages asks of a link, answered from what is kept of it.
+//! Answers the questions of the H rules from the state of a link.
 
 ghost use Rattle.std.specs.Prelude.{Option, ◌≡◌};
 ghost use Rattle.tl_burst.specs.statement.Messages.{History};
@@ -18,7 +18,7 @@ use tl_rules::past::{Probe, Request};
 use tl_rules::past_under::PastUnder;
 use tl_rules::perm::Perm;
 
-/// Whether a burst that isn't complete is of a request with this source.
+/// Whether an unfinished burst is of a request with this source.
 fn comes_request(source: u8, burst: &Option<Unfinished<()>>) -> bool
     ensures { result ≡ comes_request source burst.now }
 {
@@ -33,7 +33,7 @@ fn comes_request(source: u8, burst: &Option<Unfinished<()>>) -> bool
     }
 }
 
-/// Whether a burst that isn't complete is of a Release with this source.
+/// Whether an unfinished burst is of a Release with this source.
 fn comes_release(source: u8, burst: &Option<Unfinished<()>>) -> bool
     ensures { result ≡ comes_release source burst.now }
 {
@@ -48,7 +48,7 @@ fn comes_release(source: u8, burst: &Option<Unfinished<()>>) -> bool
     }
 }
 
-/// Whether a burst that isn't complete is of a Grant with this sink.
+/// Whether an unfinished burst is of a Grant with this sink.
 fn comes_grant(sink: u8, burst: &Option<Unfinished<()>>) -> bool
     ensures { result ≡ comes_grant sink burst.now }
 {
@@ -64,7 +64,7 @@ fn comes_grant(sink: u8, burst: &Option<Unfinished<()>>) -> bool
 }
 
 impl LinkState {
-    /// The request with this source, where one is pending that is complete or, if `early`, may be unfinished.
+    /// The pending request with this source, if it is complete. With `early` it needn't be complete.
     #[inline(always)]
     pub fn open_request<const W: usize>(&self, early: bool, source: u8) -> Option<Request>
         ensures { (l : Liberties) (t : History W) → Keeps l self.now t → result ≡ open_request_if early source t }
@@ -76,7 +76,7 @@ impl LinkState {
         }
     }
 
-    /// The Probe of the block, where one is pending.
+    /// The pending Probe of the block.
     pub fn probe<const W: usize>(&self, block: u32) -> Option<Probe>
         ensures { (l : Liberties) (t : History W) → Keeps l self.now t → result ≡ open_probe block t }
     {
@@ -87,7 +87,7 @@ impl LinkState {
     }
 }
 
-/// What is kept of a link that has these liberties.
+/// The state of a link with these liberties.
 #[derive(Clone, Copy)]
 pub struct KeptUnder<'a> {
     pub liberties: Liberties,

@@ -1,4 +1,4 @@
-//! What a whole trace is judged.
+//! The verdict of a monitor about a whole trace.
 
 ghost use Rattle.tl_beat.specs.statement.Width.{IsWidth};
 ghost use Rattle.std.specs.Prelude.{◌≡◌};
@@ -12,7 +12,7 @@ use tl_rules::level::Level;
 use tl_rules::liberties::Liberties;
 use tl_rules::profile::Profile;
 
-/// The fault of a trace whose beat `i` a monitor refuses, which no beat before it has closed.
+/// The fault of a trace if a monitor refuses beat `i` so, and no beat before it.
 fn fault_at(i: usize, fault: MonitorFault) -> TraceFault
     ensures { result ≡ trace_fault_of i fault }
 {
@@ -22,8 +22,8 @@ fn fault_at(i: usize, fault: MonitorFault) -> TraceFault
     }
 }
 
-/// The first beat of a trace that breaks a rule after the earlier beats of its own link, if there
-/// is one. An unfinished burst at the end breaks none.
+/// Judges a trace. The error is the first beat that breaks a rule after the earlier beats of its link, `Levels` unless
+/// there are 1 to 16 levels, or `Memory`. An unfinished burst at the end breaks no rule.
 pub fn check_trace<const W: usize>(
     alloc: Global,
     levels: &[Level],
@@ -36,7 +36,7 @@ pub fn check_trace<const W: usize>(
     check_trace_under(alloc, levels, Liberties::of(profile), trace)
 }
 
-/// The same on links with these liberties.
+/// The same under these liberties, with the same errors.
 pub fn check_trace_under<const W: usize>(
     alloc: Global,
     levels: &[Level],

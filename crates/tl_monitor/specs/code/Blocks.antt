@@ -12,7 +12,7 @@ use Rattle.tl_monitor.specs.code.Count.{one_if}
 
 -- ---- one tree of blocks
 
--- what is stored under a number
+-- the entry under a number
 abbrev pub value_found : List (ℕ × Block) → ℕ → Option Block
 value_found entries k = lookup (is_at (nat_cmp k)) entries
 
@@ -23,7 +23,7 @@ block_or_empty (Some b) = b
 abbrev pub value_in : List (ℕ × Block) → ℕ → Block
 value_in entries k = block_or_empty (value_found entries k)
 
--- the entries with what is seen of block k in the place of what stands there
+-- the entries with the state of block k in the place of its earlier one
 abbrev pub with_value : List (ℕ × Block) → ℕ → Option Block → List (ℕ × Block)
 with_value entries k None = entries
 with_value entries k (Some b) = set_value (is_at (nat_cmp k)) entries b
@@ -33,12 +33,12 @@ is_held perm.None = false
 is_held perm.Branch = true
 is_held perm.Trunk = true
 
--- how many keys of a block are pending, and one more where it is held
+-- how many keys of a block are pending, and one more if it is held
 unfoldable pub open_of : Block → ℕ
 open_of b = one_if (is_held b.held) + one_if b.acquire + one_if b.release + one_if (is_some b.probe) + one_if
     (is_some b.grant)
 
--- something is seen of block k where it stands in the entries, and then something is open or held of it
+-- block k has an entry exactly if it has a state, and then something is open or held of it
 abbrev pub IsValue : List (ℕ × Block) → ℕ → Option Block → Type 0
 IsValue entries k None = value_found entries k ≡ None
 IsValue entries k (Some b) = (is_some (value_found entries k) ≡ true) × (0 < open_of b)
@@ -49,7 +49,7 @@ AllOpen entries = (k : ℕ) (b : Block) → value_found entries k ≡ Some b →
 
 -- ---- the trees
 
--- the number of the tree that block k stands in
+-- the number of the tree of block k
 abbrev pub tree_of : ℕ → ℕ
 tree_of k = k % 256
 
@@ -65,7 +65,7 @@ block_found trees k = value_found (tree_in trees k) k
 abbrev pub block_in : List (List (ℕ × Block)) → ℕ → Block
 block_in trees k = block_or_empty (block_found trees k)
 
--- the same of all trees as of the one that the block stands in
+-- the same of all trees as of the block's own
 abbrev pub with_seen : List (List (ℕ × Block)) → ℕ → Option Block → List (List (ℕ × Block))
 with_seen trees k o = slice_set trees (tree_of k) (with_value (tree_in trees k) k o)
 

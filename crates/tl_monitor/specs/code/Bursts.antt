@@ -24,7 +24,7 @@ IsOf {w} (Some u) beats =
     × (length beats + u.left ≡ burst_length x)
     × (0 < u.left)
 
--- the beat has the control fields of the unfinished burst, where there is one
+-- the beat has the control fields of the unfinished burst, if there is one
 abbrev pub continues_burst : {w : ℕ} {P : Type 0} → Beat w → Option (Unfinished P) → Bool
 continues_burst x None = true
 continues_burst x (Some u) = has_control x u.control
@@ -44,12 +44,12 @@ abbrev pub left_after : {w : ℕ} {P : Type 0} → Beat w → Option (Unfinished
 left_after x None = burst_length x - 1
 left_after x (Some u) = u.left - 1
 
--- what stands beside the first beat of the burst
+-- the payload beside the first beat of the burst
 abbrev pub beside_first : {P : Type 0} → P → Option (Unfinished P) → P
 beside_first p None = p
 beside_first p (Some u) = u.beside
 
--- the burst with its next beat, beside which this is to stand; nothing where that beat is the last
+-- the burst with its next beat and this payload beside it; none if that beat is the last
 abbrev pub burst_next : {w : ℕ} {P : Type 0} → Beat w → P → Option (Unfinished P) → Option (Unfinished P)
 burst_next x p u =
     if left_after x u == 0 then None else Some

@@ -17,7 +17,7 @@ use Rattle.tl_monitor.specs.code.LinkState.{IsNext, OpensBlock}
 use Rattle.tl_params.specs.declared.rule.Rule.{Rule}
 use Rattle.tl_monitor.specs.declared.link_state.LinkState.{LinkState}
 
--- All that is kept is what the history leaves under these liberties. The block of each GrantAck that is pending stands under
+-- The state is what the history leaves under these liberties. The block of each pending GrantAck is found under
 -- its sink, and a burst of channel D that is unfinished answers a request that is pending.
 pub record Keeps {w : ℕ} (l : Liberties) (k : LinkState) (t : History w) : Type 0 where
   pub bursts_are : (ch : Channel) → IsOf (burst_on k.bursts ch) (unfinished ch t)
@@ -29,18 +29,18 @@ pub record Keeps {w : ℕ} (l : Liberties) (k : LinkState) (t : History w) : Typ
   pub answering : (x : BeatD w) (earlier : List (Beat w)) → unfinished channel.D t ≡ beat.D x ∷ earlier
       → (is_release_ack x.opcode ≡ false) × (is_some (kept_request x.source t) ≡ true)
 
--- the rule that is answered, none where memory is wanting
+-- the rule that is answered, none if memory is wanting
 abbrev pub answered : {E : Type 0} → Result (Option Rule) E → Option Rule
 answered (Ok rule) = rule
 answered (Err e) = None
 
--- a beat is taken where no rule is answered; otherwise nothing changes
+-- a beat is taken if no rule is answered; otherwise nothing changes
 abbrev pub Takes : {w : ℕ} → Liberties → LinkState → Beat w → LinkState → Option Rule → Type 0
 Takes l old x new None = IsNext l old x new
 Takes l old x new (Some rule) = new ≡ old
 
--- a beat is taken where no rule is answered; otherwise nothing changes. Where memory is wanting something was to be opened
--- or held of a block of which nothing was.
+-- a beat is taken if no rule is answered; otherwise nothing changes. If memory is wanting something was to be opened
+-- or held of a block that had nothing before.
 abbrev pub TakesBeat : {w : ℕ} {E : Type 0} → Liberties → LinkState → Beat w → LinkState → Result (Option Rule) E → Type 0
 TakesBeat l old x new (Ok rule) = Takes l old x new rule
 TakesBeat l old x new (Err e) = (new ≡ old) × ((b : ℕ) × OpensBlock l old x b)

@@ -1,4 +1,4 @@
--- What is known of each block, where one is kept by itself.
+-- What is known of each block, if one is kept by itself.
 use Rattle.std.specs.Prelude.{ℕ, ◌==◌, if◌then◌else◌, List}
 use Rattle.tl_rules.specs.declared.table.Block.{Block}
 use Rattle.tl_monitor.specs.code.Blocks.{block_in}

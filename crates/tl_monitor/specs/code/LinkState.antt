@@ -84,7 +84,7 @@ came_early_in _ k = None
 abbrev pub came_in : {w : ℕ} → Liberties → Beat w → LinkState → Option Perm
 came_in l x k = if l.early then came_early_in x k else None
 
--- the block that was granted with a sink, where b was before
+-- the block that was granted with a sink, if b was before
 abbrev pub sink_with : {w : ℕ} → Bool → Bool → Beat w → Option ℕ → ℕ → Option ℕ → Option ℕ
 sink_with first last (beat.D x) block s b = if first && (is_grant x.opcode && (x.sink == s)) then block else b
 sink_with first last (beat.E x) block s b = if last && (x.sink == s) then None else b
@@ -104,7 +104,7 @@ pub record IsNext {w : ℕ} (l : Liberties) (old : LinkState) (x : Beat w) (new 
       ≡ (if is_block b (touched (is_first x old) (completes x old) x old) then block_next l (is_first x old)
       (completes x old) (came_in l x old) x (known_in old.blocks b) else known_in old.blocks b)
 
--- a beat of a block of which nothing was open or held, and then something is
+-- a beat of a block that had nothing open or held, and has something afterwards
 pub record OpensBlock {w : ℕ} (l : Liberties) (old : LinkState) (x : Beat w) (b : ℕ) : Type 0 where
   pub is_number : b < 2 ^ 32
   pub is_touched : touched (is_first x old) (completes x old) x old ≡ Some b

@@ -1,4 +1,4 @@
--- What a link holds of a block where a Grant counts as held from its first beat on.
+-- The permission that a link holds of a block, with a Grant counted from its first beat on.
 use Rattle.std.specs.Prelude.{ℕ, not, ◌&&◌, if◌then◌else◌, List, ◌∷◌, Option, Some, None, unwrap_or, nat_lt, length}
 use Rattle.tl_beat.specs.declared.beat.Beat.{Beat}
 use Rattle.tl_beat.specs.declared.beat.Beat.TheVariants as beat
@@ -13,23 +13,24 @@ use Rattle.tl_rules.specs.statement.Conformance.{Trace, on_link}
 use Rattle.tl_rules.specs.statement.History.{grants, capped}
 use Rattle.tl_rules.specs.statement.Liberties.{held_under}
 
--- what the Grant gives of the block whose beats these are, the newest first; a denied one gives nothing
+-- the permission that a Grant of the block with these beats, the newest first, gives; none if it is denied
 abbrev pub given_by : {w : ℕ} → ℕ → List (Beat w) → History w → Option Perm
 given_by k (beat.D x ∷ burst) t = if grants k x t && not x.denied then Some (capped x.param) else None
 given_by k _ t = None
 
--- what the Grant of the block gives that has begun and isn't complete
+-- the permission that the unfinished Grant of the block gives
 abbrev pub coming : {w : ℕ} → ℕ → History w → Option Perm
 coming k t = given_by k (unfinished channel.D t) t
 
--- what is held of the block under liberties, a Grant counted from its first beat on
+-- the permission held of the block under liberties, with a Grant counted from its first beat on
 abbrev pub granted_under : {w : ℕ} → Liberties → ℕ → History w → Perm
 granted_under l k t = unwrap_or (coming k t) (held_under l k t)
 
--- the same on one of the links; nothing on a link without a level
+-- the permission that the unfinished Grant of the block gives on a link; none on a link without a level
 abbrev pub coming_on : {w : ℕ} → List Level → Link → ℕ → Trace w → Option Perm
 coming_on levels link block t = if nat_lt link.0 (length levels) then coming block (on_link link.0 t) else None
 
+-- `granted_under` on a link; None on a link without a level
 abbrev pub granted_on_under : {w : ℕ} → Liberties → List Level → Link → ℕ → Trace w → Perm
 granted_on_under l levels link block t =
     if nat_lt link.0 (length levels) then granted_under l block (on_link link.0 t) else perm.None

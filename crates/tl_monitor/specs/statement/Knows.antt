@@ -1,4 +1,4 @@
--- What a monitor knows of the trace that it was given.
+-- The state of a monitor after a trace.
 use Rattle.std.specs.Prelude.{ℕ, Bool, true, false, List, [], ◌∷◌, ◌≡◌, ◌<◌, if◌then◌else◌, length, map, nat_lt}
 use Rattle.std.specs.Prelude.{slice_index_or, Option, Some, None, Result, Ok, Err, ⊤}
 use Rattle.tl_beat.specs.declared.beat.Beat.{Beat}
@@ -30,8 +30,8 @@ use Rattle.tl_monitor.specs.declared.fault.TraceFault.TheVariants as trace
 abbrev pub levels_of : List MonitoredLink → List Level
 levels_of links = map (λ link. link.level) links
 
--- The monitor has these levels and liberties, and keeps of each link what was recorded there, the newest
--- first. It is closed where a beat was refused by a rule.
+-- The monitor has these levels and liberties, and for each link the state after the trace, whose newest beat is first.
+-- It is closed after a refusal by a rule.
 pub record KnowsUnder {w : ℕ} (m : Monitor w) (levels : List Level) (l : Liberties) (t : Trace w) (closed : Bool) : Type 0
   where
     pub levels_are : levels_of m.links.items ≡ levels
@@ -40,7 +40,7 @@ pub record KnowsUnder {w : ℕ} (m : Monitor w) (levels : List Level) (l : Liber
     pub links_are : (n : ℕ) (d : MonitoredLink) → n < length levels
         → Keeps l (slice_index_or m.links.items n d).state (on_link n t)
 
--- the same of a monitor of a profile
+-- the same for a monitor of a profile
 unfoldable pub Knows : {w : ℕ} → Monitor w → List Level → Profile → Trace w → Bool → Type 0
 Knows m levels p t closed = KnowsUnder m levels (liberties_of p) t closed
 
@@ -48,63 +48,64 @@ Knows m levels p t closed = KnowsUnder m levels (liberties_of p) t closed
 abbrev pub request_on : {w : ℕ} → List Level → Link → ℕ → Trace w → Option Request
 request_on levels link source t = if nat_lt link.0 (length levels) then open_request source (on_link link.0 t) else None
 
--- the Probe of a block that is pending on a link; none on a link without a level
+-- the pending Probe of a block on a link; none on a link without a level
 abbrev pub probe_on : {w : ℕ} → List Level → Link → ℕ → Trace w → Option Probe
 probe_on levels link block t = if nat_lt link.0 (length levels) then open_probe block (on_link link.0 t) else None
 
--- what is held of a block on a link; nothing on a link without a level
+-- the permission held of a block on a link; None on a link without a level
 abbrev pub held_on : {w : ℕ} → List Level → Link → ℕ → Trace w → Perm
 held_on levels link block t = if nat_lt link.0 (length levels) then held block (on_link link.0 t) else perm.None
 
+-- the same under liberties
 abbrev pub held_on_under : {w : ℕ} → Liberties → List Level → Link → ℕ → Trace w → Perm
 held_on_under l levels link block t =
     if nat_lt link.0 (length levels) then held_under l block (on_link link.0 t) else perm.None
 
--- the beat begins a message on its link; none on a link without a level
+-- the beat begins a message on its link; it doesn't on a link without a level
 abbrev pub begins_on : {w : ℕ} → List Level → Link → Beat w → Trace w → Bool
 begins_on levels link x t = if nat_lt link.0 (length levels) then begins x (on_link link.0 t) else false
 
--- links of these levels, of which nothing is kept
+-- links of these levels that have carried nothing
 pub record AreEmpty (levels : List Level) (links : List MonitoredLink) : Type 0 where
   pub levels_are : levels_of links ≡ levels
   pub all_empty : (n : ℕ) (d : MonitoredLink) → n < length levels → IsEmpty (slice_index_or links n d).state
 
--- what a new monitor is, or why there is none
+-- a new monitor with these liberties, or the reason why there is none
 abbrev pub IsNewUnder : {w : ℕ} → List Level → Liberties → Result (Monitor w) MonitorFault → Type 0
 IsNewUnder levels l (Ok m) = IsCount (length levels) × KnowsUnder m levels l [] false
 IsNewUnder levels l (Err monitor.Levels) = ¬ IsCount (length levels)
 IsNewUnder levels l (Err monitor.Memory) = IsCount (length levels)
 IsNewUnder levels l (Err _) = ⊥
 
+-- a new monitor of a profile, or the reason why there is none
 abbrev pub IsNew : {w : ℕ} → List Level → Profile → Result (Monitor w) MonitorFault → Type 0
 IsNew levels p (Ok m) = IsCount (length levels) × Knows m levels p [] false
 IsNew levels p (Err monitor.Levels) = ¬ IsCount (length levels)
 IsNew levels p (Err monitor.Memory) = IsCount (length levels)
 IsNew levels p (Err _) = ⊥
 
--- the fault of a beat, want of memory aside: the first rule that it breaks after the earlier beats
--- of its link, where none was refused before
+-- the fault of a beat by the rule that it breaks
 abbrev pub broken : Option Rule → Option MonitorFault
 broken None = None
 broken (Some rule) = Some (monitor.Broken rule)
 
--- the fault of a beat, want of memory aside: Closed after a refusal, else the first rule that it
--- breaks on its link
+-- the fault of a beat, apart from Memory: Closed after a refusal, or else the first rule that it breaks on its link
 abbrev pub fault_of : {w : ℕ} → List Level → Profile → Trace w → Bool → Link × Beat w → Option MonitorFault
 fault_of levels p t true x = Some monitor.Closed
 fault_of levels p t false x = broken (broken_on_link levels p x t)
 
+-- the same under liberties
 abbrev pub fault_under : {w : ℕ} → List Level → Liberties → Trace w → Bool → Link × Beat w → Option MonitorFault
 fault_under levels l t true x = Some monitor.Closed
 fault_under levels l t false x = broken (broken_on_link_under l levels x t)
 
--- the answer to a beat that has this fault, or none
+-- the answer to a beat with this fault, or with none; it is Memory only if there is none
 abbrev pub Answers : Option MonitorFault → Result ⊤ MonitorFault → Type 0
 Answers fault (Ok u) = fault ≡ None
 Answers fault (Err monitor.Memory) = fault ≡ None
 Answers fault (Err e) = fault ≡ Some e
 
--- what is recorded after an answer
+-- the trace after an answer: only a beat that was taken is added
 abbrev pub recorded_after : {w : ℕ} → Result ⊤ MonitorFault → Link × Beat w → Trace w → Trace w
 recorded_after (Ok u) x t = x ∷ t
 recorded_after (Err e) x t = t
@@ -115,20 +116,22 @@ closed_after (Ok u) = false
 closed_after (Err monitor.Memory) = false
 closed_after (Err e) = true
 
--- the answer to a trace that has this first fault, or none, want of memory aside
+-- the answer to a trace with this first fault, or with none; with 1 to 16 levels it may also be Memory
 abbrev pub AnswersFirst : List Level → Option (ℕ × Rule) → Result ⊤ TraceFault → Type 0
 AnswersFirst levels fault (Ok u) = IsCount (length levels) × (fault ≡ None)
 AnswersFirst levels fault (Err (trace.At i rule)) = IsCount (length levels) × (fault ≡ Some (i, rule))
 AnswersFirst levels fault (Err trace.Levels) = ¬ IsCount (length levels)
 AnswersFirst levels fault (Err trace.Memory) = IsCount (length levels)
 
+-- the answer to a trace under liberties
 abbrev pub AnswersTraceUnder : {w : ℕ} → List Level → Liberties → Trace w → Result ⊤ TraceFault → Type 0
 AnswersTraceUnder levels l beats result = AnswersFirst levels (first_fault_under l levels beats) result
 
+-- the answer to a trace under a profile
 abbrev pub AnswersTrace : {w : ℕ} → List Level → Profile → Trace w → Result ⊤ TraceFault → Type 0
 AnswersTrace levels p beats result = AnswersFirst levels (first_fault levels p beats) result
 
--- what the refusal of beat i is to a trace
+-- the fault of a trace if a monitor refuses beat i so
 abbrev pub trace_fault_of : ℕ → MonitorFault → TraceFault
 trace_fault_of i (monitor.Broken rule) = trace.At i rule
 trace_fault_of i _ = trace.Memory

@@ -1,4 +1,4 @@
--- How many keys are pending on a link, and how many blocks are held.
+-- The numbers of pending keys and of blocks held on a link.
 use Rattle.std.specs.Prelude.{ℕ, List, [], ◌∷◌, ◌<◌, ◌⊎◌, ◌^◌, if◌then◌else◌, length, nat_lt, Result, Err, ⊤}
 use Rattle.std.specs.List.{sum}
 use Rattle.tl_beat.specs.declared.beat.Beat.{Beat}
@@ -16,8 +16,8 @@ use Rattle.tl_monitor.specs.code.Blocks.{is_held}
 use Rattle.tl_monitor.specs.declared.fault.MonitorFault.{MonitorFault}
 use Rattle.tl_monitor.specs.declared.fault.MonitorFault.TheVariants as monitor
 
--- How many keys of each kind are pending, and how many blocks aren't held as None, under liberties. Sources
--- and sinks are bytes, and numbers of blocks have 32 bits.
+-- The number of pending keys of each kind, and of blocks not held as None, under liberties. Sources and sinks are
+-- bytes, and block numbers have 32 bits.
 abbrev pub numbers_under : {w : ℕ} → Liberties → History w → List ℕ
 numbers_under l t =
     count_below 256 (λ s. pending (RequestSource s) t)
@@ -30,11 +30,11 @@ numbers_under l t =
     ∷ count_below (2 ^ 32) (λ k. is_held (held_under l k t))
     ∷ []
 
--- how many of all of them there are on a link; none on one without a level
+-- the sum of these numbers on a link; 0 on a link without a level
 abbrev pub entry_count_under : {w : ℕ} → Liberties → List Level → Link → Trace w → ℕ
 entry_count_under l levels link t = if nat_lt link.0 (length levels) then sum (numbers_under l (on_link link.0 t)) else 0
 
--- without liberties
+-- the number of pending keys of each kind, and of blocks not held as None, without liberties
 abbrev pub numbers : {w : ℕ} → History w → List ℕ
 numbers t =
     count_below 256 (λ s. pending (RequestSource s) t)
@@ -47,20 +47,21 @@ numbers t =
     ∷ count_below (2 ^ 32) (λ k. is_held (held k t))
     ∷ []
 
--- how many of all of them there are on a link; none on one without a level
+-- the sum of these numbers on a link; 0 on a link without a level
 abbrev pub entry_count : {w : ℕ} → List Level → Link → Trace w → ℕ
 entry_count levels link t = if nat_lt link.0 (length levels) then sum (numbers (on_link link.0 t)) else 0
 
--- one number has become more
+-- one of these numbers has grown
 abbrev pub AnyMore : List ℕ → List ℕ → Type 0
 AnyMore (n ∷ before) (m ∷ after) = (n < m) ⊎ AnyMore before after
 AnyMore _ _ = ⊥
 
--- where a beat is refused for want of memory, one of these numbers was to become more
+-- if a beat is refused for lack of memory, it would make one of these numbers grow
 abbrev pub IsMoreUnder : {w : ℕ} → Liberties → History w → Beat w → Result ⊤ MonitorFault → Type 0
 IsMoreUnder l t x (Err monitor.Memory) = AnyMore (numbers_under l t) (numbers_under l (x ∷ t))
 IsMoreUnder l t x _ = ⊤
 
+-- the same without liberties
 abbrev pub IsMoreWhereRefused : {w : ℕ} → History w → Beat w → Result ⊤ MonitorFault → Type 0
 IsMoreWhereRefused t x (Err monitor.Memory) = AnyMore (numbers t) (numbers (x ∷ t))
 IsMoreWhereRefused t x _ = ⊤

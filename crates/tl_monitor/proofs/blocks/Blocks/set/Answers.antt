@@ -1,5 +1,5 @@
 use Rattle.std.proofs.Common.{ap, arith, refl, rules, ◌∙◌}
-use Rattle.tl_monitor.specs.code.Blocks.{entries_of, open_of, with_seen}
+use Rattle.tl_monitor.specs.code.Blocks.{block_or_empty, entries_of, open_of, with_seen}
 use Rattle.tl_monitor.proofs.OpenBlocks.{all-before, all-changed, all-le, entries-long, own-said, set-said}
 use Rattle.tl_monitor.proofs.blocks.Blocks.set.Goals as goal
 
@@ -10,7 +10,7 @@ overflow_sub-self c =
     let own = own-said (entries_of c.turn-old.new.trees) table c.args.block c.args.block c.turn-old.result
     (entries-long c.turn-old.new.trees c.args.block c.turn-old.ensures.long) c.turn-old.ensures.stands
     c.turn-old.ensures.same refl in
-    let before = c.open_of.ensures.counted ∙ ap open_of (c.or_empty.ensures ∙ own) in
+    let before = c.open_of.ensures.counted ∙ ap open_of (c.or_empty.ensures ∙ ap block_or_empty c.as_ref.ensures.value ∙ own) in
     omega (arith, one, before, c.self.invariant.0)
 
 pub overflow_add-self : goal.overflow_add-self
@@ -31,7 +31,7 @@ invariant_of-self-2 c =
     let long = entries-long c.turn-old.new.trees c.args.block c.turn-old.ensures.long in
     let own = own-said (entries_of c.turn-old.new.trees) table c.args.block c.args.block c.turn-old.result long
     c.turn-old.ensures.stands c.turn-old.ensures.same refl in
-    let before = c.open_of.ensures.counted ∙ ap open_of (c.or_empty.ensures ∙ own) in
+    let before = c.open_of.ensures.counted ∙ ap open_of (c.or_empty.ensures ∙ ap block_or_empty c.as_ref.ensures.value ∙ own) in
     let new = with_seen (entries_of c.make_room.new.trees) c.args.block c.in_ok-self-inside.field-0 in
     let changed =
     set-said (entries_of c.turn-old.new.trees) new table c.args.block c.args.value c.turn-old.result long

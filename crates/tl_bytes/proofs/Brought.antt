@@ -1,9 +1,9 @@
 -- The bytes that one more beat brings.
 use Rattle.std.proofs.Common.{◌≡◌, ℕ, Bool, true, false, ◌&&◌, ◌+◌, ◌-◌, ◌*◌, ◌/◌, ◌%◌, ◌<◌, ◌≤◌, List, ◌∷◌, [], length}
 use Rattle.std.proofs.Common.{refl, sym, ap, ◌∙◌, arith, inl, inr}
-use Rattle.std.specs.Prelude.{if◌then◌else◌, ◌==◌, Option, None, nat_lt, slice_get}
+use Rattle.std.specs.Prelude.{if◌then◌else◌, ◌==◌, Option, None, nat_le, nat_lt, slice_get}
 use Rattle.std.proofs.Math.Nat.{div-lt_iff_lt-mul, le-div_iff_mul-le, mod-lt}
-use Rattle.std.proofs.lemmas.Bool.{cases_eq, cases_lt, eq-eqb, lt-ltb, le-ltb, ne_eqb}
+use Rattle.std.proofs.lemmas.Bool.{cases_eq, cases_lt, eq-eqb, le-leb, lt-leb, lt-ltb, le-ltb, ne_eqb}
 use Rattle.std.{proofs.lemmas.Nat.div-add-mod', proofs.lemmas.Option.slice_get_past}
 use Rattle.tl_beat.{specs.declared.beat.Beat.Beat, specs.statement.Width.IsWidth}
 use Rattle.tl_rules.specs.statement.Admission.{is_spoiled, lanes_of}
@@ -43,6 +43,29 @@ lane-off w n many p pos outside = elim (cases_eq (p / w) n) [
       let within = in_beat w p n here in
       absurd (outside within.0 (omega (arith, within.0, within.1, mod-lt p pos)))
   | inr ne ↦ rw (ne_eqb (p / w) n ne) refl
+]
+
+-- the places of its lanes are those from its first on
+pub lanes-put : (w n p : ℕ) (lanes : List ℕ) (before : Option ℕ) → 0 < w → length lanes ≡ w
+    → (if nat_le (w * n) p && nat_lt p (w * n + w) then slice_get lanes (p - w * n) else before)
+    ≡ (if is_lane w n (length lanes) p then slice_get lanes (p % w) else before)
+lanes-put w n p lanes before pos many = elim (cases_lt p (w * n)) [
+  | inl below ↦ rw (
+    lt-leb (w * n) p below,
+    lane-off w n (length lanes) p pos (λ from to. omega (arith, below, from)),
+  ) refl
+  | inr from ↦ elim (cases_lt p (w * n + w)) [
+    | inl inside ↦
+        let in_width : p - w * n < w = omega (arith, from, inside) in
+        let on = lane-on w n (length lanes) (p - w * n) p pos (omega (arith, from)) in_width
+        (omega (arith, in_width, many)) in
+        rw (le-leb (w * n) p from, lt-ltb p (w * n + w) inside, on.0, on.1) refl
+    | inr past ↦ rw (
+      le-leb (w * n) p from,
+      le-ltb p (w * n + w) past,
+      lane-off w n (length lanes) p pos (λ _ to. omega (arith, past, to)),
+    ) refl
+  ]
 ]
 
 -- a block that has room for one byte of a beat has room for all

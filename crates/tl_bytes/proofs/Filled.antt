@@ -1,46 +1,11 @@
 -- What is filled place by place.
-use Rattle.std.proofs.Common.{◌≡◌, ℕ, Bool, true, false, ◌&&◌, ◌+◌, ◌<◌, ◌≤◌, List, get_or, set, length, refl, sym, ap}
+use Rattle.std.proofs.Common.{◌≡◌, ℕ, ◌+◌, ◌<◌, ◌≤◌, List, get_or, set, length, refl, sym, ap}
 use Rattle.std.proofs.Common.{◌∙◌, arith, inl, inr}
 use Rattle.std.specs.Prelude.{if◌then◌else◌, ◌==◌, nat_lt}
 use Rattle.std.proofs.lemmas.Bool.{cases_eq, cases_lt, eq-eqb, lt-ltb, le-ltb, ne_eqb}
 use Rattle.std.proofs.lemmas.List.{get_or-set_same, get_or-set_other}
 
--- those places are filled that pass a test
-module _ {X : Type 0} (test : ℕ → Bool) (fill before : ℕ → X) where
-  -- what stands at a place once those before this one are done
-  abbrev pub after : ℕ → ℕ → X
-  after k p = if nat_lt p k && test p then fill p else before p
-
-  pub none-done : (k p : ℕ) → (p < k → test p ≡ false) → before p ≡ after k p
-  none-done k p off = elim (cases_lt p k) [
-    | inl lt ↦ rw (lt-ltb p k lt, off lt) refl
-    | inr le ↦ rw (le-ltb p k le) refl
-  ]
-
-  pub all-done : (k p : ℕ) → (k ≤ p → test p ≡ false) → after k p ≡ (if test p then fill p else before p)
-  all-done k p off = elim (cases_lt p k) [
-    | inl lt ↦ rw (lt-ltb p k lt) refl
-    | inr le ↦ rw (le-ltb p k le, off le) refl
-  ]
-
-  same-elsewhere : (k p : ℕ) → (p ≡ k → ⊥) → after k p ≡ after (k + 1) p
-  same-elsewhere k p ne = elim (cases_lt p k) [
-    | inl lt ↦ rw (lt-ltb p k lt, lt-ltb p (k + 1) (omega arith)) refl
-    | inr le ↦
-        let less : k + 1 ≤ p = omega (arith, ne) in
-        rw (le-ltb p k le, le-ltb p (k + 1) less) refl
-  ]
-
-  pub one-done : (k : ℕ) (now new : ℕ → X) → test k ≡ true
-      → ((p : ℕ) → new p ≡ (if p == k then fill k else now p))
-      → ((p : ℕ) → p < 64 → now p ≡ after k p)
-      → (p : ℕ) → p < 64 → new p ≡ after (k + 1) p
-  one-done k now new on put so_far p lt = elim (cases_eq p k) [
-    | inl same ↦ put p ∙ rw (eq-eqb p k same, lt-ltb p (k + 1) (omega (arith, same)), ap test same ∙ on) (ap fill (sym same))
-    | inr ne ↦ put p ∙ rw (ne_eqb p k ne) (so_far p lt ∙ same-elsewhere k p ne)
-  ]
-
--- all are, one after another
+-- they are, one after another
 module _ {X : Type 0} (fill before : ℕ → X) where
   -- what stands at a place once those before this one are done
   abbrev pub filled_to : ℕ → ℕ → X

@@ -1,4 +1,4 @@
-//! What the bytes of a block may be.
+//! The possible values of a block's bytes.
 
 ghost use Rattle.std.specs.Prelude.{ℕ, true, false, [], ◌∷◌, ◌+◌, ◌*◌, ◌<◌, ◌≡◌, Option, Some, None};
 ghost use Rattle.std.specs.Prelude.{find, length, IfOk};
@@ -21,14 +21,14 @@ use crate::windows::{WindowCount, WritingWindows};
 use crate::write::{Write, is_left_as};
 use std::alloc::{AllocError, Global};
 
-/// What the bytes of one block may be, and when they were last told.
+/// The possible values of a block's bytes, and the moment at which a message last set them.
 #[derive(Drop)]
 pub struct BlockBytes {
-    /// What each byte was told to be last.
+    /// The newest possible value of each byte.
     pub(crate) latest: Latest,
-    /// What it may be beside that, the last told first.
+    /// The other possible values, the newest first.
     pub(crate) earlier: Vec<Told>,
-    /// The moment at which a Grant, or data given back, last told of the block; 0 where that never was.
+    /// The moment at which a Grant or a report last set the bytes, or 0.
     last: u64,
 }
 
@@ -36,7 +36,7 @@ impl BlockBytes {
     ghost use Rattle.tl_bytes.specs.statement.Known.{AreCarried, IsWrite, KnowsBlock, KnowsWindows};
     ghost use Rattle.tl_bytes.specs.statement.Known.{MayWrite, standing_of, windowed};
 
-    /// A block of which nothing was told: its bytes may be anything.
+    /// A block before the trace: its bytes may have any value.
     pub fn new(alloc: Global) -> Self
         ensures { (w n block : ℕ) → KnowsBlock {w = w} result n block [] }
     {
@@ -47,7 +47,7 @@ impl BlockBytes {
         }
     }
 
-    /// The same.
+    /// A copy. The error means that there is no memory left.
     pub fn copy(&self, alloc: Global) -> Result<Self, AllocError>
         ensures { IfOk result (λ b. (w n block : ℕ) (t : Trace w) → KnowsBlock self.now n block t →
             KnowsBlock b n block t) }
@@ -70,8 +70,8 @@ impl BlockBytes {
         could_be(byte, last.value) || is_told_as(self.earlier.as_slice(), place, byte)
     }
 
-    /// Whether this byte may be granted at a place, beside what accesses that are pending, and have had a
-    /// window, may write.
+    /// Whether this byte may be granted at a place. `writes` are the writes of the pending accesses that have had a
+    /// window.
     pub fn may_grant(&self, place: u8, byte: u8, writes: &[Write]) -> bool
         ensures { (w n block : ℕ) (t : Trace w) → KnowsBlock self.now n block t →
             MayWrite writes.now block (windowed n block t) → place < 64 →
@@ -80,7 +80,7 @@ impl BlockBytes {
         self.may_be(place, byte) || is_left_as(writes, place, byte)
     }
 
-    /// How an access to the block, which is answered, or denied, and had these windows, stands to what was told of it.
+    /// The relation of an access to the block, which is answered or denied, to its windows and to the possible values.
     pub fn standing(&self, windows: &WritingWindows, denied: bool) -> Standing
         ensures { (w n block : ℕ) (access : Access w) (t : Trace w) →
             KnowsBlock self.now n block t → KnowsWindows windows.now n block access.asked t →
@@ -99,8 +99,8 @@ impl BlockBytes {
         }
     }
 
-    /// What is told by the bytes that are granted or given back with a beat before which so many were taken;
-    /// none is for one that may be anything.
+    /// The block after a message that sets its bytes; `moment` is the number of beats before the message's last. A byte
+    /// that isn't known may have any value. The error means that there is no memory left, or that `moment` is 2^64 - 1.
     pub fn told(alloc: Global, values: &KnownBytes, moment: u64) -> Result<Self, AllocError>
         ensures { IfOk result (λ b. (w n block : ℕ) (x : Link × Beat w) (t : Trace w) →
             tells block x.1 (on_link x.0.0 t) ≡ true → moment ≡ length t → AreCarried values.now x t →
@@ -116,8 +116,8 @@ impl BlockBytes {
         })
     }
 
-    /// It with the bytes that an access leaves in the block, whose answer is complete with a beat before which
-    /// so many were taken.
+    /// The block after an access with this write; `moment` is the number of beats before the last one of its answer.
+    /// The error means that there is no memory left.
     pub fn with(
         &self,
         alloc: Global,

@@ -10,8 +10,8 @@ use crate::known_bytes::KnownBytes;
 use tl_beat::beat::Beat;
 use tl_rules::admission::is_spoiled;
 
-/// The bytes that the beats of a message have brought so far, each at its place in the block; none where
-/// its beat is to come, or was corrupt.
+/// The bytes that the beats of a message have brought, each at its place in the block. A byte isn't known if its beat
+/// is to come, or is corrupt or denied.
 #[derive(Clone, Copy)]
 pub struct CarriedBytes {
     bytes: KnownBytes,
@@ -21,7 +21,7 @@ pub struct CarriedBytes {
 impl CarriedBytes {
     ghost use Rattle.tl_bytes.specs.statement.Known.{HasBytes, KnowsCarried};
 
-    /// No beat's.
+    /// The bytes of no beat.
     pub fn new() -> Self
         ensures { (w : ℕ) → KnowsCarried {w = w} result [] }
     {
@@ -31,7 +31,7 @@ impl CarriedBytes {
         }
     }
 
-    /// Puts the bytes of one more beat at their places; a block has no room for more than its own.
+    /// Puts the bytes of one more beat at their places. Bytes beyond the block's 64 are left out.
     fn put<const W: usize>(&mut self, lanes: &[u8; W])
         requires { IsWidth W }
         ensures beats { self.new.beats ≡ self.old.beats }
@@ -43,12 +43,10 @@ impl CarriedBytes {
         if end > 64 {
             return;
         }
-        for lane in 0..W {
-            self.bytes.set(first + lane, lanes[lane]);
-        }
+        self.bytes.set_all(first, lanes);
     }
 
-    /// Puts those of data, where a beat has any.
+    /// Puts the bytes of a beat that has data.
     fn put_data<const W: usize>(&mut self, lanes: &Option<[u8; W]>)
         requires { IsWidth W }
         ensures beats { self.new.beats ≡ self.old.beats }
@@ -60,7 +58,7 @@ impl CarriedBytes {
         }
     }
 
-    /// Puts those of a beat that isn't corrupt.
+    /// Puts the bytes of a beat that isn't corrupt or denied.
     fn bring<const W: usize>(&mut self, beat: &Beat<W>)
         requires { IsWidth W }
         ensures beats { self.new.beats ≡ self.old.beats }
@@ -79,7 +77,7 @@ impl CarriedBytes {
         }
     }
 
-    /// Adds those of the next beat.
+    /// Adds the bytes of the next beat.
     pub fn add<const W: usize>(&mut self, beat: &Beat<W>)
         requires { IsWidth W }
         ensures { (burst : List (Beat W)) → KnowsCarried self.old burst → length burst < 64 →
@@ -89,7 +87,7 @@ impl CarriedBytes {
         self.beats = self.beats.saturating_add(1);
     }
 
-    /// How many beats brought them.
+    /// The number of beats.
     pub fn count(&self) -> usize
         ensures { (w : ℕ) (burst : List (Beat w)) → KnowsCarried self.now burst → result ≡ length burst }
     {

@@ -1,4 +1,4 @@
-//! What was told last of the bytes of a block.
+//! The newest possible value of each byte of a block.
 
 ghost use Rattle.std.specs.Prelude.{ℕ, true, ◌<◌, ◌≡◌, None, IfOk, slice_index_or};
 ghost use Rattle.tl_bytes.specs.code.Tellings.{moment_at, moment_of_known, telling_at, written_at};
@@ -9,26 +9,26 @@ use crate::telling::Telling;
 use crate::write::Write;
 use std::alloc::{AllocError, Global};
 
-/// What was told last of each byte of a block: a value, or anything, and when.
+/// The newest possible value of each byte of a block: a value, or any, and its moment.
 #[derive(Drop)]
 pub struct Latest {
-    /// The values by their places.
+    /// The values by their places. A byte that isn't known may have any value.
     pub(crate) values: KnownBytes,
     moments: Moments,
 }
 
-/// When the bytes of a block were told last.
+/// The moments of the newest possible values.
 #[derive(Drop)]
 pub enum Moments {
-    /// Those that are known at this moment; nothing was told of the others.
+    /// This moment for the known bytes, and 0 for the others.
     OfKnown(u64),
-    /// All at this moment.
+    /// This moment for all.
     OfAll(u64),
-    /// Each at its own, by their places.
+    /// A moment for each byte, by its place.
     OfEach(Vec<u64>),
 }
 
-/// When the byte at a place was told, where those that are known were at this moment, and nothing of the others.
+/// The moment of the byte at a place, if that of the known bytes is this one, and that of the others 0.
 fn moment_of_known(values: &KnownBytes, moment: u64, place: u8) -> u64
     ensures { result ≡ moment_of_known values.now moment place }
 {
@@ -38,7 +38,7 @@ fn moment_of_known(values: &KnownBytes, moment: u64, place: u8) -> u64
     }
 }
 
-/// Whether these are the moments of all places, where those that are known were told at this one, and nothing of the others.
+/// Whether these are the moments of all bytes, if that of the known ones is this one, and that of the others 0.
 fn are_of_known(values: &KnownBytes, moments: &[u64; 64], moment: u64) -> bool
     ensures { result ≡ true → (place : ℕ) → place < 64 →
         slice_index_or moments.now place 0 ≡ moment_of_known values.now moment place }
@@ -52,7 +52,7 @@ fn are_of_known(values: &KnownBytes, moments: &[u64; 64], moment: u64) -> bool
 }
 
 impl Latest {
-    /// Nothing is told.
+    /// Any value for each byte, since before the trace.
     pub fn new() -> Self
         ensures { (place : ℕ) → telling_at result place ≡ record { value = None; moment = 0 } }
     {
@@ -62,7 +62,7 @@ impl Latest {
         }
     }
 
-    /// These values are told at these moments, the last of them at this one.
+    /// These values with these moments. `moment` is the newest of them. The error means that there is no memory left.
     fn of(
         alloc: Global,
         values: KnownBytes,
@@ -84,7 +84,7 @@ impl Latest {
         })
     }
 
-    /// These values are told at one moment.
+    /// These values, all with this moment.
     pub fn told(values: &KnownBytes, moment: u64) -> Self
         ensures { (place : ℕ) → telling_at result place
             ≡ record { value = known_at values.now place; moment = moment } }
@@ -95,7 +95,7 @@ impl Latest {
         }
     }
 
-    /// When what was told last of a place was told.
+    /// The moment of the newest possible value of a byte.
     fn moment(&self, place: u8) -> u64
         ensures { result ≡ moment_at self.now.moments self.now.values place }
     {
@@ -109,7 +109,8 @@ impl Latest {
         }
     }
 
-    /// Whether each byte was told before this moment; where they were told at several moments that isn't looked for.
+    /// Whether the moment of each byte is before this one. If each byte has a moment of its own, it is false without a
+    /// search.
     pub(crate) fn is_before(&self, moment: u64) -> bool
         ensures { result ≡ true → (place : ℕ) → (telling_at self.now place).moment < moment }
     {
@@ -119,7 +120,7 @@ impl Latest {
         }
     }
 
-    /// What was told last of a place.
+    /// The newest possible value of a byte.
     pub fn at(&self, place: u8) -> Telling
         ensures { result ≡ telling_at self.now place }
     {
@@ -129,7 +130,7 @@ impl Latest {
         }
     }
 
-    /// The same.
+    /// A copy. The error means that there is no memory left.
     pub fn copy(&self, alloc: Global) -> Result<Self, AllocError>
         ensures { IfOk result (λ latest. (place : ℕ) → telling_at latest place ≡ telling_at self.now place) }
     {
@@ -147,7 +148,7 @@ impl Latest {
         })
     }
 
-    /// What is told last of a place with what is written at this moment.
+    /// The newest possible value of a byte after a write at this moment.
     fn with_at(&self, write: &Write, moment: u64, place: u8) -> Telling
         ensures { result ≡ written_at self.now write.now moment place }
     {
@@ -161,7 +162,7 @@ impl Latest {
         }
     }
 
-    /// The values that are told last with what is written at this moment.
+    /// The values after a write at this moment.
     fn values_with(&self, write: &Write, moment: u64) -> KnownBytes
         ensures { (place : ℕ) → place < 64 →
             known_at result place ≡ (written_at self.now write.now moment place).value }
@@ -174,7 +175,7 @@ impl Latest {
         values
     }
 
-    /// The moments at which they are told.
+    /// The moments after a write at this moment.
     fn moments_with(&self, write: &Write, moment: u64) -> [u64; 64]
         ensures { (place : ℕ) → place < 64 →
             slice_index_or result place 0 ≡ (written_at self.now write.now moment place).moment }
@@ -186,7 +187,7 @@ impl Latest {
         moments
     }
 
-    /// What is told last with what is written at this moment.
+    /// The newest possible values after a write at this moment. The error means that there is no memory left.
     pub fn with(&self, alloc: Global, write: &Write, moment: u64) -> Result<Self, AllocError>
         ensures { IfOk result (λ latest. (place : ℕ) → place < 64 →
             telling_at latest place ≡ written_at self.now write.now moment place) }

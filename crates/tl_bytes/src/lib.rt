@@ -1,4 +1,4 @@
-//! What the bytes of memory may be, by what all links of a manager have carried.
+//! The possible values of the bytes of memory, by the beats of all links of a manager.
 #![tactic(auto)]
 
 pub mod block_bytes;

@@ -1,4 +1,4 @@
-//! Which beat told what a byte of a block may be.
+//! The beat that made a value of a byte possible.
 
 ghost use Rattle.std.specs.Prelude.{ℕ, ◌+◌, ◌*◌, ◌<◌, ◌≡◌};
 ghost use Rattle.tl_bytes.specs.statement.Bytes as bytes;
@@ -9,7 +9,7 @@ ghost use Rattle.tl_rules.specs.statement.Conformance.{Trace};
 use crate::block_bytes::BlockBytes;
 use crate::telling::{Told, same_value};
 
-/// The number of beats before the one that told this value of the byte at a place, by these.
+/// The number of beats before the one that made this value of the byte at a place possible, by these.
 fn moment_in(told: &[Told], place: u8, byte: u8) -> Option<u64>
     ensures { result ≡ told_moment byte (tellings_at place told.now) }
 {
@@ -22,7 +22,7 @@ fn moment_in(told: &[Told], place: u8, byte: u8) -> Option<u64>
 }
 
 impl BlockBytes {
-    /// The number of beats before the one that told this value of the byte at a place, where it may be that still.
+    /// The number of beats before the one that made this value of the byte at a place possible, if it still is.
     pub fn told_at(&self, place: u8, byte: u8) -> Option<u64>
         ensures kept { result ≡ told_moment byte (tellings_of self.now place) }
         ensures told { (w n block : ℕ) (t : Trace w) → KnowsBlock self.now n block t → place < 64 →

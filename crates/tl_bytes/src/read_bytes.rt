@@ -1,4 +1,4 @@
-//! What a read may bring.
+//! The bytes that a read may bring.
 
 ghost use Rattle.std.specs.Prelude.{ℕ, true, false, ◌+◌, ◌*◌, ◌<◌, ◌≡◌, ◌==◌, ◌&&◌, ◌||◌};
 ghost use Rattle.std.specs.Prelude.{IfOk, OnOk};
@@ -16,7 +16,7 @@ use crate::telling::{Possible, Told, could_be, covers};
 use crate::write::Write;
 use std::alloc::{AllocError, Global};
 
-/// Whether one of these lets the byte at a place be all that this value may.
+/// Whether one of these allows all bytes at a place that this value allows.
 fn is_covered(possible: &[Possible], place: u8, value: Option<u8>) -> bool
     ensures { result ≡ code.is_covered place value possible.now }
 {
@@ -28,7 +28,7 @@ fn is_covered(possible: &[Possible], place: u8, value: Option<u8>) -> bool
     false
 }
 
-/// Whether one of these lets the byte at a place be this one.
+/// Whether one of these allows this byte at a place.
 fn is_listed(possible: &[Possible], place: u8, byte: u8) -> bool
     ensures { result ≡ known.is_listed place byte possible.now }
 {
@@ -40,19 +40,20 @@ fn is_listed(possible: &[Possible], place: u8, byte: u8) -> bool
     false
 }
 
-/// What an access that reads may bring of its block: all that each byte may have been in the windows that it had.
+/// The bytes that an access that reads may bring of its block: all possible values of each byte in the windows of the
+/// access.
 #[derive(Drop)]
 pub struct ReadBytes {
-    /// What each byte might be in the first window; none where there was none.
+    /// The newest possible values in the first window, if there was one.
     first: Option<KnownBytes>,
-    /// What else.
+    /// All others.
     more: Vec<Possible>,
 }
 
 impl ReadBytes {
     ghost use Rattle.tl_bytes.specs.statement.Known.{KnowsBlock, KnowsGrant, KnowsRead, MayWrite, may_bring, windowed};
 
-    /// That of an access that has had no window.
+    /// The bytes of an access that has had no window.
     pub fn none(alloc: Global) -> Self
         ensures { (place byte : ℕ) → may_bring result place byte ≡ false }
     {
@@ -62,7 +63,7 @@ impl ReadBytes {
         }
     }
 
-    /// Whether in the first window the byte at a place might be all that this value may.
+    /// Whether the first window allows all bytes at a place that this value allows.
     fn covers_first(&self, place: u8, value: Option<u8>) -> bool
         ensures { result ≡ code.covers_first self.now.first place value }
     {
@@ -72,14 +73,14 @@ impl ReadBytes {
         }
     }
 
-    /// Whether it may bring all of a place that this value may be.
+    /// Whether all bytes at a place are allowed that this value allows.
     fn has(&self, place: u8, value: Option<u8>) -> bool
         ensures { result ≡ code.has self.now place value }
     {
         self.covers_first(place, value) || is_covered(self.more.as_slice(), place, value)
     }
 
-    /// Adds what the byte at a place may be.
+    /// Adds a possible value of the byte at a place. The error means that there is no memory left.
     fn offer(&mut self, place: u8, value: Option<u8>) -> Result<(), AllocError>
         ensures { OnOk result ((at byte : ℕ) → may_bring self.new at byte
             ≡ (may_bring self.old at byte || ((place == at) && could_be byte value))) }
@@ -91,7 +92,7 @@ impl ReadBytes {
         Ok(())
     }
 
-    /// Adds what was told last.
+    /// Adds the newest possible values.
     fn offer_latest(&mut self, latest: &Latest) -> Result<(), AllocError>
         ensures { OnOk result ((at byte : ℕ) → at < 64 → may_bring self.new at byte
             ≡ (may_bring self.old at byte || could_be byte (telling_at latest.now at).value)) }
@@ -102,7 +103,7 @@ impl ReadBytes {
         Ok(())
     }
 
-    /// Adds what was told before that.
+    /// Adds the earlier possible values.
     fn offer_earlier(&mut self, earlier: &[Told]) -> Result<(), AllocError>
         ensures { OnOk result ((at byte : ℕ) → may_bring self.new at byte
             ≡ (may_bring self.old at byte || told_as byte (tellings_at at earlier.now))) }
@@ -113,7 +114,7 @@ impl ReadBytes {
         Ok(())
     }
 
-    /// Adds what each of these writes.
+    /// Adds the values of these writes.
     fn offer_writes(&mut self, writes: &[Write]) -> Result<(), AllocError>
         ensures { OnOk result ((at byte : ℕ) → at < 64 → may_bring self.new at byte
             ≡ (may_bring self.old at byte || left_as at byte writes.now)) }
@@ -124,7 +125,7 @@ impl ReadBytes {
         Ok(())
     }
 
-    /// Adds what was told last, in the first window or a later one.
+    /// Adds the newest possible values of the first window or of a later one.
     fn find_latest(&mut self, latest: &Latest) -> Result<(), AllocError>
         ensures { OnOk result ((at byte : ℕ) → at < 64 → may_bring self.new at byte
             ≡ (may_bring self.old at byte || could_be byte (telling_at latest.now at).value)) }
@@ -136,8 +137,8 @@ impl ReadBytes {
         Ok(())
     }
 
-    /// Adds what it may find in a window: what the block's bytes may be, and what these write. Without memory it may have
-    /// some of that.
+    /// Adds the bytes that an access may find in a window: the block's possible values, and the values of these writes.
+    /// The error means that there is no memory left; then some of them may have been added.
     pub fn find(&mut self, block: &BlockBytes, writes: &[Write]) -> Result<(), AllocError>
         ensures { OnOk result ((at byte : ℕ) → at < 64 → may_bring self.new at byte
             ≡ (may_bring self.old at byte
@@ -149,7 +150,7 @@ impl ReadBytes {
         Ok(())
     }
 
-    /// What may be granted.
+    /// The bytes that may be granted. The error means that there is no memory left.
     pub fn granted(alloc: Global, block: &BlockBytes, writes: &[Write]) -> Result<Self, AllocError>
         ensures { IfOk result (λ read. (w n number : ℕ) (t : Trace w) → KnowsBlock block.now n number t →
             MayWrite writes.now number (windowed n number t) → KnowsGrant read n number t) }
@@ -159,7 +160,7 @@ impl ReadBytes {
         Ok(read)
     }
 
-    /// The same.
+    /// A copy. The error means that there is no memory left.
     pub fn copy(&self, alloc: Global) -> Result<Self, AllocError>
         ensures { IfOk result (λ read. (place byte : ℕ) →
             may_bring read place byte ≡ may_bring self.now place byte) }
@@ -171,7 +172,7 @@ impl ReadBytes {
         })
     }
 
-    /// Adds what is written.
+    /// Adds the values of a write.
     fn write(&mut self, write: &Write) -> Result<(), AllocError>
         ensures { OnOk result ((at byte : ℕ) → at < 64 → may_bring self.new at byte
             ≡ (may_bring self.old at byte || leaves at byte write.now)) }
@@ -184,7 +185,7 @@ impl ReadBytes {
         Ok(())
     }
 
-    /// Whether nothing is known of what it may bring: then it may bring any byte of each place.
+    /// Whether the access may bring any byte at each place, since none was known in its first window.
     pub fn is_open(&self) -> bool
         ensures { result ≡ true → (place byte : ℕ) → may_bring self.now place byte ≡ true }
     {
@@ -194,7 +195,7 @@ impl ReadBytes {
         }
     }
 
-    /// Whether in the first window the byte at a place might be this one.
+    /// Whether the first window allows this byte at a place.
     fn is_among(&self, place: u8, byte: u8) -> bool
         ensures { result ≡ known.is_among self.now.first place byte }
     {
@@ -204,7 +205,7 @@ impl ReadBytes {
         }
     }
 
-    /// Whether it may bring this byte of a place.
+    /// Whether the access may bring this byte at a place.
     pub fn may_bring(&self, place: u8, byte: u8) -> bool
         ensures told { result ≡ may_bring self.now place byte }
         ensures read { (w n number : ℕ) (access : Access w) (t : Trace w) → KnowsRead self.now n number access t →

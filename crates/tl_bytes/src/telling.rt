@@ -1,31 +1,31 @@
-//! What a byte may be, from a moment on.
+//! The possible values of a byte, each from a moment on.
 
 ghost use Rattle.std.specs.Prelude.{◌≡◌};
 ghost use Rattle.tl_bytes.specs.code.Tellings.{covers_value};
 ghost use Rattle.tl_bytes.specs.statement.Bytes as bytes;
 
-/// What a byte may be from a moment on: a value, or anything. Moments are numbers of beats.
+/// A possible value of a byte, from a moment on: a value, or any. Moments are numbers of beats.
 #[derive(Clone, Copy, Debug, PartialEq, Eq)]
 pub struct Telling {
     pub value: Option<u8>,
     pub moment: u64,
 }
 
-/// What the byte at a place of its block may be.
+/// A possible value of the byte at a place of its block.
 #[derive(Clone, Copy, Debug, PartialEq, Eq)]
 pub struct Told {
     pub place: u8,
     pub telling: Telling,
 }
 
-/// What the byte at a place may be beside what was told last of it: a value, or anything.
+/// A further possible value of the byte at a place: a value, or any.
 #[derive(Clone, Copy, Debug, PartialEq, Eq)]
 pub struct Possible {
     pub place: u8,
     pub value: Option<u8>,
 }
 
-/// Whether what is told twice is the same.
+/// Whether two possible values are the same.
 pub fn same_value(one: Option<u8>, other: Option<u8>) -> bool
     ensures { result ≡ bytes.same_value one other }
 {
@@ -36,7 +36,7 @@ pub fn same_value(one: Option<u8>, other: Option<u8>) -> bool
     }
 }
 
-/// Whether what may be this value, or anything, may be a byte.
+/// Whether a possible value is this byte, or any.
 pub fn could_be(byte: u8, value: Option<u8>) -> bool
     ensures { result ≡ bytes.could_be byte value }
 {
@@ -46,7 +46,7 @@ pub fn could_be(byte: u8, value: Option<u8>) -> bool
     }
 }
 
-/// Whether what may be the first may be all that may be the second.
+/// Whether the first possible value allows each byte that the second allows.
 pub fn covers(one: Option<u8>, other: Option<u8>) -> bool
     ensures { result ≡ covers_value one other }
 {

@@ -1,4 +1,4 @@
-//! What the bytes of a block may be beside what was told last of them.
+//! The possible values of a block's bytes other than the newest.
 
 ghost use Rattle.std.specs.Prelude.{◌++◌, ◌≡◌, IfOk, OnOk, filter};
 ghost use Rattle.tl_bytes.specs.code.Tellings.{displaced, is_displaced, outlived, outlives, stays};
@@ -11,14 +11,14 @@ use crate::telling::{Told, could_be, same_value};
 use crate::write::Write;
 use std::alloc::{AllocError, Global};
 
-/// Whether what was told of a place that is written stays beside that.
+/// Whether a possible value of a place that is written stays: it isn't older than `since`, and isn't the value written.
 fn outlives(write: &Write, since: u64, told: &Told) -> bool
     ensures { result ≡ outlives write.now since told.now }
 {
     since <= told.telling.moment && !same_value(told.telling.value, write.value(told.place))
 }
 
-/// Whether what was told of a place stays beside what is written.
+/// Whether a possible value of a place stays. It does if the place isn't written.
 fn stays(write: &Write, since: u64, told: &Told) -> bool
     ensures { result ≡ stays write.now since told.now }
 {
@@ -29,7 +29,7 @@ fn stays(write: &Write, since: u64, told: &Told) -> bool
     }
 }
 
-/// Whether what was told last of a place stays, and isn't what was told last any more.
+/// Whether the newest possible value of a place stays, and isn't the newest any more.
 fn is_displaced(write: &Write, since: u64, told: &Told) -> bool
     ensures { result ≡ is_displaced write.now since told.now }
 {
@@ -40,7 +40,7 @@ fn is_displaced(write: &Write, since: u64, told: &Told) -> bool
     }
 }
 
-/// Appends what was told last of the places that are written, where it stays.
+/// Appends the newest possible values that stay, of the places that are written.
 fn displace(
     told: &mut Vec<Told>,
     latest: &Latest,
@@ -61,7 +61,7 @@ fn displace(
     Ok(())
 }
 
-/// Appends what stays of what was told.
+/// Appends the earlier possible values that stay.
 fn keep(told: &mut Vec<Told>, write: &Write, since: u64, before: &[Told]) -> Result<(), AllocError>
     ensures { OnOk result (told.new.items ≡ told.old.items ++ filter (stays write.now since) before.now) }
 {
@@ -73,7 +73,7 @@ fn keep(told: &mut Vec<Told>, write: &Write, since: u64, before: &[Told]) -> Res
     Ok(())
 }
 
-/// What the bytes may be beside what is told last of them with what is written.
+/// The possible values other than the newest, after a write. The error means that there is no memory left.
 pub fn outlived(
     alloc: Global,
     latest: &Latest,
@@ -91,7 +91,7 @@ pub fn outlived(
     Ok(told)
 }
 
-/// Whether the byte at a place may be this one, by what is told.
+/// Whether one of these allows this byte at a place.
 pub fn is_told_as(told: &[Told], place: u8, byte: u8) -> bool
     ensures { result ≡ told_as byte (tellings_at place told.now) }
 {

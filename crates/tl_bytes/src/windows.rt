@@ -9,7 +9,7 @@ ghost use Rattle.tl_bytes.specs.statement.Free.{is_free};
 ghost use Rattle.tl_bytes.specs.statement.Bytes.{last_window};
 ghost use Rattle.tl_bytes.specs.statement.Known.{count_of};
 
-/// How many windows there were.
+/// The number of windows.
 #[derive(Clone, Copy, Debug, PartialEq, Eq)]
 pub enum WindowCount {
     Zero,
@@ -17,19 +17,19 @@ pub enum WindowCount {
     More,
 }
 
-/// The windows in which an access that writes may have been performed, since its request was complete.
+/// The windows in which an access that writes may have been performed.
 #[derive(Clone, Copy, Debug, PartialEq, Eq)]
 pub struct WritingWindows {
-    /// One is open now.
+    /// Whether a window is open now.
     pub is_open: bool,
     pub count: WindowCount,
-    /// The moment at which the one that is open began.
+    /// The moment at which the open window began.
     pub began: u64,
-    /// The last moment at which the block was free, where it isn't.
+    /// The last moment at which the block was free, if it isn't free now.
     pub last: u64,
 }
 
-/// One window more.
+/// The number with one window more.
 fn one_more(count: WindowCount) -> WindowCount
     ensures { (n : ℕ) → count ≡ count_of n → result ≡ count_of (suc n) }
 {
@@ -42,8 +42,8 @@ fn one_more(count: WindowCount) -> WindowCount
 impl WritingWindows {
     ghost use Rattle.tl_bytes.specs.statement.Known.{KnowsWindows};
 
-    /// Those of an access whose request is complete at this moment, with its last beat: whether its block
-    /// is free then, and when it last was.
+    /// The windows of an access that may be performed from the moment `asked` on. `free` says whether its block is free
+    /// then; if it isn't, `last` is the moment at which it last was.
     pub fn new(free: bool, asked: u64, last: u64) -> Self
         ensures { (w n block : ℕ) (x : Link × Beat w) (t : Trace w) →
             free ≡ is_free n perm.Trunk block (x ∷ t) → asked ≡ suc (length t) →
@@ -62,7 +62,7 @@ impl WritingWindows {
         }
     }
 
-    /// Those with one more beat, at this moment, with which the block is free or isn't.
+    /// The windows after one more beat, at this moment. `free` says whether the block is free then.
     pub fn after(self, free: bool, moment: u64) -> Self
         ensures { (w n block asked : ℕ) (x : Link × Beat w) (t : Trace w) →
             KnowsWindows self n block asked t → asked ≤ length t →

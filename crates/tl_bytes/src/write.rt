@@ -1,4 +1,4 @@
-//! What an access writes in a block.
+//! The bytes that an access writes in a block.
 
 ghost use Rattle.std.specs.Prelude.{ℕ, true, ◌&&◌, ◌<◌, ◌≡◌, nat_lt};
 ghost use Rattle.tl_burst.specs.statement.Burst as burst;
@@ -8,8 +8,8 @@ ghost use Rattle.tl_bytes.specs.statement.KnownBytes.{known_at};
 use crate::known_bytes::KnownBytes;
 use crate::telling::could_be;
 
-/// The places of a block that an access writes, and what it writes there: a value, or anything. The lowest bit of the mask,
-/// and the first of the values, belong to one place, and the others to those behind it.
+/// The places of a block that an access writes, and the value of each, or any. The lowest bit of the mask and the first
+/// of the values belong to the place `first`, and the others to the places after it.
 #[derive(Clone, Copy)]
 pub struct Write {
     pub first: usize,
@@ -25,7 +25,7 @@ fn is_set(mask: u64, bit: usize) -> bool
 }
 
 impl Write {
-    /// Whether it writes a place.
+    /// Whether the access writes a place.
     pub fn writes(&self, place: u8) -> bool
         ensures { result ≡ is_written self.now place }
     {
@@ -35,7 +35,7 @@ impl Write {
         }
     }
 
-    /// What it writes there.
+    /// The value written to a place, if it isn't any.
     pub fn value(&self, place: u8) -> Option<u8>
         ensures { result ≡ value_at self.now place }
     {
@@ -43,7 +43,7 @@ impl Write {
             .at(usize::from(place).saturating_sub(self.first))
     }
 
-    /// Whether it writes each place of a block, the first with its first value.
+    /// Whether the access writes each place of a block, and the first value belongs to the first place.
     pub(crate) fn is_whole(&self) -> bool
         ensures { result ≡ true → (place : ℕ) → place < 64 →
             (is_written self.now place ≡ true) × (value_at self.now place ≡ known_at self.now.values place) }
@@ -51,7 +51,7 @@ impl Write {
         self.first == 0 && self.mask == u64::MAX
     }
 
-    /// Whether it may leave this byte at a place.
+    /// Whether the access may leave this byte at a place.
     pub fn may_leave(&self, place: u8, byte: u8) -> bool
         ensures { result ≡ leaves place byte self.now }
     {

@@ -4,11 +4,15 @@ use Rattle.tl_memory.proofs.Imports.{request_fields, Request, IsTyped, Trace, Is
 use Rattle.tl_memory.proofs.Imports.{is_release_ack, request_of, pending_accesses, PassesBy, block_asked}
 use Rattle.tl_memory.proofs.Imports.{block_borne, IsLegalBeat, Expected, LinkState, ExpectsResponse, AllWriteInside}
 use Rattle.tl_memory.proofs.Imports.{AreLegal, ExpectsLater, Freedom, KnowsLink, OpD, freedom}
-use Rattle.std.proofs.Common.{◌≡◌, ℕ, Bool, true, false, ◌&&◌, ◌∷◌, ◌^◌, ◌<◌, ◌/◌, List, [], Option, Some, None, length}
+use Rattle.tl_bytes.specs.statement.Free.{is_free}
+use Rattle.tl_memory.specs.statement.Known.{free_for}
+use Rattle.tl_params.specs.declared.perm.Perm.{Perm}
+use Rattle.std.proofs.Common.{◌≡◌, ℕ, zero, suc, Bool, true, false, ◌&&◌, ◌∷◌, ◌^◌, ◌<◌, ◌/◌, List, [], Option, Some}
+use Rattle.std.proofs.Common.{None, length}
 use Rattle.std.proofs.Common.{refl, sym, ap, ◌∙◌, arith, inl, inr}
 use Rattle.std.{specs.Prelude.if◌then◌else◌, specs.Prelude.◌==◌, specs.Prelude.option_map, proofs.lemmas.Bool.eqb-false}
 use Rattle.std.proofs.lemmas.Option.{none-some, same_Some, slice_get_cases}
-use Rattle.tl_memory.specs.code.Changing.{ExpectsAlong, ExpectsBegun, IsBorne, IsChange}
+use Rattle.tl_memory.specs.code.Changing.{ExpectsAlong, ExpectsBegun, IsBorne, IsChange, KnowsFree}
 use Rattle.tl_memory.specs.code.{Passing.changes_held, Passing.is_answer_data, Taking.IsSeen}
 use Rattle.tl_memory.specs.declared.links.Links.{Links}
 use Rattle.tl_memory.{specs.declared.memory.Change.Change, specs.declared.memory.Memory.Memory}
@@ -116,6 +120,35 @@ none-expected {w} link x n t legal borne = (
         absurd (none-some one.0.block (sym borne ∙ ap block_asked one.1.asked_is))
 
 -- ---- what a beat changes
+
+-- the block of which its link may hold more or less is that on which it bears
+pub held-own : (changes : Bool) (held : Option ℕ) (block other : ℕ) → held ≡ (if changes then Some block else None)
+    → held ≡ Some other → Some block ≡ Some other
+held-own true held block other is e = sym is ∙ e
+held-own false held block other is e = absurd (none-some other (sym is ∙ e))
+
+-- where it bears on none nothing is said of how free one is
+pub none-free : {w : ℕ} (change : Change w) (n : ℕ) (t : Trace w) → change.block ≡ None → change.held ≡ None
+    → KnowsFree change n t
+none-free change n t none held = record {
+  own = λ block e. absurd (none-some block (sym held ∙ e));
+  reading_is = λ block e. absurd (none-some block (sym none ∙ e));
+  writing_is = λ block e. absurd (none-some block (sym none ∙ e));
+}
+
+-- for who needs nothing of it a block is always free
+free-anyway : {w : ℕ} (n block : ℕ) (t : Trace w) → true ≡ is_free n Perm.None block t
+unfolding is_free
+free-anyway zero block t = refl
+free-anyway (suc n) block t = rw (← free-anyway n block t) refl
+
+-- for whom the block was free, by what is said of it
+pub said-free : {w : ℕ} (change : Change w) (free : Freedom) (n block : ℕ) (t : Trace w) → KnowsFree change n t
+    → change.block ≡ Some block → free.reading ≡ change.reading → free.writing ≡ change.writing → (given : Perm)
+    → free_for free given ≡ is_free n given block t
+said-free change free n block t k own reading writing Perm.None = free-anyway n block t
+said-free change free n block t k own reading writing Perm.Branch = reading ∙ k.reading_is block own
+said-free change free n block t k own reading writing Perm.Trunk = writing ∙ k.writing_is block own
 
 same-d : {w : ℕ} (a b : BeatD w) → Beat.D a ≡ Beat.D b → a ≡ b
 same-d a b e = cc

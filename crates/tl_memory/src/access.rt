@@ -1,4 +1,4 @@
-//! Accesses that are asked for.
+//! Pending accesses, as they were asked for.
 
 ghost use Rattle.std.specs.Prelude.{ℕ, true, ◌∷◌, ◌+◌, ◌*◌, ◌<◌, ◌≤◌, ◌≡◌, List};
 ghost use Rattle.std.specs.Prelude.{length, slice_index, unwrap_or};
@@ -20,8 +20,8 @@ use tl_beat::opcode::OpA;
 use tl_burst::message::MessageA;
 use tl_bytes::known_bytes::KnownBytes;
 
-/// An access that is asked for: its link, its request, whether a beat of that was corrupt, and how many beats had been
-/// taken when it was first asked for. Of a Put the request has what its beats have brought so far.
+/// A pending access: its link, its request, whether a beat of the request was corrupt, and the number of beats taken
+/// when it was first asked for. If the request of a Put isn't complete, it has the beats that have come.
 #[derive(Clone, Copy)]
 pub struct Asked<const W: usize> {
     pub link: Link,
@@ -30,14 +30,14 @@ pub struct Asked<const W: usize> {
     pub moment: u64,
 }
 
-/// Whether an operation reads or writes.
+/// Whether the opcode is of an access.
 pub fn is_access(opcode: OpA) -> bool
     ensures { result ≡ bytes.is_access opcode }
 {
     !matches!(opcode, OpA::AcquireBlock | OpA::AcquirePerm | OpA::Intent)
 }
 
-/// The byte that is known at a place, or zero.
+/// The byte at a place, or 0 if it isn't known.
 fn byte_or_zero(bytes: &KnownBytes, place: usize) -> u8
     ensures { result ≡ unwrap_or (known_at bytes.now place) 0 }
 {
@@ -47,7 +47,7 @@ fn byte_or_zero(bytes: &KnownBytes, place: usize) -> u8
     }
 }
 
-/// The bytes that are known, and zeros.
+/// The known bytes, and zeros for the others.
 pub fn payload_of(bytes: &KnownBytes) -> [u8; 64]
     ensures { (place : ℕ) → place < 64 →
         slice_index result place ≡ unwrap_or (known_at bytes.now place) 0 }
@@ -59,7 +59,7 @@ pub fn payload_of(bytes: &KnownBytes) -> [u8; 64]
     payload
 }
 
-/// The payload of a request that brought these bytes: of an atomic those that are known, and zeros.
+/// The payload of a request with these bytes: for an atomic the known bytes and zeros.
 fn payload_asked(opcode: OpA, bytes: &KnownBytes) -> [u8; 64]
     ensures { is_atomic opcode ≡ true → (place : ℕ) → place < 64 →
         slice_index result place ≡ unwrap_or (known_at bytes.now place) 0 }
@@ -84,8 +84,8 @@ pub fn reaches(address: u32, size: u8, place: usize) -> bool
 impl<const W: usize> Asked<W> {
     ghost use Rattle.tl_memory.specs.statement.Known.{AreWide, KnowsMessage};
 
-    /// The access that is asked for with this beat, and was first at a moment: this is what the beats of its request
-    /// brought.
+    /// The access of a request with this newest beat, which was first asked for at this moment. `brought` are the bytes
+    /// of its beats.
     pub fn new(link: Link, x: &BeatA<W>, brought: &CarriedMessage, moment: u64) -> Self
         requires width { IsWidth W }
         requires small { x.now.size ≤ 6 }
@@ -111,7 +111,7 @@ impl<const W: usize> Asked<W> {
         }
     }
 
-    /// Whether it is the one with this source on a link.
+    /// Whether this is the access with this source on a link.
     pub fn is_of(&self, link: Link, source: u8) -> bool
         ensures { result ≡ names link.0 source self.now }
     {

@@ -1,4 +1,4 @@
-//! The accesses to a block that are pending.
+//! The pending accesses to a block.
 
 ghost use Rattle.std.specs.Prelude.{◌++◌, ◌≡◌, List, find, OnOk, option_copied};
 ghost use Rattle.tl_memory.specs.code.Writers.{AreRenewed, AreWatched, found_by, is_named, staying};
@@ -11,7 +11,7 @@ use std::alloc::{AllocError, Global};
 use tl_beat::beat::Link;
 use tl_bytes::block_bytes::BlockBytes;
 
-/// The one with this source on a link.
+/// The access with this source on a link.
 pub fn find<const W: usize>(
     accesses: &[PendingAccess<W>],
     link: Link,
@@ -27,7 +27,7 @@ pub fn find<const W: usize>(
     None
 }
 
-/// Whether an access stays, where the one with this source on a link is gone, if one is.
+/// Whether an access stays pending. `gone` is the access that ends, if one does.
 fn stays<const W: usize>(access: &PendingAccess<W>, gone: Option<(Link, u8)>) -> bool
     ensures { result ≡ writers.stays gone access.now }
 {
@@ -37,7 +37,9 @@ fn stays<const W: usize>(access: &PendingAccess<W>, gone: Option<(Link, u8)>) ->
     }
 }
 
-/// Appends copies of those that stay, which have what they may find now: their block is free for these, and has these bytes.
+/// Appends copies of the accesses that stay, with the bytes that they may find now by the block's freedom and bytes.
+/// The error means that there is no memory left.
+#[inline(always)]
 pub fn append_renewed<const W: usize>(
     alloc: Global,
     copies: &mut Vec<PendingAccess<W>>,
@@ -57,7 +59,7 @@ pub fn append_renewed<const W: usize>(
     Ok(())
 }
 
-/// With one more beat, at this moment, with which the block is free for writing or isn't.
+/// Adds one more beat, at this moment. `free` says whether the block is free for writing with it.
 pub fn watch<const W: usize>(accesses: &mut Vec<PendingAccess<W>>, free: bool, moment: u64)
     ensures { AreWatched free moment accesses.old.items accesses.new.items }
 {

@@ -1,4 +1,4 @@
-//! What a response may bring that begins.
+//! The bytes that a response may bring when it begins.
 
 ghost use Rattle.std.specs.Prelude.{ℕ, ◌≡◌, ◌<◌, ◌^◌, IfOk, Some, None};
 ghost use Rattle.tl_beat.specs.declared.channel.Channel.TheVariants as channel;
@@ -19,8 +19,8 @@ use std::alloc::{AllocError, Global};
 use tl_beat::beat::{Beat, BeatD, Link};
 use tl_beat::opcode::OpD;
 
-/// What the response may bring that begins with a beat of channel D: to a request of this block, whose state
-/// this is.
+/// The bytes that a response may bring that begins with a beat of channel D, to a request of this block in this state.
+/// The error means that there is no memory left.
 pub fn begun<const W: usize>(
     alloc: Global,
     state: &BlockState<W>,
@@ -46,8 +46,8 @@ pub fn begun<const W: usize>(
     }
 }
 
-/// What the response may bring whose beat bears on this block, whose state this is, and doesn't begin it, where that is
-/// said anew: of the answer to a Get.
+/// The bytes that the answer to a Get may bring with a beat that doesn't begin it, for a block in this state. None for
+/// another response. The error means that there is no memory left.
 pub fn along<const W: usize>(
     alloc: Global,
     state: &BlockState<W>,
@@ -67,8 +67,8 @@ pub fn along<const W: usize>(
     }
 }
 
-/// What the response may bring whose beat bears on this block, whose state this is, where it begins with the beat, or that
-/// is said anew: this is what the beats before it of its message brought.
+/// The bytes that a response may bring: as `begun` if it begins with this beat, otherwise as `along`. `brought` are the
+/// bytes of its beats before. The error means that there is no memory left.
 pub fn begun_with<const W: usize>(
     alloc: Global,
     state: &BlockState<W>,

@@ -1,4 +1,4 @@
-//! What is kept of a block.
+//! The state of a block.
 
 ghost use Rattle.std.specs.Prelude.{ℕ, suc, true, false, not, None, [], ◌∷◌, ◌≡◌, ◌≤◌, ◌&&◌, ◌-◌, length, find, IfOk};
 ghost use Rattle.std.specs.Prelude.{if◌then◌else◌, filter, unwrap_or};
@@ -9,9 +9,11 @@ ghost use Rattle.tl_beat.specs.declared.beat.Link.{Link};
 ghost use Rattle.tl_beat.specs.declared.channel.Channel.TheVariants as channel;
 ghost use Rattle.tl_beat.specs.statement.Width.{IsWidth};
 ghost use Rattle.tl_burst.specs.statement.Messages.{unfinished};
+ghost use Rattle.tl_params.specs.declared.perm.Perm.{Perm};
 ghost use Rattle.tl_rules.specs.statement.Conformance.{Trace, on_link};
 ghost use Rattle.tl_rules.specs.statement.History.{block_at};
 ghost use Rattle.tl_bytes.specs.statement.Bytes.{asks, ends_request, is_of, pending_accesses, tells};
+ghost use Rattle.tl_bytes.specs.statement.Free.{is_free};
 ghost use Rattle.tl_bytes.specs.statement.Known.{AreCarried, KnowsBlock, KnowsGrant};
 ghost use Rattle.tl_memory.specs.code.Elsewhere.{IsElsewhere};
 ghost use Rattle.tl_memory.specs.code.Writers.{AreRenewed, found_by, keeps, staying};
@@ -33,25 +35,25 @@ use tl_bytes::known_bytes::KnownBytes;
 use tl_bytes::read_bytes::ReadBytes;
 use tl_bytes::windows::WritingWindows;
 
-/// What is kept of a block: what its bytes may be, the accesses to it that are pending, the last first, and for whom it is
-/// free. What an access may find is kept before that changes.
+/// The state of a block: the possible values of its bytes, the pending accesses to it, the newest first, and whether it
+/// is free. Before that changes, each access gets the bytes that it may find.
 #[derive(Drop)]
 pub struct BlockState<const W: usize> {
     bytes: BlockBytes,
     accesses: Vec<PendingAccess<W>>,
     free: Freedom,
-    /// The last moment at which it was free for writing, where it isn't.
+    /// The last moment at which it was free for writing, if it isn't now.
     last_free: u64,
 }
 
-/// What a beat makes of the state of a block: its bytes, where it tells of them, and the accesses that are pending.
+/// The change that a beat makes to the state of a block: its bytes, if the beat changes them, and the pending accesses.
 #[derive(Drop)]
 pub struct NextState<const W: usize> {
     bytes: Option<BlockBytes>,
     accesses: Vec<PendingAccess<W>>,
 }
 
-/// The last moment at which a block was free, where it isn't with one more beat, at this moment.
+/// The last moment at which a block was free, if it isn't free with one more beat, at this moment.
 fn last_free(was: bool, free: bool, last: u64, moment: u64) -> u64
     ensures { result ≡ (if was && not free then moment - 1 else last) }
 {
@@ -66,10 +68,11 @@ impl<const W: usize> BlockState<W> {
     ghost use Rattle.tl_memory.specs.code.Taking.{IsNext, IsRequested, asked_now, none_shown, put_next, with_next};
     ghost use Rattle.tl_memory.specs.statement.Known.{AnyIsTo, Expects, HasRoom, IsNoPut, KnowsAccess, KnowsMessage};
     ghost use Rattle.tl_memory.specs.statement.Expecting.{ExpectsAgain};
-    ghost use Rattle.tl_memory.specs.statement.Known.{AllWriteInside, KnowsState, KnowsUnseen, freedom, open_for};
+    ghost use Rattle.tl_memory.specs.statement.Known.{AllWriteInside, KnowsState, KnowsUnseen, free_for, freedom};
+    ghost use Rattle.tl_memory.specs.statement.Known.{open_for};
     ghost use Rattle.tl_memory.specs.statement.Known.{is_to};
 
-    /// A block of which nothing was told, and to which no access is pending: it is free.
+    /// A block before the trace: its bytes may have any value, no access to it is pending, and it is free.
     pub fn new(alloc: Global) -> Self
         ensures { (n block : ℕ) → KnowsState result n block [] }
     {
@@ -85,14 +88,22 @@ impl<const W: usize> BlockState<W> {
         }
     }
 
-    /// The number of beats before the one that told this value of the byte at a place, where it may be that still.
+    /// Whether the block is free for reading and for writing.
+    pub fn freedom(&self) -> Freedom
+        ensures { (n block : ℕ) (t : Trace W) → KnowsState self.now n block t →
+            (given : Perm) → free_for result given ≡ is_free n given block t }
+    {
+        self.free
+    }
+
+    /// The number of beats before the one that made this value of the byte at a place possible, if it still is.
     pub fn told_at(&self, place: u8, byte: u8) -> Option<u64>
         ensures { result ≡ told_moment byte (tellings_of self.now.bytes place) }
     {
         self.bytes.told_at(place, byte)
     }
 
-    /// What may be granted of it.
+    /// The bytes that may be granted. The error means that there is no memory left.
     pub fn granted(&self, alloc: Global) -> Result<ReadBytes, AllocError>
         ensures { IfOk result (λ read. (n block : ℕ) (t : Trace W) → KnowsState self.now n block t →
             KnowsGrant read n block t) }
@@ -100,7 +111,8 @@ impl<const W: usize> BlockState<W> {
         granted(alloc, &self.bytes, self.accesses.as_slice())
     }
 
-    /// What the answer may bring now to the access that is pending with this source on a link, which is no Put.
+    /// The bytes that the answer to the pending access with this source on a link, which is no Put, may bring now. The
+    /// error means that there is no memory left.
     pub fn read(
         &self,
         alloc: Global,
@@ -124,7 +136,7 @@ impl<const W: usize> BlockState<W> {
         }))
     }
 
-    /// The same where the access is a Get.
+    /// The same if the access is a Get, and none if it isn't. The error means that there is no memory left.
     pub fn read_again(
         &self,
         alloc: Global,
@@ -144,8 +156,8 @@ impl<const W: usize> BlockState<W> {
         self.read(alloc, link, source)
     }
 
-    /// Copies of the accesses to it that stay, which have what they may find now, where the one with this source on a link
-    /// is gone, if one is.
+    /// Copies of the pending accesses, with the bytes that they may find now. `gone` is the access that ends, if one
+    /// does.
     fn renewed(
         &self,
         alloc: Global,
@@ -166,8 +178,8 @@ impl<const W: usize> BlockState<W> {
         Ok(copies)
     }
 
-    /// What a beat makes of it that tells these bytes of it, or none, and with which the access with this source on a
-    /// link is gone, where one is.
+    /// The change by a beat that sets these bytes, if there are any. `gone` is the access that ends, if one does.
+    #[inline(always)]
     fn with_bytes(
         &self,
         alloc: Global,
@@ -185,7 +197,8 @@ impl<const W: usize> BlockState<W> {
         Ok(NextState { bytes, accesses })
     }
 
-    /// What a beat makes of it that changes at most for whom it is free.
+    /// The change by a beat that changes at most whether the block is free. The error means that there is no memory
+    /// left.
     pub fn passed(&self, alloc: Global) -> Result<NextState<W>, AllocError>
         ensures { IfOk result (λ next. (n block : ℕ) (x : Link × Beat W) (t : Trace W) →
             KnowsState self.now n block t → IsElsewhere block x t →
@@ -194,7 +207,8 @@ impl<const W: usize> BlockState<W> {
         self.with_bytes(alloc, None, None)
     }
 
-    /// What a beat makes of it, after so many, that tells what its bytes are.
+    /// The change by a beat that sets these bytes; `moment` is the number of beats before it. The error means that
+    /// there is no memory left, or that `moment` is 2^64 - 1.
     pub fn told(
         &self,
         alloc: Global,
@@ -210,8 +224,8 @@ impl<const W: usize> BlockState<W> {
         self.with_bytes(alloc, Some(bytes), None)
     }
 
-    /// What its bytes may be with a beat, after so many, that completes the answer to an access on a link, where that
-    /// changes them: this is what the beats before it brought.
+    /// The bytes after a beat that completes the answer to an access, if it changes them. `moment` is the number of
+    /// beats before it, `brought` are the bytes of the answer's beats before it.
     fn bytes_answered(
         &self,
         alloc: Global,
@@ -241,8 +255,9 @@ impl<const W: usize> BlockState<W> {
         Ok(Some(bytes))
     }
 
-    /// What a beat makes of it, after so many, that completes the answer to an access on a link, where one is pending:
-    /// this is what the beats before it brought.
+    /// The change by a beat that completes the answer to an access on a link, if one is pending. `moment` is the number
+    /// of beats before it, `brought` are the bytes of the answer's beats before it. The error means that there is no
+    /// memory left.
     pub fn answered(
         &self,
         alloc: Global,
@@ -264,7 +279,7 @@ impl<const W: usize> BlockState<W> {
         self.with_bytes(alloc, bytes, Some((link, y.source)))
     }
 
-    /// Sees for whom it is free with a beat, at this moment.
+    /// Notes whether the block is free with a beat, at this moment.
     pub fn watch(&mut self, free: Freedom, moment: u64)
         ensures { (n block : ℕ) (x : Link × Beat W) (t : Trace W) → KnowsUnseen self.old n block x t →
             free ≡ freedom n block x t → moment ≡ suc (length t) →
@@ -275,8 +290,8 @@ impl<const W: usize> BlockState<W> {
         watch(&mut self.accesses, free.writing, moment);
     }
 
-    /// What is kept of the access to it that is asked for with a beat, at this moment, or of which more is asked for: this
-    /// is what the beats of its request brought.
+    /// The state of the access to the block whose request has this newest beat, at this moment. `brought` are the bytes
+    /// of the request's beats.
     fn asked_access(
         &self,
         alloc: Global,
@@ -304,8 +319,8 @@ impl<const W: usize> BlockState<W> {
         first.grown(alloc, &writer, self.free, &self.bytes, accesses)
     }
 
-    /// What a beat makes of it, at this moment, with which an access to it is asked for, or more of one: this is what the
-    /// beats of its request brought.
+    /// The change by a beat of the request of an access to the block, at this moment. `brought` are the bytes of the
+    /// request's beats. The error means that there is no memory left.
     pub fn asked(
         &self,
         alloc: Global,
@@ -334,7 +349,7 @@ impl<const W: usize> BlockState<W> {
         })
     }
 
-    /// With these bytes, where they are told.
+    /// Puts these bytes, if there are any.
     fn put_bytes(&mut self, bytes: Option<BlockBytes>)
         ensures bytes { self.new.bytes ≡ unwrap_or bytes self.old.bytes }
         ensures accesses { self.new.accesses ≡ self.old.accesses }
@@ -346,7 +361,7 @@ impl<const W: usize> BlockState<W> {
         }
     }
 
-    /// With what a beat makes of it, where that is anything.
+    /// Makes the change of a beat, if there is one.
     fn put(&mut self, next: Option<NextState<W>>)
         ensures { self.new ≡ put_next self.old next.entry }
     {
@@ -357,8 +372,9 @@ impl<const W: usize> BlockState<W> {
         }
     }
 
-    /// Takes a beat, at this moment, that makes this of it, or leaves it as it was. For whom the block is free with the
-    /// beat is told beside it, where the beat may change that.
+    /// Takes a beat, at this moment, that makes this change or none. `free` says whether the block is free with the
+    /// beat, if the beat may change that.
+    #[inline(always)]
     pub fn take(&mut self, next: Option<NextState<W>>, free: Option<Freedom>, moment: u64)
         ensures { (n block : ℕ) (x : Link × Beat W) (t : Trace W) → KnowsState self.old n block t →
             moment ≡ suc (length t) → IsNext next.entry free self.old n block x t →

@@ -1,4 +1,4 @@
-//! What is kept of all blocks.
+//! The states of all blocks.
 
 ghost use Rattle.std.specs.Prelude.{ℕ, suc, true, false, [], ◌∷◌, ◌≡◌, ◌==◌, length, IfOk, option_copied};
 ghost use Rattle.std.specs.Prelude.{slice_get, Some};
@@ -12,12 +12,12 @@ use crate::free::Freedom;
 use std::alloc::{AllocError, Global};
 use std::collections::BTreeMap;
 
-/// What is kept of blocks; nothing of one that no beat bore on.
+/// The states of blocks. There is none for a block that no beat concerned.
 #[derive(Drop)]
 pub struct Blocks<const W: usize> {
-    /// Their states, in the order in which beats came to bear on them.
+    /// The states, in the order in which beats first concerned their blocks.
     states: Vec<BlockState<W>>,
-    /// The place of each among these.
+    /// The place of each block among the states.
     places: BTreeMap<u32, u32>,
     /// The block that was met last, and its place.
     last: Option<(u32, usize)>,
@@ -28,7 +28,7 @@ impl<const W: usize> Blocks<W> {
     ghost use Rattle.tl_memory.specs.code.Taking.{IsNext};
     ghost use Rattle.tl_memory.specs.statement.Blocks.{KnowsBlocks, place_in, state_in};
 
-    /// Nothing of any block.
+    /// No state of any block.
     pub fn new(alloc: Global) -> Self
         ensures { (n : ℕ) → KnowsBlocks result n [] }
     {
@@ -39,7 +39,7 @@ impl<const W: usize> Blocks<W> {
         }
     }
 
-    /// The state of a block, where one is kept.
+    /// The state of a block, if there is one.
     pub fn get(&self, block: u32) -> Option<&BlockState<W>>
         ensures { option_copied result ≡ state_in self.now block }
     {
@@ -49,14 +49,14 @@ impl<const W: usize> Blocks<W> {
         }
     }
 
-    /// The state at a place, where there is one.
+    /// The state at a place, if there is one.
     pub fn at(&self, place: usize) -> Option<&BlockState<W>>
         ensures { option_copied result ≡ slice_get self.now.states.items place }
     {
         self.states.get(place)
     }
 
-    /// The place of a block, of which a state is kept from now on.
+    /// The place of a block. A block without a state gets one. The error means that there is no memory left.
     fn find(&mut self, alloc: Global, block: u32) -> Result<usize, AllocError>
         ensures known { (n : ℕ) (t : Trace W) → KnowsBlocks self.old n t → KnowsBlocks self.new n t }
         ensures found { IfOk result (λ place. place_in self.new block ≡ Some place) }
@@ -78,8 +78,8 @@ impl<const W: usize> Blocks<W> {
         }
     }
 
-    /// Keeps a state of a block, where none was: its place. It searches where another was met last. With memory or
-    /// without it, what is known stays so.
+    /// The place of a block. A block without a state gets one. The block that was met last is found without a search.
+    /// The error means that there is no memory left. All that is known stays true in either case.
     pub fn meet(&mut self, alloc: Global, block: u32) -> Result<usize, AllocError>
         ensures known { (n : ℕ) (t : Trace W) → KnowsBlocks self.old n t → KnowsBlocks self.new n t }
         ensures met { IfOk result (λ place. (n : ℕ) (t : Trace W) → KnowsBlocks self.old n t →
@@ -95,8 +95,9 @@ impl<const W: usize> Blocks<W> {
         Ok(place)
     }
 
-    /// Takes a beat, at this moment, that bears on the block at this place alone: it makes this of the state, or leaves
-    /// it, and for whom the block is free is told beside it, where the beat may change that.
+    /// Takes a beat, at this moment, that concerns the block at this place alone, and makes this change to its state or
+    /// none. `free` says whether the block is free with the beat, if the beat may change that.
+    #[inline(always)]
     pub fn take(
         &mut self,
         place: usize,

@@ -1,4 +1,4 @@
-//! What responses may bring.
+//! The bytes that responses may bring.
 
 ghost use Rattle.std.specs.Prelude.{ℕ, true, ◌+◌, ◌*◌, ◌/◌, ◌<◌, ◌≤◌, ◌≡◌, Some};
 ghost use Rattle.tl_beat.specs.declared.beat.Beat.TheVariants as beat;
@@ -16,8 +16,7 @@ use tl_beat::beat::BeatD;
 use tl_bytes::read_bytes::ReadBytes;
 use tl_rules::place::base;
 
-/// What a response may bring: of the bytes from this address on, its first lane's, those within a request
-/// of this size.
+/// The bytes that a response may bring to a request of this address and size. Any byte beyond that is allowed.
 #[derive(Drop)]
 pub struct Expected {
     pub address: u32,
@@ -29,7 +28,7 @@ impl Expected {
     ghost use Rattle.tl_memory.specs.code.Expected.{allows};
     ghost use Rattle.tl_memory.specs.statement.Known.{Expects, is_to};
 
-    /// Whether it may bring this byte at a place of its block: any where its request doesn't reach.
+    /// Whether this byte is allowed at a place of the block. Any byte is that the request doesn't reach.
     pub fn allows(&self, place: usize, byte: u8) -> bool
         ensures { place < 64 → result ≡ allows self.now (64 * block_at self.now.address + place) byte }
     {
@@ -39,7 +38,7 @@ impl Expected {
         self.bytes.may_bring(place as u8, byte)
     }
 
-    /// Whether it may bring these bytes at the places of its block from this one on.
+    /// Whether these bytes are allowed at the places of the block from this one on.
     fn allows_all<const W: usize>(&self, first: usize, lanes: &[u8; W]) -> bool
         ensures { first + W ≤ 64 →
             result ≡ each_from (allows self.now) (64 * block_at self.now.address + first) lanes.now }
@@ -52,7 +51,7 @@ impl Expected {
         true
     }
 
-    /// Whether it may bring the bytes of a beat, before which so many came.
+    /// Whether the bytes of a beat are allowed. `beats` is the number of beats of the response before it.
     fn allows_lanes<const W: usize>(&self, beats: usize, x: &BeatD<W>) -> bool
         requires { IsWidth W }
         ensures { base_of W self.now.address + W * beats + W ≤ 64 →
@@ -70,7 +69,7 @@ impl Expected {
         }
     }
 
-    /// Whether a beat of the response, before which so many came, has bytes that it may bring.
+    /// Whether the bytes of a beat of the response are allowed. `beats` is the number of its beats before.
     pub fn is_expected<const W: usize>(&self, beats: usize, x: &BeatD<W>) -> bool
         requires { IsWidth W }
         ensures granted { (n block : ℕ) (t : Trace W) → self.now.address ≡ 64 * block → self.now.size ≡ 6 →

@@ -1,4 +1,4 @@
-//! What may be granted of a block.
+//! The bytes that may be granted of a block.
 
 ghost use Rattle.std.specs.Prelude.{ℕ, Bool, ◌≡◌, IfOk};
 ghost use Rattle.tl_params.specs.declared.perm.Perm.{Perm};
@@ -24,7 +24,7 @@ fn some_window(count: WindowCount) -> bool
     }
 }
 
-/// What accesses may write that have had a window.
+/// The writes of the accesses that have had a window. The error means that there is no memory left.
 fn writes_in_windows<const W: usize>(
     alloc: Global,
     accesses: &[PendingAccess<W>],
@@ -40,8 +40,8 @@ fn writes_in_windows<const W: usize>(
     Ok(writes)
 }
 
-/// What may be granted of a block, of which these are the bytes, and these the accesses to it that are
-/// pending.
+/// The bytes that may be granted of a block with these bytes and these pending accesses. The error means that there is
+/// no memory left.
 pub fn granted<const W: usize>(
     alloc: Global,
     bytes: &BlockBytes,

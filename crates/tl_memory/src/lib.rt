@@ -1,4 +1,4 @@
-//! The bytes of memory, kept from the beats of all links of a manager: what a response may bring.
+//! The bytes of memory that a response may bring, by the beats of all links of a manager.
 #![tactic(auto)]
 
 pub mod access;

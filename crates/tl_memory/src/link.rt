@@ -1,4 +1,4 @@
-//! What is kept of a link.
+//! The state of a link.
 
 ghost use Rattle.std.specs.Prelude.{ℕ, true, false, [], ◌∷◌, ◌≡◌, List, None, length, option_copied};
 ghost use Rattle.tl_beat.specs.declared.beat.Beat.{Beat};
@@ -22,8 +22,7 @@ use crate::typed::prove_request;
 use tl_beat::beat::{Beat, BeatD};
 use tl_beat::opcode::OpD;
 
-/// What the messages that aren't complete have brought on the channels of a link that carry bytes to
-/// memory and back.
+/// The unfinished messages of a link on channels A, C and D, which carry bytes to memory and back.
 #[derive(Clone, Copy)]
 pub struct LinkMessages {
     pub a: CarriedMessage,
@@ -34,7 +33,7 @@ pub struct LinkMessages {
 impl LinkMessages {
     ghost use Rattle.tl_memory.specs.statement.Links.{KnowsMessages};
 
-    /// No message on any.
+    /// No message on any channel.
     pub fn new() -> Self
         ensures { (w : ℕ) → KnowsMessages {w = w} result [] }
     {
@@ -45,7 +44,7 @@ impl LinkMessages {
         }
     }
 
-    /// Takes a beat. One that breaks no rule is of a size that a message may have.
+    /// Takes a beat. One whose size no message may have is left out: it breaks a rule.
     pub fn take<const W: usize>(&mut self, beat: &Beat<W>)
         requires { IsWidth W }
         ensures { (l : Level) (t : History W) → KnowsMessages self.old t → is_legal_under all_but_early l t ≡ true →
@@ -66,14 +65,14 @@ impl LinkMessages {
     }
 }
 
-/// Whether the bytes of a response are judged: of one that carries any to a client.
+/// Whether a response brings bytes to a client, which are judged.
 fn is_judged(opcode: OpD) -> bool
     ensures { result ≡ allowed.is_judged opcode }
 {
     matches!(opcode, OpD::GrantData | OpD::AccessAckData)
 }
 
-/// Whether a beat of a response, before which so many came, has bytes that it may bring.
+/// Whether the bytes of a beat of a response are allowed. `beats` is the number of its beats before.
 fn is_allowed<const W: usize>(expected: Option<&Expected>, beats: usize, x: &BeatD<W>) -> bool
     requires { IsWidth W }
     ensures { allowed.IsAllowed (option_copied expected.entry) beats x.now result }
@@ -84,8 +83,7 @@ fn is_allowed<const W: usize>(expected: Option<&Expected>, beats: usize, x: &Bea
     }
 }
 
-/// What is kept of a link: the messages that aren't complete, and what the response may bring that has begun
-/// on channel D.
+/// The state of a link: the unfinished messages, and the bytes that the unfinished response on channel D may bring.
 #[derive(Drop)]
 pub struct LinkState {
     pub messages: LinkMessages,
@@ -106,8 +104,8 @@ impl LinkState {
         }
     }
 
-    /// What the response may bring with its next beat, where this is what it may if it begins with that, or what is said
-    /// anew.
+    /// The bytes that the response may bring with its next beat. `now` are those of a response that begins with it, or
+    /// of the answer to a Get.
     pub fn expected<'a>(&'a self, now: &'a Option<Expected>) -> Option<&'a Expected>
         ensures { (w n : ℕ) (levels : List Level) (link : Link) (x : BeatD w) (t : Trace w) →
             KnowsLink self.now n link.0 t → AreLegal levels t → IsLegal levels (link, beat.D x) t →
@@ -127,8 +125,8 @@ impl LinkState {
         }
     }
 
-    /// Whether a response's beat has true bytes, where this is what the response may bring if it begins with it, or what is
-    /// said anew.
+    /// Whether the bytes of a response's beat are true. `now` are the bytes that it may bring if it begins with the
+    /// beat or answers a Get.
     pub fn is_true<const W: usize>(&self, now: &Option<Expected>, x: &BeatD<W>) -> bool
         requires { IsWidth W }
         ensures { (levels : List Level) (n : ℕ) (link : Link) (t : Trace W) →
@@ -148,7 +146,7 @@ impl LinkState {
         is_allowed(self.expected(now), self.messages.d.bytes.count(), x)
     }
 
-    /// Takes a beat, where this is what the response may bring that begins with it.
+    /// Takes a beat. `begun` are the bytes that the response may bring that begins with it.
     pub fn take<const W: usize>(&mut self, begun: Option<Expected>, x: &Beat<W>)
         requires { IsWidth W }
         ensures { (levels : List Level) (n : ℕ) (link : Link) (t : Trace W) →

@@ -1,4 +1,4 @@
-//! What is kept of all links of a manager.
+//! The states of all links of a manager.
 
 ghost use Rattle.std.specs.Prelude.{ℕ, [], ◌∷◌, ◌≡◌, List, length, None, IfOk, IsTrue, option_copied, slice_get};
 ghost use Rattle.tl_beat.specs.declared.beat.Link.{Link};
@@ -16,7 +16,7 @@ use crate::passing::passes_by;
 use std::alloc::{AllocError, Global};
 use tl_beat::beat::{Beat, Link};
 
-/// What is kept of links, one by one.
+/// The states of links, by their numbers.
 #[derive(Drop)]
 pub struct Links {
     states: Vec<LinkState>,
@@ -25,7 +25,7 @@ pub struct Links {
 impl Links {
     ghost use Rattle.tl_memory.specs.statement.Links.{KnowsLinks};
 
-    /// So many, on which nothing was carried.
+    /// This many links, which have carried nothing. The error means that there is no memory left.
     pub fn new(alloc: Global, count: u8) -> Result<Self, AllocError>
         ensures { IfOk result (λ l. (w : ℕ) → KnowsLinks {w = w} l count []) }
     {
@@ -36,14 +36,14 @@ impl Links {
         Ok(Links { states })
     }
 
-    /// What is kept of a link, where there is one.
+    /// The state of a link, if there is one.
     pub fn get(&self, link: Link) -> Option<&LinkState>
         ensures { option_copied result ≡ slice_get self.now.states.items link.0 }
     {
         self.states.get(usize::from(link.0))
     }
 
-    /// Whether a beat of a link passes each block by, and no response begins with it.
+    /// Whether a beat of a link changes no block, begins no response and brings no bytes that an access finds.
     pub fn passes_by<const W: usize>(&self, link: Link, x: &Beat<W>) -> bool
         requires width { IsWidth W }
         requires small { IsTrue (Part.is_small x.now) }
@@ -57,7 +57,7 @@ impl Links {
         }
     }
 
-    /// Takes a beat, where this is what the response may bring that begins with it.
+    /// Takes a beat. `begun` are the bytes that the response may bring that begins with it.
     pub fn take<const W: usize>(&mut self, begun: Option<Expected>, link: Link, x: &Beat<W>)
         requires { IsWidth W }
         ensures { (levels : List Level) (t : Trace W) → KnowsLinks self.old (length levels) t →

@@ -1,4 +1,4 @@
-//! What is kept of the bytes of memory.
+//! The state of the bytes of memory.
 
 ghost use Rattle.std.specs.Prelude.{ℕ, suc, true, [], ◌∷◌, ◌<◌, ◌≡◌, if◌then◌else◌, List, length, is_some, option_map};
 ghost use Rattle.std.specs.Prelude.{None, Some, IfOk, IsTrue, option_copied, ◌+◌, ◌*◌};
@@ -32,8 +32,9 @@ use tl_beat::beat::{Beat, BeatD, Link};
 use tl_rules::key::block_at;
 use tl_rules::kind::is_release_ack;
 use tl_rules::past::Request;
+use tl_rules::perm::Perm;
 
-/// The block of a request, where there is one.
+/// The block of a request, if there is one.
 fn block_asked(asked: Option<Request>) -> Option<u32>
     ensures { result ≡ elsewhere.block_asked asked }
 {
@@ -43,8 +44,7 @@ fn block_asked(asked: Option<Request>) -> Option<u32>
     }
 }
 
-/// The block that a beat bears on, which answers this request where it is a response: that of its address, or
-/// of the request.
+/// The block that a beat concerns: that of its address, or for a response that of the request that it answers.
 fn block_borne<const W: usize>(beat: &Beat<W>, asked: Option<Request>) -> Option<u32>
     ensures { (past : History W) → asked ≡ request_answered beat.now past →
         result ≡ elsewhere.block_borne beat.now past }
@@ -63,30 +63,38 @@ fn block_borne<const W: usize>(beat: &Beat<W>, asked: Option<Request>) -> Option
     }
 }
 
-/// The block that a beat bears on, where its link may hold more or less of it with the beat.
+/// The block that a beat concerns, if the beat may change the permission that its link holds of it.
 fn held_of(block: u32, changes: bool) -> Option<u32>
     ensures { result ≡ (if changes then Some block else None) }
 {
     if changes { Some(block) } else { None }
 }
 
-/// What a beat changes of what is kept.
+/// The change to the state of memory that a beat makes.
 #[derive(Drop)]
 pub struct Change<const W: usize> {
-    /// The block that it bears on; none where it passes each by.
+    /// The block that the beat concerns. None if it changes no block.
     block: Option<u32>,
-    /// The same, where its link may hold more or less of it with the beat.
+    /// That block, if the beat may change the permission that its link holds of it.
     pub held: Option<u32>,
-    /// The place of that block among those of which a state is kept.
+    /// Whether that block was free for reading and for writing before the beat.
+    reading: bool,
+    writing: bool,
+    /// The place of that block among the states.
     place: usize,
-    /// What it makes of the state of that block, where more of that changes than how free it is.
+    /// The change to the state of that block, if more than its freedom changes.
     next: Option<NextState<W>>,
-    /// What the response may bring that begins with it, or what is said anew of the one whose beat it is.
+    /// The bytes that the response may bring that begins with the beat, or that answers a Get.
     expected: Option<Expected>,
 }
 
 impl<const W: usize> Change<W> {
-    /// That of a beat that passes each block by.
+    ghost use Rattle.tl_bytes.specs.statement.Free.{is_free};
+    ghost use Rattle.tl_memory.specs.code.Changing.{KnowsFree};
+    ghost use Rattle.tl_memory.specs.statement.Known.{free_for};
+    ghost use Rattle.tl_params.specs.declared.perm.Perm.{Perm};
+
+    /// The change by a beat that changes no block.
     fn none() -> Self
         ensures block { result.block ≡ None }
         ensures held { result.held ≡ None }
@@ -95,14 +103,41 @@ impl<const W: usize> Change<W> {
         Change {
             block: None,
             held: None,
+            reading: false,
+            writing: false,
             place: 0,
             next: None,
             expected: None,
         }
     }
+
+    /// Whether the block was free for reading and for writing before the beat.
+    pub fn freedom(&self) -> Freedom
+        ensures { (n block : ℕ) (t : Trace W) → KnowsFree self.now n t → self.now.block ≡ Some block →
+            (given : Perm) → free_for result given ≡ is_free n given block t }
+    {
+        Freedom {
+            reading: self.reading,
+            writing: self.writing,
+            shown: false,
+        }
+    }
+
+    /// Whether this block is known to be free for this permission. It isn't if the beat doesn't concern it.
+    pub fn says_free(&self, block: u32, given: Perm) -> bool
+        ensures { (n : ℕ) (t : Trace W) → KnowsFree self.now n t → result ≡ true → is_free n given block t ≡ true }
+    {
+        let Some(own) = self.block else {
+            return false;
+        };
+        if own != block {
+            return false;
+        }
+        self.freedom().is_free_for(given)
+    }
 }
 
-/// What is kept of the bytes of memory: of all links of a manager, and of all blocks.
+/// The state of the bytes of memory: of all links of a manager, and of all blocks.
 #[derive(Drop)]
 pub struct Memory<const W: usize> {
     alloc: Global,
@@ -111,14 +146,14 @@ pub struct Memory<const W: usize> {
 }
 
 impl<const W: usize> Memory<W> {
-    ghost use Rattle.tl_memory.specs.code.Changing.{IsChange};
+    ghost use Rattle.tl_memory.specs.code.Changing.{IsChange, KnowsFree};
     ghost use Rattle.tl_memory.specs.statement.Blocks.{place_in, state_in};
     ghost use Rattle.tl_memory.specs.statement.Expecting.{ExpectsBeat};
     ghost use Rattle.tl_memory.specs.statement.Known.{freedom};
     ghost use Rattle.tl_memory.specs.statement.Links.{AreLegal, IsLegal};
     ghost use Rattle.tl_memory.specs.statement.Memory.{KnowsMemory};
 
-    /// That of so many links, which have carried nothing.
+    /// The state of this many links, which have carried nothing. The error means that there is no memory left.
     pub fn new(alloc: Global, count: u8) -> Result<Self, AllocError>
         ensures { IfOk result (λ m. KnowsMemory m count []) }
     {
@@ -129,7 +164,8 @@ impl<const W: usize> Memory<W> {
         })
     }
 
-    /// What a beat changes that bears on this block, of which a state is kept.
+    /// The change by a beat that concerns this block, which has a state at this place. The error means that there is no
+    /// memory left.
     fn changed(
         &self,
         block: u32,
@@ -141,7 +177,9 @@ impl<const W: usize> Memory<W> {
     ) -> Result<Change<W>, AllocError>
         requires width { IsWidth W }
         requires small { IsTrue (Part.is_small x.now) }
-        ensures { IfOk result (λ change. (levels : List Level) (t : Trace W) →
+        ensures free { IfOk result (λ change. (n : ℕ) (t : Trace W) → KnowsMemory self.now n t →
+            place_in self.now.blocks block ≡ Some place → KnowsFree change n t) }
+        ensures change { IfOk result (λ change. (levels : List Level) (t : Trace W) →
             KnowsMemory self.now (length levels) t → AreLegal levels t →
             IsLegal levels (link, x.now) t → asked ≡ request_answered x.now (on_link link.0 t) →
             moment ≡ suc (length t) → elsewhere.block_borne x.now (on_link link.0 t) ≡ Some block →
@@ -155,19 +193,22 @@ impl<const W: usize> Memory<W> {
         let Some(known) = self.links.get(link) else {
             return Ok(Change::none());
         };
+        let free = state.freedom();
         let next = after_beat(self.alloc, state, link, x, asked, &known.messages, moment)?;
         let expected = begun_with(self.alloc, state, link, x, &known.messages.d, block)?;
         Ok(Change {
             block: Some(block),
             held: held_of(block, changes_held(x, &known.messages)),
+            reading: free.reading,
+            writing: free.writing,
             place,
             next,
             expected,
         })
     }
 
-    /// What a beat changes, at this moment, which answers this request where it is a response to one. With
-    /// memory or without it, what is known stays so.
+    /// The change by a beat, at this moment. `asked` is the request that it answers, if it is a response to one. The
+    /// error means that there is no memory left. All that is known stays true in either case.
     pub fn change(
         &mut self,
         link: Link,
@@ -177,6 +218,7 @@ impl<const W: usize> Memory<W> {
     ) -> Result<Change<W>, AllocError>
         requires { IsWidth W }
         ensures known { (n : ℕ) (t : Trace W) → KnowsMemory self.old n t → KnowsMemory self.new n t }
+        ensures free { IfOk result (λ change. (n : ℕ) (t : Trace W) → KnowsMemory self.old n t → KnowsFree change n t) }
         ensures change { IfOk result (λ change. (levels : List Level) (t : Trace W) →
             KnowsMemory self.old (length levels) t → AreLegal levels t →
             IsLegal levels (link, x.now) t → asked ≡ request_answered x.now (on_link link.0 t) →
@@ -196,7 +238,7 @@ impl<const W: usize> Memory<W> {
         self.changed(block, place, link, x, asked, moment)
     }
 
-    /// Whether the bytes of a response's beat are true, where this is what the beat changes.
+    /// Whether the bytes of a response's beat are true. `change` is the change by the beat.
     pub fn is_true(&self, change: &Change<W>, link: Link, x: &BeatD<W>) -> bool
         requires { IsWidth W }
         ensures { (levels : List Level) (t : Trace W) → KnowsMemory self.now (length levels) t →
@@ -210,8 +252,9 @@ impl<const W: usize> Memory<W> {
         }
     }
 
-    /// Takes a beat, at this moment, where this is what the beat changes. For whom the block is free with it of which its
-    /// link may hold more or less is told beside that.
+    /// Takes a beat, at this moment, that makes this change. `free` says whether the block whose permission the beat
+    /// may change is free with it.
+    #[inline(always)]
     pub fn take(
         &mut self,
         change: Change<W>,
@@ -234,7 +277,7 @@ impl<const W: usize> Memory<W> {
         }
     }
 
-    /// What the response may bring whose beat is next on a link, where this is what the beat changes.
+    /// The bytes that the response whose beat is next on a link may bring. `change` is the change by the beat.
     pub fn expected<'a>(&'a self, change: &'a Change<W>, link: Link) -> Option<&'a Expected>
         ensures { (levels : List Level) (x : BeatD W) (t : Trace W) →
             KnowsMemory self.now (length levels) t → AreLegal levels t →
@@ -249,7 +292,7 @@ impl<const W: usize> Memory<W> {
         }
     }
 
-    /// How many beats of the message have come that isn't complete on channel D of a link.
+    /// The number of beats that have come of the unfinished message on channel D of a link.
     pub fn beats_come(&self, link: Link) -> usize
         ensures { (n : ℕ) (t : Trace W) → KnowsMemory self.now n t → link.0 < n →
             result ≡ length (unfinished channel.D (on_link link.0 t)) }
@@ -260,8 +303,8 @@ impl<const W: usize> Memory<W> {
         }
     }
 
-    /// The number of beats before the one that told this value of the byte at a place of a block, where it may be that
-    /// still.
+    /// The number of beats before the one that made this value of the byte at a place of a block possible, if it still
+    /// is.
     pub fn told_at(&self, block: u32, place: u8, byte: u8) -> Option<u64>
         ensures kept { result ≡ told_by (state_in self.now.blocks block) place byte }
         ensures told { (n : ℕ) (t : Trace W) → KnowsMemory self.now n t → place < 64 →

@@ -1,4 +1,4 @@
-//! What the beats of a message have brought.
+//! The bytes and the mask of a message's beats.
 
 ghost use Rattle.std.specs.Prelude.{ℕ, [], ◌∷◌, ◌+◌, ◌*◌, ◌^◌, ◌<◌, ◌≤◌, ◌&&◌, ◌||◌, ◌≡◌, IsTrue, List, length};
 ghost use Rattle.tl_beat.specs.declared.beat.Beat.{Beat};
@@ -12,8 +12,7 @@ use tl_burst::burst::burst_length;
 use tl_bytes::carried::CarriedBytes;
 use tl_rules::admission::is_spoiled;
 
-/// What the beats of a message have brought so far: its bytes, its mask, and whether one of them was
-/// corrupt, or denied.
+/// The bytes and the mask of a message's beats so far, and whether one of them was corrupt or denied.
 #[derive(Clone, Copy)]
 pub struct CarriedMessage {
     pub bytes: CarriedBytes,
@@ -34,7 +33,7 @@ pub fn is_small<const W: usize>(beat: &Beat<W>) -> bool
     }
 }
 
-/// A mask with that of the beat behind so many.
+/// A mask with that of one more beat, which comes after this many.
 fn with_mask<const W: usize>(mask: u64, beats: usize, bits: u16) -> u64
     requires { IsWidth W }
     ensures { W * beats + W ≤ 64 → bits < 2 ^ W → mask < 2 ^ (W * beats) →
@@ -64,7 +63,7 @@ pub fn both(one: bool, other: bool) -> bool
 impl CarriedMessage {
     ghost use Rattle.tl_memory.specs.statement.Known.{HasRoom, KnowsMessage};
 
-    /// No beat's.
+    /// A message without beats.
     pub fn new() -> Self
         ensures { (w : ℕ) → KnowsMessage {w = w} result [] }
     {
@@ -85,7 +84,7 @@ impl CarriedMessage {
         self.bytes.count().saturating_add(1) == usize::from(burst_length(beat))
     }
 
-    /// The mask of their bytes with that of the next beat.
+    /// The mask with that of the next beat.
     fn mask_with<const W: usize>(&self, beat: &Beat<W>) -> u64
         requires { IsWidth W }
         ensures { (burst : List (Beat W)) → KnowsMessage self.now burst → HasRoom beat.now burst →
@@ -97,7 +96,7 @@ impl CarriedMessage {
         }
     }
 
-    /// Adds what the next beat brings.
+    /// Adds the next beat.
     fn add<const W: usize>(&mut self, beat: &Beat<W>)
         requires { IsWidth W }
         ensures { (burst : List (Beat W)) → KnowsMessage self.old burst → HasRoom beat.now burst →
@@ -108,7 +107,7 @@ impl CarriedMessage {
         self.bytes.add(beat);
     }
 
-    /// What they have brought with the next beat.
+    /// The message with the next beat.
     pub fn with<const W: usize>(&self, beat: &Beat<W>) -> Self
         requires { IsWidth W }
         ensures { (burst : List (Beat W)) → KnowsMessage self.now burst → HasRoom beat.now burst →
@@ -119,7 +118,7 @@ impl CarriedMessage {
         all
     }
 
-    /// Nothing is brought of the next message.
+    /// Begins the next message, without beats.
     fn clear(&mut self)
         ensures { (w : ℕ) (burst : List (Beat w)) → KnowsMessage self.old burst → KnowsMessage {w = w} self.new [] }
     {
@@ -128,7 +127,7 @@ impl CarriedMessage {
         }
     }
 
-    /// Takes the next beat. Behind the last nothing is brought.
+    /// Takes the next beat. After the last one, no beat of the next message has come.
     pub fn take<const W: usize>(&mut self, beat: &Beat<W>)
         requires width { IsWidth W }
         requires small { IsTrue (Part.is_small beat.now) }

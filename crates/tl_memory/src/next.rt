@@ -1,4 +1,4 @@
-//! What a beat makes of the state of the block that it bears on.
+//! The change that a beat makes to the state of the block that it concerns.
 
 ghost use Rattle.std.specs.Prelude.{ℕ, suc, Bool, Option, Some, None, ◌∷◌, ◌≡◌, ◌≤◌, ◌&&◌, length, IfOk, IsTrue};
 ghost use Rattle.tl_beat.specs.declared.beat.Beat.{Beat};
@@ -30,8 +30,8 @@ use tl_beat::beat::{Beat, BeatA, BeatC, BeatD, Link};
 use tl_beat::opcode::{OpA, OpD};
 use tl_rules::past::Request;
 
-/// What a beat of channel A makes of the state, at this moment, where an access is asked for with it: this is what the
-/// beats before it of its message brought.
+/// The change by a beat of channel A, at this moment, if it asks for an access. `brought` are the bytes of the beats
+/// before it of its message. The error means that there is no memory left.
 pub fn after_request<const W: usize>(
     alloc: Global,
     state: &BlockState<W>,
@@ -54,7 +54,9 @@ pub fn after_request<const W: usize>(
     Ok(Some(state.asked(alloc, link, y, &all, moment)?))
 }
 
-/// What a beat of channel C makes of the state, before which so many were taken, where a report is complete with it.
+/// The change by a beat of channel C, if it completes a report. `moment` is the number of beats before it, `brought`
+/// are the bytes of the beats before it of its message. The error means that there is no memory left, or that `moment`
+/// is 2^64 - 1.
 pub fn after_report<const W: usize>(
     alloc: Global,
     state: &BlockState<W>,
@@ -82,7 +84,7 @@ pub fn after_report<const W: usize>(
     Ok(Some(state.told(alloc, all.bytes.bytes(), moment)?))
 }
 
-/// Whether a response that isn't denied tells what the block of such a request has.
+/// Whether a response to such a request sets the block's bytes, if it isn't denied.
 fn tells_block(opcode: OpD, asked: OpA) -> bool
     ensures { result ≡ taking.tells_block opcode asked }
 {
@@ -93,14 +95,16 @@ fn tells_block(opcode: OpD, asked: OpA) -> bool
     }
 }
 
-/// Whether a response tells what the block of such a request has: a denied one tells nothing.
+/// Whether a response to such a request sets the block's bytes. A denied one doesn't.
 fn tells<const W: usize>(y: &BeatD<W>, asked: OpA) -> bool
     ensures { result ≡ taking.tells_response y.now asked }
 {
     both(!y.denied, tells_block(y.opcode, asked))
 }
 
-/// What a beat of channel D makes of the state, before which so many were taken, where a response is complete with it.
+/// The change by a beat of channel D, if it completes a response. `moment` is the number of beats before it, `brought`
+/// are the bytes of the beats before it of its message. The error means that there is no memory left, or that `moment`
+/// is 2^64 - 1.
 pub fn after_response<const W: usize>(
     alloc: Global,
     state: &BlockState<W>,
@@ -132,8 +136,8 @@ pub fn after_response<const W: usize>(
     Ok(Some(state.passed(alloc)?))
 }
 
-/// What a beat of channel A makes of the state, at this moment: an Acquire from nothing held may change for whom the block
-/// is free. This is what the beats before it of its message brought.
+/// The change by a beat of channel A, at this moment. An Acquire from None may change whether the block is free.
+/// `brought` are the bytes of the beats before it of its message.
 fn after_asking<const W: usize>(
     alloc: Global,
     state: &BlockState<W>,
@@ -156,7 +160,9 @@ fn after_asking<const W: usize>(
     after_request(alloc, state, link, y, brought, moment)
 }
 
-/// What a beat makes of the state that bears on its block, at this moment, or that stays as it was: this is the request that the beat answers, and these are the messages that aren't complete on its link.
+/// The change by a beat, at this moment, to the state of the block that it concerns, if it makes one. `asked` is the
+/// request that the beat answers, `messages` are the unfinished messages of its link. The error means that there is no
+/// memory left.
 pub fn after_beat<const W: usize>(
     alloc: Global,
     state: &BlockState<W>,

@@ -1,4 +1,4 @@
-//! Beats that pass each block by, and those that change what their link holds.
+//! Beats that change no block, and beats that may change the permission held.
 
 ghost use Rattle.std.specs.Prelude.{◌<◌, ◌≤◌, ◌≡◌, IsTrue, length};
 ghost use Rattle.tl_beat.specs.declared.channel.Channel.TheVariants as channel;
@@ -18,35 +18,38 @@ use tl_beat::beat::{Beat, BeatA};
 use tl_beat::opcode::OpD;
 use tl_rules::kind::{grows_from_none, is_acquire, is_grant};
 
-/// Whether a beat is an Acquire from nothing held.
+/// Whether a beat is an Acquire from None.
 pub fn acquires_from_none<const W: usize>(y: &BeatA<W>) -> bool
     ensures { result ≡ passing.acquires_from_none y.now }
 {
     is_acquire(y.opcode) && grows_from_none(y.param)
 }
 
-/// Whether an access is asked for with a beat of channel A: this is what the beats before it of its message brought.
+/// Whether a beat of channel A asks for an access. `brought` are the bytes of the beats before it of its message.
 pub fn asks<const W: usize>(y: &BeatA<W>, brought: &CarriedMessage) -> bool
     requires width { IsWidth W }
     requires small { y.now.size ≤ 6 }
     ensures { (t : History W) → KnowsMessage brought.now (unfinished channel.A t) →
         length (unfinished channel.A t) < 64 → result ≡ bytes.asks y.now t }
 {
-    both(
-        is_access(y.opcode),
-        either(is_put(y.opcode), brought.completes(&Beat::A(*y))),
-    )
+    if is_put(y.opcode) {
+        return true;
+    }
+    if !is_access(y.opcode) {
+        return false;
+    }
+    brought.completes(&Beat::A(*y))
 }
 
-/// Whether a response brings what an access finds.
+/// Whether a response brings the bytes that an access finds.
 fn is_answer_data(opcode: OpD) -> bool
     ensures { result ≡ passing.is_answer_data opcode }
 {
     matches!(opcode, OpD::AccessAckData)
 }
 
-/// Whether a beat passes each block by, and no response begins with it, nor does it bring what an access finds: these are
-/// the messages that aren't complete on its link.
+/// Whether a beat changes no block, begins no response and brings no bytes that an access finds. `messages` are the
+/// unfinished messages of its link.
 pub fn passes_by<const W: usize>(x: &Beat<W>, messages: &LinkMessages) -> bool
     requires width { IsWidth W }
     requires small { IsTrue (Part.is_small x.now) }
@@ -69,8 +72,8 @@ pub fn passes_by<const W: usize>(x: &Beat<W>, messages: &LinkMessages) -> bool
     }
 }
 
-/// Whether with a beat its link may hold more or less of the block that it bears on: these are the messages that
-/// aren't complete there.
+/// Whether a beat may change the permission that its link holds of the block that it concerns. `messages` are the
+/// unfinished messages of its link.
 pub fn changes_held<const W: usize>(x: &Beat<W>, messages: &LinkMessages) -> bool
     requires width { IsWidth W }
     requires small { IsTrue (Part.is_small x.now) }

@@ -1,4 +1,4 @@
-//! Accesses that are pending.
+//! The states of pending accesses.
 
 ghost use Rattle.std.specs.Prelude.{ℕ, false, ◌≡◌, IfOk};
 ghost use Rattle.tl_bytes.specs.statement.Known.{may_bring};
@@ -15,7 +15,7 @@ use tl_bytes::read_bytes::ReadBytes;
 use tl_bytes::windows::WritingWindows;
 use tl_bytes::write::Write;
 
-/// An access that is pending: what it may write, its windows for writing, and what it may bring.
+/// The state of a pending access: its write, its windows for writing, and the bytes that it may have found.
 #[derive(Drop)]
 pub struct PendingAccess<const W: usize> {
     pub writer: Writer<W>,
@@ -23,7 +23,7 @@ pub struct PendingAccess<const W: usize> {
     pub read: ReadBytes,
 }
 
-/// What others may write than the access with this source on a link.
+/// The writes of all accesses but the one with this source on a link.
 fn writes_of_others<const W: usize>(
     alloc: Global,
     accesses: &[PendingAccess<W>],
@@ -44,7 +44,7 @@ fn writes_of_others<const W: usize>(
 impl<const W: usize> PendingAccess<W> {
     ghost use Rattle.tl_memory.specs.code.Writers.{IsGrown, IsRenewed, IsWatched, found_by};
 
-    /// One that is asked for first with this beat, which had these windows.
+    /// An access whose first beat this is, with these windows.
     pub fn new(alloc: Global, writer: &Writer<W>, windows: WritingWindows) -> Self
         ensures writer { result.writer ≡ writer.now }
         ensures windows { result.windows ≡ windows }
@@ -57,8 +57,9 @@ impl<const W: usize> PendingAccess<W> {
         }
     }
 
-    /// A copy that has what it may find now, where it may be performed now, and is no Put: its block is free for these, and has these
-    /// bytes, and these are the accesses to it that are pending.
+    /// A copy with the bytes that the access may find now added, if it isn't a Put and may be performed now. `free`,
+    /// `bytes` and `accesses` are those of its block. The error means that there is no memory left.
+    #[inline(always)]
     pub fn renewed(
         &self,
         alloc: Global,
@@ -82,8 +83,7 @@ impl<const W: usize> PendingAccess<W> {
         })
     }
 
-    /// The same of which more is asked for with this beat, so that this is its writer, and which has what it may find now, as
-    /// in `renewed`.
+    /// The same for an access with one more beat of its request, so that this is its writer. The error is the same.
     pub fn grown(
         &self,
         alloc: Global,
@@ -99,7 +99,7 @@ impl<const W: usize> PendingAccess<W> {
         Ok(grown)
     }
 
-    /// Sees whether its block is free for writing with one more beat, at this moment.
+    /// Notes whether the block is free for writing with one more beat, at this moment.
     pub fn watch(&mut self, free: bool, moment: u64)
         ensures { IsWatched free moment self.old self.new }
     {

@@ -1,4 +1,4 @@
-//! What an access leaves in its block.
+//! The bytes that an access leaves in its block.
 
 ghost use Rattle.std.specs.Prelude.{ℕ, true, false, ◌+◌, ◌*◌, ◌/◌, ◌%◌, ◌^◌, ◌<◌, ◌≡◌, ◌==◌, List};
 ghost use Rattle.std.specs.Prelude.{if◌then◌else◌, slice_index};
@@ -21,7 +21,7 @@ use tl_rules::level::Level;
 use tl_rules::perform::perform;
 use tl_rules::place::{base, move_up};
 
-/// The mask of an atomic, which names all that it reaches.
+/// The mask of an atomic: all bytes that it reaches.
 fn atomic_mask<const W: usize>(size: u8, address: u32) -> u64
     requires { IsWidth W }
     ensures { result ≡ (if size == 2 then 15 else 255) * 2 ^ (address % W) % 2 ^ 64 }
@@ -53,14 +53,14 @@ fn perform_atomic<const W: usize>(request: &MessageA<W>, block: &mut [u8; 64])
     }
 }
 
-/// Whether an operation is a Put.
+/// Whether the opcode is of a Put.
 pub fn is_put(opcode: OpA) -> bool
     ensures { result ≡ is_put opcode }
 {
     matches!(opcode, OpA::PutFullData | OpA::PutPartialData)
 }
 
-/// The bytes of its block that an atomic leaves, where its answer brought these.
+/// The bytes that an atomic leaves in its block, if its answer brought these.
 pub fn performed<const W: usize>(asked: &Asked<W>, found: &KnownBytes) -> [u8; 64]
     requires { IsWidth W }
     ensures { (access : Access W) (answer : List (Beat W)) → IsAsked asked.now access →

@@ -1,4 +1,4 @@
-//! What the types of beats say.
+//! Facts that follow from the types of beats.
 
 ghost use Rattle.std.specs.Prelude.{◌^◌, ◌<◌, ◌≤◌, ◌≡◌, length};
 ghost use Rattle.tl_beat.specs.declared.beat.Beat.TheVariants as beat;
@@ -14,7 +14,7 @@ fn prove_wide<const W: usize>(lanes: &[u8; W])
     ensures { length lanes.now ≡ W }
 {}
 
-/// The mask of a request's beat has 16 bits, and its lanes a byte each.
+/// The mask of a request's beat has 16 bits, and its data a byte for each lane.
 pub fn prove_request<const W: usize>(x: &BeatA<W>)
     ensures { IsTyped (beat.A x.now) }
 {
@@ -31,7 +31,7 @@ fn prove_addressed<const W: usize>(x: &BeatA<W>)
     let _address = x.address;
 }
 
-/// A beat of channel A is as wide as its type says, and its address has 32 bits.
+/// A beat of channel A has the width of its type, and its address has 32 bits.
 pub fn prove_typed<const W: usize>(x: &Beat<W>)
     ensures typed { (y : BeatA W) → x.now ≡ beat.A y → IsTyped (beat.A y) }
     ensures addressed { IsAddressed x.now }
@@ -42,7 +42,7 @@ pub fn prove_typed<const W: usize>(x: &Beat<W>)
     }
 }
 
-/// A response's beat has a byte for each lane, where it has any.
+/// If a response's beat has data, it has a byte for each lane.
 pub fn prove_response<const W: usize>(x: &BeatD<W>)
     ensures { length (lanes_of (beat.D x.now)) ≤ W }
 {

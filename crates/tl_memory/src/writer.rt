@@ -1,4 +1,4 @@
-//! What accesses write in their blocks.
+//! The writes of accesses to their blocks.
 
 ghost use Rattle.std.specs.Prelude.{ℕ, true, false, ◌∷◌, ◌+◌, ◌*◌, ◌%◌, ◌^◌, ◌<◌, ◌≤◌, ◌≡◌, ◌==◌, List, None, Some};
 ghost use Rattle.std.specs.Prelude.{find, if◌then◌else◌, is_some, length};
@@ -23,8 +23,8 @@ use tl_bytes::known_bytes::KnownBytes;
 use tl_bytes::write::Write;
 use tl_rules::place::base;
 
-/// The bytes of its block that an atomic leaves, where this is its answer: none is known where a beat of one of them is
-/// corrupt.
+/// The bytes that an atomic with this answer leaves in its block. None is known if a beat of the access or the answer
+/// is corrupt.
 fn values_written<const W: usize>(asked: &Asked<W>, answer: &CarriedMessage) -> KnownBytes
     requires { IsWidth W }
     ensures { (access : Access W) (burst : List (Beat W)) → IsAsked asked.now access →
@@ -40,7 +40,7 @@ fn values_written<const W: usize>(asked: &Asked<W>, answer: &CarriedMessage) -> 
     KnownBytes::all(&performed(asked, answer.bytes.bytes()))
 }
 
-/// The mask of what an access reaches in its block that isn't a Put: of an atomic all its bytes, of a Get none.
+/// The mask of the bytes that an access other than a Put reaches: for an atomic all its bytes, for a Get none.
 fn mask_reached(opcode: OpA, size: u8, address: u32) -> u64
     ensures { result ≡ (if is_atomic opcode then (if size == 2 then 15 else 255) * 2 ^ (address % 64) % 2 ^ 64 else 0) }
 {
@@ -51,7 +51,7 @@ fn mask_reached(opcode: OpA, size: u8, address: u32) -> u64
     }
 }
 
-/// The values of a Put whose beats brought these bytes: none is known where one of them was corrupt.
+/// The values of a Put with these bytes. None is known if a beat of it was corrupt.
 fn values_brought(brought: &CarriedMessage) -> KnownBytes
     ensures { (w : ℕ) (burst : List (Beat w)) → KnowsMessage brought.now burst → (place : ℕ) → place < 64 →
         known_at result place
@@ -63,8 +63,8 @@ fn values_brought(brought: &CarriedMessage) -> KnownBytes
     *brought.bytes.bytes()
 }
 
-/// What an access may write while it is pending, the beats of whose request brought this: of a Put the bytes of its mask,
-/// of an atomic anything.
+/// The write of a pending access whose request has these bytes: for a Put the bytes of its mask, for an atomic any
+/// values.
 fn pending_write<const W: usize>(asked: &Asked<W>, brought: &CarriedMessage) -> Write
     requires { IsWidth W }
     ensures { (link : ℕ) (x : BeatA W) (older : List (Beat W)) (moment : ℕ) →
@@ -88,7 +88,7 @@ fn pending_write<const W: usize>(asked: &Asked<W>, brought: &CarriedMessage) -> 
     }
 }
 
-/// An access that is pending, and what it may write in its block.
+/// A pending access, and its write to its block.
 #[derive(Clone, Copy)]
 pub struct Writer<const W: usize> {
     pub asked: Asked<W>,
@@ -98,8 +98,8 @@ pub struct Writer<const W: usize> {
 impl<const W: usize> Writer<W> {
     ghost use Rattle.tl_memory.specs.code.Writers.{IsWriter};
 
-    /// That of an access that is asked for with this beat, and was first at a moment: this is what the beats of its
-    /// request brought.
+    /// The writer of a request with this newest beat, which was first asked for at this moment. `brought` are the bytes
+    /// of its beats.
     pub fn new(link: Link, y: &BeatA<W>, brought: &CarriedMessage, moment: u64) -> Self
         requires width { IsWidth W }
         requires small { y.now.size ≤ 6 }
@@ -117,8 +117,8 @@ impl<const W: usize> Writer<W> {
     }
 }
 
-/// What an access leaves, where this is its answer: a Put what it may write while it is pending, an atomic what follows
-/// from the answer. Where a beat of one of them is corrupt, or an atomic is denied, that is anything.
+/// The write of an access with this answer: for a Put its own bytes, for an atomic those that follow from the answer.
+/// They may be any if a beat of the access or the answer is corrupt, or an atomic is denied.
 pub fn written<const W: usize>(writer: &Writer<W>, answer: &CarriedMessage) -> Write
     requires { IsWidth W }
     ensures { (access : Access W) (burst : List (Beat W)) → IsAsked writer.now.asked access →

@@ -1,7 +1,7 @@
 -- What a judge's tables answer of the rules of memory.
 use Rattle.std.proofs.Common.{◌≡◌, ℕ, Bool, true, false, ◌&&◌, ◌||◌, ◌<◌, List, length, refl, sym, ap, ◌∙◌}
 use Rattle.std.proofs.Common.{◌+◌}
-use Rattle.std.specs.Prelude.{if◌then◌else◌, Option, Some, None, is_some, nat_le, unwrap_or, ◌==◌}
+use Rattle.std.specs.Prelude.{if◌then◌else◌, Option, Some, None, is_some, nat_le, ◌==◌}
 use Rattle.std.proofs.Math.Numerals.{add-one}
 use Rattle.std.proofs.lemmas.Bool.{lt-ltb}
 use Rattle.tl_beat.specs.declared.beat.Beat.{Beat}
@@ -17,7 +17,7 @@ use Rattle.tl_rules.specs.statement.Conformance.{Trace, on_link}
 use Rattle.tl_rules.specs.statement.History.{begins, is_grant, capped}
 use Rattle.tl_rules.specs.statement.Liberties.{held_under}
 use Rattle.tl_monitor.specs.declared.monitor.Monitor.{Monitor}
-use Rattle.tl_monitor.specs.statement.Granting.{coming, granted_on_under, granted_under}
+use Rattle.tl_monitor.specs.statement.Granting.{granted_under}
 use Rattle.tl_monitor.specs.statement.Knows.{held_on_under, begins_on, request_on}
 use Rattle.tl_params.specs.declared.liberties.Liberties.{Liberties}
 use Rattle.tl_rules.specs.statement.Windows.{leaves, needs}
@@ -58,18 +58,12 @@ pub grantable_none : {w : ℕ} (link : ℕ) (given : Perm) (block : ℕ) (t : Tr
 unfolding is_grantable
 grantable_none link given block t = refl
 
-pub grantable_more : {w : ℕ} (m : Monitor w) (levels : List Level) (may : Liberties) (n link : ℕ) (other : Link)
-    (given h : Perm) (block : ℕ) (t : Trace w) (free left now : Bool) → Follows m levels may t
-    → other.0 ≡ n → n < length levels → h ≡ granted_on_under may levels other block t
-    → free ≡ is_grantable n link given block t
-    → left ≡ ((link == n) || leaves given h)
+pub grantable_more : {w : ℕ} (n link : ℕ) (given h : Perm) (block : ℕ) (t : Trace w) (free left now : Bool)
+    → leaves given h ≡ leaves given (granted_under all_but_early block (on_link n t))
+    → free ≡ is_grantable n link given block t → left ≡ ((link == n) || leaves given h)
     → now ≡ (free && left) → now ≡ is_grantable (n + 1) link given block t
 unfolding is_grantable
-grantable_more m levels may n link other given h block t free left now k other_is lt granted_is free_is left_is now_is =
-    let here : h ≡ granted_under all_but_early block (on_link n t) =
-    granted_is ∙ rw (lt-ltb other.0 (length levels) (rw other_is lt))
-    (ap (λ c. granted_under may block (on_link c t)) other_is)
-    ∙ ap (unwrap_or (coming block (on_link n t))) (held_most m levels may n block t k lt) in
+grantable_more n link given h block t free left now here free_is left_is now_is =
     now_is ∙ rw (add-one, free_is, left_is, here) refl
 
 -- of all links, where these are they

@@ -23,11 +23,12 @@ use Rattle.tl_params.specs.declared.memory_rule.MemoryRule.{MemoryRule}
 use Rattle.tl_together.specs.declared.fault.JudgeFault.{JudgeFault}
 use Rattle.tl_together.specs.declared.fault.JudgeFault.TheVariants as judge
 use Rattle.tl_together.specs.declared.judge.Judge.{Judge}
+use Rattle.tl_memory.specs.declared.free.Freedom.{Freedom}
 use Rattle.tl_memory.specs.statement.Memory.{KnowsMemory}
 use Rattle.tl_together.specs.statement.Coherence.{broken_memory, first_broken}
 use Rattle.tl_together.specs.statement.Knows.{Knows, KnowsTrace, Answers, fault_of, broken, closed_after}
 use Rattle.tl_together.specs.code.Windows.{NotesRequest, NotesWindow, KnowsAsked, KnowsWindows}
-use Rattle.tl_together.specs.code.Windows.{fault_of_monitor, window_at, IsShown, LeavesOthers}
+use Rattle.tl_together.specs.code.Windows.{fault_of_monitor, window_at, IsSaid, IsShown, LeavesOthers}
 use Rattle.tl_together.specs.code.Following.{Follows}
 
 pub open_still : {w : ℕ} (j : Judge w) (levels : List Level) (may : Liberties) (t : Trace w) (closed : Bool)
@@ -65,17 +66,19 @@ unnoted j j' levels may t closed k e links moment m asked windows memory = recor
 
 -- a beat was noted, and refused
 pub still : {w : ℕ} (j j' : Judge w) (levels : List Level) (may : Liberties) (t : Trace w) (closed : Bool) (link : Link)
-    (x : Beat w) (next : ℕ) (held : Option ℕ) → Knows j levels may t closed
+    (x : Beat w) (next : ℕ) (said : Option ℕ) (before : Freedom) (held : Option ℕ) → Knows j levels may t closed
     → j.closed ≡ false → j'.closed ≡ false → j'.links ≡ j.links → j'.moment ≡ j.moment
     → Follows j'.monitor levels may t
     → NotesRequest j.monitor j.asked.items j'.asked.items link x next
-    → NotesWindow j.monitor j.links j.moment held j.windows j'.windows
+    → NotesWindow j.monitor j.links j.moment said before held j.windows j'.windows
+    → ((n : ℕ) (t : Trace w) → KnowsMemory j.memory n t → IsSaid said before n t)
     → ((n : ℕ) (t : Trace w) → KnowsMemory j.memory n t → KnowsMemory j'.memory n t)
     → Knows j' levels may t closed
-still j j' levels may t closed link x next held k e e' links moment m asked windows memory =
+still j j' levels may t closed link x next said before held k e e' links moment m asked windows free memory =
     let o = open_still j levels may t closed k e in
     let known = asked.1 levels may t o.monitor_is o.tables_are o.asked_are in
-    let seen = windows levels may t o.monitor_is o.links_are o.moment_is o.windows_are in
+    let seen = windows levels may t o.monitor_is o.links_are o.moment_is (free (length levels) t o.memory_is)
+    o.windows_are in
     record {
       closed_is = e' ∙ sym e ∙ k.closed_is;
       open_knows = λ _. record {
@@ -91,19 +94,21 @@ still j j' levels may t closed link x next held k e e' links moment m asked wind
 
 -- a beat was taken
 pub taken : {w : ℕ} (j j' : Judge w) (levels : List Level) (may : Liberties) (t : Trace w) (closed : Bool) (link : Link)
-    (x : Beat w) (next : ℕ) (held : Option ℕ) (noted : List (ℕ × Window)) → Knows j levels may t closed
+    (x : Beat w) (next : ℕ) (said : Option ℕ) (before : Freedom) (held : Option ℕ) (noted : List (ℕ × Window))
+    → Knows j levels may t closed
     → j.closed ≡ false → j'.closed ≡ false → j'.links ≡ j.links → next ≡ j.moment + 1 → j'.moment ≡ next
     → Follows j'.monitor levels may ((link, x) ∷ t)
     → NotesRequest j.monitor j.asked.items j'.asked.items link x next
-    → NotesWindow j.monitor j.links j.moment held j.windows noted
+    → NotesWindow j.monitor j.links j.moment said before held j.windows noted → IsSaid said before (length levels) t
     → LeavesOthers held x (on_link link.0 t)
     → IsShown next x (on_link link.0 t) noted j'.windows
     → KnowsMemory j'.memory (length levels) ((link, x) ∷ t)
     → Knows j' levels may ((link, x) ∷ t) closed
-taken j j' levels may t closed link x next held noted k e e' links next_is moment m asked windows others shown memory =
+taken j j' levels may t closed link x next said before held noted k e e' links next_is moment m asked windows free
+    others shown memory =
     let o = open_still j levels may t closed k e in
     let known = asked.1 levels may t o.monitor_is o.tables_are o.asked_are in
-    let seen = windows levels may t o.monitor_is o.links_are o.moment_is o.windows_are in
+    let seen = windows levels may t o.monitor_is o.links_are o.moment_is free o.windows_are in
     let more = next_moment next j.moment t next_is o.moment_is in
     record {
       closed_is = e' ∙ sym e ∙ k.closed_is;

@@ -1,4 +1,5 @@
 pub mod Answered
+pub mod Beside
 pub mod Examples
 pub mod Judging
 pub mod Noted

@@ -26,7 +26,7 @@ use Rattle.tl_memory.proofs.Lawful.{goes_on}
 use Rattle.tl_memory.proofs.LinkTables.{link-there}
 use Rattle.tl_memory.proofs.OpenAccesses.{is-fine}
 use Rattle.tl_memory.specs.statement.Links.{IsLegal}
-use Rattle.tl_memory.specs.code.Changing.{IsChange}
+use Rattle.tl_memory.specs.code.Changing.{IsChange, KnowsFree}
 use Rattle.tl_memory.specs.code.Elsewhere.{LeavesHeld}
 use Rattle.tl_memory.specs.code.Passing.{changes_held}
 use Rattle.tl_memory.specs.declared.memory.Change.{Change}
@@ -36,7 +36,12 @@ use Rattle.tl_monitor.specs.code.LinkState.{is_block}
 use Rattle.tl_monitor.specs.statement.Knows.{request_on}
 use Rattle.tl_monitor.specs.declared.monitor.Monitor.{Monitor}
 use Rattle.tl_together.specs.code.Windows.{asked_in}
-use Rattle.tl_together.specs.code.Windows.{KnowsAsked, LeavesOthers, NotesRequest}
+use Rattle.tl_together.specs.code.Windows.{IsSaid, KnowsAsked, LeavesOthers, NotesRequest}
+use Rattle.tl_bytes.specs.statement.Free.{is_free}
+use Rattle.tl_memory.specs.declared.free.Freedom.{Freedom}
+use Rattle.tl_memory.specs.statement.Known.{free_for}
+use Rattle.tl_params.specs.declared.perm.Perm.{Perm}
+use Rattle.tl_params.specs.declared.perm.Perm.TheVariants as perm
 use Rattle.tl_together.specs.code.Following.{Follows}
 use Rattle.tl_together.proofs.Following.{one_more}
 use Rattle.tl_monitor.proofs.OnLink.{other_link, own_link}
@@ -186,6 +191,13 @@ held_others change m n link x t is b apart = go (changes_held x (on_link link.0 
             let held : change.held ≡ Some b = is.held_is ∙ rw (e, own) refl in
             let none : is_block b (Some b) ≡ false = rw held at apart in
             true_false (sym (eq-eqb b b refl) ∙ none)
+
+-- and says for whom the block was free before it
+pub said_before : {w : ℕ} (change : Change w) (free : Freedom) (n : ℕ) (t : Trace w) → KnowsFree change n t
+    → ((block : ℕ) → change.block ≡ Some block → (given : Perm) → free_for free given ≡ is_free n given block t)
+    → IsSaid change.held free n t
+said_before change free n t k said block held =
+    let own = k.own block held in (said block own perm.Branch, said block own perm.Trunk)
 
 -- ---- what the functions note
 

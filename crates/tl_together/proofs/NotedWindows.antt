@@ -13,12 +13,13 @@ use Rattle.tl_params.specs.declared.liberties.Liberties.{Liberties}
 use Rattle.tl_rules.specs.statement.Conformance.{Trace, on_link}
 use Rattle.tl_rules.specs.statement.Conformance.{same_perm}
 use Rattle.tl_monitor.specs.code.LinkState.{is_block}
+use Rattle.tl_memory.specs.declared.free.Freedom.{Freedom}
 use Rattle.tl_together.specs.code.Following.{Follows}
 use Rattle.tl_monitor.specs.declared.monitor.Monitor.{Monitor}
 use Rattle.tl_bytes.specs.statement.Free.{is_free, may_hold}
 use Rattle.tl_together.specs.declared.windows.Window.{Window}
 use Rattle.tl_together.specs.code.Windows.{is_noted, last_in, window_at, window_in, HasNoted, IsShown}
-use Rattle.tl_together.specs.code.Windows.{KnowsWindows, LeavesOthers, NotesWindow}
+use Rattle.tl_together.specs.code.Windows.{IsSaid, KnowsWindows, LeavesOthers, NotesWindow}
 use Rattle.tl_bytes.specs.statement.Shown.{shows}
 use Rattle.tl_monitor.proofs.OnLink.{other_link, own_link}
 use Rattle.tl_together.proofs.Windowed.{as_free, none_free, free_last, last_shown}
@@ -67,23 +68,23 @@ windows_more {w} n block entries shown link x t still leaves' is noted given b g
         ∙ hidden (ap (λ s. same_perm given perm.Branch && s) e ∙ and-false (same_perm given perm.Branch))
 
 -- the window of a block, set anew
-pub notes_window : {w : ℕ} (m : Monitor w) (links moment b r v : ℕ) (old new : List (ℕ × Window)) (rf wf : Bool)
+pub notes_window : {w : ℕ} (m : Monitor w) (links moment b r v : ℕ) (said : Option ℕ) (before : Freedom)
+    (old new : List (ℕ × Window))
+    (rf wf : Bool)
     → ((levels : List Level) (may : Liberties) (t : Trace w) → Follows m levels may t → links ≡ length levels
-    → rf ≡ is_free links perm.Branch b t)
+    → IsSaid said before (length levels) t → rf ≡ is_free (length levels) perm.Branch b t)
     → ((levels : List Level) (may : Liberties) (t : Trace w) → Follows m levels may t → links ≡ length levels
-    → wf ≡ is_free links perm.Trunk b t)
+    → IsSaid said before (length levels) t → wf ≡ is_free (length levels) perm.Trunk b t)
     → r ≡ (if rf then moment else (window_in old b).reading) → v ≡ (if wf then moment else (window_in old b).writing)
     → ((k : ℕ) → window_in new k ≡ (if k == b then record { reading = r; writing = v } else window_in old k))
-    → NotesWindow m links moment (Some b) old new
-notes_window {w} m links moment b r v old new rf wf reads writes r_is v_is set levels may t k links_is moment_is still = (
-  also,
-  λ link x shown leaves' is. windows_more (length levels) (Some b) new shown link x t also leaves' is
-      (λ given c here free some. own given c (eqb-true c b here) free some),
-)
+    → NotesWindow m links moment said before (Some b) old new
+notes_window {w} m links moment b r v said before old new rf wf reads writes r_is v_is set levels may t k links_is
+    moment_is known still = (
+      also,
+      λ link x shown leaves' is. windows_more (length levels) (Some b) new shown link x t also leaves' is
+          (λ given c here free some. own given c (eqb-true c b here) free some),
+    )
   where
-    free_is : (given : Perm) (f : Bool) → f ≡ is_free links given b t → f ≡ is_free (length levels) given b t
-    free_is given f e = e ∙ ap (λ n. is_free n given b t) links_is
-
     at_own : (c : ℕ) → c ≡ b → window_in new c ≡ record { reading = r; writing = v }
     at_own c e = set c ∙ rw (eq-eqb c b e) refl
 
@@ -112,11 +113,11 @@ notes_window {w} m links moment b r v old new rf wf reads writes r_is v_is set l
         → last_in given (window_in new c) ≡ length t
     own perm.None c e free some = absurd (some refl)
     own perm.Branch c e free some =
-        let f : rf ≡ true = free_is perm.Branch rf (reads levels may t k links_is) ∙ ap
+        let f : rf ≡ true = reads levels may t k links_is known ∙ ap
         (λ d. is_free (length levels) perm.Branch d t) (sym e) ∙ free in
         at_reading c e ∙ r_is ∙ if_true rf moment (window_in old b).reading f ∙ moment_is
     own perm.Trunk c e free some =
-        let f : wf ≡ true = free_is perm.Trunk wf (writes levels may t k links_is) ∙ ap
+        let f : wf ≡ true = writes levels may t k links_is known ∙ ap
         (λ d. is_free (length levels) perm.Trunk d t) (sym e) ∙ free in
         at_writing c e ∙ v_is ∙ if_true wf moment (window_in old b).writing f ∙ moment_is
 
@@ -124,7 +125,7 @@ notes_window {w} m links moment b r v old new rf wf reads writes r_is v_is set l
     also perm.None c closed = true_false (sym (none_free (length levels) c t) ∙ closed)
     also perm.Branch c closed = elim (cases_eq c b) [
       | inl e ↦
-          let f : rf ≡ false = free_is perm.Branch rf (reads levels may t k links_is) ∙ ap
+          let f : rf ≡ false = reads levels may t k links_is known ∙ ap
           (λ d. is_free (length levels) perm.Branch d t) (sym e) ∙ closed in
           at_reading c e ∙ r_is ∙ if_false rf moment (window_in old b).reading f ∙ before_reading c e ∙ still
           perm.Branch c closed
@@ -132,16 +133,17 @@ notes_window {w} m links moment b r v old new rf wf reads writes r_is v_is set l
     ]
     also perm.Trunk c closed = elim (cases_eq c b) [
       | inl e ↦
-          let f : wf ≡ false = free_is perm.Trunk wf (writes levels may t k links_is) ∙ ap
+          let f : wf ≡ false = writes levels may t k links_is known ∙ ap
           (λ d. is_free (length levels) perm.Trunk d t) (sym e) ∙ closed in
           at_writing c e ∙ v_is ∙ if_false wf moment (window_in old b).writing f ∙ before_writing c e ∙ still perm.Trunk
           c closed
       | inr ne ↦ ap (last_in perm.Trunk) (elsewhere c ne) ∙ still perm.Trunk c closed
     ]
 
-pub notes_no_window : {w : ℕ} (m : Monitor w) (links moment : ℕ) (old : List (ℕ × Window))
-    → NotesWindow m links moment None old old
-notes_no_window m links moment old levels may t k links_is moment_is still = (
+pub notes_no_window : {w : ℕ} (m : Monitor w) (links moment : ℕ) (said : Option ℕ) (before : Freedom)
+    (old : List (ℕ × Window))
+    → NotesWindow m links moment said before None old old
+notes_no_window m links moment said before old levels may t k links_is moment_is known still = (
   still,
   λ link x shown leaves' is. windows_more (length levels) None old shown link x t still leaves' is
       (λ given c here free some. true_false (sym here)),

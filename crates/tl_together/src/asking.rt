@@ -1,4 +1,4 @@
-//! What a judge answers of the trace that it knows.
+//! Questions to a judge about the trace so far.
 
 ghost use Rattle.std.specs.Prelude.{Bool, true, false, List, Some, IfOk, length, is_some, option_copied};
 ghost use Rattle.std.specs.Prelude.{◌≡◌, ◌<◌, ◌+◌, ◌*◌};
@@ -33,7 +33,7 @@ use tl_rules::perm::Perm;
 impl<const W: usize> Judge<W> {
     ghost use Rattle.tl_together.specs.statement.Knows.{Knows};
 
-    /// The request with this source that is pending and complete on a link; none on a link without a level.
+    /// The request with this source that is pending and complete on a link. None on a link without a level.
     pub fn request(&self, link: Link, source: u8) -> Option<Request>
         ensures { (levels : List Level) (l : Liberties) (t : Trace W) → Knows self.now levels l t false →
             result ≡ request_on levels link source t }
@@ -41,7 +41,7 @@ impl<const W: usize> Judge<W> {
         self.monitor.request(link, source)
     }
 
-    /// Whether a beat begins a message on its link; on a link without a level none does.
+    /// Whether a beat begins a message on its link. On a link without a level none does.
     pub fn begins(&self, link: Link, beat: &Beat<W>) -> bool
         ensures { (levels : List Level) (l : Liberties) (t : Trace W) → Knows self.now levels l t false →
             result ≡ begins_on levels link beat.now t }
@@ -49,8 +49,8 @@ impl<const W: usize> Judge<W> {
         self.monitor.begins(link, beat)
     }
 
-    /// The permission that the unfinished Grant of a block gives on a link, where one has begun that isn't denied;
-    /// nothing on a link without a level.
+    /// The permission that the unfinished Grant of a block gives on a link, if one has begun that isn't denied. None on
+    /// a link without a level.
     pub fn coming(&self, link: Link, block: u32) -> Option<Perm>
         ensures { (levels : List Level) (l : Liberties) (t : Trace W) → Knows self.now levels l t false →
             result ≡ coming_on levels link block t }
@@ -58,7 +58,8 @@ impl<const W: usize> Judge<W> {
         self.monitor.coming(link, block)
     }
 
-    /// How many beats had been taken with the last beat of the request with this source that is pending on a link.
+    /// The number of beats that had been taken with the last beat of the request with this source that is pending on a
+    /// link.
     pub fn asked(&self, link: Link, source: u8) -> Option<u64>
         ensures { (levels : List Level) (l : Liberties) (t : Trace W) → Knows self.now levels l t false →
             link.0 < length levels → is_some (open_request source (on_link link.0 t)) ≡ true →
@@ -67,7 +68,8 @@ impl<const W: usize> Judge<W> {
         asked_in(&self.asked, usize::from(link.0), source)
     }
 
-    /// What a beat would change of what is kept of memory. What is known stays so.
+    /// The change to the state of memory that a beat makes. The judge still knows its trace. The error is `Memory`:
+    /// there is no memory left, or 2^64 - 1 beats were taken.
     pub fn change(&mut self, link: Link, beat: &Beat<W>) -> Result<Change<W>, JudgeFault>
         requires { IsWidth W }
         ensures knows { (levels : List Level) (l : Liberties) (t : Trace W) (closed : Bool) →
@@ -86,7 +88,7 @@ impl<const W: usize> Judge<W> {
         }
     }
 
-    /// What the response may bring whose beat is next on a link, where this is what the beat changes.
+    /// The bytes that the response whose beat is next on a link may bring, if the beat makes this change.
     pub fn expected<'a>(&'a self, change: &'a Change<W>, link: Link) -> Option<&'a Expected>
         ensures { (levels : List Level) (l : Liberties) (x : BeatD W) (t : Trace W) → Knows self.now levels l t false →
             KeepsRules l levels (link, beat.D x) t →
@@ -97,7 +99,7 @@ impl<const W: usize> Judge<W> {
         self.memory.expected(change, link)
     }
 
-    /// How many beats of the message have come that isn't complete on channel D of a link.
+    /// The number of beats that have come of the unfinished message on channel D of a link.
     pub fn beats_come(&self, link: Link) -> usize
         ensures { (levels : List Level) (l : Liberties) (t : Trace W) → Knows self.now levels l t false →
             link.0 < length levels → result ≡ length (unfinished channel.D (on_link link.0 t)) }
@@ -105,8 +107,8 @@ impl<const W: usize> Judge<W> {
         self.memory.beats_come(link)
     }
 
-    /// The number of beats before the one that told this value of the byte at a place of a block, where it may be that
-    /// still.
+    /// The number of beats before the one that gave the byte at a place of a block this possible value, if it may still
+    /// have it.
     pub fn told_at(&self, block: u32, place: u8, byte: u8) -> Option<u64>
         ensures kept { result ≡ told_by (state_in self.now.memory.blocks block) place byte }
         ensures told { (levels : List Level) (l : Liberties) (t : Trace W) → Knows self.now levels l t false →

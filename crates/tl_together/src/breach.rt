@@ -1,11 +1,32 @@
-//! What a beat of a manager's links may break.
+//! The rules that a beat of a manager's links may break.
 
+ghost use Rattle.std.specs.Prelude.{◌≡◌};
+ghost use Rattle.tl_together.specs.statement.Coherence;
+
+use tl_beat::opcode::OpD;
 use tl_rules::memory_rule::MemoryRule;
 use tl_rules::rule::Rule;
 
-/// The first rule that a beat breaks: one of its own link, or, where it breaks none there, one of memory.
+/// The first rule that a beat breaks: a rule of its link, or a rule of memory if it breaks none of its link.
 #[derive(Clone, Copy, Debug, PartialEq, Eq)]
 pub enum Breach {
     OfLink(Rule),
     OfMemory(MemoryRule),
+}
+
+/// Whether the opcode is of an answer to an access.
+pub(crate) fn is_access_ack(opcode: OpD) -> bool
+    ensures { result ≡ Coherence.is_access_ack opcode }
+{
+    matches!(opcode, OpD::AccessAck | OpD::AccessAckData)
+}
+
+/// The rule for the bytes of a response with this opcode.
+pub(crate) fn rule_of_bytes(opcode: OpD) -> MemoryRule
+    ensures { result ≡ Coherence.rule_of_bytes opcode }
+{
+    match opcode {
+        OpD::GrantData => MemoryRule::M2,
+        _ => MemoryRule::M3,
+    }
 }

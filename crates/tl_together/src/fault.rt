@@ -1,27 +1,27 @@
-//! Why a judge refuses a beat, and a trace.
+//! Reasons why a judge refuses a beat or a trace.
 
 use crate::breach::Breach;
 
-/// Why a judge can't be made or refuses a beat.
+/// The reason why a judge can't be made or refuses a beat.
 #[derive(Clone, Copy, Debug, PartialEq, Eq)]
 pub enum JudgeFault {
     /// There aren't 1 to 16 levels.
     Levels,
     /// The beat breaks a rule.
     Broken(Breach),
-    /// There is no memory, or 2^64 - 1 beats were taken, and the judge is as before.
+    /// There is no memory left, or 2^64 - 1 beats were taken. The judge is as before.
     Memory,
     /// An earlier beat broke a rule.
     Closed,
 }
 
-/// Why a trace is refused.
+/// The reason why a trace is refused.
 #[derive(Clone, Copy, Debug, PartialEq, Eq)]
 pub enum TraceFault {
-    /// The first beat that breaks a rule, from 0 on, and the rule.
+    /// The first beat that breaks a rule, counted from 0, and the rule.
     At(usize, Breach),
     /// There aren't 1 to 16 levels.
     Levels,
-    /// There is no memory.
+    /// There is no memory left.
     Memory,
 }

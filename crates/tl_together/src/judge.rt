@@ -1,4 +1,4 @@
-//! A judge of the links of a manager: what it answers to each beat.
+//! A judge of the links of a manager, and its answer to each beat.
 
 ghost use Rattle.std.specs.Prelude.{Bool, true, false, None, Some, List, IfOk, Err};
 ghost use Rattle.std.specs.Prelude.{length, ◌≡◌, ◌<◌, is_some};
@@ -12,7 +12,7 @@ ghost use Rattle.tl_rules.specs.statement.Conformance.{Trace, on_link};
 ghost use Rattle.tl_rules.specs.statement.Liberties.{broken_on_link_under};
 ghost use Rattle.tl_rules.specs.statement.Windows as window;
 ghost use Rattle.tl_bytes.specs.statement.Shown;
-ghost use Rattle.tl_memory.specs.code.Changing.{IsChange};
+ghost use Rattle.tl_memory.specs.code.Changing.{IsChange, KnowsFree};
 ghost use Rattle.tl_memory.specs.code.Taking.{request_answered};
 ghost use Rattle.tl_memory.specs.statement.Links.{KeepsRules};
 ghost use Rattle.tl_params.specs.statement.Liberties.{liberties_of};
@@ -21,15 +21,14 @@ ghost use Rattle.tl_together.specs.statement.Knows.{closed_after};
 ghost use Rattle.tl_together.specs.code.Following.{Follows};
 ghost use Rattle.tl_together.specs.code.Windows.{asked_in, last_in, fault_of_monitor};
 
-use crate::breach::Breach;
+use crate::breach::{Breach, is_access_ack, rule_of_bytes};
 use crate::fault::JudgeFault;
-use crate::free::{is_free, is_grantable};
+use crate::free::{is_free, is_grantable, left_by_others};
 use crate::notes::{note_request, note_shown, note_window};
 use crate::shown::{freed, shown_by};
 use crate::windows::{Window, Windows};
 use std::alloc::{AllocError, Global};
 use tl_beat::beat::{Beat, BeatD, Link};
-use tl_beat::opcode::OpD;
 use tl_memory::free::needs;
 use tl_memory::memory::{Change, Memory};
 use tl_monitor::byte_table::ByteTable;
@@ -43,24 +42,7 @@ use tl_rules::past::Request;
 use tl_rules::perm::Perm;
 use tl_rules::profile::Profile;
 
-/// Whether a response answers an access that reads or writes.
-fn is_access_ack(opcode: OpD) -> bool
-    ensures { result ≡ Coherence.is_access_ack opcode }
-{
-    matches!(opcode, OpD::AccessAck | OpD::AccessAckData)
-}
-
-/// The rule of what a response with this opcode brings.
-fn rule_of_bytes(opcode: OpD) -> MemoryRule
-    ensures { result ≡ Coherence.rule_of_bytes opcode }
-{
-    match opcode {
-        OpD::GrantData => MemoryRule::M2,
-        _ => MemoryRule::M3,
-    }
-}
-
-/// The request that a beat answers, where it is a response to one.
+/// The request that a beat answers, if the beat is a response to one.
 pub(crate) fn answered<const W: usize>(
     monitor: &Monitor<W>,
     link: Link,
@@ -75,7 +57,7 @@ pub(crate) fn answered<const W: usize>(
     }
 }
 
-/// When the request with this source was complete on a link, where that was noted.
+/// The moment at which the request with this source was complete on a link, if it was noted.
 pub(crate) fn asked_in(asked: &Vec<ByteTable<u64>>, link: usize, source: u8) -> Option<u64>
     ensures { result ≡ asked_in asked.now.items link source }
 {
@@ -85,7 +67,7 @@ pub(crate) fn asked_in(asked: &Vec<ByteTable<u64>>, link: usize, source: u8) -> 
     asked[link].get(source)
 }
 
-/// The last moment at which one could access a block who needs so much of it.
+/// The last moment at which an access that needs this permission could be performed.
 fn last_in(given: Perm, window: Window) -> u64
     ensures { result ≡ last_in given window }
 {
@@ -95,22 +77,23 @@ fn last_in(given: Perm, window: Window) -> u64
     }
 }
 
-/// Judges the beats of up to 16 links of one manager, in the order in which they were taken. It keeps
-/// what is unfinished, pending and held on each link, and when blocks could last be accessed, and no beat.
+/// Judges the beats of up to 16 links of one manager, in the order in which they were taken. It keeps the unfinished
+/// and pending messages of each link, the permissions held, the moments at which blocks could last be accessed, and no
+/// beat.
 #[derive(Drop)]
 pub struct Judge<const W: usize> {
     pub(crate) monitor: Monitor<W>,
     links: u8,
     closed: bool,
-    /// How many beats were taken.
+    /// The number of beats that were taken.
     pub(crate) moment: u64,
-    /// How many had been when the request with each source was complete, by link.
+    /// By link, the number of beats taken when the request with each source was complete.
     pub(crate) asked: Vec<ByteTable<u64>>,
     windows: Windows,
     pub(crate) memory: Memory<W>,
 }
 
-/// Tables of no requests, for so many links.
+/// Tables without requests, for this many links.
 fn empty_tables(alloc: Global, count: u8) -> Result<Vec<ByteTable<u64>>, AllocError>
     ensures { IfOk result (λ v. length v.items ≡ count) }
 {
@@ -121,7 +104,7 @@ fn empty_tables(alloc: Global, count: u8) -> Result<Vec<ByteTable<u64>>, AllocEr
     Ok(tables)
 }
 
-/// What a monitor's refusal is.
+/// The fault of a judge whose monitor refuses a beat.
 fn of_monitor(fault: MonitorFault) -> JudgeFault
     ensures { result ≡ fault_of_monitor fault }
 {
@@ -133,7 +116,7 @@ fn of_monitor(fault: MonitorFault) -> JudgeFault
     }
 }
 
-/// Whether a judge is closed after this refusal by `push`, which was or wasn't before it.
+/// Whether a judge is closed after this refusal by `push`. `closed` says whether it was before.
 fn is_closed_after(closed: bool, fault: JudgeFault) -> bool
     ensures { result ≡ closed_after closed (Err fault) }
 {
@@ -147,7 +130,8 @@ impl<const W: usize> Judge<W> {
     ghost use Rattle.tl_together.specs.statement.Knows.{KnowsTrace, Knows, IsNew};
     ghost use Rattle.tl_together.specs.statement.Knows.{Answers, fault_of, recorded_after};
 
-    /// A judge of links of these levels, which has seen no beat. There are to be 1 to 16 levels.
+    /// A judge of links of these levels, which has seen no beat. The error is `Levels` unless there are 1 to 16 levels,
+    /// or `Memory`.
     pub fn new(alloc: Global, levels: &[Level], profile: Profile) -> Result<Self, JudgeFault>
         requires { IsWidth W }
         ensures { IsNew levels.now (liberties_of profile) result }
@@ -155,8 +139,8 @@ impl<const W: usize> Judge<W> {
         Self::with_liberties(alloc, levels, Liberties::of(profile))
     }
 
-    /// The same of links with these liberties. `early` may not be among them: the rules of memory do not say yet which
-    /// bytes an access may bring whose answer begins before its request is complete.
+    /// The same for links with these liberties, with the same errors. `early` isn't allowed: the rules of memory don't
+    /// say which bytes an access may bring if its answer begins before its request is complete.
     pub fn with_liberties(
         alloc: Global,
         levels: &[Level],
@@ -206,21 +190,29 @@ impl<const W: usize> Judge<W> {
         }
     }
 
-    /// M1, where a Grant breaks it that answers this request.
-    fn broken_grant(&self, link: Link, x: &BeatD<W>, asked: Request) -> Option<MemoryRule>
+    /// M1, if a Grant that answers this request breaks it.
+    fn broken_grant(
+        &self,
+        change: &Change<W>,
+        link: Link,
+        x: &BeatD<W>,
+        asked: Request,
+    ) -> Option<MemoryRule>
         ensures { (levels : List Level) (l : Liberties) (t : Trace W) →
-            KnowsTrace self.now levels l t →
+            KnowsTrace self.now levels l t → KnowsFree change.now (length levels) t →
             result ≡ Coherence.broken_grant (length levels) link.0 x.now (Some asked) t }
     {
         let given = capped(x.param);
-        if is_grantable(&self.monitor, self.links, link.0, given, asked.block) {
+        let block = asked.block;
+        let known_free = change.says_free(block, given);
+        if is_grantable(&self.monitor, self.links, link.0, given, block, known_free) {
             None
         } else {
             Some(MemoryRule::M1)
         }
     }
 
-    /// M4, where an answer to this access breaks it.
+    /// M4, if an answer to this access breaks it.
     fn broken_access(&self, link: Link, x: &BeatD<W>, asked: Request) -> Option<MemoryRule>
         ensures { (levels : List Level) (l : Liberties) (t : Trace W) →
             KnowsTrace self.now levels l t →
@@ -235,10 +227,10 @@ impl<const W: usize> Judge<W> {
         }
     }
 
-    /// The rule of memory that a response breaks which begins a message.
-    fn broken_response(&self, link: Link, x: &BeatD<W>) -> Option<MemoryRule>
+    /// The rule of memory that a response breaks with its first beat.
+    fn broken_response(&self, change: &Change<W>, link: Link, x: &BeatD<W>) -> Option<MemoryRule>
         ensures { (levels : List Level) (l : Liberties) (t : Trace W) →
-            KnowsTrace self.now levels l t →
+            KnowsTrace self.now levels l t → KnowsFree change.now (length levels) t →
             link.0 < length levels →
             result ≡ Coherence.broken_response (length levels) link.0 x.now t }
     {
@@ -247,7 +239,7 @@ impl<const W: usize> Judge<W> {
             return None;
         }
         if is_grant(x.opcode) {
-            return self.broken_grant(link, x, asked);
+            return self.broken_grant(change, link, x, asked);
         }
         if !is_access_ack(x.opcode) {
             return None;
@@ -255,22 +247,22 @@ impl<const W: usize> Judge<W> {
         self.broken_access(link, x, asked)
     }
 
-    /// M1 or M4, where a beat of a response breaks it: none where it begins none.
-    fn broken_beginning(&self, link: Link, x: &BeatD<W>) -> Option<MemoryRule>
+    /// M1 or M4, if a beat of a response breaks it. None if the beat doesn't begin the response.
+    fn broken_beginning(&self, change: &Change<W>, link: Link, x: &BeatD<W>) -> Option<MemoryRule>
         requires { IsWidth W }
         ensures { (levels : List Level) (l : Liberties) (t : Trace W) →
-            KnowsTrace self.now levels l t →
+            KnowsTrace self.now levels l t → KnowsFree change.now (length levels) t →
             link.0 < length levels →
             result ≡ Coherence.broken_beginning (length levels) link.0 x.now t }
     {
         if self.monitor.begins(link, &Beat::D(*x)) {
-            self.broken_response(link, x)
+            self.broken_response(change, link, x)
         } else {
             None
         }
     }
 
-    /// M2 or M3, where a beat of a response breaks it, which changes this of what is kept of memory.
+    /// M2 or M3, if a beat of a response breaks it. `change` is the change to the state of memory that the beat makes.
     fn broken_bytes(&self, change: &Change<W>, link: Link, x: &BeatD<W>) -> Option<MemoryRule>
         requires { IsWidth W }
         ensures { (levels : List Level) (l : Liberties) (t : Trace W) →
@@ -286,12 +278,12 @@ impl<const W: usize> Judge<W> {
         }
     }
 
-    /// The rule of memory that a beat breaks which breaks none of its link, and changes this of what is kept
-    /// of memory.
+    /// The rule of memory that a beat breaks, if it breaks none of its link. `change` is the change to the state of
+    /// memory that the beat makes.
     fn broken_memory(&self, change: &Change<W>, link: Link, beat: &Beat<W>) -> Option<MemoryRule>
         requires { IsWidth W }
         ensures { (levels : List Level) (l : Liberties) (t : Trace W) →
-            KnowsTrace self.now levels l t →
+            KnowsTrace self.now levels l t → KnowsFree change.now (length levels) t →
             KeepsRules l levels (link, beat.now) t →
             IsChange change.now self.now.memory (length levels) (link, beat.now) t →
             result ≡ Coherence.broken_memory (length levels) link.0 beat.now t }
@@ -299,13 +291,13 @@ impl<const W: usize> Judge<W> {
         let Beat::D(x) = beat else {
             return None;
         };
-        match self.broken_beginning(link, x) {
+        match self.broken_beginning(change, link, x) {
             None => self.broken_bytes(change, link, x),
             Some(rule) => Some(rule),
         }
     }
 
-    /// What a beat breaks that breaks this rule of memory, where it breaks none of its link: those come first.
+    /// The breach of a beat that breaks this rule of memory. A rule of its link comes first.
     fn breach(&self, rule: MemoryRule, link: Link, beat: &Beat<W>) -> Breach
         requires { IsWidth W }
         ensures { (levels : List Level) (l : Liberties) (t : Trace W) →
@@ -318,8 +310,8 @@ impl<const W: usize> Judge<W> {
         }
     }
 
-    /// Judges a beat of a link, and takes it where it breaks no rule. Where it breaks one, or at `Memory`, the judge
-    /// knows what it knew before, and goes on. `Closed` is answered as by `push`.
+    /// Judges a beat of a link, and takes it if it breaks no rule. After a refusal the judge is as before, and goes on.
+    /// The error is `Closed` if `push` refused an earlier beat for a broken rule.
     #[inline(never)]
     pub fn try_push(&mut self, link: Link, beat: &Beat<W>) -> Result<(), JudgeFault>
         requires { IsWidth W }
@@ -344,30 +336,35 @@ impl<const W: usize> Judge<W> {
             return Err(JudgeFault::Broken(self.breach(rule, link, beat)));
         }
         let shown = shown_by(&self.monitor, link, beat);
+        let (held, before) = (change.held, change.freedom());
         let noted = note_window(
             &mut self.windows,
             &self.monitor,
             self.links,
             self.moment,
-            shown.or(change.held),
+            shown,
+            held,
+            before,
         );
         let Ok(()) = noted else {
             return Err(JudgeFault::Memory);
         };
+        let others = left_by_others(&self.monitor, link, held, before);
         note_request(&mut self.asked, &self.monitor, link, beat, next);
         match self.monitor.try_push(link, beat) {
             Ok(()) => {}
             Err(fault) => return Err(of_monitor(fault)),
         }
         note_shown(&mut self.windows, &self.monitor, shown, link, beat, next);
-        let free = freed(&self.monitor, self.links, link, beat, change.held, shown);
+        let monitor = &self.monitor;
+        let free = freed(monitor, self.links, link, beat, held, shown, others);
         self.memory.take(change, link, beat, free, next);
         self.moment = next;
         Ok(())
     }
 
-    /// Judges a beat of a link, and takes it where it breaks no rule. After a broken rule every call is
-    /// answered `Closed`. At `Memory` the judge knows what it knew before.
+    /// Judges a beat of a link, and takes it if it breaks no rule. After a broken rule it answers every call with
+    /// `Closed`. After `Memory` the judge is as before.
     pub fn push(&mut self, link: Link, beat: &Beat<W>) -> Result<(), JudgeFault>
         requires { IsWidth W }
         ensures answer { (levels : List Level) (l : Liberties) (t : Trace W) (closed : Bool) →

@@ -1,4 +1,4 @@
-//! What all links of a manager carry together: the rules of memory, and a judge of recorded traces.
+//! The rules of memory, between all links of a manager, and a judge of recorded traces.
 #![tactic(auto)]
 
 pub mod asking;

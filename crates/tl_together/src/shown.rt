@@ -1,4 +1,4 @@
-//! Reports that tell what the bytes of a block are, and leave their sender Trunk.
+//! Reports that show the bytes of a block, and leave their sender Trunk.
 
 ghost use Rattle.std.specs.Prelude.{ℕ, List, Some, length, option_map, ◌∷◌, ◌≡◌, ◌<◌};
 ghost use Rattle.tl_memory.specs.statement.Known.{freedom};
@@ -7,10 +7,10 @@ ghost use Rattle.tl_burst.specs.statement.Messages.{History};
 ghost use Rattle.tl_params.specs.declared.level.Level.{Level};
 ghost use Rattle.tl_params.specs.declared.liberties.Liberties.{Liberties};
 ghost use Rattle.tl_rules.specs.statement.Conformance.{Trace, on_link};
-ghost use Rattle.tl_together.specs.code.Windows.{LeavesOthers, MayShow};
+ghost use Rattle.tl_together.specs.code.Windows.{IsLeft, LeavesOthers, MayShow};
 ghost use Rattle.tl_together.specs.code.Following.{Follows};
 
-use crate::free::freedom_of;
+use crate::free::freedom_now;
 use tl_beat::beat::{Beat, BeatC, Link};
 use tl_beat::opcode::{OpB, OpC};
 use tl_memory::free::Freedom;
@@ -30,7 +30,8 @@ fn asks_bytes(probe: Option<Probe>) -> bool
     }
 }
 
-/// Whether a report tells what the bytes of its block are, where it answers this Probe, if it answers one.
+/// Whether a report gives the bytes of its block, by its data or by having none. `asked` is the Probe that it answers,
+/// if any.
 fn tells_bytes(opcode: OpC, asked: Option<Probe>) -> bool
     ensures { result ≡ Shown.tells_bytes opcode asked }
 {
@@ -41,7 +42,7 @@ fn tells_bytes(opcode: OpC, asked: Option<Probe>) -> bool
     }
 }
 
-/// Whether a report leaves its sender Trunk of its block, and tells what the bytes are.
+/// Whether a report leaves its sender Trunk of its block, and gives the block's bytes.
 fn shows_bytes<const W: usize>(monitor: &Monitor<W>, link: Link, x: &BeatC<W>) -> bool
     ensures { (levels : List Level) (l : Liberties) (t : Trace W) →
         Follows monitor.now levels l t → link.0 < length levels →
@@ -66,8 +67,8 @@ pub fn shown_by<const W: usize>(monitor: &Monitor<W>, link: Link, beat: &Beat<W>
     }
 }
 
-/// Whether the beat that was taken last shows the bytes of this block: these are those that it shows if its message is
-/// complete.
+/// Whether the beat that was taken last shows the bytes of this block. `shown` is the block whose bytes it shows if it
+/// completes its message.
 fn is_shown<const W: usize>(
     monitor: &Monitor<W>,
     link: Link,
@@ -88,8 +89,10 @@ fn is_shown<const W: usize>(
     monitor.begins(link, beat)
 }
 
-/// For whom the block is free of which a link may hold more or less with the beat that was taken last, where there is one:
-/// beside it the block whose bytes the beat shows if its message is complete.
+/// Whether the block whose permission the last beat may have changed, if there is one, is free for reading and for
+/// writing. `shown` is the block whose bytes that beat shows if it completes its message, `others` the same for the
+/// other links, if it is known.
+#[inline(always)]
 pub fn freed<const W: usize>(
     monitor: &Monitor<W>,
     links: u8,
@@ -97,17 +100,18 @@ pub fn freed<const W: usize>(
     beat: &Beat<W>,
     held: Option<u32>,
     shown: Option<u32>,
+    others: Option<Freedom>,
 ) -> Option<Freedom>
     ensures { (levels : List Level) (l : Liberties) (t : Trace W) →
         Follows monitor.now levels l ((link, beat.now) ∷ t) → links ≡ length levels → link.0 < length levels →
-        MayShow shown beat.now (on_link link.0 t) →
+        MayShow shown beat.now (on_link link.0 t) → IsLeft others held link.0 (length levels) t →
         result ≡ option_map (λ block. freedom (length levels) block (link, beat.now) t) held }
 {
     match held {
         None => None,
         Some(block) => {
             let shows = is_shown(monitor, link, beat, shown, block);
-            Some(freedom_of(monitor, links, block, shows))
+            Some(freedom_now(monitor, links, link, block, shows, others))
         }
     }
 }

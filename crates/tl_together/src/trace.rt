@@ -1,4 +1,4 @@
-//! What a whole trace of a manager's links is judged.
+//! The verdict of a judge about a whole trace.
 
 ghost use Rattle.tl_beat.specs.statement.Width.{IsWidth};
 ghost use Rattle.std.specs.Prelude.{◌≡◌};
@@ -12,7 +12,7 @@ use tl_beat::beat::{Beat, Link};
 use tl_rules::level::Level;
 use tl_rules::profile::Profile;
 
-/// The fault of a trace whose beat `i` a judge refuses, which no beat before it has closed.
+/// The fault of a trace if a judge refuses beat `i` so, and no beat before it.
 fn fault_at(i: usize, fault: JudgeFault) -> TraceFault
     ensures { result ≡ trace_fault_of i fault }
 {
@@ -22,7 +22,8 @@ fn fault_at(i: usize, fault: JudgeFault) -> TraceFault
     }
 }
 
-/// The first beat of a trace of all links of a manager that breaks a rule, if there is one.
+/// Judges a trace of all links of a manager. The error is the first beat that breaks a rule, `Levels` unless there are
+/// 1 to 16 levels, or `Memory`.
 pub fn check_together<const W: usize>(
     alloc: Global,
     levels: &[Level],

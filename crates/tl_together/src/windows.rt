@@ -1,4 +1,4 @@
-//! When blocks could last be accessed.
+//! The last moments at which blocks could be accessed.
 
 ghost use Rattle.std.specs.Prelude.{ℕ, [], true, OnOk, OnErr, if◌then◌else◌, ◌==◌, ◌&&◌, ◌≡◌};
 ghost use Rattle.tl_together.specs.code.Windows.{latest_window};
@@ -8,27 +8,27 @@ use std::collections::BTreeMap;
 use std::marker::Model;
 use tl_memory::free::Freedom;
 
-/// The last moments at which a block could be read, and written: how many beats had been taken then.
+/// The last moments at which a block could be read and written: the numbers of beats taken by then.
 #[derive(Clone, Copy)]
 pub struct Window {
     pub reading: u64,
     pub writing: u64,
 }
 
-/// The last moments of a block of which none was noted.
+/// The last moments of a block for which none was noted.
 const NONE_NOTED: Window = Window {
     reading: 0,
     writing: 0,
 };
 
-/// This moment where a block is free now, or else the one before.
+/// This moment if a block is free now, or else the one before.
 fn latest(free: bool, moment: u64, before: u64) -> u64
     ensures { result ≡ (if free then moment else before) }
 {
     if free { moment } else { before }
 }
 
-/// The last moments of a block with this one, for which it is free now.
+/// The last moments of a block, with this one if the block is free now.
 fn latest_window(free: Freedom, moment: u64, before: Window) -> Window
     ensures { result ≡ latest_window free moment before }
 {
@@ -38,7 +38,7 @@ fn latest_window(free: Freedom, moment: u64, before: Window) -> Window
     }
 }
 
-/// The last moments at which blocks could be accessed; of a block that always was free, none is kept.
+/// The last moments at which blocks could be accessed. None is kept for a block that was always free.
 #[derive(Drop)]
 pub struct Windows {
     moments: BTreeMap<u32, Window>,
@@ -75,7 +75,8 @@ impl Windows {
         }
     }
 
-    /// Notes at this moment for whom a block is free. Without memory nothing changes.
+    /// Notes whether a block is free at this moment. The error means that there is no memory left; then nothing
+    /// changes.
     pub fn note(&mut self, block: u32, free: Freedom, moment: u64) -> Result<(), AllocError>
         ensures changed { OnOk result ((k : ℕ) → window_in self.new k
             ≡ (if k == block then latest_window free moment (window_in self.old block) else window_in self.old k)) }
@@ -92,7 +93,7 @@ impl Windows {
             Err(_) => Err(AllocError),
         }
     }
-    /// Notes at this moment that the bytes of a block are shown, if something is noted of it.
+    /// Notes that the bytes of a block are shown at this moment, if a moment of the block was noted.
     pub fn show(&mut self, block: u32, moment: u64)
         ensures { (k : ℕ) → window_in self.new k ≡ (if (k == block) && is_noted self.old k
             then shown_window moment (window_in self.old k) else window_in self.old k) }

@@ -4,7 +4,7 @@ use Rattle.std.specs.Prelude.{slice_get}
 use Rattle.tl_bytes.specs.declared.known_bytes.KnownBytes.{KnownBytes}
 use Rattle.tl_bytes.specs.statement.KnownBytes.{known_at}
 
--- what stands at a place with the lanes of a beat of w bytes, before which so many came
+-- the byte at a place once the lanes of a beat of w bytes are there, before which so many bytes came
 abbrev pub with_lanes : ℕ → ℕ → List ℕ → KnownBytes → ℕ → Option ℕ
 with_lanes w beats lanes bytes place =
     if (place / w == beats) && nat_lt (place % w) (length lanes) then slice_get lanes (place % w)

@@ -1,4 +1,4 @@
--- What a read may bring, and what it has of one value more.
+-- The values that a read may bring, with one value more.
 use Rattle.std.specs.Prelude.{ℕ, Bool, false, ◌==◌, ◌&&◌, ◌||◌, List, find, is_some, Option, Some, None}
 use Rattle.tl_bytes.specs.code.Tellings.{covers_value}
 use Rattle.tl_bytes.specs.declared.known_bytes.KnownBytes.{KnownBytes}
@@ -10,11 +10,11 @@ use Rattle.tl_bytes.specs.statement.KnownBytes.{known_at}
 abbrev pub is_covered : ℕ → Option ℕ → List Possible → Bool
 is_covered place value possible = is_some (find (λ x. (x.place == place) && covers_value x.value value) possible)
 
--- so does what the bytes might be in a first window, where there was one
+-- so do the values of the bytes in a first window, if there was one
 abbrev pub covers_first : Option KnownBytes → ℕ → Option ℕ → Bool
 covers_first None place value = false
 covers_first (Some values) place value = covers_value (known_at values place) value
 
--- so does what is kept
+-- so do the values that are kept
 abbrev pub has : ReadBytes → ℕ → Option ℕ → Bool
 has read place value = covers_first read.first place value || is_covered place value read.more.items

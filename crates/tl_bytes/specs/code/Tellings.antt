@@ -1,5 +1,5 @@
--- How what is told of the bytes of a block is kept: each byte's last telling by its place, and in one list what
--- was told before that.
+-- How the observed values of a block's bytes are kept: the last of each byte by its place, and in one list the
+-- earlier ones.
 use Rattle.std.specs.Prelude.{ℕ, zero, suc, Bool, true, false, not, [], ◌∷◌, ◌++◌, ◌&&◌, ◌-◌, if◌then◌else◌, List}
 use Rattle.std.specs.Prelude.{filter, find, is_some, nat_le, nat_lt, Option, Some, None, slice_index_or}
 use Rattle.tl_burst.specs.statement.Burst.{bit}
@@ -18,41 +18,41 @@ abbrev pub is_written : Write → ℕ → Bool
 is_written write place =
     nat_le write.first place && (nat_lt (place - write.first) 64 && bit write.mask (place - write.first))
 
--- what is written there
+-- the value that is written there
 abbrev pub value_at : Write → ℕ → Option ℕ
 value_at write place = known_at write.values (place - write.first)
 
--- when the byte at a place was told, where those that are known were at this moment, and nothing of the others
+-- when the byte at a place was observed: at this moment if it is known, otherwise never
 abbrev pub moment_of_known : KnownBytes → ℕ → ℕ → ℕ
 moment_of_known values moment place = if is_some (known_at values place) then moment else 0
 
--- when it was told
+-- when it was observed
 abbrev pub moment_at : Moments → KnownBytes → ℕ → ℕ
 moment_at (moments.OfKnown moment) values place = moment_of_known values moment place
 moment_at (moments.OfAll moment) values place = moment
 moment_at (moments.OfEach all) values place = slice_index_or all.items place 0
 
--- what was told last of a place: anything where there is nothing
+-- the value last observed at a place: any value if there is none
 abbrev pub telling_at : Latest → ℕ → Telling
 telling_at latest place = record {
   value = known_at latest.values place;
   moment = moment_at latest.moments latest.values place;
 }
 
--- what was told of a place that is written stays beside that, if it is another value and was told no sooner
+-- a value observed at a place that is written is kept beside the new one, if it differs and isn't older
 -- than this moment
 abbrev pub outlives : Write → ℕ → Told → Bool
 outlives write since x = nat_le since x.telling.moment && not (same_value x.telling.value (value_at write x.place))
 
--- and what was told of others stays
+-- and the values observed at other places are kept
 abbrev pub stays : Write → ℕ → Told → Bool
 stays write since x = if is_written write x.place then outlives write since x else true
 
--- what was told last of a place that is written, and stays
+-- the value last observed at a place that is written, if it is kept
 abbrev pub is_displaced : Write → ℕ → Told → Bool
 is_displaced write since x = if is_written write x.place then outlives write since x else false
 
--- what was told last of those of the first so many places
+-- the values last observed at the first so many places
 unfoldable pub displaced : ℕ → Latest → Write → ℕ → List Told
 displaced zero latest write since = []
 displaced (suc k) latest write since =
@@ -60,11 +60,11 @@ displaced (suc k) latest write since =
     then displaced k latest write since ++ record { place = k; telling = telling_at latest k } ∷ []
     else displaced k latest write since
 
--- what the bytes may be beside what is told last of them with what is written
+-- the values that the bytes may have in addition to the last observed ones, with the written ones
 abbrev pub outlived : Latest → List Told → Write → ℕ → List Told
 outlived latest earlier write since = displaced 64 latest write since ++ filter (stays write since) earlier
 
--- what is told last of a place with what is written at this moment
+-- the value last observed at a place, with the one that is written at this moment
 abbrev pub written_at : Latest → Write → ℕ → ℕ → Telling
 written_at latest write moment place =
     if is_written write place then record { value = value_at write place; moment = moment } else telling_at latest place
@@ -77,7 +77,7 @@ leaves place byte write = is_written write place && could_be byte (value_at writ
 abbrev pub left_as : ℕ → ℕ → List Write → Bool
 left_as place byte writes = is_some (find (leaves place byte) writes)
 
--- what may be the first may be all that may be the second
+-- each value of the first is one of the second
 abbrev pub covers_value : Option ℕ → Option ℕ → Bool
 covers_value None other = true
 covers_value (Some u) other = same_value (Some u) other

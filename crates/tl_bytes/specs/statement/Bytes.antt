@@ -1,5 +1,5 @@
--- What the bytes of memory may be, by what all links of a manager have carried: what a Grant may tell of
--- them, and what a read may bring.
+-- The possible values of the bytes of memory, by the beats of all links of a manager, and the bytes that a Grant and a
+-- read may bring.
 use Rattle.std.specs.Prelude.{ℕ, zero, suc, Bool, true, false, not, [], ◌∷◌, ◌==◌, ◌&&◌, ◌||◌, ◌+◌, ◌-◌, ◌*◌, ◌/◌, ◌%◌}
 use Rattle.std.specs.Prelude.{◌^◌, ◌≤◌, if◌then◌else◌, List, length, filter, find, slice_get, nat_lt, nat_le}
 use Rattle.std.specs.Prelude.{Option, Some, None, is_some, unwrap_or, min}
@@ -32,9 +32,10 @@ use Rattle.tl_bytes.specs.statement.Shown.{is_window}
 
 -- Moments are numbers of beats: moment n is after the first n beats of the trace.
 
--- ---- what bursts carry
+-- ---- the bytes of bursts
 
--- the byte at place p of what a burst's beats carry, the newest beat first, where its beat isn't corrupt
+-- the byte at place p of a burst's bytes, for beats with the newest first; None if its beat is to come, or is corrupt
+-- or denied
 unfoldable pub carried_byte : {w : ℕ} → List (Beat w) → ℕ → Option ℕ
 carried_byte [] p = None
 carried_byte {w} (x ∷ older) p =
@@ -42,43 +43,44 @@ carried_byte {w} (x ∷ older) p =
     then if is_spoiled x then None else slice_get (lanes_of x) (p % w)
     else carried_byte older p
 
--- the mask of all their bytes
+-- the mask of all bytes of a request's beats
 unfoldable pub carried_mask : {w : ℕ} → List (Beat w) → ℕ
 carried_mask {w} (beat.A x ∷ older) = carried_mask older + x.mask * 2 ^ (w * length older)
 carried_mask _ = 0
 
 -- ---- accesses
 
--- a request that reads or writes
+-- the request is an access
 abbrev pub is_access : OpA → Bool
 is_access a.AcquireBlock = false
 is_access a.AcquirePerm = false
 is_access a.Intent = false
 is_access _ = true
 
--- a request that writes what it brings: it may be performed beat by beat
+-- the request is a Put: it may be performed beat by beat
 abbrev pub is_put : OpA → Bool
 is_put a.PutFullData = true
 is_put a.PutPartialData = true
 is_put _ = false
 
--- With the beat an access may be performed: with each beat of a Put, of what it has brought by then, and with the last
--- beat of another request.
+-- With this beat an access may be performed: a Put with each beat, by the bytes that have come, and another access with
+-- the last beat of its request.
 abbrev pub asks : {w : ℕ} → BeatA w → History w → Bool
 asks x past = is_access x.opcode && (is_put x.opcode || ends (beat.A x) past)
 
+-- the smaller of a number and 6 is at most 6
 pub min_small : (n : ℕ) → min n 6 ≤ 6
 min_small n = omega arith
 
--- An access that is pending: its link, its request, whether a beat of that was corrupt, and the moment since which it may
--- be performed. Of a Put whose request isn't complete the request is that of the beats so far.
+-- A pending access: its link, its request, whether a beat of the request was corrupt, and the moment since which it may
+-- be performed. If the request of a Put isn't complete, it has the beats that have come.
 pub record Access (w : ℕ) : Type 0 where
   pub link : ℕ
   pub request : MessageA w
   pub spoiled : Bool
   pub asked : ℕ
 
--- the access that these beats ask for, the newest of which is x
+-- the access of a request with these beats, the newest of which is x
 abbrev pub asked_by : {w : ℕ} → ℕ → BeatA w → List (Beat w) → ℕ → Access w
 asked_by link x burst moment = record {
   link = link;
@@ -101,20 +103,21 @@ asked_by link x burst moment = record {
 abbrev pub is_of : {w : ℕ} → ℕ → ℕ → Access w → Bool
 is_of link source access = (access.link == link) && (access.request.source == source)
 
--- since when an access may be performed that is asked for at this moment: if it is pending already, since it was first
+-- the moment since which an access may be performed whose beat comes at this moment: an earlier one if the access is
+-- pending already
 abbrev pub asked_since : {w : ℕ} → Option (Access w) → ℕ → ℕ
 asked_since None moment = moment
 asked_since (Some access) moment = access.asked
 
--- these accesses but the one with this source on the link
+-- these accesses without the one with this source on the link
 abbrev pub all_but : {w : ℕ} → ℕ → ℕ → List (Access w) → List (Access w)
 all_but link source accesses = filter (λ access. not (is_of link source access)) accesses
 
--- a beat of channel D completes an answer to a request of channel A
+-- the beat of channel D completes an answer to a request of channel A
 abbrev pub ends_request : {w : ℕ} → BeatD w → History w → Bool
 ends_request x past = not (is_release_ack x.opcode) && ends (beat.D x) past
 
--- the accesses that are pending with one more beat
+-- the pending accesses with one more beat
 abbrev pub pending_with : {w : ℕ} → ℕ → Beat w → History w → ℕ → List (Access w) → List (Access w)
 pending_with link (beat.A x) past moment before =
     if asks x past
@@ -129,7 +132,7 @@ unfoldable pub pending_accesses : {w : ℕ} → Trace w → List (Access w)
 pending_accesses [] = []
 pending_accesses (x ∷ t) = pending_with x.0.0 x.1 (on_link x.0.0 t) (suc (length t)) (pending_accesses t)
 
--- the access may write the byte at an address
+-- a request with this opcode may write the byte at an address
 abbrev pub writes : {w : ℕ} → OpA → MessageA w → ℕ → Bool
 writes a.PutFullData m address = is_some (byte_at 0 (message.A m) address)
 writes a.PutPartialData m address = is_some (byte_at 0 (message.A m) address)
@@ -137,26 +140,27 @@ writes a.ArithmeticData m address = reaches m.address m.size address
 writes a.LogicalData m address = reaches m.address m.size address
 writes _ m address = false
 
+-- the access may write the byte at an address
 abbrev pub access_writes : {w : ℕ} → ℕ → Access w → Bool
 access_writes address access = writes access.request.opcode access.request address
 
--- the memory that an answer found, which has these bytes
+-- the memory that an access found, by the beats of its answer
 abbrev pub found_memory : {w : ℕ} → MessageA w → List (Beat w) → Memory
 found_memory {w} m burst address = unwrap_or (carried_byte burst (address - w * (m.address / w))) 0
 
--- what a Put writes, and an atomic that has this answer; where a beat of them is corrupt, or denied, anything
+-- the value that a Put writes, or an atomic with this answer; any value if a beat of them is corrupt or denied
 abbrev pub value_written : {w : ℕ} → Access w → List (Beat w) → ℕ → Option ℕ
 value_written access answer address =
     if access.spoiled || is_some (find is_spoiled answer) then None
     else Some ((effect (message.A access.request) (found_memory access.request answer)).0 address)
 
--- what a pending access may write: of an atomic, anything
+-- the value that a pending access may write: any if it is an atomic
 abbrev pub pending_value : {w : ℕ} → OpA → Access w → ℕ → Option ℕ
 pending_value a.PutFullData access address = value_written access [] address
 pending_value a.PutPartialData access address = value_written access [] address
 pending_value _ access address = None
 
--- what is left by an access that has this answer: a Put leaves what it writes, whatever is answered
+-- the value that an access with this answer leaves: a Put leaves the value that it writes, by any answer
 abbrev pub value_left : {w : ℕ} → OpA → Access w → List (Beat w) → ℕ → Option ℕ
 value_left a.PutFullData access answer address = value_written access [] address
 value_left a.PutPartialData access answer address = value_written access [] address
@@ -169,7 +173,7 @@ is_denied _ = false
 
 -- ---- windows for writing
 
--- how many windows a block has had since a moment, one that is open counted
+-- the number of windows that a block has had since a moment, with the open one
 unfoldable pub windows_since : {w : ℕ} → ℕ → ℕ → ℕ → Trace w → ℕ
 windows_since n block asked [] = 0
 windows_since n block asked (x ∷ t) =
@@ -178,38 +182,39 @@ windows_since n block asked (x ∷ t) =
     + (if is_free n perm.Trunk block (x ∷ t)
     && ((suc (length t) == asked) || not (is_free n perm.Trunk block t)) then 1 else 0)
 
--- the moment at which the window began that is open, since this one
+-- the moment at which the open window began, or `asked` if it began before
 unfoldable pub window_began : {w : ℕ} → ℕ → ℕ → ℕ → Trace w → ℕ
 window_began n block asked [] = 0
 window_began n block asked (x ∷ t) =
     if nat_lt asked (suc (length t)) && is_free n perm.Trunk block t
     then window_began n block asked t else suc (length t)
 
--- the last moment at which the block was free
+-- the last moment at which the block was free for writing
 unfoldable pub last_window : {w : ℕ} → ℕ → ℕ → Trace w → ℕ
 last_window n block [] = 0
 last_window n block (x ∷ t) =
     if is_free n perm.Trunk block (x ∷ t) then suc (length t) else last_window n block t
 
--- ---- what is told of bytes
+-- ---- the possible values of bytes
 
--- the request is for writing a whole block, unread
+-- the request is an AcquirePerm, whose client writes the whole block unread
 abbrev pub is_perm_only : OpA → Bool
 is_perm_only a.AcquirePerm = true
 is_perm_only _ = false
 
+-- there is a request, and it is an AcquirePerm
 abbrev pub asks_unread : {w : ℕ} → Option (BeatA w) → Bool
 asks_unread None = false
 asks_unread (Some x) = is_perm_only x.opcode
 
--- the response is a Grant that tells what a block has: with data, or to one who writes all of it
+-- the response is a Grant that sets the block's bytes: one with data, or one that answers an AcquirePerm
 abbrev pub tells_granted : {w : ℕ} → OpD → Option (BeatA w) → Bool
 tells_granted d.GrantData asked = true
 tells_granted d.Grant asked = asks_unread asked
 tells_granted _ asked = false
 
--- A message that is complete with this beat tells what the bytes of the block are: data that are given
--- back or granted, and, as anything, a Grant to one who writes all of them. A denied Grant tells nothing.
+-- A message that is complete with this beat sets the possible values of the block's bytes: a report or a Grant with
+-- data, or a Grant that answers an AcquirePerm, after which they may have any value. A denied Grant doesn't.
 abbrev pub tells : {w : ℕ} → ℕ → Beat w → History w → Bool
 tells block (beat.C x) past = ends (beat.C x) past && (c_carries_data x.opcode && (block_at x.address == block))
 tells block (beat.D x) past =
@@ -217,24 +222,25 @@ tells block (beat.D x) past =
     && (grants block x past && (not x.denied && tells_granted x.opcode (request_of x.source past)))
 tells block _ past = false
 
--- the moment at which the bytes of the block were last told so
+-- the moment at which a message last set the block's bytes
 unfoldable pub last_told : {w : ℕ} → ℕ → Trace w → ℕ
 last_told block [] = 0
 last_told block (x ∷ t) = if tells block x.1 (on_link x.0.0 t) then suc (length t) else last_told block t
 
--- what is told is the value, and no longer so where it was before
+-- the possible values are the same; None is any value
 abbrev pub same_value : Option ℕ → Option ℕ → Bool
 same_value None None = true
 same_value (Some u) (Some v) = u == v
 same_value _ _ = false
 
+-- this possible value, and the earlier ones that differ from it
 abbrev pub told_too : Telling → List Telling → List Telling
 told_too now before = now ∷ filter (λ e. not (same_value e.value now.value)) before
 
--- What a byte may be when the answer to an access is complete that writes it. In one window that is still
--- open it was performed, and what was told to be finished since that began may have come after it. Where
--- the last window has closed and the bytes were told since, it is in what was told. Otherwise it may have
--- been performed before what was told last, or after. One that is denied may not have been performed.
+-- The possible values of a byte when the answer to an access that writes it is complete. If the access had one window,
+-- which is open, and isn't denied: its own value, and those that became possible since that window began. If no window
+-- is open, and a message set the bytes since the block was last free: the values as before. Otherwise its own value and
+-- those as before.
 abbrev pub after_write : {w : ℕ} → ℕ → ℕ → Access w → Bool → Telling → Trace w → List Telling → List Telling
 after_write n block access denied now t before =
     if is_free n perm.Trunk block t
@@ -243,7 +249,7 @@ after_write n block access denied now t before =
     else told_too now before
     else if nat_lt (last_window n block t) (last_told block t) then before else told_too now before
 
--- the same for the access with this answer, where it is pending and writes the byte at an address
+-- the same for the access with this answer, if it is pending and writes the byte at an address
 abbrev pub after_answer : {w : ℕ} → ℕ → ℕ → Option (Access w) → List (Beat w) → Trace w → List Telling → List Telling
 after_answer n address None answer t before = before
 after_answer n address (Some access) answer t before =
@@ -252,6 +258,7 @@ after_answer n address (Some access) answer t before =
     (record { value = value_left access.request.opcode access answer address; moment = length t }) t before
     else before
 
+-- the same with one more beat on a link: the values change only if it completes an answer
 abbrev pub after_beat : {w : ℕ} → ℕ → ℕ → ℕ → Beat w → Trace w → List Telling → List Telling
 after_beat n address link (beat.D x) t before =
     if ends_request x (on_link link t)
@@ -260,7 +267,7 @@ after_beat n address link (beat.D x) t before =
     else before
 after_beat n address link _ t before = before
 
--- what the byte at an address may be, the last told first: at first anything
+-- the possible values of the byte at an address, the newest first: any value before the trace
 unfoldable pub may_be : {w : ℕ} → ℕ → ℕ → Trace w → List Telling
 may_be n address [] = record { value = None; moment = 0 } ∷ []
 may_be n address (x ∷ t) =
@@ -271,14 +278,14 @@ may_be n address (x ∷ t) =
     } ∷ []
     else after_beat n address x.0.0 x.1 t (may_be n address t)
 
--- ---- what may be granted, and read
+-- ---- the bytes that may be granted, and read
 
--- what may be this value, or anything, may be v
+-- the possible value is v, or any
 abbrev pub could_be : ℕ → Option ℕ → Bool
 could_be v None = true
 could_be v (Some u) = u == v
 
--- one of these tellings may be v
+-- one of these possible values is v, or any
 abbrev pub told_as : ℕ → List Telling → Bool
 told_as v tellings = is_some (find (λ e. could_be v e.value) tellings)
 
@@ -299,21 +306,21 @@ before_last link (suc k) [] = []
 before_last link (suc k) (x ∷ t) =
     if (x.0.0 == link) && on channel.D x.1 then before_last link k t else before_last link (suc k) t
 
--- the byte v may be granted after t: it may be so, or be written by a pending access that has had a window
+-- the byte v may be granted after t: it is possible, or a pending access that has had a window may write it
 abbrev pub may_grant : {w : ℕ} → ℕ → Trace w → ℕ → ℕ → Bool
 may_grant n t address v =
     told_as v (may_be n address t)
     || written_as address v (filter (λ x. nat_lt 0 (windows_since n (block_at address) x.asked t)) (pending_accesses t))
 
--- the accesses that are pending beside this one
+-- the pending accesses without this one
 abbrev pub others : {w : ℕ} → Access w → Trace w → List (Access w)
 others access t = all_but access.link access.request.source (pending_accesses t)
 
--- an access may find the byte v: it may be so, or is being written so by another
+-- an access may find the byte v: it is possible, or another pending access may write it
 abbrev pub may_find : {w : ℕ} → ℕ → Access w → Trace w → ℕ → ℕ → Bool
 may_find n access t address v = told_as v (may_be n address t) || written_as address v (others access t)
 
--- in one of its windows since it was asked for an access may have found the byte v
+-- in one of its windows since it was asked for, an access may have found the byte v
 unfoldable pub may_read : {w : ℕ} → ℕ → Access w → Trace w → ℕ → ℕ → Bool
 may_read n access [] address v = false
 may_read n access (x ∷ t) address v =
@@ -321,42 +328,42 @@ may_read n access (x ∷ t) address v =
     && ((is_window n (needs access.request.opcode) (block_at address) x t && may_find n access (x ∷ t) address v)
     || may_read n access t address v)
 
--- the bytes of beat k of a Grant of the block, which began after t, are such that may be granted
+-- the bytes of beat k of a Grant of the block, which began after t, may be granted
 abbrev pub grants_truly : {w : ℕ} → ℕ → ℕ → ℕ → BeatD w → Trace w → Bool
 grants_truly {w} n block k x t = each_from (may_grant n t) (64 * block + w * k) (lanes_of (beat.D x))
 
--- a request that only reads: it may be served beat by beat
+-- the request only reads: it may be served beat by beat
 abbrev pub is_get : OpA → Bool
 is_get a.Get = true
 is_get _ = false
 
--- What had been taken when the bytes were found that an answer brings with a beat after t, before which it had k: with
--- a Get's beat all that was taken before it; an atomic is performed before its answer begins.
+-- The trace after which an access finds its bytes at the latest, if a beat of its answer comes after t and k beats of
+-- the answer came before it. A Get finds them before the beat, and another access before its answer begins.
 abbrev pub found_after : {w : ℕ} → Option (Access w) → ℕ → ℕ → Trace w → Trace w
 found_after None link k t = t
 found_after (Some access) link k t = if is_get access.request.opcode then t else before_last link k t
 
--- the bytes of beat k of the answer to an access are such that it may have found by then
+-- an access may have found the requested bytes of beat k of its answer by then
 abbrev pub reads_truly : {w : ℕ} → ℕ → Option (Access w) → ℕ → BeatD w → Trace w → Bool
 reads_truly n None k x t = true
 reads_truly {w} n (Some access) k x t =
     each_from (λ address v. not (reaches access.request.address access.request.size address) || may_read n access t
     address v) (w * (access.request.address / w) + w * k) (lanes_of (beat.D x))
 
--- M2: a beat of a GrantData has bytes that may be granted
+-- M2: the bytes of a beat of a GrantData may be granted
 abbrev pub is_true_grant : {w : ℕ} → ℕ → ℕ → BeatD w → Option Request → Trace w → Bool
 is_true_grant n link x None t = true
 is_true_grant n link x (Some asked) t =
     grants_truly n asked.block (length (unfinished channel.D (on_link link t))) x
     (before_last link (length (unfinished channel.D (on_link link t))) t)
 
--- M3: a beat of an AccessAckData has bytes that its request may bring
+-- M3: the request may have found the bytes of a beat of its AccessAckData
 abbrev pub is_true_read : {w : ℕ} → ℕ → ℕ → BeatD w → Trace w → Bool
 is_true_read n link x t =
     reads_truly n (find (is_of link x.source) (pending_accesses t)) (length (unfinished channel.D (on_link link t))) x
     (found_after (find (is_of link x.source) (pending_accesses t)) link (length (unfinished channel.D (on_link link t))) t)
 
--- the bytes of a response are true after t: those that are corrupt, or denied, aren't judged
+-- the bytes of a response are true after t: those that are corrupt or denied aren't judged
 abbrev pub is_true : {w : ℕ} → OpD → ℕ → ℕ → BeatD w → Trace w → Bool
 is_true d.GrantData n link x t = is_spoiled (beat.D x) || is_true_grant n link x (open_request x.source (on_link link t)) t
 is_true d.AccessAckData n link x t = is_spoiled (beat.D x) || is_true_read n link x t

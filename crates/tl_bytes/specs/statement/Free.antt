@@ -1,5 +1,5 @@
--- When a block is free for one who reads or writes it, by what all links of a manager have carried, whatever liberties
--- they have.
+-- Whether a block is free for an access, by the beats of all links of a manager, under any liberties that they may
+-- have.
 use Rattle.std.specs.Prelude.{ℕ, zero, suc, Bool, true, false, ◌&&◌}
 use Rattle.tl_burst.specs.statement.Messages.{History}
 use Rattle.tl_params.specs.declared.liberties.Liberties.{Liberties}
@@ -21,12 +21,12 @@ all_but_early = record {
   uncorrupt = true;
 }
 
--- What a link may hold of a block at most. After beats that break no rule of their link under fewer liberties it is what
--- is held under those.
+-- The most that a link may hold of a block. If no beat breaks a rule of its link under fewer liberties, this is the
+-- permission held under those.
 abbrev pub may_hold : {w : ℕ} → ℕ → History w → Perm
 may_hold block t = held_under all_but_early block t
 
--- after t each of the first n links holds no more of the block than may be held beside one who has so much of it
+-- after t none of the first n links may hold a permission of the block that conflicts with the given one
 unfoldable pub is_free : {w : ℕ} → ℕ → Perm → ℕ → Trace w → Bool
 is_free zero given block t = true
 is_free (suc n) given block t = is_free n given block t && leaves given (may_hold block (on_link n t))

@@ -1,5 +1,5 @@
--- When a Get may be performed beside one who may write: a report has told what the block's bytes are, and left its
--- sender Trunk.
+-- Whether a Get may be performed while a link holds Trunk: a report has given the block's bytes, and left its sender
+-- Trunk.
 use Rattle.std.specs.Prelude.{ℕ, Bool, true, false, [], ◌∷◌, ◌==◌, ◌&&◌, ◌||◌, Option, Some, None, is_some}
 use Rattle.tl_beat.specs.declared.beat.Beat.{Beat}
 use Rattle.tl_beat.specs.declared.beat.Beat.TheVariants as beat
@@ -16,13 +16,13 @@ use Rattle.tl_rules.specs.statement.Conformance.{Trace, is_probe_block, on_link,
 use Rattle.tl_rules.specs.statement.History.{block_at, ends, reported}
 use Rattle.tl_bytes.specs.statement.Free.{is_free}
 
--- the Probe, where there is one, asks for the block's bytes
+-- there is a Probe, and it asks for the block's bytes
 abbrev pub asks_bytes : Option Probe → Bool
 asks_bytes None = false
 asks_bytes (Some probe) = is_probe_block probe.opcode
 
--- A report tells what the bytes are: it brings them, or has none, where nothing was written. The ProbeAck of a
--- ProbePerm has none in any case.
+-- A report gives the bytes: by its data, or by having none, which says that nothing was written. The ProbeAck of a
+-- ProbePerm never has data, and gives nothing.
 abbrev pub tells_bytes : OpC → Option Probe → Bool
 tells_bytes c.ProbeAck asked = asks_bytes asked
 tells_bytes c.ProbeAckData asked = true
@@ -30,7 +30,7 @@ tells_bytes c.Release asked = true
 tells_bytes c.ReleaseData asked = true
 tells_bytes _ asked = false
 
--- the report leaves its sender Trunk, and tells what the bytes are
+-- the report leaves its sender Trunk, and gives the bytes
 abbrev pub shows_bytes : {w : ℕ} → BeatC w → History w → Bool
 shows_bytes x past =
     same_perm (reported x.param) perm.Trunk && tells_bytes x.opcode (open_probe (block_at x.address) past)
@@ -40,13 +40,13 @@ abbrev pub shows : {w : ℕ} → ℕ → Beat w → History w → Bool
 shows block (beat.C x) past = ends (beat.C x) past && ((block_at x.address == block) && shows_bytes x past)
 shows block _ past = false
 
--- with this beat one may access the block who needs so much of it: it is free for that, or, to read it, its bytes are
--- shown
+-- with this beat an access that needs this permission of the block may be performed: the block is free for it, or the
+-- access reads and the block's bytes are shown
 abbrev pub is_window : {w : ℕ} → ℕ → Perm → ℕ → Link × Beat w → Trace w → Bool
 is_window n given block x t =
     is_free n given block (x ∷ t) || (same_perm given perm.Branch && shows block x.1 (on_link x.0.0 t))
 
--- since the request with this source, which is pending on the link, is complete there has been such a moment
+-- there was such a moment since the request with this source, which is pending on the link, was complete
 unfoldable pub had_window : {w : ℕ} → ℕ → ℕ → ℕ → Perm → ℕ → Trace w → Bool
 had_window n link source given block [] = false
 had_window n link source given block (x ∷ t) =

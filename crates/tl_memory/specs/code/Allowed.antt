@@ -1,4 +1,4 @@
--- Whether the bytes of a response's beat are allowed, by what it may bring.
+-- Whether the bytes of a response's beat are allowed, by the values that it may bring.
 use Rattle.std.specs.Prelude.{ℕ, Bool, true, false, ◌+◌, ◌*◌, ◌≤◌, ◌≡◌, Option, Some, None}
 use Rattle.tl_beat.specs.declared.beat.BeatD.{BeatD}
 use Rattle.tl_beat.specs.declared.opcode.OpD.{OpD}
@@ -16,7 +16,7 @@ is_judged d.GrantData = true
 is_judged d.AccessAckData = true
 is_judged _ = false
 
--- the answer to whether a beat is allowed, before which k came, where this is expected
+-- the answer to whether a beat is allowed, before which k came, if this is expected
 pub record IsAllowed {w : ℕ} (expected : Option Expected) (k : ℕ) (x : BeatD w) (b : Bool) : Type 0 where
   pub anything : expected ≡ None → b ≡ true
   pub granted : (n : ℕ) (asked : Request) (t : Trace w) → ExpectsGrant expected n (Some asked) t → w * k + w ≤ 64

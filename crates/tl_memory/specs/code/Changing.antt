@@ -1,9 +1,11 @@
--- What a beat changes of what is known of the bytes of memory.
+-- How a beat changes the knowledge of the bytes of memory.
 use Rattle.std.specs.Prelude.{ℕ, true, false, ◌≡◌, ◌≢◌, if◌then◌else◌, Option, Some, None, slice_get}
 use Rattle.tl_beat.specs.declared.beat.Beat.{Beat}
 use Rattle.tl_beat.specs.declared.beat.Beat.TheVariants as beat
 use Rattle.tl_beat.specs.declared.beat.BeatD.{BeatD}
 use Rattle.tl_beat.specs.declared.beat.Link.{Link}
+use Rattle.tl_bytes.specs.statement.Free.{is_free}
+use Rattle.tl_params.specs.declared.perm.Perm.TheVariants as perm
 use Rattle.tl_rules.specs.statement.Conformance.{Trace, on_link}
 use Rattle.tl_rules.specs.statement.History.{begins}
 use Rattle.tl_memory.specs.code.Elsewhere.{PassesBy}
@@ -17,19 +19,26 @@ use Rattle.tl_memory.specs.declared.memory.Memory.{Memory}
 use Rattle.tl_memory.specs.statement.Blocks.{place_in}
 use Rattle.tl_memory.specs.statement.Expecting.{ExpectsLater, ExpectsResponse}
 
--- the beat leaves each block as it is but this one, where there is one
+-- the beat leaves each block as it is but this one, if there is one
 abbrev pub IsBorne : {w : ℕ} → Option ℕ → Link × Beat w → Trace w → Type 0
 IsBorne own x t = (block : ℕ) → own ≢ Some block → PassesBy block x t
 
--- this is what the response may bring that begins with the beat, where one does
+-- this is what the response may bring that begins with the beat, if one does
 abbrev pub ExpectsBegun : {w : ℕ} → Option Expected → ℕ → Link × Beat w → Trace w → Type 0
 ExpectsBegun {w} expected n x t = (y : BeatD w) → x.1 ≡ beat.D y → begins (beat.D y) (on_link x.0.0 t) ≡ true
     → ExpectsResponse expected n x.0.0 y.opcode y.source t t
 
--- and this is what it may bring with the beat that doesn't begin it, where that is said anew
+-- and these are the values that it may bring with a beat that doesn't begin it, if they change
 abbrev pub ExpectsAlong : {w : ℕ} → Option Expected → ℕ → Link × Beat w → Trace w → Type 0
 ExpectsAlong {w} expected n x t = (y : BeatD w) → x.1 ≡ beat.D y → begins (beat.D y) (on_link x.0.0 t) ≡ false
     → ExpectsLater expected n x.0.0 y.opcode y.source t
+
+-- For whom the block was free before the beat that this is said to change, if there is one, whether the beat breaks
+-- a rule or not. That block is the one of which its link may hold more or less.
+pub record KnowsFree {w : ℕ} (change : Change w) (n : ℕ) (t : Trace w) : Type 0 where
+  pub own : (block : ℕ) → change.held ≡ Some block → change.block ≡ Some block
+  pub reading_is : (block : ℕ) → change.block ≡ Some block → change.reading ≡ is_free n perm.Branch block t
+  pub writing_is : (block : ℕ) → change.block ≡ Some block → change.writing ≡ is_free n perm.Trunk block t
 
 -- This is what the beat changes: the state of one block, of which one is kept at this place, or of none, what its link
 -- holds of that block, and what the response may bring that begins with it, or whose beat it is.

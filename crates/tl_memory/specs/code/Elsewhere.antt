@@ -14,7 +14,7 @@ use Rattle.tl_bytes.specs.statement.Shown.{shows}
 use Rattle.tl_bytes.specs.statement.Bytes.{Access, access_writes, ends_request, is_of, pending_accesses, tells}
 use Rattle.tl_memory.specs.statement.Known.{AllWriteInside, is_to}
 
--- the access, where there is one, doesn't write the byte at an address
+-- the access, if there is one, doesn't write the byte at an address
 abbrev pub WritesNot : {w : ℕ} → ℕ → Option (Access w) → Type 0
 WritesNot address None = ⊤
 WritesNot address (Some access) = access_writes address access ≡ false
@@ -31,7 +31,7 @@ NoneIsTo link source block [] = ⊤
 NoneIsTo link source block (access ∷ accesses) =
     (is_of link source access ≡ true → is_to block access ≡ false) × NoneIsTo link source block accesses
 
--- The beat tells nothing of the block and leaves its bytes, and the same accesses to the block are pending; each
+-- The beat shows nothing of the block and leaves its bytes, and the same accesses to the block are pending; each
 -- that is pending writes in its own block alone.
 pub record IsElsewhere {w : ℕ} (block : ℕ) (x : Link × Beat w) (t : Trace w) : Type 0 where
   pub quiet : tells block x.1 (on_link x.0.0 t) ≡ false
@@ -43,18 +43,18 @@ pub record IsElsewhere {w : ℕ} (block : ℕ) (x : Link × Beat w) (t : Trace w
 abbrev pub LeavesHeld : {w : ℕ} → ℕ → Link × Beat w → Trace w → Type 0
 LeavesHeld block x t = may_hold block (x.1 ∷ on_link x.0.0 t) ≡ may_hold block (on_link x.0.0 t)
 
--- the beat changes nothing of what is kept of the block, and doesn't show its bytes
+-- the beat doesn't change the state of the block, and doesn't show its bytes
 pub record PassesBy {w : ℕ} (block : ℕ) (x : Link × Beat w) (t : Trace w) : Type 0 where
   pub elsewhere : IsElsewhere block x t
   pub held_is : LeavesHeld block x t
   pub unshown : shows block x.1 (on_link x.0.0 t) ≡ false
 
--- the block of the request, where there is one
+-- the block of the request, if there is one
 abbrev pub block_asked : Option Request → Option ℕ
 block_asked None = None
 block_asked (Some asked) = Some asked.block
 
--- the block that a beat bears on, where it does: that of its address, or of the request that it answers
+-- the block that a beat bears on, if it does: that of its address, or of the request that it answers
 abbrev pub block_borne : {w : ℕ} → Beat w → History w → Option ℕ
 block_borne (beat.A y) past = Some (block_at y.address)
 block_borne (beat.C y) past = Some (block_at y.address)

@@ -1,4 +1,4 @@
--- What is kept of what a response may bring, address by address.
+-- The values that a response may bring, as they are kept address by address.
 use Rattle.std.specs.Prelude.{ℕ, Bool, not, ◌||◌, ◌%◌}
 use Rattle.tl_burst.specs.statement.Burst.{reaches}
 use Rattle.tl_bytes.specs.statement.Known.{may_bring}

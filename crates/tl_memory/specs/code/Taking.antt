@@ -26,11 +26,11 @@ use Rattle.tl_memory.specs.declared.free.Freedom.{Freedom}
 use Rattle.tl_memory.specs.statement.Known.{AreWide, HasRoom, IsLawful, KnowsState, KnowsUnseen, WritesInside}
 use Rattle.tl_memory.specs.statement.Known.{freedom}
 
--- the same, where no bytes are shown
+-- the same, if no bytes are shown
 abbrev pub none_shown : Freedom → Freedom
 none_shown free = record { reading = free.reading; writing = free.writing; shown = false }
 
--- the state of a block with what a beat makes of it
+-- the state of a block after a beat
 abbrev pub with_next : {w : ℕ} → BlockState w → NextState w → BlockState w
 with_next s next = record {
   bytes = unwrap_or next.bytes s.bytes;
@@ -39,17 +39,17 @@ with_next s next = record {
   last_free = s.last_free;
 }
 
--- or as it stays, where that is nothing
+-- or as it stays, if that is nothing
 abbrev pub put_next : {w : ℕ} → BlockState w → Option (NextState w) → BlockState w
 put_next s None = s
 put_next s (Some next) = with_next s next
 
--- For whom the block is free with a beat is told beside its state, where the beat may change that.
+-- The links for which the block is free after a beat are noted beside its state, if the beat may change them.
 abbrev pub IsSeen : {w : ℕ} → Option Freedom → ℕ → ℕ → Link × Beat w → Trace w → Type 0
 IsSeen None n block x t = changes_held x.1 (on_link x.0.0 t) ≡ false
 IsSeen (Some free) n block x t = (changes_held x.1 (on_link x.0.0 t) ≡ true) × (free ≡ freedom n block x t)
 
--- This is what a beat makes of the state of the block, or that stays as it was, where this is told beside it.
+-- A beat changes the state of the block so, or leaves it as it was, if this is noted beside it.
 abbrev pub IsNext : {w : ℕ} → Option (NextState w) → Option Freedom → BlockState w → ℕ → ℕ → Link × Beat w → Trace w
     → Type 0
 IsNext None None s n block x t = PassesBy block x t
@@ -69,7 +69,7 @@ abbrev pub IsNextUnseen : {w : ℕ} → Option (NextState w) → BlockState w �
 IsNextUnseen None s n block x t = IsElsewhere block x t × (changes_held x.1 (on_link x.0.0 t) ≡ false)
 IsNextUnseen (Some next) s n block x t = KnowsUnseen (with_next s next) n block x t
 
--- This is what a beat of the request of an access makes of the state of its block: something only where it asks for one.
+-- This is what a beat of the request of an access makes of the state of its block: something only if it asks for one.
 abbrev pub IsNextAsked : {w : ℕ} → Option (NextState w) → BlockState w → ℕ → ℕ → Link × Beat w → Trace w → Type 0
 IsNextAsked None s n block x t = IsElsewhere block x t
 IsNextAsked (Some next) s n block x t = KnowsState (with_next s next) n block (x ∷ t)
@@ -111,7 +111,7 @@ AreAsked link source asked (access ∷ accesses) =
     × (block_at access.request.address ≡ asked.block))
     × AreAsked link source asked accesses
 
--- the response to a request of this opcode tells what its block has, where it isn't denied
+-- the response to a request of this opcode shows the bytes of its block, if it isn't denied
 abbrev pub tells_block : OpD → OpA → Bool
 tells_block d.GrantData asked = true
 tells_block d.Grant asked = is_perm_only asked

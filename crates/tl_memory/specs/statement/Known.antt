@@ -1,4 +1,4 @@
--- What is known of the bytes of memory, after what all links of a manager have carried.
+-- The state of the bytes of memory, after the beats of all links of a manager.
 use Rattle.std.specs.Prelude.{ℕ, Bool, true, false, None, [], ◌∷◌, ◌+◌, ◌*◌, ◌%◌, ◌^◌, ◌==◌, ◌<◌, ◌≤◌}
 use Rattle.std.specs.Prelude.{◌≡◌, ◌&&◌, ◌||◌, List, length, filter, find, is_some, Option, Some, slice_index, ⊤}
 use Rattle.tl_beat.specs.declared.beat.Beat.{Beat}
@@ -33,16 +33,17 @@ use Rattle.tl_memory.specs.declared.message.CarriedMessage.{CarriedMessage}
 
 -- ---- messages
 
--- the mask of a beat; 0 where its channel has none
+-- the mask of a beat, 0 if its channel has none
 abbrev pub mask_of : {w : ℕ} → Beat w → ℕ
 mask_of (beat.A x) = x.mask
 mask_of _ = 0
 
--- a block has room for the bytes of one more beat, and its mask names no lane that there isn't
+-- a block has room for the bytes of one more beat, and the beat's mask has lanes of the beat alone
 abbrev pub HasRoom : {w : ℕ} → Beat w → List (Beat w) → Type 0
 HasRoom {w} x burst = (w * length burst + w ≤ 64) × (mask_of x < 2 ^ w)
 
--- this is what the beats of a message have brought, the newest of which is first
+-- these are the bytes and the mask of a message's beats, the newest of which is first, and whether one is corrupt or
+-- denied
 pub record KnowsMessage {w : ℕ} (m : CarriedMessage) (burst : List (Beat w)) : Type 0 where
   pub bytes_are : KnowsCarried m.bytes burst
   pub mask_is : m.mask ≡ carried_mask burst
@@ -56,18 +57,18 @@ AreWide {w} (x ∷ beats) = (length (lanes_of x) ≡ w) × AreWide beats
 
 -- ---- accesses
 
--- the operation is an atomic
+-- the request is an atomic
 abbrev pub is_atomic : OpA → Bool
 is_atomic a.ArithmeticData = true
 is_atomic a.LogicalData = true
 is_atomic _ = false
 
--- an access with these control fields breaks no rule at TL-UH, whose accesses are those of all levels
+-- an access with these control fields breaks no rule at TL-UH, which has the accesses of all levels
 abbrev pub IsPerformable : ℕ → OpA → ℕ → ℕ → ℕ → Type 0
 IsPerformable w opcode param size address = a_control w level.UH opcode param size address ≡ None
 
--- This is the access that was asked for. The mask of one that carries data names none but the bytes that have come, and
--- of an atomic these are the bytes, if none of its beats has them as corrupt.
+-- This is the pending access. The mask of a request with data has only bytes that have come. For an atomic whose beats
+-- aren't corrupt, the payload has these bytes.
 pub record IsAsked {w : ℕ} (asked : Asked w) (access : Access w) : Type 0 where
   pub link_is : asked.link.0 ≡ access.link
   pub opcode_is : asked.request.opcode ≡ access.request.opcode
@@ -84,19 +85,19 @@ pub record IsAsked {w : ℕ} (asked : Asked w) (access : Access w) : Type 0 wher
   pub masked : a_carries_data access.request.opcode ≡ true → (place : ℕ) → bit access.request.mask place ≡ true
       → place < length access.request.payload
 
--- the beats of its request, where that is an atomic, carried all bytes that it reaches
+-- the beats of an atomic's request carried all bytes that it reaches
 abbrev pub IsWhole : {w : ℕ} → Access w → Type 0
 IsWhole {w} access =
     is_atomic access.request.opcode ≡ true
     → access.request.address % w + 2 ^ access.request.size ≤ length access.request.payload
 
--- it breaks no rule by itself, and its beats have all come
+-- the access breaks no rule by itself, and all its beats have come
 abbrev pub IsLawful : {w : ℕ} → Access w → Type 0
 IsLawful {w} access =
     IsPerformable w access.request.opcode access.request.param access.request.size access.request.address
     × IsWhole access
 
--- this is what an access may write in the block while it is pending
+-- this is the write of a pending access to the block
 abbrev pub IsPendingWrite : {w : ℕ} → Write → ℕ → Access w → Type 0
 IsPendingWrite write block access = (place : ℕ) → place < 64
     → (is_written write place ≡ access_writes (64 * block + place) access)
@@ -107,25 +108,25 @@ IsPendingWrite write block access = (place : ℕ) → place < 64
 abbrev pub is_to : {w : ℕ} → ℕ → Access w → Bool
 is_to block access = block_at access.request.address == block
 
--- an access writes in its own block alone
+-- the access writes in its own block alone
 abbrev pub WritesInside : {w : ℕ} → Access w → Type 0
 WritesInside access = (address : ℕ) → access_writes address access ≡ true
     → block_at address ≡ block_at access.request.address
 
--- each of these does
+-- each of these accesses does
 abbrev pub AllWriteInside : {w : ℕ} → List (Access w) → Type 0
 AllWriteInside [] = ⊤
 AllWriteInside (access ∷ accesses) = WritesInside access × AllWriteInside accesses
 
--- What an access may have found after t is kept, but for what it may find now, where one who needs so much may access its
--- block now: that is kept before the block changes.
+-- The bytes that an access may have found after t are kept, but for those that it may find now: if it may be performed
+-- now (`admitted`), these are added before the block changes.
 abbrev pub KeepsFound : {w : ℕ} → ReadBytes → Bool → ℕ → ℕ → Access w → Trace w → Type 0
 KeepsFound read admitted n block access t = (place byte : ℕ) → place < 64
     → may_read n access t (64 * block + place) byte
     ≡ ((admitted && may_find n access t (64 * block + place) byte) || may_bring read place byte)
 
--- This is kept of an access to the block that is pending, as it was seen to be after a trace, when these could access the
--- block. What a Put may have found isn't kept, since its answer brings nothing.
+-- The state of a pending access to the block after the trace `seen`. `admits` says for which permissions an access may
+-- be performed then. For a Put the bytes found aren't kept, since its answer has none.
 pub record KnowsAccess {w : ℕ} (pending : PendingAccess w) (admits : Perm → Bool) (n block : ℕ) (access : Access w)
     (seen : Trace w) : Type 0 where
   pub asked_is : IsAsked pending.writer.asked access
@@ -136,15 +137,15 @@ pub record KnowsAccess {w : ℕ} (pending : PendingAccess w) (admits : Perm → 
   pub found_is : is_put access.request.opcode ≡ false
       → KeepsFound pending.read (admits (needs access.request.opcode)) n block access seen
 
--- of these accesses, one by one
+-- the same for each of these accesses
 abbrev pub AreKnown : {w : ℕ} → List (PendingAccess w) → (Perm → Bool) → ℕ → ℕ → List (Access w) → Trace w → Type 0
 AreKnown [] admits n block [] seen = ⊤
 AreKnown (pending ∷ more) admits n block (access ∷ accesses) seen =
     KnowsAccess pending admits n block access seen × AreKnown more admits n block accesses seen
 AreKnown _ admits n block _ seen = ⊥
 
--- this is kept of the accesses to the block that are pending after t, the last first; each that is pending
--- writes in its own block alone
+-- the states of the accesses to the block that are pending after t, the newest first; each pending access writes in its
+-- own block alone
 pub record KnowsAccesses {w : ℕ} (pending : List (PendingAccess w)) (admits : Perm → Bool) (n block : ℕ)
     (seen t : Trace w) : Type 0 where
   pub accesses_are : AreKnown pending admits n block (filter (is_to block) (pending_accesses t)) seen
@@ -152,7 +153,7 @@ pub record KnowsAccesses {w : ℕ} (pending : List (PendingAccess w)) (admits : 
 
 -- ---- blocks
 
--- with a beat the block is free for those who read it, and for those who write it, or its bytes are shown
+-- whether the block is free with a beat for reading and for writing, and whether its bytes are shown
 abbrev pub freedom : {w : ℕ} → ℕ → ℕ → Link × Beat w → Trace w → Freedom
 freedom n block x t = record {
   reading = is_free n perm.Branch block (x ∷ t);
@@ -160,47 +161,48 @@ freedom n block x t = record {
   shown = shows block x.1 (on_link x.0.0 t);
 }
 
--- it is free for one who needs so much of it
+-- the block is free for an access that needs this permission
 abbrev pub free_for : Freedom → Perm → Bool
 free_for free perm.Trunk = free.writing
 free_for free perm.Branch = free.reading
 free_for free perm.None = true
 
--- one may access it who needs so much
+-- an access that needs this permission may be performed
 abbrev pub open_for : Freedom → Perm → Bool
 open_for free given = free_for free given || (same_perm given perm.Branch && free.shown)
 
--- none may
+-- no access may be performed
 abbrev pub closed : Perm → Bool
 closed given = false
 
--- This is kept of a block after t, as it was seen to be after a trace, when these could access it: what its bytes may be,
--- the accesses to it that are pending, for whom it is free, and when it last was so for writing, where it isn't.
+-- The state of a block after t: its bytes and its pending accesses. The states of the accesses, whether the block is
+-- free, and the last moment at which it was free for writing if it isn't, are those after the trace `seen`. `admits`
+-- says for which permissions an access may be performed then.
 pub record KnowsParts {w : ℕ} (s : BlockState w) (admits : Perm → Bool) (n block : ℕ) (seen t : Trace w) : Type 0 where
   pub bytes_are : KnowsBlock s.bytes n block t
   pub accesses_are : KnowsAccesses s.accesses.items admits n block seen t
   pub free_is : (given : Perm) → free_for s.free given ≡ is_free n given block seen
   pub last_is : s.free.writing ≡ false → s.last_free ≡ last_window n block seen
 
--- this is kept of a block after t
+-- the state of a block after t
 abbrev pub KnowsState : {w : ℕ} → BlockState w → ℕ → ℕ → Trace w → Type 0
 KnowsState s n block t = KnowsParts s (open_for s.free) n block t t
 
--- And this with a beat, for whom the block is free with which isn't seen yet: what accesses may have found before is kept.
+-- the same after a beat, if it isn't noted yet whether the block is free with it
 abbrev pub KnowsUnseen : {w : ℕ} → BlockState w → ℕ → ℕ → Link × Beat w → Trace w → Type 0
 KnowsUnseen s n block x t = KnowsParts s closed n block t (x ∷ t)
 
--- the access, where there is one, is to the block
+-- the access, if there is one, is to the block
 abbrev pub AnyIsTo : {w : ℕ} → ℕ → Option (Access w) → Type 0
 AnyIsTo block None = ⊤
 AnyIsTo block (Some access) = is_to block access ≡ true
 
--- the access, where there is one, is no Put
+-- the access, if there is one, is no Put
 abbrev pub IsNoPut : {w : ℕ} → Option (Access w) → Type 0
 IsNoPut None = ⊤
 IsNoPut (Some access) = is_put access.request.opcode ≡ false
 
--- this is what the answer may bring to an access to the block, where one is pending
+-- these are the bytes that the answer to a pending access to the block may bring, if there is one
 abbrev pub Expects : {w : ℕ} → Option Expected → ℕ → ℕ → Option (Access w) → Trace w → Type 0
 Expects None n block None t = ⊤
 Expects (Some expected) n block (Some access) t =

@@ -1,6 +1,6 @@
 -- When blocks could last be accessed, and requests were complete, counted in beats, and the tables of it.
 use Rattle.std.specs.Prelude.{ℕ, suc, Bool, true, false, [], ◌∷◌, ◌&&◌, ◌≡◌, ◌<◌, if◌then◌else◌, List}
-use Rattle.std.specs.Prelude.{length, Option, Some, None, is_some, is_none, slice_index_or}
+use Rattle.std.specs.Prelude.{length, Option, Some, None, is_some, is_none, slice_index_or, ⊤}
 use Rattle.std.specs.BTreeMap.{is_at}
 use Rattle.std.specs.Map.{lookup}
 use Rattle.std.specs.Ordering.{nat_cmp}
@@ -91,8 +91,8 @@ fault_of_monitor (monitor.Broken rule) = judge.Broken (OfLink rule)
 fault_of_monitor monitor.Memory = judge.Memory
 fault_of_monitor monitor.Closed = judge.Closed
 
--- The table knows what it knew of the trace, where a beat was noted, and what there is to know of the
--- trace with the beat, where that breaks no rule of its link.
+-- The table knows what it knew of the trace, if a beat was noted, and what there is to know of the
+-- trace with the beat, if that breaks no rule of its link.
 abbrev pub NotesRequest : {w : ℕ} → Monitor w → List (List (Option ℕ)) → List (List (Option ℕ)) → Link → Beat w → ℕ
     → Type 0
 NotesRequest {w} m old new link x next = (length new ≡ length old)
@@ -102,7 +102,7 @@ NotesRequest {w} m old new link x next = (length new ≡ length old)
     × (next ≡ suc (length t) → KeepsRules l levels (link, x) t
     → KnowsAsked new (length levels) ((link, x) ∷ t)))
 
--- the table with the moment of a beat, where that shows the bytes of a block
+-- the table with the moment of a beat, if that shows the bytes of a block
 abbrev pub IsShown : {w : ℕ} → ℕ → Beat w → History w → List (ℕ × Window) → List (ℕ × Window) → Type 0
 IsShown moment x past old new = (block : ℕ) → window_in new block
     ≡ (if shows block x past then shown_window moment (window_in old block) else window_in old block)
@@ -111,24 +111,41 @@ IsShown moment x past old new = (block : ℕ) → window_in new block
 abbrev pub LeavesOthers : {w : ℕ} → Option ℕ → Beat w → History w → Type 0
 LeavesOthers block x t = (b : ℕ) → is_block b block ≡ false → may_hold b (x ∷ t) ≡ may_hold b t
 
--- The same of the table of windows, with a beat that changes what is held of no other block.
-abbrev pub NotesWindow : {w : ℕ} → Monitor w → ℕ → ℕ → Option ℕ → List (ℕ × Window) → List (ℕ × Window) → Type 0
-NotesWindow {w} m links moment held old new =
+-- the block is free for these
+abbrev pub IsFreeFor : {w : ℕ} → Freedom → ℕ → ℕ → Trace w → Type 0
+IsFreeFor free n block t =
+    (free.reading ≡ is_free n perm.Branch block t) × (free.writing ≡ is_free n perm.Trunk block t)
+
+-- If it is noted for whom this block is free, the link holds nothing of it, and the note is right.
+abbrev pub IsLeft : {w : ℕ} → Option Freedom → Option ℕ → ℕ → ℕ → Trace w → Type 0
+IsLeft None held link n t = ⊤
+IsLeft (Some free) held link n t = (block : ℕ) → held ≡ Some block
+    → (may_hold block (on_link link t) ≡ perm.None) × IsFreeFor free n block t
+
+-- for these this block is free, if there is one
+abbrev pub IsSaid : {w : ℕ} → Option ℕ → Freedom → ℕ → Trace w → Type 0
+IsSaid held free n t = (block : ℕ) → held ≡ Some block → IsFreeFor free n block t
+
+-- The same of the table of windows, with a beat that changes what is held of no other block; before it a block was free
+-- for these, if there is one.
+abbrev pub NotesWindow : {w : ℕ} → Monitor w → ℕ → ℕ → Option ℕ → Freedom → Option ℕ → List (ℕ × Window)
+    → List (ℕ × Window) → Type 0
+NotesWindow {w} m links moment said free held old new =
     (levels : List Level) (l : Liberties) (t : Trace w) → Follows m levels l t → links ≡ length levels
-    → moment ≡ length t → KnowsWindows old (length levels) t
+    → moment ≡ length t → IsSaid said free (length levels) t → KnowsWindows old (length levels) t
     → KnowsWindows new (length levels) t
     × ((link : Link) (x : Beat w) (shown : List (ℕ × Window)) → LeavesOthers held x (on_link link.0 t)
     → IsShown (suc (length t)) x (on_link link.0 t) new shown → KnowsWindows shown (length levels) ((link, x) ∷ t))
 
--- something is noted of this block, where there is one
+-- something is noted of this block, if there is one
 abbrev pub HasNoted : Option ℕ → List (ℕ × Window) → Type 0
 HasNoted held entries = (block : ℕ) → is_block block held ≡ true → is_noted entries block ≡ true
 
--- the beat shows the bytes of this block, where there is one, if its message is complete
+-- the beat shows the bytes of this block, if there is one, if its message is complete
 abbrev pub MayShow : {w : ℕ} → Option ℕ → Beat w → History w → Type 0
 MayShow shown x past = (block : ℕ) → shows block x past ≡ (ends x past && is_block block shown)
 
--- the moment of a beat that was taken is noted, where that shows the bytes of a block of which something is noted
+-- the moment of a beat that was taken is noted, if that shows the bytes of a block of which something is noted
 abbrev pub NotesShown : {w : ℕ} → Monitor w → Option ℕ → Link → Beat w → ℕ → List (ℕ × Window) → List (ℕ × Window)
     → Type 0
 NotesShown {w} m shown link x moment old new =

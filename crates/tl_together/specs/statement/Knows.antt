@@ -1,4 +1,4 @@
--- What a judge knows of the trace that it was given.
+-- The state of a judge after a trace.
 use Rattle.std.specs.Prelude.{ℕ, Bool, true, false, List, [], ◌∷◌, ◌≡◌, length, Option, Some, None, Result, Ok, Err, ⊤}
 use Rattle.tl_beat.specs.declared.beat.Beat.{Beat}
 use Rattle.tl_beat.specs.declared.beat.Link.{Link}
@@ -17,8 +17,8 @@ use Rattle.tl_together.specs.declared.fault.TraceFault.TheVariants as trace
 use Rattle.tl_together.specs.declared.judge.Judge.{Judge}
 use Rattle.tl_together.specs.statement.Coherence.{broken_together, first_breach}
 
--- the judge has these levels and liberties, and keeps of the trace, the newest beat first, what the
--- rules ask for
+-- the judge has these levels and liberties, and the state that the rules need after the trace, whose newest beat is
+-- first
 pub record KnowsTrace {w : ℕ} (j : Judge w) (levels : List Level) (l : Liberties) (t : Trace w) : Type 0 where
   pub links_are : j.links ≡ length levels
   pub moment_is : j.moment ≡ length t
@@ -28,34 +28,35 @@ pub record KnowsTrace {w : ℕ} (j : Judge w) (levels : List Level) (l : Liberti
   pub windows_are : KnowsWindows j.windows (length levels) t
   pub memory_is : KnowsMemory j.memory (length levels) t
 
--- the same, where no beat was refused by a rule; it is closed where one was
+-- the same unless the judge is closed; it is closed after a refusal by a rule
 pub record Knows {w : ℕ} (j : Judge w) (levels : List Level) (l : Liberties) (t : Trace w) (closed : Bool) : Type 0 where
   pub closed_is : j.closed ≡ closed
   pub open_knows : closed ≡ false → KnowsTrace j levels l t
 
--- what a new judge is, or why there is none
+-- a new judge, or the reason why there is none
 abbrev pub IsNew : {w : ℕ} → List Level → Liberties → Result (Judge w) JudgeFault → Type 0
 IsNew levels l (Ok j) = IsCount (length levels) × Knows j levels l [] false
 IsNew levels l (Err judge.Levels) = ¬ IsCount (length levels)
 IsNew levels l (Err judge.Memory) = IsCount (length levels)
 IsNew levels l (Err _) = ⊥
 
+-- the fault of a beat by the rule that it breaks
 abbrev pub broken : Option Breach → Option JudgeFault
 broken None = None
 broken (Some breach) = Some (judge.Broken breach)
 
--- the fault of a beat, want of memory aside: Closed after a refusal, else the first rule that it breaks
+-- the fault of a beat, apart from Memory: Closed after a refusal, or else the first rule that it breaks
 abbrev pub fault_of : {w : ℕ} → List Level → Liberties → Trace w → Bool → Link × Beat w → Option JudgeFault
 fault_of levels l t true x = Some judge.Closed
 fault_of levels l t false x = broken (broken_together levels l x t)
 
--- the answer to a beat that has this fault, or none; for want of memory it may be refused in any case
+-- the answer to a beat with this fault, or with none; Memory may be the answer in any case
 abbrev pub Answers : Option JudgeFault → Result ⊤ JudgeFault → Type 0
 Answers fault (Ok u) = fault ≡ None
 Answers fault (Err judge.Memory) = ⊤
 Answers fault (Err e) = fault ≡ Some e
 
--- what is recorded after an answer
+-- the trace after an answer: only a beat that was taken is added
 abbrev pub recorded_after : {w : ℕ} → Result ⊤ JudgeFault → Link × Beat w → Trace w → Trace w
 recorded_after (Ok u) x t = x ∷ t
 recorded_after (Err e) x t = t
@@ -66,7 +67,7 @@ closed_after closed (Ok u) = false
 closed_after closed (Err judge.Memory) = closed
 closed_after closed (Err e) = true
 
--- the answer to a trace: the first beat that breaks a rule, want of memory aside
+-- the answer to a trace: the first beat that breaks a rule, if any; with 1 to 16 levels it may also be Memory
 abbrev pub AnswersTrace : {w : ℕ} → List Level → Liberties → Trace w → Result ⊤ TraceFault → Type 0
 AnswersTrace levels l beats (Ok u) = IsCount (length levels) × (first_breach levels l beats ≡ None)
 AnswersTrace levels l beats (Err (trace.At i breach)) = IsCount (length levels)
@@ -74,7 +75,7 @@ AnswersTrace levels l beats (Err (trace.At i breach)) = IsCount (length levels)
 AnswersTrace levels l beats (Err trace.Levels) = ¬ IsCount (length levels)
 AnswersTrace levels l beats (Err trace.Memory) = IsCount (length levels)
 
--- what the refusal of beat i is to a trace
+-- the fault of a trace if a judge refuses beat i so
 abbrev pub trace_fault_of : ℕ → JudgeFault → TraceFault
 trace_fault_of i (judge.Broken breach) = trace.At i breach
 trace_fault_of i _ = trace.Memory

@@ -1,5 +1,6 @@
 use Rattle.std.proofs.Common.{◌≡◌, refl, arith}
 use Rattle.tl_params.specs.declared.perm.Perm.TheVariants as perm
+use Rattle.tl_rules.specs.statement.Windows.{leaves}
 use Rattle.tl_together.proofs.Answered.{free_all, free_more, free_none}
 use Rattle.tl_together.proofs.free.freedom_of.Goals as goal
 
@@ -15,13 +16,12 @@ loop-n-preserved g c = λ levels may t k e.
     let before = c.loop-n.invariant levels may t k e in
     let held = c.held_under-held.ensures levels may t _ k.knows in (
       free_more _ levels may c.loop-n.n _ perm.Branch c.held_under-held.result c.args.block t c.loop-n.free.reading
-          c.leaves.result c.both.result k refl (omega (arith, e, c.loop-n-test.true)) held before.0 c.leaves.ensures
-          c.both.ensures,
+          (leaves perm.Branch c.held_under-held.result) c.beside-free.result.reading k refl
+          (omega (arith, e, c.loop-n-test.true)) held before.0 refl c.beside-free.ensures.reading,
       free_more _ levels may c.loop-n.n _ perm.Trunk c.held_under-held.result c.args.block t c.loop-n.free.writing
-          c.leaves-in-loop-n.result c.both-in-loop-n.result k refl (omega (arith, e, c.loop-n-test.true)) held before.1
-          c.leaves-in-loop-n.ensures
-          c.both-in-loop-n.ensures,
-      refl,
+          (leaves perm.Trunk c.held_under-held.result) c.beside-free.result.writing k refl
+          (omega (arith, e, c.loop-n-test.true)) held before.1 refl c.beside-free.ensures.writing,
+      c.beside-free.ensures.shown,
     )
 
 pub returns : goal.returns

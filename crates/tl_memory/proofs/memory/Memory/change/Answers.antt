@@ -4,7 +4,7 @@ use Rattle.tl_burst.specs.statement.Part.{is_small}
 use Rattle.tl_rules.specs.statement.Conformance.{on_link}
 use Rattle.tl_memory.{proofs.LinkBeats.large-breaks, proofs.OpenAccesses.is-fine, proofs.OpenAccesses.legal-on}
 use Rattle.tl_memory.proofs.PassedBy.{none-along, none-begins, passed-by}
-use Rattle.tl_memory.proofs.Memories.{is-borne, links-legal, none-expected, nothing-changed}
+use Rattle.tl_memory.proofs.Memories.{is-borne, links-legal, none-expected, none-free, nothing-changed}
 use Rattle.tl_memory.proofs.memory.Memory.change.Goals as goal
 
 pub returns-then-not-is_small-clause-change : goal.returns-then-not-is_small-clause-change
@@ -61,4 +61,25 @@ returns-clause-change g c = IfOk-weaker c.changed.result _ _ (λ change h levels
       addressed = k.addressed;
     }) legal fine asked now (sym (c.block_borne.ensures (on_link c.args.link.0 t) asked) ∙ c.in-Some.is)
     (c.in_ok-place.ensures.met (length levels) t k.blocks_are))
-    c.changed.ensures
+    c.changed.ensures.change
+
+pub returns-then-not-is_small-clause-free : goal.returns-then-not-is_small-clause-free
+returns-then-not-is_small-clause-free g c = λ n t k.
+    none-free c.none.result n t c.none.ensures.block c.none.ensures.held
+
+pub returns-then-passes_by-clause-free : goal.returns-then-passes_by-clause-free
+returns-then-passes_by-clause-free g c = λ n t k.
+    none-free c.none-then-passes_by.result n t c.none-then-passes_by.ensures.block c.none-then-passes_by.ensures.held
+
+pub returns-in_default-clause-free : goal.returns-in_default-clause-free
+returns-in_default-clause-free g c = λ n t k.
+    none-free c.none-in_default.result n t c.none-in_default.ensures.block c.none-in_default.ensures.held
+
+pub returns-clause-free : goal.returns-clause-free
+returns-clause-free g c = IfOk-weaker c.changed.result _ _ (λ change h n t k. h n t
+    (record {
+      links_are = k.links_are;
+      blocks_are = c.meet.ensures.known n t k.blocks_are;
+      addressed = k.addressed;
+    }) (c.in_ok-place.ensures.met n t k.blocks_are))
+    c.changed.ensures.free

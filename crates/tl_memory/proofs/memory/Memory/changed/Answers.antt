@@ -2,11 +2,13 @@ use Rattle.std.proofs.Common.{rules, sym, ap, ◌∙◌, length}
 use Rattle.std.{specs.Prelude.if◌then◌else◌, specs.Prelude.Some, specs.Prelude.None, proofs.lemmas.Option.same_Some}
 use Rattle.tl_rules.specs.statement.Conformance.{on_link}
 use Rattle.tl_memory.{proofs.Kept.place-kept, proofs.Kept.place-there, proofs.LegalBeats.few-before}
-use Rattle.tl_memory.{proofs.Memories.is-borne, proofs.Memories.links-legal, proofs.Taken.same-block}
+use Rattle.tl_memory.proofs.Memories.{held-own, is-borne, links-legal, none-free}
+use Rattle.tl_memory.proofs.Taken.{same-block}
+use Rattle.tl_params.specs.declared.perm.Perm.{Perm}
 use Rattle.tl_memory.proofs.memory.Memory.changed.Goals as goal
 
-pub returns : goal.returns
-returns g c = λ levels t k legal fine asked now borne there.
+pub returns-clause-change : goal.returns-clause-change
+returns-clause-change g c = λ levels t k legal fine asked now borne there.
     let n = length levels in
     let link = c.args.link in
     let x = c.args.x.now in
@@ -28,6 +30,24 @@ returns g c = λ levels t k legal fine asked now borne there.
       along_is = (c.in_ok-expected.ensures n t state messages.d_is its borne k.addressed).1;
     }
 
-pub returns-in_default : goal.returns-in_default
-returns-in_default g c = λ levels t k legal fine asked now borne there. absurd
+pub returns-in_default-clause-change : goal.returns-in_default-clause-change
+returns-in_default-clause-change g c = λ levels t k legal fine asked now borne there. absurd
     (place-there c.args.self.now (length levels) c.args.block c.args.place t k there (search rules))
+
+pub returns-in_default-clause-free : goal.returns-in_default-clause-free
+returns-in_default-clause-free g c = λ n t k there.
+    none-free c.none.result n t c.none.ensures.block c.none.ensures.held
+
+pub returns-in_default-get-clause-free : goal.returns-in_default-get-clause-free
+returns-in_default-get-clause-free g c = λ n t k there.
+    none-free c.none-in_default-get.result n t c.none-in_default-get.ensures.block c.none-in_default-get.ensures.held
+
+pub returns-clause-free : goal.returns-clause-free
+returns-clause-free g c = λ n t k there.
+    let block = c.args.block in
+    let state = place-kept c.args.self.now c.in-Some.state.now n block c.args.place t k there c.in-Some.ensures in
+    record {
+      own = λ other e. held-own c.changes_held.result c.held_of.result block other c.held_of.ensures e;
+      reading_is = λ other e. rw (← same-block block other e) (c.freedom-free.ensures n block t state Perm.Branch);
+      writing_is = λ other e. rw (← same-block block other e) (c.freedom-free.ensures n block t state Perm.Trunk);
+    }

@@ -1,4 +1,4 @@
-//! What all links of a world carry together, as a law.
+//! Laws: the messages of all links of a world agree.
 
 ghost use Rattle.tl_beat.specs.statement.Width.{IsWidth};
 ghost use Rattle.tl_concord.specs.statement.Accesses.{CarriesAccesses};
@@ -8,29 +8,29 @@ ghost use Rattle.tl_concord.specs.statement.Told.{TellsOfMemory};
 ghost use Rattle.tl_concord.specs.statement.WholeStores.{WholeStores};
 ghost use Rattle.tl_concord.specs.statement.WritesBeside.{WritesBesideNoGrant};
 
-/// Whatever happens to a manager and its clients, no response that begins breaks a rule of memory: no Grant begins
-/// while another link holds, or is being granted, what conflicts with it, and no answer to an access that had no
-/// moment at which it may be performed.
+/// Whatever happens to a manager and its clients, no response breaks M1 or M4: no Grant begins while another link
+/// holds, or is being granted, a conflicting permission, and no answer to an access that couldn't be performed at any
+/// moment.
 pub fn begins_unbroken<const W: usize>()
     requires { IsWidth W }
     ensures { Beginnings W }
 {}
 
-/// What all links carry tells of one memory: data that are granted, or given back, have its bytes, and they come
-/// wherever a block is got that no link holds, or Trunk is given up.
+/// All links carry the data of one memory: data that are granted or given back are those of memory. A block's bytes are
+/// set with each Grant of it while no link holds it, and whenever Trunk of it is given up.
 pub fn tells_of_one_memory<const W: usize>()
     requires { IsWidth W }
     ensures { TellsOfMemory W }
 {}
 
-/// What all links carry of accesses is of those that are open in the one memory: each beat of a request of one that
-/// isn't performed, and each beat of an answer of one that was, with its result.
+/// All links carry the accesses that are open in the one memory: a beat of a request is of one that isn't performed, a
+/// beat of an answer is of one that was, with its result.
 pub fn carries_open_accesses<const W: usize>()
     requires { IsWidth W }
     ensures { CarriesAccesses W }
 {}
 
-/// Responses go on with the opcode and the source with which they began, no request comes with that source meanwhile,
+/// A response goes on with the opcode and the source with which it began, no request comes with that source meanwhile,
 /// and while a Grant is on its way no link holds Trunk of its block.
 pub fn grants_undisturbed<const W: usize>()
     requires { IsWidth W }

@@ -1,4 +1,4 @@
-//! That the links of a world keep what they owe each other.
+//! The links of a world keep the rules between links.
 #![tactic(auto)]
 
 pub mod law;

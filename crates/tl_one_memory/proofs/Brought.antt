@@ -3,9 +3,9 @@ use Rattle.tl_one_memory.proofs.Imports.{Beat, BeatD, Link, reaches, unfinished,
 use Rattle.tl_one_memory.proofs.Imports.{Access, before_last, carried_byte, is_of, pending_accesses, same-some}
 use Rattle.tl_one_memory.proofs.Imports.{IsAnswer, IsRun, IsTaken, Performs, Run, Stores, Takes, found_in, trace_in}
 use Rattle.std.proofs.Common.{◌≡◌, ℕ, suc, Bool, true, false, not, ◌||◌, ◌+◌, ◌-◌, ◌*◌, ◌/◌, ◌%◌, ◌<◌, List, [], ◌∷◌}
-use Rattle.std.proofs.Common.{inl, inr, refl, sym, ap, ◌∙◌, arith, length}
+use Rattle.std.proofs.Common.{◌⊎◌, inl, inr, refl, sym, ap, ◌∙◌, arith, length}
 use Rattle.std.specs.Prelude.{if◌then◌else◌, find, Option, Some, None, slice_get}
-use Rattle.std.proofs.lemmas.Bool.{and_from, cases_Bool, eq-eqb, or_right}
+use Rattle.std.proofs.lemmas.Bool.{and_from, cases_Bool, eq-eqb}
 use Rattle.std.{proofs.lemmas.Nat.div-mul-add, proofs.lemmas.Nat.mod-mul-add, proofs.lemmas.Option.slice_get_within}
 use Rattle.std.{proofs.Math.Nat.mul_comm}
 use Rattle.tl_beat.{specs.declared.channel.Channel.Channel, specs.declared.opcode.OpA.OpA}
@@ -14,9 +14,10 @@ use Rattle.tl_rules.specs.statement.Admission.{is_spoiled, lanes_of}
 use Rattle.tl_rules.specs.statement.Conformance.{answers}
 use Rattle.tl_bytes.specs.statement.Bytes.{each_from, found_after, is_get, is_true, is_true_read, may_read}
 use Rattle.tl_bytes.specs.statement.Bytes.{reads_truly}
-use Rattle.tl_one_memory.{proofs.Granted.granted, proofs.Read.are-begun_read, proofs.Read.are-read, proofs.Read.read-next}
+use Rattle.tl_one_memory.proofs.Granted.{granted}
+use Rattle.tl_one_memory.proofs.Read.{IsFoundBefore, are-begun_read, are-read, read-next}
 use Rattle.tl_rules.specs.statement.Conformance.{Trace}
-use Rattle.tl_one_memory.{specs.statement.Run.place_in, specs.statement.Run.returns}
+use Rattle.tl_one_memory.specs.statement.Run.{IsBrought, place_in, returns, spoiled_at}
 use Rattle.tl_one_memory.specs.statement.TrueBytes.{AreTrue, IsTrueBeat, TrueBytes}
 
 -- ---- the lanes of a beat
@@ -71,48 +72,59 @@ module _ {w : ℕ} (n : ℕ) (first : Memory) (link : Link) (z : BeatD w) (run :
   abbrev before : Option (Access w) → Trace w
   before o = found_after o link.0 (length older) (trace_in run)
 
-  read-byte : (p : Access w) → IsAnswer first link.0 z p run → is_release_ack z.opcode ≡ false
+  read-byte : (p : Access w) → IsAnswer first link.0 z p run → is_release_ack z.opcode ≡ false → z.denied ≡ false
+      → is_spoiled (Beat.D z) ≡ false
       → answers OpD.AccessAckData p.request.opcode ≡ true
       → find (is_of link.0 z.source) (pending_accesses (trace_in run)) ≡ Some p → (address v : ℕ)
       → reaches p.request.address p.request.size address ≡ true → place_in p address / w ≡ length older → (j : ℕ)
       → place_in p address % w ≡ j → slice_get (lanes_of (Beat.D z)) j ≡ Some v
       → may_read n p (before (Some p)) address v ≡ true
-  read-byte p answer no_ack admitted pending address v reached at j in_lane lane =
+  read-byte p answer no_ack granted sound admitted pending address v reached at j in_lane lane =
       elim (cases_Bool (is_get p.request.opcode)) [
         | inl get ↦ rw get (ap (may_read n p (trace_in run) address) (sym value)
-            ∙ are-read n first run is link.0 z.source p answer.found answer.performed pending back address reached)
-        | inr other ↦ rw other (ap (may_read n p (before_last link.0 (length older) (trace_in run)) address)
-            (sym (same ∙ value)) ∙ began.2 back address reached)
+            ∙ are-read n first run is link.0 z.source p address here.byte here.found_is pending back reached)
+        | inr other ↦ rw other (before_it (read-next n first link z p run taken is (are-begun_read n first run is)
+            no_ack
+            granted pending other back address reached))
       ]
     where
       back : returns p.request.opcode ≡ true
       back = answered-reads p.request.opcode admitted
 
-      began : (found : Memory) × (found_in first link.0 z.source run ≡ Some found)
-          × (returns p.request.opcode ≡ true → (address : ℕ) → reaches p.request.address p.request.size address ≡ true
-          → may_read n p (before_last link.0 (length older) (trace_in run)) address (found address) ≡ true)
-      began = read-next n first link z p run taken is (are-begun_read n first run is) no_ack pending
+      here : IsBrought (found_in first link.0 z.source run address) (Beat.D z ∷ older) (place_in p address)
+      here = answer.brings back address reached (inl (omega (arith, at)))
 
-      same : began.0 address ≡ answer.found address
-      same = ap (λ (f : Memory). f address) (same-some answer.found began.0 (sym answer.performed ∙ began.1))
+      value : here.byte ≡ v
+      value = lane-carried z older (place_in p address) j v here.byte at in_lane (carried here.carried_is) lane
+        where
+          carried : (spoiled_at (Beat.D z ∷ older) (place_in p address) ≡ true)
+              ⊎ (carried_byte (Beat.D z ∷ older) (place_in p address) ≡ Some here.byte)
+              → carried_byte (Beat.D z ∷ older) (place_in p address) ≡ Some here.byte
+          carried (inr is) = is
+          carried (inl spoilt) = absurd (let no : true ≡ false =
+              sym spoilt ∙ rw (eq-eqb (place_in p address / w) (length older) at) sound in cc)
 
-      value : answer.found address ≡ v
-      value = lane-carried z older (place_in p address) j v (answer.found address) at in_lane
-          (answer.brings back address reached (inl (omega (arith, at)))) lane
+      before_it : IsFoundBefore n first link.0 z.source p (length older) run address
+          → may_read n p (before_last link.0 (length older) (trace_in run)) address v ≡ true
+      before_it began =
+          ap (may_read n p (before_last link.0 (length older) (trace_in run)) address)
+          (sym (same-some here.byte began.byte (sym here.found_is ∙ began.found_is) ∙ value)) ∙ began.brings
 
   read : z.opcode ≡ OpD.AccessAckData → ((z.corrupt || z.denied) || is_true_read n link.0 z (trace_in run)) ≡ true
-  read e = or_right (z.corrupt || z.denied) _ (go (find (is_of link.0 z.source) (pending_accesses (trace_in run))) refl)
+  read e = judged z.corrupt z.denied refl refl
     where
-      go : (o : Option (Access w)) → find (is_of link.0 z.source) (pending_accesses (trace_in run)) ≡ o
+      go : z.denied ≡ false → is_spoiled (Beat.D z) ≡ false → (o : Option (Access w))
+          → find (is_of link.0 z.source) (pending_accesses (trace_in run)) ≡ o
           → reads_truly n o (length older) z (before o) ≡ true
-      go None f = refl
-      go (Some p) f = each-lane _ (w * (p.request.address / w) + w * length older) (lanes_of (Beat.D z)) each
+      go granted sound None f = refl
+      go granted sound (Some p) f = each-lane _ (w * (p.request.address / w) + w * length older) (lanes_of (Beat.D z))
+          each
         where
           no_ack : is_release_ack z.opcode ≡ false
           no_ack = ap is_release_ack e
 
           answer : IsAnswer first link.0 z p run
-          answer = taken.answers_rightly z p refl no_ack f
+          answer = taken.answers_rightly z p refl no_ack granted f
 
           each : (j v : ℕ) → slice_get (lanes_of (Beat.D z)) j ≡ Some v
               → (not (reaches p.request.address p.request.size (w * (p.request.address / w) + w * length older + j))
@@ -131,10 +143,17 @@ module _ {w : ℕ} (n : ℕ) (first : Memory) (link : Link) (z : BeatD w) (run :
               byte : (b : Bool) → reaches p.request.address p.request.size address ≡ b
                   → (not b || may_read n p (before (Some p)) address v) ≡ true
               byte false g = refl
-              byte true g = read-byte p answer no_ack
+              byte true g = read-byte p answer no_ack granted sound
                   (ap (λ (o : OpD). answers o p.request.opcode) (sym e) ∙ answer.admitted) f address v g
                   (ap (λ (i : ℕ). i / w) place ∙ place-div w (length older) j within) j
                   (ap (λ (i : ℕ). i % w) place ∙ place-mod w (length older) j within) lane
+
+      judged : (corrupt denied : Bool) → z.corrupt ≡ corrupt → z.denied ≡ denied
+          → ((corrupt || denied) || is_true_read n link.0 z (trace_in run)) ≡ true
+      judged true denied sound granted = refl
+      judged false true sound granted = refl
+      judged false false sound granted =
+          go granted (rw (sound, granted) refl) (find (is_of link.0 z.source) (pending_accesses (trace_in run))) refl
 
   true-response : (o : OpD) → z.opcode ≡ o → is_true o n link.0 z (trace_in run) ≡ true
   true-response OpD.GrantData e = granted n first link z run taken is e
@@ -152,7 +171,7 @@ pub are-true : {w : ℕ} (n : ℕ) (first : Memory) (run : Run w) → IsRun n fi
 unfolding IsRun trace_in AreTrue
 are-true n first [] is = tt
 are-true n first (Takes link x ∷ run) is = (true-beat n first link x run is.0 is.1, are-true n first run is.1)
-are-true n first (Performs d i ∷ run) is = are-true n first run is.1
+are-true n first (Performs d i test left ∷ run) is = are-true n first run is.1
 are-true n first (Stores block bytes ∷ run) is = are-true n first run is.1
 
 pub true_bytes : {w : ℕ} → TrueBytes w

@@ -1,25 +1,28 @@
 -- What a byte may be has the value that memory has, with one more beat.
 use Rattle.tl_one_memory.proofs.Imports.{Beat, BeatD, Link, unfinished, Trace, on_link, block_at, is_free, Access}
 use Rattle.tl_one_memory.proofs.Imports.{access_writes, carried_byte, could_be, is_of, may_be, pending_accesses}
-use Rattle.tl_one_memory.proofs.Imports.{pending_value, windows_since, among-filter, IsPending, asked-by_now}
+use Rattle.tl_one_memory.proofs.Imports.{pending_value, windows_since, among-filter, same-some, IsPending, asked-by_now}
 use Rattle.std.proofs.Common.{◌≡◌, ℕ, Bool, true, false, not, ◌&&◌, ◌<◌, ◌≤◌, ◌%◌, List, ◌∷◌, ◌⊎◌, inl, inr, length}
-use Rattle.std.proofs.Common.{refl, sym, ap, ◌∙◌, arith}
+use Rattle.std.proofs.Common.{refl, sym, ap, ◌∙◌, subst, arith}
 use Rattle.std.specs.Prelude.{if◌then◌else◌, find, filter, Option, Some, None, ◌==◌, nat_le, nat_lt}
-use Rattle.std.proofs.lemmas.Bool.{le-leb, eqb-true, not-false}
-use Rattle.tl_beat.{specs.declared.beat.BeatA.BeatA, specs.declared.channel.Channel.Channel}
+use Rattle.std.proofs.lemmas.Bool.{le-leb, eqb-true, not-false, not-true}
+use Rattle.tl_beat.specs.declared.channel.Channel.{Channel}
 use Rattle.tl_burst.specs.statement.Messages.{History, channel_of}
 use Rattle.tl_params.specs.declared.perm.Perm.{Perm}
 use Rattle.tl_bytes.specs.declared.telling.Telling.{Telling}
-use Rattle.tl_bytes.specs.statement.Bytes.{after_answer, after_beat, after_write, asks, ends_request, last_told}
+use Rattle.tl_bytes.specs.statement.Bytes.{after_answer, after_beat, after_write, ends_request, last_told}
 use Rattle.tl_bytes.specs.statement.Bytes.{last_window, same_value, tells, told_too, value_left, window_began}
 use Rattle.tl_bytes.proofs.Finding.{Among, among-map, among-or}
-use Rattle.tl_bytes.proofs.Pending.{IsAnsweredNow, pending-after, pending-before}
+use Rattle.tl_bytes.proofs.Pending.{AsksNot, IsAnsweredNow, IsAskedNow, pending-after, pending-before}
+use Rattle.tl_memory.proofs.Writing.{put_left}
+use Rattle.tl_one_memory.proofs.Growing.{HasGrown, WasPending, asked-or, asked-pending}
 use Rattle.tl_one_memory.proofs.Spans.{began_by_now, one-still, windowed-more}
 
 abbrev pub is_writable : {w : ℕ} → ℕ → ℕ → Trace w → Bool
 is_writable n address t = is_free n Perm.Trunk (block_at address) t
 
--- `done` are the accesses that were performed and aren't answered whole, and `Answers` says what answers them
+-- `done` are the accesses that were performed at the address and aren't answered whole, and `Answers` says what answers
+-- them
 
 -- each pending access that was performed, and writes the byte, has had a window
 abbrev pub AreWindowed : {w : ℕ} → ℕ → ℕ → (ℕ → ℕ → Type 0) → Trace w → Type 0
@@ -59,13 +62,13 @@ IsCovered n address v done Answers t = Among (IsToldLate n address v done t) (ma
 pub record IsOrderly {w : ℕ} (n address v : ℕ) (done : ℕ → ℕ → Type 0)
     (Answers : ℕ → ℕ → Access w → List (Beat w) → Type 0)
     (y : Link × Beat w) (t : Trace w) : Type 0 where
-  -- an access that is asked for isn't performed
-  pub asks_new : (z : BeatA w) → y.1 ≡ Beat.A z → asks z (on_link y.0.0 t) ≡ true
-      → done y.0.0 z.source → ⊥
-  -- one that is answered was, with this answer
+  -- an access that is asked for, and was performed at the address, is a Put that goes on
+  pub asks_again : (c s : ℕ) (p : Access w) → IsAskedNow c s p y t → done c s → HasGrown address c s p t
+  -- one that is answered was, if it writes the byte and isn't denied, with this answer
   pub answers_done : (z : BeatD w) (p : Access w) → y.1 ≡ Beat.D z → ends_request z (on_link y.0.0 t) ≡ true
-      → IsPending y.0.0 z.source p t
-      → done y.0.0 z.source × Answers y.0.0 z.source p (Beat.D z ∷ unfinished Channel.D (on_link y.0.0 t))
+      → IsPending y.0.0 z.source p t → access_writes address p ≡ true
+      → (z.denied ≡ false → done y.0.0 z.source)
+      × Answers y.0.0 z.source p (Beat.D z ∷ unfinished Channel.D (on_link y.0.0 t))
   -- a window for writing closes with what is told
   pub closes_told : is_writable n address t ≡ true → is_writable n address (y ∷ t) ≡ false
       → tells (block_at address) y.1 (on_link y.0.0 t) ≡ true
@@ -88,8 +91,9 @@ module _ {w : ℕ} (n address v : ℕ) (done : ℕ → ℕ → Type 0) (Answers 
 
   -- ---- an access is answered
 
-  module _ (c s : ℕ) (p : Access w) (performed : done c s) (pending : IsPending c s p t)
-      (writes : access_writes address p ≡ true) (denied : Bool) (given : Option ℕ) where
+  module _ (c s : ℕ) (p : Access w) (denied : Bool) (performed : denied ≡ false → done c s)
+      (pending : IsPending c s p t)
+      (writes : access_writes address p ≡ true) (given : Option ℕ) where
     abbrev now : Telling
     now = record { value = given; moment = length t }
 
@@ -102,20 +106,22 @@ module _ {w : ℕ} (n address v : ℕ) (done : ℕ → ℕ → Type 0) (Answers 
 
     written-after : (before : List Telling) → Among Told before → Among Told (after_write n block p denied now t before)
     written-after before is = go (is_writable n address t) refl (windows_since n block p.asked t == 1) refl (not denied)
+        refl
         (nat_lt (last_window n block t) (last_told block t))
       where
         go : (free : Bool) → is_writable n address t ≡ free → (one : Bool)
-            → (windows_since n block p.asked t == 1) ≡ one → (granted told : Bool)
+            → (windows_since n block p.asked t == 1) ≡ one → (granted : Bool) → not denied ≡ granted → (told : Bool)
             → Among Told (if free then if one && granted then told_too now
             (filter (λ e. nat_le (window_began n block p.asked t) e.moment) before) else told_too now before else
             if told then before else told_too now before)
-        go true free true one true told =
+        go true free true one true given told =
             written-too (filter (λ e. nat_le (window_began n block p.asked t) e.moment) before)
             (among-filter Told (λ e. nat_le (window_began n block p.asked t) e.moment) before
             (λ e late. le-leb (window_began n block p.asked t) e.moment
-            (late.1 c s p performed pending writes free (eqb-true (windows_since n block p.asked t) 1 one))) is)
-        go false free one e granted true = is
-        go v free u one x y = written-too before is
+            (late.1 c s p (performed (not-true denied given)) pending writes free
+            (eqb-true (windows_since n block p.asked t) 1 one))) is)
+        go false free one e granted given true = is
+        go v free u one x given y = written-too before is
 
     written-now : (before : List Telling) → could_be v given ≡ true → is_writable n address t ≡ true
         → Among Told (after_write n block p denied now t before)
@@ -137,25 +143,28 @@ module _ {w : ℕ} (n address v : ℕ) (done : ℕ → ℕ → Type 0) (Answers 
     abbrev past : History w
     past = on_link y.0.0 t
 
-    pending-was : (c s : ℕ) (p : Access w) → done c s → IsPending c s p (y ∷ t) → IsPending c s p t
+    pending-was : (c s : ℕ) (p : Access w) → done c s → IsPending c s p (y ∷ t) → WasPending address c s p t
     pending-was c s p performed pending = elim (pending-before c s p y t pending) [
-      | inl old ↦ old.0
-      | inr new ↦ absurd (orderly.asks_new new.beat new.beat_is new.asks_it
-          (rw (← new.link_is, ← new.source_is) performed))
+      | inl old ↦ record { old = p; pending = old.0; asked_is = refl; opcode_is = refl; writes_is = refl }
+      | inr new ↦ (orderly.asks_again c s p new performed).was
     ]
 
     pub windowed-after : AreWindowed n address done (y ∷ t)
     windowed-after c s p performed pending writes =
         let was = pending-was c s p performed pending in
-        windowed-more n block p.asked y t (asked-by_now c s p t was).by_now (windowed c s p performed was writes)
+        rw was.asked_is
+        (windowed-more n block was.old.asked y t (asked-by_now c s was.old t was.pending).by_now
+        (windowed c s was.old performed was.pending (sym was.writes_is ∙ writes)))
 
     late-after : (moment : ℕ) → IsLate n address done t moment → IsLate n address done (y ∷ t) moment
     late-after moment late c s p performed pending writes free one =
         let was = pending-was c s p performed pending in
-        let still = one-still n block p.asked y t (asked-by_now c s p t was).by_now
-        (windowed c s p performed was writes) free one in
-        let le = late c s p performed was writes still.was_free still.was_one in
-        omega (arith, le, still.began_is)
+        let wrote : access_writes address was.old ≡ true = sym was.writes_is ∙ writes in
+        let still = one-still n block was.old.asked y t (asked-by_now c s was.old t was.pending).by_now
+        (windowed c s was.old performed was.pending wrote) free
+        (ap (λ k. windows_since n block k (y ∷ t)) (sym was.asked_is) ∙ one) in
+        let le = late c s was.old performed was.pending wrote still.was_free still.was_one in
+        rw was.asked_is (omega (arith, le, still.began_is))
 
     told-after : (tellings : List Telling) → Among Told tellings → Among (IsToldLate n address v done (y ∷ t)) tellings
     told-after tellings is = among-map Told (IsToldLate n address v done (y ∷ t)) tellings
@@ -179,7 +188,7 @@ module _ {w : ℕ} (n address v : ℕ) (done : ℕ → ℕ → Type 0) (Answers 
                 }) t
                 (may_be n address t) else may_be n address t)
             go false i = is
-            go true i = written-after y.0.0 z.source p (orderly.answers_done z p e f g).0 g i z.denied
+            go true i = written-after y.0.0 z.source p z.denied (orderly.answers_done z p e f g i).0 g i
                 (value_left p.request.opcode p (Beat.D z ∷ unfinished Channel.D past) address) (may_be n address t) is
 
         ended : (z : BeatD w) → y.1 ≡ Beat.D z → (b : Bool) → ends_request z past ≡ b
@@ -194,15 +203,17 @@ module _ {w : ℕ} (n address v : ℕ) (done : ℕ → ℕ → Type 0) (Answers 
 
     -- what the access has written that is answered now
     answered-beat : (c s : ℕ) (p : Access w) → done c s → IsPending c s p t → access_writes address p ≡ true
-        → ((burst : List (Beat w)) → Answers c s p burst → could_be v (value_left p.request.opcode p burst address) ≡ true)
+        → ((burst : List (Beat w)) → Answers c s p burst
+        → could_be v (value_left p.request.opcode p burst address) ≡ true)
         → is_writable n address t ≡ true → IsAnsweredNow c s y t
         → Among Told (after_beat n address y.0.0 y.1 t (may_be n address t))
     answered-beat c s p performed pending writes value free now =
         rw (now.beat_is, now.completes, here, writes)
-        (written-now c s p performed pending writes now.last.denied
+        (written-now c s p now.last.denied (λ granted. performed) pending writes
         (value_left p.request.opcode p (Beat.D now.last ∷ unfinished Channel.D past)
         address) (may_be n address t) (value (Beat.D now.last ∷ unfinished Channel.D past)
-        (rw (now.link_is, now.source_is) (orderly.answers_done now.last p now.beat_is now.completes here).1)) free)
+        (rw (now.link_is, now.source_is) (orderly.answers_done now.last p now.beat_is now.completes here writes).1))
+        free)
       where
         here : find (is_of y.0.0 now.last.source) (pending_accesses t) ≡ Some p
         here = rw (← now.link_is, ← now.source_is) pending
@@ -223,25 +234,58 @@ module _ {w : ℕ} (n address v : ℕ) (done : ℕ → ℕ → Type 0) (Answers 
             is true f = refl
             is false f = absurd (let no : false ≡ true = sym e ∙ orderly.closes_told free f in cc)
 
+        -- of a Put that goes on
+        grown : tells block y.1 past ≡ false → (now : IsWrittenNow n address v done Answers t) (p : Access w)
+            → IsAskedNow now.link now.source p y t → IsWrittenNow n address v done Answers (y ∷ t)
+        grown e now p asked = record {
+          link = now.link;
+          source = now.source;
+          access = p;
+          performed = now.performed;
+          pending = asked-pending now.link now.source p y t asked;
+          writes = more.was.writes_is ∙ ap (access_writes address) same ∙ now.writes;
+          value_is = λ burst answers.
+              ap (could_be v) (sym (put_left p.request.opcode p burst address more.put)) ∙ could;
+          pending_is = could;
+          free = still_free e now.free;
+        }
+          where
+            more : HasGrown address now.link now.source p t
+            more = orderly.asks_again now.link now.source p asked now.performed
+
+            same : more.was.old ≡ now.access
+            same = same-some now.access more.was.old (sym now.pending ∙ more.was.pending)
+
+            could : could_be v (pending_value p.request.opcode p address) ≡ true
+            could = more.values v (subst (λ (q : Access w). could_be v (pending_value q.request.opcode q address)
+                ≡ true)
+                (sym same) now.pending_is)
+
+        unasked : tells block y.1 past ≡ false → (now : IsWrittenNow n address v done Answers t)
+            → AsksNot now.link now.source y t → IsCovered n address v done Answers (y ∷ t)
+        unasked e now never = elim (pending-after now.link now.source now.access y t now.pending never) [
+          | inl pending ↦ inr (record {
+            link = now.link;
+            source = now.source;
+            access = now.access;
+            performed = now.performed;
+            pending = pending;
+            writes = now.writes;
+            value_is = now.value_is;
+            pending_is = now.pending_is;
+            free = still_free e now.free;
+          })
+          | inr answered ↦ inl (rw e (told-after (after_beat n address y.0.0 y.1 t (may_be n address t))
+              (answered-beat now.link now.source now.access now.performed now.pending now.writes now.value_is
+              now.free answered)))
+        ]
+
         written : tells block y.1 past ≡ false → IsWrittenNow n address v done Answers t
             → IsCovered n address v done Answers (y ∷ t)
-        written e now = elim (pending-after now.link now.source now.access y t now.pending
-            (λ z f g link source. orderly.asks_new z f g (rw (← link, ← source) now.performed))) [
-              | inl pending ↦ inr (record {
-                link = now.link;
-                source = now.source;
-                access = now.access;
-                performed = now.performed;
-                pending = pending;
-                writes = now.writes;
-                value_is = now.value_is;
-                pending_is = now.pending_is;
-                free = still_free e now.free;
-              })
-              | inr answered ↦ inl (rw e (told-after (after_beat n address y.0.0 y.1 t (may_be n address t))
-                  (answered-beat now.link now.source now.access now.performed now.pending now.writes now.value_is
-                  now.free answered)))
-            ]
+        written e now = elim (asked-or now.link now.source y t) [
+          | inr again ↦ inr (grown e now again.0 again.1)
+          | inl never ↦ unasked e now never
+        ]
 
         go : (b : Bool) → tells block y.1 past ≡ b → IsCovered n address v done Answers (y ∷ t)
         go true e = inl (rw e (inl (told_so e, late-after (length t) late-now)))

@@ -11,7 +11,7 @@ use Rattle.tl_beat.{specs.declared.channel.Channel.Channel, specs.declared.opcod
 use Rattle.tl_burst.specs.statement.Messages.{on}
 use Rattle.tl_params.specs.declared.perm.Perm.{Perm}
 use Rattle.tl_rules.{specs.code.Open.open_request, specs.declared.past.Request.Request}
-use Rattle.tl_rules.{specs.statement.Effect.bytes_from}
+use Rattle.tl_rules.specs.statement.{Admission.is_spoiled, Effect.bytes_from}
 use Rattle.tl_bytes.specs.statement.Bytes.{each_from, is_true_grant, may_grant, told_as, written_as}
 use Rattle.tl_one_memory.proofs.Covered.{IsToldLate, IsWrittenNow}
 use Rattle.tl_bytes.proofs.Finding.{Among, among-found, found-among}
@@ -37,7 +37,7 @@ trace-before {w} link (suc k) (Takes l x ∷ run) =
         ≡ (if b then before_last link k (trace_in run) else before_last link (suc k) (trace_in run))
     go true e f = e
     go false e f = f
-trace-before link (suc k) (Performs d i ∷ run) = trace-before link (suc k) run
+trace-before link (suc k) (Performs d i test left ∷ run) = trace-before link (suc k) run
 trace-before link (suc k) (Stores block bytes ∷ run) = trace-before link (suc k) run
 
 pub is_run-before : {w : ℕ} (n : ℕ) (first : Memory) (link k : ℕ) (run : Run w) → IsRun n first run
@@ -54,7 +54,7 @@ is_run-before {w} n first link (suc k) (Takes l x ∷ run) is =
         → IsRun n first (if b then run_before link k run else run_before link (suc k) run)
     go true e f = e
     go false e f = f
-is_run-before n first link (suc k) (Performs d i ∷ run) is = is_run-before n first link (suc k) run is.1
+is_run-before n first link (suc k) (Performs d i test left ∷ run) is = is_run-before n first link (suc k) run is.1
 is_run-before n first link (suc k) (Stores block bytes ∷ run) is = is_run-before n first link (suc k) run is.1
 
 -- ---- what may be granted
@@ -92,8 +92,10 @@ granted-known : {w : ℕ} (n : ℕ) (first : Memory) (address : ℕ) (run : Run 
     → IsClean n first address run
     → may_grant n (trace_in run) address (memory_in first run address) ≡ true
 granted-known {w} n first address run is clean = elim (is.covered clean) [
-  | inl told ↦ or_left _ _ (told-as n address (memory_in first run address) (IsDone first run) (trace_in run) told)
-  | inr now ↦ or_right _ _ (may-grant n address (memory_in first run address) (IsDone first run) (Answers first run)
+  | inl told ↦ or_left _ _ (told-as n address (memory_in first run address) (IsDone first run address) (trace_in run)
+      told)
+  | inr now ↦ or_right _ _ (may-grant n address (memory_in first run address) (IsDone first run address)
+      (Answers first run)
       (trace_in run) now)
 ]
 
@@ -112,10 +114,11 @@ in-block block k w address le from to = omega (arith, le, from, to)
 
 pub granted : {w : ℕ} (n : ℕ) (first : Memory) (link : Link) (z : BeatD w) (run : Run w)
     → IsTaken n first link (Beat.D z) run → IsRun n first run → z.opcode ≡ OpD.GrantData
-    → ((z.corrupt || z.denied) || is_true_grant n link.0 z (open_request z.source (on_link link.0 (trace_in run))) (trace_in run))
+    → ((z.corrupt || z.denied) || is_true_grant n link.0 z (open_request z.source (on_link link.0 (trace_in run)))
+    (trace_in run))
     ≡ true
 granted {w} n first link z run taken is granting =
-    or_right (z.corrupt || z.denied) _ (go (open_request z.source (on_link link.0 (trace_in run))) refl)
+    judged (z.corrupt || z.denied) refl
   where
     k : ℕ
     k = length (unfinished Channel.D (on_link link.0 (trace_in run)))
@@ -123,10 +126,11 @@ granted {w} n first link z run taken is granting =
     old : Run w
     old = run_before link.0 k run
 
-    go : (o : Option Request) → open_request z.source (on_link link.0 (trace_in run)) ≡ o
+    go : is_spoiled (Beat.D z) ≡ false → (o : Option Request)
+        → open_request z.source (on_link link.0 (trace_in run)) ≡ o
         → is_true_grant n link.0 z o (trace_in run) ≡ true
-    go None e = refl
-    go (Some asked) e =
+    go sound None e = refl
+    go sound (Some asked) e =
         rw (grant.lanes_are, ← trace-before link.0 k run)
         (each-of (may_grant n (trace_in old)) (memory_in first old) (64 * asked.block + w * k) w
         (λ address from to. granted-known n first address old
@@ -136,4 +140,9 @@ granted {w} n first link z run taken is granting =
         (in-block asked.block k w address grant.within from to) ∙ grant.free))))
       where
         grant : IsGranted n first link.0 z asked.block k run
-        grant = taken.grants_rightly z asked refl granting e
+        grant = taken.grants_rightly z asked refl granting sound e
+
+    judged : (b : Bool) → (z.corrupt || z.denied) ≡ b
+        → (b || is_true_grant n link.0 z (open_request z.source (on_link link.0 (trace_in run))) (trace_in run)) ≡ true
+    judged true sound = refl
+    judged false sound = go sound (open_request z.source (on_link link.0 (trace_in run))) refl

@@ -1,89 +1,105 @@
 -- After each run of one memory a byte may be what memory has, if no client has stored to its copy since it was told.
-use Rattle.tl_one_memory.proofs.Imports.{Beat, Link, Trace, on_link, Memory, effect, block_at, is_release_ack, is_free}
-use Rattle.tl_one_memory.proofs.Imports.{Access, access_writes, is_of, may_be, pending_accesses, same-some, IsPending}
-use Rattle.tl_one_memory.proofs.Imports.{asked-by_now, IsPerformed, IsRun, IsTaken, Performs, Run, Stores, Takes}
-use Rattle.tl_one_memory.proofs.Imports.{found_in, memory_in, trace_in}
-use Rattle.std.proofs.Common.{◌≡◌, ℕ, Bool, true, false, not, ◌&&◌, List, [], ◌∷◌, ◌⊎◌, inl, inr, refl, sym, ap, ◌∙◌}
-use Rattle.std.specs.Prelude.{if◌then◌else◌, find, filter, Some, None, ◌==◌}
-use Rattle.std.proofs.lemmas.Bool.{and_parts, eq-eqb, eqb-true, not-true}
+use Rattle.tl_one_memory.proofs.Imports.{Beat, BeatD, Link, Trace, on_link, Memory}
+use Rattle.tl_one_memory.proofs.Imports.{effect, block_at, is_release_ack, is_free}
+use Rattle.tl_one_memory.proofs.Imports.{Access, access_writes, carried_byte, could_be, may_be, pending_accesses}
+use Rattle.tl_one_memory.proofs.Imports.{pending_value, reaches}
+use Rattle.tl_one_memory.proofs.Imports.{same-some, unfinished, IsPending, asked-by_now, IsPerformed, IsRun, IsTaken}
+use Rattle.tl_one_memory.proofs.Imports.{Performs, Run, Stores, Takes, found_in, memory_in, trace_in}
+use Rattle.std.proofs.Common.{◌⊎◌, ◌/◌, length, ◌≡◌, ℕ, Bool, true, false, not}
+use Rattle.std.proofs.Common.{◌&&◌, List, [], ◌∷◌, inl, inr, refl, sym, ap, ◌∙◌}
+use Rattle.std.specs.Prelude.{if◌then◌else◌, find, is_some, Some, ◌==◌, ◌||◌}
+use Rattle.std.proofs.lemmas.Bool.{and_parts, eqb-true, not-true}
+use Rattle.tl_beat.{specs.declared.channel.Channel.Channel, specs.declared.opcode.OpA.OpA}
+use Rattle.tl_burst.specs.declared.message.MessageA.{MessageA}
 use Rattle.tl_params.specs.declared.perm.Perm.{Perm}
 use Rattle.tl_rules.{specs.statement.Effect.after, specs.statement.History.ends}
-use Rattle.tl_bytes.{specs.statement.Bytes.ends_request, proofs.Finding.find-left_out, proofs.Finding.none-some}
+use Rattle.tl_rules.specs.statement.Admission.{is_spoiled}
+use Rattle.tl_bytes.specs.statement.Bytes.{tells, value_left, writes}
+use Rattle.tl_bytes.proofs.Finding.{none-some}
+use Rattle.tl_memory.specs.statement.Known.{is_atomic}
 use Rattle.tl_one_memory.proofs.Covered.{AreWindowed, IsCovered, IsOrderly, covered-after, covered-as}
 use Rattle.tl_one_memory.proofs.Covered.{windowed-after, windowed-as}
-use Rattle.tl_one_memory.{proofs.Spans.windowed-free, specs.statement.Run.is_answered_by, specs.statement.Run.TellsTrue}
-use Rattle.tl_one_memory.specs.statement.Run.{IsClean}
-use Rattle.tl_bytes.specs.statement.Bytes.{tells}
-use Rattle.tl_one_memory.proofs.Values.{HasFound, after-unwritten, value-left, value-pending}
+use Rattle.tl_one_memory.proofs.Performed.{asked-again, found-here, found-other, found-performed, found-still}
+use Rattle.tl_one_memory.proofs.Performed.{found-taken, performed-once, some-value, unanswered}
+use Rattle.tl_one_memory.proofs.Spans.{windowed-free}
+use Rattle.tl_one_memory.proofs.Values.{after-unwritten, spoilt-left, spoilt-pending, value-left, value-pending}
+use Rattle.tl_one_memory.specs.statement.Run.{IsClean, TellsTrue, left_by, place_in, returns, spoiled_at}
 
--- the access with this source was performed, and isn't answered whole
-abbrev pub IsDone : {w : ℕ} → Memory → Run w → ℕ → ℕ → Type 0
-IsDone first run c s = (found : Memory) × (found_in first c s run ≡ Some found)
+-- the access with this source was performed at an address, and isn't answered whole
+abbrev pub IsDone : {w : ℕ} → Memory → Run w → ℕ → ℕ → ℕ → Type 0
+IsDone first run address c s = (v : ℕ) × (found_in first c s run address ≡ Some v)
 
--- the burst has what it found
+-- the burst has what it found, if it returns that, and no beat of it is corrupt, or denied
 abbrev pub Answers : {w : ℕ} → Memory → Run w → ℕ → ℕ → Access w → List (Beat w) → Type 0
-Answers first run c s access burst = (found : Memory) × (found_in first c s run ≡ Some found)
-    × HasFound found access burst
+Answers first run c s access burst = is_some (find is_spoiled burst) ≡ false → returns access.request.opcode ≡ true
+    → (address : ℕ)
+    → reaches access.request.address access.request.size address ≡ true
+    → carried_byte burst (place_in access address) ≡ found_in first c s run address
 
 pub record IsKnown {w : ℕ} (n : ℕ) (first : Memory) (address : ℕ) (run : Run w) : Type 0 where
-  pub windowed : AreWindowed n address (IsDone first run) (trace_in run)
+  pub windowed : AreWindowed n address (IsDone first run address) (trace_in run)
   pub covered : IsClean n first address run
-      → IsCovered n address (memory_in first run address) (IsDone first run) (Answers first run) (trace_in run)
+      → IsCovered n address (memory_in first run address) (IsDone first run address) (Answers first run) (trace_in run)
 
--- ---- a beat is taken
+-- what writes a byte, and is answered with bytes, is an atomic
+pub writes-atomic : {w : ℕ} (o : OpA) (m : MessageA w) (address : ℕ) → returns o ≡ true → writes o m address ≡ true
+    → (is_atomic o ≡ true) × (reaches m.address m.size address ≡ true)
+writes-atomic OpA.ArithmeticData m address back e = (refl, e)
+writes-atomic OpA.LogicalData m address back e = (refl, e)
+writes-atomic OpA.Get m address back e = absurd cc
+writes-atomic v m address back e = absurd cc
 
--- one that is answered whole isn't pending
-pub answered-gone : {w : ℕ} (c s : ℕ) (p : Access w) (link : Link) (x : Beat w) (t : Trace w)
-    → is_answered_by c s link x t ≡ true → IsPending c s p ((link, x) ∷ t) → ⊥
-unfolding pending_accesses
-answered-gone {w} c s p link (Beat.D z) t answered pending =
-    none-some p (sym (rw (whole.1) gone) ∙ pending)
+-- an answer without a corrupt or denied beat isn't denied
+sound-granted : {w : ℕ} (z : BeatD w) (older : List (Beat w)) → is_some (find is_spoiled (Beat.D z ∷ older)) ≡ false
+    → z.denied ≡ false
+sound-granted {w} z older e = go z.corrupt z.denied e
   where
-    whole : ((link.0 == c) && (z.source == s) ≡ true) × (ends_request z (on_link link.0 t) ≡ true)
-    whole = and_parts ((link.0 == c) && (z.source == s)) (ends_request z (on_link link.0 t)) answered
+    go : (a b : Bool) → is_some (if a || b then Some (Beat.D z) else find is_spoiled older) ≡ false → b ≡ false
+    go true b e = absurd cc
+    go false true e = absurd cc
+    go false false e = refl
 
-    same : ((link.0 == c) ≡ true) × ((z.source == s) ≡ true)
-    same = and_parts (link.0 == c) (z.source == s) whole.0
-
-    gone : find (is_of c s) (filter (λ access. not (is_of link.0 z.source access)) (pending_accesses t)) ≡ None
-    gone = find-left_out (is_of link.0 z.source) (is_of c s) (pending_accesses t)
-        (λ access e. rw (eqb-true link.0 c same.0, eqb-true z.source s same.1) e)
-answered-gone c s p link (Beat.A z) t answered pending = absurd cc
-answered-gone c s p link (Beat.B z) t answered pending = absurd cc
-answered-gone c s p link (Beat.C z) t answered pending = absurd cc
-answered-gone c s p link (Beat.E z) t answered pending = absurd cc
-
--- what was performed by then, and isn't answered now
-pub found-taken : {w : ℕ} (first : Memory) (c s : ℕ) (link : Link) (x : Beat w) (run : Run w) (found : Memory)
-    → found_in first c s (Takes link x ∷ run) ≡ Some found
-    → (is_answered_by c s link x (trace_in run) ≡ false) × (found_in first c s run ≡ Some found)
-unfolding found_in
-found-taken {w} first c s link x run found is = go (is_answered_by c s link x (trace_in run)) refl is
+-- no place of it is that of such a beat
+sound-at : {w : ℕ} (burst : List (Beat w)) (p : ℕ) → is_some (find is_spoiled burst) ≡ false
+    → spoiled_at burst p ≡ false
+sound-at [] p e = refl
+sound-at {w} (x ∷ older) p e = go (is_spoiled x) refl e (p / w == length older) (sound-at older p)
   where
-    go : (b : Bool) → is_answered_by c s link x (trace_in run) ≡ b → (if b then None else found_in first c s run) ≡ Some
-        found → (is_answered_by c s link x (trace_in run) ≡ false) × (found_in first c s run ≡ Some found)
-    go true e f = absurd (none-some found f)
-    go false e f = (e, f)
+    go : (a : Bool) → is_spoiled x ≡ a → is_some (if a then Some x else find is_spoiled older) ≡ false → (b : Bool)
+        → (is_some (find is_spoiled older) ≡ false → spoiled_at older p ≡ false)
+        → (if b then is_spoiled x else spoiled_at older p) ≡ false
+    go true f e b rest = absurd cc
+    go false f e true rest = f
+    go false f e false rest = rest e
 
-pub found-still : {w : ℕ} (first : Memory) (c s : ℕ) (link : Link) (x : Beat w) (run : Run w) (found : Memory)
-    → is_answered_by c s link x (trace_in run) ≡ false → found_in first c s run ≡ Some found
-    → found_in first c s (Takes link x ∷ run) ≡ Some found
-unfolding found_in
-found-still first c s link x run found e is = rw e is
+-- what it brings at a place is what was found
+sound-carried : {w : ℕ} (burst : List (Beat w)) (p v : ℕ) → is_some (find is_spoiled burst) ≡ false
+    → (spoiled_at burst p ≡ true) ⊎ (carried_byte burst p ≡ Some v) → carried_byte burst p ≡ Some v
+sound-carried burst p v sound (inr is) = is
+sound-carried burst p v sound (inl spoilt) = absurd (let no : true ≡ false = sym spoilt ∙ sound-at burst p sound in cc)
 
 module _ {w : ℕ} (n : ℕ) (first : Memory) (address : ℕ) where
   -- of a beat that is taken rightly
-  orderly : (link : Link) (x : Beat w) (run : Run w) → IsTaken n first link x run
-      → IsOrderly n address (memory_in first run address) (IsDone first run) (Answers first run) (link, x)
+  orderly : (link : Link) (x : Beat w) (run : Run w) → IsTaken n first link x run → IsRun n first run
+      → IsOrderly n address (memory_in first run address) (IsDone first run address) (Answers first run) (link, x)
       (trace_in run)
-  orderly link x run taken = record {
-    asks_new = λ z e asked done. none-some done.0 (sym (taken.asks_new z e asked) ∙ done.1);
-    answers_done = λ z p e completes pending.
+  orderly link x run taken is = record {
+    asks_again = λ c s p now done.
+        (asked-again n first c s p link x run address done.0 taken is done.1 now).0;
+    answers_done = λ z p e completes pending writing.
         let both = and_parts (not (is_release_ack z.opcode)) (ends (Beat.D z) (on_link link.0 (trace_in run)))
         completes in
-        let answer = taken.answers_rightly z p e (not-true (is_release_ack z.opcode) both.0) pending in (
-          (answer.found, answer.performed),
-          (answer.found, answer.performed, λ reads k reached. answer.brings reads k reached (inr completes)),
+        let no_ack = not-true (is_release_ack z.opcode) both.0 in (
+          λ granted. some-value (found_in first link.0 z.source run address)
+              ((taken.answers_rightly z p e no_ack granted pending).written address writing),
+          λ sound reads k reached.
+              let answer = taken.answers_rightly z p e no_ack
+              (sound-granted z (unfinished Channel.D (on_link link.0 (trace_in run))) sound)
+              pending in
+              let brought = answer.brings reads k reached (inr completes) in
+              sound-carried (Beat.D z ∷ unfinished Channel.D (on_link link.0 (trace_in run))) (place_in p k)
+              brought.byte
+              sound brought.carried_is ∙ sym brought.found_is,
         );
     closes_told = λ free closed. taken.closes_told (block_at address) free closed;
   }
@@ -94,7 +110,7 @@ module _ {w : ℕ} (n : ℕ) (first : Memory) (address : ℕ) where
   unfolding IsRun IsClean trace_in
   clean-free [] is free = tt
   clean-free (Takes link x ∷ run) is free = inl free
-  clean-free (Performs d i ∷ run) is free = clean-free run is.1 free
+  clean-free (Performs d i test left ∷ run) is free = clean-free run is.1 free
   clean-free (Stores block bytes ∷ run) is free = (apart (block_at address == block) refl, clean-free run is.1 free)
     where
       apart : (b : Bool) → (block_at address == block) ≡ b → b ≡ false
@@ -123,7 +139,8 @@ module _ {w : ℕ} (n : ℕ) (first : Memory) (address : ℕ) where
 
       old : IsClean n first address (Takes link x ∷ run)
           → tells (block_at address) x (on_link link.0 (trace_in run)) ≡ false
-          → IsCovered n address (memory_in first run address) (IsDone first run) (Answers first run) (trace_in run)
+          → IsCovered n address (memory_in first run address) (IsDone first run address) (Answers first run)
+          (trace_in run)
       old clean e = known.covered (elim clean [
         | inr by ↦ rw e at by
         | inl free ↦ was (is_free n Perm.Branch (block_at address) (trace_in run)) refl free
@@ -148,10 +165,10 @@ module _ {w : ℕ} (n : ℕ) (first : Memory) (address : ℕ) where
       value = memory_in first run address
 
       done : ℕ → ℕ → Type 0
-      done = IsDone first run
+      done = IsDone first run address
 
       done' : ℕ → ℕ → Type 0
-      done' = IsDone first (Takes link x ∷ run)
+      done' = IsDone first (Takes link x ∷ run) address
 
       answers : ℕ → ℕ → Access w → List (Beat w) → Type 0
       answers = Answers first run
@@ -160,33 +177,29 @@ module _ {w : ℕ} (n : ℕ) (first : Memory) (address : ℕ) where
       answers' = Answers first (Takes link x ∷ run)
 
       order : IsOrderly n address value done answers (link, x) t
-      order = orderly link x run taken
+      order = orderly link x run taken runs
 
       back : (c s : ℕ) (p : Access w) → IsPending c s p t' → access_writes address p ≡ true → done' c s → done c s
-      back c s p pending writes is = (is.0, (found-taken first c s link x run is.0 is.1).1)
+      back c s p pending writing is = (is.0, (found-taken first c s link x run address is.0 is.1).1)
 
       forth : (c s : ℕ) (p : Access w) → IsPending c s p t' → access_writes address p ≡ true → done c s
           → done' c s × ((burst : List (Beat w)) → answers' c s p burst → answers c s p burst)
-      forth c s p pending writes is = (
-        (is.0, found-still first c s link x run is.0 unanswered is.1),
-        λ burst answer. (answer.0, (found-taken first c s link x run answer.0 answer.1).1, answer.2),
+      forth c s p pending writing is = (
+        (is.0, still address ∙ is.1),
+        λ burst answer sound reads k reached. answer sound reads k reached ∙ still k,
       )
         where
-          unanswered : is_answered_by c s link x t ≡ false
-          unanswered = go (is_answered_by c s link x t) refl
-            where
-              go : (b : Bool) → is_answered_by c s link x t ≡ b → b ≡ false
-              go true e = absurd (answered-gone c s p link x t e pending)
-              go false e = refl
+          still : (k : ℕ) → found_in first c s (Takes link x ∷ run) k ≡ found_in first c s run k
+          still k = found-still first c s link x run k (unanswered c s p link x t pending)
 
   -- ---- an access is performed
 
-  known-performed : (d i : ℕ) (run : Run w) → IsPerformed n first d i run
-      → IsKnown n first address run → IsKnown n first address (Performs d i ∷ run)
-  unfolding trace_in memory_in found_in effect IsClean
-  known-performed d i run is known = record {
+  known-performed : (d i : ℕ) (test : ℕ → Bool) (left : Memory) (run : Run w) → IsPerformed n first d i test run
+      → IsKnown n first address run → IsKnown n first address (Performs d i test left ∷ run)
+  unfolding trace_in memory_in effect IsClean
+  known-performed d i test left run is known = record {
     windowed = windows;
-    covered = λ clean. rw is.pending (covers clean (access_writes address is.access) refl);
+    covered = λ clean. rw is.pending (covers clean (test address) refl);
   }
     where
       t : Trace w
@@ -198,91 +211,141 @@ module _ {w : ℕ} (n : ℕ) (first : Memory) (address : ℕ) where
       p : Access w
       p = is.access
 
-      here : (c s : ℕ) → Bool
-      here c s = (d == c) && (i == s)
-
       done : ℕ → ℕ → Type 0
-      done = IsDone first run
+      done = IsDone first run address
 
       done' : ℕ → ℕ → Type 0
-      done' = IsDone first (Performs d i ∷ run)
+      done' = IsDone first (Performs d i test left ∷ run) address
 
       answers : ℕ → ℕ → Access w → List (Beat w) → Type 0
       answers = Answers first run
 
       answers' : ℕ → ℕ → Access w → List (Beat w) → Type 0
-      answers' = Answers first (Performs d i ∷ run)
+      answers' = Answers first (Performs d i test left ∷ run)
 
-      -- each access is this one, or another one
-      this-or : (c s : ℕ) (found : Memory) → found_in first c s (Performs d i ∷ run) ≡ Some found
-          → ((d ≡ c) × (i ≡ s) × (found ≡ memory)) ⊎ (found_in first c s run ≡ Some found)
-      this-or c s found e = go (here c s) refl e
-        where
-          go : (b : Bool) → here c s ≡ b → (if b then Some memory else found_in first c s run) ≡ Some found
-              → ((d ≡ c) × (i ≡ s) × (found ≡ memory)) ⊎ (found_in first c s run ≡ Some found)
-          go true f g = let both = and_parts (d == c) (i == s) f in
-              inl (eqb-true d c both.0, eqb-true i s both.1, same-some memory found g)
-          go false f g = inr g
-
-      other : (c s : ℕ) (found : Memory) → found_in first c s run ≡ Some found → here c s ≡ false
-      other c s found e = go (here c s) refl
-        where
-          go : (b : Bool) → here c s ≡ b → b ≡ false
-          go false f = refl
-          go true f = let both = and_parts (d == c) (i == s) f in
-              absurd (none-some found (sym is.once ∙ rw (eqb-true d c both.0, eqb-true i s both.1) e))
+      -- the access that is performed
+      this : (c s : ℕ) (q : Access w) → c ≡ d → s ≡ i → IsPending c s q t → q ≡ p
+      this c s q link source pending = same-some p q (sym (rw (link, source) is.pending) ∙ pending)
 
       windows : AreWindowed n address done' t
-      windows c s q performed pending writes = elim (this-or c s performed.0 performed.1) [
-        | inr old ↦ known.windowed c s q (performed.0, old) pending writes
-        | inl now ↦
-            let mine : find (is_of c s) (pending_accesses t) ≡ Some p = rw (← now.0, ← now.1) is.pending in
-            let same : q ≡ p = same-some p q (sym mine ∙ pending) in
-            let asked = asked-by_now c s q t pending in
-            windowed-free n (block_at address) q.asked t asked.some asked.by_now
-            (is.writes_free address (ap (access_writes address) (sym same) ∙ writes))
-      ]
+      windows c s q performed pending writing =
+          elim (found-performed first c s d i test left run address performed.0 performed.1) [
+            | inr old ↦ known.windowed c s q (performed.0, old) pending writing
+            | inl now ↦
+                let asked = asked-by_now c s q t pending in
+                windowed-free n (block_at address) q.asked t asked.some asked.by_now
+                (is.writes_free address now.2
+                (ap (access_writes address) (sym (this c s q now.0 now.1 pending)) ∙ writing))
+          ]
 
+      -- at an address at which it isn't performed all stays as it was
+      elsewhere : test address ≡ false → (c s : ℕ) (q : Access w) → IsPending c s q t → access_writes address q ≡ true
+          → (burst : List (Beat w)) → answers' c s q burst → answers c s q burst
+      elsewhere fails c s q pending writing burst answer sound reads k reached = go (d == c) refl (i == s) refl
+        where
+          kept : (d == c) && (i == s) ≡ false → carried_byte burst (place_in q k) ≡ found_in first c s run k
+          kept e = answer sound reads k reached ∙ found-other first c s d i test left run k (rw e refl)
+
+          -- what writes there, and is answered with bytes, would be performed there
+          never : d ≡ c → i ≡ s → ⊥
+          never link source =
+              let atomic = writes-atomic q.request.opcode q.request address reads writing in
+              let same : q ≡ p = this c s q (sym link) (sym source) pending in
+              let no : false ≡ true = sym fails ∙ is.at_once
+              (ap (λ (r : Access w). is_atomic r.request.opcode) (sym same) ∙ atomic.0) address
+              (ap (λ (r : Access w). reaches r.request.address r.request.size address) (sym same) ∙ atomic.1) in cc
+
+          go : (a : Bool) → (d == c) ≡ a → (b : Bool) → (i == s) ≡ b
+              → carried_byte burst (place_in q k) ≡ found_in first c s run k
+          go true e true f = absurd (never (eqb-true d c e) (eqb-true i s f))
+          go true e false f = kept (rw (e, f) refl)
+          go false e b f = kept (rw e refl)
+
+      unpassed : test address ≡ false → (c s : ℕ)
+          → found_in first c s (Performs d i test left ∷ run) address ≡ found_in first c s run address
+      unpassed fails c s = found-other first c s d i test left run address (rw fails (never ((d == c) && (i == s))))
+        where
+          never : (b : Bool) → b && false ≡ false
+          never true = refl
+          never false = refl
+
+      -- one that writes there isn't this one, where that doesn't
       back : access_writes address p ≡ false → (c s : ℕ) (q : Access w) → IsPending c s q t
           → access_writes address q ≡ true → done' c s → done c s
-      back e c s q pending writes performed = elim (this-or c s performed.0 performed.1) [
-        | inr old ↦ (performed.0, old)
-        | inl now ↦
-            let mine : find (is_of c s) (pending_accesses t) ≡ Some p = rw (← now.0, ← now.1) is.pending in
-            let same : q ≡ p = same-some p q (sym mine ∙ pending) in
-            absurd (let no : false ≡ true = sym e ∙ ap (access_writes address) (sym same) ∙ writes in cc)
-      ]
+      back e c s q pending writing performed =
+          elim (found-performed first c s d i test left run address performed.0 performed.1) [
+            | inr old ↦ (performed.0, old)
+            | inl now ↦ absurd (let no : false ≡ true =
+                sym e ∙ ap (access_writes address) (sym (this c s q now.0 now.1 pending)) ∙ writing in cc)
+          ]
 
-      forth : (c s : ℕ) (q : Access w) → IsPending c s q t → access_writes address q ≡ true → done c s
-          → done' c s × ((burst : List (Beat w)) → answers' c s q burst → answers c s q burst)
-      forth c s q pending writes performed = (
-        (performed.0, rw (other c s performed.0 performed.1) performed.1),
-        λ burst answer. (answer.0, rw (other c s performed.0 performed.1) at answer.1, answer.2),
+      forth : test address ≡ true → (c s : ℕ) (q : Access w) → IsPending c s q t → access_writes address q ≡ true
+          → done c s → done' c s × ((burst : List (Beat w)) → answers' c s q burst → answers c s q burst)
+      forth passes c s q pending writing performed = (
+        (performed.0, same address ∙ performed.1),
+        λ burst answer sound reads k reached. answer sound reads k reached ∙ same k,
       )
+        where
+          other : (d == c) && (i == s) ≡ false
+          other = go ((d == c) && (i == s))
+              (rw (← passes) (performed-once n first c s d i test run address performed.0 is performed.1))
+            where
+              go : (b : Bool) → b && true ≡ false → b ≡ false
+              go false e = refl
+              go true e = e
 
-      covers : IsClean n first address run → (b : Bool) → access_writes address p ≡ b
+          same : (k : ℕ) → found_in first c s (Performs d i test left ∷ run) k ≡ found_in first c s run k
+          same k = found-other first c s d i test left run k (rw other refl)
+
+      unwritten : IsClean n first address run → test address ≡ true → access_writes address p ≡ false
           → IsCovered n address (after p.request.opcode p.request memory address) done' answers' t
-      covers clean true e = inr (record {
+      unwritten clean passes e =
+          rw (after-unwritten p.request.opcode p.request memory address e)
+          (covered-as n address (memory address) done done' answers answers' t (back e) (forth passes)
+          (known.covered clean))
+
+      -- it writes the byte
+      written : (v : ℕ) → test address ≡ true → access_writes address p ≡ true
+          → ((burst : List (Beat w)) → answers' d i p burst
+          → could_be v (value_left p.request.opcode p burst address) ≡ true)
+          → could_be v (pending_value p.request.opcode p address) ≡ true → IsCovered n address v done' answers' t
+      written v passes writing value pending = inr (record {
         link = d;
         source = i;
         access = p;
-        performed = (memory, found-here);
+        performed = (memory address, found-here first d i test left run address passes);
         pending = is.pending;
-        writes = e;
-        value_is = λ burst answer. value-left p memory burst address
-            (λ reads k reached. answer.2 reads k reached ∙ ap (λ (f : Memory). Some (f k)) (mine answer.0 answer.1)) e;
-        pending_is = value-pending p memory address e;
-        free = is.writes_free address e;
+        writes = writing;
+        value_is = value;
+        pending_is = pending;
+        free = is.writes_free address passes writing;
       })
-        where
-          found-here : found_in first d i (Performs d i ∷ run) ≡ Some memory
-          found-here = rw (eq-eqb d d refl, eq-eqb i i refl) refl
 
-          mine : (found : Memory) → found_in first d i (Performs d i ∷ run) ≡ Some found → found ≡ memory
-          mine found f = same-some memory found (sym found-here ∙ f)
+      writes-now : IsClean n first address run → test address ≡ true → (s : Bool) → p.spoiled ≡ s → (b : Bool)
+          → access_writes address p ≡ b
+          → IsCovered n address (if s && b then left address else after p.request.opcode p.request memory address) done'
+          answers' t
+      writes-now clean passes true spoilt true e = written (left address) passes e
+          (λ burst answer. spoilt-left p burst (left address) address spoilt)
+          (spoilt-pending p (left address) address spoilt)
+      writes-now clean passes false sound true e = written (after p.request.opcode p.request memory address) passes e
+          (λ burst answer. value-left p memory burst address
+          (λ sound reads k reached. answer sound reads k reached ∙ found-here first d i test left run k
+          (is.at_once (writes-atomic p.request.opcode p.request address reads e).0 k reached)) e)
+          (value-pending p memory address e)
+      writes-now clean passes true spoilt false e = unwritten clean passes e
+      writes-now clean passes false sound false e = unwritten clean passes e
+
+      covers : IsClean n first address run → (b : Bool) → test address ≡ b
+          → IsCovered n address (if b then left_by p left memory address else memory address) done' answers' t
+      covers clean true e = writes-now clean e p.spoiled refl (access_writes address p) refl
       covers clean false e =
-          rw (after-unwritten p.request.opcode p.request memory address e)
-          (covered-as n address (memory address) done done' answers answers' t (back e) forth (known.covered clean))
+          covered-as n address (memory address) done done' answers answers' t
+          (λ c s q pending writing performed. (performed.0, sym (unpassed e c s) ∙ performed.1))
+          (λ c s q pending writing performed. (
+            (performed.0, unpassed e c s ∙ performed.1),
+            elsewhere e c s q pending writing,
+          )) (known.covered clean)
 
   -- ---- a client stores to its copy
 
@@ -307,5 +370,5 @@ module _ {w : ℕ} (n : ℕ) (first : Memory) (address : ℕ) where
   unfolding IsRun
   known [] is = known-first
   known (Takes link x ∷ run) is = known-taken link x run is.0 is.1 (known run is.1)
-  known (Performs d i ∷ run) is = known-performed d i run is.0 (known run is.1)
+  known (Performs d i test left ∷ run) is = known-performed d i test left run is.0 (known run is.1)
   known (Stores block bytes ∷ run) is = known-stored block bytes run (known run is.1)

@@ -1,10 +1,14 @@
+pub mod Beatwise
 pub mod Brought
 pub mod Covered
 pub mod Granted
+pub mod Growing
 pub mod Known
 pub mod OpenPending
 pub mod OpenWindows
+pub mod Performed
 pub mod Read
+pub mod Refused
 pub mod Spans
 pub mod Unwritten
 pub mod Values
@@ -12,4 +16,5 @@ pub mod Wider
 pub mod Windowed
 pub mod Worked
 pub mod WorkedWindows
+pub mod WrittenBefore
 pub mod Imports

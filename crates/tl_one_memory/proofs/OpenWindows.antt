@@ -1,15 +1,21 @@
--- A run of one memory keeps M4, where no beat breaks a rule of its link and an access touches a byte of its block.
-use Rattle.tl_one_memory.proofs.Imports.{Beat, Link, Trace, on_link, Memory, block_at, unfinished}
-use Rattle.tl_one_memory.proofs.Imports.{reaches, Access, access_writes, same-some, IsPending, IsPerformed}
-use Rattle.tl_one_memory.proofs.Imports.{IsRun, IsTaken, Performs, Run, Stores, Takes, found_in, memory_in, trace_in}
-use Rattle.std.proofs.Common.{◌≡◌, ◌+◌, ◌^◌, arith, ℕ, Bool, true, false, not, ◌&&◌, List, [], ◌∷◌, inl, inr, refl, sym, ap, ◌∙◌}
-use Rattle.std.specs.Prelude.{if◌then◌else◌, IsTrue, None, Some, ◌==◌}
+-- A run of one memory keeps M4, where no beat breaks a rule of its link and an access reads, or writes a byte of its
+-- block with its last beat.
+use Rattle.tl_one_memory.proofs.Imports.{Beat, BeatD, Link, Trace, on_link, Memory, block_at, unfinished}
+use Rattle.tl_one_memory.proofs.Imports.{reaches, Access, access_writes, same-some, IsAnswer, IsPending, IsPerformed}
+use Rattle.tl_one_memory.proofs.Imports.{IsRun, IsTaken, Performs, Run, Stores, Takes, found_in, trace_in}
+use Rattle.std.proofs.Common.{◌≡◌, ◌+◌, ◌-◌, ◌*◌, ◌/◌, ◌^◌, ◌<◌, ◌≤◌, arith}
+use Rattle.std.proofs.Common.{ℕ, Bool, true, false, not, ◌&&◌, ◌||◌, List, []}
+use Rattle.std.proofs.Common.{◌∷◌, inl, inr, length, refl, sym, ap, ◌∙◌}
+use Rattle.std.specs.Prelude.{if◌then◌else◌, IsTrue, None, Some, ◌==◌, min, nat_le, nat_lt}
+use Rattle.std.proofs.Math.Nat.{div-eq_of_lt}
 use Rattle.std.proofs.lemmas.Nat.{pow_pos}
-use Rattle.std.proofs.lemmas.Bool.{le-leb, lt-ltb, and_parts, cases_eq, eq-eqb, eqb-true, not-false, or_left, or_right}
-use Rattle.tl_beat.{specs.declared.channel.Channel.Channel}
+use Rattle.std.proofs.lemmas.Bool.{le-leb, lt-leb, lt-ltb, ltb-true, and_parts, cases_eq, eq-eqb, eqb-true, not-false}
+use Rattle.std.proofs.lemmas.Bool.{or_left, or_right}
+use Rattle.tl_beat.{specs.declared.beat.BeatA.BeatA, specs.declared.channel.Channel.Channel}
 use Rattle.tl_beat.specs.statement.Width.{IsWidth}
 use Rattle.tl_burst.proofs.ControlFields.{control_a}
-use Rattle.tl_burst.specs.statement.Messages.{same_control}
+use Rattle.tl_burst.specs.statement.Burst.{data_beats}
+use Rattle.tl_burst.specs.statement.Messages.{History, burst_length, same_control}
 use Rattle.tl_params.specs.declared.level.Level.{Level}
 use Rattle.tl_rules.specs.declared.past.Request.{Request}
 use Rattle.tl_rules.specs.statement.Conformance.{comes_in_request}
@@ -21,20 +27,23 @@ use Rattle.tl_bytes.specs.statement.Free.{all_but_early}
 use Rattle.tl_bytes.specs.statement.Shown.{is_window}
 unfoldable use Rattle.tl_bytes.specs.statement.Shown.{had_window}
 use Rattle.tl_bytes.proofs.Finding.{none-some}
-use Rattle.tl_bytes.proofs.Pending.{AsksNot, pending-before}
+use Rattle.tl_bytes.proofs.Pending.{AsksNot, IsAskedNow, pending-before}
 use Rattle.tl_memory.specs.statement.Links.{AreLegal, IsLegal}
 use Rattle.tl_memory.proofs.Answering.{coming, fields_of}
-use Rattle.tl_memory.proofs.Lawful.{goes_on}
+use Rattle.tl_memory.proofs.Lawful.{by_itself, goes_on, is-request}
 use Rattle.tl_memory.proofs.Open.{IsOpen, completes_answer, open-parts, open-whole}
-use Rattle.tl_memory.proofs.OpenAccesses.{IsFine, IsRequestOf, is-fine, legal-link, open-after, other-link, own-link, pending-open}
-use Rattle.tl_one_memory.proofs.Known.{found-taken}
+use Rattle.tl_memory.proofs.OpenAccesses.{IsFine, IsRequestOf, is-fine, legal-link}
+use Rattle.tl_memory.proofs.OpenAccesses.{open-after, other-link, own-link, pending-open}
+use Rattle.tl_memory.proofs.Puts.{put-carries}
+use Rattle.tl_one_memory.proofs.Performed.{asked-again, found-performed, found-taken, some-value}
+use Rattle.tl_one_memory.proofs.Read.{put-unread}
 unfoldable use Rattle.tl_one_memory.proofs.Read.{in-window}
 use Rattle.tl_one_memory.proofs.OpenPending.{open-pending}
-use Rattle.tl_one_memory.proofs.Windowed.{performing-window}
-use Rattle.tl_one_memory.specs.statement.Run.{is_answered_by, returns}
-use Rattle.tl_one_memory.specs.statement.OpenWindows.{IsInWindow}
+use Rattle.tl_one_memory.proofs.Windowed.{performing-window, touches}
+use Rattle.tl_one_memory.specs.statement.Run.{IsBrought, has_come, is_answered_by, place_in, returns}
+use Rattle.tl_one_memory.specs.statement.OpenWindows.{IsInWindow, is_last}
 unfoldable use Rattle.tl_one_memory.specs.statement.OpenWindows.{AreInWindows}
-use Rattle.tl_one_memory.specs.statement.Windowed.{touches}
+use Rattle.tl_one_memory.specs.statement.Windowed.{reads_at}
 
 -- with the last beat that was taken
 now-had : {w : ℕ} (n c s : ℕ) (p : Access w) (asked : Request) (address : ℕ) (t : Trace w)
@@ -54,14 +63,17 @@ still-had : {w : ℕ} (n c s : ℕ) (asked : Request) (x : Link × Beat w) (t : 
 unfolding had_window
 still-had n c s asked x t o had =
     rw (open-whole s asked (on_link c (x ∷ t)) o)
-    (or_right (is_window n (needs asked.opcode) asked.block x t) (had_window n c s (needs asked.opcode) asked.block t) had)
+    (or_right (is_window n (needs asked.opcode) asked.block x t) (had_window n c s (needs asked.opcode) asked.block t)
+    had)
 
 no : true ≡ false → ⊥
 no e = cc
 
 -- where a beat doesn't ask for an access, and its request is complete with it, that was so before
-complete-before : {w : ℕ} (levels : List Level) (c s : ℕ) (p : Access w) (asked : Request) (x : Link × Beat w) (t : Trace w)
-    → AreLegal levels t → IsLegal levels x t → IsRequestOf c s p t → AsksNot c s x t → IsOpen s asked (on_link c (x ∷ t))
+complete-before : {w : ℕ} (levels : List Level) (c s : ℕ) (p : Access w) (asked : Request) (x : Link × Beat w)
+    (t : Trace w)
+    → AreLegal levels t → IsLegal levels x t → IsRequestOf c s p t → AsksNot c s x t
+    → IsOpen s asked (on_link c (x ∷ t))
     → comes_in_request s (unfinished Channel.A (on_link c t)) ≡ false
 unfolding unfinished
 complete-before {w} levels c s p asked x t legal fine k unasked o = go (unfinished Channel.A (on_link c t)) refl
@@ -91,7 +103,8 @@ complete-before {w} levels c s p asked x t legal fine k unasked o = go (unfinish
                 ∙ ap (λ m. broken_after_under all_but_early f.level x.1 (on_link m t)) (sym link) ∙ f.fine
 
             alike : IsTrue (same_control (Beat.A y) (Beat.A z))
-            alike = not-false (same_control (Beat.A y) (Beat.A z)) (rw e at (goes_on f.level (Beat.A y) (on_link c t) fine_y))
+            alike = not-false (same_control (Beat.A y) (Beat.A z))
+                (rw e at (goes_on f.level (Beat.A y) (on_link c t) fine_y))
 
             this : (last : Bool) → ends (Beat.A y) (on_link c t) ≡ last
                 → comes_in_request s (if last then [] else Beat.A y ∷ unfinished Channel.A (on_link c t)) ≡ true
@@ -120,12 +133,61 @@ complete-before {w} levels c s p asked x t legal fine k unasked o = go (unfinish
     go (Beat.D z ∷ older) e = refl
     go (Beat.E z ∷ older) e = refl
 
--- each access that was performed, and whose request is open, has had a window of its block, if it touches a byte of that
+-- the access reads the byte at an address, or writes it with its last beat
+abbrev touches_last : {w : ℕ} → ℕ → Access w → Bool
+touches_last address p = reads_at address p || (access_writes address p && is_last address p)
+
+-- so it touches it
+touched-last : {w : ℕ} (address : ℕ) (p : Access w) → touches_last address p ≡ true → touches address p ≡ true
+touched-last address p = go (reads_at address p) (access_writes address p) (is_last address p)
+  where
+    go : (a b c : Bool) → a || (b && c) ≡ true → a || b ≡ true
+    go true b c e = refl
+    go false true c e = refl
+    go false false c e = e
+
+-- each access that was performed at an address, whose request is open, has had a window of its block, if that address
+-- is in it and the access reads the byte there, or writes it with its last beat
 abbrev HaveHad : {w : ℕ} → ℕ → Memory → Run w → Type 0
-HaveHad {w} n first run = (c s : ℕ) (p : Access w) (found : Memory) (asked : Request)
-    → found_in first c s run ≡ Some found → IsPending c s p (trace_in run) → IsOpen s asked (on_link c (trace_in run))
-    → (address : ℕ) → block_at address ≡ asked.block → touches address p ≡ true
+HaveHad {w} n first run = (c s : ℕ) (p : Access w) (address v : ℕ) (asked : Request)
+    → found_in first c s run address ≡ Some v → IsPending c s p (trace_in run)
+    → IsOpen s asked (on_link c (trace_in run))
+    → block_at address ≡ asked.block → touches_last address p ≡ true
     → had_window n c s (needs asked.opcode) asked.block (trace_in run) ≡ true
+
+-- with the last beat of a request it is whole
+whole-now : {w : ℕ} (s : ℕ) (z : BeatA w) (h : History w)
+    → comes_in_request s (unfinished Channel.A (Beat.A z ∷ h)) ≡ false
+    → (z.source == s) ≡ true → length (unfinished Channel.A h) + 1 ≡ burst_length (Beat.A z)
+unfolding unfinished
+whole-now {w} s z h coming own = go (length (unfinished Channel.A h) + 1 == burst_length (Beat.A z)) refl coming
+  where
+    go : (last : Bool) → (length (unfinished Channel.A h) + 1 == burst_length (Beat.A z)) ≡ last
+        → comes_in_request s (if last then [] else Beat.A z ∷ unfinished Channel.A h) ≡ false
+        → length (unfinished Channel.A h) + 1 ≡ burst_length (Beat.A z)
+    go true e coming = eqb-true (length (unfinished Channel.A h) + 1) (burst_length (Beat.A z)) e
+    go false e coming = absurd (no (sym own ∙ coming))
+
+put-beats : {w : ℕ} (z : BeatA w) → is_put z.opcode ≡ true → burst_length (Beat.A z) ≡ data_beats w z.size
+put-beats z put = rw (put-carries z.opcode put) refl
+
+-- the byte at its address is in the first beat of an answer
+in-first : (w base k : ℕ) → IsWidth w → (base - w * (base / w)) / w ≤ k
+in-first w base k is = omega (arith, div-eq_of_lt (within is))
+  where
+    within : IsWidth w → base - w * (base / w) < w
+    within (inl e) = rw e (omega arith)
+    within (inr (inl e)) = rw e (omega arith)
+    within (inr (inr e)) = rw e (omega arith)
+
+-- a byte that came with one of k beats isn't of the last one, which comes after those
+came-before : (w base from size other address k : ℕ) → base ≡ from → size ≡ other → k + 1 ≡ data_beats w other
+    → address - w * (from / w) < w * k → nat_le (w * data_beats w size) (address - w * (base / w) + w) ≡ false
+came-before w base from size other address k e f beats lt =
+    let one : w * (k + 1) ≡ w * k + w = omega arith in
+    let more : w * data_beats w size ≡ w * k + w = ap (λ i. w * data_beats w i) f ∙ ap (λ i. w * i) (sym beats) ∙ one in
+    let place : address - w * (base / w) ≡ address - w * (from / w) = ap (λ i. address - w * (i / w)) e in
+    lt-leb (w * data_beats w size) (address - w * (base / w) + w) (omega (arith, more, place, lt))
 
 -- the request that is kept is one
 same-kept : {w : ℕ} (c s : ℕ) (p : Access w) (asked : Request) (t : Trace w) (k : IsRequestOf c s p t)
@@ -149,27 +211,79 @@ unended c s link (Beat.C z) t e same = refl
 unended c s link (Beat.E z) t e same = refl
 
 module _ {w : ℕ} (n : ℕ) (first : Memory) (width : IsWidth w) (levels : List Level) where
-  had-taken : (link : Link) (x : Beat w) (run : Run w) → IsTaken n first link x run → AreLegal levels (trace_in run)
-      → IsLegal levels (link, x) (trace_in run) → HaveHad n first run → HaveHad n first (Takes link x ∷ run)
+  -- a Put that goes on, and that is whole with the beat, has its last bytes with that
+  not-last : (c s : ℕ) (p : Access w) (asked : Request) (link : Link) (x : Beat w) (t : Trace w)
+      → IsLegal levels (link, x) t → (now : IsAskedNow c s p (link, x) t)
+      → IsOpen s asked (on_link c ((link, x) ∷ t)) → (address : ℕ)
+      → has_come now.beat (unfinished Channel.A (on_link link.0 t)) address ≡ true → is_last address p ≡ false
+  not-last c s p asked link x t fine now o address came =
+      came-before w p.request.address z.address p.request.size z.size address (length burst) address_is size_is
+      (whole ∙ put-beats z parts.0) (ltb-true (address - w * (z.address / w)) (w * length burst) parts.1)
+    where
+      z : BeatA w
+      z = now.beat
+
+      burst : List (Beat w)
+      burst = unfinished Channel.A (on_link link.0 t)
+
+      parts : (is_put z.opcode ≡ true) × (nat_lt (address - w * (z.address / w)) (w * length burst) ≡ true)
+      parts = and_parts (is_put z.opcode) (nat_lt (address - w * (z.address / w)) (w * length burst)) came
+
+      f : IsFine all_but_early levels (link, x) t
+      f = is-fine _ levels (link, x) t fine
+
+      small : z.size ≤ 6
+      small = (is-request f.level z width (by_itself f.level (Beat.A z) (on_link link.0 t)
+          (ap (λ b. broken_after_under all_but_early f.level b (on_link link.0 t)) (sym now.beat_is) ∙ f.fine))).small
+
+      size_is : p.request.size ≡ z.size
+      size_is =
+          let least : min z.size 6 ≡ z.size = omega (arith, small) in
+          ap (λ (q : Access w). q.request.size) now.access_is ∙ least
+
+      address_is : p.request.address ≡ z.address
+      address_is = ap (λ (q : Access w). q.request.address) now.access_is
+
+      history : on_link c ((link, x) ∷ t) ≡ Beat.A z ∷ on_link link.0 t
+      history = ap (λ d. on_link d ((link, x) ∷ t)) now.link_is ∙ own-link link.0 (link, x) t refl
+          ∙ ap (λ b. b ∷ on_link link.0 t) now.beat_is
+
+      whole : length burst + 1 ≡ burst_length (Beat.A z)
+      whole = whole-now s z (on_link link.0 t)
+          (ap (λ h. comes_in_request s (unfinished Channel.A h)) (sym history) ∙ o.complete)
+          (eq-eqb z.source s (sym now.source_is))
+
+  had-taken : (link : Link) (x : Beat w) (run : Run w) → IsTaken n first link x run → IsRun n first run
+      → AreLegal levels (trace_in run) → IsLegal levels (link, x) (trace_in run) → HaveHad n first run
+      → HaveHad n first (Takes link x ∷ run)
   unfolding trace_in
-  had-taken link x run taken legal fine before c s p found asked performed pending o address block touched =
+  had-taken link x run taken runs legal fine before c s p address v asked performed pending o block touched =
       elim (pending-before c s p (link, x) t pending) [
         | inl old ↦ still old.0 old.1
-        | inr new ↦ absurd (none-some found (sym (taken.asks_new new.beat new.beat_is new.asks_it)
-            ∙ rw (← new.link_is, ← new.source_is) was.1))
+        | inr new ↦
+            let more = asked-again n first c s p link x run address v taken runs was.1 new in
+            absurd (untouched (returns p.request.opcode) (reaches p.request.address p.request.size address)
+            (access_writes address p) (is_last address p) (put-unread p.request.opcode more.0.put)
+            (not-last c s p asked link x t fine new o address more.1) touched)
       ]
     where
       t : Trace w
       t = trace_in run
 
-      was : (is_answered_by c s link x t ≡ false) × (found_in first c s run ≡ Some found)
-      was = found-taken first c s link x run found performed
+      untouched : (back reached writes last : Bool) → back ≡ false → last ≡ false
+          → (back && reached) || (writes && last) ≡ true → ⊥
+      untouched back reached true last e f touched = no (sym (rw (e, f) at touched))
+      untouched back reached false last e f touched = no (sym (rw e at touched))
+
+      was : (is_answered_by c s link x t ≡ false) × (found_in first c s run address ≡ Some v)
+      was = found-taken first c s link x run address v performed
 
       still : IsPending c s p t → AsksNot c s (link, x) t
           → had_window n c s (needs asked.opcode) asked.block ((link, x) ∷ t) ≡ true
       still old unasked =
           still-had n c s asked (link, x) t o
-          (before c s p found asked was.1 old (record { kept = rw (← same) k.is_kept; complete = whole }) address block touched)
+          (before c s p address v asked was.1 old (record { kept = rw (← same) k.is_kept; complete = whole }) block
+          touched)
         where
           k : IsRequestOf c s p t
           k = pending-open levels c s p t width legal old
@@ -185,11 +299,14 @@ module _ {w : ℕ} (n : ℕ) (first : Memory) (width : IsWidth w) (levels : List
               ∙ (open-after levels c s k.asked (link, x) t fine open_before
               (λ own. unended c s link x t was.0 own)).kept)
 
-  had-performed : (d i : ℕ) (run : Run w) → IsPerformed n first d i run → AreLegal levels (trace_in run)
-      → HaveHad n first run → HaveHad n first (Performs d i ∷ run)
-  unfolding trace_in found_in
-  had-performed d i run is legal before c s p found asked performed pending o address block touched =
-      go ((d == c) && (i == s)) refl performed
+  had-performed : (d i : ℕ) (test : ℕ → Bool) (left : Memory) (run : Run w) → IsPerformed n first d i test run
+      → AreLegal levels (trace_in run) → HaveHad n first run → HaveHad n first (Performs d i test left ∷ run)
+  unfolding trace_in
+  had-performed d i test left run is legal before c s p address v asked performed pending o block touched =
+      elim (found-performed first c s d i test left run address v performed) [
+        | inl at_it ↦ now (at_it.0, at_it.1) at_it.2
+        | inr old ↦ before c s p address v asked old pending o block touched
+      ]
     where
       k : IsRequestOf c s p (trace_in run)
       k = pending-open levels c s p (trace_in run) width legal pending
@@ -197,42 +314,38 @@ module _ {w : ℕ} (n : ℕ) (first : Memory) (width : IsWidth w) (levels : List
       opcode : asked.opcode ≡ p.request.opcode
       opcode = ap (λ (r : Request). r.opcode) (sym (same-kept c s p asked (trace_in run) k o)) ∙ k.opcode_is
 
-      now : (c ≡ d) × (s ≡ i) → had_window n c s (needs asked.opcode) asked.block (trace_in run) ≡ true
-      now same =
-          now-had n c s p asked address (trace_in run)
-          (performing-window n first d i run p is (rw (← same.0, ← same.1) pending) address touched) o opcode block
-
-      go : (b : Bool) → (d == c) && (i == s) ≡ b
-          → (if b then Some (memory_in first run) else found_in first c s run) ≡ Some found
+      now : (c ≡ d) × (s ≡ i) → test address ≡ true
           → had_window n c s (needs asked.opcode) asked.block (trace_in run) ≡ true
-      go true e f = let both = and_parts (d == c) (i == s) e in
-          now (sym (eqb-true d c both.0), sym (eqb-true i s both.1))
-      go false e f = before c s p found asked f pending o address block touched
+      now same passes =
+          now-had n c s p asked address (trace_in run)
+          (performing-window n first d i test run p is (rw (← same.0, ← same.1) pending) address passes
+          (touched-last address p touched)) o opcode block
 
   have-had : (run : Run w) → IsRun n first run → AreLegal levels (trace_in run) → HaveHad n first run
   unfolding IsRun trace_in found_in
-  have-had [] is legal = λ c s p found asked performed pending o address block touched. absurd (none-some found performed)
+  have-had [] is legal = λ c s p address v asked performed pending o block touched. absurd (none-some v performed)
   have-had (Takes link x ∷ run) is legal =
-      had-taken link x run is.0 legal.1 legal.0 (have-had run is.1 legal.1)
-  have-had (Performs d i ∷ run) is legal = had-performed d i run is.0 legal (have-had run is.1 legal)
+      had-taken link x run is.0 is.1 legal.1 legal.0 (have-had run is.1 legal.1)
+  have-had (Performs d i test left ∷ run) is legal =
+      had-performed d i test left run is.0 legal (have-had run is.1 legal)
   have-had (Stores block bytes ∷ run) is legal = have-had run is.1 legal
 
-  -- one that reads touches a byte of its block: that at its address
-  reading : (c s : ℕ) (asked : Request) (p : Access w) (t : Trace w) → AreLegal levels t → IsPending c s p t
-      → IsOpen s asked (on_link c t) → returns asked.opcode ≡ true
-      → ((address : ℕ) → block_at address ≡ asked.block → touches address p ≡ true
-      → had_window n c s (needs asked.opcode) asked.block t ≡ true)
-      → had_window n c s (needs asked.opcode) asked.block t ≡ true
-  reading c s asked p t legal pending o returned had =
-      had p.request.address (sym k.block_is ∙ ap (λ (r : Request). r.block) same)
-      (or_left (returns p.request.opcode && reaches p.request.address p.request.size p.request.address)
-      (access_writes p.request.address p) (rw (opcode, reached) refl))
+  -- one that reads has found the byte at its address, with the first beat of its answer
+  reading : (link : Link) (asked : Request) (z : BeatD w) (p : Access w) (run : Run w) → IsRun n first run
+      → AreLegal levels (trace_in run) → IsPending link.0 z.source p (trace_in run) → IsAnswer first link.0 z p run
+      → IsOpen z.source asked (on_link link.0 (trace_in run)) → returns asked.opcode ≡ true
+      → had_window n link.0 z.source (needs asked.opcode) asked.block (trace_in run) ≡ true
+  reading link asked z p run is legal pending answer o returned =
+      have-had run is legal link.0 z.source p p.request.address come.byte asked come.found_is pending o
+      (sym k.block_is ∙ ap (λ (r : Request). r.block) same)
+      (or_left (reads_at p.request.address p) (access_writes p.request.address p && is_last p.request.address p)
+      (rw (opcode, reached) refl))
     where
-      k : IsRequestOf c s p t
-      k = pending-open levels c s p t width legal pending
+      k : IsRequestOf link.0 z.source p (trace_in run)
+      k = pending-open levels link.0 z.source p (trace_in run) width legal pending
 
       same : k.asked ≡ asked
-      same = same-kept c s p asked t k o
+      same = same-kept link.0 z.source p asked (trace_in run) k o
 
       opcode : returns p.request.opcode ≡ true
       opcode = ap returns (sym k.opcode_is ∙ ap (λ (r : Request). r.opcode) same) ∙ returned
@@ -243,28 +356,37 @@ module _ {w : ℕ} (n : ℕ) (first : Memory) (width : IsWidth w) (levels : List
         lt-ltb p.request.address (p.request.address + 2 ^ p.request.size) (omega (arith, pow_pos p.request.size)),
       ) refl
 
+      come : IsBrought (found_in first link.0 z.source run p.request.address)
+          (Beat.D z ∷ unfinished Channel.D (on_link link.0 (trace_in run))) (place_in p p.request.address)
+      come = answer.brings opcode p.request.address reached
+          (inl (in-first w p.request.address (length (unfinished Channel.D (on_link link.0 (trace_in run)))) width))
+
   in-window-now : (link : Link) (x : Beat w) (run : Run w) → IsTaken n first link x run → IsRun n first run
       → AreLegal levels (trace_in run) → IsInWindow n link.0 x (trace_in run)
   in-window-now link (Beat.A x) run taken is legal = tt
   in-window-now link (Beat.B x) run taken is legal = tt
   in-window-now link (Beat.C x) run taken is legal = tt
-  in-window-now link (Beat.D z) run taken is legal = λ asked no_ack open_so accesses.
+  in-window-now link (Beat.D z) run taken is legal = λ asked no_ack granted open_so accesses.
       let o = open-parts z.source asked (on_link link.0 (trace_in run)) open_so in
       let p = open-pending levels link.0 z.source asked (trace_in run) legal o accesses in
-      let answer = taken.answers_rightly z p.0 refl no_ack p.1 in
-      let had = have-had run is legal link.0 z.source p.0 answer.found asked answer.performed p.1 o in
+      let answer = taken.answers_rightly z p.0 refl no_ack granted p.1 in
       record {
         access = p.0;
         pending = p.1;
-        reads = λ returned. reading link.0 z.source asked p.0 (trace_in run) legal p.1 o returned had;
-        touches_it = had;
+        reads = reading link asked z p.0 run is legal p.1 answer o;
+        writes_last = λ address block writes last.
+            let found = some-value (found_in first link.0 z.source run address) (answer.written address writes) in
+            have-had run is legal link.0 z.source p.0 address found.0 asked found.1 p.1 o block
+            (or_right (reads_at address p.0) (access_writes address p.0 && is_last address p.0)
+            (rw (writes, last) refl));
       }
   in-window-now link (Beat.E x) run taken is legal = tt
 
-  pub all-in-windows : (run : Run w) → IsRun n first run → AreLegal levels (trace_in run) → AreInWindows n (trace_in run)
+  pub all-in-windows : (run : Run w) → IsRun n first run → AreLegal levels (trace_in run)
+      → AreInWindows n (trace_in run)
   unfolding IsRun trace_in AreInWindows
   all-in-windows [] is legal = tt
   all-in-windows (Takes link x ∷ run) is legal =
       (in-window-now link x run is.0 is.1 legal.1, all-in-windows run is.1 legal.1)
-  all-in-windows (Performs d i ∷ run) is legal = all-in-windows run is.1 legal
+  all-in-windows (Performs d i test left ∷ run) is legal = all-in-windows run is.1 legal
   all-in-windows (Stores block bytes ∷ run) is legal = all-in-windows run is.1 legal

@@ -11,14 +11,17 @@ use Rattle.std.proofs.lemmas.Bool.{and_from, and_parts, eqb-true, le-leb, or_lef
 use Rattle.tl_beat.specs.declared.channel.Channel.{Channel}
 use Rattle.tl_burst.specs.statement.Messages.{History, burst_length, grown, on}
 use Rattle.tl_beat.specs.declared.opcode.OpA.{OpA}
+use Rattle.tl_burst.specs.declared.message.MessageA.{MessageA}
 use Rattle.tl_params.specs.declared.perm.Perm.{Perm}
 use Rattle.tl_rules.specs.statement.{History.block_at, Windows.needs}
 use Rattle.tl_bytes.specs.statement.{Free.is_free, Shown.is_window}
-use Rattle.tl_bytes.specs.statement.Bytes.{may_read, others, told_as, written_as}
-use Rattle.tl_one_memory.{proofs.Covered.IsWrittenNow, proofs.Granted.told-as, specs.statement.Run.is_answered_by}
+use Rattle.tl_bytes.specs.statement.Bytes.{is_get, is_put, may_read, others, told_as, writes, written_as}
+use Rattle.tl_one_memory.{proofs.Covered.IsWrittenNow, proofs.Granted.told-as}
 use Rattle.tl_bytes.proofs.Finding.{among-found, found-among, found-passes, none-some}
-use Rattle.tl_one_memory.proofs.Known.{Answers, IsDone, answered-gone, clean-free, found-still, found-taken}
-use Rattle.tl_one_memory.proofs.Known.{known}
+use Rattle.tl_one_memory.proofs.Known.{Answers, IsDone, clean-free, known}
+use Rattle.tl_one_memory.proofs.Performed.{asked-again, found-other, found-performed}
+use Rattle.tl_one_memory.proofs.Performed.{found-still, found-taken, performed-once}
+use Rattle.tl_one_memory.proofs.Performed.{some-value, unanswered}
 use Rattle.tl_one_memory.specs.statement.Run.{IsClean, MayBeRead, returns}
 use Rattle.tl_bytes.proofs.Pending.{pending-before}
 
@@ -94,38 +97,53 @@ written-by {w} n address v done Answering t link source now other =
 
 -- ---- what was found
 
--- each access that was performed and reads may bring what it found
+-- each access that was performed at an address and reads may bring what it found there
 abbrev AreRead : {w : ℕ} → ℕ → Memory → Run w → Type 0
-AreRead {w} n first run = (c s : ℕ) (p : Access w) (found : Memory) → found_in first c s run ≡ Some found
-    → IsPending c s p (trace_in run) → returns p.request.opcode ≡ true → (address : ℕ)
-    → reaches p.request.address p.request.size address ≡ true
-    → may_read n p (trace_in run) address (found address) ≡ true
+AreRead {w} n first run = (c s : ℕ) (p : Access w) (address v : ℕ) → found_in first c s run address ≡ Some v
+    → IsPending c s p (trace_in run) → returns p.request.opcode ≡ true
+    → reaches p.request.address p.request.size address ≡ true → may_read n p (trace_in run) address v ≡ true
+
+-- a Put isn't answered with bytes
+pub put-unread : (o : OpA) → is_put o ≡ true → returns o ≡ false
+put-unread OpA.PutFullData e = refl
+put-unread OpA.PutPartialData e = refl
+put-unread v e = absurd cc
 
 module _ {w : ℕ} (n : ℕ) (first : Memory) where
-  read-taken : (link : Link) (x : Beat w) (run : Run w) → IsTaken n first link x run → AreRead n first run
-      → AreRead n first (Takes link x ∷ run)
+  read-taken : (link : Link) (x : Beat w) (run : Run w) → IsTaken n first link x run → IsRun n first run
+      → AreRead n first run → AreRead n first (Takes link x ∷ run)
   unfolding trace_in
-  read-taken link x run taken before c s p found performed pending back address reached =
+  read-taken link x run taken is before c s p address v performed pending back reached =
       elim (pending-before c s p (link, x) (trace_in run) pending) [
-        | inl old ↦ read-more n c s p (link, x) (trace_in run) address (found address) old.0
-            (before c s p found (found-taken first c s link x run found performed).1 old.0 back address reached)
-        | inr new ↦ absurd (none-some found (sym (taken.asks_new new.beat new.beat_is new.asks_it)
-            ∙ rw (← new.link_is, ← new.source_is) (found-taken first c s link x run found performed).1))
+        | inl old ↦ read-more n c s p (link, x) (trace_in run) address v old.0
+            (before c s p address v was old.0 back reached)
+        | inr new ↦
+            let more = (asked-again n first c s p link x run address v taken is was new).0 in
+            absurd (let no : true ≡ false = sym back ∙ put-unread p.request.opcode more.put in cc)
       ]
-
-  read-performed : (d i : ℕ) (run : Run w) → IsPerformed n first d i run → IsRun n first run → AreRead n first run
-      → AreRead n first (Performs d i ∷ run)
-  unfolding trace_in found_in
-  read-performed d i run is runs before c s p found performed pending back address reached =
-      go ((d == c) && (i == s)) refl performed
     where
-      now : (c ≡ d) × (s ≡ i) → found ≡ memory_in first run → may_read n p (trace_in run) address (found address) ≡ true
-      now same e = rw e (read-now n c s p (trace_in run) address (memory_in first run address) pending
+      was : found_in first c s run address ≡ Some v
+      was = (found-taken first c s link x run address v performed).1
+
+  read-performed : (d i : ℕ) (test : ℕ → Bool) (left : Memory) (run : Run w) → IsPerformed n first d i test run
+      → IsRun n first run
+      → AreRead n first run → AreRead n first (Performs d i test left ∷ run)
+  unfolding trace_in
+  read-performed d i test left run is runs before c s p address v performed pending back reached =
+      elim (found-performed first c s d i test left run address v performed) [
+        | inl at_it ↦ now (at_it.0, at_it.1) at_it.2 at_it.3
+        | inr old ↦ before c s p address v old pending back reached
+      ]
+    where
+      now : (c ≡ d) × (s ≡ i) → test address ≡ true → v ≡ memory_in first run address
+          → may_read n p (trace_in run) address v ≡ true
+      now same passes e = rw e (read-now n c s p (trace_in run) address (memory_in first run address) pending
           (performed-window n first c s p run address pending back reached may
-          (λ writes. is.writes_free address (ap (λ (q : Access w). access_writes address q) this ∙ writes)))
+          (λ writes. is.writes_free address passes (ap (λ (q : Access w). access_writes address q) this ∙ writes)))
           (elim ((known n first address run runs).covered (clean may)) [
-            | inl told ↦ inl (told-as n address (memory_in first run address) (IsDone first run) (trace_in run) told)
-            | inr written ↦ inr (written-by n address (memory_in first run address) (IsDone first run)
+            | inl told ↦ inl
+                (told-as n address (memory_in first run address) (IsDone first run address) (trace_in run) told)
+            | inr written ↦ inr (written-by n address (memory_in first run address) (IsDone first run address)
                 (Answers first run) (trace_in run) p.link p.request.source written (other written))
           ]))
         where
@@ -133,17 +151,17 @@ module _ {w : ℕ} (n : ℕ) (first : Memory) where
           this = same-some p is.access (sym pending ∙ rw (same.0, same.1) is.pending)
 
           may : MayBeRead n first address run
-          may = is.reads_free address
+          may = is.reads_free address passes
               (ap (λ (q : Access w). reaches q.request.address q.request.size address) this ∙ reached)
 
           clean : MayBeRead n first address run → IsClean n first address run
-          clean may = elim may [
+          clean free_or = elim free_or [
             | inl free ↦ clean-free n first address run runs free
             | inr shown ↦ shown.1
           ]
 
-          other : (written : IsWrittenNow n address (memory_in first run address) (IsDone first run) (Answers first run)
-              (trace_in run)) → is_of p.link p.request.source written.access ≡ true → ⊥
+          other : (written : IsWrittenNow n address (memory_in first run address) (IsDone first run address)
+              (Answers first run) (trace_in run)) → is_of p.link p.request.source written.access ≡ true → ⊥
           other written e =
               let mine = and_parts (p.link == c) (p.request.source == s)
               (found-passes (is_of c s) (pending_accesses (trace_in run)) p pending) in
@@ -158,20 +176,14 @@ module _ {w : ℕ} (n : ℕ) (first : Memory) where
               let source : written.source ≡ i = sym (eqb-true written.access.request.source written.source theirs.1)
               ∙ eqb-true written.access.request.source p.request.source both.1
               ∙ eqb-true p.request.source s mine.1 ∙ same.1 in
-              none-some written.performed.0 (sym is.once ∙ rw (← link, ← source) written.performed.1)
-
-      go : (b : Bool) → (d == c) && (i == s) ≡ b → (if b then Some (memory_in first run) else found_in first c s run)
-          ≡ Some found → may_read n p (trace_in run) address (found address) ≡ true
-      go true e f =
-          let both = and_parts (d == c) (i == s) e in
-          now (sym (eqb-true d c both.0), sym (eqb-true i s both.1)) (same-some (memory_in first run) found f)
-      go false e f = before c s p found f pending back address reached
+              none-some written.performed.0
+              (sym (is.once address passes) ∙ rw (← link, ← source) written.performed.1)
 
   pub are-read : (run : Run w) → IsRun n first run → AreRead n first run
   unfolding IsRun trace_in found_in
-  are-read [] is = λ c s p found performed pending. absurd (none-some found performed)
-  are-read (Takes link x ∷ run) is = read-taken link x run is.0 (are-read run is.1)
-  are-read (Performs d i ∷ run) is = read-performed d i run is.0 is.1 (are-read run is.1)
+  are-read [] is = λ c s p address v performed pending. absurd (none-some v performed)
+  are-read (Takes link x ∷ run) is = read-taken link x run is.0 is.1 (are-read run is.1)
+  are-read (Performs d i test left ∷ run) is = read-performed d i test left run is.0 is.1 (are-read run is.1)
   are-read (Stores block bytes ∷ run) is = are-read run is.1
 
   -- ---- an answer that has begun
@@ -196,40 +208,56 @@ module _ {w : ℕ} (n : ℕ) (first : Memory) where
       go true f before g = more f (length (unfinished Channel.D h) + 1 == burst_length x) g
       go false f before g = before g
 
-  -- the access whose answer has begun was performed, and may bring what it found by what was so before
+  -- the byte at an address was found, and may be brought by what was so before
+  pub record IsFoundBefore (c s : ℕ) (p : Access w) (k : ℕ) (run : Run w) (address : ℕ) : Type 0 where
+    pub byte : ℕ
+    pub found_is : found_in first c s run address ≡ Some byte
+    pub brings : may_read n p (before_last c k (trace_in run)) address byte ≡ true
+
+  -- so it is with all bytes of an access whose answer has begun, unless that is a Get
   abbrev IsReadBefore : ℕ → ℕ → Access w → ℕ → Run w → Type 0
-  IsReadBefore c s p k run = (found : Memory) × (found_in first c s run ≡ Some found)
-      × (returns p.request.opcode ≡ true → (address : ℕ) → reaches p.request.address p.request.size address ≡ true
-      → may_read n p (before_last c k (trace_in run)) address (found address) ≡ true)
+  IsReadBefore c s p k run = is_get p.request.opcode ≡ false → returns p.request.opcode ≡ true → (address : ℕ)
+      → reaches p.request.address p.request.size address ≡ true → IsFoundBefore c s p k run address
 
   abbrev AreBegunRead : Run w → Type 0
   AreBegunRead run = (c : ℕ) (z : BeatD w) (older : List (Beat w)) (p : Access w)
       → unfinished Channel.D (on_link c (trace_in run)) ≡ Beat.D z ∷ older → is_release_ack z.opcode ≡ false
-      → IsPending c z.source p (trace_in run) → IsReadBefore c z.source p (suc (length older)) run
+      → z.denied ≡ false → IsPending c z.source p (trace_in run) → IsReadBefore c z.source p (suc (length older)) run
+
+  -- what reads and is no Get writes what it reaches
+  writes-reached : (o : OpA) (m : MessageA w) (address : ℕ) → is_get o ≡ false → returns o ≡ true
+      → reaches m.address m.size address ≡ true → writes o m address ≡ true
+  writes-reached OpA.ArithmeticData m address other back reached = reached
+  writes-reached OpA.LogicalData m address other back reached = reached
+  writes-reached OpA.Get m address other back reached = absurd cc
+  writes-reached v m address other back reached = absurd cc
 
   -- at a beat of an answer
   pub read-next : (link : Link) (z : BeatD w) (p : Access w) (run : Run w) → IsTaken n first link (Beat.D z) run
-      → IsRun n first run → AreBegunRead run → is_release_ack z.opcode ≡ false
+      → IsRun n first run → AreBegunRead run → is_release_ack z.opcode ≡ false → z.denied ≡ false
       → IsPending link.0 z.source p (trace_in run)
       → IsReadBefore link.0 z.source p (length (unfinished Channel.D (on_link link.0 (trace_in run)))) run
   unfolding before_last
-  read-next link z p run taken is begun no_ack pending =
+  read-next link z p run taken is begun no_ack granted pending =
       go (unfinished Channel.D (on_link link.0 (trace_in run))) refl
     where
       answer : IsAnswer first link.0 z p run
-      answer = taken.answers_rightly z p refl no_ack pending
+      answer = taken.answers_rightly z p refl no_ack granted pending
 
       go : (burst : List (Beat w)) → unfinished Channel.D (on_link link.0 (trace_in run)) ≡ burst
           → IsReadBefore link.0 z.source p (length burst) run
-      go [] e = (
-        answer.found,
-        answer.performed,
-        λ back address reached.
-            are-read run is link.0 z.source p answer.found answer.performed pending back address reached,
-      )
+      go [] e = λ other back address reached.
+          let found = some-value (found_in first link.0 z.source run address)
+          (answer.written address (writes-reached p.request.opcode p.request address other back reached)) in
+          record {
+            byte = found.0;
+            found_is = found.1;
+            brings = are-read run is link.0 z.source p address found.0 found.1 pending back reached;
+          }
       go (Beat.D y ∷ older) e =
           let same = taken.continues z y older refl e in
-          rw same.1 (begun link.0 y older p e (ap is_release_ack (sym same.0) ∙ no_ack) (rw (← same.1) pending))
+          rw same.1 (begun link.0 y older p e (ap is_release_ack (sym same.0) ∙ no_ack) (answer.undenied y older e)
+          (rw (← same.1) pending))
       go (Beat.A y ∷ older) e = absurd (let no : false ≡ true = begun-on_d (Beat.A y) older _ e in cc)
       go (Beat.B y ∷ older) e = absurd (let no : false ≡ true = begun-on_d (Beat.B y) older _ e in cc)
       go (Beat.C y ∷ older) e = absurd (let no : false ≡ true = begun-on_d (Beat.C y) older _ e in cc)
@@ -240,17 +268,18 @@ module _ {w : ℕ} (n : ℕ) (first : Memory) where
 
   begun-here : (link : Link) (y : BeatD w) (run : Run w) → IsTaken n first link (Beat.D y) run → IsRun n first run
       → AreBegunRead run → (c : ℕ) (z : BeatD w) (older : List (Beat w)) (p : Access w) → link.0 ≡ c → z ≡ y
-      → older ≡ unfinished Channel.D (on_link c (trace_in run)) → is_release_ack z.opcode ≡ false
+      → older ≡ unfinished Channel.D (on_link c (trace_in run)) → is_release_ack z.opcode ≡ false → z.denied ≡ false
       → IsPending c z.source p (trace_in run) → IsReadBefore c z.source p (length older) run
-  begun-here link y run taken is begun c z older p own same rest no_ack pending =
+  begun-here link y run taken is begun c z older p own same rest no_ack granted pending =
       rw (rest, same, ← own)
       (read-next link y p run taken is begun (ap (λ (b : BeatD w). is_release_ack b.opcode) (sym same) ∙ no_ack)
+      (ap (λ (b : BeatD w). b.denied) (sym same) ∙ granted)
       (rw (own, ← same) pending))
 
   begun-taken : (link : Link) (x : Beat w) (run : Run w) → IsTaken n first link x run → IsRun n first run
       → AreBegunRead run → AreBegunRead (Takes link x ∷ run)
   unfolding trace_in on_link unfinished before_last
-  begun-taken link x run taken is begun c z older p e no_ack pending = here (link.0 == c) refl e
+  begun-taken link x run taken is begun c z older p e no_ack granted pending = here (link.0 == c) refl e
     where
       t : Trace w
       t = trace_in run
@@ -258,27 +287,23 @@ module _ {w : ℕ} (n : ℕ) (first : Memory) where
       Result : Type 0
       Result = IsReadBefore c z.source p (suc (length older)) (Takes link x ∷ run)
 
-      unanswered : is_answered_by c z.source link x t ≡ false
-      unanswered = go (is_answered_by c z.source link x t) refl
-        where
-          go : (b : Bool) → is_answered_by c z.source link x t ≡ b → b ≡ false
-          go true f = absurd (answered-gone c z.source p link x t f pending)
-          go false f = refl
-
       -- what was so before is so still
       still : (k : ℕ) → before_last c (suc (length older)) ((link, x) ∷ t) ≡ before_last c k t
           → IsReadBefore c z.source p k run → Result
-      still k same is = (
-        is.0,
-        found-still first c z.source link x run is.0 unanswered is.1,
-        λ back address reached. rw same (is.2 back address reached),
-      )
+      still k same is other back address reached =
+          let was = is other back address reached in
+          record {
+            byte = was.byte;
+            found_is = found-still first c z.source link x run address (unanswered c z.source p link x t pending)
+                ∙ was.found_is;
+            brings = rw same was.brings;
+          }
 
       -- the beat is another one
       apart : unfinished Channel.D (on_link c t) ≡ Beat.D z ∷ older
           → before_last c (suc (length older)) ((link, x) ∷ t) ≡ before_last c (suc (length older)) t → Result
       apart f same = elim (pending-before c z.source p (link, x) t pending) [
-        | inl old ↦ still (suc (length older)) same (begun c z older p f no_ack old.0)
+        | inl old ↦ still (suc (length older)) same (begun c z older p f no_ack granted old.0)
         | inr new ↦ absurd (taken.asks_first new.beat z older new.beat_is new.asks_it
             (ap (λ (d : ℕ). unfinished Channel.D (on_link d t)) (sym new.link_is) ∙ f) no_ack new.source_is)
       ]
@@ -291,7 +316,7 @@ module _ {w : ℕ} (n : ℕ) (first : Memory) where
       newest y f own false g same =
           let parts = same-newest y z (unfinished Channel.D (on_link c t)) older g in
           still (length older) same
-          (begun-here link y run (rw (← f) taken) is begun c z older p own parts.0 parts.1 no_ack
+          (begun-here link y run (rw (← f) taken) is begun c z older p own parts.0 parts.1 no_ack granted
           (elim (pending-before c z.source p (link, x) t pending) [
             | inl old ↦ old.0
             | inr new ↦ absurd (let no : Beat.D y ≡ Beat.A new.beat = sym f ∙ new.beat_is in cc)
@@ -308,22 +333,24 @@ module _ {w : ℕ} (n : ℕ) (first : Memory) where
       here true own g = on_link_c x refl own g
       here false own g = apart g (rw own refl)
 
-  begun-performed : (d i : ℕ) (run : Run w) → IsPerformed n first d i run → AreBegunRead run
-      → AreBegunRead (Performs d i ∷ run)
-  unfolding trace_in found_in
-  begun-performed d i run is begun c z older p e no_ack pending =
-      let before = begun c z older p e no_ack pending in
-      (before.0, go before.0 before.1 ((d == c) && (i == z.source)) refl, before.2)
-    where
-      go : (found : Memory) → found_in first c z.source run ≡ Some found → (b : Bool) → (d == c) && (i == z.source) ≡ b
-          → (if b then Some (memory_in first run) else found_in first c z.source run) ≡ Some found
-      go found f true g = let both = and_parts (d == c) (i == z.source) g in
-          absurd (none-some found (sym is.once ∙ rw (eqb-true d c both.0, eqb-true i z.source both.1) f))
-      go found f false g = f
+  begun-performed : (d i : ℕ) (test : ℕ → Bool) (left : Memory) (run : Run w) → IsPerformed n first d i test run
+      → AreBegunRead run
+      → AreBegunRead (Performs d i test left ∷ run)
+  unfolding trace_in
+  begun-performed d i test left run is begun c z older p e no_ack granted pending other back address reached =
+      let was = begun c z older p e no_ack granted pending other back address reached in
+      record {
+        byte = was.byte;
+        found_is = found-other first c z.source d i test left run address
+            (performed-once n first c z.source d i test run address was.byte is was.found_is) ∙ was.found_is;
+        brings = was.brings;
+      }
 
   pub are-begun_read : (run : Run w) → IsRun n first run → AreBegunRead run
   unfolding IsRun trace_in found_in on_link unfinished
-  are-begun_read [] is = λ c z older p e no_ack pending. absurd cc
+  are-begun_read [] is = λ c z older p e no_ack granted pending. absurd cc
   are-begun_read (Takes link x ∷ run) is = begun-taken link x run is.0 is.1 (are-begun_read run is.1)
-  are-begun_read (Performs d i ∷ run) is = begun-performed d i run is.0 (are-begun_read run is.1)
-  are-begun_read (Stores block bytes ∷ run) is = are-begun_read run is.1
+  are-begun_read (Performs d i test left ∷ run) is = begun-performed d i test left run is.0 (are-begun_read run is.1)
+  are-begun_read (Stores block bytes ∷ run) is = λ c z older p e no_ack granted pending other back address reached.
+      let was = are-begun_read run is.1 c z older p e no_ack granted pending other back address reached in
+      record { byte = was.byte; found_is = was.found_is; brings = was.brings }

@@ -3,7 +3,7 @@
 use Rattle.tl_one_memory.proofs.Imports.{Beat, BeatD, Link, reaches, unfinished, on_link, effect}
 use Rattle.tl_one_memory.proofs.Imports.{is_free, Access, carried_byte, pending_accesses, IsAnswer}
 use Rattle.tl_one_memory.proofs.Imports.{IsPerformed, IsRun, IsTaken, Performs, Run, found_in, memory_in, trace_in}
-use Rattle.std.proofs.Common.{◌≡◌, ◌/◌, ℕ, Bool, true, false, List, ◌∷◌, refl, ap, inr, arith}
+use Rattle.std.proofs.Common.{◌≡◌, ◌/◌, ℕ, Bool, true, false, List, ◌∷◌, refl, ap, inl, inr, arith}
 use Rattle.std.specs.Prelude.{Option, Some, None, is_some, ◌==◌}
 use Rattle.std.proofs.lemmas.Nat.Bits.{bit_at-zero}
 use Rattle.tl_beat.{specs.declared.beat.BeatD.BeatD}
@@ -18,9 +18,9 @@ use Rattle.tl_bytes.specs.statement.Free.{all_but_early}
 use Rattle.tl_bytes.specs.statement.Bytes.{carried_mask}
 unfoldable use Rattle.tl_bytes.specs.statement.Shown.{had_window}
 use Rattle.tl_bytes.proofs.WorkedBeats.{done, eight, part}
-use Rattle.tl_one_memory.specs.statement.Run.{IsClean, MayBeRead}
-use Rattle.tl_one_memory.proofs.Worked.{answers-one, pending_of, response, takes, zeros}
-use Rattle.tl_one_memory.proofs.Wider.{asked-taken, at-link, clean-owned, first-eight, free-as, granted-taken, none_if}
+use Rattle.tl_one_memory.specs.statement.Run.{IsClean, MayBeRead, everywhere}
+use Rattle.tl_one_memory.proofs.Worked.{answers-one, first-eight, pending_of, response, takes, zeros}
+use Rattle.tl_one_memory.proofs.Wider.{asked-taken, at-link, clean-owned, free-as, granted-taken, none_if}
 use Rattle.tl_one_memory.proofs.Wider.{owned, probed, reported, still, trunk_if}
 
 -- a Put with no byte in its mask
@@ -36,7 +36,7 @@ abbrev shown : Run 8
 shown = takes (reported 3) ∷ wanted
 
 abbrev performed : Run 8
-performed = Performs 1 0 ∷ shown
+performed = Performs 1 0 everywhere zeros ∷ shown
 
 abbrev answered : Run 8
 answered = takes (done 1 0 3) ∷ performed
@@ -44,21 +44,25 @@ answered = takes (done 1 0 3) ∷ performed
 -- ---- what is taken
 
 put-taken : IsTaken 2 zeros (at-link 1) put_nothing.1 owned
-unfolding trace_in found_in memory_in on_link unfinished pending_accesses held_under all_but_early request_of is_free carried_byte
+unfolding trace_in found_in memory_in on_link unfinished pending_accesses held_under all_but_early request_of is_free
+    carried_byte
     carried_mask bytes_carried effect bytes_from number_from
-put-taken = still (at-link 1) put_nothing.1 owned refl (λ z e. refl) (λ z access e. absurd cc) (λ z e. absurd cc)
+put-taken = still (at-link 1) put_nothing.1 owned refl (λ z address e. inl refl) (λ z access e. absurd cc)
+    (λ z e. absurd cc)
     (λ block. refl) (λ given block. refl)
 
 probed-taken : IsTaken 2 zeros (at-link 0) (probed 0).1 (takes put_nothing ∷ owned)
-unfolding trace_in found_in memory_in on_link unfinished pending_accesses held_under all_but_early request_of is_free carried_byte
+unfolding trace_in found_in memory_in on_link unfinished pending_accesses held_under all_but_early request_of is_free
+    carried_byte
     carried_mask bytes_carried effect bytes_from number_from
-probed-taken = still (at-link 0) (probed 0).1 (takes put_nothing ∷ owned) refl (λ z e. absurd cc)
+probed-taken = still (at-link 0) (probed 0).1 (takes put_nothing ∷ owned) refl (λ z address e. absurd cc)
     (λ z access e. absurd cc) (λ z e. absurd cc) (λ block. refl) (λ given block. refl)
 
 shown-taken : IsTaken 2 zeros (at-link 0) (reported 3).1 wanted
-unfolding trace_in found_in memory_in on_link unfinished pending_accesses held_under all_but_early request_of is_free carried_byte
+unfolding trace_in found_in memory_in on_link unfinished pending_accesses held_under all_but_early request_of is_free
+    carried_byte
     carried_mask bytes_carried effect bytes_from number_from
-shown-taken = still (at-link 0) (reported 3).1 wanted refl (λ z e. absurd cc) (λ z access e. absurd cc)
+shown-taken = still (at-link 0) (reported 3).1 wanted refl (λ z address e. absurd cc) (λ z access e. absurd cc)
     (λ z e. absurd cc) (λ block. refl) same
   where
     same : (given : Perm) (block : ℕ) → is_free 2 given block ((at-link 0, (reported 3).1) ∷ trace_in wanted)
@@ -90,15 +94,17 @@ may-be-read address reached =
     let here : address / 64 ≡ 0 = omega (arith, first-eight address reached) in
     inr (rw here refl, clean-shown address)
 
-put-performed : IsPerformed 2 zeros 1 0 shown
-unfolding trace_in found_in memory_in on_link unfinished pending_accesses held_under all_but_early request_of is_free carried_byte
+put-performed : IsPerformed 2 zeros 1 0 everywhere shown
+unfolding trace_in found_in memory_in on_link unfinished pending_accesses held_under all_but_early request_of is_free
+    carried_byte
     carried_mask bytes_carried effect bytes_from number_from
 put-performed = record {
   access = _;
   pending = refl;
-  once = refl;
-  reads_free = λ address reached. may-be-read address reached;
-  writes_free = λ address writing. absurd (let no = unwritten (eight 0) (place_of 8 0 address) in cc);
+  once = λ address passes. refl;
+  at_once = λ atomic address reached. refl;
+  reads_free = λ address passes reached. may-be-read address reached;
+  writes_free = λ address passes writing. absurd (let no = unwritten (eight 0) (place_of 8 0 address) in cc);
 }
 
 put-answered : (z : BeatD 8) (access : Access 8)
@@ -106,18 +112,19 @@ put-answered : (z : BeatD 8) (access : Access 8)
 unfolding trace_in found_in memory_in on_link unfinished pending_accesses held_under all_but_early request_of is_free
     carried_mask bytes_carried effect bytes_from number_from
 put-answered z access = record {
-  found = zeros;
-  performed = refl;
+  written = λ address writing. refl;
   admitted = refl;
+  undenied = λ y older begun. absurd cc;
   lanes_fit = omega arith;
   brings = λ reads address reached come. absurd cc;
 }
 
 done-taken : IsTaken 2 zeros (at-link 1) (done 1 0 3).1 performed
-unfolding trace_in found_in memory_in on_link unfinished pending_accesses held_under all_but_early request_of is_free carried_byte
+unfolding trace_in found_in memory_in on_link unfinished pending_accesses held_under all_but_early request_of is_free
+    carried_byte
     carried_mask bytes_carried effect bytes_from number_from
-done-taken = still (at-link 1) (done 1 0 3).1 performed refl (λ z e. absurd cc)
-    (λ z access e pending. answers-one zeros 1 (response (done 1 0 3).1 z) (pending_of 1 0 performed access)
+done-taken = still (at-link 1) (done 1 0 3).1 performed refl (λ z address e. absurd cc)
+    (λ z access e granted pending. answers-one zeros 1 (response (done 1 0 3).1 z) (pending_of 1 0 performed access)
     performed refl (put-answered z access) z access e pending)
     (λ z e grant. cc) (λ block. refl) (λ given block. refl)
 
@@ -130,7 +137,8 @@ is_a_run = (
 
 -- before its answer it has had no window of its block: by M4 it may not be answered
 and_has_no_window : had_window 2 1 0 Perm.Trunk 0 (trace_in performed) ≡ false
-unfolding had_window trace_in on_link unfinished pending_accesses held_under all_but_early request_of is_free pending probe_of
+unfolding had_window trace_in on_link unfinished pending_accesses held_under all_but_early request_of is_free pending
+    probe_of
 and_has_no_window = refl
 
 its_request_is_open : is_some (open_request 0 (on_link 1 (trace_in performed))) ≡ true

@@ -15,9 +15,11 @@ use Rattle.tl_rules.specs.statement.Effect.{number_from, number_stored, operand_
 use Rattle.tl_bytes.specs.statement.Bytes.{found_memory, value_left, value_written, writes}
 use Rattle.tl_one_memory.specs.statement.Run.{place_in, returns}
 
--- the burst has the bytes that the access found in this memory, where it returns them
+-- the burst has the bytes that the access found in this memory, if it returns them, and no beat of it is corrupt, or
+-- denied
 abbrev pub HasFound : {w : ℕ} → Memory → Access w → List (Beat w) → Type 0
-HasFound found access burst = returns access.request.opcode ≡ true → (address : ℕ)
+HasFound found access burst = is_some (find is_spoiled burst) ≡ false → returns access.request.opcode ≡ true
+    → (address : ℕ)
     → reaches access.request.address access.request.size address ≡ true
     → carried_byte burst (place_in access address) ≡ Some (found address)
 
@@ -85,17 +87,19 @@ pub value-told : {w : ℕ} (p : Access w) (found : Memory) (burst : List (Beat w
     → access_writes address p ≡ true
     → could_be (after p.request.opcode p.request found address) (value_written p burst address) ≡ true
 unfolding effect
-value-told {w} p found burst address has writing = go (p.spoiled || is_some (find is_spoiled burst))
+value-told {w} p found burst address has writing = go p.spoiled (is_some (find is_spoiled burst)) refl
   where
-    same : after p.request.opcode p.request (found_memory p.request burst) address
+    same : is_some (find is_spoiled burst) ≡ false
+        → after p.request.opcode p.request (found_memory p.request burst) address
         ≡ after p.request.opcode p.request found address
-    same = after-same p.request (found_memory p.request burst) found p.request.opcode address
-        (λ reads k reached. ap (λ (o : Option ℕ). unwrap_or o 0) (has reads k reached)) writing
+    same sound = after-same p.request (found_memory p.request burst) found p.request.opcode address
+        (λ reads k reached. ap (λ (o : Option ℕ). unwrap_or o 0) (has sound reads k reached)) writing
 
-    go : (b : Bool) → could_be (after p.request.opcode p.request found address)
-        (if b then None else Some (after p.request.opcode p.request (found_memory p.request burst) address)) ≡ true
-    go true = refl
-    go false = eq-eqb _ _ same
+    go : (a b : Bool) → is_some (find is_spoiled burst) ≡ b → could_be (after p.request.opcode p.request found address)
+        (if a || b then None else Some (after p.request.opcode p.request (found_memory p.request burst) address)) ≡ true
+    go true b e = refl
+    go false true e = refl
+    go false false e = eq-eqb _ _ (same e)
 
 -- and the one that it may write while it is pending
 pub value-pending : {w : ℕ} (p : Access w) (found : Memory) (address : ℕ) → access_writes address p ≡ true
@@ -106,12 +110,32 @@ value-pending {w} p found address writing = go p.request.opcode refl
     now = after p.request.opcode p.request found address
 
     put : returns p.request.opcode ≡ false → could_be now (value_written p [] address) ≡ true
-    put none = value-told p found [] address (λ reads. absurd (let bad : false ≡ true = sym none ∙ reads in cc)) writing
+    put none = value-told p found [] address (λ sound reads. absurd (let bad : false ≡ true = sym none ∙ reads in cc))
+        writing
 
     go : (o : OpA) → p.request.opcode ≡ o → could_be now (pending_value o p address) ≡ true
     go OpA.PutFullData e = put (ap returns e)
     go OpA.PutPartialData e = put (ap returns e)
     go v e = refl
+
+-- any, if its request was corrupt
+pub spoilt-pending : {w : ℕ} (p : Access w) (v address : ℕ) → p.spoiled ≡ true
+    → could_be v (pending_value p.request.opcode p address) ≡ true
+spoilt-pending {w} p v address e = go p.request.opcode
+  where
+    go : (o : OpA) → could_be v (pending_value o p address) ≡ true
+    go OpA.PutFullData = rw e refl
+    go OpA.PutPartialData = rw e refl
+    go o = refl
+
+pub spoilt-left : {w : ℕ} (p : Access w) (burst : List (Beat w)) (v address : ℕ) → p.spoiled ≡ true
+    → could_be v (value_left p.request.opcode p burst address) ≡ true
+spoilt-left {w} p burst v address e = go p.request.opcode
+  where
+    go : (o : OpA) → could_be v (value_left o p burst address) ≡ true
+    go OpA.PutFullData = rw e refl
+    go OpA.PutPartialData = rw e refl
+    go o = rw e refl
 
 -- and the one that it leaves with its answer
 pub value-left : {w : ℕ} (p : Access w) (found : Memory) (burst : List (Beat w)) (address : ℕ) → HasFound found p burst
@@ -123,6 +147,8 @@ value-left {w} p found burst address has writing = go p.request.opcode refl
     now = after p.request.opcode p.request found address
 
     go : (o : OpA) → p.request.opcode ≡ o → could_be now (value_left o p burst address) ≡ true
-    go OpA.PutFullData e = subst (λ o. could_be now (pending_value o p address) ≡ true) e (value-pending p found address writing)
-    go OpA.PutPartialData e = subst (λ o. could_be now (pending_value o p address) ≡ true) e (value-pending p found address writing)
+    go OpA.PutFullData e = subst (λ o. could_be now (pending_value o p address) ≡ true) e
+        (value-pending p found address writing)
+    go OpA.PutPartialData e = subst (λ o. could_be now (pending_value o p address) ≡ true) e
+        (value-pending p found address writing)
     go v e = value-told p found burst address has writing

@@ -3,11 +3,10 @@
 use Rattle.tl_one_memory.proofs.Imports.{Beat, BeatD, Link, reaches, unfinished, on_link, effect, block_at}
 use Rattle.tl_one_memory.proofs.Imports.{is_free, Access, carried_byte, is_of, pending_accesses, IsAnswer, IsPerformed}
 use Rattle.tl_one_memory.proofs.Imports.{IsRun, IsTaken, Performs, Run, found_in, memory_in, trace_in}
-use Rattle.std.proofs.Common.{◌≡◌, ◌-◌, ◌*◌, ◌/◌, ◌%◌, ◌<◌, ℕ, Bool, zero, suc, true, false, [], ◌∷◌}
+use Rattle.std.proofs.Common.{◌≡◌, ◌-◌, ◌*◌, ◌/◌, ◌%◌, ℕ, Bool, zero, suc, true, false, [], ◌∷◌}
 use Rattle.std.proofs.Common.{refl, sym, ◌∙◌, inl, inr, arith}
-use Rattle.std.specs.Prelude.{if◌then◌else◌, find, nat_le, nat_lt, slice_get, unwrap_or, ◌==◌, ◌&&◌, Some, None}
-use Rattle.std.proofs.lemmas.Bool.{and_parts, ltb-true}
-use Rattle.tl_beat.{specs.declared.beat.BeatA.BeatA, specs.declared.channel.Channel.Channel}
+use Rattle.std.specs.Prelude.{if◌then◌else◌, find, slice_get, unwrap_or, ◌==◌, ◌&&◌, Some, None}
+use Rattle.tl_beat.{specs.declared.channel.Channel.Channel}
 use Rattle.tl_beat.{specs.declared.opcode.OpB.OpB, specs.declared.opcode.OpC.OpC, specs.declared.opcode.OpD.OpD}
 use Rattle.tl_params.specs.declared.perm.Perm.{Perm}
 use Rattle.tl_rules.specs.statement.Admission.{bytes_carried}
@@ -19,8 +18,9 @@ use Rattle.tl_bytes.specs.statement.Free.{all_but_early, may_hold}
 use Rattle.tl_rules.specs.statement.Windows.{leaves}
 use Rattle.tl_bytes.specs.statement.Bytes.{carried_mask, could_be, tells}
 use Rattle.tl_bytes.proofs.WorkedBeats.{acquire_unread, eight, found, get, grant_unread}
-use Rattle.tl_one_memory.specs.statement.Run.{IsClean, MayBeRead, OneOf, TellsTrue}
-use Rattle.tl_one_memory.proofs.Worked.{answers-one, pending_of, plain, response, single, takes, unequal, zeros}
+use Rattle.tl_one_memory.specs.statement.Run.{IsClean, MayBeRead, OneOf, TellsTrue, everywhere}
+use Rattle.tl_one_memory.proofs.Worked.{AsksRightly, answers-one, each-eight, first-eight}
+use Rattle.tl_one_memory.proofs.Worked.{pending_of, plain, response, single, takes, unequal, zeros}
 
 -- ---- beats of block 0
 
@@ -70,7 +70,7 @@ abbrev shown : Run 8
 shown = takes (reported 3) ∷ wanted
 
 abbrev read : Run 8
-read = takes (found 1 0 3 (eight 0)) ∷ Performs 1 0 ∷ shown
+read = takes (found 1 0 3 (eight 0)) ∷ Performs 1 0 everywhere zeros ∷ shown
 
 abbrev given_up : Run 8
 given_up = takes (reported 1) ∷ takes (probed 2) ∷ read
@@ -89,7 +89,8 @@ abbrev pub none_if : Bool → Perm
 none_if b = unwrap_or (if b then Some Perm.None else None) Perm.None
 
 -- with it a block that no link holds stays free
-free_if : (b : Bool) → ((leaves Perm.Branch (none_if b) && true) ≡ true) × ((leaves Perm.Trunk (none_if b) && true) ≡ true)
+pub free_if : (b : Bool) → ((leaves Perm.Branch (none_if b) && true) ≡ true)
+    × ((leaves Perm.Trunk (none_if b) && true) ≡ true)
 free_if true = (refl, refl)
 free_if false = (refl, refl)
 
@@ -101,9 +102,10 @@ free-as given block s t e f = rw (e, f) refl
 
 -- a beat that tells nothing, is no Grant, and leaves each block as free as it was
 pub still : (link : Link) (x : Beat 8) (run : Run 8) → unfinished Channel.D (on_link link.0 (trace_in run)) ≡ []
-    → ((z : BeatA 8) → x ≡ Beat.A z → found_in zeros link.0 z.source run ≡ None)
-    → ((z : BeatD 8) (access : Access 8) → x ≡ Beat.D z → find (is_of link.0 z.source) (pending_accesses (trace_in run))
-    ≡ Some access → IsAnswer zeros link.0 z access run) → ((z : BeatD 8) → x ≡ Beat.D z → z.opcode ≡ OpD.GrantData → ⊥)
+    → AsksRightly link x run
+    → ((z : BeatD 8) (access : Access 8) → x ≡ Beat.D z → z.denied ≡ false
+    → find (is_of link.0 z.source) (pending_accesses (trace_in run)) ≡ Some access → IsAnswer zeros link.0 z access run)
+    → ((z : BeatD 8) → x ≡ Beat.D z → z.opcode ≡ OpD.GrantData → ⊥)
     → ((block : ℕ) → tells block x (on_link link.0 (trace_in run)) ≡ false)
     → ((given : Perm) (block : ℕ)
     → is_free 2 given block ((link, x) ∷ trace_in run) ≡ is_free 2 given block (trace_in run))
@@ -115,52 +117,51 @@ still link x run fresh asks answers no_grant untold same =
     (λ address held_so free. absurd (unequal (sym free ∙ same Perm.Branch (block_at address) ∙ held_so)))
 
 pub asked-taken : IsTaken {w = 8} 2 zeros (at-link 0) (acquire_unread 0 0 255).1 []
-unfolding trace_in found_in memory_in on_link unfinished pending_accesses held_under all_but_early request_of is_free carried_byte
+unfolding trace_in found_in memory_in on_link unfinished pending_accesses held_under all_but_early request_of is_free
+    carried_byte
     carried_mask bytes_carried effect bytes_from number_from
-asked-taken = plain (at-link 0) (acquire_unread 0 0 255).1 [] refl (λ z e. refl) (λ z access e. absurd cc)
+asked-taken = plain (at-link 0) (acquire_unread 0 0 255).1 [] refl (λ z address e. inl refl) (λ z access e. absurd cc)
     (λ z e. absurd cc) (λ block. refl) (λ block. refl) (λ block. (free_if (0 == block)).1)
 
-pub granted-taken : IsTaken 2 zeros (at-link 0) (grant_unread 0 0 0).1 asked
-unfolding trace_in found_in memory_in on_link unfinished pending_accesses held_under all_but_early request_of is_free carried_byte
-    carried_mask bytes_carried effect bytes_from number_from
-granted-taken = single (at-link 0) (grant_unread 0 0 0).1 asked refl (λ z e. absurd cc)
-    (λ z access e pending. absurd cc) (λ z e grant. cc)
-    (λ address free told. absurd (neither (block_at address) free told)) closes
-    (λ address held_so free. absurd (unequal (sym (free_if (0 == block_at address)).0 ∙ held_so)))
-  where
-    neither : (block : ℕ) → is_free 2 Perm.Branch block ((at-link 0, (grant_unread 0 0 0).1) ∷ trace_in asked) ≡ true
-        → tells block (grant_unread 0 0 0).1 (on_link 0 (trace_in asked)) ≡ true → ⊥
-    neither block free told = go (0 == block) free told
-      where
-        go : (b : Bool) → (leaves Perm.Branch (trunk_if b (none_if b)) && true) ≡ true → (b && true) ≡ true → ⊥
-        go true f t = cc
-        go false f t = cc
+-- with a Grant of Trunk a block isn't free, if it is the one that is told of
+pub granted_if : (b : Bool) → (leaves Perm.Branch (trunk_if b (none_if b)) && true) ≡ true → (b && true) ≡ true → ⊥
+granted_if true f t = cc
+granted_if false f t = cc
 
-    closes : (block : ℕ) → is_free 2 Perm.Trunk block (trace_in asked) ≡ true
-        → is_free 2 Perm.Trunk block ((at-link 0, (grant_unread 0 0 0).1) ∷ trace_in asked) ≡ false
-        → tells block (grant_unread 0 0 0).1 (on_link 0 (trace_in asked)) ≡ true
-    closes block free closed = go (0 == block) closed
-      where
-        go : (b : Bool) → (leaves Perm.Trunk (trunk_if b (none_if b)) && true) ≡ false → (b && true) ≡ true
-        go true f = refl
-        go false f = absurd cc
+pub told_if : (b : Bool) → (leaves Perm.Trunk (trunk_if b (none_if b)) && true) ≡ false → (b && true) ≡ true
+told_if true f = refl
+told_if false f = absurd cc
+
+pub granted-taken : IsTaken 2 zeros (at-link 0) (grant_unread 0 0 0).1 asked
+unfolding trace_in found_in memory_in on_link unfinished pending_accesses held_under all_but_early request_of is_free
+    carried_byte
+    carried_mask bytes_carried effect bytes_from number_from
+granted-taken = single (at-link 0) (grant_unread 0 0 0).1 asked refl (λ z address e. absurd cc)
+    (λ z access e granted pending. absurd cc) (λ z e grant. cc)
+    (λ address free told. absurd (granted_if (0 == block_at address) free told))
+    (λ block free closed. told_if (0 == block) closed)
+    (λ address held_so free. absurd (unequal (sym (free_if (0 == block_at address)).0 ∙ held_so)))
 
 get-taken : IsTaken 2 zeros (at-link 1) (get 1 0 3 255).1 owned
-unfolding trace_in found_in memory_in on_link unfinished pending_accesses held_under all_but_early request_of is_free carried_byte
+unfolding trace_in found_in memory_in on_link unfinished pending_accesses held_under all_but_early request_of is_free
+    carried_byte
     carried_mask bytes_carried effect bytes_from number_from
-get-taken = still (at-link 1) (get 1 0 3 255).1 owned refl (λ z e. refl) (λ z access e. absurd cc) (λ z e. absurd cc)
+get-taken = still (at-link 1) (get 1 0 3 255).1 owned refl (λ z address e. inl refl) (λ z access e. absurd cc)
+    (λ z e. absurd cc)
     (λ block. refl) (λ given block. refl)
 
 probed-taken : IsTaken 2 zeros (at-link 0) (probed 0).1 (takes (get 1 0 3 255) ∷ owned)
-unfolding trace_in found_in memory_in on_link unfinished pending_accesses held_under all_but_early request_of is_free carried_byte
+unfolding trace_in found_in memory_in on_link unfinished pending_accesses held_under all_but_early request_of is_free
+    carried_byte
     carried_mask bytes_carried effect bytes_from number_from
-probed-taken = still (at-link 0) (probed 0).1 (takes (get 1 0 3 255) ∷ owned) refl (λ z e. absurd cc)
+probed-taken = still (at-link 0) (probed 0).1 (takes (get 1 0 3 255) ∷ owned) refl (λ z address e. absurd cc)
     (λ z access e. absurd cc) (λ z e. absurd cc) (λ block. refl) (λ given block. refl)
 
 shown-taken : IsTaken 2 zeros (at-link 0) (reported 3).1 wanted
-unfolding trace_in found_in memory_in on_link unfinished pending_accesses held_under all_but_early request_of is_free carried_byte
+unfolding trace_in found_in memory_in on_link unfinished pending_accesses held_under all_but_early request_of is_free
+    carried_byte
     carried_mask bytes_carried effect bytes_from number_from
-shown-taken = still (at-link 0) (reported 3).1 wanted refl (λ z e. absurd cc) (λ z access e. absurd cc)
+shown-taken = still (at-link 0) (reported 3).1 wanted refl (λ z address e. absurd cc) (λ z access e. absurd cc)
     (λ z e. absurd cc) (λ block. refl) same
   where
     same : (given : Perm) (block : ℕ) → is_free 2 given block ((at-link 0, (reported 3).1) ∷ trace_in wanted)
@@ -203,75 +204,72 @@ clean-read address = inr (inr (clean-shown address))
 
 -- ---- the Get
 
-pub first-eight : (address : ℕ) → reaches 0 3 address ≡ true → address < 8
-first-eight address reached = ltb-true address 8 (and_parts (nat_le 0 address) (nat_lt address 8) reached).1
-
 may-be-read : (address : ℕ) → reaches 0 3 address ≡ true → MayBeRead 2 zeros address shown
 unfolding trace_in on_link unfinished pending probe_of
 may-be-read address reached =
     let here : address / 64 ≡ 0 = omega (arith, first-eight address reached) in
     inr (rw here refl, clean-shown address)
 
-get-performed : IsPerformed 2 zeros 1 0 shown
-unfolding trace_in found_in memory_in on_link unfinished pending_accesses held_under all_but_early request_of is_free carried_byte
+get-performed : IsPerformed 2 zeros 1 0 everywhere shown
+unfolding trace_in found_in memory_in on_link unfinished pending_accesses held_under all_but_early request_of is_free
+    carried_byte
     carried_mask bytes_carried effect bytes_from number_from
 get-performed = record {
   access = _;
   pending = refl;
-  once = refl;
-  reads_free = λ address reached. may-be-read address reached;
-  writes_free = λ address writing. absurd cc;
+  once = λ address passes. refl;
+  at_once = λ atomic address reached. refl;
+  reads_free = λ address passes reached. may-be-read address reached;
+  writes_free = λ address passes writing. absurd cc;
 }
 
 abbrev looked : Run 8
-looked = Performs 1 0 ∷ shown
+looked = Performs 1 0 everywhere zeros ∷ shown
 
 zeros-found : (address : ℕ) → reaches 0 3 address ≡ true
     → carried_byte {w = 8} ((found 1 0 3 (eight 0)).1 ∷ []) (address - 8 * (0 / 8)) ≡ Some 0
 unfolding carried_byte
-zeros-found zero reached = refl
-zeros-found (suc zero) reached = refl
-zeros-found (suc (suc zero)) reached = refl
-zeros-found (suc (suc (suc zero))) reached = refl
-zeros-found (suc (suc (suc (suc zero)))) reached = refl
-zeros-found (suc (suc (suc (suc (suc zero))))) reached = refl
-zeros-found (suc (suc (suc (suc (suc (suc zero)))))) reached = refl
-zeros-found (suc (suc (suc (suc (suc (suc (suc zero))))))) reached = refl
-zeros-found (suc (suc (suc (suc (suc (suc (suc (suc n)))))))) reached =
-    absurd (omega (arith, first-eight (suc (suc (suc (suc (suc (suc (suc (suc n)))))))) reached))
+zeros-found address reached =
+    each-eight (λ k. carried_byte {w = 8} ((found 1 0 3 (eight 0)).1 ∷ []) (k - 8 * (0 / 8)) ≡ Some 0)
+    refl refl refl refl refl refl refl refl address reached
 
 get-answered : (z : BeatD 8) (access : Access 8)
     → IsAnswer zeros 1 (response (found 1 0 3 (eight 0)).1 z) (pending_of 1 0 looked access) looked
 unfolding trace_in found_in memory_in on_link unfinished pending_accesses held_under all_but_early request_of is_free
     carried_mask bytes_carried effect bytes_from number_from
 get-answered z access = record {
-  found = zeros;
-  performed = refl;
+  written = λ address writing. refl;
   admitted = refl;
+  undenied = λ y older begun. absurd cc;
   lanes_fit = omega arith;
-  brings = λ reads address reached come. zeros-found address reached;
+  brings = λ reads address reached come.
+      record { byte = 0; found_is = refl; carried_is = inr (zeros-found address reached) };
 }
 
 found-taken : IsTaken 2 zeros (at-link 1) (found 1 0 3 (eight 0)).1 looked
-unfolding trace_in found_in memory_in on_link unfinished pending_accesses held_under all_but_early request_of is_free carried_byte
+unfolding trace_in found_in memory_in on_link unfinished pending_accesses held_under all_but_early request_of is_free
+    carried_byte
     carried_mask bytes_carried effect bytes_from number_from
-found-taken = still (at-link 1) (found 1 0 3 (eight 0)).1 looked refl (λ z e. absurd cc)
-    (λ z access e pending. answers-one zeros 1 (response (found 1 0 3 (eight 0)).1 z) (pending_of 1 0 looked access)
+found-taken = still (at-link 1) (found 1 0 3 (eight 0)).1 looked refl (λ z address e. absurd cc)
+    (λ z access e granted pending. answers-one zeros 1 (response (found 1 0 3 (eight 0)).1 z)
+    (pending_of 1 0 looked access)
     looked refl (get-answered z access) z access e pending)
     (λ z e grant. cc) (λ block. refl) (λ given block. refl)
 
 -- ---- Trunk is given up
 
 probed-again : IsTaken 2 zeros (at-link 0) (probed 2).1 read
-unfolding trace_in found_in memory_in on_link unfinished pending_accesses held_under all_but_early request_of is_free carried_byte
+unfolding trace_in found_in memory_in on_link unfinished pending_accesses held_under all_but_early request_of is_free
+    carried_byte
     carried_mask bytes_carried effect bytes_from number_from
-probed-again = still (at-link 0) (probed 2).1 read refl (λ z e. absurd cc) (λ z access e. absurd cc)
+probed-again = still (at-link 0) (probed 2).1 read refl (λ z address e. absurd cc) (λ z access e. absurd cc)
     (λ z e. absurd cc) (λ block. refl) (λ given block. refl)
 
 given_up-taken : IsTaken 2 zeros (at-link 0) (reported 1).1 (takes (probed 2) ∷ read)
-unfolding trace_in found_in memory_in on_link unfinished pending_accesses held_under all_but_early request_of is_free carried_byte
+unfolding trace_in found_in memory_in on_link unfinished pending_accesses held_under all_but_early request_of is_free
+    carried_byte
     carried_mask bytes_carried effect bytes_from number_from
-given_up-taken = single (at-link 0) (reported 1).1 (takes (probed 2) ∷ read) refl (λ z e. absurd cc)
+given_up-taken = single (at-link 0) (reported 1).1 (takes (probed 2) ∷ read) refl (λ z address e. absurd cc)
     (λ z access e. absurd cc) (λ z e. absurd cc) (λ address free told. absurd cc) closes
     (λ address held_so free. inr (clean-read address))
   where
@@ -281,7 +279,8 @@ given_up-taken = single (at-link 0) (reported 1).1 (takes (probed 2) ∷ read) r
     closes block free closed = absurd (go (0 == block) free closed)
       where
         go : (b : Bool) → (leaves Perm.Trunk (trunk_if b (trunk_if b (none_if b))) && true) ≡ true
-            → (leaves Perm.Trunk (unwrap_or (if b then Some Perm.None else None) (trunk_if b (trunk_if b (none_if b)))) && true)
+            → (leaves Perm.Trunk (unwrap_or (if b then Some Perm.None else None) (trunk_if b (trunk_if b (none_if b))))
+            && true)
             ≡ false → ⊥
         go true f g = cc
         go false f g = cc

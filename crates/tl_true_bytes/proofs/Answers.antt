@@ -109,6 +109,7 @@ few_lanes true w payload k =
 -- the beat is of an answer to an access that found this memory
 pub record IsBeatOfReply {w : ℕ} (m : MessageA w) (f : Memory) (x : BeatD w) (past : History w) : Type 0 where
   pub admitted : answers x.opcode m.opcode ≡ true
+  pub undenied : (y : BeatD w) (older : List (Beat w)) → unfinished Channel.D past ≡ Beat.D y ∷ older → y.denied ≡ false
   pub lanes_fit : length (lanes_of (Beat.D x)) ≤ w
   pub brings : returns m.opcode ≡ true → (address : ℕ) → reaches m.address m.size address ≡ true
       → ((address - w * (m.address / w)) / w ≤ length (unfinished Channel.D past)) ⊎ (ends (Beat.D x) past ≡ true)
@@ -138,6 +139,7 @@ beat-of-reply {w} m f x past width aligned accesses come = go come.count burst_i
     go zero e same = absurd cc
     go (suc k) e same = record {
       admitted = ap (λ (o : OpD). answers o m.opcode) (ap (λ (y : BeatD w). y.opcode) x_is) ∙ reply.2.admitted;
+      undenied = λ y older begun_so. earlier y older k (sym rest ∙ begun_so);
       lanes_fit = below (ap (λ (y : BeatD w). length (unwrap_or y.lanes [])) x_is)
           (few_lanes (d_carries_data z.opcode) w z.payload k);
       brings = λ reads address reached come_so.
@@ -150,9 +152,17 @@ beat-of-reply {w} m f x past width aligned accesses come = go come.count burst_i
         x_is = same_d x (d_beat_of z k) (tail_is (Beat.D x) (Beat.D (d_beat_of z k)) (unfinished Channel.D past)
             (begun (Message.D z) k) e).0
 
+        rest : unfinished Channel.D past ≡ begun (Message.D z) k
+        rest = (tail_is (Beat.D x) (Beat.D (d_beat_of z k)) (unfinished Channel.D past) (begun (Message.D z) k) e).1
+
+        earlier : (y : BeatD w) (older : List (Beat w)) (n : ℕ) → begun (Message.D z) n ≡ Beat.D y ∷ older
+            → y.denied ≡ false
+        earlier y older zero f = absurd cc
+        earlier y older (suc n) f = ap (λ (b : BeatD w). b.denied) (sym (same_d (d_beat_of z n) y
+            (tail_is (Beat.D (d_beat_of z n)) (Beat.D y) (begun (Message.D z) n) older f).0)) ∙ reply.2.granted
+
         long : length (unfinished Channel.D past) ≡ k
-        long = ap (λ (l : List (Beat w)). length l) (tail_is (Beat.D x) (Beat.D (d_beat_of z k))
-            (unfinished Channel.D past) (begun (Message.D z) k) e).1 ∙ length-begun (Message.D z) k
+        long = ap (λ (l : List (Beat w)). length l) rest ∙ length-begun (Message.D z) k
 
         below : {n i j : ℕ} → i ≡ j → j ≤ n → i ≤ n
         below e le = omega (arith, e, le)

@@ -2,7 +2,8 @@
 use Rattle.tl_true_bytes.proofs.Imports.{Beat, BeatD, Link, OpA, MessageA, Trace, on_link, AccessResult, Memory, after}
 use Rattle.tl_true_bytes.proofs.Imports.{effect, block_at, ends, is_release_ack, Access, ends_request, is_access, is_of}
 use Rattle.tl_true_bytes.proofs.Imports.{pending_accesses, Op, Machine, Open, Requests, with_memory, with_open}
-use Rattle.tl_true_bytes.proofs.Imports.{same_open, Performs, Run, Takes, found_in, memory_in, trace_in, IsBeside}
+use Rattle.tl_true_bytes.proofs.Imports.{same_open, Performs, Run, Takes, everywhere}
+use Rattle.tl_true_bytes.proofs.Imports.{found_in, memory_in, trace_in, IsBeside}
 use Rattle.tl_true_bytes.proofs.Imports.{IsOpenAs, result_in}
 use Rattle.std.proofs.Common.{◌≡◌, ℕ, Bool, true, false, not, ◌&&◌, inl, inr, refl, sym, ◌∙◌, ap, subst}
 use Rattle.std.specs.Prelude.{if◌then◌else◌, ◌==◌, ◌∷◌, find, Option, Some, None}
@@ -12,7 +13,8 @@ use Rattle.tl_coherence.specs.statement.Machine.{Pool, Releases}
 use Rattle.tl_coherence.proofs.memory.Beside.{IsElsewhere, done_at, open-here, open-requests, open-there, place-cases}
 use Rattle.tl_coherence.proofs.queues.Tokens.{same_number}
 use Rattle.tl_concord.proofs.WritesBeside.{same_access}
-use Rattle.tl_one_memory.proofs.Known.{answered-gone}
+use Rattle.tl_one_memory.proofs.Performed.{answered-gone}
+use Rattle.tl_bytes.specs.statement.Bytes.{access_writes}
 use Rattle.tl_bytes.proofs.Pending.{IsAskedNow, IsPending, pending-before}
 use Rattle.tl_one_memory.specs.statement.Run.{Stores, is_answered_by, with_performed}
 use Rattle.tl_true_bytes.specs.code.Beside.{IsFoundAs, comes}
@@ -26,7 +28,7 @@ pub same_asked : {w : ℕ} (x y : MessageA w) (q r : Option AccessResult) → �
     (Some (record { asked = Op.Access (Message.A y); answer = r })) → x ≡ y
 same_asked x y q r e = same_access x y (same_open (Op.Access (Message.A x)) (Op.Access (Message.A y)) q r e).0
 
-found-as : {w : ℕ} (f g : Option Memory) (q r : Option (MessageA w × AccessResult)) → g ≡ f → r ≡ q → IsFoundAs f q
+found-as : {w : ℕ} (f g : ℕ → Option ℕ) (q r : Option (MessageA w × AccessResult)) → g ≡ f → r ≡ q → IsFoundAs f q
     → IsFoundAs g r
 found-as f g q r e h is = rw (e, h) is
 
@@ -63,16 +65,17 @@ module _ {w : ℕ} (run : Run w) (m : Machine w) (t : Trace w) (is : IsBeside ru
   pub beside-performed : (c s : ℕ) (a : MessageA w) (p : Access w)
       → m.opened c Requests s ≡ Some (record { asked = Op.Access (Message.A a); answer = None })
       → is_access a.opcode ≡ true → IsPending c s p t → comes c s t ≡ false
-      → IsBeside (Performs c s ∷ run) (done_at c s (Message.A a) m) t
+      → IsBeside (Performs c s everywhere (effect (Message.A a) m.memory).0 ∷ run) (done_at c s (Message.A a) m) t
   unfolding trace_in memory_in found_in
   beside-performed c s a p opened accesses pending whole = record {
     trace_is = is.trace_is;
-    memory_is = ap (λ (u : Trace w). with_performed (find (is_of c s) (pending_accesses u)) now) is.trace_is ∙ ap
-        (λ (o : Option (Access w)). with_performed o now) pending ∙ ap (λ r. r.0) ((like.like whole).effect_is now) ∙ ap
-        (λ (n : MessageA w). (effect (Message.A n) now).0) asked ∙ ap (λ (g : Memory). (effect (Message.A a) g).0)
-        is.memory_is;
+    memory_is = ap (λ (u : Trace w). with_performed (find (is_of c s) (pending_accesses u)) everywhere left now)
+        is.trace_is
+        ∙ ap (λ (o : Option (Access w)). with_performed o everywhere left now) pending
+        ∙ fun_ext (λ address. leaves address (p.spoiled && access_writes address p));
     found_are = λ d i. elim (place-cases c s d i) [
-      | inl same ↦ at-place (λ e j. IsFoundAs (found_in (λ address. 0) e j (Performs c s ∷ run))
+      | inl same ↦ at-place (λ e j. IsFoundAs
+          (found_in (λ address. 0) e j (Performs c s everywhere (effect (Message.A a) m.memory).0 ∷ run))
           (result_in ((done_at c s (Message.A a) m).opened e Requests j))) c s d i same here
       | inr other ↦ there d i other
     ];
@@ -94,28 +97,42 @@ module _ {w : ℕ} (run : Run w) (m : Machine w) (t : Trace w) (is : IsBeside ru
       asked : like.asked ≡ a
       asked = same_asked like.asked a like.answer None (sym like.opened ∙ opened)
 
+      left : Memory
+      left = (effect (Message.A a) m.memory).0
+
+      leaves : (address : ℕ) (b : Bool) → (if b then left address else (effect (Message.A p.request) now).0 address)
+          ≡ left address
+      leaves address true = refl
+      leaves address false = ap (λ (f : Memory). f address) (ap (λ r. r.0) ((like.like whole).effect_is now)
+          ∙ ap (λ (n : MessageA w). (effect (Message.A n) now).0) asked
+          ∙ ap (λ (g : Memory). (effect (Message.A a) g).0) is.memory_is)
+
       opened_after : (done_at c s (Message.A a) m).opened c Requests s ≡ after
       opened_after = open-here c Requests s after (with_memory (effect (Message.A a) m.memory).0 m)
 
       result : result_in after ≡ Some (a, (effect (Message.A a) m.memory).1)
       result = rw accesses refl
 
-      here : IsFoundAs (found_in (λ address. 0) c s (Performs c s ∷ run))
+      here : IsFoundAs (found_in (λ address. 0) c s (Performs c s everywhere (effect (Message.A a) m.memory).0 ∷ run))
           (result_in ((done_at c s (Message.A a) m).opened c Requests s))
-      here = found-as (Some now) (found_in (λ address. 0) c s (Performs c s ∷ run))
+      here = found-as (λ address. Some (now address))
+          (found_in (λ address. 0) c s (Performs c s everywhere (effect (Message.A a) m.memory).0 ∷ run))
           (Some (a, (effect (Message.A a) m.memory).1)) (result_in ((done_at c s (Message.A a) m).opened c Requests s))
-          (rw (same_number c, same_number s) refl) (ap result_in opened_after ∙ result)
-          (ap (λ (g : Memory). (effect (Message.A a) g).1) (sym is.memory_is))
+          (fun_ext (λ address. rw (same_number c, same_number s) refl)) (ap result_in opened_after ∙ result)
+          (now, λ address. refl, ap (λ (g : Memory). (effect (Message.A a) g).1) (sym is.memory_is))
 
-      there : (d i : ℕ) → IsElsewhere c s d i → IsFoundAs (found_in (λ address. 0) d i (Performs c s ∷ run))
+      there : (d i : ℕ) → IsElsewhere c s d i
+          → IsFoundAs (found_in (λ address. 0) d i (Performs c s everywhere (effect (Message.A a) m.memory).0 ∷ run))
           (result_in ((done_at c s (Message.A a) m).opened d Requests i))
-      there d i other = found-as (found_in (λ address. 0) d i run) (found_in (λ address. 0) d i (Performs c s ∷ run))
+      there d i other = found-as (found_in (λ address. 0) d i run)
+          (found_in (λ address. 0) d i (Performs c s everywhere (effect (Message.A a) m.memory).0 ∷ run))
           (result_in (m.opened d Requests i)) (result_in ((done_at c s (Message.A a) m).opened d Requests i))
-          (rw (elsewhere c s d i other) refl)
+          (fun_ext (λ address. rw (elsewhere c s d i other) refl))
           (ap result_in (open-there c Requests s after (with_memory (effect (Message.A a) m.memory).0 m) d i other))
           (is.found_are d i)
 
-      mine : (q : Access w) → IsPending c s q t → IsOpenAs (comes c s t) q ((done_at c s (Message.A a) m).opened c Requests s)
+      mine : (q : Access w) → IsPending c s q t
+          → IsOpenAs (comes c s t) q ((done_at c s (Message.A a) m).opened c Requests s)
       mine q other = let was = is.pending_are c s q other in
           let same : was.asked ≡ a = same_asked was.asked a was.answer None (sym was.opened ∙ opened) in
           record {
@@ -157,7 +174,8 @@ module _ {w : ℕ} (run : Run w) (m : Machine w) (t : Trace w) (is : IsBeside ru
     memory_is = is.memory_is;
     found_are = λ c s. found-as (found_in (λ address. 0) c s run) (found_in (λ address. 0) c s (Takes link x ∷ run))
         (result_in (m.opened c Requests s))
-        (result_in (m.opened c Requests s)) (rw (is.trace_is, unanswered c s x part) refl) refl (is.found_are c s);
+        (result_in (m.opened c Requests s)) (fun_ext (λ address. rw (is.trace_is, unanswered c s x part) refl)) refl
+        (is.found_are c s);
     pending_are = λ c s p pending. elim (pending-before c s p (link, x) t pending) [
       | inl old ↦ open-on (comes c s t) (comes c s ((link, x) ∷ t)) p (m.opened c Requests s)
           (comes-before c s link x t goes_on old.1) (is.pending_are c s p old.0)
@@ -183,9 +201,9 @@ module _ {w : ℕ} (run : Run w) (m : Machine w) (t : Trace w) (is : IsBeside ru
   beside-ended link z pool last pool_is = record {
     trace_is = ap (λ (u : Trace w). (link, Beat.D z) ∷ u) is.trace_is;
     memory_is = is.memory_is;
-    found_are = λ c s. found-as (if is_answered_by c s link (Beat.D z) t then None else found_in (λ address. 0) c s run)
-        (found_in (λ address. 0) c s (Takes link (Beat.D z) ∷ run)) (result_in (after.opened c Requests s))
-        (result_in (after.opened c Requests s)) (rw is.trace_is refl) refl (found c s (is_release_ack z.opcode) refl);
+    found_are = λ c s. found-as (found_then c s) (found_in (λ address. 0) c s (Takes link (Beat.D z) ∷ run))
+        (result_in (after.opened c Requests s)) (result_in (after.opened c Requests s))
+        (fun_ext (λ address. rw is.trace_is refl)) refl (found c s (is_release_ack z.opcode) refl);
     pending_are = λ c s p pending. elim (pending-before c s p (link, Beat.D z) t pending) [
       | inl old ↦ open-on (comes c s t) (comes c s ((link, Beat.D z) ∷ t)) p (after.opened c Requests s)
           (λ whole. sym (comes-other c s link (Beat.D z) t refl) ∙ whole)
@@ -196,6 +214,11 @@ module _ {w : ℕ} (run : Run w) (m : Machine w) (t : Trace w) (is : IsBeside ru
     where
       after : Machine w
       after = with_open link.0 pool z.source None m
+
+      -- what is found then
+      found_then : ℕ → ℕ → ℕ → Option ℕ
+      found_then c s address =
+          if is_answered_by c s link (Beat.D z) t then None else found_in (λ address. 0) c s run address
 
       -- a ReleaseAck ends no request
       let_go : (c s : ℕ) → is_release_ack z.opcode ≡ true
@@ -234,22 +257,19 @@ module _ {w : ℕ} (run : Run w) (m : Machine w) (t : Trace w) (is : IsBeside ru
 
       same : (c s : ℕ) → is_answered_by c s link (Beat.D z) t ≡ false
           → after.opened c Requests s ≡ m.opened c Requests s
-          → IsFoundAs (if is_answered_by c s link (Beat.D z) t then None else found_in (λ address. 0) c s run)
-          (result_in (after.opened c Requests s))
-      same c s e f = found-as (found_in (λ address. 0) c s run) (if is_answered_by c s link (Beat.D z) t then None else
-          found_in (λ address. 0) c s run) (result_in (m.opened c Requests s)) (result_in (after.opened c Requests s))
-          (rw e refl) (ap result_in f) (is.found_are c s)
+          → IsFoundAs (found_then c s) (result_in (after.opened c Requests s))
+      same c s e f = found-as (found_in (λ address. 0) c s run) (found_then c s) (result_in (m.opened c Requests s))
+          (result_in (after.opened c Requests s)) (fun_ext (λ address. rw e refl)) (ap result_in f) (is.found_are c s)
 
       found : (c s : ℕ) (b : Bool) → is_release_ack z.opcode ≡ b
-          → IsFoundAs (if is_answered_by c s link (Beat.D z) t then None else found_in (λ address. 0) c s run)
-          (result_in (after.opened c Requests s))
+          → IsFoundAs (found_then c s) (result_in (after.opened c Requests s))
       found c s true e = let both = let_go c s e in same c s both.1 both.0
       found c s false e = elim (place-cases link.0 z.source c s) [
-        | inl here ↦ at-place (λ d i. IsFoundAs (if is_answered_by d i link (Beat.D z) t then None else found_in
-            (λ address. 0) d i run) (result_in (after.opened d Requests i))) link.0 z.source c s here
-            (found-as None (if is_answered_by link.0 z.source link (Beat.D z) t then None else found_in (λ address. 0)
-            link.0 z.source run) None (result_in (after.opened link.0 Requests z.source)) (rw (own e) refl)
-            (ap result_in (gone e)) tt)
+        | inl here ↦ at-place (λ d i. IsFoundAs (found_then d i) (result_in (after.opened d Requests i))) link.0
+            z.source c s here
+            (found-as (λ address. None) (found_then link.0 z.source) None
+            (result_in (after.opened link.0 Requests z.source)) (fun_ext (λ address. rw (own e) refl))
+            (ap result_in (gone e)) (λ address. refl))
         | inr other ↦ let both = kept c s other e in same c s both.1 both.0
       ]
 
@@ -353,7 +373,8 @@ module _ {w : ℕ} (run : Run w) (m : Machine w) (t : Trace w) (is : IsBeside ru
     ];
     pending_are = λ d i p. elim (place-cases c s d i) [
       | inl same ↦ at-place (λ e j. IsPending e j p t
-          → IsOpenAs (comes e j t) p ((done_at c s (Message.A a) m).opened e Requests j)) c s d i same (λ pending. absurd (unopened p (is.pending_are c s p pending)))
+          → IsOpenAs (comes e j t) p ((done_at c s (Message.A a) m).opened e Requests j)) c s d i same
+          (λ pending. absurd (unopened p (is.pending_are c s p pending)))
       | inr other ↦ λ pending. open-as p (m.opened d Requests i) ((done_at c s (Message.A a) m).opened d Requests i)
           (open-there c Requests s done (with_memory (effect (Message.A a) m.memory).0 m) d i other)
           (is.pending_are d i p pending)

@@ -1,7 +1,8 @@
 -- A response while it is on its way: its beats, and what the run was before them.
 use Rattle.tl_true_bytes.proofs.Imports.{Beat, BeatD, Link, OpD, History, unfinished, Trace, on_link, Memory, grants}
 use Rattle.tl_true_bytes.proofs.Imports.{is_grant, is_release_ack, request_of, Op, Reply, Machine, Open, Requests}
-use Rattle.tl_true_bytes.proofs.Imports.{tail_is, same_d, IsResponse, IsRightBeat, Performs, Run, run_before}
+use Rattle.tl_true_bytes.proofs.Imports.{tail_is, same_d, IsResponse, IsRightBeat}
+use Rattle.tl_true_bytes.proofs.Imports.{Performs, Run, everywhere, run_before}
 use Rattle.tl_true_bytes.proofs.Imports.{after_access, performed_all, with_end, with_reply, with_whole, Channel}
 use Rattle.std.proofs.Common.{◌≡◌, ℕ, suc, ◌+◌, Bool, true, false, ◌&&◌, List, [], ◌∷◌, length, Some, None, refl, sym}
 use Rattle.std.proofs.Common.{◌∙◌, ap, subst}
@@ -9,17 +10,18 @@ use Rattle.std.specs.Prelude.{if◌then◌else◌, ◌==◌, Option}
 use Rattle.std.proofs.lemmas.Bool.{and_parts, eq-eqb, eqb-true}
 use Rattle.tl_burst.specs.statement.Messages.{burst_length, on}
 use Rattle.tl_rules.specs.statement.History.{asks_for, begins}
-use Rattle.tl_true_bytes.specs.code.Beside.{is_accessing}
+use Rattle.tl_true_bytes.specs.code.Beside.{is_accessing, left_after}
 
 -- ---- what isn't taken makes no difference to what was before a beat
 
-before-access : {w : ℕ} (c j q source : ℕ) (o : Option (Open w)) (run : Run w)
-    → run_before c (suc j) (after_access q source o run) ≡ run_before c (suc j) run
+before-access : {w : ℕ} (c j q source : ℕ) (o : Option (Open w)) (f : Memory) (run : Run w)
+    → run_before c (suc j) (after_access q source o f run) ≡ run_before c (suc j) run
 unfolding run_before
-before-access c j q source None run = refl
-before-access {w} c j q source (Some o) run = go (is_accessing o.asked)
+before-access c j q source None f run = refl
+before-access {w} c j q source (Some o) f run = go (is_accessing o.asked)
   where
-    go : (b : Bool) → run_before c (suc j) (if b then Performs q source ∷ run else run) ≡ run_before c (suc j) run
+    go : (b : Bool) → run_before c (suc j) (if b then Performs q source everywhere (left_after o.asked f) ∷ run else
+        run) ≡ run_before c (suc j) run
     go true = refl
     go false = refl
 
@@ -27,8 +29,8 @@ pub before-performed : {w : ℕ} (c j : ℕ) (l : List (ℕ × ℕ)) (m : Machin
     → run_before c (suc j) (performed_all l m run) ≡ run_before c (suc j) run
 before-performed c j [] m run = refl
 before-performed c j (x ∷ l) m run =
-    before-performed c j l m (after_access x.0 x.1 (m.opened x.0 Requests x.1) run)
-    ∙ before-access c j x.0 x.1 (m.opened x.0 Requests x.1) run
+    before-performed c j l m (after_access x.0 x.1 (m.opened x.0 Requests x.1) m.memory run)
+    ∙ before-access c j x.0 x.1 (m.opened x.0 Requests x.1) m.memory run
 
 pub before-reply : {w : ℕ} (c j : ℕ) (o : Op w) (r : Reply) (f : Memory) (run : Run w)
     → run_before c (suc j) (with_reply o r f run) ≡ run_before c (suc j) run

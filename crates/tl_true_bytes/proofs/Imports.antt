@@ -47,7 +47,7 @@ pub use Rattle.tl_concord.specs.statement.Accesses.{IsOfAccess}
 pub use Rattle.tl_concord.specs.statement.Responses.{IsResponse, IsRightBeat}
 pub use Rattle.tl_manager.specs.code.Kept.{illegal_message_at}
 pub use Rattle.tl_manager.specs.statement.Offer.{level_of}
-pub use Rattle.tl_one_memory.specs.statement.Run.{Performs, Run, Takes}
+pub use Rattle.tl_one_memory.specs.statement.Run.{Performs, Run, Takes, everywhere}
 unfoldable pub use Rattle.tl_one_memory.specs.statement.Run.{found_in, memory_in, run_before, trace_in}
 pub use Rattle.tl_params.specs.declared.config.Config.{Config}
 pub use Rattle.tl_params.specs.declared.level.Level.{Level}

@@ -4,7 +4,8 @@ use Rattle.tl_true_bytes.proofs.Imports.{reaches, Config, Level, Trace, on_link,
 use Rattle.tl_true_bytes.proofs.Imports.{block_at, held, is_free, leaves, is_access, is_of, pending_accesses, writes}
 use Rattle.tl_true_bytes.proofs.Imports.{sourced, illegal_message_at, level_of, Deliver, Outcome, IsRequest, trace_of}
 use Rattle.tl_true_bytes.proofs.Imports.{IsGiven, Log, system_after, Requests, moved, accesses_answered}
-use Rattle.tl_true_bytes.proofs.Imports.{one_memory_after, stepped, given-before, Run, found_in, trace_in, IsBeside}
+use Rattle.tl_true_bytes.proofs.Imports.{one_memory_after, stepped, given-before, Run}
+use Rattle.tl_true_bytes.proofs.Imports.{everywhere, found_in, trace_in, IsBeside}
 use Rattle.tl_true_bytes.proofs.Imports.{IsOpenAs, result_in, Op}
 use Rattle.std.proofs.Common.{◌≡◌, ℕ, zero, suc, ◌+◌, ◌%◌, ◌^◌, ◌≤◌, true, [], ◌∷◌, inl, inr, Some, None, refl, sym}
 use Rattle.std.proofs.Common.{◌∙◌, ap, subst, arith, length}
@@ -103,17 +104,18 @@ pub performs-well : {w : ℕ} (config : Config) (log : Log w) (link : Link) (ch 
           None;
     }) → is_access a.opcode ≡ true → (run : Run w)
     → IsBeside run (one_memory_after config log) (trace_of ((Deliver link ch, o) ∷ log))
-    → IsPerformed n (λ address. 0) q source run
+    → IsPerformed n (λ address. 0) q source everywhere run
 performs-well {w} config log link ch o given n le q source a one still opened accesses run is = record {
   access = p.0;
   pending = subst (λ (u : Trace w). find (is_of q source) (pending_accesses u) ≡ Some p.0) (sym is.trace_is) p.1;
-  once = none-found (found_in (λ address. 0) q source run)
+  once = λ x passes. none-found (found_in (λ address. 0) q source run)
       (result_in ((one_memory_after config log).opened q Requests source)) (ap result_in opened)
-      (is.found_are q source);
-  reads_free = λ x reached. inl (now Perm.Branch x
+      (is.found_are q source) x;
+  at_once = λ atomic x reached. refl;
+  reads_free = λ x passes reached. inl (now Perm.Branch x
       (reached-here a.address a.size x (access-room (level_of config q) (sourced source a) given.width known.1)
       (sym (reaching x) ∙ reached)) (needs-branch n (block_at a.address) t a.opcode accesses (free n)));
-  writes_free = λ x writing.
+  writes_free = λ x passes writing.
       let here = written-here (sourced source a) (level_of config q) x given.width known.1 known.2
       (writes_sourced source a a.opcode x ∙ sym (writing_is x) ∙ writing) in
       now Perm.Trunk x here.1 (subst (λ (k : Perm). is_free n None k (block_at a.address) t ≡ true) here.0 (free n));
@@ -152,7 +154,8 @@ performs-well {w} config log link ch o given n le q source a one still opened ac
     now : (k : Perm) (x : ℕ) → block_at x ≡ block_at a.address → is_free n None k (block_at a.address) t ≡ true
         → bytes.is_free n k (block_at x) (trace_in run) ≡ true
     now k x here e = subst (λ (u : Trace w). bytes.is_free n k (block_at x) u ≡ true) (sym is.trace_is)
-        (free-world ((Deliver link ch, o) ∷ log) given n k (block_at x) le ∙ subst (λ (b : ℕ). is_free n None k b t ≡ true) (sym here) e)
+        (free-world ((Deliver link ch, o) ∷ log) given n k (block_at x) le ∙ subst
+        (λ (b : ℕ). is_free n None k b t ≡ true) (sym here) e)
 
     reaching : (x : ℕ) → reaches p.0.request.address p.0.request.size x ≡ reaches a.address a.size x
     reaching x = ap (λ (k : ℕ). reaches k p.0.request.size x)

@@ -5,7 +5,8 @@ use Rattle.tl_true_bytes.proofs.Imports.{AbstractState, EachTaken, trace_of, IsG
 use Rattle.tl_true_bytes.proofs.Imports.{Open, Requests, after_reply, moved, pool_of, with_memory, with_open}
 use Rattle.tl_true_bytes.proofs.Imports.{accesses_answered, one_memory_after, stepped, given-before, shadow}
 use Rattle.tl_true_bytes.proofs.Imports.{matched-given, answering-delivered, Performs, Run, Takes, found_in, memory_in}
-use Rattle.tl_true_bytes.proofs.Imports.{trace_in, IsBeside, after_access, happened, performed_all, run_of, with_reply}
+use Rattle.tl_true_bytes.proofs.Imports.{everywhere, trace_in, IsBeside, after_access}
+use Rattle.tl_true_bytes.proofs.Imports.{happened, performed_all, run_of, with_reply}
 use Rattle.std.proofs.Common.{◌≡◌, ℕ, ◌+◌, ◌%◌, ◌^◌, ◌≤◌, Bool, true, false, ◌++◌, List, [], ◌∷◌, inl, inr, Some, None}
 use Rattle.std.proofs.Common.{refl, sym, ◌∙◌, ap, subst}
 use Rattle.std.specs.Prelude.{if◌then◌else◌, Option}
@@ -128,16 +129,18 @@ one-performed : {w : ℕ} (run : Run w) (m m' : Machine w) (t : Trace w) (l : Li
     → IsBeside (performed_all l m run) (performing l m') t
 one-performed {w} run m m' t l q source a one still opened pending is =
     subst (λ (k : List (ℕ × ℕ)). IsBeside (performed_all k m run) (performing k m') t) (sym one)
-    (subst (λ (n : Machine w). IsBeside (after_access q source (m.opened q Requests source) run) n t)
+    (subst (λ (n : Machine w). IsBeside (after_access q source (m.opened q Requests source) m.memory run) n t)
     (sym (ap (performing ((q, source) ∷ [])) still ∙ performing-one q source (Message.A a) m opened))
-    (subst (λ (o : Option (Open w)). IsBeside (after_access q source o run) (done_at q source (Message.A a) m) t)
+    (subst (λ (o : Option (Open w)). IsBeside (after_access q source o m.memory run) (done_at q source (Message.A a) m)
+    t)
     (sym opened) (go (is_access a.opcode) refl)))
   where
     here : IsBeside run m t
     here = subst (λ (n : Machine w). IsBeside run n t) still is
 
     go : (b : Bool) → is_access a.opcode ≡ b
-        → IsBeside (if b then Performs q source ∷ run else run) (done_at q source (Message.A a) m) t
+        → IsBeside (if b then Performs q source everywhere (effect (Message.A a) m.memory).0 ∷ run else run)
+        (done_at q source (Message.A a) m) t
     go true accesses =
         let p = pending accesses in
         beside-performed run m t here q source a p.0.0 opened accesses p.0.1 p.1
@@ -233,7 +236,7 @@ unfolding run_of one_memory_after trace_of trace_in memory_in found_in pending_a
 beside-log config [] given = record {
   trace_is = refl;
   memory_is = refl;
-  found_are = λ c s. tt;
+  found_are = λ c s address. refl;
   pending_are = λ c s p e. absurd cc;
 }
 beside-log config (x ∷ log) given =

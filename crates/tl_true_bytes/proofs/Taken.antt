@@ -4,9 +4,10 @@ use Rattle.tl_true_bytes.proofs.Imports.{Request, on_link, AccessResult, Memory,
 use Rattle.tl_true_bytes.proofs.Imports.{Access, carried_byte, is_access, is_of, pending_accesses, sourced, Machine}
 use Rattle.tl_true_bytes.proofs.Imports.{Requests, effect-sourced, IsOfAccess, IsResponse, IsRightBeat, Run, found_in}
 use Rattle.tl_true_bytes.proofs.Imports.{trace_in, IsBeside, IsOpenAs, result_in, Channel, Op}
-use Rattle.std.proofs.Common.{◌≡◌, ℕ, ◌||◌, ◌-◌, ◌*◌, ◌/◌, ◌%◌, ◌^◌, ◌≤◌, true, false, ◌∷◌, length, Some, None, refl, sym}
+use Rattle.std.proofs.Common.{◌≡◌, ℕ, ◌||◌, ◌-◌, ◌*◌, ◌/◌, ◌%◌, ◌^◌, ◌≤◌}
+use Rattle.std.proofs.Common.{true, false, ◌∷◌, length, Some, None, refl, sym}
 use Rattle.std.proofs.Common.{◌∙◌, ap, subst, inl, inr}
-use Rattle.std.{specs.Prelude.find, specs.Prelude.Option, proofs.lemmas.Bool.and_parts}
+use Rattle.std.{specs.Prelude.find, specs.Prelude.is_some, specs.Prelude.Option, proofs.lemmas.Bool.and_parts}
 use Rattle.tl_burst.specs.declared.message.Message.{Message}
 use Rattle.tl_rules.{specs.code.Open.open_request, specs.statement.Conformance.answers}
 use Rattle.tl_rules.{specs.statement.Effect.answer_of}
@@ -25,15 +26,14 @@ use Rattle.tl_true_bytes.{proofs.Beside.same_asked}
 
 -- ---- what was found
 
-pub none-found : {w : ℕ} (f : Option Memory) (r : Option (MessageA w × AccessResult)) → r ≡ None → IsFoundAs f r
-    → f ≡ None
-none-found None r e is = refl
-none-found {w} (Some f) r e is = absurd (subst (IsFoundAs (Some f)) e is)
+pub none-found : {w : ℕ} (f : ℕ → Option ℕ) (r : Option (MessageA w × AccessResult)) → r ≡ None → IsFoundAs f r
+    → (address : ℕ) → f address ≡ None
+none-found f r e is = subst (IsFoundAs f) e is
 
-some-found : {w : ℕ} (f : Option Memory) (q : Option (MessageA w × AccessResult)) (a : MessageA w) (r : AccessResult)
-    → q ≡ Some (a, r) → IsFoundAs f q → (g : Memory) × (f ≡ Some g) × (r ≡ (effect (Message.A a) g).1)
-some-found {w} None q a r e is = absurd (subst (IsFoundAs None) e is)
-some-found {w} (Some f) q a r e is = (f, refl, subst (IsFoundAs (Some f)) e is)
+some-found : {w : ℕ} (f : ℕ → Option ℕ) (q : Option (MessageA w × AccessResult)) (a : MessageA w) (r : AccessResult)
+    → q ≡ Some (a, r) → IsFoundAs f q
+    → (g : Memory) × ((address : ℕ) → f address ≡ Some (g address)) × (r ≡ (effect (Message.A a) g).1)
+some-found f q a r e is = subst (IsFoundAs f) e is
 
 -- ---- what is known of a beat that is taken
 
@@ -66,7 +66,7 @@ module _ {w : ℕ} (n : ℕ) (run : Run w) (m : Machine w) (width : IsWidth w) (
   -- an access without a result wasn't performed
   unfound : (c s : ℕ) (a : MessageA w) → m.opened c Requests s
       ≡ Some (record { asked = Op.Access (Message.A a); answer = None })
-      → found_in (λ address. 0) c s run ≡ None
+      → (address : ℕ) → found_in (λ address. 0) c s run address ≡ None
   unfound c s a e = none-found (found_in (λ address. 0) c s run) (result_in (m.opened c Requests s)) (ap result_in e)
       (is.found_are c s)
 
@@ -79,17 +79,21 @@ module _ {w : ℕ} (n : ℕ) (run : Run w) (m : Machine w) (width : IsWidth w) (
       → is_access a.opcode ≡ true → comes link.0 s (trace_in run) ≡ false) → IsAnswered m link.0 z (trace_in run)
       → find (is_of link.0 z.source) (pending_accesses (trace_in run)) ≡ Some p → IsAnswer (λ address. 0) link.0 z p run
   answer link z p aligned whole answered pending = record {
-    found = found.0;
-    performed = found.1;
+    written = λ address writing. ap is_some (found.1 address);
     admitted = ap (answers z.opcode) (alike.opcode_is ∙ ap (λ (i : MessageA w). i.opcode) same) ∙ reply.admitted;
+    undenied = reply.undenied;
     lanes_fit = reply.lanes_fit;
-    brings = λ reads address reached come.
-        ap (carried_byte (Beat.D z ∷ unfinished Channel.D (on_link link.0 (trace_in run)))) (place address)
-        ∙ reply.brings (sym (ap returns opcode) ∙ reads) address (sym (reaching address) ∙ reached) (elim come [
-          | inl early ↦ inl (subst (λ (k : ℕ). k / w ≤ length (unfinished Channel.D (on_link link.0 (trace_in run))))
-              (place address) early)
-          | inr last ↦ inr (and_parts _ (ends (Beat.D z) (on_link link.0 (trace_in run))) last).1
-        ]);
+    brings = λ reads address reached come. record {
+      byte = found.0 address;
+      found_is = found.1 address;
+      carried_is = inr (ap (carried_byte (Beat.D z ∷ unfinished Channel.D (on_link link.0 (trace_in run))))
+          (place address)
+          ∙ reply.brings (sym (ap returns opcode) ∙ reads) address (sym (reaching address) ∙ reached) (elim come [
+            | inl early ↦ inl (subst (λ (k : ℕ). k / w ≤ length (unfinished Channel.D (on_link link.0 (trace_in run))))
+                (place address) early)
+            | inr last ↦ inr (and_parts _ (ends (Beat.D z) (on_link link.0 (trace_in run))) last).1
+          ]));
+    };
   }
     where
       a : MessageA w
@@ -123,7 +127,7 @@ module _ {w : ℕ} (n : ℕ) (run : Run w) (m : Machine w) (width : IsWidth w) (
       reaching address = ap (λ (k : ℕ). reaches k p.request.size address) address_is
           ∙ ap (λ (k : ℕ). reaches a.address k address) size_is
 
-      found : (g : Memory) × (found_in (λ address. 0) link.0 z.source run ≡ Some g)
+      found : (g : Memory) × ((address : ℕ) → found_in (λ address. 0) link.0 z.source run address ≡ Some (g address))
           × (answered.result ≡ (effect (Message.A a) g).1)
       found = some-found (found_in (λ address. 0) link.0 z.source run) (result_in (m.opened link.0 Requests z.source)) a
           answered.result (ap result_in answered.opened ∙ rw accesses refl) (is.found_are link.0 z.source)
@@ -162,20 +166,20 @@ module _ {w : ℕ} (n : ℕ) (run : Run w) (m : Machine w) (width : IsWidth w) (
 
   pub taken : (link : Link) (x : Beat w) → IsTakenWell n m link x run → IsTaken n (λ address. 0) link x run
   taken link x well = record {
-    asks_new = λ z x_is asked_so.
+    asks_new = λ z address x_is asked_so.
         let asked : IsAsked m link.0 z (trace_in run) =
         (subst (λ (b : Beat w). IsOfAccess m link.0 b (trace_in run)) x_is well.of_access)
         (and_parts (is_access z.opcode) (is_put z.opcode || ends (Beat.A z) (on_link link.0 (trace_in run))) asked_so).0
         in
-        unfound link.0 z.source asked.asked asked.opened;
+        inl (unfound link.0 z.source asked.asked asked.opened address);
     asks_first = λ z y older x_is asked_so begun_so no_ack same.
         (subst (λ (b : Beat w). IsRightBeat link.0 b (trace_in run)) x_is well.right) y older begun_so no_ack same;
     continues = λ z y older x_is begun_so.
         let response : IsResponse link.0 z (trace_in run) =
         subst (λ (b : Beat w). IsRightBeat link.0 b (trace_in run)) x_is well.right in
         response.continues y older begun_so;
-    answers_rightly = λ z p x_is no_ack pending. answers-rightly link x well z p x_is no_ack pending;
-    grants_rightly = λ z asked x_is with_data open_so. well.granted z asked x_is with_data open_so;
+    answers_rightly = λ z p x_is no_ack granted pending. answers-rightly link x well z p x_is no_ack pending;
+    grants_rightly = λ z asked x_is with_data sound open_so. well.granted z asked x_is with_data open_so;
     tells_rightly = λ address unwritten tells_so.
         subst (λ (f : Memory). could_be (f address)
         (carried_byte (x ∷ unfinished (channel_of x) (on_link link.0 (trace_in run))) (address % 64)) ≡ true)

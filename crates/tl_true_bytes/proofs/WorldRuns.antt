@@ -4,7 +4,8 @@ use Rattle.tl_true_bytes.proofs.Imports.{leaves, is_access, Op, Reply, Finish, E
 use Rattle.tl_true_bytes.proofs.Imports.{Outcome, EachTaken, trace_of, IsGiven, IsLog, Log, system_after, Machine, Open}
 use Rattle.tl_true_bytes.proofs.Imports.{Requests, moved, pool_of, accesses_answered, one_memory_after, stepped}
 use Rattle.tl_true_bytes.proofs.Imports.{given-before, shadow, matched-given, answering-delivered, responses, Performs}
-use Rattle.tl_true_bytes.proofs.Imports.{Run, Takes, trace_in, IsBeside, after_access, happened, performed_all, run_of}
+use Rattle.tl_true_bytes.proofs.Imports.{effect, Run, Takes, everywhere, trace_in, IsBeside}
+use Rattle.tl_true_bytes.proofs.Imports.{after_access, happened, performed_all, run_of}
 use Rattle.tl_true_bytes.proofs.Imports.{with_end, with_reply, with_whole}
 use Rattle.std.proofs.Common.{◌≡◌, ℕ, zero, suc, ◌<◌, Bool, true, false, ◌&&◌, List, [], ◌∷◌, length, inl, inr, Some}
 use Rattle.std.proofs.Common.{None, refl, sym, ◌∙◌, ap, subst, arith}
@@ -238,7 +239,7 @@ module _ {w : ℕ} (config : Config) (log : Log w) where
           → IsRun (links config) (λ address. 0) (performed_all l m run)
       performs q source a one still opened =
           subst (λ (k : List (ℕ × ℕ)). IsRun (links config) (λ address. 0) (performed_all k m run)) (sym one)
-          (subst (λ (i : Option (Open w)). IsRun (links config) (λ address. 0) (after_access q source i run))
+          (subst (λ (i : Option (Open w)). IsRun (links config) (λ address. 0) (after_access q source i m.memory run))
           (sym opened) (go (is_access a.opcode) refl))
         where
           here : IsBeside run m (trace_of ((Deliver link ch, o) ∷ log))
@@ -246,9 +247,11 @@ module _ {w : ℕ} (config : Config) (log : Log w) where
               (ap (λ (r : Outcome w). moved (Deliver link ch) r m) given.is_log.0 ∙ still) matches
 
           go : (b : Bool) → is_access a.opcode ≡ b
-              → IsRun (links config) (λ address. 0) (if b then Performs q source ∷ run else run)
+              → IsRun (links config) (λ address. 0)
+              (if b then Performs q source everywhere (effect (Message.A a) m.memory).0 ∷ run else run)
           go true accesses = (
-            performs-well config log link ch o given (links config) (links-few config) q source a one still opened accesses run
+            performs-well config log link ch o given (links config) (links-few config) q source a one still opened
+                accesses run
                 here,
             is,
           )

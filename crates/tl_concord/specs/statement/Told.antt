@@ -1,5 +1,5 @@
--- That all links of a world tell of one memory: what is told of a block is what memory has, and it is told wherever a
--- block is got that no link holds, or Trunk is given up.
+-- All links of a world carry the data of one memory: data that are granted or given back are those of memory. A block's
+-- bytes are set with each Grant of it while no link holds it, and whenever Trunk of it is given up.
 use Rattle.std.specs.Prelude.{ℕ, true, false, ◌∷◌, ◌≡◌, ◌%◌, None}
 use Rattle.tl_beat.specs.declared.beat.Beat.{Beat}
 use Rattle.tl_burst.specs.statement.Messages.{channel_of, unfinished}
@@ -15,18 +15,18 @@ use Rattle.tl_coherence.specs.statement.Headline.{IsGiven}
 use Rattle.tl_coherence.specs.statement.Log.{Log}
 use Rattle.tl_coherence.specs.statement.OneMemory.{one_memory_after}
 
--- the beat that is taken on a link after t tells of this memory
+-- a beat taken on a link after t agrees with this memory
 pub record IsToldOf {w : ℕ} (memory : Memory) (link : ℕ) (x : Beat w) (t : Trace w) : Type 0 where
-  -- what it tells of a block is what memory has
+  -- the bytes that it sets for a block are those of memory
   pub told : (address : ℕ) → tells (block_at address) x (on_link link t) ≡ true
       → could_be (memory address) (carried_byte (x ∷ unfinished (channel_of x) (on_link link t)) (address % 64)) ≡ true
-  -- a block that no link holds is got with what is told of it, and so is Trunk given up
+  -- a beat sets a block's bytes if a link holds the block after it and none did before, or if it gives Trunk up
   pub got_told : (n block : ℕ) → is_free n None perm.Trunk block t ≡ true
       → is_free n None perm.Trunk block ((record { 0 = link }, x) ∷ t) ≡ false → tells block x (on_link link t) ≡ true
   pub given_up_told : (n block : ℕ) → is_free n None perm.Branch block t ≡ false
       → is_free n None perm.Branch block ((record { 0 = link }, x) ∷ t) ≡ true → tells block x (on_link link t) ≡ true
 
--- so does each beat that was delivered, of the one memory as it was at that moment
+-- each delivered beat agrees with the one memory as it was at that moment
 abbrev pub TellsOfMemory : ℕ → Type 0
 TellsOfMemory w = (config : Config) (log : Log w) → IsGiven config log
     → EachTaken (λ earlier link x. IsToldOf (one_memory_after config earlier).memory link x (trace_of earlier)) log

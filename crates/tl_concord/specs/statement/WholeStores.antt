@@ -1,4 +1,4 @@
--- That the store of a whole block, which no link carries, comes with a Grant that leaves Trunk on its link.
+-- The store of a whole block, whose data no link carries, comes with a Grant that leaves Trunk on its link.
 use Rattle.std.specs.Prelude.{ℕ, List, ◌∷◌, ◌≡◌, Some}
 use Rattle.tl_beat.specs.declared.beat.Beat.{Beat}
 use Rattle.tl_beat.specs.declared.beat.Link.{Link}
@@ -17,7 +17,7 @@ use Rattle.tl_coherence.specs.statement.Log.{Log}
 use Rattle.tl_coherence.specs.statement.Machine.{Open, pool_of}
 use Rattle.tl_coherence.specs.statement.OneMemory.{one_memory_after}
 
--- where an operation ends that stores a whole block, its link holds Trunk of that
+-- if an operation that stores a whole block ends, its link holds Trunk of the block
 abbrev pub WholeStores : ℕ → Type 0
 WholeStores w = (config : Config) (log : Log w) (link : Link) (ch : Channel) (x : Beat w) (source : ℕ) (f : Finish)
     → IsGiven config ((Deliver link ch, Done x source f) ∷ log) → (o : Open w) (block : ℕ) (bytes : List ℕ)

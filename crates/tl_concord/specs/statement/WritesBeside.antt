@@ -1,4 +1,4 @@
--- That an access that writes is performed while no Grant of its block is on its way.
+-- An access that writes is performed while no Grant of its block is on its way.
 use Rattle.std.specs.Prelude.{ℕ, true, List, ◌∷◌, ◌≡◌, Some, None}
 use Rattle.tl_beat.specs.declared.beat.Beat.{Beat}
 use Rattle.tl_beat.specs.declared.beat.Beat.TheVariants as beat
@@ -22,7 +22,7 @@ use Rattle.tl_coherence.specs.statement.Log.{Log}
 use Rattle.tl_coherence.specs.statement.Machine.{Requests}
 use Rattle.tl_coherence.specs.statement.OneMemory.{one_memory_after}
 
--- where an access that writes gets its answer by an event, no Grant of its block has begun and isn't complete
+-- if an access that writes gets its answer by an event, no Grant of its block is unfinished after the event
 abbrev pub WritesBesideNoGrant : ℕ → Type 0
 WritesBesideNoGrant w = (config : Config) (log : Log w) (x : Event w × Outcome w) → IsGiven config (x ∷ log)
     → (c source : ℕ) (m : MessageA w) (r : AccessResult) → needs m.opcode ≡ perm.Trunk

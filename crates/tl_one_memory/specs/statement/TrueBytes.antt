@@ -17,7 +17,7 @@ unfoldable pub AreTrue : {w : ℕ} → ℕ → Trace w → Type 0
 AreTrue n [] = ⊤
 AreTrue n (y ∷ t) = IsTrueBeat n y.0.0 y.1 t × AreTrue n t
 
--- Whatever memory was at first: where there is such a run beside what all links carry, no GrantData brings bytes that
+-- Whatever memory was at first: if there is such a run beside the beats of all links, no GrantData brings bytes that
 -- may not be granted, and no AccessAckData bytes that its request may not bring.
 abbrev pub TrueBytes : ℕ → Type 0
 TrueBytes w = (n : ℕ) (first : Memory) (run : Run w) → IsRun n first run → AreTrue n (trace_in run)

@@ -1,5 +1,5 @@
 -- The run of one memory that goes on beside what happens to a world, and what the two have in common.
-use Rattle.std.specs.Prelude.{ℕ, Bool, true, false, List, [], ◌∷◌, ◌≡◌, if◌then◌else◌, find, Option, Some, None, ⊤}
+use Rattle.std.specs.Prelude.{ℕ, Bool, true, false, List, [], ◌∷◌, ◌≡◌, if◌then◌else◌, find, Option, Some, None}
 use Rattle.tl_beat.specs.declared.channel.Channel.TheVariants as channel
 use Rattle.tl_burst.specs.declared.message.Message.TheVariants as message
 use Rattle.tl_burst.specs.declared.message.MessageA.{MessageA}
@@ -22,7 +22,7 @@ use Rattle.tl_coherence.specs.statement.Log.{Log, system_after}
 use Rattle.tl_coherence.specs.statement.Machine.{Machine, Open, Requests, pool_of, with_number}
 use Rattle.tl_coherence.specs.statement.OneMemory.{accesses_answered, one_memory_after}
 use Rattle.tl_coherence.specs.statement.Step.{stepped}
-use Rattle.tl_one_memory.specs.statement.Run.{Performs, Run, Stores, Takes, found_in, memory_in, trace_in}
+use Rattle.tl_one_memory.specs.statement.Run.{Performs, Run, Stores, Takes, everywhere, found_in, memory_in, trace_in}
 use Rattle.tl_true_bytes.specs.code.Like.{IsLike}
 
 -- ---- the run of a log
@@ -59,16 +59,22 @@ abbrev pub is_accessing : {w : ℕ} → Op w → Bool
 is_accessing (op.Access (message.A m)) = is_access m.opcode
 is_accessing _ = false
 
--- and after such an access is performed
-abbrev pub after_access : {w : ℕ} → ℕ → ℕ → Option (Open w) → Run w → Run w
-after_access c source None run = run
-after_access c source (Some o) run = if is_accessing o.asked then Performs c source ∷ run else run
+-- the memory that it leaves
+abbrev pub left_after : {w : ℕ} → Op w → Memory → Memory
+left_after (op.Access m) memory = (effect m memory).0
+left_after _ memory = memory
+
+-- and after such an access is performed, at once
+abbrev pub after_access : {w : ℕ} → ℕ → ℕ → Option (Open w) → Memory → Run w → Run w
+after_access c source None memory run = run
+after_access c source (Some o) memory run =
+    if is_accessing o.asked then Performs c source everywhere (left_after o.asked memory) ∷ run else run
 
 -- after these are
 abbrev pub performed_all : {w : ℕ} → List (ℕ × ℕ) → Machine w → Run w → Run w
 performed_all [] m run = run
 performed_all (x ∷ accesses) m run =
-    performed_all accesses m (after_access x.0 x.1 (m.opened x.0 Requests x.1) run)
+    performed_all accesses m (after_access x.0 x.1 (m.opened x.0 Requests x.1) m.memory run)
 
 -- the run beside what has happened
 unfoldable pub run_of : {w : ℕ} → Config → Log w → Run w
@@ -83,7 +89,8 @@ run_of config (x ∷ log) =
 abbrev pub comes : {w : ℕ} → ℕ → ℕ → Trace w → Bool
 comes c s t = comes_in_request s (unfinished channel.A (on_link c t))
 
--- An access that is pending is one that the machine has open, and does the same where no more of its request is to come.
+-- An access that is pending is one that the machine has open, and does the same if no more of its request is to
+-- come.
 pub record IsOpenAs {w : ℕ} (more : Bool) (p : Access w) (o : Option (Open w)) : Type 0 where
   pub asked : MessageA w
   pub answer : Option AccessResult
@@ -100,11 +107,11 @@ abbrev pub result_in : {w : ℕ} → Option (Open w) → Option (MessageA w × A
 result_in None = None
 result_in (Some o) = result_for o.asked o.answer
 
--- it was performed on this memory
-abbrev pub IsFoundAs : {w : ℕ} → Option Memory → Option (MessageA w × AccessResult) → Type 0
-IsFoundAs None None = ⊤
-IsFoundAs (Some f) (Some x) = x.1 ≡ (effect (message.A x.0) f).1
-IsFoundAs _ _ = ⊥
+-- it found these bytes, by their addresses, which are those of a memory on which it has this result
+abbrev pub IsFoundAs : {w : ℕ} → (ℕ → Option ℕ) → Option (MessageA w × AccessResult) → Type 0
+IsFoundAs found None = (address : ℕ) → found address ≡ None
+IsFoundAs found (Some x) =
+    (f : Memory) × ((address : ℕ) → found address ≡ Some (f address)) × (x.1 ≡ (effect (message.A x.0) f).1)
 
 pub record IsBeside {w : ℕ} (run : Run w) (m : Machine w) (t : Trace w) : Type 0 where
   pub trace_is : trace_in run ≡ t

@@ -10,7 +10,7 @@ use Rattle.tl_coherence.specs.statement.Headline.{IsGiven}
 use Rattle.tl_coherence.specs.statement.Log.{Log}
 use Rattle.tl_together.specs.statement.Coherence.{first_breach}
 
--- what all links have carried, the oldest first, has no first breach, under any liberties that the profile's are among
+-- the beats of all links, the oldest first, have no first breach, under any liberties that the profile's are among
 abbrev pub Concord : ℕ → Type 0
 Concord w = (config : Config) (l : Liberties) (log : Log w) → IsGiven config log
     → IsWithin (liberties_of config.profile) l

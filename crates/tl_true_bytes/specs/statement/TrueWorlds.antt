@@ -7,7 +7,7 @@ use Rattle.tl_coherence.specs.statement.Log.{Log}
 use Rattle.tl_one_memory.specs.statement.TrueBytes.{AreTrue}
 
 -- Whatever happens to a manager and its clients, no GrantData brings bytes that may not be granted, and no
--- AccessAckData bytes that its request may not bring, by what all links have carried.
+-- AccessAckData bytes that its request may not bring, by the beats that all links have carried.
 abbrev pub TrueWorlds : ℕ → Type 0
 TrueWorlds w = (config : Config) (log : Log w) → IsGiven config log
     → AreTrue (length config.clients.items) (trace_of log)

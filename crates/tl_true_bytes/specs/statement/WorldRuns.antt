@@ -1,4 +1,4 @@
--- That what the links of a world carry comes of a run of one memory.
+-- That the beats of a world's links come of a run of one memory.
 use Rattle.std.specs.Prelude.{ℕ, ◌≡◌, length}
 use Rattle.tl_params.specs.declared.config.Config.{Config}
 use Rattle.tl_coherence.specs.statement.Flow.{trace_of}
@@ -7,7 +7,7 @@ use Rattle.tl_coherence.specs.statement.Log.{Log}
 use Rattle.tl_coherence.specs.statement.OneMemory.{one_memory_after}
 use Rattle.tl_one_memory.specs.statement.Run.{IsRun, Run, memory_in, trace_in}
 
--- a run of a memory that is zero at first, beside what these links have carried, which leaves the world's one memory
+-- a run of a memory that is zero at first, beside the beats of these links, which leaves the world's one memory
 pub record HasRun {w : ℕ} (config : Config) (log : Log w) : Type 0 where
   pub run : Run w
   pub is_run : IsRun (length config.clients.items) (λ address. 0) run

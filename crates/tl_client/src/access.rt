@@ -25,7 +25,7 @@ fn is_access_of(level: Level, opcode: OpA) -> bool
     }
 }
 
-/// Whether a message of channel A has no corrupt bit set, and is zero where no beat carries it.
+/// Whether a message of channel A has no corrupt bit set, and its parts that no beat carries are zero.
 fn is_clean<const W: usize>(access: &MessageA<W>, message: &Message<W>) -> bool
     requires width { IsWidth W }
     requires same { message.now ≡ Message.A access.now }
@@ -34,7 +34,7 @@ fn is_clean<const W: usize>(access: &MessageA<W>, message: &Message<W>) -> bool
     access.corrupt == 0 && is_blank(message)
 }
 
-/// Whether a message is an access of the level.
+/// Whether a message is an access, and the level has it.
 pub fn is_access<const W: usize>(level: Level, message: &Message<W>) -> bool
     ensures { result ≡ Ask.is_access level message.now }
 {
@@ -44,7 +44,7 @@ pub fn is_access<const W: usize>(level: Level, message: &Message<W>) -> bool
     }
 }
 
-/// Whether a message breaks no rule and is clean.
+/// Whether a message is of channel A, breaks no L rule and is clean.
 pub fn is_sound<const W: usize>(level: Level, message: &Message<W>) -> bool
     requires { IsWidth W }
     ensures { result ≡ Ask.is_sound level message.now }
@@ -57,7 +57,7 @@ pub fn is_sound<const W: usize>(level: Level, message: &Message<W>) -> bool
     }
 }
 
-/// The access that an operation asks for.
+/// The access in an operation, if it is one.
 pub fn access_in<const W: usize>(operation: &Op<W>) -> Option<&MessageA<W>>
     ensures { option_copied result ≡ Plain.access_in operation.now }
 {

@@ -1,5 +1,4 @@
-//! What a client is, by its end of the link (SiFive TileLink Specification 1.8, the master's side of
-//! a link).
+//! A client by its end of the link (SiFive TileLink Specification 1.8, the master's side of a link).
 
 ghost use Rattle.std.specs.Prelude.{◌≡◌, None, Ok};
 ghost use Rattle.std.specs.Bool.{OnTrue, OnFalse};
@@ -24,17 +23,17 @@ use tl_rules::rule::Rule;
 
 /// A client. It stores no history: a contract speaks of every end of a link that the client represents.
 ///
-/// A client needs the calls `ask`, `offer`, `stalls`, `held`, `copy` and `closed` alone. The others are written over
-/// them; a client has bodies of its own for them where they are to be quick.
+/// A client must implement `ask`, `offer`, `stalls`, `held`, `copy` and `closed`. The other calls have bodies that use
+/// these; a client may replace them by faster ones.
 pub trait Agent<const W: usize>: Drop {
-    /// The client is in the state that this end of its link leads to.
+    /// The client is in a state that represents this end of its link.
     ghost represents: { Self → Endpoint W → Type 0 };
 
-    /// What it was made for.
+    /// The client's configuration.
     ghost terms: { Self → EndConfig };
 
-    /// Answers an operation, and hands a message out where it starts one. A busy client and a miss
-    /// change nothing. It works as before where the link is closed.
+    /// Answers an operation, and hands out a message if the operation starts. A `Busy` or `Miss` changes nothing. A
+    /// closed link makes no difference.
     fn ask(&mut self, operation: Op<W>) -> (Reply, Option<Message<W>>)
         ensures reply { (e : Endpoint W) → represents self.old e →
             result.0 ≡ (asked (terms self.old) operation.entry e).reply }
@@ -44,9 +43,8 @@ pub trait Agent<const W: usize>: Drop {
             represents self.new (asked (terms self.old) operation.entry e).after }
         ensures terms { terms self.new ≡ terms self.old };
 
-    /// Takes a beat of the channel named, stalls it, or refuses it by the first rule that it breaks.
-    /// A beat that is taken may have a message handed out. A refusal closes the link and changes
-    /// nothing else; a stall changes nothing.
+    /// Takes a beat on this channel, stalls it, or refuses it by the first rule that it breaks. A beat that is taken
+    /// may hand out a message. A refusal closes the link and changes nothing else. A stall changes nothing.
     fn offer(
         &mut self,
         channel: Channel,
@@ -58,16 +56,16 @@ pub trait Agent<const W: usize>: Drop {
             represents self.new (offered (terms self.old) channel beat.now e).after }
         ensures terms { terms self.new ≡ terms self.old };
 
-    /// Whether `offer` of the same would answer `Stalled`.
+    /// Whether `offer` of this beat would answer `Stalled`.
     fn stalls(&self, channel: Channel, beat: &Beat<W>) -> bool
         ensures { (e : Endpoint W) → represents self.now e →
             result ≡ Offer.stalls (terms self.now) channel beat.now e };
 
-    /// What is held of a block: None where it is outside the map.
+    /// The permission held of a block: None if it is outside the map.
     fn held(&self, block: u16) -> Perm
         ensures { (e : Endpoint W) → represents self.now e → result ≡ History.held block e.past };
 
-    /// The bytes of the copy of a block, which there is exactly where the block isn't held as None.
+    /// The bytes of the copy of a block. There is a copy exactly if the permission held isn't None.
     fn copy(&self, block: u16) -> Option<[u8; 64]>
         ensures { (e : Endpoint W) → represents self.now e → result ≡ e.copies block };
 
@@ -75,8 +73,8 @@ pub trait Agent<const W: usize>: Drop {
     fn closed(&self) -> bool
         ensures { (e : Endpoint W) → represents self.now e → result ≡ e.closed };
 
-    /// Answers an operation as `ask` does, with the message written where it is to stand. One is handed out exactly
-    /// with the answer `Started`; with any other, what stands there is left.
+    /// Answers an operation as `ask` does, but writes the message into `message`. It hands one out exactly with the
+    /// reply `Started`; with any other reply `message` stays as it was.
     fn ask_into(&mut self, operation: &Op<W>, message: &mut Message<W>) -> Reply
         ensures reply { (e : Endpoint W) → represents self.old e →
             result ≡ (asked (terms self.old) operation.now e).reply }
@@ -125,8 +123,8 @@ pub trait Agent<const W: usize>: Drop {
         .0
     }
 
-    /// Takes a beat, stalls it or refuses it as `offer` does, and answers in few bytes: those of a copy or of a
-    /// response that belong to the answer are written where they are to stand.
+    /// Takes a beat, stalls it or refuses it as `offer` does, with a compact answer. Writes the bytes of the answer, of
+    /// a copy or of a response, into `bytes`.
     fn answer(
         &mut self,
         channel: Channel,
@@ -143,8 +141,8 @@ pub trait Agent<const W: usize>: Drop {
         Ok(Answer::of(verdict, message, bytes))
     }
 
-    /// Takes a beat that goes on with a message and doesn't complete it, as `offer` does, where that can be told
-    /// at once: whether it was taken. Otherwise nothing changes, and `offer` says what becomes of the beat.
+    /// Takes a beat that continues a message and doesn't complete it, as `offer` does, and returns whether it did. It
+    /// may return false for such a beat too; then nothing changes, and `offer` has the answer.
     fn goes_on(&mut self, channel: Channel, beat: &Beat<W>) -> bool
         ensures answer { OnTrue result ((e : Endpoint W) → represents self.old e →
             Ok (Taken, None) ≡ (offered (terms self.old) channel beat.now e).answer) }

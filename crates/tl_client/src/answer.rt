@@ -1,4 +1,4 @@
-//! What a client answers to a beat, in few bytes: those of a copy or of a response stand where the caller wants them.
+//! A client's compact answer to a beat. The caller keeps the bytes of a copy or of a response.
 
 ghost use Rattle.std.specs.Prelude.{ℕ, List, ◌≡◌, is_some};
 ghost use Rattle.tl_client.specs.statement.Answer.{finish_of_ending, verdict_of, message_of};
@@ -14,27 +14,27 @@ use tl_rules::param::Report;
 use tl_rules::perm::Perm;
 use tl_rules::rule::Rule;
 
-/// How an operation other than an Acquire ended.
+/// The result of an operation other than an Acquire.
 #[derive(Clone, Copy, Debug, PartialEq, Eq)]
 pub enum Ending {
     /// AccessAck.
     Ack,
     /// HintAck.
     Hint,
-    /// AccessAckData of an access of this size: the bytes are its own, with zeros after them.
+    /// AccessAckData of an access of this size. The caller has its bytes, with zeros after them.
     Data(u8),
     /// ReleaseAck.
     Released,
 }
 
-/// The answer to a beat that isn't refused, of which 64 bytes stand elsewhere.
+/// The answer to a beat that isn't refused. Its 64 bytes are kept by the caller.
 #[derive(Clone, Copy, Debug, PartialEq, Eq)]
 pub enum Answer {
     /// The beat has to wait, and nothing changed.
     Stalled,
     /// The beat was taken. It completes no response, and no message is handed out.
     Taken,
-    /// A Probe was taken, and its answer is handed out: the bytes are those of the copy.
+    /// A Probe was taken, and its ProbeAck is handed out. The caller has the bytes of the copy.
     Probed {
         opcode: OpB,
         held: Perm,
@@ -55,7 +55,7 @@ pub enum Answer {
 }
 
 impl Ending {
-    /// How the operation ended, with these bytes.
+    /// The result of the operation, with these bytes.
     pub fn finish(self, bytes: &[u8; 64]) -> Finish
         ensures { result ≡ finish_of_ending self bytes.now }
     {
@@ -68,8 +68,7 @@ impl Ending {
     }
 }
 
-/// The answer that stands for a Probe's, of which only this message is known: where it has data, the Probe was a
-/// ProbeBlock of Trunk.
+/// The compact answer to a Probe, by its ProbeAck. If that has data, the Probe was a ProbeBlock and Trunk was held.
 fn probed<const W: usize>(report: &MessageC<W>) -> Answer
     ensures { result ≡ probed_by report.now }
 {
@@ -95,7 +94,7 @@ fn sink_in<const W: usize>(message: Option<Message<W>>) -> u8
     }
 }
 
-/// The answer for a response that is complete. Only a Grant hands a message out, its GrantAck.
+/// The compact answer to the last beat of a response. Only a Grant hands out a message, its GrantAck.
 fn done<const W: usize>(
     source: u8,
     finish: Finish,
@@ -122,8 +121,7 @@ fn done<const W: usize>(
 }
 
 impl Answer {
-    /// The answer that stands for a verdict and a message, if one does: the bytes that belong to it are written where
-    /// they are to stand.
+    /// The compact answer for a verdict and a message, if there is one. Writes the bytes of the answer into `bytes`.
     pub fn of<const W: usize>(
         verdict: Verdict,
         message: Option<Message<W>>,
@@ -142,7 +140,7 @@ impl Answer {
         }
     }
 
-    /// The verdict that it stands for, with these bytes.
+    /// The verdict of the answer, with these bytes.
     pub fn verdict(self, bytes: &[u8; 64]) -> Verdict
         ensures { result ≡ verdict_of self bytes.now }
     {
@@ -154,14 +152,14 @@ impl Answer {
         }
     }
 
-    /// Whether a message is handed out.
+    /// Whether the answer hands out a message.
     pub fn hands_out(self) -> bool
         ensures { (w : ℕ) (bytes : List ℕ) → result ≡ is_some (message_of {w = w} self bytes) }
     {
         matches!(self, Answer::Probed { .. } | Answer::Granted { .. })
     }
 
-    /// The message that is handed out, with these bytes.
+    /// The message that the answer hands out, with these bytes.
     pub fn message<const W: usize>(self, bytes: &[u8; 64]) -> Option<Message<W>>
         ensures { result ≡ message_of self bytes.now }
     {
@@ -178,7 +176,7 @@ impl Answer {
     }
 }
 
-/// The verdict and the message that an answer stands for, with these bytes, or the rule by which a beat is refused.
+/// The verdict and the message of a compact answer with these bytes, or the rule that refuses the beat.
 pub fn tell<const W: usize>(
     answer: Result<Answer, Rule>,
     bytes: &[u8; 64],

@@ -20,7 +20,7 @@ use tl_rules::perm::Perm;
 use tl_rules::profile::Profile;
 use tl_rules::rule::Rule;
 
-/// A client of any level: one of level C keeps copies.
+/// A client of any level. One of level C keeps copies.
 #[derive(Drop)]
 pub enum AnyClient<const W: usize> {
     Caching(Caching<W>),
@@ -30,9 +30,9 @@ pub enum AnyClient<const W: usize> {
 impl<const W: usize> AnyClient<W> {
     ghost use Rattle.tl_client.specs.code.KnowsAny.{IsNewAny};
 
-    /// A client of the level of its configuration, on this many blocks, which has sent and taken
-    /// nothing: N2 where these are out of their limits, otherwise N4 where its sources are, or at
-    /// level C `Memory`. A plain client takes no memory.
+    /// A new client of the level of its configuration, on this many blocks. The error is N2 if the number of blocks is
+    /// out of its limits, otherwise N4 if the number of sources is, or at level C `Memory`. A plain client allocates no
+    /// memory.
     pub fn new(
         alloc: Global,
         config: ClientConfig,

@@ -1,17 +1,16 @@
-//! Why a client doesn't start an operation.
+//! The reasons why a client doesn't start an operation.
 
-/// Why a client doesn't start an operation, in the order B4, B5, B2, B3, B1.
+/// The reason why a client doesn't start an operation: the first in the order B4, B5, B2, B3, B1.
 #[derive(Clone, Copy, Debug, PartialEq, Eq)]
 pub enum Busy {
-    /// No source number is free.
+    /// No source is free.
     B1,
-    /// An Acquire or a Release of the block is outstanding.
+    /// An Acquire or a Release of the block is pending.
     B2,
-    /// The operation doesn't begin at the permission that is held.
+    /// The operation doesn't start from the permission held.
     B3,
-    /// The operation isn't one of the level.
+    /// The level doesn't have the operation.
     B4,
-    /// The address or block is outside the map, or size, alignment or message aren't as they should
-    /// be.
+    /// The block is outside the map, or the operation isn't well formed in size, alignment or message.
     B5,
 }

@@ -32,7 +32,7 @@ use tl_rules::perm::Perm;
 use tl_rules::profile::Profile;
 use tl_rules::rule::Rule;
 
-/// A Grant of which some beats have come.
+/// A Grant whose first beat has come and whose last hasn't.
 #[derive(Clone, Copy)]
 struct Granting {
     block: u32,
@@ -44,14 +44,14 @@ struct Granting {
 pub struct Caching<const W: usize> {
     config: ClientConfig,
     blocks: u16,
-    /// That of its link.
+    /// The profile of its link.
     profile: Profile,
     table: Table,
     requests: Sources<Request>,
     releases: Sources<Release>,
-    /// The beats of channel D.
+    /// The unfinished response on channel D.
     responses: Assembler<W>,
-    /// The Grant that is unfinished on channel D.
+    /// The unfinished Grant on channel D.
     granting: Option<Granting>,
     /// A beat was refused.
     closed: bool,
@@ -65,8 +65,8 @@ pub struct Caching<const W: usize> {
 impl<const W: usize> Caching<W> {
     ghost use Rattle.tl_client.specs.code.KnowsCaching.{IsNewCaching};
 
-    /// A client on this many blocks, which has sent and taken nothing: N2 where these are out of their
-    /// limits, otherwise N4 where its sources are, or `Memory`. No other call takes memory.
+    /// A new client on this many blocks. The error is N2 if the number of blocks is out of its limits, otherwise N4 if
+    /// the number of sources is, or `Memory`. No other call allocates memory.
     pub fn new(
         alloc: Global,
         config: ClientConfig,

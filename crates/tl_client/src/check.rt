@@ -1,4 +1,4 @@
-//! Why an operation isn't started, whatever the client holds.
+//! The reasons against an operation that don't depend on the permissions held.
 
 ghost use Rattle.std.specs.Prelude.{◌≡◌, ◌||◌, None, not, nat_le};
 ghost use Rattle.tl_beat.specs.statement.Width.{IsWidth};
@@ -16,7 +16,7 @@ use tl_burst::message::Message;
 use tl_rules::key::block_at;
 use tl_rules::level::Level;
 
-/// Whether an operation is one of the level.
+/// Whether the level has the operation.
 fn is_of_level<const W: usize>(level: Level, operation: &Op<W>) -> bool
     ensures { result ≡ not (breaks_b4 level operation.now) }
 {
@@ -26,14 +26,14 @@ fn is_of_level<const W: usize>(level: Level, operation: &Op<W>) -> bool
     }
 }
 
-/// Whether a Load or Store of `2^size` bytes is one of at most 8, at a multiple of their number.
+/// Whether a Load or Store is of 1, 2, 4 or 8 bytes, at an address that is a multiple of their number.
 fn is_word(address: u32, size: u8) -> bool
     ensures { result ≡ Ask.is_word address size }
 {
     size <= 3 && address % (1 << size) == 0
 }
 
-/// Whether an operation has the form of its kind.
+/// Whether an operation is well formed.
 fn is_formed<const W: usize>(level: Level, operation: &Op<W>) -> bool
     requires { IsWidth W }
     ensures { result ≡ Ask.is_formed level operation.now }
@@ -59,8 +59,8 @@ pub fn op_block<const W: usize>(operation: &Op<W>) -> u32
     }
 }
 
-/// Why an operation isn't started on a map of this many blocks: B4 where it isn't one of the level,
-/// B5 where it is outside the map or isn't well formed.
+/// Why an operation doesn't start on a map of this many blocks, if it doesn't: B4 if the level doesn't have it,
+/// otherwise B5 if its block is outside the map or it isn't well formed.
 pub fn check<const W: usize>(level: Level, blocks: u16, operation: &Op<W>) -> Option<Busy>
     requires { IsWidth W }
     ensures { result ≡ first_if (breaks_b4 level operation.now) B4
@@ -75,7 +75,7 @@ pub fn check<const W: usize>(level: Level, blocks: u16, operation: &Op<W>) -> Op
     None
 }
 
-/// Why a Load or a Store isn't done on a map of this many blocks: as `check` says of both.
+/// `check` of a Load or a Store, for a map of this many blocks.
 pub fn check_word(level: Level, blocks: u16, address: u32, size: u8) -> Option<Busy>
     ensures { result ≡ first_if (not (has_transfers level)) B4
         (first_if (nat_le blocks (History.block_at address) || not (Ask.is_word address size)) B5 None) }

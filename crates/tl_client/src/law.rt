@@ -1,4 +1,4 @@
-//! What a client may do, as laws.
+//! Laws of a client.
 
 ghost use Rattle.std.specs.Prelude.{ℕ, if◌then◌else◌, ◌≡◌, ◌<◌, ◌≤◌, ◌+◌, ◌%◌, ◌^◌, ◌||◌, [], true};
 ghost use Rattle.std.specs.Prelude.{false, length, slice_index_or, List, Option, None, Some, Ok, Err};
@@ -37,22 +37,22 @@ ghost use Rattle.tl_client.specs.laws.Sound.{IsSoundIfAny, IsSoundAnswer, IsProp
 ghost use Rattle.tl_client.specs.statement.Offer.{offered, stalls, is_stalled, taken};
 ghost use Rattle.tl_client.specs.statement.Offer.{waits, broken_before, broken_later};
 
-/// A beat is stalled exactly where that is what is answered.
+/// `stalls` is true exactly if the answer to the beat is Stalled.
 pub fn stalls_as_answered<const W: usize>()
     ensures { (terms : EndConfig) (ch : Channel) (x : Beat W) (e : Endpoint W) →
         stalls terms ch x e ≡ is_stalled (offered terms ch x e).answer }
 {}
 
-/// What is held of a block after an operation, on an end that has handed out whole messages on
-/// channel C: what it was, but that a Release that isn't busy leaves the right end of its prune.
+/// The permission held of a block after an operation is the one before it, except that a Release that starts leaves the
+/// right end of its prune. Messages on channel C must have been handed out whole.
 pub fn held_after_asked<const W: usize>()
     requires { IsWidth W }
     ensures { (terms : EndConfig) (op : Op W) (e : Endpoint W) (k : ℕ) → unfinished channel.C e.past ≡ [] →
         held k (asked terms op e).after.past ≡ left_by (busy terms op e) op k (held k e.past) }
 {}
 
-/// And after a beat: what it was, but that a Probe that is taken leaves the right end of its report,
-/// and the last beat of a Grant gives what its cap names.
+/// The permission held of a block after a beat is the one before it, except that a Probe that is taken leaves the right
+/// end of its report, and that the last beat of a Grant gives its cap.
 pub fn held_after_offered<const W: usize>()
     requires { IsWidth W }
     ensures { (terms : EndConfig) (ch : Channel) (x : Beat W) (e : Endpoint W) (k : ℕ) →
@@ -60,8 +60,7 @@ pub fn held_after_offered<const W: usize>()
         held k (offered terms ch x e).after.past ≡ held_by (offered terms ch x e).answer x e.past k }
 {}
 
-/// A message that is handed out breaks no rule by itself at the client's level, and no corrupt bit of
-/// it is set.
+/// A message that a client hands out breaks no L rule at its level, and no corrupt bit of it is set.
 pub fn hands_out_sound_messages<const W: usize>()
     requires { IsWidth W }
     ensures asked { (terms : EndConfig) (op : Op W) (e : Endpoint W) →
@@ -70,8 +69,8 @@ pub fn hands_out_sound_messages<const W: usize>()
         IsSoundAnswer terms.level (offered terms ch x e).answer }
 {}
 
-/// A client keeps what `IsEndpointInvariant` says: whole messages, a copy exactly where something is
-/// held, and the bytes of each AcquirePerm until its Grant.
+/// A client keeps `IsEndpointInvariant`: whole messages, a copy exactly if the permission held isn't None, and the
+/// bytes of each AcquirePerm until its Grant.
 pub fn keeps<const W: usize>()
     requires { IsWidth W }
     ensures fresh { IsEndpointInvariant (fresh {w = W}) }
@@ -81,14 +80,14 @@ pub fn keeps<const W: usize>()
         IsEndpointInvariant (offered terms ch x e).after }
 {}
 
-/// The source that an operation starts with is one of the client's.
+/// An operation starts with one of the client's own sources.
 pub fn starts_with_own_sources<const W: usize>()
     ensures { (terms : EndConfig) (op : Op W) (e : Endpoint W) (s : ℕ) → (asked terms op e).reply ≡ reply.Started s →
         s < terms.sources }
 {}
 
-/// The history after a call is that before it, with the beat where it was taken, and then with all
-/// beats of the message that is handed out. The link is closed once a beat was refused.
+/// The history after a call is the one before it, then the beat if it was taken, then all beats of the message that is
+/// handed out. The link is closed once a beat is refused.
 pub fn remembers_what_passes<const W: usize>()
     ensures asked { (terms : EndConfig) (op : Op W) (e : Endpoint W) →
         (asked terms op e).after.past ≡ sent_if_any (asked terms op e).message e.past }
@@ -101,7 +100,7 @@ pub fn remembers_what_passes<const W: usize>()
         (offered terms ch x e).after.closed ≡ (e.closed || is_refused (offered terms ch x e).answer) }
 {}
 
-/// The copy of a block and the bytes that wait for its Grant, after an operation and after a beat.
+/// The copy of a block, and the bytes that wait for its Grant, after an operation and after a beat.
 pub fn copies_after_calls<const W: usize>()
     ensures asked { (terms : EndConfig) (op : Op W) (e : Endpoint W) (k : ℕ) →
         (asked terms op e).after.copies k ≡ copy_left (busy terms op e) op k (held k e.past) (e.copies k) }
@@ -113,8 +112,8 @@ pub fn copies_after_calls<const W: usize>()
         (offered terms ch x e).after.waiting k ≡ waiting_by (offered terms ch x e).answer x k e }
 {}
 
-/// What is unfinished and what is pending after an operation, and the last request and Release with a
-/// source, by the message that it hands out.
+/// The unfinished bursts, the pending keys and the last request and Release with a source, after an operation, in terms
+/// of the message that it hands out.
 pub fn pending_after_asked<const W: usize>()
     requires { IsWidth W }
     ensures unfinished { (terms : EndConfig) (op : Op W) (e : Endpoint W) (ch : Channel) → IsEndpointInvariant e →
@@ -129,7 +128,7 @@ pub fn pending_after_asked<const W: usize>()
         ≡ release_if_any s (asked terms op e).message (History.release_of s e.past) }
 {}
 
-/// And after a beat, by its answer. Requests and Releases are as before.
+/// The same after a beat, in terms of its answer. The last request and Release with a source are as before.
 pub fn pending_after_offered<const W: usize>()
     requires { IsWidth W }
     ensures unfinished { (terms : EndConfig) (ch : Channel) (x : Beat W) (e : Endpoint W) (at : Channel) →
@@ -145,7 +144,7 @@ pub fn pending_after_offered<const W: usize>()
         History.release_of s (offered terms ch x e).after.past ≡ History.release_of s e.past }
 {}
 
-/// Which request and which Release with a source is open after an operation, and after a beat.
+/// The pending request and the pending Release with a source, after an operation and after a beat.
 pub fn open_after_calls<const W: usize>()
     requires { IsWidth W }
     ensures asked { (terms : EndConfig) (op : Op W) (e : Endpoint W) (s : ℕ) → IsEndpointInvariant e →
@@ -160,9 +159,8 @@ pub fn open_after_calls<const W: usize>()
         open_release s (offered terms ch x e).after.past ≡ release_by s (offered terms ch x e).answer x e.past }
 {}
 
-/// A client keeps account of what is pending: each Acquire and each Release of a block is one open
-/// message, and there are never both; no ProbeAck is missing, and no GrantAck but of the Grant that is
-/// unfinished.
+/// A client accounts for its pending keys. Each pending Acquire or Release of a block is one pending message, and there
+/// are never both. Each Probe has been answered. Only the GrantAck of an unfinished Grant is pending.
 pub fn keeps_account<const W: usize>()
     requires { IsWidth W }
     ensures fresh { IsAccounted {w = W} [] }
@@ -172,8 +170,7 @@ pub fn keeps_account<const W: usize>()
         IsAccounted e.past → IsAccounted (offered terms ch x e).after.past }
 {}
 
-/// A client asks for and holds blocks of the map alone, none at TL-UL and TL-UH, and its sources are
-/// its own.
+/// A client asks for and holds only blocks of the map, and none at TL-UL and TL-UH. It uses only its own sources.
 pub fn keeps_inside<const W: usize>()
     requires { IsWidth W }
     ensures fresh { (terms : EndConfig) → IsInside {w = W} terms [] }
@@ -183,15 +180,14 @@ pub fn keeps_inside<const W: usize>()
         IsInside terms e.past → IsInside terms (offered terms ch x e).after.past }
 {}
 
-/// A message is handed out for an operation exactly where it started, with the source that the reply
-/// names, which was free.
+/// An operation hands out a message exactly if it starts. The message has the source that the reply names, which was
+/// free.
 pub fn starts_with_a_message<const W: usize>()
     ensures { (terms : EndConfig) (op : Op W) (e : Endpoint W) →
         IsStarted (asked terms op e).reply (asked terms op e).message e.past }
 {}
 
-/// A busy client, a miss, a Load and a stall change nothing, and a refusal closes the link and changes
-/// nothing else.
+/// A `Busy`, a miss, a Load and a stall change nothing. A refusal closes the link and changes nothing else.
 pub fn changes_nothing<const W: usize>()
     ensures busy { (terms : EndConfig) (op : Op W) (e : Endpoint W) (b : Busy) →
         (asked terms op e).reply ≡ reply.Busy b → (asked terms op e).after ≡ e }
@@ -205,7 +201,7 @@ pub fn changes_nothing<const W: usize>()
         (offered terms ch x e).answer ≡ Err rule → (offered terms ch x e).after ≡ shut e }
 {}
 
-/// A beat that breaks no rule and doesn't wait is taken, and one of channel D never waits.
+/// A client takes a beat that breaks no rule and isn't stalled. It never stalls a beat of channel D.
 pub fn takes_what_is_lawful<const W: usize>()
     ensures taken { (terms : EndConfig) (ch : Channel) (x : Beat W) (e : Endpoint W) →
         broken_before terms ch x e ≡ None → waits x e.past ≡ false → broken_later terms x e ≡ None →
@@ -214,7 +210,7 @@ pub fn takes_what_is_lawful<const W: usize>()
         stalls terms ch (Beat.D x) e ≡ false }
 {}
 
-/// A client keeps blocks of 64 bytes, as copies and for its Grants.
+/// A client's copies, and the bytes that wait for its Grants, are 64 bytes each.
 pub fn keeps_blocks<const W: usize>()
     requires { IsWidth W }
     ensures fresh { HasBytes (fresh {w = W}) }
@@ -224,7 +220,7 @@ pub fn keeps_blocks<const W: usize>()
         IsTyped x → HasBytes e → HasBytes (offered terms ch x e).after }
 {}
 
-/// A message that is handed out has 64 bytes, is zero where no beat carries it, and is of the map.
+/// A message that a client hands out has 64 bytes, is zero in the parts that no beat carries, and is inside the map.
 pub fn hands_out_proper_messages<const W: usize>()
     requires { IsWidth W }
     ensures asked { (terms : EndConfig) (op : Op W) (e : Endpoint W) → IsTypedOp op → HasBytes e →
@@ -233,8 +229,8 @@ pub fn hands_out_proper_messages<const W: usize>()
         IsProperAnswer terms.blocks (offered terms ch x e).answer }
 {}
 
-/// No beat of a message that is handed out breaks a rule after the history of the client's end, to which
-/// a beat belongs that was taken.
+/// No beat of a message that a client hands out breaks a rule after the history of its end. The history has the beat
+/// that the message answers, if it was taken.
 pub fn breaks_no_rule<const W: usize>()
     requires { IsWidth W }
     ensures asked { (terms : EndConfig) (op : Op W) (e : Endpoint W) → IsEndpointInvariant e →
@@ -245,8 +241,8 @@ pub fn breaks_no_rule<const W: usize>()
         (heard (offered terms ch x e).answer x e.past) }
 {}
 
-/// A Load reads the number of the copy's bytes, and a Store is done where Trunk is held; either misses
-/// where too little is held.
+/// A Load reads the number in the copy, or misses if None is held. A Store is done if Trunk is held, and otherwise
+/// misses.
 pub fn reads_its_copy<const W: usize>()
     ensures load { (terms : EndConfig) (address size : ℕ) (e : Endpoint W) → busy terms (Op.Load address size) e
         ≡ None →
@@ -259,7 +255,7 @@ pub fn reads_its_copy<const W: usize>()
         ≡ (if same_perm perm.Trunk (held (block_at address) e.past) then reply.Stored else reply.Miss) }
 {}
 
-/// A Store writes the bytes of its value, the lowest first, and leaves the others of the block.
+/// A Store writes the bytes of its value, the lowest first, and no other byte of the block.
 pub fn stores_its_bytes()
     ensures long { (address size value : ℕ) (copy : List ℕ) → is_word address size ≡ true → length copy ≡ 64 →
         length (copy_stored address size value copy) ≡ 64 }

@@ -1,5 +1,5 @@
-//! The client's end of a TileLink link: what a client may do, the client that
-//! keeps copies of blocks, and the one that keeps none.
+//! The client's end of a TileLink link: the calls and laws of a client, a client that keeps copies of blocks, and one
+//! that keeps none.
 #![tactic(auto)]
 
 mod access;

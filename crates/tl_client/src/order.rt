@@ -1,4 +1,4 @@
-//! What a client judges of a beat.
+//! The rules by which a client judges a beat.
 
 ghost use Rattle.std.specs.Prelude.{◌≡◌, false, is_err, None, OnOk, if◌then◌else◌};
 ghost use Rattle.tl_beat.specs.statement.Width.{IsWidth};
@@ -21,7 +21,8 @@ use tl_rules::past::Past;
 use tl_rules::profile::Profile;
 use tl_rules::rule::Rule;
 
-/// The rule that a beat breaks whatever passed before: A3 where the link is closed, or an L rule.
+/// Checks the rules that need no history. The error is A3 if the link is closed, L1 for a channel on which a client
+/// sends, or the first L rule that the beat breaks.
 pub fn check_alone<const W: usize>(
     closed: bool,
     level: Level,
@@ -42,7 +43,7 @@ pub fn check_alone<const W: usize>(
     }
 }
 
-/// The S or H rule that a beat breaks, by what it is to its burst.
+/// The S or H rule that a beat breaks, given its place in its burst.
 pub fn broken_in_order<const W: usize, P: Past<W>>(
     profile: Profile,
     beat: &Beat<W>,

@@ -43,10 +43,10 @@ use tl_rules::rule::Rule;
 pub struct Plain<const W: usize> {
     config: ClientConfig,
     blocks: u16,
-    /// That of its link. Accesses are answered alike under each.
+    /// The profile of its link. It makes no difference to accesses.
     profile: Profile,
     requests: Sources<Request>,
-    /// The beats of channel D.
+    /// The unfinished response on channel D.
     responses: Assembler<W>,
     /// A beat was refused.
     closed: bool,
@@ -60,8 +60,8 @@ impl<const W: usize> Plain<W> {
     ghost use Rattle.tl_client.specs.statement.Endpoint.{Endpoint};
     ghost use Rattle.tl_client.specs.code.KnowsPlain.{IsNewPlain, KnowsPlain, plain_terms};
 
-    /// A client on this many blocks, which has sent and taken nothing: N2 where these are out of their
-    /// limits, otherwise N4 where its sources are. It takes no memory.
+    /// A new client on this many blocks. The error is N2 if the number of blocks is out of its limits, otherwise N4 if
+    /// the number of sources is. It allocates no memory.
     pub fn new(
         _alloc: Global,
         config: ClientConfig,
@@ -83,7 +83,7 @@ impl<const W: usize> Plain<W> {
         })
     }
 
-    /// The rule that a beat of channel D breaks which breaks no rule by itself.
+    /// Checks a beat of channel D that breaks no L rule. The error is the first other rule that it breaks.
     fn judge_order(&self, beat: &Beat<W>, response: BeatD<W>) -> Result<(), Rule>
         requires response { beat.now ≡ Beat.D response }
         requires takeable { IsTakeable beat.now }
@@ -103,7 +103,7 @@ impl<const W: usize> Plain<W> {
         Ok(())
     }
 
-    /// The first rule that a beat breaks. Only channel D comes to this client.
+    /// The first rule that a beat breaks. This client takes beats of channel D alone.
     fn judge(&self, channel: Channel, beat: &Beat<W>) -> Result<(), Rule>
         ensures rule { (e : Endpoint W) → KnowsPlain self.now e →
             result ≡ ok_unless (plain_rule self.now.config.level (open_at self.now.requests) self.now.responses

@@ -1,4 +1,4 @@
-//! Releases: how one is handed out, and what the answer to it is judged by.
+//! Releases: the fields by which their answers are judged.
 
 ghost use Rattle.std.specs.List.{list_any};
 ghost use Rattle.std.specs.Prelude.{◌≡◌, ◌==◌};
@@ -8,7 +8,7 @@ use crate::sources::Sources;
 use tl_burst::message::MessageC;
 use tl_rules::key::block_at;
 
-/// Fields of a Release.
+/// The fields of a pending Release.
 #[derive(Clone, Copy, Debug, PartialEq, Eq)]
 pub struct Release {
     pub size: u8,
@@ -18,7 +18,7 @@ pub struct Release {
 impl Release {
     ghost use Rattle.tl_client.specs.statement.Requests.{release_in};
 
-    /// What the answer to a Release is judged by.
+    /// The fields of this Release.
     pub fn of<const W: usize>(release: &MessageC<W>) -> Self
         ensures { result ≡ release_in release.now }
     {
@@ -29,7 +29,7 @@ impl Release {
     }
 }
 
-/// Whether what is open is a Release of the block.
+/// Whether there is a Release, and it is of the block.
 pub fn is_release_of(release: Option<Release>, block: u32) -> bool
     ensures { result ≡ releases_block block release }
 {
@@ -39,7 +39,7 @@ pub fn is_release_of(release: Option<Release>, block: u32) -> bool
     }
 }
 
-/// Whether a Release of the block is open.
+/// Whether a Release of the block is pending.
 pub fn is_releasing(releases: &Sources<Release>, block: u32) -> bool
     ensures { result ≡ list_any (releases_block block) releases.now.with_source }
 {

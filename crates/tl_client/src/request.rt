@@ -1,4 +1,4 @@
-//! Requests of channel A: how one is handed out, and what a response to it is judged by.
+//! Requests of channel A: their start, and the fields by which their responses are judged.
 
 ghost use Rattle.std.specs.Prelude.{ℕ, ◌≡◌, ◌≤◌, ◌==◌, ◌&&◌, if◌then◌else◌, is_some, None};
 ghost use Rattle.std.specs.List.{list_any};
@@ -16,7 +16,7 @@ use tl_rules::key::block_at;
 use tl_rules::kind::is_acquire;
 use tl_rules::past;
 
-/// Fields of a request of channel A.
+/// The fields of a pending request of channel A.
 #[derive(Clone, Copy, Debug, PartialEq, Eq)]
 pub struct Request {
     pub opcode: OpA,
@@ -28,7 +28,7 @@ pub struct Request {
 impl Request {
     ghost use Rattle.tl_client.specs.statement.Requests.{fields_in, judged_in};
 
-    /// What a response to a request is judged by.
+    /// The fields of this request.
     pub fn of<const W: usize>(request: &MessageA<W>) -> Self
         ensures { result ≡ fields_in request.now }
     {
@@ -40,7 +40,7 @@ impl Request {
         }
     }
 
-    /// What the order of messages asks of a request.
+    /// The fields that the H rules need.
     pub fn judged(self) -> past::Request
         ensures { result ≡ judged_in self }
     {
@@ -53,7 +53,7 @@ impl Request {
     }
 }
 
-/// Whether what is open is an Acquire of the block.
+/// Whether there is a request, and it is an Acquire of the block.
 pub fn is_acquire_of(request: Option<Request>, block: u32) -> bool
     ensures { result ≡ acquires_block block request }
 {
@@ -63,7 +63,7 @@ pub fn is_acquire_of(request: Option<Request>, block: u32) -> bool
     }
 }
 
-/// Whether an Acquire of the block is open.
+/// Whether an Acquire of the block is pending.
 pub fn is_acquiring(requests: &Sources<Request>, block: u32) -> bool
     ensures { result ≡ list_any (acquires_block block) requests.now.with_source }
 {
@@ -71,7 +71,7 @@ pub fn is_acquiring(requests: &Sources<Request>, block: u32) -> bool
     all.iter().any(|request| is_acquire_of(*request, block))
 }
 
-/// Hands a request out with the least source that is free, written where it is to stand, or answers B1.
+/// Hands out a request with the least free source, and writes it into `message`. The reply is B1 if no source is free.
 pub fn start<const W: usize>(
     requests: &mut Sources<Request>,
     sources: u8,

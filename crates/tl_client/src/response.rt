@@ -1,4 +1,4 @@
-//! How an operation ends, by the response to it.
+//! The results of operations, by their responses.
 
 ghost use Rattle.std.specs.Prelude.{◌≡◌, ◌≤◌, ◌∷◌, true, false, length, take, IfSome, None};
 ghost use Rattle.std.specs.Bool.{OnTrue, OnFalse};
@@ -25,7 +25,7 @@ use tl_burst::message::{Message, MessageE};
 use tl_rules::admission::is_spoiled;
 use tl_rules::kind::capped;
 
-/// The first `count` bytes, or all where there are fewer.
+/// The first `count` bytes, or all if there are fewer.
 fn first(bytes: &[u8], count: usize) -> &[u8]
     ensures value { result.now ≡ take count bytes.now }
     ensures few { length result.now ≤ length bytes.now }
@@ -47,7 +47,7 @@ fn padded(first: &[u8]) -> [u8; 64]
     bytes
 }
 
-/// The `2^size` bytes that a payload has from an address on, with zeros after them.
+/// The `2^size` bytes of a payload from an address on, with zeros after them.
 fn bytes_at<const W: usize>(address: u32, size: u8, payload: &[u8; 64]) -> [u8; 64]
     requires width { IsWidth W }
     requires small { size ≤ 6 }
@@ -58,7 +58,7 @@ fn bytes_at<const W: usize>(address: u32, size: u8, payload: &[u8; 64]) -> [u8; 
     padded(first(&payload[lane..], 1 << size))
 }
 
-/// The address of the request that is answered.
+/// The address of a request; 0 if there is none.
 fn address_of(request: Option<Request>) -> u32
     ensures { result ≡ address_in request }
 {
@@ -68,8 +68,8 @@ fn address_of(request: Option<Request>) -> u32
     }
 }
 
-/// What the last beat of a response to this request answers. The bytes are its payload, of which those that belong
-/// to the answer are left.
+/// The compact answer to the last beat of a response to this request. `bytes` has the payload of the response, and then
+/// the bytes of the answer.
 pub fn answer_to<const W: usize>(
     response: &BeatD<W>,
     request: Option<Request>,
@@ -100,7 +100,7 @@ pub fn answer_to<const W: usize>(
     Answer::Ended { source, ending }
 }
 
-/// Writes the payload of a message, where it is one of channel D.
+/// Copies the payload of a message of channel D.
 fn copy_payload<const W: usize>(message: &Message<W>, payload: &mut [u8; 64])
     ensures { IfSome (d_of message.now) (λ m. payload.new ≡ m.payload) }
 {
@@ -109,7 +109,7 @@ fn copy_payload<const W: usize>(message: &Message<W>, payload: &mut [u8; 64])
     }
 }
 
-/// Takes a beat of channel D: whether it completes its response, whose payload is then written.
+/// Takes a beat of channel D, and returns whether it completes its response. If it does, the payload is written.
 pub fn complete<const W: usize>(
     responses: &mut Assembler<W>,
     beat: &Beat<W>,
@@ -132,9 +132,9 @@ pub fn complete<const W: usize>(
     completes
 }
 
-/// Takes a beat of channel D that goes on with a response and doesn't complete it, where the link isn't closed, and
-/// neither corrupt nor denied is set: whether it was taken. Otherwise nothing changes. Such a beat breaks no rule by
-/// itself, as those before it break none, since they have its control fields.
+/// Takes a beat of channel D that continues a response and doesn't complete it, and returns whether it did. The link
+/// must not be closed, and neither corrupt nor denied be set. Otherwise nothing changes. Such a beat breaks no L rule:
+/// it has the control fields of the beats before it, which break none.
 pub fn goes_on<const W: usize>(
     closed: bool,
     responses: &mut Assembler<W>,

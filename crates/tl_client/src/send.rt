@@ -1,4 +1,4 @@
-//! The messages that a client hands out of its own: all that no beat of one carries is zero.
+//! The messages that a client hands out. The parts of one that no beat carries are zero.
 
 ghost use Rattle.std.specs.Prelude.{◌≡◌, ◌<◌, ◌^◌};
 ghost use Rattle.tl_beat.specs.statement.Width.{IsWidth};
@@ -49,7 +49,7 @@ fn about<const W: usize>(
     }
 }
 
-/// A Release of a block, with its copy where it gives Trunk up.
+/// A Release of a block. It carries the copy if its prune starts from Trunk.
 pub fn release<const W: usize>(prune: Prune, source: u8, block: u16, copy: [u8; 64]) -> MessageC<W>
     ensures { message.C result ≡ Send.release prune source block copy }
 {
@@ -60,7 +60,7 @@ pub fn release<const W: usize>(prune: Prune, source: u8, block: u16, copy: [u8; 
     }
 }
 
-/// The answer to a Probe, with the copy where a ProbeBlock finds Trunk.
+/// A ProbeAck. It carries the copy if it answers a ProbeBlock and Trunk is held.
 pub fn probe_ack<const W: usize>(
     opcode: OpB,
     held: Perm,

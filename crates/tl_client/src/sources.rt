@@ -1,9 +1,9 @@
-//! What is open with each source number: the messages that wait for their responses.
+//! The pending message of each source.
 
 ghost use Rattle.std.specs.Prelude.{ℕ, ◌≡◌, ◌<◌, ◌≤◌, ◌==◌, if◌then◌else◌, is_some, IfSome};
 ghost use Rattle.tl_client.specs.statement.Ask;
 
-/// What is open with each source number of a pool.
+/// The pending messages of one pool, by their sources.
 #[derive(Drop)]
 pub struct Sources<T: Copy> {
     with_source: [Option<T>; 8],
@@ -12,7 +12,7 @@ pub struct Sources<T: Copy> {
 impl<T: Copy> Sources<T> {
     ghost use Rattle.tl_client.specs.code.Sources.{open_at, with_each};
 
-    /// Nothing is open.
+    /// No message is pending.
     pub fn new() -> Self
         ensures { (s : ℕ) → open_at result s ≡ None }
     {
@@ -21,7 +21,7 @@ impl<T: Copy> Sources<T> {
         }
     }
 
-    /// What is open with this source.
+    /// The pending message with this source.
     pub fn at(&self, source: u8) -> Option<T>
         ensures { result ≡ open_at self.now source }
     {
@@ -31,14 +31,14 @@ impl<T: Copy> Sources<T> {
         }
     }
 
-    /// What is open with each source.
+    /// The pending message of each source.
     pub fn all(&self) -> &[Option<T>; 8]
         ensures { result.now ≡ with_each self.now }
     {
         &self.with_source
     }
 
-    /// The least source below this number with which nothing is open.
+    /// The least free source below this number.
     pub fn least_free(&self, sources: u8) -> Option<u8>
         ensures least { result ≡ Ask.least_free (λ s. is_some (open_at self.now s)) 0 sources }
         ensures below { IfSome result (λ s. s < sources) }
@@ -51,7 +51,7 @@ impl<T: Copy> Sources<T> {
         None
     }
 
-    /// Opens a message with this source.
+    /// Makes this message pending with this source.
     pub fn open(&mut self, source: u8, message: T)
         requires { source < 8 }
         ensures { (s : ℕ) → open_at self.new s ≡ (if source == s then Some message else open_at self.old s) }
@@ -59,7 +59,7 @@ impl<T: Copy> Sources<T> {
         self.with_source[usize::from(source)] = Some(message);
     }
 
-    /// Closes what is open with this source, if anything is.
+    /// Closes the pending message with this source, if there is one, and returns it.
     pub fn close(&mut self, source: u8) -> Option<T>
         ensures message { result ≡ open_at self.old source }
         ensures closed { (s : ℕ) → open_at self.new s ≡ (if source == s then None else open_at self.old s) }

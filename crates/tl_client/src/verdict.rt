@@ -1,18 +1,17 @@
-//! What a client answers to a beat that it doesn't refuse.
+//! The answer of a client to a beat that it doesn't refuse.
 
 use tl_rules::perm::Perm;
 
-/// How an operation ended.
+/// The result of an operation.
 #[derive(Clone, Copy, Debug, PartialEq, Eq)]
 pub enum Finish {
     /// AccessAck.
     Ack,
     /// HintAck.
     Hint,
-    /// AccessAckData: the size of the access, and its bytes from its address on, with zeros after
-    /// them.
+    /// AccessAckData: the size of the access, and its bytes from its address on, then zeros.
     Data(u8, [u8; 64]),
-    /// Grant or GrantData, of this permission.
+    /// Grant or GrantData, with this permission.
     Granted(Perm),
     /// ReleaseAck.
     Released,

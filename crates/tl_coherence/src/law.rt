@@ -1,4 +1,4 @@
-//! What keeps a world coherent, as laws.
+//! Laws: a manager and its clients stay coherent.
 
 ghost use Rattle.tl_beat.specs.statement.Width.{IsWidth};
 ghost use Rattle.tl_coherence.specs.statement.AnsweredInTime.{AnsweredInTime};
@@ -16,7 +16,7 @@ ghost use Rattle.tl_coherence.specs.statement.TrueGrants.{TrueGrants};
 ghost use Rattle.tl_coherence.specs.statement.TrueReads.{TrueReads};
 ghost use Rattle.tl_coherence.specs.statement.TrueReturns.{TrueReturns};
 
-/// Whatever happens, no client holds more of a block than the manager has recorded for it.
+/// Whatever happens, no client holds a higher permission of a block than the manager has recorded.
 pub fn holds_at_most_what_is_recorded<const W: usize>()
     requires { IsWidth W }
     ensures { Recorded W }
@@ -28,93 +28,96 @@ pub fn refuses_no_beat<const W: usize>()
     ensures { Unrefused W }
 {}
 
-/// No channel ever holds more beats than it is made for.
+/// No channel ever holds more beats than it has room for.
 pub fn fills_no_channel<const W: usize>()
     requires { IsWidth W }
     ensures { CapacityBound W }
 {}
 
-/// Where one client may write a block, no other has a copy; each copy has the bytes of the one memory.
+/// While one client holds Trunk of a block, no other has a copy. Each copy has the bytes of the one memory.
 pub fn keeps_copies_coherent<const W: usize>()
     requires { IsWidth W }
     ensures { Coherent W }
 {}
 
-/// Which deliveries find nothing, which are stalled, and which move a beat.
+/// The deliveries that find an empty channel, those that stall, and those that move a beat.
 pub fn stalls_exactly<const W: usize>()
     requires { IsWidth W }
     ensures { Stalls W }
 {}
 
-/// Channels lose nothing and keep order.
+/// Channels lose no beat and keep their order.
 pub fn loses_nothing<const W: usize>()
     requires { IsWidth W }
     ensures { Fifo W }
 {}
 
-/// At a Grant the client holds what it is granted.
+/// When a Grant ends an Acquire, the client holds its permission.
 pub fn holds_what_it_is_granted<const W: usize>()
     requires { IsWidth W }
     ensures { GrantedIsHeld W }
 {}
 
-/// A delivery can move exactly while something is outstanding: nothing gets stuck.
+/// A delivery can move a beat exactly while something is outstanding: there is no deadlock.
 pub fn moves_while_outstanding<const W: usize>()
     requires { IsWidth W }
     ensures { NoDeadlock W }
 {}
 
-/// The outcomes are a run of the one-memory machine, with which each event that comes next goes on.
+/// The outcomes are a run of the one-memory machine, and the machine can follow each next event.
 pub fn is_a_run_of_one_memory<const W: usize>()
     requires { IsWidth W }
     ensures { OneMemory W }
 {}
 
-/// One memory, coherent copies, no beat refused, and a delivery that can move exactly while something is outstanding.
+/// One memory, coherent copies, no beat refused, and a delivery that can move a beat exactly while something is
+/// outstanding.
 pub fn stays_sound<const W: usize>()
     requires { IsWidth W }
     ensures { Headline W }
 {}
 
-/// An Acquire that is started alone, and drained, brings what it asks for, and an AcquireWhole Trunk.
+/// An Acquire that starts alone and is drained brings the permission that it asks for, an AcquireWhole brings Trunk.
 pub fn brings_what_is_asked_alone<const W: usize>()
     requires { IsWidth W }
     ensures asked { LoneAcquire W }
     ensures whole { LoneAcquireWhole W }
 {}
 
-/// Deliveries move no more beats than the load before them.
+/// Deliveries move at most as many beats as the load before them.
 pub fn moves_at_most_the_load<const W: usize>()
     requires { IsWidth W }
     ensures { DeliveryBound W }
 {}
 
-/// What is outstanding ends after as many deliveries as the load at most, each the next one, and then no delivery is
-/// left.
+/// After at most as many deliveries as the load, each the next one, nothing is outstanding and no delivery can move a
+/// beat.
 pub fn drains_within_the_load<const W: usize>()
     requires { IsWidth W }
     ensures { DrainsWithinLoad W }
 {}
 
-/// What is delivered on each link breaks no rule: a monitor finds no fault in it.
+/// The beats delivered on each link break no rule: a monitor finds no fault in them.
 pub fn breaks_no_rule_on_a_link<const W: usize>()
     requires { IsWidth W }
     ensures { Flows W }
 {}
 
-/// What is delivered, on all links at once, has no first fault.
+/// The beats delivered on all links have no first fault.
 pub fn has_no_fault_on_all_links<const W: usize>()
     requires { IsWidth W }
     ensures { Faultless W }
 {}
 
-/// What all links carry gives nobody a block that another may write, nor to write what another holds.
+/// By the beats that all links carry, no Grant conflicts with a permission on another link, and beside Trunk none is
+/// held.
 pub fn grants_beside_no_writer<const W: usize>()
     requires { IsWidth W }
     ensures { Apart W }
 {}
 
-/// Each access is answered after a moment, since its request was complete, at which no link held what excludes it.
+/// Each access is answered after a moment, since its request was complete, at which no link held a conflicting
+/// permission.
 pub fn answers_after_a_window<const W: usize>()
     requires { IsWidth W }
     ensures { AnsweredInTime W }
@@ -132,34 +135,34 @@ pub fn gives_back_true_bytes<const W: usize>()
     ensures { TrueReturns W }
 {}
 
-/// Each beat of an AccessAckData that is delivered has bytes that the one memory had at a moment, since the request
-/// was complete, at which no link held what excludes it.
+/// Each beat of an AccessAckData that is delivered has bytes that the one memory had at a moment, since the request was
+/// complete, at which no link held a conflicting permission.
 pub fn reads_true_bytes<const W: usize>()
     requires { IsWidth W }
     ensures { TrueReads W }
 {}
 
-/// A client stores to its copy, which no link carries, only where its link holds Trunk of the block.
+/// A client stores to its copy, which no link carries, only while its link holds Trunk of the block.
 pub fn stores_under_trunk<const W: usize>()
     requires { IsWidth W }
     ensures { HiddenStores W }
 {}
 
-/// An access is performed alone, at a moment at which no link holds what excludes it.
+/// An access is performed alone, at a moment at which no link holds a conflicting permission.
 pub fn performs_where_free<const W: usize>()
     requires { IsWidth W }
     ensures { PerformedFree W }
 {}
 
-/// Each beat that is delivered has room in its line and, where clients are given bytes to store, is
-/// within its types: its line is read back as it.
+/// Each beat that is delivered fits its line. Its numbers are within their types if clients are given bytes to store,
+/// and its line then reads back as that beat.
 pub fn delivers_what_a_line_spells<const W: usize>()
     requires { IsWidth W }
     ensures room { HaveRoom W }
     ensures range { AreInRange W }
 {}
 
-/// All of this at once: whatever requests and deliveries come, of each manager and its clients.
+/// All of these at once: for each manager and its clients, whatever requests and deliveries come.
 pub fn holds<const W: usize>()
     requires { IsWidth W }
     ensures { Theorem W }

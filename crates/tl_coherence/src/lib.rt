@@ -1,5 +1,4 @@
-//! What keeps a world coherent: the whole of a manager, its clients and their channels, what can happen to it, and the
-//! laws.
+//! The state of a manager, its clients and their channels, its events, and the laws that keep it coherent.
 #![tactic(auto)]
 
 pub mod event;

@@ -10,7 +10,7 @@ use crate::word::with_bit;
 use std::alloc::{AllocError, Global};
 use tl_rules::perm::Perm;
 
-/// Who holds a block: bit `c` of `owners` for client `c` with Trunk, of `sharers` with Branch.
+/// The clients that hold a block: bit `c` of `owners` for Trunk of client `c`, of `sharers` for Branch.
 #[derive(Clone, Copy)]
 pub struct Words {
     pub owners: u16,
@@ -37,7 +37,7 @@ impl Words {
         Words { owners, sharers }
     }
 
-    /// What a client holds.
+    /// The permission of a client.
     fn perm(self, client: u8) -> Perm
         requires { client < 16 }
         ensures { result ≡ perm_in self.owners self.sharers client }
@@ -51,7 +51,7 @@ impl Words {
         }
     }
 
-    /// A word whose bit `c` is set exactly where client `c` holds anything.
+    /// A word whose bit `c` is set exactly if client `c` holds Branch or Trunk.
     pub(crate) fn holders(self) -> u16
         ensures { (c : ℕ) → bit_at result c ≡ copy_bit (perm_in self.owners self.sharers c) }
     {
@@ -59,8 +59,7 @@ impl Words {
     }
 }
 
-/// A directory of two words a block, the owners (Trunk) and the sharers (Branch), which have no bit
-/// in common.
+/// A directory with two words for each block: owners (Trunk) and sharers (Branch), which have no bit in common.
 #[derive(Drop)]
 pub struct BitDirectory {
     words: Vec<Words>,
@@ -72,7 +71,8 @@ impl BitDirectory {
     ghost use Rattle.std.specs.Prelude.{length};
     ghost use Rattle.tl_manager.specs.code.Directories.{perm_of_bits, blocks_of_bits, clients_of_bits};
 
-    /// A directory of this many blocks and clients, at most 16, of whom none holds anything.
+    /// A directory of this many blocks and clients, at most 16, with no permission recorded. The error means that there
+    /// is no memory left.
     pub fn new(alloc: Global, blocks: u16, clients: u8) -> Result<BitDirectory, AllocError>
         requires { clients ≤ 16 }
         ensures none { IfOk result (λ d. (b c : ℕ) → perm_of_bits d b c ≡ Perm.None) }

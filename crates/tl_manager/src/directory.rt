@@ -1,5 +1,5 @@
-//! What a directory is: a map from block and client to permission (SiFive TileLink Specification 1.8,
-//! chapter on TL-C: None, Branch and Trunk).
+//! The directory: a map from block and client to permission (SiFive TileLink Specification 1.8, chapter on TL-C: None,
+//! Branch and Trunk).
 
 ghost use Rattle.std.specs.Prelude.{◌≡◌, ◌≤◌, ◌<◌, ◌⊎◌, ◌≢◌, ℕ};
 ghost use Rattle.std.specs.Int.{bit_at};
@@ -8,19 +8,19 @@ ghost use Rattle.tl_manager.specs.code.Word.{trunk_bit, copy_bit};
 
 use tl_rules::perm::Perm;
 
-/// A map from block and client to what the client was last recorded to hold of the block. It covers
-/// blocks and clients from 0 on, at most 16 clients.
+/// A map from block and client to the permission that is recorded. It covers blocks and clients from 0 on, at most 16
+/// clients.
 pub trait Directory: Drop {
-    /// What is recorded of a block and a client.
+    /// The permission recorded of a block and a client.
     ghost perm_of: { Self → ℕ → ℕ → Perm };
 
-    /// How many blocks it covers.
+    /// The number of blocks.
     ghost blocks: { Self → ℕ };
 
-    /// How many clients it covers.
+    /// The number of clients.
     ghost clients: { Self → ℕ };
 
-    /// What is recorded of a block and a client.
+    /// The permission recorded of a block and a client.
     fn get(&self, block: u16, client: u8) -> Perm
         requires block { block < blocks self.now }
         requires client { client < clients self.now }
@@ -35,15 +35,13 @@ pub trait Directory: Drop {
         ensures blocks { blocks self.new ≡ blocks self.old }
         ensures clients { clients self.new ≡ clients self.old };
 
-    /// A word whose bit `c` is set exactly where client `c` is recorded Trunk of the block. It has a bit
-    /// for each client that is covered.
+    /// A word whose bit `c` is set exactly if client `c` is recorded with Trunk of the block.
     fn owners(&self, block: u16) -> u16
         requires { block < blocks self.now }
         ensures bits { (c : ℕ) → bit_at result c ≡ trunk_bit (perm_of self.now block c) }
         ensures few { clients self.now ≤ 16 };
 
-    /// A word whose bit `c` is set exactly where client `c` isn't recorded None of the block. It has a
-    /// bit for each client that is covered.
+    /// A word whose bit `c` is set exactly if client `c` is recorded with Branch or Trunk of the block.
     fn holders(&self, block: u16) -> u16
         requires { block < blocks self.now }
         ensures bits { (c : ℕ) → bit_at result c ≡ copy_bit (perm_of self.now block c) }

@@ -1,4 +1,4 @@
-//! What the definitions of a manager's answers amount to, as laws.
+//! Laws of the manager's answers.
 
 ghost use Rattle.std.specs.Prelude.{◌≡◌, ◌<◌, ◌↔◌, ◌&&◌, ◌||◌, ℕ, Bool, List, []};
 ghost use Rattle.std.specs.Prelude.{true, false, nat_lt, length, Some, if◌then◌else◌};
@@ -35,9 +35,8 @@ ghost use Rattle.tl_manager.specs.statement.Service.{services, service_of_block}
 ghost use Rattle.tl_manager.specs.statement.End.{End, fresh};
 ghost use Rattle.tl_manager.specs.statement.Offer.{Refused, Stalled, refused, offered, stalls};
 
-/// What holds of a manager's end from the first beat that it is offered on, and that every message
-/// which it hands out breaks no rule of legality at its link's level, isn't corrupt and isn't denied, and
-/// has 64 bytes that are zero where no beat carries them.
+/// A manager's end keeps `IsKept` from the start. Each message that it hands out breaks no L rule at its link's level,
+/// is neither corrupt nor denied, and has 64 bytes that are zero in the parts that no beat carries.
 pub fn sends_lawfully<const W: usize>()
     requires { IsWidth W }
     ensures fresh { (config : Config) → IsKept {w = W} config fresh }
@@ -47,7 +46,7 @@ pub fn sends_lawfully<const W: usize>()
         IsTyped x → IsKept config e → IsAnswerLawful config (offered config link ch x e).0 }
 {}
 
-/// A beat is stalled exactly where it is answered so, and none of the channels C and E ever is.
+/// `stalls` is true exactly if the answer to the beat is Stalled. Beats of channels C and E are never stalled.
 pub fn stalls_requests<const W: usize>()
     ensures answered { (config : Config) (link : Link) (ch : Channel) (x : Beat W) (e : End W) →
         stalls config link ch x e ≡ is_stalled (offered config link ch x e).0 }
@@ -57,8 +56,8 @@ pub fn stalls_requests<const W: usize>()
         stalls {w = W} config link ch (Beat.E x) e ≡ false }
 {}
 
-/// What is recorded of a client and a block after any beat: what the ProbeAck or Release leaves that
-/// the beat completes, then what the Grant gives that is handed out, and otherwise what was before.
+/// The permission recorded after a beat: the one that the beat sets by completing a ProbeAck or Release, then the one
+/// that a Grant gives which is handed out, otherwise the one before.
 pub fn records_reports<const W: usize>()
     requires { IsWidth W }
     ensures { (config : Config) (link : Link) (ch : Channel) (x : Beat W) (e : End W) (client block : ℕ) →
@@ -67,8 +66,8 @@ pub fn records_reports<const W: usize>()
         ≡ recorded_after (offered config link ch x e).0 (link, x) e.trace client block }
 {}
 
-/// The requests in service after any beat: the request that it completes is added, that of its GrantAck
-/// ends, and so do those of the accesses whose answers are handed out.
+/// The requests in service after a beat. A request that the beat completes is added. A GrantAck ends its service, and
+/// the answer to an access ends that of the access.
 pub fn serves_requests<const W: usize>()
     requires { IsWidth W }
     ensures { (config : Config) (link : Link) (ch : Channel) (x : Beat W) (e : End W) →
@@ -77,8 +76,8 @@ pub fn serves_requests<const W: usize>()
         ≡ services_left (offered config link ch x e).0 (link, x) e.trace }
 {}
 
-/// The history of each link after any beat: with the beat where it is taken, and with the messages that
-/// are handed out, none of which is unfinished. A ProbeAck is missing from its Probe until its last beat is taken.
+/// The history of each link after a beat has the beat if it was taken, and then the messages that are handed out, none
+/// of which is unfinished. A ProbeAck is missing from its Probe until its last beat is taken.
 pub fn extends_histories<const W: usize>()
     requires { IsWidth W }
     ensures history { (config : Config) (link : Link) (ch : Channel) (x : Beat W) (e : End W) (client : ℕ) →
@@ -95,11 +94,13 @@ pub fn extends_histories<const W: usize>()
         ≡ missing_after (offered config link ch x e).0 (link, x) e.trace client block }
 {}
 
-/// What is pending on each link follows from the requests in service: a source where one has it that isn't
-/// answered, or the unfinished one; an Acquire and a GrantAck of a block by its service, and a sink by the
-/// tracker of one that is granted; a ProbeAck only for a service that isn't answered, with its Probe. The
-/// request of a service and the sink of its Grant are those of its link. One that isn't granted misses a
-/// ProbeAck.
+/// The pending keys of each link follow from the requests in service:
+/// - a source from an unanswered request with it, or an unfinished one;
+/// - an Acquire and a GrantAck of a block from its service, and a sink from the tracker of a granted one;
+/// - a Probe from an unanswered request for its block.
+///
+/// The last request with a service's source and the sink of its Grant are the service's. A service that isn't granted
+/// waits for a ProbeAck.
 pub fn accounts_for_pending<const W: usize>()
     ensures source { (config : Config) (e : End W) (client source : ℕ) → IsKept config e →
         pending (RequestSource source) (on_link client e.trace)
@@ -122,8 +123,8 @@ pub fn accounts_for_pending<const W: usize>()
         is_awaited config block e.trace (service_of_block block (services e.trace)) ≡ true }
 {}
 
-/// The clients that pass a test are found, each once and in rising order. Nothing is missing where no
-/// client's ProbeAck is, and a block is unheld where no client is recorded with it.
+/// `clients_where` finds each client for which the test is true, once and in rising order. A block is settled exactly
+/// if no client's ProbeAck is missing, and unheld exactly if no client is recorded with a copy.
 pub fn finds_clients<const W: usize>()
     ensures found { (config : Config) (test : ℕ → Bool) (client : ℕ) →
         is_one_of client (clients_where config test) ≡ (nat_lt client (length config.clients.items) && test client) }
@@ -136,8 +137,8 @@ pub fn finds_clients<const W: usize>()
         recorded client block t ≡ perm.None) }
 {}
 
-/// The request that is made of the beats of a message is that message, and so are the data of a
-/// message of channel C its payload. A payload is 64 bytes.
+/// The request made from the beats of a message is that message. The data of a message of channel C are its payload.
+/// Payloads have 64 bytes.
 pub fn assembles_messages<const W: usize>()
     requires { IsWidth W }
     ensures request { (m : MessageA W) (beats : List (Beat W)) → length m.payload ≡ 64 →
@@ -146,8 +147,8 @@ pub fn assembles_messages<const W: usize>()
         IsBurst (Message.C m) beats → payload_of beats ≡ m.payload }
 {}
 
-/// A beat changes the memory in its own block alone. One that is refused closes its link, one that is
-/// stalled changes nothing, and neither does anything besides.
+/// A beat changes memory only in its own block. A refusal closes the link and changes nothing else. A stall changes
+/// nothing.
 pub fn keeps_the_rest<const W: usize>()
     requires { IsWidth W }
     ensures memory { (config : Config) (link : Link) (ch : Channel) (x : Beat W) (e : End W) (address : ℕ) →
@@ -159,8 +160,8 @@ pub fn keeps_the_rest<const W: usize>()
         (offered config link ch x e).0 ≡ Stalled → (offered config link ch x e).1 ≡ e }
 {}
 
-/// What a link's history says after a Probe, an answer or a Grant was handed out, where none was
-/// unfinished: what the message opens is pending, what it closes isn't, and requests are as before.
+/// A link's history after a Probe, an answer or a Grant was handed out, if none was unfinished. The keys that the
+/// message opens are pending, and those that it closes aren't. An answer leaves the last requests as they were.
 pub fn hands_out_whole<const W: usize>()
     requires { IsWidth W }
     ensures probe { (m : MessageB W) (key : Key) (t : History W) → unfinished Channel.B t ≡ [] →

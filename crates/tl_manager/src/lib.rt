@@ -1,4 +1,4 @@
-//! The manager's side of TileLink links: directories of who holds what.
+//! The manager's end of TileLink links, and its directories of permissions.
 #![tactic(auto)]
 
 pub mod bits;

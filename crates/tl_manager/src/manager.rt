@@ -40,16 +40,16 @@ use tl_rules::level::Level;
 use tl_rules::perm::Perm;
 use tl_rules::rule::Rule;
 
-/// What comes of a beat that is offered and breaks no rule.
+/// The answer to a beat that breaks no rule.
 pub enum Taken<const W: usize> {
-    /// It has to wait.
+    /// The beat must wait, and nothing changed.
     Stalled,
-    /// It was taken, and these messages are handed out, in order.
+    /// The beat was taken, and these messages are handed out, in order.
     Sent(Handed<W>),
 }
 
-/// The manager of up to sixteen links, with what its directory records of them. A contract sees what it
-/// keeps, and says what that tells of any end that it knows.
+/// The manager of up to sixteen links, with a directory of the permissions that it records. A contract sees the
+/// manager's state, and speaks of every end of the links that this state represents.
 #[derive(Drop)]
 pub struct Manager<const W: usize, D: Directory> {
     state: ManagerState<W, D>,
@@ -71,8 +71,8 @@ impl<const W: usize, D: Directory> Manager<W, D> {
     ghost use Rattle.tl_manager.specs.code.Fresh.{IsNew};
     ghost use Rattle.tl_manager.specs.code.Knows.{Knows};
 
-    /// A manager of a configuration, with a fresh directory that covers it: the first limit that is
-    /// broken, in the order N1 to N4, or want of memory.
+    /// A manager of a configuration, with a new directory that covers it. The error is the first limit that is broken,
+    /// in the order N1 to N4, or `Memory`.
     pub fn new(alloc: Global, config: &Config, directory: D) -> Result<Self, NewFault>
         requires width { IsWidth W }
         requires fresh { (block client : ℕ) → D.perm_of directory block client ≡ perm.None }
@@ -84,7 +84,7 @@ impl<const W: usize, D: Directory> Manager<W, D> {
         Ok(Manager { state })
     }
 
-    /// Takes a beat, stalls it, or refuses it by the first rule that it breaks, which closes the link.
+    /// Takes a beat, stalls it, or refuses it by the first rule that it breaks. A refusal closes the link.
     pub fn offer(&mut self, link: Link, channel: Channel, beat: &Beat<W>) -> Result<Taken<W>, Rule>
         ensures answer { (config : Config) (e : End W) → Knows D.perm_of self.old config e →
             IsAnswer result (offered config link channel beat.now e).0 }
@@ -99,7 +99,7 @@ impl<const W: usize, D: Directory> Manager<W, D> {
         }
     }
 
-    /// As `offer`, with what is handed out for a beat in few bytes: None for a beat that has to wait.
+    /// `offer` with the messages in compact form; `None` for a beat that must wait.
     pub fn answer(
         &mut self,
         link: Link,
@@ -117,7 +117,7 @@ impl<const W: usize, D: Directory> Manager<W, D> {
         if taken { Ok(Some(outbox)) } else { Ok(None) }
     }
 
-    /// As `answer`, with what is handed out written where it is to stand: false for a beat that has to wait.
+    /// `answer` that writes the messages into `outbox`; false for a beat that must wait.
     pub fn answer_into(
         &mut self,
         link: Link,
@@ -143,8 +143,8 @@ impl<const W: usize, D: Directory> Manager<W, D> {
         }
     }
 
-    /// Takes a beat that goes on with a message and doesn't complete it, as `offer` does, where that can be told at
-    /// once: whether it was taken. Otherwise nothing changes, and `offer` says what becomes of the beat.
+    /// Takes a beat that continues a message and doesn't complete it, as `offer` does, and returns whether it did. It
+    /// may return false for such a beat too; then nothing changes, and `offer` has the answer.
     pub fn goes_on(&mut self, link: Link, channel: Channel, beat: &Beat<W>) -> bool
         ensures answer { OnTrue result ((config : Config) (e : End W) → Knows D.perm_of self.old config e →
             Sent [] ≡ (offered config link channel beat.now e).0) }
@@ -163,7 +163,7 @@ impl<const W: usize, D: Directory> Manager<W, D> {
         self.state.stalls(link, channel, beat)
     }
 
-    /// Whether a link takes no beats: it was closed, or there is no such link.
+    /// Whether a link takes no beats, since it is closed or there is no such link.
     pub fn closed(&self, link: Link) -> bool
         ensures { (config : Config) (e : End W) → Knows D.perm_of self.now config e →
             result ≡ is_none (open_level config link e) }
@@ -172,11 +172,11 @@ impl<const W: usize, D: Directory> Manager<W, D> {
     }
 }
 
-/// What a manager keeps of a link, and what it would say of a beat, for who offers it other beats than came.
+/// The manager's state of a link and its judgements, for callers that offer other beats than those that came.
 impl<const W: usize, D: Directory> Manager<W, D> {
     ghost use Rattle.tl_manager.specs.code.Knows.{Knows};
 
-    /// How a beat would be judged: the rule that it breaks, or whether it waits or passes.
+    /// The judgement of a beat. The error is the first rule that it breaks.
     pub fn judge(&self, link: Link, channel: Channel, beat: &Beat<W>) -> Result<Admission, Rule>
         ensures { (config : Config) (e : End W) → Knows D.perm_of self.now config e →
             result ≡ admission_of (judged config link channel beat.now e) }
@@ -184,7 +184,7 @@ impl<const W: usize, D: Directory> Manager<W, D> {
         self.state.judge(link, channel, beat)
     }
 
-    /// The level of a link that takes beats.
+    /// The level of a link that isn't closed.
     pub fn open_level(&self, link: Link) -> Option<Level>
         ensures { (config : Config) (e : End W) → Knows D.perm_of self.now config e →
             result ≡ open_level config link e }
@@ -192,7 +192,7 @@ impl<const W: usize, D: Directory> Manager<W, D> {
         self.state.open_level(link)
     }
 
-    /// What the client of a link is recorded to hold of a block.
+    /// The permission that the client of a link is recorded with for a block.
     pub fn recorded(&self, link: Link, block: u32) -> Perm
         ensures { (config : Config) (e : End W) → Knows D.perm_of self.now config e →
             result ≡ recorded link.0 block e.trace }
@@ -200,7 +200,7 @@ impl<const W: usize, D: Directory> Manager<W, D> {
         self.state.recorded(link, block)
     }
 
-    /// How many blocks its map has.
+    /// The number of blocks of its map.
     pub fn blocks(&self) -> usize
         ensures { (config : Config) (e : End W) → Knows D.perm_of self.now config e → result ≡ config.blocks }
     {
@@ -215,7 +215,7 @@ impl<const W: usize, D: Directory> Manager<W, D> {
         self.state.is_acquiring(link, block)
     }
 
-    /// Replaces a block of memory whole.
+    /// Replaces all bytes of a block of memory.
     pub fn write_block(&mut self, block: u32, bytes: &[u8; 64])
         ensures { (config : Config) (e : End W) → Knows D.perm_of self.old config e →
             Knows D.perm_of self.new config (with_memory (with_block block bytes.now e.memory) e) }
@@ -223,7 +223,7 @@ impl<const W: usize, D: Directory> Manager<W, D> {
         self.state.write_block(block, bytes)
     }
 
-    /// Whether a message of channel C has begun on a link and isn't complete.
+    /// Whether a message of channel C is unfinished on a link.
     pub fn is_reporting(&self, link: Link) -> bool
         ensures { (config : Config) (e : End W) → Knows D.perm_of self.now config e →
             result ≡ not (is_empty (unfinished Channel.C (on_link link.0 e.trace))) }

@@ -21,7 +21,8 @@ pub struct TableDirectory {
 impl TableDirectory {
     ghost use Rattle.tl_manager.specs.code.Directories.{perm_of_table, blocks_of_table, clients_of_table};
 
-    /// A directory of this many blocks and clients, at most 16, of whom none holds anything.
+    /// A directory of this many blocks and clients, at most 16, with no permission recorded. The error means that there
+    /// is no memory left.
     pub fn new(alloc: Global, blocks: u16, clients: u8) -> Result<TableDirectory, AllocError>
         requires { clients ≤ 16 }
         ensures none { IfOk result (λ d. (b c : ℕ) → perm_of_table d b c ≡ Perm.None) }

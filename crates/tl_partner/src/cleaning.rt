@@ -1,4 +1,4 @@
-//! Releases by which a client writes its copy back and keeps it.
+//! Cleanings: Releases by which a client writes its copy back and keeps it.
 
 ghost use Rattle.std.specs.Prelude.{◌≡◌, false, List, slice_get};
 ghost use Rattle.tl_params.specs.statement.Param.{report_named};
@@ -18,7 +18,7 @@ use tl_rules::param::Report;
 use tl_rules::perm::Perm;
 use tl_rules::rule::Rule;
 
-/// Whether a report leaves what it starts from.
+/// Whether a report leaves the permission from which it starts.
 fn keeps_held(param: u8) -> bool
     ensures { result ≡ Cleaning.keeps_held (report_named param) }
 {
@@ -28,7 +28,7 @@ fn keeps_held(param: u8) -> bool
     }
 }
 
-/// Whether a beat is of a Release that leaves what it starts from.
+/// Whether a beat is of a Release whose report leaves the permission from which it starts.
 pub fn is_cleaning<const W: usize>(liberties: Liberties, beat: &Beat<W>) -> bool
     ensures { result ≡ Cleaning.is_cleaning liberties beat.now }
 {
@@ -38,14 +38,14 @@ pub fn is_cleaning<const W: usize>(liberties: Liberties, beat: &Beat<W>) -> bool
     }
 }
 
-/// Whether a client with this permission has a copy.
+/// Whether the permission is Branch or Trunk.
 pub fn has_copy(perm: Perm) -> bool
     ensures { result ≡ Holders.has_copy perm }
 {
     matches!(perm, Perm::Branch | Perm::Trunk)
 }
 
-/// The rule that an Acquire breaks of a block that is being cleaned, by how it would be judged otherwise.
+/// The rule that an Acquire of a block breaks while the block is being cleaned, by its judgement otherwise.
 pub fn rule_held_back(judged: Result<Admission, Rule>) -> Rule
     ensures { (j : Judgement) → judged ≡ admission_of j → is_waiting j ≡ false → held_back j ≡ Breaks result }
 {

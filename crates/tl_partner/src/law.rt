@@ -1,4 +1,4 @@
-//! What the definition of a partner amounts to, as laws.
+//! Laws of a partner.
 
 ghost use Rattle.std.specs.Prelude.{ℕ, ◌≡◌, List, ◌∷◌, [], ◌==◌, ◌&&◌, if◌then◌else◌, true, false};
 ghost use Rattle.tl_beat.specs.declared.beat.Beat.{Beat};
@@ -25,7 +25,7 @@ ghost use Rattle.tl_partner.specs.statement.Cleaning.{PartnerEnd, cleaning_on, f
 ghost use Rattle.tl_partner.specs.statement.Partner.{beside, offered_under, stalls_under};
 ghost use Rattle.tl_partner.specs.statement.Dropping.{after_drop, block_of, is_drop, is_reporting, release_beat};
 
-/// Without liberties a partner does what the manager does, where no cleaning has begun on the link.
+/// Without liberties a partner's answer is the manager's, if no cleaning is unfinished on the link.
 pub fn is_the_manager<const W: usize>()
     ensures offered { (terms : Terms) (config : Config) (link : Link) (ch : Channel) (x : Beat W) (e : PartnerEnd W) →
         GrantsNone terms → cleaning_on link e ≡ [] →
@@ -35,9 +35,9 @@ pub fn is_the_manager<const W: usize>()
         stalls_under terms config link ch x e ≡ stalls config link ch x e.manager }
 {}
 
-/// What is recorded of a client and a block is what the beats leave held, under the terms' liberties, that the link
-/// carried, after whatever beats were offered. So it is wherever what the links carried is beside a manager's end, as it
-/// is at first and after any beat.
+/// The permission recorded of a client and a block is the one that the beats carried on the link leave under the terms'
+/// liberties, after any beats that were offered. This is true whenever the carried trace fits the manager's end, as it
+/// does at the start and after any beat.
 pub fn records_what_links_carried<const W: usize>()
     requires { IsWidth W }
     ensures fresh { (terms : Terms) (config : Config) → IsCarried {w = W} terms config [] (fresh_partner config) }
@@ -57,9 +57,8 @@ pub fn records_what_links_carried<const W: usize>()
         ≡ recorded client block (after_offers terms config offers).1.manager.trace }
 {}
 
-/// A refusal names the first rule that the beat breaks, by the rules of links with the terms' liberties, after the beats
-/// that its link carried. A beat that is taken breaks none of them, and one that is stalled none of those that are judged
-/// before a stall.
+/// A refusal names the first rule that the beat breaks after the beats that its link carried, under the terms'
+/// liberties. A beat that is taken breaks none. A beat that is stalled breaks none of the rules before a stall.
 pub fn names_the_first_rule<const W: usize>()
     requires { IsWidth W }
     ensures step { (terms : Terms) (config : Config) (link : Link) (ch : Channel) (x : Beat W) (t : Trace W)
@@ -77,10 +76,10 @@ pub fn names_the_first_rule<const W: usize>()
         x.link x.channel x.beat (after_offers terms config offers).0) }
 {}
 
-/// Where a beat says that its client dropped a copy, and no message of channel C is unfinished on the link, the
-/// manager takes the Release that the client didn't send, and hands out nothing but its answer. It then records that
-/// the client holds nothing of the block. All else that it records stays, and so do memory, the links that are closed
-/// and the requests in service. The beat then breaks no rule, and needn't wait.
+/// If a beat shows that its client dropped a copy, and no message of channel C is unfinished on the link, the manager
+/// takes the Release that the client didn't send, and hands out only its answer. It then records None for the block.
+/// The other permissions, the memory, the closed links and the requests in service stay. The beat then breaks no rule
+/// and isn't stalled.
 pub fn says_what_was_dropped<const W: usize>()
     requires { IsWidth W }
     ensures answered { (terms : Terms) (config : Config) (link : Link) (ch : Channel) (x : Beat W) (e : End W) →

@@ -1,4 +1,4 @@
-//! A manager whose clients take liberties.
+//! A manager whose clients have the liberties `drops` and `ids`.
 
 ghost use Rattle.std.specs.Prelude.{ℕ, ◌≡◌, ◌≤◌, ◌<◌, ◌^◌, length, is_none};
 ghost use Rattle.tl_beat.specs.statement.Width.{IsWidth, IsWidth-prop};
@@ -24,8 +24,8 @@ use tl_rules::config::{Config, NewFault};
 use tl_rules::legality::beat::check_beat;
 use tl_rules::rule::Rule;
 
-/// A manager whose clients have liberties. What it does is what the manager does that is asked by the first profile,
-/// which is offered what its clients dropped as well.
+/// A manager whose clients have liberties. It passes each beat to a manager under the first profile, and also the
+/// Releases for the copies that its clients dropped.
 #[derive(Drop)]
 pub struct Lenient<const W: usize, D: Directory> {
     pub terms: Terms,
@@ -36,8 +36,8 @@ pub struct Lenient<const W: usize, D: Directory> {
 impl<const W: usize, D: Directory> Lenient<W, D> {
     ghost use Rattle.tl_partner.specs.code.New.{IsNewLenient};
 
-    /// A manager of a configuration with these terms, with a fresh directory that covers it: the first limit that is
-    /// broken, in the order N1 to N4, or want of memory.
+    /// A manager of a configuration with these terms, with a new directory that covers it. The error is the first limit
+    /// that is broken, in the order N1 to N4, or `Memory`.
     pub fn new(alloc: Global, config: &Config, directory: D, terms: Terms) -> Result<Self, NewFault>
         requires width { IsWidth W }
         requires fresh { (block client : ℕ) → D.perm_of directory block client ≡ perm.None }
@@ -49,7 +49,7 @@ impl<const W: usize, D: Directory> Lenient<W, D> {
         Ok(Lenient { terms, manager })
     }
 
-    /// The rule that a ProbeAck breaks with another source than its Probe.
+    /// The rule that a ProbeAck with another source than its Probe breaks.
     fn misnamed_rule(&self, link: Link, channel: Channel, beat: &Beat<W>) -> Rule
         ensures { (config : Config) (e : End W) → Knows D.perm_of self.now.manager config e →
             result ≡ misnamed_rule (open_level config link e) channel beat.now (is_reporting link e.trace) }
@@ -67,7 +67,7 @@ impl<const W: usize, D: Directory> Lenient<W, D> {
         }
     }
 
-    /// Whether a beat says that nothing is held of a block of which its client is recorded with a copy.
+    /// Whether a beat shows that its client dropped a copy which is recorded.
     fn is_drop(&self, link: Link, channel: Channel, beat: &Beat<W>) -> bool
         ensures { (config : Config) (e : End W) → Knows D.perm_of self.now.manager config e →
             result ≡ is_drop self.now.terms config link channel beat.now e }
@@ -75,7 +75,7 @@ impl<const W: usize, D: Directory> Lenient<W, D> {
         self.terms.drops && says_none(beat) && is_by_record(self.manager.judge(link, channel, beat))
     }
 
-    /// Offers the Release that a client didn't send.
+    /// Takes the Release that a client didn't send.
     pub fn drop_copy(&mut self, link: Link, block: u32)
         requires { block < 2 ^ 26 }
         ensures after { (config : Config) (e : End W) → Knows D.perm_of self.old.manager config e →
@@ -89,7 +89,7 @@ impl<const W: usize, D: Directory> Lenient<W, D> {
             .answer_into(link, Channel::C, &release, &mut outbox);
     }
 
-    /// Offers a beat, and names what is handed out for it.
+    /// Offers a beat, and gives each Probe that is handed out the source of its link.
     fn pass(&mut self, link: Link, channel: Channel, beat: &Beat<W>) -> Result<Taken<W>, Rule>
         ensures answer { (config : Config) (e : End W) → Knows D.perm_of self.old.manager config e →
             IsAnswer result (answer_named self.old.terms (offered config link channel beat.now e).0) }
@@ -103,7 +103,7 @@ impl<const W: usize, D: Directory> Lenient<W, D> {
         }
     }
 
-    /// Takes a beat as the first profile has it but for what was dropped, stalls it, or refuses it.
+    /// Takes a beat in the form of the first profile, and the drop that it may show; or stalls it, or refuses it.
     fn offer_plain(
         &mut self,
         link: Link,
@@ -126,7 +126,7 @@ impl<const W: usize, D: Directory> Lenient<W, D> {
         self.pass(link, channel, beat)
     }
 
-    /// Takes a beat, stalls it, or refuses it by the first rule that it breaks, which closes the link.
+    /// Takes a beat, stalls it, or refuses it by the first rule that it breaks. A refusal closes the link.
     pub fn offer(&mut self, link: Link, channel: Channel, beat: &Beat<W>) -> Result<Taken<W>, Rule>
         ensures answer { (config : Config) (e : End W) → Knows D.perm_of self.old.manager config e →
             IsAnswer result (offered_lenient self.old.terms config link channel beat.now e).0 }
@@ -158,7 +158,7 @@ impl<const W: usize, D: Directory> Lenient<W, D> {
         self.manager.stalls(link, channel, &plain)
     }
 
-    /// Whether a link takes no beats: it was closed, or there is no such link.
+    /// Whether a link takes no beats, since it is closed or there is no such link.
     pub fn closed(&self, link: Link) -> bool
         ensures { (config : Config) (e : End W) → Knows D.perm_of self.now.manager config e →
             result ≡ is_none (open_level config link e) }

@@ -1,4 +1,4 @@
-//! The manager as a partner of clients that take liberties.
+//! The manager as a partner of clients with liberties.
 #![tactic(auto)]
 
 pub mod cleaning;

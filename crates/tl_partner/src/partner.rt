@@ -1,4 +1,4 @@
-//! A manager whose clients take liberties.
+//! A manager whose clients have liberties.
 
 ghost use Rattle.std.specs.Prelude.{ℕ, ◌≡◌, ◌<◌, ◌≤◌, ◌∷◌, ◌^◌, [], false, not, length, is_none, replicate, slice_get, IfOk, Ok, OnOk, List};
 ghost use Rattle.tl_beat.specs.declared.beat.Beat.{Beat};
@@ -47,16 +47,16 @@ use tl_rules::kind::is_acquire;
 use tl_rules::order::{releases_from, reports_none};
 use tl_rules::rule::Rule;
 
-/// A manager whose clients have the liberties `drops`, `ids` and `reports`, or some of them.
+/// A manager whose clients have any of the liberties `drops`, `ids` and `reports`.
 #[derive(Drop)]
 pub struct Partner<const W: usize, D: Directory> {
     pub lenient: Lenient<W, D>,
-    /// The cleaning of each link that isn't complete.
+    /// The unfinished cleaning of each link.
     pub cleanings: Vec<Assembler<W>>,
     ghost width: { IsWidth W } by { IsWidth-prop W },
 }
 
-/// No cleaning of any of these many links.
+/// No cleaning on any of these links.
 fn no_cleanings<const W: usize>(
     alloc: Global,
     links: usize,
@@ -70,7 +70,8 @@ fn no_cleanings<const W: usize>(
     Ok(cleanings)
 }
 
-/// Takes a beat that goes on with its burst: whether it completes a message, which is written where it is to stand.
+/// Takes a beat that continues its burst, and returns whether it completes a message. Writes that message into
+/// `message`.
 fn take_beat<const W: usize>(
     cleaning: &mut Assembler<W>,
     beat: &Beat<W>,
@@ -89,8 +90,8 @@ fn take_beat<const W: usize>(
 impl<const W: usize, D: Directory> Partner<W, D> {
     ghost use Rattle.tl_partner.specs.code.New.{IsNewPartner};
 
-    /// A manager of a configuration with these terms, with a fresh directory that covers it: the first limit that is
-    /// broken, in the order N1 to N4, or want of memory.
+    /// A manager of a configuration with these terms, with a new directory that covers it. The error is the first limit
+    /// that is broken, in the order N1 to N4, or `Memory`.
     pub fn new(alloc: Global, config: &Config, directory: D, terms: Terms) -> Result<Self, NewFault>
         requires width { IsWidth W }
         requires fresh { (block client : ℕ) → D.perm_of directory block client ≡ perm.None }
@@ -104,7 +105,7 @@ impl<const W: usize, D: Directory> Partner<W, D> {
         Ok(Partner { lenient, cleanings })
     }
 
-    /// Whether a cleaning of a link has begun and isn't complete.
+    /// Whether a cleaning of a link is unfinished.
     fn has_begun(&self, link: Link) -> bool
         ensures { result ≡ not (is_empty (cleaning_at self.now.cleanings.items link.0)) }
     {
@@ -145,7 +146,7 @@ impl<const W: usize, D: Directory> Partner<W, D> {
         }
     }
 
-    /// The rule of order that a cleaning breaks as it begins.
+    /// The rule of order that a cleaning breaks at its first beat.
     fn cleaning_rule(&self, link: Link, beat: &Beat<W>) -> Option<Rule>
         ensures { (config : Config) (e : End W) → Knows D.perm_of self.now.lenient.manager config e →
             result ≡ Cleaning.cleaning_rule (granted self.now.lenient.terms) link beat.now e.trace }
@@ -184,7 +185,7 @@ impl<const W: usize, D: Directory> Partner<W, D> {
         }
     }
 
-    /// The rule that a beat of a cleaning breaks, or that it passes.
+    /// The judgement of a beat of a cleaning. The error is the first rule that it breaks.
     fn judge_cleaning(
         &self,
         link: Link,
@@ -211,7 +212,7 @@ impl<const W: usize, D: Directory> Partner<W, D> {
         admit(broken, false, outside, is_spoiled(beat))
     }
 
-    /// Records that a client holds nothing of a block.
+    /// Records that a client holds None of a block.
     fn forget(&mut self, link: Link, block: u32)
         requires { block < 2 ^ 26 }
         ensures knows { (config : Config) (e : End W) → Knows D.perm_of self.old.lenient.manager config e →
@@ -225,7 +226,7 @@ impl<const W: usize, D: Directory> Partner<W, D> {
         self.lenient.drop_copy(link, block);
     }
 
-    /// Does what is due as a cleaning is complete.
+    /// The effect of a complete cleaning.
     fn write_back(&mut self, link: Link, release: &MessageC<W>)
         ensures knows { (config : Config) (e : End W) → Knows D.perm_of self.old.lenient.manager config e →
             (x : BeatC W) (beats : List (Beat W)) → IsCleaningOf release.now x beats →
@@ -244,7 +245,7 @@ impl<const W: usize, D: Directory> Partner<W, D> {
         self.lenient.manager.write_block(block, &release.payload);
     }
 
-    /// Does what is due as a cleaning is complete, and answers it.
+    /// The effect of a complete cleaning, and the answer to it.
     fn clean(&mut self, link: Link, release: &MessageC<W>) -> Taken<W>
         ensures answer { answer_of (Ok result) ≡ Sent ((link, Handing.release_ack release.now.source) ∷ []) }
         ensures knows { (config : Config) (e : End W) → Knows D.perm_of self.old.lenient.manager config e →
@@ -328,7 +329,7 @@ impl<const W: usize, D: Directory> Partner<W, D> {
         Err(rule_held_back(judged))
     }
 
-    /// Takes a beat, stalls it, or refuses it by the first rule that it breaks, which closes the link.
+    /// Takes a beat, stalls it, or refuses it by the first rule that it breaks. A refusal closes the link.
     pub fn offer(&mut self, link: Link, channel: Channel, beat: &Beat<W>) -> Result<Taken<W>, Rule>
         ensures answer { (config : Config) (e : PartnerEnd W) →
             KnowsPartner D.perm_of self.old.lenient.manager self.old.cleanings.items config e →
@@ -363,7 +364,7 @@ impl<const W: usize, D: Directory> Partner<W, D> {
         self.lenient.stalls(link, channel, beat)
     }
 
-    /// Whether a link takes no beats: it was closed, or there is no such link.
+    /// Whether a link takes no beats, since it is closed or there is no such link.
     pub fn closed(&self, link: Link) -> bool
         ensures { (config : Config) (e : PartnerEnd W) →
             KnowsPartner D.perm_of self.now.lenient.manager self.now.cleanings.items config e →

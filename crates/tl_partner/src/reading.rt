@@ -1,4 +1,4 @@
-//! What a beat of a client says that takes liberties.
+//! Beats of clients with liberties.
 
 ghost use Rattle.std.specs.Prelude.{◌≡◌, ◌^◌, ◌<◌};
 ghost use Rattle.tl_manager.specs.code.Admission.{admission_of};
@@ -20,7 +20,7 @@ use tl_rules::param::Prune;
 use tl_rules::perm::Perm;
 use tl_rules::rule::Rule;
 
-/// Whether a beat says that its client holds nothing of its block.
+/// Whether a beat says that its client holds None of its block.
 pub fn says_none<const W: usize>(beat: &Beat<W>) -> bool
     ensures { result ≡ Dropping.says_none beat.now }
 {
@@ -31,7 +31,7 @@ pub fn says_none<const W: usize>(beat: &Beat<W>) -> bool
     }
 }
 
-/// The block of a beat.
+/// The block of a beat; 0 for a beat without address.
 pub fn block_of<const W: usize>(beat: &Beat<W>) -> u32
     ensures block { result ≡ Dropping.block_of beat.now }
     ensures small { result < 2 ^ 26 }
@@ -44,14 +44,14 @@ pub fn block_of<const W: usize>(beat: &Beat<W>) -> u32
     }
 }
 
-/// Whether a message breaks a rule by what its client is recorded to hold, and no rule before it.
+/// Whether the first rule that a message breaks is H5 or H12, which depend on the permission recorded.
 pub fn is_by_record(judged: Result<Admission, Rule>) -> bool
     ensures { (j : Judgement) → judged ≡ admission_of j → result ≡ Dropping.is_by_record j }
 {
     matches!(judged, Err(Rule::H5 | Rule::H12))
 }
 
-/// What a Release does that leaves nothing of this.
+/// The prune of a Release that gives up this permission.
 fn prune_from(perm: Perm) -> Prune
     ensures { result ≡ Dropping.prune_from perm }
 {
@@ -61,7 +61,7 @@ fn prune_from(perm: Perm) -> Prune
     }
 }
 
-/// The Release without data by which a client says that it gives up what it holds of a block.
+/// The Release without data by which a client gives up this permission of a block.
 pub fn release_beat<const W: usize>(block: u32, perm: Perm) -> Beat<W>
     requires { block < 2 ^ 26 }
     ensures { result ≡ Dropping.release_beat block perm }
@@ -78,7 +78,7 @@ pub fn release_beat<const W: usize>(block: u32, perm: Perm) -> Beat<W>
 }
 
 impl Terms {
-    /// Whether a beat is a ProbeAck with another source than the Probes of its link.
+    /// Whether a beat is, under `ids`, a ProbeAck with another source than the Probes of its link.
     pub fn is_misnamed<const W: usize>(&self, link: Link, beat: &Beat<W>) -> bool
         ensures { result ≡ Naming.is_misnamed self.now link beat.now }
     {
@@ -108,7 +108,7 @@ impl Terms {
         }
     }
 
-    /// A message that is handed out on a link: with `ids` a Probe has the source of the link's Probes.
+    /// The message as it is handed out on a link: under `ids` a Probe has the source of the link's Probes.
     fn named<const W: usize>(&self, link: Link, message: &Message<W>) -> Message<W>
         ensures { result ≡ Naming.named self.now link message.now }
     {
@@ -127,7 +127,7 @@ impl Terms {
         }
     }
 
-    /// Messages that are handed out, with `ids` each Probe with the source of its link.
+    /// The messages as they are handed out: under `ids` each Probe has the source of its link.
     pub fn all_named<const W: usize>(&self, handed: &Handed<W>) -> Handed<W>
         ensures { result.items ≡ Naming.all_named self.now handed.now.items }
     {

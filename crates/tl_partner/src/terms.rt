@@ -1,4 +1,4 @@
-//! What a manager grants its clients beyond the first profile.
+//! The liberties that a manager grants its clients.
 
 ghost use Rattle.std.specs.Prelude.{◌≡◌, OnOk};
 ghost use Rattle.tl_beat.specs.statement.Width.{IsWidth};
@@ -15,11 +15,10 @@ use tl_rules::level::Level;
 use tl_rules::liberties::Liberties;
 use tl_rules::rule::Rule;
 
-/// The liberties that a manager grants its clients, and the sources of the Probes that it sends with `ids`, one for
-/// each link.
+/// The liberties that a manager grants its clients, and the source of its Probes on each link, used under `ids`.
 #[derive(Clone, Copy)]
 pub struct Terms {
-    /// A Probe has the source of its link, and its ProbeAck has it too.
+    /// A Probe has the source of its link, and its ProbeAck has the same.
     pub ids: bool,
     /// A client may give up a block without a message.
     pub drops: bool,
@@ -29,7 +28,7 @@ pub struct Terms {
 }
 
 impl Terms {
-    /// No liberties: those of the manager by itself.
+    /// No liberties, as for the manager alone.
     pub fn none() -> Self
         ensures { result ≡ no_terms }
     {
@@ -41,8 +40,8 @@ impl Terms {
         }
     }
 
-    /// The terms by which clients have these liberties, or `None` where a manager can't grant one of them. `writer` is
-    /// the profile of the manager's configuration, and isn't asked here.
+    /// The terms for clients with these liberties, or `None` if a manager can't grant one of them. `writer` is the
+    /// profile of the manager's configuration; the terms ignore it.
     pub fn of(liberties: Liberties, sources: [u8; 16]) -> Option<Self>
         ensures { result ≡ terms_of liberties sources }
     {
@@ -69,7 +68,8 @@ impl Terms {
         }
     }
 
-    /// The first L rule that a beat breaks on a link of this level, whose client has these liberties.
+    /// Checks a beat on a link of this level, with the liberties of these terms. The error is the first L rule that it
+    /// breaks.
     pub fn check<const W: usize>(
         &self,
         level: Level,
@@ -83,7 +83,7 @@ impl Terms {
         check_beat_under(self.granted(), level, channel, beat)
     }
 
-    /// The source that was chosen for the Probes of a link.
+    /// The source of the Probes of a link.
     pub fn probe_source(&self, link: Link) -> u8
         ensures { result ≡ probe_source self.now link.0 }
     {

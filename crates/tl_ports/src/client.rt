@@ -17,7 +17,7 @@ use tl_rules::perm::Perm;
 use tl_rules::profile::Profile;
 use tl_rules::rule::Rule;
 
-/// A client of any level, with the beats that it handed out and that wait to be sent.
+/// A client of any level, with the beats that it handed out and has still to send.
 #[derive(Drop)]
 pub struct ClientPort<const W: usize> {
     pub client: AnyClient<W>,
@@ -25,7 +25,7 @@ pub struct ClientPort<const W: usize> {
     pub ghost width: { IsWidth W } by { IsWidth-prop W },
 }
 
-/// What comes of a beat that is offered to a client whose answers wait to be sent.
+/// The answer to a beat that is offered to a client. The outer error means that there is no memory.
 pub type Offered = Result<Result<Verdict, Rule>, AllocError>;
 
 impl<const W: usize> ClientPort<W> {
@@ -34,7 +34,7 @@ impl<const W: usize> ClientPort<W> {
     ghost use Rattle.tl_client.specs.statement.Offer;
     ghost use Rattle.tl_ports.specs.statement.Client.{AskTold, OfferTold, IsNewPort, Popped, next_beat, held_of};
 
-    /// A client that has sent and taken nothing, or why there is none, as `AnyClient::new` has it.
+    /// A new client. The error is that of `AnyClient::new`.
     pub fn new(
         alloc: Global,
         config: ClientConfig,
@@ -49,8 +49,8 @@ impl<const W: usize> ClientPort<W> {
         Ok(ClientPort { client, outgoing })
     }
 
-    /// Answers an operation as the client does; what it hands out waits to be sent. Where there is no
-    /// memory nothing is asked, and nothing changes.
+    /// Answers an operation as the client does. The beats of its message wait to be sent. The error means that there is
+    /// no memory; then nothing changes.
     pub fn ask(&mut self, operation: Op<W>) -> Result<Reply, AllocError>
         ensures { AskTold self.old self.new operation.entry result }
     {
@@ -62,8 +62,8 @@ impl<const W: usize> ClientPort<W> {
         Ok(reply)
     }
 
-    /// Takes a beat of the channel named, stalls it or refuses it as the client does; what it hands
-    /// out waits to be sent. Where there is no memory nothing is offered, and nothing changes.
+    /// Takes a beat on this channel, stalls it or refuses it, as the client does. The beats of its message wait to be
+    /// sent. The outer error means that there is no memory; then nothing changes.
     pub fn offer(&mut self, channel: Channel, beat: &Beat<W>) -> Offered
         ensures { OfferTold self.old self.new channel beat.now result }
     {
@@ -79,7 +79,7 @@ impl<const W: usize> ClientPort<W> {
         }
     }
 
-    /// Whether `offer` of the same would stall it.
+    /// Whether `offer` would stall this beat.
     pub fn stalls(&self, channel: Channel, beat: &Beat<W>) -> bool
         ensures { (e : Endpoint W) → KnowsAny self.now.client e →
             result ≡ Offer.stalls (any_terms self.now.client) channel beat.now e }
@@ -94,7 +94,7 @@ impl<const W: usize> ClientPort<W> {
         self.outgoing.next(Link(0), channel)
     }
 
-    /// Takes the next beat to send on a channel, which is sent now.
+    /// Removes the next beat to send on a channel, and returns it. The caller sends it now.
     pub fn pop(&mut self, channel: Channel) -> Option<Beat<W>>
         ensures next { result ≡ next_beat channel self.old }
         ensures rest { Popped channel self.old self.new }
@@ -102,14 +102,14 @@ impl<const W: usize> ClientPort<W> {
         self.outgoing.pop(Link(0), channel)
     }
 
-    /// What is held of a block.
+    /// The permission held of a block.
     pub fn held(&self, block: u16) -> Perm
         ensures { (e : Endpoint W) → KnowsAny self.now.client e → result ≡ held_of block e }
     {
         self.client.held(block)
     }
 
-    /// The bytes of the copy of a block, where something is held.
+    /// The bytes of the copy of a block, if there is one.
     pub fn copy(&self, block: u16) -> Option<[u8; 64]>
         ensures { (e : Endpoint W) → KnowsAny self.now.client e → result ≡ e.copies block }
     {

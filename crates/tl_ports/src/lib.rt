@@ -1,4 +1,4 @@
-//! Agents with what they handed out and hasn't been sent.
+//! Agents with the beats that they have still to send.
 #![tactic(auto)]
 
 pub mod client;

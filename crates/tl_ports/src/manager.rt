@@ -15,8 +15,8 @@ use tl_partner::terms::Terms;
 use tl_rules::config::{Config, MOST_CLIENTS, NewFault};
 use tl_rules::rule::Rule;
 
-/// A manager of up to sixteen links, whose clients may have liberties, with the beats that it handed out and that wait
-/// to be sent.
+/// A manager of up to sixteen links, whose clients may have liberties, with the beats that it handed out and has still
+/// to send.
 #[derive(Drop)]
 pub struct ManagerPort<const W: usize> {
     pub partner: Partner<W, BitDirectory>,
@@ -24,7 +24,7 @@ pub struct ManagerPort<const W: usize> {
     pub ghost width: { IsWidth W } by { IsWidth-prop W },
 }
 
-/// What comes of a beat that is offered to a manager whose messages wait to be sent.
+/// The answer to a beat that is offered to a manager. The outer error means that there is no memory.
 pub type Admitted = Result<Result<Admission, Rule>, AllocError>;
 
 impl<const W: usize> ManagerPort<W> {
@@ -38,8 +38,8 @@ impl<const W: usize> ManagerPort<W> {
     ghost use Rattle.tl_ports.specs.statement.Manager.{KnowsEnd, KnowsEndUnder, AdmitTold, IsNewManager};
     ghost use Rattle.tl_ports.specs.statement.Manager.{PoppedOn, next_beat_on};
 
-    /// A manager of a configuration that has taken and handed out nothing, whose clients have the liberties of these
-    /// terms: the first limit that is broken, in the order N1 to N4, or want of memory.
+    /// A new manager of a configuration, whose clients have the liberties of these terms. The error is the first limit
+    /// that is broken, in the order N1 to N4, or `Memory`.
     pub fn new(alloc: Global, config: &Config, terms: Terms) -> Result<Self, NewFault>
         requires { IsWidth W }
         ensures { IsNewManager config.now terms result }
@@ -51,8 +51,8 @@ impl<const W: usize> ManagerPort<W> {
         Ok(ManagerPort { partner, outgoing })
     }
 
-    /// Takes a beat of the channel named, stalls it or refuses it as the manager does; what it hands
-    /// out waits to be sent. Where there is no memory nothing is offered, and nothing changes.
+    /// Takes a beat on this channel, stalls it or refuses it, as the manager does. The beats of its messages wait to be
+    /// sent. The outer error means that there is no memory; then nothing changes.
     pub fn offer(&mut self, link: Link, channel: Channel, beat: &Beat<W>) -> Admitted
         ensures { AdmitTold self.old self.new link channel beat.now result }
     {
@@ -67,7 +67,7 @@ impl<const W: usize> ManagerPort<W> {
         }
     }
 
-    /// Whether `offer` of the same would stall it.
+    /// Whether `offer` would stall this beat.
     pub fn stalls(&self, link: Link, channel: Channel, beat: &Beat<W>) -> bool
         ensures alone { (config : Config) (e : End W) → KnowsEnd self.now config e →
             result ≡ Offer.stalls config link channel beat.now e }
@@ -84,7 +84,7 @@ impl<const W: usize> ManagerPort<W> {
         self.outgoing.next(link, channel)
     }
 
-    /// Takes the next beat to send on a channel of a link, which is sent now.
+    /// Removes the next beat to send on a channel of a link, and returns it. The caller sends it now.
     pub fn pop(&mut self, link: Link, channel: Channel) -> Option<Beat<W>>
         ensures next { result ≡ next_beat_on link.0 channel self.old }
         ensures rest { PoppedOn link.0 channel self.old self.new }
@@ -92,7 +92,7 @@ impl<const W: usize> ManagerPort<W> {
         self.outgoing.pop(link, channel)
     }
 
-    /// Whether a link takes no beats: it was closed by a refusal, or there is no such link.
+    /// Whether a link takes no beats, since it is closed or there is no such link.
     pub fn closed(&self, link: Link) -> bool
         ensures alone { (config : Config) (e : End W) → KnowsEnd self.now config e →
             result ≡ is_none (Offer.open_level config link e) }

@@ -1,4 +1,4 @@
-//! What an agent handed out and hasn't been sent: messages go out beat by beat, over many cycles.
+//! The beats that an agent has still to send: messages go out beat by beat, over many cycles.
 
 ghost use Rattle.std.specs.Prelude.{ℕ, ◌≡◌, ◌≤◌, ◌+◌, ◌++◌, [], length, drop, slice_get, OnOk, if◌then◌else◌};
 ghost use Rattle.tl_beat.specs.declared.channel.Channel.{Channel};
@@ -14,8 +14,8 @@ use tl_beat::channel::Channel;
 use tl_burst::burst::{beat_at, beats_of};
 use tl_burst::message::Message;
 
-/// The beats that an agent handed out and that wait to be sent, each with its link. A contract sees
-/// those of each channel of each link, the oldest first.
+/// The beats that an agent handed out and has still to send, each with its link. A contract sees the beats of each
+/// channel of each link, the oldest first.
 #[derive(Drop)]
 pub struct Outgoing<const W: usize> {
     pub beats: Vec<(Link, Beat<W>)>,
@@ -36,7 +36,7 @@ fn is_on<const W: usize>(channel: Channel, beat: &Beat<W>) -> bool
 }
 
 impl<const W: usize> Outgoing<W> {
-    /// Nothing waits.
+    /// No beat waits.
     pub fn new(alloc: Global) -> Self
         ensures { (link : ℕ) (ch : Channel) → waiting link ch result ≡ [] }
     {
@@ -45,7 +45,8 @@ impl<const W: usize> Outgoing<W> {
         }
     }
 
-    /// Makes room for the beats of this many messages, at most 16. What waits stays as it is.
+    /// Makes room for the beats of this many messages, at most 16. The waiting beats stay. The error means that there
+    /// is no memory left.
     pub fn make_room(&mut self, messages: usize) -> Result<(), AllocError>
         requires { messages ≤ 16 }
         ensures room { OnOk result (HasRoom messages self.new) }
@@ -54,8 +55,7 @@ impl<const W: usize> Outgoing<W> {
         self.beats.reserve(16 * messages)
     }
 
-    /// Puts the beats of a message that is handed out on a link behind those that wait. There has to be
-    /// room for them.
+    /// Appends the beats of a message that is handed out on a link. There must be room for them.
     pub fn send(&mut self, link: Link, message: &Message<W>)
         requires width { IsWidth W }
         requires room { HasRoom 1 self.old }
@@ -68,8 +68,7 @@ impl<const W: usize> Outgoing<W> {
         }
     }
 
-    /// Puts the beats of messages, each with its link, behind those that wait, in order. There has to be
-    /// room for them.
+    /// Appends the beats of messages, each with its link, in order. There must be room for them.
     pub fn send_all(&mut self, handed: &[(Link, Message<W>)])
         requires width { IsWidth W }
         requires room { HasRoom (length handed.now) self.old }
@@ -81,7 +80,7 @@ impl<const W: usize> Outgoing<W> {
         }
     }
 
-    /// Where the first beat stands that waits on a channel of a link.
+    /// The place of the first beat that waits on a channel of a link.
     fn place(&self, link: Link, channel: Channel) -> Option<usize>
         requires { IsWidth W }
         ensures { IsFirst (λ x. is_on_link link.0 channel x) self.now.beats.items result }
@@ -106,7 +105,7 @@ impl<const W: usize> Outgoing<W> {
         }
     }
 
-    /// Takes the first beat that waits on a channel of a link, which is sent now.
+    /// Removes the first beat that waits on a channel of a link, and returns it. The caller sends it now.
     pub fn pop(&mut self, link: Link, channel: Channel) -> Option<Beat<W>>
         requires { IsWidth W }
         ensures first { result ≡ slice_get (waiting link.0 channel self.old) 0 }

@@ -1,4 +1,4 @@
-//! That the names of blocks, sources and sinks don't matter: whoever renames them changes no verdict.
+//! The names of blocks, sources and sinks don't matter: renaming changes no verdict.
 #![tactic(auto)]
 
 pub mod law;

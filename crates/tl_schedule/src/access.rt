@@ -1,4 +1,4 @@
-//! Reading what an access asks for.
+//! Reads the accesses in lines.
 
 ghost use Rattle.std.specs.Prelude.{◌≡◌, ◌≤◌, ◌-◌, ◌*◌, ◌^◌, ◌++◌, take, drop, option_map};
 ghost use Rattle.tl_beat.specs.statement.Width.{IsWidth};
@@ -12,7 +12,7 @@ use crate::field::{is_end, last_bytes, number_field};
 use crate::name::{Word, arithmetic_field, intent_field, logical_field};
 use tl_beat::opcode::OpA;
 
-/// What the message of an access has besides its size and address.
+/// The fields of an access's message, without size and address.
 #[derive(Clone, Copy)]
 pub(crate) struct Request {
     pub opcode: OpA,
@@ -30,7 +30,7 @@ fn bytes_of(size: u8) -> usize
     1 << size
 }
 
-/// How many beats carry the data of an access of `2^size` bytes.
+/// The number of beats for the data of an access of `2^size` bytes.
 pub fn beats<const W: usize>(size: u8) -> u8
     requires width { IsWidth W }
     requires small { size ≤ 6 }
@@ -41,7 +41,7 @@ pub fn beats<const W: usize>(size: u8) -> u8
     if bytes > W { (bytes / W) as u8 } else { 1 }
 }
 
-/// The lowest bits, this many of them.
+/// A number with this many lowest bits set.
 fn ones(count: usize) -> u64
     requires { count ≤ 64 }
     ensures { result ≡ 2 ^ count - 1 }
@@ -52,7 +52,7 @@ fn ones(count: usize) -> u64
     (1 << count) - 1
 }
 
-/// A mask of the lanes that carry a byte of an access of `2^size` bytes, in this many beats.
+/// The mask of the lanes that carry a byte of an access of `2^size` bytes, in this many beats.
 pub fn lanes<const W: usize>(size: u8, address: u32, beats: u8) -> u64
     requires width { IsWidth W }
     requires small { size ≤ 6 }
@@ -67,7 +67,7 @@ pub fn lanes<const W: usize>(size: u8, address: u32, beats: u8) -> u64
     }
 }
 
-/// Writes the first bytes of an access from a lane on.
+/// Writes the first bytes of an access, from lane `at` to before lane `end`.
 fn write_lanes(payload: &mut [u8; 64], bytes: &[u8; 64], at: usize, end: usize)
     requires order { at ≤ end }
     requires inside { end ≤ 64 }
@@ -76,7 +76,7 @@ fn write_lanes(payload: &mut [u8; 64], bytes: &[u8; 64], at: usize, end: usize)
     payload[at..end].copy_from_slice(&bytes[..end - at]);
 }
 
-/// The bytes of an access in their lanes.
+/// The bytes of an access on their lanes.
 fn in_lanes<const W: usize>(size: u8, address: u32, bytes: [u8; 64]) -> [u8; 64]
     requires width { IsWidth W }
     requires small { size ≤ 6 }
@@ -90,7 +90,7 @@ fn in_lanes<const W: usize>(size: u8, address: u32, bytes: [u8; 64]) -> [u8; 64]
     payload
 }
 
-/// A request of an opcode with data, which are the last field.
+/// A request with data, which are in the last field.
 fn with_data<const W: usize>(
     size: u8,
     address: u32,
@@ -156,7 +156,7 @@ fn put_full<const W: usize>(size: u8, address: u32, bytes: &[u8]) -> Option<Requ
     with_data::<W>(size, address, OpA::PutFullData, 0, mask, bytes)
 }
 
-/// How many digits a mask has.
+/// The number of digits of a mask.
 fn mask_count<const W: usize>(size: u8) -> u8
     requires width { IsWidth W }
     requires small { size ≤ 6 }
@@ -209,7 +209,7 @@ fn logic<const W: usize>(size: u8, address: u32, bytes: &[u8]) -> Option<Request
     )
 }
 
-/// What the fields behind an access's address ask for.
+/// The request that the fields after an access's address spell.
 pub(crate) fn asked_request<const W: usize>(
     word: Word,
     size: u8,

@@ -1,5 +1,4 @@
-//! Reads the lines that schedules have most of, each field at its place: Loads, Stores of eight bytes and
-//! deliveries.
+//! Reads the most frequent lines of schedules, each field at its place: Loads, Stores of eight bytes and deliveries.
 
 ghost use Rattle.std.specs.Prelude.{◌≡◌, ◌∷◌, ◌++◌, [], IfSome, codes};
 ghost use Rattle.tl_schedule.specs.statement.CommonLine.{SpellsCommon};
@@ -10,7 +9,7 @@ use crate::name::channel;
 use tl_beat::beat::Link;
 use tl_beat::channel::Channel;
 
-/// What such a line says.
+/// The content of such a line.
 #[derive(Clone, Copy, Debug, PartialEq, Eq)]
 pub enum Common {
     Load {
@@ -68,7 +67,7 @@ fn deliver(link: &[u8], letter: u8) -> Option<Common>
     Some(Common::Deliver { link, channel })
 }
 
-/// What stands before and behind a space at the ninth place.
+/// The bytes before and after a space at the ninth place.
 #[inline(always)]
 fn split_address(bytes: &[u8]) -> Option<(&[u8], &[u8])>
     ensures { IfSome result (λ parts. bytes.now ≡ parts.0.now ++ 32 ∷ parts.1.now) }
@@ -80,7 +79,7 @@ fn split_address(bytes: &[u8]) -> Option<(&[u8], &[u8])>
     }
 }
 
-/// What the line of a delivery says, without its line feed.
+/// The delivery that a line spells, without its line feed.
 #[inline(always)]
 fn read_deliver(body: &[u8]) -> Option<Common>
     ensures { IfSome result (SpellsBody body.now) }
@@ -104,7 +103,7 @@ fn read_deliver(body: &[u8]) -> Option<Common>
     }
 }
 
-/// What the line of a Load says, without its line feed.
+/// The Load that a line spells, without its line feed.
 #[inline(always)]
 fn read_load(body: &[u8]) -> Option<Common>
     ensures { IfSome result (SpellsBody body.now) }
@@ -127,7 +126,7 @@ fn read_load(body: &[u8]) -> Option<Common>
     }
 }
 
-/// What the line of a Store of eight bytes says, without its line feed.
+/// The Store of eight bytes that a line spells, without its line feed.
 #[inline(always)]
 fn read_store(body: &[u8]) -> Option<Common>
     ensures { IfSome result (SpellsBody body.now) }
@@ -154,7 +153,7 @@ fn read_store(body: &[u8]) -> Option<Common>
     }
 }
 
-/// What such a line says, without its line feed.
+/// The content of such a line, without its line feed.
 #[inline(always)]
 fn read_body(body: &[u8]) -> Option<Common>
     ensures { IfSome result (SpellsBody body.now) }
@@ -168,7 +167,7 @@ fn read_body(body: &[u8]) -> Option<Common>
     }
 }
 
-/// What such a line says, its line feed included. Of any other line it says nothing.
+/// The content of such a line, with its line feed. `None` for any other line, and it may be `None` for such a line too.
 #[inline(always)]
 pub fn read_common(line: &[u8]) -> Option<Common>
     ensures { IfSome result (SpellsCommon line.now) }

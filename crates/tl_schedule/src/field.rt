@@ -1,4 +1,4 @@
-//! Reading the fields of a line: the pieces between its spaces.
+//! Reads the fields of a line: the parts between its spaces.
 
 ghost use Rattle.std.specs.Prelude.{◌≡◌, ◌==◌, ◌<◌, ◌≤◌, ◌*◌, ◌^◌, ◌∷◌, ℕ, []};
 ghost use Rattle.std.specs.Prelude.{IfSome, MatchOption, option_map, position};
@@ -22,7 +22,7 @@ fn hex(byte: u8) -> Option<u8>
     }
 }
 
-/// The number that a field of this many digits spells.
+/// The number that a field with this many digits spells.
 #[inline(always)]
 pub fn number(field: &[u8], count: u8) -> Option<u64>
     requires { count ≤ 16 }
@@ -39,7 +39,7 @@ pub fn number(field: &[u8], count: u8) -> Option<u64>
     Some(number)
 }
 
-/// The size up to a limit that a field of one digit spells.
+/// The size, up to a limit, that a field with one digit spells.
 #[inline(always)]
 pub fn size_of(field: &[u8], limit: u8) -> Option<u8>
     ensures value { result ≡ size_in limit field.now }
@@ -52,7 +52,7 @@ pub fn size_of(field: &[u8], limit: u8) -> Option<u8>
     Some(size)
 }
 
-/// The byte of the two digits at the front, and what follows them.
+/// The byte of the two digits at the front, and the bytes after them.
 fn pair(bytes: &[u8]) -> Option<(u8, &[u8])>
     ensures { GivesRest result (pair_at bytes.now) }
 {
@@ -66,8 +66,7 @@ fn pair(bytes: &[u8]) -> Option<(u8, &[u8])>
     }
 }
 
-/// The bytes that a field of this many pairs of digits spells, the last byte first, with zeros behind
-/// them.
+/// The bytes that a field with this many pairs of digits spells, the last byte first, then zeros.
 pub fn data(field: &[u8], count: usize) -> Option<[u8; 64]>
     requires { count ≤ 64 }
     ensures { result ≡ option_map padded (bytes_in count field.now) }
@@ -91,7 +90,7 @@ fn first_space(bytes: &[u8]) -> Option<usize>
     bytes.iter().position(|b| *b == b' ')
 }
 
-/// The first field, and what follows it from the next space on.
+/// The first field, and the bytes from the next space on.
 pub fn cut(bytes: &[u8]) -> (&[u8], &[u8])
     ensures { pieces bytes.now ≡ result.0.now ∷ fields_behind result.1.now }
 {
@@ -101,7 +100,7 @@ pub fn cut(bytes: &[u8]) -> (&[u8], &[u8])
     }
 }
 
-/// The next field, behind a space, and what follows it.
+/// The next field, after a space, and the bytes after it.
 pub fn next(bytes: &[u8]) -> Option<(&[u8], &[u8])>
     ensures { MatchOption result (fields_behind bytes.now ≡ []) (λ x. fields_behind bytes.now
         ≡ x.0.now ∷ fields_behind x.1.now) }
@@ -156,7 +155,7 @@ pub fn block_field(bytes: &[u8]) -> Option<(u16, &[u8])>
     Some((block as u16, rest))
 }
 
-/// This many bytes in the last field, with zeros behind them.
+/// This many bytes in the last field, then zeros.
 pub fn last_bytes(bytes: &[u8], count: usize) -> Option<[u8; 64]>
     requires { count ≤ 64 }
     ensures { result ≡ option_map padded (last (bytes_in count) (fields_behind bytes.now)) }

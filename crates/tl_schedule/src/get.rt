@@ -13,7 +13,7 @@ use tl_burst::message::{Message, MessageA};
 use tl_client::operation::Op;
 use tl_coherence::event::Event;
 
-/// A Get that a client is asked for, of `2^size` bytes.
+/// A Get of `2^size` bytes by a client.
 #[derive(Clone, Copy)]
 pub(crate) struct GetLine {
     pub client: u8,
@@ -35,7 +35,7 @@ fn get(client: &[u8], size: u8, address: &[u8]) -> Option<GetLine>
     })
 }
 
-/// The Get that a line asks for, without its line feed.
+/// The Get that a line spells, without its line feed.
 #[inline(always)]
 fn read_get(body: &[u8]) -> Option<GetLine>
     ensures { IfSome result (SpellsGet body.now) }
@@ -50,7 +50,7 @@ fn read_get(body: &[u8]) -> Option<GetLine>
     }
 }
 
-/// The event of a Get, with source 0, which the client replaces.
+/// The event of a Get. The client replaces its source 0.
 #[inline(always)]
 fn event_of<const W: usize>(get: GetLine) -> Event<W>
     requires width { IsWidth W }
@@ -73,7 +73,7 @@ fn event_of<const W: usize>(get: GetLine) -> Event<W>
     }
 }
 
-/// The event of the line of a Get, without its line feed. Of any other line it says nothing.
+/// The event that the line of a Get spells, without its line feed. `None` for any other line.
 #[inline(always)]
 pub(crate) fn get_event<const W: usize>(body: &[u8]) -> Option<Event<W>>
     requires { IsWidth W }

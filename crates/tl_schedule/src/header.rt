@@ -13,14 +13,14 @@ use arrayvec::ArrayVec;
 use tl_params::config::{ClientConfig, Config, MOST_CLIENTS};
 use tl_params::header::{Version, front_level, front_version, is_end};
 
-/// What the header of a schedule names.
+/// The values of a schedule's header.
 #[derive(Drop)]
 pub struct Schedule {
     pub version: Version,
     pub config: Config,
 }
 
-/// The decimal digit at the front, and what follows it.
+/// The decimal digit at the front, and the bytes after it.
 fn digit(bytes: &[u8]) -> Option<(u8, &[u8])>
     ensures gives { Gives result (digit_at bytes.now) }
     ensures small { IfSome result (λ x. x.0 ≤ 9) }
@@ -37,7 +37,7 @@ fn starts_with_zero(bytes: &[u8]) -> bool
     matches!(bytes, [b'0', ..])
 }
 
-/// The number of the digits at the front, from 1 to a limit, and what follows it.
+/// The number of the digits at the front, from 1 to a limit, and the bytes after it.
 fn digits(bytes: &[u8], limit: u16) -> Option<(u16, &[u8])>
     requires { limit ≤ 1024 }
     ensures gives { Gives result (within limit (decimal_from 0 bytes.now)) }
@@ -59,7 +59,7 @@ fn digits(bytes: &[u8], limit: u16) -> Option<(u16, &[u8])>
     }
 }
 
-/// The number at the front, from 1 to a limit and without leading zeros, and what follows it.
+/// The number at the front, from 1 to a limit and without leading zeros, and the bytes after it.
 fn number(bytes: &[u8], limit: u16) -> Option<(u16, &[u8])>
     requires { limit ≤ 1024 }
     ensures gives { Gives result (number_at limit bytes.now) }
@@ -71,7 +71,7 @@ fn number(bytes: &[u8], limit: u16) -> Option<(u16, &[u8])>
     digits(bytes, limit)
 }
 
-/// What follows this byte.
+/// The bytes after this byte, if it is at the front.
 fn after(byte: u8, bytes: &[u8]) -> Option<&[u8]>
     ensures { MatchOption result (byte_at byte bytes.now ≡ None) (λ rest. byte_at byte bytes.now ≡ Some rest.now) }
 {
@@ -81,7 +81,7 @@ fn after(byte: u8, bytes: &[u8]) -> Option<&[u8]>
     }
 }
 
-/// The client at the front, behind a space, and what follows it.
+/// The client at the front, after a space, and the bytes after it.
 fn client(bytes: &[u8]) -> Option<(ClientConfig, &[u8])>
     ensures { Gives result (client_at bytes.now) }
 {
@@ -110,7 +110,7 @@ fn clients(bytes: &[u8]) -> Option<ArrayVec<ClientConfig, MOST_CLIENTS>>
     Some(clients)
 }
 
-/// What follows the word at the front of a schedule.
+/// The bytes after the word at the front of a schedule.
 fn after_word(line: &[u8]) -> Option<&[u8]>
     ensures { MatchOption result ((rest : List ℕ) → line.now ≢ schedule_word ++ rest) (λ rest. line.now
         ≡ schedule_word ++ rest.now) }
@@ -118,7 +118,7 @@ fn after_word(line: &[u8]) -> Option<&[u8]>
     line.strip_prefix(b"tlsched ")
 }
 
-/// A whole header, from left to right.
+/// A whole header, read from left to right.
 fn whole_header(line: &[u8]) -> Option<Schedule>
     ensures { GivesSchedule result (header_at line.now) }
 {
@@ -139,9 +139,9 @@ fn whole_header(line: &[u8]) -> Option<Schedule>
     Some(Schedule { version, config })
 }
 
-/// Reads the first line of a schedule, its LF included. A line of another form has no header.
+/// Reads the first line of a schedule, with its LF. `None` if the line has another form.
 pub fn read_schedule(line: &[u8]) -> Option<Schedule>
-    // What is read is spelled by the line, and whatever the line spells is read.
+    // The line spells the header that is read, and each header that a line spells is read.
     ensures spelled { IfSome result (λ s. SpellsSchedule line.now s.version s.config.blocks s.config.trackers
         s.config.clients.items) }
     ensures of_profile { IfSome result (λ s. s.config.profile ≡ profile_of s.version) }

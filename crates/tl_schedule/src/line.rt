@@ -20,21 +20,21 @@ use tl_burst::message::{Message, MessageA};
 use tl_client::operation::Op;
 use tl_coherence::event::Event;
 
-/// What a line behind the header says.
+/// The content of a line after the header.
 #[derive(Clone, Copy, Debug, PartialEq, Eq)]
 pub enum Line<const W: usize> {
     /// An event.
     Event(Event<W>),
-    /// That what is outstanding is to be delivered.
+    /// `drain`: deliver until nothing is outstanding.
     Drain,
 }
 
-/// What is wrong with a line that says nothing.
+/// The fault of a line that spells nothing.
 #[derive(Clone, Copy, Debug, PartialEq, Eq)]
 pub enum EventFault {
     /// The line has more than 256 bytes, or doesn't end in a line feed.
     F1,
-    /// The line is of no event's form.
+    /// The line doesn't have the form of an event.
     F8,
 }
 
@@ -50,7 +50,7 @@ fn load<const W: usize>(client: u8, bytes: &[u8]) -> Option<Event<W>>
     Some(Event::Ask { client, operation })
 }
 
-/// How many digits spell the value of a Store.
+/// The number of digits for the value of a Store.
 fn value_digits(size: u8) -> u8
     requires { size ≤ 3 }
     ensures value { result ≡ 2 * 2 ^ size }
@@ -109,7 +109,7 @@ fn release<const W: usize>(client: u8, bytes: &[u8]) -> Option<Event<W>>
     Some(Event::Ask { client, operation })
 }
 
-/// An access, with source 0, which the client replaces.
+/// An access. The client replaces its source 0.
 fn access<const W: usize>(word: Word, client: u8, bytes: &[u8]) -> Option<Event<W>>
     requires { IsWidth W }
     ensures { result ≡ meant_by (access_at W word client (fields_behind bytes.now)) }
@@ -143,7 +143,7 @@ fn deliver<const W: usize>(link: u8, bytes: &[u8]) -> Option<Event<W>>
     Some(Event::Deliver { link, channel })
 }
 
-/// What a word and the fields behind it ask of a client.
+/// The operation of a client that a word and the fields after it spell.
 fn said<const W: usize>(word: Word, client: u8, bytes: &[u8]) -> Option<Event<W>>
     requires { IsWidth W }
     ensures { result ≡ meant_by (said_at W word client (fields_behind bytes.now)) }
@@ -165,7 +165,7 @@ fn is_drain(body: &[u8]) -> bool
     body == b"drain".as_slice()
 }
 
-/// The client in the first field, and what follows it.
+/// The client in the first field, and the bytes after it.
 fn client(body: &[u8]) -> Option<(u8, &[u8])>
     ensures { Gives result (front (number_in 0 2) (pieces body.now)) }
 {
@@ -174,7 +174,7 @@ fn client(body: &[u8]) -> Option<(u8, &[u8])>
     Some((client as u8, rest))
 }
 
-/// A line without its line feed that says an event, read from left to right.
+/// The event that a line spells, without its line feed, read from left to right.
 fn any_ask<const W: usize>(body: &[u8]) -> Option<Event<W>>
     requires { IsWidth W }
     ensures { result ≡ meant_by (ask_at W (pieces body.now)) }
@@ -184,7 +184,7 @@ fn any_ask<const W: usize>(body: &[u8]) -> Option<Event<W>>
     said(word, client, rest)
 }
 
-/// A line without its line feed that says an event.
+/// The event that a line spells, without its line feed.
 fn ask<const W: usize>(body: &[u8]) -> Option<Event<W>>
     requires { IsWidth W }
     ensures { result ≡ meant_by (ask_at W (pieces body.now)) }
@@ -195,7 +195,7 @@ fn ask<const W: usize>(body: &[u8]) -> Option<Event<W>>
     }
 }
 
-/// A line without its line feed.
+/// The content of a line, without its line feed.
 fn body<const W: usize>(body: &[u8]) -> Option<Line<W>>
     requires { IsWidth W }
     ensures { result ≡ line_at body.now }
@@ -206,7 +206,7 @@ fn body<const W: usize>(body: &[u8]) -> Option<Line<W>>
     Some(Line::Event(ask(body)?))
 }
 
-/// A line, by its length and its line feed first.
+/// The content of a line, after a check of its length and its line feed.
 fn whole_line<const W: usize>(line: &[u8]) -> Result<Line<W>, EventFault>
     requires { IsWidth W }
     ensures { result ≡ event_at line.now }
@@ -220,11 +220,11 @@ fn whole_line<const W: usize>(line: &[u8]) -> Result<Line<W>, EventFault>
     }
 }
 
-/// Reads a line behind the header, its line feed included.
+/// Reads a line after the header, with its line feed. The error is the fault of a line that spells nothing.
 pub fn read_event<const W: usize>(line: &[u8]) -> Result<Line<W>, EventFault>
     requires { IsWidth W }
-    // What is read is said by the line, whatever the line says is read, and the fault is that of a
-    // line that says nothing.
+    // The line spells the content that is read, each content that the line spells is read, and the fault is that of a
+    // line that spells nothing.
     ensures spelled { IfOk result (SpellsLine line.now) }
     ensures every_spelling { (read : Line W) → SpellsLine line.now read → result ≡ Ok read }
     ensures fault { IfErr result (λ f. f ≡ event_fault line.now) }

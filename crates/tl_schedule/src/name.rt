@@ -1,4 +1,4 @@
-//! Reading the names in a line: of what is asked for, and of params.
+//! Reads the names in a line: of operations and of params.
 
 ghost use Rattle.std.specs.Prelude.{◌≡◌, bytes_eq};
 ghost use Rattle.tl_beat.specs.statement.Line.{channel_named};
@@ -9,7 +9,7 @@ use crate::field::next;
 use tl_beat::channel::Channel;
 use tl_params::param::{Arithmetic, Grow, Intent, Logical, Prune};
 
-/// What a line asks for.
+/// The word for an operation in a line.
 #[derive(Clone, Copy)]
 pub(crate) enum Word {
     Load,

@@ -1,4 +1,4 @@
-//! Writes the lines of outcomes.
+//! Writes the lines of outcomes. An error means that there is no memory left; a part may then have been appended.
 
 ghost use Rattle.std.specs.Prelude.{◌≡◌, ◌<◌, ◌≤◌, ◌%◌, ◌^◌, ◌++◌, ◌∷◌, [], length, take, OnOk};
 ghost use Rattle.std.specs.Int.{to_le_bytes, w64};
@@ -39,7 +39,7 @@ fn pair(byte: u8) -> [u8; 2]
     [digit(byte / 16), digit(byte % 16)]
 }
 
-/// Appends the digits of a block's bytes at most, one byte at a time, the last byte first.
+/// Appends the digits of at most 64 bytes, one byte at a time, the last byte first.
 fn append_each(bytes: &[u8], out: &mut Vec<u8>) -> Result<(), AllocError>
     requires { length bytes.now ≤ 64 }
     ensures { OnOk result (out.new.items ≡ out.old.items ++ lane_digits bytes.now) }
@@ -67,7 +67,7 @@ fn append_eights(bytes: &[u8], out: &mut Vec<u8>) -> Result<(), AllocError>
     Ok(())
 }
 
-/// Appends the digits of a block's bytes at most, the last byte first.
+/// Appends the digits of at most 64 bytes, the last byte first.
 fn append_bytes(bytes: &[u8], out: &mut Vec<u8>) -> Result<(), AllocError>
     requires { length bytes.now ≤ 64 }
     ensures { OnOk result (out.new.items ≡ out.old.items ++ lane_digits bytes.now) }
@@ -79,7 +79,7 @@ fn append_bytes(bytes: &[u8], out: &mut Vec<u8>) -> Result<(), AllocError>
     }
 }
 
-/// How many of these bytes are shown, where `2^size` are.
+/// The first `2^size` of these bytes, or all if there are fewer.
 fn shown(size: u8, bytes: &[u8]) -> &[u8]
     requires { length bytes.now ≤ 64 }
     ensures { result.now ≡ take (2 ^ size) bytes.now }
@@ -102,7 +102,7 @@ fn append_data(size: u8, bytes: &[u8], out: &mut Vec<u8>) -> Result<(), AllocErr
     append_bytes(shown(size, bytes), out)
 }
 
-/// Appends the line of a number of eight bytes that was read.
+/// Appends the line of a value of eight bytes.
 fn append_whole_value(value: u64, out: &mut Vec<u8>) -> Result<(), AllocError>
     ensures { OnOk result (out.new.items ≡ out.old.items ++ reply_text 3 (Value value) ++ 10 ∷ []) }
 {
@@ -113,7 +113,7 @@ fn append_whole_value(value: u64, out: &mut Vec<u8>) -> Result<(), AllocError>
     out.extend_from_slice(&text)
 }
 
-/// Appends the line of a number of which the low `2^size` bytes were read, eight at most.
+/// Appends the line of a value, by its low `2^size` bytes, at most eight.
 fn append_value(size: u8, value: u64, out: &mut Vec<u8>) -> Result<(), AllocError>
     ensures { OnOk result (out.new.items ≡ out.old.items ++ reply_text size (Value value) ++ 10 ∷ []) }
 {
@@ -138,7 +138,7 @@ fn busy_name(busy: Busy) -> &'static str
     }
 }
 
-/// Appends the line of an answer to an operation.
+/// Appends the line of a reply.
 fn append_reply(size: u8, reply: Reply, out: &mut Vec<u8>) -> Result<(), AllocError>
     ensures { OnOk result (out.new.items ≡ out.old.items ++ reply_text size reply ++ 10 ∷ []) }
 {
@@ -171,7 +171,7 @@ fn perm_name(perm: Perm) -> &'static str
     }
 }
 
-/// Appends how an operation ended.
+/// Appends the result of an operation.
 fn append_finish(finish: &Finish, out: &mut Vec<u8>) -> Result<(), AllocError>
     ensures { OnOk result (out.new.items ≡ out.old.items ++ finish_text finish.now) }
 {
@@ -190,7 +190,7 @@ fn append_finish(finish: &Finish, out: &mut Vec<u8>) -> Result<(), AllocError>
     }
 }
 
-/// Appends what stands behind a beat that ends an operation.
+/// Appends the text after a beat that ends an operation.
 fn append_end(source: u8, finish: &Finish, out: &mut Vec<u8>) -> Result<(), AllocError>
     ensures { OnOk result (out.new.items ≡ out.old.items ++ done_text source finish.now) }
 {
@@ -233,7 +233,7 @@ fn append_done<const W: usize>(
     Ok(())
 }
 
-/// The size of the Load that was asked for, if one was.
+/// The size of the Load, if the event asks for one; otherwise 0.
 fn asked_size<const W: usize>(event: &Event<W>) -> u8
     ensures { result ≡ asked_size event.now }
 {
@@ -256,7 +256,7 @@ fn link_of<const W: usize>(event: &Event<W>) -> Link
     }
 }
 
-/// Appends the line of what comes of an event. A beat that was taken must have room in its line.
+/// Appends the line of an outcome. A beat that was taken must fit its line.
 pub fn append_outcome<const W: usize>(
     event: &Event<W>,
     outcome: &Outcome<W>,
@@ -280,7 +280,7 @@ pub fn append_outcome<const W: usize>(
     }
 }
 
-/// Appends the line of what a client answers to a Load of this size, or with size 0 to a Store.
+/// Appends the line of a client's reply to a Load of this size, or with size 0 to a Store.
 pub fn append_answer(size: u8, answer: Option<Reply>, out: &mut Vec<u8>) -> Result<(), AllocError>
     ensures { OnOk result (out.new.items ≡ out.old.items ++ answer_line size answer) }
 {
@@ -290,7 +290,7 @@ pub fn append_answer(size: u8, answer: Option<Reply>, out: &mut Vec<u8>) -> Resu
     }
 }
 
-/// Appends what a trace shows of an event: the line of the beat that was taken, if one was.
+/// Appends the line of the beat that was taken in an event, if one was, for a trace.
 pub fn append_trace<const W: usize>(
     event: &Event<W>,
     outcome: &Outcome<W>,
@@ -308,7 +308,7 @@ pub fn append_trace<const W: usize>(
     }
 }
 
-/// Appends `drained N`, behind the lines of N deliveries.
+/// Appends `drained N`, the line after N deliveries.
 pub fn append_drained(count: u64, out: &mut Vec<u8>) -> Result<(), AllocError>
     ensures { OnOk result (out.new.items ≡ out.old.items ++ drained_line count) }
 {

@@ -10,8 +10,7 @@ use std::alloc::{AllocError, Global};
 use tl_client::any::AnyClient;
 use tl_rules::config::{Config, NewFault};
 
-/// The clients of a configuration, which have sent and taken nothing: the first limit that it breaks,
-/// in the order N1 to N4, or want of memory.
+/// New clients of a configuration. The error is the first limit that it breaks, in the order N1 to N4, or `Memory`.
 pub fn agents_of<const W: usize>(
     alloc: Global,
     config: &Config,

@@ -21,7 +21,7 @@ use tl_client::reply::Reply;
 use tl_rules::perm::Perm;
 use tl_rules::rule::Rule;
 
-/// Asks one client, which writes the message that it hands out where it is to stand, and leaves the others.
+/// Asks one client for an operation, and leaves the others. The client writes its message into `message`.
 pub fn ask_at<const W: usize, A: Agent<W>>(
     clients: &mut Vec<A>,
     i: usize,
@@ -64,7 +64,7 @@ pub fn ask_store_at<const W: usize, A: Agent<W>>(
     clients[i].ask_store(address, size, value)
 }
 
-/// Offers a beat to one client, which answers in few bytes, and leaves the others.
+/// Offers a beat to one client, which gives a compact answer, and leaves the others.
 pub fn answer_at<const W: usize, A: Agent<W>>(
     clients: &mut Vec<A>,
     i: usize,
@@ -79,7 +79,7 @@ pub fn answer_at<const W: usize, A: Agent<W>>(
     clients[i].answer(channel, beat, bytes)
 }
 
-/// Lets one client take a beat that goes on with a message, and leaves the others: whether it took it.
+/// Lets one client take a beat that continues a message, and leaves the others. Returns whether it took it.
 pub fn goes_on_at<const W: usize, A: Agent<W>>(
     clients: &mut Vec<A>,
     i: usize,
@@ -97,7 +97,7 @@ pub fn goes_on_at<const W: usize, A: Agent<W>>(
     true
 }
 
-/// What one client holds of a block: None where there is no such client.
+/// The permission that one client holds of a block; None if there is no such client.
 pub fn held_at<const W: usize, A: Agent<W>>(clients: &Vec<A>, i: usize, block: u16) -> Perm
     ensures there { (e : Endpoint W) (d : A) → i < length clients.now.items →
         A.represents (slice_index_or clients.now.items i d) e →
@@ -110,7 +110,7 @@ pub fn held_at<const W: usize, A: Agent<W>>(clients: &Vec<A>, i: usize, block: u
     }
 }
 
-/// The bytes of one client's copy of a block: None where there is no such client.
+/// The bytes of one client's copy of a block; None if there is no such client.
 pub fn copy_at<const W: usize, A: Agent<W>>(
     clients: &Vec<A>,
     i: usize,
@@ -127,7 +127,7 @@ pub fn copy_at<const W: usize, A: Agent<W>>(
     }
 }
 
-/// Whether one client stalls a beat: true where there is no such client.
+/// Whether one client stalls a beat; true if there is no such client.
 pub fn stalls_at<const W: usize, A: Agent<W>>(
     clients: &Vec<A>,
     i: usize,

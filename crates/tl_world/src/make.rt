@@ -25,7 +25,7 @@ fn channel_at(number: usize) -> Channel
     }
 }
 
-/// How many beats a channel is made for, by the numbers of sources and trackers.
+/// The number of beats for which a channel has room, by the numbers of sources and trackers.
 fn capacity<const W: usize>(sources: u8, trackers: u8, channel: Channel) -> u16
     requires { IsWidth W }
     ensures { result ≡ Delivery.capacity (64 / W) sources trackers channel }
@@ -42,7 +42,7 @@ fn capacity<const W: usize>(sources: u8, trackers: u8, channel: Channel) -> u16
     }
 }
 
-/// The channels of each client's link, which hold nothing.
+/// The channels of each client's link, all empty. The error means that there is no memory left.
 pub fn make_rings<const W: usize>(alloc: Global, config: &Config) -> Result<Rings<W>, AllocError>
     requires { IsWidth W }
     ensures fresh { IfOk result (λ rings. AreFresh config.now (5 * length config.now.clients.items) rings.all.items) }

@@ -1,4 +1,4 @@
-//! The manager, the clients and their channels, and what they do at an event.
+//! The manager, the clients and their channels.
 
 use crate::rings::Rings;
 use tl_client::agent::Agent;

@@ -1,4 +1,4 @@
-//! The delivery that is next.
+//! The next delivery.
 
 ghost use Rattle.std.specs.Prelude.{◌≡◌, ◌<◌, ◌∷◌, [], not};
 ghost use Rattle.tl_beat.specs.statement.Width.{IsWidth};
@@ -18,7 +18,7 @@ use tl_client::agent::Agent;
 use tl_manager::directory::Directory;
 use tl_manager::word::with_bit;
 
-/// Whether the end that takes a beat may stall it: a manager stalls requests, a client Probes.
+/// Whether the end that takes a beat may stall it. A manager stalls requests, a client Probes.
 fn may_wait<const W: usize>(beat: &Beat<W>) -> bool
     ensures { result ≡ may_wait beat.now }
 {
@@ -55,7 +55,7 @@ impl<const W: usize, A: Agent<W>, D: Directory> Network<W, A, D> {
         }
     }
 
-    /// The first delivery on a channel that moves a beat: only links are asked whose channel holds one.
+    /// The first delivery on a channel that moves a beat. It looks only at links with a beat on the channel.
     #[inline(always)]
     fn movable_on(&self, channel: Channel) -> Option<(Link, Channel)>
         requires { IsWidth W }

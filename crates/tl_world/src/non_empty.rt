@@ -1,4 +1,4 @@
-//! Which channels hold a beat.
+//! The channels that hold a beat.
 
 ghost use Rattle.std.specs.Prelude.{ℕ, ◌≡◌, ◌≢◌, ◌<◌, IfSome};
 ghost use Rattle.std.specs.Int.{bit_at};
@@ -11,7 +11,7 @@ use tl_beat::beat::Link;
 use tl_beat::channel::Channel;
 use tl_manager::word::with_bit;
 
-/// The place of the lowest bit that is set in a word: None where no bit is.
+/// The place of the lowest bit that is set in a word; None if no bit is.
 pub fn lowest(word: u16) -> Option<u8>
     ensures none { result ≡ None → word ≡ 0 }
     ensures some { IfSome result (λ least. (least < 16) × (bit_at word least ≡ 1)
@@ -24,7 +24,7 @@ pub fn lowest(word: u16) -> Option<u8>
     }
 }
 
-/// A word for each channel, with a bit for each link: it is set while that channel of the link holds a beat.
+/// A word for each channel, with a bit for each link that is set while the channel of that link holds a beat.
 #[derive(Clone, Copy)]
 pub struct NonEmptyChannels {
     pub words: [u16; 5],
@@ -38,14 +38,14 @@ impl NonEmptyChannels {
         NonEmptyChannels { words: [0; 5] }
     }
 
-    /// The links of which this channel holds a beat, a bit for each.
+    /// The links whose channel holds a beat, a bit for each.
     pub fn links(&self, channel: Channel) -> u16
         ensures { result ≡ word_of self.now channel }
     {
         self.words[number(channel)]
     }
 
-    /// Notes whether this channel of the link holds a beat.
+    /// Sets whether this channel of the link holds a beat.
     pub fn mark(&mut self, link: Link, channel: Channel, holds: bool)
         requires { link.0 < 16 }
         ensures here { bit_at (word_of self.new channel) link.0 ≡ bit_if holds }

@@ -1,4 +1,4 @@
-//! How many requests and Releases are outstanding.
+//! The numbers of requests and Releases outstanding.
 
 ghost use Rattle.std.specs.Prelude.{ℕ, ◌≡◌, ◌+◌, ◌*◌, ◌/◌, true, false};
 ghost use Rattle.tl_beat.specs.statement.Width.{IsWidth};
@@ -12,7 +12,7 @@ use tl_client::reply::Reply;
 use tl_client::verdict::Finish;
 use tl_coherence::event::Outcome;
 
-/// A request was started.
+/// Whether the operation starts a request.
 fn starts_request<const W: usize>(operation: &Op<W>, outcome: &Outcome<W>) -> bool
     ensures { (client : ℕ) → result ≡ Load.starts_request (Ask client operation.now) outcome.now }
 {
@@ -28,7 +28,7 @@ fn starts_request<const W: usize>(operation: &Op<W>, outcome: &Outcome<W>) -> bo
     }
 }
 
-/// A Release was started.
+/// Whether the operation starts a Release.
 fn starts_release<const W: usize>(operation: &Op<W>, outcome: &Outcome<W>) -> bool
     ensures { (client : ℕ) → result ≡ Load.starts_release (Ask client operation.now) outcome.now }
 {
@@ -43,7 +43,7 @@ fn starts_release<const W: usize>(operation: &Op<W>, outcome: &Outcome<W>) -> bo
     }
 }
 
-/// A request ended.
+/// Whether the outcome ends a request.
 fn ends_request<const W: usize>(outcome: &Outcome<W>) -> bool
     ensures { result ≡ Load.ends_request outcome.now }
 {
@@ -57,7 +57,7 @@ fn ends_request<const W: usize>(outcome: &Outcome<W>) -> bool
     }
 }
 
-/// A Release ended.
+/// Whether the outcome ends a Release.
 fn ends_release<const W: usize>(outcome: &Outcome<W>) -> bool
     ensures { result ≡ Load.ends_release outcome.now }
 {
@@ -70,7 +70,7 @@ fn ends_release<const W: usize>(outcome: &Outcome<W>) -> bool
     }
 }
 
-/// A number of what is outstanding, after one more started or ended.
+/// The number outstanding, after one more starts or ends.
 fn after(count: u16, starts: bool, ends: bool) -> u16
     ensures { result ≡ counted starts ends count }
 {
@@ -83,7 +83,7 @@ fn after(count: u16, starts: bool, ends: bool) -> u16
     }
 }
 
-/// How many requests and Releases are outstanding.
+/// The numbers of requests and Releases outstanding.
 #[derive(Clone, Copy, Default, PartialEq, Eq)]
 pub struct Outstanding {
     pub requests: u16,
@@ -91,7 +91,7 @@ pub struct Outstanding {
 }
 
 impl Outstanding {
-    /// A client was asked for an operation.
+    /// Counts an operation that a client was asked for.
     pub fn count_ask<const W: usize>(&mut self, operation: &Op<W>, outcome: &Outcome<W>)
         ensures requests { (client : ℕ) → self.new.requests
             ≡ counted (Load.starts_request (Ask client operation.now) outcome.now) (Load.ends_request outcome.now)
@@ -112,7 +112,7 @@ impl Outstanding {
         );
     }
 
-    /// A delivery has happened.
+    /// Counts a delivery.
     pub fn count_delivery<const W: usize>(&mut self, outcome: &Outcome<W>)
         ensures requests { self.new.requests ≡ counted false (Load.ends_request outcome.now) self.old.requests }
         ensures releases { self.new.releases ≡ counted false (Load.ends_release outcome.now) self.old.releases }
@@ -121,7 +121,7 @@ impl Outstanding {
         self.releases = after(self.releases, false, ends_release(outcome));
     }
 
-    /// How many deliveries they can still need.
+    /// The number of deliveries that they can still need.
     pub fn load<const W: usize>(&self) -> u64
         requires { IsWidth W }
         ensures { result ≡ (64 / W + 33) * self.now.requests + (64 / W + 1) * self.now.releases }

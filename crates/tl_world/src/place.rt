@@ -1,4 +1,4 @@
-//! Where a channel stands among those of all links.
+//! The place of a channel among those of all links.
 
 ghost use Rattle.std.specs.Prelude.{◌≡◌};
 ghost use Rattle.tl_world.specs.code.Carrying;

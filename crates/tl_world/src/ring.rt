@@ -13,7 +13,7 @@ use tl_beat::beat::Beat;
 use tl_burst::burst::{beat_at, beats_of, change};
 use tl_burst::message::Message;
 
-/// The beats of a channel, the oldest first, and the greatest number of them that ever stood there.
+/// The beats of a channel, the oldest first, and the greatest number of them that it has ever held.
 #[derive(Drop)]
 pub struct Ring<const W: usize> {
     pub beats: HeapCircularBuffer<Beat<W>>,
@@ -22,7 +22,7 @@ pub struct Ring<const W: usize> {
     pub ghost covered: { length beats.items ≤ deepest },
 }
 
-/// Puts the beats of a message behind others, for which there has to be room.
+/// Appends the beats of a message. There must be room for them.
 fn push_beats<const W: usize>(beats: &mut HeapCircularBuffer<Beat<W>>, message: &Message<W>)
     requires { IsWidth W }
     ensures capacity { beats.new.capacity ≡ beats.old.capacity }
@@ -39,7 +39,7 @@ fn push_beats<const W: usize>(beats: &mut HeapCircularBuffer<Beat<W>>, message: 
 }
 
 impl<const W: usize> Ring<W> {
-    /// A channel for this many beats, which holds none.
+    /// An empty channel with room for this many beats. The error means that there is no memory left.
     pub fn new(alloc: Global, capacity: u16) -> Result<Self, AllocError>
         ensures { IfOk result (λ ring. (ring.beats ≡ buffer [] capacity) × (ring.deepest ≡ 0)) }
     {
@@ -47,7 +47,7 @@ impl<const W: usize> Ring<W> {
         Ok(Ring { beats, deepest: 0 })
     }
 
-    /// Puts the beats of a message behind those that are there, for which there has to be room.
+    /// Appends the beats of a message. There must be room for them.
     pub fn send(&mut self, message: &Message<W>)
         requires { IsWidth W }
         ensures capacity { self.new.beats.capacity ≡ self.old.beats.capacity }
@@ -69,7 +69,7 @@ impl<const W: usize> Ring<W> {
         self.beats.front()
     }
 
-    /// Takes the first beat away: whether none is left.
+    /// Removes the first beat, and returns whether none is left.
     pub fn drop_first(&mut self) -> bool
         ensures beats { self.new.beats ≡ buffer (drop 1 self.old.beats.items) self.old.beats.capacity }
         ensures deepest { self.new.deepest ≡ self.old.deepest }

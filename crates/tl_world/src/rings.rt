@@ -32,7 +32,7 @@ fn channel_of<const W: usize>(message: &Message<W>) -> Channel
     }
 }
 
-/// Puts the beats of a message behind those of one channel, which has to have room for them.
+/// Appends the beats of a message to one channel, which must have room for them.
 fn send_at<const W: usize>(rings: &mut Vec<Ring<W>>, at: usize, message: &Message<W>)
     requires width { IsWidth W }
     requires inside { at < length rings.old.items }
@@ -52,7 +52,7 @@ fn send_at<const W: usize>(rings: &mut Vec<Ring<W>>, at: usize, message: &Messag
     rings[at].send(message);
 }
 
-/// Takes the first beat of one channel away: whether none is left in it.
+/// Removes the first beat of one channel, and returns whether none is left.
 fn drop_at<const W: usize>(rings: &mut Vec<Ring<W>>, at: usize) -> bool
     requires { at < length rings.old.items }
     ensures number { length rings.new.items ≡ length rings.old.items }
@@ -68,7 +68,7 @@ fn drop_at<const W: usize>(rings: &mut Vec<Ring<W>>, at: usize) -> bool
     rings[at].drop_first()
 }
 
-/// The channels of all links, by the number of the link, at most sixteen, and which of them hold a beat.
+/// The channels of all links, at most sixteen, by the number of the link, and which of them hold a beat.
 #[derive(Drop)]
 pub struct Rings<const W: usize> {
     pub all: Vec<Ring<W>>,
@@ -96,7 +96,7 @@ impl<const W: usize> Rings<W> {
         }
     }
 
-    /// The greatest number of beats that ever stood in a channel.
+    /// The greatest number of beats that a channel has ever held.
     pub fn deepest(&self, link: Link, channel: Channel) -> u16
         ensures there { (d : Ring W) → Carrying.place link.0 channel < length self.now.all.items →
             result ≡ (slice_index_or self.now.all.items (Carrying.place link.0 channel) d).deepest }
@@ -108,7 +108,7 @@ impl<const W: usize> Rings<W> {
         }
     }
 
-    /// Takes the first beat of a channel away.
+    /// Removes the first beat of a channel.
     pub fn drop_first(&mut self, link: Link, channel: Channel)
         ensures kept { AreKept self.old self.new }
         ensures moved { (n : ℕ) (s : System W) (x : Beat W) (rest : List (Beat W)) → Carries n self.old s → link.0 < n →
@@ -124,7 +124,7 @@ impl<const W: usize> Rings<W> {
         }
     }
 
-    /// Puts the beats of a message behind those of its channel.
+    /// Appends the beats of a message to its channel.
     pub fn send(&mut self, link: Link, message: &Message<W>)
         requires { IsWidth W }
         ensures kept { AreKept self.old self.new }
@@ -140,7 +140,7 @@ impl<const W: usize> Rings<W> {
         }
     }
 
-    /// Puts the beats of a message behind those of its channel, if there is a message.
+    /// Appends the beats of a message to its channel, if there is a message.
     pub fn send_if_any(&mut self, link: Link, message: &Option<Message<W>>)
         requires { IsWidth W }
         ensures kept { AreKept self.old self.new }
@@ -154,7 +154,7 @@ impl<const W: usize> Rings<W> {
         }
     }
 
-    /// Puts a Probe of a block behind those of channel B of each link whose bit is set, the lowest first.
+    /// Appends a Probe of a block to channel B of each link whose bit is set, the lowest first.
     fn send_probes(&mut self, block: u16, cap: Cap, clients: u16)
         requires { IsWidth W }
         ensures kept { AreKept self.old self.new }
@@ -171,7 +171,7 @@ impl<const W: usize> Rings<W> {
         }
     }
 
-    /// Puts the beats of what a manager hands out behind those of their channels.
+    /// Appends the beats of the messages that a manager hands out to their channels.
     pub fn send_out(&mut self, outbox: &Outbox<W>)
         requires { IsWidth W }
         ensures kept { AreKept self.old self.new }

@@ -1,4 +1,4 @@
-//! What a manager and its clients do at an event.
+//! The steps of a manager and its clients at an event.
 
 ghost use Rattle.std.specs.Prelude.{ℕ, ◌≡◌, ◌<◌, length, true, false};
 ghost use Rattle.tl_beat.specs.statement.Width.{IsWidth};
@@ -39,14 +39,14 @@ pub fn is_to_client(channel: Channel) -> bool
     }
 }
 
-/// Whether a beat that is answered so stays on its channel.
+/// Whether a beat with this answer stays on its channel.
 fn stays(answer: Answer, bytes: &[u8; 64]) -> bool
     ensures { result ≡ is_stay (verdict_of answer bytes.now) }
 {
     matches!(answer, Answer::Stalled)
 }
 
-/// Writes what comes of a beat that a client answers so, with these bytes.
+/// Writes the outcome of a beat with this answer of a client.
 fn write_outcome<const W: usize>(
     outcome: &mut Outcome<W>,
     beat: &Beat<W>,
@@ -71,7 +71,7 @@ fn write_outcome<const W: usize>(
     };
 }
 
-/// Puts the message that a client hands out with its answer behind those of its channel, if there is a message.
+/// Appends the message that a client hands out with its answer to its channel, if there is one.
 fn send_answer<const W: usize>(rings: &mut Rings<W>, link: Link, answer: Answer, bytes: &[u8; 64])
     requires { IsWidth W }
     ensures kept { AreKept rings.old rings.new }
@@ -84,7 +84,7 @@ fn send_answer<const W: usize>(rings: &mut Rings<W>, link: Link, answer: Answer,
     }
 }
 
-/// Puts the message that a client hands out with its reply behind those of its channel, where an operation was started.
+/// Appends the message that a client hands out with its reply to its channel, if an operation started.
 fn send_started<const W: usize>(
     rings: &mut Rings<W>,
     link: Link,
@@ -102,9 +102,9 @@ fn send_started<const W: usize>(
     }
 }
 
-/// What a refused beat would come to: it stays on its channel. No end refuses one: each hands out only
-/// messages that break no rule of the link, a channel keeps them in order, and the other end judges
-/// them by the same rules after the same messages.
+/// The outcome of a beat that is refused: it would stay on its channel. No end refuses one. Each end hands out only
+/// messages that break no rule of the link, a channel keeps them in order, and the other end judges them by the same
+/// rules after the same messages.
 fn refused<const W: usize>() -> Outcome<W>
     ensures { result ≡ outcome.Stalled }
 {
@@ -112,7 +112,7 @@ fn refused<const W: usize>() -> Outcome<W>
 }
 
 impl<const W: usize, A: Agent<W>, D: Directory> Network<W, A, D> {
-    /// A client of this number is asked. What comes of it is written where it is to stand, as below.
+    /// Asks the client of this number, which must exist, and writes the outcome into `outcome`.
     fn ask(&mut self, client: u8, operation: &Op<W>, outcome: &mut Outcome<W>)
         requires width { IsWidth W }
         requires inside { client < length self.old.clients.items }
@@ -132,7 +132,7 @@ impl<const W: usize, A: Agent<W>, D: Directory> Network<W, A, D> {
         *outcome = Outcome::Replied { reply };
     }
 
-    /// A client is asked, if there is one of this number. What comes of it is written where it is to stand, as below.
+    /// Asks the client of this number, if there is one, and writes the outcome into `outcome`.
     pub fn ask_if_there(&mut self, client: u8, operation: &Op<W>, outcome: &mut Outcome<W>)
         requires { IsWidth W }
         ensures { (config : Config) (s : System W) → Holds A.represents A.terms D.perm_of config self.old s →
@@ -147,7 +147,7 @@ impl<const W: usize, A: Agent<W>, D: Directory> Network<W, A, D> {
         self.ask(client, operation, outcome)
     }
 
-    /// A client of this number is asked for a Load: its answer, or None where there is no such client.
+    /// Asks the client of this number for a Load. Returns its reply, or None if there is no such client.
     pub fn ask_load(&mut self, client: u8, address: u32, size: u8) -> Option<Reply>
         ensures { (config : Config) (s : System W) → Holds A.represents A.terms D.perm_of config self.old s →
             HasRoom config (stepped config (Ask client (Load address size)) s).after →
@@ -160,7 +160,7 @@ impl<const W: usize, A: Agent<W>, D: Directory> Network<W, A, D> {
         Some(ask_load_at(&mut self.clients, usize::from(client), address, size))
     }
 
-    /// A client of this number is asked for a Store: its answer, or None where there is no such client.
+    /// Asks the client of this number for a Store. Returns its reply, or None if there is no such client.
     pub fn ask_store(&mut self, client: u8, address: u32, size: u8, value: u64) -> Option<Reply>
         ensures { (config : Config) (s : System W) → Holds A.represents A.terms D.perm_of config self.old s →
             HasRoom config (stepped config (Ask client (Store address size value)) s).after →
@@ -173,7 +173,7 @@ impl<const W: usize, A: Agent<W>, D: Directory> Network<W, A, D> {
         Some(ask_store_at(&mut self.clients, usize::from(client), address, size, value))
     }
 
-    /// The first beat of a channel is brought to a client.
+    /// Offers the first beat of a channel to a client.
     fn to_client(&mut self, link: Link, channel: Channel, outcome: &mut Outcome<W>)
         requires width { IsWidth W }
         requires inside { link.0 < length self.old.clients.items }
@@ -206,7 +206,7 @@ impl<const W: usize, A: Agent<W>, D: Directory> Network<W, A, D> {
         }
     }
 
-    /// The first beat of a channel is brought to the manager.
+    /// Offers the first beat of a channel to the manager.
     fn to_manager(&mut self, link: Link, channel: Channel, outcome: &mut Outcome<W>)
         requires width { IsWidth W }
         requires inside { link.0 < length self.old.clients.items }
@@ -235,8 +235,7 @@ impl<const W: usize, A: Agent<W>, D: Directory> Network<W, A, D> {
         }
     }
 
-    /// The first beat of a channel of a link is brought to the end that takes it. What comes of it is written where
-    /// it is to stand, as below.
+    /// Offers the first beat of a channel of a link to the end that takes it, and writes the outcome into `outcome`.
     pub fn deliver(&mut self, link: Link, channel: Channel, outcome: &mut Outcome<W>)
         requires width { IsWidth W }
         ensures { (config : Config) (s : System W) → Holds A.represents A.terms D.perm_of config self.old s →

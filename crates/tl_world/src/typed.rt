@@ -1,4 +1,4 @@
-//! What the types of operations say.
+//! The facts that the types of operations give.
 
 ghost use Rattle.std.specs.Prelude.{◌≡◌, length};
 ghost use Rattle.tl_coherence.specs.statement.Headline.{IsTypedOp};
@@ -11,7 +11,7 @@ fn prove_long(block: &[u8; 64])
     ensures { length block.now ≡ 64 }
 {}
 
-/// The blocks of bytes that an operation carries have 64 bytes each.
+/// An operation's data are 64 bytes.
 pub fn prove_typed<const W: usize>(operation: &Op<W>)
     ensures { IsTypedOp operation.now }
 {

@@ -38,7 +38,7 @@ use tl_manager::manager::Manager;
 use tl_rules::config::{Config, NewFault};
 use tl_rules::perm::Perm;
 
-/// Writes what came of an event.
+/// Writes the outcome of an event.
 fn set_outcome<const W: usize>(outcomes: &mut [Outcome<W>], i: usize, outcome: Outcome<W>)
     requires { i < length outcomes.old }
     ensures { outcomes.new ≡ slice_set outcomes.old i outcome.entry }
@@ -46,9 +46,9 @@ fn set_outcome<const W: usize>(outcomes: &mut [Outcome<W>], i: usize, outcome: O
     outcomes[i] = outcome;
 }
 
-/// A manager and its clients, joined by the channels of their links. Some configuration and log reach
-/// it, for it was made by `new` and only its calls have changed it (`IsWorld`). A contract speaks of
-/// each by which the world is reached: of all that can have happened to it.
+/// A manager and its clients, joined by the channels of their links. Some log of some configuration leads to its state,
+/// since `new` made it and only its calls have changed it (`IsWorld`). A contract speaks of each such log: of all that
+/// can have happened to the world.
 #[derive(Drop)]
 pub struct World<const W: usize, A: Agent<W>, D: Directory> {
     state: WorldState<W, A, D>,
@@ -67,8 +67,8 @@ impl<const W: usize, A: Agent<W>, D: Directory> Model for World<W, A, D> {
 }
 
 impl<const W: usize, A: Agent<W>, D: Directory> World<W, A, D> {
-    /// A world to which nothing has happened, of fresh clients and a fresh directory, as the
-    /// configuration says: the first limit that it breaks, in the order N1 to N4, or want of memory.
+    /// A new world with these clients and this directory, which must be new and fit the configuration. The error is the
+    /// first limit that it breaks, in the order N1 to N4, or `Memory`.
     pub fn new(
         alloc: Global,
         config: Config,
@@ -99,7 +99,7 @@ impl<const W: usize, A: Agent<W>, D: Directory> World<W, A, D> {
         })
     }
 
-    /// Something happens: what comes of it.
+    /// Lets an event happen, and returns its outcome.
     pub fn step(&mut self, event: Event<W>) -> Outcome<W>
         ensures world { IsWorld A.represents A.terms D.perm_of self.old }
         ensures reached { (config : Config) (log : Log W) →
@@ -117,7 +117,7 @@ impl<const W: usize, A: Agent<W>, D: Directory> World<W, A, D> {
         outcome
     }
 
-    /// A client is asked for an operation, as by `step`: what comes of it is written where it is to stand.
+    /// Asks a client for an operation, as `step` does, and writes the outcome into `outcome`.
     pub fn ask(&mut self, client: u8, operation: &Op<W>, outcome: &mut Outcome<W>)
         ensures world { IsWorld A.represents A.terms D.perm_of self.old }
         ensures reached { (config : Config) (log : Log W) →
@@ -132,8 +132,8 @@ impl<const W: usize, A: Agent<W>, D: Directory> World<W, A, D> {
         self.state.outstanding.count_ask(operation, outcome);
     }
 
-    /// The first beat of a channel of a link is brought to the end that takes it, as by `step`: what comes of it is
-    /// written where it is to stand.
+    /// Offers the first beat of a channel of a link to the end that takes it, as `step` does, and writes the outcome
+    /// into `outcome`.
     pub fn deliver(&mut self, link: Link, channel: Channel, outcome: &mut Outcome<W>)
         ensures world { IsWorld A.represents A.terms D.perm_of self.old }
         ensures reached { (config : Config) (log : Log W) →
@@ -147,7 +147,7 @@ impl<const W: usize, A: Agent<W>, D: Directory> World<W, A, D> {
         self.state.outstanding.count_delivery(outcome);
     }
 
-    /// A client is asked for a Load, as by `step`: its answer, or None where there is no such client.
+    /// Asks a client for a Load, as `step` does. Returns its reply, or None if there is no such client.
     pub fn ask_load(&mut self, client: u8, address: u32, size: u8) -> Option<Reply>
         ensures world { IsWorld A.represents A.terms D.perm_of self.old }
         ensures reached { (config : Config) (log : Log W) →
@@ -161,7 +161,7 @@ impl<const W: usize, A: Agent<W>, D: Directory> World<W, A, D> {
         self.state.network.ask_load(client, address, size)
     }
 
-    /// A client is asked for a Store, as by `step`: its answer, or None where there is no such client.
+    /// Asks a client for a Store, as `step` does. Returns its reply, or None if there is no such client.
     pub fn ask_store(&mut self, client: u8, address: u32, size: u8, value: u64) -> Option<Reply>
         ensures world { IsWorld A.represents A.terms D.perm_of self.old }
         ensures reached { (config : Config) (log : Log W) →
@@ -176,7 +176,7 @@ impl<const W: usize, A: Agent<W>, D: Directory> World<W, A, D> {
         self.state.network.ask_store(client, address, size, value)
     }
 
-    /// The events happen one after another: what comes of each.
+    /// Lets the events happen one after the other, and writes their outcomes.
     pub fn run(&mut self, events: &[Event<W>], outcomes: &mut [Outcome<W>])
         requires { length events.now ≡ length outcomes.old }
         ensures world { IsWorld A.represents A.terms D.perm_of self.old }
@@ -191,8 +191,8 @@ impl<const W: usize, A: Agent<W>, D: Directory> World<W, A, D> {
         }
     }
 
-    /// A new world in which these events happened, with what came of each: a world that is refused
-    /// leaves the outcomes as they were.
+    /// A new world in which these events have happened, with their outcomes. The error is that of `new`; then the
+    /// outcomes are as before.
     pub fn replay(
         alloc: Global,
         config: Config,
@@ -212,8 +212,8 @@ impl<const W: usize, A: Agent<W>, D: Directory> World<W, A, D> {
         Ok(world)
     }
 
-    /// The next delivery: the first on a client's link that finds a beat which isn't stalled, in the
-    /// order E, D, C, B, A of the channels, and of the links within one.
+    /// The next delivery: the first that can move a beat, in the order E, D, C, B, A of the channels, and of the links
+    /// within a channel.
     pub fn next_delivery(&self) -> Option<(Link, Channel)>
         ensures world { IsWorld A.represents A.terms D.perm_of self.now }
         ensures next { (config : Config) (log : Log W) → IsReached A.represents A.terms D.perm_of config self.now log →
@@ -222,7 +222,7 @@ impl<const W: usize, A: Agent<W>, D: Directory> World<W, A, D> {
         self.state.network.next_delivery()
     }
 
-    /// Delivers what is next until nothing is, and nothing is outstanding: the number of deliveries, which
+    /// Makes the next delivery until there is none and nothing is outstanding. Returns the number of deliveries, which
     /// is at most the load before.
     pub fn drain(&mut self) -> u64
         ensures world { IsWorld A.represents A.terms D.perm_of self.old }
@@ -246,7 +246,7 @@ impl<const W: usize, A: Agent<W>, D: Directory> World<W, A, D> {
         load
     }
 
-    /// What a client holds of a block: None where there is no such client.
+    /// The permission that a client holds of a block; None if there is no such client.
     pub fn held(&self, client: u8, block: u16) -> Perm
         ensures world { IsWorld A.represents A.terms D.perm_of self.now }
         ensures held { (config : Config) (log : Log W) → IsReached A.represents A.terms D.perm_of config self.now log →
@@ -255,7 +255,7 @@ impl<const W: usize, A: Agent<W>, D: Directory> World<W, A, D> {
         held_at(&self.state.network.clients, usize::from(client), block)
     }
 
-    /// The bytes of a client's copy of a block: there is a copy exactly where the client holds something.
+    /// The bytes of a client's copy of a block. There is a copy exactly if the client's permission isn't None.
     pub fn copy(&self, client: u8, block: u16) -> Option<[u8; 64]>
         ensures world { IsWorld A.represents A.terms D.perm_of self.now }
         ensures copy { (config : Config) (log : Log W) → IsReached A.represents A.terms D.perm_of config self.now log →
@@ -266,8 +266,8 @@ impl<const W: usize, A: Agent<W>, D: Directory> World<W, A, D> {
         copy_at(&self.state.network.clients, usize::from(client), block)
     }
 
-    /// The greatest number of beats that ever stood in a channel, which is no more than it is made for:
-    /// 0 for a link without a client.
+    /// The greatest number of beats that a channel has ever held, at most the number for which it has room; 0 for a
+    /// link without a client.
     pub fn deepest(&self, link: Link, channel: Channel) -> u16
         ensures world { IsWorld A.represents A.terms D.perm_of self.now }
         ensures deepest { (config : Config) (log : Log W) →
@@ -279,7 +279,7 @@ impl<const W: usize, A: Agent<W>, D: Directory> World<W, A, D> {
         self.state.network.rings.deepest(link, channel)
     }
 
-    /// How many deliveries what is outstanding can still need.
+    /// The number of deliveries that the operations outstanding can still need.
     pub fn load(&self) -> u64
         ensures world { IsWorld A.represents A.terms D.perm_of self.now }
         ensures load { (config : Config) (log : Log W) → IsReached A.represents A.terms D.perm_of config self.now log →

@@ -1,4 +1,4 @@
--- What a caching client makes of what it keeps.
+-- How a caching client changes its state.
 use Rattle.std.specs.Prelude.{ℕ, Bool, not, List, ◌≡◌, ◌&&◌, ◌||◌, if◌then◌else◌, nat_le, Option, Some, None, is_some}
 use Rattle.std.specs.Prelude.{unwrap_or}
 use Rattle.std.specs.List.{list_any}
@@ -49,11 +49,11 @@ busy_by c op =
     (first_if (is_transfer op && is_transferring c (op_block op)) B2
     (first_if (breaks_b3 op (held_in c.table (op_block op))) B3 None)))
 
--- the least source with which nothing is open
+-- the least source that has nothing open
 abbrev pub free_in : {T : Type 0} → Sources T → ℕ → Option ℕ
 free_in messages n = least_free (λ s. is_some (open_at messages s)) 0 n
 
--- the Release with this source, where it is free
+-- the Release with this source, if it is free
 abbrev pub release_with : {w : ℕ} → Option ℕ → Prune → ℕ → List ℕ → Reply × Option (Message w)
 release_with None prune block copy = (reply.Busy B1, None)
 release_with (Some s) prune block copy = (reply.Started s, Some (release prune s block copy))
@@ -65,7 +65,7 @@ load_reply c address size = if holds (held_in c.table (block_at address)) then r
 abbrev pub store_reply : {w : ℕ} → Caching w → ℕ → Reply
 store_reply c address = if same_perm perm.Trunk (held_in c.table (block_at address)) then reply.Stored else reply.Miss
 
--- what is answered to an operation that starts where a source is free
+-- what is answered to an operation that starts if a source is free
 abbrev pub answer_by : {w : ℕ} → Caching w → Op w → Reply × Option (Message w)
 answer_by c (Load address size) = (load_reply c address size, None)
 answer_by c (Store address size value) = (store_reply c address, None)
@@ -82,7 +82,7 @@ abbrev pub busy_in : Reply → Option Busy
 busy_in (reply.Busy b) = Some b
 busy_in _ = None
 
--- nothing but what is open changed, by the message that was handed out
+-- only the open messages changed, by the one that was handed out
 pub record Sends {w : ℕ} (c d : Caching w) (m : Option (Message w)) : Type 0 where
   pub requests : (s : ℕ) → open_at d.requests s ≡ opened_by s m (open_at c.requests s)
   pub releases : (s : ℕ) → open_at d.releases s ≡ released_by s m (open_at c.releases s)

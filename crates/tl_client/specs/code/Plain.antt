@@ -1,4 +1,4 @@
--- What a plain client makes of what it keeps.
+-- How a plain client changes its state.
 use Rattle.std.specs.Prelude.{ℕ, Bool, true, false, not, List, ◌∷◌, ◌==◌, ◌&&◌, ◌||◌, if◌then◌else◌, Option, Some, None}
 use Rattle.std.specs.Option.{option_or}
 use Rattle.tl_beat.specs.declared.beat.Beat.{Beat}

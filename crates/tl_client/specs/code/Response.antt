@@ -22,7 +22,7 @@ pub record Response : Type 0 where
   pub sink : ℕ
   pub payload : List ℕ
 
--- the message, where it is one of channel D
+-- the message, if it is one of channel D
 abbrev pub d_of : {w : ℕ} → Message w → Option (MessageD w)
 d_of (message.D m) = Some m
 d_of _ = None

@@ -1,4 +1,4 @@
--- What a caching client makes of a beat that it takes, by what it keeps.
+-- How a beat that a caching client takes changes its state.
 use Rattle.std.specs.Prelude.{ℕ, Bool, true, false, not, List, [], ◌∷◌, ◌≡◌, ◌<◌, ◌==◌, ◌&&◌, if◌then◌else◌, IfSome}
 use Rattle.std.specs.Prelude.{Option, Some, None, Result, Ok, Err, ⊤}
 use Rattle.tl_beat.specs.declared.beat.Beat.{Beat}
@@ -77,7 +77,7 @@ ack_after d.Grant sink = Some (grant_ack sink)
 ack_after d.GrantData sink = Some (grant_ack sink)
 ack_after _ sink = None
 
--- a Grant with these fields to this request took effect, where its block is one of the map
+-- a Grant with these fields to this request took effect, if its block is one of the map
 pub record Grants {w : ℕ} (c d : Caching w) (m : Response) (r : Request) : Type 0 where
   pub holdings : block_at r.address < c.blocks → (k : ℕ)
       → held_in d.table k ≡ (if k == block_at r.address then capped m.param else held_in c.table k)
@@ -92,7 +92,7 @@ pub record Grants {w : ℕ} (c d : Caching w) (m : Response) (r : Request) : Typ
   pub closed : d.closed ≡ c.closed
   pub terms : caching_terms d ≡ caching_terms c
 
--- where the response is a Grant, its request is for a block of the map
+-- if the response is a Grant, its request is for a block of the map
 abbrev pub GrantsInside : {w : ℕ} → Caching w → Response → Type 0
 GrantsInside c m = is_grant m.opcode ≡ true → IfSome (open_at c.requests m.source) (λ r. block_at r.address < c.blocks)
 

@@ -1,4 +1,4 @@
--- What is pending at a client's end, and by which messages.
+-- The pending keys at a client's end, and the messages that account for them.
 use Rattle.std.specs.Prelude.{ℕ, Bool, true, false, List, ◌∷◌, ◌≡◌, Option, Some, None, ⊤}
 use Rattle.tl_beat.specs.declared.beat.Beat.{Beat}
 use Rattle.tl_beat.specs.declared.beat.Beat.TheVariants as beat
@@ -10,7 +10,8 @@ use Rattle.tl_rules.specs.statement.History.{grants, grant_sink, pending, releas
 use Rattle.tl_client.specs.statement.EndpointInvariant.{acquires}
 use Rattle.tl_client.specs.statement.Requests.{open_beat, open_release}
 
--- Of each block an Acquire or a Release is pending, never both, and each is one open message.
+-- While an Acquire of a block is pending, a pending request is that Acquire. While a Release of it is pending, one
+-- pending Release is it. The two are never pending at once.
 pub record IsClaimed {w : ℕ} (t : History w) : Type 0 where
   pub acquired : (k : ℕ) → pending (AcquireOf k) t ≡ true → (s : ℕ) × (acquires k (open_beat s t) ≡ true)
   pub released : (k : ℕ) → pending (ReleaseOf k) t ≡ true → (s : ℕ) × (releases k (open_release s t) ≡ true)
@@ -23,16 +24,17 @@ abbrev pub comes_granting : {w : ℕ} → ℕ → List (Beat w) → History w �
 comes_granting k (beat.D x ∷ burst) t = grants k x t
 comes_granting k _ t = false
 
+-- the sink of the unfinished response, if there is one
 abbrev pub sink_coming : {w : ℕ} → List (Beat w) → Option ℕ
 sink_coming (beat.D x ∷ burst) = Some x.sink
 sink_coming _ = None
 
--- the unfinished response answers a request that is pending
+-- the unfinished response answers a pending request
 abbrev pub IsAnswering : {w : ℕ} → List (Beat w) → History w → Type 0
 IsAnswering (beat.D x ∷ burst) t = admits x.opcode (open_beat x.source t) ≡ true
 IsAnswering _ t = ⊤
 
--- A Probe is answered at once, and a Grant once it is complete.
+-- No Probe is pending. A sink or a GrantAck is pending only while its Grant is unfinished.
 pub record IsAcked {w : ℕ} (t : History w) : Type 0 where
   pub probes : (k : ℕ) → pending (ProbeOf k) t ≡ false
   pub sinks : (s : ℕ) → pending (GrantSink s) t ≡ comes_in_grant s (unfinished channel.D t)
@@ -41,6 +43,7 @@ pub record IsAcked {w : ℕ} (t : History w) : Type 0 where
       → grant_sink k t ≡ sink_coming (unfinished channel.D t)
   pub answering : IsAnswering (unfinished channel.D t) t
 
+-- the pending keys are accounted for
 pub record IsAccounted {w : ℕ} (t : History w) : Type 0 where
   pub claimed : IsClaimed t
   pub acked : IsAcked t

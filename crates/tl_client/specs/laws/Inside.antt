@@ -1,4 +1,4 @@
--- What a client asks for and holds is of its level, of the map and of its own sources.
+-- A client's requests, permissions and sources fit its level, its map and its number of sources.
 use Rattle.std.specs.Prelude.{ℕ, Bool, true, not, ◌≡◌, ◌<◌, ◌&&◌, nat_le}
 use Rattle.tl_burst.specs.statement.Messages.{History}
 use Rattle.tl_params.specs.declared.key.Key.TheVariants.{RequestSource, ReleaseSource}
@@ -8,10 +8,11 @@ use Rattle.tl_client.specs.statement.Endpoint.{EndConfig}
 use Rattle.tl_client.specs.statement.EndpointInvariant.{acquires, holds}
 use Rattle.tl_client.specs.statement.Requests.{open_beat}
 
--- the block can be held: the level has transfers, and the block is one of the map
+-- the client may hold the block: its level has transfers, and the block is in the map
 abbrev pub is_holdable : EndConfig → ℕ → Bool
 is_holdable terms k = has_transfers terms.level && not (nat_le terms.blocks k)
 
+-- the client asks for and holds only blocks that it may hold, and uses only its own sources
 pub record IsInside {w : ℕ} (terms : EndConfig) (t : History w) : Type 0 where
   pub acquires_inside : (s k : ℕ) → acquires k (open_beat s t) ≡ true → is_holdable terms k ≡ true
   pub holds_inside : (k : ℕ) → holds (held k t) ≡ true → is_holdable terms k ≡ true

@@ -9,30 +9,30 @@ use Rattle.tl_params.specs.declared.profile.Profile.{Profile}
 use Rattle.tl_rules.specs.statement.History.{held}
 use Rattle.tl_rules.specs.statement.Admission.{sent}
 
--- what a client is made for: the level and the profile of its link, how many source numbers it has in
--- each of its two pools, and how many blocks the map has
+-- the configuration of a client: level and profile of its link, its number of sources for requests and, as many, for
+-- Releases, and the number of blocks of the map
 pub record EndConfig : Type 0 where
   pub level : Level
   pub profile : Profile
   pub sources : ℕ
   pub blocks : ℕ
 
--- The client's end of its link. What it holds and what is outstanding are those of its history: the
--- beats that it took and the messages that it handed out. Blocks go by their number.
+-- A client's end of its link. The permissions held and the pending keys are those of its history, which has the beats
+-- that it took and the messages that it handed out. Blocks go by their number.
 pub record Endpoint (w : ℕ) : Type 0 where
   pub past : History w
   -- a beat was refused
   pub closed : Bool
   -- the 64 bytes of each copy
   pub copies : ℕ → Option (List ℕ)
-  -- the 64 bytes of each store of a whole block that waits for its Grant
+  -- the 64 bytes of each AcquireWhole that waits for its Grant
   pub waiting : ℕ → Option (List ℕ)
 
--- no block has any bytes
+-- there are no bytes for any block
 abbrev pub nothing : ℕ → Option (List ℕ)
 nothing block = None
 
--- as a client begins
+-- the end of a new client
 abbrev pub fresh : {w : ℕ} → Endpoint w
 fresh = record { past = []; closed = false; copies = nothing; waiting = nothing }
 
@@ -40,27 +40,27 @@ fresh = record { past = []; closed = false; copies = nothing; waiting = nothing 
 abbrev pub zeros : List ℕ
 zeros = replicate 64 0
 
--- the bytes of a copy
+-- the bytes of a copy, zeros if there is none
 abbrev pub copy_at : {w : ℕ} → Endpoint w → ℕ → List ℕ
 copy_at e block = unwrap_or (e.copies block) zeros
 
--- with this in place of the block's bytes
+-- the map `blocks`, with these bytes for this block
 abbrev pub set_at : ℕ → Option (List ℕ) → (ℕ → Option (List ℕ)) → ℕ → Option (List ℕ)
 set_at block bytes blocks = λ k. if k == block then bytes else blocks k
 
--- with this history
+-- the end with this history
 abbrev pub with_past : {w : ℕ} → History w → Endpoint w → Endpoint w
 with_past t e = record e { past = t }
 
--- with these bytes as the copy of a block, or none
+-- the end with these bytes as the copy of a block, or with no copy
 abbrev pub with_copy : {w : ℕ} → ℕ → Option (List ℕ) → Endpoint w → Endpoint w
 with_copy block bytes e = record e { copies = set_at block bytes e.copies }
 
--- with these bytes waiting for the Grant of a block, or none
+-- the end with these bytes waiting for the Grant of a block, or with none
 abbrev pub with_waiting : {w : ℕ} → ℕ → Option (List ℕ) → Endpoint w → Endpoint w
 with_waiting block bytes e = record e { waiting = set_at block bytes e.waiting }
 
--- the copy is gone where nothing is held any more
+-- the end without the copy, if None is held of the block
 abbrev pub kept_for : {w : ℕ} → ℕ → Perm → Endpoint w → Endpoint w
 kept_for block perm.None e = with_copy block None e
 kept_for block _ e = e
@@ -69,10 +69,10 @@ kept_for block _ e = e
 abbrev pub held_at : {w : ℕ} → Endpoint w → ℕ → Perm
 held_at e block = held block e.past
 
--- after a message was handed out
+-- the end after a message was handed out
 abbrev pub sending : {w : ℕ} → Message w → Endpoint w → Endpoint w
 sending m e = with_past (sent m e.past) e
 
--- after a beat was refused
+-- the end after a beat was refused
 abbrev pub shut : {w : ℕ} → Endpoint w → Endpoint w
 shut e = record e { closed = true }

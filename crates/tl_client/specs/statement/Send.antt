@@ -1,4 +1,4 @@
--- The messages that a client hands out of its own: all that no beat of one carries is zero.
+-- The messages that a client hands out. The parts of one that no beat carries are zero.
 use Rattle.std.specs.Prelude.{ℕ, List, ◌-◌, ◌*◌, ◌^◌}
 use Rattle.std.proofs.Common.{lit≤}
 use Rattle.tl_beat.specs.declared.opcode.OpA.{OpA}
@@ -19,11 +19,11 @@ use Rattle.tl_params.specs.declared.perm.Perm.TheVariants as perm
 use Rattle.tl_params.specs.statement.Param.{grow_code, prune_code, report_code}
 use Rattle.tl_client.specs.statement.Endpoint.{zeros}
 
--- an access with the source that the client chose
+-- the access with this source in place of its own
 abbrev pub sourced : {w : ℕ} → ℕ → MessageA w → MessageA w
 sourced source m = record m { source = source }
 
--- an access with this source
+-- the message of that access
 abbrev pub access : {w : ℕ} → ℕ → MessageA w → Message w
 access source m = message.A (sourced source m)
 
@@ -62,13 +62,13 @@ about opcode param source block payload = record {
 abbrev pub on_c : {w : ℕ} → OpC → ℕ → ℕ → ℕ → List ℕ → Message w
 on_c opcode param source block payload = message.C (about opcode param source block payload)
 
--- a Release, with the copy where it gives Trunk up
+-- a Release; it carries the copy if its prune starts from Trunk
 abbrev pub release : {w : ℕ} → Prune → ℕ → ℕ → List ℕ → Message w
 release prune.TtoB source block copy = on_c c.ReleaseData (prune_code prune.TtoB) source block copy
 release prune.TtoN source block copy = on_c c.ReleaseData (prune_code prune.TtoN) source block copy
 release prune.BtoN source block copy = on_c c.Release (prune_code prune.BtoN) source block zeros
 
--- the answer to a Probe, with the copy where a ProbeBlock finds Trunk
+-- a ProbeAck; it carries the copy if it answers a ProbeBlock and Trunk is held
 abbrev pub probe_ack : {w : ℕ} → OpB → Perm → Report → ℕ → List ℕ → Message w
 probe_ack b.ProbeBlock perm.Trunk report block copy = on_c c.ProbeAckData (report_code report) 0 block copy
 probe_ack _ _ report block copy = on_c c.ProbeAck (report_code report) 0 block zeros

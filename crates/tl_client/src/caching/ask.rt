@@ -1,4 +1,4 @@
-//! What a caching client answers to an operation.
+//! The replies of a caching client to operations.
 
 ghost use Rattle.std.specs.Prelude.{◌≡◌, ◌<◌, ◌≤◌, ◌/◌, not, IsTrue, None};
 ghost use Rattle.tl_client.specs.statement.Answer.{handed, replied};
@@ -23,7 +23,7 @@ use tl_rules::param::{Grow, Prune};
 use tl_rules::perm::Perm;
 use tl_rules::place::{Span, number_at, write_number};
 
-/// Whether an operation asks for permission or gives it up.
+/// Whether an operation asks for a permission or gives one up.
 fn is_transfer<const W: usize>(operation: &Op<W>) -> bool
     ensures { result ≡ Ask.is_transfer operation.now }
 {
@@ -33,7 +33,7 @@ fn is_transfer<const W: usize>(operation: &Op<W>) -> bool
     )
 }
 
-/// Whether an operation begins at what is held.
+/// Whether an operation starts from the permission held.
 fn begins_at<const W: usize>(operation: &Op<W>, held: Perm) -> bool
     ensures { result ≡ not (breaks_b3 operation.now held) }
 {
@@ -46,7 +46,7 @@ fn begins_at<const W: usize>(operation: &Op<W>, held: Perm) -> bool
 }
 
 impl<const W: usize> Caching<W> {
-    /// The bytes of the copy of a block, or zeros.
+    /// The bytes of the copy of a block; zeros if there is none.
     pub(super) fn bytes(&self, block: u32) -> [u8; 64]
         ensures { result ≡ bytes_in self.now block }
     {
@@ -56,7 +56,7 @@ impl<const W: usize> Caching<W> {
         }
     }
 
-    /// Why an operation isn't started, but for want of a source.
+    /// The reason why an operation doesn't start, other than B1.
     pub(super) fn busy(&self, operation: &Op<W>) -> Option<Busy>
         ensures { result ≡ busy_by self.now operation.now }
     {
@@ -75,7 +75,7 @@ impl<const W: usize> Caching<W> {
         None
     }
 
-    /// Reads a number of a block that is held.
+    /// Reads a number from the copy of a block.
     pub(super) fn load(&self, address: u32, size: u8) -> Reply
         requires small { size ≤ 3 }
         requires aligned { IsTrue (is_aligned address size) }
@@ -92,7 +92,7 @@ impl<const W: usize> Caching<W> {
         }
     }
 
-    /// Writes a number to a block of which Trunk is held.
+    /// Writes a number to the copy of a block, if Trunk is held.
     pub(super) fn store(&mut self, address: u32, size: u8, value: u64) -> Reply
         requires small { size ≤ 3 }
         requires aligned { IsTrue (is_aligned address size) }
@@ -110,7 +110,7 @@ impl<const W: usize> Caching<W> {
         Reply::Stored
     }
 
-    /// Hands out a request, where a source is free.
+    /// Hands out a request if a source is free.
     fn request(&mut self, request: &MessageA<W>, message: &mut Message<W>) -> Reply
         ensures answer { replied result message.new
             ≡ start_with (free_in self.old.requests self.old.config.sources) request.now }
@@ -120,7 +120,7 @@ impl<const W: usize> Caching<W> {
         start(&mut self.requests, self.config.sources, request, message)
     }
 
-    /// Asks to write a whole block.
+    /// Hands out an AcquirePerm for a whole block, if a source is free.
     fn acquire_whole(&mut self, block: u16, bytes: &[u8; 64], message: &mut Message<W>) -> Reply
         requires inside { block < self.old.blocks }
         ensures does { Does self.old self.new (Op.AcquireWhole block bytes.now) (replied result message.new) }
@@ -137,7 +137,7 @@ impl<const W: usize> Caching<W> {
         reply
     }
 
-    /// Gives up permission on a block, where a source is free.
+    /// Hands out a Release of a block, if a source is free.
     fn release(&mut self, block: u16, prune: Prune, message: &mut Message<W>) -> Reply
         requires inside { block < self.old.blocks }
         ensures does { Does self.old self.new (Op.Release block prune) (replied result message.new) }
@@ -153,7 +153,7 @@ impl<const W: usize> Caching<W> {
         Reply::Started(source)
     }
 
-    /// Starts an operation, where a source is free.
+    /// Starts an operation for which no reason but B1 can apply.
     pub(super) fn begin(&mut self, operation: &Op<W>, message: &mut Message<W>) -> Reply
         requires { busy_by self.old operation.now ≡ None }
         ensures does { Does self.old self.new operation.now (replied result message.new) }

@@ -1,4 +1,4 @@
-//! What a caching client judges of a beat.
+//! The rules by which a caching client judges a beat.
 
 ghost use Rattle.std.specs.Prelude.{◌≡◌, false, None, Ok, OnOk};
 ghost use Rattle.tl_params.specs.statement.Refusal.{ok_unless};
@@ -28,7 +28,7 @@ use tl_rules::order::broken_order;
 use tl_rules::rule::Rule;
 
 impl<const W: usize> Caching<W> {
-    /// Whether a Probe waits for the answer to a Release of its block.
+    /// Whether a Probe is stalled, since a Release of its block is pending.
     pub(super) fn waits(&self, beat: &Beat<W>) -> bool
         ensures { (e : Endpoint W) → KnowsCaching self.now e → result ≡ Offer.waits beat.now e.past }
     {
@@ -54,7 +54,8 @@ impl<const W: usize> Caching<W> {
         }
     }
 
-    /// The rule that a beat breaks which breaks none by itself and needn't wait.
+    /// Checks a beat that breaks none of the rules before a stall. The error is the first of S1, the H rules, A1 and A2
+    /// that it breaks.
     pub(super) fn check_order(&self, beat: &Beat<W>) -> Result<(), Rule>
         requires { IsTakeable beat.now }
         ensures rule { (e : Endpoint W) → KnowsCaching self.now e →
@@ -75,7 +76,7 @@ impl<const W: usize> Caching<W> {
         Ok(())
     }
 
-    /// The rule that a beat breaks, or whether it has to wait.
+    /// Whether a beat is stalled. The error is the first rule that it breaks.
     pub(super) fn judge(&self, channel: Channel, beat: &Beat<W>) -> Result<bool, Rule>
         ensures judged { (e : Endpoint W) → KnowsCaching self.now e →
             IsJudged (caching_terms self.now) channel beat.now e result }

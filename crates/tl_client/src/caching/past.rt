@@ -1,4 +1,4 @@
-//! What a caching client knows of the history of its link.
+//! The history of its link, as a caching client keeps it.
 
 use super::Caching;
 use crate::release::is_releasing;
@@ -26,7 +26,7 @@ impl<const W: usize> Past<W> for Caching<W> {
                 Some(grant) => grant.block == block,
                 None => false,
             },
-            // It is answered at once.
+            // A Probe is answered at once.
             Key::ProbeOf(_) => false,
         }
     }

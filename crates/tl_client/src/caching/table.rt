@@ -1,4 +1,4 @@
-//! What a client keeps of each block.
+//! The state of a client's blocks.
 
 ghost use Rattle.std.specs.Prelude.{ℕ, ◌≡◌, ◌<◌, ◌==◌, ◌&&◌, not, if◌then◌else◌, length, IfOk, Option};
 ghost use Rattle.std.specs.Option.{option_copied};
@@ -9,13 +9,13 @@ ghost use Rattle.tl_params.specs.declared.perm.Perm.TheVariants as perm;
 use std::alloc::{AllocError, Global};
 use tl_rules::perm::Perm;
 
-/// What a client keeps of a block.
+/// The state of one block.
 #[derive(Clone, Copy)]
 pub struct Block {
     pub held: Perm,
-    /// The bytes of its copy, which there is where something is held.
+    /// The bytes of its copy. There is a copy exactly if the permission held isn't None.
     pub copy: Option<[u8; 64]>,
-    /// The bytes that an Acquire to write the whole block will store.
+    /// The bytes that an AcquirePerm will store when it is granted.
     pub waiting: Option<[u8; 64]>,
 }
 
@@ -26,7 +26,7 @@ pub struct Table {
 }
 
 impl Table {
-    /// This many blocks, of which nothing is held.
+    /// This many blocks, with None held of each. The error means that there is no memory left.
     pub fn new(alloc: Global, count: u16) -> Result<Self, AllocError>
         ensures count { IfOk result (λ t. block_count t ≡ count) }
         ensures held { IfOk result (λ t. (k : ℕ) → held_in t k ≡ perm.None) }
@@ -42,7 +42,7 @@ impl Table {
         Ok(Table { blocks })
     }
 
-    /// What is held of a block.
+    /// The permission held of a block.
     pub fn held(&self, block: u32) -> Perm
         ensures { result ≡ held_in self.now block }
     {
@@ -62,7 +62,7 @@ impl Table {
         }
     }
 
-    /// The copy of a block, where it stands.
+    /// The copy of a block, by reference.
     pub fn copy_of(&self, block: u32) -> Option<&[u8; 64]>
         ensures { option_copied result ≡ copy_in self.now block }
     {
@@ -82,7 +82,7 @@ impl Table {
         }
     }
 
-    /// Sets what is held of a block.
+    /// Sets the permission held of a block.
     pub fn hold(&mut self, block: u32, perm: Perm)
         ensures held { block < block_count self.old → (k : ℕ) →
             held_in self.new k ≡ (if k == block then perm else held_in self.old k) }
@@ -121,7 +121,7 @@ impl Table {
         }
     }
 
-    /// Leaves this of a block, and drops its copy where that is nothing.
+    /// Sets the permission held of a block, and drops the copy if it is None.
     pub fn lower(&mut self, block: u32, perm: Perm)
         requires { block < block_count self.old }
         ensures held { (k : ℕ) → held_in self.new k ≡ (if k == block then perm else held_in self.old k) }
@@ -136,7 +136,7 @@ impl Table {
         }
     }
 
-    /// Makes the bytes that wait the copy of a block.
+    /// Makes the bytes that wait for a Grant of a block its copy.
     pub fn store_waiting(&mut self, block: u32)
         ensures copies { block < block_count self.old → (k : ℕ) →
             copy_in self.new k ≡ (if k == block then waiting_in self.old k else copy_in self.old k) }

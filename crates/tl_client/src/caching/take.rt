@@ -1,4 +1,4 @@
-//! What a caching client makes of a beat that it takes.
+//! The effect of the beats that a caching client takes.
 
 ghost use Rattle.std.specs.Prelude.{◌≡◌, ◌<◌, ◌≤◌, ◌/◌, true, false, None};
 ghost use Rattle.std.specs.Bool.{OnTrue, OnFalse};
@@ -29,7 +29,7 @@ use tl_rules::param::{Cap, Report};
 use tl_rules::perm::Perm;
 use tl_rules::report::report_of;
 
-/// The report with which a client that holds `perm` answers a Probe.
+/// The report that answers a Probe while `perm` is held.
 fn report_for<const W: usize>(probe: &BeatB<W>, perm: Perm) -> Report
     ensures { result ≡ Offer.report_for probe.now perm }
 {
@@ -41,7 +41,7 @@ fn report_for<const W: usize>(probe: &BeatB<W>, perm: Perm) -> Report
 }
 
 impl<const W: usize> Caching<W> {
-    /// Answers a Probe at once, and leaves what its cap allows.
+    /// Answers a Probe at once. The permission held is then that of the report.
     pub(super) fn probe(&mut self, probe: &BeatB<W>, bytes: &mut [u8; 64]) -> Answer
         requires inside { probe.now.address / 64 < self.old.blocks }
         ensures { Probes self.old self.new probe.now (told result bytes.new) }
@@ -59,7 +59,7 @@ impl<const W: usize> Caching<W> {
         }
     }
 
-    /// Gives what a Grant gives to the request that it answers.
+    /// Takes the permission and the data of a Grant that answers this request.
     fn grant(&mut self, grant: &BeatD<W>, payload: &[u8; 64], request: Request)
         requires { is_grant grant.now.opcode ≡ true }
         ensures { Grants self.old self.new (with_payload grant.now payload.now) request }
@@ -73,7 +73,7 @@ impl<const W: usize> Caching<W> {
         }
     }
 
-    /// Closes what a complete response answers, and takes a Grant with its GrantAck.
+    /// Closes the request or Release that a complete response answers, and hands out the GrantAck of a Grant.
     fn finish(&mut self, response: &BeatD<W>, bytes: &mut [u8; 64]) -> Answer
         requires { response.now.size ≤ 6 }
         ensures finished { GrantsInside self.old (with_payload response.now bytes.old) →
@@ -97,7 +97,7 @@ impl<const W: usize> Caching<W> {
         answer_to(response, request, bytes)
     }
 
-    /// The Grant that a beat leaves unfinished.
+    /// The unfinished Grant after this beat, if there is one.
     fn granting_by(&self, response: &BeatD<W>) -> Option<Granting>
         ensures { result ≡ granting_by self.now response.now }
     {
@@ -139,7 +139,8 @@ impl<const W: usize> Caching<W> {
         self.finish(response, bytes)
     }
 
-    /// Takes a beat of a response that goes on with it and isn't spoiled: whether it was taken.
+    /// Takes a beat that continues a response, doesn't complete it and is neither corrupt nor denied, and returns
+    /// whether it did.
     pub(super) fn grows(&mut self, beat: &Beat<W>, response: &BeatD<W>) -> bool
         requires response { beat.now ≡ Beat.D response.now }
         ensures live { OnTrue result (self.old.closed ≡ false) }

@@ -1,4 +1,4 @@
-//! What a plain client knows of the history of its link.
+//! The history of its link, as a plain client keeps it.
 
 use super::Plain;
 use tl_rules::key::Key;
@@ -13,7 +13,7 @@ impl<const W: usize> Past<W> for Plain<W> {
     fn is_pending(&self, key: Key) -> bool {
         match key {
             Key::RequestSource(source) => self.requests.at(source).is_some(),
-            // Nothing else is sent or taken below level C.
+            // Below level C nothing else is sent or taken.
             _ => false,
         }
     }

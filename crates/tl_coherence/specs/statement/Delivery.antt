@@ -1,4 +1,4 @@
--- What holds of every delivery.
+-- Facts about each delivery.
 use Rattle.std.specs.Prelude.{ℕ, Bool, true, false, not, List, ◌∷◌, ◌++◌, ◌≡◌, ◌≤◌, ◌&&◌, ◌↔◌, ◌+◌, ◌*◌, ◌/◌}
 use Rattle.std.specs.Prelude.{if◌then◌else◌, length, map, reverse, Option, Some, None}
 use Rattle.tl_beat.specs.declared.beat.Beat.{Beat}
@@ -29,26 +29,26 @@ use Rattle.tl_coherence.specs.statement.Headline.{IsGiven}
 
 -- ---- channels and flows
 
--- the history of the end that sends on a channel of a link, and of the one that takes
+-- the history of the end that sends on a channel of a link
 abbrev pub sender : {w : ℕ} → Channel → ℕ → System w → History w
 sender ch link s = if is_to_client ch then on_link link s.manager.trace else (s.clients link).past
 
--- the history at the end that takes the beats of a channel
+-- the history of the end that takes the beats of a channel of a link
 abbrev pub receiver : {w : ℕ} → Channel → ℕ → System w → History w
 receiver ch link s = if is_to_client ch then (s.clients link).past else on_link link s.manager.trace
 
--- A channel holds, in order, the beats that one end handed out and the other hasn't taken, and those that
--- were taken are those that were delivered.
+-- A channel holds, in order, the beats that one end handed out and the other end hasn't taken. The beats that the other
+-- end took are those that were delivered.
 pub record IsFifo {w : ℕ} (s : System w) (log : Log w) (link : ℕ) (ch : Channel) : Type 0 where
   pub under_way : carried_on ch (sender ch link s) ≡ reverse (s.channels link ch) ++ carried_on ch (receiver ch link s)
   pub delivered : carried_on ch (receiver ch link s) ≡ carried_on ch (flow link log)
 
--- each channel of each link loses nothing and keeps order
+-- each channel of each link loses no beat and keeps their order
 abbrev pub Fifo : ℕ → Type 0
 Fifo w = (config : Config) (log : Log w) → IsGiven config log → (link : ℕ) (ch : Channel)
     → IsFifo (system_after config log) log link ch
 
--- what is delivered on each link breaks no rule
+-- the beats delivered on each link break no rule
 abbrev pub Flows : ℕ → Type 0
 Flows w = (config : Config) (log : Log w) → IsGiven config log → (link : ℕ) (l : Level) → level_of config link ≡ Some l
     →
@@ -58,12 +58,12 @@ Flows w = (config : Config) (log : Log w) → IsGiven config log → (link : ℕ
 abbrev pub levels_of : Config → List Level
 levels_of config = map (λ client. client.level) config.clients.items
 
--- what is delivered, on all links at once and the oldest first, has no first fault
+-- the beats delivered on all links, as one trace with the oldest first, have no first fault
 abbrev pub Faultless : ℕ → Type 0
 Faultless w = (config : Config) (log : Log w) → IsGiven config log
     → first_fault (levels_of config) config.profile (reverse (trace_of log)) ≡ None
 
--- how many beats a channel is made for, with n beats a block, by sources and trackers
+-- the number of beats for which a channel has room; n is the number of beats of a block
 abbrev pub capacity : ℕ → ℕ → ℕ → Channel → ℕ
 capacity n sources trackers channel.A = n * sources
 capacity n sources trackers channel.B = trackers
@@ -71,12 +71,12 @@ capacity n sources trackers channel.C = n * (sources + trackers)
 capacity n sources trackers channel.D = (n + 1) * sources
 capacity n sources trackers channel.E = trackers
 
--- the number of sources of a client, where there is one
+-- the number of sources of a client, 0 if there is none
 abbrev pub sources_of : Option EndConfig → ℕ
 sources_of None = 0
 sources_of (Some terms) = terms.sources
 
--- no channel ever holds more
+-- no channel ever holds more beats than that
 abbrev pub CapacityBound : ℕ → Type 0
 CapacityBound w = (config : Config) (log : Log w) → IsGiven config log → (link : ℕ) (ch : Channel) →
     length ((system_after config log).channels link ch) ≤ capacity (64 / w) (sources_of (terms_at config link))
@@ -84,26 +84,27 @@ CapacityBound w = (config : Config) (log : Log w) → IsGiven config log → (li
 
 -- ---- stalls
 
--- what a delivery is answered
+-- the outcome of a delivery
 abbrev pub outcome_of_delivery : {w : ℕ} → Config → Log w → ℕ → Channel → Outcome w
 outcome_of_delivery config log link ch =
     (stepped config (Deliver (record { 0 = link }) ch) (system_after config log)).outcome
 
--- there was no beat to deliver
+-- the channel had no beat
 abbrev pub is_emptiness : {w : ℕ} → Outcome w → Bool
 is_emptiness outcome.Empty = true
 is_emptiness _ = false
 
--- the beat stayed on its channel
+-- the first beat of the channel was stalled
 abbrev pub is_stall : {w : ℕ} → Outcome w → Bool
 is_stall outcome.Stalled = true
 is_stall _ = false
 
--- a Release of the block by the client is outstanding
+-- a Release of the block by the client is pending
 abbrev pub IsReleasing : {w : ℕ} → ℕ → ℕ → Log w → Type 0
 IsReleasing k block log = (source : ℕ) × (prune : Prune) × (started k Releases source log ≡ Some (Release block prune))
 
--- when a delivery moves the first beat of a channel of a client's link
+-- When a delivery moves this first beat of a channel: on A unless the manager must let it wait, on B unless a Release
+-- of the block is pending, on the others always.
 abbrev pub Moves : {w : ℕ} → Config → Log w → ℕ → Beat w → Type 0
 Moves config log link (beat.A x) = is_movable config link channel.A (system_after config log) ≡ not
     (must_wait config (record { 0 = link }) (beat.A x) (system_after config log).manager.trace)
@@ -111,7 +112,7 @@ Moves config log link (beat.B x) = (is_movable config link channel.B (system_aft
     link (block_at x.address) log
 Moves config log link x = is_movable config link (channel_of x) (system_after config log) ≡ true
 
--- a delivery on a client's link
+-- The outcome of a delivery on a client's link: empty if the channel is, otherwise a stall or a move.
 pub record IsExact {w : ℕ} (config : Config) (log : Log w) (link : ℕ) (ch : Channel) : Type 0 where
   pub empty : is_emptiness (outcome_of_delivery config log link ch) ≡ is_empty
       ((system_after config log).channels link ch)
@@ -121,7 +122,7 @@ pub record IsExact {w : ℕ} (config : Config) (log : Log w) (link : ℕ) (ch : 
   pub moves : (x : Beat w) (rest : List (Beat w)) → (system_after config log).channels link ch ≡ x ∷ rest
       → Moves config log link x
 
--- a delivery finds a channel empty or stalls exactly where the definitions say so
+-- each delivery on a client's link is exactly so
 abbrev pub Stalls : ℕ → Type 0
 Stalls w = (config : Config) (log : Log w) → IsGiven config log → (link : ℕ) (ch : Channel)
     → is_client config link ≡ true → IsExact config log link ch

@@ -1,4 +1,4 @@
--- How many deliveries end what is outstanding, and what an Acquire has brought then.
+-- The number of deliveries after which nothing is outstanding, and the permission that an Acquire then has brought.
 use Rattle.std.specs.Prelude.{ℕ, Bool, true, false, List, ◌∷◌, ◌++◌, ◌≡◌, ◌≤◌, ◌+◌, All, filter, length, Some, None}
 use Rattle.tl_beat.specs.declared.beat.Beat.{Beat}
 use Rattle.tl_beat.specs.declared.beat.Link.{Link}
@@ -42,30 +42,29 @@ is_moving (outcome.Moved x) = true
 is_moving (outcome.Done x source finish) = true
 is_moving _ = false
 
--- how many deliveries moved a beat
+-- the number of deliveries that moved a beat
 abbrev pub beats_moved : {w : ℕ} → Log w → ℕ
 beats_moved log = length (filter (λ x. is_moving x.1) log)
 
--- deliveries move no more beats than the load before them
+-- deliveries alone move at most as many beats as the load before them
 abbrev pub DeliveryBound : ℕ → Type 0
 DeliveryBound w = (config : Config) (more log : Log w) → IsGiven config (more ++ log)
     → All (λ x. is_delivery x.0 ≡ true) more → beats_moved more ≤ load log
 
--- n deliveries, each the next one, end what is outstanding
+-- after n deliveries, each the next one, nothing is outstanding and no delivery can move a beat
 pub record IsDrained {w : ℕ} (config : Config) (log : Log w) (n : ℕ) : Type 0 where
   pub so_many : length (drained config n log) ≡ n + length log
   pub few : n ≤ load log
   pub stands : next_delivery config (system_after config (drained config n log)) ≡ None
   pub nothing_left : outstanding (drained config n log) ≡ 0
 
--- from each state deliveries alone lead to one with nothing outstanding, in no more steps than the
--- load
+-- from each state deliveries alone lead to one with nothing outstanding, in at most as many steps as the load
 abbrev pub DrainsWithinLoad : ℕ → Type 0
 DrainsWithinLoad w = (config : Config) (log : Log w) → IsGiven config log → (n : ℕ) × IsDrained config log n
 
--- ---- what an Acquire brings
+-- ---- the permission that an Acquire brings
 
--- at a Grant the client holds what it is granted
+-- when a Grant of p ends an operation, the client holds p of the operation's block
 abbrev pub GrantedIsHeld : ℕ → Type 0
 GrantedIsHeld w = (config : Config) (log : Log w) (link : Link) (ch : Channel) (x : Beat w) (source : ℕ) (p : Perm)
     (op : Op w) →
@@ -74,12 +73,12 @@ GrantedIsHeld w = (config : Config) (log : Log w) (link : Link) (ch : Channel) (
     held_at ((system_after config ((Deliver link ch, outcome.Done x source (Granted p)) ∷ log)).clients link.0)
     (op_block op) ≡ p
 
--- what the client may hold that asked so, and of whom nothing else was asked
+-- the permission fits an Acquire that is granted alone; under the second profile NtoB may bring Trunk
 abbrev pub grown_to : Profile → Grow → Perm → Bool
 grown_to profile.Two grow.NtoB perm.Trunk = true
 grown_to p grow held = same_perm (grow_right grow) held
 
--- an Acquire that is started alone brings what it asks for
+-- an Acquire that starts with nothing else outstanding brings the permission that it asks for
 abbrev pub LoneAcquire : ℕ → Type 0
 LoneAcquire w = (config : Config) (log : Log w) (client block source n : ℕ) (grow : Grow) → outstanding log ≡ 0 →
     IsGiven config ((Ask client (Acquire block grow), outcome.Replied (Started source)) ∷ log) →
@@ -89,7 +88,7 @@ LoneAcquire w = (config : Config) (log : Log w) (client block source n : ℕ) (g
     (drained config n ((Ask client (Acquire block grow), outcome.Replied (Started source)) ∷ log))).clients client)
     block) ≡ true
 
--- and an AcquireWhole that is started alone brings Trunk
+-- an AcquireWhole that starts with nothing else outstanding brings Trunk
 abbrev pub LoneAcquireWhole : ℕ → Type 0
 LoneAcquireWhole w = (config : Config) (log : Log w) (client block source n : ℕ) (bytes : List ℕ) → outstanding log ≡ 0
     →

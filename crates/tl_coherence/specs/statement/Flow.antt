@@ -1,4 +1,4 @@
--- What has been delivered, on one link and on all.
+-- The beats that were delivered, on one link and on all.
 use Rattle.std.specs.Prelude.{ℕ, List, [], ◌∷◌, ◌++◌, ◌==◌, if◌then◌else◌, ⊤}
 use Rattle.tl_beat.specs.declared.beat.Beat.{Beat}
 use Rattle.tl_burst.specs.statement.Messages.{History}
@@ -9,7 +9,7 @@ use Rattle.tl_coherence.specs.declared.event.Outcome.{Outcome}
 use Rattle.tl_coherence.specs.declared.event.Outcome.TheVariants.{Moved, Done}
 use Rattle.tl_coherence.specs.statement.Log.{Log}
 
--- the beat that was taken on the link at an event
+-- the beat that was taken on link n at an event
 abbrev pub taken_on : {w : ℕ} → ℕ → Event w → Outcome w → List (Beat w)
 taken_on n (Deliver link ch) (Moved x) = if link.0 == n then x ∷ [] else []
 taken_on n (Deliver link ch) (Done x source finish) = if link.0 == n then x ∷ [] else []
@@ -31,12 +31,12 @@ unfoldable pub trace_of : {w : ℕ} → Log w → Trace w
 trace_of [] = []
 trace_of (x ∷ log) = taken_at x.0 x.1 ++ trace_of log
 
--- the beat of a link that was taken after this log, where one was, is so
+-- P is true of the beat that was taken after this log, if one was
 abbrev pub IsTaken : {w : ℕ} → (Log w → ℕ → Beat w → Type 0) → Log w → Trace w → Type 0
 IsTaken P log [] = ⊤
 IsTaken P log (x ∷ rest) = P log x.0.0 x.1
 
--- each beat that was taken on a link is so after what had happened before it
+-- P is true of each beat that was taken, after the events before it
 unfoldable pub EachTaken : {w : ℕ} → (Log w → ℕ → Beat w → Type 0) → Log w → Type 0
 EachTaken P [] = ⊤
 EachTaken P (x ∷ log) = IsTaken P log (taken_at x.0 x.1) × EachTaken P log

@@ -1,4 +1,4 @@
--- That a store to a copy, which no link carries, comes only where its link holds Trunk of the block.
+-- A client stores to its copy, which no link carries, only while its link holds Trunk of the block.
 use Rattle.std.specs.Prelude.{ℕ, ◌≡◌}
 use Rattle.tl_params.specs.declared.config.Config.{Config}
 use Rattle.tl_params.specs.declared.perm.Perm.TheVariants as perm
@@ -13,7 +13,7 @@ use Rattle.tl_coherence.specs.statement.Headline.{IsGiven}
 use Rattle.tl_coherence.specs.statement.Log.{Log, system_after}
 use Rattle.tl_coherence.specs.statement.Step.{stepped}
 
--- a client that replies that it has stored holds Trunk of the block, by what its link has carried
+-- if a client replies Stored, its link holds Trunk of the block, by the beats that it has carried
 abbrev pub HiddenStores : ℕ → Type 0
 HiddenStores w = (config : Config) (log : Log w) → IsGiven config log → (c address size value : ℕ)
     → (stepped config (Ask c (Store address size value)) (system_after config log)).outcome ≡ Replied Stored

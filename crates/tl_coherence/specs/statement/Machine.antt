@@ -1,4 +1,4 @@
--- The one-memory machine: one map of bytes, and the operations that are open.
+-- The one-memory machine: one map of bytes, and the open operations.
 use Rattle.std.specs.Prelude.{ℕ, Bool, true, false, List, [], ◌∷◌, ◌≡◌, ◌==◌, ◌&&◌, ◌-◌, ◌^◌, if◌then◌else◌, Option}
 use Rattle.std.specs.Prelude.{Some, None, is_some, ⊤}
 use Rattle.tl_beat.specs.declared.beat.Beat.{Beat}
@@ -29,12 +29,12 @@ use Rattle.tl_coherence.specs.statement.Log.{Log}
 use Rattle.tl_coherence.specs.statement.Step.{client_of}
 use Rattle.tl_coherence.specs.statement.System.{terms_at}
 
--- the two pools of a client's source numbers: of requests of channel A, and of Releases
+-- the two pools of a client's sources: for requests of channel A, and for Releases
 pub data Pool : Type 0 where
   Requests : Pool
   Releases : Pool
 
--- an open operation: what was asked, and the answer once it is performed
+-- an open operation: the operation, and its answer once it is performed
 pub record Open (w : ℕ) : Type 0 where
   pub asked : Op w
   pub answer : Option memory.AccessResult
@@ -48,7 +48,7 @@ pub record Machine (w : ℕ) : Type 0 where
 abbrev pub first : {w : ℕ} → Machine w
 first = record { memory = λ address. 0; opened = λ client pool source. None }
 
--- ---- what an operation does to the memory
+-- ---- the effect of an operation on the memory
 
 -- the pools are the same
 abbrev pub same_pool : Pool → Pool → Bool
@@ -56,12 +56,12 @@ same_pool Requests Requests = true
 same_pool Releases Releases = true
 same_pool _ _ = false
 
--- with this operation open under a source of a client, or none
+-- the machine with this operation open under a source of a client, or with none
 abbrev pub with_open : {w : ℕ} → ℕ → Pool → ℕ → Option (Open w) → Machine w → Machine w
 with_open client pool source o m =
     record m { opened = λ c p s. if (c == client) && (same_pool p pool && (s == source)) then o else m.opened c p s }
 
--- with this memory
+-- the machine with this memory
 abbrev pub with_memory : {w : ℕ} → Memory → Machine w → Machine w
 with_memory memory m = record m { memory = memory }
 
@@ -70,14 +70,14 @@ abbrev pub with_number : ℕ → ℕ → ℕ → Memory → Memory
 with_number base size value memory address = if reaches base size address then byte_of value (address - base) else
     memory address
 
--- ---- a client is asked and replies
+-- ---- a client's reply to an operation
 
 -- the pool from which an operation takes its source
 abbrev pub pool_of_op : {w : ℕ} → Op w → Pool
 pool_of_op (Release block prune) = Releases
 pool_of_op _ = Requests
 
--- a Load or a Store, which no client starts as a message
+-- a Load or a Store, for which no message is sent
 abbrev pub is_word_op : {w : ℕ} → Op w → Bool
 is_word_op (Load address size) = true
 is_word_op (Store address size value) = true
@@ -92,7 +92,7 @@ Replies client op (Busy why) m = ⊤
 Replies client op (Started source) m = (is_word_op op ≡ false) × (m.opened client (pool_of_op op) source ≡ None)
 Replies client _ _ m = ⊥
 
--- and is so afterwards
+-- the machine after this reply
 abbrev pub after_reply : {w : ℕ} → ℕ → Op w → Reply → Machine w → Machine w
 after_reply client (Store address size value) Stored m = with_memory (with_number address size value m.memory) m
 after_reply client op (Started source) m =
@@ -106,24 +106,24 @@ abbrev pub pool_of : Finish → Pool
 pool_of Released = Releases
 pool_of _ = Requests
 
--- the answer to an access as it comes to who asked
+-- the result of an access for the client, by its answer
 abbrev pub finish_with : {w : ℕ} → Message w → memory.AccessResult → Finish
 finish_with (message.A m) memory.Done = Ack
 finish_with (message.A m) memory.Hinted = Hint
 finish_with (message.A m) (memory.Bytes bytes) = Data m.size (padded bytes)
 finish_with _ r = Hint
 
--- what the cap of a Grant names
+-- the permission that the cap of a Grant gives
 abbrev pub cap_named : {w : ℕ} → Beat w → Perm
 cap_named (beat.D x) = capped x.param
 cap_named _ = perm.None
 
--- an access ends with its answer, once it is performed
+-- an access ends with its answer, after it was performed
 abbrev pub EndsAccess : {w : ℕ} → Message w → Option memory.AccessResult → Finish → Type 0
 EndsAccess m None f = ⊥
 EndsAccess m (Some r) f = f ≡ finish_with m r
 
--- an operation, performed with this answer, may end so by this beat
+-- an operation with this answer may end with this result, by this beat
 abbrev pub EndsOp : {w : ℕ} → Op w → Option memory.AccessResult → Beat w → Finish → Type 0
 EndsOp (Access m) answer x f = EndsAccess m answer f
 EndsOp (Acquire block grow) answer x f = f ≡ Granted (cap_named x)
@@ -131,18 +131,17 @@ EndsOp (AcquireWhole block bytes) answer x f = f ≡ Granted perm.Trunk
 EndsOp (Release block prune) answer x f = f ≡ Released
 EndsOp _ answer x f = ⊥
 
--- the open operation, where there is one, may end so by this beat
+-- there is an open operation, and it may end with this result, by this beat
 abbrev pub Ends : {w : ℕ} → Option (Open w) → Beat w → Finish → Type 0
 Ends None x f = ⊥
 Ends (Some o) x f = EndsOp o.asked o.answer x f
 
--- a whole block is stored as it is granted
+-- the memory after an operation ended; an AcquireWhole then writes its block
 abbrev pub memory_after : {w : ℕ} → Op w → Memory → Memory
 memory_after (AcquireWhole block bytes) memory = with_block block bytes memory
 memory_after _ memory = memory
 
--- the machine after an operation ended: its source is free, and a store of a whole block is in
--- memory
+-- the machine after an operation ended: its source is free, and the block of an AcquireWhole is in memory
 abbrev pub after_end : {w : ℕ} → ℕ → Pool → ℕ → Option (Open w) → Machine w → Machine w
 after_end client pool source None m = m
 after_end client pool source (Some o) m =
@@ -150,7 +149,7 @@ after_end client pool source (Some o) m =
 
 -- ---- steps
 
--- the machine allows this outcome of an event of one of its clients
+-- the machine allows this outcome of an event
 abbrev pub Allows : {w : ℕ} → Event w → Outcome w → Machine w → Type 0
 Allows (Ask client op) (outcome.Replied r) m = Replies client op r m
 Allows (Deliver link channel.D) (outcome.Done x source f) m = Ends (m.opened link.0 (pool_of f) source) x f
@@ -159,14 +158,14 @@ Allows (Deliver link ch) outcome.Stalled m = ⊤
 Allows (Deliver link ch) (outcome.Moved x) m = ⊤
 Allows _ _ m = ⊥
 
--- and is so afterwards
+-- the machine after this event and outcome
 abbrev pub moved : {w : ℕ} → Event w → Outcome w → Machine w → Machine w
 moved (Ask client op) (outcome.Replied r) m = after_reply client op r m
 moved (Deliver link ch) (outcome.Done x source f) m =
     after_end link.0 (pool_of f) source (m.opened link.0 (pool_of f) source) m
 moved _ _ m = m
 
--- there is a client of this number
+-- there is a client with this number
 abbrev pub is_client : Config → ℕ → Bool
 is_client config client = is_some (terms_at config client)
 
@@ -175,33 +174,33 @@ abbrev pub IsStep : {w : ℕ} → Config → Event w → Outcome w → Machine w
 IsStep config e outcome.NoSuchClient m n = (is_client config (client_of e) ≡ false) × (n ≡ m)
 IsStep config e o m n = (is_client config (client_of e) ≡ true) × Allows e o m × (n ≡ moved e o m)
 
--- ---- performing: an open access without answer changes the memory and gets its answer
+-- ---- performing: an open access that has no answer yet changes the memory and gets its answer
 
--- the machine after an open access is performed, once; other operations perform nothing
+-- the machine after an access is performed; there is none for other operations and for one that was performed
 abbrev pub performed_op : {w : ℕ} → ℕ → ℕ → Op w → Option memory.AccessResult → Machine w → Option (Machine w)
 performed_op client source (Access a) None m =
     Some (with_open client Requests source (Some (record { asked = Access a; answer = Some (effect a m.memory).1 }))
     (with_memory (effect a m.memory).0 m))
 performed_op client source op answer m = None
 
--- the machine after the open operation is performed, where there is one
+-- the machine after the open operation is performed, if it can be
 abbrev pub performed_open : {w : ℕ} → ℕ → ℕ → Option (Open w) → Machine w → Option (Machine w)
 performed_open client source None m = None
 performed_open client source (Some o) m = performed_op client source o.asked o.answer m
 
--- the machine after the access of a client with this source is performed, where one can be
+-- the machine after the access of a client with this source is performed, if it can be
 abbrev pub performed : {w : ℕ} → ℕ → ℕ → Machine w → Option (Machine w)
 performed client source m = performed_open client source (m.opened client Requests source) m
 
--- these accesses, by client and source, are performed one after another
+-- these accesses, by client and source, are performed one after the other
 unfoldable pub Performs : {w : ℕ} → List (ℕ × ℕ) → Machine w → Machine w → Type 0
 Performs [] m n = n ≡ m
 Performs {w} (x ∷ accesses) m n = (next : Machine w) × (performed x.0 x.1 m ≡ Some next) × Performs accesses next n
 
 -- ---- runs
 
--- From the first state, steps with these events and outcomes in this order, and any performs between
--- them, lead to this state.
+-- Steps with these events and outcomes in this order, and accesses performed between them, lead from the first state to
+-- this one.
 unfoldable pub Run : {w : ℕ} → Config → Log w → Machine w → Type 0
 Run config [] m = m ≡ first
 Run {w} config (x ∷ log) m =

@@ -1,4 +1,4 @@
--- That an access is performed at a moment at which no link holds what excludes it.
+-- An access is performed at a moment at which no link holds a conflicting permission.
 use Rattle.std.specs.Prelude.{ℕ, true, List, [], ◌∷◌, ◌≡◌, Some, None}
 use Rattle.tl_beat.specs.declared.beat.BeatA.{BeatA}
 use Rattle.tl_beat.specs.declared.beat.Link.{Link}
@@ -15,8 +15,8 @@ use Rattle.tl_coherence.specs.statement.Log.{Log, system_after}
 use Rattle.tl_coherence.specs.statement.OneMemory.{accesses_answered}
 use Rattle.tl_coherence.specs.statement.Step.{stepped}
 
--- a delivery that answers the access of a client with this source, whose request begins with x, answers no
--- other, and after it no link holds what excludes it
+-- If a delivery answers the access with this source, whose request begins with x, then it answers no other access, and
+-- after it no link holds a conflicting permission of the block.
 abbrev pub PerformedFree : ℕ → Type 0
 PerformedFree w = (config : Config) (log : Log w) (link : Link) (ch : Channel) (o : Outcome w)
     → IsGiven config ((Deliver link ch, o) ∷ log) → (c source : ℕ) (rest : List (ℕ × ℕ)) (x : BeatA w)

@@ -1,9 +1,9 @@
--- Permissions by how much they allow.
+-- The order of permissions.
 use Rattle.std.specs.Prelude.{Bool, true, false}
 use Rattle.tl_params.specs.declared.perm.Perm.{Perm}
 use Rattle.tl_params.specs.declared.perm.Perm.TheVariants as perm
 
--- at most as much
+-- the first permission is at most the second
 abbrev pub perm_le : Perm → Perm → Bool
 perm_le perm.None _ = true
 perm_le perm.Branch perm.None = false

@@ -1,4 +1,4 @@
--- That no client holds more of a block than is recorded for it.
+-- No client holds a higher permission of a block than the manager has recorded.
 use Rattle.std.specs.Prelude.{ℕ, true, ◌≡◌}
 use Rattle.tl_params.specs.declared.config.Config.{Config}
 use Rattle.tl_client.specs.statement.Endpoint.{held_at}
@@ -7,7 +7,7 @@ use Rattle.tl_coherence.specs.statement.Headline.{IsGiven}
 use Rattle.tl_coherence.specs.statement.Log.{Log, system_after}
 use Rattle.tl_coherence.specs.statement.Permissions.{perm_le}
 
--- what the client of a link holds is at most what the manager has recorded for it
+-- the permission that a client holds is at most the one that the manager has recorded
 abbrev pub Recorded : ℕ → Type 0
 Recorded w = (config : Config) (log : Log w) → IsGiven config log → (link block : ℕ) →
     perm_le (held_at ((system_after config log).clients link) block)

@@ -1,4 +1,4 @@
--- That each beat of a GrantData has the bytes of the one memory.
+-- Each beat of a GrantData has the bytes of the one memory.
 use Rattle.std.specs.Prelude.{ℕ, true, List, ◌≡◌, length, ⊤}
 use Rattle.tl_beat.specs.declared.beat.Beat.{Beat}
 use Rattle.tl_beat.specs.declared.beat.Beat.TheVariants as beat
@@ -15,7 +15,7 @@ use Rattle.tl_coherence.specs.statement.Headline.{IsGiven}
 use Rattle.tl_coherence.specs.statement.Log.{Log}
 use Rattle.tl_coherence.specs.statement.OneMemory.{one_memory_after}
 
--- where this is a beat of a GrantData after t, it has the bytes of the block, at its place in the burst
+-- if this is a beat of a GrantData after t, it has the bytes of the block, for its place in the burst
 abbrev pub IsTrueGrant : {w : ℕ} → Memory → ℕ → Beat w → Trace w → Type 0
 IsTrueGrant {w} memory link (beat.D y) t = (block : ℕ) → grants block y (on_link link t) ≡ true
     → y.opcode ≡ d.GrantData
@@ -23,7 +23,7 @@ IsTrueGrant {w} memory link (beat.D y) t = (block : ℕ) → grants block y (on_
     × (y.lanes ≡ lanes_at true w bytes (length (unfinished channel.D (on_link link t))))
 IsTrueGrant memory link _ t = ⊤
 
--- each beat of a GrantData that was delivered, with the one memory as it was at that moment
+-- this is true of each beat of a GrantData that was delivered, with the one memory of that moment
 abbrev pub TrueGrants : ℕ → Type 0
 TrueGrants w = (config : Config) (log : Log w) → IsGiven config log
     → EachTaken (λ earlier link x. IsTrueGrant (one_memory_after config earlier).memory link x (trace_of earlier)) log

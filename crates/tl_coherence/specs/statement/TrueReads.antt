@@ -1,4 +1,4 @@
--- That each read brings the bytes that the one memory had at a moment in its window.
+-- Each read brings bytes that the one memory had at a moment in a window of the access.
 use Rattle.std.specs.Prelude.{ℕ, true, [], ◌∷◌, List, ◌≡◌, ◌⊎◌, ◌%◌, ◌^◌, length, Option, Some, None, is_some, ⊤}
 use Rattle.tl_beat.specs.declared.beat.Beat.{Beat}
 use Rattle.tl_beat.specs.declared.beat.Beat.TheVariants as beat
@@ -18,33 +18,33 @@ use Rattle.tl_coherence.specs.statement.Headline.{IsGiven}
 use Rattle.tl_coherence.specs.statement.Log.{Log}
 use Rattle.tl_coherence.specs.statement.OneMemory.{one_memory_after}
 
--- the lanes of beat k of what a request finds in a memory
+-- the lanes of beat k of the answer to a request, if it reads this memory
 abbrev pub lanes_found : {w : ℕ} → BeatA w → Memory → ℕ → Option (List ℕ)
 lanes_found {w} x memory k =
     lanes_at true w (as_payload (x.address % w) (bytes_from memory x.address (2 ^ x.size))) k
 
--- after this event, before which the log was so, no link holds what excludes the request, and its beat k finds these
--- lanes in the one memory before it
+-- The log `now` is `before` and one more event. After the event no link holds a conflicting permission, and beat k of
+-- the answer reads these lanes from the one memory before the event.
 pub record IsFound {w : ℕ} (config : Config) (x : BeatA w) (lanes : Option (List ℕ)) (k : ℕ) (now before : Log w) :
     Type 0 where
   pub free : (n : ℕ) → is_free n None (needs x.opcode) (block_at x.address) (trace_of now) ≡ true
   pub lanes_are : lanes ≡ lanes_found x (one_memory_after config before).memory k
 
--- since the request with this source, which is pending on the link, is complete there has been such an event
+-- the request with this source is pending and complete on the link, and since its last beat there was such an event
 unfoldable pub WasFound : {w : ℕ} → Config → ℕ → ℕ → BeatA w → Option (List ℕ) → ℕ → Log w → Type 0
 WasFound config link source x lanes k [] = ⊥
 WasFound config link source x lanes k (e ∷ log) =
     (is_some (open_request source (on_link link (trace_of (e ∷ log)))) ≡ true)
     × (IsFound config x lanes k (e ∷ log) log ⊎ WasFound config link source x lanes k log)
 
--- where this is a beat of an AccessAckData after the log, its request has found its lanes so
+-- if this is a beat of an AccessAckData after the log, there was such an event for its request and its lanes
 abbrev pub IsTrueRead : {w : ℕ} → Config → ℕ → Beat w → Log w → Type 0
 IsTrueRead {w} config link (beat.D y) log = (x : BeatA w) → y.opcode ≡ d.AccessAckData
     → request_of y.source (on_link link (trace_of log)) ≡ Some x
     → WasFound config link y.source x y.lanes (length (unfinished channel.D (on_link link (trace_of log)))) log
 IsTrueRead config link _ log = ⊤
 
--- each beat of an AccessAckData that was delivered
+-- this is true of each beat of an AccessAckData that was delivered
 abbrev pub TrueReads : ℕ → Type 0
 TrueReads w = (config : Config) (log : Log w) → IsGiven config log
     → EachTaken (λ earlier link x. IsTrueRead config link x earlier) log

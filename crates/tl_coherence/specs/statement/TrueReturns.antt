@@ -1,4 +1,4 @@
--- That each beat of data that are given back has the bytes of the one memory.
+-- Each beat with data on channel C has the bytes of the one memory.
 use Rattle.std.specs.Prelude.{ℕ, true, List, ◌≡◌, length, ⊤}
 use Rattle.tl_beat.specs.declared.beat.Beat.{Beat}
 use Rattle.tl_beat.specs.declared.beat.Beat.TheVariants as beat
@@ -15,14 +15,14 @@ use Rattle.tl_coherence.specs.statement.Headline.{IsGiven}
 use Rattle.tl_coherence.specs.statement.Log.{Log}
 use Rattle.tl_coherence.specs.statement.OneMemory.{one_memory_after}
 
--- where this is a beat of channel C with data after t, it has the bytes of its block, at its place in the burst
+-- if this is a beat with data on channel C after t, it has the bytes of its block, for its place in the burst
 abbrev pub IsTrueReturn : {w : ℕ} → Memory → ℕ → Beat w → Trace w → Type 0
 IsTrueReturn {w} memory link (beat.C y) t = c_carries_data y.opcode ≡ true
     → (bytes : List ℕ) × IsBlock memory (block_at y.address) bytes
     × (y.lanes ≡ lanes_at true w bytes (length (unfinished channel.C (on_link link t))))
 IsTrueReturn memory link _ t = ⊤
 
--- each beat of a ProbeAckData or ReleaseData that was delivered, with the one memory as it was at that moment
+-- this is true of each beat of a ProbeAckData or ReleaseData that was delivered, with the one memory of that moment
 abbrev pub TrueReturns : ℕ → Type 0
 TrueReturns w = (config : Config) (log : Log w) → IsGiven config log
     → EachTaken (λ earlier link x. IsTrueReturn (one_memory_after config earlier).memory link x (trace_of earlier)) log

@@ -53,7 +53,7 @@ abbrev pub IsDone : {w : ℕ} {D : Type 0} → (D → ℕ → ℕ → Perm) → 
 IsDone perm_of config block_state handed t reaction = (handed ≡ reaction.handed)
     × IsBlockState perm_of config block_state (with_handed reaction.handed t) reaction.memory
 
--- a request that can be performed, and answered, where there are this many blocks and clients
+-- a request that can be performed, and answered, if there are this many blocks and clients
 pub record IsPlaced {w : ℕ} (blocks clients : ℕ) (link : Link) (request : MessageA w) : Type 0 where
   pub legal : is_acquire request.opcode ≡ false → illegal_message level.UH channel.A (message.A request) ≡ None
   pub blank : IsBlankAfter (beats_of (message.A request)) (message.A request)

@@ -22,7 +22,7 @@ pub record IsComplete {w : ℕ} (config : Config) (link : Link) (x : Beat w) (me
     pub burst : IsBurst message (x ∷ unfinished (channel_of x) (on_link link.0 e.trace))
     pub filled : HasBlock message
 
--- where there are this many blocks and clients, what is due for it can be done
+-- if there are this many blocks and clients, what is due for it can be done
 abbrev pub IsDue : {w : ℕ} → ℕ → ℕ → Link → Message w → Type 0
 IsDue blocks clients link (message.A m) = IsPlaced blocks clients link m
 IsDue blocks clients link (message.C m) = block_at m.address < blocks

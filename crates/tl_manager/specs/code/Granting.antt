@@ -22,7 +22,7 @@ grant_of_fields opcode source sink cap payload = message.D (record {
   small = lit≤ tt;
 })
 
--- with its source and sink, its cap, and the bytes of its block where it carries them
+-- with its source and sink, its cap, and the bytes of its block if it carries them
 abbrev pub grant_of : {w : ℕ} → ℕ → ℕ → Cap → Option (List ℕ) → Message w
 grant_of source sink cap None = grant_of_fields d.Grant source sink cap no_payload
 grant_of source sink cap (Some bytes) = grant_of_fields d.GrantData source sink cap bytes

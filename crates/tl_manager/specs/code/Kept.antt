@@ -31,12 +31,12 @@ abbrev pub Each : {X : Type 0} → (X → Type 0) → List X → Type 0
 Each P [] = ⊤
 Each P (x ∷ xs) = P x × Each P xs
 
--- no number stands twice
+-- no number comes twice
 abbrev pub AreApart : List ℕ → Type 0
 AreApart [] = ⊤
 AreApart (n ∷ ns) = (is_one_of n ns ≡ false) × AreApart ns
 
--- each number is less than those behind it
+-- each number is less than those after it
 abbrev pub IsRising : List ℕ → Type 0
 IsRising [] = ⊤
 IsRising (n ∷ ns) = Each (λ k. n < k) ns × IsRising ns
@@ -70,7 +70,7 @@ IsClean (message.C m) = m.corrupt ≡ 0
 IsClean (message.D m) = (m.corrupt ≡ 0) × (m.denied ≡ false)
 IsClean (message.E m) = ⊤
 
--- messages that break no L rule at their links and are clean, with 64 bytes that are zero where no beat carries them
+-- messages that break no L rule at their links and are clean, with 64 bytes that are zero if no beat carries them
 abbrev pub AreLawful : {w : ℕ} → Config → Handed w → Type 0
 AreLawful config handed =
     Each (λ x. (illegal_message_at (level_of config x.0.0) x.1 ≡ None) × IsClean x.1 × HasBlock x.1
@@ -97,7 +97,7 @@ AreOfOne [] = ⊤
 AreOfOne (beat.A x ∷ beats) = Each (IsLike x) beats
 AreOfOne (_ ∷ beats) = ⊥
 
--- a request that breaks no L rule at its link, has a payload of 64 bytes that is zero where no beat carries
+-- a request that breaks no L rule at its link, has a payload of 64 bytes that is zero if no beat carries
 -- anything, isn't corrupt, and is of a block of the map
 pub record IsPerformable {w : ℕ} (config : Config) (s : Service w) : Type 0 where
   pub lawful : illegal_message_at (level_of config s.link.0) (message.A s.request) ≡ None

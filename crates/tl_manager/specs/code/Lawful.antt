@@ -18,7 +18,7 @@ IsLawful level (x ∷ burst) = illegal level (channel_of x) x ≡ None
 abbrev pub IsLawfulSoFar : {w : ℕ} → LinkState w → Type 0
 IsLawfulSoFar link_state = IsLawful link_state.level link_state.requests × IsLawful link_state.level link_state.reports
 
--- what a beat has of its own breaks no rule where it goes on with a message, and it isn't corrupt
+-- what a beat has of its own breaks no rule if it goes on with a message, and it isn't corrupt
 abbrev pub IsFit : {w : ℕ} → Channel → Beat w → Type 0
 IsFit {w} channel.A (beat.A x) = (x.corrupt ≡ false) × (a_has_mask w x.opcode x.size x.address x.mask ≡ true)
 IsFit channel.C (beat.C x) = x.corrupt ≡ false

@@ -27,7 +27,7 @@ pub record IsPassed {w : ℕ} (config : Config) (link : Link) (x : Beat w) (t : 
   pub order : broken_in_order config.profile x (on_link link.0 t) ≡ None
   pub waits : must_wait config link x t ≡ false
 
--- a client's beat that passes, with what is known before, and of the services afterwards
+-- a client's beat that passes, with the state before it, and the services afterwards
 pub record IsTaken {w : ℕ} (config : Config) (link : Link) (x : Beat w) (e : End w) : Type 0 where
   pub width : IsWidth w
   pub before : IsKept config e
@@ -40,7 +40,7 @@ pub record IsServed {w : ℕ} (link : Link) (x : BeatA w) (s : Service w) (t : T
   pub last : ends (beat.A x) (on_link link.0 t) ≡ true
   pub made : service_of link (beat.A x ∷ unfinished channel.A (on_link link.0 t)) (services t) ≡ Some s
 
--- the service of the block, which isn't answered, where no ProbeAck of it is missing
+-- the service of the block, which isn't answered, if no ProbeAck of it is missing
 pub record IsReady {w : ℕ} (config : Config) (n : ℕ) (s : Service w) (t : Trace w) : Type 0 where
   pub width : IsWidth w
   pub accounted : IsAccounted t

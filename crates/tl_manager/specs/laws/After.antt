@@ -1,5 +1,4 @@
--- The requests in service, the histories and the ProbeAcks that are missing after a beat that the
--- manager is offered.
+-- The requests in service, the histories and the missing ProbeAcks after a beat that is offered.
 use Rattle.std.specs.Prelude.{ℕ, Bool, true, false, not, List, [], ◌∷◌, ◌==◌, ◌&&◌, if◌then◌else◌, filter}
 use Rattle.tl_beat.specs.declared.beat.Beat.{Beat}
 use Rattle.tl_beat.specs.declared.beat.Beat.TheVariants as beat
@@ -18,15 +17,16 @@ use Rattle.tl_manager.specs.statement.Holders.{is_missing}
 use Rattle.tl_manager.specs.statement.Service.{Service, is_ended_by, services}
 use Rattle.tl_manager.specs.statement.Offer.{Reception, Refused, Stalled, Sent}
 
--- the services after a message was handed out, which ends that of the access that it answers
+-- the services after a message was handed out; the answer to an access ends its service
 abbrev pub without_answered : {w : ℕ} → Link × Message w → List (Service w) → List (Service w)
 without_answered x services = filter (λ s. not (is_ended_by (x.0, beat_of x.1 0) s)) services
 
+-- the services after several messages were handed out
 abbrev pub without_all : {w : ℕ} → Handed w → List (Service w) → List (Service w)
 without_all [] services = services
 without_all (x ∷ handed) services = without_all handed (without_answered x services)
 
--- the services after a beat that was answered so, where the trace before it was t
+-- the services after this answer to a beat x; t is the trace before the beat
 abbrev pub services_left : {w : ℕ} → Reception w → Link × Beat w → Trace w → List (Service w)
 services_left (Refused rule) x t = services t
 services_left Stalled x t = services t
@@ -34,24 +34,24 @@ services_left (Sent handed) x t = without_all handed (services (x ∷ t))
 
 -- ---- one link
 
--- the history of a link after messages were handed out
+-- the history of a client's link after messages were handed out
 abbrev pub with_sent : {w : ℕ} → ℕ → Handed w → History w → History w
 with_sent client [] t = t
 with_sent client (x ∷ handed) t = with_sent client handed (if x.0.0 == client then sent x.1 t else t)
 
--- and after a beat that was answered so
+-- the history of a client's link after this answer to a beat x
 abbrev pub history_after : {w : ℕ} → Reception w → Link × Beat w → ℕ → History w → History w
 history_after (Refused rule) x client t = t
 history_after Stalled x client t = t
 history_after (Sent handed) x client t = with_sent client handed (if x.0.0 == client then x.1 ∷ t else t)
 
--- without what was handed out
+-- the same without the messages that were handed out
 abbrev pub taken_after : {w : ℕ} → Reception w → Link × Beat w → ℕ → History w → History w
 taken_after (Refused rule) x client t = t
 taken_after Stalled x client t = t
 taken_after (Sent handed) x client t = if x.0.0 == client then x.1 ∷ t else t
 
--- a channel on which clients send
+-- clients send on this channel
 abbrev pub is_of_clients : Channel → Bool
 is_of_clients channel.A = true
 is_of_clients channel.B = false
@@ -67,19 +67,20 @@ is_probe_to client block (link, message.B m) =
     (link.0 == client) && (is_probe m.opcode && (block_at m.address == block))
 is_probe_to client block x = false
 
+-- a ProbeAck of the block by the client is missing after these messages were handed out, if it was before
 abbrev pub missing_with : {w : ℕ} → ℕ → ℕ → Handed w → Bool → Bool
 missing_with client block [] missing = missing
 missing_with client block (x ∷ handed) missing =
     missing_with client block handed (if is_probe_to client block x then true else missing)
 
--- the beat completes the client's ProbeAck of the block
+-- the beat completes a ProbeAck of the block by the client
 abbrev pub is_report_of : {w : ℕ} → ℕ → ℕ → Link × Beat w → Trace w → Bool
 is_report_of client block (link, beat.C x) t =
     (link.0 == client) && (ends (beat.C x)
     (on_link client t) && (is_probe_ack x.opcode && (block_at x.address == block)))
 is_report_of client block x t = false
 
--- whether the client's ProbeAck is missing after a beat that was answered so
+-- a ProbeAck of the block by the client is missing after this answer to a beat x
 abbrev pub missing_after : {w : ℕ} → Reception w → Link × Beat w → Trace w → ℕ → ℕ → Bool
 missing_after (Refused rule) x t client block = is_missing client block t
 missing_after Stalled x t client block = is_missing client block t

@@ -1,5 +1,5 @@
--- What is pending at the manager's end of each link: it follows from the requests in service and the
--- bursts that are unfinished.
+-- The pending keys at the manager's end of each link: they follow from the requests in service and the unfinished
+-- bursts.
 use Rattle.std.specs.Prelude.{ℕ, Bool, true, false, not, List, [], ◌∷◌, ◌==◌, ◌&&◌, ◌||◌, ◌+◌, ◌≡◌, Option, Some, None}
 use Rattle.std.specs.Prelude.{⊤}
 use Rattle.tl_beat.specs.declared.beat.Beat.{Beat}
@@ -18,71 +18,72 @@ use Rattle.tl_manager.specs.statement.Handing.{probe_beat}
 use Rattle.tl_manager.specs.statement.Holders.{cap_probed, is_settled, is_spared}
 use Rattle.tl_manager.specs.statement.Service.{Service, services, service_of_block}
 
+-- 1 for true, 0 for false
 abbrev pub one_if : Bool → ℕ
 one_if true = 1
 one_if false = 0
 
--- how many of a list pass the test
+-- the number of elements for which the test is true
 abbrev pub count_where : {X : Type 0} → (X → Bool) → List X → ℕ
 count_where test [] = 0
 count_where test (x ∷ xs) = one_if (test x) + count_where test xs
 
--- one of them does
+-- the test is true of some element
 abbrev pub is_any : {X : Type 0} → (X → Bool) → List X → Bool
 is_any test [] = false
 is_any test (x ∷ xs) = test x || is_any test xs
 
--- ---- what a service waits for
+-- ---- the state of a service
 
--- its Grant was handed out: the GrantAck is missing
+-- the Grant of this Acquire was handed out, and its GrantAck is missing
 abbrev pub is_granted : {w : ℕ} → Trace w → Service w → Bool
 is_granted t s = is_acquire s.request.opcode && pending (GrantSink s.tracker) (on_link s.link.0 t)
 
--- its request came from this client with this source, and isn't answered
+-- the request came from this client with this source, and isn't answered
 abbrev pub is_asking : {w : ℕ} → ℕ → ℕ → Trace w → Service w → Bool
 is_asking client source t s = (s.link.0 == client) && ((s.request.source == source) && not (is_granted t s))
 
--- it is of an Acquire of this client, which isn't granted
+-- there is a service, its request is an Acquire of this client, and it isn't granted
 abbrev pub is_acquiring : {w : ℕ} → ℕ → Trace w → Option (Service w) → Bool
 is_acquiring client t None = false
 is_acquiring client t (Some s) = is_acquire s.request.opcode && ((s.link.0 == client) && not (is_granted t s))
 
--- it is of an Acquire of this client, which is granted
+-- there is a service, its request is an Acquire of this client, and it is granted
 abbrev pub is_granted_to : {w : ℕ} → ℕ → Trace w → Option (Service w) → Bool
 is_granted_to client t None = false
 is_granted_to client t (Some s) = (s.link.0 == client) && is_granted t s
 
--- it is of an Acquire of this client, which is granted with this sink
+-- the request is an Acquire of this client, and it is granted with this sink
 abbrev pub is_granted_with : {w : ℕ} → ℕ → ℕ → Trace w → Service w → Bool
 is_granted_with client sink t s = (s.link.0 == client) && ((s.tracker == sink) && is_granted t s)
 
--- it is granted, or a ProbeAck of its block is missing
+-- there is no service, or it is granted, or a ProbeAck of its block is missing
 abbrev pub is_awaited : {w : ℕ} → Config → ℕ → Trace w → Option (Service w) → Bool
 is_awaited config block t None = true
 is_awaited config block t (Some s) = is_granted t s || not (is_settled config block t)
 
--- ---- the messages that are named
+-- ---- the messages that keys refer to
 
--- the beat has these control fields
+-- there is a request, and it has these control fields
 abbrev pub HasFields : {w : ℕ} → OpA → ℕ → ℕ → ℕ → ℕ → Option (BeatA w) → Type 0
 HasFields opcode param size source address None = ⊥
 HasFields opcode param size source address (Some x) = (x.opcode ≡ opcode) × (x.param ≡ param) × (x.size ≡ size)
     × (x.source ≡ source) × (x.address ≡ address)
 
--- the request that began last with the source of the unfinished one is that one, which is no Acquire
+-- the unfinished request is no Acquire, and is the last one with its source
 abbrev pub IsBegun : {w : ℕ} → History w → List (Beat w) → Type 0
 IsBegun t [] = ⊤
 IsBegun t (beat.A x ∷ burst) = (is_acquire x.opcode ≡ false) × HasFields x.opcode x.param x.size x.source x.address
     (request_of x.source t)
 IsBegun t (_ ∷ burst) = ⊥
 
--- the ProbeAck that the unfinished report is of is missing
+-- the unfinished ProbeAck answers a pending Probe
 abbrev pub IsReporting : {w : ℕ} → History w → List (Beat w) → Type 0
 IsReporting t (beat.C x ∷ burst) = is_probe_ack x.opcode ≡ true → pending (ProbeOf (block_at x.address)) t ≡ true
 IsReporting t _ = ⊤
 
--- on the link of a service, the request that began last with its source is its request, until that is
--- answered; the sink of the block's last Grant is its tracker, once that was handed out
+-- On the link of a service its request is the last one with its source, until it is answered. Once an Acquire is
+-- granted, the sink of the block's last Grant is the service's tracker.
 abbrev pub IsNamed : {w : ℕ} → ℕ → Trace w → Option (Service w) → Type 0
 IsNamed block t None = ⊤
 IsNamed block t (Some s) =
@@ -90,8 +91,8 @@ IsNamed block t (Some s) =
     s.request.address (request_of s.request.source (on_link s.link.0 t)))
     × (is_granted t s ≡ true → grant_sink block (on_link s.link.0 t) ≡ Some s.tracker)
 
--- the block is in service for a request that isn't answered and that probes this client; the Probe is
--- the one for it
+-- The block is in service for an unanswered request that probes this client, and the last Probe of the block is the
+-- Probe for that request.
 pub record IsProbed {w : ℕ} (client block : ℕ) (t : Trace w) : Type 0 where
   pub service : Service w
   pub cap : Cap
@@ -101,10 +102,10 @@ pub record IsProbed {w : ℕ} (client block : ℕ) (t : Trace w) : Type 0 where
   pub caps : cap_probed service.request.opcode service.request.param ≡ Some cap
   pub probe : probe_of block (on_link client t) ≡ Some (probe_beat block cap)
 
--- ---- what is pending
+-- ---- the pending keys
 
--- of a block, on each link: its Acquire until the Grant, its GrantAck from then on, and its ProbeAck
--- only for the request in service
+-- The pending keys of a block on each link: the Acquire until its Grant, then its GrantAck; a Probe only for the
+-- request in service.
 pub record IsHandled {w : ℕ} (block : ℕ) (t : Trace w) : Type 0 where
   pub acquires : (client : ℕ) → pending (AcquireOf block) (on_link client t) ≡ is_acquiring client t
       (service_of_block block (services t))
@@ -113,8 +114,8 @@ pub record IsHandled {w : ℕ} (block : ℕ) (t : Trace w) : Type 0 where
   pub named : IsNamed block t (service_of_block block (services t))
   pub probes : (client : ℕ) → pending (ProbeOf block) (on_link client t) ≡ true → IsProbed client block t
 
--- A source is pending exactly where an unfinished request, or one in service that isn't answered, has
--- it, and no two do.
+-- A source is pending exactly if an unfinished request has it or an unanswered request in service does, and at most one
+-- has it.
 pub record IsAccounted {w : ℕ} (t : Trace w) : Type 0 where
   pub sources : (client source : ℕ)
       → one_if (comes_in_request source (unfinished channel.A (on_link client t))) + count_where
@@ -123,7 +124,7 @@ pub record IsAccounted {w : ℕ} (t : Trace w) : Type 0 where
   pub reports : (client : ℕ) → IsReporting (on_link client t) (unfinished channel.C (on_link client t))
   pub blocks : (block : ℕ) → IsHandled block t
 
--- and each request in service is awaited
+-- and each service is granted or waits for a ProbeAck
 pub record IsSteady {w : ℕ} (config : Config) (t : Trace w) : Type 0 where
   pub accounted : IsAccounted t
   pub awaited : (block : ℕ) → is_awaited config block t (service_of_block block (services t)) ≡ true

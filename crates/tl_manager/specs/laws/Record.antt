@@ -1,4 +1,4 @@
--- What is recorded of a client and a block after a beat that the manager is offered.
+-- The permission that a client is recorded with for a block, after a beat that is offered.
 use Rattle.std.specs.Prelude.{ℕ, Bool, false, [], ◌∷◌, ◌==◌, ◌&&◌, ◌||◌, if◌then◌else◌, Option, Some, None, unwrap_or}
 use Rattle.tl_beat.specs.declared.beat.Beat.{Beat}
 use Rattle.tl_beat.specs.declared.beat.Beat.TheVariants as beat
@@ -13,7 +13,7 @@ use Rattle.tl_manager.specs.statement.Handing.{Handed}
 use Rattle.tl_manager.specs.statement.Holders.{recorded}
 use Rattle.tl_manager.specs.statement.Offer.{Reception, Refused, Stalled, Sent}
 
--- what a beat says that is taken: the last one of a ProbeAck or Release, what that leaves
+-- the permission that a beat sets by completing a ProbeAck or Release of the block by the client
 abbrev pub reported_by : {w : ℕ} → Link × Beat w → Trace w → ℕ → ℕ → Option Perm
 reported_by (link, beat.C x) t client block =
     if (link.0 == client) && (ends (beat.C x)
@@ -21,26 +21,27 @@ reported_by (link, beat.C x) t client block =
     then Some (reported x.param) else None
 reported_by _ t client block = None
 
--- what a message says that is handed out: a Grant of the block to the client, what its cap gives
+-- the permission that a message gives as a Grant of the block to the client
 abbrev pub granted_by : {w : ℕ} → Link × Message w → Trace w → ℕ → ℕ → Option Perm
 granted_by (link, message.D m) t client block =
     if (link.0 == client) && (is_grant m.opcode && asks_for block (request_of m.source (on_link client t)))
     then Some (capped m.param) else None
 granted_by _ t client block = None
 
+-- the permission after these messages were handed out; before them it was `held`
 abbrev pub granted_by_all : {w : ℕ} → Handed w → Trace w → ℕ → ℕ → Perm → Perm
 granted_by_all [] t client block held = held
 granted_by_all (x ∷ handed) t client block held =
     granted_by_all handed t client block (unwrap_or (granted_by x t client block) held)
 
--- what is recorded after a beat that was answered so, where the trace before it was t
+-- the permission recorded after this answer to a beat x; t is the trace before the beat
 abbrev pub recorded_after : {w : ℕ} → Reception w → Link × Beat w → Trace w → ℕ → ℕ → Perm
 recorded_after (Refused rule) x t client block = recorded client block t
 recorded_after Stalled x t client block = recorded client block t
 recorded_after (Sent handed) x t client block =
     granted_by_all handed (x ∷ t) client block (unwrap_or (reported_by x t client block) (recorded client block t))
 
--- the beat is of the block
+-- the beat is on channel A or C, and its address is in the block
 abbrev pub is_of_block : {w : ℕ} → ℕ → Beat w → Bool
 is_of_block block (beat.A x) = block_at x.address == block
 is_of_block block (beat.C x) = block_at x.address == block

@@ -3,14 +3,14 @@ use Rattle.std.specs.Prelude.{ℕ, List, []}
 use Rattle.tl_rules.specs.statement.Conformance.{Trace}
 use Rattle.tl_rules.specs.statement.Effect.{Memory}
 
--- The manager's end of all links: what it took and handed out, the links that a refusal closed, and
--- the memory.
+-- The manager's end of all links: the beats that it took and the messages that it handed out, the links that a refusal
+-- closed, and the memory.
 pub record End (w : ℕ) : Type 0 where
   pub trace : Trace w
   pub closed : List ℕ
   pub memory : Memory
 
--- as a manager begins: nothing was taken or handed out, no link is closed, and memory is zero
+-- the end of a new manager: nothing taken or handed out, no link closed, memory all zero
 abbrev pub fresh : {w : ℕ} → End w
 fresh = record { trace = []; closed = []; memory = λ address. 0 }
 

@@ -31,22 +31,22 @@ use Rattle.tl_params.specs.statement.Param.{grow_code, cap_code}
 use Rattle.tl_manager.specs.statement.Service.{Service}
 use Rattle.tl_manager.specs.statement.Holders.{recorded, is_unheld}
 
--- messages, each with the link on which it is handed out, in order
+-- messages, in order, each with the link on which it is handed out
 abbrev pub Handed : ℕ → Type 0
 Handed w = List (Link × Message w)
 
--- the trace after these messages were handed out, each with all of its beats at that moment
+-- the trace after these messages were handed out, each with all of its beats at once
 unfoldable pub with_handed : {w : ℕ} → Handed w → Trace w → Trace w
 with_handed [] t = t
 with_handed (x ∷ handed) t = with_handed handed (map (λ beat. (x.0, beat)) (burst_of x.1) ++ t)
 
--- the payload of a message without data
+-- the payload of a message without data, all zero
 abbrev pub no_payload : List ℕ
 no_payload = replicate 64 0
 
 -- ---- Probes
 
--- the ProbeBlock of a block, which leaves its client at most this cap
+-- the ProbeBlock of a block with this cap
 abbrev pub probe_message : {w : ℕ} → ℕ → Cap → MessageB w
 probe_message {w} block cap = record {
   opcode = b.ProbeBlock;
@@ -60,7 +60,7 @@ probe_message {w} block cap = record {
   small = lit≤ tt;
 }
 
--- the ProbeBlock of a block, as a message
+-- the same as a message
 abbrev pub probe_of_block : {w : ℕ} → ℕ → Cap → Message w
 probe_of_block block cap = message.B (probe_message block cap)
 
@@ -68,13 +68,13 @@ probe_of_block block cap = message.B (probe_message block cap)
 abbrev pub probe_beat : {w : ℕ} → ℕ → Cap → BeatB w
 probe_beat block cap = b_beat_of (probe_message block cap) 0
 
--- a ProbeBlock of the block for each of these clients
+-- a ProbeBlock of the block with this cap, for each of these clients
 abbrev pub probes : {w : ℕ} → ℕ → Cap → List ℕ → Handed w
 probes block cap clients = map (λ client. (record { 0 = client }, probe_of_block block cap)) clients
 
 -- ---- answers
 
--- an answer that carries this payload, no sink, and the request's source and size
+-- a response with this payload, with no sink, and with the request's source and size
 abbrev pub answer_with : {w : ℕ} → OpD → List ℕ → MessageA w → Message w
 answer_with opcode payload m = message.D (record {
   opcode = opcode;
@@ -110,31 +110,29 @@ release_ack source = message.D (record {
 
 -- ---- Grants
 
--- the cap of the Grant that answers an Acquire, where it is known whether no client is recorded with
--- a copy: toB for NtoB, otherwise toT; under the second profile an AcquireBlock NtoB of a block that
--- nobody has is granted toT
+-- The cap of the Grant that answers an Acquire: toB for NtoB, otherwise toT. Under the second profile an AcquireBlock
+-- NtoB gets toT if `unheld`: no client is recorded with a copy.
 abbrev pub cap_granted : Profile → OpA → ℕ → Bool → Cap
 cap_granted profile.Two a.AcquireBlock param unheld = if (param == grow_code grow.NtoB) && not unheld then cap.ToB else
     cap.ToT
 cap_granted _ opcode param unheld = if param == grow_code grow.NtoB then cap.ToB else cap.ToT
 
--- the Grant carries the block: not for an AcquirePerm, nor for an AcquireBlock BtoT whose sender is
--- recorded Branch
+-- The Grant carries the block: it answers an AcquireBlock, and not a BtoT from a client that is recorded with Branch.
 abbrev pub is_granted_data : OpA → ℕ → Perm → Bool
 is_granted_data a.AcquireBlock param held = not ((param == grow_code grow.BtoT) && same_perm held perm.Branch)
 is_granted_data _ param held = false
 
--- GrantData or Grant
+-- GrantData if it carries the block, otherwise Grant
 abbrev pub grant_opcode : Bool → OpD
 grant_opcode true = d.GrantData
 grant_opcode false = d.Grant
 
--- the bytes of a block in memory, or none
+-- the bytes of a block in memory for a Grant with data, otherwise zeros
 abbrev pub grant_payload : Bool → Memory → ℕ → List ℕ
 grant_payload true memory block = bytes_from memory (64 * block) 64
 grant_payload false memory block = no_payload
 
--- the answer to an Acquire, with data or without; its sink is the service's tracker
+-- the answer to an Acquire, with data or without; its sink is the number of the service's tracker
 abbrev pub grant_with : {w : ℕ} → Service w → Cap → Bool → Memory → Message w
 grant_with s cap with_data memory = message.D (record {
   opcode = grant_opcode with_data;
@@ -148,7 +146,7 @@ grant_with s cap with_data memory = message.D (record {
   small = lit≤ tt;
 })
 
--- the Grant of an Acquire, by what is recorded as it is handed out
+-- the Grant of an Acquire, by the permissions recorded when it is handed out
 abbrev pub grant : {w : ℕ} → Config → Service w → Trace w → Memory → Message w
 grant config s t memory =
     grant_with s
@@ -156,18 +154,18 @@ grant config s t memory =
     (is_granted_data s.request.opcode s.request.param (recorded s.link.0 (block_at s.request.address) t))
     memory
 
--- ---- what is done when a message is complete
+-- ---- the reaction to a complete message
 
--- the messages that are handed out, and the memory then
+-- the messages that are handed out, and the memory afterwards
 pub record Reaction (w : ℕ) : Type 0 where
   pub handed : Handed w
   pub memory : Memory
 
--- nothing is handed out, and memory stays
+-- no message is handed out, and memory stays
 abbrev pub nothing : {w : ℕ} → Memory → Reaction w
 nothing memory = record { handed = []; memory = memory }
 
--- a request is performed and answered: an Acquire is granted, an access is done in memory
+-- a request is performed and answered: an Acquire gets its Grant, an access acts on memory
 abbrev pub performed : {w : ℕ} → Config → Service w → Trace w → Memory → Reaction w
 performed config s t memory =
     if is_acquire s.request.opcode

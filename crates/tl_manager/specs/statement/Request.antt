@@ -1,4 +1,4 @@
--- The request of channel A that its beats make up.
+-- The request that beats of channel A make up.
 use Rattle.std.specs.Prelude.{ℕ, Bool, true, false, List, [], ◌∷◌, ◌+◌, ◌*◌, ◌^◌, ◌≡◌, refl, if◌then◌else◌, length}
 use Rattle.std.specs.Prelude.{nat_le, Option, Some, None}
 use Rattle.std.proofs.lemmas.Bool.{leb-true}
@@ -13,22 +13,22 @@ abbrev pub mask_of : {w : ℕ} → Beat w → ℕ
 mask_of (beat.A x) = x.mask
 mask_of _ = 0
 
--- 1 where the beat is corrupt
+-- 1 if the beat is corrupt, otherwise 0
 abbrev pub corrupt_of : {w : ℕ} → Beat w → ℕ
 corrupt_of (beat.A x) = if x.corrupt then 1 else 0
 corrupt_of _ = 0
 
--- the mask of the message that has these beats, the newest of which is first
+-- the mask of the message with these beats, the newest first
 unfoldable pub masks_carried : {w : ℕ} → List (Beat w) → ℕ
 masks_carried [] = 0
 masks_carried {w} (x ∷ beats) = masks_carried beats + mask_of x * 2 ^ (w * length beats)
 
--- the bits that say which of these beats are corrupt
+-- the corrupt bits of the message with these beats, the newest first
 unfoldable pub corrupt_carried : {w : ℕ} → List (Beat w) → ℕ
 corrupt_carried [] = 0
 corrupt_carried (x ∷ beats) = corrupt_carried beats + corrupt_of x * 2 ^ length beats
 
--- the request that these beats make up, where its size is at most a block
+-- the request with these beats, if its size is at most a block
 abbrev pub request_if : {w : ℕ} (x : BeatA w) → List (Beat w) → (fits : Bool) → nat_le x.size 6 ≡ fits
     → Option (MessageA w)
 request_if x beats false fits = None
@@ -44,8 +44,8 @@ request_if x beats true fits = Some (record {
   small = leb-true x.size 6 fits;
 })
 
--- The request that has these beats, the newest of which is first: their control fields, which they
--- share, with the lanes, masks and corrupt bits of all of them. There is none of a size over 6.
+-- The request with these beats, the newest first: their control fields, which they share, and the lanes, masks and
+-- corrupt bits of all of them. There is none for a size above 6.
 unfoldable pub request_carried : {w : ℕ} → List (Beat w) → Option (MessageA w)
 request_carried (beat.A x ∷ beats) = request_if x (beat.A x ∷ beats) (nat_le x.size 6) refl
 request_carried _ = None

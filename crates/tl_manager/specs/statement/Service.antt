@@ -1,4 +1,4 @@
--- Which requests are in service, as a function of what the manager took and handed out.
+-- The requests in service, as a function of the beats taken and the messages handed out.
 use Rattle.std.specs.Prelude.{ℕ, zero, suc, Bool, true, false, not, List, [], ◌∷◌, ◌==◌, ◌&&◌, ◌+◌, if◌then◌else◌}
 use Rattle.std.specs.Prelude.{length, map, filter, find, Option, Some, None, is_some, option_map}
 use Rattle.tl_beat.specs.declared.beat.Beat.{Beat}
@@ -15,18 +15,18 @@ use Rattle.tl_rules.specs.statement.Conformance.{Trace, on_link}
 use Rattle.tl_rules.specs.statement.Legality.{is_one_of}
 use Rattle.tl_manager.specs.statement.Request.{request_carried}
 
--- a request that was taken whole, of the client at the end of this link, and the tracker that it has
+-- a request in service: the number of its tracker, its link, and the request
 pub record Service (w : ℕ) : Type 0 where
   pub tracker : ℕ
   pub link : Link
   pub request : MessageA w
 
--- the first of the numbers from n on, this many and one more, that isn't taken; the last isn't tried
+-- the first number from n on that isn't taken; after `more` numbers the next is returned untested
 abbrev pub free_from : ℕ → ℕ → List ℕ → ℕ
 free_from n zero taken = n
 free_from n (suc more) taken = if is_one_of n taken then free_from (n + 1) more taken else n
 
--- the least number that isn't taken: of one number more than are taken one is free
+-- the least number that isn't taken
 unfoldable pub least_untaken : List ℕ → ℕ
 least_untaken taken = free_from 0 (length taken) taken
 
@@ -34,13 +34,13 @@ least_untaken taken = free_from 0 (length taken) taken
 abbrev pub trackers_of : {w : ℕ} → List (Service w) → List ℕ
 trackers_of services = map (λ s. s.tracker) services
 
--- the service of the request that has these beats, the newest of which is first
+-- the service of the request with these beats, the newest first
 abbrev pub service_of : {w : ℕ} → Link → List (Beat w) → List (Service w) → Option (Service w)
 service_of link beats services =
     option_map (λ m. record { tracker = least_untaken (trackers_of services); link = link; request = m })
     (request_carried beats)
 
--- an answer to an access, which ends its service
+-- the opcode answers an access
 abbrev pub is_access_answer : OpD → Bool
 is_access_answer d.AccessAck = true
 is_access_answer d.AccessAckData = true
@@ -51,29 +51,28 @@ is_access_answer _ = false
 abbrev pub answers_access : {w : ℕ} → BeatD w → Service w → Bool
 answers_access x s = is_access_answer x.opcode && (not (is_acquire s.request.opcode) && (s.request.source == x.source))
 
--- the GrantAck is of this service, whose tracker was the Grant's sink
+-- the GrantAck is for this service: its sink is the number of the service's tracker
 abbrev pub acknowledges : {w : ℕ} → BeatE → Service w → Bool
 acknowledges x s = is_acquire s.request.opcode && (s.tracker == x.sink)
 
--- the message that is complete with this beat ends the service: it answers the access, or it is the
--- GrantAck of the Acquire
+-- the message that this beat completes ends the service: it answers the access, or is the GrantAck of the Acquire
 abbrev pub is_ended_by : {w : ℕ} → Link × Beat w → Service w → Bool
 is_ended_by (link, beat.D x) s = (s.link.0 == link.0) && answers_access x s
 is_ended_by (link, beat.E x) s = (s.link.0 == link.0) && acknowledges x s
 is_ended_by _ s = false
 
--- with one service more, where there is one
+-- the services and this one, if there is one
 abbrev pub with_service : {w : ℕ} → Option (Service w) → List (Service w) → List (Service w)
 with_service None services = services
 with_service (Some s) services = s ∷ services
 
--- the services after a message is complete with this beat, before which its burst had these
+-- the services after this beat completes a message; `burst` has the earlier beats of the message
 abbrev pub services_after : {w : ℕ} → Link × Beat w → List (Beat w) → List (Service w) → List (Service w)
 services_after (link, beat.A x) burst services = with_service (service_of link (beat.A x ∷ burst) services) services
 services_after (link, x) burst services = filter (λ s. not (is_ended_by (link, x) s)) services
 
--- The requests in service, the newest first: from their last beat on, until their answer was handed
--- out or, for an Acquire, until its GrantAck was taken.
+-- The requests in service, the newest first. A request is in service from its last beat on, until its answer is handed
+-- out or, for an Acquire, until its GrantAck is taken.
 unfoldable pub services : {w : ℕ} → Trace w → List (Service w)
 services [] = []
 services (x ∷ t) =
@@ -81,7 +80,7 @@ services (x ∷ t) =
     then services_after x (unfinished (channel_of x.1) (on_link x.0.0 t)) (services t)
     else services t
 
--- the service of a block
+-- the service of a block, if there is one
 abbrev pub service_of_block : {w : ℕ} → ℕ → List (Service w) → Option (Service w)
 service_of_block block services = find (λ s. block_at s.request.address == block) services
 

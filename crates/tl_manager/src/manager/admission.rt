@@ -1,4 +1,4 @@
-//! What becomes of a beat, by what is known of it.
+//! The judgement of a beat.
 
 ghost use Rattle.std.specs.Prelude.{◌≡◌};
 ghost use Rattle.tl_beat.specs.statement.Width.{IsWidth};
@@ -8,7 +8,7 @@ ghost use Rattle.tl_manager.specs.statement.Offer;
 use tl_beat::beat::Beat;
 use tl_rules::rule::Rule;
 
-/// What becomes of a beat that breaks no rule.
+/// The judgement of a beat that breaks no rule.
 #[derive(Clone, Copy, Debug, PartialEq, Eq)]
 pub enum Admission {
     /// It is stalled.
@@ -17,8 +17,8 @@ pub enum Admission {
     Passes,
 }
 
-/// What becomes of a beat that breaks no L rule: by the rule of order that it breaks, whether it has to
-/// wait, is of no block of the map, and is corrupt or denied.
+/// The judgement of a beat that breaks no L rule, by the rule of order that it breaks, and by whether it must wait, is
+/// outside the map, and is corrupt or denied. The error is the first rule that it breaks.
 pub fn admit(
     broken: Option<Rule>,
     waits: bool,

@@ -1,5 +1,4 @@
-//! The blocks of the map: their bytes, what each client is recorded to hold of them, and the requests
-//! in service.
+//! The blocks of the map: their bytes, the permissions recorded, and the requests in service.
 
 ghost use Rattle.std.specs.Prelude.{ℕ, ◌≡◌, ◌≢◌, ◌⊎◌, ◌<◌, ◌≤◌, ◌==◌, ◌&&◌, ◌*◌, if◌then◌else◌};
 ghost use Rattle.std.specs.Prelude.{◌^◌, ◌∷◌, not, length, true, false, Some, None};
@@ -40,7 +39,7 @@ use tl_rules::param::{Cap, Grow};
 use tl_rules::perm::Perm;
 use tl_rules::profile::Profile;
 
-/// What a manager keeps of the blocks.
+/// The state of the blocks.
 #[derive(Drop)]
 pub struct BlockState<const W: usize, D: Directory> {
     pub profile: Profile,
@@ -49,7 +48,7 @@ pub struct BlockState<const W: usize, D: Directory> {
     pub blocks: Blocks,
 }
 
-/// What a request leaves to those that it probes; an Intent probes nobody.
+/// The cap with which a request probes other clients; an Intent probes none.
 pub fn cap_probed(opcode: OpA, param: u8) -> Option<Cap>
     ensures { result ≡ Holders.cap_probed opcode param }
 {
@@ -76,7 +75,7 @@ impl<const W: usize, D: Directory> BlockState<W, D> {
     ghost use Rattle.tl_manager.specs.code.Tracked.{service_with};
     ghost use Rattle.tl_manager.specs.code.Trackers.{tracker_at};
 
-    /// The clients that hold more of a block than this cap leaves them, a bit for each.
+    /// The clients whose permission of a block is above this cap, a bit for each.
     fn above(&self, cap: Cap, block: u16) -> u16
         requires { block < D.blocks self.now.directory }
         ensures { (c : ℕ) → bit_at result c ≡ bit_if (is_above cap (D.perm_of self.now.directory block c)) }
@@ -88,7 +87,7 @@ impl<const W: usize, D: Directory> BlockState<W, D> {
         }
     }
 
-    /// The clients that a request probes with this cap, a bit for each: an Acquire spares its sender.
+    /// The clients that a request probes with this cap, a bit for each. An Acquire doesn't probe its sender.
     fn probed(&self, cap: Cap, link: Link, request: &MessageA<W>) -> u16
         requires block { block_at request.now.address < D.blocks self.now.directory }
         requires small { block_at request.now.address < 2 ^ 16 }
@@ -105,7 +104,7 @@ impl<const W: usize, D: Directory> BlockState<W, D> {
         }
     }
 
-    /// Records what a client holds of a block.
+    /// Records the permission of a client for a block.
     fn record(&mut self, block: u32, link: Link, perm: Perm)
         requires block { block < D.blocks self.old.directory }
         requires client { link.0 < D.clients self.old.directory }
@@ -121,7 +120,7 @@ impl<const W: usize, D: Directory> BlockState<W, D> {
         self.directory.set(block as u16, link.0, perm);
     }
 
-    /// The bytes of a block, where they are carried.
+    /// The bytes of a block, if they are carried.
     fn bytes_if(&self, carries: bool, block: u32) -> Option<[u8; 64]>
         requires { block < length self.now.blocks.bytes.items }
         ensures { (memory : Memory) → AreBlocks self.now.blocks.bytes.items memory →
@@ -134,8 +133,8 @@ impl<const W: usize, D: Directory> BlockState<W, D> {
         }
     }
 
-    /// Grants an Acquire, which waits for its GrantAck then. What is handed out is written where it is to stand, as
-    /// below.
+    /// Grants an Acquire, whose service then waits for the GrantAck. Writes the message into `outbox`, as the calls
+    /// below do.
     fn grant(&mut self, number: u8, link: Link, request: &MessageA<W>, outbox: &mut Outbox<W>)
         requires width { IsWidth W }
         requires number { number < 8 }
@@ -205,8 +204,8 @@ impl<const W: usize, D: Directory> BlockState<W, D> {
         }
     }
 
-    /// Begins the service of a request: it probes those that hold too much, or is performed and
-    /// answered at once.
+    /// Begins the service of a request. It probes the clients whose permission is above its cap; if there is none, it
+    /// is performed and answered at once.
     fn begin(&mut self, number: u8, link: Link, request: &MessageA<W>, outbox: &mut Outbox<W>)
         requires width { IsWidth W }
         requires number { number < 8 }
@@ -246,8 +245,8 @@ impl<const W: usize, D: Directory> BlockState<W, D> {
         };
     }
 
-    /// A ProbeAck of a block came from a client. With the last that was missing, the request for the
-    /// block is performed and answered.
+    /// A ProbeAck of a block came from a client. If no other is missing, the request for the block is performed and
+    /// answered.
     fn settle(&mut self, link: Link, block: u32, outbox: &mut Outbox<W>)
         requires width { IsWidth W }
         requires client { link.0 < 16 }
@@ -290,8 +289,8 @@ impl<const W: usize, D: Directory> BlockState<W, D> {
         self.trackers.set(number, probing);
     }
 
-    /// Takes a message of channel C: a Release is answered at once, and a ProbeAck may have been the
-    /// last one that a request waited for.
+    /// Takes a message of channel C. A Release is answered at once. A ProbeAck may be the last that a request waits
+    /// for.
     fn take(&mut self, link: Link, message: &MessageC<W>, outbox: &mut Outbox<W>)
         requires width { IsWidth W }
         requires client { link.0 < 16 }
@@ -358,7 +357,7 @@ impl<const W: usize, D: Directory> BlockState<W, D> {
         }
     }
 
-    /// Does what is due as a message of a client is complete.
+    /// The reaction to a complete message of a client.
     pub fn complete(&mut self, link: Link, message: &Message<W>, outbox: &mut Outbox<W>)
         requires width { IsWidth W }
         requires client { link.0 < 16 }

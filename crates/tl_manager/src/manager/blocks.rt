@@ -25,7 +25,7 @@ pub struct Blocks {
 }
 
 impl Blocks {
-    /// This many blocks of zeros.
+    /// This many blocks of zeros. The error means that there is no memory left.
     pub fn new(alloc: Global, count: u16) -> Result<Blocks, AllocError>
         ensures count { IfOk result (λ b. length b.bytes.items ≡ count) }
         ensures zero { IfOk result (λ b. AreBlocks b.bytes.items (λ address. 0)) }
@@ -35,7 +35,7 @@ impl Blocks {
         Ok(Blocks { bytes })
     }
 
-    /// How many blocks there are.
+    /// The number of blocks.
     pub fn count(&self) -> usize
         ensures { result ≡ length self.now.bytes.items }
     {
@@ -51,7 +51,7 @@ impl Blocks {
         self.bytes[block]
     }
 
-    /// Replaces a block whole.
+    /// Replaces all bytes of a block.
     pub fn write(&mut self, block: usize, bytes: &[u8; 64])
         requires { block < length self.old.bytes.items }
         ensures bytes { (memory : Memory) → AreBlocks self.old.bytes.items memory →
@@ -61,7 +61,7 @@ impl Blocks {
         self.bytes[block] = *bytes;
     }
 
-    /// Replaces a block whole, where it is to be.
+    /// Replaces all bytes of a block if `carries`.
     pub fn write_if(&mut self, carries: bool, block: usize, bytes: &[u8; 64])
         requires { block < length self.old.bytes.items }
         ensures bytes { (memory : Memory) → AreBlocks self.old.bytes.items memory →

@@ -1,4 +1,4 @@
-//! One link: the bursts that come on it, and what its messages are judged by.
+//! One link: its unfinished bursts, and the history by which its messages are judged.
 
 ghost use Rattle.std.specs.Prelude.{ℕ, ◌≡◌, ◌<◌, ◌≤◌, ◌==◌, ◌&&◌, length, false, true, List, [], ◌∷◌};
 ghost use Rattle.std.specs.Prelude.{None, not, ◌^◌};
@@ -34,7 +34,7 @@ use tl_rules::level::Level;
 use tl_rules::past::{Past, Probe, Request};
 use tl_rules::perm::Perm;
 
-/// Whether a beat of a message that has at least a beat's bytes carries all lanes, or with PutPartialData no others.
+/// Whether a beat of a message of at least a beat has all lanes, or any of them for PutPartialData.
 fn has_lanes<const W: usize>(opcode: OpA, size: u8, mask: u16) -> bool
     requires width { IsWidth W }
     requires small { size ≤ 6 }
@@ -51,7 +51,8 @@ fn has_lanes<const W: usize>(opcode: OpA, size: u8, mask: u16) -> bool
     }
 }
 
-/// Whether what a beat has of its own breaks no rule where it goes on with a message, and it isn't corrupt.
+/// Whether the fields that a beat has of its own break no rule in a beat that continues a message, and it isn't
+/// corrupt.
 fn is_fit<const W: usize>(channel: Channel, beat: &Beat<W>) -> bool
     requires width { IsWidth W }
     ensures fit { OnTrue result (IsFit channel beat.now) }
@@ -67,13 +68,13 @@ fn is_fit<const W: usize>(channel: Channel, beat: &Beat<W>) -> bool
     }
 }
 
-/// What a manager keeps of a link.
+/// The state of a link.
 #[derive(Drop)]
 pub struct LinkState<const W: usize> {
     pub level: Level,
-    /// The beats of channel A.
+    /// The unfinished burst of channel A.
     pub requests: Assembler<W>,
-    /// The beats of channel C.
+    /// The unfinished burst of channel C.
     pub reports: Assembler<W>,
     /// A beat was refused.
     pub closed: bool,
@@ -82,7 +83,7 @@ pub struct LinkState<const W: usize> {
 impl<const W: usize> LinkState<W> {
     ghost use Rattle.tl_manager.specs.code.Fresh.{fresh_link_state};
 
-    /// A link of this level on which nothing came.
+    /// A link of this level without any beat.
     pub fn new(level: Level) -> Self
         ensures { result ≡ fresh_link_state level }
     {
@@ -94,7 +95,7 @@ impl<const W: usize> LinkState<W> {
         }
     }
 
-    /// What a client's beat is to its burst, or S1 where it differs in a control field.
+    /// The place of a client's beat in its burst. The error is S1 if a control field differs.
     pub fn part(&self, beat: &Beat<W>) -> Result<Part, Broken>
         requires width { IsWidth W }
         requires takeable { IsTakeable beat.now }
@@ -108,8 +109,7 @@ impl<const W: usize> LinkState<W> {
         }
     }
 
-    /// Takes a client's beat that goes on with its burst: whether it completes a message, which is written where it is
-    /// to stand.
+    /// Takes a client's beat, and returns whether it completes a message. Writes that message into `message`.
     pub fn take(&mut self, beat: &Beat<W>, message: &mut Message<W>) -> bool
         requires width { IsWidth W }
         requires takeable { IsTakeable beat.now }
@@ -135,7 +135,7 @@ impl<const W: usize> LinkState<W> {
         }
     }
 
-    /// Whether the burst has begun that a client's beat would be of.
+    /// Whether the burst of a client's beat is unfinished.
     fn has_begun(&self, beat: &Beat<W>) -> bool
         ensures { result ≡ not (is_empty (burst_for self.now.requests self.now.reports beat.now)) }
     {
@@ -146,7 +146,7 @@ impl<const W: usize> LinkState<W> {
         }
     }
 
-    /// Takes a beat that goes on with its message and doesn't complete it: whether it was taken. Otherwise nothing
+    /// Takes a beat that continues its message and doesn't complete it, and returns whether it did. Otherwise nothing
     /// changes.
     fn grows(&mut self, beat: &Beat<W>) -> bool
         requires width { IsWidth W }
@@ -167,9 +167,9 @@ impl<const W: usize> LinkState<W> {
         }
     }
 
-    /// Takes a beat that goes on with its message and doesn't complete it, where the link isn't closed, and what the
-    /// beat has of its own breaks no rule and isn't corrupt: whether it was taken. Otherwise nothing changes. Such a
-    /// beat breaks no rule by itself where those before it break none, since they have its control fields.
+    /// Takes a beat that continues its message and doesn't complete it, and returns whether it did. The link must not
+    /// be closed, the fields that the beat has of its own must break no rule, and it must not be corrupt. Otherwise
+    /// nothing changes. Such a beat breaks no L rule if the beats before it break none: it has their control fields.
     pub fn goes_on(&mut self, channel: Channel, beat: &Beat<W>) -> bool
         requires width { IsWidth W }
         ensures theirs { OnTrue result (is_from_client beat.now ≡ true) }
@@ -195,7 +195,7 @@ impl<const W: usize> LinkState<W> {
         self.grows(beat)
     }
 
-    /// Whether the request that isn't complete has this source.
+    /// Whether the unfinished request has this source.
     fn comes_in_request(&self, source: u8) -> bool
         requires { IsWidth W }
         ensures { result ≡ comes_in_request source self.now.requests }
@@ -206,7 +206,7 @@ impl<const W: usize> LinkState<W> {
         }
     }
 
-    /// Whether the message of channel C that isn't complete is a Release with this source.
+    /// Whether the unfinished message of channel C is a Release with this source.
     fn comes_with(&self, source: u8) -> bool
         requires { IsWidth W }
         ensures { result ≡ comes_in_release source self.now.reports }
@@ -217,7 +217,7 @@ impl<const W: usize> LinkState<W> {
         }
     }
 
-    /// Whether the message of channel C that isn't complete is a Release of this block.
+    /// Whether the unfinished message of channel C is a Release of this block.
     fn comes_of(&self, block: u32) -> bool
         requires { IsWidth W }
         ensures { result ≡ comes_of block self.now.reports }
@@ -229,7 +229,7 @@ impl<const W: usize> LinkState<W> {
     }
 }
 
-/// What a ProbeAck depends on of the Probe for a tracker's request.
+/// The fields on which a ProbeAck depends, of the Probe for a tracker's request.
 fn probe_for<const W: usize>(tracker: &Tracker<W>) -> Option<Probe>
     ensures { result ≡ probe_in (request_in tracker.now) }
 {
@@ -241,7 +241,7 @@ fn probe_for<const W: usize>(tracker: &Tracker<W>) -> Option<Probe>
     })
 }
 
-/// A link with what is kept of the blocks: what the messages of its client are judged by.
+/// A link with the state of the blocks: the history by which the messages of its client are judged.
 #[derive(Drop)]
 pub struct LinkPast<'a, const W: usize, D: Directory> {
     pub link: Link,

@@ -21,17 +21,17 @@ use tl_rules::param::{Cap, Grow};
 use tl_rules::perm::Perm;
 use tl_rules::profile::Profile;
 
-/// Messages, each with the link on which it is handed out, in order.
+/// Messages, in order, each with the link on which it is handed out.
 pub type Handed<const W: usize> = ArrayVec<(Link, Message<W>), MOST_CLIENTS>;
 
-/// What is handed out for a beat: seldom more than one message.
+/// The messages that are handed out for a beat, in compact form.
 #[derive(Clone, Copy, Debug, PartialEq, Eq)]
 pub enum Outbox<const W: usize> {
     /// No message.
     Nothing,
-    /// One, on this link.
+    /// One message, on this link.
     One((Link, Message<W>)),
-    /// A Probe of a block for each client whose bit is set, the lowest first.
+    /// A Probe of a block for each client whose bit is set, the lowest client first.
     Probes { block: u16, cap: Cap, clients: u16 },
 }
 
@@ -53,7 +53,7 @@ pub fn probe<const W: usize>(block: u32, cap: Cap) -> Message<W>
     })
 }
 
-/// Probes of a block for the clients whose bit is set, the lowest first.
+/// Probes of a block for the clients whose bit is set, the lowest client first.
 fn probes<const W: usize>(block: u32, cap: Cap, clients: u16) -> Handed<W>
     requires width { IsWidth W }
     requires small { block < 2 ^ 26 }
@@ -70,7 +70,7 @@ fn probes<const W: usize>(block: u32, cap: Cap, clients: u16) -> Handed<W>
 }
 
 impl<const W: usize> Outbox<W> {
-    /// Its messages, in order.
+    /// The messages, in order.
     pub fn handed(self) -> Handed<W>
         requires { IsWidth W }
         ensures { result.items ≡ messages_of self.entry }
@@ -91,7 +91,7 @@ impl<const W: usize> Outbox<W> {
     }
 }
 
-/// An answer without sink, to a request.
+/// An answer without sink to a request.
 fn answer_with<const W: usize>(opcode: OpD, payload: [u8; 64], request: &MessageA<W>) -> Message<W>
     ensures { result ≡ Handing.answer_with opcode payload request.now }
 {
@@ -134,7 +134,7 @@ pub fn release_ack<const W: usize>(source: u8) -> Message<W>
     })
 }
 
-/// The cap of a Grant, by whether no client is recorded with a copy.
+/// The cap of a Grant. `unheld` says that no client is recorded with a copy.
 pub fn cap_granted(profile: Profile, opcode: OpA, param: u8, unheld: bool) -> Cap
     ensures { result ≡ Handing.cap_granted profile opcode param unheld }
 {
@@ -147,7 +147,7 @@ pub fn cap_granted(profile: Profile, opcode: OpA, param: u8, unheld: bool) -> Ca
     }
 }
 
-/// Whether a Grant carries the block, by what its client is recorded to hold.
+/// Whether a Grant carries the block, by the permission that its client is recorded with.
 pub fn is_granted_data(opcode: OpA, param: u8, held: Perm) -> bool
     ensures { result ≡ Handing.is_granted_data opcode param held }
 {
@@ -176,7 +176,7 @@ fn grant_of_fields<const W: usize>(
     })
 }
 
-/// A Grant, with the bytes of its block where it carries them.
+/// A Grant, with the bytes of its block if it carries them.
 pub fn grant<const W: usize>(source: u8, sink: u8, cap: Cap, bytes: Option<[u8; 64]>) -> Message<W>
     ensures { result ≡ Granting.grant_of source sink cap bytes }
 {

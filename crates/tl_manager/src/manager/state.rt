@@ -63,7 +63,7 @@ fn is_last(part: Part) -> bool
     matches!(part, Part::Last | Part::Only)
 }
 
-/// Whether a beat that was judged so waits.
+/// Whether the judgement is that the beat waits.
 pub fn is_waiting(judged: Result<Admission, Rule>) -> bool
     ensures { result ≡ is_stall judged }
 {
@@ -74,14 +74,14 @@ pub fn is_waiting(judged: Result<Admission, Rule>) -> bool
     }
 }
 
-/// What a manager keeps.
+/// The state of a manager.
 #[derive(Drop)]
 pub struct ManagerState<const W: usize, D: Directory> {
     pub link_states: Vec<LinkState<W>>,
     pub block_state: BlockState<W, D>,
 }
 
-/// The links of these clients, on which nothing came.
+/// The links of these clients, without any beat.
 fn link_states_for<const W: usize>(
     alloc: Global,
     clients: &[ClientConfig],
@@ -102,8 +102,8 @@ impl<const W: usize, D: Directory> ManagerState<W, D> {
     ghost use Rattle.tl_manager.specs.code.PartIs.{IsPartOf};
     ghost use Rattle.tl_manager.specs.code.Fresh.{IsNew};
 
-    /// The links and blocks of a configuration, with a fresh directory that covers it: the first limit
-    /// that is broken, in the order N1 to N4, or want of memory.
+    /// The links and blocks of a configuration, with a new directory that covers it. The error is the first limit that
+    /// is broken, in the order N1 to N4, or `Memory`.
     pub fn new(alloc: Global, config: &Config, directory: D) -> Result<Self, NewFault>
         requires width { IsWidth W }
         requires fresh { (block client : ℕ) → D.perm_of directory block client ≡ perm.None }
@@ -141,7 +141,7 @@ impl<const W: usize, D: Directory> ManagerState<W, D> {
         }
     }
 
-    /// Whether a beat may have to wait: that of a request may, where its block is in service or no tracker is free.
+    /// Whether a beat may have to wait: it is of a request, and its block is in service or no tracker is free.
     fn may_wait(&self, beat: &Beat<W>) -> bool
         ensures { result ≡ false → (config : Config) (e : End W) (link : Link) → Knows D.perm_of self.now config e →
             Offer.must_wait config link beat.now e.trace ≡ false }
@@ -152,7 +152,7 @@ impl<const W: usize, D: Directory> ManagerState<W, D> {
         }
     }
 
-    /// Whether a beat is the last of a request that can't be served yet.
+    /// Whether a beat completes a request that can't be served yet.
     fn must_wait(&self, beat: &Beat<W>, part: Part) -> bool
         ensures { (config : Config) (e : End W) (link : Link) → Knows D.perm_of self.now config e →
             IsPartOf beat.now part (on_link link.0 e.trace) →
@@ -164,7 +164,7 @@ impl<const W: usize, D: Directory> ManagerState<W, D> {
         }
     }
 
-    /// The rule of the order of messages that a beat breaks which goes on with its burst.
+    /// The S or H rule that a beat breaks.
     fn broken(
         &self,
         link: Link,
@@ -190,7 +190,7 @@ impl<const W: usize, D: Directory> ManagerState<W, D> {
         broken_order(self.block_state.profile, beat, &past)
     }
 
-    /// The rule that a beat breaks which breaks no L rule, or whether it waits or passes.
+    /// The judgement of a beat that breaks no L rule. The error is the first rule that it breaks.
     fn judge_order(
         &self,
         link: Link,
@@ -214,7 +214,7 @@ impl<const W: usize, D: Directory> ManagerState<W, D> {
         admit(broken, waits, outside, is_spoiled(beat))
     }
 
-    /// The rule that a beat breaks, or whether it waits or passes.
+    /// The judgement of a beat. The error is the first rule that it breaks.
     pub fn judge(&self, link: Link, channel: Channel, beat: &Beat<W>) -> Result<Admission, Rule>
         requires known { IsManager D.perm_of D.blocks D.clients self.now }
         ensures judged { (config : Config) (e : End W) → Knows D.perm_of self.now config e →
@@ -244,7 +244,7 @@ impl<const W: usize, D: Directory> ManagerState<W, D> {
         self.may_wait(beat) && is_waiting(self.judge(link, channel, beat))
     }
 
-    /// The level of a link that takes beats.
+    /// The level of a link that isn't closed.
     pub fn open_level(&self, link: Link) -> Option<Level>
         ensures { (config : Config) (e : End W) → Knows D.perm_of self.now config e →
             result ≡ open_level config link e }
@@ -255,7 +255,7 @@ impl<const W: usize, D: Directory> ManagerState<W, D> {
         }
     }
 
-    /// What the client of a link is recorded to hold of a block.
+    /// The permission that the client of a link is recorded with for a block.
     pub fn recorded(&self, link: Link, block: u32) -> Perm
         requires known { IsManager D.perm_of D.blocks D.clients self.now }
         ensures { (config : Config) (e : End W) → Knows D.perm_of self.now config e →
@@ -281,7 +281,7 @@ impl<const W: usize, D: Directory> ManagerState<W, D> {
         self.block_state.trackers.of_block(block).awaits_grant(link)
     }
 
-    /// Replaces a block whole.
+    /// Replaces all bytes of a block.
     pub fn write_block(&mut self, block: u32, bytes: &[u8; 64])
         ensures knows { (config : Config) (e : End W) → Knows D.perm_of self.old config e →
             Knows D.perm_of self.new config (with_memory (with_block block bytes.now e.memory) e) }
@@ -295,7 +295,7 @@ impl<const W: usize, D: Directory> ManagerState<W, D> {
         }
     }
 
-    /// Whether a message of channel C has begun on a link and isn't complete.
+    /// Whether a message of channel C is unfinished on a link.
     pub fn is_reporting(&self, link: Link) -> bool
         ensures { (config : Config) (e : End W) → Knows D.perm_of self.now config e →
             result ≡ not (is_empty (unfinished Channel.C (on_link link.0 e.trace))) }
@@ -307,7 +307,7 @@ impl<const W: usize, D: Directory> ManagerState<W, D> {
         self.link_states[number].reports.has_begun()
     }
 
-    /// Whether a link takes no beats: it was closed, or there is no such link.
+    /// Whether a link takes no beats, since it is closed or there is no such link.
     pub fn closed(&self, link: Link) -> bool
         ensures { (config : Config) (e : End W) → Knows D.perm_of self.now config e →
             result ≡ is_none (open_level config link e) }
@@ -318,7 +318,7 @@ impl<const W: usize, D: Directory> ManagerState<W, D> {
         }
     }
 
-    /// Closes a link, by a beat that was refused.
+    /// Closes a link, after a beat was refused.
     pub fn refuse(&mut self, link: Link)
         ensures knows { (config : Config) (e : End W) → Knows D.perm_of self.old config e →
             Knows D.perm_of self.new config (refused link e) }
@@ -331,8 +331,8 @@ impl<const W: usize, D: Directory> ManagerState<W, D> {
         }
     }
 
-    /// Takes a beat that goes on with its message and doesn't complete it, where it passes: whether it was taken.
-    /// Otherwise nothing changes. Such a beat is of a block of the map, as those before it are.
+    /// Takes a beat that passes, continues its message and doesn't complete it, and returns whether it did. Otherwise
+    /// nothing changes. Such a beat is inside the map, as those before it are.
     pub fn goes_on(&mut self, link: Link, channel: Channel, beat: &Beat<W>) -> bool
         requires known { IsManager D.perm_of D.blocks D.clients self.old }
         ensures passes { OnTrue result ((config : Config) (e : End W) → Knows D.perm_of self.old config e →
@@ -348,7 +348,7 @@ impl<const W: usize, D: Directory> ManagerState<W, D> {
         self.link_states[number].goes_on(channel, beat)
     }
 
-    /// Takes a beat that passes: the messages that are handed out for it.
+    /// Takes a beat that passes, and writes the messages that are handed out into `outbox`.
     pub fn take(&mut self, link: Link, beat: &Beat<W>, outbox: &mut Outbox<W>)
         requires known { IsManager D.perm_of D.blocks D.clients self.old }
         requires link { link.0 < length self.old.link_states.items }

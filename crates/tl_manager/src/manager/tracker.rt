@@ -9,12 +9,12 @@ use tl_burst::message::MessageA;
 use tl_rules::key::block_at;
 use tl_rules::kind::is_acquire;
 
-/// What a tracker keeps.
+/// The state of a tracker.
 #[derive(Clone, Copy)]
 pub enum Tracker<const W: usize> {
     /// It has no request.
     Free,
-    /// Its request waits for ProbeAcks: those of the clients whose bit is set.
+    /// Its request waits for the ProbeAcks of the clients whose bit is set.
     Probing {
         link: Link,
         request: MessageA<W>,
@@ -37,7 +37,7 @@ impl<const W: usize> Tracker<W> {
         matches!(self, Tracker::Free)
     }
 
-    /// Whether its request is of the block.
+    /// Whether its request is for the block.
     pub fn is_of(&self, block: u32) -> bool
         ensures { result ≡ Tracking.is_of block self.now }
     {
@@ -48,7 +48,7 @@ impl<const W: usize> Tracker<W> {
         }
     }
 
-    /// Whether its request came on the link with this source, and isn't answered.
+    /// Whether its request came on the link with this source and isn't answered.
     pub fn serves_source(&self, link: Link, source: u8) -> bool
         ensures { result ≡ Tracking.serves_source link.0 source self.now }
     {
@@ -66,7 +66,7 @@ impl<const W: usize> Tracker<W> {
 impl<const W: usize> Tracker<W> {
     ghost use Rattle.tl_manager.specs.code.Tracking;
 
-    /// Its request, which isn't answered.
+    /// Its request, if that isn't answered.
     pub fn request(&self) -> Option<MessageA<W>>
         ensures { result ≡ Tracking.request_in self.now }
     {
@@ -76,7 +76,7 @@ impl<const W: usize> Tracker<W> {
         }
     }
 
-    /// Whether its request is an Acquire of this client, which isn't granted.
+    /// Whether its request is an Acquire of this client and isn't granted.
     pub fn awaits_grant(&self, client: Link) -> bool
         ensures { result ≡ Tracking.awaits_grant client.0 self.now }
     {
@@ -110,7 +110,7 @@ impl<const W: usize> Tracker<W> {
     }
 }
 
-/// The trackers, of which this many may be taken, at most eight. From the number `used` on all are free.
+/// The trackers: eight, of which `count` may be used. From the number `used` on all are free.
 #[derive(Clone, Copy)]
 pub struct Trackers<const W: usize> {
     pub all: [Tracker<W>; 8],
@@ -124,7 +124,7 @@ impl<const W: usize> Trackers<W> {
     ghost use Rattle.tl_manager.specs.code.Tracking;
     ghost use Rattle.tl_manager.specs.code.Trackers.{tracker_at, IsAsked, IsOfBlock};
 
-    /// This many free ones.
+    /// Trackers of which this many may be used, all free.
     pub fn new(count: u8) -> Self
         ensures free { (n : ℕ) → tracker_at result n ≡ Tracker.Free }
         ensures count { result.count ≡ count }
@@ -146,7 +146,7 @@ impl<const W: usize> Trackers<W> {
         }
     }
 
-    /// The tracker with this number, where it stands.
+    /// The tracker with this number, by reference.
     fn look(&self, number: u8) -> &Tracker<W>
         requires { number < 8 }
         ensures { result.now ≡ tracker_at self.now number }
@@ -154,7 +154,7 @@ impl<const W: usize> Trackers<W> {
         &self.all[usize::from(number)]
     }
 
-    /// The least number of a free one, eight where none is.
+    /// The least number of a free tracker; 8 if none is free.
     fn least_unused(&self) -> u8
         ensures free { Tracking.is_free (tracker_at self.now result) ≡ true }
         ensures least { (i : ℕ) → i < result → Tracking.is_free (tracker_at self.now i) ≡ false }
@@ -167,7 +167,7 @@ impl<const W: usize> Trackers<W> {
         self.used
     }
 
-    /// The least free one.
+    /// The least number of a free tracker that may be used, if there is one.
     pub fn least_free(&self) -> Option<u8>
         ensures free { IfSome result (λ n. (n < self.now.count) × (Tracking.is_free (tracker_at self.now n) ≡ true)
             × ((i : ℕ) → i < n → Tracking.is_free (tracker_at self.now i) ≡ false)) }
@@ -181,7 +181,7 @@ impl<const W: usize> Trackers<W> {
         }
     }
 
-    /// The one whose request is of the block.
+    /// The number of the tracker whose request is for the block, if there is one.
     pub fn serving(&self, block: u32) -> Option<u8>
         ensures found { IfSome result (λ n. (n < 8) × (Tracking.is_of block (tracker_at self.now n) ≡ true)) }
         ensures none { result ≡ None → (i : ℕ) → Tracking.is_of block (tracker_at self.now i) ≡ false }
@@ -194,7 +194,7 @@ impl<const W: usize> Trackers<W> {
         None
     }
 
-    /// The request that came on the link with this source and isn't answered.
+    /// The request that came on the link with this source and isn't answered, if there is one.
     pub fn asked(&self, link: Link, source: u8) -> Option<MessageA<W>>
         ensures { IsAsked self.now link.0 source result }
     {
@@ -207,7 +207,7 @@ impl<const W: usize> Trackers<W> {
         None
     }
 
-    /// The one whose request is of the block, or a free one where there is none.
+    /// The tracker whose request is for the block; a free one if there is none.
     pub fn of_block(&self, block: u32) -> Tracker<W>
         ensures { IsOfBlock self.now block result }
     {
@@ -217,7 +217,7 @@ impl<const W: usize> Trackers<W> {
         }
     }
 
-    /// From which number on all are free, where the one with this number becomes free or not.
+    /// The number from which on all trackers are free, after the one with this number becomes free or used.
     fn used_with(&self, number: u8, free: bool) -> u8
         requires { number < 8 }
         ensures few { result ≤ 8 }
@@ -233,7 +233,7 @@ impl<const W: usize> Trackers<W> {
         }
     }
 
-    /// Changes what one tracker keeps.
+    /// Sets the state of one tracker.
     pub fn set(&mut self, number: u8, tracker: Tracker<W>)
         requires { number < 8 }
         ensures trackers { (n : ℕ) →

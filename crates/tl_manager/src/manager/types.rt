@@ -1,4 +1,4 @@
-//! What the types of beats and messages say.
+//! The facts that the types of beats and messages give.
 
 ghost use Rattle.std.specs.Prelude.{◌≡◌, length};
 ghost use Rattle.tl_beat.specs.statement.Width.{IsWidth};

@@ -2,7 +2,7 @@
 use Rattle.std.specs.Prelude.{false, ◌≡◌}
 use Rattle.tl_partner.specs.declared.terms.Terms.{Terms}
 
--- no liberty is granted of those that a partner grants
+-- none of the liberties of a partner is granted
 pub record GrantsNone (terms : Terms) : Type 0 where
   pub ids : terms.ids ≡ false
   pub drops : terms.drops ≡ false

@@ -1,4 +1,4 @@
--- Releases by which a client writes its copy back and keeps it (`reports`).
+-- Cleanings: Releases by which a client writes its copy back and keeps it (`reports`).
 use Rattle.std.specs.Prelude.{ℕ, Bool, false, not, List, [], ◌∷◌, ◌&&◌, ◌||◌, if◌then◌else◌, Option, Some, None}
 use Rattle.std.specs.Prelude.{length, replicate, slice_index_or, slice_set}
 use Rattle.tl_beat.specs.declared.beat.Beat.{Beat}
@@ -29,41 +29,42 @@ use Rattle.tl_manager.specs.statement.Offer.{open_level, refused}
 use Rattle.tl_manager.specs.statement.Reaction.{written}
 use Rattle.tl_partner.specs.statement.Dropping.{after_drop, is_reporting}
 
--- ---- which beats are meant
+-- ---- the beats of a cleaning
 
--- the report leaves what it starts from
+-- there is a report, and it leaves the permission from which it starts
 abbrev pub keeps_held : Option Report → Bool
 keeps_held None = false
 keeps_held (Some report) = same_perm (report_left report) (report_right report)
 
--- a Release or ReleaseData that leaves what it starts from
+-- the beat is of a Release or ReleaseData whose report leaves the permission from which it starts
 abbrev pub is_cleaning : {w : ℕ} → Liberties → Beat w → Bool
 is_cleaning l (beat.C x) = l.reports && (is_release x.opcode && keeps_held (report_named x.param))
 is_cleaning l x = false
 
--- the beat begins such a message, or comes on channel C while one isn't complete that has these beats
+-- the beat begins a cleaning, or comes on channel C while a cleaning is unfinished; `burst` has its beats
 abbrev pub is_of_cleaning : {w : ℕ} → Liberties → Beat w → List (Beat w) → Bool
 is_of_cleaning l (beat.C x) burst = not (is_empty burst) || is_cleaning l (beat.C x)
 is_of_cleaning l x burst = false
 
 -- ---- the end of a manager whose clients have liberties
 
--- the manager's end, and the beats of each link's cleaning that isn't complete, the newest first
+-- the manager's end, and the beats of each link's unfinished cleaning, the newest first
 pub record PartnerEnd (w : ℕ) : Type 0 where
   pub manager : End w
   pub cleanings : List (List (Beat w))
 
--- as it begins: nothing was taken, and nothing is being cleaned
+-- the end at the start: nothing taken, and no cleaning unfinished
 abbrev pub fresh_partner : {w : ℕ} → Config → PartnerEnd w
 fresh_partner config = record { manager = fresh; cleanings = replicate (length config.clients.items) [] }
 
+-- the beats of a link's unfinished cleaning, the newest first
 abbrev pub cleaning_on : {w : ℕ} → Link → PartnerEnd w → List (Beat w)
 cleaning_on link e = slice_index_or e.cleanings link.0 []
 
 -- ---- judging
 
--- The rule of order that a cleaning breaks as it begins: S1 while another message of channel C isn't complete; H13
--- while an Acquire of its block is pending, or where it doesn't start from what is recorded.
+-- The rule of order that a cleaning breaks at its first beat: S1 while another message of channel C is unfinished; H13
+-- while an Acquire of its block is pending, or if it doesn't start from the permission recorded.
 abbrev pub cleaning_rule : {w : ℕ} → Liberties → Link → Beat w → Trace w → Option Rule
 cleaning_rule l link (beat.C x) t =
     first_if (is_reporting link t) S1
@@ -71,11 +72,12 @@ cleaning_rule l link (beat.C x) t =
     (releases_from l x.param (recorded link.0 (block_at x.address) t))) H13 None)
 cleaning_rule l link x t = None
 
+-- the rule of order that a beat of a cleaning breaks; `burst` has the earlier beats of the cleaning
 abbrev pub cleaning_order : {w : ℕ} → Liberties → Link → Beat w → List (Beat w) → Trace w → Option Rule
 cleaning_order l link x burst t =
     if is_empty burst then cleaning_rule l link x t else first_if (breaks_burst x burst) S1 None
 
--- how a beat of a cleaning is judged on a link of this level, of which these beats came before
+-- the judgement of a beat of a cleaning on a link of this level; `burst` has the earlier beats of the cleaning
 abbrev pub judged_cleaning : {w : ℕ} → Liberties → Config → Option Level → Link → Channel → Beat w → List (Beat w)
     → Trace w → Judgement
 judged_cleaning l config None link ch x burst t = Breaks A3
@@ -84,38 +86,40 @@ judged_cleaning l config (Some level) link ch x burst t =
     (breaks_or (cleaning_order l link x burst t)
     (breaks_or (first_if (is_outside config.blocks x) A1 (first_if (is_spoiled x) A2 None)) Passes))
 
--- ---- what is done
+-- ---- the effect of a cleaning
 
--- the manager's end where the client says that it holds nothing of a block
+-- the manager's end after the client said that it holds None of the block
 abbrev pub forgotten : {w : ℕ} → Config → Link → ℕ → End w → End w
 forgotten config link block e =
     if has_copy (recorded link.0 block e.trace) then after_drop config link block e else e
 
--- the manager's end once a cleaning is complete that has these beats: its data replace its block, and by the report
--- NtoN nothing is held, whatever was
+-- The manager's end after a cleaning with these beats: its data replace the block or, after the report NtoN, the client
+-- holds None, whatever was recorded.
 abbrev pub cleaned_by : {w : ℕ} → Config → Link → BeatC w → List (Beat w) → End w → End w
 cleaned_by config link x beats e =
     if reports_none x.param
     then forgotten config link (block_at x.address) e
     else with_memory (written x beats e.memory) e
 
+-- the manager's end after a cleaning with these beats, the newest of which is x
 abbrev pub cleaned : {w : ℕ} → Config → Link → Beat w → List (Beat w) → End w → End w
 cleaned config link (beat.C x) beats e = cleaned_by config link x beats e
 cleaned config link x beats e = e
 
+-- the answer to the last beat of a cleaning: a ReleaseAck
 abbrev pub answer_of_cleaning : {w : ℕ} → Link → Beat w → Reception w
 answer_of_cleaning link (beat.C x) = Sent ((link, release_ack x.source) ∷ [])
 answer_of_cleaning link x = Sent []
 
--- with these beats as the link's cleaning that isn't complete
+-- the end with this manager, and with these beats as the link's unfinished cleaning
 abbrev pub with_cleaning : {w : ℕ} → Link → List (Beat w) → End w → PartnerEnd w → PartnerEnd w
 with_cleaning link burst manager e = record { manager = manager; cleanings = slice_set e.cleanings link.0 burst }
 
--- a link is closed
+-- the end with this link closed
 abbrev pub refused_on : {w : ℕ} → Link → PartnerEnd w → PartnerEnd w
 refused_on link e = record { manager = refused link e.manager; cleanings = e.cleanings }
 
--- a beat of a cleaning that was judged so: it is answered with its last beat
+-- the answer to a beat of a cleaning with this judgement; a cleaning is answered at its last beat
 abbrev pub cleaning_as : {w : ℕ} → Judgement → Config → Link → Beat w → PartnerEnd w → Reception w × PartnerEnd w
 cleaning_as (Breaks rule) config link x e = (Refused rule, refused_on link e)
 cleaning_as Waits config link x e = (Stalled, e)
@@ -127,7 +131,7 @@ cleaning_as Passes config link x e =
     )
     else (Sent [], with_cleaning link (x ∷ cleaning_on link e) e.manager e)
 
--- how a beat of a cleaning is answered, and the end afterwards
+-- the answer to a beat of a cleaning, and the end afterwards
 abbrev pub offered_cleaning : {w : ℕ} → Liberties → Config → Link → Channel → Beat w → PartnerEnd w
     → Reception w × PartnerEnd w
 offered_cleaning l config link ch x e =

@@ -1,4 +1,4 @@
--- Copies that a client gave up without a word (`drops`).
+-- Dropped copies: those that a client gave up without a message (`drops`).
 use Rattle.std.specs.Prelude.{ℕ, Bool, true, false, not, None, ◌&&◌, ◌*◌, refl}
 use Rattle.tl_beat.specs.declared.beat.Beat.{Beat}
 use Rattle.tl_beat.specs.declared.beat.Beat.TheVariants as beat
@@ -24,13 +24,13 @@ use Rattle.tl_manager.specs.statement.Holders.{recorded}
 use Rattle.tl_manager.specs.statement.Offer.{Judgement, Breaks, judged, offered}
 use Rattle.tl_partner.specs.declared.terms.Terms.{Terms}
 
--- the beat says that its client holds nothing of its block: an Acquire NtoB or NtoT, a ProbeAck NtoN
+-- the beat says that its client holds None of its block: an Acquire NtoB or NtoT, or a ProbeAck NtoN
 abbrev pub says_none : {w : ℕ} → Beat w → Bool
 says_none (beat.A x) = is_acquire x.opcode && grows_from_none x.param
 says_none (beat.C x) = is_probe_ack x.opcode && reports_none x.param
 says_none x = false
 
--- the block of a beat of a client
+-- the block of a beat; 0 for a beat without address
 abbrev pub block_of : {w : ℕ} → Beat w → ℕ
 block_of (beat.A x) = block_at x.address
 block_of (beat.B x) = block_at x.address
@@ -38,23 +38,23 @@ block_of (beat.C x) = block_at x.address
 block_of (beat.D x) = 0
 block_of (beat.E x) = 0
 
--- a message breaks this rule by what its client is recorded to hold, and no rule before it
+-- the first rule that the message breaks is H5 or H12, which depend on the permission recorded
 abbrev pub is_by_record : Judgement → Bool
 is_by_record (Breaks H5) = true
 is_by_record (Breaks H12) = true
 is_by_record j = false
 
--- with `drops` the beat says that nothing is held of a block of which its client is recorded with a copy
+-- under `drops` the beat shows that its client dropped a copy which the manager has recorded
 abbrev pub is_drop : {w : ℕ} → Terms → Config → Link → Channel → Beat w → End w → Bool
 is_drop terms config link ch x e =
     terms.drops && (says_none x && is_by_record (judged config link ch x e))
 
--- what a Release does that leaves nothing of this
+-- the prune of a Release that gives up this permission
 abbrev pub prune_from : Perm → Prune
 prune_from perm.Trunk = prune.TtoN
 prune_from p = prune.BtoN
 
--- the Release without data by which a client says that it gives up what it holds of a block
+-- the Release without data by which a client gives up this permission of a block
 abbrev pub release_of : {w : ℕ} → ℕ → Perm → BeatC w
 release_of block p = record {
   opcode = c.Release;
@@ -67,14 +67,15 @@ release_of block p = record {
   carries = refl;
 }
 
+-- the same as a beat of any channel
 abbrev pub release_beat : {w : ℕ} → ℕ → Perm → Beat w
 release_beat block p = beat.C (release_of block p)
 
--- the manager's end as if the client had said so, and been answered
+-- the manager's end after it took this Release for the client, with the permission recorded
 abbrev pub after_drop : {w : ℕ} → Config → Link → ℕ → End w → End w
 after_drop config link block e =
     (offered config link channel.C (release_beat block (recorded link.0 block e.trace)) e).1
 
--- a message of channel C has begun on the link and isn't complete, so that no Release can be said
+-- a message of channel C is unfinished on the link, so the Release can't come now
 abbrev pub is_reporting : {w : ℕ} → Link → Trace w → Bool
 is_reporting link t = not (is_empty (unfinished channel.C (on_link link.0 t)))

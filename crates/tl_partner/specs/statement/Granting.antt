@@ -3,7 +3,7 @@ use Rattle.std.specs.Prelude.{ℕ, Bool, false, not, ◌||◌, if◌then◌else�
 use Rattle.tl_params.specs.declared.liberties.Liberties.{Liberties}
 use Rattle.tl_partner.specs.declared.terms.Terms.{Terms}
 
--- the liberties of a link whose client has these terms
+-- the liberties of a link, by its client's terms
 abbrev pub granted : Terms → Liberties
 granted terms = record {
   ids = terms.ids;
@@ -20,11 +20,11 @@ granted terms = record {
 abbrev pub no_terms : Terms
 no_terms = record { ids = false; drops = false; reports = false; sources = replicate 16 0 }
 
--- A manager can grant these: all are what its clients do, or `writer`, which is its profile.
+-- a manager can grant these: each is one of its clients' liberties, or `writer`, which is its profile
 abbrev pub may_grant : Liberties → Bool
 may_grant l = not (l.sinks || (l.early || (l.denied || l.uncorrupt)))
 
--- the terms by which clients have these liberties, whose Probes have these sources, where a manager can grant them
+-- the terms for clients with these liberties, with these sources of Probes; None if a manager can't grant them
 abbrev pub terms_of : Liberties → List ℕ → Option Terms
 terms_of l sources =
     if may_grant l

@@ -11,11 +11,11 @@ use Rattle.tl_rules.specs.statement.History.{is_probe_ack}
 use Rattle.tl_manager.specs.statement.Handing.{Handed}
 use Rattle.tl_partner.specs.declared.terms.Terms.{Terms}
 
--- the source that was chosen for the Probes of a link
+-- the source of the Probes of a link
 abbrev pub probe_source : Terms → ℕ → ℕ
 probe_source terms link = slice_index_or terms.sources link 0
 
--- a Probe with the source of its link
+-- the Probe with this source
 abbrev pub with_source : {w : ℕ} → ℕ → MessageB w → MessageB w
 with_source source m = record {
   opcode = m.opcode;
@@ -29,17 +29,17 @@ with_source source m = record {
   small = m.small;
 }
 
--- a message that is handed out on a link: with `ids` a Probe has the source of the link's Probes
+-- the message as it is handed out on a link: under `ids` a Probe has the source of the link's Probes
 abbrev pub named : {w : ℕ} → Terms → Link → Message w → Message w
 named terms link (message.B m) =
     if terms.ids then message.B (with_source (probe_source terms link.0) m) else message.B m
 named terms link m = m
 
--- the same of messages that are handed out
+-- the same for several messages
 abbrev pub all_named : {w : ℕ} → Terms → Handed w → Handed w
 all_named terms handed = map (λ x. (x.0, named terms x.0 x.1)) handed
 
--- with `ids` the beat is a ProbeAck with another source than the Probes of its link
+-- under `ids` the beat is a ProbeAck with another source than the Probes of its link
 abbrev pub is_misnamed : {w : ℕ} → Terms → Link → Beat w → Bool
 is_misnamed terms link (beat.C x) =
     terms.ids && (is_probe_ack x.opcode && not (x.source == probe_source terms link.0))
@@ -58,7 +58,7 @@ from_zero x = record {
   carries = x.carries;
 }
 
--- the beat as the first profile has it: with `ids` a ProbeAck has source 0 there
+-- the beat as the first profile has it: under `ids` a ProbeAck gets source 0
 abbrev pub plain : {w : ℕ} → Terms → Beat w → Beat w
 plain terms (beat.C x) = if terms.ids && is_probe_ack x.opcode then beat.C (from_zero x) else beat.C x
 plain terms x = x

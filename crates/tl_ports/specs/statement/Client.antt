@@ -1,4 +1,4 @@
--- A client and the beats that it has still to send, by the definition of a client's end of its link.
+-- A client with the beats that it has still to send, by the definition of a client's end of its link.
 use Rattle.std.specs.Prelude.{ℕ, List, [], ◌≡◌, ◌++◌, drop, slice_get, Option, Some, None, Result, Ok, Err}
 use Rattle.std.specs.Prelude.{if◌then◌else◌}
 use Rattle.tl_beat.specs.declared.beat.Beat.{Beat}
@@ -29,25 +29,25 @@ to_send ch port = waiting 0 ch port.outgoing
 abbrev pub next_beat : {w : ℕ} → Channel → ClientPort w → Option (Beat w)
 next_beat ch port = slice_get (to_send ch port) 0
 
--- the beats that a message adds to a channel, where one is handed out: all of its own channel
+-- the beats that a message adds to a channel, if there is a message: all of its beats to its own channel
 abbrev pub added : {w : ℕ} → Channel → Option (Message w) → List (Beat w)
 added ch None = []
 added ch (Some m) = handed_on 0 ch (record { 0 = 0 }) m
 
--- the message was handed out, where there is one: its beats wait behind those that waited
+-- the message was handed out, if there is one: its beats wait after those that waited
 abbrev pub HandedOut : {w : ℕ} → Option (Message w) → ClientPort w → ClientPort w → Type 0
 HandedOut {w} m old new = (ch : Channel) → to_send ch new ≡ to_send ch old ++ added ch m
 
--- client and what waits are as they were
+-- the client and its waiting beats are as they were
 abbrev pub Unchanged : {w : ℕ} → ClientPort w → ClientPort w → Type 0
 Unchanged old new = (new.client ≡ old.client) × ((ch : Channel) → to_send ch new ≡ to_send ch old)
 
--- the client knows this end in place of that one, and is for the same link
+-- the client now has this end, and its configuration stays
 abbrev pub Moves : {w : ℕ} → ClientPort w → ClientPort w → Endpoint w → Type 0
 Moves old new e = KnowsAny new.client e × (any_terms new.client ≡ any_terms old.client)
 
--- What is told of an operation: the definition's reply, and its message is handed out. Without memory
--- nothing is asked.
+-- The result of `ask`: the definition's reply, and its message is handed out. The error means that there is no memory;
+-- then nothing changes.
 abbrev pub AskTold : {w : ℕ} {E : Type 0} → ClientPort w → ClientPort w → Op w → Result Reply E → Type 0
 AskTold old new op (Err error) = Unchanged old new
 AskTold {w} old new op (Ok reply) = (e : Endpoint w) → KnowsAny old.client e →
@@ -60,11 +60,13 @@ abbrev pub verdict_in : {w : ℕ} → Result (Verdict × Option (Message w)) Rul
 verdict_in (Ok x) = Ok x.0
 verdict_in (Err rule) = Err rule
 
+-- the message that is handed out with an answer, if there is one
 abbrev pub message_in : {w : ℕ} → Result (Verdict × Option (Message w)) Rule → Option (Message w)
 message_in (Ok x) = x.1
 message_in (Err rule) = None
 
--- what is told of a beat, likewise
+-- The result of `offer`: the definition's answer, and its message is handed out. The error means that there is no
+-- memory; then nothing changes.
 abbrev pub OfferTold : {w : ℕ} {E : Type 0} → ClientPort w → ClientPort w → Channel → Beat w
     → Result (Result Verdict Rule) E
     → Type 0
@@ -74,17 +76,17 @@ OfferTold {w} old new ch x (Ok told) = (e : Endpoint w) → KnowsAny old.client 
     × HandedOut (message_in (offered (any_terms old.client) ch x e).answer) old new
     × Moves old new (offered (any_terms old.client) ch x e).after
 
--- the first beat of the channel is gone, and nothing else changed
+-- the first beat of the channel is removed, and nothing else changes
 abbrev pub Popped : {w : ℕ} → Channel → ClientPort w → ClientPort w → Type 0
 Popped ch old new =
     (new.client ≡ old.client)
     × ((c : Channel) → to_send c new ≡ (if same_channel c ch then drop 1 (to_send c old) else to_send c old))
 
--- what a client holds of a block
+-- the permission that a client holds of a block
 abbrev pub held_of : {w : ℕ} → ℕ → Endpoint w → Perm
 held_of block e = held block e.past
 
--- a new client has sent and taken nothing, and nothing waits
+-- a new client has sent and taken nothing, and no beat waits
 abbrev pub IsNewPort : {w : ℕ} → ClientConfig → ℕ → Profile → Result (ClientPort w) NewFault → Type 0
 IsNewPort config blocks profile (Ok port) =
     (client_fault config blocks ≡ None)

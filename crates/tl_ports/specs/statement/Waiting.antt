@@ -10,7 +10,7 @@ use Rattle.tl_burst.specs.statement.Messages.{on}
 use Rattle.tl_rules.specs.statement.Legality.{beats_from}
 use Rattle.tl_ports.specs.declared.outgoing.Outgoing.{Outgoing}
 
--- the beats of a message, the first of them first
+-- the beats of a message, the first beat first
 abbrev pub split : {w : ℕ} → Message w → List (Beat w)
 split m = beats_from m 0 (beats_of m)
 
@@ -22,15 +22,16 @@ is_on_link link ch x = x.0.0 == link && on ch x.1
 abbrev pub waiting : {w : ℕ} → ℕ → Channel → Outgoing w → List (Beat w)
 waiting link ch outgoing = map (λ x. x.1) (filter (λ x. is_on_link link ch x) outgoing.beats.items)
 
--- what a message that is handed out on link `at` adds to a channel of a link: its beats to its own
+-- the beats that a message handed out on link `at` adds to a channel of a link: all of its beats to its own
 abbrev pub handed_on : {w : ℕ} → ℕ → Channel → Link → Message w → List (Beat w)
 handed_on link ch at m = if at.0 == link && on ch (beat_of m 0) then split m else []
 
--- what several messages, each with its link, add to a channel of a link, in order
+-- the beats that several messages, each with its link, add to a channel of a link, in order
 abbrev pub handed_all : {w : ℕ} → ℕ → Channel → List (Link × Message w) → List (Beat w)
 handed_all link ch [] = []
 handed_all link ch (x ∷ handed) = handed_on link ch x.0 x.1 ++ handed_all link ch handed
 
+-- the channels are the same
 abbrev pub same_channel : Channel → Channel → Bool
 same_channel channel.A channel.A = true
 same_channel channel.B channel.B = true
@@ -39,6 +40,6 @@ same_channel channel.D channel.D = true
 same_channel channel.E channel.E = true
 same_channel _ _ = false
 
--- link and channel are those named
+-- link and channel are the given ones
 abbrev pub is_place : ℕ → Channel → ℕ → Channel → Bool
 is_place link ch at channel = at == link && same_channel ch channel

@@ -1,4 +1,4 @@
--- That renaming changes no verdict on all links of a manager together.
+-- Renaming changes no verdict on all links of a manager together.
 use Rattle.std.specs.Prelude.{ℕ, false, ◌≡◌, [], ◌∷◌, List, ⊤}
 use Rattle.tl_beat.specs.declared.beat.Beat.{Beat}
 use Rattle.tl_beat.specs.declared.beat.Link.{Link}
@@ -10,19 +10,19 @@ use Rattle.tl_rules.specs.laws.Typed.{IsTyped}
 use Rattle.tl_rules.specs.statement.Conformance.{Trace}
 use Rattle.tl_together.specs.statement.Coherence.{broken_together, first_breach}
 
--- each beat has as many lanes, and as many bits of mask, as its type says
+-- each beat has the number of lanes and of mask bits of its type
 abbrev pub AreTypedOn : {w : ℕ} → Trace w → Type 0
 AreTypedOn [] = ⊤
 AreTypedOn (x ∷ t) = IsTyped x.1 × AreTypedOn t
 
--- after a renamed trace, of which no beat breaks a rule of its link, a renamed beat breaks the same rule, of its link
--- or of memory
+-- a renamed beat breaks the same rule, of its link or of memory, after a renamed trace without a beat that breaks a
+-- rule of its link
 abbrev pub KeepsTogether : ℕ → Type 0
 KeepsTogether w = (l : Liberties) (r : Renamings) (levels : List Level) (x : Link × Beat w) (t : Trace w)
     → l.early ≡ false → AreFaithful l r → KeepRules l levels t → AreTypedOn (x ∷ t)
     → broken_together levels l (renamed_on_link r x) (renamed_trace r t) ≡ broken_together levels l x t
 
--- so a renamed trace has the same first breach, rule and place
+-- a renamed trace has the same first breach: the same rule and place
 abbrev pub KeepsBreaches : ℕ → Type 0
 KeepsBreaches w = (l : Liberties) (r : Renamings) (levels : List Level) (trace : Trace w)
     → l.early ≡ false → AreFaithful l r → AreTypedOn trace

@@ -1,4 +1,4 @@
--- That the names of blocks, sources and sinks don't matter in a wide trace.
+-- The names of blocks, sources and sinks don't matter in a wide trace.
 use Rattle.std.specs.Prelude.{ℕ, ◌≡◌, List, map}
 use Rattle.tl_beat.specs.declared.beat.Link.{Link}
 use Rattle.tl_params.specs.declared.level.Level.{Level}
@@ -15,18 +15,23 @@ use Rattle.tl_wide.specs.statement.Naming.{WideTrace}
 use Rattle.tl_wide.specs.statement.Narrowed.{narrowed}
 use Rattle.tl_wide.specs.statement.Verdict.{first_wide_fault}
 
+-- a wide beat of channel A renamed
 abbrev pub renamed_wide_a : {w : ℕ} → Renaming → WideBeatA w → WideBeatA w
 renamed_wide_a r x = record x { source = r.source x.source; address = renamed_address r x.address }
 
+-- a wide beat of channel B renamed
 abbrev pub renamed_wide_b : {w : ℕ} → Renaming → WideBeatB w → WideBeatB w
 renamed_wide_b r x = record x { source = r.source x.source; address = renamed_address r x.address }
 
+-- a wide beat of channel C renamed
 abbrev pub renamed_wide_c : {w : ℕ} → Renaming → WideBeatC w → WideBeatC w
 renamed_wide_c r x = record x { source = r.source x.source; address = renamed_address r x.address }
 
+-- a wide beat of channel D renamed
 abbrev pub renamed_wide_d : {w : ℕ} → Renaming → WideBeatD w → WideBeatD w
 renamed_wide_d r x = record x { source = r.source x.source; sink = r.sink x.sink }
 
+-- a wide beat of any channel renamed
 abbrev pub renamed_wide : {w : ℕ} → Renaming → WideBeat w → WideBeat w
 renamed_wide r (wide.A x) = wide.A (renamed_wide_a r x)
 renamed_wide r (wide.B x) = wide.B (renamed_wide_b r x)
@@ -34,18 +39,20 @@ renamed_wide r (wide.C x) = wide.C (renamed_wide_c r x)
 renamed_wide r (wide.D x) = wide.D (renamed_wide_d r x)
 renamed_wide r (wide.E x) = wide.E (record { sink = r.sink x.sink })
 
+-- a wide beat of a link renamed
 abbrev pub renamed_wide_on_link : {w : ℕ} → Renamings → Link × WideBeat w → Link × WideBeat w
 renamed_wide_on_link r x = (x.0, renamed_wide (of_link r x.0.0) x.1)
 
+-- a wide trace renamed
 abbrev pub renamed_wide_trace : {w : ℕ} → Renamings → WideTrace w → WideTrace w
 renamed_wide_trace r t = map (renamed_wide_on_link r) t
 
--- A renamed wide trace becomes what the trace becomes, of each width. 0 stays 0 among sources and sinks.
+-- A renamed wide trace becomes the same narrow trace, at each width. 0 stays 0 among sources and sinks.
 abbrev pub KeepsNarrowed : ℕ → Type 0
 KeepsNarrowed w = (r : Renamings) (trace : WideTrace w) → AreFaithful no_liberties r
     → narrowed (renamed_wide_trace r trace) ≡ narrowed trace
 
--- so it has the same first fault, and place
+-- a renamed wide trace has the same first fault, at the same place
 abbrev pub KeepsWideFaults : ℕ → Type 0
 KeepsWideFaults w = (l : Liberties) (r : Renamings) (levels : List Level) (trace : WideTrace w)
     → AreFaithful no_liberties r

@@ -1,4 +1,4 @@
--- That a trace written wide is judged as it was.
+-- A narrow trace has the same verdict if it is written wide.
 use Rattle.std.specs.Prelude.{ℕ, ◌≡◌, [], ◌∷◌, List, map, option_map, ⊤}
 use Rattle.tl_beat.specs.declared.beat.Beat.{Beat}
 use Rattle.tl_beat.specs.declared.beat.Beat.TheVariants as beat
@@ -21,8 +21,9 @@ use Rattle.tl_wide.specs.statement.Naming.{WideTrace}
 use Rattle.tl_wide.specs.statement.Verdict.{Breaks, first_wide_fault}
 use Rattle.tl_wide.specs.statement.Width.{part_width}
 
--- ---- the wide beat that has the fields of a beat of the rules, where both have w bytes
+-- ---- the wide beat with the fields of a beat, if both have w bytes
 
+-- for channel A
 abbrev pub widened_a : (w : ℕ) → BeatA (part_width w) → WideBeatA w
 widened_a w x = record {
   opcode = x.opcode;
@@ -36,6 +37,7 @@ widened_a w x = record {
   carries = x.carries;
 }
 
+-- for channel B
 abbrev pub widened_b : (w : ℕ) → BeatB (part_width w) → WideBeatB w
 widened_b w x = record {
   opcode = x.opcode;
@@ -49,6 +51,7 @@ widened_b w x = record {
   carries = x.carries;
 }
 
+-- for channel C
 abbrev pub widened_c : (w : ℕ) → BeatC (part_width w) → WideBeatC w
 widened_c w x = record {
   opcode = x.opcode;
@@ -61,6 +64,7 @@ widened_c w x = record {
   carries = x.carries;
 }
 
+-- for channel D
 abbrev pub widened_d : (w : ℕ) → BeatD (part_width w) → WideBeatD w
 widened_d w x = record {
   opcode = x.opcode;
@@ -74,6 +78,7 @@ widened_d w x = record {
   carries = x.carries;
 }
 
+-- for any channel
 abbrev pub widened : (w : ℕ) → Beat (part_width w) → WideBeat w
 widened w (beat.A x) = wide.A (widened_a w x)
 widened w (beat.B x) = wide.B (widened_b w x)
@@ -83,15 +88,16 @@ widened w (beat.E x) = wide.E (record { sink = x.sink })
 
 -- ---- a trace
 
+-- a trace written wide
 abbrev pub widened_trace : (w : ℕ) → Trace (part_width w) → WideTrace w
 widened_trace w t = map (λ x. (x.0, widened w x.1)) t
 
--- each beat has a line: its numbers are within their types, and have room in their fields
+-- each beat has a line: its numbers are within their types, and fit into their fields
 abbrev pub HaveLines : {w : ℕ} → Trace w → Type 0
 HaveLines [] = ⊤
 HaveLines (x ∷ t) = (IsWritable x.1 × IsInRange x.1) × HaveLines t
 
--- a trace of beats that have lines is judged, written wide, as it was: the first fault, rule and place
+-- a trace of beats that have lines has the same first fault if it is written wide: the same rule and place
 abbrev pub KeepsNarrow : ℕ → Type 0
 KeepsNarrow w = (l : Liberties) (levels : List Level) (trace : Trace (part_width w)) → HaveLines trace
     → first_wide_fault l levels (widened_trace w trace)

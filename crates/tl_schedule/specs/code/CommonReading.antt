@@ -14,6 +14,6 @@ common_said (common.Deliver link channel) = Deliver link.0 channel
 abbrev pub HasFields : List (List ℕ) → Common → Type 0
 HasFields fields common = (w : ℕ) → (fields ≡ said_fields w (common_said common)) × Fits w (common_said common)
 
--- with a line feed behind it the line says it
+-- with a line feed after it the line says it
 abbrev pub SpellsBody : List ℕ → Common → Type 0
 SpellsBody body common = SpellsCommon (body ++ 10 ∷ []) common

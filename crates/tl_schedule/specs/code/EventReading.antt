@@ -47,7 +47,7 @@ logic_at size fields = front logical_in fields >>= λ o. option_map (λ d. Logic
 abbrev pub hint_at : List (List ℕ) → Option Asked
 hint_at fields = front intent_in fields >>= λ i. at_end i.1 (Hint i.0)
 
--- what the fields behind an access's address say
+-- what the fields after an access's address say
 abbrev pub asked_at : ℕ → Word → ℕ → List (List ℕ) → Option Asked
 asked_at w word.Get size fields = get_at fields
 asked_at w word.Put size fields = put_at size fields

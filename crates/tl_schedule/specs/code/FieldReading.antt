@@ -15,7 +15,7 @@ abbrev pub hex_at : List ℕ → Option (ℕ × List ℕ)
 hex_at [] = None
 hex_at (c ∷ cs) = digit_of c >>= with_rest cs
 
--- n digits behind a number, and nothing behind them
+-- n digits after a number, and nothing after them
 unfoldable pub number_in : ℕ → ℕ → List ℕ → Option ℕ
 number_in number zero [] = Some number
 number_in number zero (c ∷ cs) = None
@@ -29,7 +29,7 @@ pair_at [] = None
 pair_at (c ∷ []) = None
 pair_at (c ∷ d ∷ cs) = digit_of c >>= λ high. digit_of d >>= λ low. byte_of cs high low
 
--- n bytes before others, the last byte first, and nothing behind them
+-- n bytes before others, the last byte first, and nothing after them
 unfoldable pub pairs_in : List ℕ → ℕ → List ℕ → Option (List ℕ)
 pairs_in bytes zero [] = Some bytes
 pairs_in bytes zero (c ∷ cs) = None
@@ -46,7 +46,7 @@ size_in limit field = number_in 0 1 field >>= at_most limit
 
 -- ---- fields
 
--- the fields behind a space, or none at the end
+-- the fields after a space, or none at the end
 abbrev pub fields_behind : List ℕ → List (List ℕ)
 fields_behind [] = []
 fields_behind (c ∷ cs) = pieces cs

@@ -19,7 +19,7 @@ abbrev pub digit_at : List ℕ → Option (ℕ × List ℕ)
 digit_at [] = None
 digit_at (c ∷ cs) = if is_decimal c then Some (c - 48, cs) else None
 
--- the digits at the front, behind a number that stands for those before
+-- the digits at the front, after a number that stands for those before
 unfoldable pub decimal_from : ℕ → List ℕ → ℕ × List ℕ
 decimal_from number [] = (number, [])
 decimal_from number (c ∷ cs) = if is_decimal c then decimal_from (10 * number + (c - 48)) cs else (number, c ∷ cs)
@@ -43,7 +43,7 @@ byte_at byte (c ∷ cs) = if c == byte then Some cs else None
 abbrev pub client_of : Level → ℕ × List ℕ → Option (ClientConfig × List ℕ)
 client_of level x = Some (record { level = level; sources = x.0 }, x.1)
 
--- a client at the front, behind a space
+-- a client at the front, after a space
 abbrev pub client_at : List ℕ → Option (ClientConfig × List ℕ)
 client_at bytes = level_at bytes >>= λ l. byte_at 58 l.1 >>= λ s. number_at 8 s >>= client_of l.0
 

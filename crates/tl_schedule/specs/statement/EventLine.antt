@@ -26,9 +26,9 @@ use Rattle.tl_schedule.specs.declared.line.EventFault.TheVariants.{F1, F8}
 use Rattle.tl_schedule.specs.declared.line.Line.{Line}
 use Rattle.tl_schedule.specs.declared.line.Line.TheVariants as line_of
 
--- ---- what a line says
+-- ---- the content of a line
 
--- what an access asks for
+-- the kind of an access, with its data
 pub data Asked : Type 0 where
   Get : Asked
   Put : (bytes : List ℕ) → Asked
@@ -37,7 +37,7 @@ pub data Asked : Type 0 where
   Logic : (operation : Logical) → (bytes : List ℕ) → Asked
   Hint : (intent : Intent) → Asked
 
--- what a client is asked for, or which delivery is made
+-- an operation of a client, or a delivery
 pub data Said : Type 0 where
   Load : (client size address : ℕ) → Said
   Store : (client size address value : ℕ) → Said
@@ -47,9 +47,9 @@ pub data Said : Type 0 where
   Access : (client size address : ℕ) → (asked : Asked) → Said
   Deliver : (link : ℕ) → (channel : Channel) → Said
 
--- ---- its one spelling
+-- ---- its only spelling
 
--- the word of an access on a line
+-- the word for an access in a line
 abbrev pub asked_name : Asked → List ℕ
 asked_name Get = codes "get"
 asked_name (Put bytes) = codes "put"
@@ -58,11 +58,11 @@ asked_name (Arith operation bytes) = codes "arith"
 asked_name (Logic operation bytes) = codes "logic"
 asked_name (Hint intent) = codes "intent"
 
--- the digits of a mask: a bit for each lane of each beat, the last beat first
+-- the number of digits of a mask: a bit for each lane of each beat, the last beat first
 abbrev pub mask_digits : ℕ → ℕ → ℕ
 mask_digits w size = w / 4 * data_beats w size
 
--- the fields behind an access's address; of data the byte of the highest address is first
+-- the fields after an access's address; data have the byte of the highest address first
 abbrev pub asked_fields : ℕ → ℕ → Asked → List (List ℕ)
 asked_fields w size Get = []
 asked_fields w size (Put bytes) = lane_digits bytes ∷ []
@@ -71,7 +71,7 @@ asked_fields w size (Arith operation bytes) = arithmetic_name operation ∷ lane
 asked_fields w size (Logic operation bytes) = logical_name operation ∷ lane_digits bytes ∷ []
 asked_fields w size (Hint intent) = intent_name intent ∷ []
 
--- the fields of a line, where beats have w bytes
+-- the fields of a line, for beats of w bytes
 abbrev pub said_fields : ℕ → Said → List (List ℕ)
 said_fields w (Load client size address) = digits 2 client ∷ codes "load" ∷ digits 1 size ∷ digits 8 address ∷ []
 said_fields w (Store client size address value) = digits 2 client ∷ codes "store" ∷ digits 1 size ∷ digits 8
@@ -83,7 +83,7 @@ said_fields w (Access client size address asked) = digits 2 client ∷ asked_nam
     address ∷ asked_fields w size asked
 said_fields w (Deliver link channel) = digits 2 link ∷ codes "deliver" ∷ letter channel ∷ []
 
--- the one line of what is said: its fields with a space between each two, and a line feed
+-- the only line with this content: its fields with a space between each two, and a line feed
 abbrev pub event_line : ℕ → Said → List ℕ
 event_line w said = spaced (said_fields w said) ++ 10 ∷ []
 
@@ -93,15 +93,15 @@ drain_line = codes "drain\n"
 
 -- ---- within its fields
 
--- the number has room in n digits
+-- the number fits n hexadecimal digits
 abbrev pub HasRoom : ℕ → ℕ → Type 0
 HasRoom n number = number < 2 ^ (4 * n)
 
--- this many bytes
+-- a list of n bytes
 abbrev pub AreBytes : ℕ → List ℕ → Type 0
 AreBytes n bytes = (length bytes ≡ n) × All (λ byte. byte < 2 ^ 8) bytes
 
--- the bytes and the mask of an access are of its size
+-- the data and the mask of an access have its size
 abbrev pub AskedFits : ℕ → ℕ → Asked → Type 0
 AskedFits w size Get = ⊤
 AskedFits w size (Put bytes) = AreBytes (2 ^ size) bytes
@@ -110,7 +110,7 @@ AskedFits w size (Arith operation bytes) = AreBytes (2 ^ size) bytes
 AskedFits w size (Logic operation bytes) = AreBytes (2 ^ size) bytes
 AskedFits w size (Hint intent) = ⊤
 
--- each part has room in its field: sizes are 3 at most of a Load or Store, and else 6
+-- Each part fits its field. The size of a Load or Store is at most 3, that of an access at most 6.
 abbrev pub Fits : ℕ → Said → Type 0
 Fits w (Load client size address) = HasRoom 2 client × (size ≤ 3) × HasRoom 8 address
 Fits w (Store client size address value) = HasRoom 2 client × (size ≤ 3) × HasRoom 8 address
@@ -121,10 +121,10 @@ Fits w (Release client block prune) = HasRoom 2 client × HasRoom 3 block
 Fits w (Access client size address asked) = HasRoom 2 client × (size ≤ 6) × HasRoom 8 address × AskedFits w size asked
 Fits w (Deliver link channel) = HasRoom 2 link
 
--- ---- the event that it means
+-- ---- the event of a line
 
--- 64 bytes in their lanes: where an access has fewer than a beat they lie in the lanes from its
--- address on, and what would pass the last lane is dropped
+-- 64 bytes on their lanes. The bytes of an access of less than a beat are on the lanes from its address on; those after
+-- the last lane are dropped.
 abbrev pub placed : ℕ → ℕ → ℕ → List ℕ → List ℕ
 placed w size address bytes =
     if nat_lt (2 ^ size) w
@@ -135,14 +135,14 @@ placed w size address bytes =
 abbrev pub payload_of : ℕ → ℕ → ℕ → List ℕ → List ℕ
 payload_of w size address bytes = placed w size address (padded bytes)
 
--- a mask of the lanes that carry a byte of an access, in this many beats
+-- the mask of the lanes that carry a byte of an access with this number of beats
 abbrev pub lanes_of : ℕ → ℕ → ℕ → ℕ → ℕ
 lanes_of w size address beats =
     if nat_lt (2 ^ size) w
     then (2 ^ 2 ^ size - 1) * 2 ^ (address % w) % 2 ^ w
     else 2 ^ (w * beats) - 1
 
--- the opcode of an access on a line
+-- the opcode of an access in a line
 abbrev pub asked_opcode : Asked → OpA
 asked_opcode Get = a.Get
 asked_opcode (Put bytes) = a.PutFullData
@@ -151,14 +151,14 @@ asked_opcode (Arith operation bytes) = a.ArithmeticData
 asked_opcode (Logic operation bytes) = a.LogicalData
 asked_opcode (Hint intent) = a.Intent
 
--- the param of an access on a line
+-- the param of an access in a line
 abbrev pub asked_param : Asked → ℕ
 asked_param (Arith operation bytes) = arithmetic_code operation
 asked_param (Logic operation bytes) = logical_code operation
 asked_param (Hint intent) = intent_code intent
 asked_param _ = 0
 
--- the payload of an access on a line, its bytes on the lanes of the address
+-- the payload of an access in a line, with its bytes on the lanes of the address
 abbrev pub asked_payload : ℕ → ℕ → ℕ → Asked → List ℕ
 asked_payload w size address Get = replicate 64 0
 asked_payload w size address (Put bytes) = payload_of w size address bytes
@@ -167,14 +167,14 @@ asked_payload w size address (Arith operation bytes) = payload_of w size address
 asked_payload w size address (Logic operation bytes) = payload_of w size address bytes
 asked_payload w size address (Hint intent) = replicate 64 0
 
--- the mask of an access on a line
+-- the mask of an access in a line
 abbrev pub asked_mask : ℕ → ℕ → ℕ → Asked → ℕ
 asked_mask w size address Get = lanes_of w size address 1
 asked_mask w size address (Part mask bytes) = mask
 asked_mask w size address (Hint intent) = lanes_of w size address 1
 asked_mask w size address _ = lanes_of w size address (data_beats w size)
 
--- the message of an access; its source is the client's to choose
+-- the message of an access; the client replaces its source
 abbrev pub message_of : {w : ℕ} (size address : ℕ) → Asked → size ≤ 6 → MessageA w
 message_of {w} size address asked small = record {
   opcode = asked_opcode asked;
@@ -188,7 +188,7 @@ message_of {w} size address asked small = record {
   small = small;
 }
 
--- the event that a line says
+-- the event of a line
 abbrev pub event_of : {w : ℕ} (said : Said) → Fits w said → Event w
 event_of (Load client size address) fits = event.Ask client (op.Load address size)
 event_of (Store client size address value) fits = event.Ask client (op.Store address size value)
@@ -199,18 +199,18 @@ event_of (Access client size address asked) fits =
     event.Ask client (op.Access (message.A (message_of size address asked fits.1)))
 event_of (Deliver link channel) fits = event.Deliver (record { 0 = link }) channel
 
--- the line says this event
+-- the line spells this event
 pub record SpellsEvent {w : ℕ} (line : List ℕ) (e : Event w) : Type 0 where
   pub said : Said
   pub fits : Fits w said
   pub is_line : line ≡ event_line w said
   pub means : event_of said fits ≡ e
 
--- the line says this event, or to drain
+-- the line spells this event, or `drain`
 abbrev pub SpellsLine : {w : ℕ} → List ℕ → Line w → Type 0
 SpellsLine line (line_of.Event e) = SpellsEvent line e
 SpellsLine line line_of.Drain = line ≡ drain_line
 
--- the fault of a line that says neither
+-- the fault of a line that spells neither
 abbrev pub event_fault : List ℕ → EventFault
 event_fault line = if nat_lt 256 (length line) || not (ends_with_byte 10 line) then F1 else F8

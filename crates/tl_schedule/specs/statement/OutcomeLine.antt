@@ -1,4 +1,4 @@
--- The line of an outcome, and what a trace shows of it.
+-- The line of an outcome, and the line of its beat in a trace.
 use Rattle.std.specs.Prelude.{ℕ, ◌^◌, List, [], ◌∷◌, ◌++◌, take, codes, ⊤, Option, Some, None}
 use Rattle.std.specs.Fmt.{decimal}
 use Rattle.std.specs.Int.{to_le_bytes, w64}
@@ -24,17 +24,17 @@ use Rattle.tl_coherence.specs.declared.event.Outcome.TheVariants as outcome
 abbrev pub data_text : ℕ → List ℕ → List ℕ
 data_text size bytes = lane_digits (take (2 ^ size) bytes)
 
--- the size of a Load; nothing else is answered by a value
+-- the size of a Load; 0 for other operations, whose replies have no value
 abbrev pub load_size : {w : ℕ} → Op w → ℕ
 load_size (Load address size) = size
 load_size _ = 0
 
--- the size of what was asked, of which a value has the bytes
+-- the size of the value that the event asks for
 abbrev pub asked_size : {w : ℕ} → Event w → ℕ
 asked_size (Ask client operation) = load_size operation
 asked_size (Deliver link channel) = 0
 
--- the name of a Busy answer
+-- the name of a Busy reply
 abbrev pub busy_name : Busy → List ℕ
 busy_name B1 = codes "B1"
 busy_name B2 = codes "B2"
@@ -42,7 +42,7 @@ busy_name B3 = codes "B3"
 busy_name B4 = codes "B4"
 busy_name B5 = codes "B5"
 
--- what is written of a reply
+-- the text of a reply
 abbrev pub reply_text : ℕ → Reply → List ℕ
 reply_text size (reply.Value value) = codes "value " ++ data_text size (to_le_bytes w64 value)
 reply_text size reply.Stored = codes "stored"
@@ -56,7 +56,7 @@ perm_name perm.None = codes "N"
 perm_name perm.Branch = codes "B"
 perm_name perm.Trunk = codes "T"
 
--- what is written of the end of an operation
+-- the text of the result of an operation
 abbrev pub finish_text : Finish → List ℕ
 finish_text finish.Ack = codes "ack"
 finish_text finish.Hint = codes "hint"
@@ -69,11 +69,11 @@ abbrev pub link_of : {w : ℕ} → Event w → Link
 link_of (Ask client operation) = record { 0 = client }
 link_of (Deliver link channel) = link
 
--- behind a beat: that it ends an operation, and how
+-- the text after a beat that ends an operation: its source and result
 abbrev pub done_text : ℕ → Finish → List ℕ
 done_text source finish = codes " done " ++ digits 2 source ++ codes " " ++ finish_text finish
 
--- what is written of an outcome
+-- the text of an outcome
 abbrev pub outcome_text : {w : ℕ} → Event w → Outcome w → List ℕ
 outcome_text event (outcome.Replied reply) = reply_text (asked_size event) reply
 outcome_text event outcome.Empty = codes "empty"
@@ -83,26 +83,26 @@ outcome_text event (outcome.Done beat source finish) = spaced (fields_of (link_o
     finish
 outcome_text event outcome.NoSuchClient = codes "no client"
 
--- the one line of what comes of an event
+-- the line of an outcome
 abbrev pub outcome_line : {w : ℕ} → Event w → Outcome w → List ℕ
 outcome_line event outcome = outcome_text event outcome ++ 10 ∷ []
 
--- that of a Load of this size, or of a Store, whose answer a client gives, if there is one
+-- the line of a client's reply to a Load of this size or to a Store, or that there is no such client
 abbrev pub answer_line : ℕ → Option Reply → List ℕ
 answer_line size None = codes "no client\n"
 answer_line size (Some reply) = reply_text size reply ++ 10 ∷ []
 
--- what a trace shows of it: the line of the beat that was taken, if one was
+-- the line of the beat that was taken, if one was, in a trace
 abbrev pub trace_text : {w : ℕ} → Event w → Outcome w → List ℕ
 trace_text event (outcome.Moved beat) = line_of (link_of event) beat
 trace_text event (outcome.Done beat source finish) = line_of (link_of event) beat
 trace_text event _ = []
 
--- the line behind this many deliveries of a drain
+-- the line after this many deliveries of a drain
 abbrev pub drained_line : ℕ → List ℕ
 drained_line count = codes "drained " ++ decimal count ++ codes "\n"
 
--- the beat that was taken, if one was, has room in its line
+-- the beat that was taken, if one was, fits its line
 abbrev pub HasLine : {w : ℕ} → Outcome w → Type 0
 HasLine (outcome.Moved beat) = IsWritable beat
 HasLine (outcome.Done beat source finish) = IsWritable beat

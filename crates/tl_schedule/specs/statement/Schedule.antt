@@ -8,7 +8,7 @@ use Rattle.tl_params.specs.statement.Header.{level_text, version_text}
 use Rattle.tl_params.specs.statement.Range.{is_from_to}
 use Rattle.tl_schedule.specs.declared.header.Schedule.{Schedule}
 
--- each client behind a space: its level and how many sources it has
+-- each client after a space: its level and its number of sources
 abbrev pub clients_text : List ClientConfig → List ℕ
 clients_text [] = []
 clients_text (client ∷ clients) = codes " " ++ level_text client.level ++ codes ":" ++ decimal
@@ -18,13 +18,13 @@ clients_text (client ∷ clients) = codes " " ++ level_text client.level ++ code
 abbrev pub schedule_word : List ℕ
 schedule_word = codes "tlsched "
 
--- the one line of a header
+-- the line of a header
 abbrev pub schedule_line : Version → ℕ → ℕ → List ClientConfig → List ℕ
 schedule_line version blocks trackers clients =
     schedule_word ++ version_text version ++ codes " " ++ decimal blocks ++ codes " " ++ decimal
     trackers ++ clients_text clients ++ codes "\n"
 
--- the line is that of a header that names these, within their limits
+-- the line is that of a header with these values, and they are within their limits
 pub record SpellsSchedule (line : List ℕ) (version : Version) (blocks trackers : ℕ) (clients : List ClientConfig) : Type
     0 where
   pub is_line : line ≡ schedule_line version blocks trackers clients
@@ -33,7 +33,7 @@ pub record SpellsSchedule (line : List ℕ) (version : Version) (blocks trackers
   pub clients_fit : IsTrue (is_from_to 1 16 (length clients))
   pub sources_fit : IsTrue (all_sources_fit clients)
 
--- the header names these
+-- the header that was read has these values
 abbrev pub IsSchedule : Option Schedule → Version → ℕ → ℕ → List ClientConfig → Type 0
 IsSchedule None version blocks trackers clients = ⊥
 IsSchedule (Some s) version blocks trackers clients =

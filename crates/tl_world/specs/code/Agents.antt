@@ -7,7 +7,7 @@ use Rattle.tl_client.specs.statement.Endpoint.{EndConfig, Endpoint}
 use Rattle.tl_client.specs.statement.Endpoint as client
 use Rattle.tl_coherence.specs.statement.System.{terms_at}
 
--- a client of such a link, to which nothing has happened
+-- a new client of such a link
 pub record IsHired {w : ℕ} {A : Type 0} (knows : A → Endpoint w → Type 0) (terms : A → EndConfig)
     (config : ClientConfig) (blocks : ℕ) (profile : Profile) (agent : A) : Type 0 where
   pub fresh : knows agent client.fresh

@@ -1,5 +1,5 @@
 -- What the channels of a world hold, and for how many beats they are made.
-use Rattle.std.specs.Prelude.{ℕ, List, [], not, ◌≡◌, ◌==◌, ◌<◌, ◌≤◌, ◌+◌, ◌*◌, ◌/◌, ◌%◌, if◌then◌else◌, length, max}
+use Rattle.std.specs.Prelude.{ℕ, List, [], not, ◌≡◌, ◌==◌, ◌<◌, ◌≤◌, ◌*◌, ◌/◌, ◌%◌, if◌then◌else◌, length, max}
 use Rattle.std.specs.Prelude.{slice_index_or}
 use Rattle.std.specs.Int.{bit_at}
 use Rattle.circular_buffer.specs.Buffer.{buffer}
@@ -13,17 +13,7 @@ use Rattle.tl_world.specs.declared.ring.Ring.{Ring}
 use Rattle.tl_world.specs.declared.rings.Rings.{Rings}
 use Rattle.tl_coherence.specs.statement.Delivery.{capacity, sources_of}
 use Rattle.tl_coherence.specs.statement.System.{System, terms_at}
-
-abbrev pub number : Channel → ℕ
-number channel.A = 0
-number channel.B = 1
-number channel.C = 2
-number channel.D = 3
-number channel.E = 4
-
--- the place of a channel of a link among the channels of all links
-abbrev pub place : ℕ → Channel → ℕ
-place link ch = 5 * link + number ch
+pub use Rattle.tl_world.specs.statement.Places.{number, place}
 
 -- the word of a channel, with a bit for each link
 abbrev pub word_of : NonEmptyChannels → Channel → ℕ
@@ -49,7 +39,7 @@ pub record AreKept {w : ℕ} (old new : Rings w) : Type 0 where
   pub same_capacity : (i : ℕ) (d : Ring w)
       → (slice_index_or new.all.items i d).beats.capacity ≡ (slice_index_or old.all.items i d).beats.capacity
 
--- the greatest number of beats that ever stood in each is that of before, or that of now
+-- the greatest number of beats that each ever held is the one from before, or the present one
 abbrev pub Deepen : {w : ℕ} → ℕ → Rings w → Rings w → Type 0
 Deepen {w} n old new = (k : ℕ) (ch : Channel) (d : Ring w) → k < n →
     (slice_index_or new.all.items (place k ch) d).deepest ≡ max (slice_index_or old.all.items (place k ch) d).deepest

@@ -18,9 +18,7 @@ use Rattle.tl_world.specs.code.Carrying.{place, Carries, Deepen}
 use Rattle.tl_coherence.specs.statement.Delivery.{capacity, sources_of}
 use Rattle.tl_coherence.specs.statement.Step.{stepped}
 use Rattle.tl_coherence.specs.statement.System.{System, terms_at}
-
-abbrev pub clients_of : Config → ℕ
-clients_of config = length config.clients.items
+pub use Rattle.tl_world.specs.statement.Places.{clients_of}
 
 -- The parts hold what the configured whole is: each client knows its end, the manager knows its own, and the
 -- channels, made for as many beats as they can ever hold, carry the same beats.
